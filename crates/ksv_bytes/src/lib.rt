@@ -1,0 +1,16 @@
+//! The bytes of a file, and the edits that change them.
+//!
+//! A [`Buffer`] is seen by contracts as the list of its bytes, of which there are at most [`FILE_LIMIT`]. Each
+//! edit is an equation of lists, or a named refusal that changes nothing (`specs/Edits.antt`).
+#![tactic(auto)]
+
+mod buffer;
+mod edit;
+mod window;
+
+pub use buffer::{Buffer, FILE_LIMIT, TooLarge};
+pub use edit::EditRefusal;
+pub use window::Window;
+
+#[cfg(test)]
+mod tests;

@@ -1,0 +1,11 @@
+//! A range of a file's bytes.
+
+/// The bytes from one place up to another, which is not part of it. Places are counted in bytes from the file's
+/// start.
+#[derive(Clone, Copy, Debug, PartialEq, Eq)]
+pub struct Window {
+    /// The first byte's place.
+    pub from: usize,
+    /// The place behind the last byte.
+    pub to: usize,
+}
