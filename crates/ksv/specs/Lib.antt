@@ -1,0 +1,15 @@
+pub mod Lines
+pub mod Integers
+pub mod Descriptions
+pub mod Numbers
+pub mod Paths
+pub mod Evaluation
+pub mod Commands
+pub mod Replies
+pub mod Session
+pub mod Explored
+pub mod Runs
+pub mod Answered
+pub mod Seen
+pub mod Messages
+pub mod Words

@@ -1,0 +1,101 @@
+-- What a line is answered, and the bytes that stand then.
+use Rattle.std.specs.Fmt.{signed_decimal}
+use Rattle.std.specs.Prelude.{ℕ, ◌==◌, Bool, true, false, List, [], ◌++◌, length, codes, decimal, Result, Ok, Err, is_ok, if◌then◌else◌}
+use Rattle.ksv_bytes.specs.Edits.{append, overwrite}
+use Rattle.ksv_bytes.specs.declared.edit.EditRefusal.{EditRefusal}
+use Rattle.ksv_bytes.specs.declared.edit.EditRefusal.TheVariants as edits
+use Rattle.ksv.specs.Commands.{command_of}
+use Rattle.ksv.specs.declared.command.Command.{Command}
+use Rattle.ksv.specs.declared.command.Command.TheVariants.{App, Blank, Get, Quit, Refused, Set, Size}
+use Rattle.ksv.specs.Descriptions.{Description}
+use Rattle.ksv.specs.Evaluation.{value_of}
+use Rattle.ksv.specs.Paths.{path_text}
+use Rattle.ksv.specs.declared.evaluation.Fault.{Fault}
+use Rattle.ksv.specs.declared.evaluation.FaultKind.{FaultKind}
+use Rattle.ksv.specs.declared.evaluation.FaultKind.TheVariants as faults
+use Rattle.ksv.specs.declared.evaluation.Value.{Value}
+use Rattle.ksv.specs.declared.evaluation.Value.TheVariants as values
+use Rattle.ksv.specs.declared.refusal.LineRefusal.{LineRefusal}
+use Rattle.ksv.specs.declared.refusal.LineRefusal.TheVariants as refusals
+
+-- The texts of values and of faults.
+
+abbrev pub value_text : Description → Value → List ℕ
+value_text d (values.Integer n) = signed_decimal n
+value_text d values.Object = codes "object " ++ d.id
+
+abbrev pub kind_text : FaultKind → List ℕ
+kind_text faults.NoSuch = codes "no-such"
+kind_text faults.EndOfBytes = codes "end-of-bytes"
+
+-- a fault is named with the path where it arose
+abbrev pub fault_text : Description → Fault → List ℕ
+fault_text d fault = codes "fault " ++ kind_text fault.kind ++ codes " at " ++ path_text d fault.path
+
+abbrev pub answer_text : Description → Result Value Fault → List ℕ
+answer_text d (Ok value) = value_text d value
+answer_text d (Err fault) = fault_text d fault
+
+abbrev pub line_refusal_text : LineRefusal → List ℕ
+line_refusal_text refusals.UnknownCommand = codes "error: unknown command\n"
+line_refusal_text refusals.WrongArguments = codes "error: wrong arguments\n"
+line_refusal_text refusals.BadNumber = codes "error: bad number\n"
+line_refusal_text refusals.BadHex = codes "error: bad hex\n"
+line_refusal_text refusals.BadPath = codes "error: bad path\n"
+line_refusal_text refusals.LineTooLong = codes "error: line too long\n"
+
+abbrev pub edit_refusal_text : EditRefusal → List ℕ
+edit_refusal_text edits.Outside = codes "error: outside\n"
+edit_refusal_text edits.NothingToDo = codes "error: nothing to do\n"
+edit_refusal_text edits.TooLarge = codes "error: file too large\n"
+edit_refusal_text edits.NoMemory = codes "error: no memory\n"
+
+abbrev pub no_memory_text : List ℕ
+no_memory_text = codes "error: no memory\n"
+
+-- The bytes from then on, the text of the reply with its LF, and whether the session ends.
+pub record Answer : Type 0 where
+  pub bytes : List ℕ
+  pub text : List ℕ
+  pub ends : Bool
+
+-- a reply that changes nothing
+abbrev pub said : List ℕ → List ℕ → Answer
+said b text = record { bytes = b; text = text; ends = false }
+
+-- an edit's reply is the size after it, or its refusal, which changes nothing
+abbrev pub edited : List ℕ → Result (List ℕ) EditRefusal → Answer
+edited b (Ok after) = said after (codes "ok " ++ decimal (length after) ++ codes "\n")
+edited b (Err refusal) = said b (edit_refusal_text refusal)
+
+abbrev pub answer_to : Description → List ℕ → Command → Answer
+answer_to d b Blank = said b []
+answer_to d b (Refused refusal) = said b (line_refusal_text refusal)
+answer_to d b (Get path) = said b (answer_text d (value_of d b path) ++ codes "\n")
+answer_to d b (Set at bytes) = edited b (overwrite b at bytes)
+answer_to d b (App bytes) = edited b (append b bytes)
+answer_to d b Size = said b (codes "size " ++ decimal (length b) ++ codes "\n")
+answer_to d b Quit = record { bytes = b; text = codes "bye\n"; ends = true }
+
+-- whether a command may be refused memory: a question for its reply, an edit that is accepted for its growth
+abbrev pub may_be_refused : List ℕ → Command → Bool
+may_be_refused b Blank = false
+may_be_refused b (Refused refusal) = false
+may_be_refused b (Get path) = true
+may_be_refused b (Set at bytes) = false
+may_be_refused b (App bytes) = is_ok (append b bytes)
+may_be_refused b Size = false
+may_be_refused b Quit = false
+
+-- A line as it came, and whether memory was refused while it was answered.
+pub record Event : Type 0 where
+  pub line : List ℕ
+  pub refused : Bool
+
+-- what a line is answered: where memory was refused that is said, and nothing changes
+abbrev pub answer : Description → List ℕ → Event → Answer
+answer d b event = if event.refused then said b no_memory_text else answer_to d b (command_of d event.line)
+
+-- a line that was refused memory is one that may be
+abbrev pub is_fair : Description → List ℕ → Event → Bool
+is_fair d b event = if event.refused then may_be_refused b (command_of d event.line) else true

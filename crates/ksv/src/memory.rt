@@ -1,0 +1,71 @@
+//! A device over memory.
+ghost use Rattle.std.specs.Prelude.{◌≡◌, ◌≤◌, true, false, length, drop};
+
+use crate::device::{Failed, Sink, Source};
+
+/// Bytes that are read from the front, or room that is filled from the back. It tells contracts all its bytes, and
+/// takes no memory: a write fails where the vector has no room left.
+#[derive(Drop)]
+pub struct Memory {
+    /// The bytes.
+    pub bytes: Vec<u8>,
+    /// How many of them were read.
+    pub read: usize,
+    /// Whether a call has failed.
+    pub failed: bool,
+    ghost within: { read ≤ length bytes.items },
+}
+
+impl Memory {
+    /// A device over the bytes of a vector. What is written to it goes into the room that the vector has left.
+    pub fn new(bytes: Vec<u8>) -> Memory
+        ensures bytes { result.bytes ≡ bytes }
+        ensures start { result.read ≡ 0 }
+        ensures works { result.failed ≡ false }
+    {
+        Memory {
+            bytes,
+            read: 0,
+            failed: false,
+        }
+    }
+}
+
+impl Source for Memory {
+    ghost tells = { true };
+
+    ghost bytes = { λ m. drop m.read m.bytes.items };
+
+    ghost failed = { λ m. m.failed };
+
+    fn read(&mut self, buf: &mut [u8]) -> Result<usize, Failed> {
+        let left = self.bytes.len() - self.read;
+        let count = left.min(buf.len());
+        buf[..count].copy_from_slice(&self.bytes[self.read..self.read + count]);
+        self.read += count;
+        Ok(count)
+    }
+}
+
+impl Sink for Memory {
+    ghost tells = { true };
+
+    ghost bytes = { λ m. m.bytes.items };
+
+    ghost failed = { λ m. m.failed };
+
+    fn write(&mut self, buf: &[u8]) -> Result<usize, Failed> {
+        let room = self.bytes.capacity() - self.bytes.len();
+        let count = room.min(buf.len());
+        if count == 0 && !buf.is_empty() {
+            self.failed = true;
+            return Err(Failed);
+        }
+        self.bytes.extend_from_slice(&buf[..count]).unwrap();
+        Ok(count)
+    }
+
+    fn flush(&mut self) -> Result<(), Failed> {
+        Ok(())
+    }
+}

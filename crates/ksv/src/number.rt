@@ -1,0 +1,96 @@
+//! Numbers and bytes that a command line writes.
+ghost use Rattle.std.specs.Prelude.{◌≡◌, ◌≤◌, length};
+ghost use Rattle.std.specs.Char.{is_ascii_digit};
+ghost use Rattle.std.specs.List.{list_all};
+ghost use Rattle.ksv.specs.Numbers.{decimal_of, index_of, number_of};
+ghost use Rattle.ksv.specs.Commands.{bytes_of};
+
+use std::marker::Model;
+
+/// The most digits of a number.
+const DIGIT_LIMIT: usize = 20;
+
+/// Indices of lists are below this.
+const INDEX_LIMIT: u64 = 1_048_576;
+
+/// The most bytes that one line can carry: half as many as it has bytes.
+const EDIT_LIMIT: usize = 2048;
+
+/// Whether all bytes are decimal digits.
+fn are_digits(text: &[u8]) -> bool
+    ensures { result ≡ list_all is_ascii_digit text.now }
+{
+    text.iter().all(|byte| byte.is_ascii_digit())
+}
+
+/// The number of decimal digits, where it is below 2^64.
+fn decimal(text: &[u8]) -> Option<u64>
+    ensures { result ≡ decimal_of text.now }
+{
+    if !are_digits(text) {
+        return None;
+    }
+    str::from_utf8(text).unwrap().parse().ok()
+}
+
+/// A place or a number of bytes: 1 to 20 digits of a number below 2^64.
+pub(crate) fn number(text: &[u8]) -> Option<u64>
+    ensures { result ≡ number_of text.now }
+{
+    if text.len() > DIGIT_LIMIT {
+        return None;
+    }
+    decimal(text)
+}
+
+/// The index of an element: digits without a leading zero, of a number below 1,048,576.
+pub(crate) fn index(text: &[u8]) -> Option<u32>
+    ensures { result ≡ index_of text.now }
+{
+    if text.len() != 1 && !text.is_empty() && text[0] == b'0' {
+        return None;
+    }
+    match decimal(text) {
+        Some(value) if value < INDEX_LIMIT => Some(value as u32),
+        _ => None,
+    }
+}
+
+/// The bytes that an edit carries, in room of their own, so that reading them takes no memory.
+#[derive(Drop)]
+pub(crate) struct EditBytes {
+    room: [u8; EDIT_LIMIT],
+    len: usize,
+}
+
+impl Model for EditBytes {
+    ghost use Rattle.std.specs.Prelude.{◌≤◌, List, ℕ, take};
+
+    ghost Value = { List ℕ };
+
+    ghost view = { λ bytes. take bytes.len bytes.room };
+
+    ghost invariant = { λ bytes. bytes.len ≤ 2048 };
+}
+
+impl EditBytes {
+    /// The bytes.
+    pub(crate) fn as_slice(&self) -> &[u8]
+        ensures { result.now ≡ self.now }
+    {
+        &self.room[..self.len]
+    }
+}
+
+/// The bytes of an even number of hexadecimal digits.
+pub(crate) fn edit_bytes(digits: &[u8]) -> Option<EditBytes>
+    requires { length digits.now ≤ 4096 }
+    ensures { result ≡ bytes_of digits.now }
+{
+    let mut room = [0; EDIT_LIMIT];
+    let len = digits.len() / 2;
+    match hex::decode_to_slice(digits, &mut room[..len]) {
+        Ok(()) => Some(EditBytes { room, len }),
+        Err(_) => None,
+    }
+}

@@ -1,0 +1,107 @@
+//! A session: the bytes that stand, and what each line is answered.
+ghost use Rattle.std.specs.Prelude.{◌≡◌, ◌<◌, ◌↔◌, true, false, length, IsTrue, IfOk, IsErr};
+ghost use Rattle.ksv.specs.Commands.{command_of};
+ghost use Rattle.ksv.specs.Replies.{answer, may_be_refused};
+ghost use Rattle.ksv.specs.Seen.{answer_seen, edit_text, is_last, is_refusal, reply_text, wants_memory};
+
+use crate::command::{Command, read_line};
+use crate::description::Desc;
+use crate::reply::{Reply, edit_reply, refused_edit, refused_line, size_reply};
+use crate::text::value_reply;
+use ksv_bytes::{Buffer, EditRefusal};
+use std::alloc::Global;
+use std::marker::Model;
+use thiserror::Error;
+
+/// Why a session does not begin.
+#[derive(Clone, Copy, Debug, PartialEq, Eq, Error)]
+pub enum NewFault {
+    /// B3: the file has more than 16,777,216 bytes.
+    #[error("file too large")]
+    FileTooLarge,
+}
+
+/// A file that is explored by its description. Contracts see the description and the bytes that stand.
+#[derive(Drop)]
+pub struct Session {
+    alloc: Global,
+    desc: Desc,
+    buffer: Buffer,
+}
+
+impl Model for Session {
+    ghost use Rattle.ksv.specs.Explored.{Explored};
+
+    ghost Value = { Explored };
+
+    ghost view = { λ s. record { description = s.desc; bytes = s.buffer } };
+}
+
+impl Session {
+    /// A session over the bytes of a file. It takes no memory.
+    pub fn new(alloc: Global, desc: Desc, bytes: Vec<u8>) -> Result<Session, NewFault>
+        ensures begun { IfOk result (λ session. session ≡ record { description = desc; bytes = bytes.items }) }
+        ensures refused { IsErr result ↔ (16777216 < length bytes.items) }
+    {
+        match Buffer::new(bytes) {
+            Ok(buffer) => Ok(Session {
+                alloc,
+                desc,
+                buffer,
+            }),
+            Err(_) => Err(NewFault::FileTooLarge),
+        }
+    }
+
+    /// The bytes that stand.
+    pub fn into_buffer(self) -> Buffer
+        ensures { result ≡ self.bytes }
+    {
+        let Session {
+            alloc: _,
+            desc: _,
+            buffer,
+        } = self;
+        buffer
+    }
+
+    /// Answers a line, given without its LF; a carriage return may still stand at its end. Where memory is refused
+    /// nothing changes, and only a question and an edit that makes the file longer can be.
+    pub fn line(&mut self, line: &[u8]) -> Reply
+        ensures answer { answer_seen self.new.bytes result ≡ answer self.old.description self.old.bytes (record { line = line.now; refused = is_refusal result }) }
+        ensures fair { IsTrue (is_refusal result) → may_be_refused self.old.bytes (command_of self.old.description line.now) ≡ true }
+        ensures kept { self.new.description ≡ self.old.description }
+    {
+        match read_line(&self.desc, line) {
+            Command::Blank => Reply::None,
+            Command::Refused(refusal) => Reply::Short(refused_line(refusal)),
+            Command::Get(path) => match value_reply(self.alloc, &self.desc, &self.buffer, &path) {
+                Ok(text) => Reply::Text(text),
+                Err(_) => Reply::NoMemory,
+            },
+            Command::Set(at, bytes) => {
+                let outcome = self.buffer.overwrite(at as usize, bytes.as_slice());
+                self.edited(outcome)
+            }
+            Command::App(bytes) => {
+                let outcome = self.buffer.append(bytes.as_slice());
+                self.edited(outcome)
+            }
+            Command::Size => Reply::Short(size_reply(self.buffer.len())),
+            Command::Quit => Reply::Bye,
+        }
+    }
+
+    /// The reply to an edit that was tried.
+    fn edited(&self, outcome: Result<(), EditRefusal>) -> Reply
+        ensures text { reply_text result ≡ edit_text self.now.bytes outcome }
+        ensures refusal { is_refusal result ≡ wants_memory outcome }
+        ensures last { is_last result ≡ false }
+    {
+        match outcome {
+            Ok(()) => Reply::Short(edit_reply(self.buffer.len())),
+            Err(EditRefusal::NoMemory) => Reply::NoMemory,
+            Err(refusal) => Reply::Short(refused_edit(refusal)),
+        }
+    }
+}

@@ -1,0 +1,80 @@
+//! `ksv FILE KSY`: explores a file by its description, over standard input and output.
+#![tactic(auto)]
+
+use clap::Error;
+use clap::error::ErrorKind as WordsKind;
+use ksv::{Args, End, NewFault, Std, Stop, arguments, describe, run, say};
+use ksv_bytes::FILE_LIMIT;
+use std::fs::File;
+use std::io::{self, ErrorKind, Read};
+use std::process::ExitCode;
+
+/// The bytes of a file, no more than the first of them up to a limit.
+fn read_file(rt: &HostRuntime, path: &str, limit: u64) -> io::Result<Vec<u8>> {
+    let mut bytes = Vec::new(rt.alloc());
+    File::open(rt, path)?.take(limit).read_to_end(&mut bytes)?;
+    Ok(bytes)
+}
+
+/// What a file that was not read means for the program.
+fn unread(error: io::Error, unreadable: Stop) -> Stop {
+    if error.kind() == ErrorKind::OutOfMemory {
+        Stop::NoMemory
+    } else {
+        unreadable
+    }
+}
+
+/// Reads the file and its description, in this order, and serves the session.
+fn explore(rt: &HostRuntime, args: Args) -> Result<(), Stop> {
+    let bytes = match read_file(rt, args.file, FILE_LIMIT as u64 + 1) {
+        Ok(bytes) => bytes,
+        Err(error) => return Err(unread(error, Stop::FileUnreadable)),
+    };
+    if bytes.len() > FILE_LIMIT {
+        return Err(Stop::FileTooLarge);
+    }
+    let ksy = match read_file(rt, args.ksy, u64::MAX) {
+        Ok(ksy) => ksy,
+        Err(error) => return Err(unread(error, Stop::DescriptionUnreadable)),
+    };
+    let desc = describe(rt.alloc(), ksy.as_slice())?;
+    let mut reader = Std::new(rt.stdin());
+    let mut writer = Std::new(rt.stdout());
+    match run(rt.alloc(), &mut reader, &mut writer, desc, bytes) {
+        Ok((_, End::Quit | End::Input)) => Ok(()),
+        Ok((_, End::ReadFailed)) => Err(Stop::InputFailed),
+        Ok((_, End::WriteFailed)) => Err(Stop::OutputFailed),
+        Err(NewFault::FileTooLarge) => Err(Stop::FileTooLarge),
+    }
+}
+
+/// Says on standard error why the program stops, and gives its status.
+fn stopped(rt: &HostRuntime, stop: Stop, names: [&str; 3]) -> ExitCode {
+    let _ = say(&stop, names, &mut Std::new(rt.stderr()));
+    ExitCode::from(stop.status())
+}
+
+/// Prints usage on standard error, or help on standard output.
+fn refused_words(rt: &HostRuntime, error: Error) -> io::Result<ExitCode> {
+    if error.kind() == WordsKind::OutOfMemory {
+        return Ok(stopped(rt, Stop::NoMemory, ["", "", ""]));
+    }
+    error.print(rt)?;
+    Ok(ExitCode::from(error.exit_code() as u8))
+}
+
+fn main(rt: HostRuntime) -> io::Result<ExitCode> {
+    let words: Vec<String> = std::env::args(&rt)?.collect(rt.alloc())?;
+    let mut texts: Vec<&str> = Vec::new(rt.alloc());
+    for word in &words {
+        texts.push(word.as_str())?;
+    }
+    match arguments(rt.alloc(), texts.as_slice()) {
+        Ok(args) => match explore(&rt, args) {
+            Ok(()) => Ok(ExitCode::SUCCESS),
+            Err(stop) => Ok(stopped(&rt, stop, [args.file, args.ksy, ""])),
+        },
+        Err(error) => refused_words(&rt, error),
+    }
+}
