@@ -49,8 +49,16 @@ fn explore(rt: &HostRuntime, args: Args) -> Result<(), Stop> {
     }
 }
 
-/// Says on standard error why the program stops, and gives its status.
-fn stopped(rt: &HostRuntime, stop: Stop, names: [&str; 3]) -> ExitCode {
+/// Says on standard error why the program stops, and gives its status. No bytes are saved yet, so no file is named
+/// for them.
+fn stopped<'a>(
+    rt: &HostRuntime,
+    stop: Stop,
+    file: &'a str,
+    ksy: &'a str,
+    out: &'a str,
+) -> ExitCode {
+    let names = [file, ksy, out];
     let _ = say(&stop, names, &mut Std::new(rt.stderr()));
     ExitCode::from(stop.status())
 }
@@ -58,7 +66,7 @@ fn stopped(rt: &HostRuntime, stop: Stop, names: [&str; 3]) -> ExitCode {
 /// Prints usage on standard error, or help on standard output.
 fn refused_words(rt: &HostRuntime, error: Error) -> io::Result<ExitCode> {
     if error.kind() == WordsKind::OutOfMemory {
-        return Ok(stopped(rt, Stop::NoMemory, ["", "", ""]));
+        return Ok(stopped(rt, Stop::NoMemory, "", "", ""));
     }
     error.print(rt)?;
     Ok(ExitCode::from(error.exit_code() as u8))
@@ -73,7 +81,7 @@ fn main(rt: HostRuntime) -> io::Result<ExitCode> {
     match arguments(rt.alloc(), texts.as_slice()) {
         Ok(args) => match explore(&rt, args) {
             Ok(()) => Ok(ExitCode::SUCCESS),
-            Err(stop) => Ok(stopped(&rt, stop, [args.file, args.ksy, ""])),
+            Err(stop) => Ok(stopped(&rt, stop, args.file, args.ksy, "")),
         },
         Err(error) => refused_words(&rt, error),
     }
