@@ -5,6 +5,7 @@ use clap::Error;
 use clap::error::ErrorKind as WordsKind;
 use ksv::{Args, End, NewFault, Std, Stop, arguments, describe, run, say};
 use ksv_bytes::FILE_LIMIT;
+use std::alloc::{AllocError, Global};
 use std::fs::File;
 use std::io::{self, ErrorKind, Read};
 use std::process::ExitCode;
@@ -72,12 +73,20 @@ fn refused_words(rt: &HostRuntime, error: Error) -> io::Result<ExitCode> {
     Ok(ExitCode::from(error.exit_code() as u8))
 }
 
-fn main(rt: HostRuntime) -> io::Result<ExitCode> {
-    let words: Vec<String> = std::env::args(&rt)?.collect(rt.alloc())?;
-    let mut texts: Vec<&str> = Vec::new(rt.alloc());
-    for word in &words {
+/// The words as texts. The first is `ksv`, whatever the file is called that the program was started from, since usage
+/// prints it.
+fn texts<'a>(alloc: Global, words: &'a [String]) -> Result<Vec<&'a str>, AllocError> {
+    let mut texts: Vec<&'a str> = Vec::new(alloc);
+    texts.push("ksv")?;
+    for word in words.iter().skip(1) {
         texts.push(word.as_str())?;
     }
+    Ok(texts)
+}
+
+fn main(rt: HostRuntime) -> io::Result<ExitCode> {
+    let words: Vec<String> = std::env::args(&rt)?.collect(rt.alloc())?;
+    let texts = texts(rt.alloc(), words.as_slice())?;
     match arguments(rt.alloc(), texts.as_slice()) {
         Ok(args) => match explore(&rt, args) {
             Ok(()) => Ok(ExitCode::SUCCESS),
