@@ -1,0 +1,83 @@
+//! What an answer rests on in the bytes, and which of it an edit touches.
+ghost use Rattle.std.specs.Prelude.{◌≡◌, ◌↔◌, IsTrue, false};
+ghost use Rattle.ksv_bytes.specs.Uses.{Touches, Keeps};
+
+/// What one reading of the bytes rests on. Places count from the first byte, and lie below 2^32, as a file has at most
+/// 16,777,216 bytes.
+#[derive(Clone, Copy, Debug, PartialEq, Eq, Hash)]
+pub enum Use {
+    /// The bytes from the first place up to the second, and that the file reaches that far.
+    Bytes(u32, u32),
+    /// That the file reaches this place.
+    Reach(u32),
+    /// How many bytes the file has.
+    Size,
+}
+
+/// An edit that was made, without the bytes that it wrote.
+#[derive(Clone, Copy, Debug, PartialEq, Eq)]
+pub enum Change {
+    /// `n` bytes from the place `at` on were replaced by as many others.
+    Overwrite { at: usize, n: usize },
+    /// `n` bytes were put before the byte at the place `at`.
+    Insert { at: usize, n: usize },
+    /// `n` bytes from the place `at` on were taken out.
+    Delete { at: usize, n: usize },
+    /// Bytes were put behind the last one.
+    Append,
+}
+
+/// Whether an edit may have changed what a use rests on. An overwrite touches the ranges that it meets. An insert or a
+/// delete touches what ends behind its place, and the size. An append touches the size alone.
+pub fn touches(change: Change, used: Use) -> bool
+    ensures table { IsTrue result ↔ Touches change used }
+
+    // What an edit leaves alone is the same before and after it.
+    ensures untouched { result ≡ false → Keeps change used }
+{
+    is_touched(change, used)
+}
+
+/// The table of what a change touches.
+fn is_touched(change: Change, used: Use) -> bool
+    ensures { IsTrue result ↔ Touches change used }
+{
+    match (change, used) {
+        (Change::Overwrite { at, n }, Use::Bytes(from, to)) => {
+            at < to as usize && (from as usize) < at.saturating_add(n)
+        }
+        (Change::Overwrite { .. }, _) => false,
+        (
+            Change::Insert { at, .. } | Change::Delete { at, .. },
+            Use::Bytes(_, to) | Use::Reach(to),
+        ) => { at < to as usize }
+        (Change::Append, Use::Bytes(..) | Use::Reach(_)) => false,
+        (_, Use::Size) => true,
+    }
+}
+
+#[cfg(test)]
+mod tests {
+    use super::*;
+
+    #[test]
+    fn touches_what_an_edit_may_change(rt: HostRuntime) {
+        let overwrite = Change::Overwrite { at: 2, n: 2 };
+        let insert = Change::Insert { at: 2, n: 1 };
+        let delete = Change::Delete { at: 2, n: 1 };
+        for (used, by_overwrite, by_shift, by_append) in [
+            (Use::Bytes(0, 2), false, false, false),
+            (Use::Bytes(0, 3), true, true, false),
+            (Use::Bytes(3, 4), true, true, false),
+            (Use::Bytes(4, 9), false, true, false),
+            (Use::Reach(2), false, false, false),
+            (Use::Reach(3), false, true, false),
+            (Use::Size, false, true, true),
+        ] {
+            assert_eq!(rt; touches(overwrite, used), by_overwrite, "{used:?}");
+            assert_eq!(rt; touches(insert, used), by_shift, "{used:?}");
+            assert_eq!(rt; touches(delete, used), by_shift, "{used:?}");
+            assert_eq!(rt; touches(Change::Append, used), by_append, "{used:?}");
+        }
+    }
+}

@@ -1,0 +1,63 @@
+-- What is right to keep, what a question keeps, and the turns that it takes.
+use Rattle.std.specs.Prelude.{◌≡◌, ◌≢◌, ◌↔◌, ℕ, zero, suc, ◌+◌, ◌-◌, ◌^◌, min, length, Option, true, cond, List, [], ◌∷◌, ◌++◌, map, nat_eq, Contains}
+use Rattle.std.specs.Option.{option_map}
+use Rattle.std.specs.List.{AllByRecursion, AllPairs, IsDistinct}
+use Rattle.ksv_memo.specs.declared.rules.Outcome.TheVariants.{Answered}
+use Rattle.ksv_memo.specs.Meaning.{Standing}
+use Rattle.ksv_memo.specs.Evaluation.{is_among, tells}
+use Rattle.ksv_memo.specs.Entry.{Entry}
+
+-- the kept nodes
+abbrev pub nodes_of : {N A : Type 0} → List (Entry N A) → List N
+nodes_of es = map (λ e. e.node) es
+
+-- no node stands twice in a list
+abbrev pub AreDistinct : {N A : Type 0} → Standing N A → List N → Type 0
+AreDistinct w ns = IsDistinct nat_eq (map w.number ns)
+
+-- the first list has the members of the second, each once
+pub record HasEachOnce {X : Type 0} (once xs : List X) : Type 0 where
+  pub distinct : AllPairs (λ a b. a ≢ b) once
+  pub same : (x : X) → Contains once x ↔ Contains xs x
+
+-- an entry has what its node answers, asks and uses from nothing, and all that its node asked is kept
+pub record IsRightEntry {N A : Type 0} (w : Standing N A) (kept : List N) (e : Entry N A) : Type 0 where
+  pub outcome : (tells w [] e.node).outcome ≡ Answered e.answer
+  pub asked : (tells w [] e.node).asked ≡ e.asked
+  pub uses : HasEachOnce e.uses (tells w [] e.node).uses
+  pub closed : AllByRecursion (λ m. is_among w.number kept m ≡ true) e.asked
+
+-- each entry is right, and no node has two
+pub record IsRight {N A : Type 0} (w : Standing N A) (es : List (Entry N A)) : Type 0 where
+  pub each : AllByRecursion (IsRightEntry w (nodes_of es)) es
+  pub once : AreDistinct w (nodes_of es)
+
+-- a list of nodes is distinct, and has the members of another
+pub record AreExactly {N A : Type 0} (w : Standing N A) (ns ms : List N) : Type 0 where
+  pub once : AreDistinct w ns
+  pub same : (x : N) → is_among w.number ns x ≡ is_among w.number ms x
+
+-- a list of nodes is distinct, has all members of a second list, and none but those of a third
+pub record AreBetween {N A : Type 0} (w : Standing N A) (least ns most : List N) : Type 0 where
+  pub once : AreDistinct w ns
+  pub holds : (x : N) → is_among w.number least x ≡ true → is_among w.number ns x ≡ true
+  pub within : (x : N) → is_among w.number ns x ≡ true → is_among w.number most x ≡ true
+
+-- the nodes of the second list that aren't in the first, each once, in order
+unfoldable pub fresh : {N : Type 0} → (N → ℕ) → List N → List N → List N
+fresh number kept [] = []
+fresh number kept (m ∷ ms) = cond (is_among number kept m) (fresh number kept ms) (m ∷ fresh number (kept ++ m ∷ []) ms)
+
+-- the calls that a node takes from nothing: one, and one more after each reply
+abbrev pub cost : {N A : Type 0} → Standing N A → N → ℕ
+cost w m = length (tells w [] m).asked + 1
+
+-- the calls of all nodes of a list
+abbrev pub costs : {N A : Type 0} → Standing N A → List N → ℕ
+costs w [] = 0
+costs w (m ∷ ms) = cost w m + costs w ms
+
+-- the count after so many more calls, which stays at the largest number
+abbrev pub counted : ℕ → Option ℕ → Option ℕ
+counted zero turns = turns
+counted (suc k) turns = option_map (λ t. min (t + 1) (2 ^ 64 - 1)) (counted k turns)

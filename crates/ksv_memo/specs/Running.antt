@@ -1,0 +1,180 @@
+-- The stack of open nodes while a question is answered: what it says of the answers to come, of the nodes that are still
+-- to be kept, and of the calls that are left. The machine's own contracts alone speak of it.
+use Rattle.std.specs.Prelude.{◌≡◌, ℕ, suc, ◌+◌, ◌-◌, ◌*◌, ◌<◌, ◌≤◌, true, false, List, [], ◌∷◌, ◌++◌, length, Option}
+use Rattle.std.specs.List.{AllByRecursion, flat_map}
+use Rattle.ksv_memo.specs.declared.rules.Outcome.{Outcome}
+use Rattle.ksv_memo.specs.declared.rules.Outcome.TheVariants.{Answered}
+use Rattle.ksv_memo.specs.declared.rules.Step.{Step}
+use Rattle.ksv_memo.specs.declared.rules.Step.TheVariants.{Need, Done}
+use Rattle.ksv_memo.specs.declared.machine.Progress.{Progress}
+use Rattle.ksv_memo.specs.declared.machine.Progress.TheVariants.{Ended, Goes}
+use Rattle.ksv_memo.specs.Meaning.{Standing, IsAddedTo}
+use Rattle.ksv_memo.specs.Evaluation.{Told, is_among, tells, told, after, with_reply, done, if_answered, IsAnswered}
+use Rattle.ksv_memo.specs.Entry.{Entry}
+use Rattle.ksv_memo.specs.Open.{Open, open_of, nodes_in}
+use Rattle.ksv_memo.specs.Right.{nodes_of, AreDistinct, IsRight, fresh, costs, counted}
+
+-- what nodes answer while these are open
+abbrev pub answering : {N A : Type 0} → Standing N A → List N → N → Outcome N A
+answering w opened m = (tells w opened m).outcome
+
+-- this way of answering says at each kept node what is kept
+abbrev pub Agrees : {N A : Type 0} → List (Entry N A) → (N → Outcome N A) → Type 0
+Agrees es g = AllByRecursion (λ e. g e.node ≡ Answered e.answer) es
+
+-- by kept answers alone, the node came to these replies
+pub record HasCome {N A : Type 0} (w : Standing N A) (es : List (Entry N A)) (o : Open N A) : Type 0 where
+  pub came : (g : N → Outcome N A) → Agrees es g → told w g o.node (suc w.replies) [] ≡ after o.asked o.uses (told w g o.node (suc w.replies - length o.replies) o.replies)
+  pub closed : AllByRecursion (λ m. is_among w.number (nodes_of es) m ≡ true) o.asked
+  pub few : length o.replies ≤ w.replies
+
+-- it came to these replies, and waits for that of a node
+pub record IsWaiting {N A : Type 0} (w : Standing N A) (es : List (Entry N A)) (o : Open N A) (m : N) : Type 0 where
+  pub came : (g : N → Outcome N A) → Agrees es g → told w g o.node (suc w.replies) [] ≡ after (o.asked ++ m ∷ []) o.uses (with_reply (λ a. told w g o.node (w.replies - length o.replies) (o.replies ++ a ∷ [])) (g m))
+  pub closed : AllByRecursion (λ m. is_among w.number (nodes_of es) m ≡ true) o.asked
+  pub few : length o.replies < w.replies
+
+-- it came to its answer
+pub record HasEnded {N A : Type 0} (w : Standing N A) (es : List (Entry N A)) (o : Open N A) (a : A) : Type 0 where
+  pub came : (g : N → Outcome N A) → Agrees es g → told w g o.node (suc w.replies) [] ≡ record { outcome = Answered a; asked = o.asked; uses = o.uses }
+  pub closed : AllByRecursion (λ m. is_among w.number (nodes_of es) m ≡ true) o.asked
+  pub few : length o.replies ≤ w.replies
+
+-- each open node waits for the one above it
+abbrev pub Chain : {N A : Type 0} → Standing N A → List (Entry N A) → N → List (Open N A) → Type 0
+Chain w es m [] = Unit {0}
+Chain w es m (o ∷ st) = IsWaiting w es o m × Chain w es o.node st
+
+-- the kept answers are right, each open node waits for the one above it, the open nodes differ, and none is kept
+pub record IsStack {N A : Type 0} (w : Standing N A) (es : List (Entry N A)) (n : N) (st : List (Open N A)) : Type 0 where
+  pub right : IsRight w es
+  pub chain : Chain w es n st
+  pub distinct : AreDistinct w (n ∷ nodes_in st)
+  pub apart : AllByRecursion (λ m. is_among w.number (nodes_of es) m ≡ false) (n ∷ nodes_in st)
+
+-- what an open node answers once the node that it asked has this outcome
+abbrev pub resumed : {N A : Type 0} → Standing N A → Open N A → List N → Outcome N A → Outcome N A
+resumed w o below out = (with_reply (λ a. told w (answering w (o.node ∷ below)) o.node (w.replies - length o.replies) (o.replies ++ a ∷ [])) out).outcome
+
+-- what the lowest open node answers once the last has this outcome
+abbrev pub climbed : {N A : Type 0} → Standing N A → List (Open N A) → Outcome N A → Outcome N A
+climbed w [] out = out
+climbed w (o ∷ st) out = climbed w st (resumed w o (nodes_in st) out)
+
+-- what the lowest open node will answer, before the next call for the last
+abbrev pub value_of : {N A : Type 0} → Standing N A → Open N A → List (Open N A) → Outcome N A
+value_of w o st = climbed w st (told w (answering w (o.node ∷ nodes_in st)) o.node (suc w.replies - length o.replies) o.replies).outcome
+
+-- the same when that call has told the step
+abbrev pub value_at : {N A : Type 0} → Standing N A → Open N A → List (Open N A) → Step N A → Outcome N A
+value_at w o st (Done a) = climbed w st (Answered a)
+value_at w o st (Need m) = climbed w (o ∷ st) (answering w (o.node ∷ nodes_in st) m)
+
+-- it came to its next step
+abbrev pub HasStepped : {N A : Type 0} → Standing N A → List (Entry N A) → Open N A → Step N A → Type 0
+HasStepped w es o (Done a) = HasEnded w es o a
+HasStepped w es o (Need m) = IsWaiting w es o m
+
+-- an upper bound on the calls that are left for open nodes
+abbrev pub calls_of : {N A : Type 0} → Standing N A → List (Open N A) → ℕ
+calls_of w [] = 0
+calls_of w (o ∷ st) = (suc w.replies - length o.replies) + calls_of w st
+
+-- the same with the nodes that are not open yet
+abbrev pub calls_left : {N A : Type 0} → Standing N A → List (Entry N A) → Open N A → List (Open N A) → ℕ
+calls_left w es o st = (w.nodes - (length es + length (o ∷ st))) * (w.replies + 2) + calls_of w (o ∷ st)
+
+-- the nodes that are completed from where the last open node tells this, up to the lowest open node
+abbrev pub climbed_rest : {N A : Type 0} → Standing N A → List (Open N A) → Outcome N A → List N
+climbed_rest w [] out = []
+climbed_rest w (o ∷ st) out =
+    let t = with_reply (λ a. told w (answering w (o.node ∷ nodes_in st)) o.node (w.replies - length o.replies) (o.replies ++ a ∷ [])) out in
+    flat_map (done w (o.node ∷ nodes_in st)) t.asked ++ (if_answered o.node t.outcome ++ climbed_rest w st t.outcome)
+
+-- the same from what the last open node tells
+abbrev pub told_rest : {N A : Type 0} → Standing N A → N → List (Open N A) → Told N A → List N
+told_rest w n st t = flat_map (done w (n ∷ nodes_in st)) t.asked ++ (if_answered n t.outcome ++ climbed_rest w st t.outcome)
+
+-- the nodes that are still to be completed before the next call for the last open node
+abbrev pub rest_of : {N A : Type 0} → Standing N A → Open N A → List (Open N A) → List N
+rest_of w o st = told_rest w o.node st (told w (answering w (o.node ∷ nodes_in st)) o.node (suc w.replies - length o.replies) o.replies)
+
+-- the same when that call has told the step
+abbrev pub rest_at : {N A : Type 0} → Standing N A → Open N A → List (Open N A) → Step N A → List N
+rest_at w o st (Done a) = o.node ∷ climbed_rest w st (Answered a)
+rest_at w o st (Need m) = done w (o.node ∷ nodes_in st) m ++ climbed_rest w (o ∷ st) (answering w (o.node ∷ nodes_in st) m)
+
+-- what is kept, and then what is still to be completed and isn't kept, each node once
+abbrev pub to_keep : {N A : Type 0} → Standing N A → List (Entry N A) → List N → List N
+to_keep w es rest = nodes_of es ++ fresh w.number (nodes_of es) rest
+
+-- the calls of all nodes that are still to be kept
+abbrev pub debt : {N A : Type 0} → Standing N A → List (Entry N A) → List N → ℕ
+debt w es rest = costs w (fresh w.number (nodes_of es) rest)
+
+-- the calls that were made for open nodes that wait
+abbrev pub made : {N A : Type 0} → List (Open N A) → ℕ
+made [] = 0
+made (o ∷ st) = length o.asked + 1 + made st
+
+-- what one turn has to keep: what the lowest open node will answer, a bound on the calls that are left, all nodes that are
+-- kept in the end, the calls of those among them that aren't kept yet, and the calls that were made for open nodes
+pub record Account (N A : Type 0) : Type 0 where
+  pub value : Outcome N A
+  pub left : ℕ
+  pub all : List N
+  pub owed : ℕ
+  pub made : ℕ
+
+-- before the next call for the last open node
+abbrev pub account_of : {N A : Type 0} → Standing N A → List (Entry N A) → Open N A → List (Open N A) → Account N A
+account_of w es o st = record {
+  value = value_of w o st;
+  left = calls_left w es o st;
+  all = to_keep w es (rest_of w o st);
+  owed = debt w es (rest_of w o st);
+  made = length o.asked + made st;
+}
+
+-- the same when that call has told the step
+abbrev pub account_at : {N A : Type 0} → Standing N A → List (Entry N A) → Open N A → List (Open N A) → Step N A → Account N A
+account_at w es o st s = record {
+  value = value_at w o st s;
+  left = calls_left w es o st;
+  all = to_keep w es (rest_at w o st s);
+  owed = debt w es (rest_at w o st s);
+  made = length o.asked + made st;
+}
+
+-- the question has ended with this outcome
+pub record HasFinished {N A : Type 0} (w : Standing N A) (account : Account N A) (es : List (Entry N A)) (out : Outcome N A) : Type 0 where
+  pub value : out ≡ account.value
+  pub right : IsRight w es
+  pub all : nodes_of es ≡ account.all
+  pub calls : IsAnswered out → account.made + 1 ≡ account.owed
+
+-- the question goes on, with `o` as the last open node
+pub record GoesOn {N A : Type 0} (w : Standing N A) (account : Account N A) (before es : List (Entry N A)) (o : Open N A) (st : List (Open N A)) : Type 0 where
+  pub stack : IsStack w es o.node st
+  pub came : HasCome w es o
+  pub grown : IsAddedTo (nodes_of before) (nodes_of es)
+  pub value : value_of w o st ≡ account.value
+  pub fewer : calls_left w es o st < account.left
+  pub all : to_keep w es (rest_of w o st) ≡ account.all
+  pub calls : debt w es (rest_of w o st) + account.made + 1 ≡ account.owed + (length o.asked + made st)
+
+-- what one turn comes to
+abbrev pub Advances : {N A : Type 0} → Standing N A → Account N A → List (Entry N A) → List (Entry N A) → List (Open N A) → Progress N A → Type 0
+Advances w account before es st (Ended out) = HasFinished w account es out
+Advances w account before es st (Goes n f) = GoesOn w account before es (open_of n f) st
+
+-- what a refused memory leaves: kept answers that are right, the old ones among them, and none but those that would have
+-- been kept in the end
+pub record IsLeft {N A : Type 0} (w : Standing N A) (all : List N) (before es : List (Entry N A)) : Type 0 where
+  pub right : IsRight w es
+  pub grown : IsAddedTo (nodes_of before) (nodes_of es)
+  pub within : IsAddedTo (nodes_of es) all
+
+-- some number of calls was counted, and with those that are still owed they are these and what was made for open nodes
+abbrev pub Counts : Option ℕ → Option ℕ → ℕ → ℕ → ℕ → Type 0
+Counts before now owed so_far total = (c : ℕ) × (now ≡ counted c before) × (c + owed ≡ total + so_far)

@@ -1,0 +1,29 @@
+//! An open node's frame.
+ghost use Rattle.std.specs.Prelude.{◌≡◌, []};
+
+use ksv_bytes::Use;
+use std::alloc::Global;
+
+/// What an open node has come to: the replies that it had, the nodes that it asked for them, and what its calls used,
+/// with repeats.
+#[derive(Drop)]
+pub struct Frame<N, A> {
+    pub replies: Vec<A>,
+    pub asked: Vec<N>,
+    pub uses: Vec<Use>,
+}
+
+impl<N, A> Frame<N, A> {
+    /// The frame of a node that hasn't been run yet.
+    pub(crate) fn new(alloc: Global) -> Self
+        ensures replies { result.replies.items ≡ [] }
+        ensures asked { result.asked.items ≡ [] }
+        ensures uses { result.uses.items ≡ [] }
+    {
+        Frame {
+            replies: Vec::new(alloc),
+            asked: Vec::new(alloc),
+            uses: Vec::new(alloc),
+        }
+    }
+}

@@ -1,0 +1,19 @@
+//! An engine that answers the nodes of any rules over the bytes of a file, and keeps what it has answered.
+//!
+//! [`Rules`] say what a node does next once it has had some replies: it needs the answer of another node, or it is done.
+//! An [`Engine`] runs a node by them on an explicit stack, never runs a node twice while its answer is kept, and says of
+//! each answer that it is what evaluation from nothing gives (`specs/Evaluation.antt`). It knows nothing of what nodes and
+//! answers mean.
+#![tactic(auto)]
+
+mod engine;
+mod frame;
+pub mod laws;
+mod machine;
+mod rules;
+mod stack;
+mod table;
+mod uses;
+
+pub use engine::{Answer, Engine};
+pub use rules::{Rules, Step};

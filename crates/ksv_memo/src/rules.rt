@@ -1,0 +1,77 @@
+//! What rules are, and the laws that they keep.
+ghost use Rattle.std.specs.Prelude.{◌≡◌, ℕ, ◌++◌, List, true, Result, IfOk, OnOk, OnErr};
+
+use ksv_bytes::{Buffer, Use};
+use std::alloc::{AllocError, Global};
+use std::hash::Hash;
+
+/// What a node does next.
+#[derive(Debug, Drop)]
+pub enum Step<N, A> {
+    /// It needs the answer of this node.
+    Need(N),
+    /// It has this answer.
+    Done(A),
+}
+
+/// What comes of asking a node while some nodes are open.
+#[derive(Debug, Drop)]
+pub enum Outcome<N, A> {
+    /// The node's answer.
+    Answered(A),
+    /// A node was asked while it was open.
+    Circle(N),
+}
+
+/// Rules by which the answers of nodes follow from the answers of other nodes and from the bytes of a file.
+///
+/// Their laws, for all replies: a node is equal to itself alone; each node has a number of its own below a bound of the
+/// rules; after as many replies as a second bound of the rules says a node is done; and where two lists of bytes agree on
+/// the uses that a call adds, the call is the same on both.
+pub trait Rules {
+    ghost use Rattle.ksv_memo.specs.Meaning.{Meaning, IsLawful, IsAddedTo};
+
+    /// What can be asked.
+    type Node: Eq + Hash + Drop;
+
+    /// What a node answers.
+    type Value: Drop;
+
+    /// What a node answers where it has no value.
+    type Fault: Drop;
+
+    /// What the rules mean, for all bytes.
+    ghost meaning: { Self → Meaning Self.Node (Result Self.Value Self.Fault) };
+
+    /// What a node does next after these replies to what it needed. It adds to `uses` what its readings of the bytes rest
+    /// on. After a refused memory `uses` begins with what it held.
+    fn next(
+        &self,
+        alloc: Global,
+        node: &Self::Node,
+        bytes: &Buffer,
+        replies: &[Result<Self::Value, Self::Fault>],
+        uses: &mut Vec<Use>,
+    ) -> Result<Step<Self::Node, Result<Self::Value, Self::Fault>>, AllocError>
+        ensures step { IfOk result (λ step. step ≡ (meaning self.now).follow bytes.now node.now replies.now) }
+        ensures uses { OnOk result (uses.new.items ≡ uses.old.items ++ (meaning self.now).added bytes.now node.now replies.now) }
+        ensures refused { OnErr result (IsAddedTo uses.old.items uses.new.items) };
+
+    /// The same node again.
+    fn copy_node(&self, alloc: Global, node: &Self::Node) -> Result<Self::Node, AllocError>
+        ensures { IfOk result (λ copy. copy ≡ node.now) };
+
+    /// The same answer again.
+    fn copy_answer(
+        &self,
+        alloc: Global,
+        answer: &Result<Self::Value, Self::Fault>,
+    ) -> Result<Result<Self::Value, Self::Fault>, AllocError>
+        ensures { IfOk result (λ copy. copy ≡ answer.now) };
+
+    /// Equal nodes are the same.
+    ghost exact: { (a b : Self.Node) → Self.Node.eq a b ≡ true → a ≡ b };
+
+    /// The laws of what the rules mean.
+    ghost lawful: { (rules : Self) → IsLawful (meaning rules) };
+}

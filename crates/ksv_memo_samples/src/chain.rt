@@ -1,0 +1,73 @@
+//! A chain of nodes, each of which asks the one before it.
+ghost use Rattle.std.specs.Prelude.{◌≡◌, ◌<◌, ◌+◌, ◌-◌, ◌^◌, ◌++◌, min, length, IfOk, OnOk, OnErr};
+ghost use Rattle.ksv_memo_samples.specs.Chain as spec;
+
+use crate::link::Link;
+use crate::row::Missing;
+use ksv_bytes::{Buffer, Use};
+use ksv_memo::{Rules, Step};
+use std::alloc::{AllocError, Global};
+
+/// A chain: link 0 answers the file's size, and each other link one more than the link before it. Each of them looks at the
+/// size.
+#[derive(Debug, Drop)]
+pub struct Chain;
+
+type Reply = Result<u32, Missing>;
+
+/// The link before another than link 0.
+fn link_before(link: Link) -> Link
+    requires { 0 < link.number }
+    ensures { result ≡ spec.link_before link }
+{
+    Link {
+        number: link.number - 1,
+    }
+}
+
+/// What a link does next.
+fn linked(link: Link, size: u32, replies: &[Reply]) -> Step<Link, Reply>
+    ensures { result ≡ spec.linked link size replies.now }
+{
+    match replies {
+        [] if link.number == 0 => Step::Done(Ok(size)),
+        [] => Step::Need(link_before(link)),
+        [Ok(before), ..] => Step::Done(Ok(before.saturating_add(1))),
+        [Err(missing), ..] => Step::Done(Err(*missing)),
+    }
+}
+
+impl Rules for Chain {
+    type Node = Link;
+
+    type Value = u32;
+
+    type Fault = Missing;
+
+    ghost meaning = { λ _. spec.chain_meaning };
+
+    fn next(
+        &self,
+        _alloc: Global,
+        node: &Link,
+        bytes: &Buffer,
+        replies: &[Reply],
+        uses: &mut Vec<Use>,
+    ) -> Result<Step<Link, Reply>, AllocError> {
+        uses.push(Use::Size)?;
+        let size = bytes.len();
+        Ok(linked(*node, size as u32, replies))
+    }
+
+    fn copy_node(&self, _alloc: Global, node: &Link) -> Result<Link, AllocError> {
+        Ok(*node)
+    }
+
+    fn copy_answer(&self, _alloc: Global, answer: &Reply) -> Result<Reply, AllocError> {
+        Ok(*answer)
+    }
+
+    ghost exact = { spec.same_if_equal };
+
+    ghost lawful = { λ _. spec.chain_lawful };
+}

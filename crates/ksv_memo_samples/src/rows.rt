@@ -1,0 +1,152 @@
+//! Rows that depend on rows and on bytes.
+ghost use Rattle.std.specs.Prelude.{◌≡◌, ◌<◌, ◌≤◌, ◌+◌, ◌-◌, ◌^◌, ◌++◌, min, length, slice_get, slice_range, IfOk, OnOk, OnErr, IsSome, Some};
+ghost use Rattle.std.specs.Option.{option_copied};
+ghost use Rattle.ksv_memo_samples.specs.Rows as spec;
+
+use crate::row::{Missing, Row, RowNumber};
+use ksv_bytes::{Buffer, Use, Window};
+use ksv_memo::{Rules, Step};
+use std::alloc::{AllocError, Global};
+
+/// Rows, each asked by its number.
+#[derive(Debug, Drop)]
+pub struct Rows {
+    /// The rows from number 0 on.
+    pub rows: Vec<Row>,
+}
+
+type Reply = Result<u32, Missing>;
+
+/// The replies added to a number, or the first that is missing.
+fn total(so_far: u32, replies: &[Reply]) -> Reply
+    ensures { result ≡ spec.total so_far replies.now }
+{
+    match replies {
+        [] => Ok(so_far),
+        [Err(missing), ..] => Err(*missing),
+        [Ok(number), rest @ ..] => total(so_far.saturating_add(*number), rest),
+    }
+}
+
+/// What a sum does next.
+fn summed(numbers: &[RowNumber], replies: &[Reply]) -> Step<RowNumber, Reply>
+    ensures { result ≡ spec.summed numbers.now replies.now }
+{
+    match total(0, replies) {
+        Err(missing) => Step::Done(Err(missing)),
+        Ok(sum) => match numbers.get(replies.len()) {
+            Some(number) => Step::Need(*number),
+            None => Step::Done(Ok(sum)),
+        },
+    }
+}
+
+/// The byte at a place.
+fn byte_at(bytes: &Buffer, place: u32) -> Option<u8>
+    ensures value { result ≡ slice_get bytes.now place }
+    ensures within { IsSome result → place < 16777216 }
+{
+    let from = place as usize;
+    if from >= bytes.len() {
+        return None;
+    }
+    let (front, back) = bytes.parts(Window { from, to: from + 1 });
+    match front {
+        [byte, ..] => Some(*byte),
+        [] => back.first().copied(),
+    }
+}
+
+/// The row that a byte names.
+fn row_number(byte: u8) -> RowNumber
+    ensures { result ≡ spec.row_number byte }
+{
+    RowNumber { number: byte }
+}
+
+/// What a row that a byte names does next. The byte is read in its first call alone.
+fn named(
+    place: u32,
+    bytes: &Buffer,
+    replies: &[Reply],
+    uses: &mut Vec<Use>,
+) -> Result<Step<RowNumber, Reply>, AllocError>
+    ensures step { IfOk result (λ step. step ≡ spec.named bytes.now place replies.now) }
+    ensures uses { OnOk result (uses.new.items ≡ uses.old.items ++ spec.named_uses bytes.now place replies.now) }
+    ensures refused { OnErr result (uses.new.items ≡ uses.old.items) }
+{
+    if let [reply, ..] = replies {
+        return Ok(Step::Done(*reply));
+    }
+    match byte_at(bytes, place) {
+        None => {
+            uses.push(Use::Size)?;
+            Ok(Step::Done(Err(Missing)))
+        }
+        Some(byte) => {
+            uses.push(Use::Bytes(place, place + 1))?;
+            Ok(Step::Need(row_number(byte)))
+        }
+    }
+}
+
+/// The row of a number, if there is one.
+fn row_at(rows: &[Row], number: usize) -> Option<&Row>
+    ensures { option_copied result ≡ slice_get rows.now number }
+{
+    rows.get(number)
+}
+
+/// What a row does next.
+fn row_next(
+    row: &Row,
+    bytes: &Buffer,
+    replies: &[Reply],
+    uses: &mut Vec<Use>,
+) -> Result<Step<RowNumber, Reply>, AllocError>
+    ensures step { IfOk result (λ step. step ≡ spec.row_next bytes.now replies.now (Some row.now)) }
+    ensures uses { OnOk result (uses.new.items ≡ uses.old.items ++ spec.row_uses bytes.now replies.now (Some row.now)) }
+    ensures refused { OnErr result (uses.new.items ≡ uses.old.items) }
+{
+    match row {
+        Row::Number(number) => Ok(Step::Done(Ok(*number))),
+        Row::Sum(numbers) => Ok(summed(numbers.as_slice(), replies)),
+        Row::Named(place) => named(*place, bytes, replies, uses),
+    }
+}
+
+impl Rules for Rows {
+    type Node = RowNumber;
+
+    type Value = u32;
+
+    type Fault = Missing;
+
+    ghost meaning = { λ rules. spec.rows_meaning rules.rows.items };
+
+    fn next(
+        &self,
+        _alloc: Global,
+        node: &RowNumber,
+        bytes: &Buffer,
+        replies: &[Reply],
+        uses: &mut Vec<Use>,
+    ) -> Result<Step<RowNumber, Reply>, AllocError> {
+        match row_at(self.rows.as_slice(), node.number as usize) {
+            None => Ok(Step::Done(Err(Missing))),
+            Some(row) => row_next(row, bytes, replies, uses),
+        }
+    }
+
+    fn copy_node(&self, _alloc: Global, node: &RowNumber) -> Result<RowNumber, AllocError> {
+        Ok(*node)
+    }
+
+    fn copy_answer(&self, _alloc: Global, answer: &Reply) -> Result<Reply, AllocError> {
+        Ok(*answer)
+    }
+
+    ghost exact = { spec.same_if_equal };
+
+    ghost lawful = { λ rules. spec.rows_lawful rules.rows.items };
+}
