@@ -1,13 +1,10 @@
 -- Keys that are read one after another are distinct.
 use Rattle.std.proofs.Common.{◌≡◌, ℕ, Bool, true, false, cond, List, [], ◌∷◌, ◌++◌, refl, sym, ap, subst, ◌∙◌, ◌⊎◌, inl, inr}
-use Rattle.std.proofs.lemmas.Bool.{eqb-true, eq-eqb}
 use Rattle.std.specs.Str.{bytes_eq}
 use Rattle.std.proofs.lemmas.Slice.Eq.{bytes_eq-Decides}
 use Rattle.ksv_yaml.specs.Tree.{Entries, no_entries, entry}
 use Rattle.ksv_yaml.specs.Tree.{IsApart, AreDistinct}
 use Rattle.ksv_yaml.specs.Reading.{is_among}
-use Rattle.std.specs.Prelude.{◌&&◌, ◌==◌}
-use Rattle.ksv_yaml_scan.proofs.Choices.{both_true}
 
 same_is : (k j : List ℕ) → bytes_eq k j ≡ true → j ≡ k
 same_is k j h = sym ((bytes_eq-Decides k j).0 h)

@@ -1,7 +1,6 @@
 -- What a step of reading that found something says.
-use Rattle.std.proofs.Common.{◌≡◌, ℕ, zero, suc, ◌<◌, Bool, true, false, cond, List, [], ◌∷◌, ◌++◌, Option, Some, None, refl, sym, ap, subst, ◌∙◌, append_assoc, arith, ◌⊎◌, inl, inr}
+use Rattle.std.proofs.Common.{◌≡◌, ℕ, zero, suc, ◌<◌, Bool, true, false, cond, List, [], ◌∷◌, ◌++◌, Option, Some, None, refl, sym, ap, subst, ◌∙◌, append_assoc, arith}
 use Rattle.ksv_yaml_scan.proofs.Choices.{at_true, at_false}
-use Rattle.std.specs.Prelude.{◌||◌, ◌&&◌}
 use Rattle.ksv_yaml.specs.Grammar.{AreQuiet}
 use Rattle.ksv_yaml.specs.Reading.{deeper}
 use Rattle.ksv_yaml_scan.specs.Got.{Got, got, ◌>>=◌}

@@ -1,20 +1,17 @@
 -- What the reader of whole texts answers.
-use Rattle.std.proofs.Common.{◌≡◌, ℕ, suc, ◌+◌, ◌*◌, ◌<◌, ◌≤◌, Bool, true, false, List, [], ◌∷◌, length, map, max, Option, Some, None, Result, Ok, Err, is_none, refl, sym, ap, subst, ◌∙◌, arith}
+use Rattle.std.proofs.Common.{◌≡◌, ℕ, suc, ◌<◌, ◌≤◌, Bool, true, false, List, [], ◌∷◌, length, max, Option, Some, None, is_none, refl, sym, ap, subst, ◌∙◌, arith}
 use Rattle.ksv_yaml.specs.declared.fault.YamlKind.{YamlKind}
 use Rattle.ksv_yaml.specs.declared.fault.YamlKind.TheVariants.{NotUtf8, TooLong, Tab, Indentation, KeyTwice, LeftOut, NotClosed, ValueForKey, TooDeep, NoMemory}
-use Rattle.ksv_yaml.specs.declared.fault.YamlFault.{YamlFault}
-use Rattle.ksv_yaml.specs.declared.tree.Yaml.{Yaml}
 use Rattle.ksv_yaml.specs.Tree.{Tree}
-use Rattle.ksv_yaml.specs.View.{view}
-use Rattle.ksv_yaml.specs.Faults.{names_memory, IsOfLines, IsUnspelled, Refuses, IsTreeOrNoMemory}
+use Rattle.ksv_yaml.specs.Faults.{names_memory, IsOfLines, IsUnspelled, Refuses}
 use Rattle.ksv_yaml.specs.Reading.{tree_of}
-use Rattle.ksv_yaml.specs.Text.{Spells, tree_of_text}
+use Rattle.ksv_yaml.specs.Text.{Spells}
 use Rattle.ksv_yaml.proofs.Theorem.{refused}
-use Rattle.ksv_yaml.proofs.TextTheorem.{text_sound, text_complete, one_tree_of_text}
+use Rattle.ksv_yaml.proofs.TextTheorem.{text_sound}
 use Rattle.ksv_yaml_scan.proofs.Choices.{at_true}
 use Rattle.ksv_yaml_scan.specs.declared.line.Line.{Line as CodeLine}
 use Rattle.ksv_yaml_scan.specs.Lines.{Line}
-use Rattle.ksv_yaml_scan.specs.Text.{IsCut, IsLine, IsTooLong, IsNotUtf8, Raw, cut_lines, unmarked, number_from, lines_of, stray_line, is_allowed}
+use Rattle.ksv_yaml_scan.specs.Text.{IsCut, IsLine, Raw, cut_lines, unmarked, number_from, lines_of, stray_line, is_allowed}
 use Rattle.ksv_yaml_scan.specs.Views.{lines_view}
 
 allowed_none : (text : List ℕ) (stray : Option ℕ) → stray_line text ≡ stray → stray ≡ None → is_allowed text ≡ true

@@ -2,7 +2,7 @@
 --
 -- The lines of each block begin with one that says something and end with the quiet lines behind it, so that what follows begins with a line that says something too.
 -- A list of lines is split in two by an equation (ls ≡ xs ++ ys): the relation says that there is such a split, and not how it is found.
-use Rattle.std.specs.Prelude.{◌≡◌, ℕ, zero, suc, ◌+◌, ◌≤◌, ◌++◌, Bool, true, false, List, [], ◌∷◌, Some, ◌||◌, ◌&&◌, ◌==◌, codes}
+use Rattle.std.specs.Prelude.{◌≡◌, ℕ, suc, ◌+◌, ◌≤◌, ◌++◌, Bool, true, false, List, [], ◌∷◌, Some, ◌&&◌, ◌==◌, codes}
 use Rattle.std.specs.Str.{bytes_eq}
 use Rattle.ksv_yaml.specs.Tree.{Tree, Text, Seq, Map, Items, no_items, item, Entries, no_entries, entry, AreDistinct}
 use Rattle.ksv_yaml_scan.specs.Blocks.{is_inner, block_text}

@@ -1,6 +1,6 @@
 -- Reading from front to back: the same language as a function. A number bounds the calls in each other; it is always enough where the reader starts.
 -- None is a refusal. Where several lines could show it, it is found at the earliest, so that a reader by this function can name that line.
-use Rattle.std.specs.Prelude.{ℕ, zero, suc, ◌+◌, ◌*◌, ◌++◌, Bool, true, false, ◌&&◌, List, [], ◌∷◌, length, Option, Some, None, nat_lt, nat_le, ◌==◌, if◌then◌else◌}
+use Rattle.std.specs.Prelude.{ℕ, zero, suc, ◌+◌, ◌*◌, ◌++◌, Bool, true, false, ◌&&◌, List, [], ◌∷◌, length, Option, Some, None, nat_lt, ◌==◌, if◌then◌else◌}
 use Rattle.std.specs.Str.{bytes_eq}
 use Rattle.ksv_yaml.specs.Tree.{Tree, Text, Seq, Map, Items, no_items, item, Entries, no_entries, entry}
 use Rattle.ksv_yaml.specs.Grammar.{at_column, from_here, is_mark}

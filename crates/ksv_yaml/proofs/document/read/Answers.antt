@@ -1,5 +1,5 @@
 -- What the text spells is what its lines spell, where no control character stands.
-use Rattle.std.proofs.Common.{◌≡◌, ◌≤◌, List, length, max, sym, subst, ◌∙◌}
+use Rattle.std.proofs.Common.{◌≤◌, List, length, max, sym, subst, ◌∙◌}
 use Rattle.ksv_yaml.specs.View.{view}
 use Rattle.ksv_yaml.specs.Faults.{wants_memory}
 use Rattle.ksv_yaml.proofs.TextTheorem.{one_tree_of_text}

@@ -1,5 +1,5 @@
 -- Each step of the loops is one of `FlowLoops`.
-use Rattle.std.proofs.Common.{◌≡◌, ◌++◌, ◌∷◌, [], ◌-◌, ◌≤◌, ◌<◌, length, map, None, refl, sym, ap, ◌∙◌, arith}
+use Rattle.std.proofs.Common.{◌-◌, map, None, refl, sym, ap, arith}
 use Rattle.std.proofs.lemmas.Result.{err_from_is_err_and}
 use Rattle.ksv_yaml.specs.View.{view, pair, items_of, entries_of}
 use Rattle.ksv_yaml.specs.Outcome.{keys_of, FlowIs, FlowItemsIs, FlowEntriesIs}

@@ -1,5 +1,5 @@
 -- Each call is made on fewer parts, or on as many by a lower function.
-use Rattle.std.proofs.Common.{◌≡◌, ◌<◌, ℕ, ◌+◌, ◌*◌, ◌≤◌, length, map}
+use Rattle.std.proofs.Common.{◌+◌, ◌*◌, ◌≤◌, length, map}
 use Rattle.ksv_yaml.specs.View.{view, pair}
 use Rattle.ksv_yaml.specs.Outcome.{keys_of}
 use Rattle.ksv_yaml.specs.Keys.{HoldsKeys}

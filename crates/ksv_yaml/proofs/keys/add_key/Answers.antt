@@ -1,5 +1,5 @@
 -- The set has one key more.
-use Rattle.std.proofs.Common.{◌≡◌, ℕ, Bool, true, cond, List, sym, ap, ◌∙◌}
+use Rattle.std.proofs.Common.{ℕ, Bool, true, cond, List, sym, ap, ◌∙◌}
 use Rattle.std.specs.Str.{bytes_eq}
 use Rattle.ksv_yaml.specs.Reading.{is_among}
 use Rattle.ksv_yaml.proofs.Distinct.{among_push}

@@ -1,5 +1,5 @@
 -- Each step of the reader is one of `BlockLoops`.
-use Rattle.std.proofs.Common.{◌≡◌, ◌++◌, ◌∷◌, [], ◌+◌, ◌-◌, ◌≤◌, ◌<◌, ℕ, List, length, map, Option, None, true, false, refl, sym, ap, ◌∙◌, arith}
+use Rattle.std.proofs.Common.{◌≡◌, ◌+◌, ◌-◌, ◌<◌, ℕ, List, length, map, Option, None, false, refl, sym, ap, ◌∙◌, arith}
 use Rattle.std.proofs.lemmas.Result.{err_from_is_err_and}
 use Rattle.ksv_yaml.specs.Tree.{Tree, Text}
 use Rattle.ksv_yaml.specs.View.{view, pair, items_of, entries_of}

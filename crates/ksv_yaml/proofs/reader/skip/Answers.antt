@@ -1,5 +1,5 @@
 -- Fewer lines are no more to read.
-use Rattle.std.proofs.Common.{◌≡◌, ◌≤◌, ap, arith}
+use Rattle.std.proofs.Common.{ap, arith}
 use Rattle.ksv_yaml.specs.Reading.{weight}
 use Rattle.ksv_yaml.proofs.BlockLoops.{loud_lighter}
 use Rattle.ksv_yaml_scan.specs.Views.{lines_view}

@@ -1,5 +1,5 @@
 -- The node is the one that begins behind the key.
-use Rattle.std.proofs.Common.{◌≡◌, ◌+◌, ap, ◌∙◌}
+use Rattle.std.proofs.Common.{◌+◌, ap, ◌∙◌}
 use Rattle.ksv_yaml.specs.Grammar.{from_here}
 use Rattle.ksv_yaml.proofs.BlockLoops.{here_read, inline_lighter}
 use Rattle.ksv_yaml_scan.specs.Views.{line_view, lines_view, kind_view, start_view}
