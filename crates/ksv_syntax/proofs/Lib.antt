@@ -1,9 +1,0 @@
-pub mod Steps
-pub mod Sound
-pub mod Same
-pub mod Flow
-pub mod Complete
-pub mod Loops
-pub mod Exits
-pub mod Lexing
-pub mod Theorem
