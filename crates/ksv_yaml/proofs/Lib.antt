@@ -1,0 +1,16 @@
+pub mod Steps
+pub mod Distinct
+pub mod FlowSound
+pub mod FlowComplete
+pub mod InlineSound
+pub mod InlineComplete
+pub mod Sound
+pub mod Complete
+pub mod Theorem
+pub mod TextTheorem
+pub mod Views
+pub mod Joins
+pub mod FlowLoops
+pub mod Answering
+pub mod BlockLoops
+pub mod Whole

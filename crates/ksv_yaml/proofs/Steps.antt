@@ -1,0 +1,71 @@
+-- What a step of reading that found something says.
+use Rattle.std.proofs.Common.{◌≡◌, ℕ, zero, suc, ◌<◌, Bool, true, false, cond, List, [], ◌∷◌, ◌++◌, Option, Some, None, refl, sym, ap, subst, ◌∙◌, append_assoc, arith}
+use Rattle.ksv_yaml_scan.proofs.Choices.{at_true, at_false}
+use Rattle.ksv_yaml.specs.Grammar.{AreQuiet}
+use Rattle.ksv_yaml.specs.Reading.{deeper}
+use Rattle.ksv_yaml_scan.specs.Got.{Got, got, ◌>>=◌}
+use Rattle.ksv_yaml_scan.specs.Lines.{Line, is_quiet, loud}
+
+pub bind_some : {A B : Type 0} (r : Option A) (f : A → Option B) (y : B) → (r >>= f) ≡ Some y → (x : A) × (r ≡ Some x) × (f x ≡ Some y)
+bind_some None f y h = absurd cc
+bind_some (Some x) f y h = (x, refl, h)
+
+pub deeper_some : {A : Type 0} (n : ℕ) (f : ℕ → Option A) (y : A) → deeper n f ≡ Some y → (m : ℕ) × (n ≡ suc m) × (f m ≡ Some y)
+deeper_some zero f y h = absurd cc
+deeper_some (suc n) f y h = (n, refl, h)
+
+pub some_is : {L A : Type 0} (x y : Got L A) → (let some : Got L A → Option (Got L A) = λ x. Some x in some x ≡ some y) → x ≡ y
+some_is x y h = cc
+
+pub at_got : {L A : Type 0} (P : Got L A → Type 0) (v : A) (ls : List L) (x : Got L A) → got v ls ≡ Some x → P (record { value = v; rest = ls }) → P x
+at_got P v ls x h u = subst P (some_is (record { value = v; rest = ls }) x h) u
+
+pub two_less : (n : ℕ) → 1 < n → (m : ℕ) × (n ≡ suc (suc m))
+two_less zero h = absurd (omega arith)
+two_less (suc zero) h = absurd (omega arith)
+two_less (suc (suc n)) h = (n, refl)
+
+pub one_less : (n : ℕ) → 0 < n → (m : ℕ) × (n ≡ suc m)
+one_less zero h = absurd (omega arith)
+one_less (suc n) h = (n, refl)
+
+-- elements were taken from the front
+pub record Took (L : Type 0) (ls rest : List L) (P : List L → Type 0) : Type 0 where
+  pub front : List L
+  pub cut : ls ≡ front ++ rest
+  pub is : P front
+
+pub took_none : {L : Type 0} (ls : List L) (P : List L → Type 0) → P [] → Took L ls ls P
+took_none ls P p = record { front = []; cut = refl; is = p }
+
+pub took_as : {L : Type 0} {ls rest : List L} {P : List L → Type 0} (Q : List L → Type 0) → ((xs : List L) → P xs → Q xs) → Took L ls rest P → Took L ls rest Q
+took_as Q f t = record { front = t.front; cut = t.cut; is = f t.front t.is }
+
+pub took_then : {L : Type 0} {ls mid rest : List L} {P Q : List L → Type 0} (R : List L → Type 0) → (s : Took L ls mid P) → (t : Took L mid rest Q) → R (s.front ++ t.front) → Took L ls rest R
+took_then {L} {rest = rest} R s t r = record { front = s.front ++ t.front; cut = s.cut ∙ ap (λ (r : List L). s.front ++ r) t.cut ∙ sym (append_assoc s.front t.front rest); is = r }
+
+pub took_first : {L : Type 0} {ls rest : List L} {P : List L → Type 0} (l : L) (Q : List L → Type 0) → ((xs : List L) → P xs → Q (l ∷ xs)) → Took L ls rest P → Took L (l ∷ ls) rest Q
+took_first {L} l Q f t = record { front = l ∷ t.front; cut = ap (λ (r : List L). l ∷ r) t.cut; is = f t.front t.is }
+
+-- ---- quiet lines
+
+loud_step : (b : Bool) (l : Line) (ls : List Line) → is_quiet l ≡ b → Took Line ls (loud ls) AreQuiet → Took Line (l ∷ ls) (cond b (loud ls) (l ∷ ls)) AreQuiet
+loud_step true l ls e t = took_first l AreQuiet (λ xs q. (e, q)) t
+loud_step false l ls e t = took_none (l ∷ ls) AreQuiet tt
+
+pub loud_took : (ls : List Line) → Took Line ls (loud ls) AreQuiet
+loud_took [] = took_none [] AreQuiet tt
+loud_took (l ∷ ls) = loud_step (is_quiet l) l ls refl (loud_took ls)
+
+-- the first line, if any, says something
+abbrev pub Loud : List Line → Type 0
+Loud [] = Unit {0}
+Loud (l ∷ ls) = is_quiet l ≡ false
+
+pub loud_stop : (ls : List Line) → Loud ls → loud ls ≡ ls
+loud_stop [] h = refl
+loud_stop (l ∷ ls) h = at_false (is_quiet l) _ _ h
+
+pub loud_behind : (qs ls : List Line) → AreQuiet qs → Loud ls → loud (qs ++ ls) ≡ ls
+loud_behind [] ls q h = loud_stop ls h
+loud_behind (l ∷ qs) ls q h = at_true (is_quiet l) _ _ q.0 ∙ loud_behind qs ls q.1 h

@@ -1,0 +1,80 @@
+-- What the lines spell is what is read.
+use Rattle.std.proofs.Common.{◌≡◌, ℕ, ◌+◌, ◌*◌, true, false, List, [], ◌∷◌, ◌++◌, Option, Some, None, refl, sym, ap, subst, ◌∙◌, arith, inl, inr}
+use Rattle.std.proofs.lemmas.List.{append-nil}
+use Rattle.std.specs.Prelude.{◌==◌, codes}
+use Rattle.std.specs.Str.{bytes_eq}
+use Rattle.std.proofs.lemmas.Slice.Eq.{bytes_eq-Decides}
+use Rattle.ksv_yaml.specs.Tree.{Tree}
+use Rattle.ksv_yaml.specs.Grammar.{AreQuiet, is_mark, Node, Spelled, bare, marked}
+use Rattle.ksv_yaml.specs.Reading.{node, weight, whole, body, behind_mark, tree_of}
+use Rattle.ksv_yaml_scan.specs.Got.{Got, ◌>>=◌}
+use Rattle.ksv_yaml_scan.specs.Lines.{Line, is_nil, shown, is_quiet, loud}
+use Rattle.ksv_yaml.proofs.Steps.{bind_some, Took, loud_took, loud_behind, Loud}
+use Rattle.ksv_yaml_scan.proofs.Choices.{picked, pick_true, pick_false, both_true}
+use Rattle.ksv_yaml.proofs.Sound.{node_sound}
+use Rattle.ksv_yaml.proofs.Complete.{node_ok}
+
+head_is : {a b : Line} {us bs : List Line} → a ∷ us ≡ b ∷ bs → a ≡ b
+head_is h = cc
+
+tail_is : {a b : Line} {us bs : List Line} → a ∷ us ≡ b ∷ bs → us ≡ bs
+tail_is h = cc
+
+-- ---- from the relation to reading
+
+body_complete : {ls : List Line} {t : Tree} → Node 64 0 ls t → body ls ≡ Some t
+body_complete {ls} {t} n =
+    let o = node_ok n in
+    let f : ℕ = 8 * weight (o.first ∷ o.others) + 8 in
+    ap body o.is
+    ∙ ap (λ (r : List Line). node f 64 0 o.first r >>= λ x. whole x.value x.rest) (sym (append-nil o.others))
+    ∙ ap (λ (o : Option (Got Line Tree)). o >>= λ x. whole x.value x.rest) (o.reads [] f tt (omega (arith, ap (λ (r : List Line). weight (o.first ∷ r)) (append-nil o.others))))
+
+-- a node begins with a line that says something
+node_loud : {ls : List Line} {t : Tree} → Node 64 0 ls t → Loud ls
+node_loud n = let o = node_ok n in subst Loud (sym o.is) o.loud
+
+mark_loud : (l : Line) → is_mark l ≡ true → is_quiet l ≡ false
+mark_loud l h =
+    let e = (bytes_eq-Decides l.content (codes "---")).0 (both_true (l.indent == 0) (bytes_eq l.content (codes "---")) h).1 in
+    subst (λ (cs : List ℕ). is_nil (shown cs) ≡ false) (sym e) refl
+
+pub tree_complete : {ls : List Line} {t : Tree} → Spelled ls t → tree_of ls ≡ Some t
+tree_complete (bare xs l ys split q m n) =
+    ap tree_of split ∙ ap (λ (r : List Line). body (behind_mark r)) (loud_behind xs (l ∷ ys) q (node_loud n)) ∙ ap body (pick_false (is_mark l) (loud ys) (l ∷ ys) m) ∙ body_complete n
+tree_complete (marked xs l ys zs split q m r n) =
+    ap tree_of split ∙ ap (λ (r : List Line). body (behind_mark r)) (loud_behind xs (l ∷ (ys ++ zs)) q (mark_loud l m)) ∙ ap body (pick_true (is_mark l) (loud (ys ++ zs)) (l ∷ (ys ++ zs)) m) ∙ ap body (loud_behind ys zs r (node_loud n)) ∙ body_complete n
+
+-- no lines spell two trees
+pub one_tree : (ls : List Line) (t u : Tree) → Spelled ls t → Spelled ls u → t ≡ u
+one_tree ls t u a b = let e = sym (tree_complete a) ∙ tree_complete b in cc
+
+-- ---- from reading to the relation
+
+whole_some : (t : Tree) (ls : List Line) (u : Tree) → whole t ls ≡ Some u → (ls ≡ []) × (t ≡ u)
+whole_some t [] u h = (refl, cc)
+whole_some t (l ∷ ls) u h = absurd cc
+
+body_sound : (ls : List Line) (t : Tree) → body ls ≡ Some t → Node 64 0 ls t
+body_sound [] t h = absurd cc
+body_sound (l ∷ ls) t h =
+    let f : ℕ = 8 * weight (l ∷ ls) + 8 in
+    let x = bind_some (node f 64 0 l ls) (λ x. whole x.value x.rest) t h in
+    let w = whole_some x.0.value x.0.rest t x.2 in
+    let s = node_sound f 64 0 l ls x.0 (omega arith) x.1 in
+    let e : s.front ≡ ls = sym (s.cut ∙ ap (λ (r : List Line). s.front ++ r) w.0 ∙ append-nil s.front) in
+    subst (λ (t : Tree). Node 64 0 (l ∷ ls) t) w.1 (subst (λ (r : List Line). Node 64 0 (l ∷ r) x.0.value) e s.is)
+
+from_sound : (ls us : List Line) (t : Tree) → Took Line ls us AreQuiet → body (behind_mark us) ≡ Some t → Spelled ls t
+from_sound ls [] t q h = absurd cc
+from_sound ls (l ∷ us) t q h =
+    elim (picked (is_mark l) (loud us) (l ∷ us) (behind_mark (l ∷ us)) refl) [
+      | inl a ↦ (let r = loud_took us in marked q.front l r.front (loud us) (q.cut ∙ ap (λ (us : List Line). q.front ++ l ∷ us) r.cut) q.is a.0 r.is (body_sound (loud us) t (ap body a.1 ∙ h)))
+      | inr a ↦ bare q.front l us q.cut q.is a.0 (body_sound (l ∷ us) t (ap body a.1 ∙ h))
+    ]
+
+pub tree_sound : (ls : List Line) (t : Tree) → tree_of ls ≡ Some t → Spelled ls t
+tree_sound ls t h = from_sound ls (loud ls) t (loud_took ls) h
+
+pub refused : (ls : List Line) (t : Tree) → tree_of ls ≡ None → Spelled ls t → ⊥
+refused ls t h s = let e = tree_complete s in cc

@@ -1,0 +1,169 @@
+//! Why a text has no tree.
+
+ghost use Rattle.std.specs.Prelude.{◌≡◌, true, false};
+ghost use Rattle.ksv_yaml.specs.Faults.{code_of, public_kind, wants_memory, lines_want};
+
+use ksv_yaml_scan::fault::{Fault, LineError, LineFault};
+use std::alloc::{AllocError, AllocFailed};
+use thiserror::Error;
+
+/// What is wrong with a text.
+///
+/// Y2 and Y1 are looked for first, in this order; of the others that are true of the line that is named, the first of Y3, Y5, Y9, Y7, Y4, Y8 and Y6 is given.
+#[derive(Debug, Clone, Copy, PartialEq, Eq, Error)]
+pub enum YamlKind {
+    /// Y1: the text isn't UTF-8; the line is that of the first bad byte.
+    #[error("not UTF-8")]
+    NotUtf8,
+    /// Y2: the text has more than 1,048,576 bytes; the line is 1.
+    #[error("too long")]
+    TooLong,
+    /// Y3: a tab stands in the white space at the front of the line, or between a dash and a block.
+    #[error("tab in the indentation")]
+    Tab,
+    /// Y4: the line's indentation is that of no open block, and nothing deeper may stand there.
+    #[error("indentation fits no level")]
+    Indentation,
+    /// Y5: the mapping has this key already.
+    #[error("key twice")]
+    KeyTwice,
+    /// Y6: a form of YAML that the subset leaves out, or none at all.
+    #[error("left-out form")]
+    LeftOut,
+    /// Y7: a quote isn't closed on its line, or a bracket at the end of the text.
+    #[error("not closed")]
+    NotClosed,
+    /// Y8: a plain scalar with a key's colon inside, or a line that is no entry of the block at its indentation.
+    #[error("value in a key's place")]
+    ValueForKey,
+    /// Y9: a mapping or sequence stands within 64 others.
+    #[error("nested too deeply")]
+    TooDeep,
+    /// Y10: memory was refused.
+    #[error("no memory")]
+    NoMemory,
+}
+
+impl YamlKind {
+    /// The code, from `Y1` to `Y10`.
+    pub fn code(self) -> &'static str
+        ensures { result.now ≡ code_of self }
+    {
+        match self {
+            YamlKind::NotUtf8 => "Y1",
+            YamlKind::TooLong => "Y2",
+            YamlKind::Tab => "Y3",
+            YamlKind::Indentation => "Y4",
+            YamlKind::KeyTwice => "Y5",
+            YamlKind::LeftOut => "Y6",
+            YamlKind::NotClosed => "Y7",
+            YamlKind::ValueForKey => "Y8",
+            YamlKind::TooDeep => "Y9",
+            YamlKind::NoMemory => "Y10",
+        }
+    }
+}
+
+/// Why a text has no tree, and the line, from 1, that shows it: no text that begins with the lines up to this one has a tree.
+#[derive(Debug, Clone, Copy, PartialEq, Eq, Error)]
+#[error("line {line}: {kind}")]
+pub struct YamlFault {
+    pub line: usize,
+    pub kind: YamlKind,
+}
+
+/// What is wrong with the lines of a text.
+#[derive(Debug, Clone, Copy, PartialEq, Eq)]
+pub(crate) enum ReadKind {
+    Tab,
+    Indentation,
+    KeyTwice,
+    LeftOut,
+    NotClosed,
+    ValueForKey,
+    TooDeep,
+    NoMemory,
+}
+
+/// Why lines have no tree, and the number of the line that shows it.
+#[derive(Debug, Clone, Copy, PartialEq, Eq)]
+pub(crate) struct ReadFault {
+    pub(crate) line: usize,
+    pub(crate) kind: ReadKind,
+}
+
+/// The kind as callers see it.
+pub(crate) fn published(kind: ReadKind) -> YamlKind
+    ensures { result ≡ public_kind kind }
+{
+    match kind {
+        ReadKind::Tab => YamlKind::Tab,
+        ReadKind::Indentation => YamlKind::Indentation,
+        ReadKind::KeyTwice => YamlKind::KeyTwice,
+        ReadKind::LeftOut => YamlKind::LeftOut,
+        ReadKind::NotClosed => YamlKind::NotClosed,
+        ReadKind::ValueForKey => YamlKind::ValueForKey,
+        ReadKind::TooDeep => YamlKind::TooDeep,
+        ReadKind::NoMemory => YamlKind::NoMemory,
+    }
+}
+
+/// The fault that memory was refused.
+pub(crate) fn no_memory() -> ReadFault
+    ensures { wants_memory result.kind ≡ true }
+{
+    ReadFault {
+        line: 1,
+        kind: ReadKind::NoMemory,
+    }
+}
+
+impl From<AllocError> for ReadFault {
+    ghost from_gives = { λ _ fault. wants_memory fault.kind ≡ true };
+
+    fn from(_: AllocError) -> ReadFault {
+        no_memory()
+    }
+}
+
+impl<T: Drop> From<AllocFailed<T>> for ReadFault {
+    ghost from_gives = { λ _ fault. wants_memory fault.kind ≡ true };
+
+    fn from(_: AllocFailed<T>) -> ReadFault {
+        no_memory()
+    }
+}
+
+impl From<LineError> for ReadFault {
+    ghost from_gives = { λ error fault. wants_memory fault.kind ≡ lines_want error };
+
+    fn from(error: LineError) -> ReadFault {
+        match error {
+            LineError::Fault(fault) => at_line(fault),
+            LineError::NoMemory => no_memory(),
+        }
+    }
+}
+
+/// The fault that the scanner found on a line.
+pub(crate) fn at_line(fault: LineFault) -> ReadFault
+    ensures { wants_memory result.kind ≡ false }
+{
+    ReadFault {
+        line: fault.line,
+        kind: kind_of(fault.fault),
+    }
+}
+
+/// The kind of what the scanner found.
+pub(crate) fn kind_of(fault: Fault) -> ReadKind
+    ensures { wants_memory result ≡ false }
+{
+    match fault {
+        Fault::Tab => ReadKind::Tab,
+        Fault::NotClosed => ReadKind::NotClosed,
+        Fault::Indentation => ReadKind::Indentation,
+        Fault::ValueForKey => ReadKind::ValueForKey,
+        Fault::LeftOut => ReadKind::LeftOut,
+    }
+}

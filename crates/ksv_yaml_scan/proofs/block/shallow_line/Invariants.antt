@@ -1,0 +1,7 @@
+use Rattle.std.proofs.Common.{◌≡◌, drop}
+use Rattle.ksv_yaml_scan.specs.Blocks.{is_level as is_level_at}
+use Rattle.ksv_yaml_scan.specs.Views.{lines_view}
+use Rattle.ksv_yaml_scan.proofs.block.shallow_line.Given as goal
+
+abbrev pub invariant-loop-line : goal.invariant-loop-line
+invariant-loop-line l = is_level_at l.indent (lines_view (drop l.line-index l.lines)) ≡ is_level_at l.indent (lines_view l.lines)

@@ -1,0 +1,47 @@
+use Rattle.std.proofs.Common.{◌≡◌, ℕ, ◌+◌, ◌<◌, ◌≤◌, Bool, true, false, List, [], ◌∷◌, ◌++◌, length, drop, get_or, Some, None, sym, ap, ◌∙◌, append_assoc, arith}
+use Rattle.std.specs.Prelude.{nat_le}
+use Rattle.ksv_yaml_scan.specs.declared.line.Line.{Line as CodeLine}
+use Rattle.ksv_yaml_scan.specs.Lines.{Line, is_quiet}
+use Rattle.ksv_yaml_scan.specs.Plain.{more_of, plain_text}
+use Rattle.ksv_yaml_scan.specs.Views.{line_view, lines_view}
+use Rattle.ksv_yaml_scan.proofs.Continuing.{text_refused, text_more}
+use Rattle.ksv_yaml_scan.proofs.Numbers.{number_at, lines_at}
+use Rattle.ksv_yaml_scan.proofs.plain.continue_plain.Goals as goal
+
+is_deep : (n m : ℕ) → n ≤ m → nat_le n m ≡ true
+is_deep n m h = grind arith
+
+-- a line that no comment ended the text before, deep enough
+record OnLine (text : List ℕ) (n : ℕ) (c : Bool) (ls : List CodeLine) (i : ℕ) (l : CodeLine) (b : Bool) : Type 0 where
+  inside : i < length ls
+  is : l ≡ get_or ls i l
+  going : c ≡ false
+  quiet : b ≡ is_quiet (line_view l)
+  loud : b ≡ false
+  deep : n ≤ l.indent
+
+start : (text : List ℕ) (n : ℕ) (c : Bool) (ls : List CodeLine) (i : ℕ) (l : CodeLine) (b : Bool) → OnLine text n c ls i l b → plain_text text n c (lines_view (drop i ls)) ≡ plain_text text n false (line_view l ∷ lines_view (drop (i + 1) ls))
+start text n c ls i l b o = ap (λ (c : Bool). plain_text text n c (lines_view (drop i ls))) o.going ∙ ap (λ (ls : List Line). plain_text text n false ls) (lines_at ls i l o.inside o.is)
+
+refused : (text : List ℕ) (n : ℕ) (c : Bool) (ls : List CodeLine) (i : ℕ) (l : CodeLine) (b : Bool) → OnLine text n c ls i l b → None ≡ more_of l.content.now → plain_text text n c (lines_view (drop i ls)) ≡ None
+refused text n c ls i l b o m = start text n c ls i l b o ∙ text_refused text n (line_view l) (lines_view (drop (i + 1) ls)) (sym o.quiet ∙ o.loud) (is_deep n l.indent o.deep) (sym m)
+
+goes : (text more new : List ℕ) (n : ℕ) (c d : Bool) (ls : List CodeLine) (i : ℕ) (l : CodeLine) (b : Bool) → OnLine text n c ls i l b → Some (more, d) ≡ more_of l.content.now → new ≡ text ++ 32 ∷ more → plain_text new n d (lines_view (drop (i + 1) ls)) ≡ plain_text text n c (lines_view (drop i ls))
+goes text more new n c d ls i l b o m e = ap (λ (t : List ℕ). plain_text t n d (lines_view (drop (i + 1) ls))) e ∙ sym (start text n c ls i l b o ∙ text_more text more n d (line_view l) (lines_view (drop (i + 1) ls)) (sym o.quiet ∙ o.loud) (is_deep n l.indent o.deep) (sym m))
+
+-- the line holds a colon that ends a key
+pub returns-in_default-clause-err : goal.returns-in_default-clause-err
+returns-in_default-clause-err c =
+    let l = c.index-lines-i.result in
+    let ls = c.args.lines.now in
+    let o : OnLine c.loop-i.text.items c.args.column c.loop-i.commented ls c.loop-i.i l c.is_quiet.result = record { inside = c.loop-i-test.true; is = c.index-lines-i.is; going = c.if-commented.false; quiet = c.is_quiet.ensures; loud = c.if-is_quiet.false; deep = c.if-line-column.false } in
+    (sym c.loop-i.invariant ∙ refused c.loop-i.text.items c.args.column c.loop-i.commented ls c.loop-i.i l c.is_quiet.result o c.in_default.ensures, number_at ls c.loop-i.i l c.loop-i-test.true c.index-lines-i.is)
+
+-- the line adds a space and its text
+pub loop-i-preserved : goal.loop-i-preserved
+loop-i-preserved c =
+    let l = c.index-lines-i.result in
+    let ls = c.args.lines.now in
+    let o : OnLine c.loop-i.text.items c.args.column c.loop-i.commented ls c.loop-i.i l c.is_quiet.result = record { inside = c.loop-i-test.true; is = c.index-lines-i.is; going = c.if-commented.false; quiet = c.is_quiet.ensures; loud = c.if-is_quiet.false; deep = c.if-line-column.false } in
+    let e = c.in_ok-extend_from_slice.ensures.items ∙ ap (λ (t : List ℕ). t ++ c.in-Some.more.now) c.in_ok-push.ensures.items ∙ append_assoc c.loop-i.text.items (32 ∷ []) c.in-Some.more.now in
+    goes c.loop-i.text.items c.in-Some.more.now c.extend_from_slice.new.self.items c.args.column c.loop-i.commented c.in-Some.ended ls c.loop-i.i l c.is_quiet.result o c.in-Some.ensures e ∙ c.loop-i.invariant

@@ -1,0 +1,19 @@
+//! The lexical half of the YAML subset: a text's lines, what begins on a line, and the scalars and parts of flow nodes that stand on lines.
+//!
+//! [`cut::cut`] cuts a text into lines. [`start::read_start`] says what begins on one: a dash, a key, a scalar or a flow node. What stands on several lines is read by [`plain::continue_plain`], [`block::block_scalar`] and [`flow::flow_parts`]. How nodes nest, which lines belong to which, and what a text spells as a whole is left to the crate above.
+//!
+//! A function that answers `Ok` has found exactly what the definitions in `specs/` say; one that answers a fault has shown that they say nothing.
+#![tactic(auto)]
+
+pub mod block;
+pub mod cut;
+pub mod fault;
+pub mod flow;
+pub mod line;
+pub mod plain;
+pub mod quiet;
+mod quoted;
+pub mod start;
+#[cfg(test)]
+mod tests;
+mod white;

@@ -1,0 +1,204 @@
+//! Quoted scalars.
+
+ghost use Rattle.std.specs.Prelude.{◌≡◌, ℕ, suc, ◌+◌, ◌*◌, ◌<◌, ◌≤◌, ◌++◌, ◌∷◌, Some, None, length, IfOk, IfErr, IfSome, OnOk};
+ghost use Rattle.ksv_yaml_scan.specs.Quoted.{Between, Escaped, single, double, with_bytes, inside, quote_of, hex_digit as hex_digit_of, letter_of, is_surrogate as is_surrogate_of, utf8, digits_from};
+ghost use Rattle.ksv_yaml_scan.specs.Views.{quote_view, Unless};
+
+use crate::fault::{Fault, ScanError};
+use crate::white::next;
+use std::alloc::{AllocError, Global};
+
+/// A quoted scalar: its text, and what stands behind the closing quote.
+#[derive(Drop)]
+pub(crate) struct Quote<'a> {
+    pub(crate) text: Vec<u8>,
+    pub(crate) rest: &'a [u8],
+}
+
+/// The quoted scalar that begins here.
+pub(crate) fn read_quote(alloc: Global, content: &[u8]) -> Result<Quote<'_>, ScanError>
+    ensures ok { IfOk result (λ q. quote_of content.now ≡ Some (quote_view q)) }
+    ensures within { IfOk result (λ q. length q.rest.now < length content.now) }
+    ensures err { IfErr result (λ e. Unless e (quote_of content.now ≡ None)) }
+{
+    let Some((byte, rest)) = next(content) else {
+        return Err(ScanError::Fault(Fault::LeftOut));
+    };
+    match byte {
+        b'\'' => read_single(alloc, rest),
+        b'"' => read_double(alloc, rest),
+        _ => Err(ScanError::Fault(Fault::LeftOut)),
+    }
+}
+
+// The text behind a single quote, up to the one that isn't written twice.
+fn read_single(alloc: Global, content: &[u8]) -> Result<Quote<'_>, ScanError>
+    ensures ok { IfOk result (λ q. inside single Between content.now ≡ Some (quote_view q)) }
+    ensures within { IfOk result (λ q. length q.rest.now ≤ length content.now) }
+    ensures err { IfErr result (λ e. Unless e (inside single Between content.now ≡ None)) }
+{
+    let mut text = Vec::new(alloc);
+    let mut rest = content;
+    while let Some((byte, behind)) = next(rest) {
+        rest = behind;
+        if byte == b'\'' {
+            match next(behind) {
+                Some((b'\'', after)) => rest = after,
+                _ => return Ok(Quote { text, rest }),
+            }
+        }
+        text.push(byte)?;
+    }
+    Err(ScanError::Fault(Fault::NotClosed))
+}
+
+// The text behind a double quote, up to the next one that no backslash stands before.
+fn read_double(alloc: Global, content: &[u8]) -> Result<Quote<'_>, ScanError>
+    ensures ok { IfOk result (λ q. inside double Between content.now ≡ Some (quote_view q)) }
+    ensures within { IfOk result (λ q. length q.rest.now ≤ length content.now) }
+    ensures err { IfErr result (λ e. Unless e (inside double Between content.now ≡ None)) }
+{
+    let mut text = Vec::new(alloc);
+    let mut rest = content;
+    while let Some((byte, behind)) = next(rest) {
+        if byte == b'"' {
+            return Ok(Quote { text, rest: behind });
+        }
+        if byte == b'\\' {
+            let (code, behind) = read_escape(behind)?;
+            push_code(&mut text, code)?;
+            rest = behind;
+        } else {
+            text.push(byte)?;
+            rest = behind;
+        }
+    }
+    Err(ScanError::Fault(Fault::NotClosed))
+}
+
+// The character that stands behind a backslash, and what is behind it.
+fn read_escape(content: &[u8]) -> Result<(u32, &[u8]), Fault>
+    ensures ok { IfOk result (λ x. inside double Escaped content.now ≡ with_bytes (utf8 x.0) (inside double Between x.1.now)) }
+    ensures within { IfOk result (λ x. (x.0 < 65536) × (length x.1.now < length content.now)) }
+    ensures err { IfErr result (λ _. inside double Escaped content.now ≡ None) }
+{
+    let Some((byte, rest)) = next(content) else {
+        return Err(Fault::NotClosed);
+    };
+    let (code, rest) = read_code(byte, rest)?;
+    if is_surrogate(code) {
+        return Err(Fault::LeftOut);
+    }
+    Ok((code, rest))
+}
+
+// The number that stands behind a backslash: of two or four digits, or a letter's.
+fn read_code(byte: u8, content: &[u8]) -> Result<(u32, &[u8]), Fault>
+    ensures ok { IfOk result (λ x. inside double Escaped (byte ∷ content.now) ≡ digits_from 0 x.0 x.1.now) }
+    ensures within { IfOk result (λ x. (x.0 < 65536) × (length x.1.now ≤ length content.now)) }
+    ensures err { IfErr result (λ _. inside double Escaped (byte ∷ content.now) ≡ None) }
+{
+    match byte {
+        b'x' => read_byte(content),
+        b'u' => read_pair(content),
+        _ => match letter(byte) {
+            Some(byte) => Ok((byte as u32, content)),
+            None => Err(Fault::LeftOut),
+        },
+    }
+}
+
+// The byte that a letter behind a backslash stands for.
+fn letter(byte: u8) -> Option<u8>
+    ensures value { result ≡ letter_of byte }
+    ensures small { IfSome result (λ b. b < 128) }
+{
+    match byte {
+        b'"' | b'\\' | b'/' => Some(byte),
+        b'0' => Some(0),
+        b'a' => Some(7),
+        b'b' => Some(8),
+        b't' => Some(9),
+        b'n' => Some(10),
+        b'v' => Some(11),
+        b'f' => Some(12),
+        b'r' => Some(13),
+        b'e' => Some(27),
+        _ => None,
+    }
+}
+
+// Whether the number is that of no character, but of half a pair in UTF-16.
+fn is_surrogate(code: u32) -> bool
+    ensures { result ≡ is_surrogate_of code }
+{
+    code >= 0xd800 && code < 0xe000
+}
+
+// The number that four hexadecimal digits are, and what is behind them.
+fn read_pair(content: &[u8]) -> Result<(u32, &[u8]), Fault>
+    ensures ok { IfOk result (λ x. (k n : ℕ) → digits_from (suc (suc (suc (suc k)))) n content.now ≡ digits_from k (n * 65536 + x.0) x.1.now) }
+    ensures within { IfOk result (λ x. (x.0 < 65536) × (length x.1.now < length content.now)) }
+    ensures err { IfErr result (λ _. (k n : ℕ) → digits_from (suc (suc (suc (suc k)))) n content.now ≡ None) }
+{
+    let (high, rest) = read_byte(content)?;
+    let (low, rest) = read_byte(rest)?;
+    Ok((high * 256 + low, rest))
+}
+
+// The number that two hexadecimal digits are, and what is behind them.
+fn read_byte(content: &[u8]) -> Result<(u32, &[u8]), Fault>
+    ensures ok { IfOk result (λ x. (k n : ℕ) → digits_from (suc (suc k)) n content.now ≡ digits_from k (n * 256 + x.0) x.1.now) }
+    ensures within { IfOk result (λ x. (x.0 < 256) × (length x.1.now < length content.now)) }
+    ensures err { IfErr result (λ _. (k n : ℕ) → digits_from (suc (suc k)) n content.now ≡ None) }
+{
+    let (high, rest) = read_digit(content)?;
+    let (low, rest) = read_digit(rest)?;
+    Ok((high * 16 + low, rest))
+}
+
+// The number that a hexadecimal digit is, and what is behind it.
+fn read_digit(content: &[u8]) -> Result<(u32, &[u8]), Fault>
+    ensures ok { IfOk result (λ x. (k n : ℕ) → digits_from (suc k) n content.now ≡ digits_from k (n * 16 + x.0) x.1.now) }
+    ensures within { IfOk result (λ x. (x.0 < 16) × (length x.1.now < length content.now)) }
+    ensures err { IfErr result (λ _. (k n : ℕ) → digits_from (suc k) n content.now ≡ None) }
+{
+    let Some((byte, rest)) = next(content) else {
+        return Err(Fault::NotClosed);
+    };
+    match hex_digit(byte) {
+        Some(digit) => Ok((digit, rest)),
+        None => Err(Fault::LeftOut),
+    }
+}
+
+// The number that a hexadecimal digit stands for.
+fn hex_digit(byte: u8) -> Option<u32>
+    ensures value { result ≡ hex_digit_of byte }
+    ensures small { IfSome result (λ x. x < 16) }
+{
+    match byte {
+        b'0'..=b'9' => Some((byte - b'0') as u32),
+        b'A'..=b'F' => Some((byte - b'A' + 10) as u32),
+        b'a'..=b'f' => Some((byte - b'a' + 10) as u32),
+        _ => None,
+    }
+}
+
+// Adds the character of this number, in UTF-8.
+fn push_code(text: &mut Vec<u8>, code: u32) -> Result<(), AllocError>
+    requires { code < 65536 }
+    ensures { OnOk result (text.new.items ≡ text.old.items ++ utf8 code) }
+{
+    if code < 128 {
+        text.push(code as u8)?;
+    } else if code < 2048 {
+        text.push((192 + code / 64) as u8)?;
+        text.push((128 + code % 64) as u8)?;
+    } else {
+        text.push((224 + code / 4096) as u8)?;
+        text.push((128 + code / 64 % 64) as u8)?;
+        text.push((128 + code % 64) as u8)?;
+    }
+    Ok(())
+}
