@@ -4,7 +4,7 @@ use Rattle.std.specs.List.{All}
 use Rattle.std.specs.Str.{bytes_eq}
 use Rattle.clap.specs.Built.{AddsInTurn, FitsChain, HasDistinctIds, IsPlainArg, TakesValue}
 use Rattle.clap.proofs.CallerLemmas.{required_in_chain}
-use Rattle.clap.specs.Words.{args_of, groups_of, AddsArg, HasMatchesOf, Text, app_of, first_of, first_value, found_of, is_simple, matches_of, new_app, rule_of, with_rule}
+use Rattle.clap.specs.Words.{args_of, groups_of, AddsArg, HasMatchesOf, Text, app_of, fault_of, first_of, first_value, found_of, is_simple, is_simple_and_free, matches_of, new_app, rule_of, with_rule}
 use Rattle.clap.specs.declared.builder.arg.Arg.{Arg}
 use Rattle.clap.specs.declared.builder.command.Command.{Command}
 use Rattle.clap.specs.declared.builder.command.Command.TheViews.{out-Command as fields_of}
@@ -22,6 +22,15 @@ is_explorer start one cmd f k begins a b fg kg fr kr =
 explorer_is_simple : is_simple explorer ≡ true
 unfolding clap_on_literals
 explorer_is_simple = refl
+
+explorer_is_free : is_simple_and_free explorer ≡ true
+unfolding clap_on_literals
+explorer_is_free = refl
+
+-- words that clap takes for this command have no fault
+pub no_fault : (cmd : Command) (words : List Text) → app_of cmd ≡ explorer
+    → (is_simple_and_free (app_of cmd) ≡ true → fault_of (app_of cmd) words ≡ []) → fault_of explorer words ≡ []
+no_fault cmd words is has = ap (λ a. fault_of a words) (sym is) ∙ has (ap is_simple_and_free is ∙ explorer_is_free)
 
 -- what a look-up of a name gives
 pub value_is : (cmd : Command) (m : ArgMatches) (words : List Text) (id : Text) (r : Option Text) → app_of cmd ≡ explorer

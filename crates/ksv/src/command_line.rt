@@ -1,6 +1,6 @@
 //! The words of the program's command line.
 ghost use Rattle.std.specs.Prelude.{◌≡◌, Some, IfOk, map, codes};
-ghost use Rattle.clap.specs.Words.{app_of};
+ghost use Rattle.clap.specs.Words.{app_of, fault_of, FailsBy};
 ghost use Rattle.ksv.specs.Words.{Demands, explorer, found};
 
 use clap::{Arg, ArgAction, Command, Error};
@@ -35,10 +35,11 @@ fn command<'a>(alloc: Global) -> Result<Command<'a>, AllocError>
 }
 
 /// Reads the words of a command line, the first of which is the program's name. The errors are `clap`'s: they hold
-/// the texts of usage and help, and their exit codes.
+/// the texts of usage and help, and their exit codes. Words that `clap` takes fail for want of memory alone.
 pub fn arguments<'a>(alloc: Global, words: &'a [&'a str]) -> Result<Args<'a>, Error>
     ensures file { IfOk result (λ args. Some args.file.now ≡ found (map (λ w. w.now) words.entry.now) (codes "file")) }
     ensures ksy { IfOk result (λ args. Some args.ksy.now ≡ found (map (λ w. w.now) words.entry.now) (codes "ksy")) }
+    ensures kinds { FailsBy (fault_of explorer (map (λ w. w.now) words.entry.now)) result }
 {
     let matches = command(alloc)?.try_get_matches_from(words)?;
     Ok(Args {

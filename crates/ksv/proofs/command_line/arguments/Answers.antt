@@ -1,6 +1,6 @@
 use Rattle.std.proofs.Common.{◌∙◌, codes, ap, sym, option_map}
 use Rattle.clap.proofs.CallerLemmas.{some_of_text}
-use Rattle.ksv.proofs.CommandLineLemmas.{value_is}
+use Rattle.ksv.proofs.CommandLineLemmas.{no_fault, value_is}
 use Rattle.ksv.proofs.command_line.arguments.Goals as goal
 
 pub unwrap-requires : goal.unwrap-requires
@@ -20,3 +20,6 @@ pub returns-clause-ksy : goal.returns-clause-ksy
 returns-clause-ksy c =
     value_is c.in_ok-command.field-0 c.in_ok-matches.matches _ (codes "ksy") _ c.in_ok-command.ensures.app c.in_ok-matches.ensures.matches
     (sym (ap (option_map (λ s. s.now)) c.unwrap-2.ensures) ∙ c.get_str-2.ensures)
+
+pub returns-clause-kinds : goal.returns-clause-kinds
+returns-clause-kinds c = no_fault c.in_ok-command.field-0 _ c.in_ok-command.ensures.app c.in_ok-matches.ensures.kinds
