@@ -1,0 +1,80 @@
+-- Texts of expressions: what their methods mean. A text is the bytes of its UTF-8; `chars` are the characters that they spell.
+-- The methods are those of the Kaitai Struct User Guide; the limit on a text's size is this project's own.
+use Rattle.std.specs.Prelude.{ℕ, ◌+◌, ◌-◌, ◌*◌, Bool, false, ◌&&◌, nat_lt, nat_le, ℤ, pos, negsuc, neg_ℤ, List, [], ◌∷◌, ◌++◌, length, take, drop, reverse, Option, Some, None, if◌then◌else◌, ◌==◌, Result, Ok, Err}
+use Rattle.std.specs.List.{list_all}
+use Rattle.std.specs.Char.{digit_value}
+use Rattle.ksv_expr.specs.declared.fault.FaultKind.{FaultKind}
+use Rattle.ksv_expr.specs.declared.fault.FaultKind.TheVariants as kinds
+use Rattle.ksv_expr.specs.Integers.{in_range}
+use Rattle.std.specs.Str.{chars, encode_utf8_all}
+
+-- one text behind another, where both together have at most 16,777,216 bytes
+abbrev pub joined : List ℕ → List ℕ → Option (List ℕ)
+joined a b = if nat_le (length a + length b) 16777216 then Some (a ++ b) else None
+
+-- how many characters the text has
+abbrev pub char_count : List ℕ → ℕ
+char_count t = length (chars t)
+
+-- the text with its characters from the last to the first
+abbrev pub reversed : List ℕ → List ℕ
+reversed t = encode_utf8_all (reverse (chars t))
+
+-- the characters from place i on and before place j, which lie in the text
+abbrev pub between : List ℕ → ℕ → ℕ → Option (List ℕ)
+between t i j = if nat_le i j && nat_le j (char_count t) then Some (encode_utf8_all (take (j - i) (drop i (chars t)))) else None
+
+-- the same by any integers
+abbrev pub substring : List ℕ → ℤ → ℤ → Option (List ℕ)
+substring t (pos i) (pos j) = between t i j
+substring t (pos i) (negsuc j) = None
+substring t (negsuc i) j = None
+
+-- what digits are worth, in a radix, behind a number n that stands in front of them
+abbrev pub worth : ℕ → ℕ → List ℕ → ℕ
+worth radix n [] = n
+worth radix n (d ∷ ds) = worth radix (n * radix + digit_value d) ds
+
+-- a byte is a digit of the radix: 0 to 9, and then letters of either case
+abbrev pub is_digit : ℕ → ℕ → Bool
+is_digit radix d = nat_lt (digit_value d) radix
+
+-- one digit or more
+abbrev pub is_numeral : ℕ → List ℕ → Bool
+is_numeral radix [] = false
+is_numeral radix (d ∷ ds) = list_all (is_digit radix) (d ∷ ds)
+
+-- a numeral's number
+abbrev pub numeral : ℕ → List ℕ → Option ℤ
+numeral radix ds = if is_numeral radix ds then Some (pos (worth radix 0 ds)) else None
+
+-- the integer with its sign turned
+abbrev pub opposite : Option ℤ → Option ℤ
+opposite None = None
+opposite (Some z) = Some (neg_ℤ z)
+
+-- the whole number that a text writes: one optional `-`, and then a numeral
+abbrev pub written : ℕ → List ℕ → Option ℤ
+written radix [] = None
+written radix (c ∷ ds) = if c == 45 then opposite (numeral radix ds) else numeral radix (c ∷ ds)
+
+-- a radix is 2 to 36
+abbrev pub is_radix : ℕ → Bool
+is_radix n = nat_le 2 n && nat_le n 36
+
+-- the same by any integer as the radix
+abbrev pub written_in : ℤ → List ℕ → Option ℤ
+written_in (pos radix) t = if is_radix radix then written radix t else None
+written_in (negsuc radix) t = None
+
+-- an exact number, where it is in the integers' range
+abbrev pub exact : ℤ → Result ℤ FaultKind
+exact z = if in_range z then Ok z else Err kinds.Overflow
+
+-- the integer that a text writes in a radix
+abbrev pub number_of : Option ℤ → Result ℤ FaultKind
+number_of None = Err kinds.BadNumber
+number_of (Some z) = exact z
+
+abbrev pub text_number : ℤ → List ℕ → Result ℤ FaultKind
+text_number radix t = number_of (written_in radix t)

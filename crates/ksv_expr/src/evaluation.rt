@@ -1,0 +1,163 @@
+//! The value of an expression, by replies to its questions.
+
+ghost use Rattle.std.specs.Prelude.{◌≡◌, ◌≤◌, pos, IfOk, map, length};
+ghost use Rattle.ksv_syntax.specs.Tree.{view, literal_of};
+ghost use Rattle.ksv_expr.specs.Heard.{heard};
+ghost use Rattle.ksv_expr.specs.Asked.{given};
+ghost use Rattle.ksv_expr.specs.Operators.{unary_of};
+ghost use Rattle.ksv_expr.specs.Evaluation.{outcome_of, resumed, most_wants, IsDone};
+ghost use Rattle.ksv_expr.specs.Replying.{Runs};
+ghost use Rattle.ksv_expr.specs.Meaning.{value_of, meaning, literal_value, is_own_stream, decides};
+
+use crate::context::Ctx;
+use crate::fault::FaultKind;
+use crate::integer::Integer;
+use crate::method::Method;
+use crate::replies::{Halt, Replies};
+use crate::text::Text;
+use crate::value::Value;
+use crate::want::{Got, Outcome};
+use crate::{asking, forms, operators};
+use ksv_syntax::tree::{Expr, Literal, LogicalOperator, SpecialName, UnaryOperator};
+use std::alloc::{AllocError, Global};
+
+fn is_own_stream(expr: &Expr) -> bool
+    ensures { result ≡ is_own_stream (view expr.now) }
+{
+    match expr {
+        Expr::Special(name) => matches!(name, SpecialName::Io),
+        _ => false,
+    }
+}
+
+fn literal(replies: &Replies, literal: &Literal) -> Result<Value, Halt>
+    ensures { Runs (given (Ok (literal_value (literal_of literal.now)))) (λ v. v) replies.now replies.now result }
+{
+    Ok(match literal {
+        Literal::Number(number) => Value::Int(Integer::from(*number)),
+        Literal::Truth(truth) => Value::Bool(*truth),
+        Literal::Text(text) => {
+            Value::Text(Text::new(String::from_str(replies.alloc(), text.as_str())?))
+        }
+    })
+}
+
+/// Whether the left operand decides alone.
+fn decides(operator: LogicalOperator, left: bool) -> bool
+    ensures { result ≡ decides operator left }
+{
+    match operator {
+        LogicalOperator::And => !left,
+        LogicalOperator::Or => left,
+    }
+}
+
+fn unary(replies: &mut Replies, operator: UnaryOperator, value: &Value) -> Result<Value, Halt>
+    ensures { Runs (given (unary_of operator value.now)) (λ v. v) replies.old replies.new result }
+{
+    replies.given(operators::unary(operator, value))
+}
+
+#[tactic(auto, using(ksv_plan::proofs::Running::run_bind, crate::proofs::Cases::of_literal, crate::proofs::Cases::of_name, crate::proofs::Cases::of_special, crate::proofs::Cases::of_member, crate::proofs::Cases::of_unary, crate::proofs::Cases::of_binary, crate::proofs::Cases::of_logical, crate::proofs::Cases::of_choice, crate::proofs::Cases::of_field, crate::proofs::Cases::of_special_field, crate::proofs::Cases::of_index, crate::proofs::Cases::of_cast))]
+fn value(replies: &mut Replies, ctx: &Ctx, expr: &Expr) -> Result<Value, Halt>
+    ensures { Runs (meaning ctx.now expr.now) (λ v. v) replies.old replies.new result }
+{
+    match expr {
+        Expr::Literal(constant) => literal(replies, constant),
+        Expr::Name(name) => asking::member_value(replies, ctx.home(), name.number),
+        Expr::Special(name) => asking::special_value(replies, ctx, *name),
+        Expr::Member(member) => asking::enum_member(replies, member.given),
+        Expr::Unary(operator, operand) => {
+            let operand = value(replies, ctx, operand)?;
+            unary(replies, *operator, &operand)
+        }
+        Expr::Binary(operator, left, right) => {
+            let left = value(replies, ctx, left)?;
+            let right = value(replies, ctx, right)?;
+            forms::binary(replies, *operator, &left, &right)
+        }
+        Expr::Logical(operator, left, right) => {
+            let left = value(replies, ctx, left)?;
+            let left = forms::in_truth_value(replies, &left)?;
+            if decides(*operator, left) {
+                Ok(Value::Bool(left))
+            } else {
+                let right = value(replies, ctx, right)?;
+                forms::truth_value(replies, &right)
+            }
+        }
+        Expr::Choice(condition, yes, no) => {
+            let condition = value(replies, ctx, condition)?;
+            if forms::in_truth_value(replies, &condition)? {
+                value(replies, ctx, yes)
+            } else {
+                value(replies, ctx, no)
+            }
+        }
+        Expr::Field(object, name) => {
+            let own = is_own_stream(object);
+            let object = value(replies, ctx, object)?;
+            forms::field(replies, ctx, own, &object, name)
+        }
+        Expr::SpecialField(object, name) => {
+            let object = value(replies, ctx, object)?;
+            forms::special_field(replies, &object, *name)
+        }
+        Expr::Call(object, method, arguments) => match arguments.as_slice() {
+            [] => replies.raise(FaultKind::BadType),
+            [argument] => {
+                let object = value(replies, ctx, object)?;
+                let argument = value(replies, ctx, argument)?;
+                forms::call_one(replies, &object, Method::named(method.as_str()), &argument)
+            }
+            [first, second] => {
+                let object = value(replies, ctx, object)?;
+                let first = value(replies, ctx, first)?;
+                let second = value(replies, ctx, second)?;
+                forms::call_two(
+                    replies,
+                    &object,
+                    Method::named(method.as_str()),
+                    &first,
+                    &second,
+                )
+            }
+            _ => replies.raise(FaultKind::BadType),
+        },
+        Expr::Index(list, place) => {
+            let list = value(replies, ctx, list)?;
+            let place = value(replies, ctx, place)?;
+            forms::item_at(replies, &list, &place)
+        }
+        Expr::Cast(object, type_name) => {
+            let object = value(replies, ctx, object)?;
+            forms::cast_to(replies, &object, type_name.number)
+        }
+    }
+}
+
+#[tactic(auto, unfolding(crate::specs::Meaning::meaning))]
+fn outcome(alloc: Global, expr: &Expr, ctx: &Ctx, replies: &[Got]) -> Result<Outcome, AllocError>
+    ensures { IfOk result (λ outcome. outcome ≡ outcome_of (resumed ctx.now (view expr.now) (map heard replies.now))) }
+{
+    let mut replies = Replies::new(alloc, ctx.here(), replies);
+    match value(&mut replies, ctx, expr) {
+        Ok(value) => Ok(Outcome::Done(Ok(value))),
+        Err(Halt::Need(want)) => Ok(Outcome::Need(want)),
+        Err(Halt::Fault(fault)) => Ok(Outcome::Done(Err(fault))),
+        Err(Halt::Memory) => Err(AllocError),
+    }
+}
+
+/// The value of an expression in its context, by the replies to its questions in their order: the question that has no
+/// reply yet, or the value or fault that it ends with. A reply that is a fault ends the expression with that fault, and
+/// replies behind the end aren't looked at.
+///
+/// The outcome rests on nothing but the expression, the context and what the replies say; of lent bytes that is their
+/// content. [`crate::truth_is_met`] says what it is for true replies, and no expression asks for ever.
+pub fn eval(alloc: Global, expr: &Expr, ctx: &Ctx, replies: &[Got]) -> Result<Outcome, AllocError>
+    ensures outcome { IfOk result (λ outcome. outcome ≡ outcome_of (resumed ctx.now (view expr.now) (map heard replies.now))) }
+    ensures ended { IfOk result (λ outcome. most_wants (view expr.now) ≤ length replies.now → IsDone outcome) }
+{
+    outcome(alloc, expr, ctx, replies)
+}

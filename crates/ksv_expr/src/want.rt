@@ -1,0 +1,58 @@
+//! What an expression wants to know, and what it gets.
+
+use crate::fault::Fault;
+use crate::path::Path;
+use crate::value::{Stream, Value};
+
+/// A question that an expression puts.
+#[derive(Drop)]
+pub enum Want {
+    /// The value of what stands at this path.
+    Value(Path),
+    /// The type and the stream of the object at this path.
+    Head(Path),
+    /// How many elements a list has; the path is that of its element 0.
+    Rest(Path),
+    /// The size of the file.
+    Size,
+    /// Whether the present place is the end of the home's stream.
+    Done,
+    /// The bytes of a range of the file.
+    Bytes {
+        /// The place of the first.
+        from: u32,
+        /// The place behind the last.
+        to: u32,
+    },
+}
+
+/// The reply to a question. One of another form than its question's is met as a value of a kind that doesn't fit.
+#[derive(Drop)]
+pub enum Got<'a> {
+    /// A value.
+    Value(Value),
+    /// An object's type and stream.
+    Object {
+        /// The type's number in the description.
+        type_number: u32,
+        /// The stream in which the object's places are counted.
+        stream: Stream,
+    },
+    /// A count.
+    Number(u64),
+    /// A truth value.
+    Truth(bool),
+    /// Bytes, cut in two.
+    Slices(&'a [u8], &'a [u8]),
+    /// A fault, which ends the expression.
+    Fault(Fault),
+}
+
+/// What an evaluation came to.
+#[derive(Drop)]
+pub enum Outcome {
+    /// It puts this question, to which it has no reply.
+    Need(Want),
+    /// It ended with a value or a fault.
+    Done(Result<Value, Fault>),
+}

@@ -1,0 +1,4 @@
+-- The lemmas on plans.
+pub mod Running
+pub mod Bounds
+pub mod Truth

@@ -1,0 +1,3 @@
+-- The definitions of plans.
+pub mod Plan
+pub mod Asking

@@ -1,0 +1,11 @@
+pub mod Steps
+pub mod Sound
+pub mod Same
+pub mod Flow
+pub mod Complete
+pub mod Loops
+pub mod Exits
+pub mod Lexing
+pub mod Longest
+pub mod Scan
+pub mod Theorem
