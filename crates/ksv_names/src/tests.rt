@@ -1,8 +1,9 @@
 //! Expressions in a small description, with what is wrong with their names and with the numbers that these are given.
 
 use crate::{
-    BuiltIn, NameFault, Names, Position, Site, argument_fault, built_in, built_in_at, given_member,
-    name_fault, number_arguments, number_expr, number_type,
+    BuiltIn, NameFault, Names, Position, Site, argument_fault, built_in, built_in_at,
+    faultless_is_resolved, given_member, least_is_told, name_fault, names_are_tabled,
+    number_arguments, number_expr, number_type,
 };
 use ksv_scope::{ByteOrder, Scopes};
 use ksv_syntax::tree::Expr;
@@ -372,4 +373,11 @@ fn the_language_has_its_types(rt: HostRuntime) -> Result<(), Fail> {
     let text = parse_type(rt.alloc(), b"str")?;
     assert!(rt; built_in_at(text.name.path.as_slice()) == Some(BuiltIn::Str));
     Ok(())
+}
+
+#[test]
+fn laws_are_offered(_rt: HostRuntime) {
+    faultless_is_resolved();
+    least_is_told();
+    names_are_tabled();
 }

@@ -1,5 +1,5 @@
 -- The entries of one enum among those of all.
-use Rattle.std.proofs.Common.{◌≡◌, ℕ, zero, suc, ◌+◌, ◌<◌, Bool, true, false, cond, List, [], ◌∷◌, ◌++◌, map, filter, sym, ap, ◌∙◌, refl, Option, Some, None, arith}
+use Rattle.std.proofs.Common.{◌≡◌, ℕ, zero, suc, ◌+◌, ◌<◌, Bool, true, false, cond, List, [], ◌∷◌, ◌++◌, map, filter, sym, ap, ◌∙◌, refl, Option, Some, arith}
 use Rattle.std.specs.Prelude.{slice_get, ◌==◌}
 use Rattle.std.proofs.lemmas.Bool.Decides.{nat_tests}
 use Rattle.std.proofs.lemmas.List.Elements.{filter-append}
@@ -9,7 +9,7 @@ use Rattle.ksv_syntax.specs.Reading.{◌>>=◌}
 use Rattle.ksv_scope.specs.Keys.{entries_in}
 use Rattle.ksv_scope.specs.Enums.{Enumeration, Constant, constant, constants_from, constants_of}
 use Rattle.ksv_scope.specs.Declarations.{Declared, declared}
-use Rattle.ksv_schema.specs.Description.{Enum, Numbered, as_text, each, each_numbered, numbered_of, enum_of}
+use Rattle.ksv_schema.specs.Description.{Numbered, as_text, each, each_numbered, numbered_of, enum_of}
 use Rattle.ksv_schema.specs.Entries.{enum_alone}
 
 abbrev is_of : ℕ → Constant → Bool

@@ -1,9 +1,7 @@
 -- The bytes of `contents`.
-use Rattle.std.proofs.Common.{◌≡◌, ℕ, Bool, List, [], ◌∷◌, ◌++◌, Option, Some, None, refl, sym, ap, ◌∙◌, append_assoc}
-use Rattle.std.specs.Prelude.{option_map, option_and_then}
+use Rattle.std.proofs.Common.{◌≡◌, ℕ, List, Some, None, refl, ap}
 use Rattle.ksv_yaml.specs.Tree.{Tree, Text, Seq, Map, text_of, is_quoted, list_of, trees}
-use Rattle.ksv_schema.specs.Values.{text_bytes, joined, contents_of, Piece, piece_of, bytes_of}
-use Rattle.ksv_schema.proofs.Made.{onto}
+use Rattle.ksv_schema.specs.Values.{text_bytes, joined, contents_of}
 
 -- ---- a node by its kind
 
@@ -26,9 +24,3 @@ of_other (Seq line us) h k = absurd cc
 of_other (Map line es) h k = refl
 
 pub ruleset steps = (of_text, of_list, of_other)
-
--- ---- the items of a list
-
-pub onto_more : (so_far bs : List ℕ) (o : Option (List ℕ)) → onto so_far (option_map (λ cs. bs ++ cs) o) ≡ onto (so_far ++ bs) o
-onto_more so_far bs None = refl
-onto_more so_far bs (Some cs) = ap Some (sym (append_assoc so_far bs cs))

@@ -10,11 +10,7 @@ abbrev pub onto : {B : Type 0} → List B → Option (List B) → Option (List B
 onto so_far None = None
 onto so_far (Some ys) = Some (so_far ++ ys)
 
-pub onto_start : {B : Type 0} (o : Option (List B)) → onto [] o ≡ o
-onto_start None = refl
-onto_start (Some ys) = refl
-
-pub onto_push : {B : Type 0} (so_far : List B) (y : B) (o : Option (List B)) → onto so_far (o >>= λ ys. Some (y ∷ ys)) ≡ onto (so_far ++ y ∷ []) o
+onto_push : {B : Type 0} (so_far : List B) (y : B) (o : Option (List B)) → onto so_far (o >>= λ ys. Some (y ∷ ys)) ≡ onto (so_far ++ y ∷ []) o
 onto_push so_far y None = refl
 onto_push so_far y (Some ys) = ap Some (sym (append_assoc so_far (y ∷ []) ys))
 
@@ -24,7 +20,7 @@ append-nil (x ∷ xs) = ap (λ (ys : List _). x ∷ ys) (append-nil xs)
 
 -- ---- elements that are known by their numbers
 
-pub drop_get : {A : Type 0} (xs : List A) (n : ℕ) (x : A) → slice_get xs n ≡ Some x → drop n xs ≡ x ∷ drop (suc n) xs
+drop_get : {A : Type 0} (xs : List A) (n : ℕ) (x : A) → slice_get xs n ≡ Some x → drop n xs ≡ x ∷ drop (suc n) xs
 drop_get [] n x h = absurd cc
 drop_get (y ∷ xs) zero x h = let e : y ≡ x = cc in ap (λ (z : _). z ∷ xs) e
 drop_get (y ∷ xs) (suc n) x h = drop_get xs n x h

@@ -1,10 +1,9 @@
 -- Names that are texts, and members whose names are added one after the other.
-use Rattle.std.proofs.Common.{◌≡◌, ℕ, suc, ◌+◌, ◌<◌, ◌≤◌, Bool, true, false, ◌&&◌, cond, List, [], ◌∷◌, map, length, get_or, drop, Option, Some, None, refl, sym, ap, ◌∙◌, add-one, drop-cons}
+use Rattle.std.proofs.Common.{◌≡◌, ℕ, suc, ◌+◌, ◌<◌, ◌≤◌, Bool, true, false, ◌&&◌, cond, List, [], ◌∷◌, map, length, get_or, drop, Some, None, refl, sym, ap, ◌∙◌, add-one, drop-cons}
 use Rattle.std.specs.Str.{is_utf8}
 use Rattle.std.proofs.lemmas.List.{drop_all}
 use Rattle.ksv_scope.specs.declared.member.Member.{Member as MemberRow}
 use Rattle.ksv_scope.specs.MemberRows.{member_of as row}
-use Rattle.ksv_scope.specs.Members.{Member}
 use Rattle.ksv_names.specs.Numbered.{distinct_behind}
 use Rattle.ksv_schema.specs.Description.{as_text, are_texts}
 

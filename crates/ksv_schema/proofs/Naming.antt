@@ -1,5 +1,5 @@
 -- The form of a key at which an expression or a type may stand.
-use Rattle.std.proofs.Common.{◌≡◌, ℕ, List, Bool, true, false, Option, Some, None, cond, refl, ap}
+use Rattle.std.proofs.Common.{◌≡◌, ℕ, List, Bool, true, false, Some, cond, ap}
 use Rattle.std.specs.Prelude.{codes, option_map, find}
 use Rattle.std.specs.Str.{bytes_eq}
 use Rattle.ksv_names.specs.declared.position.Site.TheVariants as sites

@@ -1,5 +1,5 @@
 -- What the readers of a description find.
-use Rattle.std.proofs.Common.{◌≡◌, ℕ, zero, suc, ◌+◌, ◌<◌, ◌≤◌, Bool, true, false, cond, List, [], ◌∷◌, map, filter, take, sym, ap, ◌∙◌, refl, Option, Some, None, arith}
+use Rattle.std.proofs.Common.{◌≡◌, ℕ, zero, suc, ◌+◌, ◌<◌, ◌≤◌, Bool, true, false, cond, List, [], ◌∷◌, map, filter, take, ap, ◌∙◌, refl, Some, None, arith}
 use Rattle.std.specs.List.{position_from}
 use Rattle.ksv_schema.specs.declared.desc.members.Kind.{Kind}
 use Rattle.ksv_schema.specs.declared.desc.members.Kind.TheVariants as kinds

@@ -1,6 +1,6 @@
 -- Types, one after the other.
-use Rattle.std.proofs.Common.{◌≡◌, ℕ, List, Option, Some, None, refl, sym, ap, ◌∙◌, string_bytes}
-use Rattle.std.specs.Prelude.{option_map, option_and_then, slice_get}
+use Rattle.std.proofs.Common.{◌≡◌, Option, Some, None, refl}
+use Rattle.std.specs.Prelude.{option_map, option_and_then}
 use Rattle.ksv_scope.specs.Types.{Scope}
 use Rattle.ksv_schema.specs.Description.{TypeOfObjects}
 

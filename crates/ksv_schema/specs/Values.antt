@@ -2,7 +2,6 @@
 use Rattle.std.specs.Prelude.{ℕ, ◌^◌, Bool, true, false, not, nat_le, ◌==◌, ◌&&◌, ◌||◌, if◌then◌else◌, nat_abs, List, [], ◌∷◌, ◌++◌, drop, codes, slice_index, Option, Some, None, option_map, option_and_then}
 use Rattle.std.specs.List.{list_all}
 use Rattle.std.specs.Option.{option_map_or}
-use Rattle.std.specs.Str.{bytes_eq}
 use Rattle.ksv_yaml.specs.Tree.{Tree, Text, Seq, Map, Pair, trees, text_of, entry_at}
 use Rattle.ksv_syntax.specs.declared.tree.UnaryOperator.TheVariants as unaries
 use Rattle.ksv_syntax.specs.declared.tree.SpecialName.TheVariants as specials

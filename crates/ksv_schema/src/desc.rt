@@ -2,12 +2,12 @@
 //!
 //! Every reference is resolved: types, enums and names are known by their numbers.
 
-pub mod content;
-pub mod enums;
-pub mod field;
-pub mod members;
+pub(crate) mod content;
+pub(crate) mod enums;
+pub(crate) mod field;
+pub(crate) mod members;
 mod pieces;
-pub mod type_desc;
+pub(crate) mod type_desc;
 
 pub use content::{Case, CaseValue, Choice, Content};
 pub use enums::{EnumDesc, EnumEntry};

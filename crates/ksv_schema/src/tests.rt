@@ -233,7 +233,10 @@ fn reads_what_a_description_has(rt: HostRuntime) -> Result<(), Fail> {
     let side = desc.number_of("side").expect(&rt, "a name");
     assert_eq!(rt; desc.name(side), "side");
     assert!(rt; desc.number_of("red").is_none() && desc.name(100).is_empty());
-    assert!(rt; desc.type_desc(1).is_some() && desc.type_desc(2).is_none());
+    let shape = desc.type_desc(1).expect(&rt, "a type");
+    let in_sequence = shape.members().iter().filter(|m| m.is_in_sequence());
+    assert_eq!(rt; in_sequence.count(), 2);
+    assert!(rt; desc.type_desc(2).is_none());
     assert!(rt; desc.enum_desc(0).is_some() && desc.enum_desc(1).is_none());
     Ok(())
 }
