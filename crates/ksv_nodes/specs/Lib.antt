@@ -1,0 +1,5 @@
+-- The definitions of readings and rules.
+pub mod Reading
+pub mod Rule
+pub mod Turning
+pub mod Truth

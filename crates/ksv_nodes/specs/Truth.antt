@@ -1,0 +1,55 @@
+-- What a rule answers, asks and uses where each node that it asks has an answer: by direct recursion on the rule. There is no
+-- list of replies in it, and no turn.
+use Rattle.std.specs.Prelude.{ℕ, List, [], ◌∷◌, ◌++◌, Option, Some, None, Result, Ok, Err}
+use Rattle.ksv_plan.specs.Plan.{Answer, Fail, Ask}
+use Rattle.ksv_bytes.specs.declared.uses.Use.{Use}
+use Rattle.ksv_expr.specs.Trail.{Trail}
+use Rattle.ksv_expr.specs.declared.fault.Fault.{Fault}
+use Rattle.ksv_expr.specs.declared.fault.FaultKind.TheVariants as kinds
+use Rattle.ksv_nodes.specs.declared.node.Node.{Node}
+use Rattle.ksv_nodes.specs.declared.given.Given.{Given}
+use Rattle.ksv_nodes.specs.Reading.{look}
+use Rattle.ksv_nodes.specs.Rule.{Rule, Of, See}
+use Rattle.ksv_nodes.specs.Turning.{fault_at, raised}
+
+-- goes on with an answer; a fault of an asked node is the rule's
+abbrev pub with_given : {A : Type 0} → Result Given Fault → (Given → Result A Fault) → Result A Fault
+with_given (Ok g) f = f g
+with_given (Err e) f = Err e
+
+-- goes on with what was seen
+abbrev pub with_seen : {A B : Type 0} → Trail → Option A → (A → Result B Fault) → Result B Fault
+with_seen here (Some a) f = f a
+with_seen here None f = Err (fault_at here kinds.EndOfBytes)
+
+-- the list behind an answer, and behind what was seen; behind a fault there is nothing
+abbrev pub behind_given : {X : Type 0} → Result Given Fault → (Given → List X) → List X
+behind_given (Ok g) f = f g
+behind_given (Err e) f = []
+
+abbrev pub behind_seen : {A X : Type 0} → Option A → (A → List X) → List X
+behind_seen (Some a) f = f a
+behind_seen None f = []
+
+-- at a path, on these bytes, where each asked node has the answer that `met` gives
+module _ (met : Node → Result Given Fault) (here : Trail) (bytes : List ℕ) where
+  -- what a rule answers
+  abbrev pub answer_of : {A : Type 0} → Rule A → Result A Fault
+  answer_of (Answer a) = Ok a
+  answer_of (Fail e) = Err (raised e here)
+  answer_of (Ask (Of n) k) = with_given (met n) (λ g. answer_of (k g))
+  answer_of (Ask (See r) k) = with_seen here (look r bytes).seen (λ x. answer_of (k x))
+
+  -- the nodes that it asks, in order
+  abbrev pub asks_of : {A : Type 0} → Rule A → List Node
+  asks_of (Answer a) = []
+  asks_of (Fail e) = []
+  asks_of (Ask (Of n) k) = n ∷ behind_given (met n) (λ g. asks_of (k g))
+  asks_of (Ask (See r) k) = behind_seen (look r bytes).seen (λ x. asks_of (k x))
+
+  -- what its readings rest on, in order
+  abbrev pub uses_of : {A : Type 0} → Rule A → List Use
+  uses_of (Answer a) = []
+  uses_of (Fail e) = []
+  uses_of (Ask (Of n) k) = behind_given (met n) (λ g. uses_of (k g))
+  uses_of (Ask (See r) k) = (look r bytes).uses ++ behind_seen (look r bytes).seen (λ x. uses_of (k x))

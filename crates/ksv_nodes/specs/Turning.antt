@@ -1,0 +1,87 @@
+-- Turns: a rule runs on the replies that it had, over the bytes. What it asks is answered by the replies in their order, and
+-- each reading adds what it rests on to the uses.
+use Rattle.std.specs.Prelude.{◌≡◌, ℕ, List, [], ◌∷◌, ◌++◌, Option, Some, None, Result, Ok, Err}
+use Rattle.std.specs.Borrow.{Bor}
+use Rattle.ksv_plan.specs.Plan.{Answer, Ask, Ran, Need, Failed, Done, Handler, run, behind}
+use Rattle.ksv_bytes.specs.declared.uses.Use.{Use}
+use Rattle.ksv_expr.specs.Trail.{Trail}
+use Rattle.ksv_expr.specs.declared.fault.Fault.{Fault}
+use Rattle.ksv_expr.specs.declared.fault.FaultKind.{FaultKind}
+use Rattle.ksv_expr.specs.declared.fault.FaultKind.TheVariants as kinds
+use Rattle.ksv_nodes.specs.declared.node.Node.{Node}
+use Rattle.ksv_nodes.specs.declared.given.Given.{Given}
+use Rattle.ksv_nodes.specs.declared.turn.Stop.{Stop}
+use Rattle.ksv_nodes.specs.declared.turn.Stop.TheVariants as stops
+use Rattle.ksv_nodes.specs.Reading.{Look, look}
+use Rattle.ksv_nodes.specs.Rule.{Query, Of, See, Reply, Raised, Here, There, Rule}
+
+-- the path of the node, the file, the replies that are still to come, and the uses so far
+pub record State : Type 0 where
+  pub here : Trail
+  pub bytes : List ℕ
+  pub replies : List (Result Given Fault)
+  pub uses : List Use
+
+-- a fault of a kind at a path
+abbrev pub fault_at : Trail → FaultKind → Fault
+fault_at p k = record { kind = k; path = p }
+
+-- what a reading gives, and the fault end-of-bytes where the bytes end before
+abbrev pub seen_in : {A : Type 0} → Option A → State → Ran Node Fault State A
+seen_in (Some a) s = Done a s
+seen_in None s = Failed (fault_at s.here kinds.EndOfBytes) s
+
+-- a reading adds its uses
+abbrev pub looked : {A : Type 0} → Look A → State → Ran Node Fault State A
+looked l s = seen_in l.seen (record s { uses = s.uses ++ l.uses })
+
+-- the reply to a node: the first of the list, which is then gone; without one the node is needed
+abbrev pub replied : Node → List (Result Given Fault) → State → Ran Node Fault State Given
+replied n [] s = Need n s
+replied n (Ok g ∷ replies) s = Done g (record s { replies = replies })
+replied n (Err f ∷ replies) s = Failed f (record s { replies = replies })
+
+abbrev pub reply : (q : Query) → State → Ran Node Fault State (Reply q)
+reply (Of n) s = replied n s.replies s
+reply (See r) s = looked (look r s.bytes) s
+
+-- a fault stands at the node's own path, unless its rule says another
+abbrev pub raised : Raised → Trail → Fault
+raised (Here k) p = fault_at p k
+raised (There k q) p = fault_at q k
+
+abbrev pub turns : Handler Query Reply Raised State Node Fault
+turns = record { reply = reply; raise = λ e s. raised e s.here }
+
+-- the state before a rule has asked and seen anything
+abbrev pub fresh : Trail → List ℕ → List (Result Given Fault) → State
+fresh here bytes replies = record { here = here; bytes = bytes; replies = replies; uses = [] }
+
+-- What a function returned, seen by view, is what running a rule gives, unless memory ran out.
+abbrev pub Runs : {X A : Type 0} → Rule A → (X → A) → State → State → Result X Stop → Type 0
+Runs rule view old new (Ok x) = run turns rule old ≡ Done (view x) new
+Runs rule view old new (Err stops.Memory) = Unit {0}
+Runs rule view old new (Err (stops.Need n)) = run turns rule old ≡ Need n new
+Runs rule view old new (Err (stops.Fault f)) = run turns rule old ≡ Failed f new
+
+-- what one reply comes to
+abbrev pub come : Result Given Fault → State → Ran Node Fault State Given
+come (Ok g) s = Done g s
+come (Err f) s = Failed f s
+
+-- what a node answers, whatever its form
+abbrev pub ask : Node → Rule Given
+ask n = Ask (Of n) (λ g. Answer g)
+
+-- the function took the reply to this node, or found none
+abbrev pub RepliesWith : Node → State → State → Result (Bor (Result Given Fault)) Stop → Type 0
+RepliesWith n old new (Ok g) = run turns (ask n) old ≡ come g.now new
+RepliesWith n old new (Err stops.Memory) = Unit {0}
+RepliesWith n old new (Err (stops.Need m)) = run turns (ask n) old ≡ Need m new
+RepliesWith n old new (Err (stops.Fault f)) = run turns (ask n) old ≡ Failed f new
+
+-- it stopped with this fault, unless memory ran out
+abbrev pub IsFault : Fault → Stop → Type 0
+IsFault f stops.Memory = Unit {0}
+IsFault f (stops.Need n) = ⊥
+IsFault f (stops.Fault e) = e ≡ f

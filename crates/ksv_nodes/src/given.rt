@@ -1,0 +1,102 @@
+//! What nodes answer.
+
+use ksv_expr::{Stream, Value};
+
+/// The attribute by which something is read: a member of a type of the description.
+#[derive(Clone, Copy, PartialEq, Eq, Debug)]
+pub struct Source {
+    /// The type's number.
+    pub type_number: u32,
+    /// The member's place among the type's members, from 0.
+    pub member: u32,
+}
+
+/// Some bytes.
+#[derive(Clone, Copy, PartialEq, Eq, Debug)]
+pub struct Leaf {
+    /// The attribute by which they are read.
+    pub source: Source,
+    /// The place of the first.
+    pub from: u32,
+    /// The place behind the last.
+    pub to: u32,
+    /// Where what follows begins: behind a terminator that isn't a part of the bytes.
+    pub end: u32,
+}
+
+/// How the end of an object is known.
+#[derive(Clone, Copy, PartialEq, Eq, Debug)]
+pub enum Ending {
+    /// It ends at this place.
+    At(u32),
+    /// It ends with its stream.
+    OfStream,
+    /// It ends with the last attribute of its type's `seq`.
+    ByFields,
+}
+
+/// An object of a type.
+#[derive(Clone, Copy, PartialEq, Eq, Debug)]
+pub struct Object {
+    /// The type's number.
+    pub type_number: u32,
+    /// The stream in which its places are counted.
+    pub stream: Stream,
+    /// Where it begins.
+    pub start: u32,
+    /// How its end is known.
+    pub ending: Ending,
+}
+
+/// The elements of an attribute.
+#[derive(Clone, Copy, PartialEq, Eq, Debug)]
+pub struct List {
+    /// The attribute by which they are read.
+    pub source: Source,
+    /// The stream in which they stand.
+    pub stream: Stream,
+    /// The stream of the object that holds the attribute.
+    pub home: Stream,
+    /// Where the first begins.
+    pub start: u32,
+    /// How many there are, where that is told beforehand.
+    pub count: Option<u32>,
+    /// Whether there is none.
+    pub is_empty: bool,
+}
+
+/// What stands at a path, and where.
+#[derive(Clone, Copy, PartialEq, Eq, Debug)]
+pub enum Head {
+    /// Nothing: an attribute that is absent, at its place where it has one.
+    Gone(Option<u32>),
+    /// Bytes that hold a value.
+    Leaf(Leaf),
+    /// An object.
+    Object(Object),
+    /// A list.
+    List(List),
+}
+
+/// What a node answers, one form for each kind of node.
+#[derive(Drop)]
+pub enum Given {
+    /// What stands there.
+    Head(Head),
+    /// Its value.
+    Value(Value),
+    /// Where it ends.
+    End {
+        /// The place behind its last byte.
+        place: u32,
+        /// Whether it is the last element of a list.
+        last: bool,
+    },
+    /// What a list is from an element on.
+    Rest {
+        /// How many elements the list has.
+        count: u32,
+        /// Where it ends.
+        place: u32,
+    },
+}

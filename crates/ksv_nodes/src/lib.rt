@@ -1,0 +1,14 @@
+//! Nodes of a described file: what can be asked of one, what is answered, and how a node's rule looks at the bytes and
+//! goes on with the replies to what it asks.
+//!
+//! A rule is a plan (`ksv_plan`) of two kinds of question: other nodes, and readings of the bytes. Nothing here knows of
+//! descriptions.
+#![tactic(auto)]
+
+mod given;
+mod node;
+mod turn;
+
+pub use given::{Ending, Given, Head, Leaf, List, Object, Source};
+pub use node::{Kind, Node};
+pub use turn::{Found, Stop, Turn};
