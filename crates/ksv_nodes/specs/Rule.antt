@@ -12,6 +12,8 @@ use Rattle.ksv_nodes.specs.declared.node.Kind.TheVariants as nodes
 use Rattle.ksv_nodes.specs.declared.given.Given.{Given}
 use Rattle.ksv_nodes.specs.declared.given.Given.TheVariants as givens
 use Rattle.ksv_nodes.specs.declared.given.Head.{Head}
+use Rattle.ksv_nodes.specs.declared.given.Ended.{Ended}
+use Rattle.ksv_nodes.specs.declared.given.Rested.{Rested}
 use Rattle.ksv_nodes.specs.declared.turn.Found.{Found}
 use Rattle.ksv_nodes.specs.Reading.{Reading, Reach, Finish, Done, Peek, Find, Seen}
 
@@ -45,16 +47,6 @@ in_head _ = raise kinds.BadType
 abbrev pub in_value : Given → Rule Value
 in_value (givens.Value v) = Answer v
 in_value _ = raise kinds.BadType
-
--- where something ends, and whether it is the last element of a list
-pub record Ended : Type 0 where
-  pub place : ℕ
-  pub last : Bool
-
--- how many elements a list has, and where it ends
-pub record Rested : Type 0 where
-  pub count : ℕ
-  pub place : ℕ
 
 abbrev pub in_end : Given → Rule Ended
 in_end (givens.End place last) = Answer (record { place = place; last = last })

@@ -100,3 +100,21 @@ pub enum Given {
         place: u32,
     },
 }
+
+/// Where something ends.
+#[derive(Clone, Copy, PartialEq, Eq, Debug)]
+pub struct Ended {
+    /// The place behind its last byte.
+    pub place: u32,
+    /// Whether it is the last element of a list.
+    pub last: bool,
+}
+
+/// What a list is from an element on.
+#[derive(Clone, Copy, PartialEq, Eq, Debug)]
+pub struct Rested {
+    /// How many elements the list has.
+    pub count: u32,
+    /// Where it ends.
+    pub place: u32,
+}

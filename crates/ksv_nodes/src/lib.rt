@@ -9,6 +9,6 @@ mod given;
 mod node;
 mod turn;
 
-pub use given::{Ending, Given, Head, Leaf, List, Object, Source};
+pub use given::{Ended, Ending, Given, Head, Leaf, List, Object, Rested, Source};
 pub use node::{Kind, Node};
 pub use turn::{Found, Stop, Turn};

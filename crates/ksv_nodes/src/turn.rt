@@ -1,13 +1,15 @@
 //! One turn of a node's rule: what it asks is answered by the replies, in their order.
 
-ghost use Rattle.std.specs.Prelude.{◌≡◌, [], IfErr, IsErr, IfOk};
-ghost use Rattle.ksv_nodes.specs.Rule.{raise};
+ghost use Rattle.std.specs.Prelude.{◌≡◌, ◌≤◌, ◌<◌, ◌++◌, length, [], IfErr, IsErr, IfOk};
+ghost use Rattle.ksv_expr.specs.Bytes.{content};
+ghost use Rattle.ksv_nodes.specs.Reading.{first_at};
+ghost use Rattle.ksv_nodes.specs.Rule.{raise, ask_head, ask_value, ask_end, ask_rest, part, reach, finish, done, peek, find};
 ghost use Rattle.ksv_nodes.specs.Turning.{Runs, RepliesWith, IsFault};
 
-use crate::given::Given;
-use crate::node::Node;
-use ksv_bytes::{Buffer, Use};
-use ksv_expr::{Fault, FaultKind, Path};
+use crate::given::{Ended, Given, Head, Rested};
+use crate::node::{Kind, Node};
+use ksv_bytes::{Buffer, Use, Window};
+use ksv_expr::{Fault, FaultKind, Parts, Path, Step, Stream, Value};
 use std::alloc::{AllocError, AllocFailed, Global};
 use std::marker::Model;
 
@@ -142,5 +144,151 @@ impl<'a> Turn<'a> {
             kind,
             path: self.here.copy(self.alloc)?,
         }))
+    }
+
+    /// What stands at a path, and where.
+    pub fn head(&mut self, path: Path) -> Result<Head, Stop>
+        ensures { Runs (ask_head path) (λ head. head) self.old self.new result }
+    {
+        let kind = Kind::Head;
+        match self.reply(Node { kind, path })? {
+            Ok(Given::Head(head)) => Ok(*head),
+            Ok(_) => self.raise(FaultKind::BadType),
+            Err(fault) => self.fault(fault),
+        }
+    }
+
+    /// The value at a path.
+    pub fn value(&mut self, path: Path) -> Result<&'a Value, Stop>
+        ensures { Runs (ask_value path) (λ value. value.now) self.old self.new result }
+    {
+        let kind = Kind::Value;
+        match self.reply(Node { kind, path })? {
+            Ok(Given::Value(value)) => Ok(value),
+            Ok(_) => self.raise(FaultKind::BadType),
+            Err(fault) => self.fault(fault),
+        }
+    }
+
+    /// Where what stands at a path ends.
+    pub fn end(&mut self, path: Path) -> Result<Ended, Stop>
+        ensures { Runs (ask_end path) (λ ended. ended) self.old self.new result }
+    {
+        let kind = Kind::End;
+        match self.reply(Node { kind, path })? {
+            Ok(Given::End { place, last }) => Ok(Ended {
+                place: *place,
+                last: *last,
+            }),
+            Ok(_) => self.raise(FaultKind::BadType),
+            Err(fault) => self.fault(fault),
+        }
+    }
+
+    /// What a list is from the element at a path on.
+    pub fn rest(&mut self, path: Path) -> Result<Rested, Stop>
+        ensures { Runs (ask_rest path) (λ rested. rested) self.old self.new result }
+    {
+        let kind = Kind::Rest;
+        match self.reply(Node { kind, path })? {
+            Ok(Given::Rest { count, place }) => Ok(Rested {
+                count: *count,
+                place: *place,
+            }),
+            Ok(_) => self.raise(FaultKind::BadType),
+            Err(fault) => self.fault(fault),
+        }
+    }
+
+    /// The path one step on. A path that doesn't fit is a fault of the node.
+    pub fn part(&self, path: &Path, step: Step) -> Result<Path, Stop>
+        ensures { Runs (part path.now step) (λ part. part) self.now self.now result }
+    {
+        let part = match step {
+            Step::Name(name) => path.child_name(self.alloc, name)?,
+            Step::Index(index) => path.child_index(self.alloc, index)?,
+        };
+        match part {
+            Some(part) => Ok(part),
+            None => self.raise(FaultKind::PathTooLong),
+        }
+    }
+
+    /// Sees to it that a stream and the file go on to a place.
+    #[tactic(auto, unfolding(crate::specs::Reading::reach_within, crate::specs::Reading::reach_file))]
+    pub fn reach(&mut self, stream: Stream, to: u128) -> Result<(), Stop>
+        ensures runs { Runs (reach stream to) (λ unit. unit) self.old self.new result }
+        ensures fits { IfOk result (λ _. to ≤ 16777216) }
+    {
+        if let Some(end) = stream.to {
+            if u128::from(end) < to {
+                return self.raise(FaultKind::EndOfBytes);
+            }
+        }
+        if to <= self.bytes.len() as u128 {
+            self.uses.push(Use::Reach(to as u32))?;
+            Ok(())
+        } else {
+            self.uses.push(Use::Size)?;
+            self.raise(FaultKind::EndOfBytes)
+        }
+    }
+
+    /// Where a stream ends.
+    #[tactic(auto, unfolding(crate::specs::Reading::finish_of))]
+    pub fn finish(&mut self, stream: Stream) -> Result<u32, Stop>
+        ensures { Runs (finish stream) (λ place. place) self.old self.new result }
+    {
+        match stream.to {
+            Some(end) => Ok(end),
+            None => {
+                self.uses.push(Use::Size)?;
+                Ok(self.bytes.len() as u32)
+            }
+        }
+    }
+
+    /// Whether a place is at the end of a stream or behind it.
+    #[tactic(auto, unfolding(crate::specs::Reading::done_at))]
+    pub fn done(&mut self, stream: Stream, place: u32) -> Result<bool, Stop>
+        ensures { Runs (done stream place) (λ is_done. is_done) self.old self.new result }
+    {
+        if let Some(end) = stream.to {
+            return Ok(end <= place);
+        }
+        if (place as usize) < self.bytes.len() {
+            self.uses.push(Use::Reach(place + 1))?;
+            Ok(false)
+        } else {
+            self.uses.push(Use::Size)?;
+            Ok(true)
+        }
+    }
+
+    /// The bytes of a range.
+    #[tactic(auto, unfolding(crate::specs::Reading::peek_at, crate::specs::Reading::cut_uses))]
+    pub fn peek(&mut self, from: u32, to: u32) -> Result<Parts<'a>, Stop>
+        ensures { Runs (peek from to) content self.old self.new result }
+    {
+        if from == to {
+            return Ok(Parts {
+                front: &[],
+                back: &[],
+            });
+        }
+        let size = self.bytes.len();
+        if to as usize <= size && from < to {
+            self.uses.push(Use::Bytes(from, to))?;
+            let (front, back) = self.bytes.parts(Window {
+                from: from as usize,
+                to: to as usize,
+            });
+            return Ok(Parts { front, back });
+        }
+        self.uses.push(Use::Size)?;
+        if (from as usize) < size {
+            self.uses.push(Use::Bytes(from, size as u32))?;
+        }
+        self.raise(FaultKind::EndOfBytes)
     }
 }
