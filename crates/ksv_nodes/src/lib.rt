@@ -7,6 +7,7 @@
 
 mod given;
 mod node;
+mod search;
 mod turn;
 
 pub use given::{Ended, Ending, Given, Head, Leaf, List, Object, Rested, Source};

@@ -2,12 +2,14 @@
 
 ghost use Rattle.std.specs.Prelude.{◌≡◌, ◌≤◌, ◌<◌, ◌++◌, length, [], IfErr, IsErr, IfOk};
 ghost use Rattle.ksv_expr.specs.Bytes.{content};
-ghost use Rattle.ksv_nodes.specs.Reading.{first_at};
+ghost use Rattle.std.specs.Prelude.{◌+◌, slice_range, IfSome};
+ghost use Rattle.ksv_nodes.specs.Reading.{first_at, end_in};
 ghost use Rattle.ksv_nodes.specs.Rule.{raise, ask_head, ask_value, ask_end, ask_rest, part, reach, finish, done, peek, find};
 ghost use Rattle.ksv_nodes.specs.Turning.{Runs, RepliesWith, IsFault};
 
 use crate::given::{Ended, Given, Head, Rested};
 use crate::node::{Kind, Node};
+use crate::search::first_in_parts;
 use ksv_bytes::{Buffer, Use, Window};
 use ksv_expr::{Fault, FaultKind, Parts, Path, Step, Stream, Value};
 use std::alloc::{AllocError, AllocFailed, Global};
@@ -290,5 +292,51 @@ impl<'a> Turn<'a> {
             self.uses.push(Use::Bytes(from, size as u32))?;
         }
         self.raise(FaultKind::EndOfBytes)
+    }
+
+    /// Where a stream ends in the bytes. This tells nothing of what it rests on.
+    fn end_in(&self, stream: Stream) -> u32
+        ensures { result ≡ end_in self.now.bytes stream.to }
+    {
+        match stream.to {
+            Some(end) => end,
+            None => self.bytes.len() as u32,
+        }
+    }
+
+    /// How many bytes stand before the first such byte of a range. This tells nothing of what it rests on.
+    #[tactic(auto, using(crate::proofs::First::range_cut, crate::proofs::First::range_none))]
+    fn first_in(&self, from: u32, to: u32, byte: u8) -> Option<u32>
+        ensures found { result ≡ first_at byte (slice_range self.now.bytes from to) }
+        ensures inside { IfSome result (λ place. from + place < length self.now.bytes) }
+        ensures small { IfSome result (λ place. from + place < 16777216) }
+    {
+        let from = from as usize;
+        let to = (to as usize).min(self.bytes.len());
+        if to <= from {
+            return None;
+        }
+        let (front, back) = self.bytes.parts(Window { from, to });
+        let place = first_in_parts(Parts { front, back }, byte)?;
+        Some(place as u32)
+    }
+
+    /// The first byte of a value from a place on, before the stream's end.
+    #[tactic(auto, unfolding(crate::specs::Reading::find_at, crate::specs::Reading::found_from, crate::specs::Reading::found_none, crate::specs::Reading::finish_of))]
+    pub fn find(&mut self, stream: Stream, start: u32, byte: u8) -> Result<Found, Stop>
+        ensures { Runs (find stream start byte) (λ found. found) self.old self.new result }
+    {
+        let end = self.end_in(stream);
+        match self.first_in(start, end, byte) {
+            Some(place) => {
+                self.uses.push(Use::Bytes(start, start + place + 1))?;
+                Ok(Found::At(start + place))
+            }
+            None => {
+                self.finish(stream)?;
+                self.peek(start, end)?;
+                Ok(Found::Missing(end))
+            }
+        }
     }
 }

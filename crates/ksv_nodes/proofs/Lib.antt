@@ -1,0 +1,2 @@
+-- The lemmas on readings, rules and turns.
+pub mod First
