@@ -3,3 +3,4 @@ pub mod Reading
 pub mod Rule
 pub mod Turning
 pub mod Truth
+pub mod Numbers

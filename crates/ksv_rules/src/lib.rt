@@ -1,0 +1,10 @@
+//! The rules of a description's nodes: what stands at a path of a file, its value, and where it ends.
+//!
+//! Each rule is a definition in specs/ (`Heads`, `Values`, `Ends`) and a function of the same name here that runs it on the
+//! replies that it had. An engine (`ksv_memo`) calls the rules and keeps what they answer.
+#![tactic(auto)]
+
+mod evaluation;
+mod site;
+
+pub use ksv_nodes::{Ending, Given, Head, Kind, Leaf, List, Node, Object, Source};
