@@ -5,6 +5,8 @@
 #![tactic(auto)]
 
 mod evaluation;
+mod path_text;
 mod site;
 
 pub use ksv_nodes::{Ending, Given, Head, Kind, Leaf, List, Node, Object, Source};
+pub use path_text::path_of;
