@@ -6,6 +6,7 @@
 
 mod evaluation;
 mod path_text;
+mod served;
 mod site;
 
 pub use ksv_nodes::{Ending, Given, Head, Kind, Leaf, List, Node, Object, Source};
