@@ -2,3 +2,4 @@
 pub mod First
 pub mod Turns
 pub mod Truth
+pub mod Looks
