@@ -3,3 +3,5 @@ pub mod Reading
 pub mod Rule
 pub mod Turning
 pub mod Truth
+pub mod Bounds
+pub mod Laws
