@@ -4,4 +4,6 @@ pub mod Rule
 pub mod Turning
 pub mod Truth
 pub mod Bounds
+pub mod Numbers
+pub mod Exact
 pub mod Laws
