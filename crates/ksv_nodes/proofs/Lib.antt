@@ -6,3 +6,4 @@ pub mod Looks
 pub mod Ranges
 pub mod Local
 pub mod Bounds
+pub mod Resuming
