@@ -7,3 +7,4 @@ pub mod Ranges
 pub mod Local
 pub mod Bounds
 pub mod Resuming
+pub mod Left
