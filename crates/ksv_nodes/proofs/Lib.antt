@@ -8,3 +8,4 @@ pub mod Local
 pub mod Bounds
 pub mod Resuming
 pub mod Left
+pub mod Direct
