@@ -6,8 +6,9 @@
 
 mod evaluation;
 mod path_text;
-mod served;
+mod serving;
 mod site;
 
 pub use ksv_nodes::{Ending, Given, Head, Kind, Leaf, List, Node, Object, Source};
 pub use path_text::path_of;
+pub use serving::served;

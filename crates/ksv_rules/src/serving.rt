@@ -1,11 +1,12 @@
 //! Which descriptions are served.
 ghost use Rattle.std.specs.Prelude.{◌≡◌, map, option_map};
-ghost use Rattle.std.specs.List.{list_all};
 ghost use Rattle.ksv_syntax.specs.Tree.{view, arguments_of};
 ghost use Rattle.ksv_schema.specs.Pieces.{plain_choice, plain_content, plain_extent, plain_field, plain_kind, plain_repeat, plain_type};
-ghost use Rattle.ksv_rules.specs.Served.{is_served_name, are_served_trees, is_served_condition, is_served_repeat, is_served_extent, is_served_content, is_served_choice, goes_by_itself, is_served_field, is_served_kind, is_served_type};
+ghost use Rattle.ksv_schema.specs.Whole.{plain_pieces};
+ghost use Rattle.ksv_rules.specs.Served.{is_served_name, are_served_trees, is_served_condition, is_served_repeat, is_served_extent, is_served_content, is_served_choice, goes_by_itself, is_served_field, is_served_kind, is_served_type, is_served};
 ghost use Rattle.ksv_rules.specs.ServedCode.{is_served_expr};
 
+use ksv_schema::Desc;
 use ksv_schema::desc::{Choice, Content, Extent, Field, Kind, Repeat, TypeDesc};
 use ksv_syntax::tree::{Expr, SpecialName};
 
@@ -21,7 +22,7 @@ fn is_served_name(name: SpecialName) -> bool
 
 /// Whether an expression is served.
 #[cycle(served)]
-#[tactic(auto, using(crate::proofs::ServedForms::literal_served, crate::proofs::ServedForms::name_served, crate::proofs::ServedForms::special_served, crate::proofs::ServedForms::member_served, crate::proofs::ServedForms::unary_served, crate::proofs::ServedForms::binary_served, crate::proofs::ServedForms::logical_served, crate::proofs::ServedForms::choice_served, crate::proofs::ServedForms::field_served, crate::proofs::ServedForms::special_field_served, crate::proofs::ServedForms::index_served, crate::proofs::ServedForms::cast_served))]
+#[tactic(auto, using(crate::proofs::ServedForms::literal_served, crate::proofs::ServedForms::name_served, crate::proofs::ServedForms::special_served, crate::proofs::ServedForms::member_served, crate::proofs::ServedForms::unary_served, crate::proofs::ServedForms::binary_served, crate::proofs::ServedForms::logical_served, crate::proofs::ServedForms::choice_served, crate::proofs::ServedForms::field_served, crate::proofs::ServedForms::special_field_served, crate::proofs::ServedForms::index_served, crate::proofs::ServedForms::cast_served, crate::proofs::ServedForms::call_served))]
 fn is_served_expr(expr: &Expr) -> bool
     ensures { result ≡ is_served_expr expr.now }
 {
@@ -42,6 +43,7 @@ fn is_served_expr(expr: &Expr) -> bool
 
 /// Whether arguments are served.
 #[cycle(served)]
+#[tactic(auto, using(crate::proofs::ServedForms::all_served))]
 fn are_served(arguments: &[Expr]) -> bool
     ensures { result ≡ are_served_trees (arguments_of (map view arguments.now)) }
 {
@@ -143,9 +145,12 @@ fn is_served_type(described: &TypeDesc) -> bool
         .all(|member| is_served_kind(&member.kind))
 }
 
-/// Whether all types are served.
-fn are_served_types(types: &[TypeDesc]) -> bool
-    ensures { result ≡ list_all is_served_type (map plain_type types.now) }
+/// Whether a description is served: whether all its types are.
+#[tactic(auto, unfolding(crate::specs::Served::is_served))]
+pub fn served(desc: &Desc) -> bool
+    ensures { result ≡ is_served (plain_pieces desc.now) }
 {
-    types.iter().all(|described| is_served_type(described))
+    desc.types()
+        .iter()
+        .all(|described| is_served_type(described))
 }
