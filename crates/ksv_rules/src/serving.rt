@@ -135,22 +135,25 @@ fn is_served_kind(kind: &Kind) -> bool
     }
 }
 
-#[tactic(auto, unfolding(crate::specs::Served::is_served_type))]
 fn is_served_type(described: &TypeDesc) -> bool
     ensures { result ≡ is_served_type (plain_type described.now) }
 {
-    described
-        .members()
-        .iter()
-        .all(|member| is_served_kind(&member.kind))
+    for member in described.members() {
+        if !is_served_kind(&member.kind) {
+            return false;
+        }
+    }
+    true
 }
 
 /// Whether a description is served: whether all its types are.
-#[tactic(auto, unfolding(crate::specs::Served::is_served))]
 pub fn served(desc: &Desc) -> bool
     ensures { result ≡ is_served (plain_pieces desc.now) }
 {
-    desc.types()
-        .iter()
-        .all(|described| is_served_type(described))
+    for described in desc.types() {
+        if !is_served_type(described) {
+            return false;
+        }
+    }
+    true
 }
