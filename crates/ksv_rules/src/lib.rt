@@ -5,6 +5,8 @@
 #![tactic(auto)]
 
 mod evaluation;
+mod fields;
 mod site;
+mod wanted;
 
 pub use ksv_nodes::{Ending, Given, Head, Kind, Leaf, List, Node, Object, Source};
