@@ -6,6 +6,7 @@
 
 mod evaluation;
 mod fields;
+mod heads;
 mod site;
 mod wanted;
 
