@@ -39,6 +39,10 @@ cut_range bytes from to n le = let e : from + n - from ≡ n = omega arith in ta
 range_length : (bytes : List ℕ) (from to : ℕ) → length (slice_range bytes from to) ≤ to - from
 range_length bytes from to = omega (arith, length-take (to - from) (drop from bytes))
 
+-- the bytes go on to each place of a range of them
+pub range_reaches : (bytes : List ℕ) (from to i : ℕ) → i < length (slice_range bytes from to) → from + i + 1 ≤ length bytes
+range_reaches bytes from to i h = omega (arith, length-take (to - from) (drop from bytes), length-drop from bytes)
+
 found_cut : (bytes : List ℕ) (from to x i : ℕ) → first_at x (slice_range bytes from to) ≡ Some i → (i + 1 ≤ to - from) × (first_at x (slice_range bytes from (from + (i + 1))) ≡ Some i)
 found_cut bytes from to x i e =
     let ys = slice_range bytes from to in

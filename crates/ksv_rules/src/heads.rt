@@ -389,15 +389,15 @@ fn attribute_start(
 }
 
 /// An attribute of `seq`.
-fn attribute_head(
+fn attribute_head<'p>(
     turn: &mut Turn,
-    path: &Path,
-    home: &Path,
+    path: &'p Path,
+    home: &'p Path,
     object: Object,
     sought: Sought,
     field: &Field,
 ) -> Result<Head, Stop>
-    ensures { Runs (attribute_head path.now home.now object (plain_sought sought) (plain_field field.now)) (λ head. head) turn.old turn.new result }
+    ensures { Runs (attribute_head path.now home.now object (plain_sought sought.entry) (plain_field field.now)) (λ head. head) turn.old turn.new result }
 {
     let start = attribute_start(turn, home, object, sought.before)?;
     let site = Site {
@@ -423,7 +423,7 @@ fn member_at(
     object: Object,
     sought: Sought,
 ) -> Result<Head, Stop>
-    ensures { Runs (member_at path.now home.now object (plain_sought sought) (plain_kind sought.kind.now)) (λ head. head) turn.old turn.new result }
+    ensures { Runs (member_at path.now home.now object (plain_sought sought.entry) (plain_kind sought.entry.kind.now)) (λ head. head) turn.old turn.new result }
 {
     match sought.kind {
         Kind::InSequence(field) => attribute_head(turn, path, home, object, sought, field),
@@ -505,12 +505,12 @@ fn element_start(turn: &mut Turn, list_path: &Path, list: List, index: u32) -> R
 }
 
 /// The element of this index, at a path, of the list at `list_path`, which is an attribute of the object at `home`.
-fn element_head(
+fn element_head<'p>(
     turn: &mut Turn,
     desc: &Desc,
-    path: &Path,
+    path: &'p Path,
     list_path: &Path,
-    home: &Path,
+    home: &'p Path,
     index: u32,
 ) -> Result<Head, Stop>
     ensures { Runs (element_head (plain_pieces desc.now) path.now list_path.now home.now index) (λ head. head) turn.old turn.new result }
