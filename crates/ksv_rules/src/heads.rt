@@ -5,7 +5,7 @@ ghost use Rattle.std.specs.Prelude.{◌≡◌, option_map};
 ghost use Rattle.ksv_syntax.specs.Tree.{view};
 ghost use Rattle.ksv_schema.specs.Pieces.{plain_content, plain_choice, plain_extent, plain_terminator, plain_repeat, plain_field, plain_kind};
 ghost use Rattle.ksv_schema.specs.Whole.{plain_pieces};
-ghost use Rattle.ksv_nodes.specs.Turning.{Runs};
+ghost use Rattle.ksv_nodes.specs.Turning.{Runs, StandsBelow};
 ghost use Rattle.ksv_rules.specs.Sites.{setting_of};
 ghost use Rattle.ksv_rules.specs.Members.{plain_sought};
 ghost use Rattle.ksv_rules.specs.Heads.{leaf, leaf_to_end, terminated_at, terminated, run_of, sized_leaf, bytes_at, sized_object, object_at, content_at, shape_at, in_count, count_of, counted, until_end, repeated, attribute_at, part_end, attribute_start, setting, attribute_head, member_at, member_head, in_list, is_past, in_next, next_start, element_start, within, element_head, root_head, head_at, head_of};
@@ -62,6 +62,7 @@ fn terminated_at(
     terminator: Terminator,
     found: Found,
 ) -> Result<Head, Stop>
+    requires { StandsBelow 16777216 found }
     ensures { Runs (terminated_at source start (plain_terminator terminator) found) (λ head. head) turn.old turn.new result }
 {
     let (to, end) = match found {
