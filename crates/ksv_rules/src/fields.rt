@@ -5,7 +5,7 @@ ghost use Rattle.std.specs.Prelude.{◌≡◌, None, map, option_map};
 ghost use Rattle.ksv_schema.specs.Pieces.{plain_member, plain_field, plain_kind};
 ghost use Rattle.ksv_schema.specs.Whole.{plain_pieces};
 ghost use Rattle.ksv_nodes.specs.Turning.{Runs};
-ghost use Rattle.ksv_rules.specs.Fields.{members_of, behind, sought, in_sought, member_named, last_attribute, read_by, in_field, field_of};
+ghost use Rattle.ksv_rules.specs.Fields.{members_of, behind, sought, member_named, last_attribute, read_by, field_of};
 ghost use Rattle.ksv_rules.specs.Members.{plain_sought};
 
 use ksv_expr::FaultKind;

@@ -8,7 +8,7 @@ ghost use Rattle.ksv_schema.specs.Whole.{plain_pieces};
 ghost use Rattle.ksv_nodes.specs.Turning.{Runs, StandsBelow};
 ghost use Rattle.ksv_rules.specs.Sites.{setting_of};
 ghost use Rattle.ksv_rules.specs.Members.{plain_sought};
-ghost use Rattle.ksv_rules.specs.Heads.{leaf, leaf_to_end, terminated_at, terminated, run_of, sized_leaf, bytes_at, sized_object, object_at, content_at, shape_at, in_count, count_of, counted, until_end, repeated, attribute_at, part_end, attribute_start, setting, attribute_head, member_at, member_head, in_list, is_past, in_next, next_start, element_start, within, element_head, root_head, head_at, head_of};
+ghost use Rattle.ksv_rules.specs.Heads.{leaf, leaf_to_end, terminated_at, terminated, run_of, sized_leaf, bytes_at, sized_object, object_at, content_at, shape_at, in_count, count_of, counted, until_end, repeated, attribute_at, part_end, attribute_start, attribute_head, member_at, member_head, in_list, is_past, in_next, next_start, element_start, element_head, root_head, head_of};
 
 use crate::fields::{Sought, field_of, member_named};
 use crate::site::Site;
@@ -30,14 +30,14 @@ fn leaf(
 ) -> Result<Head, Stop>
     ensures { Runs (leaf source stream start size) (λ head. head) turn.old turn.new result }
 {
-    let end = u128::from(start) + u128::from(size);
-    turn.reach(stream, end)?;
-    let end = end as u32;
+    let to = u128::from(start) + u128::from(size);
+    turn.reach(stream, to)?;
+    let to = to as u32;
     Ok(Head::Leaf(Leaf {
         source,
         from: start,
-        to: end,
-        end,
+        to,
+        end: to,
     }))
 }
 
