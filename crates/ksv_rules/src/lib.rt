@@ -5,6 +5,9 @@
 #![tactic(auto)]
 
 mod evaluation;
+mod fields;
+mod heads;
 mod site;
+mod wanted;
 
 pub use ksv_nodes::{Ending, Given, Head, Kind, Leaf, List, Node, Object, Source};
