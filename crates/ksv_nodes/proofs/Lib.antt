@@ -1,2 +1,4 @@
 -- The lemmas on readings, rules and turns.
 pub mod First
+pub mod Turns
+pub mod Truth
