@@ -1,5 +1,6 @@
 -- The definitions of node rules.
 pub mod Sites
+pub mod Told
 pub mod Fields
 pub mod Integers
 pub mod Wanted
