@@ -2,3 +2,7 @@
 pub mod First
 pub mod Turns
 pub mod Truth
+pub mod Looks
+pub mod Ranges
+pub mod Local
+pub mod Bounds
