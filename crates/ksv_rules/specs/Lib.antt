@@ -11,3 +11,4 @@ pub mod Served
 pub mod Meaning
 pub mod FromNothing
 pub mod Described
+pub mod Bounds
