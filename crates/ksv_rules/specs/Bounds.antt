@@ -1,17 +1,23 @@
 -- How many nodes a rule asks: no more than the expressions of its attribute want, and four besides. So an engine that has so
 -- many replies for a node needs no further one.
-use Rattle.std.specs.Prelude.{ℕ, zero, suc, ◌+◌, ◌-◌, ◌==◌, ◌≤◌, nat_lt, Bool, true, false, ◌||◌, ℤ, pos, negsuc, List, [], ◌∷◌, length, slice_get, Option, Some, None, Result, if◌then◌else◌}
+use Rattle.std.specs.Prelude.{ℕ, zero, suc, ◌+◌, ◌-◌, ◌==◌, ◌≤◌, nat_lt, nat_le, Bool, true, false, ◌||◌, ℤ, pos, negsuc, List, [], ◌∷◌, length, slice_get, Option, Some, None, Result, if◌then◌else◌}
 use Rattle.std.specs.List.{sum_by}
 use Rattle.std.specs.Option.{option_map_or}
+use Rattle.std.specs.Str.{bytes_eq}
 use Rattle.std.proofs.Common.{arith}
 use Rattle.std.proofs.lemmas.List.Sums.{sum_by-cons}
 use Rattle.ksv_plan.specs.Plan.{Answer, Ran, Need, Failed, Done, bind, IsEnded}
 use Rattle.ksv_syntax.specs.Tree.{Tree}
+use Rattle.ksv_scope.specs.declared.order.ByteOrder.{ByteOrder}
+use Rattle.ksv_memo.specs.Meaning.{IsDone}
 use Rattle.ksv_expr.proofs.Wants.{value_asks}
 use Rattle.ksv_expr.specs.Evaluation.{most_wants}
 use Rattle.ksv_expr.specs.Trail.{Trail, parent, last}
 use Rattle.ksv_expr.specs.Heard.{Setting, Heard, Valued, Opened, Numbered, Decided, Read}
 use Rattle.ksv_expr.specs.Meaning.{value_of as value_in}
+use Rattle.ksv_expr.specs.Integers.{ranged}
+use Rattle.ksv_expr.specs.Encodings.{decoded}
+use Rattle.ksv_expr.specs.declared.encoding.Encoding.{Encoding}
 use Rattle.ksv_expr.specs.declared.fault.Fault.{Fault}
 use Rattle.ksv_expr.specs.declared.fault.FaultKind.TheVariants as kinds
 use Rattle.ksv_expr.specs.declared.step.Step.{Step}
@@ -23,8 +29,13 @@ use Rattle.ksv_expr.specs.declared.want.Want.{Want}
 use Rattle.ksv_expr.specs.declared.want.Want.TheVariants as wants
 use Rattle.ksv_schema.specs.Description.{Description, TypeOfObjects, MemberOfType, Kind, Given, InSequence, Positioned, Calculated, Field, Content, Choice, Always, Switch, Extent, Sized, ToEnd, ByItself, Repeat, Once, UntilEnd, Times, Until, Terminator}
 use Rattle.ksv_schema.specs.Description as contents
-use Rattle.ksv_nodes.proofs.Bounds.{nodes_more, nodes_bind, nodes_join, nodes_if, nodes_translate, head_nodes, value_nodes, end_nodes, rest_nodes, part_nodes}
+use Rattle.ksv_nodes.proofs.Bounds.{nodes_more, nodes_bind, nodes_join, nodes_if, nodes_translate, enough, head_nodes, value_nodes, end_nodes, rest_nodes, part_nodes}
 use Rattle.ksv_nodes.specs.Bounds.{NodesAtMost}
+use Rattle.ksv_nodes.specs.Turning.{State, fresh}
+use Rattle.ksv_nodes.specs.declared.node.Node.{Node}
+use Rattle.ksv_nodes.specs.declared.node.Kind.{Kind as NodeKind}
+use Rattle.ksv_nodes.specs.declared.node.Kind.TheVariants as nodes
+use Rattle.ksv_nodes.specs.declared.given.Given.{Given as Answered}
 use Rattle.ksv_nodes.specs.declared.given.Source.{Source}
 use Rattle.ksv_nodes.specs.declared.given.Leaf.{Leaf}
 use Rattle.ksv_nodes.specs.declared.given.Ending.{Ending}
@@ -38,9 +49,14 @@ use Rattle.ksv_nodes.specs.declared.given.Rested.{Rested}
 use Rattle.ksv_nodes.specs.declared.turn.Found.{Found}
 use Rattle.ksv_nodes.specs.declared.turn.Found.TheVariants as founds
 use Rattle.ksv_nodes.specs.Rule.{Rule, Here, raise, part, ask_head, ask_value, ask_end, ask_rest, finish, done, reach, peek, find}
-use Rattle.ksv_rules.specs.Described.{condition_wants, repeat_wants, extent_wants, field_wants, kind_wants, type_wants, most_asks}
-use Rattle.ksv_rules.specs.Fields.{members_of, is_attribute, behind, Sought, sought, in_sought, member_named, read_by, in_field, field_of}
+use Rattle.ksv_rules.specs.Described.{condition_wants, repeat_wants, extent_wants, field_wants, kind_wants, type_wants, most_asks, resumed, step_of}
+use Rattle.ksv_rules.specs.Fields.{members_of, is_attribute, behind, Sought, sought, in_sought, member_named, last_attribute, read_by, in_field, field_of}
 use Rattle.ksv_rules.specs.Wanted.{whole, in_object, wanted, expression, in_integer, in_truth, integer_of, truth_of, holds, in_size, size_of}
+use Rattle.ksv_rules.specs.Integers.{integer_value}
+use Rattle.ksv_rules.specs.Values.{in_number, number_in, number_value, fixed_value, cut_by, cut_bytes, bytes_value, in_text, cut_text, text_value, content_value, choice_value, leaf_value, value_at, value_of}
+use Rattle.ksv_rules.specs.Ends.{fields_end, object_end, part_rest, list_end, gone_end, place_of, start_of, behind_element, is_last, is_by_bytes, not_empty, element_end, end_at, end_of, next_rest, rest_behind, rest_from, in_whole_list, first_rest, whole_rest, rest_at, rest_of}
+use Rattle.ksv_rules.specs.Served.{is_served}
+use Rattle.ksv_rules.specs.Meaning.{meaning_of, served_rule, rule_of}
 use Rattle.ksv_rules.specs.Heads.{leaf, leaf_to_end, terminated_at, terminated, run_of, sized_leaf, bytes_at, sized_object, object_at, content_at, shape_at, in_count, count_of, counted, until_end, repeated, attribute_at, part_end, attribute_start, attribute_head, member_at, member_head, in_list, is_past, in_next, next_start, element_start, element_head, head_at, head_of}
 
 -- ---- what is found in a description wants no more than all of it
@@ -312,3 +328,210 @@ head_at_nodes d p (Some (steps.Index i)) = element_head_nodes d p (parent p) (pa
 pub head_of_nodes : (d : Description) (p : Trail) → NodesAtMost (2 + all_wants d) (head_of d p)
 unfolding head_of
 head_of_nodes d p = head_at_nodes d p (last p)
+
+-- ---- values
+
+in_number_nodes : (enum : Option ℕ) (n : Option ℤ) → NodesAtMost 0 (in_number enum n)
+in_number_nodes enum None = tt
+in_number_nodes enum (Some n) = tt
+
+number_in_nodes : (signed : Bool) (order : ByteOrder) (enum : Option ℕ) (bytes : List ℕ) → NodesAtMost 0 (number_in signed order enum bytes)
+number_in_nodes signed order enum bytes = nodes_if (nat_le (length bytes) 8) 0 _ _ (in_number_nodes enum (ranged (integer_value signed order bytes))) tt
+
+number_nodes : (l : Leaf) (signed : Bool) (order : ByteOrder) (enum : Option ℕ) → NodesAtMost 0 (number_value l signed order enum)
+unfolding number_value
+number_nodes l signed order enum = nodes_join (peek l.from l.to) _ 0 0 0 (omega arith) (λ bs. tt) (λ bs. number_in_nodes signed order enum bs)
+
+fixed_nodes : (l : Leaf) (expected : List ℕ) → NodesAtMost 0 (fixed_value l expected)
+unfolding fixed_value
+fixed_nodes l expected = nodes_join (peek l.from l.to) _ 0 0 0 (omega arith) (λ bs. tt) (λ bs. nodes_if (bytes_eq bs expected) 0 _ _ tt tt)
+
+cut_nodes : (l : Leaf) (t : Terminator) → NodesAtMost 0 (cut_bytes l t)
+unfolding cut_bytes
+cut_nodes l t = nodes_join (peek l.from l.to) _ 0 0 0 (omega arith) (λ bs. tt) (λ bs. tt)
+
+bytes_value_nodes : (l : Leaf) (t : Option Terminator) → NodesAtMost 0 (bytes_value l t)
+unfolding bytes_value
+bytes_value_nodes l None = tt
+bytes_value_nodes l (Some t) = cut_nodes l t
+
+in_text_nodes : (t : Option (List ℕ)) → NodesAtMost 0 (in_text t)
+in_text_nodes None = tt
+in_text_nodes (Some t) = tt
+
+text_nodes : (l : Leaf) (encoding : Encoding) (t : Option Terminator) → NodesAtMost 0 (text_value l encoding t)
+unfolding text_value
+text_nodes l encoding t = nodes_join (peek l.from l.to) _ 0 0 0 (omega arith) (λ bs. tt) (λ bs. in_text_nodes (decoded encoding (cut_text t bs)))
+
+content_value_nodes : (l : Leaf) (f : Field) (c : Content) → NodesAtMost 0 (content_value l f c)
+unfolding content_value
+content_value_nodes l f contents.Bytes = bytes_value_nodes l (cut_by f.extent f.terminator)
+content_value_nodes l f (contents.Fixed bs) = fixed_nodes l bs
+content_value_nodes l f (contents.Number signed size order enum) = number_nodes l signed order enum
+content_value_nodes l f (contents.Characters encoding) = text_nodes l encoding (cut_by f.extent f.terminator)
+content_value_nodes l f (contents.Object t given) = tt
+
+choice_value_nodes : (l : Leaf) (f : Field) (c : Choice) → NodesAtMost 0 (choice_value l f c)
+unfolding choice_value
+choice_value_nodes l f (Always c) = content_value_nodes l f c
+choice_value_nodes l f (Switch on cases) = tt
+
+read_by_nodes : (k : Kind) → NodesAtMost 0 (read_by k)
+read_by_nodes (InSequence f) = tt
+read_by_nodes Given = tt
+read_by_nodes (Positioned place stream f) = tt
+read_by_nodes (Calculated c v e) = tt
+
+in_field_asks : (o : Option MemberOfType) → NodesAtMost 0 (in_field o)
+in_field_asks None = tt
+in_field_asks (Some m) = read_by_nodes m.kind
+
+leaf_value_nodes : (d : Description) (l : Leaf) → NodesAtMost 0 (leaf_value d l)
+unfolding leaf_value field_of
+leaf_value_nodes d l = nodes_join _ _ 0 0 0 (omega arith) (in_field_asks (slice_get (members_of d l.source.type_number) l.source.member)) (λ f. choice_value_nodes l f f.choice)
+
+value_at_nodes : (d : Description) (p : Trail) (h : Head) → NodesAtMost 0 (value_at d p h)
+unfolding value_at
+value_at_nodes d p (heads.Gone at) = tt
+value_at_nodes d p (heads.Leaf l) = leaf_value_nodes d l
+value_at_nodes d p (heads.Object o) = tt
+value_at_nodes d p (heads.List g) = tt
+
+value_of_nodes : (d : Description) (p : Trail) → NodesAtMost 1 (value_of d p)
+unfolding value_of
+value_of_nodes d p = nodes_join _ _ 1 1 0 (omega arith) (head_nodes p) (λ h. value_at_nodes d p h)
+
+-- ---- ends
+
+fields_end_nodes : (p : Trail) (start : ℕ) (z : Option ℕ) → NodesAtMost 1 (fields_end p start z)
+unfolding fields_end
+fields_end_nodes p start None = tt
+fields_end_nodes p start (Some z) = nodes_join _ _ 1 1 0 (omega arith) (part_end_nodes p (steps.Name z)) (λ e. tt)
+
+object_end_nodes : (d : Description) (p : Trail) (o : Object) (e : Ending) → NodesAtMost 1 (object_end d p o e)
+unfolding object_end
+object_end_nodes d p o (endings.At e) = tt
+object_end_nodes d p o endings.OfStream = λ n. tt
+object_end_nodes d p o endings.ByFields = fields_end_nodes p o.start (last_attribute None (members_of d o.type_number))
+
+part_rest_nodes : (p : Trail) (step : Step) → NodesAtMost 1 (part_rest p step)
+unfolding part_rest
+part_rest_nodes p step = nodes_join _ _ 1 0 1 (omega arith) (part_nodes p step) (λ q. rest_nodes q)
+
+list_end_nodes : (p : Trail) → NodesAtMost 1 (list_end p)
+unfolding list_end
+list_end_nodes p = nodes_join _ _ 1 1 0 (omega arith) (part_rest_nodes p (steps.Index 0)) (λ r. tt)
+
+gone_end_nodes : (at : Option ℕ) → NodesAtMost 1 (gone_end at)
+gone_end_nodes None = tt
+gone_end_nodes (Some s) = tt
+
+place_nodes : (d : Description) (p : Trail) (h : Head) → NodesAtMost 1 (place_of d p h)
+unfolding place_of
+place_nodes d p (heads.Gone at) = gone_end_nodes at
+place_nodes d p (heads.Leaf l) = tt
+place_nodes d p (heads.Object o) = object_end_nodes d p o o.ending
+place_nodes d p (heads.List g) = list_end_nodes p
+
+is_last_nodes : (q : Trail) (g : lists.List) (p : Trail) (i e : ℕ) (r : Repeat) → NodesAtMost (repeat_wants r) (is_last q g p i e r)
+unfolding is_last
+is_last_nodes q g p i e Once = tt
+is_last_nodes q g p i e (Times n) = tt
+is_last_nodes q g p i e UntilEnd = λ b. tt
+is_last_nodes q g p i e (Until c) = truth_nodes (behind_element q g p i e) c
+
+not_empty_nodes : (r : Repeat) (start e : ℕ) → NodesAtMost 0 (not_empty r start e)
+unfolding not_empty
+not_empty_nodes r start e = nodes_if (is_by_bytes r) 0 _ _ (nodes_if (e == start) 0 _ _ tt tt) tt
+
+element_end_nodes : (d : Description) (p l q : Trail) (i : ℕ) (h : Head) (e : ℕ) → NodesAtMost (1 + all_wants d) (element_end d p l q i h e)
+unfolding element_end
+element_end_nodes d p l q i h e =
+    nodes_join _ _ (1 + all_wants d) 1 (all_wants d) (omega arith) (head_nodes l) (λ k.
+    nodes_join _ _ (all_wants d) 0 (all_wants d) (omega arith) (in_list_nodes l k) (λ g.
+    field_nodes 0 (all_wants d) d g.source _ (omega arith) (λ f.
+    nodes_join _ _ (0 + field_wants f) 0 (field_wants f) (omega arith) (not_empty_nodes f.repeat (start_of h) e) (λ u.
+    nodes_join _ _ (field_wants f) (repeat_wants f.repeat) 0 (omega arith) (is_last_nodes q g p i e f.repeat) (λ b. tt)))))
+
+end_at_nodes : (d : Description) (p : Trail) (step : Option Step) (h : Head) (e : ℕ) → NodesAtMost (1 + all_wants d) (end_at d p step h e)
+end_at_nodes d p None h e = tt
+end_at_nodes d p (Some (steps.Name x)) h e = tt
+end_at_nodes d p (Some (steps.Index i)) h e = element_end_nodes d p (parent p) (parent (parent p)) i h e
+
+end_of_nodes : (d : Description) (p : Trail) → NodesAtMost (3 + all_wants d) (end_of d p)
+unfolding end_of
+end_of_nodes d p =
+    nodes_join _ _ (3 + all_wants d) 1 (2 + all_wants d) (omega arith) (head_nodes p) (λ h.
+    nodes_join _ _ (2 + all_wants d) 1 (1 + all_wants d) (omega arith) (place_nodes d p h) (λ e.
+    end_at_nodes d p (last p) h e))
+
+-- ---- rests
+
+next_rest_nodes : (l : Trail) (i : ℕ) → NodesAtMost 1 (next_rest l i)
+unfolding next_rest
+next_rest_nodes l i = nodes_if (i + 1 == 1048576) 1 _ _ tt (part_rest_nodes l (steps.Index (i + 1)))
+
+rest_behind_nodes : (l : Trail) (i : ℕ) (e : Ended) → NodesAtMost 1 (rest_behind l i e)
+rest_behind_nodes l i e = nodes_if e.last 1 _ _ tt (next_rest_nodes l i)
+
+rest_from_nodes : (p l : Trail) (i : ℕ) → NodesAtMost 2 (rest_from p l i)
+unfolding rest_from
+rest_from_nodes p l i = nodes_join _ _ 2 1 1 (omega arith) (end_nodes p) (λ e. rest_behind_nodes l i e)
+
+in_whole_list_nodes : (l : Trail) (h : Head) → NodesAtMost 0 (in_whole_list l h)
+in_whole_list_nodes l (heads.List g) = tt
+in_whole_list_nodes l (heads.Gone at) = tt
+in_whole_list_nodes l (heads.Leaf b) = tt
+in_whole_list_nodes l (heads.Object o) = tt
+
+first_rest_nodes : (p l : Trail) (g : lists.List) → NodesAtMost 2 (first_rest p l g)
+first_rest_nodes p l g = nodes_if g.is_empty 2 _ _ tt (rest_from_nodes p l 0)
+
+whole_rest_nodes : (p l : Trail) → NodesAtMost 3 (whole_rest p l)
+unfolding whole_rest
+whole_rest_nodes p l =
+    nodes_join _ _ 3 1 2 (omega arith) (head_nodes l) (λ h.
+    nodes_join _ _ 2 0 2 (omega arith) (in_whole_list_nodes l h) (λ g. first_rest_nodes p l g))
+
+rest_at_nodes : (p : Trail) (step : Option Step) → NodesAtMost 3 (rest_at p step)
+rest_at_nodes p None = tt
+rest_at_nodes p (Some (steps.Name x)) = tt
+rest_at_nodes p (Some (steps.Index i)) = nodes_if (i == 0) 3 _ _ (whole_rest_nodes p (parent p)) (nodes_more 2 3 _ (omega arith) (rest_from_nodes p (parent p) i))
+
+rest_of_nodes : (d : Description) (p : Trail) → NodesAtMost 3 (rest_of d p)
+unfolding rest_of
+rest_of_nodes d p = rest_at_nodes p (last p)
+
+-- ---- nodes
+
+meaning_nodes : (d : Description) (k : NodeKind) (p : Trail) → NodesAtMost (4 + all_wants d) (meaning_of d k p)
+unfolding meaning_of
+meaning_nodes d nodes.Head p = nodes_join _ _ (4 + all_wants d) (2 + all_wants d) 0 (omega arith) (head_of_nodes d p) (λ h. tt)
+meaning_nodes d nodes.Value p = nodes_join _ _ (4 + all_wants d) 1 0 (omega arith) (value_of_nodes d p) (λ v. tt)
+meaning_nodes d nodes.End p = nodes_join _ _ (4 + all_wants d) (3 + all_wants d) 0 (omega arith) (end_of_nodes d p) (λ e. tt)
+meaning_nodes d nodes.Rest p = nodes_join _ _ (4 + all_wants d) 3 0 (omega arith) (rest_of_nodes d p) (λ r. tt)
+
+-- a rule asks no more nodes than this
+pub rule_nodes : (d : Description) (n : Node) → NodesAtMost (most_asks d) (rule_of d n)
+unfolding rule_of served_rule most_asks
+rule_nodes d n = nodes_if (is_served d) (4 + all_wants d) _ _ (meaning_nodes d n.kind n.path) tt
+
+done_of : (r : Ran Node Fault State Answered) → IsEnded r → IsDone (step_of r)
+done_of (Need n s) h = h
+done_of (Failed f s) h = tt
+done_of (Done g s) h = tt
+
+-- with so many replies, true or not, a node is done
+pub settles : (d : Description) (bytes : List ℕ) (n : Node) (replies : List (Result Answered Fault)) → most_asks d ≤ length replies → IsDone (step_of (resumed d bytes n replies))
+settles d bytes n replies h = done_of (resumed d bytes n replies) (enough (most_asks d) (rule_of d n) (fresh n.path bytes replies) (rule_nodes d n) h)
+
+-- ---- laws
+
+-- Each rule of a description asks a number of nodes that the description tells, whatever nodes answer and bytes say; so a node
+-- that has as many replies, true or not, is done.
+pub record AreRulesBounded (d : Description) (n : Node) : Type 0 where
+  pub asks : NodesAtMost (most_asks d) (rule_of d n)
+  pub settles : (bytes : List ℕ) (replies : List (Result Answered Fault)) → most_asks d ≤ length replies → IsDone (step_of (resumed d bytes n replies))
+
+abbrev pub RulesAreBounded : Type 0
+RulesAreBounded = (d : Description) (n : Node) → AreRulesBounded d n
