@@ -13,3 +13,4 @@ pub mod Meaning
 pub mod FromNothing
 pub mod Described
 pub mod Bounds
+pub mod PathTexts
