@@ -1,4 +1,5 @@
--- The lemmas of the crate.
+-- The lemmas of this crate.
+pub mod Evaluating
 pub mod Cuts
 pub mod Digits
 pub mod PathTexts

@@ -5,9 +5,12 @@
 #![tactic(auto)]
 
 mod evaluation;
+mod fields;
+mod heads;
 mod path_text;
 mod serving;
 mod site;
+mod wanted;
 
 pub use ksv_nodes::{Ending, Given, Head, Kind, Leaf, List, Node, Object, Source};
 pub use path_text::path_of;
