@@ -7,11 +7,13 @@
 mod evaluation;
 mod fields;
 mod heads;
+mod laws;
 mod path_text;
 mod serving;
 mod site;
 mod wanted;
 
 pub use ksv_nodes::{Ending, Given, Head, Kind, Leaf, List, Node, Object, Source};
+pub use laws::{evaluation_is_direct, next_meets_truth};
 pub use path_text::path_of;
 pub use serving::served;
