@@ -10,5 +10,6 @@ pub mod Ends
 pub mod Served
 pub mod Meaning
 pub mod FromNothing
+pub mod Expressions
 pub mod Described
 pub mod Bounds

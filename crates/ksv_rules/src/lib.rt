@@ -5,6 +5,8 @@
 #![tactic(auto)]
 
 mod evaluation;
+mod expression_laws;
 mod site;
 
+pub use expression_laws::{expressions_are_met, rules_are_bounded};
 pub use ksv_nodes::{Ending, Given, Head, Kind, Leaf, List, Node, Object, Source};
