@@ -3,7 +3,8 @@
 ghost use Rattle.ksv_rules.specs.Bounds.{RulesAreBounded};
 ghost use Rattle.ksv_rules.specs.Expressions.{ExpressionsAreMet};
 
-/// An expression in a rule means what `ksv_expr` says, each of its wants answered as the rules answer it.
+/// An expression in a rule means what `ksv_expr` says, each of its wants answered as the rules answer it. It asks and uses what
+/// its wants do, one after the other.
 pub fn expressions_are_met()
     ensures { ExpressionsAreMet }
 {}
