@@ -3,3 +3,4 @@ pub mod Evaluating
 pub mod Cuts
 pub mod Digits
 pub mod PathTexts
+pub mod Meeting

@@ -8,8 +8,10 @@ mod evaluation;
 mod fields;
 mod heads;
 mod path_text;
+mod expression_laws;
 mod site;
 mod wanted;
 
+pub use expression_laws::{expressions_are_met, rules_are_bounded};
 pub use ksv_nodes::{Ending, Given, Head, Kind, Leaf, List, Node, Object, Source};
 pub use path_text::path_of;
