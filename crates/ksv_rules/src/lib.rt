@@ -4,7 +4,15 @@
 //! replies that it had. An engine (`ksv_memo`) calls the rules and keeps what they answer.
 #![tactic(auto)]
 
+mod ends;
 mod evaluation;
+mod fields;
+mod heads;
+mod integer;
+mod parts;
+mod rules;
 mod site;
+mod values;
+mod wanted;
 
 pub use ksv_nodes::{Ending, Given, Head, Kind, Leaf, List, Node, Object, Source};

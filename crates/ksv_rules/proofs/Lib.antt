@@ -1,0 +1,3 @@
+-- The lemmas on node rules.
+pub mod Integers
+pub mod Peeked
