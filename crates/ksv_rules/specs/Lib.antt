@@ -1,6 +1,7 @@
 -- The definitions of node rules.
 pub mod Sites
 pub mod Fields
+pub mod Members
 pub mod Integers
 pub mod Wanted
 pub mod Heads

@@ -10,11 +10,7 @@ use ksv_expr::{Expr, Value};
 use ksv_nodes::{Stop, Turn};
 
 /// The value of an expression: it is evaluated anew with one answer more, until it wants none.
-pub(crate) fn value_of_expression(
-    turn: &mut Turn,
-    site: Site,
-    expr: &Expr,
-) -> Result<Value, Stop>
+pub(crate) fn value_of_expression(turn: &mut Turn, site: Site, expr: &Expr) -> Result<Value, Stop>
     ensures { Runs (expression (setting_of site.entry) (view expr.now)) (λ v. v) turn.old turn.new result }
 {
     Err(Stop::Memory)
