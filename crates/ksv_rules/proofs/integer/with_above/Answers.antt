@@ -1,4 +1,4 @@
-use Rattle.std.proofs.Common.{◌<◌, ◌+◌, ◌*◌, ◌%◌, ◌^◌, arith}
+use Rattle.std.proofs.Common.{◌<◌, ◌+◌, ◌*◌, ◌%◌, ◌^◌}
 use Rattle.ksv_rules.proofs.Integers.{sum_fits, byte_unit}
 use Rattle.ksv_rules.proofs.integer.with_above.Goals as goal
 
