@@ -4,12 +4,17 @@
 //! replies that it had. An engine (`ksv_memo`) calls the rules and keeps what they answer.
 #![tactic(auto)]
 
+mod ends;
 mod evaluation;
 mod fields;
 mod heads;
 mod path_text;
 mod expression_laws;
+mod integer;
+mod parts;
+mod rules;
 mod site;
+mod values;
 mod wanted;
 
 pub use expression_laws::{expressions_are_met, rules_are_bounded};
