@@ -7,3 +7,4 @@ pub mod Meeting
 -- The lemmas on node rules.
 pub mod Integers
 pub mod Peeked
+pub mod ServedForms

@@ -15,3 +15,4 @@ pub mod Expressions
 pub mod Described
 pub mod Bounds
 pub mod PathTexts
+pub mod ServedCode
