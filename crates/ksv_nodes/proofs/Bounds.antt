@@ -1,14 +1,13 @@
 -- How many nodes rules ask, and that a run with as many replies has no open question.
 use Rattle.std.proofs.Common.{◌≡◌, ℕ, zero, suc, ◌+◌, ◌≤◌, Bool, true, false, if◌then◌else◌, List, [], ◌∷◌, ◌++◌, length, Option, Some, None, Result, Ok, Err, sym, subst, arith}
-use Rattle.ksv_plan.specs.Plan.{Plan, Answer, Fail, Ask, bind, translate, AsksAtMost, Ran, Need, Failed, Done, next, run, IsEnded}
-use Rattle.ksv_bytes.specs.declared.uses.Use.{Use}
+use Rattle.ksv_plan.specs.Plan.{Plan, Answer, Fail, Ask, bind, translate, AsksAtMost, next, run, IsEnded}
 use Rattle.ksv_expr.specs.Trail.{Trail, child}
 use Rattle.ksv_expr.specs.declared.fault.Fault.{Fault}
 use Rattle.ksv_expr.specs.declared.step.Step.{Step}
 use Rattle.ksv_nodes.specs.declared.given.Given.{Given}
 use Rattle.ksv_nodes.specs.declared.given.Given.TheVariants as givens
 use Rattle.ksv_nodes.specs.declared.node.Node.{Node}
-use Rattle.ksv_nodes.specs.Reading.{Reading, Seen, look}
+use Rattle.ksv_nodes.specs.Reading.{look}
 use Rattle.ksv_nodes.specs.Rule.{Rule, Raised, Of, See, ask_head, ask_value, ask_end, ask_rest, in_path, part}
 use Rattle.ksv_nodes.specs.Turning.{State, replied, seen_in, turns}
 use Rattle.ksv_nodes.specs.Bounds.{NodesAtMost}

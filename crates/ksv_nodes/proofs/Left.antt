@@ -1,6 +1,6 @@
 -- What is left of a rule behind the replies that it had.
 use Rattle.std.proofs.Common.{◌≡◌, ℕ, List, [], ◌∷◌, ◌++◌, Option, Some, None, Result, Ok, Err, refl, sym, ap, ◌∙◌, append_assoc, append-nil}
-use Rattle.ksv_plan.specs.Plan.{Answer, Fail, Ask, Ran, Need, Failed, Done, next, run}
+use Rattle.ksv_plan.specs.Plan.{Answer, Fail, Ask, Need, next, run}
 use Rattle.ksv_bytes.specs.declared.uses.Use.{Use}
 use Rattle.ksv_expr.specs.Trail.{Trail}
 use Rattle.ksv_expr.specs.declared.fault.Fault.{Fault}
@@ -8,7 +8,7 @@ use Rattle.ksv_nodes.specs.declared.given.Given.{Given}
 use Rattle.ksv_nodes.specs.declared.node.Node.{Node}
 use Rattle.ksv_nodes.specs.Reading.{Reading, Seen, look}
 use Rattle.ksv_nodes.specs.Rule.{Rule, Of, See}
-use Rattle.ksv_nodes.specs.Turning.{State, seen_in, replied, turns}
+use Rattle.ksv_nodes.specs.Turning.{State, seen_in, turns}
 
 module _ (here : Trail) (bytes : List ℕ) where
   abbrev pub at : List (Result Given Fault) → List Use → State

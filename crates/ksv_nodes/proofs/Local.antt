@@ -1,13 +1,12 @@
 -- A run on bytes that agree on all that it used comes to the same, with the same uses.
 use Rattle.std.proofs.Common.{◌≡◌, List, [], ◌∷◌, ◌++◌, Option, Some, None, Result, Ok, Err, ℕ, refl, ap, subst, ◌∙◌}
-use Rattle.std.specs.List.{AllByRecursion}
-use Rattle.ksv_plan.specs.Plan.{Answer, Fail, Ask, Ran, Need, Failed, Done, next, run, behind}
+use Rattle.ksv_plan.specs.Plan.{Answer, Fail, Ask, next, run, behind}
 use Rattle.ksv_bytes.specs.declared.uses.Use.{Use}
 use Rattle.ksv_bytes.specs.Uses.{AgreeOn}
 use Rattle.ksv_expr.specs.declared.fault.Fault.{Fault}
 use Rattle.ksv_nodes.specs.declared.given.Given.{Given}
 use Rattle.ksv_nodes.specs.declared.node.Node.{Node}
-use Rattle.ksv_nodes.specs.Reading.{Reading, Seen, Look, look}
+use Rattle.ksv_nodes.specs.Reading.{Reading, Seen, look}
 use Rattle.ksv_nodes.specs.Rule.{Rule, Of, See, Here, There}
 use Rattle.ksv_nodes.specs.Turning.{State, seen_in, looked, replied, turns}
 use Rattle.ksv_nodes.specs.Laws.{state_on, ran_on}

@@ -1,18 +1,17 @@
 -- Readings on bytes that agree on what they rest on.
-use Rattle.std.proofs.Common.{◌≡◌, ℕ, suc, ◌+◌, ◌-◌, ◌≤◌, ◌<◌, min, List, [], ◌∷◌, ◌++◌, length, take, drop, Option, Some, None, Bool, true, false, ◌&&◌, ◌==◌, nat_lt, nat_le, if◌then◌else◌, option_map, refl, sym, ap, ◌∙◌, arith, inl, inr}
+use Rattle.std.proofs.Common.{◌≡◌, ℕ, ◌+◌, ◌-◌, ◌≤◌, ◌<◌, min, List, [], ◌∷◌, ◌++◌, length, take, drop, Option, Some, None, Bool, true, false, ◌&&◌, ◌==◌, nat_lt, nat_le, if◌then◌else◌, option_map, refl, sym, ap, ◌∙◌, arith}
 use Rattle.std.specs.Prelude.{slice_range}
 use Rattle.std.specs.List.{AllByRecursion}
-use Rattle.std.proofs.lemmas.Bool.{le-leb, eqb-true, ltb-true, leb-true, cases_lt}
+use Rattle.std.proofs.lemmas.Bool.{le-leb, eqb-true}
 use Rattle.std.proofs.lemmas.Bool.Decides.{nat_tests}
 use Rattle.std.proofs.lemmas.List.{take-take, take-append-drop, length-take, length-drop}
 use Rattle.ksv_bytes.specs.declared.uses.Use.{Use}
 use Rattle.ksv_bytes.specs.declared.uses.Use.TheVariants as uses
 use Rattle.ksv_bytes.specs.Uses.{AgreeOn}
-use Rattle.ksv_expr.specs.declared.value.Stream.{Stream}
 use Rattle.ksv_nodes.specs.declared.turn.Found.{Found}
 use Rattle.ksv_nodes.specs.declared.turn.Found.TheVariants as founds
-use Rattle.ksv_nodes.specs.Reading.{Reading, Reach, Finish, Done, Peek, Find, Seen, Look, gives, ends_before, reach_file, reach_within, finish_of, done_at, cut_uses, peek_at, first_at, end_in, found_none, found_from, find_at, look}
-use Rattle.ksv_nodes.proofs.First.{moved_on, or_behind, first_at_append, first_at_below, range_cut, range_none}
+use Rattle.ksv_nodes.specs.Reading.{Reading, Reach, Finish, Done, Peek, Find, Look, gives, ends_before, reach_file, reach_within, finish_of, done_at, cut_uses, peek_at, first_at, end_in, found_none, found_from, find_at, look}
+use Rattle.ksv_nodes.proofs.First.{or_behind, first_at_append, first_at_below, range_cut, range_none}
 
 -- uses of a beginning, and of an end
 pub all_front : {X : Type 0} (P : X → Type 0) (us vs : List X) → AllByRecursion P (us ++ vs) → AllByRecursion P us

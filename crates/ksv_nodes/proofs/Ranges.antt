@@ -1,17 +1,16 @@
 -- What a run uses fits the bytes: a used range isn't empty, and the bytes reach each used place.
-use Rattle.std.proofs.Common.{◌≡◌, ℕ, suc, ◌+◌, ◌≤◌, ◌<◌, List, [], ◌∷◌, ◌++◌, length, Option, Some, None, Result, Ok, Err, Bool, true, false, ◌&&◌, ◌==◌, nat_lt, nat_le, if◌then◌else◌, refl, arith}
+use Rattle.std.proofs.Common.{◌≡◌, ℕ, ◌+◌, ◌<◌, List, [], ◌∷◌, ◌++◌, length, Option, Some, None, Result, Ok, Err, Bool, true, false, ◌&&◌, ◌==◌, nat_lt, nat_le, if◌then◌else◌, refl, arith}
 use Rattle.std.specs.Prelude.{slice_range}
 use Rattle.std.specs.List.{AllByRecursion}
 use Rattle.std.proofs.lemmas.Bool.{leb-true, ltb-true}
-use Rattle.std.proofs.lemmas.Bool.Decides.{nat_tests}
-use Rattle.ksv_plan.specs.Plan.{Answer, Fail, Ask, Ran, next, run, behind}
+use Rattle.ksv_plan.specs.Plan.{Answer, Fail, Ask, next, run, behind}
 use Rattle.ksv_bytes.specs.declared.uses.Use.{Use}
 use Rattle.ksv_bytes.specs.declared.uses.Use.TheVariants as uses
 use Rattle.ksv_bytes.specs.Uses.{CanUse}
 use Rattle.ksv_expr.specs.declared.fault.Fault.{Fault}
 use Rattle.ksv_nodes.specs.declared.given.Given.{Given}
 use Rattle.ksv_nodes.specs.declared.node.Node.{Node}
-use Rattle.ksv_nodes.specs.Reading.{Reading, Reach, Finish, Done, Peek, Find, Seen, Look, gives, ends_before, reach_file, reach_within, finish_of, done_at, cut_uses, peek_at, first_at, end_in, found_none, found_from, find_at, look}
+use Rattle.ksv_nodes.specs.Reading.{Reading, Reach, Finish, Done, Peek, Find, gives, ends_before, reach_file, reach_within, finish_of, done_at, cut_uses, peek_at, first_at, end_in, found_none, found_from, find_at, look}
 use Rattle.ksv_nodes.specs.Rule.{Rule, Of, See}
 use Rattle.ksv_nodes.specs.Turning.{State, replied, seen_in, turns}
 use Rattle.ksv_nodes.proofs.First.{first_at_below}

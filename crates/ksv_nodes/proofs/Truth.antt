@@ -1,7 +1,7 @@
 -- With true replies a rule asks what it asks where each node has its answer, uses what it uses there, and answers what it
 -- answers there.
-use Rattle.std.proofs.Common.{◌≡◌, ℕ, zero, suc, ◌+◌, ◌≤◌, ◌<◌, List, [], ◌∷◌, ◌++◌, length, map, take, slice_get, Result, Ok, Err, Option, Some, None, refl, sym, ap, ◌∙◌, arith, append_assoc, append-nil}
-use Rattle.ksv_plan.specs.Plan.{Answer, Fail, Ask, Ran, Need, Failed, Done, next, run, behind}
+use Rattle.std.proofs.Common.{◌≡◌, ℕ, zero, suc, ◌<◌, List, [], ◌∷◌, ◌++◌, length, map, take, slice_get, Result, Ok, Err, Option, Some, None, refl, sym, ap, ◌∙◌, arith, append_assoc, append-nil}
+use Rattle.ksv_plan.specs.Plan.{Answer, Fail, Ask, Need, next, run}
 use Rattle.ksv_plan.specs.Asking.{ended}
 use Rattle.ksv_bytes.specs.declared.uses.Use.{Use}
 use Rattle.ksv_expr.specs.Trail.{Trail}
@@ -10,7 +10,7 @@ use Rattle.ksv_expr.specs.declared.fault.FaultKind.TheVariants as kinds
 use Rattle.ksv_nodes.specs.declared.given.Given.{Given}
 use Rattle.ksv_nodes.specs.declared.node.Node.{Node}
 use Rattle.ksv_nodes.specs.Reading.{Reading, Seen, look}
-use Rattle.ksv_nodes.specs.Rule.{Rule, Of, See, Here, There}
+use Rattle.ksv_nodes.specs.Rule.{Rule, Of, See}
 use Rattle.ksv_nodes.specs.Turning.{State, fault_at, raised, replied, seen_in, turns}
 use Rattle.ksv_nodes.specs.Truth.{answer_of, asks_of, uses_of, with_given, with_seen, behind_given, behind_seen}
 

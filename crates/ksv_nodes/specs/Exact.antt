@@ -1,10 +1,9 @@
 -- Nodes that `==` finds equal are the same node.
-use Rattle.std.specs.Prelude.{◌≡◌, Bool, true, refl}
+use Rattle.std.specs.Prelude.{◌≡◌, true}
 use Rattle.std.proofs.Common.{rules}
 use denote.Enum.Bare.{same_true}
 use Rattle.ksv_nodes.specs.contracts.node.Kind.{the_type}
 use Rattle.std.specs.Cmp.{first_so, second_so}
-use Rattle.ksv_expr.specs.Trail.{Trail}
 use Rattle.ksv_expr.specs.Exact.{path_exact}
 use Rattle.ksv_expr.specs.contracts.path.PathPartialEq.TheImpl.{ghosts as path_tests}
 use Rattle.ksv_nodes.specs.contracts.node.KindPartialEq.TheImpl.{ghosts as kind_tests}

@@ -160,16 +160,20 @@ fn readings_give_and_rest(rt: HostRuntime) -> Result<(), Fail> {
     Ok(())
 }
 
-/// One reply of each form.
+/// One reply of each form, each a copy.
 fn replies(alloc: Global) -> Result<Vec<Result<Given, Fault>>, Fail> {
     let mut replies = Vec::new(alloc);
-    replies.push(Ok(Given::Head(Head::Gone(Some(3)))))?;
-    replies.push(Ok(Given::Value(Value::Bool(true))))?;
-    replies.push(Ok(Given::End {
-        place: 5,
-        last: true,
-    }))?;
-    replies.push(Ok(Given::Rest { count: 2, place: 9 }))?;
+    for given in &[
+        Given::Head(Head::Gone(Some(3))),
+        Given::Value(Value::Bool(true)),
+        Given::End {
+            place: 5,
+            last: true,
+        },
+        Given::Rest { count: 2, place: 9 },
+    ] {
+        replies.push(Ok(given.copy(alloc)?))?;
+    }
     Ok(replies)
 }
 
@@ -297,31 +301,12 @@ fn last_name(count: u32) -> Option<Step> {
 }
 
 #[test]
-fn copies_are_the_same(rt: HostRuntime) -> Result<(), Fail> {
+fn a_copy_of_a_node_is_the_same(rt: HostRuntime) -> Result<(), Fail> {
     let alloc = rt.alloc();
-    let node = Node {
-        kind: Kind::Rest,
-        path: turn_part(alloc, &Path::root(alloc), Step::Index(7))?,
-    };
+    let path = turn_part(alloc, &Path::root(alloc), Step::Index(7))?;
+    let kind = Kind::Rest;
+    let node = Node { kind, path };
     assert!(rt; node.copy(alloc)? == node);
-    for reply in &replies(alloc)? {
-        if let Ok(given) = reply {
-            let is_same = match (given, &given.copy(alloc)?) {
-                (Given::Head(head), Given::Head(copy)) => head == copy,
-                (Given::Value(Value::Bool(truth)), Given::Value(Value::Bool(copy))) => {
-                    truth == copy
-                }
-                (Given::End { place, last }, Given::End { place: p, last: l }) => {
-                    place == p && last == l
-                }
-                (Given::Rest { count, place }, Given::Rest { count: c, place: p }) => {
-                    count == c && place == p
-                }
-                _ => false,
-            };
-            assert!(rt; is_same);
-        }
-    }
     Ok(())
 }
 

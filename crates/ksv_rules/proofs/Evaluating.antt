@@ -1,6 +1,6 @@
 -- An expression whose wants are met one after another.
-use Rattle.std.proofs.Common.{◌≡◌, ℕ, ◌≤◌, List, [], ◌∷◌, ◌++◌, Result, Ok, Err, refl, sym, ap, ◌∙◌, append_assoc, append-nil}
-use Rattle.ksv_plan.specs.Plan.{Answer, Fail, Ask, Ran, Need, Failed, Done, next, run, translate}
+use Rattle.std.proofs.Common.{◌≡◌, List, [], ◌∷◌, ◌++◌, Result, Ok, Err, refl, sym, ap, ◌∙◌, append_assoc, append-nil}
+use Rattle.ksv_plan.specs.Plan.{Answer, Fail, Ask, Done, next, run, translate}
 use Rattle.ksv_plan.proofs.Running.{run_bind}
 use Rattle.ksv_syntax.specs.Tree.{Tree}
 use Rattle.ksv_expr.specs.Heard.{Setting, Heard}

@@ -6,20 +6,19 @@ use Rattle.std.specs.Option.{option_map_or}
 use Rattle.std.specs.Str.{bytes_eq}
 use Rattle.std.proofs.Common.{arith}
 use Rattle.std.proofs.lemmas.List.Sums.{sum_by-cons}
-use Rattle.ksv_plan.specs.Plan.{Answer, Ran, Need, Failed, Done, bind, IsEnded}
+use Rattle.ksv_plan.specs.Plan.{Ran, Need, Failed, Done, bind, IsEnded}
 use Rattle.ksv_syntax.specs.Tree.{Tree}
 use Rattle.ksv_scope.specs.declared.order.ByteOrder.{ByteOrder}
 use Rattle.ksv_memo.specs.Meaning.{IsDone}
 use Rattle.ksv_expr.proofs.Wants.{value_asks}
 use Rattle.ksv_expr.specs.Evaluation.{most_wants}
 use Rattle.ksv_expr.specs.Trail.{Trail, parent, last}
-use Rattle.ksv_expr.specs.Heard.{Setting, Heard, Valued, Opened, Numbered, Decided, Read}
+use Rattle.ksv_expr.specs.Heard.{Setting}
 use Rattle.ksv_expr.specs.Meaning.{value_of as value_in}
 use Rattle.ksv_expr.specs.Integers.{ranged}
 use Rattle.ksv_expr.specs.Encodings.{decoded}
 use Rattle.ksv_expr.specs.declared.encoding.Encoding.{Encoding}
 use Rattle.ksv_expr.specs.declared.fault.Fault.{Fault}
-use Rattle.ksv_expr.specs.declared.fault.FaultKind.TheVariants as kinds
 use Rattle.ksv_expr.specs.declared.step.Step.{Step}
 use Rattle.ksv_expr.specs.declared.step.Step.TheVariants as steps
 use Rattle.ksv_expr.specs.declared.value.Stream.{Stream}
@@ -29,7 +28,7 @@ use Rattle.ksv_expr.specs.declared.want.Want.{Want}
 use Rattle.ksv_expr.specs.declared.want.Want.TheVariants as wants
 use Rattle.ksv_schema.specs.Description.{Description, TypeOfObjects, MemberOfType, Kind, Given, InSequence, Positioned, Calculated, Field, Content, Choice, Always, Switch, Extent, Sized, ToEnd, ByItself, Repeat, Once, UntilEnd, Times, Until, Terminator}
 use Rattle.ksv_schema.specs.Description as contents
-use Rattle.ksv_nodes.proofs.Bounds.{nodes_more, nodes_bind, nodes_join, nodes_if, nodes_translate, enough, head_nodes, value_nodes, end_nodes, rest_nodes, part_nodes}
+use Rattle.ksv_nodes.proofs.Bounds.{nodes_more, nodes_join, nodes_if, nodes_translate, enough, head_nodes, value_nodes, end_nodes, rest_nodes, part_nodes}
 use Rattle.ksv_nodes.specs.Bounds.{NodesAtMost}
 use Rattle.ksv_nodes.specs.Turning.{State, fresh}
 use Rattle.ksv_nodes.specs.declared.node.Node.{Node}
@@ -45,12 +44,11 @@ use Rattle.ksv_nodes.specs.declared.given.List as lists
 use Rattle.ksv_nodes.specs.declared.given.Head.{Head}
 use Rattle.ksv_nodes.specs.declared.given.Head.TheVariants as heads
 use Rattle.ksv_nodes.specs.declared.given.Ended.{Ended}
-use Rattle.ksv_nodes.specs.declared.given.Rested.{Rested}
 use Rattle.ksv_nodes.specs.declared.turn.Found.{Found}
 use Rattle.ksv_nodes.specs.declared.turn.Found.TheVariants as founds
-use Rattle.ksv_nodes.specs.Rule.{Rule, Here, raise, part, ask_head, ask_value, ask_end, ask_rest, finish, done, reach, peek, find}
+use Rattle.ksv_nodes.specs.Rule.{Rule, Here, finish, done, reach, peek, find}
 use Rattle.ksv_rules.specs.Described.{condition_wants, repeat_wants, extent_wants, field_wants, kind_wants, type_wants, most_asks, resumed, step_of}
-use Rattle.ksv_rules.specs.Fields.{members_of, is_attribute, behind, Sought, sought, in_sought, member_named, last_attribute, read_by, in_field, field_of}
+use Rattle.ksv_rules.specs.Fields.{members_of, behind, Sought, sought, in_sought, member_named, last_attribute, read_by, in_field, field_of}
 use Rattle.ksv_rules.specs.Wanted.{whole, in_object, wanted, expression, in_integer, in_truth, integer_of, truth_of, holds, in_size, size_of}
 use Rattle.ksv_rules.specs.Integers.{integer_value}
 use Rattle.ksv_rules.specs.Values.{in_number, number_in, number_value, fixed_value, cut_by, cut_bytes, bytes_value, in_text, cut_text, text_value, content_value, choice_value, leaf_value, value_at, value_of}

@@ -11,6 +11,7 @@ pub mod Ends
 pub mod Served
 pub mod Meaning
 pub mod FromNothing
+pub mod Expressions
 pub mod Described
 pub mod Bounds
 pub mod PathTexts
