@@ -17,3 +17,4 @@ pub mod Bounds
 pub mod Lawful
 pub mod PathTexts
 pub mod ServedCode
+pub mod Direct
