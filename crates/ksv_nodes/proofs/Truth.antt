@@ -29,13 +29,13 @@ module _ (met : Node → Result Given Fault) (here : Trail) (bytes : List ℕ) w
 
   given_ends : {A : Type 0} (n : Node) (k : Given → Rule A) → ((g : Given) → Ends (k g)) → (more : List (Result Given Fault)) (us : List Use) (x : Result Given Fault)
       → next (replied n (x ∷ (map met (behind_given x (λ g. asks_of met here bytes (k g))) ++ more)) (at (x ∷ (map met (behind_given x (λ g. asks_of met here bytes (k g))) ++ more)) us)) (λ g s. run turns (k g) s)
-        ≡ ended (with_given x (λ g. answer_of met here bytes (k g))) (at more (us ++ behind_given x (λ g. uses_of met here bytes (k g))))
+      ≡ ended (with_given x (λ g. answer_of met here bytes (k g))) (at more (us ++ behind_given x (λ g. uses_of met here bytes (k g))))
   given_ends n k rest more us (Ok g) = rest g more us
   given_ends n k rest more us (Err f) = ended_same (Err f) more us
 
   seen_ends : {A X : Type 0} (k : X → Rule A) → ((x : X) → Ends (k x)) → (more : List (Result Given Fault)) (us vs : List Use) (o : Option X)
       → next (seen_in o (at (map met (behind_seen o (λ x. asks_of met here bytes (k x))) ++ more) (us ++ vs))) (λ x s. run turns (k x) s)
-        ≡ ended (with_seen here o (λ x. answer_of met here bytes (k x))) (at more (us ++ (vs ++ behind_seen o (λ x. uses_of met here bytes (k x)))))
+      ≡ ended (with_seen here o (λ x. answer_of met here bytes (k x))) (at more (us ++ (vs ++ behind_seen o (λ x. uses_of met here bytes (k x)))))
   seen_ends k rest more us vs (Some x) = rest x more (us ++ vs) ∙ ap (λ ws. ended {N = Node} (answer_of met here bytes (k x)) (at more ws)) (append_assoc us vs (uses_of met here bytes (k x)))
   seen_ends {A = A} k rest more us vs None = ap (λ ws. ended {N = Node} {A = A} (Err (fault_at here kinds.EndOfBytes)) (at more (us ++ ws))) (sym (append-nil vs))
 

@@ -1,5 +1,6 @@
 -- The definitions of node rules.
 pub mod Sites
+pub mod Told
 pub mod Fields
 pub mod Members
 pub mod Integers
@@ -11,3 +12,5 @@ pub mod Served
 pub mod Meaning
 pub mod FromNothing
 pub mod Described
+pub mod Bounds
+pub mod PathTexts

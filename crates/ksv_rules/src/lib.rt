@@ -10,9 +10,11 @@ mod fields;
 mod heads;
 mod integer;
 mod parts;
+mod path_text;
 mod rules;
 mod site;
 mod values;
 mod wanted;
 
 pub use ksv_nodes::{Ending, Given, Head, Kind, Leaf, List, Node, Object, Source};
+pub use path_text::path_of;
