@@ -5,7 +5,6 @@ pub mod Cuts
 pub mod Digits
 pub mod PathTexts
 pub mod Meeting
--- The lemmas on node rules.
 pub mod Integers
 pub mod Peeked
 pub mod ServedForms
