@@ -1,0 +1,46 @@
+//! Where an expression stands, and what is wrong with a name in it.
+
+/// The key at which an expression stands.
+#[derive(Clone, Copy, PartialEq, Eq, Debug)]
+pub enum Site {
+    /// `if`
+    Condition,
+    /// `size`
+    Size,
+    /// `repeat-expr`
+    Count,
+    /// `repeat-until`
+    Until,
+    /// `switch-on`
+    Switch,
+    /// An argument of a type.
+    Argument,
+    /// `pos`
+    Place,
+    /// `io`
+    Stream,
+    /// `value`
+    Value,
+    /// A key of `cases`.
+    Case,
+}
+
+/// Where an expression stands.
+#[derive(Clone, Copy, PartialEq, Eq, Debug)]
+pub struct Position {
+    /// The key.
+    pub site: Site,
+    /// Whether the key is one of an attribute of a `seq`.
+    pub in_sequence: bool,
+    /// Whether the attribute or instance is repeated.
+    pub is_repeated: bool,
+}
+
+/// What is wrong with a name in an expression.
+#[derive(Clone, Copy, PartialEq, Eq, Debug)]
+pub enum NameFault {
+    /// Nothing has this name here.
+    Unknown,
+    /// The name may not be used so.
+    LeftOut,
+}

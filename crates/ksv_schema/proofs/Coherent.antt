@@ -1,0 +1,133 @@
+-- A tree without faults states a description.
+use Rattle.std.proofs.Common.{◌≡◌, ℕ, Bool, true, false, cond, List, [], ◌∷◌, ◌++◌, sym, ap, ◌∙◌, refl, Option, Some, None}
+use Rattle.std.specs.Prelude.{not, is_some, option_map, option_and_then}
+use Rattle.std.specs.Option.{option_map_or}
+use Rattle.std.specs.Str.{bytes_eq}
+use Rattle.std.proofs.lemmas.Slice.Eq.{bytes_eq-Decides}
+use Rattle.ksv_yaml.specs.Tree.{Pair, text_of, entry_at}
+use Rattle.ksv_syntax.specs.Tree as expressions
+use Rattle.ksv_syntax.specs.Reading.{◌>>=◌}
+use Rattle.ksv_scope.specs.Keys.{has, text_at}
+use Rattle.ksv_names.specs.declared.position.Site.{Site}
+use Rattle.ksv_names.specs.Numbered.{numbered}
+use Rattle.ksv_schema.specs.Faults.{Fault, fault, fault_if, no_expression, bad_value, unknown_key}
+use Rattle.ksv_schema.specs.Keys as forms
+use Rattle.ksv_schema.specs.Keys.{Form, Key, form_in, is_ignored}
+use Rattle.ksv_schema.specs.Expressions.{expression_of}
+use Rattle.ksv_schema.specs.Rules.{Home, expression_faults, text_faults, form_faults, value_faults, key_faults, keys_faults, missing_if}
+use Rattle.ksv_schema.specs.Description.{Context, expression, expression_at, perhaps_expression}
+
+-- there is a value
+abbrev pub Is : {A : Type 0} → Option A → Type 0
+Is {A} o = (x : A) × (o ≡ Some x)
+
+pub front : {A : Type 0} (xs ys : List A) → xs ++ ys ≡ [] → xs ≡ []
+front [] ys h = refl
+front (x ∷ xs) ys h = absurd cc
+
+pub back : {A : Type 0} (xs ys : List A) → xs ++ ys ≡ [] → ys ≡ []
+back [] ys h = h
+back (x ∷ xs) ys h = absurd cc
+
+pub not_if : (b : Bool) (line number : ℕ) → fault_if b line number ≡ [] → b ≡ false
+not_if true line number h = absurd cc
+not_if false line number h = refl
+
+pub not_not : (b : Bool) → not b ≡ false → b ≡ true
+not_not true h = refl
+not_not false h = absurd cc
+
+pub no_fault : (line number : ℕ) → fault line number ≡ [] → ⊥
+no_fault line number h = cc
+
+pub some_same : {A : Type 0} (x y : A) → Some x ≡ Some y → x ≡ y
+some_same x y h = cc
+
+-- a thing made of one that there is
+pub is_map : {A B : Type 0} (f : A → B) (o : Option A) → Is o → Is (option_map f o)
+is_map f o x = (f x.0, ap (option_map f) x.1)
+
+pub is_bind : {A B : Type 0} (f : A → Option B) (o : Option A) (x : A) → o ≡ Some x → Is (f x) → Is (o >>= f)
+is_bind f o x e y = (y.0, ap (λ (o : Option _). o >>= f) e ∙ y.1)
+
+-- ---- one key
+
+key_is : (faults : Pair → Form → List Fault) (table : List Key) (p : Pair) (form : Form) → is_ignored p.key ≡ false → form_in table p.key ≡ Some form → key_faults faults table p ≡ faults p form
+unfolding key_faults
+key_is faults table p form i f =
+    ap (λ (b : Bool). cond b [] (option_map_or (faults p) (form_in table p.key) (fault p.line unknown_key))) i
+    ∙ ap (λ (o : Option Form). option_map_or (faults p) o (fault p.line unknown_key)) f
+
+-- without faults what stands at each key is what it must be
+pub at_key : (faults : Pair → Form → List Fault) (table : List Key) (name : List ℕ) (form : Form) (es : List Pair) (p : Pair) → is_ignored name ≡ false → form_in table name ≡ Some form → keys_faults faults table es ≡ [] → entry_at name es ≡ Some p → faults p form ≡ []
+at_key faults table name form [] p i f h e = absurd cc
+at_key faults table name form (q ∷ es) p i f h e =
+    by_test (bytes_eq q.key name) refl (front (key_faults faults table q) (keys_faults faults table es) h) (at_key faults table name form es p i f (back (key_faults faults table q) (keys_faults faults table es) h))
+  where
+    by_test : (b : Bool) → bytes_eq q.key name ≡ b → key_faults faults table q ≡ [] → (entry_at name es ≡ Some p → faults p form ≡ []) → faults p form ≡ []
+    by_test true t here there =
+        let same : q.key ≡ name = (bytes_eq-Decides q.key name).0 t in
+        let is : q ≡ p = some_same q p (sym (ap (λ (b : Bool). cond b (Some q) (entry_at name es)) t) ∙ e) in
+        ap (λ (q : Pair). faults q form) (sym is) ∙ sym (key_is faults table q form (ap is_ignored same ∙ i) (ap (form_in table) same ∙ f)) ∙ here
+    by_test false t here there = there (sym (ap (λ (b : Bool). cond b (Some q) (entry_at name es)) t) ∙ e)
+
+-- ---- texts
+
+pub has_text : (faults : List ℕ → List Fault) (p : Pair) → text_faults faults p ≡ [] → (text : List ℕ) × (text_of p.value ≡ Some text) × (faults text ≡ [])
+has_text faults p h = go (text_of p.value) refl h
+  where
+    go : (o : Option (List ℕ)) → text_of p.value ≡ o → option_map_or faults o (fault p.line bad_value) ≡ [] → (text : List ℕ) × (text_of p.value ≡ Some text) × (faults text ≡ [])
+    go None e h = absurd (no_fault p.line bad_value h)
+    go (Some text) e h = (text, e, h)
+
+-- ---- expressions
+
+-- the context of names in which a mapping's expressions are
+abbrev pub context : Home → List (List ℕ) → Context
+context h names = record { declared = h.declared; names = names; within = h.within }
+
+pub is_expression : (h : Home) (names : List (List ℕ)) (site : Site) (line : ℕ) (text : List ℕ) → expression_faults h site line (expression_of text) ≡ [] → Is (expression (context h names) text)
+unfolding expression_faults expression
+is_expression h names site line text k = go (expression_of text) k
+  where
+    go : (o : Option expressions.Tree) → expression_faults h site line o ≡ [] → Is (option_map (numbered h.declared names h.within) o)
+    go None k = absurd (no_fault line no_expression k)
+    go (Some e) k = (numbered h.declared names h.within e, refl)
+
+-- what stands at an expression's key
+abbrev pub AtExpression : Home → (Pair → Form → List Fault) → Type 0
+AtExpression h faults = (p : Pair) (site : Site) → faults p (forms.Expression site) ≡ text_faults (λ text. expression_faults h site p.line (expression_of text)) p
+
+pub by_value : (h : Home) → AtExpression h (value_faults h)
+unfolding value_faults form_faults
+by_value h p at = refl
+
+pub by_form : (h : Home) → AtExpression h (form_faults h)
+unfolding form_faults
+by_form h p at = refl
+
+pub is_expression_at : (h : Home) (names : List (List ℕ)) (faults : Pair → Form → List Fault) (table : List Key) (site : Site) (name : List ℕ) (es : List Pair) → AtExpression h faults → is_ignored name ≡ false → form_in table name ≡ Some (forms.Expression site) → keys_faults faults table es ≡ [] → Is (entry_at name es) → Is (expression_at (context h names) name es)
+unfolding expression_at
+is_expression_at h names faults table site name es a i f k p =
+    let t = has_text _ p.0 (sym (a p.0 site) ∙ at_key faults table name (forms.Expression site) es p.0 i f k p.1) in
+    is_bind (expression (context h names)) (text_at name es) t.0 (ap (option_and_then (λ p. text_of p.value)) p.1 ∙ t.1) (is_expression h names site p.0.line t.0 t.2)
+
+-- a key that is there, or isn't
+pub there : (o : Option Pair) → is_some o ≡ true → Is o
+there None h = absurd cc
+there (Some p) h = (p, refl)
+
+pub not_missing : (name : List ℕ) (es : List Pair) (line : ℕ) → missing_if (not (has name es)) line ≡ [] → Is (entry_at name es)
+not_missing name es line h = go (entry_at name es) (not_if _ line 2 h)
+  where
+    go : (o : Option Pair) → not (is_some o) ≡ false → Is o
+    go None h = absurd cc
+    go (Some p) h = (p, refl)
+
+pub is_perhaps : (h : Home) (names : List (List ℕ)) (faults : Pair → Form → List Fault) (table : List Key) (site : Site) (name : List ℕ) (es : List Pair) → AtExpression h faults → is_ignored name ≡ false → form_in table name ≡ Some (forms.Expression site) → keys_faults faults table es ≡ [] → Is (perhaps_expression (context h names) name es)
+unfolding perhaps_expression
+is_perhaps h names faults table site name es a i f k = go (has name es) refl
+  where
+    go : (b : Bool) → has name es ≡ b → Is (cond b (option_map (λ (e : expressions.Tree). let o : Option expressions.Tree = Some e in o) (expression_at (context h names) name es)) (Some None))
+    go false e = (None, refl)
+    go true e = is_map _ _ (is_expression_at h names faults table site name es a i f k (there (entry_at name es) e))

@@ -1,0 +1,10 @@
+use Rattle.std.proofs.Common.{◌≡◌, drop, map}
+use Rattle.ksv_yaml.specs.View.{pair}
+use Rattle.ksv_schema.specs.Contexts.{context_of}
+use Rattle.ksv_schema.specs.Pieces.{plain_case}
+use Rattle.ksv_schema.specs.Description.{each, case_of}
+use Rattle.ksv_schema.proofs.Made.{onto}
+use Rattle.ksv_schema.proofs.build.choice.cases_of.Given as goal
+
+abbrev pub invariant-loop-case : goal.invariant-loop-case
+invariant-loop-case l = onto (map plain_case l.made.items) (each (case_of (context_of l.context) (map pair l.entries)) (map pair (drop l.case-index l.cases))) ≡ each (case_of (context_of l.context) (map pair l.entries)) (map pair l.cases)

@@ -1,0 +1,10 @@
+use Rattle.std.proofs.Common.{◌≡◌, drop, map}
+use Rattle.ksv_yaml.specs.View.{pair}
+use Rattle.ksv_scope.specs.Enums.{constant}
+use Rattle.ksv_schema.specs.Pieces.{plain_entry}
+use Rattle.ksv_schema.specs.Description.{each, numbered_of}
+use Rattle.ksv_schema.proofs.Made.{onto}
+use Rattle.ksv_schema.proofs.build.enums.entries_of.Given as goal
+
+abbrev pub invariant-loop-entry : goal.invariant-loop-entry
+invariant-loop-entry l = onto (map plain_entry l.made.items) (each numbered_of (map (constant 0) (map pair (drop l.entry-index l.entries)))) ≡ each numbered_of (map (constant 0) (map pair l.entries))

@@ -1,0 +1,10 @@
+use Rattle.std.proofs.Common.{◌≡◌, map, drop}
+use Rattle.std.specs.List.{flat_map}
+use Rattle.ksv_yaml.specs.View.{pair}
+use Rattle.ksv_names.specs.Numbered.{distinct_behind}
+use Rattle.ksv_schema.specs.Description.{entry_words}
+use Rattle.ksv_schema.proofs.build.names.add_entries.Given as goal
+
+abbrev pub invariant-loop-entry : goal.invariant-loop-entry
+invariant-loop-entry l =
+    distinct_behind l.names (flat_map entry_words (map pair (drop l.entry-index l.entries))) ≡ distinct_behind l.fn.names (flat_map entry_words (map pair l.entries))

@@ -1,0 +1,158 @@
+-- Which keys each mapping of a description may have, and what stands at each of them.
+use Rattle.std.specs.Prelude.{ℕ, Bool, false, nat_le, ◌&&◌, ◌||◌, ◌==◌, List, [], ◌∷◌, codes, Option, option_map}
+use Rattle.std.specs.List.{find, list_all}
+use Rattle.std.specs.Str.{bytes_eq}
+use Rattle.ksv_names.specs.declared.position.Site.{Site}
+use Rattle.ksv_names.specs.declared.position.Site.TheVariants as sites
+
+-- what stands at a key
+pub data Form : Type 0 where
+  -- whatever it is, it says nothing
+  Ignored : Form
+  -- the key itself is left out
+  NotHere : Form
+  -- a mapping, or a list
+  Mapping : Form
+  Listing : Form
+  -- `[a-z][a-z0-9_]*`
+  Id : Form
+  -- one of these texts
+  OneOf : List (List ℕ) → Form
+  -- `le` or `be`; a choice by `switch-on` is left out
+  Endian : Form
+  -- `be`; `le` is left out
+  BitEndian : Form
+  -- ASCII or UTF-8, in any letter case; others are left out
+  Coding : Form
+  -- a text that says nothing; `io` is left out
+  ParameterType : Form
+  AnyText : Form
+  -- an expression
+  Expression : Site → Form
+  -- the text of a type, or a mapping of `switch-on` and `cases`
+  TypeOrSwitch : Form
+  Cases : Form
+  -- the path of an enum
+  EnumName : Form
+  -- a number from 0 to 255
+  Byte : Form
+  -- a text, or a list of numbers from 0 to 255 and texts
+  Contents : Form
+
+pub record Key : Type 0 where
+  pub name : List ℕ
+  pub form : Form
+
+abbrev pub key : List ℕ → Form → Key
+key name form = record { name = name; form = form }
+
+abbrev pub flag : Form
+flag = OneOf (codes "true" ∷ codes "false" ∷ [])
+
+-- ---- the tables
+
+-- a type, the root too
+abbrev pub type_keys : List Key
+type_keys =
+    key (codes "meta") Mapping ∷
+    key (codes "params") Listing ∷
+    key (codes "seq") Listing ∷
+    key (codes "types") Mapping ∷
+    key (codes "instances") Mapping ∷
+    key (codes "enums") Mapping ∷ []
+
+abbrev pub meta_keys : List Key
+meta_keys =
+    key (codes "id") Id ∷
+    key (codes "endian") Endian ∷
+    key (codes "encoding") Coding ∷
+    key (codes "bit-endian") BitEndian ∷
+    key (codes "title") Ignored ∷
+    key (codes "application") Ignored ∷
+    key (codes "file-extension") Ignored ∷
+    key (codes "license") Ignored ∷
+    key (codes "xref") Ignored ∷
+    key (codes "ks-version") Ignored ∷
+    key (codes "tags") Ignored ∷
+    key (codes "imports") NotHere ∷
+    key (codes "ks-opaque-types") NotHere ∷ []
+
+abbrev pub parameter_keys : List Key
+parameter_keys =
+    key (codes "id") Id ∷
+    key (codes "type") ParameterType ∷
+    key (codes "enum") AnyText ∷ []
+
+-- an attribute of `seq`, but for its id
+abbrev pub field_keys : List Key
+field_keys =
+    key (codes "type") TypeOrSwitch ∷
+    key (codes "size") (Expression sites.Size) ∷
+    key (codes "size-eos") flag ∷
+    key (codes "contents") Contents ∷
+    key (codes "encoding") Coding ∷
+    key (codes "terminator") Byte ∷
+    key (codes "consume") flag ∷
+    key (codes "include") flag ∷
+    key (codes "eos-error") flag ∷
+    key (codes "repeat") (OneOf (codes "eos" ∷ codes "expr" ∷ codes "until" ∷ [])) ∷
+    key (codes "repeat-expr") (Expression sites.Count) ∷
+    key (codes "repeat-until") (Expression sites.Until) ∷
+    key (codes "if") (Expression sites.Condition) ∷
+    key (codes "enum") EnumName ∷
+    key (codes "process") NotHere ∷
+    key (codes "pad-right") NotHere ∷
+    key (codes "valid") NotHere ∷ []
+
+abbrev pub attribute_keys : List Key
+attribute_keys = key (codes "id") Id ∷ field_keys
+
+-- an instance with a place of its own
+abbrev pub positioned_keys : List Key
+positioned_keys =
+    key (codes "pos") (Expression sites.Place) ∷
+    key (codes "io") (Expression sites.Stream) ∷ field_keys
+
+-- An instance with a `value`. The keys that are ignored here are those that stand against it.
+abbrev pub value_keys : List Key
+value_keys =
+    key (codes "value") (Expression sites.Value) ∷
+    key (codes "if") (Expression sites.Condition) ∷
+    key (codes "enum") EnumName ∷
+    key (codes "valid") NotHere ∷
+    key (codes "pos") Ignored ∷
+    key (codes "io") Ignored ∷
+    key (codes "type") Ignored ∷
+    key (codes "size") Ignored ∷
+    key (codes "repeat") Ignored ∷ []
+
+abbrev pub switch_keys : List Key
+switch_keys =
+    key (codes "switch-on") (Expression sites.Switch) ∷
+    key (codes "cases") Cases ∷ []
+
+-- what a number of an enum stands for, where that is a mapping
+abbrev pub constant_keys : List Key
+constant_keys = key (codes "id") Id ∷ []
+
+-- the form of a key, where the table has it
+unfoldable pub form_in : List Key → List ℕ → Option Form
+form_in table name = option_map (λ k. k.form) (find (λ k. bytes_eq name k.name) table)
+
+-- keys that say nothing in any of these mappings: `doc`, `doc-ref`, and those that begin with `-`
+unfoldable pub is_ignored : List ℕ → Bool
+is_ignored [] = false
+is_ignored (c ∷ cs) = c == 45 || bytes_eq (c ∷ cs) (codes "doc") || bytes_eq (c ∷ cs) (codes "doc-ref")
+
+-- ---- ids
+
+abbrev pub is_letter : ℕ → Bool
+is_letter c = nat_le 97 c && nat_le c 122
+
+abbrev pub is_id_byte : ℕ → Bool
+is_id_byte c = is_letter c || nat_le 48 c && nat_le c 57 || c == 95
+
+-- `[a-z][a-z0-9_]*`
+unfoldable pub is_id : List ℕ → Bool
+is_id [] = false
+is_id (c ∷ cs) = is_letter c && list_all is_id_byte cs

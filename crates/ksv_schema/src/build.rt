@@ -1,0 +1,64 @@
+//! The description that a tree states, piece by piece as its definition has them.
+
+ghost use Rattle.std.specs.Prelude.{◌≡◌, IfOk, option_map};
+ghost use Rattle.ksv_scope.specs.Declarations.{declared};
+ghost use Rattle.ksv_schema.specs.Description.{described, stated_by};
+ghost use Rattle.ksv_schema.specs.Whole.{plain_pieces};
+
+mod choice;
+mod content;
+mod contents;
+pub(crate) mod context;
+mod enums;
+mod expressions;
+mod field;
+mod member;
+mod names;
+mod texts;
+mod types;
+
+use crate::build::enums::enums_of;
+use crate::build::names::{add_dotted, add_members};
+use crate::build::types::types_of;
+use crate::desc::Pieces;
+use ksv_names::Names;
+use ksv_scope::Scopes;
+use std::alloc::{AllocError, Global};
+
+/// The description with these names, of which the first are those of members.
+#[tactic(auto, unfolding(crate::specs::Description::described))]
+fn described(
+    alloc: Global,
+    scopes: &Scopes,
+    names: Names,
+    known: usize,
+) -> Result<Option<Pieces>, AllocError>
+    ensures { IfOk result (λ o. option_map plain_pieces o ≡ described (declared scopes.now) names known) }
+{
+    let Some(types) = types_of(alloc, scopes, &names)? else {
+        return Ok(None);
+    };
+    let Some(enums) = enums_of(alloc, scopes)? else {
+        return Ok(None);
+    };
+    Ok(Some(Pieces {
+        types,
+        enums,
+        names,
+        known,
+    }))
+}
+
+/// The description that a tree states.
+#[tactic(auto, unfolding(crate::specs::Description::stated_by, crate::specs::Description::names_of, crate::specs::Description::member_names, ksv_names::specs::Numbered::distinct))]
+pub(crate) fn build(alloc: Global, scopes: &Scopes) -> Result<Option<Pieces>, AllocError>
+    ensures { IfOk result (λ o. option_map plain_pieces o ≡ stated_by (declared scopes.now)) }
+{
+    let mut names = Names::new(alloc);
+    if !add_members(&mut names, scopes.members())? {
+        return Ok(None);
+    }
+    let known = names.len();
+    add_dotted(alloc, &mut names, scopes.members())?;
+    described(alloc, scopes, names, known)
+}

@@ -1,0 +1,27 @@
+//! Names and ids, which are texts.
+
+ghost use Rattle.std.specs.Prelude.{◌≡◌, IfOk, option_map, string_bytes};
+ghost use Rattle.ksv_schema.specs.Description.{as_text};
+
+use std::alloc::{AllocError, Global};
+
+/// The text that these bytes are, where they are one.
+#[tactic(auto, unfolding(crate::specs::Description::as_text))]
+pub(crate) fn as_text(bytes: &[u8]) -> Option<&str>
+    ensures { option_map (λ s. s.now) result ≡ as_text bytes.now }
+{
+    match str::from_utf8(bytes) {
+        Ok(text) => Some(text),
+        Err(_) => None,
+    }
+}
+
+/// A text of its own, where these bytes are one.
+pub(crate) fn owned_text(alloc: Global, bytes: &[u8]) -> Result<Option<String>, AllocError>
+    ensures { IfOk result (λ o. option_map string_bytes o ≡ as_text bytes.now) }
+{
+    match as_text(bytes) {
+        Some(text) => Ok(Some(String::from_str(alloc, text)?)),
+        None => Ok(None),
+    }
+}

@@ -1,0 +1,54 @@
+//! A description from a tree.
+
+ghost use Rattle.std.specs.Prelude.{◌≡◌, ◌≢◌, IfOk, IfErr};
+ghost use Rattle.ksv_yaml.specs.View.{view};
+ghost use Rattle.ksv_schema.specs.Code.{plain};
+ghost use Rattle.ksv_schema.specs.Outcome.{States, Refuses};
+ghost use Rattle.ksv_schema.specs.Whole.{plain_pieces};
+ghost use Rattle.ksv_schema.specs.declared.fault.DescFaultKind.TheVariants.{NoMemory};
+
+use crate::build::build;
+use crate::check::least_fault;
+use crate::fault::{DescFault, DescFaultKind};
+use crate::stated::Desc;
+use ksv_scope::Scopes;
+use ksv_yaml::Yaml;
+use std::alloc::{AllocError, Global};
+
+/// The description that a tree states; of a tree that states none, the least fault by line, and on one line the one of the lowest code.
+pub fn load(alloc: Global, tree: &Yaml) -> Result<Desc, DescFault>
+    ensures described { IfOk result (λ d. States (view tree.now) (plain_pieces d)) }
+    ensures refused { IfErr result (λ f. f.kind ≢ NoMemory → Refuses (view tree.now) (plain f)) }
+{
+    match outcome(alloc, tree) {
+        Ok(outcome) => outcome,
+        Err(AllocError) => Err(DescFault {
+            line: 1,
+            kind: DescFaultKind::NoMemory,
+        }),
+    }
+}
+
+/// The description that a tree states, or its least fault.
+fn outcome(alloc: Global, tree: &Yaml) -> Result<Result<Desc, DescFault>, AllocError>
+    ensures described { IfOk result (λ r. IfOk r (λ d. States (view tree.now) (plain_pieces d))) }
+    ensures refused { IfOk result (λ r. IfErr r (λ f. Refuses (view tree.now) (plain f))) }
+{
+    let scopes = Scopes::new(alloc, tree)?;
+    let outcome = outcome_of(alloc, &scopes)?;
+    Ok(outcome)
+}
+
+/// The description that is stated by what is declared, or the least fault.
+fn outcome_of(alloc: Global, scopes: &Scopes) -> Result<Result<Desc, DescFault>, AllocError>
+    ensures described { IfOk result (λ r. IfOk r (λ d. States (view scopes.now) (plain_pieces d))) }
+    ensures refused { IfOk result (λ r. IfErr r (λ f. Refuses (view scopes.now) (plain f))) }
+{
+    match least_fault(alloc, scopes)? {
+        Some(fault) => Ok(Err(fault)),
+        None => match build(alloc, scopes)? {
+            Some(pieces) => Ok(Ok(Desc::new(pieces))),
+            None => unreachable!(),
+        },
+    }
+}

@@ -1,0 +1,10 @@
+pub mod Growing
+pub mod Around
+pub mod EachType
+pub mod MembersOf
+pub mod EnumsOf
+pub mod Digits
+pub mod ConstantsOf
+pub mod Ranges
+pub mod Rising
+pub mod Marks

@@ -1,0 +1,12 @@
+-- The types, members and enums of a tree, and names looked for outwards.
+pub mod Keys
+pub mod Numerals
+pub mod Types
+pub mod Members
+pub mod Enums
+pub mod Declarations
+pub mod Rows
+pub mod MemberRows
+pub mod EnumRows
+pub mod ConstantRows
+pub mod Table

@@ -1,0 +1,32 @@
+//! The types, members and enums of a description's tree, each as a flat list in the order of the text, and names looked for outwards.
+//!
+//! A name is looked for in the type where it is used and then in the types around it, from the nearest on; the byte order
+//! and the encoding in force are found in the same way.
+#![tactic(auto)]
+
+mod constant;
+mod constants;
+mod enumeration;
+mod enums;
+pub mod keys;
+mod listing;
+mod member;
+mod members;
+mod numeral;
+mod order;
+mod outwards;
+mod row;
+mod scopes;
+mod types;
+
+pub use constant::Constant;
+pub use constants::{id_of, number_written};
+pub use enumeration::Enumeration;
+pub use member::{Member, Role};
+pub use numeral::{Numeral, plain_number, signed_number};
+pub use order::ByteOrder;
+pub use outwards::order_named;
+pub use scopes::Scopes;
+
+#[cfg(test)]
+mod tests;

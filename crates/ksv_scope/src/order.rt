@@ -1,0 +1,10 @@
+//! Which byte of an integer comes first.
+
+/// The order of an integer's bytes.
+#[derive(Clone, Copy, PartialEq, Eq, Debug)]
+pub enum ByteOrder {
+    /// The lowest byte first, `le`.
+    Little,
+    /// The highest byte first, `be`.
+    Big,
+}
