@@ -43,6 +43,13 @@ impl Desc {
         Desc { pieces }
     }
 
+    /// Each reference of the description leads to something. It does nothing: a caller's proof learns its clause.
+    pub fn references_are_resolved(&self)
+        ensures { IsResolved (plain_pieces self.now) }
+    {
+        let _ = &self.pieces;
+    }
+
     /// A name, and the empty text for a number that no name has.
     pub fn name(&self, number: u32) -> &str
         ensures { result.now ≡ name (plain_pieces self.now) number }

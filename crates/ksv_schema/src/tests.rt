@@ -1,187 +1,40 @@
-//! Descriptions, and what loading them answers.
-
-mod descriptions;
-mod limits;
-mod rows;
+//! Descriptions, and what loading them answers. The tables of rows stand in the program ksv_schema_rows.
 
 use crate::{
     Desc, DescFault, DescFaultKind, descriptions_are_resolved, faultless_trees_state,
     faulty_trees_are_refused, load, texts_are_spelled,
 };
-use descriptions::{DIALOGUES, FORMATS, LATER};
 use ksv_yaml::read;
-use limits::{
-    long_texts, many_attributes, many_enum_members, many_members, many_parts, many_types,
-};
-use rows::{ACCEPTED, AGAINST, ATTRIBUTES, EXPRESSIONS, KEYS, LEFT_OUT, NAMES, VALUES};
 use std::alloc::{AllocError, Global};
 use std::test::Fail;
 
-/// The line and code of a fault, of an expression's text its own code and place too.
-fn refusal(alloc: Global, fault: DescFault) -> Result<String, AllocError> {
-    let DescFault { line, kind } = fault;
-    match kind {
-        DescFaultKind::NoExpression(found) => {
-            format!(in alloc;
-                "line {line}: {} {} at {}",
-                kind.code(),
-                found.kind.code(),
-                found.at
-            )
-        }
-        _ => format!(in alloc; "line {line}: {}", kind.code()),
+/// What loading a text answers: the line and the kind of its fault, or none.
+fn refusal(alloc: Global, text: &str) -> Option<DescFault> {
+    match read(alloc, text.as_bytes()) {
+        Err(_) => None,
+        Ok(tree) => load(alloc, &tree).err(),
     }
 }
 
-/// What loading a text answers.
-fn answer(alloc: Global, text: &[u8]) -> Result<String, AllocError> {
-    match read(alloc, text) {
-        Err(fault) => format!(in alloc; "{fault}"),
-        Ok(tree) => match load(alloc, &tree) {
-            Ok(_) => String::from_str(alloc, "ok"),
-            Err(fault) => refusal(alloc, fault),
-        },
+#[test]
+fn answers_the_least_fault_with_its_line(rt: HostRuntime) -> Result<(), Fail> {
+    let rows: [(&str, usize, &str); 10] = [
+        ("meta: {id: a}\nseqs: []", 2, "S1"),
+        ("meta: {endian: le}", 1, "S2"),
+        ("meta: {id: a}\nseq:\n- {size: 1, size-eos: true}", 3, "S3"),
+        ("meta: {id: a}\nseq:\n- {size: b}", 3, "S4"),
+        ("meta: {id: a}\nseq:\n- {type: u2}", 3, "S5"),
+        ("meta: {id: A}\nseq:\n- {type: u2}", 1, "S6"),
+        ("meta: {id: a}\nseq:\n- {type: a(1)}", 3, "S7"),
+        ("meta: {id: a}\nseq:\n- {type: f4}", 3, "S8"),
+        ("meta: {id: a}\nseq:\n- {size: 1 +}", 3, "S10"),
+        ("meta: {id: a}\nbogus: 1\nseq:\n- {size: 1 +}", 2, "S1"),
+    ];
+    for (text, line, code) in rows {
+        let fault = refusal(rt.alloc(), text).expect(&rt, "a fault");
+        assert_eq!(rt; fault.line, line);
+        assert_eq!(rt; fault.kind.code(), code);
     }
-}
-
-/// The first of these texts whose answer is another.
-fn first_wrong(
-    alloc: Global,
-    rows: &[(&'static str, &'static str)],
-) -> Result<Option<&'static str>, AllocError> {
-    for (text, expected) in rows {
-        if answer(alloc, text.as_bytes())?.as_str() != *expected {
-            return Ok(Some(*text));
-        }
-    }
-    Ok(None)
-}
-
-/// The first answer that isn't the one of its text.
-fn first_wrong_answer(
-    alloc: Global,
-    rows: &[(Vec<u8>, &'static str)],
-) -> Result<Option<String>, AllocError> {
-    for (text, expected) in rows {
-        let found = answer(alloc, text.as_slice())?;
-        if found.as_str() != *expected {
-            return Ok(Some(found));
-        }
-    }
-    Ok(None)
-}
-
-#[test]
-fn loads_descriptions_without_faults(rt: HostRuntime) -> Result<(), Fail> {
-    assert_eq!(rt; first_wrong(rt.alloc(), &ACCEPTED)?, None);
-    Ok(())
-}
-
-#[test]
-fn refuses_unknown_and_missing_keys(rt: HostRuntime) -> Result<(), Fail> {
-    assert_eq!(rt; first_wrong(rt.alloc(), &KEYS)?, None);
-    Ok(())
-}
-
-#[test]
-fn refuses_keys_against_each_other(rt: HostRuntime) -> Result<(), Fail> {
-    assert_eq!(rt; first_wrong(rt.alloc(), &AGAINST)?, None);
-    Ok(())
-}
-
-#[test]
-fn refuses_unknown_names(rt: HostRuntime) -> Result<(), Fail> {
-    assert_eq!(rt; first_wrong(rt.alloc(), &NAMES)?, None);
-    Ok(())
-}
-
-#[test]
-fn refuses_bad_values_of_types(rt: HostRuntime) -> Result<(), Fail> {
-    assert_eq!(rt; first_wrong(rt.alloc(), &VALUES)?, None);
-    Ok(())
-}
-
-#[test]
-fn refuses_bad_values_of_attributes(rt: HostRuntime) -> Result<(), Fail> {
-    assert_eq!(rt; first_wrong(rt.alloc(), &ATTRIBUTES)?, None);
-    Ok(())
-}
-
-#[test]
-fn refuses_what_is_left_out(rt: HostRuntime) -> Result<(), Fail> {
-    assert_eq!(rt; first_wrong(rt.alloc(), &LEFT_OUT)?, None);
-    Ok(())
-}
-
-#[test]
-fn refuses_texts_that_are_no_expression(rt: HostRuntime) -> Result<(), Fail> {
-    assert_eq!(rt; first_wrong(rt.alloc(), &EXPRESSIONS)?, None);
-    Ok(())
-}
-
-#[test]
-fn loads_known_formats(rt: HostRuntime) -> Result<(), Fail> {
-    assert_eq!(rt; first_wrong(rt.alloc(), &FORMATS)?, None);
-    Ok(())
-}
-
-#[test]
-fn loads_descriptions_of_dialogues(rt: HostRuntime) -> Result<(), Fail> {
-    assert_eq!(rt; first_wrong(rt.alloc(), &DIALOGUES)?, None);
-    Ok(())
-}
-
-#[test]
-fn refuses_what_comes_later(rt: HostRuntime) -> Result<(), Fail> {
-    assert_eq!(rt; first_wrong(rt.alloc(), &LATER)?, None);
-    Ok(())
-}
-
-#[test]
-fn has_1024_types_at_most(rt: HostRuntime) -> Result<(), Fail> {
-    let rows = many_types(rt.alloc())?;
-    let wrong = first_wrong_answer(rt.alloc(), rows.as_slice())?;
-    assert!(rt; wrong.is_none(), "{wrong:?}");
-    Ok(())
-}
-
-#[test]
-fn has_256_attributes_at_most(rt: HostRuntime) -> Result<(), Fail> {
-    let rows = many_attributes(rt.alloc())?;
-    let wrong = first_wrong_answer(rt.alloc(), rows.as_slice())?;
-    assert!(rt; wrong.is_none(), "{wrong:?}");
-    Ok(())
-}
-
-#[test]
-fn has_256_members_of_a_type_at_most(rt: HostRuntime) -> Result<(), Fail> {
-    let rows = many_members(rt.alloc())?;
-    let wrong = first_wrong_answer(rt.alloc(), rows.as_slice())?;
-    assert!(rt; wrong.is_none(), "{wrong:?}");
-    Ok(())
-}
-
-#[test]
-fn has_65536_members_of_enums_at_most(rt: HostRuntime) -> Result<(), Fail> {
-    let rows = many_enum_members(rt.alloc())?;
-    let wrong = first_wrong_answer(rt.alloc(), rows.as_slice())?;
-    assert!(rt; wrong.is_none(), "{wrong:?}");
-    Ok(())
-}
-
-#[test]
-fn has_short_expressions(rt: HostRuntime) -> Result<(), Fail> {
-    let rows = many_parts(rt.alloc())?;
-    let wrong = first_wrong_answer(rt.alloc(), rows.as_slice())?;
-    assert!(rt; wrong.is_none(), "{wrong:?}");
-    Ok(())
-}
-
-#[test]
-fn loads_long_texts(rt: HostRuntime) -> Result<(), Fail> {
-    let rows = long_texts(rt.alloc())?;
-    let wrong = first_wrong_answer(rt.alloc(), rows.as_slice())?;
-    assert!(rt; wrong.is_none(), "{wrong:?}");
     Ok(())
 }
 
@@ -238,6 +91,7 @@ fn reads_what_a_description_has(rt: HostRuntime) -> Result<(), Fail> {
     assert_eq!(rt; in_sequence.count(), 2);
     assert!(rt; desc.type_desc(2).is_none());
     assert!(rt; desc.enum_desc(0).is_some() && desc.enum_desc(1).is_none());
+    desc.references_are_resolved();
     Ok(())
 }
 
