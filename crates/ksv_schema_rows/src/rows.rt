@@ -40,8 +40,8 @@ pub(crate) fn rows<'a>(alloc: Global, table: &'a str) -> Result<Vec<Row<'a>>, Al
 
 /// Adds a line to the last row, if there is one.
 fn add_line<'a>(rows: &mut Vec<Row<'a>>, line: &'a str) -> Result<(), AllocError> {
-    match rows.last_mut() {
-        Some(row) => row.lines.push(line),
-        None => Ok(()),
+    if let Some(row) = rows.last_mut() {
+        row.lines.push(line)?;
     }
+    Ok(())
 }
