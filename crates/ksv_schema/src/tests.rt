@@ -8,7 +8,7 @@ use ksv_yaml::read;
 use std::alloc::{AllocError, Global};
 use std::test::Fail;
 
-/// What loading a text answers: the line and the kind of its fault, or none.
+/// Why a text states no description.
 fn refusal(alloc: Global, text: &str) -> Option<DescFault> {
     match read(alloc, text.as_bytes()) {
         Err(_) => None,
@@ -53,6 +53,14 @@ enums:
   colour: {1: red, -2: blue}
 ";
 
+/// The description that a text states, if it states one.
+fn described(alloc: Global, text: &[u8]) -> Option<Desc> {
+    match read(alloc, text) {
+        Ok(tree) => load(alloc, &tree).ok(),
+        Err(_) => None,
+    }
+}
+
 /// The names of some numbers, each behind a space.
 fn names(alloc: Global, desc: &Desc, numbers: &[u32]) -> Result<String, AllocError> {
     let mut all = String::new(alloc);
@@ -63,35 +71,77 @@ fn names(alloc: Global, desc: &Desc, numbers: &[u32]) -> Result<String, AllocErr
     Ok(all)
 }
 
+/// A type's name, and the names of its members and of those in its `seq`.
+fn type_line(alloc: Global, desc: &Desc, number: u32) -> Result<String, AllocError> {
+    let members = names(alloc, desc, desc.members(number))?;
+    let fields = names(alloc, desc, desc.fields(number))?;
+    format!(in alloc; "{}:{members};{fields}", desc.type_id(number))
+}
+
+/// An enum's name, and what a number stands for in it.
+fn enum_line(
+    alloc: Global,
+    desc: &Desc,
+    enumeration: u32,
+    number: i128,
+) -> Result<String, AllocError> {
+    let id = desc.member_id(enumeration, number).unwrap_or("nothing");
+    format!(in alloc; "{}: {id}", desc.enum_id(enumeration))
+}
+
+/// How many members of a type stand in its `seq`.
+fn count_in_sequence(desc: &Desc, number: u32) -> Option<usize> {
+    let members = desc.type_desc(number)?.members();
+    Some(
+        members
+            .iter()
+            .filter(|member| member.is_in_sequence())
+            .count(),
+    )
+}
+
 #[test]
-fn reads_what_a_description_has(rt: HostRuntime) -> Result<(), Fail> {
-    let tree = read(rt.alloc(), SHAPES).ok().expect(&rt, "a tree");
-    let desc = load(rt.alloc(), &tree).ok().expect(&rt, "a description");
-    assert_eq!(rt; desc.type_id(0), "shapes");
-    assert_eq!(rt; desc.type_id(1), "shape");
-    assert_eq!(rt; desc.type_id(2), "");
-    let members = names(rt.alloc(), &desc, desc.members(0))?;
-    assert_eq!(rt; members.as_str(), " first count list");
-    let fields = names(rt.alloc(), &desc, desc.fields(0))?;
-    assert_eq!(rt; fields.as_str(), " count list");
-    let members = names(rt.alloc(), &desc, desc.members(1))?;
-    assert_eq!(rt; members.as_str(), " most side _unnamed1");
-    let fields = names(rt.alloc(), &desc, desc.fields(1))?;
-    assert_eq!(rt; fields.as_str(), " side _unnamed1");
-    assert!(rt; desc.members(2).is_empty() && desc.fields(2).is_empty());
-    assert_eq!(rt; desc.enum_id(0), "colour");
-    assert_eq!(rt; desc.enum_id(1), "");
-    assert!(rt; desc.member_id(0, 1) == Some("red") && desc.member_id(0, -2) == Some("blue"));
-    assert!(rt; desc.member_id(0, 2).is_none() && desc.member_id(1, 1).is_none());
+fn reads_the_types_of_a_description(rt: HostRuntime) -> Result<(), Fail> {
+    let desc = described(rt.alloc(), SHAPES).expect(&rt, "a description");
+    let lines = [
+        "shapes: first count list; count list",
+        "shape: most side _unnamed1; side _unnamed1",
+        ":;",
+    ];
+    for (number, line) in (0u32..).zip(lines) {
+        assert_eq!(rt; type_line(rt.alloc(), &desc, number)?.as_str(), line);
+    }
+    assert_eq!(rt; count_in_sequence(&desc, 1), Some(2));
+    assert_eq!(rt; count_in_sequence(&desc, 2), None);
+    Ok(())
+}
+
+#[test]
+fn reads_the_enums_of_a_description(rt: HostRuntime) -> Result<(), Fail> {
+    let desc = described(rt.alloc(), SHAPES).expect(&rt, "a description");
+    let rows: [(u32, i128, &str); 4] = [
+        (0, 1, "colour: red"),
+        (0, -2, "colour: blue"),
+        (0, 2, "colour: nothing"),
+        (1, 1, ": nothing"),
+    ];
+    for (enumeration, number, line) in rows {
+        assert_eq!(rt;
+            enum_line(rt.alloc(), &desc, enumeration, number)?.as_str(),
+            line
+        );
+    }
+    assert!(rt; desc.enum_desc(0).is_some() && desc.enum_desc(1).is_none());
+    Ok(())
+}
+
+#[test]
+fn numbers_the_names_of_members(rt: HostRuntime) -> Result<(), Fail> {
+    let desc = described(rt.alloc(), SHAPES).expect(&rt, "a description");
+    desc.references_are_resolved();
     let side = desc.number_of("side").expect(&rt, "a name");
     assert_eq!(rt; desc.name(side), "side");
     assert!(rt; desc.number_of("red").is_none() && desc.name(100).is_empty());
-    let shape = desc.type_desc(1).expect(&rt, "a type");
-    let in_sequence = shape.members().iter().filter(|m| m.is_in_sequence());
-    assert_eq!(rt; in_sequence.count(), 2);
-    assert!(rt; desc.type_desc(2).is_none());
-    assert!(rt; desc.enum_desc(0).is_some() && desc.enum_desc(1).is_none());
-    desc.references_are_resolved();
     Ok(())
 }
 
