@@ -71,22 +71,12 @@ fn names(alloc: Global, desc: &Desc, numbers: &[u32]) -> Result<String, AllocErr
     Ok(all)
 }
 
-/// A type's name, and the names of its members and of those in its `seq`.
+/// A type's name, the names of its members, of those in its `seq`, and how many these are.
 fn type_line(alloc: Global, desc: &Desc, number: u32) -> Result<String, AllocError> {
     let members = names(alloc, desc, desc.members(number))?;
     let fields = names(alloc, desc, desc.fields(number))?;
-    format!(in alloc; "{}:{members};{fields}", desc.type_id(number))
-}
-
-/// An enum's name, and what a number stands for in it.
-fn enum_line(
-    alloc: Global,
-    desc: &Desc,
-    enumeration: u32,
-    number: i128,
-) -> Result<String, AllocError> {
-    let id = desc.member_id(enumeration, number).unwrap_or("nothing");
-    format!(in alloc; "{}: {id}", desc.enum_id(enumeration))
+    let count = count_in_sequence(desc, number);
+    format!(in alloc; "{}:{members};{fields}, {count:?}\n", desc.type_id(number))
 }
 
 /// How many members of a type stand in its `seq`.
@@ -100,87 +90,123 @@ fn count_in_sequence(desc: &Desc, number: u32) -> Option<usize> {
     )
 }
 
-#[test]
-fn reads_the_types_of_a_description(rt: HostRuntime) -> Result<(), Fail> {
-    let desc = described(rt.alloc(), SHAPES).expect(&rt, "a description");
-    let lines = [
-        "shapes: first count list; count list",
-        "shape: most side _unnamed1; side _unnamed1",
-        ":;",
-    ];
-    for (number, line) in (0u32..).zip(lines) {
-        assert_eq!(rt; type_line(rt.alloc(), &desc, number)?.as_str(), line);
-    }
-    assert_eq!(rt; count_in_sequence(&desc, 1), Some(2));
-    assert_eq!(rt; count_in_sequence(&desc, 2), None);
-    Ok(())
+/// An enum's name, and what a number stands for in it.
+fn enum_line(
+    alloc: Global,
+    desc: &Desc,
+    enumeration: u32,
+    number: i128,
+) -> Result<String, AllocError> {
+    let is_there = desc.enum_desc(enumeration).is_some();
+    let id = desc.member_id(enumeration, number).unwrap_or("nothing");
+    format!(in alloc; "{is_there} {}: {id}\n", desc.enum_id(enumeration))
 }
 
-#[test]
-fn reads_the_enums_of_a_description(rt: HostRuntime) -> Result<(), Fail> {
-    let desc = described(rt.alloc(), SHAPES).expect(&rt, "a description");
-    let rows: [(u32, i128, &str); 4] = [
-        (0, 1, "colour: red"),
-        (0, -2, "colour: blue"),
-        (0, 2, "colour: nothing"),
-        (1, 1, ": nothing"),
-    ];
-    for (enumeration, number, line) in rows {
-        assert_eq!(rt;
-            enum_line(rt.alloc(), &desc, enumeration, number)?.as_str(),
-            line
-        );
+/// A name's number as a name.
+fn name_line(alloc: Global, desc: &Desc, text: &str) -> Result<String, AllocError> {
+    match desc.number_of(text) {
+        Some(number) => format!(in alloc; "{}\n", desc.name(number)),
+        None => String::from_str(alloc, "no name\n"),
     }
-    assert!(rt; desc.enum_desc(0).is_some() && desc.enum_desc(1).is_none());
-    Ok(())
 }
 
+/// What a description has, read by its readers, also for numbers that nothing has.
+fn shown(alloc: Global, desc: &Desc) -> Result<String, AllocError> {
+    let mut all = String::new(alloc);
+    for number in 0..3 {
+        all.push_str(type_line(alloc, desc, number)?.as_str())?;
+    }
+    for (enumeration, number) in [(0, 1), (0, -2), (0, 2), (1, 1)] {
+        all.push_str(enum_line(alloc, desc, enumeration, number)?.as_str())?;
+    }
+    for text in ["side", "red"] {
+        all.push_str(name_line(alloc, desc, text)?.as_str())?;
+    }
+    all.push_str(desc.name(100))?;
+    Ok(all)
+}
+
+const SHOWN: &str = "shapes: first count list; count list, Some(2)
+shape: most side _unnamed1; side _unnamed1, Some(2)
+:;, None
+true colour: red
+true colour: blue
+true colour: nothing
+false : nothing
+side
+no name
+";
+
 #[test]
-fn numbers_the_names_of_members(rt: HostRuntime) -> Result<(), Fail> {
+fn reads_what_a_description_has(rt: HostRuntime) -> Result<(), Fail> {
     let desc = described(rt.alloc(), SHAPES).expect(&rt, "a description");
     desc.references_are_resolved();
-    let side = desc.number_of("side").expect(&rt, "a name");
-    assert_eq!(rt; desc.name(side), "side");
-    assert!(rt; desc.number_of("red").is_none() && desc.name(100).is_empty());
+    let found = shown(rt.alloc(), &desc)?;
+    assert_eq!(rt; found.as_str(), SHOWN);
     Ok(())
 }
+
+/// What faults of these kinds in line 7 say, each with its code.
+fn told(alloc: Global, kinds: &[DescFaultKind]) -> Result<String, AllocError> {
+    let mut all = String::new(alloc);
+    for kind in kinds {
+        let fault = DescFault {
+            line: 7,
+            kind: *kind,
+        };
+        let line = format!(in alloc; "{} {fault}\n", kind.code())?;
+        all.push_str(line.as_str())?;
+    }
+    Ok(all)
+}
+
+const KINDS: [DescFaultKind; 10] = [
+    DescFaultKind::UnknownKey,
+    DescFaultKind::MissingKey,
+    DescFaultKind::KeysAgainst,
+    DescFaultKind::UnknownName,
+    DescFaultKind::NoByteOrder,
+    DescFaultKind::BadValue,
+    DescFaultKind::WrongCount,
+    DescFaultKind::LeftOut,
+    DescFaultKind::OverLimit,
+    DescFaultKind::NoMemory,
+];
+
+const TOLD: &str = "S1 line 7: unknown key
+S2 line 7: missing key
+S3 line 7: keys against each other
+S4 line 7: unknown name
+S5 line 7: no byte order
+S6 line 7: bad name or value
+S7 line 7: wrong count of arguments
+S8 line 7: left-out feature
+S9 line 7: over a limit
+S11 line 7: no memory
+";
 
 #[test]
 fn says_what_is_wrong(rt: HostRuntime) -> Result<(), Fail> {
-    let rows: [(DescFaultKind, &str); 10] = [
-        (DescFaultKind::UnknownKey, "line 7: unknown key"),
-        (DescFaultKind::MissingKey, "line 7: missing key"),
-        (
-            DescFaultKind::KeysAgainst,
-            "line 7: keys against each other",
-        ),
-        (DescFaultKind::UnknownName, "line 7: unknown name"),
-        (DescFaultKind::NoByteOrder, "line 7: no byte order"),
-        (DescFaultKind::BadValue, "line 7: bad name or value"),
-        (
-            DescFaultKind::WrongCount,
-            "line 7: wrong count of arguments",
-        ),
-        (DescFaultKind::LeftOut, "line 7: left-out feature"),
-        (DescFaultKind::OverLimit, "line 7: over a limit"),
-        (DescFaultKind::NoMemory, "line 7: no memory"),
-    ];
-    for (kind, expected) in rows {
-        let fault = DescFault { line: 7, kind };
-        assert_eq!(rt; format!(in rt.alloc(); "{fault}")?.as_str(), expected);
-    }
-    let tree = read(rt.alloc(), b"meta: {id: a}\nseq: [{size: 1 +}]")
-        .ok()
-        .expect(&rt, "a tree");
-    let fault = load(rt.alloc(), &tree).err().expect(&rt, "a fault");
+    let found = told(rt.alloc(), &KINDS)?;
+    assert_eq!(rt; found.as_str(), TOLD);
+    Ok(())
+}
+
+#[test]
+fn says_why_a_text_is_no_expression(rt: HostRuntime) -> Result<(), Fail> {
+    let fault = refusal(rt.alloc(), "meta: {id: a}\nseq: [{size: 1 +}]").expect(&rt, "a fault");
+    let found = format!(in rt.alloc(); "{fault}")?;
     assert_eq!(rt;
-        format!(in rt.alloc(); "{fault}")?.as_str(),
+        found.as_str(),
         "line 2: expression: X2 unexpected end at 3"
     );
-    assert_eq!(rt; DescFaultKind::NoMemory.code(), "S11");
+    Ok(())
+}
+
+#[test]
+fn laws_are_offered(_rt: HostRuntime) {
     texts_are_spelled();
     faultless_trees_state();
     faulty_trees_are_refused();
     descriptions_are_resolved();
-    Ok(())
 }
