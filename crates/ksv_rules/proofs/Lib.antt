@@ -6,7 +6,6 @@ pub mod Digits
 pub mod PathTexts
 pub mod PathSpelling
 pub mod Meeting
--- The lemmas on node rules.
 pub mod Integers
 pub mod Peeked
 pub mod ServedForms
