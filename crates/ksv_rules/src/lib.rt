@@ -26,3 +26,6 @@ pub use ksv_nodes::{Ending, Given, Head, Kind, Leaf, List, Node, Object, Source}
 pub use laws::{evaluation_is_direct, next_meets_truth, texts_are_written};
 pub use path_text::path_of;
 pub use serving::served;
+
+#[cfg(test)]
+mod tests;
