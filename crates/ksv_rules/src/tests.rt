@@ -1,7 +1,12 @@
-//! Which path a text names, which descriptions are served, and each law once.
+//! Which path a text names, which descriptions are served, what nodes of a described file answer, and each law once.
 
-use crate::{evaluation_is_direct, next_meets_truth, path_of, served};
-use ksv_expr::{Path, Step};
+use crate::{
+    Described, Given, Head, Kind, Node, evaluation_is_direct, next_meets_truth, path_of, served,
+    texts_are_written,
+};
+use ksv_bytes::Buffer;
+use ksv_expr::{Fault, Path, Step, Value};
+use ksv_memo::{Answer, Engine};
 use ksv_schema::{Desc, load};
 use ksv_yaml::read;
 use std::alloc::{AllocError, Global};
@@ -81,6 +86,27 @@ const SERVED: [(&str, bool); 12] = [
     ),
 ];
 
+/// Nodes of `LIST` over the bytes 2, 1, 97, 0: the kind and the path, and what the node answers.
+const ANSWERS: [(Kind, &str, &str); 14] = [
+    (Kind::Head, "/", "object 0 at 0"),
+    (Kind::Head, "/n", "leaf 0 to 1, end 1"),
+    (Kind::Value, "/n", "2"),
+    (Kind::End, "/n", "end 1"),
+    (Kind::Head, "/items", "list at 1"),
+    (Kind::Value, "/items", "list /items"),
+    (Kind::Rest, "/items/0", "2 elements, end 4"),
+    (Kind::Head, "/items/1", "object 1 at 3"),
+    (Kind::End, "/items/0", "end 3"),
+    (Kind::End, "/items/1", "end 4, last"),
+    (Kind::Value, "/items/0/len", "1"),
+    (Kind::Value, "/items/0/body", "bytes 2 to 3"),
+    (Kind::Value, "/len", "no-such at /len"),
+    (Kind::Value, "/items/0/n", "no-such at /items/0/n"),
+];
+
+/// An attribute whose size needs its own end.
+const CIRCLE: &str = "meta:\n  id: t\nseq:\n  - id: a\n    size: b\n  - id: b\n    type: u1\n";
+
 /// The description that a text states.
 fn described(alloc: Global, text: &str) -> Option<Desc> {
     match read(alloc, text.as_bytes()) {
@@ -158,6 +184,123 @@ fn first_wrongly_served(alloc: Global) -> Result<Option<&'static str>, AllocErro
     Ok(None)
 }
 
+/// What stands there.
+fn head_text(alloc: Global, head: &Head) -> Result<String, AllocError> {
+    match head {
+        Head::Gone(_) => String::from_str(alloc, "gone"),
+        Head::Leaf(leaf) => {
+            let (from, to, end) = (leaf.from, leaf.to, leaf.end);
+            format!(in alloc; "leaf {from} to {to}, end {end}")
+        }
+        Head::Object(object) => {
+            let (type_number, start) = (object.type_number, object.start);
+            format!(in alloc; "object {type_number} at {start}")
+        }
+        Head::List(list) => {
+            let start = list.start;
+            format!(in alloc; "list at {start}")
+        }
+    }
+}
+
+/// A value of one of the kinds that `LIST` has.
+fn value_text(alloc: Global, desc: &Desc, value: &Value) -> Result<String, AllocError> {
+    match value {
+        Value::Int(number) => {
+            let number = number.get();
+            format!(in alloc; "{number}")
+        }
+        Value::Bytes { from, to } => format!(in alloc; "bytes {from} to {to}"),
+        Value::List(path) => {
+            let path = written(alloc, desc, path)?;
+            format!(in alloc; "list {path}")
+        }
+        _ => String::from_str(alloc, "another value"),
+    }
+}
+
+fn given_text(alloc: Global, desc: &Desc, given: &Given) -> Result<String, AllocError> {
+    match given {
+        Given::Head(head) => head_text(alloc, head),
+        Given::Value(value) => value_text(alloc, desc, value),
+        Given::End { place, last } => {
+            if *last {
+                format!(in alloc; "end {place}, last")
+            } else {
+                format!(in alloc; "end {place}")
+            }
+        }
+        Given::Rest { count, place } => format!(in alloc; "{count} elements, end {place}"),
+    }
+}
+
+fn answer_text(
+    alloc: Global,
+    desc: &Desc,
+    answer: &Answer<Node, Given, Fault>,
+) -> Result<String, AllocError> {
+    match answer {
+        Answer::Value(given) => given_text(alloc, desc, given),
+        Answer::Fault(fault) => {
+            let kind = fault.kind;
+            let path = written(alloc, desc, &fault.path)?;
+            format!(in alloc; "{kind} at {path}")
+        }
+        Answer::Circle(node) => {
+            let path = written(alloc, desc, &node.path)?;
+            format!(in alloc; "circle at {path}")
+        }
+    }
+}
+
+/// What a node of a file answers.
+fn answer(
+    alloc: Global,
+    rules: &Described,
+    bytes: &Buffer,
+    kind: Kind,
+    path: &str,
+) -> Result<String, AllocError> {
+    let Some(path) = path_of(alloc, rules.desc(), path.as_bytes())? else {
+        return String::from_str(alloc, "no path");
+    };
+    let mut engine = Engine::new(alloc);
+    let answer = engine.ask(rules, bytes, Node { kind, path })?;
+    answer_text(alloc, rules.desc(), &answer)
+}
+
+/// The first node that answers anything else.
+fn first_wrong_answer(alloc: Global, bytes: &Buffer) -> Result<Option<&'static str>, AllocError> {
+    let Some(desc) = described(alloc, LIST) else {
+        return Ok(Some("no description"));
+    };
+    let rules = Described::new(desc);
+    for (kind, path, expected) in &ANSWERS {
+        if answer(alloc, &rules, bytes, *kind, path)?.as_str() != *expected {
+            return Ok(Some(*expected));
+        }
+    }
+    Ok(None)
+}
+
+#[test]
+fn nodes_answer(rt: HostRuntime) -> Result<(), Fail> {
+    let bytes = Buffer::new(b"\x02\x01\x61\x00".to_vec(rt.alloc())?)?;
+    assert_eq!(rt; first_wrong_answer(rt.alloc(), &bytes)?, None);
+    Ok(())
+}
+
+#[test]
+fn a_size_behind_is_a_circle(rt: HostRuntime) -> Result<(), Fail> {
+    let bytes = Buffer::new(b"\x01\x01".to_vec(rt.alloc())?)?;
+    let Some(desc) = described(rt.alloc(), CIRCLE) else {
+        return Err(Fail::from("no description"));
+    };
+    let found = answer(rt.alloc(), &Described::new(desc), &bytes, Kind::Value, "/a")?;
+    assert_eq!(rt; found.as_str(), "circle at /a");
+    Ok(())
+}
+
 #[test]
 fn names_paths(rt: HostRuntime) -> Result<(), Fail> {
     assert_eq!(rt; first_wrong_path(rt.alloc())?, None);
@@ -181,5 +324,6 @@ fn serves_what_it_can(rt: HostRuntime) -> Result<(), Fail> {
 fn laws_cost_nothing(_rt: HostRuntime) -> Result<(), Fail> {
     evaluation_is_direct();
     next_meets_truth();
+    texts_are_written();
     Ok(())
 }
