@@ -6,12 +6,12 @@
 
 mod ends;
 mod evaluation;
+mod expression_laws;
 mod fields;
 mod heads;
-mod path_text;
-mod expression_laws;
 mod integer;
 mod parts;
+mod path_text;
 mod rules;
 mod serving;
 mod site;
