@@ -144,13 +144,20 @@ fn named(alloc: Global, desc: &Desc, text: &str) -> Result<String, AllocError> {
     }
 }
 
+/// Whether a text names this path.
+fn is_named(alloc: Global, desc: &Desc, text: &str, expected: &str) -> Result<bool, AllocError> {
+    let found = named(alloc, desc, text)?;
+    Ok(found.as_str() == expected)
+}
+
 /// The first text that names another path.
 fn first_wrong_path(alloc: Global) -> Result<Option<&'static str>, AllocError> {
     let Some(desc) = described(alloc, LIST) else {
         return Ok(Some("no description"));
     };
     for (text, expected) in &PATHS {
-        if named(alloc, &desc, text)?.as_str() != *expected {
+        let is_right = is_named(alloc, &desc, text, expected)?;
+        if !is_right {
             return Ok(Some(*text));
         }
     }
@@ -269,6 +276,19 @@ fn answer(
     answer_text(alloc, rules.desc(), &answer)
 }
 
+/// Whether a node answers this.
+fn is_answer(
+    alloc: Global,
+    rules: &Described,
+    bytes: &Buffer,
+    kind: Kind,
+    path: &str,
+    expected: &str,
+) -> Result<bool, AllocError> {
+    let found = answer(alloc, rules, bytes, kind, path)?;
+    Ok(found.as_str() == expected)
+}
+
 /// The first node that answers anything else.
 fn first_wrong_answer(alloc: Global, bytes: &Buffer) -> Result<Option<&'static str>, AllocError> {
     let Some(desc) = described(alloc, LIST) else {
@@ -276,7 +296,8 @@ fn first_wrong_answer(alloc: Global, bytes: &Buffer) -> Result<Option<&'static s
     };
     let rules = Described::new(desc);
     for (kind, path, expected) in &ANSWERS {
-        if answer(alloc, &rules, bytes, *kind, path)?.as_str() != *expected {
+        let is_right = is_answer(alloc, &rules, bytes, *kind, path, expected)?;
+        if !is_right {
             return Ok(Some(*expected));
         }
     }
