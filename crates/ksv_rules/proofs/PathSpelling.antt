@@ -1,8 +1,7 @@
 -- A text that names a path is the text of that path.
-use Rattle.std.proofs.Common.{◌≡◌, ◌∙◌, ℕ, suc, zero, ◌+◌, ◌^◌, ◌<◌, ◌≤◌, Bool, true, false, cond, List, [], ◌∷◌, ◌++◌, length, get_or, reverse, take, Option, Some, None, refl, sym, ap, subst, arith, rules, inl, inr}
+use Rattle.std.proofs.Common.{◌≡◌, ◌∙◌, ℕ, suc, zero, ◌+◌, ◌^◌, ◌<◌, Bool, true, false, cond, List, [], ◌∷◌, ◌++◌, length, get_or, reverse, take, Option, Some, None, refl, sym, ap, arith, rules}
 use Rattle.std.specs.Prelude.{◌&&◌, ◌||◌, ◌==◌, not, nat_lt, decimal, slice_get, slice_index, option_map, option_and_then, unwrap_or}
 use Rattle.std.specs.Char.{is_ascii_digit}
-use Rattle.std.specs.Cmp.{first_so, second_so}
 use Rattle.std.specs.List.{list_all, flat_map, onto_first, position_from, slice_split}
 use Rattle.std.specs.Str.{bytes_eq, is_utf8}
 use Rattle.std.specs.Str.Parse.{digits_value}
@@ -12,11 +11,11 @@ use Rattle.std.proofs.lemmas.Fmt.{decimal-digits_value}
 use Rattle.std.proofs.lemmas.List.{reverse-reverse}
 use Rattle.std.proofs.lemmas.Slice.Eq.{bytes_eq-Decides}
 use Rattle.std.proofs.lemmas.Str.Parse.{IsNumeralModel, numerals_by_value}
-use Rattle.ksv_expr.specs.Trail.{Trail, trail_of, trail_of-steps, root}
+use Rattle.ksv_expr.specs.Trail.{Trail, trail_of-steps, root}
 use Rattle.ksv_expr.specs.declared.step.Step.{Step}
 use Rattle.ksv_expr.specs.declared.step.Step.TheVariants.{Index, Name}
 use Rattle.ksv_schema.specs.Description.{Description, as_text, name, number_of_name}
-use Rattle.ksv_rules.specs.PathTexts.{step_text, steps_text, or_slash, path_text, decimal_of, below_limit, index_of, name_of, name_or_index, step_of, in_front, behind_step, steps_of, is_slash, path_of_steps, path_behind, path_named, TextsAreWritten}
+use Rattle.ksv_rules.specs.PathTexts.{step_text, steps_text, or_slash, path_text, decimal_of, below_limit, index_of, name_of, name_or_index, step_of, behind_step, steps_of, is_slash, path_of_steps, path_behind, TextsAreWritten}
 use Rattle.ksv_rules.proofs.Cuts.{HasFirst, split_has_first}
 
 is_empty : {A : Type 0} (xs : List A) → (length xs == 0) ≡ true → xs ≡ []

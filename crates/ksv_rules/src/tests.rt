@@ -13,7 +13,8 @@ use std::alloc::{AllocError, Global};
 use std::test::Fail;
 
 /// A list of items, each with a size.
-const LIST: &str = "meta:\n  id: t\n  endian: le\nseq:\n  - id: n\n    type: u1\n  - id: items\n    type: item\n    repeat: expr\n    repeat-expr: n\ntypes:\n  item:\n    seq:\n      - id: len\n        type: u1\n      - id: body\n        size: len\n";
+const LIST: &str =
+    "meta:\n  id: t\n  endian: le\nseq:\n  - id: n\n    type: u1\n  - id: items\n    type: item\n    repeat: expr\n    repeat-expr: n\ntypes:\n  item:\n    seq:\n      - id: len\n        type: u1\n      - id: body\n        size: len\n";
 
 /// Texts, and the path that each names in `LIST`, written again.
 const PATHS: [(&str, &str); 24] = [
@@ -66,7 +67,10 @@ const SERVED: [(&str, bool); 12] = [
         "  - id: a\n    type: x\n    size-eos: true\ntypes:\n  x:\n    seq:\n      - id: b\n        type: u1\n",
         false,
     ),
-    ("  - id: a\n    size: _root.b\n  - id: b\n    type: u1\n", false),
+    (
+        "  - id: a\n    size: _root.b\n  - id: b\n    type: u1\n",
+        false,
+    ),
     ("  - id: a\n    size: _io.size\n", false),
     (
         "  - id: a\n    type: x\ntypes:\n  x:\n    seq:\n      - id: b\n        size: _parent.c\n",
