@@ -1,5 +1,5 @@
 -- Where the first part of a text ends that is cut at certain bytes.
-use Rattle.std.proofs.Common.{◌≡◌, ◌∙◌, ◌+◌, ◌<◌, ◌≤◌, length, take, drop, Option, Some, None, arith, inl, inr, ℕ, Bool, List, [], ◌∷◌, true, false, ap, sym, refl}
+use Rattle.std.proofs.Common.{◌≡◌, ◌∙◌, ◌+◌, ◌<◌, ◌≤◌, length, take, drop, Some, None, arith, inl, inr, ℕ, Bool, List, [], ◌∷◌, false, ap, sym, refl}
 use Rattle.std.specs.Prelude.{nat_lt, position}
 use Rattle.std.specs.List.{position_or_len, slice_split}
 use Rattle.std.proofs.lemmas.Bool.{cases_lt, lt-ltb}
