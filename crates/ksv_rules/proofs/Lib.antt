@@ -4,6 +4,7 @@ pub mod Direct
 pub mod Cuts
 pub mod Digits
 pub mod PathTexts
+pub mod PathSpelling
 pub mod Meeting
 pub mod Integers
 pub mod Peeked
