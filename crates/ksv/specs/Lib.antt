@@ -1,9 +1,8 @@
+-- The definitions of sessions.
 pub mod Lines
-pub mod Integers
-pub mod Descriptions
 pub mod Numbers
-pub mod Paths
-pub mod Evaluation
+pub mod Questions
+pub mod Accepted
 pub mod Commands
 pub mod Replies
 pub mod Session

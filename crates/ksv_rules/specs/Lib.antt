@@ -10,3 +10,4 @@ pub mod Served
 pub mod Meaning
 pub mod FromNothing
 pub mod Described
+pub mod PathTexts

@@ -1,0 +1,61 @@
+//! Questions: what the nodes of a described file answer.
+ghost use Rattle.std.specs.Prelude.{◌≡◌};
+ghost use Rattle.ksv_schema.specs.Whole.{plain_pieces};
+ghost use Rattle.ksv_nodes.specs.Turning.{fault_at};
+ghost use Rattle.ksv_rules.specs.Served.{is_served};
+ghost use Rattle.ksv.specs.Questions.{answered};
+ghost use Rattle.ksv.specs.Seen.{ComesTo, IsFault};
+
+use ksv_bytes::Buffer;
+use ksv_expr::{Fault, FaultKind, Path};
+use ksv_rules::{Described, Given, Node};
+use std::alloc::{AllocError, Global};
+
+/// Why there is no text of a value.
+#[derive(Drop)]
+pub(crate) enum Untold {
+    /// A fault stands in its way.
+    Fault(Fault),
+    /// Memory was refused.
+    NoMemory,
+}
+
+impl From<AllocError> for Untold {
+    ghost use Rattle.std.specs.Prelude.{◌≡◌};
+    ghost use Rattle.ksv.specs.declared.question.Untold.TheVariants.{NoMemory};
+
+    ghost from_gives = { λ _ untold. untold ≡ NoMemory };
+
+    fn from(_: AllocError) -> Untold {
+        Untold::NoMemory
+    }
+}
+
+/// A fault of a kind at a path.
+pub(crate) fn fault_at(alloc: Global, path: &Path, kind: FaultKind) -> Untold
+    ensures { IsFault (fault_at path.now kind) result }
+{
+    match path.copy(alloc) {
+        Ok(path) => Untold::Fault(Fault { kind, path }),
+        Err(_) => Untold::NoMemory,
+    }
+}
+
+/// What a node answers on the bytes that stand. Nothing is kept of earlier questions.
+pub(crate) fn ask(
+    _alloc: Global,
+    _described: &Described,
+    _buffer: &Buffer,
+    _node: Node,
+) -> Result<Given, Untold>
+    ensures { ComesTo (answered (plain_pieces _described.now.desc) _buffer.now _node) (λ given. given) result }
+{
+    Err(Untold::NoMemory)
+}
+
+/// Stand-in.
+pub(crate) fn served(_desc: &ksv_schema::Desc) -> bool
+    ensures { result ≡ is_served (plain_pieces _desc.now) }
+{
+    true
+}
