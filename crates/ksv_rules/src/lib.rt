@@ -4,11 +4,7 @@
 //! replies that it had. An engine (`ksv_memo`) calls the rules and keeps what they answer.
 #![tactic(auto)]
 
-mod described;
 mod evaluation;
-mod path_text;
 mod site;
 
-pub use described::Described;
 pub use ksv_nodes::{Ending, Given, Head, Kind, Leaf, List, Node, Object, Source};
-pub use path_text::path_of;
