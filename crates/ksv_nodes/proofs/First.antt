@@ -1,5 +1,5 @@
 -- The first byte of a value in a list that is cut in two.
-use Rattle.std.proofs.Common.{◌≡◌, ℕ, suc, ◌+◌, ◌<◌, List, [], ◌∷◌, ◌++◌, length, Option, Some, None, Bool, true, false, ◌==◌, if◌then◌else◌, option_map, min, ◌≤◌, ◌-◌, take, drop, refl, ap, ◌∙◌, sym, arith, inl, inr}
+use Rattle.std.proofs.Common.{◌≡◌, ℕ, suc, ◌+◌, ◌<◌, List, [], ◌∷◌, ◌++◌, length, Option, Some, None, Bool, true, false, ◌==◌, if◌then◌else◌, option_map, min, ◌≤◌, ◌-◌, take, drop, refl, ap, ◌∙◌, arith, inl, inr}
 use Rattle.std.proofs.lemmas.List.{length-drop, take_all, take_min, drop_all}
 use Rattle.std.proofs.lemmas.Bool.{cases_lt}
 use Rattle.std.specs.Prelude.{slice_range}
@@ -36,6 +36,16 @@ by_first false o p q n e = ap (option_map suc) e ∙ or_behind_suc n p q
 pub first_at_append : (b : ℕ) (xs ys : List ℕ) → first_at b (xs ++ ys) ≡ or_behind (length xs) (first_at b xs) (first_at b ys)
 first_at_append b [] ys = moved_on_zero (first_at b ys)
 first_at_append b (x ∷ xs) ys = by_first (x == b) (first_at b (xs ++ ys)) (first_at b xs) (first_at b ys) (length xs) (first_at_append b xs ys)
+
+below : (c : Bool) (o : Option ℕ) (n i : ℕ) → ((k : ℕ) → o ≡ Some k → k < n) → (if c then Some 0 else option_map suc o) ≡ Some i → i < suc n
+below true o n i h e = let z : 0 ≡ i = cc in omega arith
+below false None n i h e = absurd (cc)
+below false (Some k) n i h e = let s : suc k ≡ i = cc in let lt : k < n = h k refl in omega arith
+
+-- the place is one of the list's
+pub first_at_below : (b : ℕ) (xs : List ℕ) (i : ℕ) → first_at b xs ≡ Some i → i < length xs
+first_at_below b [] i e = absurd (cc)
+first_at_below b (x ∷ xs) i e = below (x == b) (first_at b xs) (length xs) i (λ k e'. first_at_below b xs k e') e
 
 -- a range whose end lies behind the bytes is that up to their end
 pub range_cut : (bytes : List ℕ) (from to : ℕ) → slice_range bytes from (min to (length bytes)) ≡ slice_range bytes from to

@@ -3,4 +3,7 @@ pub mod Reading
 pub mod Rule
 pub mod Turning
 pub mod Truth
+pub mod Bounds
 pub mod Numbers
+pub mod Exact
+pub mod Laws

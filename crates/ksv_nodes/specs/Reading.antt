@@ -1,7 +1,7 @@
 -- Readings: the ways in which rules look at the bytes of a file, with what each rests on. A stream goes from a place to
 -- another, or on to the end of the file. Streams are those of the Kaitai Struct User Guide; what a reading rests on is
 -- this project's own.
-use Rattle.std.specs.Prelude.{ℕ, suc, ◌+◌, ◌-◌, List, [], ◌∷◌, ◌++◌, length, slice_range, Bool, true, false, ◌&&◌, nat_lt, nat_le, ◌==◌, Option, Some, None, option_map, if◌then◌else◌}
+use Rattle.std.specs.Prelude.{ℕ, suc, ◌+◌, List, [], ◌∷◌, ◌++◌, length, slice_range, Bool, true, false, ◌&&◌, nat_lt, nat_le, ◌==◌, Option, Some, None, option_map, if◌then◌else◌}
 use Rattle.ksv_bytes.specs.declared.uses.Use.{Use}
 use Rattle.ksv_bytes.specs.declared.uses.Use.TheVariants as uses
 use Rattle.ksv_expr.specs.declared.value.Stream.{Stream}

@@ -1,6 +1,9 @@
 //! What nodes answer.
 
+ghost use Rattle.std.specs.Prelude.{◌≡◌, IfOk};
+
 use ksv_expr::{Stream, Value};
+use std::alloc::{AllocError, Global};
 
 /// The attribute by which something is read: a member of a type of the description.
 #[derive(Clone, Copy, PartialEq, Eq, Debug)]
@@ -8,7 +11,7 @@ pub struct Source {
     /// The type's number.
     pub type_number: u32,
     /// The member's place among the type's members, from 0.
-    pub member: u32,
+    pub member: usize,
 }
 
 /// Some bytes.
@@ -99,6 +102,26 @@ pub enum Given {
         /// Where it ends.
         place: u32,
     },
+}
+
+impl Given {
+    /// The same answer again.
+    pub fn copy(&self, alloc: Global) -> Result<Given, AllocError>
+        ensures { IfOk result (λ copy. copy ≡ self.now) }
+    {
+        Ok(match self {
+            Given::Head(head) => Given::Head(*head),
+            Given::Value(value) => Given::Value(value.copy(alloc)?),
+            Given::End { place, last } => Given::End {
+                place: *place,
+                last: *last,
+            },
+            Given::Rest { count, place } => Given::Rest {
+                count: *count,
+                place: *place,
+            },
+        })
+    }
 }
 
 /// Where something ends.

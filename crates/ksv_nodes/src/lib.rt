@@ -6,10 +6,17 @@
 #![tactic(auto)]
 
 mod given;
+mod laws;
 mod node;
 mod search;
+#[cfg(test)]
+mod tests;
 mod turn;
 
 pub use given::{Ended, Ending, Given, Head, Leaf, List, Object, Rested, Source};
+pub use laws::{
+    equal_nodes_are_same, nodes_are_numbered, readings_are_local, readings_fit, turns_are_bounded,
+    turns_are_local, turns_fit, turns_meet_truth,
+};
 pub use node::{Kind, Node};
 pub use turn::{Found, Stop, Turn};

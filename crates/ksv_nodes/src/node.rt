@@ -1,6 +1,9 @@
 //! Nodes: what can be asked of a place in a described file.
 
+ghost use Rattle.std.specs.Prelude.{◌≡◌, IfOk};
+
 use ksv_expr::Path;
+use std::alloc::{AllocError, Global};
 
 /// What is asked of a path.
 #[derive(Clone, Copy, PartialEq, Eq, Hash, Debug)]
@@ -22,4 +25,16 @@ pub struct Node {
     pub kind: Kind,
     /// Of which path.
     pub path: Path,
+}
+
+impl Node {
+    /// The same node again.
+    pub fn copy(&self, alloc: Global) -> Result<Node, AllocError>
+        ensures { IfOk result (λ copy. copy ≡ self.now) }
+    {
+        Ok(Node {
+            kind: self.kind,
+            path: self.path.copy(alloc)?,
+        })
+    }
 }

@@ -1,6 +1,8 @@
 -- The definitions of node rules.
 pub mod Sites
+pub mod Told
 pub mod Fields
+pub mod Members
 pub mod Integers
 pub mod Wanted
 pub mod Heads
@@ -9,4 +11,8 @@ pub mod Ends
 pub mod Served
 pub mod Meaning
 pub mod FromNothing
+pub mod Expressions
 pub mod Described
+pub mod Bounds
+pub mod PathTexts
+pub mod ServedCode

@@ -4,7 +4,21 @@
 //! replies that it had. An engine (`ksv_memo`) calls the rules and keeps what they answer.
 #![tactic(auto)]
 
+mod ends;
 mod evaluation;
+mod fields;
+mod heads;
+mod path_text;
+mod expression_laws;
+mod integer;
+mod parts;
+mod rules;
+mod serving;
 mod site;
+mod values;
+mod wanted;
 
+pub use expression_laws::{expressions_are_met, rules_are_bounded};
 pub use ksv_nodes::{Ending, Given, Head, Kind, Leaf, List, Node, Object, Source};
+pub use path_text::path_of;
+pub use serving::served;

@@ -1,6 +1,6 @@
 //! A whole description.
 
-ghost use Rattle.std.specs.Prelude.{◌≡◌, option_map, slice_get};
+ghost use Rattle.std.specs.Prelude.{◌≡◌, map, option_map, slice_get};
 ghost use Rattle.ksv_schema.specs.Description.{name, type_id, members, fields, enum_id, member_id, number_of_name};
 ghost use Rattle.ksv_schema.specs.Resolved.{IsResolved};
 ghost use Rattle.ksv_schema.specs.Pieces.{plain_type, plain_enum};
@@ -117,6 +117,13 @@ impl Desc {
             }
             None => None,
         }
+    }
+
+    /// Its types, by their numbers.
+    pub fn types(&self) -> &[TypeDesc]
+        ensures { map plain_type result.now ≡ (plain_pieces self.now).types }
+    {
+        self.pieces.types.as_slice()
     }
 
     /// The type of this number.
