@@ -8,7 +8,7 @@ ghost use Rattle.ksv.specs.Accepted.{Describes};
 
 use crate::stop::Stop;
 use ksv_expr::{ExprFault, ExprFaultKind};
-use crate::question::served;
+use ksv_rules::served;
 use ksv_schema::{Desc, DescFault, DescFaultKind, load};
 use ksv_yaml::{YamlFault, YamlKind, read};
 use std::alloc::Global;
@@ -123,8 +123,8 @@ pub fn describe(alloc: Global, ksy: &[u8]) -> Result<Desc, Stop>
         Ok(desc) => desc,
         Err(fault) => return Err(of_description(fault)),
     };
-    let Ok(is) = served(&desc) else {
-        return Err(Stop::NoMemory);
-    };
-    if is { Ok(desc) } else { Err(NOT_SERVED) }
+    if !served(&desc) {
+        return Err(NOT_SERVED);
+    }
+    Ok(desc)
 }

@@ -1,8 +1,7 @@
 //! Questions: what the nodes of a described file answer.
-ghost use Rattle.std.specs.Prelude.{◌≡◌, IfOk};
+ghost use Rattle.std.specs.Prelude.{◌≡◌};
 ghost use Rattle.ksv_schema.specs.Whole.{plain_pieces};
 ghost use Rattle.ksv_nodes.specs.Turning.{fault_at};
-ghost use Rattle.ksv_rules.specs.Served.{is_served};
 ghost use Rattle.ksv.specs.Questions.{answered};
 ghost use Rattle.ksv.specs.Seen.{ComesTo, IsFault};
 
@@ -51,11 +50,4 @@ pub(crate) fn ask(
     ensures { ComesTo (answered (plain_pieces _described.now.desc) _buffer.now _node) (λ given. given) result }
 {
     Err(Untold::NoMemory)
-}
-
-/// Stand-in.
-pub(crate) fn served(_desc: &ksv_schema::Desc) -> Result<bool, AllocError>
-    ensures { IfOk result (λ is. is ≡ is_served (plain_pieces _desc.now)) }
-{
-    Err(AllocError)
 }
