@@ -2,6 +2,7 @@
 pub mod Lines
 pub mod Numbers
 pub mod Questions
+pub mod Asked
 pub mod Accepted
 pub mod Commands
 pub mod Replies

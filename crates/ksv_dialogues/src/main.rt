@@ -37,11 +37,8 @@ fn is_right(rt: &HostRuntime, path: &str, dialogue: &Dialogue<'_>) -> io::Result
         return Ok(true);
     }
     println!(rt; "{path}, line {}: {}", dialogue.line, dialogue.title)?;
-    print_first(
-        rt,
-        String::from_utf8_lossy(alloc, found.as_slice())?.as_ref(),
-        wanted.as_str(),
-    )?;
+    let found = String::from_utf8_lossy(alloc, found.as_slice())?;
+    print_first(rt, found.as_str(), wanted.as_str())?;
     Ok(false)
 }
 

@@ -4,7 +4,6 @@
 //! replies that it had. An engine (`ksv_memo`) calls the rules and keeps what they answer.
 #![tactic(auto)]
 
-mod described;
 mod ends;
 mod evaluation;
 mod fields;
@@ -19,7 +18,6 @@ mod site;
 mod values;
 mod wanted;
 
-pub use described::Described;
 pub use expression_laws::{expressions_are_met, rules_are_bounded};
 pub use ksv_nodes::{Ending, Given, Head, Kind, Leaf, List, Node, Object, Source};
 pub use path_text::path_of;
