@@ -1,5 +1,6 @@
 -- The lemmas of this crate.
 pub mod Evaluating
+pub mod Direct
 pub mod Cuts
 pub mod Digits
 pub mod PathTexts

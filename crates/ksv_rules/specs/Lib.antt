@@ -14,5 +14,7 @@ pub mod FromNothing
 pub mod Expressions
 pub mod Described
 pub mod Bounds
+pub mod Lawful
 pub mod PathTexts
 pub mod ServedCode
+pub mod Direct

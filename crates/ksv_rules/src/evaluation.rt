@@ -6,25 +6,12 @@ ghost use Rattle.ksv_expr.specs.Heard.{heard};
 ghost use Rattle.ksv_nodes.specs.Turning.{Runs};
 ghost use Rattle.ksv_rules.specs.Sites.{setting_of};
 ghost use Rattle.ksv_rules.specs.Told.{told};
-ghost use Rattle.ksv_rules.specs.Wanted.{in_object, wanted, expression};
+ghost use Rattle.ksv_rules.specs.Wanted.{wanted, expression};
 
 use crate::site::Site;
-use ksv_expr::{Expr, Fault, FaultKind, Got, Outcome, Path, Stream, Value, Want, eval};
-use ksv_nodes::{Head, Object, Stop, Turn};
-
-/// The object that stands at a path.
-fn object_in(turn: &Turn, path: &Path, head: Head) -> Result<Object, Stop>
-    ensures { Runs (in_object path.now head) (λ object. object) turn.now turn.now result }
-{
-    match head {
-        Head::Object(object) => Ok(object),
-        Head::Gone(_) => Err(Stop::Fault(Fault {
-            kind: FaultKind::Absent,
-            path: path.copy(turn.alloc())?,
-        })),
-        _ => turn.raise(FaultKind::NoSuch),
-    }
-}
+use crate::wanted::in_object;
+use ksv_expr::{Expr, Got, Outcome, Stream, Value, Want, eval};
+use ksv_nodes::{Stop, Turn};
 
 /// The answer to a want. A fault of a node that it asks ends the rule.
 #[tactic(auto, using(ksv_plan::proofs::Running::run_bind), unfolding(crate::specs::Wanted::wanted))]
@@ -39,7 +26,7 @@ fn answer<'a>(turn: &mut Turn<'a>, site: Site, want: Want) -> Result<Got<'a>, St
         }
         Want::Head(path) => {
             let head = turn.head(path.copy(turn.alloc())?)?;
-            let object = object_in(turn, &path, head)?;
+            let object = in_object(turn, &path, head)?;
             Ok(Got::Object {
                 type_number: object.type_number,
                 stream: object.stream,

@@ -4,21 +4,25 @@
 //! replies that it had. An engine (`ksv_memo`) calls the rules and keeps what they answer.
 #![tactic(auto)]
 
+mod described;
 mod ends;
 mod evaluation;
+mod expression_laws;
 mod fields;
 mod heads;
-mod path_text;
-mod expression_laws;
 mod integer;
 mod parts;
+mod laws;
+mod path_text;
 mod rules;
 mod serving;
 mod site;
 mod values;
 mod wanted;
 
+pub use described::Described;
 pub use expression_laws::{expressions_are_met, rules_are_bounded};
 pub use ksv_nodes::{Ending, Given, Head, Kind, Leaf, List, Node, Object, Source};
+pub use laws::{evaluation_is_direct, next_meets_truth};
 pub use path_text::path_of;
 pub use serving::served;
