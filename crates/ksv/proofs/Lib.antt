@@ -5,3 +5,4 @@ pub mod NumberLemmas
 pub mod RunLemmas
 pub mod AnswerLemmas
 pub mod QuestionLemmas
+pub mod AskLemmas
