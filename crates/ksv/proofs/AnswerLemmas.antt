@@ -5,8 +5,8 @@ use Rattle.std.proofs.lemmas.Bool.Decides.{eqb_tells}
 use Rattle.std.proofs.lemmas.List.{append-nil, drop_more, take-append-drop, take_more}
 use Rattle.ksv.specs.Answered.{Answered, Wrote}
 use Rattle.ksv.specs.Commands.{command_of}
-use Rattle.ksv.specs.Descriptions.{Description}
-use Rattle.ksv.specs.Explored.{Explored}
+use Rattle.ksv_schema.specs.Description.{Description}
+use Rattle.ksv.specs.Explored.{Explored, description_of}
 use Rattle.ksv.specs.Lines.{is_line_end, lines_of}
 use Rattle.ksv.specs.Replies.{Answer, Event, answer, is_fair, may_be_refused}
 use Rattle.ksv.specs.Runs.{Breaks, Fed, Serves, Stands}
@@ -22,14 +22,14 @@ fair_if false fair h = refl
 
 -- What `line` says of its reply.
 pub answers : (old new : Explored) (line : List ℕ) (tells : Bool) (before written : List ℕ) (reply : Reply) (result : Result Bool Failed)
-    → answer_seen new.bytes reply ≡ answer old.description old.bytes (record { line = line; refused = is_refusal reply })
-    → (IsTrue (is_refusal reply) → may_be_refused old.bytes (command_of old.description line) ≡ true)
-    → new.description ≡ old.description → Wrote (answer_seen new.bytes reply) tells before written result
+    → answer_seen new.bytes reply ≡ answer (description_of old) old.bytes (record { line = line; refused = is_refusal reply })
+    → (IsTrue (is_refusal reply) → may_be_refused old.bytes (command_of (description_of old) line) ≡ true)
+    → description_of new ≡ description_of old → Wrote (answer_seen new.bytes reply) tells before written result
     → Answered old line new tells before written result
 answers old new line tells before written reply result is fair kept wrote = record {
   event = record { line = line; refused = is_refusal reply };
   line_is = refl;
-  fair = fair_if (is_refusal reply) (may_be_refused old.bytes (command_of old.description line)) fair;
+  fair = fair_if (is_refusal reply) (may_be_refused old.bytes (command_of (description_of old) line)) fair;
   description = kept;
   bytes = ap (λ (a : Answer). a.bytes) is;
   wrote = subst (λ a. Wrote a tells before written result) is wrote;
@@ -44,7 +44,7 @@ pub record Answers (d : Description) (now line now' : List ℕ) (tells : Bool) (
   pub wrote : Wrote (answer d now event) tells before written result
 
 pub in_run : (d : Description) (old new : Explored) (line line' : List ℕ) (tells : Bool) (before written : List ℕ) (result : Result Bool Failed)
-    → old.description ≡ d → line ≡ line' → Answered old line new tells before written result → Answers d old.bytes line' new.bytes tells before written result
+    → description_of old ≡ d → line ≡ line' → Answered old line new tells before written result → Answers d old.bytes line' new.bytes tells before written result
 in_run d old new line line' tells before written result is same a = subst (λ d. Answers d old.bytes line' new.bytes tells before written result) is (record {
   event = a.event;
   line_is = a.line_is ∙ same;
@@ -80,7 +80,7 @@ at_line_end d begin taken now line before written now' written' piece left i tel
 
 -- The same by what `answer_line` says.
 pub fed_at : (d : Description) (begin taken line line' before written written' piece left : List ℕ) (i : ℕ) (tells : Bool) (old new : Explored)
-    → i < length piece → get_or piece i 0 ≡ 10 → old.description ≡ d → line' ≡ line
+    → i < length piece → get_or piece i 0 ≡ 10 → description_of old ≡ d → line' ≡ line
     → Stands d begin (taken ++ take i piece) old.bytes line tells before written
     → (result : Result Bool Failed) → Answered old line' new tells written written' result
     → Fed d begin ((taken ++ take i piece) ++ 10 ∷ []) (taken ++ (piece ++ left)) new.bytes [] tells before written' result
@@ -107,7 +107,7 @@ not_line_end byte other = elim (eqb_tells byte 10) [ inl p ↦ absurd (other p.1
 
 -- The end of the input: the session has ended or not, or a write fails.
 pub at_input_end : (d : Description) (begin taken line line' before written written' : List ℕ) (tells : Bool) (old new : Explored)
-    → old.description ≡ d → line' ≡ line → Stands d begin taken old.bytes line tells before written
+    → description_of old ≡ d → line' ≡ line → Stands d begin taken old.bytes line tells before written
     → (b ended : Bool) → ended ≡ b → Answered old line' new tells written written' (Ok ended) → Serves d begin taken new.bytes tells before written' b
 at_input_end d begin taken line line' before written written' tells old new kept same s b ended is answered =
     let a = in_run d old new line' line tells written written' (Ok ended) kept same answered in
@@ -115,7 +115,7 @@ at_input_end d begin taken line line' before written written' tells old new kept
     (last_line d begin taken old.bytes line before written new.bytes written' tells s a.event a.line_is a.fair a.bytes a.wrote.1)
 
 pub at_input_broken : (d : Description) (begin taken line line' before written written' : List ℕ) (tells : Bool) (old new : Explored)
-    → old.description ≡ d → line' ≡ line → Stands d begin taken old.bytes line tells before written
+    → description_of old ≡ d → line' ≡ line → Stands d begin taken old.bytes line tells before written
     → (failed : Failed) → Answered old line' new tells written written' (Err failed) → Breaks d begin taken new.bytes tells before written'
 at_input_broken d begin taken line line' before written written' tells old new kept same s failed answered =
     let a = in_run d old new line' line tells written written' (Err failed) kept same answered in

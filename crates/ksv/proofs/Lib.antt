@@ -1,10 +1,8 @@
-pub mod IntegerLemmas
 pub mod CommandLineLemmas
 pub mod WordLemmas
 pub mod CutLemmas
 pub mod NumberLemmas
-pub mod PathLemmas
-pub mod ReadingLemmas
-pub mod EvaluationLemmas
 pub mod RunLemmas
 pub mod AnswerLemmas
+pub mod QuestionLemmas
+pub mod AskLemmas

@@ -1,6 +1,6 @@
 -- What stands when one line is answered over a device.
 use Rattle.std.specs.Prelude.{◌≡◌, ℕ, Bool, List, ◌++◌, take, true, IsTrue, Result, Ok, Err}
-use Rattle.ksv.specs.Explored.{Explored}
+use Rattle.ksv.specs.Explored.{Explored, description_of}
 use Rattle.ksv.specs.Replies.{Answer, Event, answer, is_fair}
 use Rattle.ksv.specs.declared.device.Failed.{Failed}
 
@@ -13,7 +13,7 @@ Wrote a tells before written (Err failed) = IsTrue tells → (count : ℕ) × (w
 pub record Answered (old : Explored) (line : List ℕ) (new : Explored) (tells : Bool) (before written : List ℕ) (result : Result Bool Failed) : Type 0 where
   pub event : Event
   pub line_is : event.line ≡ line
-  pub fair : is_fair old.description old.bytes event ≡ true
-  pub description : new.description ≡ old.description
-  pub bytes : new.bytes ≡ (answer old.description old.bytes event).bytes
-  pub wrote : Wrote (answer old.description old.bytes event) tells before written result
+  pub fair : is_fair (description_of old) old.bytes event ≡ true
+  pub description : description_of new ≡ description_of old
+  pub bytes : new.bytes ≡ (answer (description_of old) old.bytes event).bytes
+  pub wrote : Wrote (answer (description_of old) old.bytes event) tells before written result

@@ -1,17 +1,17 @@
 -- Command lines: each is nothing, one command with its values, or a refusal. Checks stand in their order: the
 -- length of the line, the command's name, the number of words, the arguments from left to right.
-use Rattle.std.specs.Prelude.{ℕ, ◌==◌, nat_lt, List, [], ◌∷◌, length, codes, slice_index, Option, Some, None, if◌then◌else◌}
+use Rattle.std.specs.Prelude.{ℕ, Bool, true, false, ◌==◌, nat_lt, List, [], ◌∷◌, length, codes, slice_index, Option, Some, None, if◌then◌else◌}
 use Rattle.std.specs.Result.{result_ok}
 use Rattle.std.specs.Str.{bytes_eq}
 use Rattle.hex.specs.Hex.{decode_of}
 use Rattle.ksv.specs.Lines.{without_carriage_return, words_of}
-use Rattle.ksv.specs.Descriptions.{Description}
+use Rattle.ksv_schema.specs.Description.{Description}
 use Rattle.ksv.specs.Numbers.{number_of}
-use Rattle.ksv.specs.Paths.{path_of}
+use Rattle.ksv_expr.specs.Trail.{Trail}
+use Rattle.ksv_rules.specs.PathTexts.{path_named}
 use Rattle.ksv.specs.declared.command.Command.{Command}
 use Rattle.ksv.specs.declared.command.Command.TheVariants.{App, Blank, Get, Quit, Refused, Set, Size}
 use Rattle.ksv.specs.declared.refusal.LineRefusal.TheVariants as refusals
-use Rattle.ksv.specs.declared.step.Step.{Step}
 
 -- the most bytes of a line, its LF aside
 abbrev pub line_limit : ℕ
@@ -24,19 +24,24 @@ bytes_of word = result_ok (decode_of word)
 abbrev pub wrong_arguments : Command
 wrong_arguments = Refused refusals.WrongArguments
 
+-- whether a command asks the described file
+abbrev pub is_question : Command → Bool
+is_question (Get path) = true
+is_question _ = false
+
 -- the word of a list that has just one
 abbrev pub only : List (List ℕ) → Option (List ℕ)
 only [] = None
 only (word ∷ []) = Some word
 only (word ∷ next ∷ words) = None
 
-abbrev pub get_path : Option (List Step) → Command
+abbrev pub get_path : Option Trail → Command
 get_path (Some path) = Get path
 get_path None = Refused refusals.BadPath
 
 -- `get PATH`
 abbrev pub get_of : Description → Option (List ℕ) → Command
-get_of d (Some path) = get_path (path_of d path)
+get_of d (Some path) = get_path (path_named d path)
 get_of d None = wrong_arguments
 
 abbrev pub set_bytes : ℕ → Option (List ℕ) → Command

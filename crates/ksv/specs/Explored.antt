@@ -1,8 +1,14 @@
 -- What a contract sees of a session.
 use Rattle.std.specs.Prelude.{ℕ, List}
-use Rattle.ksv.specs.Descriptions.{Description}
+use Rattle.ksv_schema.specs.declared.desc.pieces.Pieces.{Pieces}
+use Rattle.ksv_schema.specs.Description.{Description}
+use Rattle.ksv_schema.specs.Whole.{plain_pieces}
 
--- a description, and the bytes that stand
+-- the pieces of a description, and the bytes that stand
 pub record Explored : Type 0 where
-  pub description : Description
+  pub pieces : Pieces
   pub bytes : List ℕ
+
+-- the description that they make
+unfoldable pub description_of : Explored → Description
+description_of e = plain_pieces e.pieces

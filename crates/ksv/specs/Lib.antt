@@ -1,9 +1,9 @@
+-- The definitions of sessions.
 pub mod Lines
-pub mod Integers
-pub mod Descriptions
 pub mod Numbers
-pub mod Paths
-pub mod Evaluation
+pub mod Questions
+pub mod Asked
+pub mod Accepted
 pub mod Commands
 pub mod Replies
 pub mod Session

@@ -1,5 +1,5 @@
 -- Numbers of a command line, in decimal.
-use Rattle.std.specs.Prelude.{ℕ, ◌^◌, ◌==◌, ◌&&◌, ◌||◌, not, nat_le, nat_lt, Bool, List, length, slice_index, Option, Some, None, if◌then◌else◌}
+use Rattle.std.specs.Prelude.{ℕ, ◌^◌, ◌&&◌, nat_le, nat_lt, List, length, Option, Some, None, if◌then◌else◌}
 use Rattle.std.specs.Char.{is_ascii_digit}
 use Rattle.std.specs.List.{list_all}
 use Rattle.std.specs.Str.Parse.{digits_value}
@@ -14,17 +14,3 @@ decimal_of text =
 -- a place or a number of bytes: 1 to 20 digits
 abbrev pub number_of : List ℕ → Option ℕ
 number_of text = if nat_le (length text) 20 then decimal_of text else None
-
--- indices of lists are below this
-abbrev pub index_limit : ℕ
-index_limit = 1048576
-
-abbrev pub below_limit : Option ℕ → Option ℕ
-below_limit (Some index) = if nat_lt index index_limit then Some index else None
-below_limit None = None
-
--- an index of a list: no leading zero
-abbrev pub index_of : List ℕ → Option ℕ
-index_of text =
-    if length text == 1 || not (slice_index text 0 == 48) then below_limit (decimal_of text)
-    else None

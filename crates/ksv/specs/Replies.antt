@@ -1,5 +1,4 @@
 -- What a line is answered, and the bytes that stand then.
-use Rattle.std.specs.Fmt.{signed_decimal}
 use Rattle.std.specs.Prelude.{ℕ, ◌==◌, Bool, true, false, List, [], ◌++◌, length, codes, decimal, Result, Ok, Err, is_ok, if◌then◌else◌}
 use Rattle.ksv_bytes.specs.Edits.{append, overwrite}
 use Rattle.ksv_bytes.specs.declared.edit.EditRefusal.{EditRefusal}
@@ -7,34 +6,12 @@ use Rattle.ksv_bytes.specs.declared.edit.EditRefusal.TheVariants as edits
 use Rattle.ksv.specs.Commands.{command_of}
 use Rattle.ksv.specs.declared.command.Command.{Command}
 use Rattle.ksv.specs.declared.command.Command.TheVariants.{App, Blank, Get, Quit, Refused, Set, Size}
-use Rattle.ksv.specs.Descriptions.{Description}
-use Rattle.ksv.specs.Evaluation.{value_of}
-use Rattle.ksv.specs.Paths.{path_text}
-use Rattle.ksv.specs.declared.evaluation.Fault.{Fault}
-use Rattle.ksv.specs.declared.evaluation.FaultKind.{FaultKind}
-use Rattle.ksv.specs.declared.evaluation.FaultKind.TheVariants as faults
-use Rattle.ksv.specs.declared.evaluation.Value.{Value}
-use Rattle.ksv.specs.declared.evaluation.Value.TheVariants as values
+use Rattle.ksv_schema.specs.Description.{Description}
+use Rattle.ksv.specs.Questions.{question_text}
 use Rattle.ksv.specs.declared.refusal.LineRefusal.{LineRefusal}
 use Rattle.ksv.specs.declared.refusal.LineRefusal.TheVariants as refusals
 
--- The texts of values and of faults.
-
-abbrev pub value_text : Description → Value → List ℕ
-value_text d (values.Integer n) = signed_decimal n
-value_text d values.Object = codes "object " ++ d.id
-
-abbrev pub kind_text : FaultKind → List ℕ
-kind_text faults.NoSuch = codes "no-such"
-kind_text faults.EndOfBytes = codes "end-of-bytes"
-
--- a fault is named with the path where it arose
-abbrev pub fault_text : Description → Fault → List ℕ
-fault_text d fault = codes "fault " ++ kind_text fault.kind ++ codes " at " ++ path_text d fault.path
-
-abbrev pub answer_text : Description → Result Value Fault → List ℕ
-answer_text d (Ok value) = value_text d value
-answer_text d (Err fault) = fault_text d fault
+-- The texts of refusals.
 
 abbrev pub line_refusal_text : LineRefusal → List ℕ
 line_refusal_text refusals.UnknownCommand = codes "error: unknown command\n"
@@ -71,7 +48,7 @@ edited b (Err refusal) = said b (edit_refusal_text refusal)
 abbrev pub answer_to : Description → List ℕ → Command → Answer
 answer_to d b Blank = said b []
 answer_to d b (Refused refusal) = said b (line_refusal_text refusal)
-answer_to d b (Get path) = said b (answer_text d (value_of d b path) ++ codes "\n")
+answer_to d b (Get path) = said b (question_text d b path ++ codes "\n")
 answer_to d b (Set at bytes) = edited b (overwrite b at bytes)
 answer_to d b (App bytes) = edited b (append b bytes)
 answer_to d b Size = said b (codes "size " ++ decimal (length b) ++ codes "\n")

@@ -2,22 +2,23 @@
 use Rattle.std.specs.Prelude.{◌≡◌, ℕ, Bool, true, false, List, [], ◌++◌, length, codes, decimal, Option, Some, None, Result, Ok, Err, string_bytes}
 use Rattle.ksv_bytes.specs.declared.edit.EditRefusal.{EditRefusal}
 use Rattle.ksv_bytes.specs.declared.edit.EditRefusal.TheVariants as edits
+use Rattle.ksv_expr.specs.declared.fault.Fault.{Fault}
+use Rattle.ksv.specs.declared.question.Untold.{Untold}
+use Rattle.ksv.specs.declared.question.Untold.TheVariants as untolds
 use Rattle.ksv.specs.Replies.{Answer, edit_refusal_text, no_memory_text}
-use Rattle.ksv.specs.declared.reading.Unread.{Unread}
-use Rattle.ksv.specs.declared.reading.Unread.TheVariants as unreads
 use Rattle.ksv.specs.declared.reply.Reply.{Reply}
 use Rattle.ksv.specs.declared.reply.Reply.TheVariants as replies
 
--- what was read of a description, want of memory aside
-abbrev pub Reads : {X A : Type 0} → Option A → (X → A) → Result X Unread → Type 0
-Reads stated view (Ok x) = stated ≡ Some (view x)
-Reads stated view (Err (unreads.Line n)) = stated ≡ None
-Reads stated view (Err unreads.NoMemory) = Unit {0}
+-- what was returned, seen by view, is a value that was to come or its fault, want of memory aside
+abbrev pub ComesTo : {X A : Type 0} → Result A Fault → (X → A) → Result X Untold → Type 0
+ComesTo r view (Ok x) = r ≡ Ok (view x)
+ComesTo r view (Err untolds.NoMemory) = Unit {0}
+ComesTo r view (Err (untolds.Fault f)) = r ≡ Err f
 
--- a line is at fault
-abbrev pub IsLine : Unread → Type 0
-IsLine (unreads.Line n) = Unit {0}
-IsLine unreads.NoMemory = ⊥
+-- what stands in the way is this fault, want of memory aside
+abbrev pub IsFault : Fault → Untold → Type 0
+IsFault f untolds.NoMemory = Unit {0}
+IsFault f (untolds.Fault e) = e ≡ f
 
 -- the bytes of a reply, its LF among them
 abbrev pub reply_text : Reply → List ℕ

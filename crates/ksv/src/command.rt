@@ -1,13 +1,16 @@
 //! Reads a line: nothing, a command with its values, or a refusal.
-ghost use Rattle.std.specs.Prelude.{◌≡◌, ◌≤◌, length, IfSome, option_copied};
+ghost use Rattle.std.specs.Prelude.{◌≡◌, ◌≤◌, length, IfOk, IfSome, IsTrue, OnErr, option_copied};
+ghost use Rattle.ksv_schema.specs.Whole.{plain_pieces};
 ghost use Rattle.ksv.specs.Lines.{words_of};
-ghost use Rattle.ksv.specs.Commands.{alone, app_of, command_named, command_of, get_of, only, set_of};
+ghost use Rattle.ksv.specs.Commands.{alone, app_of, command_named, command_of, get_of, is_question, only, set_of};
 
-use crate::description::Desc;
 use crate::number::{EditBytes, edit_bytes, number};
-use crate::path::{Path, path_named};
 use crate::refusal::LineRefusal;
 use crate::words::{line_text, next_word, no_word};
+use ksv_expr::Path;
+use ksv_rules::path_of;
+use ksv_schema::Desc;
+use std::alloc::{AllocError, Global};
 
 /// The most bytes of a line, its LF aside.
 const LINE_LIMIT: usize = 4096;
@@ -40,16 +43,17 @@ fn only_word(text: &[u8]) -> Option<&[u8]>
     if no_word(rest) { Some(word) } else { None }
 }
 
-/// Reads the arguments of `get`.
-fn get(desc: &Desc, arguments: &[u8]) -> Command
-    ensures { result ≡ get_of desc.now (only (words_of arguments.now)) }
+/// Reads the arguments of `get`. Only a path takes memory.
+fn get(alloc: Global, desc: &Desc, arguments: &[u8]) -> Result<Command, AllocError>
+    ensures command { IfOk result (λ command. command ≡ get_of (plain_pieces desc.now) (only (words_of arguments.now))) }
+    ensures refused { OnErr result (IsTrue (is_question (get_of (plain_pieces desc.now) (only (words_of arguments.now))))) }
 {
     let Some(path) = only_word(arguments) else {
-        return Command::Refused(LineRefusal::WrongArguments);
+        return Ok(Command::Refused(LineRefusal::WrongArguments));
     };
-    match path_named(desc, path) {
-        Some(path) => Command::Get(path),
-        None => Command::Refused(LineRefusal::BadPath),
+    match path_of(alloc, desc, path)? {
+        Some(path) => Ok(Command::Get(path)),
+        None => Ok(Command::Refused(LineRefusal::BadPath)),
     }
 }
 
@@ -99,37 +103,44 @@ fn without_arguments(command: Command, arguments: &[u8]) -> Command
 }
 
 /// Reads the arguments of the command of this name.
-fn command_with(desc: &Desc, name: &[u8], arguments: &[u8]) -> Command
+fn command_with(
+    alloc: Global,
+    desc: &Desc,
+    name: &[u8],
+    arguments: &[u8],
+) -> Result<Command, AllocError>
     requires { length arguments.now ≤ 4096 }
-    ensures { result ≡ command_named desc.now name.now (words_of arguments.now) }
+    ensures command { IfOk result (λ command. command ≡ command_named (plain_pieces desc.now) name.now (words_of arguments.now)) }
+    ensures refused { OnErr result (IsTrue (is_question (command_named (plain_pieces desc.now) name.now (words_of arguments.now)))) }
 {
     if name == b"get".as_slice() {
-        get(desc, arguments)
+        get(alloc, desc, arguments)
     } else if name == b"set".as_slice() {
-        set(arguments)
+        Ok(set(arguments))
     } else if name == b"app".as_slice() {
-        app(arguments)
+        Ok(app(arguments))
     } else if name == b"size".as_slice() {
-        without_arguments(Command::Size, arguments)
+        Ok(without_arguments(Command::Size, arguments))
     } else if name == b"quit".as_slice() {
-        without_arguments(Command::Quit, arguments)
+        Ok(without_arguments(Command::Quit, arguments))
     } else {
-        Command::Refused(LineRefusal::UnknownCommand)
+        Ok(Command::Refused(LineRefusal::UnknownCommand))
     }
 }
 
-/// Reads a line, given without its LF. It takes no memory.
-pub(crate) fn read_line(desc: &Desc, line: &[u8]) -> Command
-    ensures { result ≡ command_of desc.now line.now }
+/// Reads a line, given without its LF. Only a question takes memory, for its path.
+pub(crate) fn read_line(alloc: Global, desc: &Desc, line: &[u8]) -> Result<Command, AllocError>
+    ensures command { IfOk result (λ command. command ≡ command_of (plain_pieces desc.now) line.now) }
+    ensures refused { OnErr result (IsTrue (is_question (command_of (plain_pieces desc.now) line.now))) }
 {
     if line.len() > LINE_LIMIT {
-        return Command::Refused(LineRefusal::LineTooLong);
+        return Ok(Command::Refused(LineRefusal::LineTooLong));
     }
     let Some((name, arguments)) = next_word(line_text(line)) else {
-        return Command::Blank;
+        return Ok(Command::Blank);
     };
     if name[0] == b'#' {
-        return Command::Blank;
+        return Ok(Command::Blank);
     }
-    command_with(desc, name, arguments)
+    command_with(alloc, desc, name, arguments)
 }

@@ -1,87 +1,130 @@
-//! What a description says.
-ghost use Rattle.std.specs.Prelude.{◌≡◌, ◌≤◌, length, string_bytes};
+//! Reads a description.
+ghost use Rattle.std.specs.Prelude.{◌≡◌, ◌⊎◌, IfOk, IfErr};
+ghost use Rattle.ksv_yaml.specs.declared.fault.YamlKind.TheVariants as yaml_kinds;
+ghost use Rattle.ksv_schema.specs.Description.{Description};
+ghost use Rattle.ksv_schema.specs.Whole.{plain_pieces};
+ghost use Rattle.ksv_schema.specs.declared.fault.DescFaultKind.TheVariants as kinds;
+ghost use Rattle.ksv.specs.Accepted.{Describes};
 
-use crate::integer::IntegerType;
-use std::marker::Model;
+use crate::stop::Stop;
+use ksv_expr::{ExprFault, ExprFaultKind};
+use ksv_rules::served;
+use ksv_schema::{Desc, DescFault, DescFaultKind, load};
+use ksv_yaml::{YamlFault, YamlKind, read};
+use std::alloc::Global;
 
-/// An integer with a name.
-#[derive(Drop)]
-pub struct Field {
-    name: String,
-    integer: IntegerType,
+/// What a message tells of a description that isn't served yet.
+const NOT_SERVED: Stop = Stop::Line {
+    line: 1,
+    code: "S8",
+    text: "left-out feature",
+    at: None,
+};
+
+/// A line or a place as messages tell it.
+fn shown(number: usize) -> u32 {
+    u32::try_from(number).unwrap_or(u32::MAX)
 }
 
-impl Model for Field {
-    ghost use Rattle.std.specs.Prelude.{string_bytes};
-    ghost use Rattle.ksv.specs.Descriptions.{Field as NamedInteger};
-
-    ghost Value = { NamedInteger };
-
-    ghost view = { λ field. record { name = string_bytes field.name; integer = field.integer } };
-}
-
-impl Field {
-    /// A field of this name and type.
-    pub(crate) fn new(name: String, integer: IntegerType) -> Field
-        ensures { result ≡ record { name = string_bytes name; integer = integer } }
-    {
-        Field { name, integer }
-    }
-
-    /// Its name.
-    pub fn name(&self) -> &str
-        ensures { result.now ≡ self.now.name }
-    {
-        self.name.as_str()
-    }
-
-    /// Its type.
-    pub fn integer(&self) -> IntegerType
-        ensures { result ≡ self.now.integer }
-    {
-        self.integer
+/// What is wrong with a text that has no tree.
+fn yaml_text(kind: YamlKind) -> &'static str {
+    match kind {
+        YamlKind::NotUtf8 => "not UTF-8",
+        YamlKind::TooLong => "too long",
+        YamlKind::Tab => "tab in the indentation",
+        YamlKind::Indentation => "indentation fits no level",
+        YamlKind::KeyTwice => "key twice",
+        YamlKind::LeftOut => "left-out form",
+        YamlKind::NotClosed => "not closed",
+        YamlKind::ValueForKey => "value in a key's place",
+        YamlKind::TooDeep => "nested too deeply",
+        YamlKind::NoMemory => "no memory",
     }
 }
 
-/// A description: the id of its root type, and the fields of that type in written order, at most 64 of them.
-#[derive(Drop)]
-pub struct Desc {
-    id: String,
-    fields: Vec<Field>,
+/// What is wrong with a text that is no expression, with its code.
+fn expression_text(kind: ExprFaultKind) -> &'static str {
+    match kind {
+        ExprFaultKind::UnexpectedCharacter => "expression: X1 unexpected character",
+        ExprFaultKind::UnexpectedEnd => "expression: X2 unexpected end",
+        ExprFaultKind::LeftOutForm => "expression: X3 left-out form",
+        ExprFaultKind::NumberOutsideRange => "expression: X4 number outside the range",
+        ExprFaultKind::TooLarge => "expression: X5 too large",
+        ExprFaultKind::NoMemory => "expression: X6 no memory",
+    }
 }
 
-impl Model for Desc {
-    ghost use Rattle.std.specs.Prelude.{◌≤◌, length, string_bytes};
-    ghost use Rattle.ksv.specs.Descriptions.{Description};
-
-    ghost Value = { Description };
-
-    ghost view = { λ desc. record { id = string_bytes desc.id; fields = desc.fields.items } };
-
-    ghost invariant = { λ desc. length desc.fields.items ≤ 64 };
+/// What is wrong with a tree that states no description.
+fn description_text(kind: DescFaultKind) -> &'static str {
+    match kind {
+        DescFaultKind::UnknownKey => "unknown key",
+        DescFaultKind::MissingKey => "missing key",
+        DescFaultKind::KeysAgainst => "keys against each other",
+        DescFaultKind::UnknownName => "unknown name",
+        DescFaultKind::NoByteOrder => "no byte order",
+        DescFaultKind::BadValue => "bad name or value",
+        DescFaultKind::WrongCount => "wrong count of arguments",
+        DescFaultKind::LeftOut => "left-out feature",
+        DescFaultKind::OverLimit => "over a limit",
+        DescFaultKind::NoExpression(fault) => expression_text(fault.kind),
+        DescFaultKind::NoMemory => "no memory",
+    }
 }
 
-impl Desc {
-    /// The description of these fields.
-    pub(crate) fn new(id: String, fields: Vec<Field>) -> Desc
-        requires { length fields.items ≤ 64 }
-        ensures { result ≡ record { id = string_bytes id; fields = fields.items } }
-    {
-        Desc { id, fields }
+/// The place in an expression at which it is none.
+fn place(kind: DescFaultKind) -> Option<u32> {
+    match kind {
+        DescFaultKind::NoExpression(ExprFault { at, .. }) => Some(shown(at)),
+        _ => None,
     }
+}
 
-    /// The id of the root type.
-    pub fn id(&self) -> &str
-        ensures { result.now ≡ self.now.id }
-    {
-        self.id.as_str()
+/// Why the program stops where a text has no tree.
+fn of_yaml(fault: YamlFault) -> Stop
+    ensures { fault.kind ≡ yaml_kinds.NoMemory → result ≡ Stop.NoMemory }
+{
+    match fault.kind {
+        YamlKind::NoMemory => Stop::NoMemory,
+        kind => Stop::Line {
+            line: shown(fault.line),
+            code: kind.code(),
+            text: yaml_text(kind),
+            at: None,
+        },
     }
+}
 
-    /// The fields of the root type, in written order.
-    pub fn fields(&self) -> &[Field]
-        ensures fields { result.now ≡ self.now.fields }
-        ensures few { length result.now ≤ 64 }
-    {
-        self.fields.as_slice()
+/// Why the program stops where a tree states no description.
+fn of_description(fault: DescFault) -> Stop
+    ensures { fault.kind ≡ kinds.NoMemory → result ≡ Stop.NoMemory }
+{
+    match fault.kind {
+        DescFaultKind::NoMemory => Stop::NoMemory,
+        kind => Stop::Line {
+            line: shown(fault.line),
+            code: kind.code(),
+            text: description_text(kind),
+            at: place(kind),
+        },
     }
+}
+
+/// Reads the text of a description. It is refused where it spells no tree, where its tree states no description, and
+/// where the description has a feature that isn't served yet.
+pub fn describe(alloc: Global, ksy: &[u8]) -> Result<Desc, Stop>
+    ensures described { IfOk result (λ desc. Describes ksy.now (plain_pieces desc)) }
+    ensures refused { IfErr result (λ stop. (stop ≡ Stop.NoMemory) ⊎ ((d : Description) → Describes ksy.now d → ⊥)) }
+{
+    let tree = match read(alloc, ksy) {
+        Ok(tree) => tree,
+        Err(fault) => return Err(of_yaml(fault)),
+    };
+    let desc = match load(alloc, &tree) {
+        Ok(desc) => desc,
+        Err(fault) => return Err(of_description(fault)),
+    };
+    if !served(&desc) {
+        return Err(NOT_SERVED);
+    }
+    Ok(desc)
 }

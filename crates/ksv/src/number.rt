@@ -2,16 +2,13 @@
 ghost use Rattle.std.specs.Prelude.{◌≡◌, ◌≤◌, length};
 ghost use Rattle.std.specs.Char.{is_ascii_digit};
 ghost use Rattle.std.specs.List.{list_all};
-ghost use Rattle.ksv.specs.Numbers.{decimal_of, index_of, number_of};
+ghost use Rattle.ksv.specs.Numbers.{decimal_of, number_of};
 ghost use Rattle.ksv.specs.Commands.{bytes_of};
 
 use std::marker::Model;
 
 /// The most digits of a number.
 const DIGIT_LIMIT: usize = 20;
-
-/// Indices of lists are below this.
-const INDEX_LIMIT: u64 = 1_048_576;
 
 /// The most bytes that one line can carry: half as many as it has bytes.
 const EDIT_LIMIT: usize = 2048;
@@ -41,19 +38,6 @@ pub(crate) fn number(text: &[u8]) -> Option<u64>
         return None;
     }
     decimal(text)
-}
-
-/// The index of an element: digits without a leading zero, of a number below 1,048,576.
-pub(crate) fn index(text: &[u8]) -> Option<u32>
-    ensures { result ≡ index_of text.now }
-{
-    if text.len() != 1 && !text.is_empty() && text[0] == b'0' {
-        return None;
-    }
-    match decimal(text) {
-        Some(value) if value < INDEX_LIMIT => Some(value as u32),
-        _ => None,
-    }
 }
 
 /// The bytes that an edit carries, in room of their own, so that reading them takes no memory.

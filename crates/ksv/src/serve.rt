@@ -1,14 +1,16 @@
 //! A session over devices.
 ghost use Rattle.std.specs.Prelude.{◌≡◌, ◌≢◌, ◌≤◌, ◌<◌, ◌+◌, ◌-◌, ◌^◌, ◌↔◌, ◌++◌, List, ℕ, false, [], length, IsTrue, is_err, IsErr, IfOk, OnErr};
 ghost use Rattle.ksv.specs.Answered.{Answered};
-ghost use Rattle.ksv.specs.Descriptions.{Description};
+ghost use Rattle.ksv_schema.specs.Description.{Description};
+ghost use Rattle.ksv_schema.specs.Whole.{plain_pieces};
+ghost use Rattle.ksv.specs.Explored.{description_of};
 ghost use Rattle.ksv.specs.Runs.{Ended, Fed, Stands};
 
-use crate::description::Desc;
 use crate::device::{Failed, Sink, Source, send};
 use crate::line::Line;
 use crate::session::{NewFault, Session};
 use ksv_bytes::Buffer;
+use ksv_schema::Desc;
 use std::alloc::Global;
 
 /// Why a session ended.
@@ -48,10 +50,10 @@ fn feed<W: Sink>(
     writer: &mut W,
 ) -> Result<bool, Failed>
     requires { W.failed writer.old ≡ false }
-    ensures goes { (d : Description) (begin taken before left : List ℕ) → session.old.description ≡ d
+    ensures goes { (d : Description) (begin taken before left : List ℕ) → description_of session.old ≡ d
         → Stands d begin taken session.old.bytes line.old W.tells before (W.bytes writer.old)
         → Fed d begin (taken ++ piece.now) (taken ++ (piece.now ++ left)) session.new.bytes line.new W.tells before (W.bytes writer.new) result }
-    ensures kept { session.new.description ≡ session.old.description }
+    ensures kept { description_of session.new ≡ description_of session.old }
     ensures fault { W.failed writer.new ≡ is_err result }
 {
     for byte in piece {
@@ -71,7 +73,7 @@ fn feed<W: Sink>(
 /// Answers what stands behind the last LF.
 fn finish<W: Sink>(session: &mut Session, line: &Line, writer: &mut W) -> End
     requires { W.failed writer.old ≡ false }
-    ensures goes { (d : Description) (begin taken before : List ℕ) → session.old.description ≡ d
+    ensures goes { (d : Description) (begin taken before : List ℕ) → description_of session.old ≡ d
         → Stands d begin taken session.old.bytes line.now W.tells before (W.bytes writer.old)
         → Ended result d begin taken [] session.new.bytes W.tells before (W.bytes writer.new) }
     ensures fault { IsTrue (W.failed writer.new) ↔ (result ≡ End.WriteFailed) }
@@ -89,7 +91,7 @@ fn serve<R: Source, W: Sink>(reader: &mut R, writer: &mut W, session: &mut Sessi
     requires reads { R.failed reader.old ≡ false }
     requires writes { W.failed writer.old ≡ false }
     ensures served { IsTrue R.tells →
-        Ended result session.old.description session.old.bytes (R.bytes reader.old) (R.bytes reader.new) session.new.bytes W.tells (W.bytes writer.old) (W.bytes writer.new) }
+        Ended result (description_of session.old) session.old.bytes (R.bytes reader.old) (R.bytes reader.new) session.new.bytes W.tells (W.bytes writer.old) (W.bytes writer.new) }
     ensures read_fault { IsTrue (R.failed reader.new) → result ≡ End.ReadFailed }
     ensures read_end { result ≡ End.ReadFailed → R.failed reader.new ≡ false → IsTrue R.tells
         → 2 ^ 64 - 1 + length (R.bytes reader.new) ≤ length (R.bytes reader.old) }
@@ -119,6 +121,7 @@ fn serve<R: Source, W: Sink>(reader: &mut R, writer: &mut W, session: &mut Sessi
 ///
 /// [`End::ReadFailed`] is answered where a read failed, or where 2^64 - 1 reads gave bytes; [`End::WriteFailed`]
 /// where a write or a flush failed. The one error, of a file that is too large, comes before anything is read.
+#[tactic(auto, unfolding(crate::specs::Explored::description_of))]
 pub fn run<R: Source, W: Sink>(
     alloc: Global,
     reader: &mut R,
@@ -129,7 +132,7 @@ pub fn run<R: Source, W: Sink>(
     requires reads { R.failed reader.old ≡ false }
     requires writes { W.failed writer.old ≡ false }
     ensures served { IsTrue R.tells → IfOk result (λ done.
-        Ended done.1 desc bytes.items (R.bytes reader.old) (R.bytes reader.new) done.0 W.tells (W.bytes writer.old) (W.bytes writer.new)) }
+        Ended done.1 (plain_pieces desc) bytes.items (R.bytes reader.old) (R.bytes reader.new) done.0 W.tells (W.bytes writer.old) (W.bytes writer.new)) }
     ensures read_fault { IfOk result (λ done. IsTrue (R.failed reader.new) → done.1 ≡ End.ReadFailed) }
     ensures read_end { IsTrue R.tells → IfOk result (λ done. done.1 ≡ End.ReadFailed → R.failed reader.new ≡ false
         → 2 ^ 64 - 1 + length (R.bytes reader.new) ≤ length (R.bytes reader.old)) }

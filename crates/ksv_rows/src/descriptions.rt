@@ -1,75 +1,46 @@
-//! Descriptions that are refused, with the line at fault.
+//! Descriptions that are refused, with what the program says of them.
 
-use ksv::{Stop, describe};
+use ksv::{Memory, describe, say};
 use std::test::Fail;
 
-/// A text and the line that is named.
-const REFUSED: [(&[u8], u32); 26] = [
-    (b"", 1),
-    (b"\n", 1),
-    (b"meta:", 1),
-    (b"meta:\n", 1),
-    (b"meta:\r\n  id: p\n", 1),
-    (b"\nmeta:\n", 1),
-    (b"meta:\n  id: P\n", 2),
-    (b"meta:\n  id: \n", 2),
-    (b"meta:\n  id: p\n", 2),
-    (b"meta:\n  id: p\nseq:\n", 3),
-    (b"meta:\n  id: p\n  endian: xe\nseq:\n", 3),
-    (b"meta:\n  id: p\n  endian: le\n", 3),
-    (b"meta:\n  id: p\n  endian: le\n  endian: be\n", 4),
-    (b"meta:\n  id: p\nseq:\n  - id: a\n", 4),
-    (b"meta:\n  id: p\nseq:\n  - id: a\n    type: u2\n", 5),
-    (b"meta:\n  id: p\nseq:\n  - id: a\n    type: u1le\n", 5),
-    (b"meta:\n  id: p\nseq:\n  - id: a\n    type: f4\n", 5),
-    (b"meta:\n  id: p\nseq:\n  - id: a\n    type: u3\n", 5),
-    (b"meta:\n  id: p\nseq:\n  - id: a\n    type: u\n", 5),
-    (b"meta:\n  id: p\nseq:\n  - id: a\n    type: \n", 5),
-    (b"meta:\n  id: p\nseq:\n  - id: a\n    type: u1 \n", 5),
-    (b"meta:\n  id: p\nseq:\n  - id: a-b\n    type: u1\n", 4),
+/// A text, and what is said.
+const REFUSED: [(&[u8], &str); 7] = [
+    (b"", "ksv: k: line 1: S6 bad name or value\n"),
+    (b"meta:\n  id: a\n  id: b\n", "ksv: k: line 3: Y5 key twice\n"),
     (
-        b"meta:\n  id: p\nseq:\n  - id: a\n    type: u1\n  - id: a\n    type: u9\n",
-        6,
+        b"meta:\n  id: a\ninstances:\n  v:\n    value: true ? 1 : 2\n",
+        "ksv: k: line 5: Y8 value in a key's place\n",
     ),
-    (b"meta:\n  id: p\nseq:\n  - id: a\n    type: u1\n\n", 6),
     (
-        b"meta:\n  id: p\nseq:\n  - id: a\n    type: u1\ninstances:\n",
-        6,
+        b"meta:\n  id: a\nseq:\n  - id: x\n    type: u2\n",
+        "ksv: k: line 5: S5 no byte order\n",
     ),
-    (b"meta:\n  id: p\nseq:\n  - id: \xc3\xa9\n    type: u1\n", 4),
+    (
+        b"meta:\n  id: a\nseq:\n  - id: x\n    size: 1 +\n",
+        "ksv: k: line 5: S10 expression: X2 unexpected end at 3\n",
+    ),
+    (
+        b"meta:\n  id: a\nseq:\n  - id: x\n    type: f4\n",
+        "ksv: k: line 5: S8 left-out feature\n",
+    ),
+    // It states a description, which isn't served yet.
+    (
+        b"meta:\n  id: a\ninstances:\n  v:\n    value: 1\n",
+        "ksv: k: line 1: S8 left-out feature\n",
+    ),
 ];
 
 #[test]
-fn a_text_that_does_not_fit_is_refused_at_its_line(rt: HostRuntime) -> Result<(), Fail> {
-    for (text, line) in REFUSED {
-        let Err(stop) = describe(rt.alloc(), text) else {
+fn a_description_is_refused_at_its_line(rt: HostRuntime) -> Result<(), Fail> {
+    let alloc = rt.alloc();
+    for (text, message) in REFUSED {
+        let Err(stop) = describe(alloc, text) else {
             return Err(Fail::from("a description was accepted"));
         };
-        let wanted = Stop::Line {
-            line,
-            code: "S8",
-            text: "left-out feature",
-            at: None,
-        };
-        assert!(rt; stop == wanted, "at line {line}");
-    }
-    Ok(())
-}
-
-#[test]
-fn a_description_has_up_to_64_fields(rt: HostRuntime) -> Result<(), Fail> {
-    let alloc = rt.alloc();
-    for (count, fits) in [(1, true), (64, true), (65, false)] {
-        let mut text = String::from_str(alloc, "meta:\n  id: p\nseq:\n")?;
-        for number in 0..count {
-            let field = format!(in alloc; "  - id: f{number}\n    type: u1\n")?;
-            text.push_str(field.as_str())?;
-        }
-        match describe(alloc, text.as_bytes()) {
-            Ok(desc) => assert!(rt; fits && desc.fields().len() == count),
-            Err(Stop::Line { line, .. }) => assert!(rt; !fits && line == 132),
-            Err(_) => return Err(Fail::from("no memory")),
-        }
+        let mut sink = Memory::new(Vec::with_capacity(alloc, 100)?);
+        assert!(rt; say(&stop, ["f", "k", "o"], &mut sink).is_ok());
+        assert_eq!(rt; sink.bytes.as_slice(), message.as_bytes());
+        assert_eq!(rt; stop.status(), 1);
     }
     Ok(())
 }

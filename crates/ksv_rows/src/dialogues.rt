@@ -273,10 +273,8 @@ fn a_file_may_have_16_mib_and_no_more(rt: HostRuntime) -> Result<(), Fail> {
 fn a_session_answers_line_by_line(rt: HostRuntime) -> Result<(), Fail> {
     let alloc = rt.alloc();
     let desc = accepted(alloc, FIRST)?;
-    assert_eq!(rt; desc.id(), "p");
-    assert_eq!(rt; desc.fields().len(), 2);
-    assert_eq!(rt; desc.fields()[1].name(), "b");
-    assert_eq!(rt; desc.fields()[1].integer().width.bytes(), 2);
+    assert_eq!(rt; desc.type_id(0), "p");
+    assert_eq!(rt; desc.number_of("b"), Some(1));
     let mut session = Session::new(alloc, desc, b"\x07\xfe\xff".to_vec(alloc)?)?;
     assert_eq!(rt; session.line(b"get /b").as_bytes(), b"-2\n".as_slice());
     assert_eq!(rt; session.line(b"app 00").as_bytes(), b"ok 4\n".as_slice());

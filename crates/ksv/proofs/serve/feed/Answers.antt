@@ -1,5 +1,5 @@
 use Rattle.std.proofs.Common.{◌≡◌, ◌∙◌, ◌++◌, List, ℕ, [], ◌∷◌, Err, Ok, ap, get_or, take}
-use Rattle.ksv.specs.Explored.{Explored}
+use Rattle.ksv.specs.Explored.{Explored, description_of}
 use Rattle.ksv.proofs.AnswerLemmas.{fed_at, fed_false, fed_true, more_taken, not_line_end}
 use Rattle.ksv.proofs.RunLemmas.{moved, pushed}
 use Rattle.ksv.proofs.serve.feed.Goals as goal
@@ -31,7 +31,7 @@ loop-byte-preserved g c = elim c.if-byte-eq10.branch [
         (fed_at d begin taken c.loop-byte.line w.as_slice.result.now before _ _ c.args.piece.now [] c.loop-byte.byte-index g.W.Sink.tells c.loop-byte.session w.answer_line.new.session
         c.loop-byte-test.true w.if-byte-eq10.true (c.loop-byte.invariant.2 ∙ kept) w.as_slice.ensures.value so_far (Ok w.in-Ok-false.field-0) w.in-Ok-false.ensures.answered))),
     ap g.W.Sink.failed w.writer-is ∙ w.in-Ok-false.ensures.fault,
-    ap (λ (x : Explored). x.description) w.session-is ∙ w.in-Ok-false.ensures.answered.description ∙ c.loop-byte.invariant.2,
+    ap description_of w.session-is ∙ w.in-Ok-false.ensures.answered.description ∙ c.loop-byte.invariant.2,
   )
   | else-byte-eq10 w ↦ (
     (λ d begin taken before kept s.
@@ -42,6 +42,6 @@ loop-byte-preserved g c = elim c.if-byte-eq10.branch [
         (pushed d begin (taken ++ take c.loop-byte.byte-index c.args.piece.now) _ _ before _ g.W.Sink.tells (get_or c.args.piece.now c.loop-byte.byte-index 0)
         (not_line_end _ w.if-byte-eq10.false) so_far)),
     ap g.W.Sink.failed w.writer-is ∙ c.loop-byte.invariant.1,
-    ap (λ (x : Explored). x.description) w.session-is ∙ c.loop-byte.invariant.2,
+    ap description_of w.session-is ∙ c.loop-byte.invariant.2,
   )
 ]

@@ -1,6 +1,7 @@
 use Rattle.std.proofs.Common.{◌≡◌, ◌≤◌, ◌+◌, ◌∙◌, ◌++◌, List, ℕ, [], ap, append_assoc, arith, length, refl, subst, sym, take, true}
 use Rattle.std.proofs.lemmas.List.{length-append, length-take-le}
 use Rattle.std.proofs.Math.Bool.{or-false}
+use Rattle.ksv.specs.Explored.{description_of}
 use Rattle.ksv.specs.Runs.{Serves, Stands}
 use Rattle.ksv.proofs.AnswerLemmas.{fed_false, fed_true}
 use Rattle.ksv.proofs.RunLemmas.{begun_stands}
@@ -17,8 +18,8 @@ loop-turn-init g c = (
     [],
     refl,
     omega arith,
-    subst (λ line. Stands c.args.session.now.description c.args.session.now.bytes [] c.args.session.now.bytes line g.W.Sink.tells (g.W.Sink.bytes c.args.writer.now) (g.W.Sink.bytes c.args.writer.now))
-        (sym c.new-line.ensures) (begun_stands c.args.session.now.description c.args.session.now.bytes (g.W.Sink.bytes c.args.writer.now) g.W.Sink.tells),
+    subst (λ line. Stands (description_of c.args.session.now) c.args.session.now.bytes [] c.args.session.now.bytes line g.W.Sink.tells (g.W.Sink.bytes c.args.writer.now) (g.W.Sink.bytes c.args.writer.now))
+        (sym c.new-line.ensures) (begun_stands (description_of c.args.session.now) c.args.session.now.bytes (g.W.Sink.bytes c.args.writer.now) g.W.Sink.tells),
   )),
   c.requires.reads,
   c.requires.writes,
@@ -27,7 +28,7 @@ loop-turn-init g c = (
 
 pub returns-in-Ok-true-clause-served : goal.returns-in-Ok-true-clause-served
 returns-in-Ok-true-clause-served g c tells =
-    let d = c.args.session.now.description in
+    let d = description_of c.args.session.now in
     let begin = c.args.session.now.bytes in
     let before = g.W.Sink.bytes c.args.writer.now in
     let inv = c.loop-turn.invariant.0 tells in
@@ -39,7 +40,7 @@ returns-in-Ok-true-clause-served g c tells =
 pub loop-turn-preserved : goal.loop-turn-preserved
 loop-turn-preserved g c = (
   (λ tells.
-      let d = c.args.session.now.description in
+      let d = description_of c.args.session.now in
       let begin = c.args.session.now.bytes in
       let before = g.W.Sink.bytes c.args.writer.now in
       let left = g.R.Source.bytes c.read.new.self in

@@ -1,4 +1,5 @@
 use Rattle.std.proofs.Common.{◌≡◌, ◌++◌, ◌≤◌, List, ℕ, false, length, IsTrue}
+use Rattle.ksv.specs.Explored.{description_of}
 use Rattle.ksv.specs.Runs.{Stands}
 use Rattle.ksv.proofs.serve.serve.Given as goal
 
@@ -6,6 +7,6 @@ abbrev pub invariant-loop-turn : goal.invariant-loop-turn
 invariant-loop-turn g l = (IsTrue g.R.Source.tells → (taken : List ℕ)
     × (g.R.Source.bytes l.fn.reader ≡ taken ++ g.R.Source.bytes l.reader)
     × (l.turn ≤ length taken)
-    × Stands l.fn.session.description l.fn.session.bytes taken l.session.bytes l.line g.W.Sink.tells (g.W.Sink.bytes l.fn.writer) (g.W.Sink.bytes l.writer))
+    × Stands (description_of l.fn.session) l.fn.session.bytes taken l.session.bytes l.line g.W.Sink.tells (g.W.Sink.bytes l.fn.writer) (g.W.Sink.bytes l.writer))
     × (g.R.Source.failed l.reader ≡ false) × (g.W.Sink.failed l.writer ≡ false)
-    × (l.session.description ≡ l.fn.session.description)
+    × (description_of l.session ≡ description_of l.fn.session)
