@@ -1,6 +1,6 @@
 -- Turns: a rule runs on the replies that it had, over the bytes. What it asks is answered by the replies in their order, and
 -- each reading adds what it rests on to the uses.
-use Rattle.std.specs.Prelude.{◌≡◌, ℕ, List, [], ◌∷◌, ◌++◌, Option, Some, None, Result, Ok, Err}
+use Rattle.std.specs.Prelude.{◌≡◌, ℕ, ◌<◌, List, [], ◌∷◌, ◌++◌, Option, Some, None, Result, Ok, Err}
 use Rattle.std.specs.Borrow.{Bor}
 use Rattle.ksv_plan.specs.Plan.{Answer, Ask, Ran, Need, Failed, Done, Handler, run}
 use Rattle.ksv_bytes.specs.declared.uses.Use.{Use}
@@ -10,6 +10,8 @@ use Rattle.ksv_expr.specs.declared.fault.FaultKind.{FaultKind}
 use Rattle.ksv_expr.specs.declared.fault.FaultKind.TheVariants as kinds
 use Rattle.ksv_nodes.specs.declared.node.Node.{Node}
 use Rattle.ksv_nodes.specs.declared.given.Given.{Given}
+use Rattle.ksv_nodes.specs.declared.turn.Found.{Found}
+use Rattle.ksv_nodes.specs.declared.turn.Found.TheVariants as founds
 use Rattle.ksv_nodes.specs.declared.turn.Stop.{Stop}
 use Rattle.ksv_nodes.specs.declared.turn.Stop.TheVariants as stops
 use Rattle.ksv_nodes.specs.Reading.{Look, look}
@@ -85,3 +87,8 @@ abbrev pub IsFault : Fault → Stop → Type 0
 IsFault f stops.Memory = Unit {0}
 IsFault f (stops.Need n) = ⊥
 IsFault f (stops.Fault e) = e ≡ f
+
+-- a byte that was found stands at a place below n
+abbrev pub StandsBelow : ℕ → Found → Type 0
+StandsBelow n (founds.At q) = q < n
+StandsBelow n (founds.Missing e) = Unit {0}

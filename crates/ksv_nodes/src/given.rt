@@ -11,7 +11,7 @@ pub struct Source {
     /// The type's number.
     pub type_number: u32,
     /// The member's place among the type's members, from 0.
-    pub member: u32,
+    pub member: usize,
 }
 
 /// Some bytes.

@@ -5,7 +5,7 @@ ghost use Rattle.ksv_expr.specs.Bytes.{content};
 ghost use Rattle.std.specs.Prelude.{◌+◌, slice_range, IfSome};
 ghost use Rattle.ksv_nodes.specs.Reading.{first_at, end_in};
 ghost use Rattle.ksv_nodes.specs.Rule.{raise, ask_head, ask_value, ask_end, ask_rest, part, reach, finish, done, peek, find};
-ghost use Rattle.ksv_nodes.specs.Turning.{Runs, RepliesWith, IsFault};
+ghost use Rattle.ksv_nodes.specs.Turning.{Runs, RepliesWith, IsFault, StandsBelow};
 
 use crate::given::{Ended, Given, Head, Rested};
 use crate::node::{Kind, Node};
@@ -324,7 +324,8 @@ impl<'a> Turn<'a> {
     /// The first byte of a value from a place on, before the stream's end.
     #[tactic(auto, unfolding(crate::specs::Reading::find_at, crate::specs::Reading::found_from, crate::specs::Reading::found_none, crate::specs::Reading::finish_of))]
     pub fn find(&mut self, stream: Stream, start: u32, byte: u8) -> Result<Found, Stop>
-        ensures { Runs (find stream start byte) (λ found. found) self.old self.new result }
+        ensures runs { Runs (find stream start byte) (λ found. found) self.old self.new result }
+        ensures fits { IfOk result (StandsBelow 16777216) }
     {
         let end = self.end_in(stream);
         match self.first_in(start, end, byte) {

@@ -1,6 +1,6 @@
 //! A whole description.
 
-ghost use Rattle.std.specs.Prelude.{◌≡◌, option_map, slice_get};
+ghost use Rattle.std.specs.Prelude.{◌≡◌, map, option_map, slice_get};
 ghost use Rattle.ksv_schema.specs.Description.{name, type_id, members, fields, enum_id, member_id, number_of_name};
 ghost use Rattle.ksv_schema.specs.Resolved.{IsResolved};
 ghost use Rattle.ksv_schema.specs.Pieces.{plain_type, plain_enum};
@@ -41,6 +41,13 @@ impl Desc {
         ensures { result ≡ pieces }
     {
         Desc { pieces }
+    }
+
+    /// Each reference of the description leads to something. It does nothing: a caller's proof learns its clause.
+    pub fn references_are_resolved(&self)
+        ensures { IsResolved (plain_pieces self.now) }
+    {
+        let _ = &self.pieces;
     }
 
     /// A name, and the empty text for a number that no name has.
@@ -124,6 +131,13 @@ impl Desc {
         ensures { option_map (λ t. plain_type t.now) result ≡ slice_get (plain_pieces self.now).types number }
     {
         self.pieces.types.get(number as usize)
+    }
+
+    /// Its types, by their numbers.
+    pub fn types(&self) -> &[TypeDesc]
+        ensures { map plain_type result.now ≡ (plain_pieces self.now).types }
+    {
+        self.pieces.types.as_slice()
     }
 
     /// The enum of this number.

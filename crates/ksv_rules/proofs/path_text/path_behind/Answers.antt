@@ -1,0 +1,15 @@
+use Rattle.std.proofs.Common.{◌≡◌, ◌∙◌, reverse, ap, sym, rules}
+use Rattle.ksv_expr.specs.Trail.{fits}
+use Rattle.ksv_memo.proofs.Turns.{on_err_always}
+use Rattle.ksv_schema.specs.Whole.{plain_pieces}
+use Rattle.ksv_rules.proofs.PathTexts.{behind_is, behind_some}
+use Rattle.ksv_rules.proofs.path_text.path_behind.Goals as goal
+
+pub from_steps-requires : goal.from_steps-requires
+from_steps-requires c = ap (λ steps. fits (reverse steps)) c.as_slice.ensures ∙ c.in-Some.ensures.fits
+
+pub returns-in_err-from_steps-in-Some-clause-refused : goal.returns-in_err-from_steps-in-Some-clause-refused
+returns-in_err-from_steps-in-Some-clause-refused c = on_err_always c.from_residual.result (behind_some (plain_pieces c.args.desc.now) c.args.text.now c.in-Some.steps (sym c.is_empty.ensures ∙ c.if-is_empty.false) c.in-Some.ensures.steps c.in-Some.ensures.fits)
+
+pub returns-in_ok-from_steps-in-Some-clause-path : goal.returns-in_ok-from_steps-in-Some-clause-path
+returns-in_ok-from_steps-in-Some-clause-path c = behind_is (plain_pieces c.args.desc.now) c.args.text.now c.in-Some.steps c.in_ok-from_steps-in-Some.field-0 (sym c.is_empty.ensures ∙ c.if-is_empty.false) c.in-Some.ensures.steps (c.in_ok-from_steps-in-Some.ensures ∙ ap reverse c.as_slice.ensures)

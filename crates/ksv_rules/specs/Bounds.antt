@@ -1,0 +1,535 @@
+-- How many nodes a rule asks: no more than the expressions of its attribute want, and four besides. So an engine that has so
+-- many replies for a node needs no further one.
+use Rattle.std.specs.Prelude.{ℕ, zero, suc, ◌+◌, ◌-◌, ◌==◌, ◌≤◌, nat_lt, nat_le, Bool, true, false, ◌||◌, ℤ, pos, negsuc, List, [], ◌∷◌, length, slice_get, Option, Some, None, Result, if◌then◌else◌}
+use Rattle.std.specs.List.{sum_by}
+use Rattle.std.specs.Option.{option_map_or}
+use Rattle.std.specs.Str.{bytes_eq}
+use Rattle.std.proofs.Common.{arith}
+use Rattle.std.proofs.lemmas.List.Sums.{sum_by-cons}
+use Rattle.ksv_plan.specs.Plan.{Ran, Need, Failed, Done, bind, IsEnded}
+use Rattle.ksv_syntax.specs.Tree.{Tree}
+use Rattle.ksv_scope.specs.declared.order.ByteOrder.{ByteOrder}
+use Rattle.ksv_memo.specs.Meaning.{IsDone}
+use Rattle.ksv_expr.proofs.Wants.{value_asks}
+use Rattle.ksv_expr.specs.Evaluation.{most_wants}
+use Rattle.ksv_expr.specs.Trail.{Trail, parent, last}
+use Rattle.ksv_expr.specs.Heard.{Setting}
+use Rattle.ksv_expr.specs.Meaning.{value_of as value_in}
+use Rattle.ksv_expr.specs.Integers.{ranged}
+use Rattle.ksv_expr.specs.Encodings.{decoded}
+use Rattle.ksv_expr.specs.declared.encoding.Encoding.{Encoding}
+use Rattle.ksv_expr.specs.declared.fault.Fault.{Fault}
+use Rattle.ksv_expr.specs.declared.step.Step.{Step}
+use Rattle.ksv_expr.specs.declared.step.Step.TheVariants as steps
+use Rattle.ksv_expr.specs.declared.value.Stream.{Stream}
+use Rattle.ksv_expr.specs.declared.value.Value.{Value}
+use Rattle.ksv_expr.specs.declared.value.Value.TheVariants as values
+use Rattle.ksv_expr.specs.declared.want.Want.{Want}
+use Rattle.ksv_expr.specs.declared.want.Want.TheVariants as wants
+use Rattle.ksv_schema.specs.Description.{Description, TypeOfObjects, MemberOfType, Kind, Given, InSequence, Positioned, Calculated, Field, Content, Choice, Always, Switch, Extent, Sized, ToEnd, ByItself, Repeat, Once, UntilEnd, Times, Until, Terminator}
+use Rattle.ksv_schema.specs.Description as contents
+use Rattle.ksv_nodes.proofs.Bounds.{nodes_more, nodes_join, nodes_if, nodes_translate, enough, head_nodes, value_nodes, end_nodes, rest_nodes, part_nodes}
+use Rattle.ksv_nodes.specs.Bounds.{NodesAtMost}
+use Rattle.ksv_nodes.specs.Turning.{State, fresh}
+use Rattle.ksv_nodes.specs.declared.node.Node.{Node}
+use Rattle.ksv_nodes.specs.declared.node.Kind.{Kind as NodeKind}
+use Rattle.ksv_nodes.specs.declared.node.Kind.TheVariants as nodes
+use Rattle.ksv_nodes.specs.declared.given.Given.{Given as Answered}
+use Rattle.ksv_nodes.specs.declared.given.Source.{Source}
+use Rattle.ksv_nodes.specs.declared.given.Leaf.{Leaf}
+use Rattle.ksv_nodes.specs.declared.given.Ending.{Ending}
+use Rattle.ksv_nodes.specs.declared.given.Ending.TheVariants as endings
+use Rattle.ksv_nodes.specs.declared.given.Object.{Object}
+use Rattle.ksv_nodes.specs.declared.given.List as lists
+use Rattle.ksv_nodes.specs.declared.given.Head.{Head}
+use Rattle.ksv_nodes.specs.declared.given.Head.TheVariants as heads
+use Rattle.ksv_nodes.specs.declared.given.Ended.{Ended}
+use Rattle.ksv_nodes.specs.declared.turn.Found.{Found}
+use Rattle.ksv_nodes.specs.declared.turn.Found.TheVariants as founds
+use Rattle.ksv_nodes.specs.Rule.{Rule, Here, finish, done, reach, peek, find}
+use Rattle.ksv_rules.specs.Described.{condition_wants, repeat_wants, extent_wants, field_wants, kind_wants, type_wants, most_asks, resumed, step_of}
+use Rattle.ksv_rules.specs.Fields.{members_of, behind, Sought, sought, in_sought, member_named, last_attribute, read_by, in_field, field_of}
+use Rattle.ksv_rules.specs.Wanted.{whole, in_object, wanted, expression, in_integer, in_truth, integer_of, truth_of, holds, in_size, size_of}
+use Rattle.ksv_rules.specs.Integers.{integer_value}
+use Rattle.ksv_rules.specs.Values.{in_number, number_in, number_value, fixed_value, cut_by, cut_bytes, bytes_value, in_text, cut_text, text_value, content_value, choice_value, leaf_value, value_at, value_of}
+use Rattle.ksv_rules.specs.Ends.{fields_end, object_end, part_rest, list_end, gone_end, place_of, start_of, behind_element, is_last, is_by_bytes, not_empty, element_end, end_at, end_of, next_rest, rest_behind, rest_from, in_whole_list, first_rest, whole_rest, rest_at, rest_of}
+use Rattle.ksv_rules.specs.Served.{is_served}
+use Rattle.ksv_rules.specs.Meaning.{meaning_of, served_rule, rule_of}
+use Rattle.ksv_rules.specs.Heads.{leaf, leaf_to_end, terminated_at, terminated, run_of, sized_leaf, bytes_at, sized_object, object_at, content_at, shape_at, in_count, count_of, counted, until_end, repeated, attribute_at, part_end, attribute_start, attribute_head, member_at, member_head, in_list, is_past, in_next, next_start, element_start, element_head, head_at, head_of}
+
+-- ---- what is found in a description wants no more than all of it
+
+part_of_sum : {A : Type 0} (f : A → ℕ) (xs : List A) (i : ℕ) → option_map_or f (slice_get xs i) 0 ≤ sum_by f xs
+part_of_sum f [] i = omega arith
+part_of_sum f (x ∷ xs) zero = omega (arith, sum_by-cons f x xs)
+part_of_sum f (x ∷ xs) (suc i) = omega (arith, sum_by-cons f x xs, part_of_sum f xs i)
+
+abbrev member_wants : MemberOfType → ℕ
+member_wants m = kind_wants m.kind
+
+wants_of_type : (o : Option TypeOfObjects) → sum_by member_wants (option_map_or (λ x. x.members) o []) ≤ option_map_or type_wants o 0
+wants_of_type None = omega arith
+wants_of_type (Some t) = omega arith
+
+-- the members of a type
+members_wants : (d : Description) (t : ℕ) → sum_by member_wants (members_of d t) ≤ sum_by type_wants d.types
+unfolding members_of
+members_wants d t = omega (arith, wants_of_type (slice_get d.types t), part_of_sum type_wants d.types t)
+
+-- a member that was looked for
+abbrev sought_wants : Option Sought → ℕ
+sought_wants o = option_map_or (λ s. kind_wants s.kind) o 0
+
+sought_if : (b : Bool) (m : MemberOfType) (i : ℕ) (before : Option ℕ) (o : Option Sought) (n : ℕ) → sought_wants o ≤ n → sought_wants (if b then Some (record { member = i; before = before; kind = m.kind }) else o) ≤ member_wants m + n
+sought_if true m i before o n h = omega arith
+sought_if false m i before o n h = omega arith
+
+sought_part : (x i : ℕ) (before : Option ℕ) (ms : List MemberOfType) → sought_wants (sought x i before ms) ≤ sum_by member_wants ms
+unfolding sought
+sought_part x i before [] = omega arith
+sought_part x i before (m ∷ ms) = omega (arith, sum_by-cons member_wants m ms, sought_if (m.name == x) m i before (sought x (i + 1) (behind before m) ms) (sum_by member_wants ms) (sought_part x (i + 1) (behind before m) ms))
+
+in_sought_nodes : {A : Type 0} (n w : ℕ) (o : Option Sought) (f : Sought → Rule A) → sought_wants o ≤ w → ((s : Sought) → NodesAtMost (n + kind_wants s.kind) (f s)) → NodesAtMost (n + w) (bind (in_sought o) f)
+unfolding bind
+in_sought_nodes n w None f h each = tt
+in_sought_nodes n w (Some s) f h each = nodes_more (n + kind_wants s.kind) (n + w) (f s) (omega arith) (each s)
+
+-- what a rule does with a member that it finds
+found_nodes : {A : Type 0} (n t : ℕ) (d : Description) (type_number x : ℕ) (f : Sought → Rule A) → n + sum_by type_wants d.types ≤ t → ((s : Sought) → NodesAtMost (n + kind_wants s.kind) (f s)) → NodesAtMost t (bind (member_named d type_number x) f)
+unfolding member_named
+found_nodes n t d type_number x f h each =
+    let ms = members_of d type_number in
+    let part = sought_part x 0 None ms in
+    let all = members_wants d type_number in
+    nodes_more (n + sum_by type_wants d.types) t (bind (in_sought (sought x 0 None ms)) f) h
+    (in_sought_nodes n (sum_by type_wants d.types) (sought x 0 None ms) f (omega (arith, part, all)) each)
+
+abbrev maybe_wants : Option MemberOfType → ℕ
+maybe_wants o = option_map_or member_wants o 0
+
+read_nodes : {A : Type 0} (n w : ℕ) (k : Kind) (f : Field → Rule A) → kind_wants k ≤ w → ((x : Field) → NodesAtMost (n + field_wants x) (f x)) → NodesAtMost (n + w) (bind (read_by k) f)
+unfolding bind
+read_nodes n w (InSequence x) f h each = nodes_more (n + field_wants x) (n + w) (f x) (omega arith) (each x)
+read_nodes n w Given f h each = tt
+read_nodes n w (Positioned p s x) f h each = tt
+read_nodes n w (Calculated c v e) f h each = tt
+
+in_field_nodes : {A : Type 0} (n w : ℕ) (o : Option MemberOfType) (f : Field → Rule A) → maybe_wants o ≤ w → ((x : Field) → NodesAtMost (n + field_wants x) (f x)) → NodesAtMost (n + w) (bind (in_field o) f)
+unfolding bind
+in_field_nodes n w None f h each = tt
+in_field_nodes n w (Some m) f h each = read_nodes n w m.kind f h each
+
+-- how an attribute of a source reads
+field_nodes : {A : Type 0} (n t : ℕ) (d : Description) (source : Source) (f : Field → Rule A) → n + sum_by type_wants d.types ≤ t → ((x : Field) → NodesAtMost (n + field_wants x) (f x)) → NodesAtMost t (bind (field_of d source) f)
+unfolding field_of
+field_nodes n t d source f h each =
+    let ms = members_of d source.type_number in
+    let o : Option MemberOfType = slice_get ms source.member in
+    let part = part_of_sum member_wants ms source.member in
+    let all = members_wants d source.type_number in
+    nodes_more (n + sum_by type_wants d.types) t (bind (in_field o) f) h
+    (in_field_nodes n (sum_by type_wants d.types) o f (omega (arith, part, all)) each)
+
+-- ---- expressions
+
+in_object_nodes : (q : Trail) (h : Head) → NodesAtMost 0 (in_object q h)
+in_object_nodes q (heads.Object o) = tt
+in_object_nodes q (heads.Gone at) = tt
+in_object_nodes q (heads.Leaf l) = tt
+in_object_nodes q (heads.List g) = tt
+
+-- a want takes one node at most
+wanted_nodes : (s : Setting) (w : Want) → NodesAtMost 1 (wanted s w)
+unfolding wanted
+wanted_nodes s (wants.Value p) = nodes_join _ _ 1 1 0 (omega arith) (value_nodes p) (λ v. tt)
+wanted_nodes s (wants.Head p) = nodes_join _ _ 1 1 0 (omega arith) (head_nodes p) (λ h. nodes_join _ _ 0 0 0 (omega arith) (in_object_nodes p h) (λ o. tt))
+wanted_nodes s (wants.Rest p) = nodes_join _ _ 1 1 0 (omega arith) (rest_nodes p) (λ r. tt)
+wanted_nodes s wants.Size = nodes_join (finish whole) _ 1 0 1 (omega arith) (λ n. tt) (λ n. tt)
+wanted_nodes s wants.Done = nodes_join (done s.stream s.place) _ 1 0 1 (omega arith) (λ b. tt) (λ b. tt)
+wanted_nodes s (wants.Bytes f t) = nodes_join (peek f t) _ 1 0 1 (omega arith) (λ bs. tt) (λ bs. tt)
+
+-- an expression no more than it wants
+expression_nodes : (s : Setting) (e : Tree) → NodesAtMost (most_wants e) (expression s e)
+unfolding expression
+expression_nodes s e = nodes_translate (wanted s) Here (most_wants e) (value_in s e) (wanted_nodes s) (value_asks s e)
+
+in_integer_nodes : (v : Value) → NodesAtMost 0 (in_integer v)
+in_integer_nodes (values.Int n) = tt
+in_integer_nodes _ = tt
+
+in_truth_nodes : (v : Value) → NodesAtMost 0 (in_truth v)
+in_truth_nodes (values.Bool b) = tt
+in_truth_nodes _ = tt
+
+integer_nodes : (s : Setting) (e : Tree) → NodesAtMost (most_wants e) (integer_of s e)
+unfolding integer_of
+integer_nodes s e = nodes_join _ _ (most_wants e) (most_wants e) 0 (omega arith) (expression_nodes s e) (λ v. in_integer_nodes v)
+
+truth_nodes : (s : Setting) (e : Tree) → NodesAtMost (most_wants e) (truth_of s e)
+unfolding truth_of
+truth_nodes s e = nodes_join _ _ (most_wants e) (most_wants e) 0 (omega arith) (expression_nodes s e) (λ v. in_truth_nodes v)
+
+holds_nodes : (s : Setting) (c : Option Tree) → NodesAtMost (condition_wants c) (holds s c)
+unfolding holds
+holds_nodes s None = tt
+holds_nodes s (Some e) = truth_nodes s e
+
+in_size_nodes : (z : ℤ) → NodesAtMost 0 (in_size z)
+in_size_nodes (pos n) = tt
+in_size_nodes (negsuc n) = tt
+
+size_nodes : (s : Setting) (e : Tree) → NodesAtMost (most_wants e) (size_of s e)
+unfolding size_of
+size_nodes s e = nodes_join _ _ (most_wants e) (most_wants e) 0 (omega arith) (integer_nodes s e) (λ z. in_size_nodes z)
+
+-- ---- heads
+
+leaf_nodes : (n : ℕ) (source : Source) (w : Stream) (s size : ℕ) → NodesAtMost n (leaf source w s size)
+unfolding leaf
+leaf_nodes n source w s size = nodes_join (reach w (s + size)) _ n 0 0 (omega arith) (λ x. tt) (λ x. tt)
+
+leaf_to_end_nodes : (source : Source) (w : Stream) (s : ℕ) → NodesAtMost 0 (leaf_to_end source w s)
+unfolding leaf_to_end
+leaf_to_end_nodes source w s = nodes_join (finish w) _ 0 0 0 (omega arith) (λ e. tt) (λ e. tt)
+
+terminated_at_nodes : (source : Source) (s : ℕ) (t : Terminator) (q : Found) → NodesAtMost 0 (terminated_at source s t q)
+terminated_at_nodes source s t (founds.At q) = tt
+terminated_at_nodes source s t (founds.Missing e) = nodes_if t.is_required 0 _ _ tt tt
+
+run_nodes : (source : Source) (w : Stream) (s : ℕ) (t : Option Terminator) → NodesAtMost 0 (run_of source w s t)
+unfolding run_of terminated
+run_nodes source w s None = tt
+run_nodes source w s (Some t) = nodes_join (find w s t.byte) _ 0 0 0 (omega arith) (λ q. tt) (λ q. terminated_at_nodes source s t q)
+
+sized_leaf_nodes : (at : Setting) (source : Source) (w : Stream) (s : ℕ) (e : Tree) → NodesAtMost (most_wants e) (sized_leaf at source w s e)
+unfolding sized_leaf
+sized_leaf_nodes at source w s e = nodes_join _ _ (most_wants e) (most_wants e) 0 (omega arith) (size_nodes at e) (λ n. leaf_nodes 0 source w s n)
+
+bytes_nodes : (at : Setting) (source : Source) (w : Stream) (s : ℕ) (x : Extent) (t : Option Terminator) → NodesAtMost (extent_wants x) (bytes_at at source w s x t)
+unfolding bytes_at
+bytes_nodes at source w s (Sized e) t = sized_leaf_nodes at source w s e
+bytes_nodes at source w s ToEnd t = leaf_to_end_nodes source w s
+bytes_nodes at source w s ByItself t = run_nodes source w s t
+
+sized_object_nodes : (at : Setting) (t : ℕ) (w : Stream) (s : ℕ) (e : Tree) → NodesAtMost (most_wants e) (sized_object at t w s e)
+unfolding sized_object
+sized_object_nodes at t w s e = nodes_join _ _ (most_wants e) (most_wants e) 0 (omega arith) (size_nodes at e) (λ n. nodes_join (reach w (s + n)) _ 0 0 0 (omega arith) (λ x. tt) (λ x. tt))
+
+object_nodes : (at : Setting) (t : ℕ) (w : Stream) (s : ℕ) (x : Extent) → NodesAtMost (extent_wants x) (object_at at t w s x)
+unfolding object_at
+object_nodes at t w s (Sized e) = sized_object_nodes at t w s e
+object_nodes at t w s ToEnd = tt
+object_nodes at t w s ByItself = tt
+
+content_nodes : (at : Setting) (source : Source) (w : Stream) (s : ℕ) (f : Field) (c : Content) → NodesAtMost (extent_wants f.extent) (content_at at source w s f c)
+unfolding content_at
+content_nodes at source w s f contents.Bytes = bytes_nodes at source w s f.extent f.terminator
+content_nodes at source w s f (contents.Fixed bs) = leaf_nodes (extent_wants f.extent) source w s (length bs)
+content_nodes at source w s f (contents.Number signed size order enum) = leaf_nodes (extent_wants f.extent) source w s size
+content_nodes at source w s f (contents.Characters encoding) = bytes_nodes at source w s f.extent f.terminator
+content_nodes at source w s f (contents.Object t given) = object_nodes at t w s f.extent
+
+shape_nodes : (at : Setting) (source : Source) (w : Stream) (s : ℕ) (f : Field) (c : Choice) → NodesAtMost (extent_wants f.extent) (shape_at at source w s f c)
+unfolding shape_at
+shape_nodes at source w s f (Always c) = content_nodes at source w s f c
+shape_nodes at source w s f (Switch on cases) = tt
+
+in_count_nodes : (n : ℕ) → NodesAtMost 0 (in_count n)
+in_count_nodes n = nodes_if (nat_lt 1048576 n) 0 _ _ tt tt
+
+count_nodes : (at : Setting) (e : Tree) → NodesAtMost (most_wants e) (count_of at e)
+unfolding count_of
+count_nodes at e = nodes_join _ _ (most_wants e) (most_wants e) 0 (omega arith) (size_nodes at e) (λ n. in_count_nodes n)
+
+counted_nodes : (at : Setting) (source : Source) (w : Stream) (s : ℕ) (e : Tree) → NodesAtMost (most_wants e) (counted at source w s e)
+unfolding counted
+counted_nodes at source w s e = nodes_join _ _ (most_wants e) (most_wants e) 0 (omega arith) (count_nodes at e) (λ n. tt)
+
+until_end_nodes : (n : ℕ) (at : Setting) (source : Source) (w : Stream) (s : ℕ) → NodesAtMost n (until_end at source w s)
+unfolding until_end
+until_end_nodes n at source w s = nodes_join (done w s) _ n 0 0 (omega arith) (λ b. tt) (λ b. tt)
+
+repeated_nodes : (at : Setting) (source : Source) (w : Stream) (s : ℕ) (f : Field) (r : Repeat) → NodesAtMost (repeat_wants r + extent_wants f.extent) (repeated at source w s f r)
+unfolding repeated
+repeated_nodes at source w s f Once = nodes_more (extent_wants f.extent) _ _ (omega arith) (shape_nodes at source w s f f.choice)
+repeated_nodes at source w s f (Times e) = nodes_more (most_wants e) _ _ (omega arith) (counted_nodes at source w s e)
+repeated_nodes at source w s f UntilEnd = until_end_nodes _ at source w s
+repeated_nodes at source w s f (Until e) = tt
+
+attribute_nodes : (at : Setting) (source : Source) (w : Stream) (s : ℕ) (f : Field) → NodesAtMost (field_wants f) (attribute_at at source w s f)
+unfolding attribute_at
+attribute_nodes at source w s f =
+    nodes_join _ _ (field_wants f) (condition_wants f.condition) (repeat_wants f.repeat + extent_wants f.extent) (omega arith) (holds_nodes at f.condition) (λ there.
+    nodes_if there (repeat_wants f.repeat + extent_wants f.extent) _ _ (repeated_nodes at source w s f f.repeat) tt)
+
+part_end_nodes : (q : Trail) (step : Step) → NodesAtMost 1 (part_end q step)
+unfolding part_end
+part_end_nodes q step = nodes_join _ _ 1 0 1 (omega arith) (part_nodes q step) (λ p. end_nodes p)
+
+start_nodes : (q : Trail) (o : Object) (before : Option ℕ) → NodesAtMost 1 (attribute_start q o before)
+unfolding attribute_start
+start_nodes q o None = tt
+start_nodes q o (Some y) = nodes_join _ _ 1 1 0 (omega arith) (part_end_nodes q (steps.Name y)) (λ e. tt)
+
+attribute_head_nodes : (p q : Trail) (o : Object) (x : Sought) (f : Field) → NodesAtMost (1 + field_wants f) (attribute_head p q o x f)
+unfolding attribute_head
+attribute_head_nodes p q o x f = nodes_join _ _ (1 + field_wants f) 1 (field_wants f) (omega arith) (start_nodes q o x.before) (λ s. attribute_nodes _ _ _ s f)
+
+member_nodes : (p q : Trail) (o : Object) (x : Sought) (k : Kind) → NodesAtMost (1 + kind_wants k) (member_at p q o x k)
+unfolding member_at
+member_nodes p q o x (InSequence f) = attribute_head_nodes p q o x f
+member_nodes p q o x Given = tt
+member_nodes p q o x (Positioned place stream f) = tt
+member_nodes p q o x (Calculated c v e) = tt
+
+-- what all expressions want
+abbrev all_wants : Description → ℕ
+all_wants d = sum_by type_wants d.types
+
+member_head_nodes : (d : Description) (p q : Trail) (x : ℕ) → NodesAtMost (2 + all_wants d) (member_head d p q x)
+unfolding member_head
+member_head_nodes d p q x =
+    nodes_join _ _ (2 + all_wants d) 1 (1 + all_wants d) (omega arith) (head_nodes q) (λ h.
+    nodes_join _ _ (1 + all_wants d) 0 (1 + all_wants d) (omega arith) (in_object_nodes q h) (λ o.
+    found_nodes 1 (1 + all_wants d) d o.type_number x _ (omega arith) (λ m. member_nodes p q o m m.kind)))
+
+in_list_nodes : (l : Trail) (h : Head) → NodesAtMost 0 (in_list l h)
+in_list_nodes l (heads.List g) = tt
+in_list_nodes l (heads.Gone at) = tt
+in_list_nodes l (heads.Leaf b) = tt
+in_list_nodes l (heads.Object o) = tt
+
+in_next_nodes : (e : Ended) → NodesAtMost 0 (in_next e)
+in_next_nodes e = nodes_if e.last 0 _ _ tt tt
+
+next_start_nodes : (l : Trail) (i : ℕ) → NodesAtMost 1 (next_start l i)
+unfolding next_start
+next_start_nodes l i = nodes_join _ _ 1 1 0 (omega arith) (part_end_nodes l (steps.Index i)) (λ e. in_next_nodes e)
+
+element_start_nodes : (l : Trail) (g : lists.List) (i : ℕ) → NodesAtMost 1 (element_start l g i)
+unfolding element_start
+element_start_nodes l g i = nodes_if (g.is_empty || is_past g.count i) 1 _ _ tt (nodes_if (i == 0) 1 _ _ tt (next_start_nodes l (i - 1)))
+
+element_head_nodes : (d : Description) (p l q : Trail) (i : ℕ) → NodesAtMost (2 + all_wants d) (element_head d p l q i)
+unfolding element_head
+element_head_nodes d p l q i =
+    nodes_join _ _ (2 + all_wants d) 1 (1 + all_wants d) (omega arith) (head_nodes l) (λ h.
+    nodes_join _ _ (1 + all_wants d) 0 (1 + all_wants d) (omega arith) (in_list_nodes l h) (λ g.
+    nodes_join _ _ (1 + all_wants d) 1 (all_wants d) (omega arith) (element_start_nodes l g i) (λ s.
+    field_nodes 0 (all_wants d) d g.source _ (omega arith) (λ f. nodes_more (extent_wants f.extent) _ _ (omega arith) (shape_nodes _ g.source g.stream s f f.choice)))))
+
+head_at_nodes : (d : Description) (p : Trail) (step : Option Step) → NodesAtMost (2 + all_wants d) (head_at d p step)
+head_at_nodes d p None = tt
+head_at_nodes d p (Some (steps.Name x)) = member_head_nodes d p (parent p) x
+head_at_nodes d p (Some (steps.Index i)) = element_head_nodes d p (parent p) (parent (parent p)) i
+
+pub head_of_nodes : (d : Description) (p : Trail) → NodesAtMost (2 + all_wants d) (head_of d p)
+unfolding head_of
+head_of_nodes d p = head_at_nodes d p (last p)
+
+-- ---- values
+
+in_number_nodes : (enum : Option ℕ) (n : Option ℤ) → NodesAtMost 0 (in_number enum n)
+in_number_nodes enum None = tt
+in_number_nodes enum (Some n) = tt
+
+number_in_nodes : (signed : Bool) (order : ByteOrder) (enum : Option ℕ) (bytes : List ℕ) → NodesAtMost 0 (number_in signed order enum bytes)
+number_in_nodes signed order enum bytes = nodes_if (nat_le (length bytes) 8) 0 _ _ (in_number_nodes enum (ranged (integer_value signed order bytes))) tt
+
+number_nodes : (l : Leaf) (signed : Bool) (order : ByteOrder) (enum : Option ℕ) → NodesAtMost 0 (number_value l signed order enum)
+unfolding number_value
+number_nodes l signed order enum = nodes_join (peek l.from l.to) _ 0 0 0 (omega arith) (λ bs. tt) (λ bs. number_in_nodes signed order enum bs)
+
+fixed_nodes : (l : Leaf) (expected : List ℕ) → NodesAtMost 0 (fixed_value l expected)
+unfolding fixed_value
+fixed_nodes l expected = nodes_join (peek l.from l.to) _ 0 0 0 (omega arith) (λ bs. tt) (λ bs. nodes_if (bytes_eq bs expected) 0 _ _ tt tt)
+
+cut_nodes : (l : Leaf) (t : Terminator) → NodesAtMost 0 (cut_bytes l t)
+unfolding cut_bytes
+cut_nodes l t = nodes_join (peek l.from l.to) _ 0 0 0 (omega arith) (λ bs. tt) (λ bs. tt)
+
+bytes_value_nodes : (l : Leaf) (t : Option Terminator) → NodesAtMost 0 (bytes_value l t)
+unfolding bytes_value
+bytes_value_nodes l None = tt
+bytes_value_nodes l (Some t) = cut_nodes l t
+
+in_text_nodes : (t : Option (List ℕ)) → NodesAtMost 0 (in_text t)
+in_text_nodes None = tt
+in_text_nodes (Some t) = tt
+
+text_nodes : (l : Leaf) (encoding : Encoding) (t : Option Terminator) → NodesAtMost 0 (text_value l encoding t)
+unfolding text_value
+text_nodes l encoding t = nodes_join (peek l.from l.to) _ 0 0 0 (omega arith) (λ bs. tt) (λ bs. in_text_nodes (decoded encoding (cut_text t bs)))
+
+content_value_nodes : (l : Leaf) (f : Field) (c : Content) → NodesAtMost 0 (content_value l f c)
+unfolding content_value
+content_value_nodes l f contents.Bytes = bytes_value_nodes l (cut_by f.extent f.terminator)
+content_value_nodes l f (contents.Fixed bs) = fixed_nodes l bs
+content_value_nodes l f (contents.Number signed size order enum) = number_nodes l signed order enum
+content_value_nodes l f (contents.Characters encoding) = text_nodes l encoding (cut_by f.extent f.terminator)
+content_value_nodes l f (contents.Object t given) = tt
+
+choice_value_nodes : (l : Leaf) (f : Field) (c : Choice) → NodesAtMost 0 (choice_value l f c)
+unfolding choice_value
+choice_value_nodes l f (Always c) = content_value_nodes l f c
+choice_value_nodes l f (Switch on cases) = tt
+
+read_by_nodes : (k : Kind) → NodesAtMost 0 (read_by k)
+read_by_nodes (InSequence f) = tt
+read_by_nodes Given = tt
+read_by_nodes (Positioned place stream f) = tt
+read_by_nodes (Calculated c v e) = tt
+
+in_field_asks : (o : Option MemberOfType) → NodesAtMost 0 (in_field o)
+in_field_asks None = tt
+in_field_asks (Some m) = read_by_nodes m.kind
+
+leaf_value_nodes : (d : Description) (l : Leaf) → NodesAtMost 0 (leaf_value d l)
+unfolding leaf_value field_of
+leaf_value_nodes d l = nodes_join _ _ 0 0 0 (omega arith) (in_field_asks (slice_get (members_of d l.source.type_number) l.source.member)) (λ f. choice_value_nodes l f f.choice)
+
+value_at_nodes : (d : Description) (p : Trail) (h : Head) → NodesAtMost 0 (value_at d p h)
+unfolding value_at
+value_at_nodes d p (heads.Gone at) = tt
+value_at_nodes d p (heads.Leaf l) = leaf_value_nodes d l
+value_at_nodes d p (heads.Object o) = tt
+value_at_nodes d p (heads.List g) = tt
+
+value_of_nodes : (d : Description) (p : Trail) → NodesAtMost 1 (value_of d p)
+unfolding value_of
+value_of_nodes d p = nodes_join _ _ 1 1 0 (omega arith) (head_nodes p) (λ h. value_at_nodes d p h)
+
+-- ---- ends
+
+fields_end_nodes : (p : Trail) (start : ℕ) (z : Option ℕ) → NodesAtMost 1 (fields_end p start z)
+unfolding fields_end
+fields_end_nodes p start None = tt
+fields_end_nodes p start (Some z) = nodes_join _ _ 1 1 0 (omega arith) (part_end_nodes p (steps.Name z)) (λ e. tt)
+
+object_end_nodes : (d : Description) (p : Trail) (o : Object) (e : Ending) → NodesAtMost 1 (object_end d p o e)
+unfolding object_end
+object_end_nodes d p o (endings.At e) = tt
+object_end_nodes d p o endings.OfStream = λ n. tt
+object_end_nodes d p o endings.ByFields = fields_end_nodes p o.start (last_attribute None (members_of d o.type_number))
+
+part_rest_nodes : (p : Trail) (step : Step) → NodesAtMost 1 (part_rest p step)
+unfolding part_rest
+part_rest_nodes p step = nodes_join _ _ 1 0 1 (omega arith) (part_nodes p step) (λ q. rest_nodes q)
+
+list_end_nodes : (p : Trail) → NodesAtMost 1 (list_end p)
+unfolding list_end
+list_end_nodes p = nodes_join _ _ 1 1 0 (omega arith) (part_rest_nodes p (steps.Index 0)) (λ r. tt)
+
+gone_end_nodes : (at : Option ℕ) → NodesAtMost 1 (gone_end at)
+gone_end_nodes None = tt
+gone_end_nodes (Some s) = tt
+
+place_nodes : (d : Description) (p : Trail) (h : Head) → NodesAtMost 1 (place_of d p h)
+unfolding place_of
+place_nodes d p (heads.Gone at) = gone_end_nodes at
+place_nodes d p (heads.Leaf l) = tt
+place_nodes d p (heads.Object o) = object_end_nodes d p o o.ending
+place_nodes d p (heads.List g) = list_end_nodes p
+
+is_last_nodes : (q : Trail) (g : lists.List) (p : Trail) (i e : ℕ) (r : Repeat) → NodesAtMost (repeat_wants r) (is_last q g p i e r)
+unfolding is_last
+is_last_nodes q g p i e Once = tt
+is_last_nodes q g p i e (Times n) = tt
+is_last_nodes q g p i e UntilEnd = λ b. tt
+is_last_nodes q g p i e (Until c) = truth_nodes (behind_element q g p i e) c
+
+not_empty_nodes : (r : Repeat) (start e : ℕ) → NodesAtMost 0 (not_empty r start e)
+unfolding not_empty
+not_empty_nodes r start e = nodes_if (is_by_bytes r) 0 _ _ (nodes_if (e == start) 0 _ _ tt tt) tt
+
+element_end_nodes : (d : Description) (p l q : Trail) (i : ℕ) (h : Head) (e : ℕ) → NodesAtMost (1 + all_wants d) (element_end d p l q i h e)
+unfolding element_end
+element_end_nodes d p l q i h e =
+    nodes_join _ _ (1 + all_wants d) 1 (all_wants d) (omega arith) (head_nodes l) (λ k.
+    nodes_join _ _ (all_wants d) 0 (all_wants d) (omega arith) (in_list_nodes l k) (λ g.
+    field_nodes 0 (all_wants d) d g.source _ (omega arith) (λ f.
+    nodes_join _ _ (0 + field_wants f) 0 (field_wants f) (omega arith) (not_empty_nodes f.repeat (start_of h) e) (λ u.
+    nodes_join _ _ (field_wants f) (repeat_wants f.repeat) 0 (omega arith) (is_last_nodes q g p i e f.repeat) (λ b. tt)))))
+
+end_at_nodes : (d : Description) (p : Trail) (step : Option Step) (h : Head) (e : ℕ) → NodesAtMost (1 + all_wants d) (end_at d p step h e)
+end_at_nodes d p None h e = tt
+end_at_nodes d p (Some (steps.Name x)) h e = tt
+end_at_nodes d p (Some (steps.Index i)) h e = element_end_nodes d p (parent p) (parent (parent p)) i h e
+
+end_of_nodes : (d : Description) (p : Trail) → NodesAtMost (3 + all_wants d) (end_of d p)
+unfolding end_of
+end_of_nodes d p =
+    nodes_join _ _ (3 + all_wants d) 1 (2 + all_wants d) (omega arith) (head_nodes p) (λ h.
+    nodes_join _ _ (2 + all_wants d) 1 (1 + all_wants d) (omega arith) (place_nodes d p h) (λ e.
+    end_at_nodes d p (last p) h e))
+
+-- ---- rests
+
+next_rest_nodes : (l : Trail) (i : ℕ) → NodesAtMost 1 (next_rest l i)
+unfolding next_rest
+next_rest_nodes l i = nodes_if (i + 1 == 1048576) 1 _ _ tt (part_rest_nodes l (steps.Index (i + 1)))
+
+rest_behind_nodes : (l : Trail) (i : ℕ) (e : Ended) → NodesAtMost 1 (rest_behind l i e)
+rest_behind_nodes l i e = nodes_if e.last 1 _ _ tt (next_rest_nodes l i)
+
+rest_from_nodes : (p l : Trail) (i : ℕ) → NodesAtMost 2 (rest_from p l i)
+unfolding rest_from
+rest_from_nodes p l i = nodes_join _ _ 2 1 1 (omega arith) (end_nodes p) (λ e. rest_behind_nodes l i e)
+
+in_whole_list_nodes : (l : Trail) (h : Head) → NodesAtMost 0 (in_whole_list l h)
+in_whole_list_nodes l (heads.List g) = tt
+in_whole_list_nodes l (heads.Gone at) = tt
+in_whole_list_nodes l (heads.Leaf b) = tt
+in_whole_list_nodes l (heads.Object o) = tt
+
+first_rest_nodes : (p l : Trail) (g : lists.List) → NodesAtMost 2 (first_rest p l g)
+first_rest_nodes p l g = nodes_if g.is_empty 2 _ _ tt (rest_from_nodes p l 0)
+
+whole_rest_nodes : (p l : Trail) → NodesAtMost 3 (whole_rest p l)
+unfolding whole_rest
+whole_rest_nodes p l =
+    nodes_join _ _ 3 1 2 (omega arith) (head_nodes l) (λ h.
+    nodes_join _ _ 2 0 2 (omega arith) (in_whole_list_nodes l h) (λ g. first_rest_nodes p l g))
+
+rest_at_nodes : (p : Trail) (step : Option Step) → NodesAtMost 3 (rest_at p step)
+rest_at_nodes p None = tt
+rest_at_nodes p (Some (steps.Name x)) = tt
+rest_at_nodes p (Some (steps.Index i)) = nodes_if (i == 0) 3 _ _ (whole_rest_nodes p (parent p)) (nodes_more 2 3 _ (omega arith) (rest_from_nodes p (parent p) i))
+
+rest_of_nodes : (d : Description) (p : Trail) → NodesAtMost 3 (rest_of d p)
+unfolding rest_of
+rest_of_nodes d p = rest_at_nodes p (last p)
+
+-- ---- nodes
+
+meaning_nodes : (d : Description) (k : NodeKind) (p : Trail) → NodesAtMost (4 + all_wants d) (meaning_of d k p)
+unfolding meaning_of
+meaning_nodes d nodes.Head p = nodes_join _ _ (4 + all_wants d) (2 + all_wants d) 0 (omega arith) (head_of_nodes d p) (λ h. tt)
+meaning_nodes d nodes.Value p = nodes_join _ _ (4 + all_wants d) 1 0 (omega arith) (value_of_nodes d p) (λ v. tt)
+meaning_nodes d nodes.End p = nodes_join _ _ (4 + all_wants d) (3 + all_wants d) 0 (omega arith) (end_of_nodes d p) (λ e. tt)
+meaning_nodes d nodes.Rest p = nodes_join _ _ (4 + all_wants d) 3 0 (omega arith) (rest_of_nodes d p) (λ r. tt)
+
+-- a rule asks no more nodes than this
+pub rule_nodes : (d : Description) (n : Node) → NodesAtMost (most_asks d) (rule_of d n)
+unfolding rule_of served_rule most_asks
+rule_nodes d n = nodes_if (is_served d) (4 + all_wants d) _ _ (meaning_nodes d n.kind n.path) tt
+
+done_of : (r : Ran Node Fault State Answered) → IsEnded r → IsDone (step_of r)
+done_of (Need n s) h = h
+done_of (Failed f s) h = tt
+done_of (Done g s) h = tt
+
+-- with so many replies, true or not, a node is done
+pub settles : (d : Description) (bytes : List ℕ) (n : Node) (replies : List (Result Answered Fault)) → most_asks d ≤ length replies → IsDone (step_of (resumed d bytes n replies))
+settles d bytes n replies h = done_of (resumed d bytes n replies) (enough (most_asks d) (rule_of d n) (fresh n.path bytes replies) (rule_nodes d n) h)
+
+-- ---- laws
+
+-- Each rule of a description asks a number of nodes that the description tells, whatever nodes answer and bytes say; so a node
+-- that has as many replies, true or not, is done.
+pub record AreRulesBounded (d : Description) (n : Node) : Type 0 where
+  pub asks : NodesAtMost (most_asks d) (rule_of d n)
+  pub settles : (bytes : List ℕ) (replies : List (Result Answered Fault)) → most_asks d ≤ length replies → IsDone (step_of (resumed d bytes n replies))
+
+abbrev pub RulesAreBounded : Type 0
+RulesAreBounded = (d : Description) (n : Node) → AreRulesBounded d n

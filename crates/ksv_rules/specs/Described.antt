@@ -1,0 +1,72 @@
+-- What the rules of a description mean to an engine: a node's rule is run from its beginning on the replies that it had.
+use Rattle.std.specs.Prelude.{ℕ, ◌+◌, List, Option, Some, None, Result, Ok, Err}
+use Rattle.std.specs.List.{sum_by}
+use Rattle.ksv_plan.specs.Plan.{Ran, Need, Failed, Done, run, behind}
+use Rattle.ksv_bytes.specs.declared.uses.Use.{Use}
+use Rattle.ksv_syntax.specs.Tree.{Tree}
+use Rattle.ksv_expr.specs.Evaluation.{most_wants}
+use Rattle.ksv_expr.specs.declared.fault.Fault.{Fault}
+use Rattle.ksv_schema.specs.Description.{Description, TypeOfObjects, MemberOfType, Kind, InSequence, Field, Repeat, Once, UntilEnd, Times, Until, Extent, Sized, ToEnd, ByItself}
+use Rattle.ksv_memo.specs.Meaning.{Meaning}
+use Rattle.ksv_memo.specs.declared.rules.Step.{Step}
+use Rattle.ksv_memo.specs.declared.rules.Step.TheVariants as steps
+use Rattle.ksv_nodes.specs.declared.node.Node.{Node}
+use Rattle.ksv_nodes.specs.declared.given.Given.{Given}
+use Rattle.ksv_nodes.specs.Numbers.{node_number, node_bound}
+use Rattle.ksv_nodes.specs.Turning.{State, turns, fresh}
+use Rattle.ksv_rules.specs.Meaning.{rule_of}
+
+-- ---- how many nodes a rule asks at most
+
+abbrev pub condition_wants : Option Tree → ℕ
+condition_wants None = 0
+condition_wants (Some e) = most_wants e
+
+abbrev pub repeat_wants : Repeat → ℕ
+repeat_wants Once = 0
+repeat_wants UntilEnd = 0
+repeat_wants (Times e) = most_wants e
+repeat_wants (Until e) = most_wants e
+
+abbrev pub extent_wants : Extent → ℕ
+extent_wants (Sized e) = most_wants e
+extent_wants ToEnd = 0
+extent_wants ByItself = 0
+
+-- what the expressions of an attribute want at most
+abbrev pub field_wants : Field → ℕ
+field_wants f = condition_wants f.condition + (repeat_wants f.repeat + extent_wants f.extent)
+
+abbrev pub kind_wants : Kind → ℕ
+kind_wants (InSequence f) = field_wants f
+kind_wants _ = 0
+
+abbrev pub type_wants : TypeOfObjects → ℕ
+type_wants t = sum_by (λ m. kind_wants m.kind) t.members
+
+-- What all expressions of a description want at most, and four nodes besides: a rule asks for a head, an end or a rest, and
+-- the head of a list.
+unfoldable pub most_asks : Description → ℕ
+most_asks d = 4 + sum_by type_wants d.types
+
+-- ---- a rule by replies
+
+-- the rule of a node, with these replies
+abbrev pub resumed : Description → List ℕ → Node → List (Result Given Fault) → Ran Node Fault State Given
+resumed d bytes n replies = run turns (rule_of d n) (fresh n.path bytes replies)
+
+-- what it came to
+abbrev pub step_of : Ran Node Fault State Given → Step Node (Result Given Fault)
+step_of (Need n s) = steps.Need n
+step_of (Failed f s) = steps.Done (Err f)
+step_of (Done g s) = steps.Done (Ok g)
+
+-- the rules of a description, as an engine sees them
+abbrev pub described : Description → Meaning Node (Result Given Fault)
+described d = record {
+  follow = λ bytes n replies. step_of (resumed d bytes n replies);
+  added = λ bytes n replies. (behind (resumed d bytes n replies)).uses;
+  number = node_number;
+  nodes = node_bound;
+  replies = most_asks d;
+}

@@ -1,0 +1,26 @@
+-- What an expression of a description means in a rule: its value as ksv_expr tells it, each want answered as the rules answer
+-- it. The language of expressions is that of the Kaitai Struct User Guide; what they ask and use is this project's own.
+use Rattle.std.specs.Prelude.{◌≡◌, ℕ, List, flat_map, Result}
+use Rattle.ksv_syntax.specs.Tree.{Tree}
+use Rattle.ksv_expr.specs.Heard.{Setting, Heard}
+use Rattle.ksv_expr.specs.Evaluation.{Ev, wants_made}
+use Rattle.ksv_expr.specs.declared.fault.Fault.{Fault}
+use Rattle.ksv_expr.specs.declared.want.Want.{Want}
+use Rattle.ksv_nodes.specs.Truth.{answer_of, asks_of, uses_of}
+use Rattle.ksv_nodes.specs.declared.node.Node.{Node}
+use Rattle.ksv_nodes.specs.declared.given.Given.{Given}
+use Rattle.ksv_rules.specs.Wanted.{wanted, expression}
+
+-- what the rules answer a want, over a map of nodes to answers
+abbrev pub wants_met : (Node → Result Given Fault) → List ℕ → Setting → Want → Result Heard Fault
+wants_met met bytes s w = answer_of met s.here bytes (wanted s w)
+
+-- Over any map of nodes to answers, and on any bytes: an expression whose faults stand at the node's path answers what it means
+-- over the map from wants to what the rules answer them; and what it asks and uses is what its wants do, one after the other.
+pub record IsExpressionMet (met : Node → Result Given Fault) (bytes : List ℕ) (s : Setting) (e : Tree) : Type 0 where
+  pub answer : answer_of met s.here bytes (expression s e) ≡ Ev (wants_met met bytes s) s e
+  pub asks : asks_of met s.here bytes (expression s e) ≡ flat_map (λ w. asks_of met s.here bytes (wanted s w)) (wants_made (wants_met met bytes s) s e)
+  pub uses : uses_of met s.here bytes (expression s e) ≡ flat_map (λ w. uses_of met s.here bytes (wanted s w)) (wants_made (wants_met met bytes s) s e)
+
+abbrev pub ExpressionsAreMet : Type 0
+ExpressionsAreMet = (met : Node → Result Given Fault) (bytes : List ℕ) (s : Setting) (e : Tree) → IsExpressionMet met bytes s e

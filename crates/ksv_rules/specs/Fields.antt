@@ -1,0 +1,58 @@
+-- What a description says of the members of its types.
+use Rattle.std.specs.Prelude.{ℕ, ◌+◌, ◌==◌, Bool, true, false, List, [], ◌∷◌, Option, Some, None, slice_get, if◌then◌else◌}
+use Rattle.std.specs.Option.{option_map_or}
+use Rattle.ksv_plan.specs.Plan.{Answer}
+use Rattle.ksv_expr.specs.declared.fault.FaultKind.TheVariants as kinds
+use Rattle.ksv_schema.specs.Description.{Description, TypeOfObjects, MemberOfType, Field, Kind, Given, InSequence, Positioned, Calculated}
+use Rattle.ksv_nodes.specs.declared.given.Source.{Source}
+use Rattle.ksv_nodes.specs.Rule.{Rule, raise}
+
+-- the members of a type, in written order; a number that no type has is that of none
+unfoldable pub members_of : Description → ℕ → List MemberOfType
+members_of d t = option_map_or (λ x. x.members) (slice_get d.types t) []
+
+-- an attribute of `seq`
+abbrev pub is_attribute : Kind → Bool
+is_attribute (InSequence f) = true
+is_attribute _ = false
+
+-- the attribute of `seq` that stands last, behind a member
+abbrev pub behind : Option ℕ → MemberOfType → Option ℕ
+behind before m = if is_attribute m.kind then Some m.name else before
+
+-- A member that was looked for: its place among the members of its type, the name of the attribute of `seq` before it, and what it is.
+pub record Sought : Type 0 where
+  pub member : ℕ
+  pub before : Option ℕ
+  pub kind : Kind
+
+-- the member of a name, from the member of a place on, `before` being the attribute before that
+unfoldable pub sought : ℕ → ℕ → Option ℕ → List MemberOfType → Option Sought
+sought x i before [] = None
+sought x i before (m ∷ ms) = if m.name == x then Some (record { member = i; before = before; kind = m.kind }) else sought x (i + 1) (behind before m) ms
+
+-- a type without this name has no such member
+abbrev pub in_sought : Option Sought → Rule Sought
+in_sought None = raise kinds.NoSuch
+in_sought (Some s) = Answer s
+
+unfoldable pub member_named : Description → ℕ → ℕ → Rule Sought
+member_named d t x = in_sought (sought x 0 None (members_of d t))
+
+-- the last attribute of `seq`
+abbrev pub last_attribute : Option ℕ → List MemberOfType → Option ℕ
+last_attribute before [] = before
+last_attribute before (m ∷ ms) = last_attribute (behind before m) ms
+
+-- how a member reads, where it is one that reads
+abbrev pub read_by : Kind → Rule Field
+read_by (InSequence f) = Answer f
+read_by _ = raise kinds.NoSuch
+
+abbrev pub in_field : Option MemberOfType → Rule Field
+in_field None = raise kinds.NoSuch
+in_field (Some m) = read_by m.kind
+
+-- how the attribute of a source reads; the sources of true heads are those of attributes
+unfoldable pub field_of : Description → Source → Rule Field
+field_of d s = in_field (slice_get (members_of d s.type_number) s.member)

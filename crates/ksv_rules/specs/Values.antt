@@ -1,0 +1,115 @@
+-- The value of what stands at a path: integers, bytes and texts as the Kaitai Struct User Guide has them, objects and lists by
+-- their path.
+use Rattle.std.specs.Prelude.{ℕ, ◌+◌, nat_le, Bool, true, false, ℤ, List, [], ◌∷◌, length, take, Option, Some, None, if◌then◌else◌}
+use Rattle.std.specs.Option.{option_map_or}
+use Rattle.std.specs.Str.{bytes_eq}
+use Rattle.ksv_plan.specs.Plan.{Answer, ◌>>=◌}
+use Rattle.ksv_scope.specs.declared.order.ByteOrder.{ByteOrder}
+use Rattle.ksv_expr.specs.Trail.{Trail}
+use Rattle.ksv_expr.specs.Integers.{ranged}
+use Rattle.ksv_expr.specs.Encodings.{decoded}
+use Rattle.ksv_expr.specs.declared.encoding.Encoding.{Encoding}
+use Rattle.ksv_expr.specs.declared.fault.FaultKind.TheVariants as kinds
+use Rattle.ksv_expr.specs.declared.value.Value.{Value}
+use Rattle.ksv_expr.specs.declared.value.Value.TheVariants as values
+use Rattle.ksv_schema.specs.Description.{Description, Field, Content, Choice, Always, Switch, Extent, Sized, ToEnd, ByItself, Terminator}
+use Rattle.ksv_schema.specs.Description as contents
+use Rattle.ksv_nodes.specs.declared.given.Leaf.{Leaf}
+use Rattle.ksv_nodes.specs.declared.given.Head.{Head}
+use Rattle.ksv_nodes.specs.declared.given.Head.TheVariants as heads
+use Rattle.ksv_nodes.specs.Reading.{first_at}
+use Rattle.ksv_nodes.specs.Rule.{Rule, raise, ask_head, peek}
+use Rattle.ksv_rules.specs.Fields.{field_of}
+use Rattle.ksv_rules.specs.Integers.{integer_value}
+
+-- an integer, and as a member of an enum where it is one
+abbrev pub as_member : Option ℕ → ℤ → Value
+as_member None n = values.Int n
+as_member (Some e) n = values.Member e n
+
+-- integers of at most 8 bytes are in the range
+abbrev pub in_number : Option ℕ → Option ℤ → Rule Value
+in_number enum None = raise kinds.Overflow
+in_number enum (Some n) = Answer (as_member enum n)
+
+-- the integer that bytes say; none has more than 8
+abbrev pub number_in : Bool → ByteOrder → Option ℕ → List ℕ → Rule Value
+number_in signed order enum bytes =
+    if nat_le (length bytes) 8 then in_number enum (ranged (integer_value signed order bytes)) else raise kinds.BadType
+
+unfoldable pub number_value : Leaf → Bool → ByteOrder → Option ℕ → Rule Value
+number_value l signed order enum = do
+  bs ← peek l.from l.to
+  number_in signed order enum bs
+
+-- certain bytes and no others
+unfoldable pub fixed_value : Leaf → List ℕ → Rule Value
+fixed_value l wanted = do
+  bs ← peek l.from l.to
+  if bytes_eq bs wanted then Answer (values.Bytes l.from l.to) else raise kinds.Contents
+
+-- Bytes with a size of their own are cut before the first terminator, or behind it where it is included; without one they
+-- aren't cut. Without a size the terminator isn't among the bytes, or is their last.
+abbrev pub cut_by : Extent → Option Terminator → Option Terminator
+cut_by (Sized e) t = t
+cut_by ToEnd t = t
+cut_by ByItself t = None
+
+abbrev pub kept_of : Terminator → List ℕ → Option ℕ → ℕ
+kept_of t bytes None = length bytes
+kept_of t bytes (Some i) = if t.is_included then i + 1 else i
+
+-- how many of the bytes are kept
+unfoldable pub kept : Terminator → List ℕ → ℕ
+kept t bytes = kept_of t bytes (first_at t.byte bytes)
+
+-- the range of bytes; where they may be cut they are read
+unfoldable pub cut_bytes : Leaf → Terminator → Rule Value
+cut_bytes l t = do
+  bs ← peek l.from l.to
+  Answer (values.Bytes l.from (l.from + kept t bs))
+
+unfoldable pub bytes_value : Leaf → Option Terminator → Rule Value
+bytes_value l None = Answer (values.Bytes l.from l.to)
+bytes_value l (Some t) = cut_bytes l t
+
+-- a text; bytes that spell none are the fault bad-text
+abbrev pub in_text : Option (List ℕ) → Rule Value
+in_text None = raise kinds.BadText
+in_text (Some t) = Answer (values.Text t)
+
+abbrev pub cut_text : Option Terminator → List ℕ → List ℕ
+cut_text None bytes = bytes
+cut_text (Some t) bytes = take (kept t bytes) bytes
+
+unfoldable pub text_value : Leaf → Encoding → Option Terminator → Rule Value
+text_value l encoding t = do
+  bs ← peek l.from l.to
+  in_text (decoded encoding (cut_text t bs))
+
+unfoldable pub content_value : Leaf → Field → Content → Rule Value
+content_value l f contents.Bytes = bytes_value l (cut_by f.extent f.terminator)
+content_value l f (contents.Fixed bs) = fixed_value l bs
+content_value l f (contents.Number signed size order enum) = number_value l signed order enum
+content_value l f (contents.Characters encoding) = text_value l encoding (cut_by f.extent f.terminator)
+content_value l f (contents.Object t given) = raise kinds.NoSuch
+
+unfoldable pub choice_value : Leaf → Field → Choice → Rule Value
+choice_value l f (Always c) = content_value l f c
+choice_value l f (Switch on cases) = raise kinds.NoSuch
+
+unfoldable pub leaf_value : Description → Leaf → Rule Value
+leaf_value d l = do
+  f ← field_of d l.source
+  choice_value l f f.choice
+
+unfoldable pub value_at : Description → Trail → Head → Rule Value
+value_at d p (heads.Gone at) = raise kinds.Absent
+value_at d p (heads.Leaf l) = leaf_value d l
+value_at d p (heads.Object o) = Answer (values.Object p)
+value_at d p (heads.List g) = Answer (values.List p)
+
+unfoldable pub value_of : Description → Trail → Rule Value
+value_of d p = do
+  h ← ask_head p
+  value_at d p h

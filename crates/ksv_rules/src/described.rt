@@ -1,0 +1,113 @@
+//! The rules of a description, for an engine.
+
+ghost use Rattle.std.specs.Prelude.{◌≡◌, ◌++◌, IfOk, OnOk, OnErr};
+ghost use Rattle.ksv_schema.specs.Whole.{plain_pieces};
+ghost use Rattle.ksv_memo.specs.Meaning.{IsAddedTo};
+ghost use Rattle.ksv_nodes.specs.Exact.{node_exact};
+ghost use Rattle.ksv_rules.specs.Served.{is_served};
+ghost use Rattle.ksv_rules.specs.Described.{described};
+ghost use Rattle.ksv_rules.specs.Lawful.{described_lawful};
+
+use crate::rules::rule;
+use crate::serving::served;
+use ksv_bytes::{Buffer, Use};
+use ksv_expr::Fault;
+use ksv_memo::{Rules, Step};
+use ksv_nodes::{Given, Node, Stop, Turn};
+use ksv_schema::Desc;
+use std::alloc::{AllocError, Global};
+
+type Answer = Result<Given, Fault>;
+
+/// The rules of a description: what each node of a file that it describes asks and answers.
+#[derive(Drop)]
+pub struct Described {
+    desc: Desc,
+    // Whether it is served; the nodes of another answer no-such.
+    has_answers: bool,
+    ghost known: { has_answers ≡ is_served (plain_pieces desc) },
+}
+
+impl Described {
+    /// The rules of this description. It takes no memory.
+    pub fn new(desc: Desc) -> Self
+        ensures { result.desc ≡ desc }
+    {
+        let has_answers = served(&desc);
+        Described { desc, has_answers }
+    }
+
+    /// The description.
+    pub fn desc(&self) -> &Desc
+        ensures { result.now ≡ self.now.desc }
+    {
+        &self.desc
+    }
+
+    /// What a node does next after these replies, and what its readings rest on.
+    #[tactic(auto, unfolding(crate::specs::Meaning::rule_of))]
+    fn step(
+        &self,
+        alloc: Global,
+        node: &Node,
+        bytes: &Buffer,
+        replies: &[Answer],
+        uses: &mut Vec<Use>,
+    ) -> Result<Step<Node, Answer>, AllocError>
+        ensures step { IfOk result (λ step. step ≡ (described (plain_pieces self.now.desc)).follow bytes.now node.now replies.now) }
+        ensures uses { OnOk result (uses.new.items ≡ uses.old.items ++ (described (plain_pieces self.now.desc)).added bytes.now node.now replies.now) }
+        ensures refused { OnErr result (uses.new.items ≡ uses.old.items) }
+    {
+        let mut turn = Turn::new(alloc, &node.path, bytes, replies);
+        let step = match rule(&mut turn, self.has_answers, &self.desc, node) {
+            Ok(given) => Step::Done(Ok(given)),
+            Err(Stop::Need(needed)) => Step::Need(needed),
+            Err(Stop::Fault(fault)) => Step::Done(Err(fault)),
+            Err(Stop::Memory) => return Err(AllocError),
+        };
+        let added = turn.into_uses();
+        uses.extend_from_slice(&added)?;
+        Ok(step)
+    }
+}
+
+impl Rules for Described {
+    ghost use Rattle.ksv_schema.specs.Whole.{plain_pieces};
+    ghost use Rattle.ksv_nodes.specs.Exact.{node_exact};
+    ghost use Rattle.ksv_rules.specs.Described.{described};
+    ghost use Rattle.ksv_rules.specs.Lawful.{described_lawful};
+
+    type Node = Node;
+
+    type Value = Given;
+
+    type Fault = Fault;
+
+    ghost meaning = { λ rules. described (plain_pieces rules.desc) };
+
+    fn next(
+        &self,
+        alloc: Global,
+        node: &Node,
+        bytes: &Buffer,
+        replies: &[Answer],
+        uses: &mut Vec<Use>,
+    ) -> Result<Step<Node, Answer>, AllocError> {
+        self.step(alloc, node, bytes, replies, uses)
+    }
+
+    fn copy_node(&self, alloc: Global, node: &Node) -> Result<Node, AllocError> {
+        node.copy(alloc)
+    }
+
+    fn copy_answer(&self, alloc: Global, answer: &Answer) -> Result<Answer, AllocError> {
+        Ok(match answer {
+            Ok(given) => Ok(given.copy(alloc)?),
+            Err(fault) => Err(fault.copy(alloc)?),
+        })
+    }
+
+    ghost exact = { node_exact };
+
+    ghost lawful = { λ rules. described_lawful (plain_pieces rules.desc) };
+}

@@ -1,0 +1,73 @@
+//! The value of an expression in a rule: what it wants is asked of nodes and read from the bytes.
+
+ghost use Rattle.std.specs.Prelude.{◌≡◌, IfOk, Ok};
+ghost use Rattle.ksv_syntax.specs.Tree.{view};
+ghost use Rattle.ksv_expr.specs.Heard.{heard};
+ghost use Rattle.ksv_nodes.specs.Turning.{Runs};
+ghost use Rattle.ksv_rules.specs.Sites.{setting_of};
+ghost use Rattle.ksv_rules.specs.Told.{told};
+ghost use Rattle.ksv_rules.specs.Wanted.{wanted, expression};
+
+use crate::site::Site;
+use crate::wanted::in_object;
+use ksv_expr::{Expr, Got, Outcome, Stream, Value, Want, eval};
+use ksv_nodes::{Stop, Turn};
+
+/// The answer to a want. A fault of a node that it asks ends the rule.
+#[tactic(auto, using(ksv_plan::proofs::Running::run_bind), unfolding(crate::specs::Wanted::wanted))]
+fn answer<'a>(turn: &mut Turn<'a>, site: Site, want: Want) -> Result<Got<'a>, Stop>
+    ensures runs { Runs (wanted (setting_of site.entry) want) told turn.old turn.new result }
+    ensures told { IfOk result (λ got. heard got ≡ Ok (told got)) }
+{
+    match want {
+        Want::Value(path) => {
+            let value = turn.value(path)?;
+            Ok(Got::Value(value.copy(turn.alloc())?))
+        }
+        Want::Head(path) => {
+            let head = turn.head(path.copy(turn.alloc())?)?;
+            let object = in_object(turn, &path, head)?;
+            Ok(Got::Object {
+                type_number: object.type_number,
+                stream: object.stream,
+            })
+        }
+        Want::Rest(path) => {
+            let rested = turn.rest(path)?;
+            Ok(Got::Number(u64::from(rested.count)))
+        }
+        Want::Size => {
+            let size = turn.finish(Stream { from: 0, to: None })?;
+            Ok(Got::Number(u64::from(size)))
+        }
+        Want::Done => {
+            let is_done = turn.done(site.stream, site.place)?;
+            Ok(Got::Truth(is_done))
+        }
+        Want::Bytes { from, to } => {
+            let bytes = turn.peek(from, to)?;
+            Ok(Got::Slices(bytes.front, bytes.back))
+        }
+    }
+}
+
+/// The value of an expression: it is evaluated anew with one answer more, until it wants none. Its own faults stand at the
+/// path of the node.
+pub(crate) fn value_of_expression(turn: &mut Turn, site: Site, expr: &Expr) -> Result<Value, Stop>
+    ensures { Runs (expression (setting_of site.entry) (view expr.now)) (λ v. v) turn.old turn.new result }
+{
+    let ctx = site.ctx();
+    let mut replies: Vec<Got> = Vec::new(turn.alloc());
+    loop {
+        match eval(turn.alloc(), expr, &ctx, &replies)? {
+            Outcome::Done(done) => match done {
+                Ok(value) => return Ok(value),
+                Err(fault) => return turn.raise(fault.kind),
+            },
+            Outcome::Need(want) => {
+                let got = answer(turn, site, want)?;
+                replies.push(got)?;
+            }
+        }
+    }
+}

@@ -1,0 +1,115 @@
+//! What a description says of the members of its types.
+#![tactic(auto, using(ksv_plan::proofs::Running::run_bind), unfolding(crate::specs::Fields::members_of, crate::specs::Fields::sought, crate::specs::Fields::member_named, crate::specs::Fields::field_of))]
+
+ghost use Rattle.std.specs.Prelude.{◌≡◌, None, map, option_map};
+ghost use Rattle.ksv_schema.specs.Pieces.{plain_member, plain_field, plain_kind};
+ghost use Rattle.ksv_schema.specs.Whole.{plain_pieces};
+ghost use Rattle.ksv_nodes.specs.Turning.{Runs};
+ghost use Rattle.ksv_rules.specs.Fields.{members_of, behind, sought, member_named, last_attribute, read_by, field_of};
+ghost use Rattle.ksv_rules.specs.Members.{plain_sought};
+
+use ksv_expr::FaultKind;
+use ksv_nodes::{Source, Stop, Turn};
+use ksv_schema::Desc;
+use ksv_schema::desc::{Field, Kind, MemberDesc};
+
+/// A member that was looked for.
+#[derive(Clone, Copy)]
+pub(crate) struct Sought<'d> {
+    /// Its place among the members of its type, from 0.
+    pub(crate) member: usize,
+    /// The name of the attribute of `seq` before it.
+    pub(crate) before: Option<u32>,
+    /// What it is.
+    pub(crate) kind: &'d Kind,
+}
+
+/// The members of a type, in written order; a number that no type has is that of none.
+pub(crate) fn members_of(desc: &Desc, type_number: u32) -> &[MemberDesc]
+    ensures { map plain_member result.now ≡ members_of (plain_pieces desc.now) type_number }
+{
+    match desc.type_desc(type_number) {
+        Some(found) => found.members(),
+        None => &[],
+    }
+}
+
+/// The attribute of `seq` that stands last, behind a member.
+fn behind(before: Option<u32>, member: &MemberDesc) -> Option<u32>
+    ensures { result ≡ behind before (plain_member member.now) }
+{
+    match member.kind {
+        Kind::InSequence(_) => Some(member.name),
+        _ => before,
+    }
+}
+
+/// The member of a name.
+fn find_member(members: &[MemberDesc], name: u32) -> Option<Sought<'_>>
+    ensures { option_map plain_sought result ≡ sought name 0 None (map plain_member members.now) }
+{
+    let mut before = None;
+    let mut place = 0;
+    for member in members {
+        if member.name == name {
+            return Some(Sought {
+                member: place,
+                before,
+                kind: &member.kind,
+            });
+        }
+        before = behind(before, member);
+        place += 1;
+    }
+    None
+}
+
+/// The member of a name of a type.
+pub(crate) fn member_named<'d>(
+    turn: &mut Turn,
+    desc: &'d Desc,
+    type_number: u32,
+    name: u32,
+) -> Result<Sought<'d>, Stop>
+    ensures { Runs (member_named (plain_pieces desc.now) type_number name) plain_sought turn.old turn.new result }
+{
+    match find_member(members_of(desc, type_number), name) {
+        Some(sought) => Ok(sought),
+        None => turn.raise(FaultKind::NoSuch),
+    }
+}
+
+/// The name of the last attribute of `seq`.
+pub(crate) fn last_attribute(members: &[MemberDesc]) -> Option<u32>
+    ensures { result ≡ last_attribute None (map plain_member members.now) }
+{
+    let mut last = None;
+    for member in members {
+        last = behind(last, member);
+    }
+    last
+}
+
+/// How a member reads, where it is one that reads.
+fn read_by<'d>(turn: &mut Turn, kind: &'d Kind) -> Result<&'d Field, Stop>
+    ensures { Runs (read_by (plain_kind kind.now)) (λ field. plain_field field.now) turn.old turn.new result }
+{
+    match kind {
+        Kind::InSequence(field) => Ok(field),
+        _ => turn.raise(FaultKind::NoSuch),
+    }
+}
+
+/// How the attribute of a source reads.
+pub(crate) fn field_of<'d>(
+    turn: &mut Turn,
+    desc: &'d Desc,
+    source: Source,
+) -> Result<&'d Field, Stop>
+    ensures { Runs (field_of (plain_pieces desc.now) source) (λ field. plain_field field.now) turn.old turn.new result }
+{
+    match members_of(desc, source.type_number).get(source.member) {
+        Some(member) => read_by(turn, &member.kind),
+        None => turn.raise(FaultKind::NoSuch),
+    }
+}

@@ -1,0 +1,28 @@
+//! The rules of a description's nodes: what stands at a path of a file, its value, and where it ends.
+//!
+//! Each rule is a definition in specs/ (`Heads`, `Values`, `Ends`) and a function of the same name here that runs it on the
+//! replies that it had. An engine (`ksv_memo`) calls the rules and keeps what they answer.
+#![tactic(auto)]
+
+mod described;
+mod ends;
+mod evaluation;
+mod expression_laws;
+mod fields;
+mod heads;
+mod integer;
+mod laws;
+mod parts;
+mod path_text;
+mod rules;
+mod serving;
+mod site;
+mod values;
+mod wanted;
+
+pub use described::Described;
+pub use expression_laws::{expressions_are_met, rules_are_bounded};
+pub use ksv_nodes::{Ending, Given, Head, Kind, Leaf, List, Node, Object, Source};
+pub use laws::{evaluation_is_direct, next_meets_truth};
+pub use path_text::path_of;
+pub use serving::served;

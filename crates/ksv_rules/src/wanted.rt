@@ -1,0 +1,90 @@
+//! Integers, truth values and sizes that expressions give, and the objects at paths.
+#![tactic(auto, using(ksv_plan::proofs::Running::run_bind), unfolding(crate::specs::Wanted::integer_of, crate::specs::Wanted::truth_of, crate::specs::Wanted::holds, crate::specs::Wanted::size_of))]
+
+ghost use Rattle.std.specs.Prelude.{option_map};
+ghost use Rattle.ksv_syntax.specs.Tree.{view};
+ghost use Rattle.ksv_nodes.specs.Turning.{Runs};
+ghost use Rattle.ksv_rules.specs.Sites.{setting_of};
+ghost use Rattle.ksv_rules.specs.Wanted.{in_object, in_integer, in_truth, integer_of, truth_of, holds, in_size, size_of};
+
+use crate::evaluation::value_of_expression;
+use crate::site::Site;
+use ksv_expr::{Expr, Fault, FaultKind, Integer, Path, Value};
+use ksv_nodes::{Head, Object, Stop, Turn};
+
+/// The object that stands at a path. Inside an absent attribute all is absent; what is no object has no members.
+pub(crate) fn in_object(turn: &Turn, path: &Path, head: Head) -> Result<Object, Stop>
+    ensures { Runs (in_object path.now head) (λ object. object) turn.now turn.now result }
+{
+    match head {
+        Head::Object(object) => Ok(object),
+        Head::Gone(_) => Err(Stop::Fault(Fault {
+            kind: FaultKind::Absent,
+            path: path.copy(turn.alloc())?,
+        })),
+        _ => turn.raise(FaultKind::NoSuch),
+    }
+}
+
+fn in_integer(turn: &mut Turn, value: Value) -> Result<Integer, Stop>
+    ensures { Runs (in_integer value) (λ number. number) turn.old turn.new result }
+{
+    match value {
+        Value::Int(number) => Ok(number),
+        _ => turn.raise(FaultKind::BadType),
+    }
+}
+
+fn in_truth(turn: &mut Turn, value: Value) -> Result<bool, Stop>
+    ensures { Runs (in_truth value) (λ truth. truth) turn.old turn.new result }
+{
+    match value {
+        Value::Bool(truth) => Ok(truth),
+        _ => turn.raise(FaultKind::BadType),
+    }
+}
+
+/// The integer that an expression gives; another kind doesn't fit.
+pub(crate) fn integer_of(turn: &mut Turn, site: Site, expr: &Expr) -> Result<Integer, Stop>
+    ensures { Runs (integer_of (setting_of site.entry) (view expr.now)) (λ number. number) turn.old turn.new result }
+{
+    let value = value_of_expression(turn, site, expr)?;
+    in_integer(turn, value)
+}
+
+/// The truth value that an expression gives; another kind doesn't fit.
+pub(crate) fn truth_of(turn: &mut Turn, site: Site, expr: &Expr) -> Result<bool, Stop>
+    ensures { Runs (truth_of (setting_of site.entry) (view expr.now)) (λ truth. truth) turn.old turn.new result }
+{
+    let value = value_of_expression(turn, site, expr)?;
+    in_truth(turn, value)
+}
+
+/// Whether a condition holds; without one it does.
+pub(crate) fn holds(turn: &mut Turn, site: Site, condition: &Option<Expr>) -> Result<bool, Stop>
+    ensures { Runs (holds (setting_of site.entry) (option_map view condition.now)) (λ truth. truth) turn.old turn.new result }
+{
+    match condition {
+        None => Ok(true),
+        Some(expr) => truth_of(turn, site, expr),
+    }
+}
+
+/// A size, a count or a position isn't below 0.
+fn in_size(turn: &mut Turn, number: Integer) -> Result<u64, Stop>
+    ensures { Runs (in_size number) (λ size. size) turn.old turn.new result }
+{
+    let number = number.get();
+    if number < 0 {
+        return turn.raise(FaultKind::BadSize);
+    }
+    Ok(number as u64)
+}
+
+/// The size that an expression gives.
+pub(crate) fn size_of(turn: &mut Turn, site: Site, expr: &Expr) -> Result<u64, Stop>
+    ensures { Runs (size_of (setting_of site.entry) (view expr.now)) (λ size. size) turn.old turn.new result }
+{
+    let number = integer_of(turn, site, expr)?;
+    in_size(turn, number)
+}
