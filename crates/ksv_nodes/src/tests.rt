@@ -240,6 +240,8 @@ fn another_form_is_a_fault(rt: HostRuntime) -> Result<(), Fail> {
         fault(turn.head(here.copy(alloc)?))?.kind,
         FaultKind::BadType
     );
+    let raised = turn.raise::<u32>(FaultKind::BadSize);
+    assert_eq!(rt; fault(raised)?.kind, FaultKind::BadSize);
     Ok(())
 }
 
