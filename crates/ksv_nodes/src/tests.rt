@@ -63,7 +63,7 @@ fn outcome(turn: &mut Turn, stream: Stream, asked: Asked) -> Result<Seen, Fail> 
     match read(turn, stream, asked) {
         Ok(seen) => Ok(seen),
         Err(Stop::Fault(fault)) => Ok(Seen::Fault(fault.kind)),
-        Err(_) => Err(Fail::from("a reading asks no node")),
+        Err(_) => Err(Fail::from("no memory, or a node was needed")),
     }
 }
 
@@ -271,7 +271,7 @@ fn turn_part(alloc: Global, path: &Path, step: Step) -> Result<Path, Fail> {
     match turn.part(path, step) {
         Ok(part) => Ok(part),
         Err(Stop::Fault(fault)) => Err(Fail::from(fault.kind.name())),
-        Err(_) => Err(Fail::from("a path asks no node")),
+        Err(_) => Err(Fail::from("no memory, or a node was needed")),
     }
 }
 
