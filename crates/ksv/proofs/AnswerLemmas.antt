@@ -10,11 +10,10 @@ use Rattle.ksv.specs.Explored.{Explored, description_of}
 use Rattle.ksv.specs.Lines.{is_line_end, lines_of}
 use Rattle.ksv.specs.Replies.{Answer, Event, answer, is_fair, may_be_refused}
 use Rattle.ksv.specs.Runs.{Breaks, Fed, Serves, Stands}
-use Rattle.ksv.specs.Seen.{answer_seen, is_last, is_refusal, reply_text}
-use Rattle.ksv.specs.Session.{lines_in}
+use Rattle.ksv.specs.Seen.{answer_seen, is_refusal}
 use Rattle.ksv.specs.declared.device.Failed.{Failed}
 use Rattle.ksv.specs.declared.reply.Reply.{Reply}
-use Rattle.ksv.proofs.RunLemmas.{answered_line, broken_line, last_line, lines_behind, pushed, quit_line}
+use Rattle.ksv.proofs.RunLemmas.{answered_line, broken_line, last_line, lines_behind, quit_line}
 
 fair_if : (refused fair : Bool) → (IsTrue refused → fair ≡ true) → (if refused then fair else true) ≡ true
 fair_if true fair h = h refl

@@ -1,5 +1,5 @@
 -- Bytes that are cut into parts, as more of them come.
-use Rattle.std.proofs.Common.{◌≡◌, ◌∙◌, ◌+◌, ◌<◌, ◌≤◌, length, take, drop, Option, Some, None, arith, inl, inr, ℕ, Bool, true, false, cond, List, [], ◌∷◌, ◌++◌, ap, sym, refl}
+use Rattle.std.proofs.Common.{◌≡◌, ◌∙◌, ◌+◌, ◌<◌, ◌≤◌, length, take, drop, Some, None, arith, inl, inr, ℕ, Bool, true, false, cond, List, [], ◌∷◌, ◌++◌, ap, sym, refl}
 use Rattle.std.specs.Prelude.{nat_lt, position}
 use Rattle.std.specs.List.{onto_first, position_or_len, slice_split}
 use Rattle.std.proofs.lemmas.Bool.{cases_lt, lt-ltb}

@@ -1,5 +1,5 @@
 -- Questions: which commands may be refused memory, and what they read.
-use Rattle.std.proofs.Common.{◌≡◌, ◌≤◌, ◌+◌, ◌-◌, ◌∙◌, ◌==◌, append_assoc, ℕ, Bool, true, false, List, [], ◌∷◌, ◌++◌, length, take, drop, min, ap, refl, arith}
+use Rattle.std.proofs.Common.{◌≡◌, ◌∙◌, ◌==◌, append_assoc, ℕ, true, false, List, [], ◌∷◌, ◌++◌, length, ap, refl}
 use Rattle.std.specs.Prelude.{◌/◌, ◌%◌, IsTrue, slice_range, slice_index, codes}
 use Rattle.hex.specs.Hex.{encode_lower, encode_with, lower_digits}
 use Rattle.ksv_expr.specs.declared.step.Step.{Step}

@@ -1,5 +1,5 @@
 -- One step of a run, from what stands before it, and what a whole run comes to.
-use Rattle.std.proofs.Common.{◌≡◌, ◌∙◌, ◌==◌, ◌&&◌, ◌+◌, ◌≤◌, ◌<◌, min, ℕ, suc, Bool, true, false, List, [], ◌∷◌, ◌++◌, length, map, fold, take, codes, ap, ap₂, sym, refl, arith, append_assoc, if◌then◌else◌, inl, inr}
+use Rattle.std.proofs.Common.{◌≡◌, ◌∙◌, ◌&&◌, ◌+◌, min, ℕ, suc, Bool, true, false, List, [], ◌∷◌, ◌++◌, length, map, fold, take, ap, ap₂, sym, refl, arith, append_assoc, if◌then◌else◌, inl, inr}
 use Rattle.std.specs.Prelude.{IsTrue}
 use Rattle.std.proofs.lemmas.Bool.{cases_lt, lt-ltb}
 use Rattle.std.proofs.lemmas.List.{append-nil, length-append, length-take, length_push, map-append, take-append-le, drop_at, take_all, take_at, take_min}

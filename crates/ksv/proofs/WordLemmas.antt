@@ -1,13 +1,11 @@
 -- The words of a text, taken off its front.
-use Rattle.std.proofs.Common.{◌≡◌, ◌∙◌, ℕ, zero, suc, ◌+◌, ◌<◌, ◌≤◌, Bool, true, false, true≢false, not, cond, List, [], ◌∷◌, length, take, drop, get_or, Option, Some, None, ap, sym, refl, arith, inl, inr}
-use Rattle.std.specs.Prelude.{position, filter, nat_lt}
-use Rattle.std.specs.List.{position_or_len, onto_first, slice_split}
-use Rattle.std.proofs.lemmas.Bool.{cases_lt, lt-ltb}
-use Rattle.std.proofs.lemmas.Bool.Decides.{nat_tests}
+use Rattle.std.proofs.Common.{◌≡◌, ◌∙◌, ℕ, zero, suc, ◌+◌, ◌<◌, ◌≤◌, Bool, true, false, true≢false, not, cond, List, [], ◌∷◌, length, take, drop, get_or, Some, None, ap, sym, refl, arith}
+use Rattle.std.specs.Prelude.{position, filter}
+use Rattle.std.specs.List.{onto_first, slice_split}
 use Rattle.std.proofs.lemmas.List.{drop_all, drop_more, length-take-le}
 use Rattle.std.proofs.lemmas.List.Quantifiers.{position-Some}
-use Rattle.std.proofs.lemmas.List.Splits.{slice_split_first, slice_split_none}
-use Rattle.std.proofs.lemmas.List.Sums.{fails_before_first, passes_at_first}
+use Rattle.std.proofs.lemmas.List.Splits.{slice_split_none}
+use Rattle.std.proofs.lemmas.List.Sums.{fails_before_first}
 use Rattle.ksv.proofs.CutLemmas.{found_at, not_found, split_found}
 use Rattle.ksv.specs.Lines.{is_blank, is_filled, is_word_start, words_of}
 

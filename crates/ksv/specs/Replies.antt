@@ -1,5 +1,5 @@
 -- What a line is answered, and the bytes that stand then.
-use Rattle.std.specs.Prelude.{ℕ, ◌==◌, Bool, true, false, List, [], ◌++◌, length, codes, decimal, Result, Ok, Err, is_ok, if◌then◌else◌}
+use Rattle.std.specs.Prelude.{ℕ, Bool, true, false, List, [], ◌++◌, length, codes, decimal, Result, Ok, Err, is_ok, if◌then◌else◌}
 use Rattle.ksv_bytes.specs.Edits.{append, overwrite}
 use Rattle.ksv_bytes.specs.declared.edit.EditRefusal.{EditRefusal}
 use Rattle.ksv_bytes.specs.declared.edit.EditRefusal.TheVariants as edits

@@ -5,8 +5,11 @@ use std::test::Fail;
 
 /// A text, and what is said.
 const REFUSED: [(&[u8], &str); 7] = [
-    (b"", "ksv: k: line 1: S6 bad name or value\n"),
-    (b"meta:\n  id: a\n  id: b\n", "ksv: k: line 3: Y5 key twice\n"),
+    (b"", "ksv: k: line 1: Y6 left-out form\n"),
+    (
+        b"meta:\n  id: a\n  id: b\n",
+        "ksv: k: line 3: Y5 key twice\n",
+    ),
     (
         b"meta:\n  id: a\ninstances:\n  v:\n    value: true ? 1 : 2\n",
         "ksv: k: line 5: Y8 value in a key's place\n",

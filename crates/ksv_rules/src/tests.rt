@@ -1,8 +1,8 @@
 //! Which path a text names, which descriptions are served, what nodes of a described file answer, and each law once.
 
 use crate::{
-    Described, Given, Head, Kind, Node, evaluation_is_direct, next_meets_truth, path_of, served,
-    texts_are_written,
+    Described, Given, Head, Kind, Node, evaluation_is_direct, expressions_are_met,
+    next_meets_truth, path_of, rules_are_bounded, served, texts_are_written,
 };
 use ksv_bytes::Buffer;
 use ksv_expr::{Fault, Path, Step, Value};
@@ -348,7 +348,9 @@ fn serves_what_it_can(rt: HostRuntime) -> Result<(), Fail> {
 #[test]
 fn laws_cost_nothing(_rt: HostRuntime) -> Result<(), Fail> {
     evaluation_is_direct();
+    expressions_are_met();
     next_meets_truth();
+    rules_are_bounded();
     texts_are_written();
     Ok(())
 }

@@ -1,4 +1,4 @@
-use Rattle.std.proofs.Common.{◌≡◌, subst}
+use Rattle.std.proofs.Common.{subst}
 use Rattle.ksv_schema.specs.Whole.{plain_pieces}
 use Rattle.ksv.specs.Seen.{ComesTo}
 use Rattle.ksv.proofs.AskLemmas.{asked_is}

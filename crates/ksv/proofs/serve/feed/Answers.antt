@@ -1,4 +1,4 @@
-use Rattle.std.proofs.Common.{◌≡◌, ◌∙◌, ◌++◌, List, ℕ, [], ◌∷◌, Err, Ok, ap, get_or, take}
+use Rattle.std.proofs.Common.{◌∙◌, ◌++◌, [], ◌∷◌, Err, Ok, ap, get_or, take}
 use Rattle.ksv.specs.Explored.{Explored, description_of}
 use Rattle.ksv.proofs.AnswerLemmas.{fed_at, fed_false, fed_true, more_taken, not_line_end}
 use Rattle.ksv.proofs.RunLemmas.{moved, pushed}

@@ -1,4 +1,4 @@
-use Rattle.std.proofs.Common.{◌≡◌, false, refl, true}
+use Rattle.std.proofs.Common.{false, refl, true}
 use Rattle.ksv.proofs.AnswerLemmas.{at_input_broken, at_input_end}
 use Rattle.ksv.proofs.serve.finish.Goals as goal
 

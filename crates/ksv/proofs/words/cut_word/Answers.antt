@@ -1,4 +1,4 @@
-use Rattle.std.proofs.Common.{sym, ◌∙◌, ap, arith, length}
+use Rattle.std.proofs.Common.{sym, ◌∙◌, arith}
 use Rattle.std.proofs.lemmas.List.{length-drop, length-take, take_rest}
 use Rattle.ksv.proofs.WordLemmas.{cut_at, cut_end, starts_filled}
 use Rattle.ksv.proofs.words.cut_word.Goals as goal
