@@ -17,4 +17,3 @@ get /chunks/2/crc
 get /chunks/3
 set 16 00010000
 get /header/width
-quit
