@@ -19,4 +19,5 @@ pub use laws::{
     turns_are_local, turns_fit, turns_meet_truth,
 };
 pub use node::{Kind, Node};
+pub use search::first_in_parts;
 pub use turn::{Found, Stop, Turn};

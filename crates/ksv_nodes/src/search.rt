@@ -1,4 +1,4 @@
-//! Where a byte stands first.
+//! Where a byte stands first in bytes that are lent.
 ghost use Rattle.std.specs.Prelude.{◌≡◌, ◌<◌, length, IfSome};
 ghost use Rattle.ksv_expr.specs.Bytes.{content};
 ghost use Rattle.ksv_nodes.specs.Reading.{first_at};
@@ -6,7 +6,7 @@ ghost use Rattle.ksv_nodes.specs.Reading.{first_at};
 use ksv_expr::Parts;
 
 /// The place of the first such byte.
-pub(crate) fn first_in(bytes: &[u8], byte: u8) -> Option<usize>
+fn first_in(bytes: &[u8], byte: u8) -> Option<usize>
     ensures found { result ≡ first_at byte bytes.now }
     ensures inside { IfSome result (λ place. place < length bytes.now) }
 {
@@ -20,9 +20,9 @@ pub(crate) fn first_in(bytes: &[u8], byte: u8) -> Option<usize>
     None
 }
 
-/// The same, in bytes that are cut in two.
+/// The place of the first such byte in bytes that are cut in two; none where no byte is it.
 #[tactic(auto, using(crate::proofs::First::first_at_append))]
-pub(crate) fn first_in_parts(parts: Parts, byte: u8) -> Option<usize>
+pub fn first_in_parts(parts: Parts, byte: u8) -> Option<usize>
     ensures found { result ≡ first_at byte (content parts.entry) }
     ensures inside { IfSome result (λ place. place < length (content parts.entry)) }
 {

@@ -2,11 +2,11 @@
 
 use crate::{
     Ended, Found, Given, Head, Kind, Node, Rested, Stop, Turn, equal_nodes_are_same,
-    nodes_are_numbered, readings_are_local, readings_fit, turns_are_bounded, turns_are_local,
-    turns_fit, turns_meet_truth,
+    first_in_parts, nodes_are_numbered, readings_are_local, readings_fit, turns_are_bounded,
+    turns_are_local, turns_fit, turns_meet_truth,
 };
 use ksv_bytes::{Buffer, Use};
-use ksv_expr::{Fault, FaultKind, Path, Step, Stream, Value};
+use ksv_expr::{Fault, FaultKind, Parts, Path, Step, Stream, Value};
 use std::alloc::Global;
 use std::test::Fail;
 
@@ -63,7 +63,7 @@ fn outcome(turn: &mut Turn, stream: Stream, asked: Asked) -> Result<Seen, Fail> 
     match read(turn, stream, asked) {
         Ok(seen) => Ok(seen),
         Err(Stop::Fault(fault)) => Ok(Seen::Fault(fault.kind)),
-        Err(_) => Err(Fail::from("a reading asks no node")),
+        Err(_) => Err(Fail::from("no memory, or a node was needed")),
     }
 }
 
@@ -240,6 +240,8 @@ fn another_form_is_a_fault(rt: HostRuntime) -> Result<(), Fail> {
         fault(turn.head(here.copy(alloc)?))?.kind,
         FaultKind::BadType
     );
+    let raised = turn.raise::<u32>(FaultKind::BadSize);
+    assert_eq!(rt; fault(raised)?.kind, FaultKind::BadSize);
     Ok(())
 }
 
@@ -269,7 +271,7 @@ fn turn_part(alloc: Global, path: &Path, step: Step) -> Result<Path, Fail> {
     match turn.part(path, step) {
         Ok(part) => Ok(part),
         Err(Stop::Fault(fault)) => Err(Fail::from(fault.kind.name())),
-        Err(_) => Err(Fail::from("a path asks no node")),
+        Err(_) => Err(Fail::from("no memory, or a node was needed")),
     }
 }
 
@@ -307,6 +309,18 @@ fn a_copy_of_a_node_is_the_same(rt: HostRuntime) -> Result<(), Fail> {
     let kind = Kind::Rest;
     let node = Node { kind, path };
     assert!(rt; node.copy(alloc)? == node);
+    Ok(())
+}
+
+#[test]
+fn the_first_byte_of_cut_bytes_is_found(rt: HostRuntime) -> Result<(), Fail> {
+    let parts = Parts {
+        front: b"ab",
+        back: b"cb",
+    };
+    assert_eq!(rt; first_in_parts(parts, 98), Some(1));
+    assert_eq!(rt; first_in_parts(parts, 99), Some(2));
+    assert_eq!(rt; first_in_parts(parts, 100), None);
     Ok(())
 }
 

@@ -1,7 +1,7 @@
 -- Where the first part of a text ends that is cut at certain bytes.
-use Rattle.std.proofs.Common.{◌≡◌, ◌∙◌, ◌+◌, ◌<◌, ◌≤◌, length, take, drop, Option, Some, None, arith, inl, inr, ℕ, Bool, List, [], ◌∷◌, true, false, ap, sym, refl}
+use Rattle.std.proofs.Common.{◌≡◌, ◌∙◌, ◌+◌, ◌<◌, ◌≤◌, length, take, drop, Some, None, arith, inl, inr, ℕ, Bool, cond, List, [], ◌∷◌, true, false, ap, sym, refl}
 use Rattle.std.specs.Prelude.{nat_lt, position}
-use Rattle.std.specs.List.{position_or_len, slice_split}
+use Rattle.std.specs.List.{onto_first, position_or_len, slice_split}
 use Rattle.std.proofs.lemmas.Bool.{cases_lt, lt-ltb}
 use Rattle.std.proofs.lemmas.Bool.Decides.{nat_tests}
 use Rattle.std.proofs.lemmas.List.Splits.{slice_split_first, slice_split_none}
@@ -43,3 +43,21 @@ pub split_none : {X : Type 0} (p : X → Bool) (xs : List X) → position p xs �
 split_none p xs none =
     let all = not_found p xs none in
     slice_split_none p xs (λ k d lt. fails_before_first p xs k d (omega arith))
+
+-- there is always a first part
+pub record HasFirst {X : Type 0} (parts : List (List X)) : Type 0 where
+  pub first : List X
+  pub others : List (List X)
+  pub is : parts ≡ first ∷ others
+
+onto_has_first : {X : Type 0} (x : X) (parts : List (List X)) → HasFirst (onto_first x parts)
+onto_has_first x [] = record { first = x ∷ []; others = []; is = refl }
+onto_has_first x (part ∷ parts) = record { first = x ∷ part; others = parts; is = refl }
+
+cond_has_first : {X : Type 0} (b : Bool) (x : X) (parts : List (List X)) → HasFirst (cond b ([] ∷ parts) (onto_first x parts))
+cond_has_first true x parts = record { first = []; others = parts; is = refl }
+cond_has_first false x parts = onto_has_first x parts
+
+pub split_has_first : {X : Type 0} (p : X → Bool) (xs : List X) → HasFirst (slice_split p xs)
+split_has_first p [] = record { first = []; others = []; is = refl }
+split_has_first p (x ∷ xs) = cond_has_first (p x) x (slice_split p xs)

@@ -1,9 +1,9 @@
 -- Evaluation by replies, as every engine has it, is the direct one.
-use Rattle.std.proofs.Common.{◌≡◌, ◌↔◌, ◌⊎◌, inl, inr, ℕ, zero, suc, ◌+◌, ◌≤◌, ◌<◌, Bool, true, false, cond, List, [], ◌∷◌, ◌++◌, length, map, Option, Some, None, Result, Ok, Err, refl, sym, ap, ◌∙◌, subst, arith, append_assoc, append-nil, length-append}
+use Rattle.std.proofs.Common.{◌≡◌, inl, inr, ℕ, zero, suc, ◌+◌, ◌≤◌, ◌<◌, Bool, true, false, cond, List, [], ◌∷◌, ◌++◌, length, map, Option, Some, None, Result, Ok, Err, refl, sym, ap, ◌∙◌, subst, arith, append_assoc, append-nil, length-append}
 use mathlib.Core.Path.{fun_ext}
 use Rattle.std.specs.Prelude.{Contains}
 use Rattle.std.proofs.lemmas.List.Elements.{Contains-append_left, Contains-append_right, Contains-append_cases}
-use Rattle.ksv_plan.specs.Plan.{Answer, Fail, Ask, Ran, Need, Failed, Done, next, run, behind}
+use Rattle.ksv_plan.specs.Plan.{Answer, Fail, Ask, Ran, next, run, behind}
 use Rattle.ksv_plan.specs.Asking.{ended}
 use Rattle.ksv_bytes.specs.declared.uses.Use.{Use}
 use Rattle.ksv_expr.specs.declared.fault.Fault.{Fault}
@@ -19,9 +19,9 @@ use Rattle.ksv_memo.proofs.Evals.{tells-free}
 use Rattle.ksv_nodes.specs.declared.node.Node.{Node}
 use Rattle.ksv_nodes.specs.declared.given.Given.{Given}
 use Rattle.ksv_nodes.specs.Numbers.{node_number, node_bound, node_number-one, node_number-below}
-use Rattle.ksv_nodes.specs.Reading.{Reading, Look, Seen, look}
+use Rattle.ksv_nodes.specs.Reading.{Reading, Seen, look}
 use Rattle.ksv_nodes.specs.Rule.{Rule, Of, See, There}
-use Rattle.ksv_nodes.specs.Turning.{State, fault_at, raised, replied, seen_in, turns, fresh}
+use Rattle.ksv_nodes.specs.Turning.{State, fault_at, raised, seen_in, turns}
 use Rattle.ksv_nodes.specs.Truth.{answer_of, asks_of, uses_of, with_given, with_seen, behind_given, behind_seen}
 use Rattle.ksv_nodes.proofs.Truth.{ends, needs}
 use Rattle.ksv_rules.specs.Meaning.{rule_of}
@@ -38,8 +38,9 @@ same_uses us vs e = λ u. (λ h. rw (← e) h, λ h. rw e h)
 -- a beginning comes again
 same_again : (us ws vs : List Use) → AreSameUses ws (us ++ vs) → AreSameUses (us ++ ws) (us ++ vs)
 same_again us ws vs same = λ u. (
-    λ h. elim (Contains-append_cases us ws u h) as (λ _. Contains (us ++ vs) u) [ inl front ↦ Contains-append_left us vs u front | inr back ↦ (same u).0 back ],
-    λ h. Contains-append_right us ws u ((same u).1 h))
+  λ h. elim (Contains-append_cases us ws u h) as (λ _. Contains (us ++ vs) u) [ inl front ↦ Contains-append_left us vs u front | inr back ↦ (same u).0 back ],
+  λ h. Contains-append_right us ws u ((same u).1 h),
+)
 
 -- ---- what a rule tells, where it has gone on to what is left of it
 
@@ -209,7 +210,7 @@ module _ (d : Description) (bytes : List ℕ) where
         record {
           asked = ap (λ (t : Told Node (Result Given Fault)). t.asked) told_is ∙ told_so.asked ∙ ap (λ f. asks_of f n.path bytes (rule_of d n)) met_is;
           uses = subst (λ (t : Told Node (Result Given Fault)). AreSameUses t.uses (uses_of (from_nothing d bytes (n ∷ opened)) n.path bytes (rule_of d n))) (sym told_is)
-            (subst (λ f. AreSameUses (told rules asked_then n (suc rules.replies) []).uses (uses_of f n.path bytes (rule_of d n))) met_is told_so.uses);
+              (subst (λ f. AreSameUses (told rules asked_then n (suc rules.replies) []).uses (uses_of f n.path bytes (rule_of d n))) met_is told_so.uses);
         }
 
     free_follows : from_nothing d bytes opened n ≡ answer_of (from_nothing d bytes (n ∷ opened)) n.path bytes (rule_of d n)

@@ -4,8 +4,8 @@ pub mod Direct
 pub mod Cuts
 pub mod Digits
 pub mod PathTexts
+pub mod PathSpelling
 pub mod Meeting
--- The lemmas on node rules.
 pub mod Integers
 pub mod Peeked
 pub mod ServedForms

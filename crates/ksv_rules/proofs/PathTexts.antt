@@ -1,10 +1,9 @@
 -- Paths that are read step by step from their text.
-use Rattle.std.proofs.Common.{◌≡◌, ◌≢◌, ◌∙◌, ℕ, suc, ◌+◌, ◌-◌, ◌<◌, ◌≤◌, Bool, true, false, List, [], ◌∷◌, ◌++◌, length, reverse, Option, Some, None, ap, sym, refl, arith, inl, inr}
+use Rattle.std.proofs.Common.{◌≡◌, ◌∙◌, ℕ, suc, ◌<◌, ◌≤◌, Bool, true, false, List, [], ◌∷◌, ◌++◌, length, reverse, Option, Some, None, ap, sym, refl, arith, inl, inr}
 use Rattle.std.specs.Prelude.{◌==◌, is_some, IsSome, MatchOption, option_copied, IsTrue}
 use Rattle.std.proofs.lemmas.Bool.{cases_lt}
 use Rattle.std.specs.Borrow.{Bor}
-use Rattle.std.specs.List.{list_all, slice_split}
-use Rattle.std.proofs.lemmas.Bool.Decides.{nat_tests}
+use Rattle.std.specs.List.{slice_split}
 use Rattle.std.proofs.lemmas.List.{append-nil, append_assoc, length-append, length-reverse}
 use Rattle.ksv_expr.specs.Trail.{Trail, fits, step_fits, trail_of, trail_of-true, trail_of-false, length-fits, fits-more}
 use Rattle.ksv_expr.specs.declared.step.Step.{Step}

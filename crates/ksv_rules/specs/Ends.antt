@@ -1,13 +1,12 @@
 -- Where something ends, and how a list goes on to its last element.
-use Rattle.std.specs.Prelude.{ℕ, ◌+◌, ◌==◌, Bool, true, false, Option, Some, None, slice_get, if◌then◌else◌}
+use Rattle.std.specs.Prelude.{ℕ, ◌+◌, ◌==◌, Bool, true, false, Option, Some, None, if◌then◌else◌}
 use Rattle.ksv_plan.specs.Plan.{Answer, Fail, ◌>>=◌}
-use Rattle.ksv_syntax.specs.Tree.{Tree}
-use Rattle.ksv_expr.specs.Trail.{Trail, root, parent, last}
+use Rattle.ksv_expr.specs.Trail.{Trail, parent, last}
 use Rattle.ksv_expr.specs.Heard.{Setting}
 use Rattle.ksv_expr.specs.declared.fault.FaultKind.TheVariants as kinds
 use Rattle.ksv_expr.specs.declared.step.Step.{Step}
 use Rattle.ksv_expr.specs.declared.step.Step.TheVariants as steps
-use Rattle.ksv_schema.specs.Description.{Description, Field, Repeat, Once, UntilEnd, Times, Until}
+use Rattle.ksv_schema.specs.Description.{Description, Repeat, Once, UntilEnd, Times, Until}
 use Rattle.ksv_nodes.specs.declared.given.Ending.{Ending}
 use Rattle.ksv_nodes.specs.declared.given.Ending.TheVariants as endings
 use Rattle.ksv_nodes.specs.declared.given.Object.{Object}
@@ -19,7 +18,7 @@ use Rattle.ksv_nodes.specs.declared.given.Rested.{Rested}
 use Rattle.ksv_nodes.specs.Rule.{Rule, There, raise, part, ask_head, ask_end, ask_rest, finish, done}
 use Rattle.ksv_rules.specs.Fields.{members_of, last_attribute, field_of}
 use Rattle.ksv_rules.specs.Wanted.{truth_of}
-use Rattle.ksv_rules.specs.Heads.{part_end, setting, in_list}
+use Rattle.ksv_rules.specs.Heads.{part_end, in_list}
 
 -- ---- ends
 

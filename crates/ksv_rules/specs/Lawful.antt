@@ -2,7 +2,6 @@
 use Rattle.std.proofs.Common.{◌≡◌, ℕ, List, Result, refl, ap, ◌∙◌}
 use Rattle.std.specs.List.{AllByRecursion}
 use Rattle.ksv_plan.specs.Plan.{Ran, Need, Failed, Done, behind}
-use Rattle.ksv_bytes.specs.declared.uses.Use.{Use}
 use Rattle.ksv_bytes.specs.Uses.{AgreeOn}
 use Rattle.ksv_expr.specs.declared.fault.Fault.{Fault}
 use Rattle.ksv_schema.specs.Description.{Description}

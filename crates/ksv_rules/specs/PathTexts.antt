@@ -1,7 +1,7 @@
 -- Paths as texts. The text of a path is `/` for the root, else each step from the first to the last behind a `/`: a member's
 -- name that stands somewhere in the description, or an index of an element in decimal. The Kaitai Struct User Guide has no
 -- such texts; they are this project's own. An id begins with a letter, so no name is an index.
-use Rattle.std.specs.Prelude.{ℕ, ◌^◌, ◌==◌, ◌&&◌, ◌||◌, not, nat_lt, Bool, List, [], ◌∷◌, length, map, reverse, slice_index, Option, Some, None, option_map, option_and_then, decimal, if◌then◌else◌}
+use Rattle.std.specs.Prelude.{◌≡◌, ℕ, ◌^◌, ◌==◌, ◌&&◌, ◌||◌, not, nat_lt, Bool, List, [], ◌∷◌, length, reverse, slice_index, Option, Some, None, option_map, option_and_then, decimal, if◌then◌else◌}
 use Rattle.std.specs.Char.{is_ascii_digit}
 use Rattle.std.specs.List.{list_all, flat_map, slice_split}
 use Rattle.std.specs.Str.Parse.{digits_value}
@@ -89,3 +89,9 @@ path_behind d text = if length text == 0 then Some root else path_of_steps (step
 abbrev pub path_named : Description → List ℕ → Option Trail
 path_named d [] = None
 path_named d (c ∷ text) = if is_slash c then path_behind d text else None
+
+-- ---- one is the inverse of the other
+
+-- A text that names a path is the text of that path. So no path is named by two texts.
+abbrev pub TextsAreWritten : Type 0
+TextsAreWritten = (d : Description) (text : List ℕ) (path : Trail) → path_named d text ≡ Some path → text ≡ path_text d path

@@ -6,7 +6,6 @@ use Rattle.ksv_syntax.specs.Tree.{Tree}
 use Rattle.ksv_expr.specs.Trail.{Trail}
 use Rattle.ksv_expr.specs.Heard.{Setting, Heard, Valued, Opened, Numbered, Decided, Read}
 use Rattle.ksv_expr.specs.Meaning.{value_of}
-use Rattle.ksv_expr.specs.declared.fault.FaultKind.{FaultKind}
 use Rattle.ksv_expr.specs.declared.fault.FaultKind.TheVariants as kinds
 use Rattle.ksv_expr.specs.declared.value.Stream.{Stream}
 use Rattle.ksv_expr.specs.declared.value.Value.{Value}

@@ -11,8 +11,8 @@ mod expression_laws;
 mod fields;
 mod heads;
 mod integer;
-mod parts;
 mod laws;
+mod parts;
 mod path_text;
 mod rules;
 mod serving;
@@ -23,6 +23,9 @@ mod wanted;
 pub use described::Described;
 pub use expression_laws::{expressions_are_met, rules_are_bounded};
 pub use ksv_nodes::{Ending, Given, Head, Kind, Leaf, List, Node, Object, Source};
-pub use laws::{evaluation_is_direct, next_meets_truth};
+pub use laws::{evaluation_is_direct, next_meets_truth, texts_are_written};
 pub use path_text::path_of;
 pub use serving::served;
+
+#[cfg(test)]
+mod tests;

@@ -1,41 +1,10 @@
-//! Bytes that are lent in two slices: where a byte stands in them, and their first so many.
+//! Bytes that are lent in two slices: how many they are, the first so many, and whether they are certain ones.
 
-ghost use Rattle.std.specs.Prelude.{◌≡◌, ◌<◌, ◌≤◌, length, take, IfSome};
+ghost use Rattle.std.specs.Prelude.{◌≡◌, ◌<◌, length, take};
 ghost use Rattle.std.specs.Str.{bytes_eq};
 ghost use Rattle.ksv_expr.specs.Bytes.{content};
-ghost use Rattle.ksv_nodes.specs.Reading.{first_at};
 
 use ksv_expr::Parts;
-
-/// The place of the first such byte.
-fn first_in(bytes: &[u8], byte: u8) -> Option<usize>
-    ensures found { result ≡ first_at byte bytes.now }
-    ensures inside { IfSome result (λ place. place < length bytes.now) }
-{
-    let mut place = 0;
-    for other in bytes {
-        if *other == byte {
-            return Some(place);
-        }
-        place += 1;
-    }
-    None
-}
-
-/// The same, in bytes that are cut in two.
-#[tactic(auto, using(ksv_nodes::proofs::First::first_at_append))]
-pub(crate) fn first_in_parts(parts: Parts, byte: u8) -> Option<usize>
-    ensures found { result ≡ first_at byte (content parts.entry) }
-    ensures inside { IfSome result (λ place. place < length (content parts.entry)) }
-{
-    match first_in(parts.front, byte) {
-        Some(place) => Some(place),
-        None => {
-            let place = first_in(parts.back, byte)?;
-            Some(parts.front.len() + place)
-        }
-    }
-}
 
 /// How many bytes there are.
 pub(crate) fn len_of(parts: Parts) -> usize

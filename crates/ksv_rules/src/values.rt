@@ -11,9 +11,9 @@ ghost use Rattle.ksv_rules.specs.Values.{as_member, in_number, number_in, number
 
 use crate::fields::field_of;
 use crate::integer::integer_value;
-use crate::parts::{are, cut, first_in_parts, len_of};
+use crate::parts::{are, cut, len_of};
 use ksv_expr::{Encoding, FaultKind, Integer, Parts, Path, Text, Value};
-use ksv_nodes::{Head, Leaf, Stop, Turn};
+use ksv_nodes::{Head, Leaf, Stop, Turn, first_in_parts};
 use ksv_schema::Desc;
 use ksv_schema::desc::{Choice, Content, Extent, Field, Terminator};
 use ksv_scope::ByteOrder;

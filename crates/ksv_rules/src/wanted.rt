@@ -13,8 +13,8 @@ use ksv_expr::{Expr, Fault, FaultKind, Integer, Path, Value};
 use ksv_nodes::{Head, Object, Stop, Turn};
 
 /// The object that stands at a path. Inside an absent attribute all is absent; what is no object has no members.
-pub(crate) fn in_object(turn: &mut Turn, path: &Path, head: Head) -> Result<Object, Stop>
-    ensures { Runs (in_object path.now head) (λ object. object) turn.old turn.new result }
+pub(crate) fn in_object(turn: &Turn, path: &Path, head: Head) -> Result<Object, Stop>
+    ensures { Runs (in_object path.now head) (λ object. object) turn.now turn.now result }
 {
     match head {
         Head::Object(object) => Ok(object),

@@ -43,6 +43,13 @@ impl Desc {
         Desc { pieces }
     }
 
+    /// Each reference of the description leads to something. It does nothing: a caller's proof learns its clause.
+    pub fn references_are_resolved(&self)
+        ensures { IsResolved (plain_pieces self.now) }
+    {
+        let _ = &self.pieces;
+    }
+
     /// A name, and the empty text for a number that no name has.
     pub fn name(&self, number: u32) -> &str
         ensures { result.now ≡ name (plain_pieces self.now) number }
@@ -119,18 +126,18 @@ impl Desc {
         }
     }
 
-    /// Its types, by their numbers.
-    pub fn types(&self) -> &[TypeDesc]
-        ensures { map plain_type result.now ≡ (plain_pieces self.now).types }
-    {
-        self.pieces.types.as_slice()
-    }
-
     /// The type of this number.
     pub fn type_desc(&self, number: u32) -> Option<&TypeDesc>
         ensures { option_map (λ t. plain_type t.now) result ≡ slice_get (plain_pieces self.now).types number }
     {
         self.pieces.types.get(number as usize)
+    }
+
+    /// Its types, by their numbers.
+    pub fn types(&self) -> &[TypeDesc]
+        ensures { map plain_type result.now ≡ (plain_pieces self.now).types }
+    {
+        self.pieces.types.as_slice()
     }
 
     /// The enum of this number.

@@ -1,4 +1,4 @@
-use Rattle.std.proofs.Common.{◌≡◌, ◌∙◌, reverse, ap, sym, rules}
+use Rattle.std.proofs.Common.{◌∙◌, reverse, ap, sym}
 use Rattle.ksv_expr.specs.Trail.{fits}
 use Rattle.ksv_memo.proofs.Turns.{on_err_always}
 use Rattle.ksv_schema.specs.Whole.{plain_pieces}

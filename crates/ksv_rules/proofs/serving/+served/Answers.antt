@@ -1,7 +1,7 @@
 -- Arguments are looked at one after the other.
 use Rattle.std.proofs.Common.{◌∙◌, sym}
 use Rattle.ksv_rules.specs.ServedCode.{is_served_expr}
-use Rattle.ksv_rules.proofs.ServedForms.{all_served, all_step, all_stop, all_end}
+use Rattle.ksv_rules.proofs.ServedForms.{all_served, all_stop, all_end}
 use Rattle.ksv_rules.proofs.serving.+served.Goals as goal
 
 pub are_served-returns-then-not-is_served_expr : goal.are_served-returns-then-not-is_served_expr

@@ -1,4 +1,4 @@
-use Rattle.std.proofs.Common.{◌≡◌, ◌∙◌, sym, ap, true, false}
+use Rattle.std.proofs.Common.{◌∙◌, sym, ap}
 use Rattle.std.specs.List.{list_all}
 use Rattle.ksv_schema.specs.Pieces.{plain_type}
 use Rattle.ksv_rules.specs.Served.{is_served_type, is_served}
