@@ -1,7 +1,6 @@
 pub mod CommandLineLemmas
 pub mod WordLemmas
 pub mod CutLemmas
-pub mod NumberLemmas
 pub mod RunLemmas
 pub mod AnswerLemmas
 pub mod QuestionLemmas

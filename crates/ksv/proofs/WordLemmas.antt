@@ -6,7 +6,7 @@ use Rattle.std.proofs.lemmas.List.{drop_all, drop_more, length-take-le}
 use Rattle.std.proofs.lemmas.List.Quantifiers.{position-Some}
 use Rattle.std.proofs.lemmas.List.Splits.{slice_split_none}
 use Rattle.std.proofs.lemmas.List.Sums.{fails_before_first}
-use Rattle.ksv.proofs.CutLemmas.{found_at, not_found, split_found}
+use Rattle.ksv_rules.proofs.Cuts.{found_at, not_found, split_found}
 use Rattle.ksv.specs.Lines.{is_blank, is_filled, is_word_start, words_of}
 
 not_false : (b : Bool) → not b ≡ false → b ≡ true

@@ -1,10 +1,9 @@
 //! Numbers and bytes that a command line writes.
 ghost use Rattle.std.specs.Prelude.{◌≡◌, ◌≤◌, length};
-ghost use Rattle.std.specs.Char.{is_ascii_digit};
-ghost use Rattle.std.specs.List.{list_all};
-ghost use Rattle.ksv.specs.Numbers.{decimal_of, number_of};
+ghost use Rattle.ksv.specs.Numbers.{number_of};
 ghost use Rattle.ksv.specs.Commands.{bytes_of};
 
+use ksv_rules::decimal;
 use std::marker::Model;
 
 /// The most digits of a number.
@@ -12,23 +11,6 @@ const DIGIT_LIMIT: usize = 20;
 
 /// The most bytes that one line can carry: half as many as it has bytes.
 const EDIT_LIMIT: usize = 2048;
-
-/// Whether all bytes are decimal digits.
-fn are_digits(text: &[u8]) -> bool
-    ensures { result ≡ list_all is_ascii_digit text.now }
-{
-    text.iter().all(|byte| byte.is_ascii_digit())
-}
-
-/// The number of decimal digits, where it is below 2^64.
-fn decimal(text: &[u8]) -> Option<u64>
-    ensures { result ≡ decimal_of text.now }
-{
-    if !are_digits(text) {
-        return None;
-    }
-    str::from_utf8(text).unwrap().parse().ok()
-}
 
 /// A place or a number of bytes: 1 to 20 digits of a number below 2^64.
 pub(crate) fn number(text: &[u8]) -> Option<u64>

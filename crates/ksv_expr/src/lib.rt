@@ -15,8 +15,6 @@ mod parts;
 mod path;
 mod replies;
 mod step;
-#[cfg(test)]
-mod tests;
 mod text;
 mod value;
 mod want;

@@ -17,6 +17,28 @@ pub struct Kept<N, A> {
     pub uses: Vec<Use>,
 }
 
+/// The same elements, with no room for more.
+fn without_room<T>(items: Vec<T>) -> Vec<T>
+    ensures { result.items ≡ items.items }
+{
+    let mut items = items;
+    items.shrink_to_fit();
+    items
+}
+
+/// The same, with no room for more.
+fn fitted<N, A>(kept: Kept<N, A>) -> Kept<N, A>
+    ensures answer { result.answer ≡ kept.answer }
+    ensures asked { result.asked.items ≡ kept.asked.items }
+    ensures uses { result.uses.items ≡ kept.uses.items }
+{
+    Kept {
+        answer: kept.answer,
+        asked: without_room(kept.asked),
+        uses: without_room(kept.uses),
+    }
+}
+
 /// The kept answers by their nodes. Contracts see the list of its entries.
 #[derive(Drop)]
 pub struct Table<N: Eq + Hash + Drop, A: Drop> {
@@ -57,14 +79,23 @@ impl<N: Eq + Hash + Drop, A: Drop> Table<N, A> {
         Some(&kept.answer)
     }
 
-    /// Keeps the answer of a node that has none yet.
-    pub(crate) fn keep(&mut self, node: N, kept: Kept<N, A>) -> Result<(), AllocError>
+    /// Puts in what is kept for a node that has none yet.
+    fn insert(&mut self, node: N, kept: Kept<N, A>) -> Result<(), AllocError>
         requires { find (λ entry. N.eq node entry.node) self.old ≡ None }
         ensures ok { OnOk result (self.new ≡ self.old ++ entry_of node kept ∷ []) }
         ensures err { OnErr result (self.new ≡ self.old) }
     {
         self.entries.insert(node, kept)?;
         Ok(())
+    }
+
+    /// Keeps the answer of a node that has none yet, and what it rests on in no more room than that takes.
+    pub(crate) fn keep(&mut self, node: N, kept: Kept<N, A>) -> Result<(), AllocError>
+        requires { find (λ entry. N.eq node entry.node) self.old ≡ None }
+        ensures ok { OnOk result (self.new ≡ self.old ++ entry_of node kept ∷ []) }
+        ensures err { OnErr result (self.new ≡ self.old) }
+    {
+        self.insert(node, fitted(kept))
     }
 
     /// Drops all answers, and takes no memory.

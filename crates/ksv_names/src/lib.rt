@@ -10,8 +10,6 @@ mod laws;
 mod names;
 mod numbering;
 mod position;
-#[cfg(test)]
-mod tests;
 
 pub use built_ins::{BuiltIn, built_in, built_in_at};
 pub use faults::{argument_fault, name_fault};

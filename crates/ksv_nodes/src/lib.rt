@@ -9,8 +9,6 @@ mod given;
 mod laws;
 mod node;
 mod search;
-#[cfg(test)]
-mod tests;
 mod turn;
 
 pub use given::{Ended, Ending, Given, Head, Leaf, List, Object, Rested, Source};

@@ -24,8 +24,5 @@ pub use described::Described;
 pub use expression_laws::{expressions_are_met, rules_are_bounded};
 pub use ksv_nodes::{Ending, Given, Head, Kind, Leaf, List, Node, Object, Source};
 pub use laws::{evaluation_is_direct, next_meets_truth, texts_are_written};
-pub use path_text::path_of;
+pub use path_text::{decimal, path_of};
 pub use serving::served;
-
-#[cfg(test)]
-mod tests;

@@ -75,8 +75,8 @@ fn are_digits(text: &[u8]) -> bool
     text.iter().all(|byte| byte.is_ascii_digit())
 }
 
-/// The number of decimal digits, where it is below 2^64.
-fn decimal(text: &[u8]) -> Option<u64>
+/// The number that decimal digits write, where it is below 2^64. Zeros may stand before it.
+pub fn decimal(text: &[u8]) -> Option<u64>
     ensures { result ≡ decimal_of text.now }
 {
     if !are_digits(text) {

@@ -56,6 +56,3 @@ pub fn faulty_trees_are_refused()
 pub fn descriptions_are_resolved()
     ensures { (t : Yaml) (d : Description) → States t d → IsResolved d }
 {}
-
-#[cfg(test)]
-mod tests;

@@ -27,6 +27,3 @@ pub use numeral::{Numeral, plain_number, signed_number};
 pub use order::ByteOrder;
 pub use outwards::order_named;
 pub use scopes::Scopes;
-
-#[cfg(test)]
-mod tests;

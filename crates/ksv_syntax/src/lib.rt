@@ -12,8 +12,6 @@ mod lexer;
 mod operator;
 mod parser;
 mod read;
-#[cfg(test)]
-mod tests;
 mod token;
 pub mod tree;
 

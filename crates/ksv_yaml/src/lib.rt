@@ -32,6 +32,3 @@ pub fn reading_is_spelling()
     ensures sound { (text : List ℕ) (t : Tree) → length text ≤ 1048576 → IsUtf8 text → tree_of_text text ≡ Some t → Spells text t }
     ensures complete { (text : List ℕ) (t : Tree) → Spells text t → tree_of_text text ≡ Some t }
 {}
-
-#[cfg(test)]
-mod tests;

@@ -14,6 +14,4 @@ pub mod plain;
 pub mod quiet;
 mod quoted;
 pub mod start;
-#[cfg(test)]
-mod tests;
 mod white;

@@ -1,12 +1,12 @@
 //! Each call of a turn on its happy path and on its fault, and the readings with what they rest on.
 
-use crate::{
+use ksv_bytes::{Buffer, Use};
+use ksv_expr::{Fault, FaultKind, Parts, Path, Step, Stream, Value};
+use ksv_nodes::{
     Ended, Found, Given, Head, Kind, Node, Rested, Stop, Turn, equal_nodes_are_same,
     first_in_parts, nodes_are_numbered, readings_are_local, readings_fit, turns_are_bounded,
     turns_are_local, turns_fit, turns_meet_truth,
 };
-use ksv_bytes::{Buffer, Use};
-use ksv_expr::{Fault, FaultKind, Parts, Path, Step, Stream, Value};
 use std::alloc::Global;
 use std::test::Fail;
 

@@ -1,4 +1,4 @@
-use Rattle.ksv_rules.proofs.tests.answer.Goals as goal
+use Rattle.ksv_rules_tests.proofs.rules.answer.Goals as goal
 
 -- an engine that keeps nothing is right
 pub ask-requires : goal.ask-requires

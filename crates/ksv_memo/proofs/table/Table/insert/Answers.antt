@@ -2,7 +2,7 @@ use Rattle.std.proofs.Common.{◌∙◌, ap, ◌++◌, ◌∷◌, [], find}
 use Rattle.indexmap.proofs.CallerLemmas.{insert_entry-new}
 use Rattle.ksv_memo.specs.Entry.{entry_of, entries_of}
 use Rattle.ksv_memo.proofs.Maps.{entry_missed, entries_of-push}
-use Rattle.ksv_memo.proofs.table.Table.keep.Goals as goal
+use Rattle.ksv_memo.proofs.table.Table.insert.Goals as goal
 
 -- a key that isn't there goes last in the map
 pub returns-clause-ok : goal.returns-clause-ok

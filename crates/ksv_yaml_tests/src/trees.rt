@@ -3,8 +3,8 @@
 mod descriptions;
 mod rows;
 
-use crate::{Entry, Yaml, YamlFault, YamlKind, find, one_tree, read, reading_is_spelling};
 use descriptions::DESCRIPTIONS;
+use ksv_yaml::{Entry, Yaml, YamlFault, YamlKind, find, one_tree, read, reading_is_spelling};
 use rows::ROWS;
 use std::alloc::{AllocError, Global};
 use std::test::Fail;

@@ -1,12 +1,12 @@
 //! Each public function on tables of rows.
 
-use crate::block::block_scalar;
-use crate::cut::{MAX_LENGTH, cut};
-use crate::fault::{Fault, LineError, LineFault, ScanError, TextError};
-use crate::flow::{Part, flow_parts};
-use crate::plain::continue_plain;
-use crate::quiet::{block_lines, flow_lines, is_quiet, skip_quiet};
-use crate::start::{Kind, Start, is_dash, read_start};
+use ksv_yaml_scan::block::block_scalar;
+use ksv_yaml_scan::cut::{MAX_LENGTH, cut};
+use ksv_yaml_scan::fault::{Fault, LineError, LineFault, ScanError, TextError};
+use ksv_yaml_scan::flow::{Part, flow_parts};
+use ksv_yaml_scan::plain::continue_plain;
+use ksv_yaml_scan::quiet::{block_lines, flow_lines, is_quiet, skip_quiet};
+use ksv_yaml_scan::start::{Kind, Start, is_dash, read_start};
 use std::test::Fail;
 
 #[test]

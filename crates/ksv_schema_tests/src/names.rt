@@ -1,6 +1,6 @@
 //! Expressions in a small description, with what is wrong with their names and with the numbers that these are given.
 
-use crate::{
+use ksv_names::{
     BuiltIn, NameFault, Names, Position, Site, argument_fault, built_in, built_in_at,
     faultless_is_resolved, given_member, least_is_told, name_fault, names_are_tabled,
     number_arguments, number_expr, number_type,

@@ -1,6 +1,6 @@
 //! Descriptions, and what loading them answers. The tables of rows stand in the program ksv_schema_rows.
 
-use crate::{
+use ksv_schema::{
     Desc, DescFault, DescFaultKind, descriptions_are_resolved, faultless_trees_state,
     faulty_trees_are_refused, load, texts_are_spelled,
 };

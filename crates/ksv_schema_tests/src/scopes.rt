@@ -1,7 +1,7 @@
 //! A description's types, members and enums, and names looked for in it.
 
-use crate::keys::{entries_at, entries_in, has, items_at, items_in, says, text_at};
-use crate::{
+use ksv_scope::keys::{entries_at, entries_in, has, items_at, items_in, says, text_at};
+use ksv_scope::{
     ByteOrder, Numeral, Role, Scopes, id_of, number_written, order_named, plain_number,
     signed_number,
 };

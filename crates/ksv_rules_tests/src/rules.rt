@@ -1,12 +1,12 @@
 //! Which path a text names, which descriptions are served, what nodes of a described file answer, and each law once.
 
-use crate::{
-    Described, Given, Head, Kind, Node, evaluation_is_direct, expressions_are_met,
-    next_meets_truth, path_of, rules_are_bounded, served, texts_are_written,
-};
 use ksv_bytes::Buffer;
 use ksv_expr::{Fault, Path, Step, Value};
 use ksv_memo::{Answer, Engine};
+use ksv_rules::{
+    Described, Given, Head, Kind, Node, decimal, evaluation_is_direct, expressions_are_met,
+    next_meets_truth, path_of, rules_are_bounded, served, texts_are_written,
+};
 use ksv_schema::{Desc, load};
 use ksv_yaml::read;
 use std::alloc::{AllocError, Global};
@@ -306,6 +306,22 @@ fn first_wrong_answer(alloc: Global, bytes: &Buffer) -> Result<Option<&'static s
         }
     }
     Ok(None)
+}
+
+#[test]
+fn decimal_digits_write_numbers(rt: HostRuntime) -> Result<(), Fail> {
+    for (text, number) in [
+        ("0", Some(0)),
+        ("007", Some(7)),
+        ("18446744073709551615", Some(u64::MAX)),
+        ("18446744073709551616", None),
+        ("", None),
+        ("1a", None),
+        ("+1", None),
+    ] {
+        assert_eq!(rt; decimal(text.as_bytes()), number, "{text}");
+    }
+    Ok(())
 }
 
 #[test]

@@ -1,7 +1,11 @@
 //! Texts with the trees that they spell, and texts with their refusals.
 
-use crate::tree::{BinaryOperator, Expr, Literal, LogicalOperator, SpecialName, UnaryOperator};
-use crate::{ExprFaultKind, less_stands_behind, one_longest_token, one_reading, parse, parse_type};
+use ksv_syntax::tree::{
+    BinaryOperator, Expr, Literal, LogicalOperator, SpecialName, UnaryOperator,
+};
+use ksv_syntax::{
+    ExprFaultKind, less_stands_behind, one_longest_token, one_reading, parse, parse_type,
+};
 use std::alloc::{AllocError, Global};
 use std::test::Fail;
 
