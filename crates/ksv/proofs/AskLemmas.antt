@@ -1,6 +1,6 @@
 -- An engine that keeps nothing yet answers what evaluation from nothing gives.
 use Rattle.std.proofs.Common.{◌≡◌, ◌∙◌, ℕ, List, [], Result, Ok, Err, ap, refl}
-use Rattle.ksv_expr.specs.declared.fault.Fault.{Fault}
+use Rattle.ksv_expr_value.specs.declared.fault.Fault.{Fault}
 use Rattle.ksv_memo.specs.Answers.{answer_of}
 use Rattle.ksv_memo.specs.Evaluation.{tells}
 use Rattle.ksv_memo.specs.Meaning.{on}

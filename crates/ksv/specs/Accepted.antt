@@ -1,6 +1,6 @@
 -- Which texts describe a file: those that spell a tree which states a description, if that is one of those that are served so far.
 use Rattle.std.specs.Prelude.{◌≡◌, ℕ, true, List}
-use Rattle.ksv_yaml.specs.Tree.{Tree}
+use Rattle.ksv_yaml_tree.specs.Tree.{Tree}
 use Rattle.ksv_yaml.specs.Text.{Spells}
 use Rattle.ksv_schema.specs.Description.{Description}
 use Rattle.ksv_schema.specs.Outcome.{States}

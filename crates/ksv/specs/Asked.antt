@@ -1,6 +1,6 @@
 -- What an engine's answer is to a question.
 use Rattle.std.specs.Prelude.{Result, Ok, Err}
-use Rattle.ksv_expr.specs.declared.fault.Fault.{Fault}
+use Rattle.ksv_expr_value.specs.declared.fault.Fault.{Fault}
 use Rattle.ksv_memo.specs.declared.engine.Answer.{Answer}
 use Rattle.ksv_memo.specs.declared.engine.Answer.TheVariants as answers
 use Rattle.ksv_nodes.specs.declared.node.Node.{Node}

@@ -7,7 +7,7 @@ use Rattle.hex.specs.Hex.{decode_of}
 use Rattle.ksv.specs.Lines.{without_carriage_return, words_of}
 use Rattle.ksv_schema.specs.Description.{Description}
 use Rattle.ksv.specs.Numbers.{number_of}
-use Rattle.ksv_expr.specs.Trail.{Trail}
+use Rattle.ksv_expr_value.specs.Trail.{Trail}
 use Rattle.ksv_rules.specs.PathTexts.{path_named}
 use Rattle.ksv.specs.declared.command.Command.{Command}
 use Rattle.ksv.specs.declared.command.Command.TheVariants.{App, Blank, Get, Quit, Refused, Set, Size}

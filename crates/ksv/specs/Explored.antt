@@ -1,8 +1,8 @@
 -- What a contract sees of a session.
 use Rattle.std.specs.Prelude.{ℕ, List}
-use Rattle.ksv_schema.specs.declared.desc.pieces.Pieces.{Pieces}
+use Rattle.ksv_desc.specs.declared.pieces.Pieces.{Pieces}
 use Rattle.ksv_schema.specs.Description.{Description}
-use Rattle.ksv_schema.specs.Whole.{plain_pieces}
+use Rattle.ksv_desc.specs.Whole.{plain_pieces}
 
 -- the pieces of a description, and the bytes that stand
 pub record Explored : Type 0 where

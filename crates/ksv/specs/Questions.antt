@@ -6,13 +6,13 @@ use Rattle.std.specs.Prelude.{ℕ, ℤ, Bool, true, false, List, [], ◌++◌, c
 use Rattle.hex.specs.Hex.{encode_lower}
 use Rattle.serde_json.specs.Data.{string}
 use Rattle.serde_json.specs.Written.{compact_text}
-use Rattle.ksv_expr.specs.Faults.{name_of}
-use Rattle.ksv_expr.specs.Trail.{Trail, child}
-use Rattle.ksv_expr.specs.declared.fault.Fault.{Fault}
-use Rattle.ksv_expr.specs.declared.fault.FaultKind.TheVariants as kinds
-use Rattle.ksv_expr.specs.declared.step.Step.TheVariants.{Index}
-use Rattle.ksv_expr.specs.declared.value.Value.{Value}
-use Rattle.ksv_expr.specs.declared.value.Value.TheVariants as values
+use Rattle.ksv_expr_value.specs.Faults.{name_of}
+use Rattle.ksv_expr_value.specs.Trail.{Trail, child}
+use Rattle.ksv_expr_value.specs.declared.fault.Fault.{Fault}
+use Rattle.ksv_expr_value.specs.declared.fault.FaultKind.TheVariants as kinds
+use Rattle.ksv_expr_value.specs.declared.step.Step.TheVariants.{Index}
+use Rattle.ksv_expr_value.specs.declared.value.Value.{Value}
+use Rattle.ksv_expr_value.specs.declared.value.Value.TheVariants as values
 use Rattle.ksv_nodes.specs.Rule.{value_node, head_node, rest_node}
 use Rattle.ksv_nodes.specs.Truth.{with_given}
 use Rattle.ksv_nodes.specs.Turning.{fault_at}

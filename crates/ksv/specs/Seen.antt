@@ -2,7 +2,7 @@
 use Rattle.std.specs.Prelude.{◌≡◌, ℕ, Bool, true, false, List, [], ◌++◌, length, codes, decimal, Result, Ok, Err, string_bytes}
 use Rattle.ksv_bytes.specs.declared.edit.EditRefusal.{EditRefusal}
 use Rattle.ksv_bytes.specs.declared.edit.EditRefusal.TheVariants as edits
-use Rattle.ksv_expr.specs.declared.fault.Fault.{Fault}
+use Rattle.ksv_expr_value.specs.declared.fault.Fault.{Fault}
 use Rattle.ksv.specs.declared.question.Untold.{Untold}
 use Rattle.ksv.specs.declared.question.Untold.TheVariants as untolds
 use Rattle.ksv.specs.Replies.{Answer, edit_refusal_text, no_memory_text}

@@ -1,6 +1,6 @@
 //! Reads a line: nothing, a command with its values, or a refusal.
 ghost use Rattle.std.specs.Prelude.{◌≡◌, ◌≤◌, length, IfOk, IfSome, IsTrue, OnErr, option_copied};
-ghost use Rattle.ksv_schema.specs.Whole.{plain_pieces};
+ghost use Rattle.ksv_desc.specs.Whole.{plain_pieces};
 ghost use Rattle.ksv.specs.Lines.{words_of};
 ghost use Rattle.ksv.specs.Commands.{alone, app_of, command_named, command_of, get_of, is_question, only, set_of};
 

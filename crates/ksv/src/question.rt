@@ -1,6 +1,6 @@
 //! Questions: what the nodes of a described file answer.
 ghost use Rattle.std.specs.Prelude.{◌≡◌};
-ghost use Rattle.ksv_schema.specs.Whole.{plain_pieces};
+ghost use Rattle.ksv_desc.specs.Whole.{plain_pieces};
 ghost use Rattle.ksv_nodes.specs.Turning.{fault_at};
 ghost use Rattle.ksv.specs.Asked.{plain_answer};
 ghost use Rattle.ksv.specs.Questions.{answered};

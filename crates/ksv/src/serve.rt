@@ -2,7 +2,7 @@
 ghost use Rattle.std.specs.Prelude.{◌≡◌, ◌≢◌, ◌≤◌, ◌<◌, ◌+◌, ◌-◌, ◌^◌, ◌↔◌, ◌++◌, List, ℕ, false, [], length, IsTrue, is_err, IsErr, IfOk, OnErr};
 ghost use Rattle.ksv.specs.Answered.{Answered};
 ghost use Rattle.ksv_schema.specs.Description.{Description};
-ghost use Rattle.ksv_schema.specs.Whole.{plain_pieces};
+ghost use Rattle.ksv_desc.specs.Whole.{plain_pieces};
 ghost use Rattle.ksv.specs.Explored.{description_of};
 ghost use Rattle.ksv.specs.Runs.{Ended, Fed, Stands};
 

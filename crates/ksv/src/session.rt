@@ -35,7 +35,7 @@ pub struct Session {
 
 impl Model for Session {
     ghost use Rattle.ksv.specs.Explored.{Explored};
-    ghost use Rattle.ksv_syntax.specs.contracts.tree.Expr as expr;
+    ghost use Rattle.ksv_expr_tree.specs.contracts.tree.Expr as expr;
     ghost use Rattle.std.specs.Coded.{codes};
 
     ghost Value = { Explored };

@@ -1,11 +1,11 @@
 //! The texts of values and faults.
 ghost use Rattle.std.specs.Fmt.{signed_decimal};
 ghost use Rattle.std.specs.Prelude.{◌≡◌, ◌≤◌, ◌++◌, ℕ, length, slice_range, codes, decimal, OnOk, IfOk, string_bytes};
-ghost use Rattle.ksv_expr.specs.Trail.{child};
-ghost use Rattle.ksv_expr.specs.declared.step.Step.TheVariants.{Index as IndexStep};
+ghost use Rattle.ksv_expr_value.specs.Trail.{child};
+ghost use Rattle.ksv_expr_value.specs.declared.step.Step.TheVariants.{Index as IndexStep};
 ghost use Rattle.ksv_nodes.specs.Rule.{head_node, rest_node};
 ghost use Rattle.ksv_nodes.specs.Truth.{with_given};
-ghost use Rattle.ksv_schema.specs.Whole.{plain_pieces};
+ghost use Rattle.ksv_desc.specs.Whole.{plain_pieces};
 ghost use Rattle.ksv_rules.specs.PathTexts.{path_text, step_text, steps_text};
 ghost use Rattle.ksv.specs.Questions.{answered, bytes_text, fault_text, member_text, of_answer, of_head, of_list, of_object, of_rest, of_value, question_text, quoted_text, told_at, truth_text};
 ghost use Rattle.ksv.specs.Seen.{ComesTo};

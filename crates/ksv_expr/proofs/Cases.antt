@@ -2,23 +2,23 @@
 -- proof that cites these needn't unfold the definition, which is long.
 use Rattle.std.proofs.Common.{◌≡◌, ℕ, ◌<◌, ◌≤◌, ◌⊎◌, inl, inr, length, get_or, arith, List, [], ◌∷◌, map, if◌then◌else◌, refl, ap, sym, ◌∙◌, string_bytes, Box, String, Vec, Global, box_value}
 use Rattle.ksv_plan.specs.Plan.{Answer, bind}
-use Rattle.ksv_syntax.specs.Tree.{Tree, arguments_of, call, view, view_layer, literal_of, name_of}
-use Rattle.ksv_syntax.specs.declared.tree.Expr.{Expr, Unary', Binary', Logical', Choice', Field', SpecialField', Index', Cast'}
-use Rattle.ksv_syntax.specs.declared.tree.Expr as opened
-use Rattle.ksv_syntax.specs.declared.tree.Expr.TheVariants as exprs
-use Rattle.ksv_syntax.specs.declared.tree.Expr.TheFolds.{fold_out-Expr, fold-roll-Expr}
-use Rattle.ksv_syntax.specs.declared.tree.Expr.TheOpen.{Expr-F}
-use Rattle.ksv_syntax.specs.declared.tree.Literal.{Literal}
-use Rattle.ksv_syntax.specs.declared.tree.Name.{Name}
-use Rattle.ksv_syntax.specs.declared.tree.Member.{Member}
-use Rattle.ksv_syntax.specs.declared.tree.TypeName.{TypeName}
-use Rattle.ksv_syntax.specs.declared.tree.UnaryOperator.{UnaryOperator}
-use Rattle.ksv_syntax.specs.declared.tree.BinaryOperator.{BinaryOperator}
-use Rattle.ksv_syntax.specs.declared.tree.LogicalOperator.{LogicalOperator}
-use Rattle.ksv_syntax.specs.declared.tree.SpecialName.{SpecialName}
-use Rattle.ksv_expr.specs.declared.fault.FaultKind.TheVariants as kinds
-use Rattle.ksv_expr.specs.declared.value.Value.{Value}
-use Rattle.ksv_expr.specs.declared.value.Value.TheVariants as values
+use Rattle.ksv_expr_tree.specs.Tree.{Tree, arguments_of, call, view, view_layer, literal_of, name_of}
+use Rattle.ksv_expr_tree.specs.declared.tree.Expr.{Expr, Unary', Binary', Logical', Choice', Field', SpecialField', Index', Cast'}
+use Rattle.ksv_expr_tree.specs.declared.tree.Expr as opened
+use Rattle.ksv_expr_tree.specs.declared.tree.Expr.TheVariants as exprs
+use Rattle.ksv_expr_tree.specs.declared.tree.Expr.TheFolds.{fold_out-Expr, fold-roll-Expr}
+use Rattle.ksv_expr_tree.specs.declared.tree.Expr.TheOpen.{Expr-F}
+use Rattle.ksv_expr_tree.specs.declared.tree.Literal.{Literal}
+use Rattle.ksv_expr_tree.specs.declared.tree.Name.{Name}
+use Rattle.ksv_expr_tree.specs.declared.tree.Member.{Member}
+use Rattle.ksv_expr_tree.specs.declared.tree.TypeName.{TypeName}
+use Rattle.ksv_expr_tree.specs.declared.tree.UnaryOperator.{UnaryOperator}
+use Rattle.ksv_expr_tree.specs.declared.tree.BinaryOperator.{BinaryOperator}
+use Rattle.ksv_expr_tree.specs.declared.tree.LogicalOperator.{LogicalOperator}
+use Rattle.ksv_expr_tree.specs.declared.tree.SpecialName.{SpecialName}
+use Rattle.ksv_expr_value.specs.declared.fault.FaultKind.TheVariants as kinds
+use Rattle.ksv_expr_value.specs.declared.value.Value.{Value}
+use Rattle.ksv_expr_value.specs.declared.value.Value.TheVariants as values
 use Rattle.ksv_expr.specs.Heard.{Setting}
 use Rattle.ksv_expr.specs.Asked.{Eval, given, raise}
 use Rattle.ksv_expr.specs.Operators.{unary_of}

@@ -8,7 +8,7 @@ use Rattle.std.proofs.lemmas.Bool.Decides.{nat_tests}
 use Rattle.std.proofs.Math.Nat.{mul-le-mul_left}
 use Rattle.ksv_expr.specs.Texts.{is_digit, is_numeral, worth, numeral, opposite, number_of, exact}
 use Rattle.ksv_expr.specs.Integers.{in_range}
-use Rattle.ksv_expr.specs.declared.fault.FaultKind.TheVariants as kinds
+use Rattle.ksv_expr_value.specs.declared.fault.FaultKind.TheVariants as kinds
 
 -- one digit more
 pub digits_more : (radix : ℕ) (ds : List ℕ) (i : ℕ) → i < length ds → list_all (is_digit radix) (take i ds) ≡ true → digit_value (get_or ds i 0) < radix → list_all (is_digit radix) (take (i + 1) ds) ≡ true

@@ -5,10 +5,10 @@ use Rattle.ksv_plan.specs.Plan.{Answer, bind, Ran, Need, Failed, Done, IsEnded}
 use Rattle.ksv_plan.specs.Asking.{and_then, ended}
 use Rattle.ksv_plan.proofs.Truth.{answer_bind, ends, needs}
 use Rattle.ksv_plan.proofs.Bounds.{enough}
-use Rattle.ksv_syntax.specs.Tree.{Tree}
-use Rattle.ksv_expr.specs.declared.fault.Fault.{Fault}
-use Rattle.ksv_expr.specs.declared.value.Value.{Value}
-use Rattle.ksv_expr.specs.declared.value.Value.TheVariants as values
+use Rattle.ksv_expr_tree.specs.Tree.{Tree}
+use Rattle.ksv_expr_value.specs.declared.fault.Fault.{Fault}
+use Rattle.ksv_expr_value.specs.declared.value.Value.{Value}
+use Rattle.ksv_expr_value.specs.declared.value.Value.TheVariants as values
 use Rattle.ksv_expr.specs.declared.want.Want.{Want}
 use Rattle.ksv_expr.specs.declared.want.Got.{Got}
 use Rattle.ksv_expr.specs.declared.want.Outcome.{Outcome}

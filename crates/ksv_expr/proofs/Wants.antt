@@ -2,27 +2,27 @@
 use Rattle.std.proofs.Common.{ℕ, ◌+◌, ◌-◌, List, [], ◌∷◌, Option, Some, None, Bool, true, false, nat_lt, ◌==◌, if◌then◌else◌, ℤ, pos, negsuc, Result, Ok, Err, arith}
 use Rattle.ksv_plan.specs.Plan.{Answer, AsksAtMost}
 use Rattle.ksv_plan.proofs.Bounds.{asks_more, asks_bind, asks_join, asks_if}
-use Rattle.ksv_syntax.specs.Tree.{Tree, Word, no_arguments, argument, literal, named, special, member, unary, binary, logical, choice, field, special_field, call, index, cast}
-use Rattle.ksv_syntax.specs.declared.tree.BinaryOperator.{BinaryOperator}
-use Rattle.ksv_syntax.specs.declared.tree.BinaryOperator.TheVariants as operators
-use Rattle.ksv_syntax.specs.declared.tree.SpecialName.{SpecialName}
-use Rattle.ksv_syntax.specs.declared.tree.SpecialName.TheVariants as specials
-use Rattle.ksv_syntax.specs.declared.tree.EnumMember.{EnumMember}
-use Rattle.ksv_expr.specs.declared.fault.FaultKind.{FaultKind}
-use Rattle.ksv_expr.specs.declared.fault.FaultKind.TheVariants as kinds
-use Rattle.ksv_expr.specs.declared.encoding.Encoding.{Encoding}
+use Rattle.ksv_expr_tree.specs.Tree.{Tree, Word, no_arguments, argument, literal, named, special, member, unary, binary, logical, choice, field, special_field, call, index, cast}
+use Rattle.ksv_expr_tree.specs.declared.tree.BinaryOperator.{BinaryOperator}
+use Rattle.ksv_expr_tree.specs.declared.tree.BinaryOperator.TheVariants as operators
+use Rattle.ksv_expr_tree.specs.declared.tree.SpecialName.{SpecialName}
+use Rattle.ksv_expr_tree.specs.declared.tree.SpecialName.TheVariants as specials
+use Rattle.ksv_expr_tree.specs.declared.tree.EnumMember.{EnumMember}
+use Rattle.ksv_expr_value.specs.declared.fault.FaultKind.{FaultKind}
+use Rattle.ksv_expr_value.specs.declared.fault.FaultKind.TheVariants as kinds
+use Rattle.ksv_expr_value.specs.declared.encoding.Encoding.{Encoding}
 use Rattle.ksv_expr.specs.declared.method.Method.{Method}
 use Rattle.ksv_expr.specs.declared.method.Method.TheVariants as methods
-use Rattle.ksv_expr.specs.declared.step.Step.TheVariants as steps
-use Rattle.ksv_expr.specs.declared.value.Stream.{Stream}
-use Rattle.ksv_expr.specs.declared.value.Value.{Value}
-use Rattle.ksv_expr.specs.declared.value.Value.TheVariants as values
+use Rattle.ksv_expr_value.specs.declared.step.Step.TheVariants as steps
+use Rattle.ksv_expr_value.specs.declared.value.Stream.{Stream}
+use Rattle.ksv_expr_value.specs.declared.value.Value.{Value}
+use Rattle.ksv_expr_value.specs.declared.value.Value.TheVariants as values
 use Rattle.ksv_expr.specs.declared.want.Want.{Want}
 use Rattle.ksv_expr.specs.declared.want.Want.TheVariants as wants
-use Rattle.ksv_expr.specs.Trail.{Trail, child, holder}
+use Rattle.ksv_expr_value.specs.Trail.{Trail, child, holder}
 use Rattle.ksv_expr.specs.Integers.{ranged}
 use Rattle.ksv_expr.specs.Methods.{method_named}
-use Rattle.ksv_expr.specs.Encodings.{encoding_named, decoded}
+use Rattle.ksv_expr_value.specs.Encodings.{encoding_named, decoded}
 use Rattle.ksv_expr.specs.Operators.{matched, unary_of}
 use Rattle.ksv_expr.specs.Heard.{Setting, Valued, Opened, Numbered, Decided, Read}
 use Rattle.ksv_expr.specs.Asked.{Eval, raise, given, value_for, opened_for, number_for, truth_for, bytes_for}

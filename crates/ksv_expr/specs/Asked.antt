@@ -2,12 +2,12 @@
 use Rattle.std.specs.Prelude.{ℕ, Bool, List, Result, Ok, Err}
 use Rattle.ksv_plan.specs.Plan.{Plan, Answer, Fail, Ask}
 use Rattle.ksv_plan.specs.Asking.{Replies}
-use Rattle.ksv_expr.specs.Trail.{Trail}
+use Rattle.ksv_expr_value.specs.Trail.{Trail}
 use Rattle.ksv_expr.specs.Heard.{Heard, Valued, Opened, Numbered, Decided, Read}
-use Rattle.ksv_expr.specs.declared.fault.Fault.{Fault}
-use Rattle.ksv_expr.specs.declared.fault.FaultKind.{FaultKind}
-use Rattle.ksv_expr.specs.declared.fault.FaultKind.TheVariants as kinds
-use Rattle.ksv_expr.specs.declared.value.Value.{Value}
+use Rattle.ksv_expr_value.specs.declared.fault.Fault.{Fault}
+use Rattle.ksv_expr_value.specs.declared.fault.FaultKind.{FaultKind}
+use Rattle.ksv_expr_value.specs.declared.fault.FaultKind.TheVariants as kinds
+use Rattle.ksv_expr_value.specs.declared.value.Value.{Value}
 use Rattle.ksv_expr.specs.declared.want.Want.{Want}
 use Rattle.ksv_expr.specs.declared.replies.Opened.{Opened as Object}
 

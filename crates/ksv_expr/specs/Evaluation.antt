@@ -2,14 +2,14 @@
 use Rattle.std.specs.Prelude.{◌≡◌, ℕ, ◌+◌, ◌≤◌, ◌<◌, List, ◌++◌, length, map, take, slice_get, Some, Result, Ok, Err, if◌then◌else◌}
 use Rattle.ksv_plan.specs.Plan.{Ran, Need, Failed, Done, run}
 use Rattle.ksv_plan.specs.Asking.{and_then, answer_of, asks_of}
-use Rattle.ksv_syntax.specs.Tree.{Tree, Constant, Word, TypePath, MemberPath, no_arguments, argument, literal, named, special, member, unary, binary, logical, choice, field, special_field, call, index, cast}
-use Rattle.ksv_syntax.specs.declared.tree.UnaryOperator.{UnaryOperator}
-use Rattle.ksv_syntax.specs.declared.tree.BinaryOperator.{BinaryOperator}
-use Rattle.ksv_syntax.specs.declared.tree.LogicalOperator.{LogicalOperator}
-use Rattle.ksv_syntax.specs.declared.tree.SpecialName.{SpecialName}
-use Rattle.ksv_expr.specs.declared.fault.Fault.{Fault}
-use Rattle.ksv_expr.specs.declared.value.Value.{Value}
-use Rattle.ksv_expr.specs.declared.value.Value.TheVariants as values
+use Rattle.ksv_expr_tree.specs.Tree.{Tree, Constant, Word, TypePath, MemberPath, no_arguments, argument, literal, named, special, member, unary, binary, logical, choice, field, special_field, call, index, cast}
+use Rattle.ksv_expr_tree.specs.declared.tree.UnaryOperator.{UnaryOperator}
+use Rattle.ksv_expr_tree.specs.declared.tree.BinaryOperator.{BinaryOperator}
+use Rattle.ksv_expr_tree.specs.declared.tree.LogicalOperator.{LogicalOperator}
+use Rattle.ksv_expr_tree.specs.declared.tree.SpecialName.{SpecialName}
+use Rattle.ksv_expr_value.specs.declared.fault.Fault.{Fault}
+use Rattle.ksv_expr_value.specs.declared.value.Value.{Value}
+use Rattle.ksv_expr_value.specs.declared.value.Value.TheVariants as values
 use Rattle.ksv_expr.specs.declared.want.Want.{Want}
 use Rattle.ksv_expr.specs.declared.want.Outcome.{Outcome}
 use Rattle.ksv_expr.specs.declared.want.Outcome.TheVariants as outcomes

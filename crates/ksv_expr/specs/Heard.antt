@@ -1,9 +1,9 @@
 -- What an expression is evaluated in, and what replies say.
 use Rattle.std.specs.Prelude.{ℕ, Bool, List, ◌++◌, Option, Result, Ok, Err}
-use Rattle.ksv_expr.specs.Trail.{Trail}
-use Rattle.ksv_expr.specs.declared.fault.Fault.{Fault}
-use Rattle.ksv_expr.specs.declared.value.Stream.{Stream}
-use Rattle.ksv_expr.specs.declared.value.Value.{Value}
+use Rattle.ksv_expr_value.specs.Trail.{Trail}
+use Rattle.ksv_expr_value.specs.declared.fault.Fault.{Fault}
+use Rattle.ksv_expr_value.specs.declared.value.Stream.{Stream}
+use Rattle.ksv_expr_value.specs.declared.value.Value.{Value}
 use Rattle.ksv_expr.specs.declared.want.Got.{Got}
 use Rattle.ksv_expr.specs.declared.want.Got.TheVariants as gots
 

@@ -4,28 +4,28 @@
 use Rattle.std.specs.Prelude.{ℕ, ◌+◌, ◌-◌, ◌==◌, Bool, true, false, not, nat_lt, ℤ, pos, negsuc, ◌-ℤ◌, List, [], ◌∷◌, Option, Some, None, if◌then◌else◌}
 use Rattle.std.specs.Str.{bytes_eq}
 use Rattle.ksv_plan.specs.Plan.{Answer, ◌>>=◌}
-use Rattle.ksv_syntax.specs.declared.tree.Expr.{Expr}
-use Rattle.ksv_syntax.specs.Tree.{view, Tree, Constant, integer, truth, string, Word, no_arguments, argument, literal, named, special, member, unary, binary, logical, choice, field, special_field, call, index, cast}
-use Rattle.ksv_syntax.specs.declared.tree.BinaryOperator.{BinaryOperator}
-use Rattle.ksv_syntax.specs.declared.tree.BinaryOperator.TheVariants as operators
-use Rattle.ksv_syntax.specs.declared.tree.LogicalOperator.{LogicalOperator}
-use Rattle.ksv_syntax.specs.declared.tree.LogicalOperator.TheVariants as logicals
-use Rattle.ksv_syntax.specs.declared.tree.SpecialName.{SpecialName}
-use Rattle.ksv_syntax.specs.declared.tree.SpecialName.TheVariants as specials
-use Rattle.ksv_syntax.specs.declared.tree.EnumMember.{EnumMember}
-use Rattle.ksv_expr.specs.declared.fault.FaultKind.TheVariants as kinds
-use Rattle.ksv_expr.specs.declared.encoding.Encoding.{Encoding}
+use Rattle.ksv_expr_tree.specs.declared.tree.Expr.{Expr}
+use Rattle.ksv_expr_tree.specs.Tree.{view, Tree, Constant, integer, truth, string, Word, no_arguments, argument, literal, named, special, member, unary, binary, logical, choice, field, special_field, call, index, cast}
+use Rattle.ksv_expr_tree.specs.declared.tree.BinaryOperator.{BinaryOperator}
+use Rattle.ksv_expr_tree.specs.declared.tree.BinaryOperator.TheVariants as operators
+use Rattle.ksv_expr_tree.specs.declared.tree.LogicalOperator.{LogicalOperator}
+use Rattle.ksv_expr_tree.specs.declared.tree.LogicalOperator.TheVariants as logicals
+use Rattle.ksv_expr_tree.specs.declared.tree.SpecialName.{SpecialName}
+use Rattle.ksv_expr_tree.specs.declared.tree.SpecialName.TheVariants as specials
+use Rattle.ksv_expr_tree.specs.declared.tree.EnumMember.{EnumMember}
+use Rattle.ksv_expr_value.specs.declared.fault.FaultKind.TheVariants as kinds
+use Rattle.ksv_expr_value.specs.declared.encoding.Encoding.{Encoding}
 use Rattle.ksv_expr.specs.declared.method.Method.{Method}
 use Rattle.ksv_expr.specs.declared.method.Method.TheVariants as methods
-use Rattle.ksv_expr.specs.declared.step.Step.TheVariants as steps
-use Rattle.ksv_expr.specs.declared.value.Stream.{Stream}
-use Rattle.ksv_expr.specs.declared.value.Value.{Value}
-use Rattle.ksv_expr.specs.declared.value.Value.TheVariants as values
+use Rattle.ksv_expr_value.specs.declared.step.Step.TheVariants as steps
+use Rattle.ksv_expr_value.specs.declared.value.Stream.{Stream}
+use Rattle.ksv_expr_value.specs.declared.value.Value.{Value}
+use Rattle.ksv_expr_value.specs.declared.value.Value.TheVariants as values
 use Rattle.ksv_expr.specs.declared.want.Want.TheVariants as wants
-use Rattle.ksv_expr.specs.Trail.{Trail, root, child, holder}
+use Rattle.ksv_expr_value.specs.Trail.{Trail, root, child, holder}
 use Rattle.ksv_expr.specs.Integers.{ranged}
 use Rattle.ksv_expr.specs.Methods.{method_named}
-use Rattle.ksv_expr.specs.Encodings.{encoding_named, decoded}
+use Rattle.ksv_expr_value.specs.Encodings.{encoding_named, decoded}
 use Rattle.ksv_expr.specs.Operators.{exactly, matched, integers_of, same_truth, texts_of, members_of, unary_of, integer_method, truth_method, text_method, bytes_method, member_method, text_call_one, text_call_two}
 use Rattle.ksv_expr.specs.Heard.{Setting}
 use Rattle.ksv_expr.specs.Asked.{Eval, raise, given, value_for, opened_for, number_for, truth_for, bytes_for}

@@ -6,16 +6,16 @@ use Rattle.std.specs.Cmp.Lexicographic.{slice_cmp}
 use Rattle.std.specs.Fmt.{signed_decimal}
 use Rattle.std.specs.Str.{bytes_eq}
 use Rattle.std.specs.declared.cmp.Ordering.{Ordering}
-use Rattle.ksv_syntax.specs.declared.tree.UnaryOperator.{UnaryOperator}
-use Rattle.ksv_syntax.specs.declared.tree.UnaryOperator.TheVariants as unary
-use Rattle.ksv_syntax.specs.declared.tree.BinaryOperator.{BinaryOperator}
-use Rattle.ksv_syntax.specs.declared.tree.BinaryOperator.TheVariants as binary
-use Rattle.ksv_expr.specs.declared.fault.FaultKind.{FaultKind}
-use Rattle.ksv_expr.specs.declared.fault.FaultKind.TheVariants as kinds
+use Rattle.ksv_expr_tree.specs.declared.tree.UnaryOperator.{UnaryOperator}
+use Rattle.ksv_expr_tree.specs.declared.tree.UnaryOperator.TheVariants as unary
+use Rattle.ksv_expr_tree.specs.declared.tree.BinaryOperator.{BinaryOperator}
+use Rattle.ksv_expr_tree.specs.declared.tree.BinaryOperator.TheVariants as binary
+use Rattle.ksv_expr_value.specs.declared.fault.FaultKind.{FaultKind}
+use Rattle.ksv_expr_value.specs.declared.fault.FaultKind.TheVariants as kinds
 use Rattle.ksv_expr.specs.declared.method.Method.{Method}
 use Rattle.ksv_expr.specs.declared.method.Method.TheVariants as methods
-use Rattle.ksv_expr.specs.declared.value.Value.{Value}
-use Rattle.ksv_expr.specs.declared.value.Value.TheVariants as values
+use Rattle.ksv_expr_value.specs.declared.value.Value.{Value}
+use Rattle.ksv_expr_value.specs.declared.value.Value.TheVariants as values
 use Rattle.ksv_expr.specs.Integers.{ranged, floored_quotient, floored_remainder, shifted_left, shifted_right, places, complement, bits_and, bits_or, bits_xor}
 use Rattle.ksv_expr.specs.Texts.{joined, char_count, reversed, substring, text_number}
 

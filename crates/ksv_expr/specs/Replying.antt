@@ -3,11 +3,11 @@ use Rattle.std.specs.Prelude.{◌≡◌, Result, Ok, Err}
 use Rattle.std.specs.Borrow.{Bor}
 use Rattle.ksv_plan.specs.Plan.{Ran, Need, Failed, Done, Handler, run}
 use Rattle.ksv_plan.specs.Asking.{by_replies}
-use Rattle.ksv_expr.specs.Trail.{Trail}
+use Rattle.ksv_expr_value.specs.Trail.{Trail}
 use Rattle.ksv_expr.specs.Heard.{Heard, heard}
 use Rattle.ksv_expr.specs.Asked.{Eval, State, want_for}
-use Rattle.ksv_expr.specs.declared.fault.Fault.{Fault}
-use Rattle.ksv_expr.specs.declared.fault.FaultKind.{FaultKind}
+use Rattle.ksv_expr_value.specs.declared.fault.Fault.{Fault}
+use Rattle.ksv_expr_value.specs.declared.fault.FaultKind.{FaultKind}
 use Rattle.ksv_expr.specs.declared.want.Want.{Want}
 use Rattle.ksv_expr.specs.declared.want.Got.{Got}
 use Rattle.ksv_expr.specs.declared.replies.Halt.{Halt}

@@ -2,23 +2,23 @@
 #![tactic(auto, using(ksv_plan::proofs::Running::run_bind))]
 
 ghost use Rattle.std.specs.Prelude.{◌≡◌, ◌+◌, ◌<◌, ◌^◌, pos, Some, option_copied};
-ghost use Rattle.ksv_expr.specs.Bytes.{content};
-ghost use Rattle.ksv_expr.specs.Trail.{holder};
+ghost use Rattle.ksv_expr_value.specs.Bytes.{content};
+ghost use Rattle.ksv_expr_value.specs.Trail.{holder};
 ghost use Rattle.ksv_expr.specs.Replying.{Runs};
 ghost use Rattle.ksv_expr.specs.Asked.{bytes_for};
 ghost use Rattle.ksv_expr.specs.Meaning.{in_path, member_path, member_value, element_path, element_value, element_count, holder_of, stream_of, index_value, element_read, special_value, ranged_member, enum_member, distance, size_to, stream_size, at_end, list_size, last_element, object_of_type, object_as, text_in, decoded_by, decoded_text, byte_from, byte_at, first_byte};
 
 use crate::context::Ctx;
-use crate::encoding::Encoding;
-use crate::fault::FaultKind;
-use crate::integer::Integer;
-use crate::parts::Parts;
-use crate::path::Path;
+use ksv_expr_value::Encoding;
+use ksv_expr_value::FaultKind;
+use ksv_expr_value::Integer;
+use ksv_expr_value::Parts;
+use ksv_expr_value::Path;
 use crate::replies::{Halt, Replies};
-use crate::text::Text;
-use crate::value::{Stream, Value};
+use ksv_expr_value::Text;
+use ksv_expr_value::{Stream, Value};
 use crate::want::Want;
-use ksv_syntax::tree::{EnumMember, SpecialName};
+use ksv_expr_tree::{EnumMember, SpecialName};
 
 fn in_path(replies: &mut Replies, path: Option<Path>) -> Result<Path, Halt>
     ensures { Runs (in_path path) (λ p. p) replies.old replies.new result }

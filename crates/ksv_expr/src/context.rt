@@ -2,8 +2,8 @@
 ghost use Rattle.std.specs.Prelude.{◌≡◌, None, Some, option_map};
 ghost use Rattle.ksv_expr.specs.Heard.{Setting};
 
-use crate::path::Path;
-use crate::value::Stream;
+use ksv_expr_value::Path;
+use ksv_expr_value::Stream;
 use std::marker::Model;
 
 /// What an expression is evaluated in.

@@ -1,7 +1,7 @@
 //! The value of an expression, by replies to its questions.
 
 ghost use Rattle.std.specs.Prelude.{◌≡◌, ◌≤◌, pos, IfOk, map, length};
-ghost use Rattle.ksv_syntax.specs.Tree.{view, literal_of};
+ghost use Rattle.ksv_expr_tree.specs.Tree.{view, literal_of};
 ghost use Rattle.ksv_expr.specs.Heard.{heard};
 ghost use Rattle.ksv_expr.specs.Asked.{given};
 ghost use Rattle.ksv_expr.specs.Operators.{unary_of};
@@ -10,15 +10,15 @@ ghost use Rattle.ksv_expr.specs.Replying.{Runs};
 ghost use Rattle.ksv_expr.specs.Meaning.{value_of, meaning, literal_value, is_own_stream, decides};
 
 use crate::context::Ctx;
-use crate::fault::FaultKind;
-use crate::integer::Integer;
+use ksv_expr_value::FaultKind;
+use ksv_expr_value::Integer;
 use crate::method::Method;
 use crate::replies::{Halt, Replies};
-use crate::text::Text;
-use crate::value::Value;
+use ksv_expr_value::Text;
+use ksv_expr_value::Value;
 use crate::want::{Got, Outcome};
 use crate::{asking, forms, operators};
-use ksv_syntax::tree::{Expr, Literal, LogicalOperator, SpecialName, UnaryOperator};
+use ksv_expr_tree::{Expr, Literal, LogicalOperator, SpecialName, UnaryOperator};
 use std::alloc::{AllocError, Global};
 
 fn is_own_stream(expr: &Expr) -> bool

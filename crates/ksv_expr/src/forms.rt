@@ -5,19 +5,19 @@ ghost use Rattle.std.specs.Prelude.{◌≡◌, pos};
 ghost use Rattle.ksv_expr.specs.Replying.{Runs};
 ghost use Rattle.ksv_expr.specs.Meaning.{in_truth_value, truth_value, same_bytes, bytes_with, integer_and, truth_and, text_and, bytes_and, member_and, binary_of, stream_method, list_method, method_of, method_by, field_of, object_special, special_of, bytes_call, call_one, call_two, list_at, bytes_at, item_at, cast_to};
 ghost use Rattle.ksv_expr.specs.Methods.{method_named};
-ghost use Rattle.ksv_syntax.specs.Tree.{name_of};
+ghost use Rattle.ksv_expr_tree.specs.Tree.{name_of};
 
 use crate::context::Ctx;
-use crate::fault::FaultKind;
-use crate::integer::Integer;
+use ksv_expr_value::FaultKind;
+use ksv_expr_value::Integer;
 use crate::method::Method;
-use crate::path::Path;
+use ksv_expr_value::Path;
 use crate::replies::{Halt, Replies};
-use crate::text::Text;
-use crate::value::{Stream, Value};
+use ksv_expr_value::Text;
+use ksv_expr_value::{Stream, Value};
 use crate::want::Want;
 use crate::{asking, operators};
-use ksv_syntax::tree::{BinaryOperator, Name, SpecialName};
+use ksv_expr_tree::{BinaryOperator, Name, SpecialName};
 
 /// A truth value; another value is bad-type.
 pub(crate) fn in_truth_value(replies: &mut Replies, value: &Value) -> Result<bool, Halt>

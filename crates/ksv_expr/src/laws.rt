@@ -1,8 +1,8 @@
 //! Laws of evaluation, each a contract of a function that does nothing.
 
 ghost use Rattle.ksv_expr.specs.Arithmetic.{DivisionIsFloored, BitsAreTold};
-ghost use Rattle.ksv_expr.specs.Exact.{EqualPathsAreSame};
-ghost use Rattle.ksv_expr.specs.Numbers.{ArePathsNumbered};
+ghost use Rattle.ksv_expr_value.specs.Exact.{EqualPathsAreSame};
+ghost use Rattle.ksv_expr_value.specs.Numbers.{ArePathsNumbered};
 ghost use Rattle.ksv_expr.specs.Evaluation.{TruthIsMet, IsBounded, MeaningIsDirect};
 
 /// Where the replies are the answers of a map, an evaluation asks for what its expression wants there, one want after the

@@ -24,8 +24,8 @@ pub use encoding::Encoding;
 pub use evaluation::eval;
 pub use fault::{Fault, FaultKind};
 pub use integer::Integer;
-pub use ksv_syntax::tree::Expr;
-pub use ksv_syntax::{ExprFault, ExprFaultKind, parse, parse_type};
+pub use ksv_expr_tree::Expr;
+pub use ksv_expr_syntax::{ExprFault, ExprFaultKind, parse, parse_type};
 pub use laws::{
     bits_are_told, division_is_floored, equal_paths_are_same, is_bounded, meaning_is_direct,
     paths_are_numbered, truth_is_met,

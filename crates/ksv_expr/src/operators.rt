@@ -6,12 +6,12 @@ ghost use Rattle.std.specs.Str.{bytes_eq};
 ghost use Rattle.ksv_expr.specs.Operators.{exactly, quotient_of, remainder_of, shifted_left_by, shifted_right_by, matched, ordered, integers_of, same_truth, texts_of, members_of, unary_of, integer_with, truth_with, integer_method, truth_method, text_method, bytes_method, member_method, text_call_one, text_call_two, as_value, substring_of, joined_text};
 ghost use Rattle.ksv_expr.specs.Integers.{places};
 
-use crate::fault::FaultKind;
-use crate::integer::Integer;
+use ksv_expr_value::FaultKind;
+use ksv_expr_value::Integer;
 use crate::method::Method;
-use crate::text::Text;
-use crate::value::Value;
-use ksv_syntax::tree::{BinaryOperator, UnaryOperator};
+use ksv_expr_value::Text;
+use ksv_expr_value::Value;
+use ksv_expr_tree::{BinaryOperator, UnaryOperator};
 use std::alloc::{AllocError, Global};
 use std::cmp::Ordering;
 

@@ -1,14 +1,14 @@
 //! The replies to an expression's questions, in order.
 ghost use Rattle.std.specs.Prelude.{◌≡◌, map, IfErr, IsErr, ◌++◌};
-ghost use Rattle.ksv_expr.specs.Bytes.{content};
+ghost use Rattle.ksv_expr_value.specs.Bytes.{content};
 ghost use Rattle.ksv_expr.specs.Heard.{heard};
 ghost use Rattle.ksv_expr.specs.Replying.{RepliesWith, IsFault, Runs};
 ghost use Rattle.ksv_expr.specs.Asked.{raise, given, value_for, opened_for, number_for, truth_for, bytes_for};
 
-use crate::fault::{Fault, FaultKind};
-use crate::parts::Parts;
-use crate::path::Path;
-use crate::value::{Stream, Value};
+use ksv_expr_value::{Fault, FaultKind};
+use ksv_expr_value::Parts;
+use ksv_expr_value::Path;
+use ksv_expr_value::{Stream, Value};
 use crate::want::{Got, Want};
 use std::alloc::{AllocError, AllocFailed, Global};
 use std::marker::Model;

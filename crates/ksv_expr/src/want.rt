@@ -1,8 +1,8 @@
 //! What an expression wants to know, and what it gets.
 
-use crate::fault::Fault;
-use crate::path::Path;
-use crate::value::{Stream, Value};
+use ksv_expr_value::Fault;
+use ksv_expr_value::Path;
+use ksv_expr_value::{Stream, Value};
 
 /// A question that an expression puts.
 #[derive(Drop)]

@@ -10,7 +10,7 @@ use ksv_expr::{
     Step, Stream, Text, Value, Want, bits_are_told, division_is_floored, equal_paths_are_same,
     eval, is_bounded, meaning_is_direct, parse, parse_type, paths_are_numbered, truth_is_met,
 };
-use ksv_syntax::tree::{EnumMember, Expr, Literal, Member, Name, TypeName};
+use ksv_expr_tree::{EnumMember, Expr, Literal, Member, Name, TypeName};
 use std::alloc::{AllocError, Global};
 use std::collections::HashMap;
 use std::process::Abort;
@@ -553,7 +553,7 @@ fn paths_lead_from_the_root(rt: HostRuntime) -> Result<(), Fail> {
     check_path(&rt, alloc, "/5", "/", "none")
 }
 
-#[tactic(auto, unfolding(ksv_expr::specs::Trail::fits))]
+#[tactic(auto, unfolding(ksv_expr_value::specs::Trail::fits))]
 fn third_of_o(alloc: Global) -> Result<Path, AllocError> {
     Path::from_steps(alloc, [Step::Name(3), Step::Index(3)].as_slice())
 }

@@ -1,9 +1,9 @@
 //! Texts with the trees that they spell, and texts with their refusals.
 
-use ksv_syntax::tree::{
+use ksv_expr_tree::{
     BinaryOperator, Expr, Literal, LogicalOperator, SpecialName, UnaryOperator,
 };
-use ksv_syntax::{
+use ksv_expr_syntax::{
     ExprFaultKind, less_stands_behind, one_longest_token, one_reading, parse, parse_type,
 };
 use std::alloc::{AllocError, Global};

@@ -4,8 +4,8 @@ use Rattle.ksv_plan.specs.Plan.{Plan, Answer, Fail, Ask, bind, translate}
 use Rattle.ksv_plan.specs.Asking.{and_then, asks_behind}
 use Rattle.ksv_plan.specs.Asking as plans
 use Rattle.ksv_bytes.specs.declared.uses.Use.{Use}
-use Rattle.ksv_expr.specs.Trail.{Trail}
-use Rattle.ksv_expr.specs.declared.fault.Fault.{Fault}
+use Rattle.ksv_expr_value.specs.Trail.{Trail}
+use Rattle.ksv_expr_value.specs.declared.fault.Fault.{Fault}
 use Rattle.ksv_nodes.specs.declared.given.Given.{Given}
 use Rattle.ksv_nodes.specs.declared.node.Node.{Node}
 use Rattle.ksv_nodes.specs.Reading.{look}

@@ -7,7 +7,7 @@ use Rattle.ksv_plan.specs.Plan.{Answer, Fail, Ask, next, run, behind}
 use Rattle.ksv_bytes.specs.declared.uses.Use.{Use}
 use Rattle.ksv_bytes.specs.declared.uses.Use.TheVariants as uses
 use Rattle.ksv_bytes.specs.Uses.{CanUse}
-use Rattle.ksv_expr.specs.declared.fault.Fault.{Fault}
+use Rattle.ksv_expr_value.specs.declared.fault.Fault.{Fault}
 use Rattle.ksv_nodes.specs.declared.given.Given.{Given}
 use Rattle.ksv_nodes.specs.declared.node.Node.{Node}
 use Rattle.ksv_nodes.specs.Reading.{Reading, Reach, Finish, Done, Peek, Find, gives, ends_before, reach_file, reach_within, finish_of, done_at, cut_uses, peek_at, first_at, end_in, found_none, found_from, find_at, look}

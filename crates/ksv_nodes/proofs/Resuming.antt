@@ -3,8 +3,8 @@ use Rattle.std.proofs.Common.{◌≡◌, ℕ, ◌≤◌, ◌<◌, List, [], leng
 use Rattle.std.specs.List.{AllByRecursion}
 use Rattle.ksv_plan.specs.Plan.{IsEnded}
 use Rattle.ksv_bytes.specs.Uses.{AgreeOn, CanUse}
-use Rattle.ksv_expr.specs.Trail.{Trail}
-use Rattle.ksv_expr.specs.declared.fault.Fault.{Fault}
+use Rattle.ksv_expr_value.specs.Trail.{Trail}
+use Rattle.ksv_expr_value.specs.declared.fault.Fault.{Fault}
 use Rattle.ksv_nodes.specs.declared.given.Given.{Given}
 use Rattle.ksv_nodes.specs.declared.node.Node.{Node}
 use Rattle.ksv_nodes.specs.Rule.{Rule}

@@ -4,8 +4,8 @@ use Rattle.std.proofs.Common.{rules}
 use denote.Enum.Bare.{same_true}
 use Rattle.ksv_nodes.specs.contracts.node.Kind.{the_type}
 use Rattle.std.specs.Cmp.{first_so, second_so}
-use Rattle.ksv_expr.specs.Exact.{path_exact}
-use Rattle.ksv_expr.specs.contracts.path.PathPartialEq.TheImpl.{ghosts as path_tests}
+use Rattle.ksv_expr_value.specs.Exact.{path_exact}
+use Rattle.ksv_expr_value.specs.contracts.path.PathPartialEq.TheImpl.{ghosts as path_tests}
 use Rattle.ksv_nodes.specs.contracts.node.KindPartialEq.TheImpl.{ghosts as kind_tests}
 use Rattle.ksv_nodes.specs.contracts.node.NodePartialEq.TheImpl.{ghosts as node_tests}
 use Rattle.ksv_nodes.specs.declared.node.Kind.{Kind}

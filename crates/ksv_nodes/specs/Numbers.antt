@@ -1,7 +1,7 @@
 -- Each node has a number of its own, which contracts alone see; there are finitely many.
 use Rattle.std.specs.Prelude.{◌≡◌, ℕ, ◌+◌, ◌*◌, ◌<◌, zero, suc, refl}
 use Rattle.std.proofs.Common.{arith, ap}
-use Rattle.ksv_expr.specs.Numbers.{path_number, path_bound, path_number-one, path_number-below}
+use Rattle.ksv_expr_value.specs.Numbers.{path_number, path_bound, path_number-one, path_number-below}
 use Rattle.ksv_nodes.specs.declared.node.Kind.{Kind}
 use Rattle.ksv_nodes.specs.declared.node.Kind.TheVariants.{Head, Value, End, Rest}
 use Rattle.ksv_nodes.specs.declared.node.Node.{Node}

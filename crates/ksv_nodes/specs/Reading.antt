@@ -4,7 +4,7 @@
 use Rattle.std.specs.Prelude.{ℕ, suc, ◌+◌, List, [], ◌∷◌, ◌++◌, length, slice_range, Bool, true, false, ◌&&◌, nat_lt, nat_le, ◌==◌, Option, Some, None, option_map, if◌then◌else◌}
 use Rattle.ksv_bytes.specs.declared.uses.Use.{Use}
 use Rattle.ksv_bytes.specs.declared.uses.Use.TheVariants as uses
-use Rattle.ksv_expr.specs.declared.value.Stream.{Stream}
+use Rattle.ksv_expr_value.specs.declared.value.Stream.{Stream}
 use Rattle.ksv_nodes.specs.declared.turn.Found.{Found}
 use Rattle.ksv_nodes.specs.declared.turn.Found.TheVariants as founds
 

@@ -1,12 +1,12 @@
 -- Rules: what a node asks of other nodes, how it looks at the bytes, and what it makes of each answer.
 use Rattle.std.specs.Prelude.{ℕ, List, Bool, Option, Some, None}
 use Rattle.ksv_plan.specs.Plan.{Plan, Answer, Fail, Ask}
-use Rattle.ksv_expr.specs.Trail.{Trail, child}
-use Rattle.ksv_expr.specs.declared.fault.FaultKind.{FaultKind}
-use Rattle.ksv_expr.specs.declared.fault.FaultKind.TheVariants as kinds
-use Rattle.ksv_expr.specs.declared.step.Step.{Step}
-use Rattle.ksv_expr.specs.declared.value.Stream.{Stream}
-use Rattle.ksv_expr.specs.declared.value.Value.{Value}
+use Rattle.ksv_expr_value.specs.Trail.{Trail, child}
+use Rattle.ksv_expr_value.specs.declared.fault.FaultKind.{FaultKind}
+use Rattle.ksv_expr_value.specs.declared.fault.FaultKind.TheVariants as kinds
+use Rattle.ksv_expr_value.specs.declared.step.Step.{Step}
+use Rattle.ksv_expr_value.specs.declared.value.Stream.{Stream}
+use Rattle.ksv_expr_value.specs.declared.value.Value.{Value}
 use Rattle.ksv_nodes.specs.declared.node.Node.{Node}
 use Rattle.ksv_nodes.specs.declared.node.Kind.TheVariants as nodes
 use Rattle.ksv_nodes.specs.declared.given.Given.{Given}

@@ -1,6 +1,6 @@
 //! Where a byte stands first in bytes that are lent.
 ghost use Rattle.std.specs.Prelude.{◌≡◌, ◌<◌, length, IfSome};
-ghost use Rattle.ksv_expr.specs.Bytes.{content};
+ghost use Rattle.ksv_expr_value.specs.Bytes.{content};
 ghost use Rattle.ksv_nodes.specs.Reading.{first_at};
 
 use ksv_expr::Parts;

@@ -6,8 +6,8 @@ use Rattle.std.proofs.lemmas.List.Elements.{Contains-append_left, Contains-appen
 use Rattle.ksv_plan.specs.Plan.{Answer, Fail, Ask, Ran, next, run, behind}
 use Rattle.ksv_plan.specs.Asking.{ended}
 use Rattle.ksv_bytes.specs.declared.uses.Use.{Use}
-use Rattle.ksv_expr.specs.declared.fault.Fault.{Fault}
-use Rattle.ksv_expr.specs.declared.fault.FaultKind.TheVariants as kinds
+use Rattle.ksv_expr_value.specs.declared.fault.Fault.{Fault}
+use Rattle.ksv_expr_value.specs.declared.fault.FaultKind.TheVariants as kinds
 use Rattle.ksv_schema.specs.Description.{Description}
 use Rattle.ksv_memo.specs.declared.rules.Step.TheVariants as steps
 use Rattle.ksv_memo.specs.declared.rules.Outcome.{Outcome}

@@ -2,14 +2,14 @@
 use Rattle.std.proofs.Common.{◌≡◌, List, [], ◌∷◌, ◌++◌, Result, Ok, Err, refl, sym, ap, ◌∙◌, append_assoc, append-nil}
 use Rattle.ksv_plan.specs.Plan.{Answer, Fail, Ask, Done, next, run, translate}
 use Rattle.ksv_plan.proofs.Running.{run_bind}
-use Rattle.ksv_syntax.specs.Tree.{Tree}
+use Rattle.ksv_expr_tree.specs.Tree.{Tree}
 use Rattle.ksv_expr.specs.Heard.{Setting, Heard}
 use Rattle.ksv_expr.specs.Asked.{Eval}
 use Rattle.ksv_expr.specs.Replying.{replying}
 use Rattle.ksv_expr.specs.Meaning.{value_of}
 use Rattle.ksv_expr.specs.Evaluation.{resumed, outcome_of}
-use Rattle.ksv_expr.specs.declared.fault.Fault.{Fault}
-use Rattle.ksv_expr.specs.declared.value.Value.{Value}
+use Rattle.ksv_expr_value.specs.declared.fault.Fault.{Fault}
+use Rattle.ksv_expr_value.specs.declared.value.Value.{Value}
 use Rattle.ksv_expr.specs.declared.want.Want.{Want}
 use Rattle.ksv_expr.specs.declared.want.Outcome.{Outcome}
 use Rattle.ksv_expr.specs.declared.want.Outcome.TheVariants as outcomes

@@ -3,23 +3,23 @@ use Rattle.std.proofs.Common.{◌≡◌, ℕ, suc, ◌+◌, ◌<◌, ◌≤◌, 
 use Rattle.std.specs.Prelude.{◌&&◌}
 use Rattle.std.specs.List.{list_all}
 use Rattle.std.proofs.lemmas.List.{drop_all}
-use Rattle.ksv_syntax.specs.declared.tree.Expr.{Expr, Unary', Binary', Logical', Choice', Field', SpecialField', Index', Cast'}
-use Rattle.ksv_syntax.specs.declared.tree.Expr as opened
-use Rattle.ksv_syntax.specs.declared.tree.Expr.TheVariants as made
-use Rattle.ksv_syntax.specs.declared.tree.Expr.TheOpen.{Expr-F}
-use Rattle.ksv_syntax.specs.declared.tree.Expr.TheFolds.{fold_out-Expr, fold-roll-Expr}
-use Rattle.ksv_syntax.specs.declared.tree.Literal.{Literal}
-use Rattle.ksv_syntax.specs.declared.tree.Name.{Name}
-use Rattle.ksv_syntax.specs.declared.tree.TypeName.{TypeName}
-use Rattle.ksv_syntax.specs.declared.tree.Member.{Member}
-use Rattle.ksv_syntax.specs.declared.tree.SpecialName.{SpecialName}
-use Rattle.ksv_syntax.specs.declared.tree.UnaryOperator.{UnaryOperator}
-use Rattle.ksv_syntax.specs.declared.tree.BinaryOperator.{BinaryOperator}
-use Rattle.ksv_syntax.specs.declared.tree.LogicalOperator.{LogicalOperator}
-use Rattle.ksv_syntax.specs.Tree.{Tree, view, view_layer, arguments_of}
-use Rattle.ksv_schema.specs.declared.desc.members.MemberDesc.{MemberDesc}
-use Rattle.ksv_schema.specs.declared.desc.type_desc.TypeDesc.{TypeDesc}
-use Rattle.ksv_schema.specs.Pieces.{plain_kind, plain_member, plain_type}
+use Rattle.ksv_expr_tree.specs.declared.tree.Expr.{Expr, Unary', Binary', Logical', Choice', Field', SpecialField', Index', Cast'}
+use Rattle.ksv_expr_tree.specs.declared.tree.Expr as opened
+use Rattle.ksv_expr_tree.specs.declared.tree.Expr.TheVariants as made
+use Rattle.ksv_expr_tree.specs.declared.tree.Expr.TheOpen.{Expr-F}
+use Rattle.ksv_expr_tree.specs.declared.tree.Expr.TheFolds.{fold_out-Expr, fold-roll-Expr}
+use Rattle.ksv_expr_tree.specs.declared.tree.Literal.{Literal}
+use Rattle.ksv_expr_tree.specs.declared.tree.Name.{Name}
+use Rattle.ksv_expr_tree.specs.declared.tree.TypeName.{TypeName}
+use Rattle.ksv_expr_tree.specs.declared.tree.Member.{Member}
+use Rattle.ksv_expr_tree.specs.declared.tree.SpecialName.{SpecialName}
+use Rattle.ksv_expr_tree.specs.declared.tree.UnaryOperator.{UnaryOperator}
+use Rattle.ksv_expr_tree.specs.declared.tree.BinaryOperator.{BinaryOperator}
+use Rattle.ksv_expr_tree.specs.declared.tree.LogicalOperator.{LogicalOperator}
+use Rattle.ksv_expr_tree.specs.Tree.{Tree, view, view_layer, arguments_of}
+use Rattle.ksv_desc.specs.declared.members.MemberDesc.{MemberDesc}
+use Rattle.ksv_desc.specs.declared.type_desc.TypeDesc.{TypeDesc}
+use Rattle.ksv_desc.specs.Pieces.{plain_kind, plain_member, plain_type}
 use Rattle.ksv_rules.specs.Served.{is_served_name, is_served_tree, are_served_trees, is_served_kind, is_served_type}
 use Rattle.ksv_rules.specs.ServedCode.{is_served_expr}
 

@@ -7,23 +7,23 @@ use Rattle.std.specs.Str.{bytes_eq}
 use Rattle.std.proofs.Common.{arith}
 use Rattle.std.proofs.lemmas.List.Sums.{sum_by-cons}
 use Rattle.ksv_plan.specs.Plan.{Ran, Need, Failed, Done, bind, IsEnded}
-use Rattle.ksv_syntax.specs.Tree.{Tree}
-use Rattle.ksv_scope.specs.declared.order.ByteOrder.{ByteOrder}
+use Rattle.ksv_expr_tree.specs.Tree.{Tree}
+use Rattle.ksv_desc.specs.declared.order.ByteOrder.{ByteOrder}
 use Rattle.ksv_memo.specs.Meaning.{IsDone}
 use Rattle.ksv_expr.proofs.Wants.{value_asks}
 use Rattle.ksv_expr.specs.Evaluation.{most_wants}
-use Rattle.ksv_expr.specs.Trail.{Trail, parent, last}
+use Rattle.ksv_expr_value.specs.Trail.{Trail, parent, last}
 use Rattle.ksv_expr.specs.Heard.{Setting}
 use Rattle.ksv_expr.specs.Meaning.{value_of as value_in}
 use Rattle.ksv_expr.specs.Integers.{ranged}
-use Rattle.ksv_expr.specs.Encodings.{decoded}
-use Rattle.ksv_expr.specs.declared.encoding.Encoding.{Encoding}
-use Rattle.ksv_expr.specs.declared.fault.Fault.{Fault}
-use Rattle.ksv_expr.specs.declared.step.Step.{Step}
-use Rattle.ksv_expr.specs.declared.step.Step.TheVariants as steps
-use Rattle.ksv_expr.specs.declared.value.Stream.{Stream}
-use Rattle.ksv_expr.specs.declared.value.Value.{Value}
-use Rattle.ksv_expr.specs.declared.value.Value.TheVariants as values
+use Rattle.ksv_expr_value.specs.Encodings.{decoded}
+use Rattle.ksv_expr_value.specs.declared.encoding.Encoding.{Encoding}
+use Rattle.ksv_expr_value.specs.declared.fault.Fault.{Fault}
+use Rattle.ksv_expr_value.specs.declared.step.Step.{Step}
+use Rattle.ksv_expr_value.specs.declared.step.Step.TheVariants as steps
+use Rattle.ksv_expr_value.specs.declared.value.Stream.{Stream}
+use Rattle.ksv_expr_value.specs.declared.value.Value.{Value}
+use Rattle.ksv_expr_value.specs.declared.value.Value.TheVariants as values
 use Rattle.ksv_expr.specs.declared.want.Want.{Want}
 use Rattle.ksv_expr.specs.declared.want.Want.TheVariants as wants
 use Rattle.ksv_schema.specs.Description.{Description, TypeOfObjects, MemberOfType, Kind, Given, InSequence, Positioned, Calculated, Field, Content, Choice, Always, Switch, Extent, Sized, ToEnd, ByItself, Repeat, Once, UntilEnd, Times, Until, Terminator}

@@ -2,9 +2,9 @@
 use Rattle.std.specs.Prelude.{ℕ, ◌+◌, List, Option, Some, None, Result, Ok, Err}
 use Rattle.std.specs.List.{sum_by}
 use Rattle.ksv_plan.specs.Plan.{Ran, Need, Failed, Done, run, behind}
-use Rattle.ksv_syntax.specs.Tree.{Tree}
+use Rattle.ksv_expr_tree.specs.Tree.{Tree}
 use Rattle.ksv_expr.specs.Evaluation.{most_wants}
-use Rattle.ksv_expr.specs.declared.fault.Fault.{Fault}
+use Rattle.ksv_expr_value.specs.declared.fault.Fault.{Fault}
 use Rattle.ksv_schema.specs.Description.{Description, TypeOfObjects, Kind, InSequence, Field, Repeat, Once, UntilEnd, Times, Until, Extent, Sized, ToEnd, ByItself}
 use Rattle.ksv_memo.specs.Meaning.{Meaning}
 use Rattle.ksv_memo.specs.declared.rules.Step.{Step}

@@ -1,11 +1,11 @@
 -- Where something ends, and how a list goes on to its last element.
 use Rattle.std.specs.Prelude.{ℕ, ◌+◌, ◌==◌, Bool, true, false, Option, Some, None, if◌then◌else◌}
 use Rattle.ksv_plan.specs.Plan.{Answer, Fail, ◌>>=◌}
-use Rattle.ksv_expr.specs.Trail.{Trail, parent, last}
+use Rattle.ksv_expr_value.specs.Trail.{Trail, parent, last}
 use Rattle.ksv_expr.specs.Heard.{Setting}
-use Rattle.ksv_expr.specs.declared.fault.FaultKind.TheVariants as kinds
-use Rattle.ksv_expr.specs.declared.step.Step.{Step}
-use Rattle.ksv_expr.specs.declared.step.Step.TheVariants as steps
+use Rattle.ksv_expr_value.specs.declared.fault.FaultKind.TheVariants as kinds
+use Rattle.ksv_expr_value.specs.declared.step.Step.{Step}
+use Rattle.ksv_expr_value.specs.declared.step.Step.TheVariants as steps
 use Rattle.ksv_schema.specs.Description.{Description, Repeat, Once, UntilEnd, Times, Until}
 use Rattle.ksv_nodes.specs.declared.given.Ending.{Ending}
 use Rattle.ksv_nodes.specs.declared.given.Ending.TheVariants as endings

@@ -2,7 +2,7 @@
 use Rattle.std.specs.Prelude.{ℕ, ◌+◌, ◌==◌, Bool, true, false, List, [], ◌∷◌, Option, Some, None, slice_get, if◌then◌else◌}
 use Rattle.std.specs.Option.{option_map_or}
 use Rattle.ksv_plan.specs.Plan.{Answer}
-use Rattle.ksv_expr.specs.declared.fault.FaultKind.TheVariants as kinds
+use Rattle.ksv_expr_value.specs.declared.fault.FaultKind.TheVariants as kinds
 use Rattle.ksv_schema.specs.Description.{Description, MemberOfType, Field, Kind, InSequence}
 use Rattle.ksv_nodes.specs.declared.given.Source.{Source}
 use Rattle.ksv_nodes.specs.Rule.{Rule, raise}

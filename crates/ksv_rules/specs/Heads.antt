@@ -5,13 +5,13 @@
 -- The cases that aren't served yet (parameters, instances, switches) answer no-such.
 use Rattle.std.specs.Prelude.{ℕ, ◌+◌, ◌-◌, ◌==◌, nat_lt, nat_le, Bool, false, ◌||◌, length, Option, Some, None, if◌then◌else◌}
 use Rattle.ksv_plan.specs.Plan.{Answer, Fail, ◌>>=◌, ◌>>◌}
-use Rattle.ksv_syntax.specs.Tree.{Tree}
-use Rattle.ksv_expr.specs.Trail.{Trail, parent, last}
+use Rattle.ksv_expr_tree.specs.Tree.{Tree}
+use Rattle.ksv_expr_value.specs.Trail.{Trail, parent, last}
 use Rattle.ksv_expr.specs.Heard.{Setting}
-use Rattle.ksv_expr.specs.declared.fault.FaultKind.TheVariants as kinds
-use Rattle.ksv_expr.specs.declared.step.Step.{Step}
-use Rattle.ksv_expr.specs.declared.step.Step.TheVariants as steps
-use Rattle.ksv_expr.specs.declared.value.Stream.{Stream}
+use Rattle.ksv_expr_value.specs.declared.fault.FaultKind.TheVariants as kinds
+use Rattle.ksv_expr_value.specs.declared.step.Step.{Step}
+use Rattle.ksv_expr_value.specs.declared.step.Step.TheVariants as steps
+use Rattle.ksv_expr_value.specs.declared.value.Stream.{Stream}
 use Rattle.ksv_schema.specs.Description.{Description, Field, Content, Choice, Always, Switch, Extent, Sized, ToEnd, ByItself, Repeat, Once, UntilEnd, Times, Until, Terminator, Kind, InSequence}
 use Rattle.ksv_schema.specs.Description as contents
 use Rattle.ksv_nodes.specs.declared.given.Source.{Source}

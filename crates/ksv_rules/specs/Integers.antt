@@ -1,7 +1,7 @@
 -- Integers, as their bytes say them: the sum of the bytes times powers of 256, and two's complement where it is signed.
 use Rattle.std.specs.Prelude.{ℕ, ◌+◌, ◌*◌, ◌/◌, ◌^◌, ◌&&◌, nat_le, Bool, ℤ, pos, ◌-ℤ◌, List, [], ◌∷◌, reverse, length, if◌then◌else◌}
-use Rattle.ksv_scope.specs.declared.order.ByteOrder.{ByteOrder}
-use Rattle.ksv_scope.specs.declared.order.ByteOrder.TheVariants.{Big, Little}
+use Rattle.ksv_desc.specs.declared.order.ByteOrder.{ByteOrder}
+use Rattle.ksv_desc.specs.declared.order.ByteOrder.TheVariants.{Big, Little}
 
 -- the sum of bytes times powers of 256, the least significant first
 abbrev pub sum_of_bytes : List ℕ → ℕ

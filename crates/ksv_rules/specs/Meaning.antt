@@ -1,8 +1,8 @@
 -- The meaning of a node: its rule. A description that isn't served has no node that answers.
 use Rattle.std.specs.Prelude.{Bool, if◌then◌else◌}
 use Rattle.ksv_plan.specs.Plan.{Answer, ◌>>=◌}
-use Rattle.ksv_expr.specs.Trail.{Trail}
-use Rattle.ksv_expr.specs.declared.fault.FaultKind.TheVariants as kinds
+use Rattle.ksv_expr_value.specs.Trail.{Trail}
+use Rattle.ksv_expr_value.specs.declared.fault.FaultKind.TheVariants as kinds
 use Rattle.ksv_schema.specs.Description.{Description}
 use Rattle.ksv_nodes.specs.declared.node.Node.{Node}
 use Rattle.ksv_nodes.specs.declared.node.Kind.{Kind}

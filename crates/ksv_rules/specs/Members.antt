@@ -1,5 +1,5 @@
 -- What the code keeps of a member that it looked for.
-use Rattle.ksv_schema.specs.Pieces.{plain_kind}
+use Rattle.ksv_desc.specs.Pieces.{plain_kind}
 use Rattle.ksv_rules.specs.declared.fields.Sought.{Sought as CodeSought}
 use Rattle.ksv_rules.specs.Fields.{Sought}
 

@@ -5,9 +5,9 @@ use Rattle.std.specs.Prelude.{◌≡◌, ℕ, ◌^◌, ◌==◌, ◌&&◌, ◌||
 use Rattle.std.specs.Char.{is_ascii_digit}
 use Rattle.std.specs.List.{list_all, flat_map, slice_split}
 use Rattle.std.specs.Str.Parse.{digits_value}
-use Rattle.ksv_expr.specs.Trail.{Trail, trail_of, root}
-use Rattle.ksv_expr.specs.declared.step.Step.{Step}
-use Rattle.ksv_expr.specs.declared.step.Step.TheVariants.{Index, Name}
+use Rattle.ksv_expr_value.specs.Trail.{Trail, trail_of, root}
+use Rattle.ksv_expr_value.specs.declared.step.Step.{Step}
+use Rattle.ksv_expr_value.specs.declared.step.Step.TheVariants.{Index, Name}
 use Rattle.ksv_schema.specs.Description.{Description, as_text, name, number_of_name}
 
 -- ---- from a path to its text

@@ -3,14 +3,14 @@
 use Rattle.std.specs.Prelude.{ℕ, ◌+◌, nat_le, Bool, ℤ, List, length, take, Option, Some, None, if◌then◌else◌}
 use Rattle.std.specs.Str.{bytes_eq}
 use Rattle.ksv_plan.specs.Plan.{Answer, ◌>>=◌}
-use Rattle.ksv_scope.specs.declared.order.ByteOrder.{ByteOrder}
-use Rattle.ksv_expr.specs.Trail.{Trail}
+use Rattle.ksv_desc.specs.declared.order.ByteOrder.{ByteOrder}
+use Rattle.ksv_expr_value.specs.Trail.{Trail}
 use Rattle.ksv_expr.specs.Integers.{ranged}
-use Rattle.ksv_expr.specs.Encodings.{decoded}
-use Rattle.ksv_expr.specs.declared.encoding.Encoding.{Encoding}
-use Rattle.ksv_expr.specs.declared.fault.FaultKind.TheVariants as kinds
-use Rattle.ksv_expr.specs.declared.value.Value.{Value}
-use Rattle.ksv_expr.specs.declared.value.Value.TheVariants as values
+use Rattle.ksv_expr_value.specs.Encodings.{decoded}
+use Rattle.ksv_expr_value.specs.declared.encoding.Encoding.{Encoding}
+use Rattle.ksv_expr_value.specs.declared.fault.FaultKind.TheVariants as kinds
+use Rattle.ksv_expr_value.specs.declared.value.Value.{Value}
+use Rattle.ksv_expr_value.specs.declared.value.Value.TheVariants as values
 use Rattle.ksv_schema.specs.Description.{Description, Field, Content, Choice, Always, Switch, Extent, Sized, ToEnd, ByItself, Terminator}
 use Rattle.ksv_schema.specs.Description as contents
 use Rattle.ksv_nodes.specs.declared.given.Leaf.{Leaf}

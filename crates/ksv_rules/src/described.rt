@@ -1,7 +1,7 @@
 //! The rules of a description, for an engine.
 
 ghost use Rattle.std.specs.Prelude.{◌≡◌, ◌++◌, IfOk, OnOk, OnErr};
-ghost use Rattle.ksv_schema.specs.Whole.{plain_pieces};
+ghost use Rattle.ksv_desc.specs.Whole.{plain_pieces};
 ghost use Rattle.ksv_memo.specs.Meaning.{IsAddedTo};
 ghost use Rattle.ksv_nodes.specs.Exact.{node_exact};
 ghost use Rattle.ksv_rules.specs.Served.{is_served};
@@ -72,7 +72,7 @@ impl Described {
 }
 
 impl Rules for Described {
-    ghost use Rattle.ksv_schema.specs.Whole.{plain_pieces};
+    ghost use Rattle.ksv_desc.specs.Whole.{plain_pieces};
     ghost use Rattle.ksv_nodes.specs.Exact.{node_exact};
     ghost use Rattle.ksv_rules.specs.Described.{described};
     ghost use Rattle.ksv_rules.specs.Lawful.{described_lawful};

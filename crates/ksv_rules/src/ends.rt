@@ -2,10 +2,10 @@
 #![tactic(auto, using(ksv_plan::proofs::Running::run_bind), unfolding(crate::specs::Ends::fields_end, crate::specs::Ends::object_end, crate::specs::Ends::part_rest, crate::specs::Ends::list_end, crate::specs::Ends::place_of, crate::specs::Ends::is_last, crate::specs::Ends::not_empty, crate::specs::Ends::element_end, crate::specs::Ends::end_of, crate::specs::Ends::next_rest, crate::specs::Ends::rest_from, crate::specs::Ends::whole_rest, crate::specs::Ends::rest_of))]
 
 ghost use Rattle.std.specs.Prelude.{◌≡◌, ◌+◌, ◌<◌, Some};
-ghost use Rattle.ksv_schema.specs.Pieces.{plain_repeat};
-ghost use Rattle.ksv_schema.specs.Whole.{plain_pieces};
-ghost use Rattle.ksv_syntax.specs.Tree.{view};
-ghost use Rattle.ksv_expr.specs.Trail.{parent};
+ghost use Rattle.ksv_desc.specs.Pieces.{plain_repeat};
+ghost use Rattle.ksv_desc.specs.Whole.{plain_pieces};
+ghost use Rattle.ksv_expr_tree.specs.Tree.{view};
+ghost use Rattle.ksv_expr_value.specs.Trail.{parent};
 ghost use Rattle.ksv_nodes.specs.Turning.{Runs};
 ghost use Rattle.ksv_rules.specs.Wanted.{truth_of};
 ghost use Rattle.ksv_rules.specs.Ends.{fields_end, object_end, part_rest, list_end, gone_end, place_of, start_of, is_counted, behind_element, is_last, is_by_bytes, not_empty, element_end, end_at, end_of, next_rest, rest_behind, rest_from, in_whole_list, first_rest, whole_rest, rest_at, rest_of};

@@ -1,7 +1,7 @@
 //! The value of an expression in a rule: what it wants is asked of nodes and read from the bytes.
 
 ghost use Rattle.std.specs.Prelude.{◌≡◌, IfOk, Ok};
-ghost use Rattle.ksv_syntax.specs.Tree.{view};
+ghost use Rattle.ksv_expr_tree.specs.Tree.{view};
 ghost use Rattle.ksv_expr.specs.Heard.{heard};
 ghost use Rattle.ksv_nodes.specs.Turning.{Runs};
 ghost use Rattle.ksv_rules.specs.Sites.{setting_of};

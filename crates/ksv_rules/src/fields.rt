@@ -2,8 +2,8 @@
 #![tactic(auto, using(ksv_plan::proofs::Running::run_bind), unfolding(crate::specs::Fields::members_of, crate::specs::Fields::sought, crate::specs::Fields::member_named, crate::specs::Fields::field_of))]
 
 ghost use Rattle.std.specs.Prelude.{◌≡◌, None, map, option_map};
-ghost use Rattle.ksv_schema.specs.Pieces.{plain_member, plain_field, plain_kind};
-ghost use Rattle.ksv_schema.specs.Whole.{plain_pieces};
+ghost use Rattle.ksv_desc.specs.Pieces.{plain_member, plain_field, plain_kind};
+ghost use Rattle.ksv_desc.specs.Whole.{plain_pieces};
 ghost use Rattle.ksv_nodes.specs.Turning.{Runs};
 ghost use Rattle.ksv_rules.specs.Fields.{members_of, behind, sought, member_named, last_attribute, read_by, field_of};
 ghost use Rattle.ksv_rules.specs.Members.{plain_sought};

@@ -2,9 +2,9 @@
 #![tactic(auto, using(ksv_plan::proofs::Running::run_bind), unfolding(crate::specs::Heads::leaf, crate::specs::Heads::leaf_to_end, crate::specs::Heads::terminated, crate::specs::Heads::run_of, crate::specs::Heads::sized_leaf, crate::specs::Heads::bytes_at, crate::specs::Heads::sized_object, crate::specs::Heads::object_at, crate::specs::Heads::content_at, crate::specs::Heads::shape_at, crate::specs::Heads::count_of, crate::specs::Heads::counted, crate::specs::Heads::until_end, crate::specs::Heads::repeated, crate::specs::Heads::attribute_at, crate::specs::Heads::part_end, crate::specs::Heads::attribute_start, crate::specs::Heads::attribute_head, crate::specs::Heads::member_at, crate::specs::Heads::member_head, crate::specs::Heads::next_start, crate::specs::Heads::element_start, crate::specs::Heads::element_head, crate::specs::Heads::head_of))]
 
 ghost use Rattle.std.specs.Prelude.{◌≡◌, option_map};
-ghost use Rattle.ksv_syntax.specs.Tree.{view};
-ghost use Rattle.ksv_schema.specs.Pieces.{plain_content, plain_choice, plain_extent, plain_terminator, plain_repeat, plain_field, plain_kind};
-ghost use Rattle.ksv_schema.specs.Whole.{plain_pieces};
+ghost use Rattle.ksv_expr_tree.specs.Tree.{view};
+ghost use Rattle.ksv_desc.specs.Pieces.{plain_content, plain_choice, plain_extent, plain_terminator, plain_repeat, plain_field, plain_kind};
+ghost use Rattle.ksv_desc.specs.Whole.{plain_pieces};
 ghost use Rattle.ksv_nodes.specs.Turning.{Runs, StandsBelow};
 ghost use Rattle.ksv_rules.specs.Sites.{setting_of};
 ghost use Rattle.ksv_rules.specs.Members.{plain_sought};

@@ -1,12 +1,12 @@
 //! Integers, as the bytes of a file hold them.
 
 ghost use Rattle.std.specs.Prelude.{◌≡◌, ◌<◌, ◌≤◌, ◌+◌, ◌-◌, ◌*◌, ◌^◌, length, pos, reverse};
-ghost use Rattle.ksv_expr.specs.Bytes.{content};
+ghost use Rattle.ksv_expr_value.specs.Bytes.{content};
 ghost use Rattle.ksv_rules.specs.Integers.{integer_value, unsigned_value, sum_of_bytes};
 
 use crate::parts::len_of;
 use ksv_expr::Parts;
-use ksv_scope::ByteOrder;
+use ksv_schema_scope::ByteOrder;
 
 /// The number that bytes write, the most significant first.
 fn big_endian(bytes: &[u8]) -> u64

@@ -2,7 +2,7 @@
 
 ghost use Rattle.std.specs.Prelude.{◌≡◌, ◌<◌, length, take};
 ghost use Rattle.std.specs.Str.{bytes_eq};
-ghost use Rattle.ksv_expr.specs.Bytes.{content};
+ghost use Rattle.ksv_expr_value.specs.Bytes.{content};
 
 use ksv_expr::Parts;
 

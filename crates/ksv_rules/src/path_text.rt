@@ -2,9 +2,9 @@
 ghost use Rattle.std.specs.Prelude.{◌≡◌, ◌≤◌, ◌<◌, ◌++◌, ◌↔◌, true, IsTrue, List, [], ◌∷◌, length, reverse, option_map, Some, None, MatchOption, IfOk, IfSome, IfNone, OnErr, IsSome, position};
 ghost use Rattle.std.specs.Char.{is_ascii_digit};
 ghost use Rattle.std.specs.List.{list_all, slice_split};
-ghost use Rattle.ksv_expr.specs.Trail.{fits, step_fits};
+ghost use Rattle.ksv_expr_value.specs.Trail.{fits, step_fits};
 ghost use Rattle.ksv_schema.specs.Description.{as_text};
-ghost use Rattle.ksv_schema.specs.Whole.{plain_pieces};
+ghost use Rattle.ksv_desc.specs.Whole.{plain_pieces};
 ghost use Rattle.ksv_rules.specs.PathTexts.{decimal_of, index_of, name_of, step_of, steps_of, is_slash, path_of_steps, path_behind, path_named};
 
 use ksv_expr::{Path, Step};
@@ -24,7 +24,7 @@ struct Steps {
 
 impl Model for Steps {
     ghost use Rattle.std.specs.Prelude.{◌≤◌, List, take};
-    ghost use Rattle.ksv_expr.specs.declared.step.Step.{Step};
+    ghost use Rattle.ksv_expr_value.specs.declared.step.Step.{Step};
 
     ghost Value = { List Step };
 

@@ -1,7 +1,7 @@
 //! A node's rule.
 #![tactic(auto, using(ksv_plan::proofs::Running::run_bind), unfolding(crate::specs::Meaning::meaning_of, crate::specs::Meaning::served_rule))]
 
-ghost use Rattle.ksv_schema.specs.Whole.{plain_pieces};
+ghost use Rattle.ksv_desc.specs.Whole.{plain_pieces};
 ghost use Rattle.ksv_nodes.specs.Turning.{Runs};
 ghost use Rattle.ksv_rules.specs.Meaning.{meaning_of, served_rule};
 

@@ -1,14 +1,14 @@
 //! Which descriptions are served.
 ghost use Rattle.std.specs.Prelude.{◌≡◌, map, option_map};
-ghost use Rattle.ksv_syntax.specs.Tree.{view, arguments_of};
-ghost use Rattle.ksv_schema.specs.Pieces.{plain_choice, plain_content, plain_extent, plain_field, plain_kind, plain_repeat, plain_type};
-ghost use Rattle.ksv_schema.specs.Whole.{plain_pieces};
+ghost use Rattle.ksv_expr_tree.specs.Tree.{view, arguments_of};
+ghost use Rattle.ksv_desc.specs.Pieces.{plain_choice, plain_content, plain_extent, plain_field, plain_kind, plain_repeat, plain_type};
+ghost use Rattle.ksv_desc.specs.Whole.{plain_pieces};
 ghost use Rattle.ksv_rules.specs.Served.{is_served_name, are_served_trees, is_served_condition, is_served_repeat, is_served_extent, is_served_content, is_served_choice, goes_by_itself, is_served_field, is_served_kind, is_served_type, is_served};
 ghost use Rattle.ksv_rules.specs.ServedCode.{is_served_expr};
 
 use ksv_schema::Desc;
 use ksv_schema::desc::{Choice, Content, Extent, Field, Kind, Repeat, TypeDesc};
-use ksv_syntax::tree::{Expr, SpecialName};
+use ksv_expr_tree::{Expr, SpecialName};
 
 /// `_index` and `_` alone.
 fn is_served_name(name: SpecialName) -> bool

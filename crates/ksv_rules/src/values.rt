@@ -2,9 +2,9 @@
 #![tactic(auto, using(ksv_plan::proofs::Running::run_bind), unfolding(crate::specs::Values::number_value, crate::specs::Values::fixed_value, crate::specs::Values::kept, crate::specs::Values::cut_bytes, crate::specs::Values::bytes_value, crate::specs::Values::text_value, crate::specs::Values::content_value, crate::specs::Values::choice_value, crate::specs::Values::leaf_value, crate::specs::Values::value_at, crate::specs::Values::value_of))]
 
 ghost use Rattle.std.specs.Prelude.{◌≡◌, ◌≤◌, ◌<◌, ◌+◌, IfOk, length, option_map};
-ghost use Rattle.ksv_expr.specs.Bytes.{content};
-ghost use Rattle.ksv_schema.specs.Pieces.{plain_choice, plain_content, plain_extent, plain_field, plain_terminator};
-ghost use Rattle.ksv_schema.specs.Whole.{plain_pieces};
+ghost use Rattle.ksv_expr_value.specs.Bytes.{content};
+ghost use Rattle.ksv_desc.specs.Pieces.{plain_choice, plain_content, plain_extent, plain_field, plain_terminator};
+ghost use Rattle.ksv_desc.specs.Whole.{plain_pieces};
 ghost use Rattle.ksv_nodes.specs.Rule.{peek};
 ghost use Rattle.ksv_nodes.specs.Turning.{Runs};
 ghost use Rattle.ksv_rules.specs.Values.{as_member, in_number, number_in, number_value, fixed_value, cut_by, kept, cut_bytes, bytes_value, in_text, cut_text, text_value, content_value, choice_value, leaf_value, value_at, value_of};
@@ -16,7 +16,7 @@ use ksv_expr::{Encoding, FaultKind, Integer, Parts, Path, Text, Value};
 use ksv_nodes::{Head, Leaf, Stop, Turn, first_in_parts};
 use ksv_schema::Desc;
 use ksv_schema::desc::{Choice, Content, Extent, Field, Terminator};
-use ksv_scope::ByteOrder;
+use ksv_schema_scope::ByteOrder;
 
 /// The bytes of a leaf.
 #[tactic(auto, using(crate::proofs::Peeked::peeked_length))]

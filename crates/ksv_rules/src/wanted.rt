@@ -2,7 +2,7 @@
 #![tactic(auto, using(ksv_plan::proofs::Running::run_bind), unfolding(crate::specs::Wanted::integer_of, crate::specs::Wanted::truth_of, crate::specs::Wanted::holds, crate::specs::Wanted::size_of))]
 
 ghost use Rattle.std.specs.Prelude.{option_map};
-ghost use Rattle.ksv_syntax.specs.Tree.{view};
+ghost use Rattle.ksv_expr_tree.specs.Tree.{view};
 ghost use Rattle.ksv_nodes.specs.Turning.{Runs};
 ghost use Rattle.ksv_rules.specs.Sites.{setting_of};
 ghost use Rattle.ksv_rules.specs.Wanted.{in_object, in_integer, in_truth, integer_of, truth_of, holds, in_size, size_of};

@@ -1,10 +1,10 @@
 -- What the forms of an expression are as keys of `cases`.
 use Rattle.std.proofs.Common.{◌≡◌, ℕ, ◌^◌, Bool, true, false, Some, refl, ◌∙◌}
 use Rattle.std.specs.Prelude.{nat_le, if◌then◌else◌}
-use Rattle.ksv_syntax.specs.declared.tree.SpecialName.TheVariants as specials
-use Rattle.ksv_syntax.specs.declared.tree.UnaryOperator.TheVariants as unaries
-use Rattle.ksv_syntax.specs.Tree.{Tree, MemberPath, literal, integer, truth, string, named, special, member, unary, binary, logical, choice, field, special_field, call, index, cast}
-use Rattle.ksv_names.specs.declared.position.Site.TheVariants as sites
+use Rattle.ksv_expr_tree.specs.declared.tree.SpecialName.TheVariants as specials
+use Rattle.ksv_expr_tree.specs.declared.tree.UnaryOperator.TheVariants as unaries
+use Rattle.ksv_expr_tree.specs.Tree.{Tree, MemberPath, literal, integer, truth, string, named, special, member, unary, binary, logical, choice, field, special_field, call, index, cast}
+use Rattle.ksv_schema_names.specs.declared.position.Site.TheVariants as sites
 use Rattle.ksv_schema.specs.Values.{Negative, Member, NoKey, case_key}
 use Rattle.ksv_schema.specs.Rules.{Home, expression_faults, case_value_faults}
 use Rattle.ksv_schema.specs.Code.{negative_key}

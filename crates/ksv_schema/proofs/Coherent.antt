@@ -4,12 +4,12 @@ use Rattle.std.specs.Prelude.{not, is_some, option_map, option_and_then}
 use Rattle.std.specs.Option.{option_map_or}
 use Rattle.std.specs.Str.{bytes_eq}
 use Rattle.std.proofs.lemmas.Slice.Eq.{bytes_eq-Decides}
-use Rattle.ksv_yaml.specs.Tree.{Pair, text_of, entry_at}
-use Rattle.ksv_syntax.specs.Tree as expressions
-use Rattle.ksv_syntax.specs.Reading.{◌>>=◌}
-use Rattle.ksv_scope.specs.Keys.{has, text_at}
-use Rattle.ksv_names.specs.declared.position.Site.{Site}
-use Rattle.ksv_names.specs.Numbered.{numbered}
+use Rattle.ksv_yaml_tree.specs.Tree.{Pair, text_of, entry_at}
+use Rattle.ksv_expr_tree.specs.Tree as expressions
+use Rattle.ksv_expr_syntax.specs.Reading.{◌>>=◌}
+use Rattle.ksv_schema_scope.specs.Keys.{has, text_at}
+use Rattle.ksv_schema_names.specs.declared.position.Site.{Site}
+use Rattle.ksv_schema_names.specs.Numbered.{numbered}
 use Rattle.ksv_schema.specs.Faults.{Fault, fault, fault_if, no_expression, bad_value, unknown_key}
 use Rattle.ksv_schema.specs.Keys as forms
 use Rattle.ksv_schema.specs.Keys.{Form, Key, form_in, is_ignored}

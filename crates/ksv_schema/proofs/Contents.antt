@@ -2,20 +2,20 @@
 use Rattle.std.proofs.Common.{◌≡◌, ℕ, Bool, true, false, cond, List, [], ◌∷◌, ◌++◌, sym, ap, ◌∙◌, refl, Option, Some, None}
 use Rattle.std.specs.Prelude.{codes, not, ◌==◌, ◌&&◌, ◌||◌, is_some, is_none, option_map, option_and_then, map, flat_map}
 use Rattle.std.specs.Option.{option_map_or}
-use Rattle.ksv_yaml.specs.Tree.{Tree, Text, Seq, Map, Pair, trees, line_of, text_of, entry_at}
-use Rattle.ksv_syntax.specs.Tree as expressions
-use Rattle.ksv_syntax.specs.Reading.{◌>>=◌}
-use Rattle.ksv_scope.specs.declared.order.ByteOrder.{ByteOrder}
-use Rattle.ksv_scope.specs.declared.order.ByteOrder.TheVariants as orders
-use Rattle.ksv_scope.specs.Keys.{has, text_at}
-use Rattle.ksv_scope.specs.Types.{type_named, order_of, encoding_of}
-use Rattle.ksv_scope.specs.Enums.{enum_named, number_of_id}
-use Rattle.ksv_scope.specs.Declarations.{Declared}
-use Rattle.ksv_names.specs.declared.built_ins.BuiltIn.TheVariants.{Integer, Str, Strz, NotHere}
-use Rattle.ksv_names.specs.declared.position.NameFault.TheVariants.{Unknown}
-use Rattle.ksv_names.specs.declared.position.Site.TheVariants as sites
-use Rattle.ksv_names.specs.Names.{name_faults, part_faults, is_member, enum_at, wrong_if, count}
-use Rattle.ksv_names.specs.Numbered.{given_member, enum_member, all_numbered}
+use Rattle.ksv_yaml_tree.specs.Tree.{Tree, Text, Seq, Map, Pair, trees, line_of, text_of, entry_at}
+use Rattle.ksv_expr_tree.specs.Tree as expressions
+use Rattle.ksv_expr_syntax.specs.Reading.{◌>>=◌}
+use Rattle.ksv_desc.specs.declared.order.ByteOrder.{ByteOrder}
+use Rattle.ksv_desc.specs.declared.order.ByteOrder.TheVariants as orders
+use Rattle.ksv_schema_scope.specs.Keys.{has, text_at}
+use Rattle.ksv_schema_scope.specs.Types.{type_named, order_of, encoding_of}
+use Rattle.ksv_schema_scope.specs.Enums.{enum_named, number_of_id}
+use Rattle.ksv_schema_scope.specs.Declarations.{Declared}
+use Rattle.ksv_schema_names.specs.declared.built_ins.BuiltIn.TheVariants.{Integer, Str, Strz, NotHere}
+use Rattle.ksv_schema_names.specs.declared.position.NameFault.TheVariants.{Unknown}
+use Rattle.ksv_schema_names.specs.declared.position.Site.TheVariants as sites
+use Rattle.ksv_schema_names.specs.Names.{name_faults, part_faults, is_member, enum_at, wrong_if, count}
+use Rattle.ksv_schema_names.specs.Numbered.{given_member, enum_member, all_numbered}
 use Rattle.ksv_schema.specs.Faults.{Fault, fault_if, no_expression, bad_value, unknown_name, left_out, wrong_count}
 use Rattle.ksv_schema.specs.Keys as forms
 use Rattle.ksv_schema.specs.Keys.{Form, Key, form_in, is_ignored}

@@ -3,12 +3,12 @@ use Rattle.std.proofs.Common.{◌≡◌, ℕ, zero, suc, ◌+◌, ◌<◌, Bool,
 use Rattle.std.specs.Prelude.{slice_get, ◌==◌}
 use Rattle.std.proofs.lemmas.Bool.Decides.{nat_tests}
 use Rattle.std.proofs.lemmas.List.Elements.{filter-append}
-use Rattle.ksv_yaml.specs.Tree.{Pair}
-use Rattle.ksv_yaml.specs.declared.tree.Yaml.{Yaml}
-use Rattle.ksv_syntax.specs.Reading.{◌>>=◌}
-use Rattle.ksv_scope.specs.Keys.{entries_in}
-use Rattle.ksv_scope.specs.Enums.{Enumeration, Constant, constant, constants_from, constants_of}
-use Rattle.ksv_scope.specs.Declarations.{Declared, declared}
+use Rattle.ksv_yaml_tree.specs.Tree.{Pair}
+use Rattle.ksv_yaml_tree.specs.declared.tree.Yaml.{Yaml}
+use Rattle.ksv_expr_syntax.specs.Reading.{◌>>=◌}
+use Rattle.ksv_schema_scope.specs.Keys.{entries_in}
+use Rattle.ksv_schema_scope.specs.Enums.{Enumeration, Constant, constant, constants_from, constants_of}
+use Rattle.ksv_schema_scope.specs.Declarations.{Declared, declared}
 use Rattle.ksv_schema.specs.Description.{Numbered, as_text, each, each_numbered, numbered_of, enum_of}
 use Rattle.ksv_schema.specs.Entries.{enum_alone}
 

@@ -1,17 +1,17 @@
 -- What a text is taken for is what it spells.
 use Rattle.std.proofs.Common.{◌≡◌, ℕ, zero, suc, ◌≤◌, Bool, false, List, [], ◌∷◌, length, Option, Some, None, refl, sym, ap, subst, ◌∙◌, arith}
 use Rattle.std.specs.Prelude.{option_map}
-use Rattle.ksv_syntax.specs.Tree.{Tree, TypeTree, Arguments}
-use Rattle.ksv_syntax.specs.Lexemes.{Lexeme}
-use Rattle.ksv_syntax.specs.Grammar.{Whole, IsExpr, SpellsType, bare, applied}
-use Rattle.ksv_syntax.specs.Tokens.{Cut, skip, mark, is_dot, Tokens, finished, token}
-use Rattle.ksv_syntax.specs.Cutting.{cut}
-use Rattle.ksv_syntax.specs.Reading.{Next, Found, FoundList, ◌>>=◌, read, path_at}
-use Rattle.ksv_syntax.specs.Code.{type_list}
-use Rattle.ksv_syntax.specs.Text.{SpellsText, SpellsTypeText}
-use Rattle.ksv_syntax.proofs.Longest.{cut_is_longest}
-use Rattle.ksv_syntax.proofs.Scan.{scan_shorter}
-use Rattle.ksv_syntax.proofs.Theorem.{spelled, is_read, type_spelled, type_read}
+use Rattle.ksv_expr_tree.specs.Tree.{Tree, TypeTree, Arguments}
+use Rattle.ksv_expr_syntax.specs.Lexemes.{Lexeme}
+use Rattle.ksv_expr_syntax.specs.Grammar.{Whole, IsExpr, SpellsType, bare, applied}
+use Rattle.ksv_expr_syntax.specs.Tokens.{Cut, skip, mark, is_dot, Tokens, finished, token}
+use Rattle.ksv_expr_syntax.specs.Cutting.{cut}
+use Rattle.ksv_expr_syntax.specs.Reading.{Next, Found, FoundList, ◌>>=◌, read, path_at}
+use Rattle.ksv_expr_syntax.specs.Code.{type_list}
+use Rattle.ksv_expr_syntax.specs.Text.{SpellsText, SpellsTypeText}
+use Rattle.ksv_expr_syntax.proofs.Longest.{cut_is_longest}
+use Rattle.ksv_expr_syntax.proofs.Scan.{scan_shorter}
+use Rattle.ksv_expr_syntax.proofs.Theorem.{spelled, is_read, type_spelled, type_read}
 use Rattle.ksv_schema.specs.Expressions.{tokens_to, tokens_of, tree_alone, type_alone, expression_of, type_of}
 
 bind_found : {A B : Type 0} (r : Option A) (f : A → Option B) (y : B) → (r >>= f) ≡ Some y → (x : A) × (r ≡ Some x) × (f x ≡ Some y)

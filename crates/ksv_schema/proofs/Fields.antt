@@ -2,9 +2,9 @@
 use Rattle.std.proofs.Common.{◌≡◌, ℕ, Bool, true, false, cond, List, [], ◌++◌, ap, ◌∙◌, refl, Option, Some, None}
 use Rattle.std.specs.Prelude.{codes, not, ◌&&◌, ◌||◌, is_some, option_map, option_and_then, flat_map, unwrap_or}
 use Rattle.std.specs.Option.{option_map_or}
-use Rattle.ksv_yaml.specs.Tree.{Pair, line_of, text_of, mapping_of, entry_at}
-use Rattle.ksv_scope.specs.Keys.{has, says, entries_at}
-use Rattle.ksv_names.specs.declared.position.Site.TheVariants as sites
+use Rattle.ksv_yaml_tree.specs.Tree.{Pair, line_of, text_of, mapping_of, entry_at}
+use Rattle.ksv_schema_scope.specs.Keys.{has, says, entries_at}
+use Rattle.ksv_schema_names.specs.declared.position.Site.TheVariants as sites
 use Rattle.ksv_schema.specs.Faults.{Fault, fault, bad_value}
 use Rattle.ksv_schema.specs.Keys as forms
 use Rattle.ksv_schema.specs.Keys.{Form, Key, form_in, is_ignored, attribute_keys, positioned_keys, value_keys, switch_keys}

@@ -1,6 +1,6 @@
 -- The bytes of `contents`.
 use Rattle.std.proofs.Common.{◌≡◌, ℕ, List, Some, None, refl, ap}
-use Rattle.ksv_yaml.specs.Tree.{Tree, Text, Seq, Map, text_of, is_quoted, list_of, trees}
+use Rattle.ksv_yaml_tree.specs.Tree.{Tree, Text, Seq, Map, text_of, is_quoted, list_of, trees}
 use Rattle.ksv_schema.specs.Values.{text_bytes, joined, contents_of}
 
 -- ---- a node by its kind

@@ -7,21 +7,21 @@ use Rattle.std.specs.Ordering.{int_eq}
 use Rattle.std.specs.Str.{bytes_eq}
 use Rattle.std.proofs.lemmas.Bool.Decides.{Decides-eqb, Decides-int_eq}
 use Rattle.std.proofs.lemmas.List.{length-append}
-use Rattle.ksv_syntax.specs.Reading.{◌>>=◌}
-use Rattle.ksv_syntax.specs.declared.tree.EnumMember.{EnumMember}
-use Rattle.ksv_syntax.specs.Tree.{Tree, literal, named, special, member, unary, binary, logical, choice, field, special_field, call, index, cast, Arguments, no_arguments, argument, MemberPath, TypePath, Word}
-use Rattle.ksv_scope.specs.Keys.{entries_in}
-use Rattle.ksv_scope.specs.Types.{Scope, from, type_in, nearest_type}
-use Rattle.ksv_scope.specs.Members.{parameters_within}
-use Rattle.ksv_scope.specs.Enums.{Enumeration, Constant, constant, constants_from, constants_of, number_of, id_of, is_named, number_of_id, enum_in, enum_along, enum_named}
-use Rattle.ksv_scope.specs.Declarations.{Declared}
-use Rattle.ksv_names.specs.Names.{enum_at}
-use Rattle.ksv_names.specs.Numbered.{distinct_behind, number_in, enum_member, given_member}
-use Rattle.ksv_names.specs.Resolved.{has_names, IsTyped}
-use Rattle.ksv_names.specs.Resolved as names
-use Rattle.ksv_names.proofs.Found.{place_within, outwards_is}
+use Rattle.ksv_expr_syntax.specs.Reading.{◌>>=◌}
+use Rattle.ksv_expr_tree.specs.declared.tree.EnumMember.{EnumMember}
+use Rattle.ksv_expr_tree.specs.Tree.{Tree, literal, named, special, member, unary, binary, logical, choice, field, special_field, call, index, cast, Arguments, no_arguments, argument, MemberPath, TypePath, Word}
+use Rattle.ksv_schema_scope.specs.Keys.{entries_in}
+use Rattle.ksv_schema_scope.specs.Types.{Scope, from, type_in, nearest_type}
+use Rattle.ksv_schema_scope.specs.Members.{parameters_within}
+use Rattle.ksv_schema_scope.specs.Enums.{Enumeration, Constant, constant, constants_from, constants_of, number_of, id_of, is_named, number_of_id, enum_in, enum_along, enum_named}
+use Rattle.ksv_schema_scope.specs.Declarations.{Declared}
+use Rattle.ksv_schema_names.specs.Names.{enum_at}
+use Rattle.ksv_schema_names.specs.Numbered.{distinct_behind, number_in, enum_member, given_member}
+use Rattle.ksv_schema_names.specs.Resolved.{has_names, IsTyped}
+use Rattle.ksv_schema_names.specs.Resolved as names
+use Rattle.ksv_schema_names.proofs.Found.{place_within, outwards_is}
 use Rattle.ksv_schema.specs.Description.{Description, Numbered, Enum, numbered_of, enum_of, as_text, each, each_numbered, member_id}
-use Rattle.ksv_schema.specs.Resolved.{parameters, Each, IsThere, IsNamed, IsType, IsMemberOf, IsResolvedTree, AreResolvedTrees}
+use Rattle.ksv_desc.specs.Resolved.{parameters, Each, IsThere, IsNamed, IsType, IsMemberOf, IsResolvedTree, AreResolvedTrees}
 use Rattle.ksv_schema.proofs.Coherent.{some_same}
 use Rattle.ksv_schema.proofs.Texts.{both}
 use Rattle.ksv_schema.proofs.OwnNames.{each_and, each_mapped}

@@ -2,13 +2,13 @@
 use Rattle.std.proofs.Common.{◌≡◌, ℕ, true, false, List, [], ◌∷◌, map, Option, Some, None, option_map, refl, sym, ap, ◌∙◌, arith}
 use Rattle.std.specs.Prelude.{option_to_list, nat_lt, ◌==◌, ◌||◌, ◌&&◌}
 use Rattle.std.proofs.lemmas.Bool.Decides.{nat_tests}
-use Rattle.ksv_names.specs.declared.position.NameFault.{NameFault}
-use Rattle.ksv_names.specs.declared.position.NameFault.TheVariants.{Unknown, LeftOut}
-use Rattle.ksv_names.specs.Names.{least}
-use Rattle.ksv_names.specs.Names as names
+use Rattle.ksv_schema_names.specs.declared.position.NameFault.{NameFault}
+use Rattle.ksv_schema_names.specs.declared.position.NameFault.TheVariants.{Unknown, LeftOut}
+use Rattle.ksv_schema_names.specs.Names.{least}
+use Rattle.ksv_schema_names.specs.Names as names
 use Rattle.ksv_schema.specs.Faults.{Fault, is_below, lesser, noted}
 use Rattle.ksv_schema.specs.Rules.{name_fault}
-pub use Rattle.ksv_names.proofs.Forms.{count_map}
+pub use Rattle.ksv_schema_names.proofs.Forms.{count_map}
 use Rattle.ksv_schema.proofs.Least.{below_self, lesser_kept, lesser_over}
 
 abbrev one_of : ℕ → Option NameFault → List Fault

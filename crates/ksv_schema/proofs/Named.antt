@@ -2,9 +2,9 @@
 use Rattle.std.proofs.Common.{◌≡◌, ℕ, suc, ◌+◌, ◌<◌, ◌≤◌, Bool, true, false, ◌&&◌, cond, List, [], ◌∷◌, map, length, get_or, drop, Some, None, refl, sym, ap, ◌∙◌, add-one, drop-cons}
 use Rattle.std.specs.Str.{is_utf8}
 use Rattle.std.proofs.lemmas.List.{drop_all}
-use Rattle.ksv_scope.specs.declared.member.Member.{Member as MemberRow}
-use Rattle.ksv_scope.specs.MemberRows.{member_of as row}
-use Rattle.ksv_names.specs.Numbered.{distinct_behind}
+use Rattle.ksv_schema_scope.specs.declared.member.Member.{Member as MemberRow}
+use Rattle.ksv_schema_scope.specs.MemberRows.{member_of as row}
+use Rattle.ksv_schema_names.specs.Numbered.{distinct_behind}
 use Rattle.ksv_schema.specs.Description.{as_text, are_texts}
 
 pub text_is : (name text : List ℕ) → Some text ≡ as_text name → text ≡ name

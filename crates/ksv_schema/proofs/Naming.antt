@@ -2,7 +2,7 @@
 use Rattle.std.proofs.Common.{◌≡◌, ℕ, List, Bool, true, false, Some, cond, ap}
 use Rattle.std.specs.Prelude.{codes, option_map, find}
 use Rattle.std.specs.Str.{bytes_eq}
-use Rattle.ksv_names.specs.declared.position.Site.TheVariants as sites
+use Rattle.ksv_schema_names.specs.declared.position.Site.TheVariants as sites
 use Rattle.ksv_schema.specs.Keys.{Key, key, form_in, Expression, positioned_keys}
 use Rattle.ksv_schema.specs.Description.{naming_keys}
 

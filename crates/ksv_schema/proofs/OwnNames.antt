@@ -8,20 +8,20 @@ use Rattle.std.specs.Fmt.{digit_glyph, digits_onto, digits}
 use Rattle.std.proofs.lemmas.Bool.Decides.{nat_tests}
 use Rattle.std.proofs.lemmas.Str.{is_utf8-from_IsUtf8, IsUtf8-from_ascii, IsAscii-append}
 use Rattle.std.proofs.lemmas.Str.Ascii.{IsAscii-nil, IsAscii-from_all}
-use Rattle.ksv_yaml.specs.Tree.{Tree, Pair, line_of, text_of, mapping_of, list_of, entry_at}
-use Rattle.ksv_scope.specs.declared.member.Role.{Role}
-use Rattle.ksv_scope.specs.declared.member.Role.TheVariants.{Parameter, Attribute, Instance}
-use Rattle.ksv_scope.specs.Keys.{entries_in, has, text_at, entries_at}
-use Rattle.ksv_scope.specs.Types.{Scope, keys_of, own_id, root_scope, types_within, types_of}
-use Rattle.ksv_scope.specs.Members.{Member, parameter, unnamed, attributes_from, instance, members_at_key, members_of_type, members_from, members_of}
-use Rattle.ksv_scope.specs.Declarations.{Declared, declared_in}
+use Rattle.ksv_yaml_tree.specs.Tree.{Tree, Pair, line_of, text_of, mapping_of, list_of, entry_at}
+use Rattle.ksv_schema_scope.specs.declared.member.Role.{Role}
+use Rattle.ksv_schema_scope.specs.declared.member.Role.TheVariants.{Parameter, Attribute, Instance}
+use Rattle.ksv_schema_scope.specs.Keys.{entries_in, has, text_at, entries_at}
+use Rattle.ksv_schema_scope.specs.Types.{Scope, keys_of, own_id, root_scope, types_within, types_of}
+use Rattle.ksv_schema_scope.specs.Members.{Member, parameter, unnamed, attributes_from, instance, members_at_key, members_of_type, members_from, members_of}
+use Rattle.ksv_schema_scope.specs.Declarations.{Declared, declared_in}
 use Rattle.ksv_schema.specs.Faults.{Fault, fault, fault_if, bad_value}
 use Rattle.ksv_schema.specs.Keys as forms
 use Rattle.ksv_schema.specs.Keys.{Form, Key, form_in, is_ignored, is_id, type_keys, meta_keys, parameter_keys, attribute_keys, positioned_keys, value_keys}
 use Rattle.ksv_schema.specs.Rules.{Home, home_in, home_of, form_faults, value_faults, keys_faults, missing_if, parameter_faults, attribute_faults, role_faults, mapping_faults, member_faults, member_again, is_instance, meta_faults, root_faults, type_key_faults, type_faults, each_from, limit_faults, faults_of, faults, enumeration_faults, constant_faults, field_rules, text_unless}
 use Rattle.ksv_schema.specs.Description.{Description, are_texts, stated}
 use Rattle.ksv_schema.specs.Outcome.{States}
-use Rattle.ksv_schema.specs.Resolved.{Each}
+use Rattle.ksv_desc.specs.Resolved.{Each}
 use Rattle.ksv_schema.proofs.Coherent.{not_not, front, back, not_if, no_fault, some_same, at_key, has_text}
 use Rattle.ksv_schema.proofs.Texts.{id_is_text}
 use Rattle.ksv_schema.proofs.Whole.{AreTyped, declared_states}

@@ -3,8 +3,8 @@ use Rattle.std.proofs.Common.{◌≡◌, ℕ, ◌≤◌, ◌<◌, List, [], ◌�
 use Rattle.std.specs.Prelude.{option_map, option_to_list, slice_get}
 use Rattle.std.specs.Option.{option_map_or}
 use Rattle.std.proofs.lemmas.Option.{slice_get-map, slice_get_past, slice_get-get_or}
-use Rattle.ksv_scope.specs.Types.{Scope}
-use Rattle.ksv_scope.specs.Declarations.{Declared}
+use Rattle.ksv_schema_scope.specs.Types.{Scope}
+use Rattle.ksv_schema_scope.specs.Declarations.{Declared}
 use Rattle.ksv_schema.specs.Faults.{Fault, noted}
 use Rattle.ksv_schema.specs.Rules.{past, line_past, member_limit}
 use Rattle.ksv_schema.specs.Code.{limit_fault, members_past, AreRising}

@@ -4,25 +4,25 @@ use Rattle.std.specs.Prelude.{codes, not, ◌&&◌, is_some, map, flat_map, filt
 use Rattle.std.specs.Option.{option_map_or}
 use Rattle.std.specs.Str.{bytes_eq, is_utf8}
 use Rattle.std.proofs.lemmas.Bool.Decides.{Decides-eqb}
-use Rattle.ksv_yaml.specs.Tree.{Tree, Pair, line_of, mapping_of}
-use Rattle.ksv_scope.specs.Keys.{entries_in, has}
-use Rattle.ksv_scope.specs.Types.{Scope, types_of}
-use Rattle.ksv_scope.specs.Members.{Member, is_parameter, is_in_params, is_within, members_within, parameters_within}
-use Rattle.ksv_scope.specs.declared.member.Role.{Role}
-use Rattle.ksv_scope.specs.declared.member.Role.TheVariants.{Parameter, Attribute, Instance}
-use Rattle.ksv_scope.specs.Enums.{enums_of}
-use Rattle.ksv_scope.specs.Declarations.{Declared, declared_in}
-use Rattle.ksv_names.specs.Numbered.{distinct, number_in}
-use Rattle.ksv_names.specs.Resolved.{has_names, AreDistinct}
-use Rattle.ksv_names.proofs.Found.{some_is, place_within}
-use Rattle.ksv_names.proofs.Tabled.{is_table}
+use Rattle.ksv_yaml_tree.specs.Tree.{Tree, Pair, line_of, mapping_of}
+use Rattle.ksv_schema_scope.specs.Keys.{entries_in, has}
+use Rattle.ksv_schema_scope.specs.Types.{Scope, types_of}
+use Rattle.ksv_schema_scope.specs.Members.{Member, is_parameter, is_in_params, is_within, members_within, parameters_within}
+use Rattle.ksv_schema_scope.specs.declared.member.Role.{Role}
+use Rattle.ksv_schema_scope.specs.declared.member.Role.TheVariants.{Parameter, Attribute, Instance}
+use Rattle.ksv_schema_scope.specs.Enums.{enums_of}
+use Rattle.ksv_schema_scope.specs.Declarations.{Declared, declared_in}
+use Rattle.ksv_schema_names.specs.Numbered.{distinct, number_in}
+use Rattle.ksv_schema_names.specs.Resolved.{has_names, AreDistinct}
+use Rattle.ksv_schema_names.proofs.Found.{some_is, place_within}
+use Rattle.ksv_schema_names.proofs.Tabled.{is_table}
 use Rattle.ksv_schema.specs.Faults.{fault, fault_if, bad_value}
 use Rattle.ksv_schema.specs.Keys.{is_id}
 use Rattle.ksv_schema.specs.Rules.{home_of, role_faults, mapping_faults, member_faults, member_again, is_instance, enumeration_faults, constant_faults, type_faults, each_from, limit_faults, faults_of, faults}
 use Rattle.ksv_schema.specs.Description.{Context, Kind, Given, InSequence, Positioned, Calculated, expression_at, perhaps_expression, perhaps_enum, field_of, positioned_of, calculated_of, MemberOfType, TypeOfObjects, Description, entry_words, member_words, member_names, names_of, are_texts, as_text, kind_of, member_of, type_of, enum_of, each, each_numbered, described, stated_by, stated}
 use Rattle.ksv_schema.specs.Outcome.{States}
-use Rattle.ksv_schema.specs.Resolved as resolved
-use Rattle.ksv_schema.specs.Resolved.{Each, IsResolvedMember, IsResolved}
+use Rattle.ksv_desc.specs.Resolved as resolved
+use Rattle.ksv_desc.specs.Resolved.{Each, IsResolvedMember, IsResolved}
 use Rattle.ksv_schema.proofs.Coherent.{front, back, some_same}
 use Rattle.ksv_schema.proofs.Texts.{both}
 use Rattle.ksv_schema.proofs.Leads.{bound, mapped, get, stated_at, Fits, constants_within, member_stated, as_many, number_kept, no_shorter}

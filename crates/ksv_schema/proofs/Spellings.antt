@@ -1,7 +1,7 @@
 -- What reading a text answers is what the text is taken for.
 use Rattle.std.proofs.Common.{◌≡◌, ℕ, List, Option, Some, None, refl, sym}
-use Rattle.ksv_syntax.specs.Tree.{Tree, TypeTree}
-use Rattle.ksv_syntax.specs.Text.{SpellsText, SpellsTypeText}
+use Rattle.ksv_expr_tree.specs.Tree.{Tree, TypeTree}
+use Rattle.ksv_expr_syntax.specs.Text.{SpellsText, SpellsTypeText}
 use Rattle.ksv_schema.specs.Expressions.{expression_of, type_of}
 use Rattle.ksv_schema.proofs.Expressions.{expression_is_spelled, spelled_is_expression, type_is_spelled, spelled_is_type}
 

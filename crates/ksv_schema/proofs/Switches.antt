@@ -1,7 +1,7 @@
 -- What stands at a key is a switch, or noted by its form.
 use Rattle.std.proofs.Common.{◌≡◌, Bool, true, false, List, Option, Some, None, refl, ap}
 use Rattle.std.specs.Prelude.{◌&&◌, is_some, if◌then◌else◌, unwrap_or, []}
-use Rattle.ksv_yaml.specs.Tree.{Pair, line_of, mapping_of}
+use Rattle.ksv_yaml_tree.specs.Tree.{Pair, line_of, mapping_of}
 use Rattle.ksv_schema.specs.Keys.{Form}
 use Rattle.ksv_schema.specs.Rules.{Home, is_type_or_switch, switch_faults, form_faults, value_faults}
 

@@ -4,9 +4,9 @@ use Rattle.std.specs.Prelude.{option_map, slice_get}
 use Rattle.std.specs.Option.{option_map_or}
 use Rattle.std.proofs.lemmas.List.{drop_all}
 use Rattle.std.proofs.lemmas.Option.{slice_get-get_or}
-use Rattle.ksv_yaml.specs.Tree.{Tree}
-use Rattle.ksv_scope.specs.Types.{Scope}
-use Rattle.ksv_scope.specs.Declarations.{Declared}
+use Rattle.ksv_yaml_tree.specs.Tree.{Tree}
+use Rattle.ksv_schema_scope.specs.Types.{Scope}
+use Rattle.ksv_schema_scope.specs.Declarations.{Declared}
 use Rattle.ksv_schema.specs.Faults.{Fault, noted}
 use Rattle.ksv_schema.specs.Rules.{each_from, type_faults, type_key_faults}
 use Rattle.ksv_schema.specs.Code.{scope_row}

@@ -7,18 +7,18 @@ use Rattle.std.specs.Str.{bytes_eq}
 use Rattle.std.proofs.lemmas.Slice.Eq.{bytes_eq-Decides}
 use Rattle.std.proofs.lemmas.Bool.Decides.{Decides-eqb}
 use Rattle.std.proofs.lemmas.List.Folds.{list_any-append}
-use Rattle.ksv_yaml.specs.Tree.{Tree, Text, Seq, Map, Pair, pairs, line_of, text_of, mapping_of, entry_at}
-use Rattle.ksv_scope.specs.declared.member.Role.{Role}
-use Rattle.ksv_scope.specs.declared.member.Role.TheVariants.{Parameter, Attribute, Instance}
-use Rattle.ksv_scope.specs.declared.numeral.Numeral.{Numeral}
-use Rattle.ksv_scope.specs.declared.numeral.Numeral.TheVariants.{Whole, LeadingZero, NoNumeral}
-use Rattle.ksv_scope.specs.Numerals.{signed_number}
-use Rattle.ksv_scope.specs.Keys.{has, text_at, entries_at}
-use Rattle.ksv_scope.specs.Types.{Scope, keys_of, keys_of_type, outwards, from, encoding_in, encoding_of}
-use Rattle.ksv_scope.specs.Members.{Member, is_within, members_within}
-use Rattle.ksv_scope.specs.Enums.{Constant, whole_of}
-use Rattle.ksv_scope.specs.Declarations.{Declared}
-use Rattle.ksv_names.specs.Numbered.{distinct, distinct_behind, number_in}
+use Rattle.ksv_yaml_tree.specs.Tree.{Tree, Text, Seq, Map, Pair, pairs, line_of, text_of, mapping_of, entry_at}
+use Rattle.ksv_schema_scope.specs.declared.member.Role.{Role}
+use Rattle.ksv_schema_scope.specs.declared.member.Role.TheVariants.{Parameter, Attribute, Instance}
+use Rattle.ksv_schema_scope.specs.declared.numeral.Numeral.{Numeral}
+use Rattle.ksv_schema_scope.specs.declared.numeral.Numeral.TheVariants.{Whole, LeadingZero, NoNumeral}
+use Rattle.ksv_schema_scope.specs.Numerals.{signed_number}
+use Rattle.ksv_schema_scope.specs.Keys.{has, text_at, entries_at}
+use Rattle.ksv_schema_scope.specs.Types.{Scope, keys_of, keys_of_type, outwards, from, encoding_in, encoding_of}
+use Rattle.ksv_schema_scope.specs.Members.{Member, is_within, members_within}
+use Rattle.ksv_schema_scope.specs.Enums.{Constant, whole_of}
+use Rattle.ksv_schema_scope.specs.Declarations.{Declared}
+use Rattle.ksv_schema_names.specs.Numbered.{distinct, distinct_behind, number_in}
 use Rattle.ksv_schema.specs.Faults.{Fault, fault, fault_if, bad_value, left_out}
 use Rattle.ksv_schema.specs.Keys as forms
 use Rattle.ksv_schema.specs.Keys.{Form, Key, form_in, is_ignored, type_keys, attribute_keys, positioned_keys, value_keys, meta_keys, constant_keys, is_id}
@@ -33,9 +33,9 @@ use Rattle.ksv_schema.specs.Description.{as_text, are_texts, described}
 use Rattle.ksv_schema.proofs.Texts.{both, id_is_text, as_text_is}
 use Rattle.ksv_schema.proofs.Contents.{AreEncodings}
 use Rattle.ksv_schema.proofs.Fields.{is_attribute, is_positioned, is_calculated}
-use Rattle.ksv_syntax.specs.Reading.{◌>>=◌}
+use Rattle.ksv_expr_syntax.specs.Reading.{◌>>=◌}
 use Rattle.std.specs.Prelude.{length, is_none}
-use Rattle.ksv_scope.specs.Enums.{Enumeration, id_of, number_written}
+use Rattle.ksv_schema_scope.specs.Enums.{Enumeration, id_of, number_written}
 
 -- ---- names
 

@@ -1,15 +1,15 @@
 -- What the code's values are to the definitions.
 use Rattle.std.specs.declared.alloc.Global.{Global}
 use Rattle.std.specs.Prelude.{◌≡◌, ◌≢◌, ◌≤◌, ◌+◌, ◌^◌, ◌==◌, ◌&&◌, ◌||◌, ◌++◌, not, is_none, false, take, drop, length, Vec, String, string_bytes, nat_le, if◌then◌else◌, ℤ, pos, ℕ, Bool, List, [], ◌∷◌, map, Option, Some, None, option_map, Result, Ok, Err, codes}
-use Rattle.ksv_syntax.specs.declared.fault.ExprFault.{ExprFault}
-use Rattle.ksv_syntax.specs.declared.tree.Expr.{Expr}
-use Rattle.ksv_syntax.specs.declared.tree.TypeRef.{TypeRef}
-use Rattle.ksv_syntax.specs.Tree.{view, view_type}
-use Rattle.ksv_syntax.specs.Tree as expressions
+use Rattle.ksv_expr_syntax.specs.declared.fault.ExprFault.{ExprFault}
+use Rattle.ksv_expr_tree.specs.declared.tree.Expr.{Expr}
+use Rattle.ksv_expr_tree.specs.declared.tree.TypeRef.{TypeRef}
+use Rattle.ksv_expr_tree.specs.Tree.{view, view_type}
+use Rattle.ksv_expr_tree.specs.Tree as expressions
 use Rattle.std.specs.Option.{option_map_or}
-use Rattle.ksv_yaml.specs.Tree.{Tree, Pair, entry_at}
-use Rattle.ksv_scope.specs.Types.{Scope}
-use Rattle.ksv_scope.specs.Keys.{has, says}
+use Rattle.ksv_yaml_tree.specs.Tree.{Tree, Pair, entry_at}
+use Rattle.ksv_schema_scope.specs.Types.{Scope}
+use Rattle.ksv_schema_scope.specs.Keys.{has, says}
 use Rattle.ksv_schema.specs.declared.values.TypeText as type_texts
 use Rattle.ksv_schema.specs.declared.values.TypeText.TheVariants as type_text
 use Rattle.ksv_schema.specs.declared.values.TypeKind.{TypeKind}
@@ -19,11 +19,11 @@ use Rattle.ksv_schema.specs.declared.values.Piece.TheVariants as piece
 use Rattle.ksv_schema.specs.declared.values.CaseKey as case_keys
 use Rattle.ksv_schema.specs.declared.values.CaseKey.TheVariants as case_key
 use Rattle.ksv_schema.specs.Values.{is_to_end, byte_at, type_key, TypeText, Unspelled, OfLanguage, OfDescription, is_integer, is_str, is_strz, is_of_description, Piece, Bytes, BadPiece, LeftOutPiece, names_in, CaseKey, Constant, Negative, Member, Default, NoKey}
-use Rattle.ksv_scope.specs.Declarations.{Declared, declared}
+use Rattle.ksv_schema_scope.specs.Declarations.{Declared, declared}
 use Rattle.ksv_schema.specs.declared.check.home.Home.{Home as HomeOfCode}
 use Rattle.ksv_schema.specs.Rules.{Home, against, alone_if, past}
 use Rattle.std.specs.List.Sorted.{IsPermutation, IsNonDecreasing}
-use Rattle.ksv_scope.specs.Members.{members_within}
+use Rattle.ksv_schema_scope.specs.Members.{members_within}
 use Rattle.ksv_schema.specs.declared.fault.DescFault.{DescFault}
 use Rattle.ksv_schema.specs.declared.fault.DescFaultKind.{DescFaultKind}
 use Rattle.ksv_schema.specs.declared.fault.DescFaultKind.TheVariants as kinds

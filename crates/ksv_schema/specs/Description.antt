@@ -5,25 +5,25 @@ use Rattle.std.specs.List.{list_all, position_from}
 use Rattle.std.specs.Option.{option_map_or}
 use Rattle.std.specs.Ordering.{int_eq}
 use Rattle.std.specs.Str.{bytes_eq, is_utf8}
-use Rattle.ksv_yaml.specs.Tree.{Tree, Pair, text_of, mapping_of, entry_at}
-use Rattle.ksv_syntax.specs.declared.tree.EnumMember.{EnumMember}
-use Rattle.ksv_syntax.specs.Reading.{◌>>=◌}
-use Rattle.ksv_syntax.specs.Tree.{Arguments}
-use Rattle.ksv_syntax.specs.Tree as expressions
-use Rattle.ksv_scope.specs.declared.order.ByteOrder.{ByteOrder}
-use Rattle.ksv_scope.specs.declared.order.ByteOrder.TheVariants as orders
-use Rattle.ksv_scope.specs.Keys.{entries_in, has, says, text_at, entries_at}
-use Rattle.ksv_scope.specs.Types.{Scope, type_named, order_of, encoding_of}
-use Rattle.ksv_scope.specs.declared.member.Role.{Role}
-use Rattle.ksv_scope.specs.declared.member.Role.TheVariants.{Parameter, Attribute, Instance}
-use Rattle.ksv_scope.specs.Members.{is_parameter, Member, members_within}
-use Rattle.ksv_scope.specs.Enums.{Enumeration, Constant, enum_named, number_of, id_of}
-use Rattle.ksv_scope.specs.Declarations.{Declared, declared_in}
-use Rattle.ksv_names.specs.declared.built_ins.BuiltIn.{BuiltIn}
-use Rattle.ksv_names.specs.declared.built_ins.BuiltIn.TheVariants.{Integer, Str, Strz, NotHere}
-use Rattle.ksv_names.specs.Numbered.{distinct, distinct_behind, number_in, dotted, all_dotted, given_member, numbered, all_numbered}
-use Rattle.ksv_names.specs.declared.position.Site.TheVariants as sites
-use Rattle.ksv_expr.specs.declared.encoding.Encoding.{Encoding}
+use Rattle.ksv_yaml_tree.specs.Tree.{Tree, Pair, text_of, mapping_of, entry_at}
+use Rattle.ksv_expr_tree.specs.declared.tree.EnumMember.{EnumMember}
+use Rattle.ksv_expr_syntax.specs.Reading.{◌>>=◌}
+use Rattle.ksv_expr_tree.specs.Tree.{Arguments}
+use Rattle.ksv_expr_tree.specs.Tree as expressions
+use Rattle.ksv_desc.specs.declared.order.ByteOrder.{ByteOrder}
+use Rattle.ksv_desc.specs.declared.order.ByteOrder.TheVariants as orders
+use Rattle.ksv_schema_scope.specs.Keys.{entries_in, has, says, text_at, entries_at}
+use Rattle.ksv_schema_scope.specs.Types.{Scope, type_named, order_of, encoding_of}
+use Rattle.ksv_schema_scope.specs.declared.member.Role.{Role}
+use Rattle.ksv_schema_scope.specs.declared.member.Role.TheVariants.{Parameter, Attribute, Instance}
+use Rattle.ksv_schema_scope.specs.Members.{is_parameter, Member, members_within}
+use Rattle.ksv_schema_scope.specs.Enums.{Enumeration, Constant, enum_named, number_of, id_of}
+use Rattle.ksv_schema_scope.specs.Declarations.{Declared, declared_in}
+use Rattle.ksv_schema_names.specs.declared.built_ins.BuiltIn.{BuiltIn}
+use Rattle.ksv_schema_names.specs.declared.built_ins.BuiltIn.TheVariants.{Integer, Str, Strz, NotHere}
+use Rattle.ksv_schema_names.specs.Numbered.{distinct, distinct_behind, number_in, dotted, all_dotted, given_member, numbered, all_numbered}
+use Rattle.ksv_schema_names.specs.declared.position.Site.TheVariants as sites
+use Rattle.ksv_expr_value.specs.declared.encoding.Encoding.{Encoding}
 use Rattle.ksv_schema.specs.Keys as forms
 use Rattle.ksv_schema.specs.Keys.{Form, Key, key, positioned_keys, switch_keys, form_in}
 use Rattle.ksv_schema.specs.Expressions.{expression_of}

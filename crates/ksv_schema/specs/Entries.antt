@@ -1,8 +1,8 @@
 -- An enum by what it says itself.
 use Rattle.std.specs.Prelude.{map, Option, Some}
-use Rattle.ksv_syntax.specs.Reading.{◌>>=◌}
-use Rattle.ksv_scope.specs.Keys.{entries_in}
-use Rattle.ksv_scope.specs.Enums.{Enumeration, constant}
+use Rattle.ksv_expr_syntax.specs.Reading.{◌>>=◌}
+use Rattle.ksv_schema_scope.specs.Keys.{entries_in}
+use Rattle.ksv_schema_scope.specs.Enums.{Enumeration, constant}
 use Rattle.ksv_schema.specs.Description.{Enum, as_text, each, numbered_of}
 
 unfoldable pub enum_alone : Enumeration → Option Enum

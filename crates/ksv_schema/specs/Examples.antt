@@ -6,22 +6,22 @@ use Rattle.std.specs.Option.{option_map_or}
 use Rattle.std.specs.Fmt.{digits}
 use Rattle.std.specs.Str.{is_utf8, chars}
 use lib.Utf8.{encode}
-use Rattle.ksv_scope.specs.declared.order.ByteOrder.TheVariants as orders
-use Rattle.ksv_syntax.specs.declared.tree.BinaryOperator.TheVariants as binaries
-use Rattle.ksv_syntax.specs.declared.tree.SpecialName.TheVariants as specials
-use Rattle.ksv_syntax.specs.Tree.{Word, integer, literal, named, special, member, binary, field, index, no_arguments, argument}
-use Rattle.ksv_expr.specs.declared.encoding.Encoding.TheVariants as encodings
+use Rattle.ksv_desc.specs.declared.order.ByteOrder.TheVariants as orders
+use Rattle.ksv_expr_tree.specs.declared.tree.BinaryOperator.TheVariants as binaries
+use Rattle.ksv_expr_tree.specs.declared.tree.SpecialName.TheVariants as specials
+use Rattle.ksv_expr_tree.specs.Tree.{Word, integer, literal, named, special, member, binary, field, index, no_arguments, argument}
+use Rattle.ksv_expr_value.specs.declared.encoding.Encoding.TheVariants as encodings
 use Rattle.ksv_yaml.specs.Text.{tree_of_text}
 use Rattle.ksv_schema.specs.Rules.{past}
 use Rattle.ksv_schema.specs.Faults.{Fault}
-use Rattle.ksv_syntax.specs.Reading.{read, read_list, place_on, select_on}
-use Rattle.ksv_scope.specs.Enums.{enums_at_key, enums_of_type, enums_of, constants_of, number_written, id_of, id_of_number, number_of_id, is_number_again, is_id_again, enum_in, enum_named}
-use Rattle.ksv_scope.specs.Members.{members_at_key, members_of_type, members_of, members_within, parameters_within, attributes_within, member_named}
-use Rattle.ksv_scope.specs.Numerals.{plain_number, signed_number}
-use Rattle.ksv_scope.specs.Types.{own_id, types_of, keys_of_type, type_in, nearest_type, type_named, order_in, order_of, encoding_in, encoding_of}
-use Rattle.ksv_names.specs.BuiltIn.{is_bits, listed, built_in}
-use Rattle.ksv_names.specs.Names.{special_faults, special_field_faults, enum_at, is_member, cast_faults, is_call, name_faults, least, part_faults, list_faults}
-use Rattle.ksv_names.specs.Numbered.{distinct, number_in, given_member, dotted, all_dotted, numbered, all_numbered}
+use Rattle.ksv_expr_syntax.specs.Reading.{read, read_list, place_on, select_on}
+use Rattle.ksv_schema_scope.specs.Enums.{enums_at_key, enums_of_type, enums_of, constants_of, number_written, id_of, id_of_number, number_of_id, is_number_again, is_id_again, enum_in, enum_named}
+use Rattle.ksv_schema_scope.specs.Members.{members_at_key, members_of_type, members_of, members_within, parameters_within, attributes_within, member_named}
+use Rattle.ksv_schema_scope.specs.Numerals.{plain_number, signed_number}
+use Rattle.ksv_schema_scope.specs.Types.{own_id, types_of, keys_of_type, type_in, nearest_type, type_named, order_in, order_of, encoding_in, encoding_of}
+use Rattle.ksv_schema_names.specs.BuiltIn.{is_bits, listed, built_in}
+use Rattle.ksv_schema_names.specs.Names.{special_faults, special_field_faults, enum_at, is_member, cast_faults, is_call, name_faults, least, part_faults, list_faults}
+use Rattle.ksv_schema_names.specs.Numbered.{distinct, number_in, given_member, dotted, all_dotted, numbered, all_numbered}
 use Rattle.ksv_schema.specs.Description.{Description, Field, Bytes, Fixed, Number, Characters, Object, EnumValue, Always, Switch, Sized, ByItself, Once, Times, Given, InSequence, Positioned, Calculated, expression_words, type_words, form_words, key_words, entry_words, member_words, member_names, names_of, are_texts, as_text, expression, expression_at, perhaps_expression, perhaps_enum, encoding_at, order_at, integer_content, language_content, content_of, content_at, value_of, case_value, case_of, switch_of, typed, choice_of, extent_of, terminator_of, repeat_of, field_of, positioned_of, calculated_of, kind_of, member_of, type_of, numbered_of, enum_of, described, stated_by, stated}
 use Rattle.ksv_schema.specs.Expressions.{tokens_of, expression_of, type_of as type_of_expressions}
 use Rattle.ksv_schema.specs.Faults.{fault, over_limit, is_below, noted}

@@ -1,12 +1,12 @@
 -- The expression, and the type with its arguments, that a text is, if it is one.
 use Rattle.std.specs.Prelude.{ℕ, zero, suc, Bool, false, List, [], ◌∷◌, length, Option, Some, None, option_map}
-use Rattle.ksv_syntax.specs.Tree.{Tree, TypeTree}
-use Rattle.ksv_syntax.specs.Lexemes.{Lexeme}
-use Rattle.ksv_syntax.specs.Grammar.{Whole}
-use Rattle.ksv_syntax.specs.Tokens.{skip, mark, is_dot}
-use Rattle.ksv_syntax.specs.Cutting.{cut}
-use Rattle.ksv_syntax.specs.Reading.{◌>>=◌, read, path_at}
-use Rattle.ksv_syntax.specs.Code.{type_list}
+use Rattle.ksv_expr_tree.specs.Tree.{Tree, TypeTree}
+use Rattle.ksv_expr_syntax.specs.Lexemes.{Lexeme}
+use Rattle.ksv_expr_syntax.specs.Grammar.{Whole}
+use Rattle.ksv_expr_syntax.specs.Tokens.{skip, mark, is_dot}
+use Rattle.ksv_expr_syntax.specs.Cutting.{cut}
+use Rattle.ksv_expr_syntax.specs.Reading.{◌>>=◌, read, path_at}
+use Rattle.ksv_expr_syntax.specs.Code.{type_list}
 
 -- at most n tokens of a text without white space in front, behind a dot or not
 abbrev pub tokens_to : ℕ → Bool → List ℕ → Option (List Lexeme)

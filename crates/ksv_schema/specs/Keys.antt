@@ -2,8 +2,8 @@
 use Rattle.std.specs.Prelude.{ℕ, Bool, false, nat_le, ◌&&◌, ◌||◌, ◌==◌, List, [], ◌∷◌, codes, Option, option_map}
 use Rattle.std.specs.List.{find, list_all}
 use Rattle.std.specs.Str.{bytes_eq}
-use Rattle.ksv_names.specs.declared.position.Site.{Site}
-use Rattle.ksv_names.specs.declared.position.Site.TheVariants as sites
+use Rattle.ksv_schema_names.specs.declared.position.Site.{Site}
+use Rattle.ksv_schema_names.specs.declared.position.Site.TheVariants as sites
 
 -- what stands at a key
 pub data Form : Type 0 where

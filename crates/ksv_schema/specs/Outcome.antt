@@ -1,6 +1,6 @@
 -- What a tree is to the loader: a description, or the least of its faults.
 use Rattle.std.specs.Prelude.{◌≡◌, [], Some}
-use Rattle.ksv_yaml.specs.Tree.{Tree}
+use Rattle.ksv_yaml_tree.specs.Tree.{Tree}
 use Rattle.ksv_schema.specs.Faults.{Fault, IsLeast}
 use Rattle.ksv_schema.specs.Rules.{faults}
 use Rattle.ksv_schema.specs.Description.{Description, stated}

@@ -5,27 +5,27 @@ use Rattle.std.specs.Prelude.{ℕ, ◌+◌, Bool, true, false, not, if◌then◌
 use Rattle.std.specs.List.{list_any}
 use Rattle.std.specs.Option.{option_map_or}
 use Rattle.std.specs.Str.{bytes_eq}
-use Rattle.ksv_yaml.specs.Tree.{Tree, Text, Seq, Map, Pair, pairs, trees, line_of, text_of, mapping_of, list_of, entry_at}
-use Rattle.ksv_syntax.specs.Tree.{Arguments}
-use Rattle.ksv_syntax.specs.Tree as expressions
-use Rattle.ksv_scope.specs.Keys.{entries_in, has, says, text_at}
-use Rattle.ksv_scope.specs.declared.numeral.Numeral.{Numeral}
-use Rattle.ksv_scope.specs.declared.numeral.Numeral.TheVariants.{Whole, LeadingZero, NoNumeral}
-use Rattle.ksv_scope.specs.Numerals.{signed_number}
-use Rattle.ksv_scope.specs.Types.{Scope, type_named, order_of, encoding_of}
-use Rattle.ksv_scope.specs.declared.member.Role.{Role}
-use Rattle.ksv_scope.specs.declared.member.Role.TheVariants.{Parameter, Attribute, Instance}
-use Rattle.ksv_scope.specs.Members.{Member, members_within, parameters_within, member_named}
-use Rattle.ksv_scope.specs.Enums.{Enumeration, Constant, enum_named, is_number_again, is_id_again}
-use Rattle.ksv_scope.specs.Declarations.{Declared, declared_in}
-use Rattle.ksv_names.specs.declared.position.Site.{Site}
-use Rattle.ksv_names.specs.declared.position.Site.TheVariants as sites
-use Rattle.ksv_names.specs.declared.position.Position.{Position}
-use Rattle.ksv_names.specs.declared.position.NameFault.{NameFault}
-use Rattle.ksv_names.specs.declared.position.NameFault.TheVariants.{Unknown, LeftOut}
-use Rattle.ksv_names.specs.declared.built_ins.BuiltIn.{BuiltIn}
-use Rattle.ksv_names.specs.declared.built_ins.BuiltIn.TheVariants.{Integer, Str, Strz, NotHere}
-use Rattle.ksv_names.specs.Names.{name_faults, list_faults, count}
+use Rattle.ksv_yaml_tree.specs.Tree.{Tree, Text, Seq, Map, Pair, pairs, trees, line_of, text_of, mapping_of, list_of, entry_at}
+use Rattle.ksv_expr_tree.specs.Tree.{Arguments}
+use Rattle.ksv_expr_tree.specs.Tree as expressions
+use Rattle.ksv_schema_scope.specs.Keys.{entries_in, has, says, text_at}
+use Rattle.ksv_schema_scope.specs.declared.numeral.Numeral.{Numeral}
+use Rattle.ksv_schema_scope.specs.declared.numeral.Numeral.TheVariants.{Whole, LeadingZero, NoNumeral}
+use Rattle.ksv_schema_scope.specs.Numerals.{signed_number}
+use Rattle.ksv_schema_scope.specs.Types.{Scope, type_named, order_of, encoding_of}
+use Rattle.ksv_schema_scope.specs.declared.member.Role.{Role}
+use Rattle.ksv_schema_scope.specs.declared.member.Role.TheVariants.{Parameter, Attribute, Instance}
+use Rattle.ksv_schema_scope.specs.Members.{Member, members_within, parameters_within, member_named}
+use Rattle.ksv_schema_scope.specs.Enums.{Enumeration, Constant, enum_named, is_number_again, is_id_again}
+use Rattle.ksv_schema_scope.specs.Declarations.{Declared, declared_in}
+use Rattle.ksv_schema_names.specs.declared.position.Site.{Site}
+use Rattle.ksv_schema_names.specs.declared.position.Site.TheVariants as sites
+use Rattle.ksv_schema_names.specs.declared.position.Position.{Position}
+use Rattle.ksv_schema_names.specs.declared.position.NameFault.{NameFault}
+use Rattle.ksv_schema_names.specs.declared.position.NameFault.TheVariants.{Unknown, LeftOut}
+use Rattle.ksv_schema_names.specs.declared.built_ins.BuiltIn.{BuiltIn}
+use Rattle.ksv_schema_names.specs.declared.built_ins.BuiltIn.TheVariants.{Integer, Str, Strz, NotHere}
+use Rattle.ksv_schema_names.specs.Names.{name_faults, list_faults, count}
 use Rattle.ksv_schema.specs.Faults.{Fault, fault, fault_if, unknown_key, missing_key, keys_against, unknown_name, no_byte_order, bad_value, wrong_count, left_out, over_limit, no_expression}
 use Rattle.ksv_schema.specs.Keys as forms
 use Rattle.ksv_schema.specs.Keys.{Form, Key, type_keys, meta_keys, parameter_keys, attribute_keys, positioned_keys, value_keys, switch_keys, constant_keys, form_in, is_ignored, is_id}

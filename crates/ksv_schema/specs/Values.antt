@@ -2,20 +2,20 @@
 use Rattle.std.specs.Prelude.{ℕ, ◌^◌, Bool, true, false, not, nat_le, ◌==◌, ◌&&◌, ◌||◌, if◌then◌else◌, nat_abs, List, [], ◌∷◌, ◌++◌, drop, codes, slice_index, Option, Some, None, option_map, option_and_then}
 use Rattle.std.specs.List.{list_all}
 use Rattle.std.specs.Option.{option_map_or}
-use Rattle.ksv_yaml.specs.Tree.{Tree, Text, Seq, Map, Pair, trees, text_of, entry_at}
-use Rattle.ksv_syntax.specs.declared.tree.UnaryOperator.TheVariants as unaries
-use Rattle.ksv_syntax.specs.declared.tree.SpecialName.TheVariants as specials
-use Rattle.ksv_syntax.specs.Tree.{TypePath, Arguments, TypeTree}
-use Rattle.ksv_syntax.specs.Tree as expressions
-use Rattle.ksv_scope.specs.Keys.{text_at, entries_at, says}
-use Rattle.ksv_scope.specs.declared.numeral.Numeral.{Numeral}
-use Rattle.ksv_scope.specs.declared.numeral.Numeral.TheVariants.{Whole, LeadingZero, NoNumeral}
-use Rattle.ksv_scope.specs.Numerals.{is_numeral, plain_number}
-use Rattle.ksv_names.specs.declared.built_ins.BuiltIn.{BuiltIn}
-use Rattle.ksv_names.specs.declared.built_ins.BuiltIn.TheVariants.{Integer, Str, Strz}
-use Rattle.ksv_names.specs.BuiltIn.{built_in_at}
-use Rattle.ksv_expr.specs.declared.encoding.Encoding.{Encoding}
-use Rattle.ksv_expr.specs.Encodings as encodings
+use Rattle.ksv_yaml_tree.specs.Tree.{Tree, Text, Seq, Map, Pair, trees, text_of, entry_at}
+use Rattle.ksv_expr_tree.specs.declared.tree.UnaryOperator.TheVariants as unaries
+use Rattle.ksv_expr_tree.specs.declared.tree.SpecialName.TheVariants as specials
+use Rattle.ksv_expr_tree.specs.Tree.{TypePath, Arguments, TypeTree}
+use Rattle.ksv_expr_tree.specs.Tree as expressions
+use Rattle.ksv_schema_scope.specs.Keys.{text_at, entries_at, says}
+use Rattle.ksv_schema_scope.specs.declared.numeral.Numeral.{Numeral}
+use Rattle.ksv_schema_scope.specs.declared.numeral.Numeral.TheVariants.{Whole, LeadingZero, NoNumeral}
+use Rattle.ksv_schema_scope.specs.Numerals.{is_numeral, plain_number}
+use Rattle.ksv_schema_names.specs.declared.built_ins.BuiltIn.{BuiltIn}
+use Rattle.ksv_schema_names.specs.declared.built_ins.BuiltIn.TheVariants.{Integer, Str, Strz}
+use Rattle.ksv_schema_names.specs.BuiltIn.{built_in_at}
+use Rattle.ksv_expr_value.specs.declared.encoding.Encoding.{Encoding}
+use Rattle.ksv_expr_value.specs.Encodings as encodings
 use Rattle.ksv_schema.specs.Expressions.{type_of}
 use Rattle.ksv_schema.specs.Keys.{is_id}
 

@@ -1,9 +1,9 @@
 //! The description that a tree states, piece by piece as its definition has them.
 
 ghost use Rattle.std.specs.Prelude.{◌≡◌, IfOk, option_map};
-ghost use Rattle.ksv_scope.specs.Declarations.{declared};
+ghost use Rattle.ksv_schema_scope.specs.Declarations.{declared};
 ghost use Rattle.ksv_schema.specs.Description.{described, stated_by};
-ghost use Rattle.ksv_schema.specs.Whole.{plain_pieces};
+ghost use Rattle.ksv_desc.specs.Whole.{plain_pieces};
 
 mod choice;
 mod content;
@@ -20,9 +20,9 @@ mod types;
 use crate::build::enums::enums_of;
 use crate::build::names::{add_dotted, add_members};
 use crate::build::types::types_of;
-use crate::desc::Pieces;
-use ksv_names::Names;
-use ksv_scope::Scopes;
+use ksv_desc::Pieces;
+use ksv_schema_names::Names;
+use ksv_schema_scope::Scopes;
 use std::alloc::{AllocError, Global};
 
 /// The description with these names, of which the first are those of members.
@@ -50,7 +50,7 @@ fn described(
 }
 
 /// The description that a tree states.
-#[tactic(auto, unfolding(crate::specs::Description::stated_by, crate::specs::Description::names_of, crate::specs::Description::member_names, ksv_names::specs::Numbered::distinct))]
+#[tactic(auto, unfolding(crate::specs::Description::stated_by, crate::specs::Description::names_of, crate::specs::Description::member_names, ksv_schema_names::specs::Numbered::distinct))]
 pub(crate) fn build(alloc: Global, scopes: &Scopes) -> Result<Option<Pieces>, AllocError>
     ensures { IfOk result (λ o. option_map plain_pieces o ≡ stated_by (declared scopes.now)) }
 {

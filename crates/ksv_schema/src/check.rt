@@ -13,9 +13,9 @@ mod scope;
 mod together;
 
 ghost use Rattle.std.specs.Prelude.{◌≡◌, OnOk, IfOk, None, map, flat_map};
-ghost use Rattle.ksv_scope.specs.Declarations.{declared};
-ghost use Rattle.ksv_scope.specs.EnumRows.{enumeration_of};
-ghost use Rattle.ksv_scope.specs.MemberRows.{member_of};
+ghost use Rattle.ksv_schema_scope.specs.Declarations.{declared};
+ghost use Rattle.ksv_schema_scope.specs.EnumRows.{enumeration_of};
+ghost use Rattle.ksv_schema_scope.specs.MemberRows.{member_of};
 ghost use Rattle.ksv_schema.specs.Faults.{noted};
 ghost use Rattle.ksv_schema.specs.Rules.{each_from, member_faults, enumeration_faults, faults_of};
 ghost use Rattle.ksv_schema.specs.Code.{seen_fault};
@@ -25,7 +25,7 @@ use crate::check::limit::note_limits;
 use crate::check::member::note_member;
 use crate::check::scope::note_types;
 use crate::fault::DescFault;
-use ksv_scope::{Enumeration, Member, Scopes};
+use ksv_schema_scope::{Enumeration, Member, Scopes};
 use std::alloc::{AllocError, Global};
 
 /// Notes the faults of each of all members.

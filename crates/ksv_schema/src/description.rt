@@ -1,18 +1,18 @@
 //! A description from a tree.
 
 ghost use Rattle.std.specs.Prelude.{◌≡◌, ◌≢◌, IfOk, IfErr};
-ghost use Rattle.ksv_yaml.specs.View.{view};
+ghost use Rattle.ksv_yaml_tree.specs.View.{view};
 ghost use Rattle.ksv_schema.specs.Code.{plain};
 ghost use Rattle.ksv_schema.specs.Outcome.{States, Refuses};
-ghost use Rattle.ksv_schema.specs.Whole.{plain_pieces};
+ghost use Rattle.ksv_desc.specs.Whole.{plain_pieces};
 ghost use Rattle.ksv_schema.specs.declared.fault.DescFaultKind.TheVariants.{NoMemory};
 
 use crate::build::build;
 use crate::check::least_fault;
 use crate::fault::{DescFault, DescFaultKind};
-use crate::stated::Desc;
-use ksv_scope::Scopes;
-use ksv_yaml::Yaml;
+use ksv_desc::Desc;
+use ksv_schema_scope::Scopes;
+use ksv_yaml_tree::Yaml;
 use std::alloc::{AllocError, Global};
 
 /// The description that a tree states; of a tree that states none, the least fault by line, and on one line the one of the lowest code.

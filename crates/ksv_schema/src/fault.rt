@@ -4,7 +4,7 @@ ghost use Rattle.std.specs.Prelude.{◌≡◌};
 ghost use Rattle.ksv_schema.specs.Faults.{is_below, noted, fault, fault_if};
 ghost use Rattle.ksv_schema.specs.Code.{number_of, code_of, plain, seen_fault};
 
-use ksv_syntax::ExprFault;
+use ksv_expr_syntax::ExprFault;
 use thiserror::Error;
 
 /// What is wrong with a description.

@@ -5,7 +5,7 @@ ghost use Rattle.std.specs.List.{list_all};
 ghost use Rattle.ksv_schema.specs.Keys.{type_keys, meta_keys, parameter_keys, field_keys, attribute_keys, positioned_keys, value_keys, switch_keys, constant_keys, form_in, is_ignored, is_letter, is_id_byte, is_id};
 ghost use Rattle.ksv_schema.specs.Code.{seen_form, keys_of};
 
-use ksv_names::Site;
+use ksv_schema_names::Site;
 
 /// What stands at a key.
 #[derive(Clone, Copy, PartialEq, Eq, Debug)]

@@ -17,15 +17,15 @@ mod stated;
 mod values;
 
 ghost use Rattle.std.specs.Prelude.{◌≡◌, ◌≢◌, ℕ, List, [], Some};
-ghost use Rattle.ksv_yaml.specs.Tree.{Tree as Yaml};
-ghost use Rattle.ksv_syntax.specs.Tree.{Tree, TypeTree};
-ghost use Rattle.ksv_syntax.specs.Text.{SpellsText, SpellsTypeText};
+ghost use Rattle.ksv_yaml_tree.specs.Tree.{Tree as Yaml};
+ghost use Rattle.ksv_expr_tree.specs.Tree.{Tree, TypeTree};
+ghost use Rattle.ksv_expr_syntax.specs.Text.{SpellsText, SpellsTypeText};
 ghost use Rattle.ksv_schema.specs.Expressions.{expression_of, type_of};
 ghost use Rattle.ksv_schema.specs.Faults.{Fault};
 ghost use Rattle.ksv_schema.specs.Rules.{faults};
 ghost use Rattle.ksv_schema.specs.Description.{Description};
 ghost use Rattle.ksv_schema.specs.Outcome.{States, Refuses};
-ghost use Rattle.ksv_schema.specs.Resolved.{IsResolved};
+ghost use Rattle.ksv_desc.specs.Resolved.{IsResolved};
 
 pub use description::load;
 pub use fault::{DescFault, DescFaultKind};

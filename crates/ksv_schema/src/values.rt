@@ -1,22 +1,22 @@
 //! What the values of a description's keys say.
 
 ghost use Rattle.std.specs.Prelude.{◌≡◌, ◌≤◌, nat_abs, IfOk, map, slice_index, drop, ◌==◌, ◌&&◌};
-ghost use Rattle.ksv_yaml.specs.View.{view, pair, seen_entry, seen_text};
+ghost use Rattle.ksv_yaml_tree.specs.View.{view, pair, seen_entry, seen_text};
 ghost use Rattle.std.specs.List.{list_all};
-ghost use Rattle.ksv_syntax.specs.Tree.{view as view_expression, view_type, literal_of, special, unary};
-ghost use Rattle.ksv_scope.specs.Numerals.{is_digit, is_numeral};
+ghost use Rattle.ksv_expr_tree.specs.Tree.{view as view_expression, view_type, literal_of, special, unary};
+ghost use Rattle.ksv_schema_scope.specs.Numerals.{is_digit, is_numeral};
 ghost use Rattle.ksv_schema.specs.Values.{encoding_named, of_name, type_text, is_integer, is_str, is_strz, is_of_description, is_type, type_key, cases_of, byte_number, byte_at, looks_like_number, number_piece, piece_of, case_key, is_to_end, is_repeated};
 ghost use Rattle.ksv_schema.specs.Code.{seen_type_text, kind_test, IsUpTo, seen_piece, seen_case_key, negative_constant, negative_key};
-ghost use Rattle.ksv_names.specs.BuiltIn.{built_in_at};
+ghost use Rattle.ksv_schema_names.specs.BuiltIn.{built_in_at};
 
 use crate::read::read_type;
 use ksv_expr::Encoding;
-use ksv_names::{BuiltIn, built_in_at};
-use ksv_scope::keys::{entries_at, says, text_at};
-use ksv_scope::{Numeral, plain_number};
-use ksv_syntax::ExprFault;
-use ksv_syntax::tree::{Expr, Literal, Member, SpecialName, TypeName, TypeRef, UnaryOperator};
-use ksv_yaml::{Entry, Yaml, find};
+use ksv_schema_names::{BuiltIn, built_in_at};
+use ksv_schema_scope::keys::{entries_at, says, text_at};
+use ksv_schema_scope::{Numeral, plain_number};
+use ksv_expr_syntax::ExprFault;
+use ksv_expr_tree::{Expr, Literal, Member, SpecialName, TypeName, TypeRef, UnaryOperator};
+use ksv_yaml_tree::{Entry, Yaml, find};
 use std::alloc::{AllocError, Global};
 
 /// The most that may stand behind `-` in a key of `cases`.

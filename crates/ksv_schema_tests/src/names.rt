@@ -1,13 +1,13 @@
 //! Expressions in a small description, with what is wrong with their names and with the numbers that these are given.
 
-use ksv_names::{
+use ksv_schema_names::{
     BuiltIn, NameFault, Names, Position, Site, argument_fault, built_in, built_in_at,
     faultless_is_resolved, given_member, least_is_told, name_fault, names_are_tabled,
     number_arguments, number_expr, number_type,
 };
-use ksv_scope::{ByteOrder, Scopes};
-use ksv_syntax::tree::Expr;
-use ksv_syntax::{parse, parse_type};
+use ksv_schema_scope::{ByteOrder, Scopes};
+use ksv_expr_tree::Expr;
+use ksv_expr_syntax::{parse, parse_type};
 use std::alloc::{AllocError, Global};
 use std::test::Fail;
 

@@ -1,7 +1,7 @@
 //! A description's types, members and enums, and names looked for in it.
 
-use ksv_scope::keys::{entries_at, entries_in, has, items_at, items_in, says, text_at};
-use ksv_scope::{
+use ksv_schema_scope::keys::{entries_at, entries_in, has, items_at, items_in, says, text_at};
+use ksv_schema_scope::{
     ByteOrder, Numeral, Role, Scopes, id_of, number_written, order_named, plain_number,
     signed_number,
 };

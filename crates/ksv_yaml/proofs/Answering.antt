@@ -6,10 +6,10 @@ use Rattle.std.specs.HashSet.{HashSet}
 use Rattle.std.specs.declared.alloc.Global.{Global}
 use Rattle.std.specs.Borrow.{Bor}
 use Rattle.ksv_yaml.specs.declared.fault.ReadFault.{ReadFault}
-use Rattle.ksv_yaml.specs.declared.tree.Yaml.{Yaml}
-use Rattle.ksv_yaml.specs.declared.tree.Entry.{Entry}
-use Rattle.ksv_yaml.specs.Tree.{Tree, Pair}
-use Rattle.ksv_yaml.specs.View.{view, pair}
+use Rattle.ksv_yaml_tree.specs.declared.tree.Yaml.{Yaml}
+use Rattle.ksv_yaml_tree.specs.declared.tree.Entry.{Entry}
+use Rattle.ksv_yaml_tree.specs.Tree.{Tree, Pair}
+use Rattle.ksv_yaml_tree.specs.View.{view, pair}
 use Rattle.ksv_yaml.specs.Reading.{is_among}
 use Rattle.ksv_yaml.specs.Outcome.{keys_of, Fails, Gives}
 use Rattle.ksv_yaml.specs.Keys.{HoldsKeys}

@@ -4,9 +4,9 @@ use Rattle.std.specs.Prelude.{◌==◌, ◌&&◌, nat_lt}
 use Rattle.std.specs.Borrow.{Bor}
 use Rattle.std.proofs.lemmas.Bool.{eq-eqb, lt-ltb}
 use Rattle.ksv_yaml.specs.declared.fault.ReadFault.{ReadFault}
-use Rattle.ksv_yaml.specs.declared.tree.Yaml.{Yaml}
-use Rattle.ksv_yaml.specs.Tree.{Tree, Text, Seq, Map, Items, no_items, item, Entries, no_entries, entry, Pair}
-use Rattle.ksv_yaml.specs.View.{items_of, entries_of, view}
+use Rattle.ksv_yaml_tree.specs.declared.tree.Yaml.{Yaml}
+use Rattle.ksv_yaml_tree.specs.Tree.{Tree, Text, Seq, Map, Items, no_items, item, Entries, no_entries, entry, Pair}
+use Rattle.ksv_yaml_tree.specs.View.{items_of, entries_of, view}
 use Rattle.ksv_yaml.specs.Grammar.{at_column, from_here}
 use Rattle.ksv_yaml.specs.Reading.{deeper, is_among, inlined, unless_level, value_here, node, node_by, entries, entries_by, more_entries, value, value_below, items, items_by, more_items, item_at, item_below, weight}
 use Rattle.ksv_yaml.specs.Outcome.{keys_of, GivesInline, GivesHere, NodeIs, EntriesIs, ValueIs, ItemsIs, ItemIs}

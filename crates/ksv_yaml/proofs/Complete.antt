@@ -2,7 +2,7 @@
 use Rattle.std.proofs.Common.{◌≡◌, ℕ, zero, suc, ◌+◌, ◌*◌, ◌≤◌, ◌<◌, Bool, true, false, List, [], ◌∷◌, ◌++◌, length, Option, Some, refl, sym, ap, subst, ◌∙◌, append_assoc, arith, ◌⊎◌, inl, inr}
 use Rattle.std.specs.Prelude.{◌==◌, ◌&&◌, nat_lt}
 use Rattle.std.proofs.lemmas.Bool.{eq-eqb, lt-ltb}
-use Rattle.ksv_yaml.specs.Tree.{Tree, Text, Seq, Map, Items, no_items, item, Entries, no_entries, entry, AreDistinct}
+use Rattle.ksv_yaml_tree.specs.Tree.{Tree, Text, Seq, Map, Items, no_items, item, Entries, no_entries, entry, AreDistinct}
 use Rattle.ksv_yaml.specs.Grammar.{AreQuiet, Inlined, at_column, from_here, Node, map, seq, inline, Mapping, last, more, Value, empty, below, level, here, Sequence, only, then, Item, none, under, compact, tabbed}
 use Rattle.ksv_yaml.specs.Reading.{is_among, node, node_by, entries, entries_by, more_entries, value, value_below, value_here, items, items_by, more_items, item_at, item_below, weight, unless_level}
 use Rattle.ksv_yaml_scan.specs.Got.{Got, got, ◌>>=◌}

@@ -2,8 +2,8 @@
 use Rattle.std.proofs.Common.{◌≡◌, ℕ, Bool, true, false, cond, List, [], ◌∷◌, ◌++◌, refl, sym, ap, subst, ◌∙◌, ◌⊎◌, inl, inr}
 use Rattle.std.specs.Str.{bytes_eq}
 use Rattle.std.proofs.lemmas.Slice.Eq.{bytes_eq-Decides}
-use Rattle.ksv_yaml.specs.Tree.{Entries, no_entries, entry}
-use Rattle.ksv_yaml.specs.Tree.{IsApart, AreDistinct}
+use Rattle.ksv_yaml_tree.specs.Tree.{Entries, no_entries, entry}
+use Rattle.ksv_yaml_tree.specs.Tree.{IsApart, AreDistinct}
 use Rattle.ksv_yaml.specs.Reading.{is_among}
 
 same_is : (k j : List ℕ) → bytes_eq k j ≡ true → j ≡ k

@@ -1,6 +1,6 @@
 -- What is read of a flow node is spelled so.
 use Rattle.std.proofs.Common.{◌≡◌, ℕ, zero, suc, List, [], ◌∷◌, ◌++◌, Some, refl, sym, ap, subst, ◌∙◌, append_assoc, ◌⊎◌, inl, inr}
-use Rattle.ksv_yaml.specs.Tree.{Tree, Text, Seq, Map, Items, no_items, item, Entries, no_entries, entry}
+use Rattle.ksv_yaml_tree.specs.Tree.{Tree, Text, Seq, Map, Items, no_items, item, Entries, no_entries, entry}
 use Rattle.ksv_yaml.specs.Reading.{is_among, flow, flow_items, flow_more, flow_entries, flow_others}
 use Rattle.ksv_yaml_scan.specs.Got.{Got, got, ◌>>=◌}
 use Rattle.ksv_yaml_scan.specs.Tokens.{Token, Open, Close, OpenMap, CloseMap, Comma, Scalar, Key}

@@ -3,7 +3,7 @@ use Rattle.std.proofs.Common.{◌≡◌, ℕ, Bool, true, false, cond, List, [],
 use Rattle.std.specs.Prelude.{nat_le}
 use Rattle.std.proofs.lemmas.List.{append-nil}
 use Rattle.std.proofs.lemmas.Bool.{leb-true}
-use Rattle.ksv_yaml.specs.Tree.{Tree, Text}
+use Rattle.ksv_yaml_tree.specs.Tree.{Tree, Text}
 use Rattle.ksv_yaml.specs.Grammar.{AreInner, Leaves, AreWithin, GoesOn, ends, goes, Inlined, plain, quoted, block, flow}
 use Rattle.ksv_yaml.specs.Reading.{all_of, flow_in, inlined}
 use Rattle.ksv_yaml_scan.specs.Blocks.{block_text, is_inner}

@@ -1,7 +1,7 @@
 -- Items and entries that are pushed one by one.
 use Rattle.std.proofs.Common.{◌≡◌, ℕ, zero, suc, ◌-◌, List, [], ◌∷◌, ◌++◌, Option, Some, None, ◌≢◌, refl, sym, ap, ◌∙◌, arith}
-use Rattle.ksv_yaml.specs.Tree.{Tree, Items, no_items, item, Entries, no_entries, entry, Pair}
-use Rattle.ksv_yaml.specs.View.{items_of, entries_of}
+use Rattle.ksv_yaml_tree.specs.Tree.{Tree, Items, no_items, item, Entries, no_entries, entry, Pair}
+use Rattle.ksv_yaml_tree.specs.View.{items_of, entries_of}
 use Rattle.ksv_yaml.specs.Reading.{deeper}
 use Rattle.ksv_yaml.specs.Outcome.{keys_of}
 use Rattle.ksv_yaml_scan.specs.Got.{Got, got, ◌>>=◌}

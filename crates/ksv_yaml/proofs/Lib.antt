@@ -8,7 +8,6 @@ pub mod Sound
 pub mod Complete
 pub mod Theorem
 pub mod TextTheorem
-pub mod Views
 pub mod Joins
 pub mod FlowLoops
 pub mod Answering

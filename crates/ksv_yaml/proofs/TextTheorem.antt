@@ -1,6 +1,6 @@
 -- The theorem about texts.
 use Rattle.std.proofs.Common.{◌≡◌, ℕ, ◌≤◌, List, length, inl, inr, Some, None, ◌∙◌}
-use Rattle.ksv_yaml.specs.Tree.{Tree}
+use Rattle.ksv_yaml_tree.specs.Tree.{Tree}
 use Rattle.ksv_yaml.specs.Reading.{tree_of}
 use Rattle.ksv_yaml.specs.Text.{Spells, tree_of_text}
 use Rattle.ksv_yaml_scan.specs.Text.{is_allowed, lines_of}

@@ -4,7 +4,7 @@ use Rattle.std.proofs.lemmas.List.{append-nil}
 use Rattle.std.specs.Prelude.{◌==◌, codes}
 use Rattle.std.specs.Str.{bytes_eq}
 use Rattle.std.proofs.lemmas.Slice.Eq.{bytes_eq-Decides}
-use Rattle.ksv_yaml.specs.Tree.{Tree}
+use Rattle.ksv_yaml_tree.specs.Tree.{Tree}
 use Rattle.ksv_yaml.specs.Grammar.{AreQuiet, is_mark, Node, Spelled, bare, marked}
 use Rattle.ksv_yaml.specs.Reading.{node, weight, whole, body, behind_mark, tree_of}
 use Rattle.ksv_yaml_scan.specs.Got.{Got, ◌>>=◌}

@@ -2,7 +2,7 @@
 use Rattle.std.proofs.Common.{◌≡◌, ℕ, suc, ◌<◌, ◌≤◌, Bool, true, false, List, [], ◌∷◌, length, max, Option, Some, None, is_none, refl, sym, ap, subst, ◌∙◌, arith}
 use Rattle.ksv_yaml.specs.declared.fault.YamlKind.{YamlKind}
 use Rattle.ksv_yaml.specs.declared.fault.YamlKind.TheVariants.{NotUtf8, TooLong, Tab, Indentation, KeyTwice, LeftOut, NotClosed, ValueForKey, TooDeep, NoMemory}
-use Rattle.ksv_yaml.specs.Tree.{Tree}
+use Rattle.ksv_yaml_tree.specs.Tree.{Tree}
 use Rattle.ksv_yaml.specs.Faults.{names_memory, IsOfLines, IsUnspelled, Refuses}
 use Rattle.ksv_yaml.specs.Reading.{tree_of}
 use Rattle.ksv_yaml.specs.Text.{Spells}

@@ -5,9 +5,9 @@ use Rattle.ksv_yaml.specs.declared.fault.YamlKind.TheVariants.{NotUtf8, TooLong,
 use Rattle.ksv_yaml.specs.declared.fault.YamlFault.{YamlFault}
 use Rattle.ksv_yaml.specs.declared.fault.ReadKind.{ReadKind}
 use Rattle.ksv_yaml.specs.declared.fault.ReadKind.TheVariants as read
-use Rattle.ksv_yaml.specs.declared.tree.Yaml.{Yaml}
-use Rattle.ksv_yaml.specs.Tree.{Tree}
-use Rattle.ksv_yaml.specs.View.{view}
+use Rattle.ksv_yaml_tree.specs.declared.tree.Yaml.{Yaml}
+use Rattle.ksv_yaml_tree.specs.Tree.{Tree}
+use Rattle.ksv_yaml_tree.specs.View.{view}
 use Rattle.ksv_yaml.specs.Text.{Spells}
 use Rattle.ksv_yaml_scan.specs.declared.fault.LineError.{LineError}
 use Rattle.ksv_yaml_scan.specs.declared.fault.LineError.TheVariants as on_line

@@ -4,7 +4,7 @@
 -- A list of lines is split in two by an equation (ls ≡ xs ++ ys): the relation says that there is such a split, and not how it is found.
 use Rattle.std.specs.Prelude.{◌≡◌, ℕ, suc, ◌+◌, ◌≤◌, ◌++◌, Bool, true, false, List, [], ◌∷◌, Some, ◌&&◌, ◌==◌, codes}
 use Rattle.std.specs.Str.{bytes_eq}
-use Rattle.ksv_yaml.specs.Tree.{Tree, Text, Seq, Map, Items, no_items, item, Entries, no_entries, entry, AreDistinct}
+use Rattle.ksv_yaml_tree.specs.Tree.{Tree, Text, Seq, Map, Items, no_items, item, Entries, no_entries, entry, AreDistinct}
 use Rattle.ksv_yaml_scan.specs.Blocks.{is_inner, block_text}
 use Rattle.ksv_yaml_scan.specs.Lines.{Line, is_quiet, is_within}
 use Rattle.ksv_yaml_scan.specs.Plain.{more_of}

@@ -1,5 +1,3 @@
-pub mod Tree
-pub mod View
 pub mod Flow
 pub mod Grammar
 pub mod Reading

@@ -3,10 +3,10 @@ use Rattle.std.specs.Prelude.{◌≡◌, ℕ, ◌+◌, ◌*◌, ◌≤◌, Bool,
 use Rattle.std.specs.Borrow.{Bor}
 use Rattle.std.specs.declared.alloc.Global.{Global}
 use Rattle.ksv_yaml.specs.declared.fault.ReadFault.{ReadFault}
-use Rattle.ksv_yaml.specs.declared.tree.Yaml.{Yaml}
-use Rattle.ksv_yaml.specs.declared.tree.Entry.{Entry}
-use Rattle.ksv_yaml.specs.Tree.{Tree, Items, Entries, Pair}
-use Rattle.ksv_yaml.specs.View.{items_of, entries_of, view, pair}
+use Rattle.ksv_yaml_tree.specs.declared.tree.Yaml.{Yaml}
+use Rattle.ksv_yaml_tree.specs.declared.tree.Entry.{Entry}
+use Rattle.ksv_yaml_tree.specs.Tree.{Tree, Items, Entries, Pair}
+use Rattle.ksv_yaml_tree.specs.View.{items_of, entries_of, view, pair}
 use Rattle.ksv_yaml.specs.Faults.{wants_memory}
 use Rattle.ksv_yaml.specs.Reading.{flow, flow_items, flow_entries, inlined, value_here, node, entries, value, items, item_at, weight}
 use Rattle.ksv_yaml_scan.specs.declared.line.Line.{Line as CodeLine}

@@ -2,7 +2,7 @@
 -- None is a refusal. Where several lines could show it, it is found at the earliest, so that a reader by this function can name that line.
 use Rattle.std.specs.Prelude.{ℕ, zero, suc, ◌+◌, ◌*◌, ◌++◌, Bool, true, false, ◌&&◌, List, [], ◌∷◌, length, Option, Some, None, nat_lt, ◌==◌, if◌then◌else◌}
 use Rattle.std.specs.Str.{bytes_eq}
-use Rattle.ksv_yaml.specs.Tree.{Tree, Text, Seq, Map, Items, no_items, item, Entries, no_entries, entry}
+use Rattle.ksv_yaml_tree.specs.Tree.{Tree, Text, Seq, Map, Items, no_items, item, Entries, no_entries, entry}
 use Rattle.ksv_yaml.specs.Grammar.{at_column, from_here, is_mark}
 use Rattle.ksv_yaml_scan.specs.Blocks.{block_text, is_inner}
 use Rattle.ksv_yaml_scan.specs.Got.{Got, got, ◌>>=◌}

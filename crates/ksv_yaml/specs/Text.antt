@@ -1,6 +1,6 @@
 -- The tree that a text spells (the sections are those of YAML 1.2).
 use Rattle.std.specs.Prelude.{◌≡◌, ℕ, ◌≤◌, true, List, length, Option, None, if◌then◌else◌, IsUtf8}
-use Rattle.ksv_yaml.specs.Tree.{Tree}
+use Rattle.ksv_yaml_tree.specs.Tree.{Tree}
 use Rattle.ksv_yaml.specs.Grammar.{Spelled}
 use Rattle.ksv_yaml.specs.Reading.{tree_of}
 use Rattle.ksv_yaml_scan.specs.Text.{lines_of, is_allowed}

@@ -1,8 +1,8 @@
 //! Reads whole texts.
 
 ghost use Rattle.std.specs.Prelude.{◌≡◌, ◌<◌, ◌≤◌, ℕ, List, max, length, true, false, Some, None, IfOk, IfErr};
-ghost use Rattle.ksv_yaml.specs.Tree.{Tree};
-ghost use Rattle.ksv_yaml.specs.View.{view};
+ghost use Rattle.ksv_yaml_tree.specs.Tree.{Tree};
+ghost use Rattle.ksv_yaml_tree.specs.View.{view};
 ghost use Rattle.ksv_yaml.specs.Faults.{wants_memory, names_memory, IsOfLines, Refuses, IsTreeOrNoMemory};
 ghost use Rattle.ksv_yaml.specs.Grammar.{is_mark as is_mark_line};
 ghost use Rattle.ksv_yaml.specs.Reading.{behind_mark, tree_of};
@@ -13,7 +13,7 @@ ghost use Rattle.ksv_yaml_scan.specs.Views.{line_view, lines_view, RefusesText};
 use crate::block::misplaced;
 use crate::fault::{ReadFault, ReadKind, YamlFault, YamlKind, published};
 use crate::reader::{next, node};
-use crate::tree::Yaml;
+use ksv_yaml_tree::Yaml;
 use ksv_yaml_scan::cut::{Text, cut};
 use ksv_yaml_scan::fault::TextError;
 use ksv_yaml_scan::line::Line;

@@ -2,13 +2,13 @@
 
 ghost use Rattle.std.specs.Prelude.{◌≡◌, ◌<◌, ◌∷◌, [], List, length, map, IfOk, IfSome, MatchOption};
 ghost use Rattle.ksv_yaml.specs.Reading.{is_among};
-ghost use Rattle.ksv_yaml.specs.View.{pair};
+ghost use Rattle.ksv_yaml_tree.specs.View.{pair};
 ghost use Rattle.ksv_yaml.specs.Outcome.{keys_of, behind_close as behind_close_of, behind_close_map as behind_close_map_of, behind_comma as behind_comma_of, key_at as key_at_of, seen_behind, seen_key, GivesFlow, GivesFlowItems, GivesFlowEntries};
 ghost use Rattle.ksv_yaml_scan.specs.Views.{tokens_view};
 
 use crate::fault::{ReadFault, ReadKind};
 use crate::keys::{add_key, no_keys};
-use crate::tree::{Entry, Yaml, make_entry, make_list, make_mapping, make_text};
+use ksv_yaml_tree::{Entry, Yaml, make_entry, make_list, make_mapping, make_text};
 use ksv_yaml_scan::flow::{Part, Token};
 use std::alloc::Global;
 

@@ -10,17 +10,17 @@ pub mod document;
 pub mod fault;
 mod flow;
 mod keys;
+mod make;
 mod reader;
 mod scalar;
-pub mod tree;
 
 ghost use Rattle.std.specs.Prelude.{◌≡◌, ◌≤◌, ℕ, List, Option, Some, None, length, IsUtf8};
-ghost use Rattle.ksv_yaml.specs.Tree.{Tree};
+ghost use Rattle.ksv_yaml_tree.specs.Tree.{Tree};
 ghost use Rattle.ksv_yaml.specs.Text.{Spells, tree_of_text};
 
 pub use document::read;
 pub use fault::{YamlFault, YamlKind};
-pub use tree::{Entry, Yaml, find};
+pub use ksv_yaml_tree::{Entry, Yaml, find};
 
 /// No text spells two trees.
 pub fn one_tree()

@@ -13,7 +13,7 @@ use crate::fault::{ReadFault, ReadKind};
 use crate::flow::too_deep;
 use crate::keys::{add_key, no_keys};
 use crate::scalar::{scalar, start_at};
-use crate::tree::{Entry, Yaml, make_entry, make_list, make_mapping, make_text};
+use ksv_yaml_tree::{Entry, Yaml, make_entry, make_list, make_mapping, make_text};
 use ksv_yaml_scan::line::Line;
 use ksv_yaml_scan::quiet::skip_quiet;
 use ksv_yaml_scan::start::{Start, is_dash};

@@ -1,25 +1,25 @@
 //! What is read each time, or what a switch chooses.
 
 ghost use Rattle.std.specs.Prelude.{◌≡◌, map, IfOk, option_map};
-ghost use Rattle.ksv_yaml.specs.View.{pair};
-ghost use Rattle.ksv_syntax.specs.Tree.{view, literal_of};
+ghost use Rattle.ksv_yaml_tree.specs.View.{pair};
+ghost use Rattle.ksv_expr_tree.specs.Tree.{view, literal_of};
 ghost use Rattle.ksv_schema.specs.Contexts.{context_of};
 ghost use Rattle.ksv_schema.specs.Description.{value_of, case_value, case_of, each, switch_of, typed, choice_of, Always, Fixed};
 ghost use Rattle.ksv_schema.specs.Values.{contents_of};
-ghost use Rattle.ksv_schema.specs.Pieces.{plain_value, plain_case, plain_choice};
+ghost use Rattle.ksv_desc.specs.Pieces.{plain_value, plain_case, plain_choice};
 ghost use Rattle.ksv_schema.specs.Code.{seen_case_key};
 
 use crate::build::content::content_at;
 use crate::build::contents::contents_of;
 use crate::build::context::Context;
 use crate::build::expressions::expression_at;
-use crate::desc::content::{Case, CaseValue, Choice, Content};
+use ksv_desc::{Case, CaseValue, Choice, Content};
 use crate::read::read_expression;
 use crate::values::{CaseKey, case_key};
-use ksv_names::given_member;
-use ksv_scope::keys::entries_at;
-use ksv_syntax::tree::Literal;
-use ksv_yaml::{Entry, find};
+use ksv_schema_names::given_member;
+use ksv_schema_scope::keys::entries_at;
+use ksv_expr_tree::Literal;
+use ksv_yaml_tree::{Entry, find};
 use std::alloc::{AllocError, Global};
 
 /// A value written in the text again.

@@ -1,26 +1,26 @@
 //! What is read at a member.
 
 ghost use Rattle.std.specs.Prelude.{◌≡◌, map, IfOk, option_map, string_bytes};
-ghost use Rattle.ksv_yaml.specs.View.{pair};
-ghost use Rattle.ksv_syntax.specs.Tree.{view, arguments_of};
-ghost use Rattle.ksv_scope.specs.Declarations.{declared};
-ghost use Rattle.ksv_scope.specs.Types.{type_named};
-ghost use Rattle.ksv_names.specs.Numbered.{all_numbered};
+ghost use Rattle.ksv_yaml_tree.specs.View.{pair};
+ghost use Rattle.ksv_expr_tree.specs.Tree.{view, arguments_of};
+ghost use Rattle.ksv_schema_scope.specs.Declarations.{declared};
+ghost use Rattle.ksv_schema_scope.specs.Types.{type_named};
+ghost use Rattle.ksv_schema_names.specs.Numbered.{all_numbered};
 ghost use Rattle.ksv_schema.specs.Contexts.{context_of};
 ghost use Rattle.ksv_schema.specs.Description.{perhaps_enum, encoding_at, order_at, integer_content, language_content, content_of, content_at, Characters, Object};
-ghost use Rattle.ksv_schema.specs.Pieces.{plain_content};
+ghost use Rattle.ksv_desc.specs.Pieces.{plain_content};
 ghost use Rattle.ksv_schema.specs.Code.{seen_type_text};
 
 use crate::build::context::Context;
-use crate::desc::content::Content;
+use ksv_desc::Content;
 use crate::ids::ids_of;
 use crate::values::{TypeText, encoding_named, type_text};
 use ksv_expr::Encoding;
-use ksv_names::{BuiltIn, number_arguments};
-use ksv_scope::ByteOrder;
-use ksv_scope::keys::{has, text_at};
-use ksv_syntax::tree::{Expr, TypeName};
-use ksv_yaml::Entry;
+use ksv_schema_names::{BuiltIn, number_arguments};
+use ksv_schema_scope::ByteOrder;
+use ksv_schema_scope::keys::{has, text_at};
+use ksv_expr_tree::{Expr, TypeName};
+use ksv_yaml_tree::Entry;
 use std::alloc::{AllocError, Global};
 
 /// The number of the enum at the key `enum`, which may be left away.

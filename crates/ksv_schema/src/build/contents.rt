@@ -1,11 +1,11 @@
 //! The bytes of `contents`.
 
 ghost use Rattle.std.specs.Prelude.{◌≡◌, map, IfOk, option_map};
-ghost use Rattle.ksv_yaml.specs.View.{view};
+ghost use Rattle.ksv_yaml_tree.specs.View.{view};
 ghost use Rattle.ksv_schema.specs.Values.{joined, text_bytes, contents_of};
 
 use crate::values::{Piece, looks_like_number, piece_of};
-use ksv_yaml::Yaml;
+use ksv_yaml_tree::Yaml;
 use std::alloc::{AllocError, Global};
 
 /// The bytes of all items, where each has its bytes.

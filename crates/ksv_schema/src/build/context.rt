@@ -1,7 +1,7 @@
 //! Where a piece of a description stands.
 
-use ksv_names::Names;
-use ksv_scope::Scopes;
+use ksv_schema_names::Names;
+use ksv_schema_scope::Scopes;
 
 /// In which type of what is declared a piece stands, with the description's names.
 #[derive(Clone, Copy)]

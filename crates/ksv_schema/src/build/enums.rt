@@ -1,18 +1,18 @@
 //! Enums.
 
 ghost use Rattle.std.specs.Prelude.{◌≡◌, map, IfOk, option_map};
-ghost use Rattle.ksv_yaml.specs.View.{pair};
-ghost use Rattle.ksv_scope.specs.Enums.{constant};
-ghost use Rattle.ksv_scope.specs.EnumRows.{enumeration_of};
-ghost use Rattle.ksv_scope.specs.Declarations.{declared};
+ghost use Rattle.ksv_yaml_tree.specs.View.{pair};
+ghost use Rattle.ksv_schema_scope.specs.Enums.{constant};
+ghost use Rattle.ksv_schema_scope.specs.EnumRows.{enumeration_of};
+ghost use Rattle.ksv_schema_scope.specs.Declarations.{declared};
 ghost use Rattle.ksv_schema.specs.Description.{numbered_of, enum_of, each, each_numbered};
 ghost use Rattle.ksv_schema.specs.Entries.{enum_alone};
-ghost use Rattle.ksv_schema.specs.Pieces.{plain_entry, plain_enum};
+ghost use Rattle.ksv_desc.specs.Pieces.{plain_entry, plain_enum};
 
 use crate::build::texts::owned_text;
-use crate::desc::enums::{EnumDesc, EnumEntry};
-use ksv_scope::{Enumeration, Scopes, id_of, number_written};
-use ksv_yaml::Entry;
+use ksv_desc::{EnumDesc, EnumEntry};
+use ksv_schema_scope::{Enumeration, Scopes, id_of, number_written};
+use ksv_yaml_tree::Entry;
 use std::alloc::{AllocError, Global};
 
 /// A number of an enum and what it stands for.

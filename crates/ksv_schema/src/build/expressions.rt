@@ -1,17 +1,17 @@
 //! Expressions, their names found.
 
 ghost use Rattle.std.specs.Prelude.{◌≡◌, map, IfOk, option_map};
-ghost use Rattle.ksv_yaml.specs.View.{pair};
-ghost use Rattle.ksv_syntax.specs.Tree.{view};
+ghost use Rattle.ksv_yaml_tree.specs.View.{pair};
+ghost use Rattle.ksv_expr_tree.specs.Tree.{view};
 ghost use Rattle.ksv_schema.specs.Contexts.{context_of};
 ghost use Rattle.ksv_schema.specs.Description.{expression, expression_at, perhaps_expression};
 
 use crate::build::context::Context;
 use crate::read::read_expression;
-use ksv_names::number_expr;
-use ksv_scope::keys::{has, text_at};
-use ksv_syntax::tree::Expr;
-use ksv_yaml::Entry;
+use ksv_schema_names::number_expr;
+use ksv_schema_scope::keys::{has, text_at};
+use ksv_expr_tree::Expr;
+use ksv_yaml_tree::Entry;
 use std::alloc::{AllocError, Global};
 
 /// The expression that a text is.

@@ -1,18 +1,18 @@
 //! How an attribute, or an instance with a place, is read.
 
 ghost use Rattle.std.specs.Prelude.{◌≡◌, map, IfOk, option_map};
-ghost use Rattle.ksv_yaml.specs.View.{pair};
+ghost use Rattle.ksv_yaml_tree.specs.View.{pair};
 ghost use Rattle.ksv_schema.specs.Contexts.{context_of};
 ghost use Rattle.ksv_schema.specs.Description.{extent_of, terminated_by, terminator_of, repeat_of, field_of};
-ghost use Rattle.ksv_schema.specs.Pieces.{plain_extent, plain_terminator, plain_repeat, plain_field};
+ghost use Rattle.ksv_desc.specs.Pieces.{plain_extent, plain_terminator, plain_repeat, plain_field};
 
 use crate::build::choice::choice_of;
 use crate::build::context::Context;
 use crate::build::expressions::{expression_at, perhaps_expression};
-use crate::desc::field::{Extent, Field, Repeat, Terminator};
+use ksv_desc::{Extent, Field, Repeat, Terminator};
 use crate::values::{TypeKind, byte_at, is_to_end, type_key};
-use ksv_scope::keys::{has, says};
-use ksv_yaml::Entry;
+use ksv_schema_scope::keys::{has, says};
+use ksv_yaml_tree::Entry;
 use std::alloc::{AllocError, Global};
 
 /// How far an attribute of these keys goes.

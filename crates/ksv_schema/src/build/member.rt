@@ -1,21 +1,21 @@
 //! Members.
 
 ghost use Rattle.std.specs.Prelude.{◌≡◌, map, IfOk, option_map};
-ghost use Rattle.ksv_yaml.specs.View.{pair};
-ghost use Rattle.ksv_scope.specs.MemberRows.{member_of as row};
+ghost use Rattle.ksv_yaml_tree.specs.View.{pair};
+ghost use Rattle.ksv_schema_scope.specs.MemberRows.{member_of as row};
 ghost use Rattle.ksv_schema.specs.Contexts.{context_of};
 ghost use Rattle.ksv_schema.specs.Description.{positioned_of, calculated_of, kind_of, member_of, each};
-ghost use Rattle.ksv_schema.specs.Pieces.{plain_kind, plain_member};
+ghost use Rattle.ksv_desc.specs.Pieces.{plain_kind, plain_member};
 
 use crate::build::content::perhaps_enum;
 use crate::build::context::Context;
 use crate::build::expressions::{expression_at, perhaps_expression};
 use crate::build::field::field_of;
 use crate::build::texts::as_text;
-use crate::desc::members::{Kind, MemberDesc};
-use ksv_scope::keys::has;
-use ksv_scope::{Member, Role};
-use ksv_yaml::Entry;
+use ksv_desc::{Kind, MemberDesc};
+use ksv_schema_scope::keys::has;
+use ksv_schema_scope::{Member, Role};
+use ksv_yaml_tree::Entry;
 use std::alloc::{AllocError, Global};
 
 /// An instance with a place.

@@ -1,16 +1,16 @@
 //! Types with their members.
 
 ghost use Rattle.std.specs.Prelude.{◌≡◌, map, IfOk, option_map, option_and_then, slice_get};
-ghost use Rattle.ksv_scope.specs.Declarations.{declared};
+ghost use Rattle.ksv_schema_scope.specs.Declarations.{declared};
 ghost use Rattle.ksv_schema.specs.Description.{type_of, each_numbered};
-ghost use Rattle.ksv_schema.specs.Pieces.{plain_type};
+ghost use Rattle.ksv_desc.specs.Pieces.{plain_type};
 
 use crate::build::context::Context;
 use crate::build::member::members_of;
 use crate::build::texts::owned_text;
-use crate::desc::type_desc::TypeDesc;
-use ksv_names::Names;
-use ksv_scope::Scopes;
+use ksv_desc::TypeDesc;
+use ksv_schema_names::Names;
+use ksv_schema_scope::Scopes;
 use std::alloc::{AllocError, Global};
 
 /// The type `n`.

@@ -1,13 +1,13 @@
 //! The faults of enums and of their entries.
 
 ghost use Rattle.std.specs.Prelude.{◌≡◌, ◌++◌, not, codes, OnOk, map, take};
-ghost use Rattle.ksv_yaml.specs.View.{view, pair};
-ghost use Rattle.ksv_scope.specs.Declarations.{declared};
-ghost use Rattle.ksv_scope.specs.EnumRows.{enumeration_of};
-ghost use Rattle.ksv_scope.specs.ConstantRows.{constant_of, AreMarked};
-ghost use Rattle.ksv_scope.specs.Enums.{is_number_again, is_id_again};
+ghost use Rattle.ksv_yaml_tree.specs.View.{view, pair};
+ghost use Rattle.ksv_schema_scope.specs.Declarations.{declared};
+ghost use Rattle.ksv_schema_scope.specs.EnumRows.{enumeration_of};
+ghost use Rattle.ksv_schema_scope.specs.ConstantRows.{constant_of, AreMarked};
+ghost use Rattle.ksv_schema_scope.specs.Enums.{is_number_again, is_id_again};
 ghost use Rattle.ksv_schema.specs.Faults.{noted};
-ghost use Rattle.ksv_scope.specs.Keys.{has};
+ghost use Rattle.ksv_schema_scope.specs.Keys.{has};
 ghost use Rattle.ksv_schema.specs.Keys.{constant_keys};
 ghost use Rattle.ksv_schema.specs.Rules.{home_in, form_faults, keys_faults, missing_if, enumeration_faults, constant_value_faults, id_line, number_again, id_again, constant_faults, each_from};
 ghost use Rattle.ksv_schema.specs.Code.{seen_fault};
@@ -18,9 +18,9 @@ use crate::check::mapping::note_plain_keys;
 use crate::check::together::note_missing_if;
 use crate::fault::{DescFault, DescFaultKind, note, note_if};
 use crate::keys::{Table, is_id};
-use ksv_scope::keys::{entries_in, has};
-use ksv_scope::{Constant, Enumeration, Scopes, signed_number};
-use ksv_yaml::{Entry, Yaml, find};
+use ksv_schema_scope::keys::{entries_in, has};
+use ksv_schema_scope::{Constant, Enumeration, Scopes, signed_number};
+use ksv_yaml_tree::{Entry, Yaml, find};
 use std::alloc::{AllocError, Global};
 
 /// Notes the faults of an enum: of its name, and that it is no mapping.

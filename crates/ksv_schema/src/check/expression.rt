@@ -1,9 +1,9 @@
 //! The faults of expressions and of types.
 
 ghost use Rattle.std.specs.Prelude.{◌≡◌, Some, option_map, option_to_list, OnOk, map, string_bytes, length};
-ghost use Rattle.ksv_syntax.specs.Tree.{view, arguments_of};
-ghost use Rattle.ksv_names.specs.Names.{count};
-ghost use Rattle.ksv_scope.specs.Types.{type_named};
+ghost use Rattle.ksv_expr_tree.specs.Tree.{view, arguments_of};
+ghost use Rattle.ksv_schema_names.specs.Names.{count};
+ghost use Rattle.ksv_schema_scope.specs.Types.{type_named};
 ghost use Rattle.ksv_schema.specs.Expressions.{expression_of};
 ghost use Rattle.ksv_schema.specs.Faults.{noted};
 ghost use Rattle.ksv_schema.specs.Values.{type_text};
@@ -14,9 +14,9 @@ use crate::check::home::Home;
 use crate::fault::{DescFault, DescFaultKind, note, note_if};
 use crate::read::read_expression;
 use crate::values::{TypeText, type_text};
-use ksv_names::{BuiltIn, NameFault, Position, Site, argument_fault, name_fault};
-use ksv_syntax::ExprFault;
-use ksv_syntax::tree::Expr;
+use ksv_schema_names::{BuiltIn, NameFault, Position, Site, argument_fault, name_fault};
+use ksv_expr_syntax::ExprFault;
+use ksv_expr_tree::Expr;
 use std::alloc::{AllocError, Global};
 
 /// Where an expression of a mapping stands.

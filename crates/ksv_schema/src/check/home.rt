@@ -1,11 +1,11 @@
 //! Where a mapping of a description stands.
 
 ghost use Rattle.std.specs.Prelude.{◌≡◌};
-ghost use Rattle.ksv_scope.specs.Declarations.{declared};
+ghost use Rattle.ksv_schema_scope.specs.Declarations.{declared};
 ghost use Rattle.ksv_schema.specs.Rules.{home_in};
 ghost use Rattle.ksv_schema.specs.Code.{seen_home};
 
-use ksv_scope::Scopes;
+use ksv_schema_scope::Scopes;
 
 /// Where a mapping stands: in which type, whether in its `seq`, and whether it is of something repeated.
 #[derive(Clone, Copy)]

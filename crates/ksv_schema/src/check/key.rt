@@ -3,9 +3,9 @@
 ghost use Rattle.std.specs.Prelude.{◌≡◌, OnOk, not, true, is_some, is_none, fold, ◌||◌, Some, List, ℕ, [], ◌∷◌, codes, map, flat_map, option_map, string_bytes};
 ghost use Rattle.std.specs.List.{list_any};
 ghost use Rattle.std.specs.Str.{bytes_eq};
-ghost use Rattle.ksv_syntax.specs.Tree.{view as view_expression};
-ghost use Rattle.ksv_yaml.specs.Tree.{line_of, mapping_of, list_of};
-ghost use Rattle.ksv_yaml.specs.View.{view, pair, seen_text};
+ghost use Rattle.ksv_expr_tree.specs.Tree.{view as view_expression};
+ghost use Rattle.ksv_yaml_tree.specs.Tree.{line_of, mapping_of, list_of};
+ghost use Rattle.ksv_yaml_tree.specs.View.{view, pair, seen_text};
 ghost use Rattle.ksv_schema.specs.Expressions.{expression_of};
 ghost use Rattle.ksv_schema.specs.Faults.{noted, fault_if, bad_value, left_out, unknown_name};
 ghost use Rattle.ksv_schema.specs.Keys.{is_id};
@@ -24,12 +24,12 @@ use crate::values::{
     CaseKey, Piece, TypeText, byte_number, case_key, encoding_named, is_str, is_strz,
     looks_like_number, piece_of, type_text,
 };
-use ksv_names::Site;
-use ksv_scope::Numeral;
-use ksv_scope::keys::has;
-use ksv_syntax::ExprFault;
-use ksv_syntax::tree::Expr;
-use ksv_yaml::{Entry, Yaml};
+use ksv_schema_names::Site;
+use ksv_schema_scope::Numeral;
+use ksv_schema_scope::keys::has;
+use ksv_expr_syntax::ExprFault;
+use ksv_expr_tree::Expr;
+use ksv_yaml_tree::{Entry, Yaml};
 use std::alloc::{AllocError, Global};
 
 /// Notes a text that is no id.

@@ -1,15 +1,15 @@
 //! Limits: 1,024 types, 256 members of a type, 65,536 entries of enums.
 
 ghost use Rattle.std.specs.Prelude.{◌≡◌, OnOk, IfOk, [], map, option_map, option_to_list, slice_get};
-ghost use Rattle.ksv_scope.specs.Declarations.{declared};
-ghost use Rattle.ksv_scope.specs.ConstantRows.{constant_of};
-ghost use Rattle.ksv_scope.specs.MemberRows.{member_of};
+ghost use Rattle.ksv_schema_scope.specs.Declarations.{declared};
+ghost use Rattle.ksv_schema_scope.specs.ConstantRows.{constant_of};
+ghost use Rattle.ksv_schema_scope.specs.MemberRows.{member_of};
 ghost use Rattle.ksv_schema.specs.Faults.{noted, over_limit};
 ghost use Rattle.ksv_schema.specs.Rules.{past, line_past, each_from, member_limit, limit_faults};
 ghost use Rattle.ksv_schema.specs.Code.{seen_fault, members_past, limit_fault, AreRising};
 
 use crate::fault::{DescFault, DescFaultKind, note};
-use ksv_scope::{Constant, Member, Scopes};
+use ksv_schema_scope::{Constant, Member, Scopes};
 use std::alloc::{AllocError, Global};
 
 /// How many types a description may have.

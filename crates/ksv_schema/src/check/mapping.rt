@@ -1,8 +1,8 @@
 //! The faults of all keys of a mapping, each by itself.
 
 ghost use Rattle.std.specs.Prelude.{◌≡◌, OnOk, None, if◌then◌else◌, map};
-ghost use Rattle.ksv_yaml.specs.Tree.{mapping_of};
-ghost use Rattle.ksv_yaml.specs.View.{view, pair, seen_entries};
+ghost use Rattle.ksv_yaml_tree.specs.Tree.{mapping_of};
+ghost use Rattle.ksv_yaml_tree.specs.View.{view, pair, seen_entries};
 ghost use Rattle.ksv_schema.specs.Faults.{noted};
 ghost use Rattle.ksv_schema.specs.Rules.{form_faults, key_faults, keys_faults, missing_if, switch_faults, is_type_or_switch, value_faults};
 ghost use Rattle.ksv_schema.specs.Code.{seen_fault, seen_home, form_of, keys_of};
@@ -11,8 +11,8 @@ use crate::check::home::Home;
 use crate::check::key::note_form;
 use crate::fault::{DescFault, DescFaultKind, note, note_if};
 use crate::keys::{Form, Table, form_in, is_ignored};
-use ksv_scope::keys::has;
-use ksv_yaml::{Entry, Yaml};
+use ksv_schema_scope::keys::has;
+use ksv_yaml_tree::{Entry, Yaml};
 use std::alloc::{AllocError, Global};
 
 /// Notes the faults of one key, at which no switch may stand.

@@ -1,9 +1,9 @@
 //! The faults of parameters, attributes and instances.
 
 ghost use Rattle.std.specs.Prelude.{◌≡◌, ◌&&◌, not, OnOk, map};
-ghost use Rattle.ksv_yaml.specs.View.{pair};
-ghost use Rattle.ksv_scope.specs.Declarations.{declared};
-ghost use Rattle.ksv_scope.specs.MemberRows.{member_of};
+ghost use Rattle.ksv_yaml_tree.specs.View.{pair};
+ghost use Rattle.ksv_schema_scope.specs.Declarations.{declared};
+ghost use Rattle.ksv_schema_scope.specs.MemberRows.{member_of};
 ghost use Rattle.ksv_schema.specs.Faults.{noted, fault_if, bad_value};
 ghost use Rattle.ksv_schema.specs.Keys.{is_id};
 ghost use Rattle.ksv_schema.specs.Rules.{is_attribute, home_of, parameter_faults, attribute_faults, instance_faults, role_faults, mapping_faults, is_instance, name_line, is_at, member_again, member_faults};
@@ -15,9 +15,9 @@ use crate::check::together::{note_field_rules, note_missing_if, note_value_rules
 use crate::fault::{DescFault, DescFaultKind, note, note_if};
 use crate::keys::{Table, is_id};
 use crate::values::is_repeated;
-use ksv_scope::keys::{entries_in, has};
-use ksv_scope::{Member, Role, Scopes};
-use ksv_yaml::{Entry, find};
+use ksv_schema_scope::keys::{entries_in, has};
+use ksv_schema_scope::{Member, Role, Scopes};
+use ksv_yaml_tree::{Entry, find};
 use std::alloc::{AllocError, Global};
 
 fn is_attribute(role: Role) -> bool

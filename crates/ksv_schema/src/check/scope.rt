@@ -2,10 +2,10 @@
 
 ghost use Rattle.std.specs.Prelude.{◌≡◌, ◌&&◌, ◌++◌, codes, ◌==◌, not, true, OnOk, [], map, if◌then◌else◌, slice_get};
 ghost use Rattle.std.specs.Option.{option_map_or};
-ghost use Rattle.ksv_yaml.specs.Tree.{entry_at};
-ghost use Rattle.ksv_yaml.specs.View.{view, pair, seen_entry};
-ghost use Rattle.ksv_scope.specs.Declarations.{declared};
-ghost use Rattle.ksv_scope.specs.Keys.{has};
+ghost use Rattle.ksv_yaml_tree.specs.Tree.{entry_at};
+ghost use Rattle.ksv_yaml_tree.specs.View.{view, pair, seen_entry};
+ghost use Rattle.ksv_schema_scope.specs.Declarations.{declared};
+ghost use Rattle.ksv_schema_scope.specs.Keys.{has};
 ghost use Rattle.ksv_schema.specs.Faults.{noted, fault_if, bad_value};
 ghost use Rattle.ksv_schema.specs.Keys.{is_id, type_keys, meta_keys};
 ghost use Rattle.ksv_schema.specs.Rules.{home_in, form_faults, keys_faults, missing_if, each_from, meta_faults, root_faults, type_faults};
@@ -16,9 +16,9 @@ use crate::check::mapping::note_plain_keys;
 use crate::check::together::{note_left_out_if, note_missing_if};
 use crate::fault::{DescFault, DescFaultKind, note, note_if};
 use crate::keys::{Table, is_id};
-use ksv_scope::Scopes;
-use ksv_scope::keys::has;
-use ksv_yaml::{Entry, Yaml, find};
+use ksv_schema_scope::Scopes;
+use ksv_schema_scope::keys::has;
+use ksv_yaml_tree::{Entry, Yaml, find};
 use std::alloc::{AllocError, Global};
 
 /// Notes the faults of the mapping at `meta`; that of the root needs an id.

@@ -2,9 +2,9 @@
 
 ghost use Rattle.std.specs.Prelude.{◌≡◌, OnOk, IfOk, not, ◌||◌, ◌&&◌, Some, if◌then◌else◌, [], map, flat_map, filter, is_some, is_none, codes};
 ghost use Rattle.std.specs.List.{list_any};
-ghost use Rattle.ksv_yaml.specs.Tree.{entry_at};
-ghost use Rattle.ksv_yaml.specs.View.{pair, seen_entry};
-ghost use Rattle.ksv_scope.specs.Keys.{has, says};
+ghost use Rattle.ksv_yaml_tree.specs.Tree.{entry_at};
+ghost use Rattle.ksv_yaml_tree.specs.View.{pair, seen_entry};
+ghost use Rattle.ksv_schema_scope.specs.Keys.{has, says};
 ghost use Rattle.ksv_schema.specs.Faults.{noted};
 ghost use Rattle.ksv_schema.specs.Values.{cases_of, is_integer, is_str, is_strz, is_of_description, is_type, type_key};
 ghost use Rattle.ksv_schema.specs.Rules.{against, alone_if, left_out_if, missing_if, to_end_key, has_encoding, field_needs, integer_against, field_against, field_left_out, field_rules, value_rules};
@@ -13,8 +13,8 @@ ghost use Rattle.ksv_schema.specs.Code.{seen_fault, seen_home, is_bounded, conte
 use crate::check::home::Home;
 use crate::fault::{DescFault, DescFaultKind, note, note_if};
 use crate::values::{TypeKind, byte_at, cases_of, is_to_end, is_type, type_key};
-use ksv_scope::keys::{has, says, text_at};
-use ksv_yaml::{Entry, find};
+use ksv_schema_scope::keys::{has, says, text_at};
+use ksv_yaml_tree::{Entry, find};
 use std::alloc::{AllocError, Global};
 
 /// Notes two keys that are both there.

@@ -1,5 +1,5 @@
 use Rattle.std.proofs.Common.{subst}
-use Rattle.ksv_schema.specs.Whole.{plain_pieces}
+use Rattle.ksv_desc.specs.Whole.{plain_pieces}
 use Rattle.ksv.specs.Seen.{ComesTo}
 use Rattle.ksv.proofs.AskLemmas.{asked_is}
 use Rattle.ksv.proofs.question.ask.Goals as goal

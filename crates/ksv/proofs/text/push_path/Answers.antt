@@ -1,6 +1,6 @@
 use Rattle.std.proofs.Common.{◌≡◌, ◌∙◌, ◌++◌, ap, string_bytes, subst, sym}
 use Rattle.std.specs.Prelude.{OnOk}
-use Rattle.ksv_schema.specs.Whole.{plain_pieces}
+use Rattle.ksv_desc.specs.Whole.{plain_pieces}
 use Rattle.ksv_rules.specs.PathTexts.{or_slash, steps_text}
 use Rattle.ksv.proofs.QuestionLemmas.{path_told}
 use Rattle.ksv.proofs.text.push_path.Goals as goal

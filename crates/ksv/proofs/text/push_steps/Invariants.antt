@@ -1,6 +1,6 @@
 use Rattle.std.proofs.Common.{◌≡◌, ◌++◌, take, string_bytes}
 use Rattle.ksv_rules.specs.PathTexts.{steps_text}
-use Rattle.ksv_schema.specs.Whole.{plain_pieces}
+use Rattle.ksv_desc.specs.Whole.{plain_pieces}
 use Rattle.ksv.proofs.text.push_steps.Given as goal
 
 abbrev pub invariant-loop-step : goal.invariant-loop-step

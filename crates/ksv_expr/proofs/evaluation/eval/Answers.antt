@@ -1,4 +1,4 @@
-use Rattle.ksv_syntax.specs.Tree.{view}
+use Rattle.ksv_expr_tree.specs.Tree.{view}
 use Rattle.ksv_expr.proofs.Truths.{bounded_outcome}
 use Rattle.ksv_expr.proofs.evaluation.eval.Goals as goal
 

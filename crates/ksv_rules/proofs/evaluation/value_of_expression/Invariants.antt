@@ -1,5 +1,5 @@
 use Rattle.std.proofs.Common.{◌-◌, length, map}
-use Rattle.ksv_syntax.specs.Tree.{view}
+use Rattle.ksv_expr_tree.specs.Tree.{view}
 use Rattle.ksv_expr.specs.Heard.{heard}
 use Rattle.ksv_expr.specs.Evaluation.{most_wants}
 use Rattle.ksv_rules.specs.Sites.{setting_of}

@@ -1,5 +1,5 @@
 use Rattle.std.proofs.Common.{◌≡◌, None, map, drop}
-use Rattle.ksv_schema.specs.Pieces.{plain_member}
+use Rattle.ksv_desc.specs.Pieces.{plain_member}
 use Rattle.ksv_rules.specs.Fields.{sought}
 use Rattle.ksv_rules.proofs.fields.find_member.Given as goal
 

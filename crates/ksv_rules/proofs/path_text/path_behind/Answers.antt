@@ -1,7 +1,7 @@
 use Rattle.std.proofs.Common.{◌∙◌, reverse, ap, sym}
-use Rattle.ksv_expr.specs.Trail.{fits}
+use Rattle.ksv_expr_value.specs.Trail.{fits}
 use Rattle.ksv_memo.proofs.Turns.{on_err_always}
-use Rattle.ksv_schema.specs.Whole.{plain_pieces}
+use Rattle.ksv_desc.specs.Whole.{plain_pieces}
 use Rattle.ksv_rules.proofs.PathTexts.{behind_is, behind_some}
 use Rattle.ksv_rules.proofs.path_text.path_behind.Goals as goal
 

@@ -1,6 +1,6 @@
 use Rattle.std.proofs.Common.{sym, ap, ◌∙◌, arith, refl}
-use Rattle.ksv_expr.specs.Trail.{fits-none}
-use Rattle.ksv_schema.specs.Whole.{plain_pieces}
+use Rattle.ksv_expr_value.specs.Trail.{fits-none}
+use Rattle.ksv_desc.specs.Whole.{plain_pieces}
 use Rattle.ksv_rules.specs.PathTexts.{path_of_steps}
 use Rattle.ksv_rules.proofs.PathTexts.{steps_begin, steps_full, step_read, left_seen, pieces_seen, not_full}
 use Rattle.ksv_rules.proofs.path_text.read_steps.Goals as goal

@@ -1,8 +1,8 @@
 use Rattle.std.proofs.Common.{◌≡◌, ◌≤◌, true, length, reverse}
 use Rattle.std.specs.Prelude.{option_copied}
 use Rattle.std.specs.List.{slice_split}
-use Rattle.ksv_expr.specs.Trail.{fits}
-use Rattle.ksv_schema.specs.Whole.{plain_pieces}
+use Rattle.ksv_expr_value.specs.Trail.{fits}
+use Rattle.ksv_desc.specs.Whole.{plain_pieces}
 use Rattle.ksv_rules.specs.PathTexts.{is_slash, steps_of}
 use Rattle.ksv_rules.proofs.PathTexts.{behind_steps, pieces_left, size_left}
 use Rattle.ksv_rules.proofs.path_text.read_steps.Given as goal

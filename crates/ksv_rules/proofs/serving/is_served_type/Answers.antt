@@ -1,6 +1,6 @@
 use Rattle.std.proofs.Common.{◌∙◌, sym, ap}
 use Rattle.std.specs.List.{list_all}
-use Rattle.ksv_schema.specs.Pieces.{plain_kind}
+use Rattle.ksv_desc.specs.Pieces.{plain_kind}
 use Rattle.ksv_rules.specs.Served.{is_served_kind, is_served_type}
 use Rattle.ksv_rules.proofs.ServedForms.{all_stop, all_end, members_served}
 use Rattle.ksv_rules.proofs.serving.is_served_type.Goals as goal

@@ -1,6 +1,6 @@
 use Rattle.std.proofs.Common.{◌∙◌, sym, ap}
 use Rattle.std.specs.List.{list_all}
-use Rattle.ksv_schema.specs.Pieces.{plain_type}
+use Rattle.ksv_desc.specs.Pieces.{plain_type}
 use Rattle.ksv_rules.specs.Served.{is_served_type, is_served}
 use Rattle.ksv_rules.proofs.ServedForms.{all_stop, all_end, types_served}
 use Rattle.ksv_rules.proofs.serving.served.Goals as goal

@@ -1,4 +1,4 @@
-use Rattle.ksv_expr.specs.Bytes.{content}
+use Rattle.ksv_expr_value.specs.Bytes.{content}
 use Rattle.ksv_rules.proofs.Peeked.{peeked_length}
 use Rattle.ksv_rules.proofs.values.bytes_of.Goals as goal
 

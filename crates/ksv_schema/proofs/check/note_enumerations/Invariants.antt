@@ -1,6 +1,6 @@
 use Rattle.std.proofs.Common.{◌≡◌, drop, map}
 use Rattle.std.specs.List.{flat_map}
-use Rattle.ksv_scope.specs.EnumRows.{enumeration_of}
+use Rattle.ksv_schema_scope.specs.EnumRows.{enumeration_of}
 use Rattle.ksv_schema.specs.Faults.{noted}
 use Rattle.ksv_schema.specs.Rules.{enumeration_faults}
 use Rattle.ksv_schema.specs.Code.{seen_fault}

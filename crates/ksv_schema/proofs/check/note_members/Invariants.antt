@@ -1,6 +1,6 @@
 use Rattle.std.proofs.Common.{◌≡◌, drop, map}
-use Rattle.ksv_scope.specs.Declarations.{declared}
-use Rattle.ksv_scope.specs.MemberRows.{member_of}
+use Rattle.ksv_schema_scope.specs.Declarations.{declared}
+use Rattle.ksv_schema_scope.specs.MemberRows.{member_of}
 use Rattle.ksv_schema.specs.Faults.{noted}
 use Rattle.ksv_schema.specs.Rules.{each_from, member_faults}
 use Rattle.ksv_schema.specs.Code.{seen_fault}

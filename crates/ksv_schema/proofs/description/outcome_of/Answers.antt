@@ -1,10 +1,10 @@
 use Rattle.std.proofs.Common.{ap, sym, subst, ◌∙◌}
 use Rattle.std.specs.Prelude.{option_map}
-use Rattle.ksv_yaml.specs.View.{view}
-use Rattle.ksv_schema.specs.declared.desc.pieces.Pieces.{Pieces}
+use Rattle.ksv_yaml_tree.specs.View.{view}
+use Rattle.ksv_desc.specs.declared.pieces.Pieces.{Pieces}
 use Rattle.ksv_schema.specs.Code.{seen_fault}
 use Rattle.ksv_schema.specs.Outcome.{States}
-use Rattle.ksv_schema.specs.Whole.{plain_pieces}
+use Rattle.ksv_desc.specs.Whole.{plain_pieces}
 use Rattle.ksv_schema.proofs.Theorem.{refuses, states, resolved, never_none}
 use Rattle.ksv_schema.proofs.description.outcome_of.Goals as goal
 

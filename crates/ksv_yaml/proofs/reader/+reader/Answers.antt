@@ -1,8 +1,8 @@
 -- Each step of the reader is one of `BlockLoops`.
 use Rattle.std.proofs.Common.{◌≡◌, ◌+◌, ◌-◌, ◌<◌, ℕ, List, length, map, Option, None, false, refl, sym, ap, ◌∙◌, arith}
 use Rattle.std.proofs.lemmas.Result.{err_from_is_err_and}
-use Rattle.ksv_yaml.specs.Tree.{Tree, Text}
-use Rattle.ksv_yaml.specs.View.{view, pair, items_of, entries_of}
+use Rattle.ksv_yaml_tree.specs.Tree.{Tree, Text}
+use Rattle.ksv_yaml_tree.specs.View.{view, pair, items_of, entries_of}
 use Rattle.ksv_yaml.specs.Grammar.{at_column}
 use Rattle.ksv_yaml.specs.Reading.{inlined, value_here, weight}
 use Rattle.ksv_yaml.specs.Outcome.{keys_of, NodeIs, EntriesIs, ValueIs, ItemsIs, ItemIs}

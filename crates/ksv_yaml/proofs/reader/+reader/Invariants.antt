@@ -1,6 +1,6 @@
 -- What is left to read: the bytes of the lines and one for each line, and less for the functions that call one another on the same lines.
 use Rattle.std.proofs.Common.{◌≡◌, ◌+◌, ◌*◌, ◌≤◌, length, map}
-use Rattle.ksv_yaml.specs.View.{view, pair}
+use Rattle.ksv_yaml_tree.specs.View.{view, pair}
 use Rattle.ksv_yaml.specs.Reading.{weight}
 use Rattle.ksv_yaml.specs.Outcome.{keys_of}
 use Rattle.ksv_yaml.specs.Keys.{HoldsKeys}

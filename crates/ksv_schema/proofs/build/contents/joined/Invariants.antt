@@ -1,5 +1,5 @@
 use Rattle.std.proofs.Common.{◌≡◌, drop, map}
-use Rattle.ksv_yaml.specs.View.{view}
+use Rattle.ksv_yaml_tree.specs.View.{view}
 use Rattle.ksv_schema.specs.Values.{joined}
 use Rattle.ksv_schema.proofs.Made.{onto}
 use Rattle.ksv_schema.proofs.build.contents.joined.Given as goal

@@ -1,6 +1,6 @@
 -- One entry after the other.
 use Rattle.std.proofs.Common.{◌∙◌, ap}
-use Rattle.ksv_scope.specs.Declarations.{declared}
+use Rattle.ksv_schema_scope.specs.Declarations.{declared}
 use Rattle.ksv_schema.specs.Faults.{noted}
 use Rattle.ksv_schema.specs.Rules.{each_from, constant_faults}
 use Rattle.ksv_schema.specs.Code.{seen_fault}

@@ -1,8 +1,8 @@
 -- The least fault of the names is the one that is noted of all.
 use Rattle.std.proofs.Common.{◌∙◌, ap, None, map}
-use Rattle.ksv_syntax.specs.Tree.{view, arguments_of}
-use Rattle.ksv_scope.specs.Declarations.{declared}
-use Rattle.ksv_names.specs.Names.{list_faults, least}
+use Rattle.ksv_expr_tree.specs.Tree.{view, arguments_of}
+use Rattle.ksv_schema_scope.specs.Declarations.{declared}
+use Rattle.ksv_schema_names.specs.Names.{list_faults, least}
 use Rattle.ksv_schema.proofs.NameFaults.{found_noted}
 use Rattle.ksv_schema.proofs.check.expression.note_arguments.Goals as goal
 

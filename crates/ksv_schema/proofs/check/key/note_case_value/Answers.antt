@@ -1,6 +1,6 @@
 -- A member is noted as the expression that it is.
 use Rattle.std.proofs.Common.{◌∙◌, ap}
-use Rattle.ksv_syntax.specs.Tree.{view}
+use Rattle.ksv_expr_tree.specs.Tree.{view}
 use Rattle.ksv_schema.specs.Faults.{noted}
 use Rattle.ksv_schema.specs.Code.{seen_fault, seen_home}
 use Rattle.ksv_schema.proofs.CaseKeys.{member_noted}

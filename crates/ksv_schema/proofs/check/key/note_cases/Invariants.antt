@@ -1,6 +1,6 @@
 use Rattle.std.proofs.Common.{◌≡◌, drop, map}
 use Rattle.std.specs.List.{flat_map}
-use Rattle.ksv_yaml.specs.View.{pair}
+use Rattle.ksv_yaml_tree.specs.View.{pair}
 use Rattle.ksv_schema.specs.Faults.{noted}
 use Rattle.ksv_schema.specs.Rules.{case_faults}
 use Rattle.ksv_schema.specs.Code.{seen_fault, seen_home}

@@ -1,7 +1,7 @@
 use Rattle.std.proofs.Common.{◌≡◌, drop, map}
 use Rattle.std.specs.List.{flat_map}
-use Rattle.ksv_yaml.specs.Tree.{line_of}
-use Rattle.ksv_yaml.specs.View.{view}
+use Rattle.ksv_yaml_tree.specs.Tree.{line_of}
+use Rattle.ksv_yaml_tree.specs.View.{view}
 use Rattle.ksv_schema.specs.Faults.{noted}
 use Rattle.ksv_schema.specs.Values.{piece_of}
 use Rattle.ksv_schema.specs.Rules.{piece_faults}

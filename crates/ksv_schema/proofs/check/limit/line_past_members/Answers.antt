@@ -1,5 +1,5 @@
 -- The member at the limit, where there is one.
-use Rattle.ksv_scope.specs.MemberRows.{member_of}
+use Rattle.ksv_schema_scope.specs.MemberRows.{member_of}
 use Rattle.ksv_schema.proofs.Past.{line_there, line_gone}
 use Rattle.ksv_schema.proofs.check.limit.line_past_members.Goals as goal
 

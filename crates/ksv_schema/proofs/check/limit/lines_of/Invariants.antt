@@ -1,5 +1,5 @@
 use Rattle.std.proofs.Common.{◌≡◌, take, map}
-use Rattle.ksv_scope.specs.ConstantRows.{constant_of}
+use Rattle.ksv_schema_scope.specs.ConstantRows.{constant_of}
 use Rattle.ksv_schema.proofs.check.limit.lines_of.Given as goal
 
 abbrev pub invariant-loop-constant : goal.invariant-loop-constant

@@ -1,6 +1,6 @@
 -- One type after the other.
 use Rattle.std.proofs.Common.{◌<◌, length, arith}
-use Rattle.ksv_scope.specs.Declarations.{declared}
+use Rattle.ksv_schema_scope.specs.Declarations.{declared}
 use Rattle.ksv_schema.specs.Rules.{member_limit}
 use Rattle.ksv_schema.proofs.Past.{member_past}
 use Rattle.ksv_schema.proofs.TypeRows.{found_step, found_end}

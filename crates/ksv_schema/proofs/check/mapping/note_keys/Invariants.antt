@@ -1,5 +1,5 @@
 use Rattle.std.proofs.Common.{◌≡◌, drop, map}
-use Rattle.ksv_yaml.specs.View.{pair}
+use Rattle.ksv_yaml_tree.specs.View.{pair}
 use Rattle.ksv_schema.specs.Faults.{noted}
 use Rattle.ksv_schema.specs.Rules.{value_faults, keys_faults}
 use Rattle.ksv_schema.specs.Code.{seen_fault, seen_home, keys_of}

@@ -1,6 +1,6 @@
 -- One type after the other.
 use Rattle.std.proofs.Common.{arith}
-use Rattle.ksv_scope.specs.Declarations.{declared}
+use Rattle.ksv_schema_scope.specs.Declarations.{declared}
 use Rattle.ksv_schema.specs.Rules.{type_faults}
 use Rattle.ksv_schema.proofs.TypeRows.{found_step, found_end}
 use Rattle.ksv_schema.proofs.check.scope.note_types.Goals as goal

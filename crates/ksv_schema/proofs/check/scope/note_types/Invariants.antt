@@ -1,5 +1,5 @@
 use Rattle.std.proofs.Common.{◌≡◌, drop}
-use Rattle.ksv_scope.specs.Declarations.{declared}
+use Rattle.ksv_schema_scope.specs.Declarations.{declared}
 use Rattle.ksv_schema.specs.Faults.{noted}
 use Rattle.ksv_schema.specs.Rules.{each_from, type_faults}
 use Rattle.ksv_schema.specs.Code.{seen_fault}

@@ -1,6 +1,6 @@
 use Rattle.std.proofs.Common.{◌≡◌, drop, map}
 use Rattle.std.specs.List.{list_any}
-use Rattle.ksv_yaml.specs.View.{pair}
+use Rattle.ksv_yaml_tree.specs.View.{pair}
 use Rattle.ksv_schema.specs.Values.{is_type, is_of_description}
 use Rattle.ksv_schema.proofs.check.together.has_object.Given as goal
 

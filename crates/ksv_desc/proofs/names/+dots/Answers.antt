@@ -1,0 +1,22 @@
+-- Names of arguments are added one after the other, and those of a call's parts likewise.
+use Rattle.std.proofs.Common.{◌∙◌, sym, ap}
+use Rattle.ksv_expr_tree.specs.Tree.{view}
+use Rattle.ksv_schema_names.specs.Numbered.{distinct_behind, dotted}
+use Rattle.ksv_schema_names.specs.Code.{dotted_in}
+use Rattle.ksv_schema_names.proofs.Dots.{distinct_step, distinct_end, all_flat, added_call}
+use Rattle.ksv_desc.proofs.names.+dots.Goals as goal
+
+pub add_in-returns-in_ok-add_in_each-in-Call : goal.add_in-returns-in_ok-add_in_each-in-Call
+add_in-returns-in_ok-add_in_each-in-Call t c =
+    added_call _ c.add_in-in-Call.new.names _ _ _ _ _ c.in-Call.is
+    (cc (c.in_ok-add_in-in-Call.ensures, c.deref-in-Call.ensures))
+    (cc (c.in_ok-add_in_each-in-Call.ensures, c.deref-in-Call-2.ensures.value))
+
+pub add_in_each-loop-argument-preserved : goal.add_in_each-loop-argument-preserved
+unfolding dotted_in
+add_in_each-loop-argument-preserved t c =
+    distinct_step view dotted c.args.arguments.now _ _ _ _ _ c.loop-argument-test.true c.argument-item.is c.in_ok-add_in.ensures c.loop-argument.invariant
+
+pub add_in_each-returns : goal.add_in_each-returns
+add_in_each-returns t c =
+    distinct_end view dotted c.args.arguments.now _ _ _ c.loop-argument-test.false c.loop-argument.invariant ∙ sym (ap (distinct_behind c.args.names.now) (all_flat _))

@@ -1,0 +1,5 @@
+use Rattle.std.proofs.Common.{◌≡◌, ◌++◌, map, drop}
+use Rattle.ksv_desc.proofs.type_desc.names_of.Given as goal
+
+abbrev pub invariant-loop-member : goal.invariant-loop-member
+invariant-loop-member l = l.names.items ++ map (λ m. m.name) (drop l.member-index l.members) ≡ map (λ m. m.name) l.members

@@ -1,0 +1,127 @@
+-- Each number in a description leads to something: names, types, enums and their members; and each parameter has its argument.
+use Rattle.std.specs.Prelude.{◌≡◌, ℕ, ◌<◌, ◌≤◌, Bool, true, false, List, [], ◌∷◌, length, filter, Option, Some, None, slice_get}
+use Rattle.std.specs.Option.{option_map_or}
+use Rattle.ksv_expr_tree.specs.Tree.{Tree, literal, named, special, member, unary, binary, logical, choice, field, special_field, call, index, cast, Arguments, no_arguments, argument, Word}
+use Rattle.ksv_expr_tree.specs.declared.tree.EnumMember.{EnumMember}
+use Rattle.ksv_schema_names.specs.Names.{count}
+use Rattle.ksv_schema_names.specs.Resolved.{AreDistinct}
+use Rattle.ksv_schema.specs.Description.{Content, Bytes, Fixed, Number, Characters, Object, CaseValue, Literal, Negated, EnumValue, Case, Choice, Always, Switch, Extent, Sized, ToEnd, ByItself, Repeat, Once, UntilEnd, Times, Until, Field, Kind, Given, InSequence, Positioned, Calculated, MemberOfType, Description, member_id}
+
+-- each of a list is so
+abbrev pub Each : {A : Type 0} → (A → Type 0) → List A → Type 0
+Each P [] = Unit {0}
+Each P (x ∷ xs) = P x × Each P xs
+
+-- what may be left away is so, where it is there
+abbrev pub IfAny : {A : Type 0} → (A → Type 0) → Option A → Type 0
+IfAny P None = Unit {0}
+IfAny P (Some x) = P x
+
+-- what must be there is so
+abbrev pub IsThere : {A : Type 0} → (A → Type 0) → Option A → Type 0
+IsThere P None = ⊥
+IsThere P (Some x) = P x
+
+-- ---- expressions
+
+-- a name has the number of its text, a type one of the types, and a member is one of its enum with its id
+abbrev pub IsNamed : Description → Word → Type 0
+IsNamed d w = IsThere (λ n. slice_get d.names n ≡ Some w.text) w.number
+
+abbrev pub IsType : Description → ℕ → Type 0
+IsType d n = n < length d.types
+
+abbrev pub IsEnum : Description → ℕ → Type 0
+IsEnum d e = e < length d.enums
+
+abbrev pub IsMemberOf : Description → EnumMember → Type 0
+IsMemberOf d g = IsThere (λ (id : List ℕ). Unit {0}) (member_id d g.enum_number g.number)
+
+abbrev mutual
+  pub IsResolvedTree : Description → Tree → Type 0
+  IsResolvedTree d (literal c) = Unit {0}
+  IsResolvedTree d (named w) = IsNamed d w
+  IsResolvedTree d (special s) = Unit {0}
+  IsResolvedTree d (member m) = IsThere (IsMemberOf d) m.given
+  IsResolvedTree d (unary op x) = IsResolvedTree d x
+  IsResolvedTree d (binary op x y) = IsResolvedTree d x × IsResolvedTree d y
+  IsResolvedTree d (logical op x y) = IsResolvedTree d x × IsResolvedTree d y
+  IsResolvedTree d (choice x y z) = IsResolvedTree d x × IsResolvedTree d y × IsResolvedTree d z
+  IsResolvedTree d (field x w) = IsResolvedTree d x × IsNamed d w
+  IsResolvedTree d (special_field x s) = IsResolvedTree d x
+  IsResolvedTree d (call x m es) = IsResolvedTree d x × AreResolvedTrees d es
+  IsResolvedTree d (index x y) = IsResolvedTree d x × IsResolvedTree d y
+  IsResolvedTree d (cast x t) = IsResolvedTree d x × IsThere (IsType d) t.number
+
+  pub AreResolvedTrees : Description → Arguments → Type 0
+  AreResolvedTrees d no_arguments = Unit {0}
+  AreResolvedTrees d (argument e es) = IsResolvedTree d e × AreResolvedTrees d es
+
+-- ---- members
+
+-- the parameters of a type
+abbrev pub is_parameter : MemberOfType → Bool
+is_parameter m = elim m.kind [ Given ↦ true | InSequence f ↦ false | Positioned p s f ↦ false | Calculated c v e ↦ false ]
+
+abbrev pub parameters : Description → ℕ → List MemberOfType
+parameters d t = option_map_or (λ x. filter is_parameter x.members) (slice_get d.types t) []
+
+-- an object of a type that there is, with an argument for each of its parameters
+pub record IsResolvedObject (d : Description) (t : ℕ) (es : Arguments) : Type 0 where
+  pub type : IsType d t
+  pub as_many : count es ≡ length (parameters d t)
+  pub arguments : AreResolvedTrees d es
+
+abbrev pub IsResolvedContent : Description → Content → Type 0
+IsResolvedContent d Bytes = Unit {0}
+IsResolvedContent d (Fixed bs) = Unit {0}
+IsResolvedContent d (Number signed bytes order enum) = IfAny (IsEnum d) enum
+IsResolvedContent d (Characters encoding) = Unit {0}
+IsResolvedContent d (Object t es) = IsResolvedObject d t es
+
+abbrev pub IsResolvedValue : Description → CaseValue → Type 0
+IsResolvedValue d (Literal c) = Unit {0}
+IsResolvedValue d (Negated n) = Unit {0}
+IsResolvedValue d (EnumValue g) = IsMemberOf d g
+
+abbrev pub IsResolvedCase : Description → Case → Type 0
+IsResolvedCase d c = IfAny (IsResolvedValue d) c.value × IsResolvedContent d c.content
+
+abbrev pub IsResolvedChoice : Description → Choice → Type 0
+IsResolvedChoice d (Always content) = IsResolvedContent d content
+IsResolvedChoice d (Switch on cases) = IsResolvedTree d on × Each (IsResolvedCase d) cases
+
+abbrev pub IsResolvedExtent : Description → Extent → Type 0
+IsResolvedExtent d (Sized e) = IsResolvedTree d e
+IsResolvedExtent d ToEnd = Unit {0}
+IsResolvedExtent d ByItself = Unit {0}
+
+abbrev pub IsResolvedRepeat : Description → Repeat → Type 0
+IsResolvedRepeat d Once = Unit {0}
+IsResolvedRepeat d UntilEnd = Unit {0}
+IsResolvedRepeat d (Times e) = IsResolvedTree d e
+IsResolvedRepeat d (Until e) = IsResolvedTree d e
+
+pub record IsResolvedField (d : Description) (f : Field) : Type 0 where
+  pub condition : IfAny (IsResolvedTree d) f.condition
+  pub repeat : IsResolvedRepeat d f.repeat
+  pub choice : IsResolvedChoice d f.choice
+  pub extent : IsResolvedExtent d f.extent
+
+abbrev pub IsResolvedKind : Description → Kind → Type 0
+IsResolvedKind d Given = Unit {0}
+IsResolvedKind d (InSequence f) = IsResolvedField d f
+IsResolvedKind d (Positioned place stream f) = IsResolvedTree d place × IfAny (IsResolvedTree d) stream × IsResolvedField d f
+IsResolvedKind d (Calculated condition value enum) = IfAny (IsResolvedTree d) condition × IsResolvedTree d value × IfAny (IsEnum d) enum
+
+-- a member has one of the names of members
+abbrev pub IsResolvedMember : Description → MemberOfType → Type 0
+IsResolvedMember d m = (m.name < d.known) × IsResolvedKind d m.kind
+
+-- ---- a description
+
+-- each name stands once, those of members before the others
+pub record IsResolved (d : Description) : Type 0 where
+  pub distinct : AreDistinct d.names
+  pub known : d.known ≤ length d.names
+  pub members : Each (λ t. Each (IsResolvedMember d) t.members) d.types

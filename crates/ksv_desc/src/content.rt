@@ -1,0 +1,68 @@
+//! What is read at a member.
+
+use ksv_expr::Encoding;
+use ksv_schema_scope::ByteOrder;
+use ksv_expr_tree::{EnumMember, Expr, Literal};
+
+/// What is read.
+#[derive(Drop)]
+pub enum Content {
+    /// Bytes.
+    Bytes,
+    /// These bytes and no others.
+    Fixed(Vec<u8>),
+    /// An integer.
+    Number {
+        /// Whether it has a sign.
+        is_signed: bool,
+        /// How many bytes it has: 1, 2, 4 or 8.
+        size: u8,
+        /// The order of its bytes.
+        order: ByteOrder,
+        /// The number of the enum whose member it is.
+        enumeration: Option<u32>,
+    },
+    /// A text.
+    Characters(Encoding),
+    /// An object of a type.
+    Object {
+        /// The type's number.
+        type_number: u32,
+        /// What the type's parameters are given.
+        arguments: Vec<Expr>,
+    },
+}
+
+/// What a switch compares with.
+#[derive(Drop)]
+pub enum CaseValue {
+    /// A number, truth value or text.
+    Literal(Literal),
+    /// The number below zero that is the opposite of this one, which is at most 2^63.
+    Negated(u64),
+    /// A member of an enum.
+    Member(EnumMember),
+}
+
+/// A case of a switch.
+#[derive(Drop)]
+pub struct Case {
+    /// What is compared with; none for `_`, which every value matches.
+    pub value: Option<CaseValue>,
+    /// What is read where it matches.
+    pub content: Content,
+}
+
+/// What is read each time, or what a switch chooses.
+#[derive(Drop)]
+pub enum Choice {
+    /// The same content each time.
+    Always(Content),
+    /// The content of the first case that matches.
+    Switch {
+        /// What is compared.
+        on: Expr,
+        /// The cases in written order.
+        cases: Vec<Case>,
+    },
+}

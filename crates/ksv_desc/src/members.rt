@@ -1,0 +1,57 @@
+//! Members of types.
+
+use crate::field::Field;
+use ksv_expr_tree::Expr;
+
+/// What a member is.
+#[derive(Drop)]
+pub enum Kind {
+    /// A parameter.
+    Given,
+    /// An attribute of a `seq`.
+    InSequence(Field),
+    /// An instance with a place.
+    Positioned {
+        /// Its place.
+        place: Expr,
+        /// The stream in which it stands, where that isn't the object's own.
+        stream: Option<Expr>,
+        /// What it reads there.
+        field: Field,
+    },
+    /// An instance with a value.
+    Calculated {
+        /// It is there only where this holds.
+        condition: Option<Expr>,
+        /// Its value.
+        value: Expr,
+        /// The number of the enum whose member it is.
+        enumeration: Option<u32>,
+    },
+}
+
+/// A parameter, attribute or instance of a type.
+#[derive(Drop)]
+pub struct MemberDesc {
+    /// The number of its name.
+    pub name: u32,
+    /// What it is.
+    pub kind: Kind,
+}
+
+impl MemberDesc {
+    ghost use Rattle.std.specs.Prelude.{◌≡◌};
+    ghost use Rattle.ksv_desc.specs.Sequence.{is_in_sequence};
+
+    /// Whether it is an attribute of a `seq`.
+    pub fn is_in_sequence(&self) -> bool
+        ensures { result ≡ is_in_sequence self.now }
+    {
+        match self.kind {
+            Kind::Given => false,
+            Kind::InSequence(_) => true,
+            Kind::Positioned { .. } => false,
+            Kind::Calculated { .. } => false,
+        }
+    }
+}

@@ -1,0 +1,148 @@
+//! The names of a description, by number.
+
+ghost use Rattle.std.specs.Prelude.{◌≡◌, ◌↔◌, IsTrue, ◌≤◌, ◌^◌, ℕ, List, [], ◌∷◌, map, length, string_bytes, slice_get, unwrap_or, OnOk, OnErr};
+ghost use Rattle.ksv_expr_tree.specs.Tree.{view, arguments_of};
+ghost use Rattle.ksv_schema_names.specs.Numbered.{distinct_behind, number_in, dotted, all_dotted};
+ghost use Rattle.ksv_schema_names.specs.Code.{dotted_in};
+
+use indexmap::IndexSet;
+use ksv_expr_tree::Expr;
+use std::alloc::{AllocError, Global};
+use std::marker::Model;
+
+/// How many names a table may have.
+const MOST: usize = 0x1_0000_0000;
+
+/// A table of names, each of which stands there once and has its place as its number.
+#[derive(Drop)]
+pub struct Names {
+    names: IndexSet<String>,
+}
+
+impl Model for Names {
+    ghost Value = { List (List ℕ) };
+
+    ghost view = { λ n. map string_bytes n.names.keys };
+
+    ghost invariant = { λ n. length n.names.keys ≤ 2 ^ 32 };
+}
+
+impl Names {
+    /// A table of no names.
+    pub fn new(alloc: Global) -> Self
+        ensures { result ≡ [] }
+    {
+        Names {
+            names: IndexSet::new(alloc),
+        }
+    }
+
+    /// How many names there are.
+    pub fn len(&self) -> usize
+        ensures { result ≡ length self.now }
+    {
+        self.names.len()
+    }
+
+    /// Whether there are none.
+    pub fn is_empty(&self) -> bool
+        ensures { IsTrue result ↔ (self.now ≡ []) }
+    {
+        self.len() == 0
+    }
+
+    /// Adds a name, if it isn't there.
+    pub fn add(&mut self, name: &str) -> Result<(), AllocError>
+        ensures added { OnOk result (self.new ≡ distinct_behind self.old (name.now ∷ [])) }
+        ensures kept { OnErr result (self.new ≡ self.old) }
+    {
+        if self.names.contains(name) {
+            return Ok(());
+        }
+        if self.len() >= MOST {
+            return Err(AllocError);
+        }
+        let name = String::from_str(*self.names.allocator(), name)?;
+        self.names.insert(name)?;
+        Ok(())
+    }
+
+    /// Adds the names behind the dots of an expression. Where memory is refused, some of them are there.
+    #[tactic(auto, unfolding(crate::specs::Code::dotted_in))]
+    pub fn add_dotted(&mut self, expr: &Expr) -> Result<(), AllocError>
+        ensures { OnOk result (self.new ≡ distinct_behind self.old (dotted (view expr.now))) }
+    {
+        add_in(self, expr)
+    }
+
+    /// Adds the names behind the dots of a type's arguments. Where memory is refused, some of them are there.
+    pub fn add_all_dotted(&mut self, arguments: &[Expr]) -> Result<(), AllocError>
+        ensures { OnOk result (self.new ≡ distinct_behind self.old (all_dotted (arguments_of (map view arguments.now)))) }
+    {
+        add_in_each(self, arguments)
+    }
+
+    /// The number of a name.
+    #[tactic(auto, unfolding(crate::specs::Numbered::number_in))]
+    pub fn number_of(&self, name: &str) -> Option<u32>
+        ensures { result ≡ number_in self.now name.now }
+    {
+        match self.names.get_index_of(name) {
+            Some(number) => Some(number as u32),
+            None => None,
+        }
+    }
+
+    /// The name that has a number, or the empty text.
+    pub fn name(&self, number: u32) -> &str
+        ensures { result.now ≡ unwrap_or (slice_get self.now number) [] }
+    {
+        match self.names.get_index(number as usize) {
+            Some(name) => name.as_str(),
+            None => "",
+        }
+    }
+}
+
+// Adds the names behind the dots of an expression.
+#[cycle(dots)]
+#[tactic(auto, using(crate::proofs::Dots::steps, crate::proofs::Dots::dotted_literal, crate::proofs::Dots::dotted_name, crate::proofs::Dots::dotted_special, crate::proofs::Dots::dotted_member, crate::proofs::Dots::dotted_unary, crate::proofs::Dots::dotted_binary, crate::proofs::Dots::dotted_logical, crate::proofs::Dots::dotted_choice, crate::proofs::Dots::dotted_field, crate::proofs::Dots::dotted_special_field, crate::proofs::Dots::dotted_index, crate::proofs::Dots::dotted_cast))]
+fn add_in(names: &mut Names, expr: &Expr) -> Result<(), AllocError>
+    ensures { OnOk result (names.new ≡ distinct_behind names.old (dotted_in expr.now)) }
+{
+    match expr {
+        Expr::Literal(_) | Expr::Name(_) | Expr::Special(_) | Expr::Member(_) => Ok(()),
+        Expr::Binary(_, left, right) | Expr::Logical(_, left, right) | Expr::Index(left, right) => {
+            add_in(names, left)?;
+            add_in(names, right)
+        }
+        Expr::Choice(condition, yes, no) => {
+            add_in(names, condition)?;
+            add_in(names, yes)?;
+            add_in(names, no)
+        }
+        Expr::Field(object, name) => {
+            add_in(names, object)?;
+            names.add(name.text.as_str())
+        }
+        Expr::Call(object, _, arguments) => {
+            add_in(names, object)?;
+            add_in_each(names, arguments)?;
+            Ok(())
+        }
+        Expr::Unary(_, object) | Expr::SpecialField(object, _) | Expr::Cast(object, _) => {
+            add_in(names, object)
+        }
+    }
+}
+
+// The same of arguments.
+#[cycle(dots)]
+fn add_in_each(names: &mut Names, arguments: &[Expr]) -> Result<(), AllocError>
+    ensures { OnOk result (names.new ≡ distinct_behind names.old (all_dotted (arguments_of (map view arguments.now)))) }
+{
+    for argument in arguments {
+        add_in(names, argument)?;
+    }
+    Ok(())
+}

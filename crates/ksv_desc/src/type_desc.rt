@@ -1,0 +1,91 @@
+//! Types.
+
+ghost use Rattle.std.specs.Prelude.{◌≡◌, map, filter, IfOk, string_bytes};
+ghost use Rattle.ksv_desc.specs.Sequence.{is_in_sequence};
+
+use crate::members::MemberDesc;
+use std::alloc::{AllocError, Global};
+
+/// A type: its name (of the root its own id), and its members in written order.
+#[derive(Drop)]
+pub struct TypeDesc {
+    id: String,
+    members: Vec<MemberDesc>,
+    names: Vec<u32>,
+    fields: Vec<u32>,
+    ghost names_are: { names.items ≡ map (λ m. m.name) members.items },
+    ghost fields_are: { fields.items ≡ map (λ m. m.name) (filter is_in_sequence members.items) },
+}
+
+// The numbers of members' names.
+fn names_of(alloc: Global, members: &[MemberDesc]) -> Result<Vec<u32>, AllocError>
+    ensures { IfOk result (λ v. v.items ≡ map (λ m. m.name) members.now) }
+{
+    let mut names = Vec::new(alloc);
+    for member in members {
+        names.push(member.name)?;
+    }
+    Ok(names)
+}
+
+// The numbers of the names of those that stand in a `seq`.
+fn fields_of(alloc: Global, members: &[MemberDesc]) -> Result<Vec<u32>, AllocError>
+    ensures { IfOk result (λ v. v.items ≡ map (λ m. m.name) (filter is_in_sequence members.now)) }
+{
+    let mut fields = Vec::new(alloc);
+    for member in members {
+        if member.is_in_sequence() {
+            fields.push(member.name)?;
+        }
+    }
+    Ok(fields)
+}
+
+impl TypeDesc {
+    /// A type of this name with these members.
+    pub(crate) fn new(
+        alloc: Global,
+        id: String,
+        members: Vec<MemberDesc>,
+    ) -> Result<Self, AllocError>
+        ensures id { IfOk result (λ t. t.id ≡ id) }
+        ensures members { IfOk result (λ t. t.members ≡ members) }
+    {
+        let names = names_of(alloc, &members)?;
+        let fields = fields_of(alloc, &members)?;
+        Ok(TypeDesc {
+            id,
+            members,
+            names,
+            fields,
+        })
+    }
+
+    /// Its name.
+    pub fn id(&self) -> &str
+        ensures { result.now ≡ string_bytes self.now.id }
+    {
+        self.id.as_str()
+    }
+
+    /// Its members.
+    pub fn members(&self) -> &[MemberDesc]
+        ensures { result.now ≡ self.now.members.items }
+    {
+        self.members.as_slice()
+    }
+
+    /// The numbers of its members' names.
+    pub fn names(&self) -> &[u32]
+        ensures { result.now ≡ map (λ m. m.name) self.now.members.items }
+    {
+        self.names.as_slice()
+    }
+
+    /// The numbers of the names of those of its members that stand in its `seq`.
+    pub fn fields(&self) -> &[u32]
+        ensures { result.now ≡ map (λ m. m.name) (filter is_in_sequence self.now.members.items) }
+    {
+        self.fields.as_slice()
+    }
+}

@@ -1,5 +1,0 @@
-use Rattle.ksv_expr.specs.Exact.{path_exact as law}
-use Rattle.ksv_expr.proofs.laws.equal_paths_are_same.Goals as goal
-
-pub returns : goal.returns
-returns c = law

@@ -1,5 +1,0 @@
-use Rattle.ksv_expr.specs.Numbers.{path_number-one, path_number-below}
-use Rattle.ksv_expr.proofs.laws.paths_are_numbered.Goals as goal
-
-pub returns : goal.returns
-returns c = record { one = path_number-one; below = path_number-below }

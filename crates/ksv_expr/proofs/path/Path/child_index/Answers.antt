@@ -1,7 +1,0 @@
-use Rattle.std.proofs.Common.{sym, ◌∷◌}
-use Rattle.ksv_expr.specs.declared.step.Step.TheVariants.{Index}
-use Rattle.ksv_expr.specs.Trail.{trail_of-false, fits-wide}
-use Rattle.ksv_expr.proofs.path.Path.child_index.Goals as goal
-
-pub returns-then-index-ge-MAX_INDEX : goal.returns-then-index-ge-MAX_INDEX
-returns-then-index-ge-MAX_INDEX c = sym (trail_of-false (Index c.args.index ∷ c.args.self.now.upward) (fits-wide c.args.index c.args.self.now.upward c.if-index-ge-MAX_INDEX.true))

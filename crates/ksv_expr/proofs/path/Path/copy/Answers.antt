@@ -1,6 +1,0 @@
-use Rattle.std.proofs.Common.{◌∙◌, ap, reverse}
-use Rattle.ksv_expr.specs.Trail.{same_trail}
-use Rattle.ksv_expr.proofs.path.Path.copy.Goals as goal
-
-pub returns : goal.returns
-returns c = same_trail _ _ (ap reverse (c.in_ok-steps.ensures.items ∙ c.as_slice.ensures.value)) ∙ c.self.view_is

@@ -1,4 +1,0 @@
-use Rattle.ksv_expr.proofs.path.Path.from_steps.Goals as goal
-
-pub invariant_of-result : goal.invariant_of-result
-invariant_of-result c = (rw c.in_ok-from_slice.ensures.items c.requires, tt)

@@ -1,5 +1,0 @@
-use Rattle.ksv_expr.specs.Trail.{last-InRange}
-use Rattle.ksv_expr.proofs.path.Path.last.Goals as goal
-
-pub returns-clause-in_range : goal.returns-clause-in_range
-returns-clause-in_range c = rw c.last_step.ensures (last-InRange c.args.self.now)

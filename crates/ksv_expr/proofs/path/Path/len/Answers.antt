@@ -1,7 +1,0 @@
-use Rattle.std.proofs.Common.{arith, refl, reverse}
-use Rattle.ksv_expr.specs.Trail.{length-fits}
-use Rattle.ksv_expr.proofs.Paths.{length-seen}
-use Rattle.ksv_expr.proofs.path.Path.len.Goals as goal
-
-pub returns-clause-small : goal.returns-clause-small
-returns-clause-small c = omega (arith, length-fits _ c.self.inside.valid, length-seen c.self.inside.steps.items (reverse c.self.inside.steps.items) refl, c.self.inside.steps.ok)

@@ -1,9 +1,0 @@
-use Rattle.std.proofs.Common.{refl}
-use Rattle.ksv_expr.specs.Trail.{root, same_trail, fits-none}
-use Rattle.ksv_expr.proofs.path.Path.root.Goals as goal
-
-pub invariant_of-result : goal.invariant_of-result
-invariant_of-result c = (rw c.new.ensures.items fits-none, tt)
-
-pub returns : goal.returns
-returns c = same_trail _ root (rw c.new.ensures.items refl)

@@ -1,0 +1,68 @@
+use Rattle.std.proofs.Common.{◌≡◌, ◌+◌, ◌*◌, ◌≤◌, ◌<◌, length, map}
+use Rattle.ksv_expr_tree.specs.Tree.{view, arguments_of}
+use Rattle.ksv_expr_syntax.specs.Lexemes.{lexemes}
+use Rattle.ksv_expr_syntax.specs.Grammar.{Joined, Postfix}
+use Rattle.ksv_expr_syntax.specs.Reading.{read}
+use Rattle.ksv_expr_syntax.proofs.Flow.{join_on, suffix_on}
+use Rattle.ksv_expr_syntax.proofs.Exits.{level_of, ListNow}
+use Rattle.ksv_expr_syntax.proofs.parser.+parser.Given as goal
+
+abbrev pub decreases-arguments : goal.decreases-arguments
+decreases-arguments l = 64 * length l.at.tokens.now + 32
+
+abbrev pub decreases-whole : goal.decreases-whole
+decreases-whole l = 64 * length l.at.tokens.now + 30
+
+abbrev pub decreases-joined : goal.decreases-joined
+decreases-joined l = 64 * length l.at.tokens.now + 2 * level_of l.precedence + 1
+
+abbrev pub decreases-operand : goal.decreases-operand
+decreases-operand l = 64 * length l.at.tokens.now + 2 * level_of l.precedence
+
+abbrev pub decreases-negation : goal.decreases-negation
+decreases-negation l = 64 * length l.at.tokens.now + 25
+
+abbrev pub decreases-comparison : goal.decreases-comparison
+decreases-comparison l = 64 * length l.at.tokens.now + 23
+
+abbrev pub decreases-unary : goal.decreases-unary
+decreases-unary l = 64 * length l.at.tokens.now + 9
+
+abbrev pub decreases-postfix : goal.decreases-postfix
+decreases-postfix l = 64 * length l.at.tokens.now + 7
+
+abbrev pub decreases-primary : goal.decreases-primary
+decreases-primary l = 64 * length l.at.tokens.now + 5
+
+abbrev pub decreases-suffix : goal.decreases-suffix
+decreases-suffix l = 64 * length l.rest.now + 50
+
+abbrev pub decreases-selected : goal.decreases-selected
+decreases-selected l = 64 * length l.at.tokens.now + 49
+
+abbrev pub invariant-joined-operators : goal.invariant-joined-operators
+invariant-joined-operators l = record {
+  is : read (Joined l.precedence) l.depth (lexemes l.fn.at.tokens.now) l.fn.at.parts ≡ join_on l.precedence (view l.left) l.depth (lexemes l.now.tokens.now) l.now.parts;
+  shorter : length l.now.tokens.now < length l.fn.at.tokens.now;
+}
+
+abbrev pub decreases-joined-operators : goal.decreases-joined-operators
+decreases-joined-operators l = length l.now.tokens.now
+
+abbrev pub invariant-postfix-suffixes : goal.invariant-postfix-suffixes
+invariant-postfix-suffixes l = record {
+  is : read Postfix l.depth (lexemes l.fn.at.tokens.now) l.fn.at.parts ≡ suffix_on (view l.object) l.depth (lexemes l.now.tokens.now) l.now.parts;
+  shorter : length l.now.tokens.now < length l.fn.at.tokens.now;
+}
+
+abbrev pub decreases-postfix-suffixes : goal.decreases-postfix-suffixes
+decreases-postfix-suffixes l = length l.now.tokens.now
+
+abbrev pub invariant-arguments-list : goal.invariant-arguments-list
+invariant-arguments-list l = record {
+  is : ListNow l.depth (lexemes l.fn.at.tokens.now) l.fn.at.parts (arguments_of (map view l.list.items)) (lexemes l.now.tokens.now) l.now.parts;
+  shorter : length l.now.tokens.now ≤ length l.fn.at.tokens.now;
+}
+
+abbrev pub decreases-arguments-list : goal.decreases-arguments-list
+decreases-arguments-list l = length l.now.tokens.now

@@ -1,0 +1,20 @@
+//! The expression language of a description: its tokens, its grammar, and the trees that texts spell.
+//!
+//! `parse` reads an expression and `parse_type` a type with its arguments, both within two limits: 256 parts, and 32
+//! in each other. What a text spells is defined in specs/ apart from the code: specs/Tokens.antt says what a token is
+//! and which one is the longest at a place, specs/Grammar.antt says which tokens are which tree.
+#![tactic(auto)]
+
+mod cursor;
+mod fault;
+mod laws;
+mod lexer;
+mod make;
+mod operator;
+mod parser;
+mod read;
+mod token;
+
+pub use fault::{ExprFault, ExprFaultKind};
+pub use laws::{less_stands_behind, one_longest_token, one_reading};
+pub use read::{DEPTH, PARTS, parse, parse_type};

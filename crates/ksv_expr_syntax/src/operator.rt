@@ -1,0 +1,116 @@
+//! Operators: which tokens they are, and how tightly they bind.
+
+ghost use Rattle.std.specs.Prelude.{◌≡◌, ◌+◌, length, None, MatchOption};
+ghost use Rattle.ksv_expr_syntax.specs.Lexemes.{Lexeme, lexemes};
+ghost use Rattle.ksv_expr_syntax.specs.Grammar.{operator};
+ghost use Rattle.ksv_expr_syntax.specs.Reading.{next, operator_at, comparison_at, prefix_at};
+
+use crate::cursor::first;
+use crate::token::{Placed, Symbol, Token};
+use ksv_expr_tree::{BinaryOperator, LogicalOperator, UnaryOperator};
+
+/// A level of operators between operands that go on to the right, from the loosest to the tightest.
+#[derive(Clone, Copy)]
+pub enum Precedence {
+    /// `or`
+    Or,
+    /// `and`
+    And,
+    /// `|`
+    BitOr,
+    /// `^`
+    BitXor,
+    /// `&`
+    BitAnd,
+    /// `<<` and `>>`
+    Shift,
+    /// `+` and `-`
+    Sum,
+    /// `*`, `/` and `%`
+    Term,
+}
+
+/// An operator of such a level.
+#[derive(Clone, Copy)]
+pub enum Infix {
+    /// `and` or `or`
+    Logical(LogicalOperator),
+    /// One of arithmetic or of bits.
+    Binary(BinaryOperator),
+}
+
+// The operator of this precedence that stands first.
+pub(crate) fn infix_operator(
+    precedence: Precedence,
+    tokens: &[Placed],
+) -> Option<(Infix, &[Placed])>
+    ensures is { MatchOption result (operator_at precedence (lexemes tokens.now) ≡ None) (λ x. operator_at precedence (lexemes tokens.now) ≡ next x.0 (lexemes x.1.now)) }
+    ensures shorter { MatchOption result (Unit {0}) (λ x. length x.1.now + 1 ≡ length tokens.now) }
+{
+    let (token, rest) = first(tokens)?;
+    let Token::Symbol(symbol) = token else {
+        return None;
+    };
+    let operator = infix_of(precedence, *symbol)?;
+    Some((operator, rest))
+}
+
+// The operator of this precedence that a symbol is.
+fn infix_of(precedence: Precedence, symbol: Symbol) -> Option<Infix>
+    ensures { result ≡ operator precedence (Lexeme.symbol symbol) }
+{
+    match (precedence, symbol) {
+        (Precedence::Or, Symbol::Or) => Some(Infix::Logical(LogicalOperator::Or)),
+        (Precedence::And, Symbol::And) => Some(Infix::Logical(LogicalOperator::And)),
+        (Precedence::BitOr, Symbol::Bar) => Some(Infix::Binary(BinaryOperator::BitOr)),
+        (Precedence::BitXor, Symbol::Caret) => Some(Infix::Binary(BinaryOperator::BitXor)),
+        (Precedence::BitAnd, Symbol::Ampersand) => Some(Infix::Binary(BinaryOperator::BitAnd)),
+        (Precedence::Shift, Symbol::ShiftLeft) => Some(Infix::Binary(BinaryOperator::ShiftLeft)),
+        (Precedence::Shift, Symbol::ShiftRight) => Some(Infix::Binary(BinaryOperator::ShiftRight)),
+        (Precedence::Sum, Symbol::Plus) => Some(Infix::Binary(BinaryOperator::Add)),
+        (Precedence::Sum, Symbol::Minus) => Some(Infix::Binary(BinaryOperator::Subtract)),
+        (Precedence::Term, Symbol::Star) => Some(Infix::Binary(BinaryOperator::Multiply)),
+        (Precedence::Term, Symbol::Slash) => Some(Infix::Binary(BinaryOperator::Divide)),
+        (Precedence::Term, Symbol::Percent) => Some(Infix::Binary(BinaryOperator::Remainder)),
+        _ => None,
+    }
+}
+
+// The comparison that stands first.
+pub(crate) fn comparison_operator(tokens: &[Placed]) -> Option<(BinaryOperator, &[Placed])>
+    ensures is { MatchOption result (comparison_at (lexemes tokens.now) ≡ None) (λ x. comparison_at (lexemes tokens.now) ≡ next x.0 (lexemes x.1.now)) }
+    ensures shorter { MatchOption result (Unit {0}) (λ x. length x.1.now + 1 ≡ length tokens.now) }
+{
+    let (token, rest) = first(tokens)?;
+    let Token::Symbol(symbol) = token else {
+        return None;
+    };
+    let operator = match symbol {
+        Symbol::Less => BinaryOperator::Less,
+        Symbol::LessOrEqual => BinaryOperator::LessOrEqual,
+        Symbol::Greater => BinaryOperator::Greater,
+        Symbol::GreaterOrEqual => BinaryOperator::GreaterOrEqual,
+        Symbol::Equal => BinaryOperator::Equal,
+        Symbol::NotEqual => BinaryOperator::NotEqual,
+        _ => return None,
+    };
+    Some((operator, rest))
+}
+
+// The operator in front of an operand that stands first, `not` aside.
+pub(crate) fn prefix_operator(tokens: &[Placed]) -> Option<(UnaryOperator, &[Placed])>
+    ensures is { MatchOption result (prefix_at (lexemes tokens.now) ≡ None) (λ x. prefix_at (lexemes tokens.now) ≡ next x.0 (lexemes x.1.now)) }
+    ensures shorter { MatchOption result (Unit {0}) (λ x. length x.1.now + 1 ≡ length tokens.now) }
+{
+    let (token, rest) = first(tokens)?;
+    let Token::Symbol(symbol) = token else {
+        return None;
+    };
+    let operator = match symbol {
+        Symbol::Minus => UnaryOperator::Negate,
+        Symbol::Tilde => UnaryOperator::Complement,
+        Symbol::Plus => UnaryOperator::Plus,
+        _ => return None,
+    };
+    Some((operator, rest))
+}

@@ -1,0 +1,11 @@
+//! Expressions and types with arguments as trees.
+//!
+//! A contract sees an expression as a plain tree (`specs/Tree`), by `view`.
+#![tactic(auto)]
+
+pub mod tree;
+
+pub use tree::{
+    BinaryOperator, EnumMember, Expr, Literal, LogicalOperator, Member, Name, SpecialName, TypeName,
+    TypeRef, UnaryOperator,
+};

@@ -1,0 +1,63 @@
+//! The encodings of texts.
+ghost use Rattle.std.specs.Prelude.{◌≡◌, ◌<◌, IfOk, IsTrue, nat_lt};
+ghost use Rattle.std.specs.List.{list_all};
+ghost use Rattle.std.specs.Str.{is_utf8};
+ghost use Rattle.ksv_expr_value.specs.Bytes.{content};
+ghost use Rattle.ksv_expr_value.specs.Encodings.{encoding_named, decoded};
+
+use crate::parts::Parts;
+use crate::text::Text;
+use std::alloc::{AllocError, Global};
+
+/// An encoding of texts.
+#[derive(Clone, Copy, PartialEq, Eq, Debug)]
+pub enum Encoding {
+    /// Bytes below 128, each a character.
+    Ascii,
+    /// UTF-8.
+    Utf8,
+}
+
+impl Encoding {
+    /// The encoding of this name, in any letter case.
+    pub fn named(name: &str) -> Option<Encoding>
+        ensures { result ≡ encoding_named name.now }
+    {
+        if name.eq_ignore_ascii_case("ASCII") {
+            Some(Encoding::Ascii)
+        } else if name.eq_ignore_ascii_case("UTF-8") {
+            Some(Encoding::Utf8)
+        } else {
+            None
+        }
+    }
+
+    /// The text that these bytes spell; none where they spell none.
+    pub fn decode(self, alloc: Global, parts: Parts) -> Result<Option<Text>, AllocError>
+        ensures { IfOk result (λ text. text ≡ decoded self (content parts.entry)) }
+    {
+        let mut bytes = Vec::with_capacity(alloc, parts.front.len())?;
+        bytes.extend_from_slice(parts.front)?;
+        bytes.extend_from_slice(parts.back)?;
+        match self {
+            Encoding::Ascii => Ok(ascii(bytes)),
+            Encoding::Utf8 => Ok(utf8(bytes)),
+        }
+    }
+}
+
+#[tactic(auto, using(crate::proofs::Encodings::ascii_is_text, crate::proofs::Encodings::ascii_is_no_text))]
+fn ascii(bytes: Vec<u8>) -> Option<Text>
+    ensures { result ≡ decoded Encoding.Ascii bytes.items }
+{
+    if bytes.is_ascii() { utf8(bytes) } else { None }
+}
+
+fn utf8(bytes: Vec<u8>) -> Option<Text>
+    ensures { result ≡ decoded Encoding.Utf8 bytes.items }
+{
+    match String::from_utf8(bytes) {
+        Ok(string) => Some(Text::new(string)),
+        Err(_) => None,
+    }
+}

@@ -1,8 +1,0 @@
--- What a whole description in the code is to its definition.
-use Rattle.std.specs.Prelude.{map}
-use Rattle.ksv_schema.specs.declared.desc.pieces.Pieces.{Pieces}
-use Rattle.ksv_schema.specs.Description.{Description}
-use Rattle.ksv_schema.specs.Pieces.{plain_type, plain_enum}
-
-abbrev pub plain_pieces : Pieces → Description
-plain_pieces p = record { types = map plain_type p.types.items; enums = map plain_enum p.enums.items; names = p.names; known = p.known }

@@ -1,0 +1,111 @@
+-- What is found leads somewhere: places in lists, types, names, enums' members.
+use Rattle.std.proofs.Common.{◌≡◌, ℕ, zero, suc, ◌+◌, ◌<◌, Bool, true, false, cond, ◌&&◌, List, [], ◌∷◌, ◌++◌, map, length, Option, Some, None, is_some, is_none, slice_get, option_and_then, refl, sym, ap, ◌∙◌, arith}
+use Rattle.std.specs.List.{position_from, list_all}
+use Rattle.std.specs.Option.{option_map_or}
+use Rattle.std.specs.Str.{bytes_eq}
+use Rattle.std.proofs.lemmas.Bool.{and_parts}
+use Rattle.std.proofs.lemmas.Option.{slice_get_within}
+use Rattle.std.proofs.lemmas.Slice.Eq.{bytes_eq-Decides}
+use Rattle.ksv_schema_scope.specs.Types.{Scope, from, outwards, is_directly_in, type_in, root_named, nearest_type, type_along, type_named}
+
+-- ---- options and lists
+
+pub some_is : {A : Type 0} (o : Option A) → is_some o ≡ true → (x : A) × (o ≡ Some x)
+some_is None h = absurd (cc)
+some_is (Some x) h = (x, refl)
+
+pub not_none : {A : Type 0} (o : Option A) → is_none o ≡ false → (x : A) × (o ≡ Some x)
+not_none None h = absurd (cc)
+not_none (Some x) h = (x, refl)
+
+pub both_empty : {A : Type 0} (xs ys : List A) → xs ++ ys ≡ [] → (xs ≡ []) × (ys ≡ [])
+both_empty [] ys h = (refl, h)
+both_empty (x ∷ xs) ys h = absurd (cc)
+
+-- one of a list that passes the test
+pub one_passes : {A : Type 0} (p : A → Bool) (xs : List A) (k : ℕ) (x : A) → list_all p xs ≡ true → slice_get xs k ≡ Some x → p x ≡ true
+one_passes p [] k x all there = absurd (cc)
+one_passes p (y ∷ ys) zero x all there = let same : y ≡ x = cc in ap p (sym same) ∙ (and_parts (p y) (list_all p ys) all).0
+one_passes p (y ∷ ys) (suc k) x all there = one_passes p ys k x (and_parts (p y) (list_all p ys) all).1 there
+
+pub get_map : {A B : Type 0} (f : A → B) (xs : List A) (k : ℕ) (x : A) → slice_get xs k ≡ Some x → slice_get (map f xs) k ≡ Some (f x)
+get_map f [] k x h = absurd (cc)
+get_map f (y ∷ ys) zero x h = let same : y ≡ x = cc in ap (λ z. Some (f z)) same
+get_map f (y ∷ ys) (suc k) x h = get_map f ys k x h
+
+-- the element at which a test first passes
+pub record IsPlace {A : Type 0} (t : A → Bool) (i : ℕ) (xs : List A) (k : ℕ) : Type 0 where
+  pub offset : ℕ
+  pub is : k ≡ i + offset
+  pub item : A
+  pub there : slice_get xs offset ≡ Some item
+  pub passes : t item ≡ true
+
+by_test : {A : Type 0} (t : A → Bool) (i : ℕ) (x : A) (xs : List A) (k : ℕ) → (position_from t (i + 1) xs ≡ Some k → IsPlace t (i + 1) xs k) → (b : Bool) → t x ≡ b → cond b (Some i) (position_from t (i + 1) xs) ≡ Some k → IsPlace t i (x ∷ xs) k
+by_test t i x xs k later true passes found =
+    let same : i ≡ k = cc in
+    record { offset = 0; is = omega arith; item = x; there = refl; passes = passes }
+by_test t i x xs k later false fails found =
+    let p = later found in
+    record { offset = suc p.offset; is = omega arith; item = p.item; there = p.there; passes = p.passes }
+
+pub place_of : {A : Type 0} (t : A → Bool) (i : ℕ) (xs : List A) (k : ℕ) → position_from t i xs ≡ Some k → IsPlace t i xs k
+place_of t i [] k h = absurd (cc)
+place_of t i (x ∷ xs) k h = by_test t i x xs k (place_of t (i + 1) xs k) (t x) refl h
+
+pub place_within : {A : Type 0} (t : A → Bool) (xs : List A) (k : ℕ) → position_from t 0 xs ≡ Some k → k < length xs
+place_within t xs k h =
+    let p = place_of t 0 xs k h in
+    let below : p.offset < length xs = slice_get_within xs p.offset p.item p.there in
+    omega arith
+
+-- ---- types
+
+pub outwards_is : {A : Type 0} (f : ℕ → Option A) (ns : List ℕ) (x : A) → outwards f ns ≡ Some x → (n : ℕ) × (f n ≡ Some x)
+outwards_is f [] x h = absurd (cc)
+outwards_is {A = A} f (n ∷ ns) x h = nearer (f n) refl h (outwards_is f ns x) where
+  nearer : (o : Option A) → f n ≡ o → option_map_or Some o (outwards f ns) ≡ Some x → (outwards f ns ≡ Some x → (m : ℕ) × (f m ≡ Some x)) → (m : ℕ) × (f m ≡ Some x)
+  nearer None none found later = later found
+  nearer (Some y) here found later = (n, here ∙ found)
+
+type_in_within : (types : List Scope) (name : List ℕ) (n k : ℕ) → type_in types name n ≡ Some k → k < length types
+unfolding type_in
+type_in_within types name n k h = place_within (λ s. is_directly_in n s.around && bytes_eq s.id name) types k h
+
+root_within : (types : List Scope) (name : List ℕ) (k : ℕ) → root_named types name ≡ Some k → k < length types
+root_within [] name k h = absurd (cc)
+root_within (root ∷ types) name k h = by_name (bytes_eq root.id name) h where
+  by_name : (b : Bool) → cond b (Some 0) None ≡ Some k → k < length (root ∷ types)
+  by_name true found = let same : 0 ≡ k = cc in omega arith
+  by_name false found = absurd (cc)
+
+nearest_within : (types : List Scope) (n : ℕ) (name : List ℕ) (k : ℕ) → nearest_type types n name ≡ Some k → k < length types
+unfolding nearest_type
+nearest_within types n name k h = by_search (outwards (type_in types name) (from types n)) refl h where
+  by_search : (o : Option ℕ) → outwards (type_in types name) (from types n) ≡ o → option_map_or Some o (root_named types name) ≡ Some k → k < length types
+  by_search None none found = root_within types name k found
+  by_search (Some m) there found =
+      let at = outwards_is (type_in types name) (from types n) m there in
+      let same : m ≡ k = cc in
+      let below : m < length types = type_in_within types name at.0 m at.1 in
+      omega arith
+
+along_within : (types : List Scope) (n : ℕ) (path : List (List ℕ)) (k : ℕ) → n < length types → type_along types n path ≡ Some k → k < length types
+along_within types n [] k below h = let same : n ≡ k = cc in omega arith
+along_within types n (name ∷ names) k below h = inwards (type_in types name n) refl h (λ m. along_within types m names k) where
+  inwards : (o : Option ℕ) → type_in types name n ≡ o → option_and_then (λ m. type_along types m names) o ≡ Some k → ((m : ℕ) → m < length types → type_along types m names ≡ Some k → k < length types) → k < length types
+  inwards None none found later = absurd (cc)
+  inwards (Some m) there found later = later m (type_in_within types name n m there) found
+
+pub type_within : (types : List Scope) (n : ℕ) (path : List (List ℕ)) (k : ℕ) → type_named types n path ≡ Some k → k < length types
+unfolding type_named
+type_within types n [] k h = absurd (cc)
+type_within types n (name ∷ names) k h = inwards (nearest_type types n name) refl h where
+  inwards : (o : Option ℕ) → nearest_type types n name ≡ o → option_and_then (λ m. type_along types m names) o ≡ Some k → k < length types
+  inwards None none found = absurd (cc)
+  inwards (Some m) there found = along_within types m names k (nearest_within types n name m there) found
+
+-- ---- equal texts
+
+pub same_text : (a b : List ℕ) → bytes_eq a b ≡ true → a ≡ b
+same_text a b h = (bytes_eq-Decides a b).0 h

@@ -1,0 +1,12 @@
+use Rattle.std.proofs.Common.{◌≡◌, ℕ, ◌<◌, get_or}
+use Rattle.ksv_expr_tree.specs.declared.tree.Expr.{Expr}
+use Rattle.ksv_expr_tree.specs.Tree.{view}
+use Rattle.ksv_schema_scope.specs.Declarations.{declared}
+use Rattle.ksv_schema_names.specs.Numbered.{numbered}
+use Rattle.ksv_schema_names.proofs.numbering.+numbers.Given as goal
+
+-- the arguments before this one were given their numbers, and the others are as they were
+abbrev pub invariant-number_arguments-loop-argument : goal.invariant-number_arguments-loop-argument
+invariant-number_arguments-loop-argument l =
+    ((k : ℕ) (z : Expr) → k < l.argument-index → view (get_or l.arguments k z) ≡ numbered (declared l.scopes) l.names l.within (view (get_or l.initial.arguments k z)))
+    × goal.unvisited-number_arguments-loop-argument l

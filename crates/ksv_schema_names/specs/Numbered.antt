@@ -1,0 +1,88 @@
+-- The numbers that the names of an expression are given.
+--
+-- A name's number is its place in the description's table of names, a type's its place among the types, a member's those of
+-- its enum and of itself.
+use Rattle.std.specs.Prelude.{ℕ, if◌then◌else◌, ℤ, List, [], ◌∷◌, ◌++◌, Option, option_and_then, option_map}
+use Rattle.std.specs.List.{list_any, position_from}
+use Rattle.std.specs.Str.{bytes_eq}
+use Rattle.ksv_expr_tree.specs.declared.tree.EnumMember.{EnumMember}
+use Rattle.ksv_expr_tree.specs.Tree.{Tree, literal, named, special, member, unary, binary, logical, choice, field, special_field, call, index, cast, Arguments, no_arguments, argument, Word, MemberPath, TypePath}
+use Rattle.ksv_schema_scope.specs.Types.{type_named}
+use Rattle.ksv_schema_scope.specs.Enums.{number_of_id}
+use Rattle.ksv_schema_scope.specs.Declarations.{Declared}
+use Rattle.ksv_schema_names.specs.Names.{enum_at}
+
+-- ---- tables of names
+
+-- each name once, where it first stands, behind names that are there already
+abbrev pub distinct_behind : List (List ℕ) → List (List ℕ) → List (List ℕ)
+distinct_behind before [] = before
+distinct_behind before (name ∷ names) = distinct_behind (if list_any (bytes_eq name) before then before else before ++ name ∷ []) names
+
+unfoldable pub distinct : List (List ℕ) → List (List ℕ)
+distinct names = distinct_behind [] names
+
+-- the number of a name
+unfoldable pub number_in : List (List ℕ) → List ℕ → Option ℕ
+number_in names name = position_from (bytes_eq name) 0 names
+
+-- ---- the names behind dots
+
+unfoldable mutual
+  pub dotted : Tree → List (List ℕ)
+  dotted (literal c) = []
+  dotted (named w) = []
+  dotted (special s) = []
+  dotted (member m) = []
+  dotted (unary op x) = dotted x
+  dotted (binary op x y) = dotted x ++ dotted y
+  dotted (logical op x y) = dotted x ++ dotted y
+  dotted (choice x y z) = dotted x ++ dotted y ++ dotted z
+  dotted (field x w) = dotted x ++ w.text ∷ []
+  dotted (special_field x s) = dotted x
+  dotted (call x m es) = dotted x ++ all_dotted es
+  dotted (index x y) = dotted x ++ dotted y
+  dotted (cast x t) = dotted x
+
+  pub all_dotted : Arguments → List (List ℕ)
+  all_dotted no_arguments = []
+  all_dotted (argument e es) = dotted e ++ all_dotted es
+
+-- ---- numbers
+
+abbrev pub numbered_word : List (List ℕ) → Word → Word
+numbered_word names w = record { text = w.text; number = number_in names w.text }
+
+abbrev pub numbered_type : Declared → ℕ → TypePath → TypePath
+numbered_type d n t = record { path = t.path; number = type_named d.types n t.path }
+
+-- what a path of an enum's member stands for
+abbrev pub enum_member : ℕ → ℤ → EnumMember
+enum_member e number = record { enum_number = e; number = number }
+
+unfoldable pub given_member : Declared → ℕ → MemberPath → Option EnumMember
+given_member d n m = option_and_then (λ e. option_map (enum_member e) (number_of_id d.constants e m.name)) (enum_at d n m)
+
+abbrev pub numbered_member : Declared → ℕ → MemberPath → MemberPath
+numbered_member d n m = record { path = m.path; name = m.name; given = given_member d n m }
+
+unfoldable mutual
+  -- an expression that stands in the type n, with these names
+  pub numbered : Declared → List (List ℕ) → ℕ → Tree → Tree
+  numbered d names n (literal c) = literal c
+  numbered d names n (named w) = named (numbered_word names w)
+  numbered d names n (special s) = special s
+  numbered d names n (member m) = member (numbered_member d n m)
+  numbered d names n (unary op x) = unary op (numbered d names n x)
+  numbered d names n (binary op x y) = binary op (numbered d names n x) (numbered d names n y)
+  numbered d names n (logical op x y) = logical op (numbered d names n x) (numbered d names n y)
+  numbered d names n (choice x y z) = choice (numbered d names n x) (numbered d names n y) (numbered d names n z)
+  numbered d names n (field x w) = field (numbered d names n x) (numbered_word names w)
+  numbered d names n (special_field x s) = special_field (numbered d names n x) s
+  numbered d names n (call x m es) = call (numbered d names n x) m (all_numbered d names n es)
+  numbered d names n (index x y) = index (numbered d names n x) (numbered d names n y)
+  numbered d names n (cast x t) = cast (numbered d names n x) (numbered_type d n t)
+
+  pub all_numbered : Declared → List (List ℕ) → ℕ → Arguments → Arguments
+  all_numbered d names n no_arguments = no_arguments
+  all_numbered d names n (argument e es) = argument (numbered d names n e) (all_numbered d names n es)

@@ -1,0 +1,11 @@
+use Rattle.std.proofs.Common.{◌≡◌, ◌^◌, take, true, min}
+use Rattle.std.specs.List.{list_all}
+use Rattle.std.specs.Str.Parse.{digits_value}
+use Rattle.ksv_schema_scope.specs.Numerals.{is_digit}
+use Rattle.ksv_schema_scope.proofs.numeral.worth.Given as goal
+
+abbrev pub invariant-loop-digit : goal.invariant-loop-digit
+invariant-loop-digit l = record {
+  digits : list_all (is_digit l.radix) (take l.digit-index l.digits) ≡ true;
+  number : l.number ≡ min (digits_value l.radix (take l.digit-index l.digits)) (2 ^ 64);
+}

@@ -1,0 +1,12 @@
+//! A type's row in the table.
+
+use ksv_yaml_tree::Yaml;
+
+/// A type: the line of its name and the name (of the root its first line and its id), the number of the type around it, and what it says.
+#[derive(Clone, Copy)]
+pub(crate) struct TypeRow<'a> {
+    pub(crate) line: usize,
+    pub(crate) id: &'a [u8],
+    pub(crate) outer: Option<usize>,
+    pub(crate) value: &'a Yaml,
+}

@@ -1,7 +1,0 @@
-use Rattle.std.proofs.Common.{◌≡◌, drop, map}
-use Rattle.ksv_yaml.specs.Tree.{entry_at}
-use Rattle.ksv_yaml.specs.View.{pair}
-use Rattle.ksv_yaml.proofs.tree.find.Given as goal
-
-abbrev pub invariant-loop-entry : goal.invariant-loop-entry
-invariant-loop-entry l = entry_at l.key (map pair (drop l.entry-index l.entries)) ≡ entry_at l.key (map pair l.entries)
