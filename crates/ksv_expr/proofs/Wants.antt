@@ -20,7 +20,7 @@ use Rattle.ksv_expr_value.specs.declared.value.Value.TheVariants as values
 use Rattle.ksv_expr.specs.declared.want.Want.{Want}
 use Rattle.ksv_expr.specs.declared.want.Want.TheVariants as wants
 use Rattle.ksv_expr_value.specs.Trail.{Trail, child, holder}
-use Rattle.ksv_expr.specs.Integers.{ranged}
+use Rattle.ksv_expr_value.specs.Range.{ranged}
 use Rattle.ksv_expr.specs.Methods.{method_named}
 use Rattle.ksv_expr_value.specs.Encodings.{encoding_named, decoded}
 use Rattle.ksv_expr.specs.Operators.{matched, unary_of}

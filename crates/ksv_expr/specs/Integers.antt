@@ -1,15 +1,6 @@
 -- Integers of expressions: what their operators mean, over all integers of the range. The language is that of the Kaitai
--- Struct User Guide's expressions; the range, and that a result outside is a fault, are this project's own.
+-- Struct User Guide's expressions; their range is that of ksv_expr_value.
 use Rattle.std.specs.Prelude.{ℕ, suc, ◌+◌, ◌-◌, ◌/◌, ◌%◌, ◌^◌, Bool, nat_lt, ℤ, pos, negsuc, neg_ℤ, ◌-ℤ◌, ◌*ℤ◌, bit_and, Option, Some, None, if◌then◌else◌}
-
--- An integer is at least -2^63 and below 2^64. (`negsuc n` is -(n + 1).)
-abbrev pub in_range : ℤ → Bool
-in_range (pos n) = nat_lt n (2 ^ 64)
-in_range (negsuc n) = nat_lt n (2 ^ 63)
-
--- an exact result, where it is in the range
-abbrev pub ranged : ℤ → Option ℤ
-ranged z = if in_range z then Some z else None
 
 -- The quotient by a divisor above 0, rounded down, and what is left of the dividend behind it, which is below the divisor.
 abbrev pub quotient_by : ℤ → ℕ → ℤ

@@ -23,7 +23,7 @@ use Rattle.ksv_expr_value.specs.declared.value.Value.{Value}
 use Rattle.ksv_expr_value.specs.declared.value.Value.TheVariants as values
 use Rattle.ksv_expr.specs.declared.want.Want.TheVariants as wants
 use Rattle.ksv_expr_value.specs.Trail.{Trail, root, child, holder}
-use Rattle.ksv_expr.specs.Integers.{ranged}
+use Rattle.ksv_expr_value.specs.Range.{ranged}
 use Rattle.ksv_expr.specs.Methods.{method_named}
 use Rattle.ksv_expr_value.specs.Encodings.{encoding_named, decoded}
 use Rattle.ksv_expr.specs.Operators.{exactly, matched, integers_of, same_truth, texts_of, members_of, unary_of, integer_method, truth_method, text_method, bytes_method, member_method, text_call_one, text_call_two}

@@ -16,7 +16,8 @@ use Rattle.ksv_expr.specs.declared.method.Method.{Method}
 use Rattle.ksv_expr.specs.declared.method.Method.TheVariants as methods
 use Rattle.ksv_expr_value.specs.declared.value.Value.{Value}
 use Rattle.ksv_expr_value.specs.declared.value.Value.TheVariants as values
-use Rattle.ksv_expr.specs.Integers.{ranged, floored_quotient, floored_remainder, shifted_left, shifted_right, places, complement, bits_and, bits_or, bits_xor}
+use Rattle.ksv_expr.specs.Integers.{floored_quotient, floored_remainder, shifted_left, shifted_right, places, complement, bits_and, bits_or, bits_xor}
+use Rattle.ksv_expr_value.specs.Range.{ranged}
 use Rattle.ksv_expr.specs.Texts.{joined, char_count, reversed, substring, text_number}
 
 -- a result without memory or questions

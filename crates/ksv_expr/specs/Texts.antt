@@ -5,7 +5,7 @@ use Rattle.std.specs.List.{list_all}
 use Rattle.std.specs.Char.{digit_value}
 use Rattle.ksv_expr_value.specs.declared.fault.FaultKind.{FaultKind}
 use Rattle.ksv_expr_value.specs.declared.fault.FaultKind.TheVariants as kinds
-use Rattle.ksv_expr.specs.Integers.{in_range}
+use Rattle.ksv_expr_value.specs.Range.{in_range}
 use Rattle.std.specs.Str.{chars, encode_utf8_all}
 
 -- one text behind another, where both together have at most 16,777,216 bytes

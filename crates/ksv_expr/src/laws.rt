@@ -1,8 +1,6 @@
 //! Laws of evaluation, each a contract of a function that does nothing.
 
 ghost use Rattle.ksv_expr.specs.Arithmetic.{DivisionIsFloored, BitsAreTold};
-ghost use Rattle.ksv_expr_value.specs.Exact.{EqualPathsAreSame};
-ghost use Rattle.ksv_expr_value.specs.Numbers.{ArePathsNumbered};
 ghost use Rattle.ksv_expr.specs.Evaluation.{TruthIsMet, IsBounded, MeaningIsDirect};
 
 /// Where the replies are the answers of a map, an evaluation asks for what its expression wants there, one want after the
@@ -30,14 +28,4 @@ pub fn division_is_floored()
 /// width.
 pub fn bits_are_told()
     ensures { BitsAreTold }
-{}
-
-/// Paths that `==` finds equal are the same path.
-pub fn equal_paths_are_same()
-    ensures { EqualPathsAreSame }
-{}
-
-/// Each path has a number of its own, and there are finitely many.
-pub fn paths_are_numbered()
-    ensures { ArePathsNumbered }
 {}

@@ -13,7 +13,8 @@ use crate::cursor::{
 use crate::fault::ExprFault;
 use crate::operator::{Infix, Precedence, comparison_operator, infix_operator, prefix_operator};
 use crate::token::{Placed, Symbol, Token};
-use ksv_expr_tree::{self, Expr, UnaryOperator};
+use crate::make;
+use ksv_expr_tree::{Expr, UnaryOperator};
 use std::alloc::{AllocError, Global};
 
 /// What goes on with a postfix expression.
@@ -42,8 +43,8 @@ fn infix_expr(alloc: Global, operator: Infix, left: Expr, right: Expr) -> Result
     ensures { IfOk result (λ e. view e ≡ join_tree operator (view left) (view right)) }
 {
     match operator {
-        Infix::Logical(operator) => tree::logical_expr(alloc, operator, left, right),
-        Infix::Binary(operator) => tree::binary_expr(alloc, operator, left, right),
+        Infix::Logical(operator) => make::logical_expr(alloc, operator, left, right),
+        Infix::Binary(operator) => make::binary_expr(alloc, operator, left, right),
     }
 }
 
@@ -52,12 +53,12 @@ fn path_expr(alloc: Global, mut names: Vec<String>) -> Expr
     ensures { view result ≡ path_tree (map string_bytes names.items) }
 {
     let Some(last) = names.pop() else {
-        return tree::name_expr(String::new(alloc));
+        return make::name_expr(String::new(alloc));
     };
     if names.is_empty() {
-        tree::name_expr(last)
+        make::name_expr(last)
     } else {
-        tree::member_expr(names, last)
+        make::member_expr(names, last)
     }
 }
 
@@ -77,7 +78,7 @@ fn cast<'a>(alloc: Global, object: Expr, at: Rest<'a>) -> Result<(Expr, Rest<'a>
     let now = expect(now, Symbol::Less)?;
     let (names, now) = path(alloc, now)?;
     let now = expect(now, Symbol::Greater)?;
-    Ok((tree::cast_expr(alloc, object, names)?, now))
+    Ok((make::cast_expr(alloc, object, names)?, now))
 }
 
 // An expression.
@@ -99,7 +100,7 @@ pub(crate) fn whole<'a>(
     let (yes, at) = whole(alloc, inner, at)?;
     let at = expect(at, Symbol::Colon)?;
     let (no, at) = whole(alloc, inner, at)?;
-    Ok((tree::choice_expr(alloc, condition, yes, no)?, at))
+    Ok((make::choice_expr(alloc, condition, yes, no)?, at))
 }
 
 // Operands of this precedence, joined from the left.
@@ -158,7 +159,7 @@ fn negation<'a>(alloc: Global, depth: u32, at: Rest<'a>) -> Result<(Expr, Rest<'
     let inner = deeper(depth, at)?;
     let start = spend(at, rest)?;
     let (operand, at) = negation(alloc, inner, start)?;
-    Ok((tree::unary_expr(alloc, UnaryOperator::Not, operand)?, at))
+    Ok((make::unary_expr(alloc, UnaryOperator::Not, operand)?, at))
 }
 
 // One comparison at most.
@@ -173,7 +174,7 @@ fn comparison<'a>(alloc: Global, depth: u32, at: Rest<'a>) -> Result<(Expr, Rest
     };
     let start = spend(at, rest)?;
     let (right, at) = joined(alloc, Precedence::BitOr, depth, start)?;
-    Ok((tree::binary_expr(alloc, operator, left, right)?, at))
+    Ok((make::binary_expr(alloc, operator, left, right)?, at))
 }
 
 // `-`, `~` and `+` any number of times, and a postfix expression.
@@ -188,7 +189,7 @@ fn unary<'a>(alloc: Global, depth: u32, at: Rest<'a>) -> Result<(Expr, Rest<'a>)
     let inner = deeper(depth, at)?;
     let start = spend(at, rest)?;
     let (operand, at) = unary(alloc, inner, start)?;
-    Ok((tree::unary_expr(alloc, operator, operand)?, at))
+    Ok((make::unary_expr(alloc, operator, operand)?, at))
 }
 
 // A primary expression, and what goes on with it.
@@ -226,7 +227,7 @@ fn suffix<'a>(
             let inner = deeper(depth, at)?;
             let (place, now) = whole(alloc, inner, start)?;
             let now = expect(now, Symbol::CloseBracket)?;
-            Ok((tree::index_expr(alloc, object, place)?, now))
+            Ok((make::index_expr(alloc, object, place)?, now))
         }
     }
 }
@@ -248,7 +249,7 @@ fn selected<'a>(
     let text = String::from_str(alloc, text)?;
     let now = Rest { tokens: rest, ..at };
     let Some(rest) = behind(now.tokens, Symbol::OpenParenthesis) else {
-        return Ok((tree::select_expr(alloc, object, text)?, now));
+        return Ok((make::select_expr(alloc, object, text)?, now));
     };
     let inner = deeper(depth, now)?;
     let (arguments, now) = arguments(
@@ -259,7 +260,7 @@ fn selected<'a>(
             ..now
         },
     )?;
-    Ok((tree::call_expr(alloc, object, text, arguments)?, now))
+    Ok((make::call_expr(alloc, object, text, arguments)?, now))
 }
 
 // Expressions with commas between them, and the closing parenthesis.
@@ -300,7 +301,7 @@ fn primary<'a>(alloc: Global, depth: u32, at: Rest<'a>) -> Result<(Expr, Rest<'a
     match token {
         Token::Literal(value) => {
             let now = spend(at, rest)?;
-            Ok((tree::literal_expr(tree::copy_literal(alloc, value)?), now))
+            Ok((make::literal_expr(make::copy_literal(alloc, value)?), now))
         }
         Token::Name(text) => {
             if begins_left_out(text.as_str()) {

@@ -6,6 +6,6 @@
 pub mod tree;
 
 pub use tree::{
-    BinaryOperator, EnumMember, Expr, Literal, LogicalOperator, Member, Name, SpecialName, TypeName,
-    TypeRef, UnaryOperator,
+    BinaryOperator, EnumMember, Expr, Literal, LogicalOperator, Member, Name, SpecialName,
+    TypeName, TypeRef, UnaryOperator,
 };

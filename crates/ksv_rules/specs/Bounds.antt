@@ -15,7 +15,7 @@ use Rattle.ksv_expr.specs.Evaluation.{most_wants}
 use Rattle.ksv_expr_value.specs.Trail.{Trail, parent, last}
 use Rattle.ksv_expr.specs.Heard.{Setting}
 use Rattle.ksv_expr.specs.Meaning.{value_of as value_in}
-use Rattle.ksv_expr.specs.Integers.{ranged}
+use Rattle.ksv_expr_value.specs.Range.{ranged}
 use Rattle.ksv_expr_value.specs.Encodings.{decoded}
 use Rattle.ksv_expr_value.specs.declared.encoding.Encoding.{Encoding}
 use Rattle.ksv_expr_value.specs.declared.fault.Fault.{Fault}

@@ -8,7 +8,8 @@ ghost use Rattle.ksv_yaml_scan.specs.Views.{tokens_view};
 
 use crate::fault::{ReadFault, ReadKind};
 use crate::keys::{add_key, no_keys};
-use ksv_yaml_tree::{Entry, Yaml, make_entry, make_list, make_mapping, make_text};
+use crate::make::{make_entry, make_list, make_mapping, make_text};
+use ksv_yaml_tree::{Entry, Yaml};
 use ksv_yaml_scan::flow::{Part, Token};
 use std::alloc::Global;
 

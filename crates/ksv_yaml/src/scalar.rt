@@ -10,7 +10,8 @@ ghost use Rattle.ksv_yaml_scan.specs.Views.{line_view, lines_view, kind_view, st
 use crate::block::{Open, misplaced_in};
 use crate::fault::{ReadFault, ReadKind, at_line, kind_of, no_memory};
 use crate::flow::{flow_node, left_over};
-use ksv_yaml_tree::{Yaml, make_text};
+use crate::make::make_text;
+use ksv_yaml_tree::Yaml;
 use ksv_yaml_scan::block::block_scalar;
 use ksv_yaml_scan::fault::ScanError;
 use ksv_yaml_scan::flow::flow_parts;

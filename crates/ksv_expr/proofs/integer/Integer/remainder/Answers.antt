@@ -1,5 +1,6 @@
 use Rattle.std.proofs.Common.{ap, ◌∙◌}
-use Rattle.ksv_expr.specs.Integers.{ranged, floored_remainder}
+use Rattle.ksv_expr.specs.Integers.{floored_remainder}
+use Rattle.ksv_expr_value.specs.Range.{ranged}
 use Rattle.ksv_expr.proofs.Division.{seen_remainder}
 use Rattle.ksv_expr.proofs.integer.Integer.remainder.Goals as goal
 
