@@ -1,0 +1,14 @@
+-- Which texts describe a file: those that spell a tree which states a description, if that is one of those that are served so far.
+use Rattle.std.specs.Prelude.{◌≡◌, ℕ, true, List}
+use Rattle.ksv_yaml_tree.specs.Tree.{Tree}
+use Rattle.ksv_yaml.specs.Text.{Spells}
+use Rattle.ksv_desc.specs.Description.{Description}
+use Rattle.ksv_schema.specs.Outcome.{States}
+use Rattle.ksv_rules.specs.Served.{is_served}
+
+-- a text describes files by this description
+pub record Describes (text : List ℕ) (d : Description) : Type 0 where
+  pub tree : Tree
+  pub spelled : Spells text tree
+  pub stated : States tree d
+  pub served : is_served d ≡ true
