@@ -2,22 +2,21 @@
 use Rattle.std.proofs.Common.{◌≡◌, ◌∙◌, ◌<◌, ℕ, zero, suc, List, [], ◌∷◌, true, false, true≢false, codes, ap, ap₂, refl, sym, Option, inl, inr, arith, slice_index}
 use Rattle.std.specs.List.{All}
 use Rattle.std.specs.Str.{bytes_eq}
-use Rattle.clap.specs.Built.{AddsInTurn, FitsChain, HasDistinctIds, IsPlainArg, TakesValue}
+use Rattle.clap.specs.Built.{AddsInTurn, FitsChain, HasDistinctIds, IsPlainArg}
 use Rattle.clap.proofs.CallerLemmas.{required_in_chain}
-use Rattle.clap.specs.Words.{args_of, groups_of, AddsArg, HasMatchesOf, Text, app_of, fault_of, first_of, first_value, found_of, is_simple, is_simple_and_free, matches_of, new_app, rule_of, with_rule}
+use Rattle.clap.specs.Words.{args_of, groups_of, AddsArg, HasMatchesOf, Text, app_of, fault_of, first_of, first_value, found_of, is_simple, is_simple_and_free, matches_of, new_app, with_rule}
 use Rattle.clap.specs.declared.builder.arg.Arg.{Arg}
 use Rattle.clap.specs.declared.builder.command.Command.{Command}
 use Rattle.clap.specs.declared.builder.command.Command.TheViews.{out-Command as fields_of}
 use Rattle.clap.specs.declared.parser.matches.ArgMatches.{ArgMatches}
 use Rattle.clap.proofs.WalkLemmas.{first_value-rows}
 use Rattle.clap.proofs.OnLiterals.{clap_on_literals}
-use Rattle.ksv_lines.specs.Words.{Demands, explorer, found, positional}
+use Rattle.ksv_lines.specs.Words.{Demands, IsDemanded, explorer, found}
 
 pub is_explorer : (start one cmd : Command) (f k : Arg) → app_of start ≡ new_app (codes "ksv")
-    → AddsArg start f one → AddsArg one k cmd → f.global ≡ false → k.global ≡ false
-    → rule_of f ≡ positional (codes "file") → rule_of k ≡ positional (codes "ksy") → app_of cmd ≡ explorer
-is_explorer start one cmd f k begins a b fg kg fr kr =
-    b.shape kg ∙ ap₂ with_rule (a.shape fg ∙ ap₂ with_rule begins fr) kr
+    → AddsArg start f one → AddsArg one k cmd → IsDemanded (codes "file") f → IsDemanded (codes "ksy") k → app_of cmd ≡ explorer
+is_explorer start one cmd f k begins a b file ksy =
+    b.shape ksy.local ∙ ap₂ with_rule (a.shape file.local ∙ ap₂ with_rule begins file.rule) ksy.rule
 
 explorer_is_simple : is_simple explorer ≡ true
 unfolding clap_on_literals
@@ -76,24 +75,20 @@ pub record IsBuilt (start cmd : Command) (f k : Arg) : Type 0 where
   pub groups : groups_of start ≡ []
   pub globals : (fields_of start).has_globals ≡ false
   pub negates : (fields_of start).subcommand_negates_reqs ≡ false
-  pub f_is : f.id.now ≡ codes "file"
-  pub k_is : k.id.now ≡ codes "ksy"
-  pub f_plain : IsPlainArg f
-  pub k_plain : IsPlainArg k
-  pub f_local : f.global ≡ false
-  pub k_local : k.global ≡ false
+  pub file : IsDemanded (codes "file") f
+  pub ksy : IsDemanded (codes "ksy") k
 
 fits_of : {start cmd : Command} (f k : Arg) → IsBuilt start cmd f k → All FitsChain (f ∷ k ∷ [])
 fits_of f k b = both_fit f k
-    (fit f _ 102 b.f_is refl (omega arith) (λ e. omega arith) (λ e. omega arith) b.f_plain b.f_local)
-    (fit k _ 107 b.k_is refl (omega arith) (λ e. omega arith) (λ e. omega arith) b.k_plain b.k_local)
+    (fit f _ 102 b.file.id_is refl (omega arith) (λ e. omega arith) (λ e. omega arith) b.file.plain b.file.local)
+    (fit k _ 107 b.ksy.id_is refl (omega arith) (λ e. omega arith) (λ e. omega arith) b.ksy.plain b.ksy.local)
 
-pub demands_file : (start cmd : Command) (f k : Arg) → IsBuilt start cmd f k → TakesValue f → Demands cmd (codes "file")
-demands_file start cmd f k b takes m p = rw (← b.f_is)
+pub demands_file : (start cmd : Command) (f k : Arg) → IsBuilt start cmd f k → Demands cmd (codes "file")
+demands_file start cmd f k b m p = rw (← b.file.id_is)
     (required_in_chain start cmd (f ∷ k ∷ []) 0 f m b.chain b.args b.groups b.globals b.negates (fits_of f k b)
-    (distinct f k b.f_is b.k_is) (omega arith) takes p)
+    (distinct f k b.file.id_is b.ksy.id_is) (omega arith) b.file.takes p)
 
-pub demands_ksy : (start cmd : Command) (f k : Arg) → IsBuilt start cmd f k → TakesValue k → Demands cmd (codes "ksy")
-demands_ksy start cmd f k b takes m p = rw (← b.k_is)
+pub demands_ksy : (start cmd : Command) (f k : Arg) → IsBuilt start cmd f k → Demands cmd (codes "ksy")
+demands_ksy start cmd f k b m p = rw (← b.ksy.id_is)
     (required_in_chain start cmd (f ∷ k ∷ []) 1 k m b.chain b.args b.groups b.globals b.negates (fits_of f k b)
-    (distinct f k b.f_is b.k_is) (omega arith) takes p)
+    (distinct f k b.file.id_is b.ksy.id_is) (omega arith) b.ksy.takes p)

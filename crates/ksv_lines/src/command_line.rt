@@ -1,7 +1,7 @@
 //! The words of the program's command line.
 ghost use Rattle.std.specs.Prelude.{◌≡◌, Some, IfOk, map, codes};
 ghost use Rattle.clap.specs.Words.{app_of, fault_of, FailsBy};
-ghost use Rattle.ksv_lines.specs.Words.{Demands, explorer, found};
+ghost use Rattle.ksv_lines.specs.Words.{Demands, IsDemanded, explorer, found};
 
 use clap::{Arg, ArgAction, Command, Error};
 use std::alloc::{AllocError, Global};
@@ -15,20 +15,24 @@ pub struct Args<'a> {
     pub ksy: &'a str,
 }
 
+/// A word that must be there, under the name that usage shows.
+fn demanded<'a>(alloc: Global, id: &'a str, shown: &'a str) -> Arg<'a>
+    ensures { IsDemanded id.now result }
+{
+    Arg::new(alloc, id)
+        .value_name(shown)
+        .required(true)
+        .action(ArgAction::Set)
+}
+
 /// The command line `ksv FILE KSY`.
 fn command<'a>(alloc: Global) -> Result<Command<'a>, AllocError>
     ensures app { IfOk result (λ r. app_of r ≡ explorer) }
     ensures file { IfOk result (λ r. Demands r (codes "file")) }
     ensures ksy { IfOk result (λ r. Demands r (codes "ksy")) }
 {
-    let file = Arg::new(alloc, "file")
-        .value_name("FILE")
-        .required(true)
-        .action(ArgAction::Set);
-    let ksy = Arg::new(alloc, "ksy")
-        .value_name("KSY")
-        .required(true)
-        .action(ArgAction::Set);
+    let file = demanded(alloc, "file", "FILE");
+    let ksy = demanded(alloc, "ksy", "KSY");
     let with_file = Command::new(alloc, "ksv").arg(file)?;
     let with_both = with_file.arg(ksy)?;
     Ok(with_both)
