@@ -1,5 +1,5 @@
 //! Why the program stops before a session, or after it, and what it says.
-ghost use Rattle.std.specs.Prelude.{◌≡◌, ◌++◌, ◌||◌, IsTrue, OnOk, is_err, map};
+ghost use Rattle.std.specs.Prelude.{◌≡◌, ◌++◌, ◌||◌, IsTrue, OnOk, codes, decimal, is_err, map};
 ghost use Rattle.ksv_lines.specs.Messages.{message, place_text, status_of};
 
 use crate::device::{Failed, Sink, write_all};
@@ -68,6 +68,25 @@ fn write_place<W: Sink>(place: Option<u32>, sink: &mut W) -> Result<(), Failed>
     }
 }
 
+/// Writes what the program says of a description that is refused at a line.
+fn say_line<W: Sink>(
+    ksy: &str,
+    line: u32,
+    code: &str,
+    text: &str,
+    place: Option<u32>,
+    sink: &mut W,
+) -> Result<(), Failed>
+    ensures ok { IsTrue W.tells → OnOk result (W.bytes sink.new ≡ W.bytes sink.old ++ (codes "ksv: " ++ ksy.now ++ codes ": line " ++ (decimal line ++ codes ": " ++ code.now) ++ codes " " ++ text.now ++ place_text place)) }
+    ensures fault { W.failed sink.new ≡ (W.failed sink.old || is_err result) }
+{
+    write_three("ksv: ", ksy, ": line ", sink)?;
+    write_three(Digits::new().format(line), ": ", code, sink)?;
+    write_all(sink, b" ")?;
+    write_all(sink, text.as_bytes())?;
+    write_place(place, sink)
+}
+
 /// Writes what the program says of a stop, one line. The names are those that the words gave to the file, to its
 /// description and to the file for the bytes.
 pub fn say<W: Sink>(stop: &Stop, names: [&str; 3], sink: &mut W) -> Result<(), Failed>
@@ -86,13 +105,7 @@ pub fn say<W: Sink>(stop: &Stop, names: [&str; 3], sink: &mut W) -> Result<(), F
             code,
             text,
             at,
-        } => {
-            write_three("ksv: ", ksy, ": line ", sink)?;
-            write_three(Digits::new().format(*line), ": ", code, sink)?;
-            write_all(sink, b" ")?;
-            write_all(sink, text.as_bytes())?;
-            write_place(*at, sink)
-        }
+        } => say_line(ksy, *line, code, text, *at, sink),
         Stop::NoMemory => write_all(sink, b"ksv: no memory\n"),
         Stop::InputFailed => write_all(sink, b"ksv: input failed\n"),
         Stop::OutputFailed => write_all(sink, b"ksv: output failed\n"),

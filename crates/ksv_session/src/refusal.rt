@@ -1,7 +1,7 @@
 //! Why a line is no command.
 
 /// Why a line is refused before it is looked at what the command does.
-#[derive(Clone, Copy, Debug, PartialEq, Eq)]
+#[derive(Clone, Copy)]
 pub(crate) enum LineRefusal {
     /// C1: no command has the first word for its name.
     UnknownCommand,
