@@ -4,8 +4,8 @@ ghost use Rattle.std.specs.Prelude.{◌≡◌, IfOk};
 ghost use Rattle.ksv_schema.specs.Expressions.{expression_of, type_of};
 ghost use Rattle.ksv_schema.specs.Code.{seen_expression, seen_type};
 
-use ksv_expr_tree::{Expr, TypeRef};
 use ksv_expr_syntax::{ExprFault, ExprFaultKind, parse, parse_type};
+use ksv_expr_tree::{Expr, TypeRef};
 use std::alloc::{AllocError, Global};
 
 /// The expression that a text is, or why it is none.

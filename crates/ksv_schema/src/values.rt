@@ -10,12 +10,12 @@ ghost use Rattle.ksv_schema.specs.Code.{seen_type_text, kind_test, IsUpTo, seen_
 ghost use Rattle.ksv_schema_names.specs.BuiltIn.{built_in_at};
 
 use crate::read::read_type;
-use ksv_expr::Encoding;
+use ksv_expr_value::Encoding;
+use ksv_expr_syntax::ExprFault;
+use ksv_expr_tree::{Expr, Literal, Member, SpecialName, TypeName, TypeRef, UnaryOperator};
 use ksv_schema_names::{BuiltIn, built_in_at};
 use ksv_schema_scope::keys::{entries_at, says, text_at};
 use ksv_schema_scope::{Numeral, plain_number};
-use ksv_expr_syntax::ExprFault;
-use ksv_expr_tree::{Expr, Literal, Member, SpecialName, TypeName, TypeRef, UnaryOperator};
 use ksv_yaml_tree::{Entry, Yaml, find};
 use std::alloc::{AllocError, Global};
 

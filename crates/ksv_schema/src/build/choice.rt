@@ -14,12 +14,12 @@ use crate::build::content::content_at;
 use crate::build::contents::contents_of;
 use crate::build::context::Context;
 use crate::build::expressions::expression_at;
-use ksv_desc::{Case, CaseValue, Choice, Content};
 use crate::read::read_expression;
 use crate::values::{CaseKey, case_key};
+use ksv_desc::{Case, CaseValue, Choice, Content};
+use ksv_expr_tree::Literal;
 use ksv_schema_names::given_member;
 use ksv_schema_scope::keys::entries_at;
-use ksv_expr_tree::Literal;
 use ksv_yaml_tree::{Entry, find};
 use std::alloc::{AllocError, Global};
 

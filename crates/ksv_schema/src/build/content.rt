@@ -13,14 +13,14 @@ ghost use Rattle.ksv_desc.specs.Pieces.{plain_content};
 ghost use Rattle.ksv_schema.specs.Code.{seen_type_text};
 
 use crate::build::context::Context;
-use ksv_desc::Content;
 use crate::ids::ids_of;
 use crate::values::{TypeText, encoding_named, type_text};
-use ksv_expr::Encoding;
+use ksv_desc::Content;
+use ksv_expr_value::Encoding;
+use ksv_expr_tree::{Expr, TypeName};
 use ksv_schema_names::{BuiltIn, number_arguments};
 use ksv_schema_scope::ByteOrder;
 use ksv_schema_scope::keys::{has, text_at};
-use ksv_expr_tree::{Expr, TypeName};
 use ksv_yaml_tree::Entry;
 use std::alloc::{AllocError, Global};
 

@@ -8,9 +8,9 @@ ghost use Rattle.ksv_schema.specs.Stated.{expression, expression_at, perhaps_exp
 
 use crate::build::context::Context;
 use crate::read::read_expression;
+use ksv_expr_tree::Expr;
 use ksv_schema_names::number_expr;
 use ksv_schema_scope::keys::{has, text_at};
-use ksv_expr_tree::Expr;
 use ksv_yaml_tree::Entry;
 use std::alloc::{AllocError, Global};
 

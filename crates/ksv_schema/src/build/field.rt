@@ -9,8 +9,8 @@ ghost use Rattle.ksv_desc.specs.Pieces.{plain_extent, plain_terminator, plain_re
 use crate::build::choice::choice_of;
 use crate::build::context::Context;
 use crate::build::expressions::{expression_at, perhaps_expression};
-use ksv_desc::{Extent, Field, Repeat, Terminator};
 use crate::values::{TypeKind, byte_at, is_to_end, type_key};
+use ksv_desc::{Extent, Field, Repeat, Terminator};
 use ksv_schema_scope::keys::{has, says};
 use ksv_yaml_tree::Entry;
 use std::alloc::{AllocError, Global};

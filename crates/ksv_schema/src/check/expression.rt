@@ -14,9 +14,9 @@ use crate::check::home::Home;
 use crate::fault::{DescFault, DescFaultKind, note, note_if};
 use crate::read::read_expression;
 use crate::values::{TypeText, type_text};
-use ksv_schema_names::{BuiltIn, NameFault, Position, Site, argument_fault, name_fault};
 use ksv_expr_syntax::ExprFault;
 use ksv_expr_tree::Expr;
+use ksv_schema_names::{BuiltIn, NameFault, Position, Site, argument_fault, name_fault};
 use std::alloc::{AllocError, Global};
 
 /// Where an expression of a mapping stands.

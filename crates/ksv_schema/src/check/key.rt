@@ -24,11 +24,11 @@ use crate::values::{
     CaseKey, Piece, TypeText, byte_number, case_key, encoding_named, is_str, is_strz,
     looks_like_number, piece_of, type_text,
 };
+use ksv_expr_syntax::ExprFault;
+use ksv_expr_tree::Expr;
 use ksv_schema_names::Site;
 use ksv_schema_scope::Numeral;
 use ksv_schema_scope::keys::has;
-use ksv_expr_syntax::ExprFault;
-use ksv_expr_tree::Expr;
 use ksv_yaml_tree::{Entry, Yaml};
 use std::alloc::{AllocError, Global};
 
