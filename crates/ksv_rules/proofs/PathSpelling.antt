@@ -14,7 +14,7 @@ use Rattle.std.proofs.lemmas.Str.Parse.{IsNumeralModel, numerals_by_value}
 use Rattle.ksv_expr_value.specs.Trail.{Trail, trail_of-steps, root}
 use Rattle.ksv_expr_value.specs.declared.step.Step.{Step}
 use Rattle.ksv_expr_value.specs.declared.step.Step.TheVariants.{Index, Name}
-use Rattle.ksv_schema.specs.Description.{Description, as_text, name, number_of_name}
+use Rattle.ksv_desc.specs.Description.{Description, as_text, name, number_of_name}
 use Rattle.ksv_rules.specs.PathTexts.{step_text, steps_text, or_slash, path_text, decimal_of, below_limit, index_of, name_of, name_or_index, step_of, behind_step, steps_of, is_slash, path_of_steps, path_behind, TextsAreWritten}
 use Rattle.ksv_rules.proofs.Cuts.{HasFirst, split_has_first}
 

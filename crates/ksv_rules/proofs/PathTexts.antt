@@ -8,7 +8,7 @@ use Rattle.std.proofs.lemmas.List.{append-nil, append_assoc, length-append, leng
 use Rattle.ksv_expr_value.specs.Trail.{Trail, fits, step_fits, trail_of, trail_of-true, trail_of-false, length-fits, fits-more}
 use Rattle.ksv_expr_value.specs.declared.step.Step.{Step}
 use Rattle.ksv_expr_value.proofs.Paths.{fits-push}
-use Rattle.ksv_schema.specs.Description.{Description}
+use Rattle.ksv_desc.specs.Description.{Description}
 use Rattle.ksv_rules.specs.PathTexts.{in_front, is_slash, path_behind, path_of_steps, step_of, steps_of}
 
 -- the texts that are left to read

@@ -26,8 +26,8 @@ use Rattle.ksv_expr_value.specs.declared.value.Value.{Value}
 use Rattle.ksv_expr_value.specs.declared.value.Value.TheVariants as values
 use Rattle.ksv_expr.specs.declared.want.Want.{Want}
 use Rattle.ksv_expr.specs.declared.want.Want.TheVariants as wants
-use Rattle.ksv_schema.specs.Description.{Description, TypeOfObjects, MemberOfType, Kind, Given, InSequence, Positioned, Calculated, Field, Content, Choice, Always, Switch, Extent, Sized, ToEnd, ByItself, Repeat, Once, UntilEnd, Times, Until, Terminator}
-use Rattle.ksv_schema.specs.Description as contents
+use Rattle.ksv_desc.specs.Description.{Description, TypeOfObjects, MemberOfType, Kind, Given, InSequence, Positioned, Calculated, Field, Content, Choice, Always, Switch, Extent, Sized, ToEnd, ByItself, Repeat, Once, UntilEnd, Times, Until, Terminator}
+use Rattle.ksv_desc.specs.Description as contents
 use Rattle.ksv_nodes.proofs.Bounds.{nodes_more, nodes_join, nodes_if, nodes_translate, enough, head_nodes, value_nodes, end_nodes, rest_nodes, part_nodes}
 use Rattle.ksv_nodes.specs.Bounds.{NodesAtMost}
 use Rattle.ksv_nodes.specs.Turning.{State, fresh}

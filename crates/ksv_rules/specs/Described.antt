@@ -5,7 +5,7 @@ use Rattle.ksv_plan.specs.Plan.{Ran, Need, Failed, Done, run, behind}
 use Rattle.ksv_expr_tree.specs.Tree.{Tree}
 use Rattle.ksv_expr.specs.Evaluation.{most_wants}
 use Rattle.ksv_expr_value.specs.declared.fault.Fault.{Fault}
-use Rattle.ksv_schema.specs.Description.{Description, TypeOfObjects, Kind, InSequence, Field, Repeat, Once, UntilEnd, Times, Until, Extent, Sized, ToEnd, ByItself}
+use Rattle.ksv_desc.specs.Description.{Description, TypeOfObjects, Kind, InSequence, Field, Repeat, Once, UntilEnd, Times, Until, Extent, Sized, ToEnd, ByItself}
 use Rattle.ksv_memo.specs.Meaning.{Meaning}
 use Rattle.ksv_memo.specs.declared.rules.Step.{Step}
 use Rattle.ksv_memo.specs.declared.rules.Step.TheVariants as steps

@@ -6,7 +6,7 @@ use Rattle.ksv_expr.specs.Heard.{Setting}
 use Rattle.ksv_expr_value.specs.declared.fault.FaultKind.TheVariants as kinds
 use Rattle.ksv_expr_value.specs.declared.step.Step.{Step}
 use Rattle.ksv_expr_value.specs.declared.step.Step.TheVariants as steps
-use Rattle.ksv_schema.specs.Description.{Description, Repeat, Once, UntilEnd, Times, Until}
+use Rattle.ksv_desc.specs.Description.{Description, Repeat, Once, UntilEnd, Times, Until}
 use Rattle.ksv_nodes.specs.declared.given.Ending.{Ending}
 use Rattle.ksv_nodes.specs.declared.given.Ending.TheVariants as endings
 use Rattle.ksv_nodes.specs.declared.given.Object.{Object}

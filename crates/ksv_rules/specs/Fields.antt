@@ -3,7 +3,7 @@ use Rattle.std.specs.Prelude.{ℕ, ◌+◌, ◌==◌, Bool, true, false, List, [
 use Rattle.std.specs.Option.{option_map_or}
 use Rattle.ksv_plan.specs.Plan.{Answer}
 use Rattle.ksv_expr_value.specs.declared.fault.FaultKind.TheVariants as kinds
-use Rattle.ksv_schema.specs.Description.{Description, MemberOfType, Field, Kind, InSequence}
+use Rattle.ksv_desc.specs.Description.{Description, MemberOfType, Field, Kind, InSequence}
 use Rattle.ksv_nodes.specs.declared.given.Source.{Source}
 use Rattle.ksv_nodes.specs.Rule.{Rule, raise}
 

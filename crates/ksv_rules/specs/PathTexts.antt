@@ -8,7 +8,7 @@ use Rattle.std.specs.Str.Parse.{digits_value}
 use Rattle.ksv_expr_value.specs.Trail.{Trail, trail_of, root}
 use Rattle.ksv_expr_value.specs.declared.step.Step.{Step}
 use Rattle.ksv_expr_value.specs.declared.step.Step.TheVariants.{Index, Name}
-use Rattle.ksv_schema.specs.Description.{Description, as_text, name, number_of_name}
+use Rattle.ksv_desc.specs.Description.{Description, as_text, name, number_of_name}
 
 -- ---- from a path to its text
 

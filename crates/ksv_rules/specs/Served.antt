@@ -5,7 +5,7 @@ use Rattle.std.specs.List.{list_all}
 use Rattle.ksv_expr_tree.specs.Tree.{Tree, Arguments, literal, named, special, member, unary, binary, logical, choice, field, special_field, call, index, cast, no_arguments, argument}
 use Rattle.ksv_expr_tree.specs.declared.tree.SpecialName.{SpecialName}
 use Rattle.ksv_expr_tree.specs.declared.tree.SpecialName.TheVariants as specials
-use Rattle.ksv_schema.specs.Description.{Description, TypeOfObjects, Kind, InSequence, Field, Repeat, Once, UntilEnd, Times, Until, Choice, Always, Switch, Extent, Sized, ToEnd, ByItself, Content, Object}
+use Rattle.ksv_desc.specs.Description.{Description, TypeOfObjects, Kind, InSequence, Field, Repeat, Once, UntilEnd, Times, Until, Choice, Always, Switch, Extent, Sized, ToEnd, ByItself, Content, Object}
 
 -- `_index` and `_` alone
 abbrev pub is_served_name : SpecialName → Bool

@@ -11,8 +11,8 @@ use Rattle.ksv_expr_value.specs.declared.encoding.Encoding.{Encoding}
 use Rattle.ksv_expr_value.specs.declared.fault.FaultKind.TheVariants as kinds
 use Rattle.ksv_expr_value.specs.declared.value.Value.{Value}
 use Rattle.ksv_expr_value.specs.declared.value.Value.TheVariants as values
-use Rattle.ksv_schema.specs.Description.{Description, Field, Content, Choice, Always, Switch, Extent, Sized, ToEnd, ByItself, Terminator}
-use Rattle.ksv_schema.specs.Description as contents
+use Rattle.ksv_desc.specs.Description.{Description, Field, Content, Choice, Always, Switch, Extent, Sized, ToEnd, ByItself, Terminator}
+use Rattle.ksv_desc.specs.Description as contents
 use Rattle.ksv_nodes.specs.declared.given.Leaf.{Leaf}
 use Rattle.ksv_nodes.specs.declared.given.Head.{Head}
 use Rattle.ksv_nodes.specs.declared.given.Head.TheVariants as heads

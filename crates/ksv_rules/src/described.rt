@@ -14,7 +14,7 @@ use ksv_bytes::{Buffer, Use};
 use ksv_expr::Fault;
 use ksv_memo::{Rules, Step};
 use ksv_nodes::{Given, Node, Stop, Turn};
-use ksv_schema::Desc;
+use ksv_desc::Desc;
 use std::alloc::{AllocError, Global};
 
 type Answer = Result<Given, Fault>;

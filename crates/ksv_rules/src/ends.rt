@@ -16,8 +16,7 @@ use crate::site::Site;
 use crate::wanted::truth_of;
 use ksv_expr::{Expr, Fault, FaultKind, Path, Step};
 use ksv_nodes::{Ended, Ending, Head, List, Object, Rested, Stop, Turn};
-use ksv_schema::Desc;
-use ksv_schema::desc::Repeat;
+use ksv_desc::{Desc, Repeat};
 
 /// The end of an object that ends with its last attribute; without one it ends where it begins.
 fn fields_end(turn: &mut Turn, path: &Path, start: u32, last: Option<u32>) -> Result<u32, Stop>

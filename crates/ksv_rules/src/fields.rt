@@ -10,8 +10,7 @@ ghost use Rattle.ksv_rules.specs.Members.{plain_sought};
 
 use ksv_expr::FaultKind;
 use ksv_nodes::{Source, Stop, Turn};
-use ksv_schema::Desc;
-use ksv_schema::desc::{Field, Kind, MemberDesc};
+use ksv_desc::{Desc, Field, Kind, MemberDesc};
 
 /// A member that was looked for.
 #[derive(Clone, Copy)]

@@ -15,8 +15,7 @@ use crate::site::Site;
 use crate::wanted::{holds, in_object, size_of};
 use ksv_expr::{Expr, Fault, FaultKind, Path, Step, Stream};
 use ksv_nodes::{Ended, Ending, Found, Head, Leaf, List, Object, Source, Stop, Turn};
-use ksv_schema::Desc;
-use ksv_schema::desc::{Choice, Content, Extent, Field, Kind, Repeat, Terminator};
+use ksv_desc::{Choice, Content, Desc, Extent, Field, Kind, Repeat, Terminator};
 
 // ---- what is read at a place
 

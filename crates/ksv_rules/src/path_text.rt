@@ -3,12 +3,12 @@ ghost use Rattle.std.specs.Prelude.{◌≡◌, ◌≤◌, ◌<◌, ◌++◌, ◌
 ghost use Rattle.std.specs.Char.{is_ascii_digit};
 ghost use Rattle.std.specs.List.{list_all, slice_split};
 ghost use Rattle.ksv_expr_value.specs.Trail.{fits, step_fits};
-ghost use Rattle.ksv_schema.specs.Description.{as_text};
+ghost use Rattle.ksv_desc.specs.Description.{as_text};
 ghost use Rattle.ksv_desc.specs.Whole.{plain_pieces};
 ghost use Rattle.ksv_rules.specs.PathTexts.{decimal_of, index_of, name_of, step_of, steps_of, is_slash, path_of_steps, path_behind, path_named};
 
 use ksv_expr::{Path, Step};
-use ksv_schema::Desc;
+use ksv_desc::Desc;
 use std::alloc::{AllocError, Global};
 use std::marker::Model;
 
@@ -100,7 +100,7 @@ fn index(text: &[u8]) -> Option<u32>
 }
 
 /// The text that these bytes are, where they are one.
-#[tactic(auto, unfolding(ksv_schema::specs::Description::as_text))]
+#[tactic(auto, unfolding(ksv_desc::specs::Description::as_text))]
 fn text_in(bytes: &[u8]) -> Option<&str>
     ensures { option_map (λ text. text.now) result ≡ as_text bytes.now }
 {

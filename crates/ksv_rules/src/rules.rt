@@ -10,7 +10,7 @@ use crate::heads::head_of;
 use crate::values::value_of;
 use ksv_expr::{FaultKind, Path};
 use ksv_nodes::{Given, Kind, Node, Stop, Turn};
-use ksv_schema::Desc;
+use ksv_desc::Desc;
 
 /// What a node of a description that is served answers.
 fn meaning_of(turn: &mut Turn, desc: &Desc, kind: Kind, path: &Path) -> Result<Given, Stop>

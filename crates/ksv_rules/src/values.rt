@@ -14,9 +14,8 @@ use crate::integer::integer_value;
 use crate::parts::{are, cut, len_of};
 use ksv_expr::{Encoding, FaultKind, Integer, Parts, Path, Text, Value};
 use ksv_nodes::{Head, Leaf, Stop, Turn, first_in_parts};
-use ksv_schema::Desc;
-use ksv_schema::desc::{Choice, Content, Extent, Field, Terminator};
-use ksv_schema_scope::ByteOrder;
+use ksv_desc::{Choice, Content, Desc, Extent, Field, Terminator};
+use ksv_desc::ByteOrder;
 
 /// The bytes of a leaf.
 #[tactic(auto, using(crate::proofs::Peeked::peeked_length))]
