@@ -5,7 +5,7 @@ use Rattle.std.proofs.lemmas.Bool.Decides.{eqb_tells}
 use Rattle.std.proofs.lemmas.List.{append-nil, drop_more, take-append-drop, take_more}
 use Rattle.ksv.specs.Answered.{Answered, Wrote}
 use Rattle.ksv.specs.Commands.{command_of}
-use Rattle.ksv_schema.specs.Description.{Description}
+use Rattle.ksv_desc.specs.Description.{Description}
 use Rattle.ksv.specs.Explored.{Explored, description_of}
 use Rattle.ksv.specs.Lines.{is_line_end, lines_of}
 use Rattle.ksv.specs.Replies.{Answer, Event, answer, is_fair, may_be_refused}

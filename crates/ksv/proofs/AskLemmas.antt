@@ -12,7 +12,7 @@ use Rattle.ksv_nodes.specs.declared.node.Node.{Node}
 use Rattle.ksv_rules.specs.Described.{described}
 use Rattle.ksv_rules.specs.Direct.{flattened}
 use Rattle.ksv_rules.proofs.Direct.{answers_are_direct}
-use Rattle.ksv_schema.specs.Description.{Description}
+use Rattle.ksv_desc.specs.Description.{Description}
 use Rattle.ksv.specs.Asked.{plain_answer}
 use Rattle.ksv.specs.Questions.{answered}
 

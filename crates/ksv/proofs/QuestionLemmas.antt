@@ -4,7 +4,7 @@ use Rattle.std.specs.Prelude.{◌/◌, ◌%◌, IsTrue, slice_range, slice_index
 use Rattle.hex.specs.Hex.{encode_lower, encode_with, lower_digits}
 use Rattle.ksv_expr_value.specs.declared.step.Step.{Step}
 use Rattle.ksv_expr_value.specs.declared.step.Step.TheVariants.{Index, Name}
-use Rattle.ksv_schema.specs.Description.{Description}
+use Rattle.ksv_desc.specs.Description.{Description}
 use Rattle.ksv_rules.specs.PathTexts.{or_slash, steps_text}
 use Rattle.ksv.specs.Questions.{bytes_text}
 use Rattle.ksv.specs.Commands.{is_question}

@@ -6,7 +6,7 @@ use Rattle.std.proofs.lemmas.List.{append-nil, length-append, length-take, lengt
 use Rattle.std.proofs.Math.Seq.{take-add}
 use Rattle.std.proofs.lemmas.List.Sums.{fold_push, fold-append}
 use Rattle.ksv.specs.Commands.{command_of}
-use Rattle.ksv_schema.specs.Description.{Description}
+use Rattle.ksv_desc.specs.Description.{Description}
 use Rattle.ksv.specs.Lines.{is_line_end, lines_of}
 use Rattle.ksv.specs.Replies.{Answer, Event, answer, answer_to, is_fair, may_be_refused, no_memory_text, said}
 use Rattle.ksv.specs.Runs.{Breaks, Serves, Stands, Stops}

@@ -5,7 +5,7 @@ use Rattle.std.specs.Result.{result_ok}
 use Rattle.std.specs.Str.{bytes_eq}
 use Rattle.hex.specs.Hex.{decode_of}
 use Rattle.ksv.specs.Lines.{without_carriage_return, words_of}
-use Rattle.ksv_schema.specs.Description.{Description}
+use Rattle.ksv_desc.specs.Description.{Description}
 use Rattle.ksv.specs.Numbers.{number_of}
 use Rattle.ksv_expr_value.specs.Trail.{Trail}
 use Rattle.ksv_rules.specs.PathTexts.{path_named}

@@ -1,7 +1,7 @@
 -- What a contract sees of a session.
 use Rattle.std.specs.Prelude.{ℕ, List}
 use Rattle.ksv_desc.specs.declared.pieces.Pieces.{Pieces}
-use Rattle.ksv_schema.specs.Description.{Description}
+use Rattle.ksv_desc.specs.Description.{Description}
 use Rattle.ksv_desc.specs.Whole.{plain_pieces}
 
 -- the pieces of a description, and the bytes that stand

@@ -6,7 +6,7 @@ use Rattle.ksv_bytes.specs.declared.edit.EditRefusal.TheVariants as edits
 use Rattle.ksv.specs.Commands.{command_of}
 use Rattle.ksv.specs.declared.command.Command.{Command}
 use Rattle.ksv.specs.declared.command.Command.TheVariants.{App, Blank, Get, Quit, Refused, Set, Size}
-use Rattle.ksv_schema.specs.Description.{Description}
+use Rattle.ksv_desc.specs.Description.{Description}
 use Rattle.ksv.specs.Questions.{question_text}
 use Rattle.ksv.specs.declared.refusal.LineRefusal.{LineRefusal}
 use Rattle.ksv.specs.declared.refusal.LineRefusal.TheVariants as refusals

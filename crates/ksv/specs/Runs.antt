@@ -1,6 +1,6 @@
 -- A run of a session over devices: what stands when it ends.
 use Rattle.std.specs.Prelude.{◌≡◌, ℕ, suc, ◌<◌, ◌≤◌, Bool, true, false, List, [], ◌∷◌, ◌++◌, length, take, IsTrue, Result, Ok, Err}
-use Rattle.ksv_schema.specs.Description.{Description}
+use Rattle.ksv_desc.specs.Description.{Description}
 use Rattle.ksv.specs.Lines.{lines_of}
 use Rattle.ksv.specs.Replies.{Event}
 use Rattle.ksv.specs.Session.{lines_in, session}

@@ -1,6 +1,6 @@
 -- A whole session: a fold over its lines, whose state is the bytes that stand.
 use Rattle.std.specs.Prelude.{ℕ, ◌&&◌, Bool, true, false, List, [], ◌++◌, fold, map, if◌then◌else◌}
-use Rattle.ksv_schema.specs.Description.{Description}
+use Rattle.ksv_desc.specs.Description.{Description}
 use Rattle.ksv.specs.Replies.{Answer, Event, answer, is_fair}
 
 -- the bytes that stand, what was written, whether the session has ended, and whether each line that was refused

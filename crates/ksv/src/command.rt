@@ -9,7 +9,7 @@ use crate::refusal::LineRefusal;
 use crate::words::{line_text, next_word, no_word};
 use ksv_expr::Path;
 use ksv_rules::path_of;
-use ksv_schema::Desc;
+use ksv_desc::Desc;
 use std::alloc::{AllocError, Global};
 
 /// The most bytes of a line, its LF aside.

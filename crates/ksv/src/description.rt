@@ -1,7 +1,7 @@
 //! Reads a description.
 ghost use Rattle.std.specs.Prelude.{◌≡◌, ◌⊎◌, IfOk, IfErr};
 ghost use Rattle.ksv_yaml.specs.declared.fault.YamlKind.TheVariants as yaml_kinds;
-ghost use Rattle.ksv_schema.specs.Description.{Description};
+ghost use Rattle.ksv_desc.specs.Description.{Description};
 ghost use Rattle.ksv_desc.specs.Whole.{plain_pieces};
 ghost use Rattle.ksv_schema.specs.declared.fault.DescFaultKind.TheVariants as kinds;
 ghost use Rattle.ksv.specs.Accepted.{Describes};
@@ -9,7 +9,8 @@ ghost use Rattle.ksv.specs.Accepted.{Describes};
 use crate::stop::Stop;
 use ksv_expr::{ExprFault, ExprFaultKind};
 use ksv_rules::served;
-use ksv_schema::{Desc, DescFault, DescFaultKind, load};
+use ksv_desc::Desc;
+use ksv_schema::{DescFault, DescFaultKind, load};
 use ksv_yaml::{YamlFault, YamlKind, read};
 use std::alloc::Global;
 

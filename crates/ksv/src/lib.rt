@@ -25,7 +25,7 @@ mod words;
 pub use command_line::{Args, arguments};
 pub use description::describe;
 pub use device::{Failed, Sink, Source};
-pub use ksv_schema::Desc;
+pub use ksv_desc::Desc;
 pub use memory::Memory;
 pub use reply::{Reply, Short};
 pub use serve::{End, run};

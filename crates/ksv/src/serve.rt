@@ -1,7 +1,7 @@
 //! A session over devices.
 ghost use Rattle.std.specs.Prelude.{◌≡◌, ◌≢◌, ◌≤◌, ◌<◌, ◌+◌, ◌-◌, ◌^◌, ◌↔◌, ◌++◌, List, ℕ, false, [], length, IsTrue, is_err, IsErr, IfOk, OnErr};
 ghost use Rattle.ksv.specs.Answered.{Answered};
-ghost use Rattle.ksv_schema.specs.Description.{Description};
+ghost use Rattle.ksv_desc.specs.Description.{Description};
 ghost use Rattle.ksv_desc.specs.Whole.{plain_pieces};
 ghost use Rattle.ksv.specs.Explored.{description_of};
 ghost use Rattle.ksv.specs.Runs.{Ended, Fed, Stands};
@@ -10,7 +10,7 @@ use crate::device::{Failed, Sink, Source, send};
 use crate::line::Line;
 use crate::session::{NewFault, Session};
 use ksv_bytes::Buffer;
-use ksv_schema::Desc;
+use ksv_desc::Desc;
 use std::alloc::Global;
 
 /// Why a session ended.

@@ -12,7 +12,7 @@ use crate::text::question_reply;
 use ksv_bytes::{Buffer, EditRefusal};
 use ksv_expr::Path;
 use ksv_rules::Described;
-use ksv_schema::Desc;
+use ksv_desc::Desc;
 use std::alloc::Global;
 use std::marker::Model;
 use thiserror::Error;

@@ -15,7 +15,7 @@ use itoa::Buffer as Digits;
 use ksv_bytes::{Buffer, Window};
 use ksv_expr::{Fault, FaultKind, Integer, Path, Step, Text, Value};
 use ksv_rules::{Described, Given, Head, Kind, Node};
-use ksv_schema::Desc;
+use ksv_desc::Desc;
 use serde_json::Value as Json;
 use std::alloc::{AllocError, Global};
 

@@ -5,7 +5,7 @@ use Rattle.ksv_desc.specs.declared.members.Kind.{Kind}
 use Rattle.ksv_desc.specs.declared.members.Kind.TheVariants as kinds
 use Rattle.ksv_desc.specs.declared.members.MemberDesc.{MemberDesc}
 use Rattle.ksv_desc.specs.Sequence.{stands_in_sequence, is_in_sequence}
-use Rattle.ksv_schema.specs.Description.{MemberOfType, is_in_sequence as plain_is}
+use Rattle.ksv_desc.specs.Description.{MemberOfType, is_in_sequence as plain_is}
 use Rattle.ksv_desc.specs.Pieces.{plain_kind, plain_member}
 
 -- ---- names of members

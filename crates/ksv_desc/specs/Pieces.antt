@@ -20,7 +20,7 @@ use Rattle.ksv_desc.specs.declared.members.MemberDesc.{MemberDesc}
 use Rattle.ksv_desc.specs.declared.type_desc.TypeDesc.{TypeDesc}
 use Rattle.ksv_desc.specs.declared.enums.EnumEntry.{EnumEntry}
 use Rattle.ksv_desc.specs.declared.enums.EnumDesc.{EnumDesc}
-use Rattle.ksv_schema.specs.Description.{Content, Bytes, Fixed, Number, Characters, Object, CaseValue, Literal, Negated, EnumValue, Case, Choice, Always, Switch, Extent, Sized, ToEnd, ByItself, Terminator, Repeat, Once, UntilEnd, Times, Until, Field, Kind, Given, InSequence, Positioned, Calculated, MemberOfType, TypeOfObjects, Numbered, Enum}
+use Rattle.ksv_desc.specs.Description.{Content, Bytes, Fixed, Number, Characters, Object, CaseValue, Literal, Negated, EnumValue, Case, Choice, Always, Switch, Extent, Sized, ToEnd, ByItself, Terminator, Repeat, Once, UntilEnd, Times, Until, Field, Kind, Given, InSequence, Positioned, Calculated, MemberOfType, TypeOfObjects, Numbered, Enum}
 
 -- ---- what is read
 

@@ -1,11 +1,16 @@
 -- Each number in a description leads to something: names, types, enums and their members; and each parameter has its argument.
-use Rattle.std.specs.Prelude.{◌≡◌, ℕ, ◌<◌, ◌≤◌, Bool, true, false, List, [], ◌∷◌, length, filter, Option, Some, None, slice_get}
+use Rattle.std.specs.Prelude.{◌≡◌, ℕ, ◌<◌, ◌≤◌, suc, Bool, true, false, List, [], ◌∷◌, length, filter, Option, Some, None, slice_get}
 use Rattle.std.specs.Option.{option_map_or}
 use Rattle.ksv_expr_tree.specs.Tree.{Tree, literal, named, special, member, unary, binary, logical, choice, field, special_field, call, index, cast, Arguments, no_arguments, argument, Word}
 use Rattle.ksv_expr_tree.specs.declared.tree.EnumMember.{EnumMember}
-use Rattle.ksv_schema_names.specs.Names.{count}
-use Rattle.ksv_schema_names.specs.Resolved.{AreDistinct}
-use Rattle.ksv_schema.specs.Description.{Content, Bytes, Fixed, Number, Characters, Object, CaseValue, Literal, Negated, EnumValue, Case, Choice, Always, Switch, Extent, Sized, ToEnd, ByItself, Repeat, Once, UntilEnd, Times, Until, Field, Kind, Given, InSequence, Positioned, Calculated, MemberOfType, Description, member_id}
+use Rattle.ksv_desc.specs.Names.{AreDistinct}
+use Rattle.ksv_desc.specs.Description.{Content, Bytes, Fixed, Number, Characters, Object, CaseValue, Literal, Negated, EnumValue, Case, Choice, Always, Switch, Extent, Sized, ToEnd, ByItself, Repeat, Once, UntilEnd, Times, Until, Field, Kind, Given, InSequence, Positioned, Calculated, MemberOfType, Description, member_id}
+
+-- how many arguments there are
+-- how many arguments there are
+abbrev pub count : Arguments → ℕ
+count no_arguments = 0
+count (argument e es) = suc (count es)
 
 -- each of a list is so
 abbrev pub Each : {A : Type 0} → (A → Type 0) → List A → Type 0

@@ -1,7 +1,7 @@
 -- What a whole description in the code is to its definition.
 use Rattle.std.specs.Prelude.{map}
 use Rattle.ksv_desc.specs.declared.pieces.Pieces.{Pieces}
-use Rattle.ksv_schema.specs.Description.{Description}
+use Rattle.ksv_desc.specs.Description.{Description}
 use Rattle.ksv_desc.specs.Pieces.{plain_type, plain_enum}
 
 abbrev pub plain_pieces : Pieces → Description

@@ -1,8 +1,8 @@
 //! What is read at a member.
 
-use ksv_expr::Encoding;
-use ksv_schema_scope::ByteOrder;
+use crate::order::ByteOrder;
 use ksv_expr_tree::{EnumMember, Expr, Literal};
+use ksv_expr_value::Encoding;
 
 /// What is read.
 #[derive(Drop)]

@@ -1,12 +1,14 @@
 //! A whole description.
 
 ghost use Rattle.std.specs.Prelude.{◌≡◌, map, option_map, slice_get};
-ghost use Rattle.ksv_schema.specs.Description.{name, type_id, members, fields, enum_id, member_id, number_of_name};
+ghost use Rattle.ksv_desc.specs.Description.{name, type_id, members, fields, enum_id, member_id, number_of_name};
 ghost use Rattle.ksv_desc.specs.Resolved.{IsResolved};
 ghost use Rattle.ksv_desc.specs.Pieces.{plain_type, plain_enum};
 ghost use Rattle.ksv_desc.specs.Whole.{plain_pieces};
 
-use crate::{EnumDesc, Pieces, TypeDesc};
+use crate::enums::EnumDesc;
+use crate::pieces::Pieces;
+use crate::type_desc::TypeDesc;
 use std::marker::Model;
 
 /// A description: its types with their members, its enums and the names of all members, each known by its number.
@@ -36,7 +38,7 @@ impl Model for Desc {
 
 impl Desc {
     /// The description of these pieces.
-    pub(crate) fn new(pieces: Pieces) -> Self
+    pub fn new(pieces: Pieces) -> Self
         requires { IsResolved (plain_pieces pieces) }
         ensures { result ≡ pieces }
     {
@@ -110,7 +112,7 @@ impl Desc {
     }
 
     /// The number of a member's name.
-    #[tactic(auto, using(crate::proofs::Readers::known), unfolding(ksv_schema_names::specs::Numbered::number_in))]
+    #[tactic(auto, using(crate::proofs::Readers::known), unfolding(crate::specs::Names::number_in))]
     pub fn number_of(&self, text: &str) -> Option<u32>
         ensures { result ≡ number_of_name (plain_pieces self.now) text.now }
     {

@@ -2,8 +2,8 @@
 
 ghost use Rattle.std.specs.Prelude.{◌≡◌, ◌↔◌, IsTrue, ◌≤◌, ◌^◌, ℕ, List, [], ◌∷◌, map, length, string_bytes, slice_get, unwrap_or, OnOk, OnErr};
 ghost use Rattle.ksv_expr_tree.specs.Tree.{view, arguments_of};
-ghost use Rattle.ksv_schema_names.specs.Numbered.{distinct_behind, number_in, dotted, all_dotted};
-ghost use Rattle.ksv_schema_names.specs.Code.{dotted_in};
+ghost use Rattle.ksv_desc.specs.Names.{distinct_behind, number_in, dotted, all_dotted};
+ghost use Rattle.ksv_desc.specs.Code.{dotted_in};
 
 use indexmap::IndexSet;
 use ksv_expr_tree::Expr;
@@ -83,7 +83,7 @@ impl Names {
     }
 
     /// The number of a name.
-    #[tactic(auto, unfolding(crate::specs::Numbered::number_in))]
+    #[tactic(auto, unfolding(crate::specs::Names::number_in))]
     pub fn number_of(&self, name: &str) -> Option<u32>
         ensures { result ≡ number_in self.now name.now }
     {

@@ -43,11 +43,7 @@ fn fields_of(alloc: Global, members: &[MemberDesc]) -> Result<Vec<u32>, AllocErr
 
 impl TypeDesc {
     /// A type of this name with these members.
-    pub(crate) fn new(
-        alloc: Global,
-        id: String,
-        members: Vec<MemberDesc>,
-    ) -> Result<Self, AllocError>
+    pub fn new(alloc: Global, id: String, members: Vec<MemberDesc>) -> Result<Self, AllocError>
         ensures id { IfOk result (λ t. t.id ≡ id) }
         ensures members { IfOk result (λ t. t.members ≡ members) }
     {

@@ -15,7 +15,7 @@ use Rattle.ksv_schema.specs.Keys as forms
 use Rattle.ksv_schema.specs.Keys.{Form, Key, form_in, is_ignored}
 use Rattle.ksv_schema.specs.Expressions.{expression_of}
 use Rattle.ksv_schema.specs.Rules.{Home, expression_faults, text_faults, form_faults, value_faults, key_faults, keys_faults, missing_if}
-use Rattle.ksv_schema.specs.Description.{Context, expression, expression_at, perhaps_expression}
+use Rattle.ksv_schema.specs.Stated.{Context, expression, expression_at, perhaps_expression}
 
 -- there is a value
 abbrev pub Is : {A : Type 0} → Option A → Type 0

@@ -9,7 +9,8 @@ use Rattle.ksv_expr_syntax.specs.Reading.{◌>>=◌}
 use Rattle.ksv_schema_scope.specs.Keys.{entries_in}
 use Rattle.ksv_schema_scope.specs.Enums.{Enumeration, Constant, constant, constants_from, constants_of}
 use Rattle.ksv_schema_scope.specs.Declarations.{Declared, declared}
-use Rattle.ksv_schema.specs.Description.{Numbered, as_text, each, each_numbered, numbered_of, enum_of}
+use Rattle.ksv_schema.specs.Stated.{each, each_numbered, numbered_of, enum_of}
+use Rattle.ksv_desc.specs.Description.{Numbered, as_text}
 use Rattle.ksv_schema.specs.Entries.{enum_alone}
 
 abbrev is_of : ℕ → Constant → Bool

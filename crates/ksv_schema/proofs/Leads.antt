@@ -16,11 +16,14 @@ use Rattle.ksv_schema_scope.specs.Members.{parameters_within}
 use Rattle.ksv_schema_scope.specs.Enums.{Enumeration, Constant, constant, constants_from, constants_of, number_of, id_of, is_named, number_of_id, enum_in, enum_along, enum_named}
 use Rattle.ksv_schema_scope.specs.Declarations.{Declared}
 use Rattle.ksv_schema_names.specs.Names.{enum_at}
-use Rattle.ksv_schema_names.specs.Numbered.{distinct_behind, number_in, enum_member, given_member}
-use Rattle.ksv_schema_names.specs.Resolved.{has_names, IsTyped}
+use Rattle.ksv_schema_names.specs.Numbered.{enum_member, given_member}
+use Rattle.ksv_desc.specs.Names.{distinct_behind, number_in}
+use Rattle.ksv_schema_names.specs.Resolved.{IsTyped}
+use Rattle.ksv_desc.specs.Names.{has_names}
 use Rattle.ksv_schema_names.specs.Resolved as names
 use Rattle.ksv_schema_names.proofs.Found.{place_within, outwards_is}
-use Rattle.ksv_schema.specs.Description.{Description, Numbered, Enum, numbered_of, enum_of, as_text, each, each_numbered, member_id}
+use Rattle.ksv_schema.specs.Stated.{numbered_of, enum_of, each, each_numbered}
+use Rattle.ksv_desc.specs.Description.{Description, Numbered, Enum, as_text, member_id}
 use Rattle.ksv_desc.specs.Resolved.{parameters, Each, IsThere, IsNamed, IsType, IsMemberOf, IsResolvedTree, AreResolvedTrees}
 use Rattle.ksv_schema.proofs.Coherent.{some_same}
 use Rattle.ksv_schema.proofs.Texts.{both}

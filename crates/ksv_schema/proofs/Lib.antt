@@ -25,7 +25,6 @@ pub mod Limits
 pub mod OwnNames
 pub mod Theorem
 pub mod Leads
-pub mod Readers
 pub mod Each
 pub mod TypeRows
 pub mod Past

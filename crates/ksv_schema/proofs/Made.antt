@@ -3,7 +3,7 @@ use Rattle.std.proofs.Common.{◌≡◌, ℕ, zero, suc, ◌+◌, ◌<◌, ◌�
 use Rattle.std.specs.Prelude.{option_and_then, slice_get}
 use Rattle.std.proofs.lemmas.List.{drop_all}
 use Rattle.ksv_expr_syntax.specs.Reading.{◌>>=◌}
-use Rattle.ksv_schema.specs.Description.{each_numbered}
+use Rattle.ksv_schema.specs.Stated.{each_numbered}
 
 -- what was made so far, and then the others
 abbrev pub onto : {B : Type 0} → List B → Option (List B) → Option (List B)

@@ -4,8 +4,9 @@ use Rattle.std.specs.Str.{is_utf8}
 use Rattle.std.proofs.lemmas.List.{drop_all}
 use Rattle.ksv_schema_scope.specs.declared.member.Member.{Member as MemberRow}
 use Rattle.ksv_schema_scope.specs.MemberRows.{member_of as row}
-use Rattle.ksv_schema_names.specs.Numbered.{distinct_behind}
-use Rattle.ksv_schema.specs.Description.{as_text, are_texts}
+use Rattle.ksv_desc.specs.Names.{distinct_behind}
+use Rattle.ksv_schema.specs.Stated.{are_texts}
+use Rattle.ksv_desc.specs.Description.{as_text}
 
 pub text_is : (name text : List ℕ) → Some text ≡ as_text name → text ≡ name
 unfolding as_text

@@ -4,7 +4,7 @@ use Rattle.std.specs.Prelude.{codes, option_map, find}
 use Rattle.std.specs.Str.{bytes_eq}
 use Rattle.ksv_schema_names.specs.declared.position.Site.TheVariants as sites
 use Rattle.ksv_schema.specs.Keys.{Key, key, form_in, Expression, positioned_keys}
-use Rattle.ksv_schema.specs.Description.{naming_keys}
+use Rattle.ksv_schema.specs.Stated.{naming_keys}
 
 pub naming_value : (name : List ℕ) → bytes_eq name (codes "value") ≡ true → form_in naming_keys name ≡ Some (Expression sites.Value)
 unfolding form_in

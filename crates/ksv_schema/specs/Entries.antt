@@ -3,7 +3,8 @@ use Rattle.std.specs.Prelude.{map, Option, Some}
 use Rattle.ksv_expr_syntax.specs.Reading.{◌>>=◌}
 use Rattle.ksv_schema_scope.specs.Keys.{entries_in}
 use Rattle.ksv_schema_scope.specs.Enums.{Enumeration, constant}
-use Rattle.ksv_schema.specs.Description.{Enum, as_text, each, numbered_of}
+use Rattle.ksv_schema.specs.Stated.{each, numbered_of}
+use Rattle.ksv_desc.specs.Description.{Enum, as_text}
 
 unfoldable pub enum_alone : Enumeration → Option Enum
 enum_alone x = do

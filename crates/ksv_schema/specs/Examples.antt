@@ -21,8 +21,10 @@ use Rattle.ksv_schema_scope.specs.Numerals.{plain_number, signed_number}
 use Rattle.ksv_schema_scope.specs.Types.{own_id, types_of, keys_of_type, type_in, nearest_type, type_named, order_in, order_of, encoding_in, encoding_of}
 use Rattle.ksv_schema_names.specs.BuiltIn.{is_bits, listed, built_in}
 use Rattle.ksv_schema_names.specs.Names.{special_faults, special_field_faults, enum_at, is_member, cast_faults, is_call, name_faults, least, part_faults, list_faults}
-use Rattle.ksv_schema_names.specs.Numbered.{distinct, number_in, given_member, dotted, all_dotted, numbered, all_numbered}
-use Rattle.ksv_schema.specs.Description.{Description, Field, Bytes, Fixed, Number, Characters, Object, EnumValue, Always, Switch, Sized, ByItself, Once, Times, Given, InSequence, Positioned, Calculated, expression_words, type_words, form_words, key_words, entry_words, member_words, member_names, names_of, are_texts, as_text, expression, expression_at, perhaps_expression, perhaps_enum, encoding_at, order_at, integer_content, language_content, content_of, content_at, value_of, case_value, case_of, switch_of, typed, choice_of, extent_of, terminator_of, repeat_of, field_of, positioned_of, calculated_of, kind_of, member_of, type_of, numbered_of, enum_of, described, stated_by, stated}
+use Rattle.ksv_schema_names.specs.Numbered.{given_member, numbered, all_numbered}
+use Rattle.ksv_desc.specs.Names.{distinct, number_in, dotted, all_dotted}
+use Rattle.ksv_schema.specs.Stated.{expression_words, type_words, form_words, key_words, entry_words, member_words, member_names, names_of, are_texts, expression, expression_at, perhaps_expression, perhaps_enum, encoding_at, order_at, integer_content, language_content, content_of, content_at, value_of, case_value, case_of, switch_of, typed, choice_of, extent_of, terminator_of, repeat_of, field_of, positioned_of, calculated_of, kind_of, member_of, type_of, numbered_of, enum_of, described, stated_by, stated}
+use Rattle.ksv_desc.specs.Description.{Description, Field, Bytes, Fixed, Number, Characters, Object, EnumValue, Always, Switch, Sized, ByItself, Once, Times, Given, InSequence, Positioned, Calculated, as_text}
 use Rattle.ksv_schema.specs.Expressions.{tokens_of, expression_of, type_of as type_of_expressions}
 use Rattle.ksv_schema.specs.Faults.{fault, over_limit, is_below, noted}
 use Rattle.ksv_schema.specs.Keys.{form_in, is_ignored, is_id}

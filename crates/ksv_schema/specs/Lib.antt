@@ -4,13 +4,9 @@ pub mod Keys
 pub mod Expressions
 pub mod Values
 pub mod Rules
-pub mod Description
-pub mod Resolved
+pub mod Stated
 pub mod Outcome
 pub mod Code
 pub mod Examples
-pub mod Sequence
-pub mod Pieces
-pub mod Whole
 pub mod Entries
 pub mod Contexts

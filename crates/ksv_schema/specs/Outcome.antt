@@ -3,7 +3,8 @@ use Rattle.std.specs.Prelude.{◌≡◌, [], Some}
 use Rattle.ksv_yaml_tree.specs.Tree.{Tree}
 use Rattle.ksv_schema.specs.Faults.{Fault, IsLeast}
 use Rattle.ksv_schema.specs.Rules.{faults}
-use Rattle.ksv_schema.specs.Description.{Description, stated}
+use Rattle.ksv_schema.specs.Stated.{stated}
+use Rattle.ksv_desc.specs.Description.{Description}
 
 -- a tree without a fault states this description
 pub record States (t : Tree) (d : Description) : Type 0 where

@@ -25,7 +25,8 @@ use Rattle.ksv_schema_names.specs.declared.position.NameFault.{NameFault}
 use Rattle.ksv_schema_names.specs.declared.position.NameFault.TheVariants.{Unknown, LeftOut}
 use Rattle.ksv_schema_names.specs.declared.built_ins.BuiltIn.{BuiltIn}
 use Rattle.ksv_schema_names.specs.declared.built_ins.BuiltIn.TheVariants.{Integer, Str, Strz, NotHere}
-use Rattle.ksv_schema_names.specs.Names.{name_faults, list_faults, count}
+use Rattle.ksv_schema_names.specs.Names.{name_faults, list_faults}
+use Rattle.ksv_desc.specs.Resolved.{count}
 use Rattle.ksv_schema.specs.Faults.{Fault, fault, fault_if, unknown_key, missing_key, keys_against, unknown_name, no_byte_order, bad_value, wrong_count, left_out, over_limit, no_expression}
 use Rattle.ksv_schema.specs.Keys as forms
 use Rattle.ksv_schema.specs.Keys.{Form, Key, type_keys, meta_keys, parameter_keys, attribute_keys, positioned_keys, value_keys, switch_keys, constant_keys, form_in, is_ignored, is_id}

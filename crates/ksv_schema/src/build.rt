@@ -2,7 +2,7 @@
 
 ghost use Rattle.std.specs.Prelude.{◌≡◌, IfOk, option_map};
 ghost use Rattle.ksv_schema_scope.specs.Declarations.{declared};
-ghost use Rattle.ksv_schema.specs.Description.{described, stated_by};
+ghost use Rattle.ksv_schema.specs.Stated.{described, stated_by};
 ghost use Rattle.ksv_desc.specs.Whole.{plain_pieces};
 
 mod choice;
@@ -26,7 +26,7 @@ use ksv_schema_scope::Scopes;
 use std::alloc::{AllocError, Global};
 
 /// The description with these names, of which the first are those of members.
-#[tactic(auto, unfolding(crate::specs::Description::described))]
+#[tactic(auto, unfolding(crate::specs::Stated::described))]
 fn described(
     alloc: Global,
     scopes: &Scopes,
@@ -50,7 +50,7 @@ fn described(
 }
 
 /// The description that a tree states.
-#[tactic(auto, unfolding(crate::specs::Description::stated_by, crate::specs::Description::names_of, crate::specs::Description::member_names, ksv_schema_names::specs::Numbered::distinct))]
+#[tactic(auto, unfolding(crate::specs::Stated::stated_by, crate::specs::Stated::names_of, crate::specs::Stated::member_names, ksv_desc::specs::Names::distinct))]
 pub(crate) fn build(alloc: Global, scopes: &Scopes) -> Result<Option<Pieces>, AllocError>
     ensures { IfOk result (λ o. option_map plain_pieces o ≡ stated_by (declared scopes.now)) }
 {

@@ -7,13 +7,11 @@
 
 mod build;
 mod check;
-pub mod desc;
 mod description;
 mod fault;
 mod ids;
 mod keys;
 mod read;
-mod stated;
 mod values;
 
 ghost use Rattle.std.specs.Prelude.{◌≡◌, ◌≢◌, ℕ, List, [], Some};
@@ -23,13 +21,13 @@ ghost use Rattle.ksv_expr_syntax.specs.Text.{SpellsText, SpellsTypeText};
 ghost use Rattle.ksv_schema.specs.Expressions.{expression_of, type_of};
 ghost use Rattle.ksv_schema.specs.Faults.{Fault};
 ghost use Rattle.ksv_schema.specs.Rules.{faults};
-ghost use Rattle.ksv_schema.specs.Description.{Description};
+ghost use Rattle.ksv_desc.specs.Description.{Description};
 ghost use Rattle.ksv_schema.specs.Outcome.{States, Refuses};
 ghost use Rattle.ksv_desc.specs.Resolved.{IsResolved};
 
 pub use description::load;
 pub use fault::{DescFault, DescFaultKind};
-pub use stated::Desc;
+pub use ksv_desc::Desc;
 
 /// The expression, and the type with its arguments, that a text of a description is taken for are those that it spells.
 pub fn texts_are_spelled()

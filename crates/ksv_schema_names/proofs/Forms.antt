@@ -17,10 +17,11 @@ use Rattle.ksv_schema_scope.specs.Members.{member_named}
 use Rattle.ksv_schema_names.specs.declared.position.NameFault.{NameFault}
 use Rattle.ksv_schema_names.specs.declared.position.NameFault.TheVariants.{Unknown}
 use Rattle.ksv_schema_names.specs.declared.position.Position.{Position}
-use Rattle.ksv_schema_names.specs.Names.{Behind, Dot, Other, part_faults, list_faults, wrong_if, special_faults, special_field_faults, is_member, cast_faults, is_call, count, least}
+use Rattle.ksv_schema_names.specs.Names.{Behind, Dot, Other, part_faults, list_faults, wrong_if, special_faults, special_field_faults, is_member, cast_faults, is_call, least}
+use Rattle.ksv_desc.specs.Resolved.{count}
 use Rattle.ksv_schema_names.specs.Code.{faults_at}
 use Rattle.ksv_schema_names.proofs.Noted.{least_then}
-use Rattle.ksv_schema_names.proofs.Views.{view_literal, view_name, view_special, view_member, view_unary, view_binary, view_logical, view_choice, view_field, view_special_field, view_call, view_index, view_cast}
+use Rattle.ksv_desc.proofs.Views.{view_literal, view_name, view_special, view_member, view_unary, view_binary, view_logical, view_choice, view_field, view_special_field, view_call, view_index, view_cast}
 
 -- the faults of arguments, one after the other
 pub list_flat : (d : Declared) (n : ℕ) (p : Position) (ts : List Tree) → list_faults d n p (arguments_of ts) ≡ flat_map (part_faults d n p Other) ts

@@ -15,7 +15,7 @@ use Rattle.ksv_expr_tree.specs.declared.tree.LogicalOperator.{LogicalOperator}
 use Rattle.ksv_expr_tree.specs.Tree.{Tree, view, name_of, path_of, member_of, arguments_of, argument, named, member, unary, binary, logical, choice, field, special_field, call, index, cast}
 use Rattle.ksv_schema_scope.specs.Declarations.{Declared}
 use Rattle.ksv_schema_names.specs.Numbered.{numbered, all_numbered, numbered_word, numbered_type, numbered_member}
-use Rattle.ksv_schema_names.proofs.Views.{view_literal, view_name, view_special, view_member, view_unary, view_binary, view_logical, view_choice, view_field, view_special_field, view_call, view_index, view_cast}
+use Rattle.ksv_desc.proofs.Views.{view_literal, view_name, view_special, view_member, view_unary, view_binary, view_logical, view_choice, view_field, view_special_field, view_call, view_index, view_cast}
 
 -- a name, a type's name or a member that lay in the expression
 pub piece : {A B : Type 0} (see : A → B) (f : B → B) (x y : A) → x ≡ y → (new : A) → see new ≡ f (see x) → see new ≡ f (see y)

@@ -12,9 +12,12 @@ use Rattle.ksv_schema_names.specs.declared.position.NameFault.{NameFault}
 use Rattle.ksv_schema_names.specs.declared.position.NameFault.TheVariants.{Unknown, LeftOut}
 use Rattle.ksv_schema_names.specs.declared.position.Position.{Position}
 use Rattle.ksv_schema_names.specs.BuiltIn.{built_in_at}
-use Rattle.ksv_schema_names.specs.Names.{Behind, Dot, Other, wrong_if, special_field_faults, enum_at, is_member, cast_faults, count, is_call, part_faults, list_faults}
-use Rattle.ksv_schema_names.specs.Numbered.{number_in, numbered_word, numbered_type, numbered_member, enum_member, given_member, dotted, all_dotted, numbered, all_numbered}
-use Rattle.ksv_schema_names.specs.Resolved.{IsNamed, IsTyped, IsGiven, IsResolved, AreResolved, has_names}
+use Rattle.ksv_schema_names.specs.Names.{Behind, Dot, Other, wrong_if, special_field_faults, enum_at, is_member, cast_faults, is_call, part_faults, list_faults}
+use Rattle.ksv_desc.specs.Resolved.{count}
+use Rattle.ksv_schema_names.specs.Numbered.{numbered_word, numbered_type, numbered_member, enum_member, given_member, numbered, all_numbered}
+use Rattle.ksv_desc.specs.Names.{number_in, dotted, all_dotted}
+use Rattle.ksv_schema_names.specs.Resolved.{IsNamed, IsTyped, IsGiven, IsResolved, AreResolved}
+use Rattle.ksv_desc.specs.Names.{has_names}
 use Rattle.ksv_schema_names.proofs.Found.{some_is, not_none, both_empty, one_passes, get_map, place_of, type_within, same_text}
 
 not_wrong : (b : Bool) (k : NameFault) → wrong_if b k ≡ [] → b ≡ false

@@ -7,7 +7,7 @@ use Rattle.ksv_schema_names.specs.declared.faults.Behind.{Behind as Seen}
 use Rattle.ksv_schema_names.specs.declared.faults.Behind.TheVariants as seen
 use Rattle.ksv_schema_names.specs.declared.position.NameFault.{NameFault}
 use Rattle.ksv_schema_names.specs.declared.position.Position.{Position}
-use Rattle.ksv_schema_names.specs.Numbered.{dotted}
+use Rattle.ksv_desc.specs.Names.{dotted}
 use Rattle.ksv_schema_names.specs.Names.{Behind, Dot, Nothing, Other, part_faults}
 
 abbrev pub behind_of : Seen → Behind
@@ -18,7 +18,3 @@ behind_of seen.Other = Other
 -- the faults of a part as the code holds it
 unfoldable pub faults_at : Declared → ℕ → Position → Behind → Expr → List NameFault
 faults_at d n p b e = part_faults d n p b (view e)
-
--- the names behind dots of an expression as the code holds it
-unfoldable pub dotted_in : Expr → List (List ℕ)
-dotted_in e = dotted (view e)

@@ -109,11 +109,6 @@ cast_faults d n t =
     if is_some (built_in_at t.path) then LeftOut ∷ []
     else wrong_if (is_none (type_named d.types n t.path)) Unknown
 
--- how many arguments there are
-abbrev pub count : Arguments → ℕ
-count no_arguments = 0
-count (argument e es) = suc (count es)
-
 -- the calls that there are: `.substring` of two, `.to_i` and `.to_s` of one argument
 unfoldable pub is_call : List ℕ → ℕ → Bool
 is_call name n = bytes_eq name (codes "substring") && n == 2 || (bytes_eq name (codes "to_i") || bytes_eq name (codes "to_s")) && n == 1

@@ -12,42 +12,6 @@ use Rattle.ksv_schema_scope.specs.Enums.{number_of_id}
 use Rattle.ksv_schema_scope.specs.Declarations.{Declared}
 use Rattle.ksv_schema_names.specs.Names.{enum_at}
 
--- ---- tables of names
-
--- each name once, where it first stands, behind names that are there already
-abbrev pub distinct_behind : List (List ℕ) → List (List ℕ) → List (List ℕ)
-distinct_behind before [] = before
-distinct_behind before (name ∷ names) = distinct_behind (if list_any (bytes_eq name) before then before else before ++ name ∷ []) names
-
-unfoldable pub distinct : List (List ℕ) → List (List ℕ)
-distinct names = distinct_behind [] names
-
--- the number of a name
-unfoldable pub number_in : List (List ℕ) → List ℕ → Option ℕ
-number_in names name = position_from (bytes_eq name) 0 names
-
--- ---- the names behind dots
-
-unfoldable mutual
-  pub dotted : Tree → List (List ℕ)
-  dotted (literal c) = []
-  dotted (named w) = []
-  dotted (special s) = []
-  dotted (member m) = []
-  dotted (unary op x) = dotted x
-  dotted (binary op x y) = dotted x ++ dotted y
-  dotted (logical op x y) = dotted x ++ dotted y
-  dotted (choice x y z) = dotted x ++ dotted y ++ dotted z
-  dotted (field x w) = dotted x ++ w.text ∷ []
-  dotted (special_field x s) = dotted x
-  dotted (call x m es) = dotted x ++ all_dotted es
-  dotted (index x y) = dotted x ++ dotted y
-  dotted (cast x t) = dotted x
-
-  pub all_dotted : Arguments → List (List ℕ)
-  all_dotted no_arguments = []
-  all_dotted (argument e es) = dotted e ++ all_dotted es
-
 -- ---- numbers
 
 abbrev pub numbered_word : List (List ℕ) → Word → Word

@@ -9,7 +9,8 @@ use Rattle.ksv_schema_names.specs.declared.position.NameFault.{NameFault}
 use Rattle.ksv_schema_names.specs.declared.position.NameFault.TheVariants.{Unknown, LeftOut}
 use Rattle.ksv_schema_names.specs.declared.position.Position.{Position}
 use Rattle.ksv_schema_names.specs.Names.{name_faults, list_faults, least}
-use Rattle.ksv_schema_names.specs.Numbered.{distinct_behind, number_in, dotted, all_dotted, numbered, all_numbered}
+use Rattle.ksv_schema_names.specs.Numbered.{numbered, all_numbered}
+use Rattle.ksv_desc.specs.Names.{distinct_behind, number_in, dotted, all_dotted}
 
 -- a name has the number of its text
 pub record IsNamed (names : List (List ℕ)) (w : Word) : Type 0 where
@@ -63,25 +64,6 @@ left_out_of (k ∷ ks) = Some LeftOut
 -- an unknown name where there is one, else one that may not be used so where there is any
 abbrev pub LeastIsTold : Type 0
 LeastIsTold = (ks : List NameFault) → least None ks ≡ (if list_any is_unknown ks then Some Unknown else left_out_of ks)
-
--- ---- tables of names
-
--- whether each of these is in a table of names
-abbrev pub has_names : List (List ℕ) → List (List ℕ) → Bool
-has_names names words = list_all (λ w. is_some (number_in names w)) words
-
--- each name's number is its place
-abbrev pub AreDistinct : List (List ℕ) → Type 0
-AreDistinct names = (k : ℕ) (w : List ℕ) → slice_get names k ≡ Some w → number_in names w ≡ Some k
-
--- a table has the names that were added to it and those that were there before, each once
-pub record IsTableOf (before added : List (List ℕ)) : Type 0 where
-  pub has_before : IsTrue (has_names (distinct_behind before added) before)
-  pub has_added : IsTrue (has_names (distinct_behind before added) added)
-  pub stays_distinct : AreDistinct before → AreDistinct (distinct_behind before added)
-
-abbrev pub NamesAreTabled : Type 0
-NamesAreTabled = (before added : List (List ℕ)) → IsTableOf before added
 
 -- ---- laws of expressions
 

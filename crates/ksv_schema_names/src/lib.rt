@@ -7,13 +7,12 @@
 mod built_ins;
 mod faults;
 mod laws;
-mod names;
 mod numbering;
 mod position;
 
 pub use built_ins::{BuiltIn, built_in, built_in_at};
 pub use faults::{argument_fault, name_fault};
-pub use laws::{faultless_is_resolved, least_is_told, names_are_tabled};
-pub use names::Names;
+pub use ksv_desc::{Names, names_are_tabled};
+pub use laws::{faultless_is_resolved, least_is_told};
 pub use numbering::{given_member, number_arguments, number_expr, number_type};
 pub use position::{NameFault, Position, Site};

@@ -7,8 +7,8 @@ ghost use Rattle.ksv_schema_scope.specs.Types.{type_in, outwards, from, root_nam
 ghost use Rattle.ksv_schema_scope.specs.Rows.{scopes_of, AreOrdered, outer_of, is_row_named, seen_node};
 
 use crate::keys::{entries_at, entries_in, text_at};
-use crate::order::ByteOrder;
 use crate::row::TypeRow;
+use ksv_desc::ByteOrder;
 use ksv_yaml_tree::{Entry, Yaml};
 
 /// The row of the type `n`.

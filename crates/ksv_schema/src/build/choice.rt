@@ -4,7 +4,8 @@ ghost use Rattle.std.specs.Prelude.{◌≡◌, map, IfOk, option_map};
 ghost use Rattle.ksv_yaml_tree.specs.View.{pair};
 ghost use Rattle.ksv_expr_tree.specs.Tree.{view, literal_of};
 ghost use Rattle.ksv_schema.specs.Contexts.{context_of};
-ghost use Rattle.ksv_schema.specs.Description.{value_of, case_value, case_of, each, switch_of, typed, choice_of, Always, Fixed};
+ghost use Rattle.ksv_schema.specs.Stated.{value_of, case_value, case_of, each, switch_of, typed, choice_of};
+ghost use Rattle.ksv_desc.specs.Description.{Always, Fixed};
 ghost use Rattle.ksv_schema.specs.Values.{contents_of};
 ghost use Rattle.ksv_desc.specs.Pieces.{plain_value, plain_case, plain_choice};
 ghost use Rattle.ksv_schema.specs.Code.{seen_case_key};
@@ -34,7 +35,7 @@ fn copied(alloc: Global, literal: &Literal) -> Result<Literal, AllocError>
 }
 
 /// What a key of `cases` is compared with; none for `_`.
-#[tactic(auto, unfolding(crate::specs::Description::value_of))]
+#[tactic(auto, unfolding(crate::specs::Stated::value_of))]
 fn value_of(
     alloc: Global,
     context: Context,
@@ -58,7 +59,7 @@ fn value_of(
 }
 
 /// What the text of a key of `cases` is compared with.
-#[tactic(auto, unfolding(crate::specs::Description::case_value))]
+#[tactic(auto, unfolding(crate::specs::Stated::case_value))]
 fn case_value(
     alloc: Global,
     context: Context,
@@ -73,7 +74,7 @@ fn case_value(
 }
 
 /// A case.
-#[tactic(auto, unfolding(crate::specs::Description::case_of))]
+#[tactic(auto, unfolding(crate::specs::Stated::case_of))]
 fn case_of(
     alloc: Global,
     context: Context,
@@ -111,7 +112,7 @@ fn cases_of(
 }
 
 /// What a switch chooses.
-#[tactic(auto, unfolding(crate::specs::Description::switch_of))]
+#[tactic(auto, unfolding(crate::specs::Stated::switch_of))]
 fn switch_of(
     alloc: Global,
     context: Context,
@@ -130,7 +131,7 @@ fn switch_of(
 }
 
 /// What stands at the key `type`: a text, or a switch.
-#[tactic(auto, unfolding(crate::specs::Description::typed))]
+#[tactic(auto, unfolding(crate::specs::Stated::typed))]
 fn typed(
     alloc: Global,
     context: Context,
@@ -159,7 +160,7 @@ fn fixed(alloc: Global, entry: &Entry) -> Result<Option<Choice>, AllocError>
 }
 
 /// What an attribute of these keys reads; without a type and contents it is bytes.
-#[tactic(auto, unfolding(crate::specs::Description::choice_of))]
+#[tactic(auto, unfolding(crate::specs::Stated::choice_of))]
 pub(crate) fn choice_of(
     alloc: Global,
     context: Context,

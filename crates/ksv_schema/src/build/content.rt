@@ -7,7 +7,8 @@ ghost use Rattle.ksv_schema_scope.specs.Declarations.{declared};
 ghost use Rattle.ksv_schema_scope.specs.Types.{type_named};
 ghost use Rattle.ksv_schema_names.specs.Numbered.{all_numbered};
 ghost use Rattle.ksv_schema.specs.Contexts.{context_of};
-ghost use Rattle.ksv_schema.specs.Description.{perhaps_enum, encoding_at, order_at, integer_content, language_content, content_of, content_at, Characters, Object};
+ghost use Rattle.ksv_schema.specs.Stated.{perhaps_enum, encoding_at, order_at, integer_content, language_content, content_of, content_at};
+ghost use Rattle.ksv_desc.specs.Description.{Characters, Object};
 ghost use Rattle.ksv_desc.specs.Pieces.{plain_content};
 ghost use Rattle.ksv_schema.specs.Code.{seen_type_text};
 
@@ -24,7 +25,7 @@ use ksv_yaml_tree::Entry;
 use std::alloc::{AllocError, Global};
 
 /// The number of the enum at the key `enum`, which may be left away.
-#[tactic(auto, unfolding(crate::specs::Description::perhaps_enum))]
+#[tactic(auto, unfolding(crate::specs::Stated::perhaps_enum))]
 pub(crate) fn perhaps_enum(
     alloc: Global,
     context: Context,
@@ -48,7 +49,7 @@ pub(crate) fn perhaps_enum(
 }
 
 /// The encoding of an attribute, its own or the one in force.
-#[tactic(auto, unfolding(crate::specs::Description::encoding_at))]
+#[tactic(auto, unfolding(crate::specs::Stated::encoding_at))]
 pub(crate) fn encoding_at(context: Context, entries: &[Entry]) -> Option<Encoding>
     ensures { result ≡ encoding_at (context_of context.entry) (map pair entries.now) }
 {
@@ -62,7 +63,7 @@ pub(crate) fn encoding_at(context: Context, entries: &[Entry]) -> Option<Encodin
 }
 
 /// The order of an integer, its own or the one in force; one byte has any.
-#[tactic(auto, unfolding(crate::specs::Description::order_at))]
+#[tactic(auto, unfolding(crate::specs::Stated::order_at))]
 fn order_at(context: Context, size: u8, stated: Option<ByteOrder>) -> Option<ByteOrder>
     ensures { result ≡ order_at (context_of context.entry) size stated }
 {
@@ -79,7 +80,7 @@ fn order_at(context: Context, size: u8, stated: Option<ByteOrder>) -> Option<Byt
 }
 
 /// An integer.
-#[tactic(auto, unfolding(crate::specs::Description::integer_content))]
+#[tactic(auto, unfolding(crate::specs::Stated::integer_content))]
 fn integer_content(
     alloc: Global,
     context: Context,
@@ -115,7 +116,7 @@ fn characters(context: Context, entries: &[Entry]) -> Option<Content>
 }
 
 /// What a type of the language says.
-#[tactic(auto, unfolding(crate::specs::Description::language_content))]
+#[tactic(auto, unfolding(crate::specs::Stated::language_content))]
 fn language_content(
     alloc: Global,
     context: Context,
@@ -162,7 +163,7 @@ fn object(context: Context, name: TypeName, arguments: Vec<Expr>) -> Option<Cont
 }
 
 /// What a type's text says.
-#[tactic(auto, unfolding(crate::specs::Description::content_of))]
+#[tactic(auto, unfolding(crate::specs::Stated::content_of))]
 fn content_of(
     alloc: Global,
     context: Context,
@@ -179,7 +180,7 @@ fn content_of(
 }
 
 /// What the type at an entry says, in an attribute of these keys.
-#[tactic(auto, unfolding(crate::specs::Description::content_at))]
+#[tactic(auto, unfolding(crate::specs::Stated::content_at))]
 pub(crate) fn content_at(
     alloc: Global,
     context: Context,

@@ -5,7 +5,7 @@ ghost use Rattle.ksv_yaml_tree.specs.View.{pair};
 ghost use Rattle.ksv_schema_scope.specs.Enums.{constant};
 ghost use Rattle.ksv_schema_scope.specs.EnumRows.{enumeration_of};
 ghost use Rattle.ksv_schema_scope.specs.Declarations.{declared};
-ghost use Rattle.ksv_schema.specs.Description.{numbered_of, enum_of, each, each_numbered};
+ghost use Rattle.ksv_schema.specs.Stated.{numbered_of, enum_of, each, each_numbered};
 ghost use Rattle.ksv_schema.specs.Entries.{enum_alone};
 ghost use Rattle.ksv_desc.specs.Pieces.{plain_entry, plain_enum};
 
@@ -16,7 +16,7 @@ use ksv_yaml_tree::Entry;
 use std::alloc::{AllocError, Global};
 
 /// A number of an enum and what it stands for.
-#[tactic(auto, unfolding(crate::specs::Description::numbered_of))]
+#[tactic(auto, unfolding(crate::specs::Stated::numbered_of))]
 fn entry_of(alloc: Global, entry: &Entry) -> Result<Option<EnumEntry>, AllocError>
     ensures { IfOk result (λ o. option_map plain_entry o ≡ numbered_of (constant 0 (pair entry.now))) }
 {

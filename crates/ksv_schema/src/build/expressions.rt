@@ -4,7 +4,7 @@ ghost use Rattle.std.specs.Prelude.{◌≡◌, map, IfOk, option_map};
 ghost use Rattle.ksv_yaml_tree.specs.View.{pair};
 ghost use Rattle.ksv_expr_tree.specs.Tree.{view};
 ghost use Rattle.ksv_schema.specs.Contexts.{context_of};
-ghost use Rattle.ksv_schema.specs.Description.{expression, expression_at, perhaps_expression};
+ghost use Rattle.ksv_schema.specs.Stated.{expression, expression_at, perhaps_expression};
 
 use crate::build::context::Context;
 use crate::read::read_expression;
@@ -15,7 +15,7 @@ use ksv_yaml_tree::Entry;
 use std::alloc::{AllocError, Global};
 
 /// The expression that a text is.
-#[tactic(auto, unfolding(crate::specs::Description::expression))]
+#[tactic(auto, unfolding(crate::specs::Stated::expression))]
 pub(crate) fn expression(
     alloc: Global,
     context: Context,
@@ -33,7 +33,7 @@ pub(crate) fn expression(
 }
 
 /// The expression at a key.
-#[tactic(auto, unfolding(crate::specs::Description::expression_at))]
+#[tactic(auto, unfolding(crate::specs::Stated::expression_at))]
 pub(crate) fn expression_at(
     alloc: Global,
     context: Context,
@@ -49,7 +49,7 @@ pub(crate) fn expression_at(
 }
 
 /// The expression at a key that may be left away.
-#[tactic(auto, unfolding(crate::specs::Description::perhaps_expression))]
+#[tactic(auto, unfolding(crate::specs::Stated::perhaps_expression))]
 pub(crate) fn perhaps_expression(
     alloc: Global,
     context: Context,

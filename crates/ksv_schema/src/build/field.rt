@@ -3,7 +3,7 @@
 ghost use Rattle.std.specs.Prelude.{◌≡◌, map, IfOk, option_map};
 ghost use Rattle.ksv_yaml_tree.specs.View.{pair};
 ghost use Rattle.ksv_schema.specs.Contexts.{context_of};
-ghost use Rattle.ksv_schema.specs.Description.{extent_of, terminated_by, terminator_of, repeat_of, field_of};
+ghost use Rattle.ksv_schema.specs.Stated.{extent_of, terminated_by, terminator_of, repeat_of, field_of};
 ghost use Rattle.ksv_desc.specs.Pieces.{plain_extent, plain_terminator, plain_repeat, plain_field};
 
 use crate::build::choice::choice_of;
@@ -16,7 +16,7 @@ use ksv_yaml_tree::Entry;
 use std::alloc::{AllocError, Global};
 
 /// How far an attribute of these keys goes.
-#[tactic(auto, unfolding(crate::specs::Description::extent_of))]
+#[tactic(auto, unfolding(crate::specs::Stated::extent_of))]
 fn extent_of(
     alloc: Global,
     context: Context,
@@ -49,7 +49,7 @@ fn terminated_by(entries: &[Entry], byte: u8) -> Terminator
 }
 
 /// The terminator of an attribute of these keys: the byte that is written, or the 0 of `strz`.
-#[tactic(auto, unfolding(crate::specs::Description::terminator_of))]
+#[tactic(auto, unfolding(crate::specs::Stated::terminator_of))]
 fn terminator_of(alloc: Global, entries: &[Entry]) -> Result<Option<Terminator>, AllocError>
     ensures { IfOk result (λ o. option_map plain_terminator o ≡ terminator_of (map pair entries.now)) }
 {
@@ -63,7 +63,7 @@ fn terminator_of(alloc: Global, entries: &[Entry]) -> Result<Option<Terminator>,
 }
 
 /// How often an attribute of these keys is read.
-#[tactic(auto, unfolding(crate::specs::Description::repeat_of))]
+#[tactic(auto, unfolding(crate::specs::Stated::repeat_of))]
 fn repeat_of(
     alloc: Global,
     context: Context,
@@ -90,7 +90,7 @@ fn repeat_of(
 }
 
 /// What an attribute, or an instance with a place, of these keys reads.
-#[tactic(auto, unfolding(crate::specs::Description::field_of))]
+#[tactic(auto, unfolding(crate::specs::Stated::field_of))]
 pub(crate) fn field_of(
     alloc: Global,
     context: Context,

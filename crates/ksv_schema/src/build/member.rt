@@ -4,7 +4,7 @@ ghost use Rattle.std.specs.Prelude.{◌≡◌, map, IfOk, option_map};
 ghost use Rattle.ksv_yaml_tree.specs.View.{pair};
 ghost use Rattle.ksv_schema_scope.specs.MemberRows.{member_of as row};
 ghost use Rattle.ksv_schema.specs.Contexts.{context_of};
-ghost use Rattle.ksv_schema.specs.Description.{positioned_of, calculated_of, kind_of, member_of, each};
+ghost use Rattle.ksv_schema.specs.Stated.{positioned_of, calculated_of, kind_of, member_of, each};
 ghost use Rattle.ksv_desc.specs.Pieces.{plain_kind, plain_member};
 
 use crate::build::content::perhaps_enum;
@@ -19,7 +19,7 @@ use ksv_yaml_tree::Entry;
 use std::alloc::{AllocError, Global};
 
 /// An instance with a place.
-#[tactic(auto, unfolding(crate::specs::Description::positioned_of))]
+#[tactic(auto, unfolding(crate::specs::Stated::positioned_of))]
 fn positioned_of(
     alloc: Global,
     context: Context,
@@ -44,7 +44,7 @@ fn positioned_of(
 }
 
 /// An instance with a value.
-#[tactic(auto, unfolding(crate::specs::Description::calculated_of))]
+#[tactic(auto, unfolding(crate::specs::Stated::calculated_of))]
 fn calculated_of(
     alloc: Global,
     context: Context,
@@ -69,7 +69,7 @@ fn calculated_of(
 }
 
 /// What a member of these keys is, by where it stands.
-#[tactic(auto, unfolding(crate::specs::Description::kind_of))]
+#[tactic(auto, unfolding(crate::specs::Stated::kind_of))]
 fn kind_of(
     alloc: Global,
     context: Context,
@@ -95,7 +95,7 @@ fn kind_of(
 }
 
 /// A member.
-#[tactic(auto, unfolding(crate::specs::Description::member_of))]
+#[tactic(auto, unfolding(crate::specs::Stated::member_of))]
 fn member_of(
     alloc: Global,
     context: Context,

@@ -3,10 +3,10 @@
 ghost use Rattle.std.specs.Prelude.{◌≡◌, true, map, IfOk, OnOk, flat_map};
 ghost use Rattle.ksv_yaml_tree.specs.View.{pair};
 ghost use Rattle.ksv_schema_scope.specs.MemberRows.{member_of as row};
-ghost use Rattle.ksv_schema_names.specs.Numbered.{distinct_behind};
+ghost use Rattle.ksv_desc.specs.Names.{distinct_behind};
 ghost use Rattle.ksv_schema.specs.Code.{form_of, seen_type_text};
 ghost use Rattle.ksv_schema.specs.Keys.{switch_keys};
-ghost use Rattle.ksv_schema.specs.Description.{naming_keys, expression_words, argument_words, type_words, form_words, key_words, entry_words, member_words, are_texts};
+ghost use Rattle.ksv_schema.specs.Stated.{naming_keys, expression_words, argument_words, type_words, form_words, key_words, entry_words, member_words, are_texts};
 
 use crate::build::texts::as_text;
 use crate::keys::{Form, Table, form_in};
@@ -33,7 +33,7 @@ pub(crate) fn add_members(names: &mut Names, members: &[Member]) -> Result<bool,
 }
 
 /// Adds the names behind dots of an expression's text.
-#[tactic(auto, using(ksv_schema_names::proofs::Dots::steps), unfolding(crate::specs::Description::expression_words))]
+#[tactic(auto, using(ksv_desc::proofs::Dots::steps), unfolding(crate::specs::Stated::expression_words))]
 fn add_expression(alloc: Global, names: &mut Names, text: &[u8]) -> Result<(), AllocError>
     ensures { OnOk result (names.new ≡ distinct_behind names.old (expression_words text.now)) }
 {
@@ -44,7 +44,7 @@ fn add_expression(alloc: Global, names: &mut Names, text: &[u8]) -> Result<(), A
 }
 
 /// Adds the names behind dots in the arguments of a type.
-#[tactic(auto, using(ksv_schema_names::proofs::Dots::steps))]
+#[tactic(auto, using(ksv_desc::proofs::Dots::steps))]
 fn add_arguments(names: &mut Names, text: &TypeText) -> Result<(), AllocError>
     ensures { OnOk result (names.new ≡ distinct_behind names.old (argument_words (seen_type_text text.now))) }
 {
@@ -56,7 +56,7 @@ fn add_arguments(names: &mut Names, text: &TypeText) -> Result<(), AllocError>
 }
 
 /// Adds the names behind dots of the type at an entry.
-#[tactic(auto, using(ksv_schema_names::proofs::Dots::steps), unfolding(crate::specs::Description::type_words))]
+#[tactic(auto, using(ksv_desc::proofs::Dots::steps), unfolding(crate::specs::Stated::type_words))]
 fn add_type(alloc: Global, names: &mut Names, entry: &Entry) -> Result<(), AllocError>
     ensures { OnOk result (names.new ≡ distinct_behind names.old (type_words (pair entry.now))) }
 {
@@ -80,7 +80,7 @@ fn add_types(alloc: Global, names: &mut Names, entries: &[Entry]) -> Result<(), 
 }
 
 /// Adds the names behind dots of what stands at an entry, by its form.
-#[tactic(auto, using(ksv_schema_names::proofs::Dots::steps), unfolding(crate::specs::Description::form_words))]
+#[tactic(auto, using(ksv_desc::proofs::Dots::steps), unfolding(crate::specs::Stated::form_words))]
 fn add_form(alloc: Global, names: &mut Names, entry: &Entry, form: Form) -> Result<(), AllocError>
     ensures { OnOk result (names.new ≡ distinct_behind names.old (form_words (pair entry.now) (form_of form))) }
 {
@@ -110,7 +110,7 @@ fn add_form(alloc: Global, names: &mut Names, entry: &Entry, form: Form) -> Resu
 }
 
 /// Adds the names behind dots at a key of a switch.
-#[tactic(auto, using(ksv_schema_names::proofs::Dots::steps), unfolding(crate::specs::Description::key_words))]
+#[tactic(auto, using(ksv_desc::proofs::Dots::steps), unfolding(crate::specs::Stated::key_words))]
 fn add_switch_key(alloc: Global, names: &mut Names, entry: &Entry) -> Result<(), AllocError>
     ensures { OnOk result (names.new ≡ distinct_behind names.old (key_words switch_keys (pair entry.now))) }
 {
@@ -131,7 +131,7 @@ fn add_switch(alloc: Global, names: &mut Names, keys: &[Entry]) -> Result<(), Al
 }
 
 /// Adds the names behind dots at a key at which an expression or a type may stand.
-#[tactic(auto, using(ksv_schema_names::proofs::Dots::steps, crate::proofs::Naming::steps), unfolding(crate::specs::Description::key_words))]
+#[tactic(auto, using(ksv_desc::proofs::Dots::steps, crate::proofs::Naming::steps), unfolding(crate::specs::Stated::key_words))]
 fn add_key(alloc: Global, names: &mut Names, entry: &Entry) -> Result<(), AllocError>
     ensures { OnOk result (names.new ≡ distinct_behind names.old (key_words naming_keys (pair entry.now))) }
 {
@@ -145,7 +145,7 @@ fn add_key(alloc: Global, names: &mut Names, entry: &Entry) -> Result<(), AllocE
 }
 
 /// Adds the names behind dots at an entry of a member, those of a switch too.
-#[tactic(auto, using(ksv_schema_names::proofs::Dots::steps), unfolding(crate::specs::Description::entry_words))]
+#[tactic(auto, using(ksv_desc::proofs::Dots::steps), unfolding(crate::specs::Stated::entry_words))]
 fn add_entry(alloc: Global, names: &mut Names, entry: &Entry) -> Result<(), AllocError>
     ensures { OnOk result (names.new ≡ distinct_behind names.old (entry_words (pair entry.now))) }
 {
@@ -167,7 +167,7 @@ fn add_entries(alloc: Global, names: &mut Names, entries: &[Entry]) -> Result<()
 }
 
 /// Adds the names behind dots of a member.
-#[tactic(auto, using(ksv_schema_names::proofs::Dots::steps), unfolding(crate::specs::Description::member_words))]
+#[tactic(auto, using(ksv_desc::proofs::Dots::steps), unfolding(crate::specs::Stated::member_words))]
 fn add_member(alloc: Global, names: &mut Names, member: &Member) -> Result<(), AllocError>
     ensures { OnOk result (names.new ≡ distinct_behind names.old (member_words (row member.now))) }
 {

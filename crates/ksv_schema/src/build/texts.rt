@@ -1,12 +1,12 @@
 //! Names and ids, which are texts.
 
 ghost use Rattle.std.specs.Prelude.{◌≡◌, IfOk, option_map, string_bytes};
-ghost use Rattle.ksv_schema.specs.Description.{as_text};
+ghost use Rattle.ksv_desc.specs.Description.{as_text};
 
 use std::alloc::{AllocError, Global};
 
 /// The text that these bytes are, where they are one.
-#[tactic(auto, unfolding(crate::specs::Description::as_text))]
+#[tactic(auto, unfolding(ksv_desc::specs::Description::as_text))]
 pub(crate) fn as_text(bytes: &[u8]) -> Option<&str>
     ensures { option_map (λ s. s.now) result ≡ as_text bytes.now }
 {

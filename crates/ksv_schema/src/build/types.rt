@@ -2,7 +2,7 @@
 
 ghost use Rattle.std.specs.Prelude.{◌≡◌, map, IfOk, option_map, option_and_then, slice_get};
 ghost use Rattle.ksv_schema_scope.specs.Declarations.{declared};
-ghost use Rattle.ksv_schema.specs.Description.{type_of, each_numbered};
+ghost use Rattle.ksv_schema.specs.Stated.{type_of, each_numbered};
 ghost use Rattle.ksv_desc.specs.Pieces.{plain_type};
 
 use crate::build::context::Context;
@@ -14,7 +14,7 @@ use ksv_schema_scope::Scopes;
 use std::alloc::{AllocError, Global};
 
 /// The type `n`.
-#[tactic(auto, using(crate::proofs::Types::steps), unfolding(crate::specs::Description::type_of))]
+#[tactic(auto, using(crate::proofs::Types::steps), unfolding(crate::specs::Stated::type_of))]
 fn type_of(
     alloc: Global,
     scopes: &Scopes,

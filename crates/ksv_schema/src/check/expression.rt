@@ -2,7 +2,7 @@
 
 ghost use Rattle.std.specs.Prelude.{◌≡◌, Some, option_map, option_to_list, OnOk, map, string_bytes, length};
 ghost use Rattle.ksv_expr_tree.specs.Tree.{view, arguments_of};
-ghost use Rattle.ksv_schema_names.specs.Names.{count};
+ghost use Rattle.ksv_desc.specs.Resolved.{count};
 ghost use Rattle.ksv_schema_scope.specs.Types.{type_named};
 ghost use Rattle.ksv_schema.specs.Expressions.{expression_of};
 ghost use Rattle.ksv_schema.specs.Faults.{noted};

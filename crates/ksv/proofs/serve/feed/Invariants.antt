@@ -1,5 +1,5 @@
 use Rattle.std.proofs.Common.{◌≡◌, ◌++◌, List, ℕ, false, take}
-use Rattle.ksv_schema.specs.Description.{Description}
+use Rattle.ksv_desc.specs.Description.{Description}
 use Rattle.ksv.specs.Explored.{description_of}
 use Rattle.ksv.specs.Runs.{Stands}
 use Rattle.ksv.proofs.serve.feed.Given as goal

@@ -1,9 +1,9 @@
 -- Names of arguments are added one after the other, and those of a call's parts likewise.
 use Rattle.std.proofs.Common.{◌∙◌, sym, ap}
 use Rattle.ksv_expr_tree.specs.Tree.{view}
-use Rattle.ksv_schema_names.specs.Numbered.{distinct_behind, dotted}
-use Rattle.ksv_schema_names.specs.Code.{dotted_in}
-use Rattle.ksv_schema_names.proofs.Dots.{distinct_step, distinct_end, all_flat, added_call}
+use Rattle.ksv_desc.specs.Names.{distinct_behind, dotted}
+use Rattle.ksv_desc.specs.Code.{dotted_in}
+use Rattle.ksv_desc.proofs.Dots.{distinct_step, distinct_end, all_flat, added_call}
 use Rattle.ksv_desc.proofs.names.+dots.Goals as goal
 
 pub add_in-returns-in_ok-add_in_each-in-Call : goal.add_in-returns-in_ok-add_in_each-in-Call

@@ -1,7 +1,7 @@
 use Rattle.std.proofs.Common.{◌≡◌, map, drop}
 use Rattle.std.specs.List.{flat_map}
 use Rattle.ksv_expr_tree.specs.Tree.{view}
-use Rattle.ksv_schema_names.specs.Numbered.{distinct_behind, dotted}
+use Rattle.ksv_desc.specs.Names.{distinct_behind, dotted}
 use Rattle.ksv_desc.proofs.names.+dots.Given as goal
 
 -- with the names in the arguments from this one on, those in all are there

@@ -1,7 +1,7 @@
 use Rattle.std.proofs.Common.{ap, rules}
 use Rattle.std.specs.Prelude.{find, option_map, option_and_then}
 use Rattle.std.specs.Ordering.{int_eq}
-use Rattle.ksv_schema.specs.Description.{Enum}
+use Rattle.ksv_desc.specs.Description.{Enum}
 use Rattle.ksv_desc.proofs.description.Desc.member_id.Goals as goal
 
 pub returns-in-Some : goal.returns-in-Some

@@ -1,8 +1,8 @@
 use Rattle.std.proofs.Common.{sym, ap, arith, ◌∙◌}
 use Rattle.std.specs.Str.{bytes_eq}
-use Rattle.ksv_schema_names.specs.Numbered.{number_in}
+use Rattle.ksv_desc.specs.Names.{number_in}
 use Rattle.ksv_desc.specs.declared.pieces.Pieces.{Pieces}
-use Rattle.ksv_schema.specs.Description.{number_of_name}
+use Rattle.ksv_desc.specs.Description.{number_of_name}
 use Rattle.ksv_desc.specs.Whole.{plain_pieces}
 use Rattle.ksv_desc.proofs.Readers.{found_behind}
 use Rattle.ksv_desc.proofs.description.Desc.number_of.Goals as goal

@@ -1,5 +1,5 @@
 -- A name is there, or it goes last.
-use Rattle.ksv_schema_names.proofs.Table.{stays, goes_last}
+use Rattle.ksv_desc.proofs.Table.{stays, goes_last}
 use Rattle.ksv_desc.proofs.names.Names.add.Goals as goal
 
 pub returns-then-contains-clause-added : goal.returns-then-contains-clause-added

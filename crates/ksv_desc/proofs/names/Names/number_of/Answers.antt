@@ -1,5 +1,5 @@
 use Rattle.std.proofs.Common.{◌∙◌}
-use Rattle.ksv_schema_names.proofs.Table.{place_is}
+use Rattle.ksv_desc.proofs.Table.{place_is}
 use Rattle.ksv_desc.proofs.names.Names.number_of.Goals as goal
 
 pub returns-in-Some : goal.returns-in-Some

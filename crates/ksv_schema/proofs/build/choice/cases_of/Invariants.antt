@@ -2,7 +2,7 @@ use Rattle.std.proofs.Common.{◌≡◌, drop, map}
 use Rattle.ksv_yaml_tree.specs.View.{pair}
 use Rattle.ksv_schema.specs.Contexts.{context_of}
 use Rattle.ksv_desc.specs.Pieces.{plain_case}
-use Rattle.ksv_schema.specs.Description.{each, case_of}
+use Rattle.ksv_schema.specs.Stated.{each, case_of}
 use Rattle.ksv_schema.proofs.Made.{onto}
 use Rattle.ksv_schema.proofs.build.choice.cases_of.Given as goal
 

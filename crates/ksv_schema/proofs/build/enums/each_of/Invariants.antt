@@ -1,7 +1,7 @@
 use Rattle.std.proofs.Common.{◌≡◌, drop, map}
 use Rattle.ksv_schema_scope.specs.EnumRows.{enumeration_of}
 use Rattle.ksv_desc.specs.Pieces.{plain_enum}
-use Rattle.ksv_schema.specs.Description.{each}
+use Rattle.ksv_schema.specs.Stated.{each}
 use Rattle.ksv_schema.specs.Entries.{enum_alone}
 use Rattle.ksv_schema.proofs.Made.{onto}
 use Rattle.ksv_schema.proofs.build.enums.each_of.Given as goal

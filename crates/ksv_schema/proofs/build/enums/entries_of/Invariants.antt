@@ -2,7 +2,7 @@ use Rattle.std.proofs.Common.{◌≡◌, drop, map}
 use Rattle.ksv_yaml_tree.specs.View.{pair}
 use Rattle.ksv_schema_scope.specs.Enums.{constant}
 use Rattle.ksv_desc.specs.Pieces.{plain_entry}
-use Rattle.ksv_schema.specs.Description.{each, numbered_of}
+use Rattle.ksv_schema.specs.Stated.{each, numbered_of}
 use Rattle.ksv_schema.proofs.Made.{onto}
 use Rattle.ksv_schema.proofs.build.enums.entries_of.Given as goal
 

@@ -1,5 +1,5 @@
 use Rattle.std.proofs.Common.{ap, ◌∙◌}
-use Rattle.ksv_schema.specs.Description.{each}
+use Rattle.ksv_schema.specs.Stated.{each}
 use Rattle.ksv_schema.specs.Entries.{enum_alone}
 use Rattle.ksv_schema.proofs.Entries.{enums_are}
 use Rattle.ksv_schema.proofs.build.enums.enums_of.Goals as goal

@@ -2,7 +2,7 @@ use Rattle.std.proofs.Common.{◌≡◌, drop, map}
 use Rattle.ksv_schema_scope.specs.MemberRows.{member_of as row}
 use Rattle.ksv_schema.specs.Contexts.{context_of}
 use Rattle.ksv_desc.specs.Pieces.{plain_member}
-use Rattle.ksv_schema.specs.Description.{each, member_of}
+use Rattle.ksv_schema.specs.Stated.{each, member_of}
 use Rattle.ksv_schema.proofs.Made.{onto}
 use Rattle.ksv_schema.proofs.build.member.members_of.Given as goal
 

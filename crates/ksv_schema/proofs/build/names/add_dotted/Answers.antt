@@ -1,6 +1,6 @@
 use Rattle.ksv_schema_scope.specs.MemberRows.{member_of as row}
-use Rattle.ksv_schema.specs.Description.{member_words}
-use Rattle.ksv_schema_names.proofs.Dots.{distinct_step, distinct_end}
+use Rattle.ksv_schema.specs.Stated.{member_words}
+use Rattle.ksv_desc.proofs.Dots.{distinct_step, distinct_end}
 use Rattle.ksv_schema.proofs.build.names.add_dotted.Goals as goal
 
 pub loop-member-preserved : goal.loop-member-preserved

@@ -1,8 +1,8 @@
 use Rattle.std.proofs.Common.{◌≡◌, map, drop}
 use Rattle.std.specs.List.{flat_map}
 use Rattle.ksv_schema_scope.specs.MemberRows.{member_of as row}
-use Rattle.ksv_schema_names.specs.Numbered.{distinct_behind}
-use Rattle.ksv_schema.specs.Description.{member_words}
+use Rattle.ksv_desc.specs.Names.{distinct_behind}
+use Rattle.ksv_schema.specs.Stated.{member_words}
 use Rattle.ksv_schema.proofs.build.names.add_dotted.Given as goal
 
 abbrev pub invariant-loop-member : goal.invariant-loop-member

@@ -1,8 +1,8 @@
 use Rattle.std.proofs.Common.{◌≡◌, map, drop}
 use Rattle.std.specs.List.{flat_map}
 use Rattle.ksv_yaml_tree.specs.View.{pair}
-use Rattle.ksv_schema_names.specs.Numbered.{distinct_behind}
-use Rattle.ksv_schema.specs.Description.{entry_words}
+use Rattle.ksv_desc.specs.Names.{distinct_behind}
+use Rattle.ksv_schema.specs.Stated.{entry_words}
 use Rattle.ksv_schema.proofs.build.names.add_entries.Given as goal
 
 abbrev pub invariant-loop-entry : goal.invariant-loop-entry

@@ -1,7 +1,7 @@
 use Rattle.std.proofs.Common.{◌≡◌, map, drop}
 use Rattle.ksv_schema_scope.specs.MemberRows.{member_of as row}
-use Rattle.ksv_schema_names.specs.Numbered.{distinct_behind}
-use Rattle.ksv_schema.specs.Description.{are_texts}
+use Rattle.ksv_desc.specs.Names.{distinct_behind}
+use Rattle.ksv_schema.specs.Stated.{are_texts}
 use Rattle.ksv_schema.proofs.Named.{names_in}
 use Rattle.ksv_schema.proofs.build.names.add_members.Given as goal
 

@@ -1,7 +1,7 @@
 use Rattle.ksv_yaml_tree.specs.View.{pair}
 use Rattle.ksv_schema.specs.Keys.{switch_keys}
-use Rattle.ksv_schema.specs.Description.{key_words}
-use Rattle.ksv_schema_names.proofs.Dots.{distinct_step, distinct_end}
+use Rattle.ksv_schema.specs.Stated.{key_words}
+use Rattle.ksv_desc.proofs.Dots.{distinct_step, distinct_end}
 use Rattle.ksv_schema.proofs.build.names.add_switch.Goals as goal
 
 pub loop-key-preserved : goal.loop-key-preserved

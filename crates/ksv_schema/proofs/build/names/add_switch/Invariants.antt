@@ -1,9 +1,9 @@
 use Rattle.std.proofs.Common.{◌≡◌, map, drop}
 use Rattle.std.specs.List.{flat_map}
 use Rattle.ksv_yaml_tree.specs.View.{pair}
-use Rattle.ksv_schema_names.specs.Numbered.{distinct_behind}
+use Rattle.ksv_desc.specs.Names.{distinct_behind}
 use Rattle.ksv_schema.specs.Keys.{switch_keys}
-use Rattle.ksv_schema.specs.Description.{key_words}
+use Rattle.ksv_schema.specs.Stated.{key_words}
 use Rattle.ksv_schema.proofs.build.names.add_switch.Given as goal
 
 abbrev pub invariant-loop-key : goal.invariant-loop-key

@@ -1,6 +1,6 @@
 use Rattle.ksv_yaml_tree.specs.View.{pair}
-use Rattle.ksv_schema.specs.Description.{type_words}
-use Rattle.ksv_schema_names.proofs.Dots.{distinct_step, distinct_end}
+use Rattle.ksv_schema.specs.Stated.{type_words}
+use Rattle.ksv_desc.proofs.Dots.{distinct_step, distinct_end}
 use Rattle.ksv_schema.proofs.build.names.add_types.Goals as goal
 
 pub loop-entry-preserved : goal.loop-entry-preserved

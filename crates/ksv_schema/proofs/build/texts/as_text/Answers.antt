@@ -1,7 +1,7 @@
 use Rattle.std.proofs.Common.{◌≡◌, ℕ, List, Some, None, Bool, true, false, cond, sym, ap, ◌∙◌, refl}
 use Rattle.std.specs.Str.{IsUtf8, is_utf8}
 use Rattle.std.proofs.lemmas.Str.{IsUtf8-from_is_utf8, is_utf8-from_IsUtf8}
-use Rattle.ksv_schema.specs.Description.{as_text}
+use Rattle.ksv_desc.specs.Description.{as_text}
 use Rattle.ksv_schema.proofs.build.texts.as_text.Goals as goal
 
 some : (t bs : List ℕ) → t ≡ bs → IsUtf8 bs → Some t ≡ as_text bs

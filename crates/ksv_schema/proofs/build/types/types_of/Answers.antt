@@ -2,7 +2,7 @@ use Rattle.std.proofs.Common.{ap, sym, ◌∙◌, map, arith}
 use Rattle.std.specs.Prelude.{option_map}
 use Rattle.std.proofs.lemmas.List.{map-append}
 use Rattle.ksv_schema_scope.specs.Declarations.{declared}
-use Rattle.ksv_schema.specs.Description.{type_of}
+use Rattle.ksv_schema.specs.Stated.{type_of}
 use Rattle.ksv_desc.specs.Pieces.{plain_type}
 use Rattle.ksv_schema.proofs.Made.{numbered_step, numbered_none}
 use Rattle.ksv_schema.proofs.build.types.types_of.Goals as goal

@@ -1,7 +1,7 @@
 use Rattle.std.proofs.Common.{◌≡◌, map, drop}
 use Rattle.ksv_schema_scope.specs.Declarations.{declared}
 use Rattle.ksv_desc.specs.Pieces.{plain_type}
-use Rattle.ksv_schema.specs.Description.{each_numbered, type_of}
+use Rattle.ksv_schema.specs.Stated.{each_numbered, type_of}
 use Rattle.ksv_schema.proofs.Made.{onto}
 use Rattle.ksv_schema.proofs.build.types.types_of.Given as goal
 

@@ -6,7 +6,7 @@ use Rattle.std.specs.String.{string_eq}
 use Rattle.std.proofs.lemmas.List.{map-append}
 use Rattle.std.proofs.lemmas.Iterator.Adapters.{position_from-zero}
 use Rattle.indexmap.specs.IndexSet.{insert_key}
-use Rattle.ksv_schema_names.specs.Numbered.{number_in, distinct_behind}
+use Rattle.ksv_desc.specs.Names.{number_in, distinct_behind}
 
 pub list_any-map : {X A : Type 0} (see : X → A) (p : A → Bool) (xs : List X) → list_any p (map see xs) ≡ list_any (λ x. p (see x)) xs
 list_any-map see p [] = refl

@@ -21,101 +21,14 @@ use Rattle.ksv_schema_scope.specs.Enums.{Enumeration, Constant, enum_named, numb
 use Rattle.ksv_schema_scope.specs.Declarations.{Declared, declared_in}
 use Rattle.ksv_schema_names.specs.declared.built_ins.BuiltIn.{BuiltIn}
 use Rattle.ksv_schema_names.specs.declared.built_ins.BuiltIn.TheVariants.{Integer, Str, Strz, NotHere}
-use Rattle.ksv_schema_names.specs.Numbered.{distinct, distinct_behind, number_in, dotted, all_dotted, given_member, numbered, all_numbered}
+use Rattle.ksv_schema_names.specs.Numbered.{given_member, numbered, all_numbered}
+use Rattle.ksv_desc.specs.Names.{distinct, distinct_behind, number_in, dotted, all_dotted}
 use Rattle.ksv_schema_names.specs.declared.position.Site.TheVariants as sites
 use Rattle.ksv_expr_value.specs.declared.encoding.Encoding.{Encoding}
 use Rattle.ksv_schema.specs.Keys as forms
 use Rattle.ksv_schema.specs.Keys.{Form, Key, key, positioned_keys, switch_keys, form_in}
 use Rattle.ksv_schema.specs.Expressions.{expression_of}
 use Rattle.ksv_schema.specs.Values.{encoding_named, TypeText, Unspelled, OfLanguage, OfDescription, type_text, is_strz, type_key, byte_at, contents_of, CaseKey, Constant as ConstantKey, Negative, Member as MemberKey, Default, NoKey, case_key, ids_of, is_true, is_not_false, is_to_end}
-
--- ---- what a description holds
-
--- What is read: bytes; certain bytes; an integer, whether it has a sign, of how many bytes, in which order, as a member of
--- which enum; a text; or an object of a type, with the arguments for its parameters.
-pub data Content : Type 0 where
-  Bytes : Content
-  Fixed : List ℕ → Content
-  Number : Bool → ℕ → ByteOrder → Option ℕ → Content
-  Characters : Encoding → Content
-  Object : ℕ → Arguments → Content
-
--- what a switch compares with
-pub data CaseValue : Type 0 where
-  Literal : expressions.Constant → CaseValue
-  Negated : ℕ → CaseValue
-  EnumValue : EnumMember → CaseValue
-
--- a case of a switch, in written order; `_` has no value
-pub record Case : Type 0 where
-  pub value : Option CaseValue
-  pub content : Content
-
--- the same content each time, or one that a switch chooses
-pub data Choice : Type 0 where
-  Always : Content → Choice
-  Switch : expressions.Tree → List Case → Choice
-
--- how far it goes: a size, to the end of the stream, or by itself
-pub data Extent : Type 0 where
-  Sized : expressions.Tree → Extent
-  ToEnd : Extent
-  ByItself : Extent
-
--- the byte behind it: whether it is passed over, whether it is a part of the value, and whether it must be there
-pub record Terminator : Type 0 where
-  pub byte : ℕ
-  pub is_consumed : Bool
-  pub is_included : Bool
-  pub is_required : Bool
-
-pub data Repeat : Type 0 where
-  Once : Repeat
-  UntilEnd : Repeat
-  Times : expressions.Tree → Repeat
-  Until : expressions.Tree → Repeat
-
--- what an attribute of a `seq`, or an instance with a place, reads
-pub record Field : Type 0 where
-  pub condition : Option expressions.Tree
-  pub repeat : Repeat
-  pub choice : Choice
-  pub extent : Extent
-  pub terminator : Option Terminator
-
--- a parameter; an attribute of `seq`; an instance at a place, in a stream of its own or not; an instance with a value, with
--- its condition, and as a member of which enum
-pub data Kind : Type 0 where
-  Given : Kind
-  InSequence : Field → Kind
-  Positioned : expressions.Tree → Option expressions.Tree → Field → Kind
-  Calculated : Option expressions.Tree → expressions.Tree → Option ℕ → Kind
-
--- a member, by the number of its name
-pub record MemberOfType : Type 0 where
-  pub name : ℕ
-  pub kind : Kind
-
--- a type: its id, and its members in the order of the text
-pub record TypeOfObjects : Type 0 where
-  pub id : List ℕ
-  pub members : List MemberOfType
-
--- a number of an enum and its id
-pub record Numbered : Type 0 where
-  pub number : ℤ
-  pub id : List ℕ
-
-pub record Enum : Type 0 where
-  pub id : List ℕ
-  pub members : List Numbered
-
--- A description. Its names are those of members, of which there are `known`, and then those that stand behind a dot alone.
-pub record Description : Type 0 where
-  pub types : List TypeOfObjects
-  pub enums : List Enum
-  pub names : List (List ℕ)
-  pub known : ℕ
 
 -- ---- the names of a description
 
@@ -161,10 +74,6 @@ names_of d = distinct_behind (member_names d) (flat_map member_words d.members)
 -- whether the names of members are texts in UTF-8
 unfoldable pub are_texts : List Member → Bool
 are_texts members = list_all (λ m. is_utf8 m.name) members
-
--- the bytes of a name or an id, which are a text
-unfoldable pub as_text : List ℕ → Option (List ℕ)
-as_text bytes = if is_utf8 bytes then Some bytes else None
 
 -- ---- expressions, their names found
 
@@ -369,33 +278,3 @@ stated_by d = if are_texts d.members then described d (names_of d) (length (memb
 
 unfoldable pub stated : Tree → Option Description
 stated t = stated_by (declared_in t)
-
--- ---- what is asked of a description
-
--- a name, by its number
-abbrev pub name : Description → ℕ → List ℕ
-name d n = unwrap_or (slice_get d.names n) []
-
--- the id of a type, and the names of its members and of those in its `seq`
-abbrev pub type_id : Description → ℕ → List ℕ
-type_id d t = option_map_or (λ x. x.id) (slice_get d.types t) []
-
-abbrev pub is_in_sequence : MemberOfType → Bool
-is_in_sequence m = elim m.kind [ Given ↦ false | InSequence f ↦ true | Positioned p s f ↦ false | Calculated c v e ↦ false ]
-
-abbrev pub members : Description → ℕ → List ℕ
-members d t = option_map_or (λ x. map (λ m. m.name) x.members) (slice_get d.types t) []
-
-abbrev pub fields : Description → ℕ → List ℕ
-fields d t = option_map_or (λ x. map (λ m. m.name) (filter is_in_sequence x.members)) (slice_get d.types t) []
-
--- the id of an enum, and of a number in it
-abbrev pub enum_id : Description → ℕ → List ℕ
-enum_id d e = option_map_or (λ x. x.id) (slice_get d.enums e) []
-
-abbrev pub member_id : Description → ℕ → ℤ → Option (List ℕ)
-member_id d e number = option_and_then (λ x. option_map (λ m. m.id) (find (λ m. int_eq number m.number) x.members)) (slice_get d.enums e)
-
--- the number of a member's name
-abbrev pub number_of_name : Description → List ℕ → Option ℕ
-number_of_name d text = position_from (bytes_eq text) 0 (take d.known d.names)

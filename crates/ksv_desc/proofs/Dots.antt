@@ -14,9 +14,9 @@ use Rattle.ksv_expr_tree.specs.declared.tree.UnaryOperator.{UnaryOperator}
 use Rattle.ksv_expr_tree.specs.declared.tree.BinaryOperator.{BinaryOperator}
 use Rattle.ksv_expr_tree.specs.declared.tree.LogicalOperator.{LogicalOperator}
 use Rattle.ksv_expr_tree.specs.Tree.{Tree, view, arguments_of}
-use Rattle.ksv_schema_names.specs.Numbered.{distinct_behind, dotted, all_dotted}
-use Rattle.ksv_schema_names.specs.Code.{dotted_in}
-use Rattle.ksv_schema_names.proofs.Views.{view_literal, view_name, view_special, view_member, view_unary, view_binary, view_logical, view_choice, view_field, view_special_field, view_call, view_index, view_cast}
+use Rattle.ksv_desc.specs.Names.{distinct_behind, dotted, all_dotted}
+use Rattle.ksv_desc.specs.Code.{dotted_in}
+use Rattle.ksv_desc.proofs.Views.{view_literal, view_name, view_special, view_member, view_unary, view_binary, view_logical, view_choice, view_field, view_special_field, view_call, view_index, view_cast}
 
 pub dotted_literal : (c : Literal) → dotted_in (made.Literal c) ≡ []
 unfolding dotted_in dotted

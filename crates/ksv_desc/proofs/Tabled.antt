@@ -4,8 +4,8 @@ use Rattle.std.specs.List.{position_from, list_any, list_all}
 use Rattle.std.specs.Str.{bytes_eq}
 use Rattle.std.proofs.lemmas.Bool.{and_parts, and_from}
 use Rattle.std.proofs.lemmas.Slice.Eq.{bytes_eq-Decides}
-use Rattle.ksv_schema_names.specs.Numbered.{distinct_behind, number_in}
-use Rattle.ksv_schema_names.specs.Resolved.{has_names, AreDistinct, IsTableOf}
+use Rattle.ksv_desc.specs.Names.{distinct_behind, number_in}
+use Rattle.ksv_desc.specs.Names.{has_names, AreDistinct, IsTableOf}
 
 -- whether a name stands in a list
 abbrev has : List (List ℕ) → List ℕ → Bool

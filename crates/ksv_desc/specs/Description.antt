@@ -1,0 +1,134 @@
+-- What a description is: its types with their members, its enums, and the names of all members. Types, enums and names are
+-- known by their numbers.
+use Rattle.std.specs.Prelude.{ℕ, Bool, true, false, if◌then◌else◌, ℤ, List, [], ◌∷◌, map, filter, find, take, Option, Some, None, option_map, option_and_then, unwrap_or, slice_get}
+use Rattle.std.specs.List.{position_from}
+use Rattle.std.specs.Option.{option_map_or}
+use Rattle.std.specs.Ordering.{int_eq}
+use Rattle.std.specs.Str.{bytes_eq, is_utf8}
+use Rattle.ksv_expr_tree.specs.declared.tree.EnumMember.{EnumMember}
+use Rattle.ksv_expr_tree.specs.Tree.{Arguments}
+use Rattle.ksv_expr_tree.specs.Tree as expressions
+use Rattle.ksv_expr_value.specs.declared.encoding.Encoding.{Encoding}
+use Rattle.ksv_desc.specs.declared.order.ByteOrder.{ByteOrder}
+
+-- ---- what a description holds
+
+-- What is read: bytes; certain bytes; an integer, whether it has a sign, of how many bytes, in which order, as a member of
+-- which enum; a text; or an object of a type, with the arguments for its parameters.
+pub data Content : Type 0 where
+  Bytes : Content
+  Fixed : List ℕ → Content
+  Number : Bool → ℕ → ByteOrder → Option ℕ → Content
+  Characters : Encoding → Content
+  Object : ℕ → Arguments → Content
+
+-- what a switch compares with
+pub data CaseValue : Type 0 where
+  Literal : expressions.Constant → CaseValue
+  Negated : ℕ → CaseValue
+  EnumValue : EnumMember → CaseValue
+
+-- a case of a switch, in written order; `_` has no value
+pub record Case : Type 0 where
+  pub value : Option CaseValue
+  pub content : Content
+
+-- the same content each time, or one that a switch chooses
+pub data Choice : Type 0 where
+  Always : Content → Choice
+  Switch : expressions.Tree → List Case → Choice
+
+-- how far it goes: a size, to the end of the stream, or by itself
+pub data Extent : Type 0 where
+  Sized : expressions.Tree → Extent
+  ToEnd : Extent
+  ByItself : Extent
+
+-- the byte behind it: whether it is passed over, whether it is a part of the value, and whether it must be there
+pub record Terminator : Type 0 where
+  pub byte : ℕ
+  pub is_consumed : Bool
+  pub is_included : Bool
+  pub is_required : Bool
+
+pub data Repeat : Type 0 where
+  Once : Repeat
+  UntilEnd : Repeat
+  Times : expressions.Tree → Repeat
+  Until : expressions.Tree → Repeat
+
+-- what an attribute of a `seq`, or an instance with a place, reads
+pub record Field : Type 0 where
+  pub condition : Option expressions.Tree
+  pub repeat : Repeat
+  pub choice : Choice
+  pub extent : Extent
+  pub terminator : Option Terminator
+
+-- a parameter; an attribute of `seq`; an instance at a place, in a stream of its own or not; an instance with a value, with
+-- its condition, and as a member of which enum
+pub data Kind : Type 0 where
+  Given : Kind
+  InSequence : Field → Kind
+  Positioned : expressions.Tree → Option expressions.Tree → Field → Kind
+  Calculated : Option expressions.Tree → expressions.Tree → Option ℕ → Kind
+
+-- a member, by the number of its name
+pub record MemberOfType : Type 0 where
+  pub name : ℕ
+  pub kind : Kind
+
+-- a type: its id, and its members in the order of the text
+pub record TypeOfObjects : Type 0 where
+  pub id : List ℕ
+  pub members : List MemberOfType
+
+-- a number of an enum and its id
+pub record Numbered : Type 0 where
+  pub number : ℤ
+  pub id : List ℕ
+
+pub record Enum : Type 0 where
+  pub id : List ℕ
+  pub members : List Numbered
+
+-- A description. Its names are those of members, of which there are `known`, and then those that stand behind a dot alone.
+pub record Description : Type 0 where
+  pub types : List TypeOfObjects
+  pub enums : List Enum
+  pub names : List (List ℕ)
+  pub known : ℕ
+
+-- ---- what is asked of a description
+
+-- a name, by its number
+abbrev pub name : Description → ℕ → List ℕ
+name d n = unwrap_or (slice_get d.names n) []
+
+-- the id of a type, and the names of its members and of those in its `seq`
+abbrev pub type_id : Description → ℕ → List ℕ
+type_id d t = option_map_or (λ x. x.id) (slice_get d.types t) []
+
+abbrev pub is_in_sequence : MemberOfType → Bool
+is_in_sequence m = elim m.kind [ Given ↦ false | InSequence f ↦ true | Positioned p s f ↦ false | Calculated c v e ↦ false ]
+
+abbrev pub members : Description → ℕ → List ℕ
+members d t = option_map_or (λ x. map (λ m. m.name) x.members) (slice_get d.types t) []
+
+abbrev pub fields : Description → ℕ → List ℕ
+fields d t = option_map_or (λ x. map (λ m. m.name) (filter is_in_sequence x.members)) (slice_get d.types t) []
+
+-- the id of an enum, and of a number in it
+abbrev pub enum_id : Description → ℕ → List ℕ
+enum_id d e = option_map_or (λ x. x.id) (slice_get d.enums e) []
+
+abbrev pub member_id : Description → ℕ → ℤ → Option (List ℕ)
+member_id d e number = option_and_then (λ x. option_map (λ m. m.id) (find (λ m. int_eq number m.number) x.members)) (slice_get d.enums e)
+
+-- the number of a member's name
+abbrev pub number_of_name : Description → List ℕ → Option ℕ
+number_of_name d text = position_from (bytes_eq text) 0 (take d.known d.names)
+
+-- the bytes of a name or an id, which are a text
+unfoldable pub as_text : List ℕ → Option (List ℕ)
+as_text bytes = if is_utf8 bytes then Some bytes else None

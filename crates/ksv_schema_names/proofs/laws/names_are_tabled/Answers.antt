@@ -1,5 +1,0 @@
-use Rattle.ksv_schema_names.proofs.Tabled.{is_table}
-use Rattle.ksv_schema_names.proofs.laws.names_are_tabled.Goals as goal
-
-pub returns : goal.returns
-returns c = is_table
