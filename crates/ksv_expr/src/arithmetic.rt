@@ -129,9 +129,7 @@ pub(crate) fn before(number: Integer) -> Integer
     requires { pos 0 ≤ℤ number }
     ensures { result ≡ number -ℤ pos 1 }
 {
-    Integer {
-        value: number.get() - 1,
-    }
+    Integer::new(number.get() - 1).unwrap_or(number)
 }
 
 /// Whether it is 0.

@@ -8,17 +8,12 @@ ghost use Rattle.ksv_expr.specs.Replying.{Runs};
 ghost use Rattle.ksv_expr.specs.Asked.{bytes_for};
 ghost use Rattle.ksv_expr.specs.Meaning.{in_path, member_path, member_value, element_path, element_value, element_count, holder_of, stream_of, index_value, element_read, special_value, ranged_member, enum_member, distance, size_to, stream_size, at_end, list_size, last_element, object_of_type, object_as, text_in, decoded_by, decoded_text, byte_from, byte_at, first_byte};
 
+use crate::arithmetic;
 use crate::context::Ctx;
-use ksv_expr_value::Encoding;
-use ksv_expr_value::FaultKind;
-use ksv_expr_value::Integer;
-use ksv_expr_value::Parts;
-use ksv_expr_value::Path;
 use crate::replies::{Halt, Replies};
-use ksv_expr_value::Text;
-use ksv_expr_value::{Stream, Value};
 use crate::want::Want;
 use ksv_expr_tree::{EnumMember, SpecialName};
+use ksv_expr_value::{Encoding, FaultKind, Integer, Parts, Path, Stream, Text, Value};
 
 fn in_path(replies: &mut Replies, path: Option<Path>) -> Result<Path, Halt>
     ensures { Runs (in_path path) (λ p. p) replies.old replies.new result }
@@ -106,7 +101,7 @@ pub(crate) fn last_element(replies: &mut Replies, list: &Path) -> Result<Value, 
     ensures { Runs (last_element list.now) (λ v. v) replies.old replies.new result }
 {
     let count = element_count(replies, list)?;
-    element_value(replies, list, Integer::from(count).before())
+    element_value(replies, list, arithmetic::before(Integer::from(count)))
 }
 
 /// The object that holds an attribute, of the path of its own object.

@@ -2,8 +2,7 @@
 ghost use Rattle.std.specs.Prelude.{◌≡◌, None, Some, option_map};
 ghost use Rattle.ksv_expr.specs.Heard.{Setting};
 
-use ksv_expr_value::Path;
-use ksv_expr_value::Stream;
+use ksv_expr_value::{Path, Stream};
 use std::marker::Model;
 
 /// What an expression is evaluated in.

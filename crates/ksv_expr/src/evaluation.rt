@@ -10,15 +10,12 @@ ghost use Rattle.ksv_expr.specs.Replying.{Runs};
 ghost use Rattle.ksv_expr.specs.Meaning.{value_of, meaning, literal_value, is_own_stream, decides};
 
 use crate::context::Ctx;
-use ksv_expr_value::FaultKind;
-use ksv_expr_value::Integer;
 use crate::method::Method;
 use crate::replies::{Halt, Replies};
-use ksv_expr_value::Text;
-use ksv_expr_value::Value;
 use crate::want::{Got, Outcome};
 use crate::{asking, forms, operators};
 use ksv_expr_tree::{Expr, Literal, LogicalOperator, SpecialName, UnaryOperator};
+use ksv_expr_value::{FaultKind, Integer, Text, Value};
 use std::alloc::{AllocError, Global};
 
 fn is_own_stream(expr: &Expr) -> bool

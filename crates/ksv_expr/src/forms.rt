@@ -8,16 +8,12 @@ ghost use Rattle.ksv_expr.specs.Methods.{method_named};
 ghost use Rattle.ksv_expr_tree.specs.Tree.{name_of};
 
 use crate::context::Ctx;
-use ksv_expr_value::FaultKind;
-use ksv_expr_value::Integer;
 use crate::method::Method;
-use ksv_expr_value::Path;
 use crate::replies::{Halt, Replies};
-use ksv_expr_value::Text;
-use ksv_expr_value::{Stream, Value};
 use crate::want::Want;
 use crate::{asking, operators};
 use ksv_expr_tree::{BinaryOperator, Name, SpecialName};
+use ksv_expr_value::{FaultKind, Integer, Path, Stream, Text, Value};
 
 /// A truth value; another value is bad-type.
 pub(crate) fn in_truth_value(replies: &mut Replies, value: &Value) -> Result<bool, Halt>
@@ -125,7 +121,7 @@ fn text_and(
 {
     match right {
         Value::Text(right) => {
-            let answer = operators::texts(replies.alloc(), operator, left, right)?;
+            let answer = operators::two_texts(replies.alloc(), operator, left, right)?;
             replies.given(answer)
         }
         _ => replies.raise(FaultKind::BadType),

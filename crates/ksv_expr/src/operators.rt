@@ -6,12 +6,10 @@ ghost use Rattle.std.specs.Str.{bytes_eq};
 ghost use Rattle.ksv_expr.specs.Operators.{exactly, quotient_of, remainder_of, shifted_left_by, shifted_right_by, matched, ordered, integers_of, same_truth, texts_of, members_of, unary_of, integer_with, truth_with, integer_method, truth_method, text_method, bytes_method, member_method, text_call_one, text_call_two, as_value, substring_of, joined_text};
 ghost use Rattle.ksv_expr.specs.Integers.{places};
 
-use ksv_expr_value::FaultKind;
-use ksv_expr_value::Integer;
 use crate::method::Method;
-use ksv_expr_value::Text;
-use ksv_expr_value::Value;
+use crate::{arithmetic, texts};
 use ksv_expr_tree::{BinaryOperator, UnaryOperator};
+use ksv_expr_value::{FaultKind, Integer, Text, Value};
 use std::alloc::{AllocError, Global};
 use std::cmp::Ordering;
 
@@ -27,36 +25,36 @@ fn exactly(number: Option<Integer>) -> Result<Value, FaultKind>
 fn quotient(dividend: Integer, divisor: Integer) -> Result<Value, FaultKind>
     ensures { result ≡ quotient_of dividend divisor }
 {
-    if divisor.is_zero() {
+    if arithmetic::is_zero(divisor) {
         return Err(FaultKind::ZeroDivisor);
     }
-    exactly(dividend.divide(divisor))
+    exactly(arithmetic::divide(dividend, divisor))
 }
 
 fn remainder(dividend: Integer, divisor: Integer) -> Result<Value, FaultKind>
     ensures { result ≡ remainder_of dividend divisor }
 {
-    if divisor.is_zero() {
+    if arithmetic::is_zero(divisor) {
         return Err(FaultKind::ZeroDivisor);
     }
-    exactly(dividend.remainder(divisor))
+    exactly(arithmetic::remainder(dividend, divisor))
 }
 
 fn shift_left(number: Integer, count: Integer) -> Result<Value, FaultKind>
     ensures { result ≡ shifted_left_by number (places count) }
 {
-    match count.places() {
+    match arithmetic::places(count) {
         None => Err(FaultKind::Overflow),
-        Some(places) => exactly(number.shift_left(places)),
+        Some(places) => exactly(arithmetic::shift_left(number, places)),
     }
 }
 
 fn shift_right(number: Integer, count: Integer) -> Result<Value, FaultKind>
     ensures { result ≡ shifted_right_by number (places count) }
 {
-    match count.places() {
+    match arithmetic::places(count) {
         None => Err(FaultKind::Overflow),
-        Some(places) => exactly(number.shift_right(places)),
+        Some(places) => exactly(arithmetic::shift_right(number, places)),
     }
 }
 
@@ -92,22 +90,25 @@ pub(crate) fn integers(
     ensures { result ≡ integers_of operator left right }
 {
     match operator {
-        BinaryOperator::Add => exactly(left.add(right)),
-        BinaryOperator::Subtract => exactly(left.subtract(right)),
-        BinaryOperator::Multiply => exactly(left.multiply(right)),
+        BinaryOperator::Add => exactly(arithmetic::add(left, right)),
+        BinaryOperator::Subtract => exactly(arithmetic::subtract(left, right)),
+        BinaryOperator::Multiply => exactly(arithmetic::multiply(left, right)),
         BinaryOperator::Divide => quotient(left, right),
         BinaryOperator::Remainder => remainder(left, right),
         BinaryOperator::ShiftLeft => shift_left(left, right),
         BinaryOperator::ShiftRight => shift_right(left, right),
-        BinaryOperator::BitAnd => exactly(left.bit_and(right)),
-        BinaryOperator::BitXor => exactly(left.bit_xor(right)),
-        BinaryOperator::BitOr => exactly(left.bit_or(right)),
-        BinaryOperator::Equal => matched(BinaryOperator::Equal, left.equals(right)),
-        BinaryOperator::NotEqual => matched(BinaryOperator::NotEqual, left.equals(right)),
+        BinaryOperator::BitAnd => exactly(arithmetic::bit_and(left, right)),
+        BinaryOperator::BitXor => exactly(arithmetic::bit_xor(left, right)),
+        BinaryOperator::BitOr => exactly(arithmetic::bit_or(left, right)),
+        BinaryOperator::Equal => matched(BinaryOperator::Equal, arithmetic::equals(left, right)),
+        BinaryOperator::NotEqual => matched(
+            BinaryOperator::NotEqual,
+            arithmetic::equals(left, right),
+        ),
         BinaryOperator::Less
         | BinaryOperator::LessOrEqual
         | BinaryOperator::Greater
-        | BinaryOperator::GreaterOrEqual => ordered(operator, left.compare(right)),
+        | BinaryOperator::GreaterOrEqual => ordered(operator, arithmetic::compare(left, right)),
     }
 }
 
@@ -119,7 +120,7 @@ pub(crate) fn truths(operator: BinaryOperator, left: bool, right: bool) -> Resul
 }
 
 /// An operator between two texts.
-pub(crate) fn texts(
+pub(crate) fn two_texts(
     alloc: Global,
     operator: BinaryOperator,
     left: &Text,
@@ -128,10 +129,10 @@ pub(crate) fn texts(
     ensures { IfOk result (λ r. r ≡ texts_of operator left.now right.now) }
 {
     Ok(match operator {
-        BinaryOperator::Add => joined(left.join(alloc, right)?),
-        BinaryOperator::Equal => matched(BinaryOperator::Equal, left.equals(right)),
-        BinaryOperator::NotEqual => matched(BinaryOperator::NotEqual, left.equals(right)),
-        _ => ordered(operator, left.compare(right)),
+        BinaryOperator::Add => joined(texts::join(alloc, left, right)?),
+        BinaryOperator::Equal => matched(BinaryOperator::Equal, texts::equals(left, right)),
+        BinaryOperator::NotEqual => matched(BinaryOperator::NotEqual, texts::equals(left, right)),
+        _ => ordered(operator, texts::compare(left, right)),
     })
 }
 
@@ -155,7 +156,7 @@ pub(crate) fn members(
     ensures { result ≡ members_of operator left_enum left right_enum right }
 {
     if left_enum == right_enum {
-        matched(operator, left.equals(right))
+        matched(operator, arithmetic::equals(left, right))
     } else {
         Err(FaultKind::BadType)
     }
@@ -165,9 +166,9 @@ fn integer_with(operator: UnaryOperator, number: Integer) -> Result<Value, Fault
     ensures { result ≡ integer_with operator number }
 {
     match operator {
-        UnaryOperator::Negate => exactly(number.negate()),
+        UnaryOperator::Negate => exactly(arithmetic::negate(number)),
         UnaryOperator::Plus => Ok(Value::Int(number)),
-        UnaryOperator::Complement => exactly(number.complement()),
+        UnaryOperator::Complement => exactly(arithmetic::complement(number)),
         UnaryOperator::Not => Err(FaultKind::BadType),
     }
 }
@@ -201,7 +202,7 @@ pub(crate) fn integer_method(
     ensures { IfOk result (λ r. r ≡ integer_method method number) }
 {
     match method {
-        Method::ToText => Ok(Ok(Value::Text(Text::decimal(alloc, number)?))),
+        Method::ToText => Ok(Ok(Value::Text(texts::decimal(alloc, number)?))),
         _ => Ok(Err(FaultKind::BadType)),
     }
 }
@@ -234,9 +235,9 @@ pub(crate) fn text_method(
     ensures { IfOk result (λ r. r ≡ text_method method text.now) }
 {
     match method {
-        Method::Length => Ok(Ok(Value::Int(Integer::from(text.char_count() as u64)))),
-        Method::Reverse => Ok(Ok(Value::Text(text.reverse(alloc)?))),
-        Method::ToInteger => Ok(as_value(text.number(Integer::from(10)))),
+        Method::Length => Ok(Ok(Value::Int(Integer::from(texts::char_count(text) as u64)))),
+        Method::Reverse => Ok(Ok(Value::Text(texts::reverse(alloc, text)?))),
+        Method::ToInteger => Ok(as_value(texts::number(text, Integer::from(10)))),
         _ => Ok(Err(FaultKind::BadType)),
     }
 }
@@ -267,7 +268,7 @@ pub(crate) fn text_call_one(method: Method, text: &Text, value: &Value) -> Resul
 {
     match method {
         Method::ToInteger => match value {
-            Value::Int(radix) => as_value(text.number(*radix)),
+            Value::Int(radix) => as_value(texts::number(text, *radix)),
             _ => Err(FaultKind::BadType),
         },
         _ => Err(FaultKind::BadType),
@@ -296,7 +297,7 @@ pub(crate) fn text_call_two(
     match method {
         Method::Substring => match first {
             Value::Int(from) => match second {
-                Value::Int(to) => Ok(substring(text.substring(alloc, *from, *to)?)),
+                Value::Int(to) => Ok(substring(texts::substring(alloc, text, *from, *to)?)),
                 _ => Ok(Err(FaultKind::BadType)),
             },
             _ => Ok(Err(FaultKind::BadType)),

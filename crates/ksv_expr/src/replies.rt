@@ -5,11 +5,8 @@ ghost use Rattle.ksv_expr.specs.Heard.{heard};
 ghost use Rattle.ksv_expr.specs.Replying.{RepliesWith, IsFault, Runs};
 ghost use Rattle.ksv_expr.specs.Asked.{raise, given, value_for, opened_for, number_for, truth_for, bytes_for};
 
-use ksv_expr_value::{Fault, FaultKind};
-use ksv_expr_value::Parts;
-use ksv_expr_value::Path;
-use ksv_expr_value::{Stream, Value};
 use crate::want::{Got, Want};
+use ksv_expr_value::{Fault, FaultKind, Parts, Path, Stream, Value};
 use std::alloc::{AllocError, AllocFailed, Global};
 use std::marker::Model;
 

@@ -16,52 +16,50 @@ pub(crate) fn decimal(alloc: Global, number: Integer) -> Result<Text, AllocError
     ensures { IfOk result (λ text. text ≡ signed_decimal number) }
 {
     let number = number.get();
-    Ok(Text {
-        string: format!(in alloc; "{number}")?,
-    })
+    Ok(Text::new(format!(in alloc; "{number}")?))
 }
 
 /// This text and another behind it; none over 16,777,216 bytes.
-pub(crate) fn join(&self, alloc: Global, other: &Text) -> Result<Option<Text>, AllocError>
-    ensures { IfOk result (λ text. text ≡ joined self.now other.now) }
+pub(crate) fn join(alloc: Global, text: &Text, other: &Text) -> Result<Option<Text>, AllocError>
+    ensures { IfOk result (λ made. made ≡ joined text.now other.now) }
 {
-    let left = self.string.len();
-    let right = other.string.len();
+    let left = text.as_str().len();
+    let right = other.as_str().len();
     if left > Text::MAX_LEN || right > Text::MAX_LEN - left {
         return Ok(None);
     }
-    let mut string = String::from_str(alloc, self.string.as_str())?;
-    string.push_str(other.string.as_str())?;
-    Ok(Some(Text { string }))
+    let mut string = String::from_str(alloc, text.as_str())?;
+    string.push_str(other.as_str())?;
+    Ok(Some(Text::new(string)))
 }
 
 /// Whether the two have the same bytes.
-pub(crate) fn equals(&self, other: &Text) -> bool
-    ensures { result ≡ bytes_eq self.now other.now }
+pub(crate) fn equals(text: &Text, other: &Text) -> bool
+    ensures { result ≡ bytes_eq text.now other.now }
 {
-    self.as_str() == other.as_str()
+    text.as_str() == other.as_str()
 }
 
 /// How the two stand to each other, by their bytes.
-pub(crate) fn compare(&self, other: &Text) -> Ordering
-    ensures { result ≡ slice_cmp nat_cmp self.now other.now }
+pub(crate) fn compare(text: &Text, other: &Text) -> Ordering
+    ensures { result ≡ slice_cmp nat_cmp text.now other.now }
 {
-    self.as_str().cmp(other.as_str())
+    text.as_str().cmp(other.as_str())
 }
 
 /// How many characters the text has.
 #[tactic(auto, using(std::proofs::lemmas::Str::chars_from_encodes))]
-pub(crate) fn char_count(&self) -> usize
-    ensures { result ≡ char_count self.now }
+pub(crate) fn char_count(text: &Text) -> usize
+    ensures { result ≡ char_count text.now }
 {
-    self.as_str().chars().count()
+    text.as_str().chars().count()
 }
 
 #[tactic(auto, using(std::proofs::lemmas::Str::chars_from_encodes))]
-fn characters(&self, alloc: Global) -> Result<Vec<char>, AllocError>
-    ensures { IfOk result (λ characters. characters.items ≡ chars self.now) }
+fn characters(alloc: Global, text: &Text) -> Result<Vec<char>, AllocError>
+    ensures { IfOk result (λ characters. characters.items ≡ chars text.now) }
 {
-    self.as_str().chars().collect(alloc)
+    text.as_str().chars().collect(alloc)
 }
 
 #[tactic(auto, using(crate::proofs::Characters::encode_more))]
@@ -72,60 +70,60 @@ fn from_characters(alloc: Global, characters: &[char]) -> Result<Text, AllocErro
     for character in characters {
         string.push(*character)?;
     }
-    Ok(Text { string })
+    Ok(Text::new(string))
 }
 
 /// The text with its characters from the last to the first.
-pub(crate) fn reverse(&self, alloc: Global) -> Result<Text, AllocError>
-    ensures { IfOk result (λ text. text ≡ reversed self.now) }
+pub(crate) fn reverse(alloc: Global, text: &Text) -> Result<Text, AllocError>
+    ensures { IfOk result (λ made. made ≡ reversed text.now) }
 {
-    let mut characters = self.characters(alloc)?;
+    let mut characters = characters(alloc, text)?;
     characters.reverse();
-    Text::from_characters(alloc, &characters)
+    from_characters(alloc, &characters)
 }
 
 /// The characters from one place on and before another, which lie in the text.
 pub(crate) fn between(
-    &self,
     alloc: Global,
+    text: &Text,
     from: usize,
     to: usize,
 ) -> Result<Option<Text>, AllocError>
-    ensures { IfOk result (λ text. text ≡ between self.now from to) }
+    ensures { IfOk result (λ made. made ≡ between text.now from to) }
 {
-    if from > to || to > self.char_count() {
+    if from > to || to > char_count(text) {
         return Ok(None);
     }
-    let characters = self.characters(alloc)?;
-    Ok(Some(Text::from_characters(alloc, &characters[from..to])?))
+    let characters = characters(alloc, text)?;
+    Ok(Some(from_characters(alloc, &characters[from..to])?))
 }
 
 /// The characters from one place on and before another, where both are places in the text.
 pub(crate) fn substring(
-    &self,
     alloc: Global,
+    text: &Text,
     from: Integer,
     to: Integer,
 ) -> Result<Option<Text>, AllocError>
-    ensures { IfOk result (λ text. text ≡ substring self.now from to) }
+    ensures { IfOk result (λ made. made ≡ substring text.now from to) }
 {
     let from = from.get();
     let to = to.get();
     if from < 0 || to < 0 {
         return Ok(None);
     }
-    self.between(alloc, from as usize, to as usize)
+    between(alloc, text, from as usize, to as usize)
 }
 
 /// The whole number that the text writes in a radix of 2 to 36: one optional `-`, and digits of either case.
-pub(crate) fn number(&self, radix: Integer) -> Result<Integer, FaultKind>
-    ensures { result ≡ text_number radix self.now }
+pub(crate) fn number(text: &Text, radix: Integer) -> Result<Integer, FaultKind>
+    ensures { result ≡ text_number radix text.now }
 {
     let radix = radix.get();
     if radix < 2 || radix > 36 {
         return Err(FaultKind::BadNumber);
     }
-    match written(self.string.as_str().as_bytes(), radix as u32) {
+    match written(text.as_str().as_bytes(), radix as u32) {
         None => Err(FaultKind::BadNumber),
         Some(number) => Integer::new(number).ok_or(FaultKind::Overflow),
     }

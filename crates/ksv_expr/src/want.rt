@@ -1,8 +1,6 @@
 //! What an expression wants to know, and what it gets.
 
-use ksv_expr_value::Fault;
-use ksv_expr_value::Path;
-use ksv_expr_value::{Stream, Value};
+use ksv_expr_value::{Fault, Path, Stream, Value};
 
 /// A question that an expression puts.
 #[derive(Drop)]

@@ -16,5 +16,9 @@ mod read;
 mod token;
 
 pub use fault::{ExprFault, ExprFaultKind};
+pub use ksv_expr_tree::{
+    BinaryOperator, EnumMember, Expr, Literal, LogicalOperator, Member, Name, SpecialName,
+    TypeName, TypeRef, UnaryOperator,
+};
 pub use laws::{less_stands_behind, one_longest_token, one_reading};
 pub use read::{DEPTH, PARTS, parse, parse_type};

@@ -5,7 +5,8 @@ ghost use Rattle.ksv_expr_tree.specs.Tree.{view, arguments_of, literal_of, liter
 ghost use Rattle.ksv_expr_syntax.specs.Grammar.{special_of, name_tree, select_tree};
 
 use ksv_expr_tree::{
-    BinaryOperator, Expr, Literal, LogicalOperator, Member, Name, SpecialName, TypeName, UnaryOperator,
+    BinaryOperator, Expr, Literal, LogicalOperator, Member, Name, SpecialName, TypeName,
+    UnaryOperator,
 };
 use std::alloc::{AllocError, Global};
 

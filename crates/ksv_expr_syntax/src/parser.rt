@@ -11,9 +11,9 @@ use crate::cursor::{
     Rest, behind, deeper, expect, first, left_out, name, open_group, path, spend, unexpected,
 };
 use crate::fault::ExprFault;
+use crate::make;
 use crate::operator::{Infix, Precedence, comparison_operator, infix_operator, prefix_operator};
 use crate::token::{Placed, Symbol, Token};
-use crate::make;
 use ksv_expr_tree::{Expr, UnaryOperator};
 use std::alloc::{AllocError, Global};
 

@@ -1,7 +1,7 @@
 use Rattle.std.proofs.Common.{◌≡◌, ◌^◌, take, true, min}
 use Rattle.std.specs.List.{list_all}
 use Rattle.ksv_expr.specs.Texts.{is_digit, worth}
-use Rattle.ksv_expr.proofs.text.numeral.Given as goal
+use Rattle.ksv_expr.proofs.texts.numeral.Given as goal
 
 abbrev pub invariant-loop-digit : goal.invariant-loop-digit
 invariant-loop-digit l = record {

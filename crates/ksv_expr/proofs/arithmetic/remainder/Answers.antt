@@ -2,7 +2,7 @@ use Rattle.std.proofs.Common.{ap, ◌∙◌}
 use Rattle.ksv_expr.specs.Integers.{floored_remainder}
 use Rattle.ksv_expr_value.specs.Range.{ranged}
 use Rattle.ksv_expr.proofs.Division.{seen_remainder}
-use Rattle.ksv_expr.proofs.integer.Integer.remainder.Goals as goal
+use Rattle.ksv_expr.proofs.arithmetic.remainder.Goals as goal
 
 pub returns-then-divisor-lt0 : goal.returns-then-divisor-lt0
 returns-then-divisor-lt0 c =
