@@ -14,6 +14,3 @@ pub use buffer::{Buffer, FILE_LIMIT, TooLarge};
 pub use edit::EditRefusal;
 pub use uses::{Change, Use, touches};
 pub use window::Window;
-
-#[cfg(test)]
-mod tests;

@@ -55,29 +55,3 @@ fn is_touched(change: Change, used: Use) -> bool
         (_, Use::Size) => true,
     }
 }
-
-#[cfg(test)]
-mod tests {
-    use super::*;
-
-    #[test]
-    fn touches_what_an_edit_may_change(rt: HostRuntime) {
-        let overwrite = Change::Overwrite { at: 2, n: 2 };
-        let insert = Change::Insert { at: 2, n: 1 };
-        let delete = Change::Delete { at: 2, n: 1 };
-        for (used, by_overwrite, by_shift, by_append) in [
-            (Use::Bytes(0, 2), false, false, false),
-            (Use::Bytes(0, 3), true, true, false),
-            (Use::Bytes(3, 4), true, true, false),
-            (Use::Bytes(4, 9), false, true, false),
-            (Use::Reach(2), false, false, false),
-            (Use::Reach(3), false, true, false),
-            (Use::Size, false, true, true),
-        ] {
-            assert_eq!(rt; touches(overwrite, used), by_overwrite, "{used:?}");
-            assert_eq!(rt; touches(insert, used), by_shift, "{used:?}");
-            assert_eq!(rt; touches(delete, used), by_shift, "{used:?}");
-            assert_eq!(rt; touches(Change::Append, used), by_append, "{used:?}");
-        }
-    }
-}

@@ -12,11 +12,12 @@ use Rattle.ksv_memo.specs.declared.rules.Outcome.{Outcome}
 use Rattle.ksv_memo.specs.declared.rules.Outcome.TheVariants.{Answered, Circle}
 use Rattle.ksv_memo.specs.Meaning.{Standing, IsSettled, IsAddedTo}
 use Rattle.ksv_memo.specs.Evaluation.{is_among, Told, after, told, tells, done}
-use Rattle.ksv_memo.specs.Entry.{Entry}
+use Rattle.ksv_memo.specs.Entry.{Entry, entry_of}
 use Rattle.ksv_memo.specs.Open.{Open, open_of, nodes_in}
 use Rattle.ksv_memo.specs.Right.{nodes_of, HasEachOnce, IsRight, fresh, costs, counted}
 use Rattle.ksv_memo.specs.Running.{answering, Agrees, HasCome, IsWaiting, HasEnded, HasStepped, IsStack, climbed, value_of, calls_of, calls_left, climbed_rest, rest_of, rest_at, to_keep, debt, made, Counts, Account, account_of, account_at, HasFinished, GoesOn, Advances, IsLeft}
 use Rattle.ksv_memo.specs.declared.frame.Frame.{Frame}
+use Rattle.ksv_memo.specs.declared.table.Kept.{Kept}
 use Rattle.ksv_memo.specs.declared.machine.Progress.{Progress}
 use Rattle.ksv_memo.proofs.Lists.{All-right}
 use Rattle.ksv_memo.proofs.Evals.{IsOut, eqb_true, or_false_intro, AreDistinct-cons, tells-free}
@@ -336,6 +337,18 @@ frame_view n f replies asked uses = λ i. record { node = n; replies = replies i
 -- the frame after a call, as an open node
 pub turn_view : {N A : Type 0} (n : N) (f g : Frame N A) (us : List Use) → g.replies ≡ f.replies → g.asked ≡ f.asked → g.uses.items ≡ f.uses.items ++ us → open_of n g ≡ with_uses (open_of n f) us
 turn_view n f g us replies asked uses = λ i. record { node = n; replies = (replies i).items; asked = (asked i).items; uses = uses i }
+
+-- the frame after a reply, as an open node
+pub heard_view : {N A : Type 0} (n : N) (f g : Frame N A) (m : N) (a : A) → g.replies.items ≡ f.replies.items ++ a ∷ [] → g.asked.items ≡ f.asked.items ++ m ∷ [] → g.uses ≡ f.uses → open_of n g ≡ with_answer (open_of n f) m a
+heard_view n f g m a replies asked uses = λ i. record { node = n; replies = replies i; asked = asked i; uses = (uses i).items }
+
+-- the same where the reply and the node are copies
+pub heard_copy : {N A : Type 0} (n : N) (f g : Frame N A) (m m' : N) (a a' : A) → m ≡ m' → a ≡ a' → g.replies.items ≡ f.replies.items ++ a ∷ [] → g.asked.items ≡ f.asked.items ++ m ∷ [] → g.uses ≡ f.uses → open_of n g ≡ with_answer (open_of n f) m' a'
+heard_copy n f g m m' a a' same copy replies asked uses = heard_view n f g m a replies asked uses ∙ (λ i. with_answer (open_of n f) (same i) (copy i))
+
+-- the table once a node is kept
+pub kept_view : {N A : Type 0} (es all : List (Entry N A)) (n : N) (f : Frame N A) (k : Kept N A) (a : A) → k.answer ≡ a → k.asked ≡ f.asked → all ≡ es ++ entry_of n k ∷ [] → all ≡ es ++ kept_of (open_of n f) a k.uses.items ∷ []
+kept_view es all n f k a answer asked more = more ∙ (λ i. es ++ (record { node = n; answer = answer i; asked = (asked i).items; uses = k.uses.items }) ∷ [])
 
 pub counts-end : (before now new : Option ℕ) (owed so_far total : ℕ) → Counts before now owed so_far total → so_far + 1 ≡ owed → new ≡ counted 1 now → new ≡ counted total before
 counts-end before now new owed so_far total h e f = let last : suc h.0 ≡ total = counts-last h.0 owed so_far total h.2 e in f ∙ ap (counted 1) h.1 ∙ ap (λ k. counted k before) last

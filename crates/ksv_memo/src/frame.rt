@@ -1,8 +1,8 @@
 //! An open node's frame.
-ghost use Rattle.std.specs.Prelude.{◌≡◌, []};
+ghost use Rattle.std.specs.Prelude.{◌≡◌, ◌++◌, [], ◌∷◌, OnOk};
 
 use ksv_bytes::Use;
-use std::alloc::Global;
+use std::alloc::{AllocError, Global};
 
 /// What an open node has come to: the replies that it had, the nodes that it asked for them, and what its calls used,
 /// with repeats.
@@ -25,5 +25,18 @@ impl<N, A> Frame<N, A> {
             asked: Vec::new(alloc),
             uses: Vec::new(alloc),
         }
+    }
+}
+
+impl<N: Drop, A: Drop> Frame<N, A> {
+    /// Notes a reply, and the node that was asked for it.
+    pub(crate) fn hear(&mut self, asked: N, reply: A) -> Result<(), AllocError>
+        ensures replies { OnOk result (self.new.replies.items ≡ self.old.replies.items ++ reply ∷ []) }
+        ensures asked { OnOk result (self.new.asked.items ≡ self.old.asked.items ++ asked ∷ []) }
+        ensures uses { self.new.uses ≡ self.old.uses }
+    {
+        self.replies.push(reply)?;
+        self.asked.push(asked)?;
+        Ok(())
     }
 }

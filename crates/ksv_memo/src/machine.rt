@@ -2,7 +2,7 @@
 ghost use Rattle.std.specs.Prelude.{◌≡◌, ◌++◌, [], false, length, IfOk, OnOk, OnErr};
 ghost use Rattle.ksv_memo.specs.Meaning.{on};
 ghost use Rattle.ksv_memo.specs.Evaluation.{tells, is_among, done, IsAnswered};
-ghost use Rattle.ksv_memo.specs.Right.{IsRight, nodes_of, fresh, costs, counted};
+ghost use Rattle.ksv_memo.specs.Right.{HasEachOnce, IsRight, nodes_of, fresh, costs, counted};
 ghost use Rattle.ksv_memo.specs.Open.{open_of};
 ghost use Rattle.ksv_memo.specs.Running.{IsStack, HasCome, HasEnded, IsWaiting, Advances, IsLeft, account_of, account_at, to_keep, debt};
 
@@ -24,6 +24,34 @@ pub enum Progress<N, A> {
     Ended(Outcome<N, A>),
     /// This open node is to be run next.
     Goes(N, Frame<N, A>),
+}
+
+/// The count after one more call.
+fn one_more(turns: Option<u64>) -> Option<u64>
+    ensures { result ≡ counted 1 turns }
+{
+    match turns {
+        None => None,
+        Some(turns) => Some(turns.saturating_add(1)),
+    }
+}
+
+/// What is kept for a node that came to this answer.
+fn ended<N: Drop, A: Drop>(
+    alloc: Global,
+    frame: Frame<N, A>,
+    answer: A,
+) -> Result<Kept<N, A>, AllocError>
+    ensures answer { IfOk result (λ kept. kept.answer ≡ answer) }
+    ensures asked { IfOk result (λ kept. kept.asked ≡ frame.asked) }
+    ensures uses { IfOk result (λ kept. HasEachOnce kept.uses.items frame.uses.items) }
+{
+    let uses = each_once(alloc, frame.uses.as_slice())?;
+    Ok(Kept {
+        answer,
+        asked: frame.asked,
+        uses,
+    })
 }
 
 /// The kept answers, and the calls of the rules that were counted.
@@ -64,7 +92,7 @@ impl<R: Rules> Machine<R> {
     {
         let replies = frame.replies.as_slice();
         let step = rules.next(self.alloc, node, bytes, replies, &mut frame.uses)?;
-        self.turns = self.turns.map(|turns| turns.saturating_add(1));
+        self.turns = one_more(self.turns);
         Ok(step)
     }
 
@@ -108,25 +136,12 @@ impl<R: Rules> Machine<R> {
     {
         let reply = rules.copy_answer(self.alloc, &answer)?;
         let copy = rules.copy_node(self.alloc, &node)?;
-        let Frame {
-            replies: _,
-            asked,
-            uses,
-        } = frame;
-        let uses = each_once(self.alloc, uses.as_slice())?;
-        self.table.keep(
-            node,
-            Kept {
-                answer,
-                asked,
-                uses,
-            },
-        )?;
+        let kept = ended(self.alloc, frame, answer)?;
+        self.table.keep(node, kept)?;
         match below.pop() {
             None => Ok(Progress::Ended(Outcome::Answered(reply))),
             Some((waiting, mut frame)) => {
-                frame.replies.push(reply)?;
-                frame.asked.push(copy)?;
+                frame.hear(copy, reply)?;
                 Ok(Progress::Goes(waiting, frame))
             }
         }
@@ -149,8 +164,7 @@ impl<R: Rules> Machine<R> {
         match self.table.answer(&asked) {
             Some(answer) => {
                 let reply = rules.copy_answer(self.alloc, answer)?;
-                frame.replies.push(reply)?;
-                frame.asked.push(asked)?;
+                frame.hear(asked, reply)?;
                 Ok(Progress::Goes(node, frame))
             }
             None => {

@@ -6,7 +6,7 @@ use std::alloc::{AllocError, Global};
 use std::hash::Hash;
 
 /// What a node does next.
-#[derive(Debug, Drop)]
+#[derive(Drop)]
 pub enum Step<N, A> {
     /// It needs the answer of this node.
     Need(N),
@@ -15,7 +15,7 @@ pub enum Step<N, A> {
 }
 
 /// What comes of asking a node while some nodes are open.
-#[derive(Debug, Drop)]
+#[derive(Drop)]
 pub enum Outcome<N, A> {
     /// The node's answer.
     Answered(A),

@@ -75,8 +75,10 @@ impl<N: Eq + Hash + Drop, A: Drop> Table<N, A> {
     pub(crate) fn answer(&self, node: &N) -> Option<&A>
         ensures { option_copied result ≡ option_map (λ entry. entry.answer) (find (λ entry. N.eq node.now entry.node) self.now) }
     {
-        let kept = self.entries.get(node)?;
-        Some(&kept.answer)
+        match self.entries.get(node) {
+            Some(kept) => Some(&kept.answer),
+            None => None,
+        }
     }
 
     /// Puts in what is kept for a node that has none yet.

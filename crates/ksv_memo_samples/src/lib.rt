@@ -1,4 +1,4 @@
-//! Two small sets of rules for the engine, and its tests with them.
+//! Two small sets of rules for the engine.
 //!
 //! [`Rows`] are numbers, sums of rows and rows that a byte names, with circles. A [`Chain`] is as deep as one likes.
 #![tactic(auto)]
@@ -7,8 +7,6 @@ mod chain;
 mod link;
 mod row;
 mod rows;
-#[cfg(test)]
-mod tests;
 
 pub use chain::Chain;
 pub use link::Link;

@@ -11,10 +11,10 @@ ghost use Rattle.ksv_rules.specs.Lawful.{described_lawful};
 use crate::rules::rule;
 use crate::serving::served;
 use ksv_bytes::{Buffer, Use};
+use ksv_desc::Desc;
 use ksv_expr::Fault;
 use ksv_memo::{Rules, Step};
 use ksv_nodes::{Given, Node, Stop, Turn};
-use ksv_desc::Desc;
 use std::alloc::{AllocError, Global};
 
 type Answer = Result<Given, Fault>;

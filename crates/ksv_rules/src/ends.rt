@@ -14,10 +14,9 @@ use crate::fields::{field_of, last_attribute, members_of};
 use crate::heads::{in_list, part_end};
 use crate::site::Site;
 use crate::wanted::truth_of;
+use ksv_desc::{Desc, Repeat};
 use ksv_expr::{Expr, Fault, FaultKind, Path, Step};
 use ksv_nodes::{Ended, Ending, Head, List, Object, Rested, Stop, Turn};
-use ksv_desc::Desc;
-use ksv_desc::Repeat;
 
 /// The end of an object that ends with its last attribute; without one it ends where it begins.
 fn fields_end(turn: &mut Turn, path: &Path, start: u32, last: Option<u32>) -> Result<u32, Stop>

@@ -8,10 +8,9 @@ ghost use Rattle.ksv_nodes.specs.Turning.{Runs};
 ghost use Rattle.ksv_rules.specs.Fields.{members_of, behind, sought, member_named, last_attribute, read_by, field_of};
 ghost use Rattle.ksv_rules.specs.Members.{plain_sought};
 
+use ksv_desc::{Desc, Field, Kind, MemberDesc};
 use ksv_expr::FaultKind;
 use ksv_nodes::{Source, Stop, Turn};
-use ksv_desc::Desc;
-use ksv_desc::{Field, Kind, MemberDesc};
 
 /// A member that was looked for.
 #[derive(Clone, Copy)]

@@ -13,10 +13,9 @@ ghost use Rattle.ksv_rules.specs.Heads.{leaf, leaf_to_end, terminated_at, termin
 use crate::fields::{Sought, field_of, member_named};
 use crate::site::Site;
 use crate::wanted::{holds, in_object, size_of};
+use ksv_desc::{Choice, Content, Desc, Extent, Field, Kind, Repeat, Terminator};
 use ksv_expr::{Expr, Fault, FaultKind, Path, Step, Stream};
 use ksv_nodes::{Ended, Ending, Found, Head, Leaf, List, Object, Source, Stop, Turn};
-use ksv_desc::Desc;
-use ksv_desc::{Choice, Content, Extent, Field, Kind, Repeat, Terminator};
 
 // ---- what is read at a place
 

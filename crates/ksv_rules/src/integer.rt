@@ -5,8 +5,8 @@ ghost use Rattle.ksv_expr_value.specs.Bytes.{content};
 ghost use Rattle.ksv_rules.specs.Integers.{integer_value, unsigned_value, sum_of_bytes};
 
 use crate::parts::len_of;
+use ksv_desc::ByteOrder;
 use ksv_expr::Parts;
-use ksv_schema_scope::ByteOrder;
 
 /// The number that bytes write, the most significant first.
 fn big_endian(bytes: &[u8]) -> u64

@@ -7,8 +7,8 @@ ghost use Rattle.ksv_desc.specs.Description.{as_text};
 ghost use Rattle.ksv_desc.specs.Whole.{plain_pieces};
 ghost use Rattle.ksv_rules.specs.PathTexts.{decimal_of, index_of, name_of, step_of, steps_of, is_slash, path_of_steps, path_behind, path_named};
 
-use ksv_expr::{Path, Step};
 use ksv_desc::Desc;
+use ksv_expr::{Path, Step};
 use std::alloc::{AllocError, Global};
 use std::marker::Model;
 

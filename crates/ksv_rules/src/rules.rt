@@ -8,9 +8,9 @@ ghost use Rattle.ksv_rules.specs.Meaning.{meaning_of, served_rule};
 use crate::ends::{end_of, rest_of};
 use crate::heads::head_of;
 use crate::values::value_of;
+use ksv_desc::Desc;
 use ksv_expr::{FaultKind, Path};
 use ksv_nodes::{Given, Kind, Node, Stop, Turn};
-use ksv_desc::Desc;
 
 /// What a node of a description that is served answers.
 fn meaning_of(turn: &mut Turn, desc: &Desc, kind: Kind, path: &Path) -> Result<Given, Stop>

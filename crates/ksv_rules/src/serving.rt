@@ -6,8 +6,7 @@ ghost use Rattle.ksv_desc.specs.Whole.{plain_pieces};
 ghost use Rattle.ksv_rules.specs.Served.{is_served_name, are_served_trees, is_served_condition, is_served_repeat, is_served_extent, is_served_content, is_served_choice, goes_by_itself, is_served_field, is_served_kind, is_served_type, is_served};
 ghost use Rattle.ksv_rules.specs.ServedCode.{is_served_expr};
 
-use ksv_desc::Desc;
-use ksv_desc::{Choice, Content, Extent, Field, Kind, Repeat, TypeDesc};
+use ksv_desc::{Choice, Content, Desc, Extent, Field, Kind, Repeat, TypeDesc};
 use ksv_expr_tree::{Expr, SpecialName};
 
 /// `_index` and `_` alone.

@@ -12,11 +12,9 @@ ghost use Rattle.ksv_rules.specs.Values.{as_member, in_number, number_in, number
 use crate::fields::field_of;
 use crate::integer::integer_value;
 use crate::parts::{are, cut, len_of};
+use ksv_desc::{ByteOrder, Choice, Content, Desc, Extent, Field, Terminator};
 use ksv_expr::{Encoding, FaultKind, Integer, Parts, Path, Text, Value};
 use ksv_nodes::{Head, Leaf, Stop, Turn, first_in_parts};
-use ksv_desc::Desc;
-use ksv_desc::{Choice, Content, Extent, Field, Terminator};
-use ksv_schema_scope::ByteOrder;
 
 /// The bytes of a leaf.
 #[tactic(auto, using(crate::proofs::Peeked::peeked_length))]
