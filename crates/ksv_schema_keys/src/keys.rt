@@ -92,12 +92,15 @@ fn type_form(key: &[u8]) -> Option<Form>
 {
     if key == b"meta".as_slice() {
         Some(Form::Mapping)
-    } else if key == b"params".as_slice() || key == b"seq".as_slice() {
+    } else if key == b"params".as_slice() {
         Some(Form::Listing)
-    } else if key == b"types".as_slice()
-        || key == b"instances".as_slice()
-        || key == b"enums".as_slice()
-    {
+    } else if key == b"seq".as_slice() {
+        Some(Form::Listing)
+    } else if key == b"types".as_slice() {
+        Some(Form::Mapping)
+    } else if key == b"instances".as_slice() {
+        Some(Form::Mapping)
+    } else if key == b"enums".as_slice() {
         Some(Form::Mapping)
     } else {
         None
@@ -126,16 +129,23 @@ fn meta_form(key: &[u8]) -> Option<Form>
 fn unread_meta_form(key: &[u8]) -> Option<Form>
     ensures { seen_form result ≡ form_in (drop 4 meta_keys) key.now }
 {
-    if key == b"title".as_slice()
-        || key == b"application".as_slice()
-        || key == b"file-extension".as_slice()
-        || key == b"license".as_slice()
-        || key == b"xref".as_slice()
-        || key == b"ks-version".as_slice()
-        || key == b"tags".as_slice()
-    {
+    if key == b"title".as_slice() {
         Some(Form::Ignored)
-    } else if key == b"imports".as_slice() || key == b"ks-opaque-types".as_slice() {
+    } else if key == b"application".as_slice() {
+        Some(Form::Ignored)
+    } else if key == b"file-extension".as_slice() {
+        Some(Form::Ignored)
+    } else if key == b"license".as_slice() {
+        Some(Form::Ignored)
+    } else if key == b"xref".as_slice() {
+        Some(Form::Ignored)
+    } else if key == b"ks-version".as_slice() {
+        Some(Form::Ignored)
+    } else if key == b"tags".as_slice() {
+        Some(Form::Ignored)
+    } else if key == b"imports".as_slice() {
+        Some(Form::NotHere)
+    } else if key == b"ks-opaque-types".as_slice() {
         Some(Form::NotHere)
     } else {
         None
@@ -219,10 +229,11 @@ fn condition_form(key: &[u8]) -> Option<Form>
         Some(Form::Expression(Site::Condition))
     } else if key == b"enum".as_slice() {
         Some(Form::EnumName)
-    } else if key == b"process".as_slice()
-        || key == b"pad-right".as_slice()
-        || key == b"valid".as_slice()
-    {
+    } else if key == b"process".as_slice() {
+        Some(Form::NotHere)
+    } else if key == b"pad-right".as_slice() {
+        Some(Form::NotHere)
+    } else if key == b"valid".as_slice() {
         Some(Form::NotHere)
     } else {
         None
@@ -265,12 +276,15 @@ fn value_form(key: &[u8]) -> Option<Form>
         Some(Form::EnumName)
     } else if key == b"valid".as_slice() {
         Some(Form::NotHere)
-    } else if key == b"pos".as_slice()
-        || key == b"io".as_slice()
-        || key == b"type".as_slice()
-        || key == b"size".as_slice()
-        || key == b"repeat".as_slice()
-    {
+    } else if key == b"pos".as_slice() {
+        Some(Form::Ignored)
+    } else if key == b"io".as_slice() {
+        Some(Form::Ignored)
+    } else if key == b"type".as_slice() {
+        Some(Form::Ignored)
+    } else if key == b"size".as_slice() {
+        Some(Form::Ignored)
+    } else if key == b"repeat".as_slice() {
         Some(Form::Ignored)
     } else {
         None

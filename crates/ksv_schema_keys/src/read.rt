@@ -10,10 +10,7 @@ use std::alloc::{AllocError, Global};
 
 /// The expression that a text is, or why it is none.
 #[tactic(auto, using(crate::proofs::Spellings::expression_is))]
-pub fn read_expression(
-    alloc: Global,
-    text: &[u8],
-) -> Result<Result<Expr, ExprFault>, AllocError>
+pub fn read_expression(alloc: Global, text: &[u8]) -> Result<Result<Expr, ExprFault>, AllocError>
     ensures { IfOk result (λ r. seen_expression r ≡ expression_of text.now) }
 {
     match parse(alloc, text) {

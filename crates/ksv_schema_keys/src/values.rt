@@ -10,9 +10,9 @@ ghost use Rattle.ksv_schema_keys.specs.Code.{seen_type_text, kind_test, IsUpTo, 
 ghost use Rattle.ksv_schema_names.specs.BuiltIn.{built_in_at};
 
 use crate::read::read_type;
-use ksv_expr_value::Encoding;
 use ksv_expr_syntax::ExprFault;
 use ksv_expr_tree::{Expr, Literal, Member, SpecialName, TypeName, TypeRef, UnaryOperator};
+use ksv_expr_value::Encoding;
 use ksv_schema_names::{BuiltIn, built_in_at};
 use ksv_schema_scope::keys::text_at;
 use ksv_schema_scope::{Numeral, plain_number};
