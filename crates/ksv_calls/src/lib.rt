@@ -5,6 +5,8 @@
 #[cfg(test)]
 mod bytes;
 #[cfg(test)]
+mod descriptions;
+#[cfg(test)]
 mod devices;
 #[cfg(test)]
 mod expressions;

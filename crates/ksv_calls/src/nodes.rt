@@ -10,7 +10,7 @@ use std::alloc::{AllocError, Global};
 use std::test::Fail;
 
 /// A list of items, each with a size.
-const LIST: &str = "meta:
+pub(crate) const LIST: &str = "meta:
   id: t
   endian: le
 seq:
@@ -53,7 +53,7 @@ value /len => no-such at /len";
 const CIRCLE: &str = "meta:\n  id: t\nseq:\n  - id: a\n    size: b\n  - id: b\n    type: u1\n";
 
 /// The description that a text states.
-fn described(alloc: Global, text: &str) -> Result<Desc, Fail> {
+pub(crate) fn described(alloc: Global, text: &str) -> Result<Desc, Fail> {
     match load(alloc, &read(alloc, text.as_bytes())?) {
         Ok(desc) => Ok(desc),
         Err(_) => Err(Fail::from("a description is refused")),

@@ -54,24 +54,36 @@ fn is_right(rt: &HostRuntime, heading: &str, row: &str, wanted: &str) -> io::Res
     Ok(false)
 }
 
-/// Takes the rows of a table; whether all come to what is wanted.
-fn is_right_table(rt: &HostRuntime, path: &str) -> io::Result<bool> {
-    let table = fs::read_to_string(rt, path)?;
-    let mut heading = "";
-    let mut rows = 0usize;
-    let mut wrong = 0usize;
-    for line in table.split('\n') {
-        if let Some(kind) = line.strip_prefix("== ") {
-            heading = kind;
-        } else if let Some((row, wanted)) = line.split_once(" => ") {
-            rows = rows.saturating_add(1);
+/// How many rows there are, and how many of them come to something else.
+#[derive(Clone, Copy)]
+struct Tally {
+    rows: usize,
+    wrong: usize,
+}
+
+/// Takes the rows of a heading, which stands in front of them, and counts them.
+fn take(rt: &HostRuntime, part: &str, tally: &mut Tally) -> io::Result<()> {
+    let (heading, lines) = part.split_once('\n').unwrap_or((part, ""));
+    for line in lines.split('\n') {
+        if let Some((row, wanted)) = line.split_once(" => ") {
+            tally.rows = tally.rows.saturating_add(1);
             if !is_right(rt, heading, row, wanted)? {
-                wrong = wrong.saturating_add(1);
+                tally.wrong = tally.wrong.saturating_add(1);
             }
         }
     }
-    println!(rt; "{path}: {rows} rows, {wrong} wrong")?;
-    Ok(wrong == 0)
+    Ok(())
+}
+
+/// Takes the rows of a table; whether all come to what is wanted. What stands above the first heading says nothing.
+fn is_right_table(rt: &HostRuntime, path: &str) -> io::Result<bool> {
+    let table = fs::read_to_string(rt, path)?;
+    let mut tally = Tally { rows: 0, wrong: 0 };
+    for part in table.split("\n== ") {
+        take(rt, part, &mut tally)?;
+    }
+    println!(rt; "{path}: {} rows, {} wrong", tally.rows, tally.wrong)?;
+    Ok(tally.wrong == 0)
 }
 
 fn main(rt: HostRuntime) -> io::Result<ExitCode> {

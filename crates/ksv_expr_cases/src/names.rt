@@ -59,8 +59,12 @@ pub(crate) fn number(expr: &mut Expr) {
         Expr::Literal(_) | Expr::Special(_) => {}
         Expr::Name(name) => name.number = number_of(name.text.as_str()),
         Expr::Member(member) => member.given = given(member.name.as_str()),
-        Expr::Unary(_, operand) | Expr::SpecialField(operand, _) => number(operand),
-        Expr::Binary(_, left, right) | Expr::Logical(_, left, right) | Expr::Index(left, right) => {
+        Expr::Unary(_, operand) => number(operand),
+        Expr::Binary(_, left, right) => {
+            number(left);
+            number(right);
+        }
+        Expr::Logical(_, left, right) => {
             number(left);
             number(right);
         }
@@ -73,9 +77,14 @@ pub(crate) fn number(expr: &mut Expr) {
             number(object);
             name.number = number_of(name.text.as_str());
         }
+        Expr::SpecialField(object, _) => number(object),
         Expr::Call(object, _, arguments) => {
             number(object);
             number_each(arguments);
+        }
+        Expr::Index(list, place) => {
+            number(list);
+            number(place);
         }
         Expr::Cast(object, name) => {
             number(object);

@@ -53,16 +53,19 @@ fn show(alloc: Global, expr: &Expr, out: &mut String) -> Result<(), AllocError> 
         }
         Expr::Binary(operator, left, right) => {
             add(format!(in alloc; "({operator:?} ")?, out)?;
-            show_two(alloc, left, right, out)
+            show_before(alloc, left, " ", out)?;
+            show_before(alloc, right, ")", out)
         }
         Expr::Logical(operator, left, right) => {
             add(format!(in alloc; "({operator:?} ")?, out)?;
-            show_two(alloc, left, right, out)
+            show_before(alloc, left, " ", out)?;
+            show_before(alloc, right, ")", out)
         }
         Expr::Choice(condition, yes, no) => {
             out.push_str("(? ")?;
             show_before(alloc, condition, " ", out)?;
-            show_two(alloc, yes, no, out)
+            show_before(alloc, yes, " ", out)?;
+            show_before(alloc, no, ")", out)
         }
         Expr::Field(object, name) => {
             show_before(alloc, object, ".", out)?;
@@ -98,13 +101,6 @@ fn show_before(
 ) -> Result<(), AllocError> {
     show(alloc, expr, out)?;
     out.push_str(behind)
-}
-
-/// Adds the two operands of an operator.
-#[cycle(trees)]
-fn show_two(alloc: Global, left: &Expr, right: &Expr, out: &mut String) -> Result<(), AllocError> {
-    show_before(alloc, left, " ", out)?;
-    show_before(alloc, right, ")", out)
 }
 
 /// Adds a method with its arguments.
