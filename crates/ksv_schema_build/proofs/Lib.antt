@@ -4,4 +4,5 @@ pub mod Made
 pub mod Named
 pub mod Naming
 pub mod Types
+pub mod Parts
 pub mod Entries
