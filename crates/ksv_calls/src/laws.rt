@@ -4,7 +4,7 @@ use ksv_expr::{
     bits_are_told, division_is_floored, equal_paths_are_same, is_bounded, meaning_is_direct,
     paths_are_numbered, truth_is_met,
 };
-use ksv_schema_names::{faultless_is_resolved, least_is_told, names_are_tabled};
+use ksv_expr_syntax::{less_stands_behind, one_longest_token, one_reading};
 use ksv_nodes::{
     equal_nodes_are_same, nodes_are_numbered, readings_are_local, readings_fit, turns_are_bounded,
     turns_are_local, turns_fit, turns_meet_truth,
@@ -16,7 +16,7 @@ use ksv_rules::{
 use ksv_schema::{
     descriptions_are_resolved, faultless_trees_state, faulty_trees_are_refused, texts_are_spelled,
 };
-use ksv_expr_syntax::{less_stands_behind, one_longest_token, one_reading};
+use ksv_schema_names::{faultless_is_resolved, least_is_told, names_are_tabled};
 use ksv_yaml::{one_tree, reading_is_spelling};
 
 #[test]

@@ -17,7 +17,7 @@ pub struct TypeDesc {
     ghost fields_are: { fields.items ≡ map (λ m. m.name) (filter is_in_sequence members.items) },
 }
 
-// The numbers of members' names.
+/// The numbers of members' names.
 fn names_of(alloc: Global, members: &[MemberDesc]) -> Result<Vec<u32>, AllocError>
     ensures { IfOk result (λ v. v.items ≡ map (λ m. m.name) members.now) }
 {
@@ -28,7 +28,7 @@ fn names_of(alloc: Global, members: &[MemberDesc]) -> Result<Vec<u32>, AllocErro
     Ok(names)
 }
 
-// The numbers of the names of those that stand in a `seq`.
+/// The numbers of the names of those that stand in a `seq`.
 fn fields_of(alloc: Global, members: &[MemberDesc]) -> Result<Vec<u32>, AllocError>
     ensures { IfOk result (λ v. v.items ≡ map (λ m. m.name) (filter is_in_sequence members.now)) }
 {

@@ -54,7 +54,7 @@ fn decides(operator: LogicalOperator, left: bool) -> bool
     }
 }
 
-// The right operand, and then the operator.
+/// The right operand, and then the operator.
 #[cycle(value)]
 #[tactic(auto, using(ksv_plan::proofs::Running::run_bind))]
 fn binary_with(
@@ -70,7 +70,7 @@ fn binary_with(
     forms::binary(replies, operator, left, &right)
 }
 
-// What the left operand decides, or the right one.
+/// What the left operand decides, or the right one.
 #[cycle(value)]
 #[tactic(auto, using(ksv_plan::proofs::Running::run_bind))]
 fn logical_with(
@@ -128,7 +128,7 @@ fn special_field_expr(
     forms::special_field(replies, &object, name)
 }
 
-// The argument, and then the method.
+/// The argument, and then the method.
 #[cycle(value)]
 #[tactic(auto, using(ksv_plan::proofs::Running::run_bind))]
 fn call_with_one(
@@ -144,7 +144,7 @@ fn call_with_one(
     forms::call_one(replies, object, Method::named(method), &argument)
 }
 
-// The second argument, and then the method.
+/// The second argument, and then the method.
 #[cycle(value)]
 #[tactic(auto, using(ksv_plan::proofs::Running::run_bind))]
 fn call_with_two(
@@ -161,7 +161,7 @@ fn call_with_two(
     forms::call_two(replies, object, Method::named(method), first, &second)
 }
 
-// The place, and then what stands there.
+/// The place, and then what stands there.
 #[cycle(value)]
 #[tactic(auto, using(ksv_plan::proofs::Running::run_bind))]
 fn item_with(replies: &mut Replies, ctx: &Ctx, list: &Value, place: &Expr) -> Result<Value, Halt>

@@ -1,7 +1,7 @@
 //! Trees as texts: operators first, in parentheses.
 
-use ksv_expr_tree::{Expr, Literal, Member};
 use ksv_expr_syntax::{ExprFault, parse, parse_type};
+use ksv_expr_tree::{Expr, Literal, Member};
 use std::alloc::{AllocError, Global};
 
 /// The tree of an expression's text, or its refusal.

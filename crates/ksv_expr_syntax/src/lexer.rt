@@ -23,14 +23,14 @@ pub enum Radix {
     Hexadecimal,
 }
 
-// The byte at this place, or 0 past the end.
+/// The byte at this place, or 0 past the end.
 fn byte_at(text: &[u8], index: usize) -> u8
     ensures { result ≡ slice_index text.now index }
 {
     if index < text.len() { text[index] } else { 0 }
 }
 
-// The first byte, and those behind it.
+/// The first byte, and those behind it.
 fn first_byte(text: &[u8]) -> Option<(u8, &[u8])>
     ensures { MatchOption result (text.now ≡ []) (λ x. text.now ≡ x.0 ∷ x.1.now) }
 {
@@ -40,7 +40,7 @@ fn first_byte(text: &[u8]) -> Option<(u8, &[u8])>
     }
 }
 
-// The bytes before this place.
+/// The bytes before this place.
 fn before(text: &[u8], count: usize) -> &[u8]
     ensures { result.now ≡ take count text.now }
 {
@@ -51,7 +51,7 @@ fn before(text: &[u8], count: usize) -> &[u8]
     }
 }
 
-// The bytes from this place on.
+/// The bytes from this place on.
 fn behind(text: &[u8], count: usize) -> &[u8]
     ensures { result.now ≡ drop count text.now }
 {
@@ -62,14 +62,14 @@ fn behind(text: &[u8], count: usize) -> &[u8]
     }
 }
 
-// The text behind its white space.
+/// The text behind its white space.
 fn skip_spaces(text: &[u8]) -> &[u8]
     ensures { result.now ≡ skip text.now }
 {
     behind(text, space_size(text))
 }
 
-// How many bytes of white space stand at the front.
+/// How many bytes of white space stand at the front.
 fn space_size(text: &[u8]) -> usize
     ensures { result ≡ length (take_while is_space text.now) }
 {
@@ -94,7 +94,7 @@ fn continues_name(byte: u8) -> bool
     byte.is_ascii_lowercase() || byte.is_ascii_digit() || byte == b'_'
 }
 
-// The token of a name or a word.
+/// The token of a name or a word.
 fn word_token(alloc: Global, text: &str) -> Result<Token, AllocError>
     ensures { IfOk result (λ t. lexeme_of t ≡ word_lexeme text.now) }
 {
@@ -113,7 +113,7 @@ fn word_token(alloc: Global, text: &str) -> Result<Token, AllocError>
     }
 }
 
-// These bytes as a text.
+/// These bytes as a text.
 fn as_text(bytes: &[u8]) -> &str
     requires { IsUtf8 bytes.now }
     ensures { result.now ≡ bytes.now }
@@ -124,7 +124,7 @@ fn as_text(bytes: &[u8]) -> &str
     }
 }
 
-// How many bytes the name at the front has.
+/// How many bytes the name at the front has.
 fn name_size(text: &[u8]) -> usize
     ensures { result ≡ length (take_while is_name_byte text.now) }
 {
@@ -133,14 +133,14 @@ fn name_size(text: &[u8]) -> usize
         .count()
 }
 
-// Whether this name begins a format string, which is left out.
+/// Whether this name begins a format string, which is left out.
 fn begins_format(word: &str, rest: &[u8]) -> bool
     ensures { result ≡ (bytes_eq word.now (codes "f") && slice_index rest.now 0 == 34) }
 {
     word == "f" && byte_at(rest, 0) == b'"'
 }
 
-// A name or a word.
+/// A name or a word.
 fn name_token<'a>(alloc: Global, text: &'a [u8]) -> Result<(Token, &'a [u8]), ExprFaultKind>
     ensures { GivesCut (cut_name text.now) result }
 {
@@ -163,7 +163,7 @@ fn is_digit_of(radix: Radix, byte: u8) -> bool
     }
 }
 
-// How the number at the front is written.
+/// How the number at the front is written.
 fn radix_at(text: &[u8]) -> Radix
     ensures { result ≡ radix_of text.now }
 {
@@ -182,7 +182,7 @@ fn radix_at(text: &[u8]) -> Radix
     }
 }
 
-// How many bytes the longest run of digits at the front has, in which one `_` may stand between two.
+/// How many bytes the longest run of digits at the front has, in which one `_` may stand between two.
 fn run_size(radix: Radix, text: &[u8]) -> usize
     ensures is { result ≡ run radix text.now }
     ensures within { result ≤ length text.now }
@@ -212,7 +212,7 @@ fn run_size(radix: Radix, text: &[u8]) -> usize
     }
 }
 
-// How many bytes stand before the digits.
+/// How many bytes stand before the digits.
 fn prefix_of(radix: Radix) -> usize
     ensures { result ≡ prefix_size radix }
 {
@@ -222,7 +222,7 @@ fn prefix_of(radix: Radix) -> usize
     }
 }
 
-// What a digit counts.
+/// What a digit counts.
 fn digit_of(byte: u8) -> u8
     ensures { result ≡ digit_value byte }
 {
@@ -235,7 +235,7 @@ fn digit_of(byte: u8) -> u8
     }
 }
 
-// A number with room for one digit more.
+/// A number with room for one digit more.
 fn shifted(radix: Radix, number: u64) -> u128
     ensures is { result ≡ number * base radix }
     ensures bound { result < 16 * 2 ^ 64 }
@@ -248,7 +248,7 @@ fn shifted(radix: Radix, number: u64) -> u128
     }
 }
 
-// A number with one digit more, below 2^64.
+/// A number with one digit more, below 2^64.
 fn one_more(radix: Radix, number: u64, byte: u8) -> Option<u64>
     ensures { MatchOption result (2 ^ 64 ≤ number * base radix + digit_value byte) (λ n. n ≡ number * base radix + digit_value byte) }
 {
@@ -260,7 +260,7 @@ fn one_more(radix: Radix, number: u64, byte: u8) -> Option<u64>
     }
 }
 
-// The number of these digits, below 2^64.
+/// The number of these digits, below 2^64.
 fn number_of_digits(radix: Radix, digits: &[u8]) -> Option<u64>
     ensures { MatchOption result (2 ^ 64 ≤ natural radix 0 digits.now) (λ n. n ≡ natural radix 0 digits.now) }
 {
@@ -277,7 +277,7 @@ fn number_of_digits(radix: Radix, digits: &[u8]) -> Option<u64>
     }
 }
 
-// Whether a float goes on here.
+/// Whether a float goes on here.
 fn continues_float(rest: &[u8]) -> bool
     ensures { result ≡ goes_on_as_float rest.now }
 {
@@ -288,7 +288,7 @@ fn continues_float(rest: &[u8]) -> bool
                     && byte_at(rest, 2).is_ascii_digit())))
 }
 
-// Whether this is a float, or a decimal that begins with a 0 too many.
+/// Whether this is a float, or a decimal that begins with a 0 too many.
 fn left_out_number(radix: Radix, digits: &[u8], rest: &[u8]) -> bool
     ensures { result ≡ is_left_out_number radix digits.now rest.now }
 {
@@ -300,7 +300,7 @@ fn left_out_number(radix: Radix, digits: &[u8], rest: &[u8]) -> bool
     }
 }
 
-// A number.
+/// A number.
 fn number_token(text: &[u8]) -> Result<(Token, &[u8]), ExprFaultKind>
     ensures { GivesCut (cut_number text.now) result }
 {
@@ -318,7 +318,7 @@ fn number_token(text: &[u8]) -> Result<(Token, &[u8]), ExprFaultKind>
     Ok((Token::Literal(Literal::Number(number)), rest))
 }
 
-// A text of these bytes.
+/// A text of these bytes.
 fn text_token<'a>(
     alloc: Global,
     bytes: &[u8],
@@ -335,14 +335,14 @@ fn text_token<'a>(
     }
 }
 
-// Where the first `'` stands.
+/// Where the first `'` stands.
 fn quote_place(text: &[u8]) -> Option<usize>
     ensures { result ≡ position (λ c. c == 39) text.now }
 {
     text.iter().position(|byte| *byte == b'\'')
 }
 
-// A text behind its `'`.
+/// A text behind its `'`.
 fn single_token<'a>(alloc: Global, text: &'a [u8]) -> Result<(Token, &'a [u8]), ExprFaultKind>
     ensures { GivesCut (cut_single text.now) result }
 {
@@ -352,7 +352,7 @@ fn single_token<'a>(alloc: Global, text: &'a [u8]) -> Result<(Token, &'a [u8]), 
     text_token(alloc, before(text, size), behind(behind(text, size), 1))
 }
 
-// The character that a letter behind a backslash stands for.
+/// The character that a letter behind a backslash stands for.
 fn simple_escape(letter: u8) -> Option<char>
     ensures { result ≡ escape_of letter }
 {
@@ -392,7 +392,7 @@ fn all_hexadecimal(first: u8, second: u8, third: u8, fourth: u8) -> bool
         && fourth.is_ascii_hexdigit()
 }
 
-// The number of four hexadecimal digits.
+/// The number of four hexadecimal digits.
 fn four_digit_number(first: u8, second: u8, third: u8, fourth: u8) -> u32
     ensures is { result ≡ four_digits first second third fourth }
     ensures bound { result < 0x110000 }
@@ -401,14 +401,14 @@ fn four_digit_number(first: u8, second: u8, third: u8, fourth: u8) -> u32
         + digit_of(fourth) as u32
 }
 
-// Half of a character in another encoding, and no character.
+/// Half of a character in another encoding, and no character.
 fn is_half(number: u32) -> bool
     ensures { result ≡ is_surrogate number }
 {
     number >= 0xd800 && number <= 0xdfff
 }
 
-// The character of four hexadecimal digits; a surrogate is none.
+/// The character of four hexadecimal digits; a surrogate is none.
 fn unicode_character(first: u8, second: u8, third: u8, fourth: u8) -> Option<char>
     ensures { result ≡ unicode_of first second third fourth }
 {
@@ -424,7 +424,7 @@ fn unicode_character(first: u8, second: u8, third: u8, fourth: u8) -> Option<cha
     char::from_u32(number)
 }
 
-// What is wrong with `\u` and too few bytes behind it.
+/// What is wrong with `\u` and too few bytes behind it.
 fn short_unicode(text: &[u8]) -> ExprFaultKind {
     if text.iter().all(|byte| byte.is_ascii_hexdigit()) {
         ExprFaultKind::UnexpectedEnd
@@ -433,7 +433,7 @@ fn short_unicode(text: &[u8]) -> ExprFaultKind {
     }
 }
 
-// The character behind `\u`, and the bytes behind it.
+/// The character behind `\u`, and the bytes behind it.
 fn unicode_escape(text: &[u8]) -> Result<(char, &[u8]), ExprFaultKind>
     ensures is { MatchResult result (λ x. unicode text.now ≡ put (encode_utf8 x.0) (quoted x.1.now)) (λ _. unicode text.now ≡ None) }
     ensures shorter { IfOk result (λ x. length x.1.now < length text.now) }
@@ -452,7 +452,7 @@ fn unicode_escape(text: &[u8]) -> Result<(char, &[u8]), ExprFaultKind>
     }
 }
 
-// The character behind a backslash, and the bytes behind it.
+/// The character behind a backslash, and the bytes behind it.
 fn escape(text: &[u8]) -> Result<(char, &[u8]), ExprFaultKind>
     ensures is { MatchResult result (λ x. escaped text.now ≡ put (encode_utf8 x.0) (quoted x.1.now)) (λ _. escaped text.now ≡ None) }
     ensures shorter { IfOk result (λ x. length x.1.now < length text.now) }
@@ -469,7 +469,7 @@ fn escape(text: &[u8]) -> Result<(char, &[u8]), ExprFaultKind>
     }
 }
 
-// A character's bytes at the end of others.
+/// A character's bytes at the end of others.
 fn push_character(bytes: &mut Vec<u8>, character: char) -> Result<(), AllocError>
     ensures { OnOk result (bytes.new.items ≡ bytes.old.items ++ encode_utf8 character) }
 {
@@ -477,7 +477,7 @@ fn push_character(bytes: &mut Vec<u8>, character: char) -> Result<(), AllocError
     bytes.extend_from_slice(character.encode_utf8(&mut room).as_bytes())
 }
 
-// The bytes of a text behind its `"`, and what stands behind the closing one.
+/// The bytes of a text behind its `"`, and what stands behind the closing one.
 fn quoted_bytes<'a>(alloc: Global, text: &'a [u8]) -> Result<(Vec<u8>, &'a [u8]), ExprFaultKind>
     ensures { GivesQuoted text.now result }
 {
@@ -501,7 +501,7 @@ fn quoted_bytes<'a>(alloc: Global, text: &'a [u8]) -> Result<(Vec<u8>, &'a [u8])
     }
 }
 
-// A text behind its `"`.
+/// A text behind its `"`.
 fn double_token<'a>(alloc: Global, text: &'a [u8]) -> Result<(Token, &'a [u8]), ExprFaultKind>
     ensures { GivesCut (cut_double text.now) result }
 {
@@ -509,7 +509,7 @@ fn double_token<'a>(alloc: Global, text: &'a [u8]) -> Result<(Token, &'a [u8]), 
     text_token(alloc, bytes.as_slice(), rest)
 }
 
-// The symbol of two bytes that these are.
+/// The symbol of two bytes that these are.
 fn two_byte_symbol(first: u8, second: u8) -> Option<Symbol>
     ensures { result ≡ two_bytes first second }
 {
@@ -532,7 +532,7 @@ fn two_byte_symbol(first: u8, second: u8) -> Option<Symbol>
     }
 }
 
-// The symbol of one byte that this is.
+/// The symbol of one byte that this is.
 fn one_byte_symbol(byte: u8) -> Option<Symbol>
     ensures { result ≡ one_byte byte }
 {
@@ -560,7 +560,7 @@ fn one_byte_symbol(byte: u8) -> Option<Symbol>
     }
 }
 
-// A symbol.
+/// A symbol.
 fn symbol_token(text: &[u8]) -> Result<(Token, &[u8]), ExprFaultKind>
     ensures { GivesCut (cut_symbol text.now) result }
 {
@@ -573,7 +573,7 @@ fn symbol_token(text: &[u8]) -> Result<(Token, &[u8]), ExprFaultKind>
     }
 }
 
-// The token at the front, and the bytes behind it.
+/// The token at the front, and the bytes behind it.
 fn token_at<'a>(alloc: Global, text: &'a [u8]) -> Result<(Token, &'a [u8]), ExprFaultKind>
     ensures { GivesCut (cut text.now) result }
 {
@@ -600,7 +600,7 @@ pub struct Scan {
     pub fault: Option<ExprFault>,
 }
 
-// Whether the next token is `<`.
+/// Whether the next token is `<`.
 fn is_before_less(text: &[u8]) -> bool
     ensures { result ≡ less_follows text.now }
 {
@@ -608,7 +608,7 @@ fn is_before_less(text: &[u8]) -> bool
     byte_at(next, 0) == b'<' && !(byte_at(next, 1) == b'<' || byte_at(next, 1) == b'=')
 }
 
-// Whether a token is the name `as`.
+/// Whether a token is the name `as`.
 fn is_named_as(token: &Token) -> bool
     ensures { result ≡ is_as (lexeme_of token.now) }
 {
@@ -618,7 +618,7 @@ fn is_named_as(token: &Token) -> bool
     }
 }
 
-// A token as it counts, behind a dot or not, before this text.
+/// A token as it counts, behind a dot or not, before this text.
 fn marked(dot: bool, token: Token, rest: &[u8]) -> Token
     ensures { lexeme_of result ≡ mark dot (record { lexeme = lexeme_of token; rest = rest.now }) }
 {
@@ -638,7 +638,7 @@ fn is_dot_token(token: &Token) -> bool
     }
 }
 
-// What is wrong with the token here in a text of this length; want of memory is no fault of the text.
+/// What is wrong with the token here in a text of this length; want of memory is no fault of the text.
 fn placed_fault(kind: ExprFaultKind, at: usize, length: usize) -> Result<ExprFault, ExprFault>
     ensures { MatchResult result (λ _. kind ≢ ExprFaultKind.NoMemory) (λ f. f.kind ≡ ExprFaultKind.NoMemory) }
 {

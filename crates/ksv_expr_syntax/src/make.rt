@@ -117,7 +117,7 @@ pub(crate) fn cast_expr(alloc: Global, object: Expr, path: Vec<String>) -> Resul
     Ok(Expr::Cast(Box::new(alloc, object)?, TypeName { path, number: None }))
 }
 
-// A name's special meaning.
+/// A name's special meaning.
 fn special_name(text: &str) -> Option<SpecialName>
     ensures { result ≡ special_of text.now }
 {

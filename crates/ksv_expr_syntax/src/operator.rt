@@ -39,7 +39,7 @@ pub enum Infix {
     Binary(BinaryOperator),
 }
 
-// The operator of this precedence that stands first.
+/// The operator of this precedence that stands first.
 pub(crate) fn infix_operator(
     precedence: Precedence,
     tokens: &[Placed],
@@ -55,7 +55,7 @@ pub(crate) fn infix_operator(
     Some((operator, rest))
 }
 
-// The operator of this precedence that a symbol is.
+/// The operator of this precedence that a symbol is.
 fn infix_of(precedence: Precedence, symbol: Symbol) -> Option<Infix>
     ensures { result ≡ operator precedence (Lexeme.symbol symbol) }
 {
@@ -76,7 +76,7 @@ fn infix_of(precedence: Precedence, symbol: Symbol) -> Option<Infix>
     }
 }
 
-// The comparison that stands first.
+/// The comparison that stands first.
 pub(crate) fn comparison_operator(tokens: &[Placed]) -> Option<(BinaryOperator, &[Placed])>
     ensures is { MatchOption result (comparison_at (lexemes tokens.now) ≡ None) (λ x. comparison_at (lexemes tokens.now) ≡ next x.0 (lexemes x.1.now)) }
     ensures shorter { MatchOption result (Unit {0}) (λ x. length x.1.now + 1 ≡ length tokens.now) }
@@ -97,7 +97,7 @@ pub(crate) fn comparison_operator(tokens: &[Placed]) -> Option<(BinaryOperator, 
     Some((operator, rest))
 }
 
-// The operator in front of an operand that stands first, `not` aside.
+/// The operator in front of an operand that stands first, `not` aside.
 pub(crate) fn prefix_operator(tokens: &[Placed]) -> Option<(UnaryOperator, &[Placed])>
     ensures is { MatchOption result (prefix_at (lexemes tokens.now) ≡ None) (λ x. prefix_at (lexemes tokens.now) ≡ next x.0 (lexemes x.1.now)) }
     ensures shorter { MatchOption result (Unit {0}) (λ x. length x.1.now + 1 ≡ length tokens.now) }

@@ -26,7 +26,7 @@ pub enum Opening {
     Bracket,
 }
 
-// What goes on with a postfix expression, where something does.
+/// What goes on with a postfix expression, where something does.
 fn opening_at(tokens: &[Placed]) -> Option<(Opening, &[Placed])>
     ensures is { MatchOption result ((after Symbol.Dot (lexemes tokens.now) ≡ None) × (after Symbol.OpenBracket (lexemes tokens.now) ≡ None)) (λ x. OpensWith x.0 (lexemes tokens.now) (lexemes x.1.now)) }
     ensures shorter { MatchOption result (Unit {0}) (λ x. length x.1.now + 1 ≡ length tokens.now) }
@@ -38,7 +38,7 @@ fn opening_at(tokens: &[Placed]) -> Option<(Opening, &[Placed])>
     Some((Opening::Bracket, rest))
 }
 
-// An operator between two expressions.
+/// An operator between two expressions.
 fn infix_expr(alloc: Global, operator: Infix, left: Expr, right: Expr) -> Result<Expr, AllocError>
     ensures { IfOk result (λ e. view e ≡ join_tree operator (view left) (view right)) }
 {
@@ -48,7 +48,7 @@ fn infix_expr(alloc: Global, operator: Infix, left: Expr, right: Expr) -> Result
     }
 }
 
-// A name alone, or the enum's member that names with `::` between them are.
+/// A name alone, or the enum's member that names with `::` between them are.
 fn path_expr(alloc: Global, mut names: Vec<String>) -> Expr
     ensures { view result ≡ path_tree (map string_bytes names.items) }
 {
@@ -62,14 +62,14 @@ fn path_expr(alloc: Global, mut names: Vec<String>) -> Expr
     }
 }
 
-// Whether a form begins with this name that is left out.
+/// Whether a form begins with this name that is left out.
 fn begins_left_out(text: &str) -> bool
     ensures { result ≡ is_left_out text.now }
 {
     text == "sizeof" || text == "bitsizeof"
 }
 
-// `as<a::b>` behind this object and a dot.
+/// `as<a::b>` behind this object and a dot.
 fn cast<'a>(alloc: Global, object: Expr, at: Rest<'a>) -> Result<(Expr, Rest<'a>), ExprFault>
     ensures is { GivesCast (view object) (lexemes at.entry.tokens.now) at.entry.parts result }
     ensures shorter { IfOk result (λ x. length x.1.tokens.now < length at.entry.tokens.now) }
@@ -81,7 +81,7 @@ fn cast<'a>(alloc: Global, object: Expr, at: Rest<'a>) -> Result<(Expr, Rest<'a>
     Ok((make::cast_expr(alloc, object, names)?, now))
 }
 
-// An expression.
+/// An expression.
 #[cycle(parser)]
 pub(crate) fn whole<'a>(
     alloc: Global,
@@ -103,7 +103,7 @@ pub(crate) fn whole<'a>(
     Ok((make::choice_expr(alloc, condition, yes, no)?, at))
 }
 
-// Operands of this precedence, joined from the left.
+/// Operands of this precedence, joined from the left.
 #[cycle(parser)]
 fn joined<'a>(
     alloc: Global,
@@ -124,7 +124,7 @@ fn joined<'a>(
     Ok((left, now))
 }
 
-// An operand of this precedence.
+/// An operand of this precedence.
 #[cycle(parser)]
 fn operand<'a>(
     alloc: Global,
@@ -147,7 +147,7 @@ fn operand<'a>(
     }
 }
 
-// `not` any number of times, and a comparison.
+/// `not` any number of times, and a comparison.
 #[cycle(parser)]
 fn negation<'a>(alloc: Global, depth: u32, at: Rest<'a>) -> Result<(Expr, Rest<'a>), ExprFault>
     ensures is { Gives Negation depth (lexemes at.entry.tokens.now) at.entry.parts result }
@@ -162,7 +162,7 @@ fn negation<'a>(alloc: Global, depth: u32, at: Rest<'a>) -> Result<(Expr, Rest<'
     Ok((make::unary_expr(alloc, UnaryOperator::Not, operand)?, at))
 }
 
-// One comparison at most.
+/// One comparison at most.
 #[cycle(parser)]
 fn comparison<'a>(alloc: Global, depth: u32, at: Rest<'a>) -> Result<(Expr, Rest<'a>), ExprFault>
     ensures is { Gives Comparison depth (lexemes at.entry.tokens.now) at.entry.parts result }
@@ -177,7 +177,7 @@ fn comparison<'a>(alloc: Global, depth: u32, at: Rest<'a>) -> Result<(Expr, Rest
     Ok((make::binary_expr(alloc, operator, left, right)?, at))
 }
 
-// `-`, `~` and `+` any number of times, and a postfix expression.
+/// `-`, `~` and `+` any number of times, and a postfix expression.
 #[cycle(parser)]
 fn unary<'a>(alloc: Global, depth: u32, at: Rest<'a>) -> Result<(Expr, Rest<'a>), ExprFault>
     ensures is { Gives Prefix depth (lexemes at.entry.tokens.now) at.entry.parts result }
@@ -192,7 +192,7 @@ fn unary<'a>(alloc: Global, depth: u32, at: Rest<'a>) -> Result<(Expr, Rest<'a>)
     Ok((make::unary_expr(alloc, operator, operand)?, at))
 }
 
-// A primary expression, and what goes on with it.
+/// A primary expression, and what goes on with it.
 #[cycle(parser)]
 fn postfix<'a>(alloc: Global, depth: u32, at: Rest<'a>) -> Result<(Expr, Rest<'a>), ExprFault>
     ensures is { Gives Postfix depth (lexemes at.entry.tokens.now) at.entry.parts result }
@@ -207,7 +207,7 @@ fn postfix<'a>(alloc: Global, depth: u32, at: Rest<'a>) -> Result<(Expr, Rest<'a
     Ok((object, now))
 }
 
-// What stands behind a dot or a bracket, which begins `at`; `rest` is what stands behind it.
+/// What stands behind a dot or a bracket, which begins `at`; `rest` is what stands behind it.
 #[cycle(parser)]
 fn suffix<'a>(
     alloc: Global,
@@ -232,7 +232,7 @@ fn suffix<'a>(
     }
 }
 
-// A member, a call or a cast: what stands behind a dot, whose part is counted.
+/// A member, a call or a cast: what stands behind a dot, whose part is counted.
 #[cycle(parser)]
 fn selected<'a>(
     alloc: Global,
@@ -263,7 +263,7 @@ fn selected<'a>(
     Ok((make::call_expr(alloc, object, text, arguments)?, now))
 }
 
-// Expressions with commas between them, and the closing parenthesis.
+/// Expressions with commas between them, and the closing parenthesis.
 #[cycle(parser)]
 pub(crate) fn arguments<'a>(
     alloc: Global,
@@ -289,7 +289,7 @@ pub(crate) fn arguments<'a>(
     }
 }
 
-// A literal, a name, an enum's member, or an expression in parentheses.
+/// A literal, a name, an enum's member, or an expression in parentheses.
 #[cycle(parser)]
 fn primary<'a>(alloc: Global, depth: u32, at: Rest<'a>) -> Result<(Expr, Rest<'a>), ExprFault>
     ensures is { Gives Primary depth (lexemes at.entry.tokens.now) at.entry.parts result }

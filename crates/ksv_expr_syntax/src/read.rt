@@ -39,7 +39,7 @@ pub fn parse(alloc: Global, text: &[u8]) -> Result<Expr, ExprFault>
     }
 }
 
-// What is wrong where the tokens end too early.
+/// What is wrong where the tokens end too early.
 fn end_of(text: &[u8], fault: Option<ExprFault>) -> ExprFault {
     match fault {
         Some(fault) => fault,
@@ -50,7 +50,7 @@ fn end_of(text: &[u8], fault: Option<ExprFault>) -> ExprFault {
     }
 }
 
-// The expression that these tokens spell.
+/// The expression that these tokens spell.
 fn read_tokens(alloc: Global, tokens: &[Placed], end: ExprFault) -> Result<Expr, ExprFault>
     ensures found { IfOk result (λ e. IsExpr (lexemes tokens.now) (view e)) }
     ensures refused { IfErr result (λ f. f.kind ≢ NoMemory → (e : Tree) → IsExpr (lexemes tokens.now) e → ⊥) }
@@ -84,7 +84,7 @@ pub fn parse_type(alloc: Global, text: &[u8]) -> Result<TypeRef, ExprFault>
     }
 }
 
-// The type with its arguments that these tokens spell.
+/// The type with its arguments that these tokens spell.
 fn read_type(alloc: Global, tokens: &[Placed], end: ExprFault) -> Result<TypeRef, ExprFault>
     ensures found { IfOk result (λ t. SpellsType (lexemes tokens.now) (view_type t)) }
     ensures refused { IfErr result (λ f. f.kind ≢ NoMemory → (t : TypeTree) → SpellsType (lexemes tokens.now) t → ⊥) }
@@ -105,7 +105,7 @@ fn read_type(alloc: Global, tokens: &[Placed], end: ExprFault) -> Result<TypeRef
     })
 }
 
-// The arguments behind a type's name, where there are any.
+/// The arguments behind a type's name, where there are any.
 fn type_arguments<'a>(alloc: Global, at: Rest<'a>) -> Result<(Vec<Expr>, Rest<'a>), ExprFault>
     ensures { GivesTypeList (lexemes at.entry.tokens.now) at.entry.parts result }
 {

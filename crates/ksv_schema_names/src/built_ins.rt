@@ -47,7 +47,7 @@ fn integer(is_signed: bool, size: u8, order: Option<ByteOrder>) -> Option<BuiltI
     })
 }
 
-// The type of a name in the table.
+/// The type of a name in the table.
 #[tactic(auto, unfolding(crate::specs::BuiltIn::listed))]
 fn in_table(name: &[u8]) -> Option<BuiltIn>
     ensures { result ≡ listed name.now }
@@ -85,7 +85,7 @@ fn in_table(name: &[u8]) -> Option<BuiltIn>
     }
 }
 
-// Whether a name is that of an integer of 1 to 64 bits.
+/// Whether a name is that of an integer of 1 to 64 bits.
 #[tactic(auto, unfolding(crate::specs::BuiltIn::is_bits))]
 fn is_bits(name: &[u8]) -> bool
     ensures { result ≡ is_bits name.now }
@@ -96,7 +96,7 @@ fn is_bits(name: &[u8]) -> bool
     }
 }
 
-// What stands before `le` or `be` at the end.
+/// What stands before `le` or `be` at the end.
 fn before_order(text: &[u8]) -> &[u8]
     ensures { result.now ≡ before_order text.now }
 {
@@ -109,7 +109,7 @@ fn before_order(text: &[u8]) -> &[u8]
     }
 }
 
-// Whether a text is a decimal from 1 to 64 that doesn't begin with 0.
+/// Whether a text is a decimal from 1 to 64 that doesn't begin with 0.
 fn is_width(text: &[u8]) -> bool
     ensures { result ≡ is_width text.now }
 {

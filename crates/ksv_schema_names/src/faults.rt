@@ -22,7 +22,7 @@ enum Behind<'a> {
     Other,
 }
 
-// The lesser of what was found before and a fault.
+/// The lesser of what was found before and a fault.
 fn lesser(found: Option<NameFault>, fault: NameFault) -> Option<NameFault>
     ensures { result ≡ lesser found fault }
 {
@@ -74,7 +74,7 @@ fn is_stream(site: Site) -> bool
     matches!(site, Site::Stream)
 }
 
-// Whether `_io` may stand here.
+/// Whether `_io` may stand here.
 fn is_own_stream_fit(position: Position, behind: Behind) -> bool
     ensures { result ≡ is_own_stream_fit position (behind_of behind.entry) }
 {
@@ -89,7 +89,7 @@ fn is_own_stream_fit(position: Position, behind: Behind) -> bool
     }
 }
 
-// Whether the stream of another object may stand here.
+/// Whether the stream of another object may stand here.
 fn is_stream_fit(position: Position, behind: Behind) -> bool
     ensures { result ≡ is_stream_fit position (behind_of behind.entry) }
 {
@@ -100,7 +100,7 @@ fn is_stream_fit(position: Position, behind: Behind) -> bool
     }
 }
 
-// A name of the language alone.
+/// A name of the language alone.
 #[tactic(auto, using(crate::proofs::Noted::steps), unfolding(crate::specs::Names::special_faults))]
 fn note_special(
     found: &mut Option<NameFault>,
@@ -127,7 +127,7 @@ fn note_special(
     }
 }
 
-// A name of the language behind a dot.
+/// A name of the language behind a dot.
 #[tactic(auto, using(crate::proofs::Noted::steps), unfolding(crate::specs::Names::special_field_faults))]
 fn note_special_field(
     found: &mut Option<NameFault>,
@@ -147,7 +147,7 @@ fn note_special_field(
     }
 }
 
-// Whether there is a member of an enum.
+/// Whether there is a member of an enum.
 #[tactic(auto, unfolding(crate::specs::Names::is_member, crate::specs::Names::enum_at))]
 fn is_member(scopes: &Scopes, within: usize, member: &Member) -> bool
     ensures { result ≡ is_member (declared scopes.now) within (member_of member.now) }
@@ -160,7 +160,7 @@ fn is_member(scopes: &Scopes, within: usize, member: &Member) -> bool
     }
 }
 
-// The type of a cast.
+/// The type of a cast.
 #[tactic(auto, unfolding(crate::specs::Names::cast_faults))]
 fn note_cast(found: &mut Option<NameFault>, scopes: &Scopes, within: usize, name: &TypeName)
     ensures { found.new ≡ least found.old (cast_faults (declared scopes.now) within (path_of name.now)) }
@@ -174,7 +174,7 @@ fn note_cast(found: &mut Option<NameFault>, scopes: &Scopes, within: usize, name
     }
 }
 
-// Whether there is a call of a method with so many arguments.
+/// Whether there is a call of a method with so many arguments.
 #[tactic(auto, unfolding(crate::specs::Names::is_call))]
 fn is_call(method: &str, count: usize) -> bool
     ensures { result ≡ is_call method.now count }
@@ -186,7 +186,7 @@ fn is_call(method: &str, count: usize) -> bool
     }
 }
 
-// The faults of a part.
+/// The faults of a part.
 #[cycle(faults)]
 #[tactic(auto, using(crate::proofs::Noted::steps, crate::proofs::Forms::of_literal, crate::proofs::Forms::of_name, crate::proofs::Forms::of_special, crate::proofs::Forms::of_member, crate::proofs::Forms::of_unary, crate::proofs::Forms::of_binary, crate::proofs::Forms::of_logical, crate::proofs::Forms::of_choice, crate::proofs::Forms::of_field, crate::proofs::Forms::of_special_field, crate::proofs::Forms::of_index, crate::proofs::Forms::of_cast))]
 fn note_part(
@@ -243,7 +243,7 @@ fn note_part(
     }
 }
 
-// The faults of arguments.
+/// The faults of arguments.
 #[cycle(faults)]
 fn note_list(
     found: &mut Option<NameFault>,

@@ -23,7 +23,7 @@ pub fn given_member(scopes: &Scopes, within: usize, member: &Member) -> Option<E
     })
 }
 
-// The number of a type.
+/// The number of a type.
 fn type_number(scopes: &Scopes, within: usize, path: &[String]) -> Option<u32>
     ensures { result ≡ type_named (declared scopes.now).types within (map string_bytes path.now) }
 {

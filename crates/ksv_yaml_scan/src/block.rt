@@ -42,7 +42,7 @@ pub fn block_scalar(
     Ok(text)
 }
 
-// The indentation of this line is wrong.
+/// The indentation of this line is wrong.
 fn misplaced(line: usize) -> LineFault
     ensures { result.line ≡ line }
 {
@@ -52,7 +52,7 @@ fn misplaced(line: usize) -> LineFault
     }
 }
 
-// The first line that isn't blank.
+/// The first line that isn't blank.
 fn first_inner<'a>(lines: &[Line<'a>]) -> Option<Line<'a>>
     ensures indent { option_map (λ l. l.indent) result ≡ inner_indent (lines_view lines.now) }
     ensures number { IfSome result (λ l. HasNumber (lines_view lines.now) l.number) }
@@ -65,7 +65,7 @@ fn first_inner<'a>(lines: &[Line<'a>]) -> Option<Line<'a>>
     None
 }
 
-// Whether no blank line at the front has more spaces than this.
+/// Whether no blank line at the front has more spaces than this.
 fn is_led(lines: &[Line], indent: usize) -> bool
     ensures { result ≡ is_led_at indent (lines_view lines.now) }
 {
@@ -80,7 +80,7 @@ fn is_led(lines: &[Line], indent: usize) -> bool
     true
 }
 
-// The number of the first line that isn't blank and has less than this indentation.
+/// The number of the first line that isn't blank and has less than this indentation.
 fn shallow_line(lines: &[Line], indent: usize) -> Option<usize>
     ensures { MatchOption result (is_level_at indent (lines_view lines.now) ≡ true) (λ n. (is_level_at indent (lines_view lines.now) ≡ false) × HasNumber (lines_view lines.now) n) }
 {
@@ -105,7 +105,7 @@ struct Joined {
     ended: bool,
 }
 
-// The rows without this indentation, joined.
+/// The rows without this indentation, joined.
 fn join_rows(
     alloc: Global,
     folded: bool,
@@ -128,7 +128,7 @@ fn join_rows(
     Ok(joined)
 }
 
-// Adds the row of a line that has so many spaces more than the indentation.
+/// Adds the row of a line that has so many spaces more than the indentation.
 fn push_row(joined: &mut Joined, folded: bool, spaces: usize, line: Line) -> Result<(), AllocError>
     requires { joined.old.empty < usize.MAX }
     ensures text { OnOk result ((rs : List Row) → joined.new.text.items ++ rows_on folded joined.new.before joined.new.empty rs ≡ joined.old.text.items ++ rows_on folded joined.old.before joined.old.empty (make_row spaces line.entry.content.now line.entry.ended ∷ rs)) }
@@ -149,14 +149,14 @@ fn push_row(joined: &mut Joined, folded: bool, spaces: usize, line: Line) -> Res
     Ok(())
 }
 
-// Whether nothing stands in a row.
+/// Whether nothing stands in a row.
 fn is_empty_row(spaces: usize, content: &[u8]) -> bool
     ensures { result ≡ is_nil (replicate spaces 32 ++ content.now) }
 {
     spaces == 0 && content.is_empty()
 }
 
-// Whether a row begins with white space.
+/// Whether a row begins with white space.
 fn starts_white(spaces: usize, content: &[u8]) -> bool
     ensures { result ≡ starts_white_of (replicate spaces 32 ++ content.now) }
 {
@@ -169,7 +169,7 @@ fn starts_white(spaces: usize, content: &[u8]) -> bool
     }
 }
 
-// Adds what stands between the row before, if there is one, and a row, where so many empty ones stand between; the truth values say whether the two begin with white space.
+/// Adds what stands between the row before, if there is one, and a row, where so many empty ones stand between; the truth values say whether the two begin with white space.
 fn push_gap(
     text: &mut Vec<u8>,
     folded: bool,
@@ -189,7 +189,7 @@ fn push_gap(
     push_all(text, b'\n', empty)
 }
 
-// Adds the line end of the last row, if it has one and it is kept.
+/// Adds the line end of the last row, if it has one and it is kept.
 fn push_end(text: &mut Vec<u8>, keep: bool, ended: bool) -> Result<(), AllocError>
     ensures { OnOk result (text.new.items ≡ text.old.items ++ (if keep then (if ended then 10 ∷ [] else []) else [])) }
 {
@@ -199,7 +199,7 @@ fn push_end(text: &mut Vec<u8>, keep: bool, ended: bool) -> Result<(), AllocErro
     Ok(())
 }
 
-// Adds a byte so many times.
+/// Adds a byte so many times.
 fn push_all(text: &mut Vec<u8>, byte: u8, count: usize) -> Result<(), AllocError>
     ensures { OnOk result (text.new.items ≡ text.old.items ++ replicate count byte) }
 {

@@ -50,7 +50,7 @@ pub fn cut(alloc: Global, text: &[u8]) -> Result<Text<'_>, TextError>
     }
 }
 
-// The number of the line on which the byte at a place stands.
+/// The number of the line on which the byte at a place stands.
 fn line_at(text: &[u8], place: usize) -> usize
     requires { place ≤ length text.now }
     ensures { result ≡ number_at text.now place }
@@ -58,7 +58,7 @@ fn line_at(text: &[u8], place: usize) -> usize
     text[..place].iter().filter(|byte| **byte == b'\n').count() + 1
 }
 
-// What stands behind a byte order mark.
+/// What stands behind a byte order mark.
 fn unmarked(text: &[u8]) -> &[u8]
     ensures value { result.now ≡ unmarked_of text.now }
     ensures shorter { length result.now ≤ length text.now }
@@ -69,7 +69,7 @@ fn unmarked(text: &[u8]) -> &[u8]
     }
 }
 
-// The lines, and the number of the first that has a control character.
+/// The lines, and the number of the first that has a control character.
 fn lines(alloc: Global, text: &[u8]) -> Result<Text<'_>, AllocError>
     requires { length text.now ≤ MAX_LENGTH }
     ensures lines { IfOk result (λ t. lines_view t.lines.items ≡ number_from 1 (cut_lines text.now)) }
@@ -89,7 +89,7 @@ fn lines(alloc: Global, text: &[u8]) -> Result<Text<'_>, AllocError>
     Ok(Text { lines, stray })
 }
 
-// The first line.
+/// The first line.
 fn first_line(text: &[u8]) -> Option<FirstLine<'_>>
     ensures cut { MatchOption result (text.now ≡ []) (λ l. cut_lines text.now ≡ record { bytes = l.bytes.now; ended = l.ended } ∷ cut_lines l.behind.now) }
     ensures shorter { IfSome result (λ l. (length l.bytes.now ≤ length text.now) × (length l.behind.now < length text.now)) }
@@ -111,7 +111,7 @@ fn first_line(text: &[u8]) -> Option<FirstLine<'_>>
     }
 }
 
-// The number of the first line with a control character, where this line follows.
+/// The number of the first line with a control character, where this line follows.
 fn first_stray(stray: Option<usize>, number: usize, bytes: &[u8]) -> Option<usize>
     ensures { result ≡ option_or stray (if is_clean_of bytes.now then None else Some number) }
 {
@@ -121,7 +121,7 @@ fn first_stray(stray: Option<usize>, number: usize, bytes: &[u8]) -> Option<usiz
     }
 }
 
-// A line's bytes: before LF a CR is part of the line end.
+/// A line's bytes: before LF a CR is part of the line end.
 fn line_bytes(bytes: &[u8], ended: bool) -> &[u8]
     ensures value { result.now ≡ line_bytes (record { bytes = bytes.now; ended = ended }) }
     ensures shorter { length result.now ≤ length bytes.now }
@@ -129,7 +129,7 @@ fn line_bytes(bytes: &[u8], ended: bool) -> &[u8]
     if ended { without_return(bytes) } else { bytes }
 }
 
-// The bytes without a CR at the end.
+/// The bytes without a CR at the end.
 fn without_return(bytes: &[u8]) -> &[u8]
     ensures value { result.now ≡ without_return bytes.now }
     ensures shorter { length result.now ≤ length bytes.now }
@@ -140,7 +140,7 @@ fn without_return(bytes: &[u8]) -> &[u8]
     }
 }
 
-// A line with these bytes.
+/// A line with these bytes.
 fn make_line(number: usize, bytes: &[u8], ended: bool) -> Line<'_>
     requires { length bytes.now ≤ MAX_LENGTH }
     ensures { line_view result ≡ line_of number ended bytes.now }
@@ -155,7 +155,7 @@ fn make_line(number: usize, bytes: &[u8], ended: bool) -> Line<'_>
     }
 }
 
-// How many spaces stand at the front.
+/// How many spaces stand at the front.
 fn spaces(bytes: &[u8]) -> usize
     ensures value { result ≡ spaces_of bytes.now }
     ensures within { result ≤ length bytes.now }
@@ -168,7 +168,7 @@ fn spaces(bytes: &[u8]) -> usize
     bytes.len()
 }
 
-// Whether no control character but a tab stands in these bytes of UTF-8.
+/// Whether no control character but a tab stands in these bytes of UTF-8.
 fn is_clean(bytes: &[u8]) -> bool
     ensures { result ≡ is_clean_of bytes.now }
 {
@@ -182,14 +182,14 @@ fn is_clean(bytes: &[u8]) -> bool
     true
 }
 
-// Whether the two bytes are a control character from U+0080 to U+009F.
+/// Whether the two bytes are a control character from U+0080 to U+009F.
 fn is_wide_control(first: u8, second: u8) -> bool
     ensures { result ≡ is_wide_control_of first second }
 {
     first == 194 && second < 160
 }
 
-// Whether the byte is no control character below 128 but a tab.
+/// Whether the byte is no control character below 128 but a tab.
 fn is_clean_byte(byte: u8) -> bool
     ensures { result ≡ is_clean_byte_of byte }
 {

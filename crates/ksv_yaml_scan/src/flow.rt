@@ -86,7 +86,7 @@ pub fn flow_parts(alloc: Global, first: Line, lines: &[Line]) -> Result<Parts, A
     })
 }
 
-// Adds the parts that stand on a line, up to a fault if there is one.
+/// Adds the parts that stand on a line, up to a fault if there is one.
 fn push_line(
     alloc: Global,
     tokens: &mut Vec<Token>,
@@ -122,7 +122,7 @@ fn push_line(
     }
 }
 
-// What stands at the front; `white` says that white space or the line's start stands before it.
+/// What stands at the front; `white` says that white space or the line's start stands before it.
 fn cut_part(alloc: Global, content: &[u8], white: bool) -> Result<Cut<'_>, AllocError>
     ensures { IfOk result (λ k. (n : ℕ) → cut_of n white content.now ≡ cut_view n k) }
 {
@@ -148,7 +148,7 @@ fn cut_part(alloc: Global, content: &[u8], white: bool) -> Result<Cut<'_>, Alloc
     }
 }
 
-// The quoted scalar at the front, with the colon if one is behind it.
+/// The quoted scalar at the front, with the colon if one is behind it.
 fn cut_quoted(alloc: Global, content: &[u8]) -> Result<Cut<'_>, AllocError>
     ensures { IfOk result (λ k. (n : ℕ) → quoted_cut n (quote_of content.now) ≡ cut_view n k) }
 {
@@ -166,7 +166,7 @@ fn cut_quoted(alloc: Global, content: &[u8]) -> Result<Cut<'_>, AllocError>
     Ok(Cut::Part(Part::Scalar { quoted: true, text }, &rest[rest.len()..]))
 }
 
-// The plain scalar at the front, with the colon if one is behind it.
+/// The plain scalar at the front, with the colon if one is behind it.
 fn cut_plain(alloc: Global, content: &[u8]) -> Result<Cut<'_>, AllocError>
     ensures { IfOk result (λ k. (n : ℕ) → (if starts_plain_of content.now then plain_part n (run true false content.now) else Bad) ≡ cut_view n k) }
 {

@@ -39,14 +39,14 @@ pub(crate) fn is_bracket(byte: u8) -> bool
     matches!(byte, b',' | b'[' | b']' | b'{' | b'}')
 }
 
-// Whether no plain scalar begins with the byte, whatever follows.
+/// Whether no plain scalar begins with the byte, whatever follows.
 fn is_special(byte: u8) -> bool
     ensures { result ≡ is_special_byte byte }
 {
     is_bracket(byte) || is_white(byte) || is_indicator(byte)
 }
 
-// Whether the byte is an indicator with which no plain scalar begins.
+/// Whether the byte is an indicator with which no plain scalar begins.
 fn is_indicator(byte: u8) -> bool
     ensures { result ≡ is_indicator_byte byte }
 {
@@ -56,7 +56,7 @@ fn is_indicator(byte: u8) -> bool
     )
 }
 
-// Whether the byte is one with which no plain scalar begins before white space or the end of the line.
+/// Whether the byte is one with which no plain scalar begins before white space or the end of the line.
 fn is_lone(byte: u8) -> bool
     ensures { result ≡ is_lone_byte byte }
 {
@@ -99,7 +99,7 @@ pub(crate) fn plain_run(content: &[u8], flow: bool, white: bool) -> Run<'_>
     }
 }
 
-// Why a plain run ends at the byte that stands here, if it does.
+/// Why a plain run ends at the byte that stands here, if it does.
 fn ending_at(here: &[u8], flow: bool, white: bool) -> Option<Ending<'_>>
     ensures value { option_map ending_view result ≡ stop flow white here.now }
     ensures within { IfSome result (λ e. EndsWithin (length here.now) e) }
@@ -117,7 +117,7 @@ fn ending_at(here: &[u8], flow: bool, white: bool) -> Option<Ending<'_>>
     None
 }
 
-// The text of a line that goes on with a plain scalar, and whether a comment ends it.
+/// The text of a line that goes on with a plain scalar, and whether a comment ends it.
 fn more_text(content: &[u8]) -> Option<(&[u8], bool)>
     ensures { option_map more_view result ≡ more_of content.now }
 {

@@ -31,7 +31,7 @@ pub(crate) fn read_quote(alloc: Global, content: &[u8]) -> Result<Quote<'_>, Sca
     }
 }
 
-// The text behind a single quote, up to the one that isn't written twice.
+/// The text behind a single quote, up to the one that isn't written twice.
 fn read_single(alloc: Global, content: &[u8]) -> Result<Quote<'_>, ScanError>
     ensures ok { IfOk result (λ q. inside single Between content.now ≡ Some (quote_view q)) }
     ensures within { IfOk result (λ q. length q.rest.now ≤ length content.now) }
@@ -52,7 +52,7 @@ fn read_single(alloc: Global, content: &[u8]) -> Result<Quote<'_>, ScanError>
     Err(ScanError::Fault(Fault::NotClosed))
 }
 
-// The text behind a double quote, up to the next one that no backslash stands before.
+/// The text behind a double quote, up to the next one that no backslash stands before.
 fn read_double(alloc: Global, content: &[u8]) -> Result<Quote<'_>, ScanError>
     ensures ok { IfOk result (λ q. inside double Between content.now ≡ Some (quote_view q)) }
     ensures within { IfOk result (λ q. length q.rest.now ≤ length content.now) }
@@ -76,7 +76,7 @@ fn read_double(alloc: Global, content: &[u8]) -> Result<Quote<'_>, ScanError>
     Err(ScanError::Fault(Fault::NotClosed))
 }
 
-// The character that stands behind a backslash, and what is behind it.
+/// The character that stands behind a backslash, and what is behind it.
 fn read_escape(content: &[u8]) -> Result<(u32, &[u8]), Fault>
     ensures ok { IfOk result (λ x. inside double Escaped content.now ≡ with_bytes (utf8 x.0) (inside double Between x.1.now)) }
     ensures within { IfOk result (λ x. (x.0 < 65536) × (length x.1.now < length content.now)) }
@@ -92,7 +92,7 @@ fn read_escape(content: &[u8]) -> Result<(u32, &[u8]), Fault>
     Ok((code, rest))
 }
 
-// The number that stands behind a backslash: of two or four digits, or a letter's.
+/// The number that stands behind a backslash: of two or four digits, or a letter's.
 fn read_code(byte: u8, content: &[u8]) -> Result<(u32, &[u8]), Fault>
     ensures ok { IfOk result (λ x. inside double Escaped (byte ∷ content.now) ≡ digits_from 0 x.0 x.1.now) }
     ensures within { IfOk result (λ x. (x.0 < 65536) × (length x.1.now ≤ length content.now)) }
@@ -108,7 +108,7 @@ fn read_code(byte: u8, content: &[u8]) -> Result<(u32, &[u8]), Fault>
     }
 }
 
-// The byte that a letter behind a backslash stands for.
+/// The byte that a letter behind a backslash stands for.
 fn letter(byte: u8) -> Option<u8>
     ensures value { result ≡ letter_of byte }
     ensures small { IfSome result (λ b. b < 128) }
@@ -128,14 +128,14 @@ fn letter(byte: u8) -> Option<u8>
     }
 }
 
-// Whether the number is that of no character, but of half a pair in UTF-16.
+/// Whether the number is that of no character, but of half a pair in UTF-16.
 fn is_surrogate(code: u32) -> bool
     ensures { result ≡ is_surrogate_of code }
 {
     code >= 0xd800 && code < 0xe000
 }
 
-// The number that four hexadecimal digits are, and what is behind them.
+/// The number that four hexadecimal digits are, and what is behind them.
 fn read_pair(content: &[u8]) -> Result<(u32, &[u8]), Fault>
     ensures ok { IfOk result (λ x. (k n : ℕ) → digits_from (suc (suc (suc (suc k)))) n content.now ≡ digits_from k (n * 65536 + x.0) x.1.now) }
     ensures within { IfOk result (λ x. (x.0 < 65536) × (length x.1.now < length content.now)) }
@@ -146,7 +146,7 @@ fn read_pair(content: &[u8]) -> Result<(u32, &[u8]), Fault>
     Ok((high * 256 + low, rest))
 }
 
-// The number that two hexadecimal digits are, and what is behind them.
+/// The number that two hexadecimal digits are, and what is behind them.
 fn read_byte(content: &[u8]) -> Result<(u32, &[u8]), Fault>
     ensures ok { IfOk result (λ x. (k n : ℕ) → digits_from (suc (suc k)) n content.now ≡ digits_from k (n * 256 + x.0) x.1.now) }
     ensures within { IfOk result (λ x. (x.0 < 256) × (length x.1.now < length content.now)) }
@@ -157,7 +157,7 @@ fn read_byte(content: &[u8]) -> Result<(u32, &[u8]), Fault>
     Ok((high * 16 + low, rest))
 }
 
-// The number that a hexadecimal digit is, and what is behind it.
+/// The number that a hexadecimal digit is, and what is behind it.
 fn read_digit(content: &[u8]) -> Result<(u32, &[u8]), Fault>
     ensures ok { IfOk result (λ x. (k n : ℕ) → digits_from (suc k) n content.now ≡ digits_from k (n * 16 + x.0) x.1.now) }
     ensures within { IfOk result (λ x. (x.0 < 16) × (length x.1.now < length content.now)) }
@@ -172,7 +172,7 @@ fn read_digit(content: &[u8]) -> Result<(u32, &[u8]), Fault>
     }
 }
 
-// The number that a hexadecimal digit stands for.
+/// The number that a hexadecimal digit stands for.
 fn hex_digit(byte: u8) -> Option<u32>
     ensures value { result ≡ hex_digit_of byte }
     ensures small { IfSome result (λ x. x < 16) }
@@ -185,7 +185,7 @@ fn hex_digit(byte: u8) -> Option<u32>
     }
 }
 
-// Adds the character of this number, in UTF-8.
+/// Adds the character of this number, in UTF-8.
 fn push_code(text: &mut Vec<u8>, code: u32) -> Result<(), AllocError>
     requires { code < 65536 }
     ensures { OnOk result (text.new.items ≡ text.old.items ++ utf8 code) }

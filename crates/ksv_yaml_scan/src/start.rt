@@ -66,7 +66,7 @@ pub fn read_start(alloc: Global, content: &[u8]) -> Result<Start<'_>, ScanError>
     read_marked(alloc, content)
 }
 
-// The dash that begins here, and what stands behind it.
+/// The dash that begins here, and what stands behind it.
 fn read_dash(content: &[u8]) -> Option<Start<'_>>
     ensures some { IfSome result (λ s. start_of content.now ≡ start_view s) }
     ensures within { IfSome result (λ s. StartsWithin (length content.now) s) }
@@ -86,7 +86,7 @@ fn read_dash(content: &[u8]) -> Option<Start<'_>>
     })
 }
 
-// The plain scalar that begins here, as a key or a value.
+/// The plain scalar that begins here, as a key or a value.
 fn read_plain(alloc: Global, content: &[u8]) -> Result<Start<'_>, ScanError>
     requires { starts_plain_of content.now ≡ true }
     ensures ok { IfOk result (λ s. start_of content.now ≡ start_view s) }
@@ -112,7 +112,7 @@ fn read_plain(alloc: Global, content: &[u8]) -> Result<Start<'_>, ScanError>
     }
 }
 
-// What begins here with a sign of its own: a quote, a bracket or a block scalar's.
+/// What begins here with a sign of its own: a quote, a bracket or a block scalar's.
 fn read_marked(alloc: Global, content: &[u8]) -> Result<Start<'_>, ScanError>
     requires loud { is_nil (shown_of content.now) ≡ false }
     requires dash { dash_of content.now ≡ None }
@@ -138,7 +138,7 @@ fn read_marked(alloc: Global, content: &[u8]) -> Result<Start<'_>, ScanError>
     }
 }
 
-// The quoted scalar that begins here, as a key or a value.
+/// The quoted scalar that begins here, as a key or a value.
 fn read_quoted(alloc: Global, content: &[u8]) -> Result<Start<'_>, ScanError>
     requires { starts_quote content.now ≡ true }
     ensures ok { IfOk result (λ s. start_of content.now ≡ start_view s) }
@@ -155,7 +155,7 @@ fn read_quoted(alloc: Global, content: &[u8]) -> Result<Start<'_>, ScanError>
     Err(ScanError::Fault(Fault::LeftOut))
 }
 
-// What stands behind a colon that ends a key.
+/// What stands behind a colon that ends a key.
 fn behind_colon(content: &[u8]) -> Option<&[u8]>
     ensures some { IfSome result (λ rest. (key : List ℕ) → key_at_colon key content.now ≡ Some (key, rest.now)) }
     ensures shorter { IfSome result (λ rest. length rest.now < length content.now) }
@@ -171,7 +171,7 @@ fn behind_colon(content: &[u8]) -> Option<&[u8]>
     Some(shown(rest))
 }
 
-// The block scalar behind whose sign this stands.
+/// The block scalar behind whose sign this stands.
 fn block_kind(content: &[u8], folded: bool) -> Option<Kind>
     ensures { option_map kind_view result ≡ block_kind_of folded content.now }
 {
@@ -186,7 +186,7 @@ fn block_kind(content: &[u8], folded: bool) -> Option<Kind>
     }
 }
 
-// How many columns of white space stand at the front.
+/// How many columns of white space stand at the front.
 fn columns(content: &[u8]) -> usize
     ensures value { result ≡ columns_of content.now }
     ensures within { result + length (shown_of content.now) ≤ length content.now }
@@ -199,7 +199,7 @@ fn columns(content: &[u8]) -> usize
     content.len()
 }
 
-// Whether a tab is among the white space at the front.
+/// Whether a tab is among the white space at the front.
 fn has_tab(content: &[u8]) -> bool
     ensures { result ≡ has_tab_of content.now }
 {
