@@ -60,7 +60,7 @@ fn paths_have_limits(rt: HostRuntime) -> Result<(), Fail> {
     Ok(())
 }
 
-#[tactic(auto, unfolding(ksv_expr::specs::Trail::fits))]
+#[tactic(auto, unfolding(ksv_expr_value::specs::Trail::fits))]
 fn third_of_three(alloc: Global) -> Result<Path, AllocError> {
     Path::from_steps(alloc, [Step::Name(3), Step::Index(3)].as_slice())
 }
