@@ -8,13 +8,10 @@ pub mod Wanted
 pub mod Heads
 pub mod Values
 pub mod Ends
-pub mod Served
 pub mod Meaning
 pub mod FromNothing
 pub mod Expressions
 pub mod Described
 pub mod Bounds
 pub mod Lawful
-pub mod PathTexts
-pub mod ServedCode
 pub mod Direct
