@@ -1,8 +1,7 @@
 -- What the maps of the table and the stack say of the lists that contracts see.
-use Rattle.std.proofs.Common.{◌≡◌, Bool, true, false, cond, ◌||◌, List, [], ◌∷◌, ◌++◌, map, reverse, refl, sym, ◌∙◌, ap, find, Option, Some, None, is_some}
+use Rattle.std.proofs.Common.{◌≡◌, Bool, true, false, cond, ◌||◌, List, [], ◌∷◌, ◌++◌, map, reverse, refl, ◌∙◌, ap, find, Option, Some, None, is_some}
 use Rattle.std.proofs.lemmas.List.{map-append, reverse-append}
-use Rattle.std.proofs.lemmas.List.Folds.{list_any-append}
-use Rattle.std.proofs.Math.Bool.{or_comm}
+use Rattle.std.proofs.lemmas.List.Sorted.{list_any-IsPermutation, IsPermutation-reverse}
 use Rattle.std.specs.List.{list_any}
 use Rattle.std.specs.Map.{lookup}
 use Rattle.std.specs.Option.{option_map}
@@ -46,17 +45,8 @@ any_open : {N A : Type 0} (test : N → Bool) (pairs : List (N × Frame N A)) �
 any_open test [] = refl
 any_open test (p ∷ pairs) = ap (λ b. test p.0 || b) (any_open test pairs)
 
--- a test passes on a list turned round where it passes on the list
-any_reverse : {X : Type 0} (test : X → Bool) (xs : List X) → list_any test xs ≡ list_any test (reverse xs)
-any_reverse test [] = refl
-any_reverse test (x ∷ xs) = or_comm (test x) (list_any test xs) ∙ ap (λ b. b || test x) (any_reverse test xs) ∙ sym (list_any-append test (reverse xs) (x ∷ []) ∙ ap (λ b. list_any test (reverse xs) || b) (or_false (test x)))
-  where
-    or_false : (b : Bool) → (b || false) ≡ b
-    or_false true = refl
-    or_false false = refl
-
 pub waiting_found : {N A : Type 0} (test : N → Bool) (pairs : List (N × Frame N A)) → is_some (lookup test pairs) ≡ list_any (λ o. test o.node) (opens_of pairs)
-waiting_found {N} {A} test pairs = any_key test pairs ∙ any_reverse (λ (p : N × Frame N A). test p.0) pairs ∙ any_open test (reverse pairs)
+waiting_found {N} {A} test pairs = any_key test pairs ∙ list_any-IsPermutation (λ (p : N × Frame N A). test p.0) pairs (reverse pairs) (IsPermutation-reverse pairs) ∙ any_open test (reverse pairs)
 
 -- where no node that waits passes, the map has no key that does
 pub waiting_missed : {N A : Type 0} (test : N → Bool) (pairs : List (N × Frame N A)) → list_any (λ o. test o.node) (opens_of pairs) ≡ false → lookup test pairs ≡ None
