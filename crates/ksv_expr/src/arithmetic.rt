@@ -44,10 +44,12 @@ pub(crate) fn divide(number: Integer, divisor: Integer) -> Option<Integer>
     requires { divisor ≢ pos 0 }
     ensures { result ≡ ranged (floored_quotient number divisor) }
 {
-    if divisor.get() < 0 {
-        Integer::new((-number.get()).div_euclid(-divisor.get()))
+    let value = number.get();
+    let by = divisor.get();
+    if by < 0 {
+        Integer::new((-value).div_euclid(-by))
     } else {
-        Integer::new(number.get().div_euclid(divisor.get()))
+        Integer::new(value.div_euclid(by))
     }
 }
 
@@ -56,10 +58,12 @@ pub(crate) fn remainder(number: Integer, divisor: Integer) -> Option<Integer>
     requires { divisor ≢ pos 0 }
     ensures { result ≡ ranged (floored_remainder number divisor) }
 {
-    if divisor.get() < 0 {
-        Integer::new(-(-number.get()).rem_euclid(-divisor.get()))
+    let value = number.get();
+    let by = divisor.get();
+    if by < 0 {
+        Integer::new(-(-value).rem_euclid(-by))
     } else {
-        Integer::new(number.get().rem_euclid(divisor.get()))
+        Integer::new(value.rem_euclid(by))
     }
 }
 

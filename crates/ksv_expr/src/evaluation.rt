@@ -1,20 +1,25 @@
 //! The value of an expression, by replies to its questions.
 
-ghost use Rattle.std.specs.Prelude.{◌≡◌, ◌≤◌, pos, IfOk, map, length};
-ghost use Rattle.ksv_expr_tree.specs.Tree.{view, literal_of};
+ghost use Rattle.std.specs.Prelude.{◌≡◌, ◌≤◌, pos, IfOk, map, length, if◌then◌else◌};
+ghost use Rattle.ksv_plan.specs.Plan.{Answer, bind};
+ghost use Rattle.ksv_expr_tree.specs.Tree.{view, literal_of, name_of};
+ghost use Rattle.ksv_expr_value.specs.declared.value.Value.TheVariants as values;
 ghost use Rattle.ksv_expr.specs.Heard.{heard};
 ghost use Rattle.ksv_expr.specs.Asked.{given};
 ghost use Rattle.ksv_expr.specs.Operators.{unary_of};
 ghost use Rattle.ksv_expr.specs.Evaluation.{outcome_of, resumed, most_wants, IsDone};
 ghost use Rattle.ksv_expr.specs.Replying.{Runs};
-ghost use Rattle.ksv_expr.specs.Meaning.{value_of, meaning, literal_value, is_own_stream, decides};
+ghost use Rattle.ksv_expr.specs.Meaning.{meaning, literal_value, is_own_stream, decides, in_truth_value, truth_value, binary_of, field_of, special_of, call_one, call_two, item_at, cast_to};
+ghost use Rattle.ksv_expr.specs.Methods.{method_named};
 
 use crate::context::Ctx;
 use crate::method::Method;
 use crate::replies::{Halt, Replies};
 use crate::want::{Got, Outcome};
 use crate::{asking, forms, operators};
-use ksv_expr_tree::{Expr, Literal, LogicalOperator, SpecialName, UnaryOperator};
+use ksv_expr_tree::{
+    BinaryOperator, Expr, Literal, LogicalOperator, Name, SpecialName, TypeName, UnaryOperator,
+};
 use ksv_expr_value::{FaultKind, Integer, Text, Value};
 use std::alloc::{AllocError, Global};
 
@@ -49,12 +54,138 @@ fn decides(operator: LogicalOperator, left: bool) -> bool
     }
 }
 
-fn unary(replies: &mut Replies, operator: UnaryOperator, value: &Value) -> Result<Value, Halt>
-    ensures { Runs (given (unary_of operator value.now)) (λ v. v) replies.old replies.new result }
+// The right operand, and then the operator.
+#[cycle(value)]
+#[tactic(auto, using(ksv_plan::proofs::Running::run_bind))]
+fn binary_with(
+    replies: &mut Replies,
+    ctx: &Ctx,
+    operator: BinaryOperator,
+    left: &Value,
+    right: &Expr,
+) -> Result<Value, Halt>
+    ensures { Runs (bind (meaning ctx.now right.now) (λ w. binary_of operator left.now w)) (λ v. v) replies.old replies.new result }
 {
-    replies.given(operators::unary(operator, value))
+    let right = value(replies, ctx, right)?;
+    forms::binary(replies, operator, left, &right)
 }
 
+// What the left operand decides, or the right one.
+#[cycle(value)]
+#[tactic(auto, using(ksv_plan::proofs::Running::run_bind))]
+fn logical_with(
+    replies: &mut Replies,
+    ctx: &Ctx,
+    operator: LogicalOperator,
+    left: &Value,
+    right: &Expr,
+) -> Result<Value, Halt>
+    ensures { Runs (bind (in_truth_value left.now) (λ b. if decides operator b then Answer (values.Bool b) else bind (meaning ctx.now right.now) truth_value)) (λ v. v) replies.old replies.new result }
+{
+    let left = forms::in_truth_value(replies, left)?;
+    if decides(operator, left) {
+        return Ok(Value::Bool(left));
+    }
+    let right = value(replies, ctx, right)?;
+    forms::truth_value(replies, &right)
+}
+
+#[cycle(value)]
+#[tactic(auto, using(ksv_plan::proofs::Running::run_bind))]
+fn unary_expr(
+    replies: &mut Replies,
+    ctx: &Ctx,
+    operator: UnaryOperator,
+    operand: &Expr,
+) -> Result<Value, Halt>
+    ensures { Runs (bind (meaning ctx.now operand.now) (λ v. given (unary_of operator v))) (λ v. v) replies.old replies.new result }
+{
+    let operand = value(replies, ctx, operand)?;
+    replies.given(operators::unary(operator, &operand))
+}
+
+#[cycle(value)]
+#[tactic(auto, using(ksv_plan::proofs::Running::run_bind))]
+fn field_expr(replies: &mut Replies, ctx: &Ctx, object: &Expr, name: &Name) -> Result<Value, Halt>
+    ensures { Runs (bind (meaning ctx.now object.now) (λ v. field_of ctx.now (is_own_stream (view object.now)) v (name_of name.now))) (λ v. v) replies.old replies.new result }
+{
+    let own = is_own_stream(object);
+    let object = value(replies, ctx, object)?;
+    forms::field(replies, ctx, own, &object, name)
+}
+
+#[cycle(value)]
+#[tactic(auto, using(ksv_plan::proofs::Running::run_bind))]
+fn special_field_expr(
+    replies: &mut Replies,
+    ctx: &Ctx,
+    object: &Expr,
+    name: SpecialName,
+) -> Result<Value, Halt>
+    ensures { Runs (bind (meaning ctx.now object.now) (λ v. special_of v name)) (λ v. v) replies.old replies.new result }
+{
+    let object = value(replies, ctx, object)?;
+    forms::special_field(replies, &object, name)
+}
+
+// The argument, and then the method.
+#[cycle(value)]
+#[tactic(auto, using(ksv_plan::proofs::Running::run_bind))]
+fn call_with_one(
+    replies: &mut Replies,
+    ctx: &Ctx,
+    object: &Value,
+    method: &str,
+    argument: &Expr,
+) -> Result<Value, Halt>
+    ensures { Runs (bind (meaning ctx.now argument.now) (λ w. call_one object.now (method_named method.now) w)) (λ v. v) replies.old replies.new result }
+{
+    let argument = value(replies, ctx, argument)?;
+    forms::call_one(replies, object, Method::named(method), &argument)
+}
+
+// The second argument, and then the method.
+#[cycle(value)]
+#[tactic(auto, using(ksv_plan::proofs::Running::run_bind))]
+fn call_with_two(
+    replies: &mut Replies,
+    ctx: &Ctx,
+    object: &Value,
+    method: &str,
+    first: &Value,
+    second: &Expr,
+) -> Result<Value, Halt>
+    ensures { Runs (bind (meaning ctx.now second.now) (λ u. call_two object.now (method_named method.now) first.now u)) (λ v. v) replies.old replies.new result }
+{
+    let second = value(replies, ctx, second)?;
+    forms::call_two(replies, object, Method::named(method), first, &second)
+}
+
+// The place, and then what stands there.
+#[cycle(value)]
+#[tactic(auto, using(ksv_plan::proofs::Running::run_bind))]
+fn item_with(replies: &mut Replies, ctx: &Ctx, list: &Value, place: &Expr) -> Result<Value, Halt>
+    ensures { Runs (bind (meaning ctx.now place.now) (λ w. item_at list.now w)) (λ v. v) replies.old replies.new result }
+{
+    let place = value(replies, ctx, place)?;
+    forms::item_at(replies, list, &place)
+}
+
+#[cycle(value)]
+#[tactic(auto, using(ksv_plan::proofs::Running::run_bind))]
+fn cast_expr(
+    replies: &mut Replies,
+    ctx: &Ctx,
+    object: &Expr,
+    type_name: &TypeName,
+) -> Result<Value, Halt>
+    ensures { Runs (bind (meaning ctx.now object.now) (λ v. cast_to v type_name.now.number)) (λ v. v) replies.old replies.new result }
+{
+    let object = value(replies, ctx, object)?;
+    forms::cast_to(replies, &object, type_name.number)
+}
+
+#[cycle(value)]
 #[tactic(auto, using(ksv_plan::proofs::Running::run_bind, crate::proofs::Cases::of_literal, crate::proofs::Cases::of_name, crate::proofs::Cases::of_special, crate::proofs::Cases::of_member, crate::proofs::Cases::of_unary, crate::proofs::Cases::of_binary, crate::proofs::Cases::of_logical, crate::proofs::Cases::of_choice, crate::proofs::Cases::of_field, crate::proofs::Cases::of_special_field, crate::proofs::Cases::of_index, crate::proofs::Cases::of_cast))]
 fn value(replies: &mut Replies, ctx: &Ctx, expr: &Expr) -> Result<Value, Halt>
     ensures { Runs (meaning ctx.now expr.now) (λ v. v) replies.old replies.new result }
@@ -64,24 +195,14 @@ fn value(replies: &mut Replies, ctx: &Ctx, expr: &Expr) -> Result<Value, Halt>
         Expr::Name(name) => asking::member_value(replies, ctx.home(), name.number),
         Expr::Special(name) => asking::special_value(replies, ctx, *name),
         Expr::Member(member) => asking::enum_member(replies, member.given),
-        Expr::Unary(operator, operand) => {
-            let operand = value(replies, ctx, operand)?;
-            unary(replies, *operator, &operand)
-        }
+        Expr::Unary(operator, operand) => unary_expr(replies, ctx, *operator, operand),
         Expr::Binary(operator, left, right) => {
             let left = value(replies, ctx, left)?;
-            let right = value(replies, ctx, right)?;
-            forms::binary(replies, *operator, &left, &right)
+            binary_with(replies, ctx, *operator, &left, right)
         }
         Expr::Logical(operator, left, right) => {
             let left = value(replies, ctx, left)?;
-            let left = forms::in_truth_value(replies, &left)?;
-            if decides(*operator, left) {
-                Ok(Value::Bool(left))
-            } else {
-                let right = value(replies, ctx, right)?;
-                forms::truth_value(replies, &right)
-            }
+            logical_with(replies, ctx, *operator, &left, right)
         }
         Expr::Choice(condition, yes, no) => {
             let condition = value(replies, ctx, condition)?;
@@ -91,45 +212,26 @@ fn value(replies: &mut Replies, ctx: &Ctx, expr: &Expr) -> Result<Value, Halt>
                 value(replies, ctx, no)
             }
         }
-        Expr::Field(object, name) => {
-            let own = is_own_stream(object);
-            let object = value(replies, ctx, object)?;
-            forms::field(replies, ctx, own, &object, name)
-        }
-        Expr::SpecialField(object, name) => {
-            let object = value(replies, ctx, object)?;
-            forms::special_field(replies, &object, *name)
-        }
+        Expr::Field(object, name) => field_expr(replies, ctx, object, name),
+        Expr::SpecialField(object, name) => special_field_expr(replies, ctx, object, *name),
         Expr::Call(object, method, arguments) => match arguments.as_slice() {
             [] => replies.raise(FaultKind::BadType),
             [argument] => {
                 let object = value(replies, ctx, object)?;
-                let argument = value(replies, ctx, argument)?;
-                forms::call_one(replies, &object, Method::named(method.as_str()), &argument)
+                call_with_one(replies, ctx, &object, method.as_str(), argument)
             }
             [first, second] => {
                 let object = value(replies, ctx, object)?;
                 let first = value(replies, ctx, first)?;
-                let second = value(replies, ctx, second)?;
-                forms::call_two(
-                    replies,
-                    &object,
-                    Method::named(method.as_str()),
-                    &first,
-                    &second,
-                )
+                call_with_two(replies, ctx, &object, method.as_str(), &first, second)
             }
             _ => replies.raise(FaultKind::BadType),
         },
         Expr::Index(list, place) => {
             let list = value(replies, ctx, list)?;
-            let place = value(replies, ctx, place)?;
-            forms::item_at(replies, &list, &place)
+            item_with(replies, ctx, &list, place)
         }
-        Expr::Cast(object, type_name) => {
-            let object = value(replies, ctx, object)?;
-            forms::cast_to(replies, &object, type_name.number)
-        }
+        Expr::Cast(object, type_name) => cast_expr(replies, ctx, object, type_name),
     }
 }
 
