@@ -1,34 +1,11 @@
 //! A session of line commands over a file and its description.
 //!
 //! [`describe`] reads a description, [`Session::line`] answers one line, and [`run`] serves a whole session over a
-//! [`Source`] and a [`Sink`]. What each line is answered stands in `specs/`: `Session.antt` is a fold over the lines
-//! whose state is the file's bytes alone, and `Runs.antt` has the headline, which `run` is proved to meet.
+//! [`Source`] and a [`Sink`]. This crate only hands on what stands below it: lines and devices (ksv_lines), descriptions
+//! (ksv_describe), and the session (ksv_session), whose `specs/Runs.antt` has the headline that `run` is proved to meet.
 #![tactic(auto)]
 
-mod command;
-mod command_line;
-mod description;
-mod device;
-mod line;
-mod memory;
-mod number;
-mod question;
-mod refusal;
-mod reply;
-mod serve;
-mod session;
-mod standard;
-mod stop;
-mod text;
-mod words;
-
-pub use command_line::{Args, arguments};
-pub use description::describe;
-pub use device::{Failed, Sink, Source};
 pub use ksv_desc::Desc;
-pub use memory::Memory;
-pub use reply::{Reply, Short};
-pub use serve::{End, run};
-pub use session::{NewFault, Session};
-pub use standard::Std;
-pub use stop::{Stop, say};
+pub use ksv_describe::describe;
+pub use ksv_lines::{Args, Failed, Memory, Sink, Source, Std, Stop, arguments, say};
+pub use ksv_session::{End, NewFault, Reply, Session, Short, run};

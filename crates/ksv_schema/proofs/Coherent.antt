@@ -10,12 +10,12 @@ use Rattle.ksv_expr_syntax.specs.Reading.{◌>>=◌}
 use Rattle.ksv_schema_scope.specs.Keys.{has, text_at}
 use Rattle.ksv_schema_names.specs.declared.position.Site.{Site}
 use Rattle.ksv_schema_names.specs.Numbered.{numbered}
-use Rattle.ksv_schema.specs.Faults.{Fault, fault, fault_if, no_expression, bad_value, unknown_key}
-use Rattle.ksv_schema.specs.Keys as forms
-use Rattle.ksv_schema.specs.Keys.{Form, Key, form_in, is_ignored}
-use Rattle.ksv_schema.specs.Expressions.{expression_of}
-use Rattle.ksv_schema.specs.Rules.{Home, expression_faults, text_faults, form_faults, value_faults, key_faults, keys_faults, missing_if}
-use Rattle.ksv_schema.specs.Stated.{Context, expression, expression_at, perhaps_expression}
+use Rattle.ksv_schema_faults.specs.Faults.{Fault, fault, fault_if, no_expression, bad_value, unknown_key}
+use Rattle.ksv_schema_keys.specs.Keys as forms
+use Rattle.ksv_schema_keys.specs.Keys.{Form, Key, form_in, is_ignored}
+use Rattle.ksv_schema_keys.specs.Expressions.{expression_of}
+use Rattle.ksv_schema_faults.specs.Rules.{Home, expression_faults, text_faults, form_faults, value_faults, key_faults, keys_faults, missing_if}
+use Rattle.ksv_schema_build.specs.Stated.{Context, expression, expression_at, perhaps_expression}
 
 -- there is a value
 abbrev pub Is : {A : Type 0} → Option A → Type 0

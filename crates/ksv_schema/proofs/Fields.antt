@@ -5,12 +5,12 @@ use Rattle.std.specs.Option.{option_map_or}
 use Rattle.ksv_yaml_tree.specs.Tree.{Pair, line_of, text_of, mapping_of, entry_at}
 use Rattle.ksv_schema_scope.specs.Keys.{has, says, entries_at}
 use Rattle.ksv_schema_names.specs.declared.position.Site.TheVariants as sites
-use Rattle.ksv_schema.specs.Faults.{Fault, fault, bad_value}
-use Rattle.ksv_schema.specs.Keys as forms
-use Rattle.ksv_schema.specs.Keys.{Form, Key, form_in, is_ignored, attribute_keys, positioned_keys, value_keys, switch_keys}
-use Rattle.ksv_schema.specs.Values.{TypeText, type_text, is_str, is_strz, is_type, type_key, contents_of, is_to_end}
-use Rattle.ksv_schema.specs.Rules.{Home, type_text_faults, case_faults, form_faults, value_faults, keys_faults, missing_if, switch_faults, has_encoding, field_needs, field_against, field_left_out, field_rules}
-use Rattle.ksv_schema.specs.Stated.{expression_at, perhaps_enum, content_at, case_of, switch_of, typed, choice_of, extent_of, repeat_of, field_of, positioned_of, calculated_of, each}
+use Rattle.ksv_schema_faults.specs.Faults.{Fault, fault, bad_value}
+use Rattle.ksv_schema_keys.specs.Keys as forms
+use Rattle.ksv_schema_keys.specs.Keys.{Form, Key, form_in, is_ignored, attribute_keys, positioned_keys, value_keys, switch_keys}
+use Rattle.ksv_schema_keys.specs.Values.{TypeText, type_text, is_str, is_strz, is_type, type_key, contents_of, is_to_end}
+use Rattle.ksv_schema_faults.specs.Rules.{Home, type_text_faults, case_faults, form_faults, value_faults, keys_faults, missing_if, switch_faults, has_encoding, field_needs, field_against, field_left_out, field_rules}
+use Rattle.ksv_schema_build.specs.Stated.{expression_at, perhaps_enum, content_at, case_of, switch_of, typed, choice_of, extent_of, repeat_of, field_of, positioned_of, calculated_of, each}
 use Rattle.ksv_desc.specs.Description.{Always, Switch, Bytes, Fixed, Sized, ToEnd, ByItself, Once, UntilEnd, Times, Until}
 use Rattle.ksv_schema.proofs.Coherent.{Is, front, back, no_fault, is_map, is_bind, at_key, has_text, context, by_value, by_form, is_expression_at, is_perhaps, there, not_missing}
 use Rattle.ksv_schema.proofs.Contents.{contents_is, is_enum, AreEncodings, is_encoding, content_is, cases_are}

@@ -22,7 +22,7 @@ use Rattle.ksv_schema_names.specs.Resolved.{IsTyped}
 use Rattle.ksv_desc.specs.Names.{has_names}
 use Rattle.ksv_schema_names.specs.Resolved as names
 use Rattle.ksv_schema_names.proofs.Found.{place_within, outwards_is}
-use Rattle.ksv_schema.specs.Stated.{numbered_of, enum_of, each, each_numbered}
+use Rattle.ksv_schema_build.specs.Stated.{numbered_of, enum_of, each, each_numbered}
 use Rattle.ksv_desc.specs.Description.{Description, Numbered, Enum, as_text, member_id}
 use Rattle.ksv_desc.specs.Resolved.{parameters, Each, IsThere, IsNamed, IsType, IsMemberOf, IsResolvedTree, AreResolvedTrees}
 use Rattle.ksv_schema.proofs.Coherent.{some_same}

@@ -24,13 +24,13 @@ use Rattle.ksv_desc.specs.Names.{number_in, dotted}
 use Rattle.ksv_desc.specs.Names.{has_names}
 use Rattle.ksv_schema_names.proofs.Found.{type_within}
 use Rattle.ksv_schema_names.proofs.Resolving.{resolved, all_resolved}
-use Rattle.ksv_schema.specs.Faults.{Fault, no_expression, wrong_count}
-use Rattle.ksv_schema.specs.Keys as forms
-use Rattle.ksv_schema.specs.Keys.{Form, Key, form_in, is_ignored, positioned_keys, attribute_keys, value_keys, switch_keys}
-use Rattle.ksv_schema.specs.Expressions.{expression_of}
-use Rattle.ksv_schema.specs.Values.{TypeText, Unspelled, OfLanguage, OfDescription, type_text, CaseKey, Constant as ConstantKey, Negative, Member as MemberKey, Default, NoKey, case_key, ids_of}
-use Rattle.ksv_schema.specs.Rules.{Home, position_at, name_fault, expression_faults, argument_faults, count_faults, type_text_faults, text_faults, case_type_faults, case_key_faults, case_faults, keys_faults}
-use Rattle.ksv_schema.specs.Stated.{expression_words, argument_words, type_words, form_words, key_words, expression, expression_at, perhaps_expression, perhaps_enum, order_at, encoding_at, integer_content, language_content, content_of, content_at, value_of, case_value, case_of, each}
+use Rattle.ksv_schema_faults.specs.Faults.{Fault, no_expression, wrong_count}
+use Rattle.ksv_schema_keys.specs.Keys as forms
+use Rattle.ksv_schema_keys.specs.Keys.{Form, Key, form_in, is_ignored, positioned_keys, attribute_keys, value_keys, switch_keys}
+use Rattle.ksv_schema_keys.specs.Expressions.{expression_of}
+use Rattle.ksv_schema_keys.specs.Values.{TypeText, Unspelled, OfLanguage, OfDescription, type_text, CaseKey, Constant as ConstantKey, Negative, Member as MemberKey, Default, NoKey, case_key, ids_of}
+use Rattle.ksv_schema_faults.specs.Rules.{Home, position_at, name_fault, expression_faults, argument_faults, count_faults, type_text_faults, text_faults, case_type_faults, case_key_faults, case_faults, keys_faults}
+use Rattle.ksv_schema_build.specs.Stated.{expression_words, argument_words, type_words, form_words, key_words, expression, expression_at, perhaps_expression, perhaps_enum, order_at, encoding_at, integer_content, language_content, content_of, content_at, value_of, case_value, case_of, each}
 use Rattle.ksv_desc.specs.Description.{Content, Number, Characters, Object, CaseValue, Case, Description}
 use Rattle.ksv_desc.specs.Resolved.{Each, IfAny, IsEnum, IsResolvedTree, IsResolvedContent, IsResolvedValue, IsResolvedCase}
 use Rattle.ksv_schema.proofs.Coherent.{front, back, not_if, not_not, no_fault, some_same, at_key, has_text, context, AtExpression}

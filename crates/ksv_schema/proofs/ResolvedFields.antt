@@ -15,12 +15,12 @@ use Rattle.ksv_schema_names.specs.declared.position.Site.{Site}
 use Rattle.ksv_schema_names.specs.declared.position.Site.TheVariants as sites
 use Rattle.ksv_desc.specs.Names.{number_in}
 use Rattle.ksv_desc.specs.Names.{has_names}
-use Rattle.ksv_schema.specs.Faults.{fault, bad_value, left_out}
-use Rattle.ksv_schema.specs.Keys as forms
-use Rattle.ksv_schema.specs.Keys.{Form, Key, form_in, is_ignored, attribute_keys, positioned_keys, value_keys, switch_keys}
-use Rattle.ksv_schema.specs.Values.{type_text, contents_of, is_to_end}
-use Rattle.ksv_schema.specs.Rules.{Home, type_text_faults, text_faults, case_faults, form_faults, value_faults, keys_faults, missing_if, switch_faults, field_rules, value_rules, attribute_faults, instance_faults, role_faults}
-use Rattle.ksv_schema.specs.Stated.{naming_keys, type_words, form_words, key_words, entry_words, expression_at, perhaps_expression, perhaps_enum, content_at, case_of, each, switch_of, typed, choice_of, extent_of, terminator_of, repeat_of, field_of, positioned_of, calculated_of, kind_of}
+use Rattle.ksv_schema_faults.specs.Faults.{fault, bad_value, left_out}
+use Rattle.ksv_schema_keys.specs.Keys as forms
+use Rattle.ksv_schema_keys.specs.Keys.{Form, Key, form_in, is_ignored, attribute_keys, positioned_keys, value_keys, switch_keys}
+use Rattle.ksv_schema_keys.specs.Values.{type_text, contents_of, is_to_end}
+use Rattle.ksv_schema_faults.specs.Rules.{Home, type_text_faults, text_faults, case_faults, form_faults, value_faults, keys_faults, missing_if, switch_faults, field_rules, value_rules, attribute_faults, instance_faults, role_faults}
+use Rattle.ksv_schema_build.specs.Stated.{naming_keys, type_words, form_words, key_words, entry_words, expression_at, perhaps_expression, perhaps_enum, content_at, case_of, each, switch_of, typed, choice_of, extent_of, terminator_of, repeat_of, field_of, positioned_of, calculated_of, kind_of}
 use Rattle.ksv_desc.specs.Description.{Case, Choice, Always, Switch, Bytes, Fixed, Extent, Sized, ToEnd, ByItself, Repeat, Once, UntilEnd, Times, Until, Field, Kind, Given, InSequence, Positioned, Calculated, Description}
 use Rattle.ksv_desc.specs.Resolved.{Each, IfAny, IsResolvedTree, IsResolvedCase, IsResolvedChoice, IsResolvedExtent, IsResolvedRepeat, IsResolvedField, IsResolvedKind}
 use Rattle.ksv_schema.proofs.Coherent.{front, back, no_fault, some_same, at_key, context, by_value, by_form}

@@ -16,10 +16,10 @@ use Rattle.ksv_desc.specs.Names.{distinct, number_in}
 use Rattle.ksv_desc.specs.Names.{has_names, AreDistinct}
 use Rattle.ksv_schema_names.proofs.Found.{some_is, place_within}
 use Rattle.ksv_desc.proofs.Tabled.{is_table}
-use Rattle.ksv_schema.specs.Faults.{fault, fault_if, bad_value}
-use Rattle.ksv_schema.specs.Keys.{is_id}
-use Rattle.ksv_schema.specs.Rules.{home_of, role_faults, mapping_faults, member_faults, member_again, is_instance, enumeration_faults, constant_faults, type_faults, each_from, limit_faults, faults_of, faults}
-use Rattle.ksv_schema.specs.Stated.{Context, expression_at, perhaps_expression, perhaps_enum, field_of, positioned_of, calculated_of, entry_words, member_words, member_names, names_of, are_texts, kind_of, member_of, type_of, enum_of, each, each_numbered, described, stated_by, stated}
+use Rattle.ksv_schema_faults.specs.Faults.{fault, fault_if, bad_value}
+use Rattle.ksv_schema_keys.specs.Keys.{is_id}
+use Rattle.ksv_schema_faults.specs.Rules.{home_of, role_faults, mapping_faults, member_faults, member_again, is_instance, enumeration_faults, constant_faults, type_faults, each_from, limit_faults, faults_of, faults}
+use Rattle.ksv_schema_build.specs.Stated.{Context, expression_at, perhaps_expression, perhaps_enum, field_of, positioned_of, calculated_of, entry_words, member_words, member_names, names_of, are_texts, kind_of, member_of, type_of, enum_of, each, each_numbered, described, stated_by, stated}
 use Rattle.ksv_desc.specs.Description.{Kind, Given, InSequence, Positioned, Calculated, MemberOfType, TypeOfObjects, Description, as_text}
 use Rattle.ksv_schema.specs.Outcome.{States}
 use Rattle.ksv_desc.specs.Resolved as resolved

@@ -6,7 +6,7 @@ use Rattle.std.specs.Str.{is_utf8}
 use Rattle.std.proofs.lemmas.Bool.Decides.{nat_tests}
 use Rattle.std.proofs.lemmas.Str.{is_utf8-from_IsUtf8, IsUtf8-from_ascii}
 use Rattle.std.proofs.lemmas.Str.Ascii.{IsAscii-from_all}
-use Rattle.ksv_schema.specs.Keys.{is_letter, is_id_byte, is_id}
+use Rattle.ksv_schema_keys.specs.Keys.{is_letter, is_id_byte, is_id}
 use Rattle.ksv_desc.specs.Description.{as_text}
 
 letter_small : (c : ℕ) → is_letter c ≡ true → c < 128

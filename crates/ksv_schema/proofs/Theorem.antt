@@ -4,13 +4,13 @@ use Rattle.std.specs.Prelude.{nat_lt, ◌==◌, ◌||◌, ◌&&◌, ◌≢◌, A
 use Rattle.std.proofs.lemmas.Bool.Decides.{nat_tests}
 use Rattle.ksv_yaml_tree.specs.Tree.{Tree}
 use Rattle.ksv_schema_scope.specs.Declarations.{declared_in}
-use Rattle.ksv_schema.specs.Faults.{Fault, is_below, noted}
-use Rattle.ksv_schema.specs.Rules.{faults_of, faults}
-use Rattle.ksv_schema.specs.Stated.{stated_by, stated}
+use Rattle.ksv_schema_faults.specs.Faults.{Fault, is_below, noted}
+use Rattle.ksv_schema_faults.specs.Rules.{faults_of, faults}
+use Rattle.ksv_schema_build.specs.Stated.{stated_by, stated}
 use Rattle.ksv_desc.specs.Description.{Description}
 use Rattle.ksv_schema.specs.Outcome.{States, Refuses}
 use Rattle.ksv_desc.specs.Resolved.{IsResolved}
-use Rattle.ksv_schema.proofs.Least.{nothing_noted, noted_least}
+use Rattle.ksv_schema_faults.proofs.Least.{nothing_noted, noted_least}
 use Rattle.ksv_schema.proofs.ResolvedMembers.{tree_resolved}
 use Rattle.ksv_schema.proofs.OwnNames.{tree_states}
 

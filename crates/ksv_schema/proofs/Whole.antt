@@ -19,18 +19,18 @@ use Rattle.ksv_schema_scope.specs.Members.{Member, is_within, members_within}
 use Rattle.ksv_schema_scope.specs.Enums.{Constant, whole_of}
 use Rattle.ksv_schema_scope.specs.Declarations.{Declared}
 use Rattle.ksv_desc.specs.Names.{distinct, distinct_behind, number_in}
-use Rattle.ksv_schema.specs.Faults.{Fault, fault, fault_if, bad_value, left_out}
-use Rattle.ksv_schema.specs.Keys as forms
-use Rattle.ksv_schema.specs.Keys.{Form, Key, form_in, is_ignored, type_keys, attribute_keys, positioned_keys, value_keys, meta_keys, constant_keys, is_id}
-use Rattle.ksv_schema.specs.Values.{encoding_named}
-use Rattle.ksv_schema.specs.Rules.{Home, home_in, home_of, form_faults, value_faults, keys_faults, missing_if, attribute_faults, instance_faults, role_faults, mapping_faults, member_faults, member_again, is_instance, enumeration_faults, numeral_faults, constant_value_faults, number_again, id_again, constant_faults, meta_faults, root_faults, type_key_faults, type_faults, each_from, limit_faults, faults_of, faults, field_rules, value_rules}
-use Rattle.ksv_schema.specs.Stated.{Context, kind_of, member_of, type_of, numbered_of, enum_of, each, each_numbered, member_names, member_words, names_of, stated_by, calculated_of, positioned_of}
+use Rattle.ksv_schema_faults.specs.Faults.{Fault, fault, fault_if, bad_value, left_out}
+use Rattle.ksv_schema_keys.specs.Keys as forms
+use Rattle.ksv_schema_keys.specs.Keys.{Form, Key, form_in, is_ignored, type_keys, attribute_keys, positioned_keys, value_keys, meta_keys, constant_keys, is_id}
+use Rattle.ksv_schema_keys.specs.Values.{encoding_named}
+use Rattle.ksv_schema_faults.specs.Rules.{Home, home_in, home_of, form_faults, value_faults, keys_faults, missing_if, attribute_faults, instance_faults, role_faults, mapping_faults, member_faults, member_again, is_instance, enumeration_faults, numeral_faults, constant_value_faults, number_again, id_again, constant_faults, meta_faults, root_faults, type_key_faults, type_faults, each_from, limit_faults, faults_of, faults, field_rules, value_rules}
+use Rattle.ksv_schema_build.specs.Stated.{Context, kind_of, member_of, type_of, numbered_of, enum_of, each, each_numbered, member_names, member_words, names_of, stated_by, calculated_of, positioned_of}
 use Rattle.ksv_desc.specs.Description.{Description, Given, InSequence}
 use Rattle.ksv_schema.specs.Outcome.{States}
 use Rattle.ksv_schema.proofs.Coherent.{Is, front, back, not_if, not_not, no_fault, some_same, is_map, is_bind, at_key, has_text, context, not_missing}
 use Rattle.std.specs.List.{list_all}
 use Rattle.std.specs.Str.{is_utf8}
-use Rattle.ksv_schema.specs.Stated.{are_texts, described}
+use Rattle.ksv_schema_build.specs.Stated.{are_texts, described}
 use Rattle.ksv_desc.specs.Description.{as_text}
 use Rattle.ksv_schema.proofs.Texts.{both, id_is_text, as_text_is}
 use Rattle.ksv_schema.proofs.Contents.{AreEncodings}

@@ -12,8 +12,8 @@ use Rattle.ksv_expr_tree.specs.declared.tree.SpecialName.TheVariants as specials
 use Rattle.ksv_expr_tree.specs.Tree.{Word, integer, literal, named, special, member, binary, field, index, no_arguments, argument}
 use Rattle.ksv_expr_value.specs.declared.encoding.Encoding.TheVariants as encodings
 use Rattle.ksv_yaml.specs.Text.{tree_of_text}
-use Rattle.ksv_schema.specs.Rules.{past}
-use Rattle.ksv_schema.specs.Faults.{Fault}
+use Rattle.ksv_schema_faults.specs.Rules.{past}
+use Rattle.ksv_schema_faults.specs.Faults.{Fault}
 use Rattle.ksv_expr_syntax.specs.Reading.{read, read_list, place_on, select_on}
 use Rattle.ksv_schema_scope.specs.Enums.{enums_at_key, enums_of_type, enums_of, constants_of, number_written, id_of, id_of_number, number_of_id, is_number_again, is_id_again, enum_in, enum_named}
 use Rattle.ksv_schema_scope.specs.Members.{members_at_key, members_of_type, members_of, members_within, parameters_within, attributes_within, member_named}
@@ -23,13 +23,13 @@ use Rattle.ksv_schema_names.specs.BuiltIn.{is_bits, listed, built_in}
 use Rattle.ksv_schema_names.specs.Names.{special_faults, special_field_faults, enum_at, is_member, cast_faults, is_call, name_faults, least, part_faults, list_faults}
 use Rattle.ksv_schema_names.specs.Numbered.{given_member, numbered, all_numbered}
 use Rattle.ksv_desc.specs.Names.{distinct, number_in, dotted, all_dotted}
-use Rattle.ksv_schema.specs.Stated.{expression_words, type_words, form_words, key_words, entry_words, member_words, member_names, names_of, are_texts, expression, expression_at, perhaps_expression, perhaps_enum, encoding_at, order_at, integer_content, language_content, content_of, content_at, value_of, case_value, case_of, switch_of, typed, choice_of, extent_of, terminator_of, repeat_of, field_of, positioned_of, calculated_of, kind_of, member_of, type_of, numbered_of, enum_of, described, stated_by, stated}
+use Rattle.ksv_schema_build.specs.Stated.{expression_words, type_words, form_words, key_words, entry_words, member_words, member_names, names_of, are_texts, expression, expression_at, perhaps_expression, perhaps_enum, encoding_at, order_at, integer_content, language_content, content_of, content_at, value_of, case_value, case_of, switch_of, typed, choice_of, extent_of, terminator_of, repeat_of, field_of, positioned_of, calculated_of, kind_of, member_of, type_of, numbered_of, enum_of, described, stated_by, stated}
 use Rattle.ksv_desc.specs.Description.{Description, Field, Bytes, Fixed, Number, Characters, Object, EnumValue, Always, Switch, Sized, ByItself, Once, Times, Given, InSequence, Positioned, Calculated, as_text}
-use Rattle.ksv_schema.specs.Expressions.{tokens_of, expression_of, type_of as type_of_expressions}
-use Rattle.ksv_schema.specs.Faults.{fault, over_limit, is_below, noted}
-use Rattle.ksv_schema.specs.Keys.{form_in, is_ignored, is_id}
-use Rattle.ksv_schema.specs.Rules.{expression_faults, language_faults, count_faults, type_text_faults, endian_faults, bit_endian_faults, contents_faults, enum_faults, case_value_faults, case_key_faults, case_type_faults, case_faults, form_faults, key_faults, switch_faults, value_faults, against, field_needs, integer_against, field_against, field_left_out, field_rules, value_rules, parameter_faults, attribute_faults, instance_faults, role_faults, mapping_faults, name_line, member_again, member_faults, enumeration_faults, constant_value_faults, number_again, id_again, constant_faults, meta_faults, root_faults, type_key_faults, type_faults, line_past, member_limit, limit_faults, faults_of, faults}
-use Rattle.ksv_schema.specs.Values.{encoding_named, type_text, is_type, type_key, cases_of, byte_number, byte_at, looks_like_number, piece_of, contents_of, case_key, ids_of}
+use Rattle.ksv_schema_keys.specs.Expressions.{tokens_of, expression_of, type_of as type_of_expressions}
+use Rattle.ksv_schema_faults.specs.Faults.{fault, over_limit, is_below, noted}
+use Rattle.ksv_schema_keys.specs.Keys.{form_in, is_ignored, is_id}
+use Rattle.ksv_schema_faults.specs.Rules.{expression_faults, language_faults, count_faults, type_text_faults, endian_faults, bit_endian_faults, contents_faults, enum_faults, case_value_faults, case_key_faults, case_type_faults, case_faults, form_faults, key_faults, switch_faults, value_faults, against, field_needs, integer_against, field_against, field_left_out, field_rules, value_rules, parameter_faults, attribute_faults, instance_faults, role_faults, mapping_faults, name_line, member_again, member_faults, enumeration_faults, constant_value_faults, number_again, id_again, constant_faults, meta_faults, root_faults, type_key_faults, type_faults, line_past, member_limit, limit_faults, faults_of, faults}
+use Rattle.ksv_schema_keys.specs.Values.{encoding_named, type_text, is_type, type_key, cases_of, byte_number, byte_at, looks_like_number, piece_of, contents_of, case_key, ids_of}
 
 -- the lines of a text
 abbrev pub text_of_lines : List (List ℕ) → List ℕ

@@ -1,12 +1,3 @@
--- Descriptions: their faults, and what they state.
-pub mod Faults
-pub mod Keys
-pub mod Expressions
-pub mod Values
-pub mod Rules
-pub mod Stated
+-- What a tree is to the loader.
 pub mod Outcome
-pub mod Code
 pub mod Examples
-pub mod Entries
-pub mod Contexts

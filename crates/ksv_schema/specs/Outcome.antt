@@ -1,9 +1,9 @@
 -- What a tree is to the loader: a description, or the least of its faults.
 use Rattle.std.specs.Prelude.{◌≡◌, [], Some}
 use Rattle.ksv_yaml_tree.specs.Tree.{Tree}
-use Rattle.ksv_schema.specs.Faults.{Fault, IsLeast}
-use Rattle.ksv_schema.specs.Rules.{faults}
-use Rattle.ksv_schema.specs.Stated.{stated}
+use Rattle.ksv_schema_faults.specs.Faults.{Fault, IsLeast}
+use Rattle.ksv_schema_faults.specs.Rules.{faults}
+use Rattle.ksv_schema_build.specs.Stated.{stated}
 use Rattle.ksv_desc.specs.Description.{Description}
 
 -- a tree without a fault states this description

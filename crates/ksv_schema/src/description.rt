@@ -2,15 +2,14 @@
 
 ghost use Rattle.std.specs.Prelude.{◌≡◌, ◌≢◌, IfOk, IfErr};
 ghost use Rattle.ksv_yaml_tree.specs.View.{view};
-ghost use Rattle.ksv_schema.specs.Code.{plain};
+ghost use Rattle.ksv_schema_faults.specs.Code.{plain};
 ghost use Rattle.ksv_schema.specs.Outcome.{States, Refuses};
 ghost use Rattle.ksv_desc.specs.Whole.{plain_pieces};
-ghost use Rattle.ksv_schema.specs.declared.fault.DescFaultKind.TheVariants.{NoMemory};
+ghost use Rattle.ksv_schema_faults.specs.declared.fault.DescFaultKind.TheVariants.{NoMemory};
 
-use crate::build::build;
-use crate::check::least_fault;
-use crate::fault::{DescFault, DescFaultKind};
 use ksv_desc::Desc;
+use ksv_schema_build::build;
+use ksv_schema_faults::{DescFault, DescFaultKind, least_fault};
 use ksv_schema_scope::Scopes;
 use ksv_yaml_tree::Yaml;
 use std::alloc::{AllocError, Global};

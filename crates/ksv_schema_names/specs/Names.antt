@@ -12,6 +12,7 @@ use Rattle.ksv_schema_scope.specs.Types.{type_named}
 use Rattle.ksv_schema_scope.specs.Members.{member_named}
 use Rattle.ksv_schema_scope.specs.Enums.{enum_named, number_of_id}
 use Rattle.ksv_schema_scope.specs.Declarations.{Declared}
+use Rattle.ksv_desc.specs.Resolved.{count}
 use Rattle.ksv_schema_names.specs.declared.position.Site.{Site}
 use Rattle.ksv_schema_names.specs.declared.position.Site.TheVariants as sites
 use Rattle.ksv_schema_names.specs.declared.position.Position.{Position}

@@ -10,6 +10,7 @@ use Rattle.ksv_expr_tree.specs.Tree.{Tree, literal, named, special, member, unar
 use Rattle.ksv_schema_scope.specs.Types.{type_named}
 use Rattle.ksv_schema_scope.specs.Enums.{number_of_id}
 use Rattle.ksv_schema_scope.specs.Declarations.{Declared}
+use Rattle.ksv_desc.specs.Names.{number_in}
 use Rattle.ksv_schema_names.specs.Names.{enum_at}
 
 -- ---- numbers

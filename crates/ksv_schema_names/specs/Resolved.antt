@@ -10,7 +10,7 @@ use Rattle.ksv_schema_names.specs.declared.position.NameFault.TheVariants.{Unkno
 use Rattle.ksv_schema_names.specs.declared.position.Position.{Position}
 use Rattle.ksv_schema_names.specs.Names.{name_faults, list_faults, least}
 use Rattle.ksv_schema_names.specs.Numbered.{numbered, all_numbered}
-use Rattle.ksv_desc.specs.Names.{distinct_behind, number_in, dotted, all_dotted}
+use Rattle.ksv_desc.specs.Names.{dotted, all_dotted, has_names}
 
 -- a name has the number of its text
 pub record IsNamed (names : List (List ℕ)) (w : Word) : Type 0 where

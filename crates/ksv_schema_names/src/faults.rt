@@ -8,8 +8,8 @@ ghost use Rattle.ksv_schema_names.specs.Code.{behind_of, faults_at};
 
 use crate::built_ins::built_in_at;
 use crate::position::{NameFault, Position, Site};
-use ksv_schema_scope::Scopes;
 use ksv_expr_tree::{Expr, Member, SpecialName, TypeName};
+use ksv_schema_scope::Scopes;
 
 /// What stands behind a part of an expression.
 #[derive(Clone, Copy)]

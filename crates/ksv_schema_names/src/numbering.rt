@@ -6,9 +6,9 @@ ghost use Rattle.ksv_schema_scope.specs.Declarations.{declared};
 ghost use Rattle.ksv_schema_scope.specs.Types.{type_named};
 ghost use Rattle.ksv_schema_names.specs.Numbered.{numbered, all_numbered, numbered_word, numbered_type, numbered_member, given_member};
 
-use crate::names::Names;
-use ksv_schema_scope::Scopes;
+use ksv_desc::Names;
 use ksv_expr_tree::{EnumMember, Expr, Member, Name, TypeName};
+use ksv_schema_scope::Scopes;
 
 /// What the path of an enum's member stands for, where it is used in the type `within`.
 #[tactic(auto, unfolding(crate::specs::Numbered::given_member, crate::specs::Names::enum_at))]

@@ -2,7 +2,7 @@ use Rattle.std.proofs.Common.{ap, sym, subst, ◌∙◌}
 use Rattle.std.specs.Prelude.{option_map}
 use Rattle.ksv_yaml_tree.specs.View.{view}
 use Rattle.ksv_desc.specs.declared.pieces.Pieces.{Pieces}
-use Rattle.ksv_schema.specs.Code.{seen_fault}
+use Rattle.ksv_schema_faults.specs.Code.{seen_fault}
 use Rattle.ksv_schema.specs.Outcome.{States}
 use Rattle.ksv_desc.specs.Whole.{plain_pieces}
 use Rattle.ksv_schema.proofs.Theorem.{refuses, states, resolved, never_none}

@@ -1,0 +1,49 @@
+//! What is asked of a tree of YAML, and what a description says of itself.
+
+use crate::nodes::{LIST, described};
+use ksv_schema::{DescFault, DescFaultKind};
+use ksv_yaml::{Yaml, find, read};
+use std::test::Fail;
+
+/// Whether the second of two items is quoted, and the first a text.
+fn are_items(list: &Yaml) -> bool {
+    match list.items() {
+        Some([first, second]) => {
+            second.is_quoted()
+                && second.line() == 1
+                && first.entries().is_none()
+                && first.text() == Some(b"1".as_slice())
+        }
+        _ => false,
+    }
+}
+
+#[test]
+fn a_tree_answers_what_is_asked(rt: HostRuntime) -> Result<(), Fail> {
+    let tree = read(rt.alloc(), b"a: [1, '2']\nb: {c: 3}")?;
+    let is_mapping = tree.text().is_none() && tree.items().is_none() && !tree.is_quoted();
+    let entries = tree.entries().unwrap_or(&[]);
+    let is_found = match find(entries, b"a") {
+        Some(list) => {
+            list.line() == 1 && list.key() == b"a".as_slice() && are_items(list.value())
+        }
+        None => false,
+    };
+    assert!(rt; is_mapping && is_found && find(entries, b"c").is_none());
+    Ok(())
+}
+
+#[test]
+fn a_fault_of_memory_has_a_text(rt: HostRuntime) -> Result<(), Fail> {
+    let kind = DescFaultKind::NoMemory;
+    let text = format!(in rt.alloc(); "{}", DescFault { line: 7, kind })?;
+    assert!(rt; kind.code() == "S11" && text.as_str() == "line 7: no memory");
+    Ok(())
+}
+
+#[test]
+fn references_are_resolved(rt: HostRuntime) -> Result<(), Fail> {
+    let desc = described(rt.alloc(), LIST)?;
+    desc.references_are_resolved();
+    Ok(())
+}

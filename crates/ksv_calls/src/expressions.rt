@@ -1,0 +1,167 @@
+//! Paths, integers, bytes in parts, faults and refused texts, by their public calls.
+
+use ksv_expr::{
+    Encoding, ExprFault, ExprFaultKind, FaultKind, Integer, Parts, Path, Step, parse, parse_type,
+};
+use std::alloc::{AllocError, Global};
+use std::collections::HashMap;
+use std::test::Fail;
+
+static KINDS: [FaultKind; 17] = [
+    FaultKind::NoSuch,
+    FaultKind::Absent,
+    FaultKind::EndOfBytes,
+    FaultKind::BadType,
+    FaultKind::Overflow,
+    FaultKind::ZeroDivisor,
+    FaultKind::BadIndex,
+    FaultKind::BadText,
+    FaultKind::Contents,
+    FaultKind::BadSize,
+    FaultKind::NoTerminator,
+    FaultKind::NoBytes,
+    FaultKind::TooMany,
+    FaultKind::PathTooLong,
+    FaultKind::Circle,
+    FaultKind::BadNumber,
+    FaultKind::NoParent,
+];
+
+const NAMES: &str =
+    "no-such absent end-of-bytes bad-type overflow zero-divisor bad-index bad-text contents bad-size no-terminator no-bytes too-many path-too-long circle bad-number no-parent ";
+
+#[test]
+fn faults_have_names(rt: HostRuntime) -> Result<(), Fail> {
+    let mut names = String::new(rt.alloc());
+    let mut shown = String::new(rt.alloc());
+    for kind in &KINDS {
+        names.push_str(kind.name())?;
+        names.push_str(" ")?;
+        shown.push_str(format!(in rt.alloc(); "{kind} ")?.as_str())?;
+    }
+    assert!(rt; names.as_str() == NAMES && shown.as_str() == NAMES);
+    Ok(())
+}
+
+#[test]
+fn paths_have_limits(rt: HostRuntime) -> Result<(), Fail> {
+    let alloc = rt.alloc();
+    let mut deep = Path::root(alloc);
+    for _ in 0..Path::MAX_STEPS {
+        deep = deep.child_name(alloc, 0)?.ok_or(FaultKind::PathTooLong)?;
+    }
+    let is_full = deep.len() == 64
+        && deep.child_name(alloc, 0)?.is_none()
+        && deep.child_index(alloc, 0)?.is_none();
+    let root = Path::root(alloc);
+    let is_far = root.child_index(alloc, 1_048_575)?.is_some()
+        && root.child_index(alloc, Path::MAX_INDEX)?.is_none();
+    assert!(rt; is_full && is_far && root.last().is_none());
+    Ok(())
+}
+
+#[tactic(auto, unfolding(ksv_expr::specs::Trail::fits))]
+fn third_of_three(alloc: Global) -> Result<Path, AllocError> {
+    Path::from_steps(alloc, [Step::Name(3), Step::Index(3)].as_slice())
+}
+
+#[test]
+fn paths_have_steps(rt: HostRuntime) -> Result<(), Fail> {
+    let alloc = rt.alloc();
+    let list = Path::root(alloc)
+        .child_name(alloc, 3)?
+        .ok_or(FaultKind::NoSuch)?;
+    let path = list.child_index(alloc, 3)?.ok_or(FaultKind::NoSuch)?;
+    let other = list.child_index(alloc, 4)?.ok_or(FaultKind::NoSuch)?;
+    let given = third_of_three(alloc)?;
+    let is_right = path.steps() == [Step::Name(3), Step::Index(3)].as_slice()
+        && path.last() == Some(Step::Index(3))
+        && path.len() == 2
+        && path != other
+        && path.copy(alloc)? == path
+        && given == path;
+    assert!(rt; is_right);
+    let mut known: HashMap<Path, u8> = HashMap::new(alloc);
+    known.insert(given, 1)?;
+    assert!(rt; known.get(&path) == Some(&1) && known.get(&list).is_none());
+    Ok(())
+}
+
+/// The number of the integer that is made of a number.
+fn again(number: i128) -> Option<i128> {
+    match Integer::new(number) {
+        Some(integer) => Some(integer.get()),
+        None => None,
+    }
+}
+
+#[test]
+fn integers_have_a_range(rt: HostRuntime) -> Result<(), Fail> {
+    let is_inside = again(Integer::MIN) == Some(Integer::MIN)
+        && again(Integer::MAX) == Some(Integer::MAX)
+        && again(0) == Some(0)
+        && Integer::from(u64::MAX).get() == 0xffff_ffff_ffff_ffff;
+    let is_outside = again(Integer::MIN - 1).is_none() && again(Integer::MAX + 1).is_none();
+    assert!(rt; is_inside && is_outside);
+    Ok(())
+}
+
+#[test]
+fn parts_are_one_list_of_bytes(rt: HostRuntime) -> Result<(), Fail> {
+    let whole = parts(b"h\xc3", b"\xa9");
+    let other = parts(b"", b"h\xc3\xa9");
+    let shorter = parts(b"h\xc3", b"");
+    let is_right = whole.equals(other)
+        && other.equals(whole)
+        && !whole.equals(shorter)
+        && !shorter.equals(other)
+        && other.first() == Some(0x68)
+        && parts(b"", b"").first().is_none();
+    assert!(rt; is_right);
+    Ok(())
+}
+
+fn parts<'a>(front: &'a [u8], back: &'a [u8]) -> Parts<'a> {
+    Parts { front, back }
+}
+
+#[test]
+fn encodings_decode(rt: HostRuntime) -> Result<(), Fail> {
+    let alloc = rt.alloc();
+    let is_named = Encoding::named("utf-8") == Some(Encoding::Utf8)
+        && Encoding::named("Ascii") == Some(Encoding::Ascii)
+        && Encoding::named("utf8").is_none();
+    let whole = parts(b"h\xc3", b"\xa9");
+    let is_text = match Encoding::Utf8.decode(alloc, whole)? {
+        Some(text) => text.as_str() == "hé" && text.copy(alloc)?.as_str() == "hé",
+        None => false,
+    };
+    let is_refused = Encoding::Ascii.decode(alloc, whole)?.is_none()
+        && Encoding::Utf8
+            .decode(alloc, parts(b"h\xc3", b""))?
+            .is_none();
+    assert!(rt; is_named && is_text && is_refused);
+    Ok(())
+}
+
+/// Whether a text is refused so.
+fn is_refused(alloc: Global, text: &str, kind: ExprFaultKind, at: usize) -> bool {
+    match parse(alloc, text.as_bytes()) {
+        Ok(_) => false,
+        Err(fault) => fault == ExprFault { kind, at },
+    }
+}
+
+#[test]
+fn texts_are_refused(rt: HostRuntime) -> Result<(), Fail> {
+    let alloc = rt.alloc();
+    let are_refused = is_refused(alloc, "1 < 2 < 3", ExprFaultKind::UnexpectedCharacter, 6)
+        && is_refused(alloc, "1 +", ExprFaultKind::UnexpectedEnd, 3)
+        && is_refused(alloc, "1.5", ExprFaultKind::LeftOutForm, 0);
+    let kind = ExprFaultKind::NoMemory;
+    let shown = format!(in alloc; "{kind}")?;
+    let has_text = kind.code() == "X6" && shown.as_str() == "no memory";
+    let count = parse_type(alloc, b"a::b(1, c)")?.arguments.len();
+    assert!(rt; are_refused && has_text && count == 2);
+    Ok(())
+}

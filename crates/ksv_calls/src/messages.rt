@@ -1,0 +1,90 @@
+//! What the program says, and the words that it takes.
+
+use ksv::{Memory, Stop, arguments, say};
+use std::alloc::{AllocError, Global};
+use std::test::Fail;
+
+static STOPS: [Stop; 9] = [
+    Stop::FileUnreadable,
+    Stop::FileTooLarge,
+    Stop::DescriptionUnreadable,
+    Stop::Line {
+        line: 12,
+        code: "S8",
+        text: "left-out feature",
+        at: None,
+    },
+    Stop::Line {
+        line: 5,
+        code: "S10",
+        text: "expression: X2 unexpected end",
+        at: Some(3),
+    },
+    Stop::NoMemory,
+    Stop::InputFailed,
+    Stop::OutputFailed,
+    Stop::SaveFailed,
+];
+
+const MESSAGES: &[u8] = b"ksv: f: cannot read
+ksv: f: file too large
+ksv: k: cannot read
+ksv: k: line 12: S8 left-out feature
+ksv: k: line 5: S10 expression: X2 unexpected end at 3
+ksv: no memory
+ksv: input failed
+ksv: output failed
+ksv: o: cannot write
+";
+
+#[test]
+fn each_stop_has_its_message_and_status(rt: HostRuntime) -> Result<(), Fail> {
+    let mut sink = Memory::new(Vec::with_capacity(rt.alloc(), 1000)?);
+    let mut statuses = String::new(rt.alloc());
+    let mut are_said = true;
+    for stop in &STOPS {
+        are_said &= say(stop, ["f", "k", "o"], &mut sink).is_ok();
+        statuses.push_str(if stop.status() == 3 { "3" } else { "-" })?;
+        statuses.push_str(if stop.status() == 1 { "1" } else { "-" })?;
+    }
+    assert!(rt; are_said && sink.bytes.as_slice() == MESSAGES);
+    assert!(rt; statuses.as_str() == "-1-1-1-1-1-13-3-3-");
+    let mut full = Memory::new(Vec::with_capacity(rt.alloc(), 3)?);
+    assert!(rt; say(&Stop::NoMemory, ["f", "k", "o"], &mut full).is_err());
+    Ok(())
+}
+
+/// Words, and what they are taken for.
+const WORDS: &str = "ksv f k => f k
+ksv f => MissingRequiredArgument 2 true
+ksv f k x => UnknownArgument 2 true
+ksv --fast f k => UnknownArgument 2 true
+ksv --help => DisplayHelp 0 true";
+
+/// What some words are taken for: the file and its description, or the kind of the error, its exit code, and whether it
+/// tells the usage.
+fn taken(alloc: Global, words: &[&str]) -> Result<String, AllocError> {
+    match arguments(alloc, words) {
+        Ok(args) => format!(in alloc; "{} {}", args.file, args.ksy),
+        Err(error) => {
+            let text = format!(in alloc; "{error}")?;
+            let has_usage = text.as_str().contains("Usage: ksv <FILE> <KSY>");
+            format!(in alloc; "{:?} {} {has_usage}", error.kind(), error.exit_code())
+        }
+    }
+}
+
+#[test]
+fn words_are_taken_or_refused(rt: HostRuntime) -> Result<(), Fail> {
+    let alloc = rt.alloc();
+    for row in WORDS.split('\n') {
+        let (line, wanted) = row.split_once(" => ").unwrap_or((row, ""));
+        let mut words = Vec::new(alloc);
+        for word in line.split(' ') {
+            words.push(word)?;
+        }
+        let found = taken(alloc, words.as_slice())?;
+        assert_eq!(rt; found.as_str(), wanted, "{line}");
+    }
+    Ok(())
+}

@@ -1,0 +1,131 @@
+//! Reads a description.
+ghost use Rattle.std.specs.Prelude.{◌≡◌, ◌⊎◌, IfOk, IfErr};
+ghost use Rattle.ksv_yaml.specs.declared.fault.YamlKind.TheVariants as yaml_kinds;
+ghost use Rattle.ksv_desc.specs.Description.{Description};
+ghost use Rattle.ksv_desc.specs.Whole.{plain_pieces};
+ghost use Rattle.ksv_schema.specs.declared.fault.DescFaultKind.TheVariants as kinds;
+ghost use Rattle.ksv_describe.specs.Accepted.{Describes};
+
+use ksv_desc::Desc;
+use ksv_expr_syntax::{ExprFault, ExprFaultKind};
+use ksv_lines::Stop;
+use ksv_rules::served;
+use ksv_schema::{DescFault, DescFaultKind, load};
+use ksv_yaml::{YamlFault, YamlKind, read};
+use std::alloc::Global;
+
+/// What a message tells of a description that isn't served yet.
+const NOT_SERVED: Stop = Stop::Line {
+    line: 1,
+    code: "S8",
+    text: "left-out feature",
+    at: None,
+};
+
+/// A line or a place as messages tell it.
+fn shown(number: usize) -> u32 {
+    u32::try_from(number).unwrap_or(u32::MAX)
+}
+
+/// What is wrong with a text that has no tree.
+fn yaml_text(kind: YamlKind) -> &'static str {
+    match kind {
+        YamlKind::NotUtf8 => "not UTF-8",
+        YamlKind::TooLong => "too long",
+        YamlKind::Tab => "tab in the indentation",
+        YamlKind::Indentation => "indentation fits no level",
+        YamlKind::KeyTwice => "key twice",
+        YamlKind::LeftOut => "left-out form",
+        YamlKind::NotClosed => "not closed",
+        YamlKind::ValueForKey => "value in a key's place",
+        YamlKind::TooDeep => "nested too deeply",
+        YamlKind::NoMemory => "no memory",
+    }
+}
+
+/// What is wrong with a text that is no expression, with its code.
+fn expression_text(kind: ExprFaultKind) -> &'static str {
+    match kind {
+        ExprFaultKind::UnexpectedCharacter => "expression: X1 unexpected character",
+        ExprFaultKind::UnexpectedEnd => "expression: X2 unexpected end",
+        ExprFaultKind::LeftOutForm => "expression: X3 left-out form",
+        ExprFaultKind::NumberOutsideRange => "expression: X4 number outside the range",
+        ExprFaultKind::TooLarge => "expression: X5 too large",
+        ExprFaultKind::NoMemory => "expression: X6 no memory",
+    }
+}
+
+/// What is wrong with a tree that states no description.
+fn description_text(kind: DescFaultKind) -> &'static str {
+    match kind {
+        DescFaultKind::UnknownKey => "unknown key",
+        DescFaultKind::MissingKey => "missing key",
+        DescFaultKind::KeysAgainst => "keys against each other",
+        DescFaultKind::UnknownName => "unknown name",
+        DescFaultKind::NoByteOrder => "no byte order",
+        DescFaultKind::BadValue => "bad name or value",
+        DescFaultKind::WrongCount => "wrong count of arguments",
+        DescFaultKind::LeftOut => "left-out feature",
+        DescFaultKind::OverLimit => "over a limit",
+        DescFaultKind::NoExpression(fault) => expression_text(fault.kind),
+        DescFaultKind::NoMemory => "no memory",
+    }
+}
+
+/// The place in an expression at which it is none.
+fn place(kind: DescFaultKind) -> Option<u32> {
+    match kind {
+        DescFaultKind::NoExpression(ExprFault { at, .. }) => Some(shown(at)),
+        _ => None,
+    }
+}
+
+/// Why the program stops where a text has no tree.
+fn of_yaml(fault: YamlFault) -> Stop
+    ensures { fault.kind ≡ yaml_kinds.NoMemory → result ≡ Stop.NoMemory }
+{
+    match fault.kind {
+        YamlKind::NoMemory => Stop::NoMemory,
+        kind => Stop::Line {
+            line: shown(fault.line),
+            code: kind.code(),
+            text: yaml_text(kind),
+            at: None,
+        },
+    }
+}
+
+/// Why the program stops where a tree states no description.
+fn of_description(fault: DescFault) -> Stop
+    ensures { fault.kind ≡ kinds.NoMemory → result ≡ Stop.NoMemory }
+{
+    match fault.kind {
+        DescFaultKind::NoMemory => Stop::NoMemory,
+        kind => Stop::Line {
+            line: shown(fault.line),
+            code: kind.code(),
+            text: description_text(kind),
+            at: place(kind),
+        },
+    }
+}
+
+/// Reads the text of a description. It is refused where it spells no tree, where its tree states no description, and
+/// where the description has a feature that isn't served yet.
+pub fn describe(alloc: Global, ksy: &[u8]) -> Result<Desc, Stop>
+    ensures described { IfOk result (λ desc. Describes ksy.now (plain_pieces desc)) }
+    ensures refused { IfErr result (λ stop. (stop ≡ Stop.NoMemory) ⊎ ((d : Description) → Describes ksy.now d → ⊥)) }
+{
+    let tree = match read(alloc, ksy) {
+        Ok(tree) => tree,
+        Err(fault) => return Err(of_yaml(fault)),
+    };
+    let desc = match load(alloc, &tree) {
+        Ok(desc) => desc,
+        Err(fault) => return Err(of_description(fault)),
+    };
+    if !served(&desc) {
+        return Err(NOT_SERVED);
+    }
+    Ok(desc)
+}

@@ -1,0 +1,53 @@
+//! Paths as texts.
+
+use crate::names::{name_of, number_of};
+use crate::spelled::spelled;
+use ksv_expr::{Path, Step};
+use std::alloc::{AllocError, Global};
+
+/// The path that `/o/items/3` writes; `/` is the root's. What leads nowhere is left out.
+pub(crate) fn path(alloc: Global, text: &str) -> Result<Path, AllocError> {
+    let told = spelled(alloc, text)?;
+    let mut path = Path::root(alloc);
+    for part in str::from_utf8(told.as_slice()).unwrap_or("").split('/') {
+        let next = match (number_of(part), part.parse::<u32>()) {
+            (Some(name), _) => path.child_name(alloc, name)?,
+            (None, Ok(index)) => path.child_index(alloc, index)?,
+            (None, Err(_)) => None,
+        };
+        if let Some(longer) = next {
+            path = longer;
+        }
+    }
+    Ok(path)
+}
+
+/// Adds a path.
+pub(crate) fn show_path(alloc: Global, path: &Path, out: &mut String) -> Result<(), AllocError> {
+    if path.len() == 0 {
+        return out.push_str("/");
+    }
+    for step in path.steps() {
+        out.push_str("/")?;
+        match *step {
+            Step::Name(name) => out.push_str(name_of(name))?,
+            Step::Index(index) => out.push_str(format!(in alloc; "{index}")?.as_str())?,
+        }
+    }
+    Ok(())
+}
+
+/// A path, its parent, and the object that holds it.
+pub(crate) fn around(alloc: Global, text: &str) -> Result<String, AllocError> {
+    let whole = path(alloc, text)?;
+    let mut out = String::new(alloc);
+    show_path(alloc, &whole, &mut out)?;
+    out.push_str(" ")?;
+    show_path(alloc, &whole.parent(alloc)?, &mut out)?;
+    out.push_str(" ")?;
+    match whole.holder(alloc)? {
+        Some(holder) => show_path(alloc, &holder, &mut out)?,
+        None => out.push_str("none")?,
+    }
+    Ok(out)
+}

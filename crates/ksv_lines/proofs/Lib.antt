@@ -1,0 +1,3 @@
+pub mod CommandLineLemmas
+pub mod WordLemmas
+pub mod CutLemmas

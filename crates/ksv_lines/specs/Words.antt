@@ -1,0 +1,32 @@
+-- The words of the program's command line, as `clap` reads them by the rules of this command.
+use Rattle.std.specs.Prelude.{◌≡◌, List, Option, Some, true, false, codes, is_some}
+use Rattle.clap.specs.Built.{IsPlainArg, TakesValue}
+use Rattle.clap.specs.Words.{App, IsParsedFrom, Rule, Text, first_of, first_value, found_of, matches_of, new_app, new_rule, rule_of, with_rule}
+use Rattle.clap.specs.declared.builder.arg.Arg.{Arg}
+use Rattle.clap.specs.declared.builder.ArgAction.TheVariants.{Set}
+use Rattle.clap.specs.declared.builder.command.Command.{Command}
+use Rattle.clap.specs.declared.parser.matches.ArgMatches.{ArgMatches}
+
+-- a word that must be there
+abbrev pub positional : Text → Rule
+positional id = record (new_rule id) { value_names = 1; required = true; action = Some Set }
+
+-- `ksv FILE KSY`
+abbrev pub explorer : App
+explorer = with_rule (with_rule (new_app (codes "ksv")) (positional (codes "file"))) (positional (codes "ksy"))
+
+-- the value that these words give to a name
+abbrev pub found : List Text → Text → Option Text
+found words id = first_of id (matches_of explorer words)
+
+-- what a parse by the command gives has a value of this name
+abbrev pub Demands : Command → Text → Type 0
+Demands cmd id = (m : ArgMatches) → IsParsedFrom cmd m → is_some (first_value (found_of m) id) ≡ true
+
+-- an argument that must be there, under this name, and does nothing else
+pub record IsDemanded (id : Text) (a : Arg) : Type 0 where
+  pub id_is : a.id.now ≡ id
+  pub rule : rule_of a ≡ positional id
+  pub plain : IsPlainArg a
+  pub local : a.global ≡ false
+  pub takes : TakesValue a

@@ -1,0 +1,72 @@
+//! What a session reads from and writes to.
+ghost use Rattle.std.specs.Prelude.{◌≡◌, ◌≤◌, ◌<◌, ◌++◌, ◌||◌, List, ℕ, Bool, [], length, take, IfOk, OnErr, OnOk, IsTrue, is_err};
+
+/// A device did not do what it was asked.
+#[derive(Clone, Copy, Debug, PartialEq, Eq)]
+pub struct Failed;
+
+/// Where bytes come from.
+pub trait Source {
+    // Whether contracts know its bytes, those that it has left, and whether a call has failed.
+    ghost tells: { Bool };
+
+    ghost bytes: { Self → List ℕ };
+
+    ghost failed: { Self → Bool };
+
+    /// Fills the front of the buffer and says how many bytes it wrote there: none only at the end, or where the
+    /// buffer has no room. A call that fails takes no bytes.
+    fn read(&mut self, buf: &mut [u8]) -> Result<usize, Failed>
+        ensures within { IfOk result (λ n. n ≤ length buf.new) }
+        ensures given { IsTrue tells → IfOk result (λ n. bytes self.old ≡ take n buf.new ++ bytes self.new) }
+        ensures end { IsTrue tells → result ≡ Ok 0 → 0 < length buf.old → bytes self.new ≡ [] }
+        ensures kept { IsTrue tells → OnErr result (bytes self.new ≡ bytes self.old) }
+        ensures fault { failed self.new ≡ (failed self.old || is_err result) };
+}
+
+/// Where bytes go.
+pub trait Sink {
+    // Whether contracts know its bytes, those that it has taken, and whether a call has failed.
+    ghost tells: { Bool };
+
+    ghost bytes: { Self → List ℕ };
+
+    ghost failed: { Self → Bool };
+
+    /// Takes bytes from the front of the buffer and says how many: none only where the buffer is empty. A call
+    /// that fails takes no bytes.
+    fn write(&mut self, buf: &[u8]) -> Result<usize, Failed>
+        ensures within { IfOk result (λ n. n ≤ length buf.now) }
+        ensures some { IfOk result (λ n. 0 < length buf.now → 0 < n) }
+        ensures taken { IsTrue tells → IfOk result (λ n. bytes self.new ≡ bytes self.old ++ take n buf.now) }
+        ensures kept { IsTrue tells → OnErr result (bytes self.new ≡ bytes self.old) }
+        ensures fault { failed self.new ≡ (failed self.old || is_err result) };
+
+    /// Hands on what it has taken.
+    fn flush(&mut self) -> Result<(), Failed>
+        ensures kept { IsTrue tells → bytes self.new ≡ bytes self.old }
+        ensures fault { failed self.new ≡ (failed self.old || is_err result) };
+}
+
+/// Writes all of a text, in as many writes as it takes.
+pub(crate) fn write_all<W: Sink>(writer: &mut W, text: &[u8]) -> Result<(), Failed>
+    ensures ok { IsTrue W.tells → OnOk result (W.bytes writer.new ≡ W.bytes writer.old ++ text.now) }
+    ensures err { IsTrue W.tells → OnErr result ((n : ℕ) × (W.bytes writer.new ≡ W.bytes writer.old ++ take n text.now)) }
+    ensures fault { W.failed writer.new ≡ (W.failed writer.old || is_err result) }
+{
+    let mut done = 0;
+    while done < text.len() {
+        done += writer.write(&text[done..])?;
+    }
+    Ok(())
+}
+
+/// Writes all of a text, and hands it on.
+pub fn send<W: Sink>(writer: &mut W, text: &[u8]) -> Result<(), Failed>
+    ensures ok { IsTrue W.tells → OnOk result (W.bytes writer.new ≡ W.bytes writer.old ++ text.now) }
+    ensures err { IsTrue W.tells → OnErr result ((n : ℕ) × (W.bytes writer.new ≡ W.bytes writer.old ++ take n text.now)) }
+    ensures fault { W.failed writer.new ≡ (W.failed writer.old || is_err result) }
+{
+    write_all(writer, text)?;
+    writer.flush()
+}

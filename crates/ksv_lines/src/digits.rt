@@ -1,0 +1,47 @@
+//! Bytes that a line writes as hexadecimal digits.
+ghost use Rattle.std.specs.Prelude.{◌≡◌, ◌≤◌, length};
+ghost use Rattle.ksv_lines.specs.Digits.{bytes_of};
+
+use std::marker::Model;
+
+/// The most bytes that one line can carry: half as many as it has bytes.
+const EDIT_LIMIT: usize = 2048;
+
+/// The bytes that an edit carries, in room of their own, so that reading them takes no memory.
+#[derive(Drop)]
+pub struct EditBytes {
+    room: [u8; EDIT_LIMIT],
+    len: usize,
+}
+
+impl Model for EditBytes {
+    ghost use Rattle.std.specs.Prelude.{◌≤◌, List, ℕ, take};
+
+    ghost Value = { List ℕ };
+
+    ghost view = { λ bytes. take bytes.len bytes.room };
+
+    ghost invariant = { λ bytes. bytes.len ≤ 2048 };
+}
+
+impl EditBytes {
+    /// The bytes.
+    pub fn as_slice(&self) -> &[u8]
+        ensures { result.now ≡ self.now }
+    {
+        &self.room[..self.len]
+    }
+}
+
+/// The bytes of an even number of hexadecimal digits.
+pub fn edit_bytes(digits: &[u8]) -> Option<EditBytes>
+    requires { length digits.now ≤ 4096 }
+    ensures { result ≡ bytes_of digits.now }
+{
+    let mut room = [0; EDIT_LIMIT];
+    let len = digits.len() / 2;
+    match hex::decode_to_slice(digits, &mut room[..len]) {
+        Ok(()) => Some(EditBytes { room, len }),
+        Err(_) => None,
+    }
+}

@@ -1,0 +1,56 @@
+//! The line that is being read.
+ghost use Rattle.std.specs.Prelude.{◌≡◌, ◌≤◌, ◌++◌, List, ℕ, [], ◌∷◌, length, take};
+
+use arrayvec::ArrayVec;
+use std::marker::Model;
+
+/// One byte more than a line may have.
+const LINE_ROOM: usize = 4097;
+
+/// The front of a line, up to the byte that makes it too long: so a line that is too long is known by it, and the
+/// rest of it is dropped.
+#[derive(Drop)]
+pub struct Line {
+    front: ArrayVec<u8, LINE_ROOM>,
+}
+
+impl Model for Line {
+    ghost Value = { List ℕ };
+
+    ghost view = { λ line. line.front.items };
+}
+
+impl Line {
+    /// An empty line.
+    pub fn new() -> Line
+        ensures { result ≡ [] }
+    {
+        Line {
+            front: ArrayVec::new(),
+        }
+    }
+
+    /// Adds a byte, or drops it where the line is too long already.
+    pub fn push(&mut self, byte: u8)
+        ensures { self.new ≡ take 4097 (self.old ++ byte ∷ []) }
+    {
+        if self.front.len() < LINE_ROOM {
+            self.front.push(byte);
+        }
+    }
+
+    /// Drops what was gathered.
+    pub fn clear(&mut self)
+        ensures { self.new ≡ [] }
+    {
+        self.front.clear();
+    }
+
+    /// What was gathered.
+    pub fn as_slice(&self) -> &[u8]
+        ensures value { result.now ≡ self.now }
+        ensures short { length result.now ≤ 4097 }
+    {
+        self.front.as_slice()
+    }
+}

@@ -1,9 +1,0 @@
-use Rattle.std.proofs.Common.{◌≡◌, drop, map}
-use Rattle.ksv_yaml_tree.specs.View.{pair}
-use Rattle.ksv_schema.specs.Faults.{noted}
-use Rattle.ksv_schema.specs.Rules.{value_faults, keys_faults}
-use Rattle.ksv_schema.specs.Code.{seen_fault, seen_home, keys_of}
-use Rattle.ksv_schema.proofs.check.mapping.note_keys.Given as goal
-
-abbrev pub invariant-loop-entry : goal.invariant-loop-entry
-invariant-loop-entry l = noted (seen_fault l.least) (keys_faults (value_faults (seen_home l.home)) (keys_of l.table) (map pair (drop l.entry-index l.entries))) ≡ noted (seen_fault l.fn.least) (keys_faults (value_faults (seen_home l.home)) (keys_of l.table) (map pair l.entries))

@@ -1,0 +1,5 @@
+use Rattle.ksv_schema.proofs.ResolvedMembers.{tree_resolved}
+use Rattle.ksv_schema.proofs.laws.descriptions_are_resolved.Goals as goal
+
+pub returns : goal.returns
+returns c = tree_resolved

@@ -1,0 +1,7 @@
+-- Lemmas of the crate.
+pub mod Joined
+pub mod Made
+pub mod Named
+pub mod Naming
+pub mod Types
+pub mod Entries

@@ -1,0 +1,121 @@
+//! How an attribute, or an instance with a place, is read.
+
+ghost use Rattle.std.specs.Prelude.{◌≡◌, map, IfOk, option_map};
+ghost use Rattle.ksv_yaml_tree.specs.View.{pair};
+ghost use Rattle.ksv_schema_build.specs.Contexts.{context_of};
+ghost use Rattle.ksv_schema_build.specs.Stated.{extent_of, terminated_by, terminator_of, repeat_of, field_of};
+ghost use Rattle.ksv_desc.specs.Pieces.{plain_extent, plain_terminator, plain_repeat, plain_field};
+
+use crate::choice::choice_of;
+use crate::context::Context;
+use crate::expressions::{expression_at, perhaps_expression};
+use ksv_desc::{Extent, Field, Repeat, Terminator};
+use ksv_schema_keys::{TypeKind, byte_at, type_key};
+use ksv_schema_scope::keys::{has, says};
+use ksv_yaml_tree::Entry;
+use std::alloc::{AllocError, Global};
+
+/// How far an attribute of these keys goes.
+#[tactic(auto, unfolding(crate::specs::Stated::extent_of))]
+fn extent_of(
+    alloc: Global,
+    context: Context,
+    entries: &[Entry],
+) -> Result<Option<Extent>, AllocError>
+    ensures { IfOk result (λ o. option_map plain_extent o ≡ extent_of (context_of context.entry) (map pair entries.now)) }
+{
+    if has(entries, b"size") {
+        return match expression_at(alloc, context, b"size", entries)? {
+            Some(size) => Ok(Some(Extent::Sized(size))),
+            None => Ok(None),
+        };
+    }
+    if says(entries, b"size-eos", b"true") {
+        return Ok(Some(Extent::ToEnd));
+    }
+    Ok(Some(Extent::ByItself))
+}
+
+/// The terminator of this byte, as the other keys have it.
+fn terminated_by(entries: &[Entry], byte: u8) -> Terminator
+    ensures { plain_terminator result ≡ terminated_by (map pair entries.now) byte }
+{
+    Terminator {
+        byte,
+        is_consumed: !says(entries, b"consume", b"false"),
+        is_included: says(entries, b"include", b"true"),
+        is_required: !says(entries, b"eos-error", b"false"),
+    }
+}
+
+/// The terminator of an attribute of these keys: the byte that is written, or the 0 of `strz`.
+#[tactic(auto, unfolding(crate::specs::Stated::terminator_of))]
+fn terminator_of(alloc: Global, entries: &[Entry]) -> Result<Option<Terminator>, AllocError>
+    ensures { IfOk result (λ o. option_map plain_terminator o ≡ terminator_of (map pair entries.now)) }
+{
+    if type_key(alloc, TypeKind::Strz, entries)?.is_some() {
+        return Ok(Some(terminated_by(entries, 0)));
+    }
+    match byte_at(entries, b"terminator") {
+        Some(byte) => Ok(Some(terminated_by(entries, byte))),
+        None => Ok(None),
+    }
+}
+
+/// How often an attribute of these keys is read.
+#[tactic(auto, unfolding(crate::specs::Stated::repeat_of))]
+fn repeat_of(
+    alloc: Global,
+    context: Context,
+    entries: &[Entry],
+) -> Result<Option<Repeat>, AllocError>
+    ensures { IfOk result (λ o. option_map plain_repeat o ≡ repeat_of (context_of context.entry) (map pair entries.now)) }
+{
+    if says(entries, b"repeat", b"eos") {
+        return Ok(Some(Repeat::UntilEnd));
+    }
+    if says(entries, b"repeat", b"expr") {
+        return match expression_at(alloc, context, b"repeat-expr", entries)? {
+            Some(count) => Ok(Some(Repeat::Times(count))),
+            None => Ok(None),
+        };
+    }
+    if says(entries, b"repeat", b"until") {
+        return match expression_at(alloc, context, b"repeat-until", entries)? {
+            Some(last) => Ok(Some(Repeat::Until(last))),
+            None => Ok(None),
+        };
+    }
+    Ok(Some(Repeat::Once))
+}
+
+/// What an attribute, or an instance with a place, of these keys reads.
+#[tactic(auto, unfolding(crate::specs::Stated::field_of))]
+pub(crate) fn field_of(
+    alloc: Global,
+    context: Context,
+    entries: &[Entry],
+) -> Result<Option<Field>, AllocError>
+    ensures { IfOk result (λ o. option_map plain_field o ≡ field_of (context_of context.entry) (map pair entries.now)) }
+{
+    let Some(condition) = perhaps_expression(alloc, context, b"if", entries)? else {
+        return Ok(None);
+    };
+    let Some(repeat) = repeat_of(alloc, context, entries)? else {
+        return Ok(None);
+    };
+    let Some(choice) = choice_of(alloc, context, entries)? else {
+        return Ok(None);
+    };
+    let Some(extent) = extent_of(alloc, context, entries)? else {
+        return Ok(None);
+    };
+    let terminator = terminator_of(alloc, entries)?;
+    Ok(Some(Field {
+        condition,
+        repeat,
+        choice,
+        extent,
+        terminator,
+    }))
+}

@@ -1,0 +1,19 @@
+//! The description that a tree states, all names resolved.
+//!
+//! `specs/Stated` defines it piece by piece; where a tree has a fault it may state none.
+#![tactic(auto)]
+
+mod choice;
+mod content;
+mod contents;
+mod context;
+mod description;
+mod enums;
+mod expressions;
+mod field;
+mod member;
+mod names;
+mod texts;
+mod types;
+
+pub use description::build;

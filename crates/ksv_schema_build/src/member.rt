@@ -1,0 +1,137 @@
+//! Members.
+
+ghost use Rattle.std.specs.Prelude.{◌≡◌, map, IfOk, option_map};
+ghost use Rattle.ksv_yaml_tree.specs.View.{pair};
+ghost use Rattle.ksv_schema_scope.specs.MemberRows.{member_of as row};
+ghost use Rattle.ksv_schema_build.specs.Contexts.{context_of};
+ghost use Rattle.ksv_schema_build.specs.Stated.{positioned_of, calculated_of, kind_of, member_of, each};
+ghost use Rattle.ksv_desc.specs.Pieces.{plain_kind, plain_member};
+
+use crate::content::perhaps_enum;
+use crate::context::Context;
+use crate::expressions::{expression_at, perhaps_expression};
+use crate::field::field_of;
+use crate::texts::as_text;
+use ksv_desc::{Kind, MemberDesc};
+use ksv_schema_scope::keys::has;
+use ksv_schema_scope::{Member, Role};
+use ksv_yaml_tree::Entry;
+use std::alloc::{AllocError, Global};
+
+/// An instance with a place.
+#[tactic(auto, unfolding(crate::specs::Stated::positioned_of))]
+fn positioned_of(
+    alloc: Global,
+    context: Context,
+    entries: &[Entry],
+) -> Result<Option<Kind>, AllocError>
+    ensures { IfOk result (λ o. option_map plain_kind o ≡ positioned_of (context_of context.entry) (map pair entries.now)) }
+{
+    let Some(place) = expression_at(alloc, context, b"pos", entries)? else {
+        return Ok(None);
+    };
+    let Some(stream) = perhaps_expression(alloc, context, b"io", entries)? else {
+        return Ok(None);
+    };
+    let Some(field) = field_of(alloc, context, entries)? else {
+        return Ok(None);
+    };
+    Ok(Some(Kind::Positioned {
+        place,
+        stream,
+        field,
+    }))
+}
+
+/// An instance with a value.
+#[tactic(auto, unfolding(crate::specs::Stated::calculated_of))]
+fn calculated_of(
+    alloc: Global,
+    context: Context,
+    entries: &[Entry],
+) -> Result<Option<Kind>, AllocError>
+    ensures { IfOk result (λ o. option_map plain_kind o ≡ calculated_of (context_of context.entry) (map pair entries.now)) }
+{
+    let Some(condition) = perhaps_expression(alloc, context, b"if", entries)? else {
+        return Ok(None);
+    };
+    let Some(value) = expression_at(alloc, context, b"value", entries)? else {
+        return Ok(None);
+    };
+    let Some(enumeration) = perhaps_enum(alloc, context, entries)? else {
+        return Ok(None);
+    };
+    Ok(Some(Kind::Calculated {
+        condition,
+        value,
+        enumeration,
+    }))
+}
+
+/// What a member of these keys is, by where it stands.
+#[tactic(auto, unfolding(crate::specs::Stated::kind_of))]
+fn kind_of(
+    alloc: Global,
+    context: Context,
+    role: Role,
+    entries: &[Entry],
+) -> Result<Option<Kind>, AllocError>
+    ensures { IfOk result (λ o. option_map plain_kind o ≡ kind_of (context_of context.entry) role (map pair entries.now)) }
+{
+    match role {
+        Role::Parameter => Ok(Some(Kind::Given)),
+        Role::Attribute => match field_of(alloc, context, entries)? {
+            Some(field) => Ok(Some(Kind::InSequence(field))),
+            None => Ok(None),
+        },
+        Role::Instance => {
+            if has(entries, b"value") {
+                calculated_of(alloc, context, entries)
+            } else {
+                positioned_of(alloc, context, entries)
+            }
+        }
+    }
+}
+
+/// A member.
+#[tactic(auto, unfolding(crate::specs::Stated::member_of))]
+fn member_of(
+    alloc: Global,
+    context: Context,
+    member: &Member,
+) -> Result<Option<MemberDesc>, AllocError>
+    ensures { IfOk result (λ o. option_map plain_member o ≡ member_of (context_of context.entry) (row member.now)) }
+{
+    let Some(text) = as_text(member.name()) else {
+        return Ok(None);
+    };
+    let Some(name) = context.names.number_of(text) else {
+        return Ok(None);
+    };
+    let Some(entries) = member.value().entries() else {
+        return Ok(None);
+    };
+    let Some(kind) = kind_of(alloc, context, member.role(), entries)? else {
+        return Ok(None);
+    };
+    Ok(Some(MemberDesc { name, kind }))
+}
+
+/// Each of these members.
+pub(crate) fn members_of(
+    alloc: Global,
+    context: Context,
+    members: &[Member],
+) -> Result<Option<Vec<MemberDesc>>, AllocError>
+    ensures { IfOk result (λ o. option_map (λ v. map plain_member v.items) o ≡ each (member_of (context_of context.entry)) (map row members.now)) }
+{
+    let mut made = Vec::new(alloc);
+    for member in members {
+        match member_of(alloc, context, member)? {
+            Some(member) => made.push(member)?,
+            None => return Ok(None),
+        }
+    }
+    Ok(Some(made))
+}

@@ -1,0 +1,191 @@
+//! The names of a description: those of its members, and then those behind dots.
+
+ghost use Rattle.std.specs.Prelude.{◌≡◌, true, map, IfOk, OnOk, flat_map};
+ghost use Rattle.ksv_yaml_tree.specs.View.{pair};
+ghost use Rattle.ksv_schema_scope.specs.MemberRows.{member_of as row};
+ghost use Rattle.ksv_desc.specs.Names.{distinct_behind};
+ghost use Rattle.ksv_schema_keys.specs.Code.{form_of, seen_type_text};
+ghost use Rattle.ksv_schema_keys.specs.Keys.{switch_keys};
+ghost use Rattle.ksv_schema_build.specs.Stated.{naming_keys, expression_words, argument_words, type_words, form_words, key_words, entry_words, member_words, are_texts};
+
+use crate::texts::as_text;
+use ksv_schema_keys::{Form, Table, TypeText, form_in, read_expression, type_text};
+use ksv_schema_names::{Names, Site};
+use ksv_schema_scope::keys::entries_in;
+use ksv_schema_scope::{Member, Role};
+use ksv_yaml_tree::Entry;
+use std::alloc::{AllocError, Global};
+
+/// Adds the names of members, as far as they are texts, and tells whether all are.
+pub(crate) fn add_members(names: &mut Names, members: &[Member]) -> Result<bool, AllocError>
+    ensures added { IfOk result (λ all. all ≡ true → names.new ≡ distinct_behind names.old (map (λ m. m.name) (map row members.now))) }
+    ensures texts { IfOk result (λ all. all ≡ are_texts (map row members.now)) }
+{
+    for member in members {
+        match as_text(member.name()) {
+            Some(text) => names.add(text)?,
+            None => return Ok(false),
+        }
+    }
+    Ok(true)
+}
+
+/// Adds the names behind dots of an expression's text.
+#[tactic(auto, using(ksv_desc::proofs::Dots::steps), unfolding(crate::specs::Stated::expression_words))]
+fn add_expression(alloc: Global, names: &mut Names, text: &[u8]) -> Result<(), AllocError>
+    ensures { OnOk result (names.new ≡ distinct_behind names.old (expression_words text.now)) }
+{
+    match read_expression(alloc, text)? {
+        Ok(expr) => names.add_dotted(&expr),
+        Err(_) => Ok(()),
+    }
+}
+
+/// Adds the names behind dots in the arguments of a type.
+#[tactic(auto, using(ksv_desc::proofs::Dots::steps))]
+fn add_arguments(names: &mut Names, text: &TypeText) -> Result<(), AllocError>
+    ensures { OnOk result (names.new ≡ distinct_behind names.old (argument_words (seen_type_text text.now))) }
+{
+    match text {
+        TypeText::Unspelled(_) => Ok(()),
+        TypeText::OfLanguage(_, arguments) => names.add_all_dotted(arguments),
+        TypeText::OfDescription(_, arguments) => names.add_all_dotted(arguments),
+    }
+}
+
+/// Adds the names behind dots of the type at an entry.
+#[tactic(auto, using(ksv_desc::proofs::Dots::steps), unfolding(crate::specs::Stated::type_words))]
+fn add_type(alloc: Global, names: &mut Names, entry: &Entry) -> Result<(), AllocError>
+    ensures { OnOk result (names.new ≡ distinct_behind names.old (type_words (pair entry.now))) }
+{
+    match entry.value().text() {
+        Some(text) => {
+            let text = type_text(alloc, text)?;
+            add_arguments(names, &text)
+        }
+        None => Ok(()),
+    }
+}
+
+/// Adds the names behind dots of the types at these entries.
+fn add_types(alloc: Global, names: &mut Names, entries: &[Entry]) -> Result<(), AllocError>
+    ensures { OnOk result (names.new ≡ distinct_behind names.old (flat_map type_words (map pair entries.now))) }
+{
+    for entry in entries {
+        add_type(alloc, names, entry)?;
+    }
+    Ok(())
+}
+
+/// Adds the names behind dots of what stands at an entry, by its form.
+#[tactic(auto, using(ksv_desc::proofs::Dots::steps), unfolding(crate::specs::Stated::form_words))]
+fn add_form(alloc: Global, names: &mut Names, entry: &Entry, form: Form) -> Result<(), AllocError>
+    ensures { OnOk result (names.new ≡ distinct_behind names.old (form_words (pair entry.now) (form_of form))) }
+{
+    match form {
+        Form::Expression(_) => match entry.value().text() {
+            Some(text) => add_expression(alloc, names, text),
+            None => Ok(()),
+        },
+        Form::TypeOrSwitch => add_type(alloc, names, entry),
+        Form::Cases => add_types(alloc, names, entries_in(entry.value())),
+        Form::Ignored => Ok(()),
+        Form::NotHere => Ok(()),
+        Form::Mapping => Ok(()),
+        Form::Listing => Ok(()),
+        Form::Id => Ok(()),
+        Form::Flag => Ok(()),
+        Form::Repeat => Ok(()),
+        Form::Endian => Ok(()),
+        Form::BitEndian => Ok(()),
+        Form::Coding => Ok(()),
+        Form::ParameterType => Ok(()),
+        Form::AnyText => Ok(()),
+        Form::EnumName => Ok(()),
+        Form::Byte => Ok(()),
+        Form::Contents => Ok(()),
+    }
+}
+
+/// Adds the names behind dots at a key of a switch.
+#[tactic(auto, using(ksv_desc::proofs::Dots::steps), unfolding(crate::specs::Stated::key_words))]
+fn add_switch_key(alloc: Global, names: &mut Names, entry: &Entry) -> Result<(), AllocError>
+    ensures { OnOk result (names.new ≡ distinct_behind names.old (key_words switch_keys (pair entry.now))) }
+{
+    match form_in(Table::Switch, entry.key()) {
+        Some(form) => add_form(alloc, names, entry, form),
+        None => Ok(()),
+    }
+}
+
+/// Adds the names behind dots at these keys of a switch.
+fn add_switch(alloc: Global, names: &mut Names, keys: &[Entry]) -> Result<(), AllocError>
+    ensures { OnOk result (names.new ≡ distinct_behind names.old (flat_map (key_words switch_keys) (map pair keys.now))) }
+{
+    for key in keys {
+        add_switch_key(alloc, names, key)?;
+    }
+    Ok(())
+}
+
+/// Adds the names behind dots at a key at which an expression or a type may stand.
+#[tactic(auto, using(ksv_desc::proofs::Dots::steps, crate::proofs::Naming::steps), unfolding(crate::specs::Stated::key_words))]
+fn add_key(alloc: Global, names: &mut Names, entry: &Entry) -> Result<(), AllocError>
+    ensures { OnOk result (names.new ≡ distinct_behind names.old (key_words naming_keys (pair entry.now))) }
+{
+    if entry.key() == b"value".as_slice() {
+        return add_form(alloc, names, entry, Form::Expression(Site::Value));
+    }
+    match form_in(Table::Positioned, entry.key()) {
+        Some(form) => add_form(alloc, names, entry, form),
+        None => Ok(()),
+    }
+}
+
+/// Adds the names behind dots at an entry of a member, those of a switch too.
+#[tactic(auto, using(ksv_desc::proofs::Dots::steps), unfolding(crate::specs::Stated::entry_words))]
+fn add_entry(alloc: Global, names: &mut Names, entry: &Entry) -> Result<(), AllocError>
+    ensures { OnOk result (names.new ≡ distinct_behind names.old (entry_words (pair entry.now))) }
+{
+    add_key(alloc, names, entry)?;
+    if entry.key() == b"type".as_slice() {
+        return add_switch(alloc, names, entries_in(entry.value()));
+    }
+    Ok(())
+}
+
+/// Adds the names behind dots at these entries of a member.
+fn add_entries(alloc: Global, names: &mut Names, entries: &[Entry]) -> Result<(), AllocError>
+    ensures { OnOk result (names.new ≡ distinct_behind names.old (flat_map entry_words (map pair entries.now))) }
+{
+    for entry in entries {
+        add_entry(alloc, names, entry)?;
+    }
+    Ok(())
+}
+
+/// Adds the names behind dots of a member.
+#[tactic(auto, using(ksv_desc::proofs::Dots::steps), unfolding(crate::specs::Stated::member_words))]
+fn add_member(alloc: Global, names: &mut Names, member: &Member) -> Result<(), AllocError>
+    ensures { OnOk result (names.new ≡ distinct_behind names.old (member_words (row member.now))) }
+{
+    match member.role() {
+        Role::Parameter => Ok(()),
+        Role::Attribute => add_entries(alloc, names, entries_in(member.value())),
+        Role::Instance => add_entries(alloc, names, entries_in(member.value())),
+    }
+}
+
+/// Adds the names behind dots of all members.
+pub(crate) fn add_dotted(
+    alloc: Global,
+    names: &mut Names,
+    members: &[Member],
+) -> Result<(), AllocError>
+    ensures { OnOk result (names.new ≡ distinct_behind names.old (flat_map member_words (map row members.now))) }
+{
+    for member in members {
+        add_member(alloc, names, member)?;
+    }
+    Ok(())
+}

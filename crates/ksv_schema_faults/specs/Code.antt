@@ -1,0 +1,102 @@
+-- What the code's values are to the definitions.
+use Rattle.std.specs.Prelude.{◌==◌, ◌||◌, ◌++◌, not, is_none, false, ℕ, Bool, List, [], map, Option, option_map, codes}
+use Rattle.std.specs.Option.{option_map_or}
+use Rattle.std.specs.List.Sorted.{IsPermutation, IsNonDecreasing}
+use Rattle.ksv_yaml_tree.specs.Tree.{Tree, Pair, entry_at}
+use Rattle.ksv_schema_scope.specs.Types.{Scope}
+use Rattle.ksv_schema_scope.specs.Keys.{has, says}
+use Rattle.ksv_schema_scope.specs.Members.{members_within}
+use Rattle.ksv_schema_scope.specs.Declarations.{Declared, declared}
+use Rattle.ksv_schema_keys.specs.Values.{is_to_end, byte_at, type_key, is_integer}
+use Rattle.ksv_schema_faults.specs.declared.home.Home.{Home as HomeOfCode}
+use Rattle.ksv_schema_faults.specs.declared.fault.DescFault.{DescFault}
+use Rattle.ksv_schema_faults.specs.declared.fault.DescFaultKind.{DescFaultKind}
+use Rattle.ksv_schema_faults.specs.declared.fault.DescFaultKind.TheVariants as kinds
+use Rattle.ksv_schema_faults.specs.Rules.{Home, against, alone_if, past}
+use Rattle.ksv_schema_faults.specs.Faults.{Fault, unknown_key, missing_key, keys_against, unknown_name, no_byte_order, bad_value, wrong_count, left_out, over_limit, no_expression}
+
+-- ---- faults
+
+-- the number of a code
+abbrev pub number_of : DescFaultKind → ℕ
+number_of kinds.UnknownKey = unknown_key
+number_of kinds.MissingKey = missing_key
+number_of kinds.KeysAgainst = keys_against
+number_of kinds.UnknownName = unknown_name
+number_of kinds.NoByteOrder = no_byte_order
+number_of kinds.BadValue = bad_value
+number_of kinds.WrongCount = wrong_count
+number_of kinds.LeftOut = left_out
+number_of kinds.OverLimit = over_limit
+number_of (kinds.NoExpression f) = no_expression
+number_of kinds.NoMemory = 11
+
+-- the code by which a message names a fault
+abbrev pub code_of : DescFaultKind → List ℕ
+code_of kinds.UnknownKey = codes "S1"
+code_of kinds.MissingKey = codes "S2"
+code_of kinds.KeysAgainst = codes "S3"
+code_of kinds.UnknownName = codes "S4"
+code_of kinds.NoByteOrder = codes "S5"
+code_of kinds.BadValue = codes "S6"
+code_of kinds.WrongCount = codes "S7"
+code_of kinds.LeftOut = codes "S8"
+code_of kinds.OverLimit = codes "S9"
+code_of (kinds.NoExpression f) = codes "S10"
+code_of kinds.NoMemory = codes "S11"
+
+-- a fault as a line and the number of a code; what is wrong with an expression's text isn't seen
+abbrev pub plain : DescFault → Fault
+plain f = record { line = f.line; number = number_of f.kind }
+
+abbrev pub seen_fault : Option DescFault → Option Fault
+seen_fault o = option_map plain o
+
+-- ---- where a mapping stands
+
+abbrev pub seen_home : HomeOfCode → Home
+seen_home h = record { declared = declared h.scopes.now; within = h.within; in_sequence = h.in_sequence; is_repeated = h.is_repeated }
+
+-- ---- keys together
+
+-- a key says how far an attribute goes, and a terminator is another byte than 0
+abbrev pub is_bounded : List Pair → Bool
+is_bounded es = has (codes "size") es || is_to_end es || has (codes "terminator") es
+
+abbrev pub has_other_terminator : List Pair → Bool
+has_other_terminator es = option_map_or (λ b. not (b == 0)) (byte_at (codes "terminator") es) false
+
+-- the keys against `contents`, and those that lack what they need
+abbrev pub contents_against : List Pair → List Fault
+contents_against es =
+    against (entry_at (codes "contents") es) (entry_at (codes "type") es)
+    ++ against (entry_at (codes "contents") es) (entry_at (codes "size") es)
+    ++ against (entry_at (codes "contents") es) (entry_at (codes "size-eos") es)
+    ++ against (entry_at (codes "contents") es) (entry_at (codes "terminator") es)
+    ++ against (entry_at (codes "contents") es) (entry_at (codes "enum") es)
+
+abbrev pub lonely : List Pair → List Fault
+lonely es =
+    alone_if (is_none (type_key is_integer es)) (entry_at (codes "enum") es)
+    ++ alone_if (not (says (codes "repeat") (codes "expr") es)) (entry_at (codes "repeat-expr") es)
+    ++ alone_if (not (says (codes "repeat") (codes "until") es)) (entry_at (codes "repeat-until") es)
+
+-- ---- types
+
+-- a type, but for the types around it
+abbrev pub scope_row : ℕ → List ℕ → Tree → Scope
+scope_row line id value = record { line = line; id = id; around = []; value = value }
+
+-- ---- limits
+
+abbrev pub limit_fault : ℕ → Fault
+limit_fault line = record { line = line; number = over_limit }
+
+-- the first member past the limit of the type n
+abbrev pub members_past : Declared → ℕ → List Fault
+members_past d n = past 256 (map (λ m. m.line) (members_within d.members n))
+
+-- lines in rising order
+pub record AreRising (lines rising : List ℕ) : Type 0 where
+  pub moved : IsPermutation lines rising
+  pub rises : IsNonDecreasing rising

@@ -1,0 +1,410 @@
+-- Which faults a tree has: of each key by its form, of the keys of a mapping together, of names that are given twice, and of
+-- what is past a limit. The line of a fault is that of the key or list item at fault; of a missing key it is the first line
+-- of the mapping; of two keys that don't fit together the lower of their lines.
+use Rattle.std.specs.Prelude.{ℕ, ◌+◌, Bool, true, false, not, if◌then◌else◌, ◌&&◌, ◌||◌, ◌==◌, nat_lt, nat_le, min, List, [], ◌∷◌, ◌++◌, length, map, filter, take, flat_map, fold, codes, Option, Some, None, is_some, is_none, option_to_list, slice_get}
+use Rattle.std.specs.List.{list_any}
+use Rattle.std.specs.Option.{option_map_or}
+use Rattle.std.specs.Str.{bytes_eq}
+use Rattle.ksv_yaml_tree.specs.Tree.{Tree, Text, Seq, Map, Pair, pairs, trees, line_of, text_of, mapping_of, list_of, entry_at}
+use Rattle.ksv_expr_tree.specs.Tree.{Arguments}
+use Rattle.ksv_expr_tree.specs.Tree as expressions
+use Rattle.ksv_schema_scope.specs.Keys.{entries_in, has, says, text_at}
+use Rattle.ksv_schema_scope.specs.declared.numeral.Numeral.{Numeral}
+use Rattle.ksv_schema_scope.specs.declared.numeral.Numeral.TheVariants.{Whole, LeadingZero, NoNumeral}
+use Rattle.ksv_schema_scope.specs.Numerals.{signed_number}
+use Rattle.ksv_schema_scope.specs.Types.{Scope, type_named, order_of, encoding_of}
+use Rattle.ksv_schema_scope.specs.declared.member.Role.{Role}
+use Rattle.ksv_schema_scope.specs.declared.member.Role.TheVariants.{Parameter, Attribute, Instance}
+use Rattle.ksv_schema_scope.specs.Members.{Member, members_within, parameters_within, member_named}
+use Rattle.ksv_schema_scope.specs.Enums.{Enumeration, Constant, enum_named, is_number_again, is_id_again}
+use Rattle.ksv_schema_scope.specs.Declarations.{Declared, declared_in}
+use Rattle.ksv_schema_names.specs.declared.position.Site.{Site}
+use Rattle.ksv_schema_names.specs.declared.position.Site.TheVariants as sites
+use Rattle.ksv_schema_names.specs.declared.position.Position.{Position}
+use Rattle.ksv_schema_names.specs.declared.position.NameFault.{NameFault}
+use Rattle.ksv_schema_names.specs.declared.position.NameFault.TheVariants.{Unknown, LeftOut}
+use Rattle.ksv_schema_names.specs.declared.built_ins.BuiltIn.{BuiltIn}
+use Rattle.ksv_schema_names.specs.declared.built_ins.BuiltIn.TheVariants.{Integer, Str, Strz, NotHere}
+use Rattle.ksv_schema_names.specs.Names.{name_faults, list_faults}
+use Rattle.ksv_desc.specs.Resolved.{count}
+use Rattle.ksv_schema_faults.specs.Faults.{Fault, fault, fault_if, unknown_key, missing_key, keys_against, unknown_name, no_byte_order, bad_value, wrong_count, left_out, over_limit, no_expression}
+use Rattle.ksv_schema_keys.specs.Keys as forms
+use Rattle.ksv_schema_keys.specs.Keys.{Form, Key, type_keys, meta_keys, parameter_keys, attribute_keys, positioned_keys, value_keys, switch_keys, constant_keys, form_in, is_ignored, is_id}
+use Rattle.ksv_schema_keys.specs.Expressions.{expression_of}
+use Rattle.ksv_schema_keys.specs.Values.{encoding_named, TypeText, Unspelled, OfLanguage, OfDescription, type_text, is_integer, is_str, is_strz, is_of_description, is_type, type_key, cases_of, byte_number, byte_at, looks_like_number, Piece, Bytes, BadPiece, LeftOutPiece, piece_of, CaseKey, Constant as ConstantKey, Negative, Member as MemberKey, Default, NoKey, case_key, ids_of, is_to_end, is_repeated}
+
+-- where a mapping stands: in which type, whether in its `seq`, and whether it is of something repeated
+pub record Home : Type 0 where
+  pub declared : Declared
+  pub within : ℕ
+  pub in_sequence : Bool
+  pub is_repeated : Bool
+
+-- at a key that isn't one of an attribute
+abbrev pub home_in : Declared → ℕ → Home
+home_in d n = record { declared = d; within = n; in_sequence = false; is_repeated = false }
+
+-- ---- expressions
+
+abbrev pub position_at : Home → Site → Position
+position_at h site = record { site = site; in_sequence = h.in_sequence; is_repeated = h.is_repeated }
+
+abbrev pub name_fault : ℕ → NameFault → Fault
+name_fault line Unknown = record { line = line; number = unknown_name }
+name_fault line LeftOut = record { line = line; number = left_out }
+
+unfoldable pub expression_faults : Home → Site → ℕ → Option expressions.Tree → List Fault
+expression_faults h at line None = fault line no_expression
+expression_faults h at line (Some e) = map (name_fault line) (name_faults h.declared h.within (position_at h at) e)
+
+-- ---- types
+
+-- the names in the arguments of a type
+abbrev pub argument_faults : Home → ℕ → Arguments → List Fault
+argument_faults h line es = map (name_fault line) (list_faults h.declared h.within (position_at h sites.Argument) es)
+
+-- a type of the language: no arguments; an integer of several bytes needs a byte order
+unfoldable pub language_faults : Home → ℕ → BuiltIn → List Fault
+language_faults h line (Integer signed bytes order) = fault_if (not (bytes == 1) && is_none order && is_none (order_of h.declared.types h.within)) line no_byte_order
+language_faults h line Str = []
+language_faults h line Strz = []
+language_faults h line NotHere = fault line left_out
+
+-- a type of the description: it needs as many arguments as it has parameters
+unfoldable pub count_faults : Home → ℕ → ℕ → Option ℕ → List Fault
+count_faults h line n None = fault line unknown_name
+count_faults h line n (Some t) = fault_if (not (length (parameters_within h.declared.members t) == n)) line wrong_count
+
+unfoldable pub type_text_faults : Home → ℕ → TypeText → List Fault
+type_text_faults h line Unspelled = fault line no_expression
+type_text_faults h line (OfLanguage b es) = fault_if (not (count es == 0)) line wrong_count ++ language_faults h line b ++ argument_faults h line es
+type_text_faults h line (OfDescription t es) = count_faults h line (count es) (type_named h.declared.types h.within t.path) ++ argument_faults h line es
+
+-- ---- one key
+
+-- a text of which the faults are these; another node is of the wrong kind
+abbrev pub text_faults : (List ℕ → List Fault) → Pair → List Fault
+text_faults faults p = option_map_or faults (text_of p.value) (fault p.line bad_value)
+
+abbrev pub text_unless : (List ℕ → Bool) → ℕ → Pair → List Fault
+text_unless fits number p = text_faults (λ text. fault_if (not (fits text)) p.line number) p
+
+-- where a plain number from 0 to 255 is wanted
+abbrev pub numeral_faults : ℕ → Numeral → List Fault
+numeral_faults line (Whole n) = []
+numeral_faults line LeadingZero = fault line left_out
+numeral_faults line NoNumeral = fault line bad_value
+
+-- `endian`: a text, or a choice by `switch-on`, which is left out
+unfoldable pub endian_faults : ℕ → Tree → List Fault
+endian_faults line (Text _ quoted text) = fault_if (not (bytes_eq text (codes "le") || bytes_eq text (codes "be"))) line bad_value
+endian_faults line (Seq _ ts) = fault line bad_value
+endian_faults line (Map _ es) = fault line (if has (codes "switch-on") (pairs es) then left_out else bad_value)
+
+unfoldable pub bit_endian_faults : Pair → List Fault
+bit_endian_faults p = text_faults (λ text. if bytes_eq text (codes "be") then [] else fault p.line (if bytes_eq text (codes "le") then left_out else bad_value)) p
+
+-- an item of `contents`
+abbrev pub piece_faults : ℕ → Piece → List Fault
+piece_faults line (Bytes bs) = []
+piece_faults line BadPiece = fault line bad_value
+piece_faults line LeftOutPiece = fault line left_out
+
+unfoldable pub contents_faults : ℕ → Tree → List Fault
+contents_faults line (Text _ quoted text) = fault_if (not quoted && looks_like_number text) line left_out
+contents_faults line (Seq _ ts) = flat_map (λ t. piece_faults (line_of t) (piece_of t)) (trees ts)
+contents_faults line (Map _ es) = fault line bad_value
+
+-- the path of an enum
+unfoldable pub enum_faults : Home → ℕ → Option (List (List ℕ)) → List Fault
+enum_faults h line None = fault line bad_value
+enum_faults h line (Some path) = fault_if (is_none (enum_named h.declared.types h.declared.enums h.within path)) line unknown_name
+
+-- a key of `cases`
+unfoldable pub case_value_faults : Home → ℕ → CaseKey → List Fault
+case_value_faults h line (ConstantKey c) = []
+case_value_faults h line (Negative n) = []
+case_value_faults h line (MemberKey m) = expression_faults h sites.Case line (Some (expressions.member m))
+case_value_faults h line Default = []
+case_value_faults h line NoKey = fault line bad_value
+
+unfoldable pub case_key_faults : Home → ℕ → Option expressions.Tree → List Fault
+case_key_faults h line None = fault line no_expression
+case_key_faults h line (Some e) = case_value_faults h line (case_key e)
+
+-- the type of a case: `str` and `strz` are left out
+unfoldable pub case_type_faults : Home → ℕ → TypeText → List Fault
+case_type_faults h line t = type_text_faults h line t ++ fault_if (is_str t || is_strz t) line left_out
+
+unfoldable pub case_faults : Home → Pair → List Fault
+case_faults h p = case_key_faults h p.line (expression_of p.key) ++ text_faults (λ text. case_type_faults h p.line (type_text text)) p
+
+-- what stands at a key, by its form; a mapping at `type` has keys of its own
+unfoldable pub form_faults : Home → Pair → Form → List Fault
+form_faults h p forms.Ignored = []
+form_faults h p forms.NotHere = fault p.line left_out
+form_faults h p forms.Mapping = fault_if (is_none (mapping_of p.value)) p.line bad_value
+form_faults h p forms.Listing = fault_if (is_none (list_of p.value)) p.line bad_value
+form_faults h p forms.Id = text_unless is_id bad_value p
+form_faults h p (forms.OneOf texts) = text_unless (λ text. list_any (bytes_eq text) texts) bad_value p
+form_faults h p forms.Endian = endian_faults p.line p.value
+form_faults h p forms.BitEndian = bit_endian_faults p
+form_faults h p forms.Coding = text_unless (λ text. is_some (encoding_named text)) left_out p
+form_faults h p forms.ParameterType = text_unless (λ text. not (bytes_eq text (codes "io"))) left_out p
+form_faults h p forms.AnyText = text_unless (λ text. true) bad_value p
+form_faults h p (forms.Expression site) = text_faults (λ text. expression_faults h site p.line (expression_of text)) p
+form_faults h p forms.TypeOrSwitch = text_faults (λ text. type_text_faults h p.line (type_text text)) p
+form_faults h p forms.Cases = option_map_or (flat_map (case_faults h)) (mapping_of p.value) (fault p.line bad_value)
+form_faults h p forms.EnumName = text_faults (λ text. enum_faults h p.line (ids_of text)) p
+form_faults h p forms.Byte = text_faults (λ text. numeral_faults p.line (byte_number text)) p
+form_faults h p forms.Contents = contents_faults p.line p.value
+
+-- ---- all keys of a mapping
+
+-- a key that the table doesn't have, or what stands at it
+unfoldable pub key_faults : (Pair → Form → List Fault) → List Key → Pair → List Fault
+key_faults faults table p = if is_ignored p.key then [] else option_map_or (faults p) (form_in table p.key) (fault p.line unknown_key)
+
+abbrev pub keys_faults : (Pair → Form → List Fault) → List Key → List Pair → List Fault
+keys_faults faults table es = flat_map (key_faults faults table) es
+
+-- a key that is missing
+abbrev pub missing_if : Bool → ℕ → List Fault
+missing_if is_missing line = fault_if is_missing line missing_key
+
+-- a switch needs both of its keys
+unfoldable pub switch_faults : Home → ℕ → List Pair → List Fault
+switch_faults h line es =
+    keys_faults (form_faults h) switch_keys es
+    ++ missing_if (not (has (codes "switch-on") es)) line
+    ++ missing_if (not (has (codes "cases") es)) line
+
+abbrev pub is_type_or_switch : Form → Bool
+is_type_or_switch forms.TypeOrSwitch = true
+is_type_or_switch _ = false
+
+unfoldable pub value_faults : Home → Pair → Form → List Fault
+value_faults h p form = if is_type_or_switch form && is_some (mapping_of p.value) then switch_faults h (line_of p.value) (entries_in p.value) else form_faults h p form
+
+-- ---- keys together
+
+-- the lower line of two keys, where both are there
+unfoldable pub against : Option Pair → Option Pair → List Fault
+against None q = []
+against (Some p) None = []
+against (Some p) (Some q) = fault (min p.line q.line) keys_against
+
+-- a key that lacks what it needs
+abbrev pub alone_if : Bool → Option Pair → List Fault
+alone_if lacks None = []
+alone_if lacks (Some p) = fault_if lacks p.line keys_against
+
+abbrev pub left_out_if : Bool → Option Pair → List Fault
+left_out_if is_left_out None = []
+left_out_if is_left_out (Some p) = fault_if is_left_out p.line left_out
+
+-- the key `size-eos`, where it says `true`
+abbrev pub to_end_key : List Pair → Option Pair
+to_end_key es = if is_to_end es then entry_at (codes "size-eos") es else None
+
+-- the text of an encoding, the attribute's own or the one in force
+abbrev pub has_encoding : Home → List Pair → Bool
+has_encoding h es = is_some (text_at (codes "encoding") es) || is_some (encoding_of h.declared.types h.within)
+
+-- what needs another key: what an attribute is, how far a text goes and in which encoding, how often it is repeated
+unfoldable pub field_needs : Home → ℕ → List Pair → List Fault
+field_needs h line es =
+    let is_bounded = has (codes "size") es || is_to_end es || has (codes "terminator") es in
+    let is_text = is_some (type_key is_str es) || is_some (type_key is_strz es) in
+    missing_if (not (has (codes "type") es || is_bounded || has (codes "contents") es)) line
+    ++ missing_if (is_some (type_key is_str es) && not is_bounded) line
+    ++ missing_if (is_text && not (has_encoding h es)) line
+    ++ missing_if (says (codes "repeat") (codes "expr") es && not (has (codes "repeat-expr") es)) line
+    ++ missing_if (says (codes "repeat") (codes "until") es && not (has (codes "repeat-until") es)) line
+
+-- a key that says how far an integer goes
+unfoldable pub integer_against : List Pair → Option Pair → List Fault
+integer_against es integer =
+    against integer (entry_at (codes "size") es)
+    ++ against integer (to_end_key es)
+    ++ against integer (entry_at (codes "terminator") es)
+
+-- keys that stand against each other
+unfoldable pub field_against : List Pair → List Fault
+field_against es =
+    against (entry_at (codes "size") es) (to_end_key es)
+    ++ against (entry_at (codes "contents") es) (entry_at (codes "type") es)
+    ++ against (entry_at (codes "contents") es) (entry_at (codes "size") es)
+    ++ against (entry_at (codes "contents") es) (entry_at (codes "size-eos") es)
+    ++ against (entry_at (codes "contents") es) (entry_at (codes "terminator") es)
+    ++ against (entry_at (codes "contents") es) (entry_at (codes "enum") es)
+    ++ integer_against es (type_key is_integer es)
+    ++ flat_map (λ p. integer_against es (Some p)) (filter (is_type is_integer) (cases_of es))
+    ++ alone_if (is_none (type_key is_integer es)) (entry_at (codes "enum") es)
+    ++ alone_if (not (says (codes "repeat") (codes "expr") es)) (entry_at (codes "repeat-expr") es)
+    ++ alone_if (not (says (codes "repeat") (codes "until") es)) (entry_at (codes "repeat-until") es)
+
+-- a terminator of a type of the description, or of `strz` another one than 0
+unfoldable pub field_left_out : List Pair → List Fault
+field_left_out es =
+    let of_description = is_some (type_key is_of_description es) || list_any (is_type is_of_description) (cases_of es) in
+    let is_other = option_map_or (λ b. not (b == 0)) (byte_at (codes "terminator") es) false in
+    left_out_if of_description (entry_at (codes "terminator") es)
+    ++ left_out_if (is_some (type_key is_strz es) && is_other) (entry_at (codes "terminator") es)
+
+unfoldable pub field_rules : Home → ℕ → List Pair → List Fault
+field_rules h line es = field_needs h line es ++ field_against es ++ field_left_out es
+
+-- a value has no place, type, size or repetition
+unfoldable pub value_rules : List Pair → List Fault
+value_rules es =
+    against (entry_at (codes "value") es) (entry_at (codes "pos") es)
+    ++ against (entry_at (codes "value") es) (entry_at (codes "io") es)
+    ++ against (entry_at (codes "value") es) (entry_at (codes "type") es)
+    ++ against (entry_at (codes "value") es) (entry_at (codes "size") es)
+    ++ against (entry_at (codes "value") es) (entry_at (codes "repeat") es)
+
+-- ---- members
+
+abbrev pub is_attribute : Role → Bool
+is_attribute Parameter = false
+is_attribute Attribute = true
+is_attribute Instance = false
+
+abbrev pub home_of : Declared → Member → List Pair → Home
+home_of d m es = record { declared = d; within = m.within; in_sequence = is_attribute m.role; is_repeated = is_repeated es }
+
+unfoldable pub parameter_faults : Home → ℕ → List Pair → List Fault
+parameter_faults h line es = keys_faults (value_faults h) parameter_keys es ++ missing_if (not (has (codes "id") es)) line
+
+unfoldable pub attribute_faults : Home → ℕ → List Pair → List Fault
+attribute_faults h line es = keys_faults (value_faults h) attribute_keys es ++ field_rules h line es
+
+-- an instance has a value or a place; one with neither is left out
+unfoldable pub instance_faults : Home → ℕ → ℕ → List Pair → List Fault
+instance_faults h name_line line es =
+    if has (codes "value") es then keys_faults (value_faults h) value_keys es ++ value_rules es
+    else if has (codes "pos") es then keys_faults (value_faults h) positioned_keys es ++ field_rules h line es
+    else keys_faults (value_faults h) positioned_keys es ++ fault name_line left_out
+
+-- what a member's mapping says, by where it stands
+unfoldable pub role_faults : Role → Home → ℕ → ℕ → List Pair → List Fault
+role_faults Parameter h name_line line es = parameter_faults h line es
+role_faults Attribute h name_line line es = attribute_faults h line es
+role_faults Instance h name_line line es = instance_faults h name_line line es
+
+unfoldable pub mapping_faults : Declared → Member → List Pair → List Fault
+mapping_faults d m es = role_faults m.role (home_of d m es) m.line (line_of m.value) es
+
+-- the name of an instance is a key
+abbrev pub is_instance : Role → Bool
+is_instance Parameter = false
+is_instance Attribute = false
+is_instance Instance = true
+
+-- the line of a member's name
+unfoldable pub name_line : Member → ℕ
+name_line m = if is_instance m.role then m.line else option_map_or (λ p. p.line) (entry_at (codes "id") (entries_in m.value)) m.line
+
+-- whether a thing that was found is the one of this number
+abbrev pub is_at : ℕ → Option ℕ → Bool
+is_at i o = option_map_or (λ k. k == i) o false
+
+-- a name that a member before it in the same type has; a parameter without an id has no name
+unfoldable pub member_again : Declared → ℕ → Member → List Fault
+member_again d i m = fault_if (not (length m.name == 0) && not (is_at i (member_named d.members m.within m.name))) (name_line m) keys_against
+
+unfoldable pub member_faults : Declared → ℕ → Member → List Fault
+member_faults d i m =
+    option_map_or (mapping_faults d m) (mapping_of m.value) (fault m.line bad_value)
+    ++ fault_if (is_instance m.role && not (is_id m.name)) m.line bad_value
+    ++ member_again d i m
+
+-- ---- enums
+
+unfoldable pub enumeration_faults : Enumeration → List Fault
+enumeration_faults x = fault_if (not (is_id x.id)) x.line bad_value ++ fault_if (is_none (mapping_of x.value)) x.line bad_value
+
+-- what a number stands for: an id, or a mapping with an id
+unfoldable pub constant_value_faults : Declared → ℕ → Tree → List Fault
+constant_value_faults d line (Text _ quoted text) = fault_if (not (is_id text)) line bad_value
+constant_value_faults d line (Seq _ ts) = fault line bad_value
+constant_value_faults d line (Map first es) = keys_faults (form_faults (home_in d 0)) constant_keys (pairs es) ++ missing_if (not (has (codes "id") (pairs es))) first
+
+-- the line of an entry's id
+abbrev pub id_line : Constant → ℕ
+id_line c = option_map_or (λ p. p.line) (entry_at (codes "id") (entries_in c.value)) c.line
+
+-- a number, and an id, that an entry before it in the same enum has
+unfoldable pub number_again : Declared → ℕ → Constant → List Fault
+number_again d i c = fault_if (is_number_again (take i d.constants) c) c.line keys_against
+
+unfoldable pub id_again : Declared → ℕ → Constant → List Fault
+id_again d i c = fault_if (is_id_again (take i d.constants) c) (id_line c) keys_against
+
+unfoldable pub constant_faults : Declared → ℕ → Constant → List Fault
+constant_faults d i c = numeral_faults c.line (signed_number c.key) ++ constant_value_faults d c.line c.value ++ number_again d i c ++ id_again d i c
+
+-- ---- types
+
+-- what `meta` says; the root needs an id
+unfoldable pub meta_faults : Declared → ℕ → Option Pair → List Fault
+meta_faults d n None = []
+meta_faults d n (Some p) = option_map_or (λ es. keys_faults (form_faults (home_in d n)) meta_keys es ++ missing_if (n == 0 && not (has (codes "id") es)) (line_of p.value)) (mapping_of p.value) []
+
+-- the root needs `meta`, and has no parameters
+unfoldable pub root_faults : ℕ → List Pair → List Fault
+root_faults line es = missing_if (not (has (codes "meta") es)) line ++ left_out_if true (entry_at (codes "params") es)
+
+unfoldable pub type_key_faults : Declared → ℕ → Scope → List Pair → List Fault
+type_key_faults d n s es =
+    keys_faults (form_faults (home_in d n)) type_keys es
+    ++ meta_faults d n (entry_at (codes "meta") es)
+    ++ (if n == 0 then root_faults s.line es else [])
+
+unfoldable pub type_faults : Declared → ℕ → Scope → List Fault
+type_faults d n s =
+    option_map_or (type_key_faults d n s) (mapping_of s.value) (fault s.line bad_value)
+    ++ fault_if (not (n == 0) && not (is_id s.id)) s.line bad_value
+
+-- ---- limits: 1,024 types, 256 members of a type, 65,536 entries of enums
+
+-- the first of these past a limit
+abbrev pub past : ℕ → List ℕ → List Fault
+past limit lines = option_map_or (λ line. fault line over_limit) (slice_get lines limit) []
+
+-- the lowest line of these by which there are more than a limit of them
+abbrev pub lower : Option ℕ → ℕ → Option ℕ
+lower None line = Some line
+lower (Some other) line = Some (min other line)
+
+unfoldable pub line_past : ℕ → List ℕ → Option ℕ
+line_past limit lines = fold lower None (filter (λ line. nat_lt limit (length (filter (λ other. nat_le other line) lines))) lines)
+
+unfoldable pub member_limit : Declared → ℕ → Scope → List Fault
+member_limit d n s = past 256 (map (λ m. m.line) (members_within d.members n))
+
+-- ---- a description
+
+-- what each of a list has, the first of which has the number n
+abbrev pub each_from : {A : Type 0} → (ℕ → A → List Fault) → ℕ → List A → List Fault
+each_from faults n [] = []
+each_from faults n (x ∷ xs) = faults n x ++ each_from faults (n + 1) xs
+
+unfoldable pub limit_faults : Declared → List Fault
+limit_faults d =
+    past 1024 (map (λ s. s.line) d.types)
+    ++ each_from (member_limit d) 0 d.types
+    ++ map (λ line. record { line = line; number = over_limit }) (option_to_list (line_past 65536 (map (λ c. c.line) d.constants)))
+
+unfoldable pub faults_of : Declared → List Fault
+faults_of d =
+    limit_faults d
+    ++ each_from (type_faults d) 0 d.types
+    ++ each_from (member_faults d) 0 d.members
+    ++ flat_map enumeration_faults d.enums
+    ++ each_from (constant_faults d) 0 d.constants
+
+-- the faults of a tree
+unfoldable pub faults : Tree → List Fault
+faults t = faults_of (declared_in t)

@@ -1,0 +1,161 @@
+//! The faults of expressions and of types.
+
+ghost use Rattle.std.specs.Prelude.{◌≡◌, Some, option_map, option_to_list, OnOk, map, string_bytes, length};
+ghost use Rattle.ksv_expr_tree.specs.Tree.{view, arguments_of};
+ghost use Rattle.ksv_desc.specs.Resolved.{count};
+ghost use Rattle.ksv_schema_scope.specs.Types.{type_named};
+ghost use Rattle.ksv_schema_keys.specs.Expressions.{expression_of};
+ghost use Rattle.ksv_schema_faults.specs.Faults.{noted};
+ghost use Rattle.ksv_schema_keys.specs.Values.{type_text};
+ghost use Rattle.ksv_schema_faults.specs.Rules.{name_fault, position_at, expression_faults, argument_faults, language_faults, count_faults, type_text_faults};
+ghost use Rattle.ksv_schema_keys.specs.Code.{seen_expression, seen_type_text};
+ghost use Rattle.ksv_schema_faults.specs.Code.{seen_fault, seen_home};
+
+use crate::fault::{DescFault, DescFaultKind, note, note_if};
+use crate::home::Home;
+use ksv_expr_syntax::ExprFault;
+use ksv_expr_tree::Expr;
+use ksv_schema_keys::{TypeText, read_expression, type_text};
+use ksv_schema_names::{BuiltIn, NameFault, Position, Site, argument_fault, name_fault};
+use std::alloc::{AllocError, Global};
+
+/// Where an expression of a mapping stands.
+fn position_at(home: Home, site: Site) -> Position
+    ensures { result ≡ position_at (seen_home home.entry) site }
+{
+    Position {
+        site,
+        in_sequence: home.in_sequence,
+        is_repeated: home.is_repeated,
+    }
+}
+
+/// Notes what is wrong with a name.
+#[tactic(auto, using(crate::proofs::Noted::steps))]
+fn note_name(least: &mut Option<DescFault>, line: usize, found: Option<NameFault>)
+    ensures { seen_fault least.new ≡ noted (seen_fault least.old) (option_to_list (option_map (name_fault line) found)) }
+{
+    match found {
+        None => {}
+        Some(NameFault::Unknown) => note(least, line, DescFaultKind::UnknownName),
+        Some(NameFault::LeftOut) => note(least, line, DescFaultKind::LeftOut),
+    }
+}
+
+/// Notes the names of an expression.
+pub(crate) fn note_names(
+    least: &mut Option<DescFault>,
+    home: Home,
+    site: Site,
+    line: usize,
+    expr: &Expr,
+)
+    ensures { seen_fault least.new ≡ noted (seen_fault least.old) (expression_faults (seen_home home.entry) site line (Some (view expr.now))) }
+{
+    let found = name_fault(home.scopes, home.within, position_at(home, site), expr);
+    note_name(least, line, found);
+}
+
+/// Notes the faults of an expression: that it is none, or its names.
+#[tactic(auto, unfolding(crate::specs::Rules::expression_faults))]
+pub(crate) fn note_expression(
+    least: &mut Option<DescFault>,
+    home: Home,
+    site: Site,
+    line: usize,
+    read: &Result<Expr, ExprFault>,
+)
+    ensures { seen_fault least.new ≡ noted (seen_fault least.old) (expression_faults (seen_home home.entry) site line (seen_expression read.now)) }
+{
+    match read {
+        Ok(expr) => note_names(least, home, site, line, expr),
+        Err(fault) => note(least, line, DescFaultKind::NoExpression(*fault)),
+    }
+}
+
+/// Notes the names in the arguments of a type.
+fn note_arguments(least: &mut Option<DescFault>, home: Home, line: usize, arguments: &[Expr])
+    ensures { seen_fault least.new ≡ noted (seen_fault least.old) (argument_faults (seen_home home.entry) line (arguments_of (map view arguments.now))) }
+{
+    let position = position_at(home, Site::Argument);
+    let found = argument_fault(home.scopes, home.within, position, arguments);
+    note_name(least, line, found);
+}
+
+/// Notes a type of the language that is left out, or that needs a byte order.
+#[tactic(auto, using(crate::proofs::Noted::steps), unfolding(crate::specs::Rules::language_faults))]
+fn note_language(least: &mut Option<DescFault>, home: Home, line: usize, built_in: BuiltIn)
+    ensures { seen_fault least.new ≡ noted (seen_fault least.old) (language_faults (seen_home home.entry) line built_in) }
+{
+    match built_in {
+        BuiltIn::Integer { size, order, .. } => {
+            let is_open = order.is_none() & home.scopes.order_of(home.within).is_none();
+            note_if(
+                least,
+                size != 1 && is_open,
+                line,
+                DescFaultKind::NoByteOrder,
+            );
+        }
+        BuiltIn::Str => {}
+        BuiltIn::Strz => {}
+        BuiltIn::NotHere => note(least, line, DescFaultKind::LeftOut),
+    }
+}
+
+/// Notes a type of the description that isn't there, or that has another count of parameters.
+#[tactic(auto, unfolding(crate::specs::Rules::count_faults))]
+fn note_count(
+    least: &mut Option<DescFault>,
+    home: Home,
+    line: usize,
+    count: usize,
+    found: Option<usize>,
+)
+    ensures { seen_fault least.new ≡ noted (seen_fault least.old) (count_faults (seen_home home.entry) line count found) }
+{
+    match found {
+        None => note(least, line, DescFaultKind::UnknownName),
+        Some(number) => {
+            let wanted = home.scopes.count_of_parameters(number);
+            note_if(least, wanted != count, line, DescFaultKind::WrongCount);
+        }
+    }
+}
+
+/// How many arguments there are.
+#[tactic(auto, using(crate::proofs::NameFaults::count_map))]
+fn count(arguments: &[Expr]) -> usize
+    ensures { result ≡ count (arguments_of (map view arguments.now)) }
+{
+    arguments.len()
+}
+
+/// Notes the faults of a type's text.
+#[tactic(auto, using(crate::proofs::Noted::steps), unfolding(crate::specs::Rules::type_text_faults))]
+pub(crate) fn note_type_text(
+    least: &mut Option<DescFault>,
+    home: Home,
+    line: usize,
+    text: &TypeText,
+)
+    ensures { seen_fault least.new ≡ noted (seen_fault least.old) (type_text_faults (seen_home home.entry) line (seen_type_text text.now)) }
+{
+    match text {
+        TypeText::Unspelled(fault) => note(least, line, DescFaultKind::NoExpression(*fault)),
+        TypeText::OfLanguage(built_in, arguments) => {
+            let arguments = arguments.as_slice();
+            let given = count(arguments);
+            note_if(least, given != 0, line, DescFaultKind::WrongCount);
+            note_language(least, home, line, *built_in);
+            note_arguments(least, home, line, arguments);
+        }
+        TypeText::OfDescription(name, arguments) => {
+            let arguments = arguments.as_slice();
+            let given = count(arguments);
+            let found = home.scopes.type_named(home.within, name.path.as_slice());
+            note_count(least, home, line, given, found);
+            note_arguments(least, home, line, arguments);
+        }
+    }
+}

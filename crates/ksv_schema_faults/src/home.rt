@@ -1,0 +1,29 @@
+//! Where a mapping of a description stands.
+
+ghost use Rattle.std.specs.Prelude.{◌≡◌};
+ghost use Rattle.ksv_schema_scope.specs.Declarations.{declared};
+ghost use Rattle.ksv_schema_faults.specs.Rules.{home_in};
+ghost use Rattle.ksv_schema_faults.specs.Code.{seen_home};
+
+use ksv_schema_scope::Scopes;
+
+/// Where a mapping stands: in which type, whether in its `seq`, and whether it is of something repeated.
+#[derive(Clone, Copy)]
+pub(crate) struct Home<'a> {
+    pub(crate) scopes: &'a Scopes<'a>,
+    pub(crate) within: usize,
+    pub(crate) in_sequence: bool,
+    pub(crate) is_repeated: bool,
+}
+
+/// Where a mapping stands that is no member's.
+pub(crate) fn home_in<'a>(scopes: &'a Scopes<'a>, within: usize) -> Home<'a>
+    ensures { seen_home result ≡ home_in (declared scopes.now) within }
+{
+    Home {
+        scopes,
+        within,
+        in_sequence: false,
+        is_repeated: false,
+    }
+}

@@ -1,0 +1,19 @@
+//! The faults of a description: which a tree has, and the least of them, by which it is refused.
+//!
+//! `specs/Rules` lists all faults of a tree, with the line of each; `specs/Faults` has their codes and which of two is answered.
+#![tactic(auto)]
+
+mod check;
+mod enumeration;
+mod expression;
+mod fault;
+mod home;
+mod key;
+mod limit;
+mod mapping;
+mod member;
+mod scope;
+mod together;
+
+pub use check::least_fault;
+pub use fault::{DescFault, DescFaultKind};

@@ -1,0 +1,165 @@
+//! The faults of types.
+
+ghost use Rattle.std.specs.Prelude.{◌≡◌, ◌&&◌, ◌++◌, codes, ◌==◌, not, true, OnOk, [], map, if◌then◌else◌, slice_get};
+ghost use Rattle.std.specs.Option.{option_map_or};
+ghost use Rattle.ksv_yaml_tree.specs.Tree.{entry_at};
+ghost use Rattle.ksv_yaml_tree.specs.View.{view, pair, seen_entry};
+ghost use Rattle.ksv_schema_scope.specs.Declarations.{declared};
+ghost use Rattle.ksv_schema_scope.specs.Keys.{has};
+ghost use Rattle.ksv_schema_faults.specs.Faults.{noted, fault_if, bad_value};
+ghost use Rattle.ksv_schema_keys.specs.Keys.{is_id, type_keys, meta_keys};
+ghost use Rattle.ksv_schema_faults.specs.Rules.{home_in, form_faults, keys_faults, missing_if, each_from, meta_faults, root_faults, type_faults};
+ghost use Rattle.ksv_schema_faults.specs.Code.{seen_fault, scope_row};
+
+use crate::fault::{DescFault, DescFaultKind, note, note_if};
+use crate::home::home_in;
+use crate::mapping::note_plain_keys;
+use crate::together::{note_left_out_if, note_missing_if};
+use ksv_schema_keys::{Table, is_id};
+use ksv_schema_scope::Scopes;
+use ksv_schema_scope::keys::has;
+use ksv_yaml_tree::{Entry, Yaml, find};
+use std::alloc::{AllocError, Global};
+
+/// Notes the faults of the mapping at `meta`; that of the root needs an id.
+#[tactic(auto, using(crate::proofs::Noted::steps))]
+fn note_meta_keys<'a>(
+    alloc: Global,
+    least: &mut Option<DescFault>,
+    scopes: &'a Scopes<'a>,
+    number: usize,
+    line: usize,
+    entries: &[Entry],
+) -> Result<(), AllocError>
+    ensures { OnOk result (seen_fault least.new ≡ noted (seen_fault least.old) (keys_faults (form_faults (home_in (declared scopes.now) number)) meta_keys (map pair entries.now) ++ missing_if (number == 0 && not (has (codes "id") (map pair entries.now))) line)) }
+{
+    note_plain_keys(alloc, least, home_in(scopes, number), Table::Meta, entries)?;
+    let has_id = has(entries, b"id");
+    note_missing_if(least, (number == 0) & !has_id, line);
+    Ok(())
+}
+
+/// Notes the faults of a type's `meta`.
+#[tactic(auto, using(crate::proofs::Noted::steps), unfolding(crate::specs::Rules::meta_faults))]
+fn note_meta<'a>(
+    alloc: Global,
+    least: &mut Option<DescFault>,
+    scopes: &'a Scopes<'a>,
+    number: usize,
+    meta: Option<&Entry>,
+) -> Result<(), AllocError>
+    ensures { OnOk result (seen_fault least.new ≡ noted (seen_fault least.old) (meta_faults (declared scopes.now) number (seen_entry meta.entry))) }
+{
+    match meta {
+        None => Ok(()),
+        Some(entry) => match entry.value().entries() {
+            None => Ok(()),
+            Some(entries) => {
+                let line = entry.value().line();
+                note_meta_keys(alloc, least, scopes, number, line, entries)
+            }
+        },
+    }
+}
+
+/// Notes what the root lacks, and its parameters.
+#[tactic(auto, using(crate::proofs::Noted::steps), unfolding(crate::specs::Rules::root_faults))]
+fn note_root(least: &mut Option<DescFault>, line: usize, entries: &[Entry])
+    ensures { seen_fault least.new ≡ noted (seen_fault least.old) (root_faults line (map pair entries.now)) }
+{
+    let has_meta = has(entries, b"meta");
+    note_missing_if(least, !has_meta, line);
+    note_left_out_if(least, true, entries, b"params");
+}
+
+#[tactic(auto, using(crate::proofs::Noted::steps))]
+fn note_if_root(least: &mut Option<DescFault>, number: usize, line: usize, entries: &[Entry])
+    ensures { seen_fault least.new ≡ noted (seen_fault least.old) (if number == 0 then root_faults line (map pair entries.now) else []) }
+{
+    if number == 0 {
+        note_root(least, line, entries);
+    }
+}
+
+/// Notes the faults of a type's keys.
+#[tactic(auto, using(crate::proofs::Noted::steps))]
+fn note_type_keys<'a>(
+    alloc: Global,
+    least: &mut Option<DescFault>,
+    scopes: &'a Scopes<'a>,
+    number: usize,
+    line: usize,
+    entries: &[Entry],
+) -> Result<(), AllocError>
+    ensures { OnOk result (seen_fault least.new ≡ noted (seen_fault least.old) (keys_faults (form_faults (home_in (declared scopes.now) number)) type_keys (map pair entries.now) ++ meta_faults (declared scopes.now) number (entry_at (codes "meta") (map pair entries.now)) ++ (if number == 0 then root_faults line (map pair entries.now) else []))) }
+{
+    note_plain_keys(alloc, least, home_in(scopes, number), Table::Type, entries)?;
+    note_meta(alloc, least, scopes, number, find(entries, b"meta"))?;
+    note_if_root(least, number, line, entries);
+    Ok(())
+}
+
+/// Notes a type's name that is no id.
+fn note_type_name(least: &mut Option<DescFault>, number: usize, line: usize, id: &[u8])
+    ensures { seen_fault least.new ≡ noted (seen_fault least.old) (fault_if (not (number == 0) && not (is_id id.now)) line bad_value) }
+{
+    let is_inner = number != 0;
+    note_if(least, is_inner & !is_id(id), line, DescFaultKind::BadValue);
+}
+
+/// Notes the faults of a type of this line, name and value.
+#[tactic(auto, using(crate::proofs::Noted::steps), unfolding(crate::specs::Rules::type_faults, crate::specs::Rules::type_key_faults))]
+fn note_type_row<'a>(
+    alloc: Global,
+    least: &mut Option<DescFault>,
+    scopes: &'a Scopes<'a>,
+    number: usize,
+    line: usize,
+    id: &[u8],
+    value: &Yaml,
+) -> Result<(), AllocError>
+    ensures { OnOk result (seen_fault least.new ≡ noted (seen_fault least.old) (type_faults (declared scopes.now) number (scope_row line id.now (view value.now)))) }
+{
+    match value.entries() {
+        Some(entries) => note_type_keys(alloc, least, scopes, number, line, entries)?,
+        None => note(least, line, DescFaultKind::BadValue),
+    }
+    note_type_name(least, number, line, id);
+    Ok(())
+}
+
+/// Notes the faults of the type of this number.
+#[tactic(auto, using(crate::proofs::Noted::steps, crate::proofs::TypeRows::row_noted, crate::proofs::TypeRows::no_row))]
+fn note_type<'a>(
+    alloc: Global,
+    least: &mut Option<DescFault>,
+    scopes: &'a Scopes<'a>,
+    number: usize,
+) -> Result<(), AllocError>
+    ensures { OnOk result (seen_fault least.new ≡ noted (seen_fault least.old) (option_map_or (type_faults (declared scopes.now) number) (slice_get (declared scopes.now).types number) [])) }
+{
+    match scopes.line_of_type(number) {
+        None => Ok(()),
+        Some(line) => match scopes.id_of_type(number) {
+            None => Ok(()),
+            Some(id) => match scopes.value_of_type(number) {
+                None => Ok(()),
+                Some(value) => note_type_row(alloc, least, scopes, number, line, id, value),
+            },
+        },
+    }
+}
+
+/// Notes the faults of each type.
+pub(crate) fn note_types<'a>(
+    alloc: Global,
+    least: &mut Option<DescFault>,
+    scopes: &'a Scopes<'a>,
+) -> Result<(), AllocError>
+    ensures { OnOk result (seen_fault least.new ≡ noted (seen_fault least.old) (each_from (type_faults (declared scopes.now)) 0 (declared scopes.now).types)) }
+{
+    for number in 0..scopes.count_of_types() {
+        note_type(alloc, least, scopes, number)?;
+    }
+    Ok(())
+}

@@ -1,0 +1,130 @@
+-- What the code's values are to the definitions.
+use Rattle.std.specs.declared.alloc.Global.{Global}
+use Rattle.std.specs.Prelude.{◌≡◌, ◌≢◌, ◌≤◌, ◌+◌, ◌^◌, ◌==◌, ◌&&◌, false, take, drop, length, Vec, String, string_bytes, nat_le, if◌then◌else◌, ℤ, pos, ℕ, Bool, List, [], ◌∷◌, map, Option, Some, None, option_map, Result, Ok, Err, codes}
+use Rattle.ksv_expr_syntax.specs.declared.fault.ExprFault.{ExprFault}
+use Rattle.ksv_expr_tree.specs.declared.tree.Expr.{Expr}
+use Rattle.ksv_expr_tree.specs.declared.tree.TypeRef.{TypeRef}
+use Rattle.ksv_expr_tree.specs.Tree.{view, view_type}
+use Rattle.ksv_expr_tree.specs.Tree as expressions
+use Rattle.ksv_schema_keys.specs.declared.values.TypeText as type_texts
+use Rattle.ksv_schema_keys.specs.declared.values.TypeText.TheVariants as type_text
+use Rattle.ksv_schema_keys.specs.declared.values.TypeKind.{TypeKind}
+use Rattle.ksv_schema_keys.specs.declared.values.TypeKind.TheVariants as kind
+use Rattle.ksv_schema_keys.specs.declared.values.Piece as pieces
+use Rattle.ksv_schema_keys.specs.declared.values.Piece.TheVariants as piece
+use Rattle.ksv_schema_keys.specs.declared.values.CaseKey as case_keys
+use Rattle.ksv_schema_keys.specs.declared.values.CaseKey.TheVariants as case_key
+use Rattle.ksv_schema_keys.specs.Values.{TypeText, Unspelled, OfLanguage, OfDescription, is_integer, is_str, is_strz, is_of_description, Piece, Bytes, BadPiece, LeftOutPiece, names_in, CaseKey, Constant, Negative, Member, Default, NoKey}
+use Rattle.ksv_schema_keys.specs.declared.keys.Form.{Form as FormOfCode}
+use Rattle.ksv_schema_keys.specs.declared.keys.Form.TheVariants as form
+use Rattle.ksv_schema_keys.specs.declared.keys.Table.{Table}
+use Rattle.ksv_schema_keys.specs.declared.keys.Table.TheVariants as table
+use Rattle.ksv_schema_keys.specs.Keys as forms
+use Rattle.ksv_schema_keys.specs.Keys.{Form, Key, flag, type_keys, meta_keys, parameter_keys, attribute_keys, positioned_keys, value_keys, switch_keys, constant_keys}
+
+-- ---- keys
+
+abbrev pub form_of : FormOfCode → Form
+form_of form.Ignored = forms.Ignored
+form_of form.NotHere = forms.NotHere
+form_of form.Mapping = forms.Mapping
+form_of form.Listing = forms.Listing
+form_of form.Id = forms.Id
+form_of form.Flag = flag
+form_of form.Repeat = forms.OneOf (codes "eos" ∷ codes "expr" ∷ codes "until" ∷ [])
+form_of form.Endian = forms.Endian
+form_of form.BitEndian = forms.BitEndian
+form_of form.Coding = forms.Coding
+form_of form.ParameterType = forms.ParameterType
+form_of form.AnyText = forms.AnyText
+form_of (form.Expression site) = forms.Expression site
+form_of form.TypeOrSwitch = forms.TypeOrSwitch
+form_of form.Cases = forms.Cases
+form_of form.EnumName = forms.EnumName
+form_of form.Byte = forms.Byte
+form_of form.Contents = forms.Contents
+
+abbrev pub seen_form : Option FormOfCode → Option Form
+seen_form o = option_map form_of o
+
+-- the keys of a mapping
+abbrev pub keys_of : Table → List Key
+keys_of table.Type = type_keys
+keys_of table.Meta = meta_keys
+keys_of table.Parameter = parameter_keys
+keys_of table.Attribute = attribute_keys
+keys_of table.Positioned = positioned_keys
+keys_of table.Value = value_keys
+keys_of table.Switch = switch_keys
+keys_of table.Constant = constant_keys
+
+-- ---- texts
+
+-- the expression, and the type, that was read
+abbrev pub seen_expression : Result Expr ExprFault → Option expressions.Tree
+seen_expression (Ok e) = Some (view e)
+seen_expression (Err f) = None
+
+abbrev pub seen_type : Result TypeRef ExprFault → Option expressions.TypeTree
+seen_type (Ok t) = Some (view_type t)
+seen_type (Err f) = None
+
+-- ---- values
+
+abbrev pub seen_type_text : type_texts.TypeText → TypeText
+seen_type_text (type_text.Unspelled f) = Unspelled
+seen_type_text (type_text.OfLanguage b es) = OfLanguage b (expressions.arguments_of (map view es.items))
+seen_type_text (type_text.OfDescription t es) = OfDescription (expressions.path_of t) (expressions.arguments_of (map view es.items))
+
+-- whether a type is of a kind
+abbrev pub kind_test : TypeKind → TypeText → Bool
+kind_test kind.Integer = is_integer
+kind_test kind.Str = is_str
+kind_test kind.Strz = is_strz
+kind_test kind.OfDescription = is_of_description
+
+-- a number from 0 to a bound
+pub record IsUpTo (most : ℕ) (n : ℤ) : Type 0 where
+  pub value : ℕ
+  pub is : n ≡ pos value
+  pub bound : value ≤ most
+
+abbrev pub seen_piece : pieces.Piece → Piece
+seen_piece (piece.Byte b) = Bytes (b ∷ [])
+seen_piece (piece.Text text) = Bytes text.now
+seen_piece piece.Bad = BadPiece
+seen_piece piece.LeftOut = LeftOutPiece
+
+-- what a constant, and an expression, is behind `-`
+abbrev pub negative_constant : expressions.Constant → CaseKey
+negative_constant (expressions.integer n) = if nat_le n (2 ^ 63) then Negative n else NoKey
+negative_constant (expressions.truth b) = NoKey
+negative_constant (expressions.string text) = NoKey
+
+abbrev pub negative_key : expressions.Tree → CaseKey
+negative_key (expressions.literal c) = negative_constant c
+negative_key _ = NoKey
+
+abbrev pub seen_case_key : case_keys.CaseKey → CaseKey
+seen_case_key (case_key.Constant l) = Constant (expressions.literal_of l.now)
+seen_case_key (case_key.Negative n) = Negative n
+seen_case_key (case_key.Member m) = Member (expressions.member_of m.now)
+seen_case_key case_key.Default = Default
+seen_case_key case_key.NoKey = NoKey
+
+-- ---- paths of ids
+
+abbrev pub seen_path : Option (Vec (String Global) Global) → Option (List (List ℕ))
+seen_path o = option_map (λ v. map string_bytes v.items) o
+
+-- whether `::` stands first
+abbrev pub begins_with_colons : List ℕ → Bool
+begins_with_colons [] = false
+begins_with_colons (c ∷ []) = false
+begins_with_colons (c ∷ d ∷ cs) = c == 58 && d == 58
+
+-- the first of the names of a text ends at this place, where the text ends or `::` stands
+pub record IsFirstName (text : List ℕ) (n : ℕ) : Type 0 where
+  pub is : names_in [] text ≡ take n text ∷ (if n == length text then [] else names_in [] (drop (n + 2) text))
+  pub bound : n ≤ length text
+  pub behind : n ≢ length text → n + 2 ≤ length text

@@ -1,0 +1,5 @@
+-- The keys of a description, and what the values at them say.
+pub mod Keys
+pub mod Expressions
+pub mod Values
+pub mod Code

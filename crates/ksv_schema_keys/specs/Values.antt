@@ -1,0 +1,175 @@
+-- What the values of a description's keys say.
+use Rattle.std.specs.Prelude.{ℕ, ◌^◌, Bool, true, false, not, nat_le, ◌==◌, ◌&&◌, ◌||◌, if◌then◌else◌, nat_abs, List, [], ◌∷◌, ◌++◌, drop, codes, slice_index, Option, Some, None, option_map, option_and_then}
+use Rattle.std.specs.List.{list_all}
+use Rattle.std.specs.Option.{option_map_or}
+use Rattle.ksv_yaml_tree.specs.Tree.{Tree, Text, Seq, Map, Pair, trees, text_of, entry_at}
+use Rattle.ksv_expr_tree.specs.declared.tree.UnaryOperator.TheVariants as unaries
+use Rattle.ksv_expr_tree.specs.declared.tree.SpecialName.TheVariants as specials
+use Rattle.ksv_expr_tree.specs.Tree.{TypePath, Arguments, TypeTree}
+use Rattle.ksv_expr_tree.specs.Tree as expressions
+use Rattle.ksv_schema_scope.specs.Keys.{text_at, entries_at, says}
+use Rattle.ksv_schema_scope.specs.declared.numeral.Numeral.{Numeral}
+use Rattle.ksv_schema_scope.specs.declared.numeral.Numeral.TheVariants.{Whole, LeadingZero, NoNumeral}
+use Rattle.ksv_schema_scope.specs.Numerals.{is_numeral, plain_number}
+use Rattle.ksv_schema_names.specs.declared.built_ins.BuiltIn.{BuiltIn}
+use Rattle.ksv_schema_names.specs.declared.built_ins.BuiltIn.TheVariants.{Integer, Str, Strz}
+use Rattle.ksv_schema_names.specs.BuiltIn.{built_in_at}
+use Rattle.ksv_expr_value.specs.declared.encoding.Encoding.{Encoding}
+use Rattle.ksv_expr_value.specs.Encodings as encodings
+use Rattle.ksv_schema_keys.specs.Expressions.{type_of}
+use Rattle.ksv_schema_keys.specs.Keys.{is_id}
+
+-- ---- encodings
+
+-- ASCII and UTF-8, in any letter case
+unfoldable pub encoding_named : List ℕ → Option Encoding
+encoding_named name = encodings.encoding_named name
+
+-- ---- types
+
+-- what the text of a type is: no type's text, a type of the language, or a type of the description; with its arguments
+pub data TypeText : Type 0 where
+  Unspelled : TypeText
+  OfLanguage : BuiltIn → Arguments → TypeText
+  OfDescription : TypePath → Arguments → TypeText
+
+abbrev pub of_name : TypeTree → Option BuiltIn → TypeText
+of_name t None = OfDescription t.name t.arguments
+of_name t (Some b) = OfLanguage b t.arguments
+
+abbrev pub of_type : Option TypeTree → TypeText
+of_type None = Unspelled
+of_type (Some t) = of_name t (built_in_at t.name.path)
+
+unfoldable pub type_text : List ℕ → TypeText
+type_text text = of_type (type_of text)
+
+abbrev pub is_integer : TypeText → Bool
+is_integer (OfLanguage (Integer signed bytes order) es) = true
+is_integer _ = false
+
+abbrev pub is_str : TypeText → Bool
+is_str (OfLanguage Str es) = true
+is_str _ = false
+
+abbrev pub is_strz : TypeText → Bool
+is_strz (OfLanguage Strz es) = true
+is_strz _ = false
+
+abbrev pub is_of_description : TypeText → Bool
+is_of_description (OfDescription t es) = true
+is_of_description _ = false
+
+-- the text of a type at an entry, where it is of this kind
+unfoldable pub is_type : (TypeText → Bool) → Pair → Bool
+is_type kind p = option_map_or (λ text. kind (type_text text)) (text_of p.value) false
+
+-- the key `type`, where it is a text of this kind
+unfoldable pub type_key : (TypeText → Bool) → List Pair → Option Pair
+type_key kind es = option_and_then (λ p. if is_type kind p then Some p else None) (entry_at (codes "type") es)
+
+-- the cases of a switch at the key `type`
+unfoldable pub cases_of : List Pair → List Pair
+cases_of es = entries_at (codes "cases") (entries_at (codes "type") es)
+
+-- ---- numbers of one byte
+
+unfoldable pub byte_number : List ℕ → Numeral
+byte_number text = plain_number 255 text
+
+-- the number at a key, where it is one from 0 to 255
+abbrev pub byte_in : Numeral → Option ℕ
+byte_in (Whole n) = Some (nat_abs n)
+byte_in LeadingZero = None
+byte_in NoNumeral = None
+
+unfoldable pub byte_at : List ℕ → List Pair → Option ℕ
+byte_at key es = option_and_then (λ text. byte_in (byte_number text)) (text_at key es)
+
+-- ---- contents
+
+-- a text that is written as a plain number: digits, or hexadecimal ones behind `0x`
+unfoldable pub looks_like_number : List ℕ → Bool
+looks_like_number text = is_numeral 10 text || slice_index text 0 == 48 && slice_index text 1 == 120 && is_numeral 16 (drop 2 text)
+
+-- what an item of `contents` is: bytes, a number that is too large or a node of the wrong kind, or one with a leading zero
+pub data Piece : Type 0 where
+  Bytes : List ℕ → Piece
+  BadPiece : Piece
+  LeftOutPiece : Piece
+
+abbrev pub number_piece : Numeral → Piece
+number_piece (Whole n) = Bytes (nat_abs n ∷ [])
+number_piece LeadingZero = LeftOutPiece
+number_piece NoNumeral = BadPiece
+
+-- an item of a list: a plain number from 0 to 255, or a text
+unfoldable pub piece_of : Tree → Piece
+piece_of (Text line quoted text) = if not quoted && looks_like_number text then number_piece (byte_number text) else Bytes text
+piece_of (Seq line ts) = BadPiece
+piece_of (Map line es) = BadPiece
+
+abbrev pub bytes_of : Piece → Option (List ℕ)
+bytes_of (Bytes bs) = Some bs
+bytes_of BadPiece = None
+bytes_of LeftOutPiece = None
+
+-- the bytes of all items, where each has its bytes
+abbrev pub joined : List Tree → Option (List ℕ)
+joined [] = Some []
+joined (t ∷ ts) = option_and_then (λ bs. option_map (λ cs. bs ++ cs) (joined ts)) (bytes_of (piece_of t))
+
+-- the bytes of a text; a plain number alone is left out
+abbrev pub text_bytes : Bool → List ℕ → Option (List ℕ)
+text_bytes quoted text = if not quoted && looks_like_number text then None else Some text
+
+-- the bytes of a text or of a list
+unfoldable pub contents_of : Tree → Option (List ℕ)
+contents_of (Text line quoted text) = text_bytes quoted text
+contents_of (Seq line ts) = joined (trees ts)
+contents_of (Map line es) = None
+
+-- ---- keys of `cases`
+
+-- the kinds of expression that a key of `cases` may be: a number, truth value or text, a number behind `-`, a member, or `_`
+pub data CaseKey : Type 0 where
+  Constant : expressions.Constant → CaseKey
+  Negative : ℕ → CaseKey
+  Member : expressions.MemberPath → CaseKey
+  Default : CaseKey
+  NoKey : CaseKey
+
+unfoldable pub case_key : expressions.Tree → CaseKey
+case_key (expressions.literal c) = Constant c
+case_key (expressions.unary unaries.Negate (expressions.literal (expressions.integer n))) = if nat_le n (2 ^ 63) then Negative n else NoKey
+case_key (expressions.member m) = Member m
+case_key (expressions.special specials.Element) = Default
+case_key _ = NoKey
+
+-- ---- paths of enums
+
+-- the names between the `::` of a text, of which the first begins with these bytes
+abbrev pub names_in : List ℕ → List ℕ → List (List ℕ)
+names_in name [] = name ∷ []
+names_in name (c ∷ []) = (name ++ c ∷ []) ∷ []
+names_in name (c ∷ d ∷ cs) = if c == 58 && d == 58 then name ∷ names_in [] cs else names_in (name ++ c ∷ []) (d ∷ cs)
+
+-- ids with `::` between them
+unfoldable pub ids_of : List ℕ → Option (List (List ℕ))
+ids_of text = let names = names_in [] text in if list_all is_id names then Some names else None
+
+-- ---- flags
+
+-- whether a key says `true`, or is left away and defaults to it
+abbrev pub is_true : List ℕ → List Pair → Bool
+is_true key es = says key (codes "true") es
+
+abbrev pub is_not_false : List ℕ → List Pair → Bool
+is_not_false key es = not (says key (codes "false") es)
+
+-- `size-eos: true`, and whether an attribute is repeated
+abbrev pub is_to_end : List Pair → Bool
+is_to_end es = is_true (codes "size-eos") es
+
+abbrev pub is_repeated : List Pair → Bool
+is_repeated es = says (codes "repeat") (codes "eos") es || says (codes "repeat") (codes "expr") es || says (codes "repeat") (codes "until") es

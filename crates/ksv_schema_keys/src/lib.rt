@@ -1,0 +1,20 @@
+//! The keys of a description: which of them each mapping may have, and what the values at them say.
+//!
+//! The tables of keys are defined in `specs/Keys`, what values say in `specs/Values`, and which expression or type a text is
+//! taken for in `specs/Expressions`.
+#![tactic(auto)]
+
+mod ids;
+mod keys;
+mod laws;
+mod read;
+mod values;
+
+pub use ids::ids_of;
+pub use keys::{Form, Table, form_in, is_id};
+pub use laws::texts_are_spelled;
+pub use read::read_expression;
+pub use values::{
+    CaseKey, Piece, TypeKind, TypeText, byte_at, byte_number, case_key, encoding_named, is_of_kind,
+    is_type, looks_like_number, piece_of, type_key, type_text,
+};

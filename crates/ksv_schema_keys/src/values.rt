@@ -1,0 +1,362 @@
+//! What the values of a description's keys say.
+
+ghost use Rattle.std.specs.Prelude.{◌≡◌, ◌≤◌, nat_abs, IfOk, map, slice_index, drop, ◌==◌, ◌&&◌};
+ghost use Rattle.ksv_yaml_tree.specs.View.{view, pair, seen_entry, seen_text};
+ghost use Rattle.std.specs.List.{list_all};
+ghost use Rattle.ksv_expr_tree.specs.Tree.{view as view_expression, view_type, literal_of, special, unary};
+ghost use Rattle.ksv_schema_scope.specs.Numerals.{is_digit, is_numeral};
+ghost use Rattle.ksv_schema_keys.specs.Values.{encoding_named, of_name, type_text, is_integer, is_str, is_strz, is_of_description, is_type, type_key, byte_number, byte_at, looks_like_number, number_piece, piece_of, case_key};
+ghost use Rattle.ksv_schema_keys.specs.Code.{seen_type_text, kind_test, IsUpTo, seen_piece, seen_case_key, negative_constant, negative_key};
+ghost use Rattle.ksv_schema_names.specs.BuiltIn.{built_in_at};
+
+use crate::read::read_type;
+use ksv_expr_syntax::ExprFault;
+use ksv_expr_tree::{Expr, Literal, Member, SpecialName, TypeName, TypeRef, UnaryOperator};
+use ksv_expr_value::Encoding;
+use ksv_schema_names::{BuiltIn, built_in_at};
+use ksv_schema_scope::keys::text_at;
+use ksv_schema_scope::{Numeral, plain_number};
+use ksv_yaml_tree::{Entry, Yaml, find};
+use std::alloc::{AllocError, Global};
+
+/// The most that may stand behind `-` in a key of `cases`.
+const MOST_NEGATIVE: u64 = 0x8000_0000_0000_0000;
+
+/// The encoding of a name, in any letter case.
+#[tactic(auto, unfolding(crate::specs::Values::encoding_named))]
+pub fn encoding_named(name: &[u8]) -> Option<Encoding>
+    ensures { result ≡ encoding_named name.now }
+{
+    if name.eq_ignore_ascii_case(b"ASCII") {
+        Some(Encoding::Ascii)
+    } else if name.eq_ignore_ascii_case(b"UTF-8") {
+        Some(Encoding::Utf8)
+    } else {
+        None
+    }
+}
+
+/// What the text of a type is.
+#[derive(Drop)]
+pub enum TypeText {
+    /// No type's text.
+    Unspelled(ExprFault),
+    /// A type of the language, with its arguments.
+    OfLanguage(BuiltIn, Vec<Expr>),
+    /// A type of the description, with its arguments.
+    OfDescription(TypeName, Vec<Expr>),
+}
+
+fn of_type(type_ref: TypeRef) -> TypeText
+    ensures { seen_type_text result ≡ of_name (view_type type_ref) (built_in_at (view_type type_ref).name.path) }
+{
+    let TypeRef { name, arguments } = type_ref;
+    match built_in_at(name.path.as_slice()) {
+        Some(built_in) => TypeText::OfLanguage(built_in, arguments),
+        None => TypeText::OfDescription(name, arguments),
+    }
+}
+
+/// What the text of a type is.
+#[tactic(auto, unfolding(crate::specs::Values::type_text))]
+pub fn type_text(alloc: Global, text: &[u8]) -> Result<TypeText, AllocError>
+    ensures { IfOk result (λ t. seen_type_text t ≡ type_text text.now) }
+{
+    match read_type(alloc, text)? {
+        Ok(type_ref) => Ok(of_type(type_ref)),
+        Err(fault) => Ok(TypeText::Unspelled(fault)),
+    }
+}
+
+/// A kind of type that rules ask for.
+#[derive(Clone, Copy)]
+pub enum TypeKind {
+    /// An integer.
+    Integer,
+    /// `str`
+    Str,
+    /// `strz`
+    Strz,
+    /// A type of the description.
+    OfDescription,
+}
+
+fn is_integer(text: &TypeText) -> bool
+    ensures { result ≡ is_integer (seen_type_text text.now) }
+{
+    matches!(text, TypeText::OfLanguage(BuiltIn::Integer { .. }, _))
+}
+
+/// Whether a type is `str`.
+fn is_str(text: &TypeText) -> bool
+    ensures { result ≡ is_str (seen_type_text text.now) }
+{
+    matches!(text, TypeText::OfLanguage(BuiltIn::Str, _))
+}
+
+/// Whether a type is `strz`.
+fn is_strz(text: &TypeText) -> bool
+    ensures { result ≡ is_strz (seen_type_text text.now) }
+{
+    matches!(text, TypeText::OfLanguage(BuiltIn::Strz, _))
+}
+
+fn is_of_description(text: &TypeText) -> bool
+    ensures { result ≡ is_of_description (seen_type_text text.now) }
+{
+    matches!(text, TypeText::OfDescription(..))
+}
+
+/// Whether a type is of this kind.
+pub fn is_of_kind(kind: TypeKind, text: &TypeText) -> bool
+    ensures { result ≡ kind_test kind (seen_type_text text.now) }
+{
+    match kind {
+        TypeKind::Integer => is_integer(text),
+        TypeKind::Str => is_str(text),
+        TypeKind::Strz => is_strz(text),
+        TypeKind::OfDescription => is_of_description(text),
+    }
+}
+
+/// Whether the text of a type of this kind stands at an entry.
+#[tactic(auto, unfolding(crate::specs::Values::is_type))]
+pub fn is_type(alloc: Global, kind: TypeKind, entry: &Entry) -> Result<bool, AllocError>
+    ensures { IfOk result (λ b. b ≡ is_type (kind_test kind) (pair entry.now)) }
+{
+    match entry.value().text() {
+        Some(text) => {
+            let text = type_text(alloc, text)?;
+            Ok(is_of_kind(kind, &text))
+        }
+        None => Ok(false),
+    }
+}
+
+/// The key `type`, where a text of this kind stands at it.
+#[tactic(auto, unfolding(crate::specs::Values::type_key))]
+pub fn type_key<'a>(
+    alloc: Global,
+    kind: TypeKind,
+    entries: &'a [Entry],
+) -> Result<Option<&'a Entry>, AllocError>
+    ensures { IfOk result (λ o. seen_entry o ≡ type_key (kind_test kind) (map pair entries.now)) }
+{
+    match find(entries, b"type") {
+        Some(entry) => {
+            if is_type(alloc, kind, entry)? {
+                Ok(Some(entry))
+            } else {
+                Ok(None)
+            }
+        }
+        None => Ok(None),
+    }
+}
+
+/// The plain number from 0 to 255 that a text writes.
+#[tactic(auto, unfolding(crate::specs::Values::byte_number))]
+pub fn byte_number(text: &[u8]) -> Numeral
+    ensures { result ≡ byte_number text.now }
+{
+    plain_number(255, text)
+}
+
+fn to_byte(number: i128) -> u8
+    requires { IsUpTo 255 number }
+    ensures { result ≡ nat_abs number }
+{
+    number as u8
+}
+
+/// The number from 0 to 255 at a key.
+#[tactic(auto, using(crate::proofs::Bytes::byte_fits), unfolding(crate::specs::Values::byte_at))]
+pub fn byte_at(entries: &[Entry], key: &[u8]) -> Option<u8>
+    ensures { result ≡ byte_at key.now (map pair entries.now) }
+{
+    match byte_number(text_at(entries, key)?) {
+        Numeral::Whole(number) => Some(to_byte(number)),
+        Numeral::LeadingZero => None,
+        Numeral::NoNumeral => None,
+    }
+}
+
+fn is_digit(radix: u32, byte: u8) -> bool
+    requires lower { 2 ≤ radix }
+    requires upper { radix ≤ 36 }
+    ensures { result ≡ is_digit radix byte }
+{
+    char::from(byte).is_digit(radix)
+}
+
+fn are_digits(radix: u32, text: &[u8]) -> bool
+    requires lower { 2 ≤ radix }
+    requires upper { radix ≤ 36 }
+    ensures { result ≡ list_all (is_digit radix) text.now }
+{
+    text.iter().all(|byte| is_digit(radix, *byte))
+}
+
+/// Whether a text is one digit or more, and nothing else.
+fn is_numeral(radix: u32, text: &[u8]) -> bool
+    requires lower { 2 ≤ radix }
+    requires upper { radix ≤ 36 }
+    ensures { result ≡ is_numeral radix text.now }
+{
+    match text {
+        [] => false,
+        [_, ..] => are_digits(radix, text),
+    }
+}
+
+/// Whether a text is written as a plain number.
+#[tactic(auto, unfolding(crate::specs::Values::looks_like_number))]
+pub fn looks_like_number(text: &[u8]) -> bool
+    ensures { result ≡ looks_like_number text.now }
+{
+    match text {
+        [b'0', b'x', digits @ ..] => is_numeral(16, digits),
+        _ => is_numeral(10, text),
+    }
+}
+
+/// What an item of `contents` is.
+#[derive(Clone, Copy)]
+pub enum Piece<'a> {
+    /// The byte of a number.
+    Byte(u8),
+    /// The bytes of a text.
+    Text(&'a [u8]),
+    /// A number that is too large, or a node of the wrong kind.
+    Bad,
+    /// A number with a leading zero.
+    LeftOut,
+}
+
+#[tactic(auto, using(crate::proofs::Bytes::byte_fits))]
+fn number_piece(text: &[u8]) -> Piece<'_>
+    ensures { seen_piece result ≡ number_piece (byte_number text.now) }
+{
+    match byte_number(text) {
+        Numeral::Whole(number) => Piece::Byte(to_byte(number)),
+        Numeral::LeadingZero => Piece::LeftOut,
+        Numeral::NoNumeral => Piece::Bad,
+    }
+}
+
+/// What an item of `contents` is.
+#[tactic(auto, using(crate::proofs::Bytes::quoted_piece, crate::proofs::Bytes::digits_piece, crate::proofs::Bytes::plain_piece, crate::proofs::Bytes::bad_piece))]
+pub fn piece_of(item: &Yaml) -> Piece<'_>
+    ensures { seen_piece result ≡ piece_of (view item.now) }
+{
+    match item.text() {
+        Some(text) => {
+            if item.is_quoted() {
+                Piece::Text(text)
+            } else if looks_like_number(text) {
+                number_piece(text)
+            } else {
+                Piece::Text(text)
+            }
+        }
+        None => Piece::Bad,
+    }
+}
+
+/// What a key of `cases` may be.
+#[derive(Clone, Copy)]
+pub enum CaseKey<'a> {
+    /// A number, truth value or text.
+    Constant(&'a Literal),
+    /// A number behind `-`, without it.
+    Negative(u64),
+    /// A member of an enum.
+    Member(&'a Member),
+    /// `_`
+    Default,
+    /// Another expression.
+    NoKey,
+}
+
+fn negative_constant(literal: &Literal) -> CaseKey<'_>
+    ensures { seen_case_key result ≡ negative_constant (literal_of literal.now) }
+{
+    match literal {
+        Literal::Number(number) => {
+            if *number <= MOST_NEGATIVE {
+                CaseKey::Negative(*number)
+            } else {
+                CaseKey::NoKey
+            }
+        }
+        Literal::Truth(_) => CaseKey::NoKey,
+        Literal::Text(_) => CaseKey::NoKey,
+    }
+}
+
+fn negative_key(operand: &Expr) -> CaseKey<'_>
+    ensures { seen_case_key result ≡ negative_key (view_expression operand.now) }
+{
+    match operand {
+        Expr::Literal(literal) => negative_constant(literal),
+        Expr::Name(_) => CaseKey::NoKey,
+        Expr::Special(_) => CaseKey::NoKey,
+        Expr::Member(_) => CaseKey::NoKey,
+        Expr::Unary(..) => CaseKey::NoKey,
+        Expr::Binary(..) => CaseKey::NoKey,
+        Expr::Logical(..) => CaseKey::NoKey,
+        Expr::Choice(..) => CaseKey::NoKey,
+        Expr::Field(..) => CaseKey::NoKey,
+        Expr::SpecialField(..) => CaseKey::NoKey,
+        Expr::Call(..) => CaseKey::NoKey,
+        Expr::Index(..) => CaseKey::NoKey,
+        Expr::Cast(..) => CaseKey::NoKey,
+    }
+}
+
+#[tactic(auto, using(crate::proofs::CaseKeys::key_negated), unfolding(crate::specs::Values::case_key))]
+fn unary_key(operator: UnaryOperator, operand: &Expr) -> CaseKey<'_>
+    ensures { seen_case_key result ≡ case_key (unary operator (view_expression operand.now)) }
+{
+    match operator {
+        UnaryOperator::Negate => negative_key(operand),
+        UnaryOperator::Plus => CaseKey::NoKey,
+        UnaryOperator::Complement => CaseKey::NoKey,
+        UnaryOperator::Not => CaseKey::NoKey,
+    }
+}
+
+#[tactic(auto, unfolding(crate::specs::Values::case_key))]
+fn special_key(name: SpecialName) -> CaseKey<'static>
+    ensures { seen_case_key result ≡ case_key (special name) }
+{
+    match name {
+        SpecialName::Root => CaseKey::NoKey,
+        SpecialName::Parent => CaseKey::NoKey,
+        SpecialName::Io => CaseKey::NoKey,
+        SpecialName::Index => CaseKey::NoKey,
+        SpecialName::Element => CaseKey::Default,
+    }
+}
+
+/// What an expression is as a key of `cases`.
+#[tactic(auto, unfolding(crate::specs::Values::case_key))]
+pub fn case_key(expr: &Expr) -> CaseKey<'_>
+    ensures { seen_case_key result ≡ case_key (view_expression expr.now) }
+{
+    match expr {
+        Expr::Literal(literal) => CaseKey::Constant(literal),
+        Expr::Name(_) => CaseKey::NoKey,
+        Expr::Special(name) => special_key(*name),
+        Expr::Member(member) => CaseKey::Member(member),
+        Expr::Unary(operator, operand) => unary_key(*operator, operand),
+        Expr::Binary(..) => CaseKey::NoKey,
+        Expr::Logical(..) => CaseKey::NoKey,
+        Expr::Choice(..) => CaseKey::NoKey,
+        Expr::Field(..) => CaseKey::NoKey,
+        Expr::SpecialField(..) => CaseKey::NoKey,
+        Expr::Call(..) => CaseKey::NoKey,
+        Expr::Index(..) => CaseKey::NoKey,
+        Expr::Cast(..) => CaseKey::NoKey,
+    }
+}

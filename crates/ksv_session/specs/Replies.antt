@@ -1,0 +1,78 @@
+-- What a line is answered, and the bytes that stand then.
+use Rattle.std.specs.Prelude.{ℕ, Bool, true, false, List, [], ◌++◌, length, codes, decimal, Result, Ok, Err, is_ok, if◌then◌else◌}
+use Rattle.ksv_bytes.specs.Edits.{append, overwrite}
+use Rattle.ksv_bytes.specs.declared.edit.EditRefusal.{EditRefusal}
+use Rattle.ksv_bytes.specs.declared.edit.EditRefusal.TheVariants as edits
+use Rattle.ksv_session.specs.Commands.{command_of}
+use Rattle.ksv_session.specs.declared.command.Command.{Command}
+use Rattle.ksv_session.specs.declared.command.Command.TheVariants.{App, Blank, Get, Quit, Refused, Set, Size}
+use Rattle.ksv_desc.specs.Description.{Description}
+use Rattle.ksv_session.specs.Questions.{question_text}
+use Rattle.ksv_session.specs.declared.refusal.LineRefusal.{LineRefusal}
+use Rattle.ksv_session.specs.declared.refusal.LineRefusal.TheVariants as refusals
+
+-- The texts of refusals.
+
+abbrev pub line_refusal_text : LineRefusal → List ℕ
+line_refusal_text refusals.UnknownCommand = codes "error: unknown command\n"
+line_refusal_text refusals.WrongArguments = codes "error: wrong arguments\n"
+line_refusal_text refusals.BadNumber = codes "error: bad number\n"
+line_refusal_text refusals.BadHex = codes "error: bad hex\n"
+line_refusal_text refusals.BadPath = codes "error: bad path\n"
+line_refusal_text refusals.LineTooLong = codes "error: line too long\n"
+
+abbrev pub edit_refusal_text : EditRefusal → List ℕ
+edit_refusal_text edits.Outside = codes "error: outside\n"
+edit_refusal_text edits.NothingToDo = codes "error: nothing to do\n"
+edit_refusal_text edits.TooLarge = codes "error: file too large\n"
+edit_refusal_text edits.NoMemory = codes "error: no memory\n"
+
+abbrev pub no_memory_text : List ℕ
+no_memory_text = codes "error: no memory\n"
+
+-- The bytes from then on, the text of the reply with its LF, and whether the session ends.
+pub record Answer : Type 0 where
+  pub bytes : List ℕ
+  pub text : List ℕ
+  pub ends : Bool
+
+-- a reply that changes nothing
+abbrev pub said : List ℕ → List ℕ → Answer
+said b text = record { bytes = b; text = text; ends = false }
+
+-- an edit's reply is the size after it, or its refusal, which changes nothing
+abbrev pub edited : List ℕ → Result (List ℕ) EditRefusal → Answer
+edited b (Ok after) = said after (codes "ok " ++ decimal (length after) ++ codes "\n")
+edited b (Err refusal) = said b (edit_refusal_text refusal)
+
+abbrev pub answer_to : Description → List ℕ → Command → Answer
+answer_to d b Blank = said b []
+answer_to d b (Refused refusal) = said b (line_refusal_text refusal)
+answer_to d b (Get path) = said b (question_text d b path ++ codes "\n")
+answer_to d b (Set at bytes) = edited b (overwrite b at bytes)
+answer_to d b (App bytes) = edited b (append b bytes)
+answer_to d b Size = said b (codes "size " ++ decimal (length b) ++ codes "\n")
+answer_to d b Quit = record { bytes = b; text = codes "bye\n"; ends = true }
+
+-- whether a command may be refused memory: a question for its reply, an edit that is accepted for its growth
+abbrev pub may_be_refused : List ℕ → Command → Bool
+may_be_refused b Blank = false
+may_be_refused b (Refused refusal) = false
+may_be_refused b (Get path) = true
+may_be_refused b (Set at bytes) = false
+may_be_refused b (App bytes) = is_ok (append b bytes)
+may_be_refused b Size = false
+may_be_refused b Quit = false
+
+-- A line as it came, and whether memory was refused while it was answered.
+pub record Event : Type 0 where
+  pub line : List ℕ
+  pub refused : Bool
+
+-- what a line is answered: where memory was refused that is said, and nothing changes
+abbrev pub answer : Description → List ℕ → Event → Answer
+answer d b event = if event.refused then said b no_memory_text else answer_to d b (command_of d event.line)
+
+-- a line that was refused memory is one that may be
+abbrev pub is_fair : Description → List ℕ → Event → Bool
+is_fair d b event = if event.refused then may_be_refused b (command_of d event.line) else true

@@ -1,0 +1,153 @@
+//! Reads a line: nothing, a command with its values, or a refusal.
+ghost use Rattle.std.specs.Prelude.{◌≡◌, ◌≤◌, ◌↔◌, [], length, IfOk, IfSome, IsTrue, OnErr, option_copied};
+ghost use Rattle.ksv_desc.specs.Whole.{plain_pieces};
+ghost use Rattle.ksv_lines.specs.Lines.{words_of};
+ghost use Rattle.ksv_session.specs.Commands.{alone, app_of, command_named, command_of, get_of, is_question, only, set_of};
+
+use crate::number::number;
+use crate::refusal::LineRefusal;
+use ksv_desc::Desc;
+use ksv_expr_value::Path;
+use ksv_lines::{EditBytes, edit_bytes, line_text, next_word};
+use ksv_rules::path_of;
+use std::alloc::{AllocError, Global};
+
+/// The most bytes of a line, its LF aside.
+const LINE_LIMIT: usize = 4096;
+
+/// What a line says.
+#[derive(Drop)]
+pub(crate) enum Command {
+    /// Nothing: no word, or a first word that begins with `#`.
+    Blank,
+    /// No command.
+    Refused(LineRefusal),
+    /// `get PATH`: the value at a path.
+    Get(Path),
+    /// `set POS HEX`: bytes written over those from a place on.
+    Set(u64, EditBytes),
+    /// `app HEX`: bytes added at the end.
+    App(EditBytes),
+    /// `size`: the number of bytes.
+    Size,
+    /// `quit`: the end of the session.
+    Quit,
+}
+
+/// Whether no word is left.
+fn no_word(text: &[u8]) -> bool
+    ensures { IsTrue result ↔ (words_of text.now ≡ []) }
+{
+    next_word(text).is_none()
+}
+
+/// The word of a text that has just one.
+fn only_word(text: &[u8]) -> Option<&[u8]>
+    ensures word { option_copied result ≡ only (words_of text.now) }
+    ensures within { IfSome result (λ word. length word.now ≤ length text.now) }
+{
+    let (word, rest) = next_word(text)?;
+    if no_word(rest) { Some(word) } else { None }
+}
+
+/// Reads the arguments of `get`. Only a path takes memory.
+fn get(alloc: Global, desc: &Desc, arguments: &[u8]) -> Result<Command, AllocError>
+    ensures command { IfOk result (λ command. command ≡ get_of (plain_pieces desc.now) (only (words_of arguments.now))) }
+    ensures refused { OnErr result (IsTrue (is_question (get_of (plain_pieces desc.now) (only (words_of arguments.now))))) }
+{
+    let Some(path) = only_word(arguments) else {
+        return Ok(Command::Refused(LineRefusal::WrongArguments));
+    };
+    match path_of(alloc, desc, path)? {
+        Some(path) => Ok(Command::Get(path)),
+        None => Ok(Command::Refused(LineRefusal::BadPath)),
+    }
+}
+
+/// Reads the arguments of `set`.
+fn set(arguments: &[u8]) -> Command
+    requires { length arguments.now ≤ 4096 }
+    ensures { result ≡ set_of (words_of arguments.now) }
+{
+    let Some((place, behind)) = next_word(arguments) else {
+        return Command::Refused(LineRefusal::WrongArguments);
+    };
+    let Some(digits) = only_word(behind) else {
+        return Command::Refused(LineRefusal::WrongArguments);
+    };
+    let Some(at) = number(place) else {
+        return Command::Refused(LineRefusal::BadNumber);
+    };
+    match edit_bytes(digits) {
+        Some(bytes) => Command::Set(at, bytes),
+        None => Command::Refused(LineRefusal::BadHex),
+    }
+}
+
+/// Reads the arguments of `app`.
+fn app(arguments: &[u8]) -> Command
+    requires { length arguments.now ≤ 4096 }
+    ensures { result ≡ app_of (only (words_of arguments.now)) }
+{
+    let Some(digits) = only_word(arguments) else {
+        return Command::Refused(LineRefusal::WrongArguments);
+    };
+    match edit_bytes(digits) {
+        Some(bytes) => Command::App(bytes),
+        None => Command::Refused(LineRefusal::BadHex),
+    }
+}
+
+/// A command that takes no arguments.
+fn without_arguments(command: Command, arguments: &[u8]) -> Command
+    ensures { result ≡ alone command (words_of arguments.now) }
+{
+    if no_word(arguments) {
+        command
+    } else {
+        Command::Refused(LineRefusal::WrongArguments)
+    }
+}
+
+/// Reads the arguments of the command of this name.
+fn command_with(
+    alloc: Global,
+    desc: &Desc,
+    name: &[u8],
+    arguments: &[u8],
+) -> Result<Command, AllocError>
+    requires { length arguments.now ≤ 4096 }
+    ensures command { IfOk result (λ command. command ≡ command_named (plain_pieces desc.now) name.now (words_of arguments.now)) }
+    ensures refused { OnErr result (IsTrue (is_question (command_named (plain_pieces desc.now) name.now (words_of arguments.now)))) }
+{
+    if name == b"get".as_slice() {
+        get(alloc, desc, arguments)
+    } else if name == b"set".as_slice() {
+        Ok(set(arguments))
+    } else if name == b"app".as_slice() {
+        Ok(app(arguments))
+    } else if name == b"size".as_slice() {
+        Ok(without_arguments(Command::Size, arguments))
+    } else if name == b"quit".as_slice() {
+        Ok(without_arguments(Command::Quit, arguments))
+    } else {
+        Ok(Command::Refused(LineRefusal::UnknownCommand))
+    }
+}
+
+/// Reads a line, given without its LF. Only a question takes memory, for its path.
+pub(crate) fn read_line(alloc: Global, desc: &Desc, line: &[u8]) -> Result<Command, AllocError>
+    ensures command { IfOk result (λ command. command ≡ command_of (plain_pieces desc.now) line.now) }
+    ensures refused { OnErr result (IsTrue (is_question (command_of (plain_pieces desc.now) line.now))) }
+{
+    if line.len() > LINE_LIMIT {
+        return Ok(Command::Refused(LineRefusal::LineTooLong));
+    }
+    let Some((name, arguments)) = next_word(line_text(line)) else {
+        return Ok(Command::Blank);
+    };
+    if name[0] == b'#' {
+        return Ok(Command::Blank);
+    }
+    command_with(alloc, desc, name, arguments)
+}

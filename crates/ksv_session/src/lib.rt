@@ -1,0 +1,19 @@
+//! A session of line commands over a file and its description.
+//!
+//! [`Session::line`] answers one line, and [`run`] serves a whole session over a source of bytes and a sink. What each line
+//! is answered stands in `specs/`: `Session.antt` is a fold over the lines whose state is the file's bytes alone, and
+//! `Runs.antt` has the headline, which `run` is proved to meet.
+#![tactic(auto)]
+
+mod command;
+mod number;
+mod question;
+mod refusal;
+mod reply;
+mod serve;
+mod session;
+mod text;
+
+pub use reply::{Reply, Short};
+pub use serve::{End, run};
+pub use session::{NewFault, Session};

@@ -1,0 +1,18 @@
+//! Numbers that a command line writes.
+ghost use Rattle.std.specs.Prelude.{◌≡◌};
+ghost use Rattle.ksv_session.specs.Numbers.{number_of};
+
+use ksv_rules::decimal;
+
+/// The most digits of a number.
+const DIGIT_LIMIT: usize = 20;
+
+/// A place or a number of bytes: 1 to 20 digits of a number below 2^64.
+pub(crate) fn number(text: &[u8]) -> Option<u64>
+    ensures { result ≡ number_of text.now }
+{
+    if text.len() > DIGIT_LIMIT {
+        return None;
+    }
+    decimal(text)
+}

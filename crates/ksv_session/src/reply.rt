@@ -1,0 +1,131 @@
+//! Replies, and those that take no memory.
+ghost use Rattle.std.specs.Prelude.{◌≡◌, ◌<◌, ◌≤◌, ◌++◌, codes, decimal, length};
+ghost use Rattle.ksv_session.specs.Replies.{edit_refusal_text, line_refusal_text};
+ghost use Rattle.ksv_session.specs.Seen.{is_last, reply_text};
+
+use crate::refusal::LineRefusal;
+use arrayvec::ArrayString;
+use itoa::Buffer as Digits;
+use ksv_bytes::EditRefusal;
+
+/// A text of at most 64 bytes, which takes no memory.
+pub type Short = ArrayString<64>;
+
+/// What a line is answered, its LF included.
+#[derive(Drop)]
+pub enum Reply {
+    /// Nothing: the line says nothing.
+    None,
+    /// A short text.
+    Short(Short),
+    /// A text of any length.
+    Text(String),
+    /// Memory was refused while the line was answered. Nothing has changed.
+    NoMemory,
+    /// The session ends.
+    Bye,
+}
+
+impl Reply {
+    /// The bytes that are written for it.
+    pub fn as_bytes(&self) -> &[u8]
+        ensures { result.now ≡ reply_text self.now }
+    {
+        match self {
+            Reply::None => &[],
+            Reply::Short(text) => text.as_bytes(),
+            Reply::Text(text) => text.as_bytes(),
+            Reply::NoMemory => b"error: no memory\n",
+            Reply::Bye => b"bye\n",
+        }
+    }
+
+    /// Whether the session ends with it.
+    pub(crate) fn is_last(&self) -> bool
+        ensures { result ≡ is_last self.now }
+    {
+        match self {
+            Reply::Bye => true,
+            _ => false,
+        }
+    }
+}
+
+impl LineRefusal {
+    /// What a line is answered that is refused so.
+    fn text(self) -> &'static str
+        ensures text { result.now ≡ line_refusal_text self }
+        ensures short { length result.now ≤ 64 }
+    {
+        match self {
+            LineRefusal::UnknownCommand => "error: unknown command\n",
+            LineRefusal::WrongArguments => "error: wrong arguments\n",
+            LineRefusal::BadNumber => "error: bad number\n",
+            LineRefusal::BadHex => "error: bad hex\n",
+            LineRefusal::BadPath => "error: bad path\n",
+            LineRefusal::LineTooLong => "error: line too long\n",
+        }
+    }
+}
+
+/// What an edit is answered that is refused so.
+fn edit_refusal(refusal: EditRefusal) -> &'static str
+    ensures text { result.now ≡ edit_refusal_text refusal }
+    ensures short { length result.now ≤ 64 }
+{
+    match refusal {
+        EditRefusal::Outside => "error: outside\n",
+        EditRefusal::NothingToDo => "error: nothing to do\n",
+        EditRefusal::TooLarge => "error: file too large\n",
+        EditRefusal::NoMemory => "error: no memory\n",
+    }
+}
+
+/// A short text of a reply.
+fn short(text: &str) -> Short
+    requires { length text.now ≤ 64 }
+    ensures { result.bytes ≡ text.now }
+{
+    let mut short = Short::new();
+    short.push_str(text);
+    short
+}
+
+/// A word, a number and an LF, as `size 8`.
+fn numbered(word: &str, number: usize) -> Short
+    requires { length word.now ≤ 8 }
+    ensures { result.bytes ≡ word.now ++ decimal number ++ codes "\n" }
+{
+    let mut text = short(word);
+    text.push_str(Digits::new().format(number));
+    text.push_str("\n");
+    text
+}
+
+/// The reply to a line that is refused.
+pub(crate) fn refused_line(refusal: LineRefusal) -> Short
+    ensures { result.bytes ≡ line_refusal_text refusal }
+{
+    short(refusal.text())
+}
+
+/// The reply to `size`.
+pub(crate) fn size_reply(size: usize) -> Short
+    ensures { result.bytes ≡ codes "size " ++ decimal size ++ codes "\n" }
+{
+    numbered("size ", size)
+}
+
+/// The reply to an edit that was done.
+pub(crate) fn edit_reply(size: usize) -> Short
+    ensures { result.bytes ≡ codes "ok " ++ decimal size ++ codes "\n" }
+{
+    numbered("ok ", size)
+}
+
+/// The reply to an edit that is refused.
+pub(crate) fn refused_edit(refusal: EditRefusal) -> Short
+    ensures { result.bytes ≡ edit_refusal_text refusal }
+{
+    short(edit_refusal(refusal))
+}

@@ -1,0 +1,128 @@
+//! A session: the bytes that stand, and what each line is answered.
+ghost use Rattle.std.specs.Prelude.{◌≡◌, ◌<◌, ◌↔◌, ◌++◌, true, false, codes, length, if◌then◌else◌, IsTrue, IfOk, IsErr};
+ghost use Rattle.ksv_session.specs.Explored.{description_of};
+ghost use Rattle.ksv_session.specs.Commands.{command_of};
+ghost use Rattle.ksv_session.specs.Questions.{question_text};
+ghost use Rattle.ksv_session.specs.Replies.{answer, may_be_refused, no_memory_text};
+ghost use Rattle.ksv_session.specs.Seen.{answer_seen, edit_text, is_last, is_refusal, reply_text, wants_memory};
+
+use crate::command::{Command, read_line};
+use crate::reply::{Reply, edit_reply, refused_edit, refused_line, size_reply};
+use crate::text::question_reply;
+use ksv_bytes::{Buffer, EditRefusal};
+use ksv_desc::Desc;
+use ksv_expr_value::Path;
+use ksv_rules::Described;
+use std::alloc::Global;
+use std::marker::Model;
+use thiserror::Error;
+
+/// Why a session does not begin.
+#[derive(Clone, Copy, Debug, PartialEq, Eq, Error)]
+pub enum NewFault {
+    /// B3: the file has more than 16,777,216 bytes.
+    #[error("file too large")]
+    FileTooLarge,
+}
+
+/// A file that is explored by its description. Contracts see the description and the bytes that stand.
+#[derive(Drop)]
+pub struct Session {
+    alloc: Global,
+    described: Described,
+    buffer: Buffer,
+}
+
+impl Model for Session {
+    ghost use Rattle.ksv_session.specs.Explored.{Explored};
+    ghost use Rattle.ksv_expr_tree.specs.contracts.tree.Expr as expr;
+    ghost use Rattle.std.specs.Coded.{codes};
+
+    ghost Value = { Explored };
+
+    ghost coded = { Prim.hlevel (codes, expr.the_row.coded) };
+
+    ghost view = { λ s. record { pieces = s.described.desc; bytes = s.buffer } };
+}
+
+impl Session {
+    /// A session over the bytes of a file. It takes no memory.
+    pub fn new(alloc: Global, desc: Desc, bytes: Vec<u8>) -> Result<Session, NewFault>
+        ensures begun { IfOk result (λ session. session ≡ record { pieces = desc; bytes = bytes.items }) }
+        ensures refused { IsErr result ↔ (16777216 < length bytes.items) }
+    {
+        match Buffer::new(bytes) {
+            Ok(buffer) => Ok(Session {
+                alloc,
+                described: Described::new(desc),
+                buffer,
+            }),
+            Err(_) => Err(NewFault::FileTooLarge),
+        }
+    }
+
+    /// The bytes that stand.
+    pub fn into_buffer(self) -> Buffer
+        ensures { result ≡ self.bytes }
+    {
+        let Session {
+            alloc: _,
+            described: _,
+            buffer,
+        } = self;
+        buffer
+    }
+
+    /// Answers a line, given without its LF; a carriage return may still stand at its end. Where memory is refused
+    /// nothing changes, and only a question and an edit that makes the file longer can be.
+    #[tactic(auto, using(crate::proofs::QuestionLemmas::question_may), unfolding(crate::specs::Explored::description_of))]
+    pub fn line(&mut self, line: &[u8]) -> Reply
+        ensures answer { answer_seen self.new.bytes result ≡ answer (description_of self.old) self.old.bytes (record { line = line.now; refused = is_refusal result }) }
+        ensures fair { IsTrue (is_refusal result) → may_be_refused self.old.bytes (command_of (description_of self.old) line.now) ≡ true }
+        ensures kept { description_of self.new ≡ description_of self.old }
+    {
+        let Ok(command) = read_line(self.alloc, self.described.desc(), line) else {
+            return Reply::NoMemory;
+        };
+        match command {
+            Command::Blank => Reply::None,
+            Command::Refused(refusal) => Reply::Short(refused_line(refusal)),
+            Command::Get(path) => self.answered(&path),
+            Command::Set(at, bytes) => {
+                let outcome = self.buffer.overwrite(at as usize, bytes.as_slice());
+                self.edited(outcome)
+            }
+            Command::App(bytes) => {
+                let outcome = self.buffer.append(bytes.as_slice());
+                self.edited(outcome)
+            }
+            Command::Size => Reply::Short(size_reply(self.buffer.len())),
+            Command::Quit => Reply::Bye,
+        }
+    }
+
+    /// The reply to a question.
+    #[tactic(auto, unfolding(crate::specs::Explored::description_of))]
+    fn answered(&self, path: &Path) -> Reply
+        ensures answer { reply_text result ≡ (if is_refusal result then no_memory_text else question_text (description_of self.now) self.now.bytes path.now ++ codes "\n") }
+        ensures last { is_last result ≡ false }
+    {
+        match question_reply(self.alloc, &self.described, &self.buffer, path) {
+            Ok(text) => Reply::Text(text),
+            Err(_) => Reply::NoMemory,
+        }
+    }
+
+    /// The reply to an edit that was tried.
+    fn edited(&self, outcome: Result<(), EditRefusal>) -> Reply
+        ensures text { reply_text result ≡ edit_text self.now.bytes outcome }
+        ensures refusal { is_refusal result ≡ wants_memory outcome }
+        ensures last { is_last result ≡ false }
+    {
+        match outcome {
+            Ok(()) => Reply::Short(edit_reply(self.buffer.len())),
+            Err(EditRefusal::NoMemory) => Reply::NoMemory,
+            Err(refusal) => Reply::Short(refused_edit(refusal)),
+        }
+    }
+}
