@@ -4,7 +4,7 @@ ghost use Rattle.ksv_bytes.specs.Uses.{Touches, Keeps};
 
 /// What one reading of the bytes rests on. Places count from the first byte, and lie below 2^32, as a file has at most
 /// 16,777,216 bytes.
-#[derive(Clone, Copy, Debug, PartialEq, Eq, Hash)]
+#[derive(Clone, Copy, Debug, PartialEq, Eq)]
 pub enum Use {
     /// The bytes from the first place up to the second, and that the file reaches that far.
     Bytes(u32, u32),
@@ -15,7 +15,7 @@ pub enum Use {
 }
 
 /// An edit that was made, without the bytes that it wrote.
-#[derive(Clone, Copy, Debug, PartialEq, Eq)]
+#[derive(Clone, Copy)]
 pub enum Change {
     /// `n` bytes from the place `at` on were replaced by as many others.
     Overwrite { at: usize, n: usize },

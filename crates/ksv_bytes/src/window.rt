@@ -2,7 +2,7 @@
 
 /// The bytes from one place up to another, which is not part of it. Places are counted in bytes from the file's
 /// start.
-#[derive(Clone, Copy, Debug, PartialEq, Eq)]
+#[derive(Clone, Copy)]
 pub struct Window {
     /// The first byte's place.
     pub from: usize,

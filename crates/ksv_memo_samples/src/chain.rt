@@ -10,7 +10,7 @@ use std::alloc::{AllocError, Global};
 
 /// A chain: link 0 answers the file's size, and each other link one more than the link before it. Each of them looks at the
 /// size.
-#[derive(Debug, Drop)]
+#[derive(Drop)]
 pub struct Chain;
 
 type Reply = Result<u32, Missing>;

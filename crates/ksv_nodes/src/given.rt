@@ -6,7 +6,7 @@ use ksv_expr::{Stream, Value};
 use std::alloc::{AllocError, Global};
 
 /// The attribute by which something is read: a member of a type of the description.
-#[derive(Clone, Copy, PartialEq, Eq, Debug)]
+#[derive(Clone, Copy)]
 pub struct Source {
     /// The type's number.
     pub type_number: u32,
@@ -15,7 +15,7 @@ pub struct Source {
 }
 
 /// Some bytes.
-#[derive(Clone, Copy, PartialEq, Eq, Debug)]
+#[derive(Clone, Copy)]
 pub struct Leaf {
     /// The attribute by which they are read.
     pub source: Source,
@@ -28,7 +28,7 @@ pub struct Leaf {
 }
 
 /// How the end of an object is known.
-#[derive(Clone, Copy, PartialEq, Eq, Debug)]
+#[derive(Clone, Copy)]
 pub enum Ending {
     /// It ends at this place.
     At(u32),
@@ -39,7 +39,7 @@ pub enum Ending {
 }
 
 /// An object of a type.
-#[derive(Clone, Copy, PartialEq, Eq, Debug)]
+#[derive(Clone, Copy)]
 pub struct Object {
     /// The type's number.
     pub type_number: u32,
@@ -52,7 +52,7 @@ pub struct Object {
 }
 
 /// The elements of an attribute.
-#[derive(Clone, Copy, PartialEq, Eq, Debug)]
+#[derive(Clone, Copy)]
 pub struct List {
     /// The attribute by which they are read.
     pub source: Source,
@@ -69,7 +69,7 @@ pub struct List {
 }
 
 /// What stands at a path, and where.
-#[derive(Clone, Copy, PartialEq, Eq, Debug)]
+#[derive(Clone, Copy)]
 pub enum Head {
     /// Nothing: an attribute that is absent, at its place where it has one.
     Gone(Option<u32>),
@@ -125,7 +125,7 @@ impl Given {
 }
 
 /// Where something ends.
-#[derive(Clone, Copy, PartialEq, Eq, Debug)]
+#[derive(Clone, Copy)]
 pub struct Ended {
     /// The place behind its last byte.
     pub place: u32,
@@ -134,7 +134,7 @@ pub struct Ended {
 }
 
 /// What a list is from an element on.
-#[derive(Clone, Copy, PartialEq, Eq, Debug)]
+#[derive(Clone, Copy)]
 pub struct Rested {
     /// How many elements the list has.
     pub count: u32,

@@ -6,7 +6,7 @@ use ksv_expr::Path;
 use std::alloc::{AllocError, Global};
 
 /// What is asked of a path.
-#[derive(Clone, Copy, PartialEq, Eq, Hash, Debug)]
+#[derive(Clone, Copy, PartialEq, Eq, Hash)]
 pub enum Kind {
     /// What stands there, and where.
     Head,

@@ -53,7 +53,7 @@ use Rattle.ksv_rules.specs.Wanted.{whole, in_object, wanted, expression, in_inte
 use Rattle.ksv_rules.specs.Integers.{integer_value}
 use Rattle.ksv_rules.specs.Values.{in_number, number_in, number_value, fixed_value, cut_by, cut_bytes, bytes_value, in_text, cut_text, text_value, content_value, choice_value, leaf_value, value_at, value_of}
 use Rattle.ksv_rules.specs.Ends.{fields_end, object_end, part_rest, list_end, gone_end, place_of, start_of, behind_element, is_last, is_by_bytes, not_empty, element_end, end_at, end_of, next_rest, rest_behind, rest_from, in_whole_list, first_rest, whole_rest, rest_at, rest_of}
-use Rattle.ksv_rules.specs.Served.{is_served}
+use Rattle.ksv_paths.specs.Served.{is_served}
 use Rattle.ksv_rules.specs.Meaning.{meaning_of, served_rule, rule_of}
 use Rattle.ksv_rules.specs.Heads.{leaf, leaf_to_end, terminated_at, terminated, run_of, sized_leaf, bytes_at, sized_object, object_at, content_at, shape_at, in_count, count_of, counted, until_end, repeated, attribute_at, part_end, attribute_start, attribute_head, member_at, member_head, in_list, is_past, in_next, next_start, element_start, element_head, head_at, head_of}
 

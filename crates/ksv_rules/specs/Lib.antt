@@ -9,12 +9,11 @@ pub mod Heads
 pub mod Values
 pub mod Ends
 pub mod Served
+pub mod PathTexts
 pub mod Meaning
 pub mod FromNothing
 pub mod Expressions
 pub mod Described
 pub mod Bounds
 pub mod Lawful
-pub mod PathTexts
-pub mod ServedCode
 pub mod Direct

@@ -13,7 +13,7 @@ use Rattle.ksv_nodes.specs.Rule.{Rule, raise}
 use Rattle.ksv_rules.specs.Heads.{head_of}
 use Rattle.ksv_rules.specs.Values.{value_of}
 use Rattle.ksv_rules.specs.Ends.{end_of, rest_of}
-use Rattle.ksv_rules.specs.Served.{is_served}
+use Rattle.ksv_paths.specs.Served.{is_served}
 
 unfoldable pub meaning_of : Description → Kind → Trail → Rule Given
 meaning_of d nodes.Head p = do

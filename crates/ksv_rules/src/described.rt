@@ -4,17 +4,17 @@ ghost use Rattle.std.specs.Prelude.{◌≡◌, ◌++◌, IfOk, OnOk, OnErr};
 ghost use Rattle.ksv_desc.specs.Whole.{plain_pieces};
 ghost use Rattle.ksv_memo.specs.Meaning.{IsAddedTo};
 ghost use Rattle.ksv_nodes.specs.Exact.{node_exact};
-ghost use Rattle.ksv_rules.specs.Served.{is_served};
+ghost use Rattle.ksv_paths.specs.Served.{is_served};
 ghost use Rattle.ksv_rules.specs.Described.{described};
 ghost use Rattle.ksv_rules.specs.Lawful.{described_lawful};
 
 use crate::rules::rule;
-use crate::serving::served;
 use ksv_bytes::{Buffer, Use};
 use ksv_desc::Desc;
 use ksv_expr::Fault;
 use ksv_memo::{Rules, Step};
 use ksv_nodes::{Given, Node, Stop, Turn};
+use ksv_paths::served;
 use std::alloc::{AllocError, Global};
 
 type Answer = Result<Given, Fault>;

@@ -1,7 +1,6 @@
 //! Laws of the rules of a description, each a contract of a function that does nothing.
 
 ghost use Rattle.ksv_rules.specs.Direct.{AnswersAreDirect, AsksAreDirect, AnswersFollowRules, NextMeetsTruth};
-ghost use Rattle.ksv_rules.specs.PathTexts.{TextsAreWritten};
 
 /// Evaluation from nothing by replies, as an engine has it, is evaluation from nothing by direct recursion on the rules: what a
 /// node answers, what it asks, and what it uses.
@@ -15,9 +14,4 @@ pub fn evaluation_is_direct()
 /// of its rule; what it uses is what the rule uses.
 pub fn next_meets_truth()
     ensures { NextMeetsTruth }
-{}
-
-/// A text that names a path is the text of that path: no path is named by two texts.
-pub fn texts_are_written()
-    ensures { TextsAreWritten }
 {}

@@ -1,0 +1,6 @@
+-- The lemmas of this crate.
+pub mod Cuts
+pub mod Digits
+pub mod PathTexts
+pub mod PathSpelling
+pub mod ServedForms

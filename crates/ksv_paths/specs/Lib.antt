@@ -1,0 +1,4 @@
+-- Paths as texts, and which descriptions are served.
+pub mod PathTexts
+pub mod Served
+pub mod ServedCode

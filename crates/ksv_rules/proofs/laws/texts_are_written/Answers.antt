@@ -1,5 +1,0 @@
-use Rattle.ksv_rules.proofs.PathSpelling.{texts_are_written}
-use Rattle.ksv_rules.proofs.laws.texts_are_written.Goals as goal
-
-pub returns : goal.returns
-returns c = texts_are_written
