@@ -4,7 +4,7 @@ use Rattle.ksv_yaml_tree.specs.Tree.{Tree}
 use Rattle.ksv_yaml.specs.Text.{Spells}
 use Rattle.ksv_desc.specs.Description.{Description}
 use Rattle.ksv_schema.specs.Outcome.{States}
-use Rattle.ksv_rules.specs.Served.{is_served}
+use Rattle.ksv_paths.specs.Served.{is_served}
 
 -- a text describes files by this description
 pub record Describes (text : List ℕ) (d : Description) : Type 0 where

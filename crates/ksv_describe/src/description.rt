@@ -9,7 +9,7 @@ ghost use Rattle.ksv_describe.specs.Accepted.{Describes};
 use ksv_desc::Desc;
 use ksv_expr_syntax::{ExprFault, ExprFaultKind};
 use ksv_lines::Stop;
-use ksv_rules::served;
+use ksv_paths::served;
 use ksv_schema::{DescFault, DescFaultKind, load};
 use ksv_yaml::{YamlFault, YamlKind, read};
 use std::alloc::Global;

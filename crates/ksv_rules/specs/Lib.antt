@@ -8,8 +8,6 @@ pub mod Wanted
 pub mod Heads
 pub mod Values
 pub mod Ends
-pub mod Served
-pub mod PathTexts
 pub mod Meaning
 pub mod FromNothing
 pub mod Expressions

@@ -5,7 +5,7 @@ use Rattle.hex.specs.Hex.{encode_lower, encode_with, lower_digits}
 use Rattle.ksv_expr_value.specs.declared.step.Step.{Step}
 use Rattle.ksv_expr_value.specs.declared.step.Step.TheVariants.{Index, Name}
 use Rattle.ksv_desc.specs.Description.{Description}
-use Rattle.ksv_rules.specs.PathTexts.{or_slash, steps_text}
+use Rattle.ksv_paths.specs.PathTexts.{or_slash, steps_text}
 use Rattle.ksv_session.specs.Questions.{bytes_text}
 use Rattle.ksv_session.specs.Commands.{is_question}
 use Rattle.ksv_session.specs.Replies.{may_be_refused}

@@ -7,7 +7,7 @@ use Rattle.ksv_lines.specs.Lines.{without_carriage_return, words_of}
 use Rattle.ksv_desc.specs.Description.{Description}
 use Rattle.ksv_session.specs.Numbers.{number_of}
 use Rattle.ksv_expr_value.specs.Trail.{Trail}
-use Rattle.ksv_rules.specs.PathTexts.{path_named}
+use Rattle.ksv_paths.specs.PathTexts.{path_named}
 use Rattle.ksv_session.specs.declared.command.Command.{Command}
 use Rattle.ksv_session.specs.declared.command.Command.TheVariants.{App, Blank, Get, Quit, Refused, Set, Size}
 use Rattle.ksv_session.specs.declared.refusal.LineRefusal.TheVariants as refusals

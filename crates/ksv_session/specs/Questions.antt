@@ -23,7 +23,7 @@ use Rattle.ksv_nodes.specs.declared.given.Head.TheVariants as heads
 use Rattle.ksv_nodes.specs.declared.node.Node.{Node}
 use Rattle.ksv_rules.specs.FromNothing.{from_nothing}
 use Rattle.ksv_desc.specs.Description.{Description, enum_id, member_id, type_id}
-use Rattle.ksv_rules.specs.PathTexts.{path_text}
+use Rattle.ksv_paths.specs.PathTexts.{path_text}
 
 -- a text, or a fault that stands in its way
 abbrev pub Told : Type 0

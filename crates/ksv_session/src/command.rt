@@ -9,7 +9,7 @@ use crate::refusal::LineRefusal;
 use ksv_desc::Desc;
 use ksv_expr_value::Path;
 use ksv_lines::{EditBytes, edit_bytes, line_text, next_word};
-use ksv_rules::path_of;
+use ksv_paths::path_of;
 use std::alloc::{AllocError, Global};
 
 /// The most bytes of a line, its LF aside.

@@ -2,7 +2,7 @@
 ghost use Rattle.std.specs.Prelude.{◌≡◌};
 ghost use Rattle.ksv_session.specs.Numbers.{number_of};
 
-use ksv_rules::decimal;
+use ksv_paths::decimal;
 
 /// The most digits of a number.
 const DIGIT_LIMIT: usize = 20;

@@ -1,7 +1,7 @@
 use Rattle.std.proofs.Common.{◌≡◌, ◌∙◌, ◌++◌, ap, string_bytes, subst, sym}
 use Rattle.std.specs.Prelude.{OnOk}
 use Rattle.ksv_desc.specs.Whole.{plain_pieces}
-use Rattle.ksv_rules.specs.PathTexts.{or_slash, steps_text}
+use Rattle.ksv_paths.specs.PathTexts.{or_slash, steps_text}
 use Rattle.ksv_session.proofs.QuestionLemmas.{path_told}
 use Rattle.ksv_session.proofs.text.push_path.Goals as goal
 

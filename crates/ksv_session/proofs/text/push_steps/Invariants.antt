@@ -1,5 +1,5 @@
 use Rattle.std.proofs.Common.{◌≡◌, ◌++◌, take, string_bytes}
-use Rattle.ksv_rules.specs.PathTexts.{steps_text}
+use Rattle.ksv_paths.specs.PathTexts.{steps_text}
 use Rattle.ksv_desc.specs.Whole.{plain_pieces}
 use Rattle.ksv_session.proofs.text.push_steps.Given as goal
 
