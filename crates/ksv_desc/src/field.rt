@@ -15,7 +15,7 @@ pub enum Extent {
 }
 
 /// A byte that ends something.
-#[derive(Clone, Copy, PartialEq, Eq, Debug)]
+#[derive(Clone, Copy)]
 pub struct Terminator {
     /// The byte.
     pub byte: u8,

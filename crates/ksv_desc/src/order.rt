@@ -1,7 +1,7 @@
 //! Which byte of an integer comes first.
 
 /// The order of an integer's bytes.
-#[derive(Clone, Copy, PartialEq, Eq, Debug)]
+#[derive(Clone, Copy, Debug)]
 pub enum ByteOrder {
     /// The lowest byte first, `le`.
     Little,

@@ -6,7 +6,7 @@ ghost use Rattle.ksv_schema_names.specs.BuiltIn.{Integer, is_width, before_order
 use ksv_schema_scope::ByteOrder;
 
 /// A type of the language.
-#[derive(Clone, Copy, PartialEq, Eq, Debug)]
+#[derive(Clone, Copy, Debug)]
 pub enum BuiltIn {
     /// `u1` to `s8be`
     Integer {

@@ -26,7 +26,7 @@ pub enum Site {
 }
 
 /// Where an expression stands.
-#[derive(Clone, Copy, PartialEq, Eq, Debug)]
+#[derive(Clone, Copy)]
 pub struct Position {
     /// The key.
     pub site: Site,
@@ -37,7 +37,7 @@ pub struct Position {
 }
 
 /// What is wrong with a name in an expression.
-#[derive(Clone, Copy, PartialEq, Eq, Debug)]
+#[derive(Clone, Copy)]
 pub enum NameFault {
     /// Nothing has this name here.
     Unknown,

@@ -7,7 +7,7 @@ ghost use Rattle.ksv_schema_scope.specs.MemberRows.{member_of};
 use ksv_yaml_tree::Yaml;
 
 /// Where a member stands.
-#[derive(Clone, Copy, PartialEq, Eq, Debug)]
+#[derive(Clone, Copy, Debug)]
 pub enum Role {
     /// In `params`.
     Parameter,

@@ -5,7 +5,7 @@ ghost use Rattle.std.specs.Str.Parse.{digits_value};
 ghost use Rattle.ksv_schema_scope.specs.Numerals.{is_numeral, whole_to, decimal_to, hexadecimal_to, opposite, plain_number, signed_number};
 
 /// What a text says where a plain number is wanted.
-#[derive(Clone, Copy, PartialEq, Eq, Debug)]
+#[derive(Clone, Copy, Debug)]
 pub enum Numeral {
     /// A number.
     Whole(i128),

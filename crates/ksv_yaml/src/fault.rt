@@ -10,7 +10,7 @@ use thiserror::Error;
 /// What is wrong with a text.
 ///
 /// Y2 and Y1 are looked for first, in this order; of the others that are true of the line that is named, the first of Y3, Y5, Y9, Y7, Y4, Y8 and Y6 is given.
-#[derive(Debug, Clone, Copy, PartialEq, Eq, Error)]
+#[derive(Debug, Clone, Copy, Error)]
 pub enum YamlKind {
     /// Y1: the text isn't UTF-8; the line is that of the first bad byte.
     #[error("not UTF-8")]
@@ -65,7 +65,7 @@ impl YamlKind {
 }
 
 /// Why a text has no tree, and the line, from 1, that shows it: no text that begins with the lines up to this one has a tree.
-#[derive(Debug, Clone, Copy, PartialEq, Eq, Error)]
+#[derive(Debug, Clone, Copy, Error)]
 #[error("line {line}: {kind}")]
 pub struct YamlFault {
     pub line: usize,
@@ -73,7 +73,7 @@ pub struct YamlFault {
 }
 
 /// What is wrong with the lines of a text.
-#[derive(Debug, Clone, Copy, PartialEq, Eq)]
+#[derive(Clone, Copy, PartialEq, Eq)]
 pub(crate) enum ReadKind {
     Tab,
     Indentation,
@@ -86,7 +86,7 @@ pub(crate) enum ReadKind {
 }
 
 /// Why lines have no tree, and the number of the line that shows it.
-#[derive(Debug, Clone, Copy, PartialEq, Eq)]
+#[derive(Clone, Copy)]
 pub(crate) struct ReadFault {
     pub(crate) line: usize,
     pub(crate) kind: ReadKind,

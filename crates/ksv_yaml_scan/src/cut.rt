@@ -14,7 +14,7 @@ use std::alloc::{AllocError, Global};
 pub const MAX_LENGTH: usize = 1_048_576;
 
 /// A text's lines.
-#[derive(Debug, PartialEq, Eq, Drop)]
+#[derive(Drop)]
 pub struct Text<'a> {
     /// The lines, in order.
     pub lines: Vec<Line<'a>>,

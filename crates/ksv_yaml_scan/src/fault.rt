@@ -5,30 +5,24 @@ ghost use Rattle.ksv_yaml_scan.specs.declared.fault.ScanError.TheVariants as sca
 ghost use Rattle.ksv_yaml_scan.specs.declared.fault.LineError.TheVariants as on_line;
 
 use std::alloc::{AllocError, AllocFailed};
-use thiserror::Error;
 
 /// What is wrong with what stands on a line.
-#[derive(Debug, Clone, Copy, PartialEq, Eq, Error)]
+#[derive(Debug, Clone, Copy)]
 pub enum Fault {
     /// A tab stands in front of what begins on the line.
-    #[error("tab in the indentation")]
     Tab,
     /// A quote has no end on its line.
-    #[error("not closed")]
     NotClosed,
     /// A line of a block scalar has less than the scalar's indentation, or its first line that isn't blank stands behind a blank line of more spaces.
-    #[error("indentation fits no level")]
     Indentation,
     /// A colon before white space or the line's end stands in a line that goes on with a plain scalar.
-    #[error("value in a key's place")]
     ValueForKey,
     /// A form of YAML that the subset leaves out, or none at all.
-    #[error("left-out form")]
     LeftOut,
 }
 
 /// A fault, and the number of its line.
-#[derive(Debug, Clone, Copy, PartialEq, Eq)]
+#[derive(Debug, Clone, Copy)]
 pub struct LineFault {
     /// The line's number, counted from 1.
     pub line: usize,
@@ -37,38 +31,31 @@ pub struct LineFault {
 }
 
 /// Why there is no answer about a line.
-#[derive(Debug, Clone, Copy, PartialEq, Eq, Error)]
+#[derive(Debug, Clone, Copy)]
 pub enum ScanError {
     /// The line is wrong.
-    #[error("{0}")]
     Fault(Fault),
     /// Memory ran out.
-    #[error("no memory")]
     NoMemory,
 }
 
 /// Why there is no answer about lines.
-#[derive(Debug, Clone, Copy, PartialEq, Eq, Error)]
+#[derive(Debug, Clone, Copy)]
 pub enum LineError {
     /// One of the lines is wrong.
-    #[error("line {}: {}", .0.line, .0.fault)]
     Fault(LineFault),
     /// Memory ran out.
-    #[error("no memory")]
     NoMemory,
 }
 
 /// Why a text has no lines.
-#[derive(Debug, Clone, Copy, PartialEq, Eq, Error)]
+#[derive(Debug, Clone, Copy)]
 pub enum TextError {
     /// It has more than [`crate::cut::MAX_LENGTH`] bytes.
-    #[error("too long")]
     TooLong,
     /// It isn't UTF-8; the first bad byte stands on this line.
-    #[error("line {line}: not UTF-8")]
     NotUtf8 { line: usize },
     /// Memory ran out.
-    #[error("no memory")]
     NoMemory,
 }
 

@@ -15,7 +15,7 @@ use crate::white::{is_white, next, skip};
 use std::alloc::{AllocError, Global};
 
 /// A part of a flow node, and the number of its line.
-#[derive(Debug, PartialEq, Eq, Drop)]
+#[derive(Drop)]
 pub struct Token {
     /// The line's number, counted from 1.
     pub line: usize,
@@ -24,7 +24,7 @@ pub struct Token {
 }
 
 /// A part of a flow node.
-#[derive(Debug, PartialEq, Eq, Drop)]
+#[derive(Debug, Drop)]
 pub enum Part {
     /// `[`
     Open,
@@ -43,7 +43,7 @@ pub enum Part {
 }
 
 /// The parts that stand on lines.
-#[derive(Debug, PartialEq, Eq, Drop)]
+#[derive(Drop)]
 pub struct Parts {
     /// The parts, in order, up to the fault if there is one.
     pub tokens: Vec<Token>,

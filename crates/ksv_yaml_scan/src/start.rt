@@ -14,7 +14,7 @@ use crate::white::{is_clear, is_white, is_white_or_end, next, shown, skip};
 use std::alloc::Global;
 
 /// A scalar or a flow node.
-#[derive(Debug, PartialEq, Eq, Drop)]
+#[derive(Debug, Drop)]
 pub enum Kind {
     /// A plain scalar: its text on this line, and whether a comment ends it.
     Plain { text: Vec<u8>, commented: bool },
@@ -27,7 +27,7 @@ pub enum Kind {
 }
 
 /// What begins on a line.
-#[derive(Debug, PartialEq, Eq, Drop)]
+#[derive(Drop)]
 pub enum Start<'a> {
     /// The line says nothing.
     Nothing,

@@ -5,7 +5,7 @@ ghost use Rattle.ksv_yaml_tree.specs.Tree.{Tree, Seq, line_of, text_of, is_quote
 ghost use Rattle.ksv_yaml_tree.specs.View.{items_of, entries_of, view, pair, seen_text, seen_items, seen_entries, seen_entry};
 
 /// A node of a text, with the line on which it begins, from 1.
-#[derive(Debug, Drop)]
+#[derive(Drop)]
 #[cycle(tree)]
 pub enum Yaml {
     /// A plain, quoted or block scalar: its text in UTF-8, and whether it was quoted.
@@ -28,7 +28,7 @@ pub enum Yaml {
 }
 
 /// An entry of a mapping: its key with the line on which that stands, and its value.
-#[derive(Debug, Drop)]
+#[derive(Drop)]
 #[cycle(tree)]
 pub struct Entry {
     pub line: usize,
