@@ -13,11 +13,11 @@ ghost use Rattle.ksv_yaml_scan.specs.Views.{line_view, lines_view, RefusesText};
 use crate::block::misplaced;
 use crate::fault::{ReadFault, ReadKind, YamlFault, YamlKind, published};
 use crate::reader::{next, node};
-use ksv_yaml_tree::Yaml;
 use ksv_yaml_scan::cut::{Text, cut};
 use ksv_yaml_scan::fault::TextError;
 use ksv_yaml_scan::line::Line;
 use ksv_yaml_scan::quiet::{is_quiet, skip_quiet};
+use ksv_yaml_tree::Yaml;
 use std::alloc::Global;
 
 /// How many mappings, sequences and flow nodes may stand in each other.

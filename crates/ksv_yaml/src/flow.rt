@@ -9,8 +9,8 @@ ghost use Rattle.ksv_yaml_scan.specs.Views.{tokens_view};
 use crate::fault::{ReadFault, ReadKind};
 use crate::keys::{add_key, no_keys};
 use crate::make::{make_entry, make_list, make_mapping, make_text};
-use ksv_yaml_tree::{Entry, Yaml};
 use ksv_yaml_scan::flow::{Part, Token};
+use ksv_yaml_tree::{Entry, Yaml};
 use std::alloc::Global;
 
 /// The part at the front, and those behind it.

@@ -12,12 +12,12 @@ use crate::block::{Open, misplaced};
 use crate::fault::{ReadFault, ReadKind};
 use crate::flow::too_deep;
 use crate::keys::{add_key, no_keys};
-use crate::scalar::{scalar, start_at};
 use crate::make::{make_entry, make_list, make_mapping, make_text};
-use ksv_yaml_tree::{Entry, Yaml};
+use crate::scalar::{scalar, start_at};
 use ksv_yaml_scan::line::Line;
 use ksv_yaml_scan::quiet::skip_quiet;
 use ksv_yaml_scan::start::{Start, is_dash};
+use ksv_yaml_tree::{Entry, Yaml};
 use std::alloc::Global;
 
 /// Where a loop stands: at a line, with those behind it.

@@ -11,7 +11,6 @@ use crate::block::{Open, misplaced_in};
 use crate::fault::{ReadFault, ReadKind, at_line, kind_of, no_memory};
 use crate::flow::{flow_node, left_over};
 use crate::make::make_text;
-use ksv_yaml_tree::Yaml;
 use ksv_yaml_scan::block::block_scalar;
 use ksv_yaml_scan::fault::ScanError;
 use ksv_yaml_scan::flow::flow_parts;
@@ -19,6 +18,7 @@ use ksv_yaml_scan::line::Line;
 use ksv_yaml_scan::plain::continue_plain;
 use ksv_yaml_scan::quiet::{block_lines, flow_lines, skip_quiet};
 use ksv_yaml_scan::start::{Kind, Start, read_start};
+use ksv_yaml_tree::Yaml;
 use std::alloc::Global;
 
 /// What begins on a line, or in the midst of one, with this content.
