@@ -3,6 +3,6 @@ pub mod Joined
 pub mod Made
 pub mod Named
 pub mod Naming
-pub mod Types
+pub mod EachType
 pub mod Parts
 pub mod Entries

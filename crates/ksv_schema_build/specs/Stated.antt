@@ -25,6 +25,7 @@ use Rattle.ksv_schema_names.specs.Numbered.{given_member, numbered, all_numbered
 use Rattle.ksv_desc.specs.Names.{distinct, distinct_behind, number_in, dotted, all_dotted}
 use Rattle.ksv_schema_names.specs.declared.position.Site.TheVariants as sites
 use Rattle.ksv_expr_value.specs.declared.encoding.Encoding.{Encoding}
+use Rattle.ksv_desc.specs.Description.{Content, Bytes, Fixed, Number, Characters, Object, CaseValue, Literal, Negated, EnumValue, Case, Choice, Always, Switch, Extent, Sized, ToEnd, ByItself, Terminator, Repeat, Once, UntilEnd, Times, Until, Field, Kind, Given, InSequence, Positioned, Calculated, MemberOfType, TypeOfObjects, Numbered, Enum, Description, as_text}
 use Rattle.ksv_schema_keys.specs.Keys as forms
 use Rattle.ksv_schema_keys.specs.Keys.{Form, Key, key, positioned_keys, switch_keys, form_in}
 use Rattle.ksv_schema_keys.specs.Expressions.{expression_of}
