@@ -4,5 +4,4 @@ pub mod Made
 pub mod Named
 pub mod Naming
 pub mod EachType
-pub mod Parts
 pub mod Entries
