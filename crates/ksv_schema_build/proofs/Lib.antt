@@ -3,6 +3,5 @@ pub mod Joined
 pub mod Made
 pub mod Named
 pub mod Naming
-pub mod Types
-pub mod Parts
+pub mod EachType
 pub mod Entries

@@ -2,4 +2,3 @@
 pub mod Stated
 pub mod Entries
 pub mod Contexts
-pub mod Code

@@ -1,12 +1,10 @@
 -- The description that a tree states: its types with their members, its enums, and the names of all members. Types, enums and
 -- names are known by their numbers; every name is found already.
-use Rattle.std.specs.Prelude.{ℕ, ◌+◌, Bool, true, false, if◌then◌else◌, ◌==◌, ℤ, List, [], ◌∷◌, ◌++◌, length, map, filter, flat_map, find, take, codes, Option, Some, None, is_some, option_map, option_and_then, unwrap_or, slice_get}
-use Rattle.std.specs.List.{list_all, position_from}
+use Rattle.std.specs.Prelude.{ℕ, ◌+◌, Bool, if◌then◌else◌, ◌==◌, List, [], ◌∷◌, ◌++◌, length, map, filter, flat_map, codes, Option, Some, None, is_some, option_map}
+use Rattle.std.specs.List.{list_all}
 use Rattle.std.specs.Option.{option_map_or}
-use Rattle.std.specs.Ordering.{int_eq}
 use Rattle.std.specs.Str.{bytes_eq, is_utf8}
 use Rattle.ksv_yaml_tree.specs.Tree.{Tree, Pair, text_of, mapping_of, entry_at}
-use Rattle.ksv_expr_tree.specs.declared.tree.EnumMember.{EnumMember}
 use Rattle.ksv_expr_syntax.specs.Reading.{◌>>=◌}
 use Rattle.ksv_expr_tree.specs.Tree.{Arguments}
 use Rattle.ksv_expr_tree.specs.Tree as expressions
@@ -25,6 +23,7 @@ use Rattle.ksv_schema_names.specs.Numbered.{given_member, numbered, all_numbered
 use Rattle.ksv_desc.specs.Names.{distinct, distinct_behind, number_in, dotted, all_dotted}
 use Rattle.ksv_schema_names.specs.declared.position.Site.TheVariants as sites
 use Rattle.ksv_expr_value.specs.declared.encoding.Encoding.{Encoding}
+use Rattle.ksv_desc.specs.Description.{Content, Bytes, Fixed, Number, Characters, Object, CaseValue, Literal, Negated, EnumValue, Case, Choice, Always, Switch, Extent, Sized, ToEnd, ByItself, Terminator, Repeat, Once, UntilEnd, Times, Until, Field, Kind, Given, InSequence, Positioned, Calculated, MemberOfType, TypeOfObjects, Numbered, Enum, Description, as_text}
 use Rattle.ksv_schema_keys.specs.Keys as forms
 use Rattle.ksv_schema_keys.specs.Keys.{Form, Key, key, positioned_keys, switch_keys, form_in}
 use Rattle.ksv_schema_keys.specs.Expressions.{expression_of}

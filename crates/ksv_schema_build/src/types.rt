@@ -14,7 +14,7 @@ use ksv_schema_scope::Scopes;
 use std::alloc::{AllocError, Global};
 
 /// The type `n`.
-#[tactic(auto, using(crate::proofs::Types::steps), unfolding(crate::specs::Stated::type_of))]
+#[tactic(auto, using(crate::proofs::EachType::steps), unfolding(crate::specs::Stated::type_of))]
 fn type_of(
     alloc: Global,
     scopes: &Scopes,
