@@ -1,6 +1,6 @@
-//! Edits of a buffer, and its limit.
+//! Edits of a buffer, its limit, and what an edit touches.
 
-use ksv_bytes::{Buffer, EditRefusal, FILE_LIMIT, Window};
+use ksv_bytes::{Buffer, Change, EditRefusal, FILE_LIMIT, Use, Window, touches};
 use std::test::Fail;
 
 #[test]
@@ -32,4 +32,24 @@ fn holds_no_more_than_the_limit(rt: HostRuntime) -> Result<(), Fail> {
     };
     assert!(rt; large.bytes.len() == FILE_LIMIT + 1);
     Ok(())
+}
+
+/// Whether an overwrite of two bytes at 2, an insert and a delete of one there, and an append touch a use as it is said.
+fn is_touched(used: Use, by_overwrite: bool, by_shift: bool, by_append: bool) -> bool {
+    touches(Change::Overwrite { at: 2, n: 2 }, used) == by_overwrite
+        && touches(Change::Insert { at: 2, n: 1 }, used) == by_shift
+        && touches(Change::Delete { at: 2, n: 1 }, used) == by_shift
+        && touches(Change::Append, used) == by_append
+}
+
+#[test]
+fn touches_what_an_edit_may_change(rt: HostRuntime) {
+    let is_right = is_touched(Use::Bytes(0, 2), false, false, false)
+        && is_touched(Use::Bytes(0, 3), true, true, false)
+        && is_touched(Use::Bytes(3, 4), true, true, false)
+        && is_touched(Use::Bytes(4, 9), false, true, false)
+        && is_touched(Use::Reach(2), false, false, false)
+        && is_touched(Use::Reach(3), false, true, false)
+        && is_touched(Use::Size, false, true, true);
+    assert!(rt; is_right);
 }
