@@ -137,8 +137,10 @@ fn nodes_are_answered_in_order(rt: HostRuntime) -> Result<(), Fail> {
     let bytes = Buffer::new(Vec::new(alloc))?;
     let replies = replies(alloc)?;
     let mut turn = Turn::new(alloc, &here, &bytes, &replies);
-    let has_head = matches!(turn.head(here.copy(alloc)?), Ok(Head::Gone(Some(3))));
-    let has_value = matches!(turn.value(here.copy(alloc)?), Ok(Value::Bool(true)));
+    let head = turn.head(here.copy(alloc)?);
+    let has_head = matches!(head, Ok(Head::Gone(Some(3))));
+    let value = turn.value(here.copy(alloc)?);
+    let has_value = matches!(value, Ok(Value::Bool(true)));
     let ended = turn.end(here.copy(alloc)?);
     let has_end = matches!(
         ended,
@@ -149,7 +151,8 @@ fn nodes_are_answered_in_order(rt: HostRuntime) -> Result<(), Fail> {
     );
     let rested = turn.rest(here.copy(alloc)?);
     let has_rest = matches!(rested, Ok(Rested { count: 2, place: 9 }));
-    let is_needed = match turn.rest(here.copy(alloc)?) {
+    let missing = turn.rest(here.copy(alloc)?);
+    let is_needed = match missing {
         Err(Stop::Need(node)) => node.kind == Kind::Rest && node.path == here,
         _ => false,
     };
@@ -186,7 +189,8 @@ fn a_fault_of_an_asked_node_is_handed_on(rt: HostRuntime) -> Result<(), Fail> {
     let path = there.copy(alloc)?;
     replies.push(Err(Fault { kind, path }))?;
     let mut turn = Turn::new(alloc, &here, &bytes, &replies);
-    let is_right = match turn.head(there.copy(alloc)?) {
+    let head = turn.head(there.copy(alloc)?);
+    let is_right = match head {
         Err(Stop::Fault(fault)) => fault.kind == kind && fault.path == there,
         _ => false,
     };
