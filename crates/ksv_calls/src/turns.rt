@@ -130,6 +130,14 @@ fn kind_of<T: Drop>(ended: Result<T, Stop>) -> Option<FaultKind> {
     }
 }
 
+/// The fault by which a call ended.
+fn fault<T: Drop>(ended: Result<T, Stop>) -> Result<Fault, Fail> {
+    match ended {
+        Err(Stop::Fault(fault)) => Ok(fault),
+        _ => Err(Fail::from("no fault")),
+    }
+}
+
 #[test]
 fn nodes_are_answered_in_order(rt: HostRuntime) -> Result<(), Fail> {
     let alloc = rt.alloc();
@@ -137,26 +145,27 @@ fn nodes_are_answered_in_order(rt: HostRuntime) -> Result<(), Fail> {
     let bytes = Buffer::new(Vec::new(alloc))?;
     let replies = replies(alloc)?;
     let mut turn = Turn::new(alloc, &here, &bytes, &replies);
-    let head = turn.head(here.copy(alloc)?);
-    let has_head = matches!(head, Ok(Head::Gone(Some(3))));
-    let value = turn.value(here.copy(alloc)?);
-    let has_value = matches!(value, Ok(Value::Bool(true)));
+    assert!(rt; matches!(turn.head(here.copy(alloc)?), Ok(Head::Gone(Some(3)))));
+    assert!(rt; matches!(turn.value(here.copy(alloc)?), Ok(Value::Bool(true))));
     let ended = turn.end(here.copy(alloc)?);
-    let has_end = matches!(
-        ended,
-        Ok(Ended {
-            place: 5,
-            last: true
-        })
+    assert!(rt;
+        matches!(
+            ended,
+            Ok(Ended {
+                place: 5,
+                last: true
+            })
+        )
     );
     let rested = turn.rest(here.copy(alloc)?);
-    let has_rest = matches!(rested, Ok(Rested { count: 2, place: 9 }));
-    let missing = turn.rest(here.copy(alloc)?);
-    let is_needed = match missing {
-        Err(Stop::Need(node)) => node.kind == Kind::Rest && node.path == here,
-        _ => false,
-    };
-    assert!(rt; has_head && has_value && has_end && has_rest && is_needed);
+    assert!(rt; matches!(rested, Ok(Rested { count: 2, place: 9 })));
+    match turn.rest(here.copy(alloc)?) {
+        Err(Stop::Need(node)) => {
+            assert!(rt; node.kind == Kind::Rest);
+            assert!(rt; node.path == here);
+        }
+        _ => return Err(Fail::from("a fifth reply")),
+    }
     assert!(rt; turn.into_uses().is_empty());
     Ok(())
 }
@@ -189,12 +198,9 @@ fn a_fault_of_an_asked_node_is_handed_on(rt: HostRuntime) -> Result<(), Fail> {
     let path = there.copy(alloc)?;
     replies.push(Err(Fault { kind, path }))?;
     let mut turn = Turn::new(alloc, &here, &bytes, &replies);
-    let head = turn.head(there.copy(alloc)?);
-    let is_right = match head {
-        Err(Stop::Fault(fault)) => fault.kind == kind && fault.path == there,
-        _ => false,
-    };
-    assert!(rt; is_right);
+    let fault = fault(turn.head(there.copy(alloc)?))?;
+    assert!(rt; fault.kind == kind);
+    assert!(rt; fault.path == there);
     Ok(())
 }
 
