@@ -3,7 +3,7 @@
 use ksv_bytes::Buffer;
 use ksv_expr::{Fault, Path, Step};
 use ksv_memo::{Answer, Engine};
-use ksv_rules::{Described, Given, Head, Kind, Node, decimal, path_of};
+use ksv_rules::{Described, Given, Head, Node, NodeKind, decimal, path_of};
 use ksv_schema::{Desc, load};
 use ksv_yaml::read;
 use std::alloc::{AllocError, Global};
@@ -124,7 +124,7 @@ fn given_text(alloc: Global, given: &Given) -> Result<String, AllocError> {
             format!(in alloc; "object {} at {}", object.type_number, object.start)
         }
         Given::Head(Head::List(list)) => format!(in alloc; "list at {}", list.start),
-        Given::Head(Head::Gone(_)) => String::from_str(alloc, "gone"),
+        Given::Head(Head::Absent(_)) => String::from_str(alloc, "gone"),
         Given::Value(_) => String::from_str(alloc, "a value"),
         Given::End { place, last } => format!(in alloc; "end {place}, {last}"),
         Given::Rest { count, place } => format!(in alloc; "{count} elements, end {place}"),
@@ -141,7 +141,7 @@ fn answer(
     alloc: Global,
     rules: &Described,
     bytes: &Buffer,
-    kind: Kind,
+    kind: NodeKind,
     path: &str,
 ) -> Result<String, Fail> {
     let Some(path) = path_of(alloc, rules.desc(), path.as_bytes())? else {
@@ -158,12 +158,12 @@ fn answer(
     }
 }
 
-fn kind_of(word: &str) -> Kind {
+fn kind_of(word: &str) -> NodeKind {
     match word {
-        "head" => Kind::Head,
-        "value" => Kind::Value,
-        "end" => Kind::End,
-        _ => Kind::Rest,
+        "head" => NodeKind::Head,
+        "value" => NodeKind::Value,
+        "end" => NodeKind::End,
+        _ => NodeKind::Rest,
     }
 }
 
@@ -186,7 +186,7 @@ fn a_size_behind_is_a_circle(rt: HostRuntime) -> Result<(), Fail> {
     let alloc = rt.alloc();
     let bytes = Buffer::new(b"\x01\x01".to_vec(alloc)?)?;
     let rules = Described::new(described(alloc, CIRCLE)?);
-    let found = answer(alloc, &rules, &bytes, Kind::Value, "/a")?;
+    let found = answer(alloc, &rules, &bytes, NodeKind::Value, "/a")?;
     assert_eq!(rt; found.as_str(), "circle at /a");
     Ok(())
 }

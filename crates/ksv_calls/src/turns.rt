@@ -2,7 +2,7 @@
 
 use ksv_bytes::Buffer;
 use ksv_expr::{Fault, FaultKind, Parts, Path, Step, Stream, Value};
-use ksv_nodes::{Ended, Given, Head, Kind, Node, Rested, Stop, Turn, first_in_parts};
+use ksv_nodes::{Ended, Given, Halt, Head, Node, NodeKind, Rested, Turn, first_in_parts};
 use std::alloc::{AllocError, Global};
 use std::test::Fail;
 
@@ -58,7 +58,7 @@ fn read(
     word: &str,
     first: u32,
     second: u32,
-) -> Result<String, Stop> {
+) -> Result<String, Halt> {
     Ok(match word {
         "reach" => {
             turn.reach(stream, u128::from(first))?;
@@ -85,7 +85,7 @@ fn outcome(alloc: Global, bytes: &Buffer, row: &str) -> Result<String, Fail> {
     let mut turn = Turn::new(alloc, &here, bytes, &[]);
     let seen = match read(alloc, &mut turn, stream, word, first, second) {
         Ok(seen) => seen,
-        Err(Stop::Fault(fault)) => String::from_str(alloc, fault.kind.name())?,
+        Err(Halt::Fault(fault)) => String::from_str(alloc, fault.kind.name())?,
         Err(_) => return Err(Fail::from("no memory, or a node was needed")),
     };
     Ok(format!(in alloc; "{seen} {:?}", turn.into_uses().as_slice())?)
@@ -113,7 +113,7 @@ fn add(alloc: Global, replies: &mut Replies, given: &Given) -> Result<(), AllocE
 /// One reply of each form.
 fn replies(alloc: Global) -> Result<Replies, AllocError> {
     let mut replies = Vec::new(alloc);
-    add(alloc, &mut replies, &Given::Head(Head::Gone(Some(3))))?;
+    add(alloc, &mut replies, &Given::Head(Head::Absent(Some(3))))?;
     add(alloc, &mut replies, &Given::Value(Value::Bool(true)))?;
     let (place, last) = (5, true);
     add(alloc, &mut replies, &Given::End { place, last })?;
@@ -123,17 +123,17 @@ fn replies(alloc: Global) -> Result<Replies, AllocError> {
 }
 
 /// The kind of the fault by which a call ended.
-fn kind_of<T: Drop>(ended: Result<T, Stop>) -> Option<FaultKind> {
+fn kind_of<T: Drop>(ended: Result<T, Halt>) -> Option<FaultKind> {
     match ended {
-        Err(Stop::Fault(fault)) => Some(fault.kind),
+        Err(Halt::Fault(fault)) => Some(fault.kind),
         _ => None,
     }
 }
 
 /// The fault by which a call ended.
-fn fault<T: Drop>(ended: Result<T, Stop>) -> Result<Fault, Fail> {
+fn fault<T: Drop>(ended: Result<T, Halt>) -> Result<Fault, Fail> {
     match ended {
-        Err(Stop::Fault(fault)) => Ok(fault),
+        Err(Halt::Fault(fault)) => Ok(fault),
         _ => Err(Fail::from("no fault")),
     }
 }
@@ -145,7 +145,7 @@ fn nodes_are_answered_in_order(rt: HostRuntime) -> Result<(), Fail> {
     let bytes = Buffer::new(Vec::new(alloc))?;
     let replies = replies(alloc)?;
     let mut turn = Turn::new(alloc, &here, &bytes, &replies);
-    assert!(rt; matches!(turn.head(here.copy(alloc)?), Ok(Head::Gone(Some(3)))));
+    assert!(rt; matches!(turn.head(here.copy(alloc)?), Ok(Head::Absent(Some(3)))));
     assert!(rt; matches!(turn.value(here.copy(alloc)?), Ok(Value::Bool(true))));
     let ended = turn.end(here.copy(alloc)?);
     assert!(rt;
@@ -160,8 +160,8 @@ fn nodes_are_answered_in_order(rt: HostRuntime) -> Result<(), Fail> {
     let rested = turn.rest(here.copy(alloc)?);
     assert!(rt; matches!(rested, Ok(Rested { count: 2, place: 9 })));
     match turn.rest(here.copy(alloc)?) {
-        Err(Stop::Need(node)) => {
-            assert!(rt; node.kind == Kind::Rest);
+        Err(Halt::Need(node)) => {
+            assert!(rt; node.kind == NodeKind::Rest);
             assert!(rt; node.path == here);
         }
         _ => return Err(Fail::from("a fifth reply")),
@@ -219,7 +219,7 @@ fn is_too_long(alloc: Global, path: &Path, step: Step) -> Result<bool, Fail> {
     let bytes = Buffer::new(Vec::new(alloc))?;
     let turn = Turn::new(alloc, path, &bytes, &[]);
     match turn.part(path, step) {
-        Err(Stop::Fault(fault)) => Ok(fault.kind == FaultKind::PathTooLong && fault.path == *path),
+        Err(Halt::Fault(fault)) => Ok(fault.kind == FaultKind::PathTooLong && fault.path == *path),
         _ => Ok(false),
     }
 }
@@ -246,7 +246,7 @@ fn parts_have_paths_that_fit(rt: HostRuntime) -> Result<(), Fail> {
 fn a_copy_of_a_node_is_the_same(rt: HostRuntime) -> Result<(), Fail> {
     let alloc = rt.alloc();
     let path = part(alloc, &Path::root(alloc), Step::Index(7))?;
-    let kind = Kind::Rest;
+    let kind = NodeKind::Rest;
     let node = Node { kind, path };
     assert!(rt; node.copy(alloc)? == node);
     Ok(())

@@ -65,7 +65,7 @@ fn add_type(desc: &Desc, number: u32, found: &mut String) -> Result<(), AllocErr
 fn count_in_sequence(desc: &Desc, number: u32) -> Option<usize> {
     let mut count = 0usize;
     for member in desc.type_desc(number)?.members() {
-        if member.is_in_sequence() {
+        if member.is_attribute() {
             count = count.saturating_add(1);
         }
     }

@@ -15,7 +15,7 @@ use ksv_yaml_scan::flow::{Part, flow_parts};
 use ksv_yaml_scan::line::Line;
 use ksv_yaml_scan::plain::continue_plain;
 use ksv_yaml_scan::quiet::{block_lines, flow_lines, is_quiet, skip_quiet};
-use ksv_yaml_scan::start::{Kind, Start, is_dash, read_start};
+use ksv_yaml_scan::start::{InlineKind, Start, is_dash, read_start};
 use std::alloc::{AllocError, Global};
 
 /// Adds what is answered to questions about lines.
@@ -186,14 +186,14 @@ fn add_what_starts(start: &Start<'_>, found: &mut String) -> Result<(), AllocErr
 }
 
 /// Adds a scalar or flow node that begins on a line.
-fn add_kind(kind: &Kind, found: &mut String) -> Result<(), AllocError> {
+fn add_kind(kind: &InlineKind, found: &mut String) -> Result<(), AllocError> {
     match kind {
-        Kind::Plain { text, commented } => {
+        InlineKind::Plain { text, commented } => {
             found.push_str(" plain")?;
             add_text(found, text.as_slice())?;
             add(found, commented)
         }
-        Kind::Quoted { text } => {
+        InlineKind::Quoted { text } => {
             found.push_str(" quoted")?;
             add_text(found, text.as_slice())
         }

@@ -129,10 +129,10 @@ fn add_member(scopes: &Scopes<'_>, number: usize, found: &mut String) -> Result<
     let Some(member) = scopes.members().get(number) else {
         return found.push_str(" nothing");
     };
-    add(found, &member.within())?;
-    add_debug(found, &member.role())?;
+    add(found, &member.within)?;
+    add_debug(found, &member.role)?;
     add_word(found, Some(member.name()))?;
-    add(found, &member.line())
+    add(found, &member.line)
 }
 
 /// Adds whether a member has a key, the text that stands there, and whether it is this one.
@@ -146,7 +146,7 @@ fn add_said(
     let Some(member) = scopes.members().get(number) else {
         return found.push_str(" nothing");
     };
-    let entries = entries_in(member.value());
+    let entries = entries_in(member.value);
     add(found, &has(entries, key.as_bytes()))?;
     add_word(found, text_at(entries, key.as_bytes()))?;
     add(found, &says(entries, key.as_bytes(), text.as_bytes()))
@@ -169,11 +169,11 @@ fn add_enum(scopes: &Scopes<'_>, number: usize, found: &mut String) -> Result<()
     let Some(it) = scopes.enums().get(number) else {
         return found.push_str(" nothing");
     };
-    add(found, &it.within())?;
-    add_word(found, Some(it.id()))?;
-    add(found, &it.line())?;
+    add(found, &it.within)?;
+    add_word(found, Some(it.id))?;
+    add(found, &it.line)?;
     add(found, &it.entries().len())?;
-    add(found, &entries_in(it.value()).len())
+    add(found, &entries_in(it.value).len())
 }
 
 /// Adds an entry of an enum, if the number is one.
@@ -191,13 +191,13 @@ fn add_constant(
 
 /// Adds an entry of an enum: its enum, its key and id, its lines, and whether its number and its id stand there again.
 fn add_entry(constant: &Constant<'_>, found: &mut String) -> Result<(), AllocError> {
-    add(found, &constant.within())?;
-    add_word(found, Some(constant.key()))?;
-    add_word(found, id_of(constant.value()))?;
-    add(found, &constant.line())?;
-    add(found, &constant.value().line())?;
-    add(found, &constant.is_number_again())?;
-    add(found, &constant.is_id_again())
+    add(found, &constant.within)?;
+    add_word(found, Some(constant.key))?;
+    add_word(found, id_of(constant.value))?;
+    add(found, &constant.line)?;
+    add(found, &constant.value.line())?;
+    add(found, &constant.is_number_again)?;
+    add(found, &constant.is_id_again)
 }
 
 /// Adds how many entries all enums have, and how many of them are there again.
@@ -205,7 +205,7 @@ fn add_again(alloc: Global, scopes: &Scopes<'_>, found: &mut String) -> Result<(
     let constants = scopes.constants(alloc)?;
     let mut again = 0usize;
     for constant in &constants {
-        if constant.is_number_again() || constant.is_id_again() {
+        if constant.is_number_again || constant.is_id_again {
             again = again.saturating_add(1);
         }
     }
@@ -217,7 +217,7 @@ fn add_again(alloc: Global, scopes: &Scopes<'_>, found: &mut String) -> Result<(
 fn count_misplaced(scopes: &Scopes<'_>) -> usize {
     let mut misplaced = 0usize;
     for (place, member) in scopes.members().iter().enumerate() {
-        if scopes.member_named(member.within(), member.name()) != Some(place) {
+        if scopes.member_named(member.within, member.name()) != Some(place) {
             misplaced = misplaced.saturating_add(1);
         }
     }

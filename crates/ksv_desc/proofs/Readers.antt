@@ -1,11 +1,11 @@
 -- What the readers of a description find.
 use Rattle.std.proofs.Common.{◌≡◌, ℕ, zero, suc, ◌+◌, ◌<◌, ◌≤◌, Bool, true, false, cond, List, [], ◌∷◌, map, filter, take, ap, ◌∙◌, refl, Some, None, arith}
 use Rattle.std.specs.List.{position_from}
-use Rattle.ksv_desc.specs.declared.members.Kind.{Kind}
-use Rattle.ksv_desc.specs.declared.members.Kind.TheVariants as kinds
+use Rattle.ksv_desc.specs.declared.members.MemberKind.{MemberKind}
+use Rattle.ksv_desc.specs.declared.members.MemberKind.TheVariants as kinds
 use Rattle.ksv_desc.specs.declared.members.MemberDesc.{MemberDesc}
-use Rattle.ksv_desc.specs.Sequence.{stands_in_sequence, is_in_sequence}
-use Rattle.ksv_desc.specs.Description.{MemberOfType, is_in_sequence as plain_is}
+use Rattle.ksv_desc.specs.Sequence.{is_attribute_kind, is_attribute}
+use Rattle.ksv_desc.specs.Description.{MemberOfType, is_attribute as plain_is}
 use Rattle.ksv_desc.specs.Pieces.{plain_kind, plain_member}
 
 -- ---- names of members
@@ -14,22 +14,22 @@ pub names_same : (ms : List MemberDesc) → map (λ m. m.name) (map plain_member
 names_same [] = refl
 names_same (m ∷ ms) = ap (λ (ns : List ℕ). m.name ∷ ns) (names_same ms)
 
-same_test : (m : MemberDesc) → plain_is (plain_member m) ≡ is_in_sequence m
+same_test : (m : MemberDesc) → plain_is (plain_member m) ≡ is_attribute m
 same_test m = go m.kind
   where
-    go : (k : Kind) → plain_is (record { name = m.name; kind = plain_kind k }) ≡ stands_in_sequence k
-    go kinds.Given = refl
-    go (kinds.InSequence f) = refl
-    go (kinds.Positioned p s f) = refl
-    go (kinds.Calculated c v e) = refl
+    go : (k : MemberKind) → plain_is (record { name = m.name; kind = plain_kind k }) ≡ is_attribute_kind k
+    go kinds.Parameter = refl
+    go (kinds.Attribute f) = refl
+    go (kinds.ParseInstance p s f) = refl
+    go (kinds.ValueInstance c v e) = refl
 
-pub fields_same : (ms : List MemberDesc) → map (λ m. m.name) (filter plain_is (map plain_member ms)) ≡ map (λ m. m.name) (filter is_in_sequence ms)
+pub fields_same : (ms : List MemberDesc) → map (λ m. m.name) (filter plain_is (map plain_member ms)) ≡ map (λ m. m.name) (filter is_attribute ms)
 fields_same [] = refl
 fields_same (m ∷ ms) =
     ap (λ (b : Bool). map (λ (m : MemberOfType). m.name) (cond b (plain_member m ∷ filter plain_is (map plain_member ms)) (filter plain_is (map plain_member ms)))) (same_test m)
-    ∙ go (is_in_sequence m) (fields_same ms)
+    ∙ go (is_attribute m) (fields_same ms)
   where
-    go : (b : Bool) → map (λ m. m.name) (filter plain_is (map plain_member ms)) ≡ map (λ m. m.name) (filter is_in_sequence ms) → map (λ (m : MemberOfType). m.name) (cond b (plain_member m ∷ filter plain_is (map plain_member ms)) (filter plain_is (map plain_member ms))) ≡ map (λ (m : MemberDesc). m.name) (cond b (m ∷ filter is_in_sequence ms) (filter is_in_sequence ms))
+    go : (b : Bool) → map (λ m. m.name) (filter plain_is (map plain_member ms)) ≡ map (λ m. m.name) (filter is_attribute ms) → map (λ (m : MemberOfType). m.name) (cond b (plain_member m ∷ filter plain_is (map plain_member ms)) (filter plain_is (map plain_member ms))) ≡ map (λ (m : MemberDesc). m.name) (cond b (m ∷ filter is_attribute ms) (filter is_attribute ms))
     go true h = ap (λ (ns : List ℕ). m.name ∷ ns) h
     go false h = h
 

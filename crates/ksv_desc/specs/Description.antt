@@ -41,7 +41,7 @@ pub data Choice : Type 0 where
 -- how far it goes: a size, to the end of the stream, or by itself
 pub data Extent : Type 0 where
   Sized : expressions.Tree → Extent
-  ToEnd : Extent
+  SizeEos : Extent
   ByItself : Extent
 
 -- the byte behind it: whether it is passed over, whether it is a part of the value, and whether it must be there
@@ -53,8 +53,8 @@ pub record Terminator : Type 0 where
 
 pub data Repeat : Type 0 where
   Once : Repeat
-  UntilEnd : Repeat
-  Times : expressions.Tree → Repeat
+  Eos : Repeat
+  Expr : expressions.Tree → Repeat
   Until : expressions.Tree → Repeat
 
 -- what an attribute of a `seq`, or an instance with a place, reads
@@ -67,16 +67,16 @@ pub record Field : Type 0 where
 
 -- a parameter; an attribute of `seq`; an instance at a place, in a stream of its own or not; an instance with a value, with
 -- its condition, and as a member of which enum
-pub data Kind : Type 0 where
-  Given : Kind
-  InSequence : Field → Kind
-  Positioned : expressions.Tree → Option expressions.Tree → Field → Kind
-  Calculated : Option expressions.Tree → expressions.Tree → Option ℕ → Kind
+pub data MemberKind : Type 0 where
+  Parameter : MemberKind
+  Attribute : Field → MemberKind
+  ParseInstance : expressions.Tree → Option expressions.Tree → Field → MemberKind
+  ValueInstance : Option expressions.Tree → expressions.Tree → Option ℕ → MemberKind
 
 -- a member, by the number of its name
 pub record MemberOfType : Type 0 where
   pub name : ℕ
-  pub kind : Kind
+  pub kind : MemberKind
 
 -- a type: its id, and its members in the order of the text
 pub record TypeOfObjects : Type 0 where
@@ -109,14 +109,14 @@ name d n = unwrap_or (slice_get d.names n) []
 abbrev pub type_id : Description → ℕ → List ℕ
 type_id d t = option_map_or (λ x. x.id) (slice_get d.types t) []
 
-abbrev pub is_in_sequence : MemberOfType → Bool
-is_in_sequence m = elim m.kind [ Given ↦ false | InSequence f ↦ true | Positioned p s f ↦ false | Calculated c v e ↦ false ]
+abbrev pub is_attribute : MemberOfType → Bool
+is_attribute m = elim m.kind [ Parameter ↦ false | Attribute f ↦ true | ParseInstance p s f ↦ false | ValueInstance c v e ↦ false ]
 
 abbrev pub members : Description → ℕ → List ℕ
 members d t = option_map_or (λ x. map (λ m. m.name) x.members) (slice_get d.types t) []
 
 abbrev pub fields : Description → ℕ → List ℕ
-fields d t = option_map_or (λ x. map (λ m. m.name) (filter is_in_sequence x.members)) (slice_get d.types t) []
+fields d t = option_map_or (λ x. map (λ m. m.name) (filter is_attribute x.members)) (slice_get d.types t) []
 
 -- the id of an enum, and of a number in it
 abbrev pub enum_id : Description → ℕ → List ℕ

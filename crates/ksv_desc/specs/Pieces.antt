@@ -14,13 +14,13 @@ use Rattle.ksv_desc.specs.declared.field.Terminator.{Terminator as CodeTerminato
 use Rattle.ksv_desc.specs.declared.field.Repeat.{Repeat as CodeRepeat}
 use Rattle.ksv_desc.specs.declared.field.Repeat.TheVariants as repeats
 use Rattle.ksv_desc.specs.declared.field.Field.{Field as CodeField}
-use Rattle.ksv_desc.specs.declared.members.Kind.{Kind as CodeKind}
-use Rattle.ksv_desc.specs.declared.members.Kind.TheVariants as kinds
+use Rattle.ksv_desc.specs.declared.members.MemberKind.{MemberKind as CodeKind}
+use Rattle.ksv_desc.specs.declared.members.MemberKind.TheVariants as kinds
 use Rattle.ksv_desc.specs.declared.members.MemberDesc.{MemberDesc}
 use Rattle.ksv_desc.specs.declared.type_desc.TypeDesc.{TypeDesc}
 use Rattle.ksv_desc.specs.declared.enums.EnumEntry.{EnumEntry}
 use Rattle.ksv_desc.specs.declared.enums.EnumDesc.{EnumDesc}
-use Rattle.ksv_desc.specs.Description.{Content, Bytes, Fixed, Number, Characters, Object, CaseValue, Literal, Negated, EnumValue, Case, Choice, Always, Switch, Extent, Sized, ToEnd, ByItself, Terminator, Repeat, Once, UntilEnd, Times, Until, Field, Kind, Given, InSequence, Positioned, Calculated, MemberOfType, TypeOfObjects, Numbered, Enum}
+use Rattle.ksv_desc.specs.Description.{Content, Bytes, Fixed, Number, Characters, Object, CaseValue, Literal, Negated, EnumValue, Case, Choice, Always, Switch, Extent, Sized, SizeEos, ByItself, Terminator, Repeat, Once, Eos, Expr, Until, Field, MemberKind, Parameter, Attribute, ParseInstance, ValueInstance, MemberOfType, TypeOfObjects, Numbered, Enum}
 
 -- ---- what is read
 
@@ -47,7 +47,7 @@ plain_choice (choices.Switch on cases) = Switch (view on) (map plain_case cases.
 
 abbrev pub plain_extent : CodeExtent → Extent
 plain_extent (extents.Sized e) = Sized (view e)
-plain_extent extents.ToEnd = ToEnd
+plain_extent extents.SizeEos = SizeEos
 plain_extent extents.ByItself = ByItself
 
 abbrev pub plain_terminator : CodeTerminator → Terminator
@@ -55,8 +55,8 @@ plain_terminator t = record { byte = t.byte; is_consumed = t.is_consumed; is_inc
 
 abbrev pub plain_repeat : CodeRepeat → Repeat
 plain_repeat repeats.Once = Once
-plain_repeat repeats.UntilEnd = UntilEnd
-plain_repeat (repeats.Times e) = Times (view e)
+plain_repeat repeats.Eos = Eos
+plain_repeat (repeats.Expr e) = Expr (view e)
 plain_repeat (repeats.Until e) = Until (view e)
 
 abbrev pub plain_field : CodeField → Field
@@ -70,11 +70,11 @@ plain_field f = record {
 
 -- ---- members, types and enums
 
-abbrev pub plain_kind : CodeKind → Kind
-plain_kind kinds.Given = Given
-plain_kind (kinds.InSequence field) = InSequence (plain_field field)
-plain_kind (kinds.Positioned place stream field) = Positioned (view place) (option_map view stream) (plain_field field)
-plain_kind (kinds.Calculated condition value enumeration) = Calculated (option_map view condition) (view value) enumeration
+abbrev pub plain_kind : CodeKind → MemberKind
+plain_kind kinds.Parameter = Parameter
+plain_kind (kinds.Attribute field) = Attribute (plain_field field)
+plain_kind (kinds.ParseInstance place stream field) = ParseInstance (view place) (option_map view stream) (plain_field field)
+plain_kind (kinds.ValueInstance condition value enumeration) = ValueInstance (option_map view condition) (view value) enumeration
 
 abbrev pub plain_member : MemberDesc → MemberOfType
 plain_member m = record { name = m.name; kind = plain_kind m.kind }

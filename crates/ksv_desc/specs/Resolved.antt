@@ -4,7 +4,7 @@ use Rattle.std.specs.Option.{option_map_or}
 use Rattle.ksv_expr_tree.specs.Tree.{Tree, literal, named, special, member, unary, binary, logical, choice, field, special_field, call, index, cast, Arguments, no_arguments, argument, Word}
 use Rattle.ksv_expr_tree.specs.declared.tree.EnumMember.{EnumMember}
 use Rattle.ksv_desc.specs.Names.{AreDistinct}
-use Rattle.ksv_desc.specs.Description.{Content, Bytes, Fixed, Number, Characters, Object, CaseValue, Literal, Negated, EnumValue, Case, Choice, Always, Switch, Extent, Sized, ToEnd, ByItself, Repeat, Once, UntilEnd, Times, Until, Field, Kind, Given, InSequence, Positioned, Calculated, MemberOfType, Description, member_id}
+use Rattle.ksv_desc.specs.Description.{Content, Bytes, Fixed, Number, Characters, Object, CaseValue, Literal, Negated, EnumValue, Case, Choice, Always, Switch, Extent, Sized, SizeEos, ByItself, Repeat, Once, Eos, Expr, Until, Field, MemberKind, Parameter, Attribute, ParseInstance, ValueInstance, MemberOfType, Description, member_id}
 
 -- how many arguments there are
 -- how many arguments there are
@@ -66,7 +66,7 @@ abbrev mutual
 
 -- the parameters of a type
 abbrev pub is_parameter : MemberOfType → Bool
-is_parameter m = elim m.kind [ Given ↦ true | InSequence f ↦ false | Positioned p s f ↦ false | Calculated c v e ↦ false ]
+is_parameter m = elim m.kind [ Parameter ↦ true | Attribute f ↦ false | ParseInstance p s f ↦ false | ValueInstance c v e ↦ false ]
 
 abbrev pub parameters : Description → ℕ → List MemberOfType
 parameters d t = option_map_or (λ x. filter is_parameter x.members) (slice_get d.types t) []
@@ -98,13 +98,13 @@ IsResolvedChoice d (Switch on cases) = IsResolvedTree d on × Each (IsResolvedCa
 
 abbrev pub IsResolvedExtent : Description → Extent → Type 0
 IsResolvedExtent d (Sized e) = IsResolvedTree d e
-IsResolvedExtent d ToEnd = Unit {0}
+IsResolvedExtent d SizeEos = Unit {0}
 IsResolvedExtent d ByItself = Unit {0}
 
 abbrev pub IsResolvedRepeat : Description → Repeat → Type 0
 IsResolvedRepeat d Once = Unit {0}
-IsResolvedRepeat d UntilEnd = Unit {0}
-IsResolvedRepeat d (Times e) = IsResolvedTree d e
+IsResolvedRepeat d Eos = Unit {0}
+IsResolvedRepeat d (Expr e) = IsResolvedTree d e
 IsResolvedRepeat d (Until e) = IsResolvedTree d e
 
 pub record IsResolvedField (d : Description) (f : Field) : Type 0 where
@@ -113,11 +113,11 @@ pub record IsResolvedField (d : Description) (f : Field) : Type 0 where
   pub choice : IsResolvedChoice d f.choice
   pub extent : IsResolvedExtent d f.extent
 
-abbrev pub IsResolvedKind : Description → Kind → Type 0
-IsResolvedKind d Given = Unit {0}
-IsResolvedKind d (InSequence f) = IsResolvedField d f
-IsResolvedKind d (Positioned place stream f) = IsResolvedTree d place × IfAny (IsResolvedTree d) stream × IsResolvedField d f
-IsResolvedKind d (Calculated condition value enum) = IfAny (IsResolvedTree d) condition × IsResolvedTree d value × IfAny (IsEnum d) enum
+abbrev pub IsResolvedKind : Description → MemberKind → Type 0
+IsResolvedKind d Parameter = Unit {0}
+IsResolvedKind d (Attribute f) = IsResolvedField d f
+IsResolvedKind d (ParseInstance place stream f) = IsResolvedTree d place × IfAny (IsResolvedTree d) stream × IsResolvedField d f
+IsResolvedKind d (ValueInstance condition value enum) = IfAny (IsResolvedTree d) condition × IsResolvedTree d value × IfAny (IsEnum d) enum
 
 -- a member has one of the names of members
 abbrev pub IsResolvedMember : Description → MemberOfType → Type 0

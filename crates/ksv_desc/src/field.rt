@@ -9,7 +9,7 @@ pub enum Extent {
     /// So many bytes.
     Sized(Expr),
     /// To the end of the stream.
-    ToEnd,
+    SizeEos,
     /// As far as it goes by itself.
     ByItself,
 }
@@ -33,9 +33,9 @@ pub enum Repeat {
     /// Once, and it is no list.
     Once,
     /// To the end of the stream.
-    UntilEnd,
+    Eos,
     /// So many times.
-    Times(Expr),
+    Expr(Expr),
     /// Until this holds of an element.
     Until(Expr),
 }

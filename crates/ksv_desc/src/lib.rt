@@ -19,7 +19,7 @@ pub use description::Desc;
 pub use enums::{EnumDesc, EnumEntry};
 pub use field::{Extent, Field, Repeat, Terminator};
 pub use laws::names_are_tabled;
-pub use members::{Kind, MemberDesc};
+pub use members::{MemberDesc, MemberKind};
 pub use names::Names;
 pub use order::ByteOrder;
 pub use pieces::Pieces;

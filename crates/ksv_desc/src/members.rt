@@ -5,13 +5,13 @@ use ksv_expr_tree::Expr;
 
 /// What a member is.
 #[derive(Drop)]
-pub enum Kind {
+pub enum MemberKind {
     /// A parameter.
-    Given,
+    Parameter,
     /// An attribute of a `seq`.
-    InSequence(Field),
+    Attribute(Field),
     /// An instance with a place.
-    Positioned {
+    ParseInstance {
         /// Its place.
         place: Expr,
         /// The stream in which it stands, where that isn't the object's own.
@@ -20,7 +20,7 @@ pub enum Kind {
         field: Field,
     },
     /// An instance with a value.
-    Calculated {
+    ValueInstance {
         /// It is there only where this holds.
         condition: Option<Expr>,
         /// Its value.
@@ -36,22 +36,22 @@ pub struct MemberDesc {
     /// The number of its name.
     pub name: u32,
     /// What it is.
-    pub kind: Kind,
+    pub kind: MemberKind,
 }
 
 impl MemberDesc {
     ghost use Rattle.std.specs.Prelude.{◌≡◌};
-    ghost use Rattle.ksv_desc.specs.Sequence.{is_in_sequence};
+    ghost use Rattle.ksv_desc.specs.Sequence.{is_attribute};
 
     /// Whether it is an attribute of a `seq`.
-    pub fn is_in_sequence(&self) -> bool
-        ensures { result ≡ is_in_sequence self.now }
+    pub fn is_attribute(&self) -> bool
+        ensures { result ≡ is_attribute self.now }
     {
         match self.kind {
-            Kind::Given => false,
-            Kind::InSequence(_) => true,
-            Kind::Positioned { .. } => false,
-            Kind::Calculated { .. } => false,
+            MemberKind::Parameter => false,
+            MemberKind::Attribute(_) => true,
+            MemberKind::ParseInstance { .. } => false,
+            MemberKind::ValueInstance { .. } => false,
         }
     }
 }

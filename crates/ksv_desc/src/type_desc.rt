@@ -1,7 +1,7 @@
 //! Types.
 
 ghost use Rattle.std.specs.Prelude.{◌≡◌, map, filter, IfOk, string_bytes};
-ghost use Rattle.ksv_desc.specs.Sequence.{is_in_sequence};
+ghost use Rattle.ksv_desc.specs.Sequence.{is_attribute};
 
 use crate::members::MemberDesc;
 use std::alloc::{AllocError, Global};
@@ -14,7 +14,7 @@ pub struct TypeDesc {
     names: Vec<u32>,
     fields: Vec<u32>,
     ghost names_are: { names.items ≡ map (λ m. m.name) members.items },
-    ghost fields_are: { fields.items ≡ map (λ m. m.name) (filter is_in_sequence members.items) },
+    ghost fields_are: { fields.items ≡ map (λ m. m.name) (filter is_attribute members.items) },
 }
 
 /// The numbers of members' names.
@@ -30,11 +30,11 @@ fn names_of(alloc: Global, members: &[MemberDesc]) -> Result<Vec<u32>, AllocErro
 
 /// The numbers of the names of those that stand in a `seq`.
 fn fields_of(alloc: Global, members: &[MemberDesc]) -> Result<Vec<u32>, AllocError>
-    ensures { IfOk result (λ v. v.items ≡ map (λ m. m.name) (filter is_in_sequence members.now)) }
+    ensures { IfOk result (λ v. v.items ≡ map (λ m. m.name) (filter is_attribute members.now)) }
 {
     let mut fields = Vec::new(alloc);
     for member in members {
-        if member.is_in_sequence() {
+        if member.is_attribute() {
             fields.push(member.name)?;
         }
     }
@@ -80,7 +80,7 @@ impl TypeDesc {
 
     /// The numbers of the names of those of its members that stand in its `seq`.
     pub fn fields(&self) -> &[u32]
-        ensures { result.now ≡ map (λ m. m.name) (filter is_in_sequence self.now.members.items) }
+        ensures { result.now ≡ map (λ m. m.name) (filter is_attribute self.now.members.items) }
     {
         self.fields.as_slice()
     }

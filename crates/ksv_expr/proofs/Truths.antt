@@ -11,8 +11,8 @@ use Rattle.ksv_expr_value.specs.declared.value.Value.{Value}
 use Rattle.ksv_expr_value.specs.declared.value.Value.TheVariants as values
 use Rattle.ksv_expr.specs.declared.want.Want.{Want}
 use Rattle.ksv_expr.specs.declared.want.Got.{Got}
-use Rattle.ksv_expr.specs.declared.want.Outcome.{Outcome}
-use Rattle.ksv_expr.specs.declared.want.Outcome.TheVariants as outcomes
+use Rattle.ksv_expr.specs.declared.want.EvalStep.{EvalStep}
+use Rattle.ksv_expr.specs.declared.want.EvalStep.TheVariants as outcomes
 use Rattle.ksv_expr.specs.Methods.{method_named}
 use Rattle.ksv_expr.specs.Operators.{unary_of}
 use Rattle.ksv_expr.specs.Heard.{Setting, Heard, heard}
@@ -45,7 +45,7 @@ pub is_bounded : IsBounded
 is_bounded s e replies h = done_of (resumed s e replies) (enough fault_at (most_wants e) (value_of s e) s.here replies (value_asks s e) h)
 
 -- so an outcome ends where there are enough replies
-pub bounded_outcome : {X : Type 0} (s : Setting) (e : Tree) (replies : List Got) (r : Result Outcome X) → IfOk r (λ o. o ≡ outcome_of (resumed s e (map heard replies))) → IfOk r (λ o. most_wants e ≤ length replies → IsDone o)
+pub bounded_outcome : {X : Type 0} (s : Setting) (e : Tree) (replies : List Got) (r : Result EvalStep X) → IfOk r (λ o. o ≡ outcome_of (resumed s e (map heard replies))) → IfOk r (λ o. most_wants e ≤ length replies → IsDone o)
 bounded_outcome s e replies (Ok o) h = λ few. subst IsDone (sym h) (is_bounded s e (map heard replies) (omega (arith, length-map replies heard)))
 bounded_outcome s e replies (Err x) h = tt
 

@@ -11,8 +11,8 @@ use Rattle.ksv_expr_value.specs.declared.fault.Fault.{Fault}
 use Rattle.ksv_expr_value.specs.declared.value.Value.{Value}
 use Rattle.ksv_expr_value.specs.declared.value.Value.TheVariants as values
 use Rattle.ksv_expr.specs.declared.want.Want.{Want}
-use Rattle.ksv_expr.specs.declared.want.Outcome.{Outcome}
-use Rattle.ksv_expr.specs.declared.want.Outcome.TheVariants as outcomes
+use Rattle.ksv_expr.specs.declared.want.EvalStep.{EvalStep}
+use Rattle.ksv_expr.specs.declared.want.EvalStep.TheVariants as outcomes
 use Rattle.ksv_expr.specs.Methods.{method_named}
 use Rattle.ksv_expr.specs.Operators.{unary_of}
 use Rattle.ksv_expr.specs.Heard.{Setting, Heard}
@@ -41,13 +41,13 @@ abbrev pub resumed : Setting → Tree → List (Result Heard Fault) → Ran Want
 resumed s e replies = run replying (value_of s e) (record { here = s.here; replies = replies })
 
 -- what it came to
-abbrev pub outcome_of : Ran Want Fault State Value → Outcome
+abbrev pub outcome_of : Ran Want Fault State Value → EvalStep
 outcome_of (Need w s) = outcomes.Need w
 outcome_of (Failed f s) = outcomes.Done (Err f)
 outcome_of (Done v s) = outcomes.Done (Ok v)
 
 -- it puts no further question
-abbrev pub IsDone : Outcome → Type 0
+abbrev pub IsDone : EvalStep → Type 0
 IsDone (outcomes.Need w) = ⊥
 IsDone (outcomes.Done r) = Unit {0}
 

@@ -15,7 +15,7 @@ ghost use Rattle.ksv_expr.specs.Methods.{method_named};
 use crate::context::Ctx;
 use crate::method::Method;
 use crate::replies::{Halt, Replies};
-use crate::want::{Got, Outcome};
+use crate::want::{EvalStep, Got};
 use crate::{asking, forms, operators};
 use ksv_expr_tree::{
     BinaryOperator, Expr, Literal, LogicalOperator, Name, SpecialName, TypeName, UnaryOperator,
@@ -236,14 +236,14 @@ fn value(replies: &mut Replies, ctx: &Ctx, expr: &Expr) -> Result<Value, Halt>
 }
 
 #[tactic(auto, unfolding(crate::specs::Meaning::meaning))]
-fn outcome(alloc: Global, expr: &Expr, ctx: &Ctx, replies: &[Got]) -> Result<Outcome, AllocError>
+fn outcome(alloc: Global, expr: &Expr, ctx: &Ctx, replies: &[Got]) -> Result<EvalStep, AllocError>
     ensures { IfOk result (λ outcome. outcome ≡ outcome_of (resumed ctx.now (view expr.now) (map heard replies.now))) }
 {
     let mut replies = Replies::new(alloc, ctx.here(), replies);
     match value(&mut replies, ctx, expr) {
-        Ok(value) => Ok(Outcome::Done(Ok(value))),
-        Err(Halt::Need(want)) => Ok(Outcome::Need(want)),
-        Err(Halt::Fault(fault)) => Ok(Outcome::Done(Err(fault))),
+        Ok(value) => Ok(EvalStep::Done(Ok(value))),
+        Err(Halt::Need(want)) => Ok(EvalStep::Need(want)),
+        Err(Halt::Fault(fault)) => Ok(EvalStep::Done(Err(fault))),
         Err(Halt::Memory) => Err(AllocError),
     }
 }
@@ -254,7 +254,7 @@ fn outcome(alloc: Global, expr: &Expr, ctx: &Ctx, replies: &[Got]) -> Result<Out
 ///
 /// The outcome rests on nothing but the expression, the context and what the replies say; of lent bytes that is their
 /// content. [`crate::truth_is_met`] says what it is for true replies, and no expression asks for ever.
-pub fn eval(alloc: Global, expr: &Expr, ctx: &Ctx, replies: &[Got]) -> Result<Outcome, AllocError>
+pub fn eval(alloc: Global, expr: &Expr, ctx: &Ctx, replies: &[Got]) -> Result<EvalStep, AllocError>
     ensures outcome { IfOk result (λ outcome. outcome ≡ outcome_of (resumed ctx.now (view expr.now) (map heard replies.now))) }
     ensures ended { IfOk result (λ outcome. most_wants (view expr.now) ≤ length replies.now → IsDone outcome) }
 {

@@ -22,4 +22,4 @@ pub use ksv_expr_value::{
     equal_paths_are_same, paths_are_numbered,
 };
 pub use laws::{bits_are_told, division_is_floored, is_bounded, meaning_is_direct, truth_is_met};
-pub use want::{Got, Outcome, Want};
+pub use want::{EvalStep, Got, Want};

@@ -48,7 +48,7 @@ pub enum Got<'a> {
 
 /// What an evaluation came to.
 #[derive(Drop)]
-pub enum Outcome {
+pub enum EvalStep {
     /// It puts this question, to which it has no reply.
     Need(Want),
     /// It ended with a value or a fault.

@@ -1,15 +1,15 @@
 //! Values, faults and questions as texts.
 
 use crate::paths::show_path;
-use ksv_expr::{Fault, Outcome, Path, Stream, Value, Want};
+use ksv_expr::{EvalStep, Fault, Path, Stream, Value, Want};
 use std::alloc::{AllocError, Global};
 
 /// Adds what an evaluation came to: a question behind `? `, or a copy of the end.
-pub(crate) fn show(alloc: Global, outcome: &Outcome, out: &mut String) -> Result<(), AllocError> {
+pub(crate) fn show(alloc: Global, outcome: &EvalStep, out: &mut String) -> Result<(), AllocError> {
     match outcome {
-        Outcome::Need(want) => show_want(alloc, want, out),
-        Outcome::Done(Ok(value)) => show_value(alloc, &value.copy(alloc)?, out),
-        Outcome::Done(Err(fault)) => show_fault(alloc, &fault.copy(alloc)?, out),
+        EvalStep::Need(want) => show_want(alloc, want, out),
+        EvalStep::Done(Ok(value)) => show_value(alloc, &value.copy(alloc)?, out),
+        EvalStep::Done(Err(fault)) => show_fault(alloc, &fault.copy(alloc)?, out),
     }
 }
 

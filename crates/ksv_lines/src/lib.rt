@@ -16,7 +16,7 @@ mod words;
 pub use command_line::{Args, arguments};
 pub use device::{Failed, Sink, Source, send};
 pub use digits::{EditBytes, edit_bytes};
-pub use line::Line;
+pub use line::LineBuffer;
 pub use memory::Memory;
 pub use standard::Std;
 pub use stop::{Stop, say};

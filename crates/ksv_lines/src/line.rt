@@ -10,22 +10,22 @@ const LINE_ROOM: usize = 4097;
 /// The front of a line, up to the byte that makes it too long: so a line that is too long is known by it, and the
 /// rest of it is dropped.
 #[derive(Drop)]
-pub struct Line {
+pub struct LineBuffer {
     front: ArrayVec<u8, LINE_ROOM>,
 }
 
-impl Model for Line {
+impl Model for LineBuffer {
     ghost Value = { List ℕ };
 
     ghost view = { λ line. line.front.items };
 }
 
-impl Line {
+impl LineBuffer {
     /// An empty line.
-    pub fn new() -> Line
+    pub fn new() -> LineBuffer
         ensures { result ≡ [] }
     {
-        Line {
+        LineBuffer {
             front: ArrayVec::new(),
         }
     }

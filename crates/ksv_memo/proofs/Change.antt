@@ -6,8 +6,8 @@ use Rattle.ksv_bytes.specs.declared.uses.Change.{Change}
 use Rattle.ksv_bytes.specs.Uses.{AgreeOn, CanUse, Touches, Makes}
 use Rattle.ksv_bytes.proofs.Untouched.{untouched-keeps}
 use Rattle.ksv_bytes.specs.declared.uses.Use.{Use}
-use Rattle.ksv_memo.specs.declared.rules.Step.{Step}
-use Rattle.ksv_memo.specs.declared.rules.Step.TheVariants.{Need, Done}
+use Rattle.ksv_memo.specs.declared.rules.Next.{Next}
+use Rattle.ksv_memo.specs.declared.rules.Next.TheVariants.{Need, Done}
 use Rattle.ksv_memo.specs.declared.rules.Outcome.{Outcome}
 use Rattle.ksv_memo.specs.declared.rules.Outcome.TheVariants.{Answered, Circle}
 use Rattle.ksv_memo.specs.Meaning.{Standing, IsSettled}
@@ -22,11 +22,11 @@ use Rattle.ksv_memo.proofs.Evals.{NoneIn, eqb_true, asking, told_answered, eval-
 use Rattle.ksv_memo.proofs.Keeping.{IsIn, AreDistinct-none, self_in}
 
 -- rules of the same nodes, on other bytes
-abbrev pub changed : {N A : Type 0} → Standing N A → (N → List A → Step N A) → (N → List A → List Use) → Standing N A
+abbrev pub changed : {N A : Type 0} → Standing N A → (N → List A → Next N A) → (N → List A → List Use) → Standing N A
 changed w follow added = record { follow = follow; added = added; number = w.number; nodes = w.nodes; replies = w.replies }
 
 -- a call whose uses all hold is the same on the other bytes
-pub record IsLocal {N A : Type 0} (w : Standing N A) (follow : N → List A → Step N A) (added : N → List A → List Use) (holds : Use → Type 0) : Type 0 where
+pub record IsLocal {N A : Type 0} (w : Standing N A) (follow : N → List A → Next N A) (added : N → List A → List Use) (holds : Use → Type 0) : Type 0 where
   pub steps : (n : N) (replies : List A) → AllByRecursion holds (w.added n replies) → follow n replies ≡ w.follow n replies
   pub adds : (n : N) (replies : List A) → AllByRecursion holds (w.added n replies) → added n replies ≡ w.added n replies
 
@@ -35,17 +35,17 @@ unfolding with_reply
 reply_change holds f g restF restG same (Answered a) h u = same a h u
 reply_change holds f g restF restG same (Circle c) h u = refl
 
-step_uses : {N A : Type 0} (holds : Use → Type 0) (f : N → Outcome N A) (us : List Use) (rest : A → Told N A) (s : Step N A) → AllByRecursion holds (with_step f us rest s).uses → AllByRecursion holds us
+step_uses : {N A : Type 0} (holds : Use → Type 0) (f : N → Outcome N A) (us : List Use) (rest : A → Told N A) (s : Next N A) → AllByRecursion holds (with_step f us rest s).uses → AllByRecursion holds us
 unfolding with_step
 step_uses holds f us rest (Done a) h = h
 step_uses holds f us rest (Need m) h = All-left holds us (with_reply rest (f m)).uses h
 
-step_change : {N A : Type 0} (holds : Use → Type 0) (f g : N → Outcome N A) (us : List Use) (restF restG : A → Told N A) → ((a : A) → AllByRecursion (λ m. f m ≡ g m) (restF a).asked → AllByRecursion holds (restF a).uses → restG a ≡ restF a) → (s : Step N A) → AllByRecursion (λ m. f m ≡ g m) (with_step f us restF s).asked → AllByRecursion holds (with_step f us restF s).uses → with_step g us restG s ≡ with_step f us restF s
+step_change : {N A : Type 0} (holds : Use → Type 0) (f g : N → Outcome N A) (us : List Use) (restF restG : A → Told N A) → ((a : A) → AllByRecursion (λ m. f m ≡ g m) (restF a).asked → AllByRecursion holds (restF a).uses → restG a ≡ restF a) → (s : Next N A) → AllByRecursion (λ m. f m ≡ g m) (with_step f us restF s).asked → AllByRecursion holds (with_step f us restF s).uses → with_step g us restG s ≡ with_step f us restF s
 unfolding with_step
 step_change holds f g us restF restG same (Done a) h u = refl
 step_change holds f g us restF restG same (Need m) h u = ap (after (m ∷ []) us) (ap (with_reply restG) (sym h.0) ∙ reply_change holds f g restF restG same (f m) h.1 (All-right holds us (with_reply restF (f m)).uses u))
 
-told_change : {N A : Type 0} (w : Standing N A) (follow : N → List A → Step N A) (added : N → List A → List Use) (holds : Use → Type 0) → IsLocal w follow added holds → (f g : N → Outcome N A) (n : N) (j : ℕ) (replies : List A) → AllByRecursion (λ m. f m ≡ g m) (told w f n j replies).asked → AllByRecursion holds (told w f n j replies).uses → told (changed w follow added) g n j replies ≡ told w f n j replies
+told_change : {N A : Type 0} (w : Standing N A) (follow : N → List A → Next N A) (added : N → List A → List Use) (holds : Use → Type 0) → IsLocal w follow added holds → (f g : N → Outcome N A) (n : N) (j : ℕ) (replies : List A) → AllByRecursion (λ m. f m ≡ g m) (told w f n j replies).asked → AllByRecursion holds (told w f n j replies).uses → told (changed w follow added) g n j replies ≡ told w f n j replies
 unfolding told
 told_change w follow added holds local f g n zero replies h u = refl
 told_change w follow added holds local f g n (suc j) replies h u =
@@ -60,7 +60,7 @@ record Stays {N A : Type 0} (w : Standing N A) (kept : List N) (holds : Use → 
   used : AllByRecursion holds (tells w [] n).uses
 
 -- ---- an answer stays, if the uses in its whole tree hold
-change-step : {N A : Type 0} (w : Standing N A) → IsSettled w → (follow : N → List A → Step N A) (added : N → List A → List Use) (holds : Use → Type 0) → IsLocal w follow added holds → (kept : List N) (each : (n : N) → IsIn w kept n → Stays w kept holds n) (j k : ℕ) (before : List N) (n : N)
+change-step : {N A : Type 0} (w : Standing N A) → IsSettled w → (follow : N → List A → Next N A) (added : N → List A → List Use) (holds : Use → Type 0) → IsLocal w follow added holds → (kept : List N) (each : (n : N) → IsIn w kept n → Stays w kept holds n) (j k : ℕ) (before : List N) (n : N)
     → ((m : N) → IsIn w kept m → IsAnswered (asking w j (n ∷ before) m) → eval (changed w follow added) k (n ∷ before) m ≡ eval w j (n ∷ before) m)
     → IsIn w kept n → IsAnswered (eval w (suc j) before n).outcome → is_among w.number before n ≡ false → eval (changed w follow added) (suc k) before n ≡ eval w (suc j) before n
 change-step {N} {A} w law follow added holds local kept each j k before n ih in_kept h e =
@@ -78,7 +78,7 @@ change-step {N} {A} w law follow added holds local kept each j k before n ih in_
     let agree : AllByRecursion (λ m. f m ≡ g m) u.asked = All-both (IsIn w kept) (λ m. IsAnswered (f m)) (λ m. f m ≡ g m) (λ m inside answer. sym (ap (λ (v : Told N A). v.outcome) (ih m inside answer))) u.asked closed answers in
     eval-free (changed w follow added) k before n e ∙ told_change w follow added holds local f g n (suc w.replies) [] agree used ∙ sym level
 
-change : {N A : Type 0} (w : Standing N A) → IsSettled w → (follow : N → List A → Step N A) (added : N → List A → List Use) (holds : Use → Type 0) → IsLocal w follow added holds → (kept : List N) (each : (n : N) → IsIn w kept n → Stays w kept holds n) (j k : ℕ) (before : List N) (n : N) → j ≤ k → IsIn w kept n → IsAnswered (eval w j before n).outcome → eval (changed w follow added) k before n ≡ eval w j before n
+change : {N A : Type 0} (w : Standing N A) → IsSettled w → (follow : N → List A → Next N A) (added : N → List A → List Use) (holds : Use → Type 0) → IsLocal w follow added holds → (kept : List N) (each : (n : N) → IsIn w kept n → Stays w kept holds n) (j k : ℕ) (before : List N) (n : N) → j ≤ k → IsIn w kept n → IsAnswered (eval w j before n).outcome → eval (changed w follow added) k before n ≡ eval w j before n
 change w law follow added holds local kept each zero k before n le in_kept h = absurd (eval-zero_unanswered w before n h)
 change w law follow added holds local kept each (suc j) zero before n le in_kept h = absurd (omega arith)
 change w law follow added holds local kept each (suc j) (suc k) before n le in_kept h =
@@ -105,7 +105,7 @@ pub All-of-once : {X : Type 0} (P : X → Type 0) (once xs : List X) → HasEach
 All-of-once P once xs h all = recursion_from_All P once (λ k d lt. All-contains P xs (get_or once k d) (All-from_recursion P xs all) ((h.same (get_or once k d)).0 (Contains-get_or once k d lt)))
 
 -- entries that are right, and whose uses all hold, are right on the other bytes
-pub stays-right : {N A : Type 0} (w : Standing N A) → IsSettled w → (follow : N → List A → Step N A) (added : N → List A → List Use) (holds : Use → Type 0) → IsLocal w follow added holds → (es : List (Entry N A)) → IsRight w es → AllByRecursion (λ e. AllByRecursion holds e.uses) es → IsRight (changed w follow added) es
+pub stays-right : {N A : Type 0} (w : Standing N A) → IsSettled w → (follow : N → List A → Next N A) (added : N → List A → List Use) (holds : Use → Type 0) → IsLocal w follow added holds → (es : List (Entry N A)) → IsRight w es → AllByRecursion (λ e. AllByRecursion holds e.uses) es → IsRight (changed w follow added) es
 stays-right {N} {A} w law follow added holds local es right used =
     let kept : List N = nodes_of es in
     let stays : AllByRecursion (λ (e : Entry N A). Stays w kept holds e.node) es = All-both (IsRightEntry w kept) (λ (e : Entry N A). AllByRecursion holds e.uses) (λ (e : Entry N A). Stays w kept holds e.node)
@@ -130,7 +130,7 @@ unfolding with_reply
 reply_can P rest each (Answered a) = each a
 reply_can P rest each (Circle c) = tt
 
-step_can : {N A : Type 0} (P : Use → Type 0) (f : N → Outcome N A) (us : List Use) (rest : A → Told N A) → AllByRecursion P us → ((a : A) → AllByRecursion P (rest a).uses) → (s : Step N A) → AllByRecursion P (with_step f us rest s).uses
+step_can : {N A : Type 0} (P : Use → Type 0) (f : N → Outcome N A) (us : List Use) (rest : A → Told N A) → AllByRecursion P us → ((a : A) → AllByRecursion P (rest a).uses) → (s : Next N A) → AllByRecursion P (with_step f us rest s).uses
 unfolding with_step
 step_can P f us rest now each (Done a) = now
 step_can P f us rest now each (Need m) = All-++ P us (with_reply rest (f m)).uses now (reply_can P rest each (f m))

@@ -7,8 +7,8 @@ use Rattle.std.proofs.lemmas.List.{length-map}
 use mathlib.Core.Path.{fun_ext}
 use Rattle.std.specs.List.{AllByRecursion, flat_map, list_any}
 use Rattle.ksv_bytes.specs.declared.uses.Use.{Use}
-use Rattle.ksv_memo.specs.declared.rules.Step.{Step}
-use Rattle.ksv_memo.specs.declared.rules.Step.TheVariants.{Need, Done}
+use Rattle.ksv_memo.specs.declared.rules.Next.{Next}
+use Rattle.ksv_memo.specs.declared.rules.Next.TheVariants.{Need, Done}
 use Rattle.ksv_memo.specs.declared.rules.Outcome.{Outcome}
 use Rattle.ksv_memo.specs.declared.rules.Outcome.TheVariants.{Answered, Circle}
 use Rattle.ksv_memo.specs.Meaning.{Standing, IsSettled}
@@ -23,7 +23,7 @@ unfolding with_reply
 reply_congr f g restF restG same (Answered a) h = same a h
 reply_congr f g restF restG same (Circle c) h = refl
 
-step_congr : {N A : Type 0} (f g : N → Outcome N A) (us : List Use) (restF restG : A → Told N A) → ((a : A) → AllByRecursion (λ m. f m ≡ g m) (restF a).asked → restF a ≡ restG a) → (s : Step N A) → AllByRecursion (λ m. f m ≡ g m) (with_step f us restF s).asked → with_step f us restF s ≡ with_step g us restG s
+step_congr : {N A : Type 0} (f g : N → Outcome N A) (us : List Use) (restF restG : A → Told N A) → ((a : A) → AllByRecursion (λ m. f m ≡ g m) (restF a).asked → restF a ≡ restG a) → (s : Next N A) → AllByRecursion (λ m. f m ≡ g m) (with_step f us restF s).asked → with_step f us restF s ≡ with_step g us restG s
 unfolding with_step
 step_congr f g us restF restG same (Done a) h = refl
 step_congr f g us restF restG same (Need m) h = ap (after (m ∷ []) us) (reply_congr f g restF restG same (f m) h.1 ∙ ap (with_reply restG) h.0)
@@ -39,7 +39,7 @@ unfolding with_reply
 reply_answered f rest each (Answered a) h = (tt, each a h)
 reply_answered f rest each (Circle c) h = absurd h
 
-step_answered : {N A : Type 0} (f : N → Outcome N A) (us : List Use) (rest : A → Told N A) → ((a : A) → IsAnswered (rest a).outcome → AllByRecursion (λ m. IsAnswered (f m)) (rest a).asked) → (s : Step N A) → IsAnswered (with_step f us rest s).outcome → AllByRecursion (λ m. IsAnswered (f m)) (with_step f us rest s).asked
+step_answered : {N A : Type 0} (f : N → Outcome N A) (us : List Use) (rest : A → Told N A) → ((a : A) → IsAnswered (rest a).outcome → AllByRecursion (λ m. IsAnswered (f m)) (rest a).asked) → (s : Next N A) → IsAnswered (with_step f us rest s).outcome → AllByRecursion (λ m. IsAnswered (f m)) (with_step f us rest s).asked
 unfolding with_step
 step_answered f us rest each (Done a) h = tt
 step_answered f us rest each (Need m) h = reply_answered f rest each (f m) h

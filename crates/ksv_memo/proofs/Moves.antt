@@ -5,8 +5,8 @@ use Rattle.std.proofs.lemmas.List.{map-append, length-map}
 use Rattle.std.proofs.lemmas.Map.Keys.{IsDistinct-head, IsDistinct-tail, IsDistinct-cons}
 use Rattle.std.proofs.lemmas.Cmp.{nat_eq_equiv}
 use Rattle.ksv_bytes.specs.declared.uses.Use.{Use}
-use Rattle.ksv_memo.specs.declared.rules.Step.{Step}
-use Rattle.ksv_memo.specs.declared.rules.Step.TheVariants.{Need, Done}
+use Rattle.ksv_memo.specs.declared.rules.Next.{Next}
+use Rattle.ksv_memo.specs.declared.rules.Next.TheVariants.{Need, Done}
 use Rattle.ksv_memo.specs.declared.rules.Outcome.{Outcome}
 use Rattle.ksv_memo.specs.declared.rules.Outcome.TheVariants.{Answered, Circle}
 use Rattle.ksv_memo.specs.Meaning.{Standing, IsSettled, IsDone}
@@ -46,11 +46,11 @@ ended asked uses us a = λ i. record { outcome = Answered a; asked = ++-nil aske
 waited : {N A : Type 0} (asked : List N) (m : N) (uses us : List Use) (t : Told N A) → after asked uses (after (m ∷ []) us t) ≡ after (asked ++ m ∷ []) (uses ++ us) t
 waited asked m uses us t = λ i. record { outcome = t.outcome; asked = sym (append_assoc asked (m ∷ []) t.asked) i; uses = sym (append_assoc uses us t.uses) i }
 
-not_need : {N A : Type 0} (m : N) (s : Step N A) → s ≡ Need m → IsDone s → ⊥
+not_need : {N A : Type 0} (m : N) (s : Next N A) → s ≡ Need m → IsDone s → ⊥
 not_need m (Need k) e h = h
 not_need m (Done a) e h = cc
 
-pub stepped : {N A : Type 0} (w : Standing N A) → IsSettled w → (es : List (Entry N A)) (o : Open N A) (s : Step N A) → s ≡ w.follow o.node o.replies → HasCome w es o → HasStepped w es (with_uses o (w.added o.node o.replies)) s
+pub stepped : {N A : Type 0} (w : Standing N A) → IsSettled w → (es : List (Entry N A)) (o : Open N A) (s : Next N A) → s ≡ w.follow o.node o.replies → HasCome w es o → HasStepped w es (with_uses o (w.added o.node o.replies)) s
 unfolding with_step
 stepped w law es o (Done a) e h = record {
   came = λ g agree. h.came g agree ∙ ap (after o.asked o.uses) (told-more w g o.node o.replies h.few ∙ ap (with_step g (w.added o.node o.replies) (λ b. told w g o.node (w.replies - length o.replies) (o.replies ++ b ∷ []))) (sym e)) ∙ ended o.asked o.uses (w.added o.node o.replies) a;
@@ -63,7 +63,7 @@ stepped w law es o (Need m) e h = record {
   few = let no : w.replies ≤ length o.replies → ⊥ = λ le. not_need m (w.follow o.node o.replies) (sym e) (law.settles o.node o.replies le) in omega arith;
 }
 
-pub value-stepped : {N A : Type 0} (w : Standing N A) (es : List (Entry N A)) (o : Open N A) (st : List (Open N A)) (s : Step N A) → s ≡ w.follow o.node o.replies → HasCome w es o → value_at w (with_uses o (w.added o.node o.replies)) st s ≡ value_of w o st
+pub value-stepped : {N A : Type 0} (w : Standing N A) (es : List (Entry N A)) (o : Open N A) (st : List (Open N A)) (s : Next N A) → s ≡ w.follow o.node o.replies → HasCome w es o → value_at w (with_uses o (w.added o.node o.replies)) st s ≡ value_of w o st
 unfolding with_step
 value-stepped {N} {A} w es o st (Done a) e h = ap (λ (u : Told N A). climbed w st u.outcome) (sym (told-more w (answering w (o.node ∷ nodes_in st)) o.node o.replies h.few ∙ ap (with_step (answering w (o.node ∷ nodes_in st)) (w.added o.node o.replies) (λ b. told w (answering w (o.node ∷ nodes_in st)) o.node (w.replies - length o.replies) (o.replies ++ b ∷ []))) (sym e)))
 value-stepped {N} {A} w es o st (Need m) e h = ap (λ (u : Told N A). climbed w st u.outcome) (sym (told-more w (answering w (o.node ∷ nodes_in st)) o.node o.replies h.few ∙ ap (with_step (answering w (o.node ∷ nodes_in st)) (w.added o.node o.replies) (λ b. told w (answering w (o.node ∷ nodes_in st)) o.node (w.replies - length o.replies) (o.replies ++ b ∷ []))) (sym e)))
@@ -167,7 +167,7 @@ closes w es o p st e h node right = record {
 }
 
 -- ---- what is still to be completed
-pub rest-stepped : {N A : Type 0} (w : Standing N A) (es : List (Entry N A)) (o : Open N A) (st : List (Open N A)) (s : Step N A) → s ≡ w.follow o.node o.replies → HasCome w es o → rest_at w (with_uses o (w.added o.node o.replies)) st s ≡ rest_of w o st
+pub rest-stepped : {N A : Type 0} (w : Standing N A) (es : List (Entry N A)) (o : Open N A) (st : List (Open N A)) (s : Next N A) → s ≡ w.follow o.node o.replies → HasCome w es o → rest_at w (with_uses o (w.added o.node o.replies)) st s ≡ rest_of w o st
 unfolding with_step
 rest-stepped {N} {A} w es o st (Done a) e h = ap (told_rest w o.node st) (sym (told-more w (answering w (o.node ∷ nodes_in st)) o.node o.replies h.few ∙ ap (with_step (answering w (o.node ∷ nodes_in st)) (w.added o.node o.replies) (λ b. told w (answering w (o.node ∷ nodes_in st)) o.node (w.replies - length o.replies) (o.replies ++ b ∷ []))) (sym e)))
 rest-stepped {N} {A} w es o st (Need m) e h =

@@ -6,8 +6,8 @@ use Rattle.std.specs.List.{AllByRecursion, list_any}
 use Rattle.std.specs.Option.{option_map}
 use Rattle.std.proofs.lemmas.Map.Keys.{IsDistinct-head}
 use Rattle.ksv_bytes.specs.declared.uses.Use.{Use}
-use Rattle.ksv_memo.specs.declared.rules.Step.{Step}
-use Rattle.ksv_memo.specs.declared.rules.Step.TheVariants.{Need, Done}
+use Rattle.ksv_memo.specs.declared.rules.Next.{Next}
+use Rattle.ksv_memo.specs.declared.rules.Next.TheVariants.{Need, Done}
 use Rattle.ksv_memo.specs.declared.rules.Outcome.{Outcome}
 use Rattle.ksv_memo.specs.declared.rules.Outcome.TheVariants.{Answered, Circle}
 use Rattle.ksv_memo.specs.Meaning.{Standing, IsSettled, IsAddedTo}
@@ -269,7 +269,7 @@ module _ {N A : Type 0} (w : Standing N A) (law : IsSettled w) where
   }
 
   -- ---- the call of a turn
-  turn-account : (es : List (Entry N A)) (o : Open N A) (st : List (Open N A)) (s : Step N A) → s ≡ w.follow o.node o.replies → HasCome w es o → account_at w es (with_uses o (w.added o.node o.replies)) st s ≡ account_of w es o st
+  turn-account : (es : List (Entry N A)) (o : Open N A) (st : List (Open N A)) (s : Next N A) → s ≡ w.follow o.node o.replies → HasCome w es o → account_at w es (with_uses o (w.added o.node o.replies)) st s ≡ account_of w es o st
   turn-account es o st s is h = λ i. record {
     value = value-stepped w es o st s is h i;
     left = calls_left w es o st;
@@ -278,17 +278,17 @@ module _ {N A : Type 0} (w : Standing N A) (law : IsSettled w) where
     made = length o.asked + made st;
   }
 
-  pub turn-steps : (es now : List (Entry N A)) (o p : Open N A) (s : Step N A) → now ≡ es → p ≡ with_uses o (w.added o.node o.replies) → s ≡ w.follow o.node o.replies → HasCome w es o → HasStepped w now p s
+  pub turn-steps : (es now : List (Entry N A)) (o p : Open N A) (s : Next N A) → now ≡ es → p ≡ with_uses o (w.added o.node o.replies) → s ≡ w.follow o.node o.replies → HasCome w es o → HasStepped w now p s
   turn-steps es now o p s same view is h = let P : List (Entry N A) → Open N A → Type 0 = λ xs q. HasStepped w xs q s in subst (λ xs. P xs p) (sym same) (subst (P es) (sym view) (stepped w law es o s is h))
 
-  pub turn-advances : (es now new : List (Entry N A)) (o p : Open N A) (st above : List (Open N A)) (s : Step N A) (r : Result (Progress N A) AllocError)
+  pub turn-advances : (es now new : List (Entry N A)) (o p : Open N A) (st above : List (Open N A)) (s : Next N A) (r : Result (Progress N A) AllocError)
       → now ≡ es → p ≡ with_uses o (w.added o.node o.replies) → s ≡ w.follow o.node o.replies → HasCome w es o
       → IfOk r (Advances w (account_at w now p st s) now new above) → IfOk r (Advances w (account_of w es o st) es new above)
   turn-advances es now new o p st above s r same view is h after =
       let P : List (Entry N A) → Open N A → Type 0 = λ xs q. IfOk r (Advances w (account_at w xs q st s) xs new above) in
       subst (λ acc. IfOk r (Advances w acc es new above)) (turn-account es o st s is h) (subst (P es) view (subst (λ xs. P xs p) same after))
 
-  pub turn-left : (es now new : List (Entry N A)) (o p : Open N A) (st : List (Open N A)) (s : Step N A) (r : Result (Progress N A) AllocError)
+  pub turn-left : (es now new : List (Entry N A)) (o p : Open N A) (st : List (Open N A)) (s : Next N A) (r : Result (Progress N A) AllocError)
       → now ≡ es → p ≡ with_uses o (w.added o.node o.replies) → s ≡ w.follow o.node o.replies → HasCome w es o
       → OnErr r (IsLeft w (account_at w now p st s).all now new) → OnErr r (IsLeft w (account_of w es o st).all es new)
   turn-left es now new o p st s r same view is h after =

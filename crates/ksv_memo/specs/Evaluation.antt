@@ -3,8 +3,8 @@
 use Rattle.std.specs.Prelude.{ℕ, zero, suc, Bool, cond, List, [], ◌∷◌, ◌++◌, nat_eq, map}
 use Rattle.std.specs.List.{list_any, flat_map}
 use Rattle.ksv_bytes.specs.declared.uses.Use.{Use}
-use Rattle.ksv_memo.specs.declared.rules.Step.{Step}
-use Rattle.ksv_memo.specs.declared.rules.Step.TheVariants.{Need, Done}
+use Rattle.ksv_memo.specs.declared.rules.Next.{Next}
+use Rattle.ksv_memo.specs.declared.rules.Next.TheVariants.{Need, Done}
 use Rattle.ksv_memo.specs.declared.rules.Outcome.{Outcome}
 use Rattle.ksv_memo.specs.declared.rules.Outcome.TheVariants.{Answered, Circle}
 use Rattle.ksv_memo.specs.Meaning.{Standing}
@@ -33,7 +33,7 @@ with_reply rest (Answered a) = rest a
 with_reply rest (Circle c) = only_circle c
 
 -- what follows a step
-unfoldable pub with_step : {N A : Type 0} → (N → Outcome N A) → List Use → (A → Told N A) → Step N A → Told N A
+unfoldable pub with_step : {N A : Type 0} → (N → Outcome N A) → List Use → (A → Told N A) → Next N A → Told N A
 with_step ask us rest (Done a) = record { outcome = Answered a; asked = []; uses = us }
 with_step ask us rest (Need m) = after (m ∷ []) us (with_reply rest (ask m))
 

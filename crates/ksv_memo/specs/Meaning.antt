@@ -3,13 +3,13 @@ use Rattle.std.specs.Prelude.{◌≡◌, ℕ, ◌<◌, ◌≤◌, List, ◌++◌
 use Rattle.std.specs.List.{AllByRecursion}
 use Rattle.ksv_bytes.specs.declared.uses.Use.{Use}
 use Rattle.ksv_bytes.specs.Uses.{AgreeOn, CanUse}
-use Rattle.ksv_memo.specs.declared.rules.Step.{Step}
-use Rattle.ksv_memo.specs.declared.rules.Step.TheVariants.{Need, Done}
+use Rattle.ksv_memo.specs.declared.rules.Next.{Next}
+use Rattle.ksv_memo.specs.declared.rules.Next.TheVariants.{Need, Done}
 
 -- what rules mean, for all bytes; the numbers and the two bounds don't depend on the bytes
 pub record Meaning (N A : Type 0) : Type 0 where
   -- what a node does next after these replies
-  pub follow : List ℕ → N → List A → Step N A
+  pub follow : List ℕ → N → List A → Next N A
   -- the uses that this call adds
   pub added : List ℕ → N → List A → List Use
   -- a node's own number, and the bound of the numbers
@@ -20,7 +20,7 @@ pub record Meaning (N A : Type 0) : Type 0 where
 
 -- what rules mean while the bytes stand as they are
 pub record Standing (N A : Type 0) : Type 0 where
-  pub follow : N → List A → Step N A
+  pub follow : N → List A → Next N A
   pub added : N → List A → List Use
   pub number : N → ℕ
   pub nodes : ℕ
@@ -37,7 +37,7 @@ on meaning bytes = record {
 }
 
 -- the step is an answer
-abbrev pub IsDone : {N A : Type 0} → Step N A → Type 0
+abbrev pub IsDone : {N A : Type 0} → Next N A → Type 0
 IsDone (Done a) = Unit {0}
 IsDone (Need m) = ⊥
 

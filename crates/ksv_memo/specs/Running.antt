@@ -4,8 +4,8 @@ use Rattle.std.specs.Prelude.{◌≡◌, ℕ, suc, ◌+◌, ◌-◌, ◌*◌, �
 use Rattle.std.specs.List.{AllByRecursion, flat_map}
 use Rattle.ksv_memo.specs.declared.rules.Outcome.{Outcome}
 use Rattle.ksv_memo.specs.declared.rules.Outcome.TheVariants.{Answered}
-use Rattle.ksv_memo.specs.declared.rules.Step.{Step}
-use Rattle.ksv_memo.specs.declared.rules.Step.TheVariants.{Need, Done}
+use Rattle.ksv_memo.specs.declared.rules.Next.{Next}
+use Rattle.ksv_memo.specs.declared.rules.Next.TheVariants.{Need, Done}
 use Rattle.ksv_memo.specs.declared.machine.Progress.{Progress}
 use Rattle.ksv_memo.specs.declared.machine.Progress.TheVariants.{Ended, Goes}
 use Rattle.ksv_memo.specs.Meaning.{Standing, IsAddedTo}
@@ -66,12 +66,12 @@ abbrev pub value_of : {N A : Type 0} → Standing N A → Open N A → List (Ope
 value_of w o st = climbed w st (told w (answering w (o.node ∷ nodes_in st)) o.node (suc w.replies - length o.replies) o.replies).outcome
 
 -- the same when that call has told the step
-abbrev pub value_at : {N A : Type 0} → Standing N A → Open N A → List (Open N A) → Step N A → Outcome N A
+abbrev pub value_at : {N A : Type 0} → Standing N A → Open N A → List (Open N A) → Next N A → Outcome N A
 value_at w o st (Done a) = climbed w st (Answered a)
 value_at w o st (Need m) = climbed w (o ∷ st) (answering w (o.node ∷ nodes_in st) m)
 
 -- it came to its next step
-abbrev pub HasStepped : {N A : Type 0} → Standing N A → List (Entry N A) → Open N A → Step N A → Type 0
+abbrev pub HasStepped : {N A : Type 0} → Standing N A → List (Entry N A) → Open N A → Next N A → Type 0
 HasStepped w es o (Done a) = HasEnded w es o a
 HasStepped w es o (Need m) = IsWaiting w es o m
 
@@ -100,7 +100,7 @@ abbrev pub rest_of : {N A : Type 0} → Standing N A → Open N A → List (Open
 rest_of w o st = told_rest w o.node st (told w (answering w (o.node ∷ nodes_in st)) o.node (suc w.replies - length o.replies) o.replies)
 
 -- the same when that call has told the step
-abbrev pub rest_at : {N A : Type 0} → Standing N A → Open N A → List (Open N A) → Step N A → List N
+abbrev pub rest_at : {N A : Type 0} → Standing N A → Open N A → List (Open N A) → Next N A → List N
 rest_at w o st (Done a) = o.node ∷ climbed_rest w st (Answered a)
 rest_at w o st (Need m) = done w (o.node ∷ nodes_in st) m ++ climbed_rest w (o ∷ st) (answering w (o.node ∷ nodes_in st) m)
 
@@ -137,7 +137,7 @@ account_of w es o st = record {
 }
 
 -- the same when that call has told the step
-abbrev pub account_at : {N A : Type 0} → Standing N A → List (Entry N A) → Open N A → List (Open N A) → Step N A → Account N A
+abbrev pub account_at : {N A : Type 0} → Standing N A → List (Entry N A) → Open N A → List (Open N A) → Next N A → Account N A
 account_at w es o st s = record {
   value = value_at w o st s;
   left = calls_left w es o st;

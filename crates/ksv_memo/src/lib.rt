@@ -16,4 +16,4 @@ mod table;
 mod uses;
 
 pub use engine::{Answer, Engine};
-pub use rules::{Rules, Step};
+pub use rules::{Next, Rules};

@@ -7,7 +7,7 @@ ghost use Rattle.ksv_memo.specs.Open.{open_of};
 ghost use Rattle.ksv_memo.specs.Running.{IsStack, HasCome, HasEnded, IsWaiting, Advances, IsLeft, account_of, account_at, to_keep, debt};
 
 use crate::frame::Frame;
-use crate::rules::{Outcome, Rules, Step};
+use crate::rules::{Next, Outcome, Rules};
 use crate::stack::{Stack, is_open};
 use crate::table::{Kept, Table};
 use crate::uses::each_once;
@@ -82,7 +82,7 @@ impl<R: Rules> Machine<R> {
         bytes: &Buffer,
         node: &R::Node,
         frame: &mut Frame<R::Node, Reply<R>>,
-    ) -> Result<Step<R::Node, Reply<R>>, AllocError>
+    ) -> Result<Next<R::Node, Reply<R>>, AllocError>
         ensures step { IfOk result (λ step. step ≡ (on (R.meaning rules.now) bytes.now).follow node.now frame.old.replies.items) }
         ensures uses { OnOk result (frame.new.uses.items ≡ frame.old.uses.items ++ (on (R.meaning rules.now) bytes.now).added node.now frame.old.replies.items) }
         ensures replies { frame.new.replies ≡ frame.old.replies }
@@ -113,8 +113,8 @@ impl<R: Rules> Machine<R> {
     {
         let step = self.turn(rules, bytes, &node, &mut frame)?;
         match step {
-            Step::Done(answer) => self.finish(rules, bytes, node, frame, answer, below),
-            Step::Need(asked) => self.need(rules, bytes, node, frame, asked, below),
+            Next::Done(answer) => self.finish(rules, bytes, node, frame, answer, below),
+            Next::Need(asked) => self.need(rules, bytes, node, frame, asked, below),
         }
     }
 
@@ -130,8 +130,8 @@ impl<R: Rules> Machine<R> {
     ) -> Result<Progress<R::Node, Reply<R>>, AllocError>
         requires stack { IsStack (on (R.meaning rules.now) bytes.now) self.old.table node below.old }
         requires ended { HasEnded (on (R.meaning rules.now) bytes.now) self.old.table (open_of node frame) answer }
-        ensures ok { IfOk result (Advances (on (R.meaning rules.now) bytes.now) (account_at (on (R.meaning rules.now) bytes.now) self.old.table (open_of node frame) below.old (Step.Done answer)) self.old.table self.new.table below.new) }
-        ensures err { OnErr result (IsLeft (on (R.meaning rules.now) bytes.now) (account_at (on (R.meaning rules.now) bytes.now) self.old.table (open_of node frame) below.old (Step.Done answer)).all self.old.table self.new.table) }
+        ensures ok { IfOk result (Advances (on (R.meaning rules.now) bytes.now) (account_at (on (R.meaning rules.now) bytes.now) self.old.table (open_of node frame) below.old (Next.Done answer)) self.old.table self.new.table below.new) }
+        ensures err { OnErr result (IsLeft (on (R.meaning rules.now) bytes.now) (account_at (on (R.meaning rules.now) bytes.now) self.old.table (open_of node frame) below.old (Next.Done answer)).all self.old.table self.new.table) }
         ensures turns { self.new.turns ≡ self.old.turns }
     {
         let reply = rules.copy_answer(self.alloc, &answer)?;
@@ -159,7 +159,7 @@ impl<R: Rules> Machine<R> {
     ) -> Result<Progress<R::Node, Reply<R>>, AllocError>
         requires stack { IsStack (on (R.meaning rules.now) bytes.now) self.now.table node below.old }
         requires waits { IsWaiting (on (R.meaning rules.now) bytes.now) self.now.table (open_of node frame) asked }
-        ensures { IfOk result (Advances (on (R.meaning rules.now) bytes.now) (account_at (on (R.meaning rules.now) bytes.now) self.now.table (open_of node frame) below.old (Step.Need asked)) self.now.table self.now.table below.new) }
+        ensures { IfOk result (Advances (on (R.meaning rules.now) bytes.now) (account_at (on (R.meaning rules.now) bytes.now) self.now.table (open_of node frame) below.old (Next.Need asked)) self.now.table self.now.table below.new) }
     {
         match self.table.answer(&asked) {
             Some(answer) => {

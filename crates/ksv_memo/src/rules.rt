@@ -7,7 +7,7 @@ use std::hash::Hash;
 
 /// What a node does next.
 #[derive(Drop)]
-pub enum Step<N, A> {
+pub enum Next<N, A> {
     /// It needs the answer of this node.
     Need(N),
     /// It has this answer.
@@ -52,7 +52,7 @@ pub trait Rules {
         bytes: &Buffer,
         replies: &[Result<Self::Value, Self::Fault>],
         uses: &mut Vec<Use>,
-    ) -> Result<Step<Self::Node, Result<Self::Value, Self::Fault>>, AllocError>
+    ) -> Result<Next<Self::Node, Result<Self::Value, Self::Fault>>, AllocError>
         ensures step { IfOk result (λ step. step ≡ (meaning self.now).follow bytes.now node.now replies.now) }
         ensures uses { OnOk result (uses.new.items ≡ uses.old.items ++ (meaning self.now).added bytes.now node.now replies.now) }
         ensures refused { OnErr result (IsAddedTo uses.old.items uses.new.items) };

@@ -5,8 +5,8 @@ use Rattle.std.proofs.lemmas.Bool.Decides.{nat_tests}
 use mathlib.Core.HLevel.{is_prop→PathP}
 use native.Mathlib.Bridge.{le_prop}
 use Rattle.ksv_bytes.specs.declared.uses.Use.TheVariants.{Size}
-use Rattle.ksv_memo.specs.declared.rules.Step.{Step}
-use Rattle.ksv_memo.specs.declared.rules.Step.TheVariants.{Need, Done}
+use Rattle.ksv_memo.specs.declared.rules.Next.{Next}
+use Rattle.ksv_memo.specs.declared.rules.Next.TheVariants.{Need, Done}
 use Rattle.ksv_memo.specs.Meaning.{Meaning, IsLawful, IsDone}
 use Rattle.ksv_memo_samples.specs.declared.link.Link.{Link}
 use Rattle.ksv_memo_samples.specs.declared.row.Missing.{Missing}
@@ -23,7 +23,7 @@ abbrev pub link_before : Link → Link
 link_before link = record { number = link.number - 1; small = before_small link }
 
 -- what a link does next: without replies link 0 answers the size, and another asks the one before it
-abbrev pub linked : Link → ℕ → List Reply → Step Link Reply
+abbrev pub linked : Link → ℕ → List Reply → Next Link Reply
 linked link size [] = if link.number == 0 then Done (Ok size) else Need (link_before link)
 linked link size (Ok n ∷ replies) = Done (Ok (min (n + 1) (2 ^ 32 - 1)))
 linked link size (Err e ∷ replies) = Done (Err e)

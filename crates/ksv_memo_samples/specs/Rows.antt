@@ -11,8 +11,8 @@ use native.Mathlib.Bridge.{le_prop}
 use Rattle.ksv_bytes.specs.declared.uses.Use.{Use}
 use Rattle.ksv_bytes.specs.declared.uses.Use.TheVariants.{Bytes, Size}
 use Rattle.ksv_bytes.specs.Uses.{AgreeOn, CanUse}
-use Rattle.ksv_memo.specs.declared.rules.Step.{Step}
-use Rattle.ksv_memo.specs.declared.rules.Step.TheVariants.{Need, Done}
+use Rattle.ksv_memo.specs.declared.rules.Next.{Next}
+use Rattle.ksv_memo.specs.declared.rules.Next.TheVariants.{Need, Done}
 use Rattle.ksv_memo.specs.Meaning.{Meaning, IsLawful, IsDone}
 use Rattle.ksv_memo_samples.specs.declared.row.RowNumber.{RowNumber}
 use Rattle.ksv_memo_samples.specs.declared.row.Row.{Row}
@@ -37,22 +37,22 @@ total so_far (Ok n ∷ replies) = total (min (so_far + n) (2 ^ 32 - 1)) replies
 total so_far (Err e ∷ replies) = Err e
 
 -- what a sum does next when its replies come to this, and this number is the next one
-abbrev pub summed_at : Reply → Option RowNumber → Step RowNumber Reply
+abbrev pub summed_at : Reply → Option RowNumber → Next RowNumber Reply
 summed_at (Err e) next = Done (Err e)
 summed_at (Ok sum) (Some n) = Need n
 summed_at (Ok sum) None = Done (Ok sum)
 
 -- what a sum does next
-abbrev pub summed : List RowNumber → List Reply → Step RowNumber Reply
+abbrev pub summed : List RowNumber → List Reply → Next RowNumber Reply
 summed numbers replies = summed_at (total 0 replies) (slice_get numbers (length replies))
 
 -- what the first call for a byte's row does when the byte is this
-abbrev pub named_at : Option ℕ → Step RowNumber Reply
+abbrev pub named_at : Option ℕ → Next RowNumber Reply
 named_at None = Done (Err (record {}))
 named_at (Some b) = Need (row_number b)
 
 -- what the row that a byte names does next
-abbrev pub named : List ℕ → ℕ → List Reply → Step RowNumber Reply
+abbrev pub named : List ℕ → ℕ → List Reply → Next RowNumber Reply
 named bytes place [] = named_at (slice_get bytes place)
 named bytes place (reply ∷ replies) = Done reply
 
@@ -67,7 +67,7 @@ named_uses bytes place [] = read_uses place (slice_get bytes place)
 named_uses bytes place (reply ∷ replies) = []
 
 -- what a row does next
-abbrev pub row_next : List ℕ → List Reply → Option Row → Step RowNumber Reply
+abbrev pub row_next : List ℕ → List Reply → Option Row → Next RowNumber Reply
 row_next bytes replies None = Done (Err (record {}))
 row_next bytes replies (Some (Number n)) = Done (Ok n)
 row_next bytes replies (Some (Sum numbers)) = summed numbers.items replies

@@ -5,7 +5,7 @@ ghost use Rattle.ksv_memo_samples.specs.Chain as spec;
 use crate::link::Link;
 use crate::row::Missing;
 use ksv_bytes::{Buffer, Use};
-use ksv_memo::{Rules, Step};
+use ksv_memo::{Next, Rules};
 use std::alloc::{AllocError, Global};
 
 /// A chain: link 0 answers the file's size, and each other link one more than the link before it. Each of them looks at the
@@ -26,14 +26,14 @@ fn link_before(link: Link) -> Link
 }
 
 /// What a link does next.
-fn linked(link: Link, size: u32, replies: &[Reply]) -> Step<Link, Reply>
+fn linked(link: Link, size: u32, replies: &[Reply]) -> Next<Link, Reply>
     ensures { result ≡ spec.linked link size replies.now }
 {
     match replies {
-        [] if link.number == 0 => Step::Done(Ok(size)),
-        [] => Step::Need(link_before(link)),
-        [Ok(before), ..] => Step::Done(Ok(before.saturating_add(1))),
-        [Err(missing), ..] => Step::Done(Err(*missing)),
+        [] if link.number == 0 => Next::Done(Ok(size)),
+        [] => Next::Need(link_before(link)),
+        [Ok(before), ..] => Next::Done(Ok(before.saturating_add(1))),
+        [Err(missing), ..] => Next::Done(Err(*missing)),
     }
 }
 
@@ -53,7 +53,7 @@ impl Rules for Chain {
         bytes: &Buffer,
         replies: &[Reply],
         uses: &mut Vec<Use>,
-    ) -> Result<Step<Link, Reply>, AllocError> {
+    ) -> Result<Next<Link, Reply>, AllocError> {
         uses.push(Use::Size)?;
         let size = bytes.len();
         Ok(linked(*node, size as u32, replies))

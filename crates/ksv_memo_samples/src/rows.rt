@@ -5,7 +5,7 @@ ghost use Rattle.ksv_memo_samples.specs.Rows as spec;
 
 use crate::row::{Missing, Row, RowNumber};
 use ksv_bytes::{Buffer, Use, Window};
-use ksv_memo::{Rules, Step};
+use ksv_memo::{Next, Rules};
 use std::alloc::{AllocError, Global};
 
 /// Rows, each asked by its number.
@@ -29,14 +29,14 @@ fn total(so_far: u32, replies: &[Reply]) -> Reply
 }
 
 /// What a sum does next.
-fn summed(numbers: &[RowNumber], replies: &[Reply]) -> Step<RowNumber, Reply>
+fn summed(numbers: &[RowNumber], replies: &[Reply]) -> Next<RowNumber, Reply>
     ensures { result ≡ spec.summed numbers.now replies.now }
 {
     match total(0, replies) {
-        Err(missing) => Step::Done(Err(missing)),
+        Err(missing) => Next::Done(Err(missing)),
         Ok(sum) => match numbers.get(replies.len()) {
-            Some(number) => Step::Need(*number),
-            None => Step::Done(Ok(sum)),
+            Some(number) => Next::Need(*number),
+            None => Next::Done(Ok(sum)),
         },
     }
 }
@@ -70,22 +70,22 @@ fn named(
     bytes: &Buffer,
     replies: &[Reply],
     uses: &mut Vec<Use>,
-) -> Result<Step<RowNumber, Reply>, AllocError>
+) -> Result<Next<RowNumber, Reply>, AllocError>
     ensures step { IfOk result (λ step. step ≡ spec.named bytes.now place replies.now) }
     ensures uses { OnOk result (uses.new.items ≡ uses.old.items ++ spec.named_uses bytes.now place replies.now) }
     ensures refused { OnErr result (uses.new.items ≡ uses.old.items) }
 {
     if let [reply, ..] = replies {
-        return Ok(Step::Done(*reply));
+        return Ok(Next::Done(*reply));
     }
     match byte_at(bytes, place) {
         None => {
             uses.push(Use::Size)?;
-            Ok(Step::Done(Err(Missing)))
+            Ok(Next::Done(Err(Missing)))
         }
         Some(byte) => {
             uses.push(Use::Bytes(place, place + 1))?;
-            Ok(Step::Need(row_number(byte)))
+            Ok(Next::Need(row_number(byte)))
         }
     }
 }
@@ -103,13 +103,13 @@ fn row_next(
     bytes: &Buffer,
     replies: &[Reply],
     uses: &mut Vec<Use>,
-) -> Result<Step<RowNumber, Reply>, AllocError>
+) -> Result<Next<RowNumber, Reply>, AllocError>
     ensures step { IfOk result (λ step. step ≡ spec.row_next bytes.now replies.now (Some row.now)) }
     ensures uses { OnOk result (uses.new.items ≡ uses.old.items ++ spec.row_uses bytes.now replies.now (Some row.now)) }
     ensures refused { OnErr result (uses.new.items ≡ uses.old.items) }
 {
     match row {
-        Row::Number(number) => Ok(Step::Done(Ok(*number))),
+        Row::Number(number) => Ok(Next::Done(Ok(*number))),
         Row::Sum(numbers) => Ok(summed(numbers.as_slice(), replies)),
         Row::Named(place) => named(*place, bytes, replies, uses),
     }
@@ -131,9 +131,9 @@ impl Rules for Rows {
         bytes: &Buffer,
         replies: &[Reply],
         uses: &mut Vec<Use>,
-    ) -> Result<Step<RowNumber, Reply>, AllocError> {
+    ) -> Result<Next<RowNumber, Reply>, AllocError> {
         match row_at(self.rows.as_slice(), node.number as usize) {
-            None => Ok(Step::Done(Err(Missing))),
+            None => Ok(Next::Done(Err(Missing))),
             Some(row) => row_next(row, bytes, replies, uses),
         }
     }

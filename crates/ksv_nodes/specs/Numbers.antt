@@ -2,31 +2,31 @@
 use Rattle.std.specs.Prelude.{◌≡◌, ℕ, ◌+◌, ◌*◌, ◌<◌, zero, suc, refl}
 use Rattle.std.proofs.Common.{arith, ap}
 use Rattle.ksv_expr_value.specs.Numbers.{path_number, path_bound, path_number-one, path_number-below}
-use Rattle.ksv_nodes.specs.declared.node.Kind.{Kind}
-use Rattle.ksv_nodes.specs.declared.node.Kind.TheVariants.{Head, Value, End, Rest}
+use Rattle.ksv_nodes.specs.declared.node.NodeKind.{NodeKind}
+use Rattle.ksv_nodes.specs.declared.node.NodeKind.TheVariants.{Head, Value, End, Rest}
 use Rattle.ksv_nodes.specs.declared.node.Node.{Node}
 
 -- what is asked, from 0 to 3
-kind_number : Kind → ℕ
+kind_number : NodeKind → ℕ
 kind_number Head = 0
 kind_number Value = 1
 kind_number End = 2
 kind_number Rest = 3
 
-kind_number-low : (k : Kind) → kind_number k < 4
+kind_number-low : (k : NodeKind) → kind_number k < 4
 unfolding kind_number
 kind_number-low Head = omega arith
 kind_number-low Value = omega arith
 kind_number-low End = omega arith
 kind_number-low Rest = omega arith
 
-kind_of : ℕ → Kind
+kind_of : ℕ → NodeKind
 kind_of zero = Head
 kind_of (suc zero) = Value
 kind_of (suc (suc zero)) = End
 kind_of (suc (suc (suc n))) = Rest
 
-kind_of-number : (k : Kind) → kind_of (kind_number k) ≡ k
+kind_of-number : (k : NodeKind) → kind_of (kind_number k) ≡ k
 unfolding kind_number kind_of
 kind_of-number Head = refl
 kind_of-number Value = refl

@@ -12,8 +12,8 @@ use Rattle.ksv_nodes.specs.declared.node.Node.{Node}
 use Rattle.ksv_nodes.specs.declared.given.Given.{Given}
 use Rattle.ksv_nodes.specs.declared.turn.Found.{Found}
 use Rattle.ksv_nodes.specs.declared.turn.Found.TheVariants as founds
-use Rattle.ksv_nodes.specs.declared.turn.Stop.{Stop}
-use Rattle.ksv_nodes.specs.declared.turn.Stop.TheVariants as stops
+use Rattle.ksv_nodes.specs.declared.turn.Halt.{Halt}
+use Rattle.ksv_nodes.specs.declared.turn.Halt.TheVariants as stops
 use Rattle.ksv_nodes.specs.Reading.{Look, look}
 use Rattle.ksv_nodes.specs.Rule.{Query, Of, See, Reply, Raised, Here, There, Rule}
 
@@ -60,7 +60,7 @@ abbrev pub fresh : Trail → List ℕ → List (Result Given Fault) → State
 fresh here bytes replies = record { here = here; bytes = bytes; replies = replies; uses = [] }
 
 -- What a function returned, seen by view, is what running a rule gives, unless memory ran out.
-abbrev pub Runs : {X A : Type 0} → Rule A → (X → A) → State → State → Result X Stop → Type 0
+abbrev pub Runs : {X A : Type 0} → Rule A → (X → A) → State → State → Result X Halt → Type 0
 Runs rule view old new (Ok x) = run turns rule old ≡ Done (view x) new
 Runs rule view old new (Err stops.Memory) = Unit {0}
 Runs rule view old new (Err (stops.Need n)) = run turns rule old ≡ Need n new
@@ -76,14 +76,14 @@ abbrev pub ask : Node → Rule Given
 ask n = Ask (Of n) (λ g. Answer g)
 
 -- the function took the reply to this node, or found none
-abbrev pub RepliesWith : Node → State → State → Result (Bor (Result Given Fault)) Stop → Type 0
+abbrev pub RepliesWith : Node → State → State → Result (Bor (Result Given Fault)) Halt → Type 0
 RepliesWith n old new (Ok g) = run turns (ask n) old ≡ come g.now new
 RepliesWith n old new (Err stops.Memory) = Unit {0}
 RepliesWith n old new (Err (stops.Need m)) = run turns (ask n) old ≡ Need m new
 RepliesWith n old new (Err (stops.Fault f)) = run turns (ask n) old ≡ Failed f new
 
 -- it stopped with this fault, unless memory ran out
-abbrev pub IsFault : Fault → Stop → Type 0
+abbrev pub IsFault : Fault → Halt → Type 0
 IsFault f stops.Memory = Unit {0}
 IsFault f (stops.Need n) = ⊥
 IsFault f (stops.Fault e) = e ≡ f

@@ -7,7 +7,7 @@ use std::alloc::{AllocError, Global};
 
 /// The attribute by which something is read: a member of a type of the description.
 #[derive(Clone, Copy)]
-pub struct Source {
+pub struct MemberRef {
     /// The type's number.
     pub type_number: u32,
     /// The member's place among the type's members, from 0.
@@ -18,7 +18,7 @@ pub struct Source {
 #[derive(Clone, Copy)]
 pub struct Leaf {
     /// The attribute by which they are read.
-    pub source: Source,
+    pub source: MemberRef,
     /// The place of the first.
     pub from: u32,
     /// The place behind the last.
@@ -29,7 +29,7 @@ pub struct Leaf {
 
 /// How the end of an object is known.
 #[derive(Clone, Copy)]
-pub enum Ending {
+pub enum ObjectEnd {
     /// It ends at this place.
     At(u32),
     /// It ends with its stream.
@@ -48,14 +48,14 @@ pub struct Object {
     /// Where it begins.
     pub start: u32,
     /// How its end is known.
-    pub ending: Ending,
+    pub ending: ObjectEnd,
 }
 
 /// The elements of an attribute.
 #[derive(Clone, Copy)]
 pub struct List {
     /// The attribute by which they are read.
-    pub source: Source,
+    pub source: MemberRef,
     /// The stream in which they stand.
     pub stream: Stream,
     /// The stream of the object that holds the attribute.
@@ -72,7 +72,7 @@ pub struct List {
 #[derive(Clone, Copy)]
 pub enum Head {
     /// Nothing: an attribute that is absent, at its place where it has one.
-    Gone(Option<u32>),
+    Absent(Option<u32>),
     /// Bytes that hold a value.
     Leaf(Leaf),
     /// An object.

@@ -11,11 +11,11 @@ mod node;
 mod search;
 mod turn;
 
-pub use given::{Ended, Ending, Given, Head, Leaf, List, Object, Rested, Source};
+pub use given::{Ended, Given, Head, Leaf, List, MemberRef, Object, ObjectEnd, Rested};
 pub use laws::{
     equal_nodes_are_same, nodes_are_numbered, readings_are_local, readings_fit, turns_are_bounded,
     turns_are_local, turns_fit, turns_meet_truth,
 };
-pub use node::{Kind, Node};
+pub use node::{Node, NodeKind};
 pub use search::first_in_parts;
-pub use turn::{Found, Stop, Turn};
+pub use turn::{Found, Halt, Turn};

@@ -7,7 +7,7 @@ use std::alloc::{AllocError, Global};
 
 /// What is asked of a path.
 #[derive(Clone, Copy, PartialEq, Eq, Hash)]
-pub enum Kind {
+pub enum NodeKind {
     /// What stands there, and where.
     Head,
     /// Its value.
@@ -22,7 +22,7 @@ pub enum Kind {
 #[derive(PartialEq, Eq, Hash, Drop)]
 pub struct Node {
     /// What is asked.
-    pub kind: Kind,
+    pub kind: NodeKind,
     /// Of which path.
     pub path: Path,
 }

@@ -8,7 +8,7 @@ ghost use Rattle.ksv_nodes.specs.Rule.{raise, ask_head, ask_value, ask_end, ask_
 ghost use Rattle.ksv_nodes.specs.Turning.{Runs, RepliesWith, IsFault, StandsBelow};
 
 use crate::given::{Ended, Given, Head, Rested};
-use crate::node::{Kind, Node};
+use crate::node::{Node, NodeKind};
 use crate::search::first_in_parts;
 use ksv_bytes::{Buffer, Use, Window};
 use ksv_expr::{Fault, FaultKind, Parts, Path, Step, Stream, Value};
@@ -26,7 +26,7 @@ pub enum Found {
 
 /// Why a rule stops before its end.
 #[derive(Drop)]
-pub enum Stop {
+pub enum Halt {
     /// It needs the answer of this node.
     Need(Node),
     /// It has this fault.
@@ -35,25 +35,25 @@ pub enum Stop {
     Memory,
 }
 
-impl From<AllocError> for Stop {
+impl From<AllocError> for Halt {
     ghost use Rattle.std.specs.Prelude.{◌≡◌};
-    ghost use Rattle.ksv_nodes.specs.declared.turn.Stop.TheVariants.{Memory};
+    ghost use Rattle.ksv_nodes.specs.declared.turn.Halt.TheVariants.{Memory};
 
     ghost from_gives = { λ _ e. e ≡ Memory };
 
-    fn from(_e: AllocError) -> Stop {
-        Stop::Memory
+    fn from(_e: AllocError) -> Halt {
+        Halt::Memory
     }
 }
 
-impl<T: Drop> From<AllocFailed<T>> for Stop {
+impl<T: Drop> From<AllocFailed<T>> for Halt {
     ghost use Rattle.std.specs.Prelude.{◌≡◌};
-    ghost use Rattle.ksv_nodes.specs.declared.turn.Stop.TheVariants.{Memory};
+    ghost use Rattle.ksv_nodes.specs.declared.turn.Halt.TheVariants.{Memory};
 
     ghost from_gives = { λ _ e. e ≡ Memory };
 
-    fn from(_e: AllocFailed<T>) -> Stop {
-        Stop::Memory
+    fn from(_e: AllocFailed<T>) -> Halt {
+        Halt::Memory
     }
 }
 
@@ -119,11 +119,11 @@ impl<'a> Turn<'a> {
     }
 
     /// The next reply, which is to this node.
-    fn reply(&mut self, node: Node) -> Result<&'a Result<Given, Fault>, Stop>
+    fn reply(&mut self, node: Node) -> Result<&'a Result<Given, Fault>, Halt>
         ensures { RepliesWith node self.old self.new result }
     {
         match self.replies.get(self.at) {
-            None => Err(Stop::Need(node)),
+            None => Err(Halt::Need(node)),
             Some(reply) => {
                 self.at += 1;
                 Ok(reply)
@@ -131,28 +131,28 @@ impl<'a> Turn<'a> {
         }
     }
 
-    fn fault<X>(&self, fault: &Fault) -> Result<X, Stop>
+    fn fault<X>(&self, fault: &Fault) -> Result<X, Halt>
         ensures fault { IfErr result (λ e. IsFault fault.now e) }
         ensures err { IsErr result }
     {
-        Err(Stop::Fault(fault.copy(self.alloc)?))
+        Err(Halt::Fault(fault.copy(self.alloc)?))
     }
 
     /// A fault at the path of the node.
-    pub fn raise<X>(&self, kind: FaultKind) -> Result<X, Stop>
+    pub fn raise<X>(&self, kind: FaultKind) -> Result<X, Halt>
         ensures { Runs (raise kind) (λ x. x) self.now self.now result }
     {
-        Err(Stop::Fault(Fault {
+        Err(Halt::Fault(Fault {
             kind,
             path: self.here.copy(self.alloc)?,
         }))
     }
 
     /// What stands at a path, and where.
-    pub fn head(&mut self, path: Path) -> Result<Head, Stop>
+    pub fn head(&mut self, path: Path) -> Result<Head, Halt>
         ensures { Runs (ask_head path) (λ head. head) self.old self.new result }
     {
-        let kind = Kind::Head;
+        let kind = NodeKind::Head;
         match self.reply(Node { kind, path })? {
             Ok(Given::Head(head)) => Ok(*head),
             Ok(_) => self.raise(FaultKind::BadType),
@@ -161,10 +161,10 @@ impl<'a> Turn<'a> {
     }
 
     /// The value at a path.
-    pub fn value(&mut self, path: Path) -> Result<&'a Value, Stop>
+    pub fn value(&mut self, path: Path) -> Result<&'a Value, Halt>
         ensures { Runs (ask_value path) (λ value. value.now) self.old self.new result }
     {
-        let kind = Kind::Value;
+        let kind = NodeKind::Value;
         match self.reply(Node { kind, path })? {
             Ok(Given::Value(value)) => Ok(value),
             Ok(_) => self.raise(FaultKind::BadType),
@@ -173,10 +173,10 @@ impl<'a> Turn<'a> {
     }
 
     /// Where what stands at a path ends.
-    pub fn end(&mut self, path: Path) -> Result<Ended, Stop>
+    pub fn end(&mut self, path: Path) -> Result<Ended, Halt>
         ensures { Runs (ask_end path) (λ ended. ended) self.old self.new result }
     {
-        let kind = Kind::End;
+        let kind = NodeKind::End;
         match self.reply(Node { kind, path })? {
             Ok(Given::End { place, last }) => Ok(Ended {
                 place: *place,
@@ -188,10 +188,10 @@ impl<'a> Turn<'a> {
     }
 
     /// What a list is from the element at a path on.
-    pub fn rest(&mut self, path: Path) -> Result<Rested, Stop>
+    pub fn rest(&mut self, path: Path) -> Result<Rested, Halt>
         ensures { Runs (ask_rest path) (λ rested. rested) self.old self.new result }
     {
-        let kind = Kind::Rest;
+        let kind = NodeKind::Rest;
         match self.reply(Node { kind, path })? {
             Ok(Given::Rest { count, place }) => Ok(Rested {
                 count: *count,
@@ -203,7 +203,7 @@ impl<'a> Turn<'a> {
     }
 
     /// The path one step on. A path that doesn't fit is a fault of the node.
-    pub fn part(&self, path: &Path, step: Step) -> Result<Path, Stop>
+    pub fn part(&self, path: &Path, step: Step) -> Result<Path, Halt>
         ensures { Runs (part path.now step) (λ part. part) self.now self.now result }
     {
         let part = match step {
@@ -218,7 +218,7 @@ impl<'a> Turn<'a> {
 
     /// Sees to it that a stream and the file go on to a place.
     #[tactic(auto, unfolding(crate::specs::Reading::reach_within, crate::specs::Reading::reach_file))]
-    pub fn reach(&mut self, stream: Stream, to: u128) -> Result<(), Stop>
+    pub fn reach(&mut self, stream: Stream, to: u128) -> Result<(), Halt>
         ensures runs { Runs (reach stream to) (λ unit. unit) self.old self.new result }
         ensures fits { IfOk result (λ _. to ≤ 16777216) }
     {
@@ -238,7 +238,7 @@ impl<'a> Turn<'a> {
 
     /// Where a stream ends.
     #[tactic(auto, unfolding(crate::specs::Reading::finish_of))]
-    pub fn finish(&mut self, stream: Stream) -> Result<u32, Stop>
+    pub fn finish(&mut self, stream: Stream) -> Result<u32, Halt>
         ensures { Runs (finish stream) (λ place. place) self.old self.new result }
     {
         match stream.to {
@@ -252,7 +252,7 @@ impl<'a> Turn<'a> {
 
     /// Whether a place is at the end of a stream or behind it.
     #[tactic(auto, unfolding(crate::specs::Reading::done_at))]
-    pub fn done(&mut self, stream: Stream, place: u32) -> Result<bool, Stop>
+    pub fn done(&mut self, stream: Stream, place: u32) -> Result<bool, Halt>
         ensures { Runs (done stream place) (λ is_done. is_done) self.old self.new result }
     {
         if let Some(end) = stream.to {
@@ -269,7 +269,7 @@ impl<'a> Turn<'a> {
 
     /// The bytes of a range.
     #[tactic(auto, unfolding(crate::specs::Reading::peek_at, crate::specs::Reading::cut_uses))]
-    pub fn peek(&mut self, from: u32, to: u32) -> Result<Parts<'a>, Stop>
+    pub fn peek(&mut self, from: u32, to: u32) -> Result<Parts<'a>, Halt>
         ensures { Runs (peek from to) content self.old self.new result }
     {
         if from == to {
@@ -323,7 +323,7 @@ impl<'a> Turn<'a> {
 
     /// The first byte of a value from a place on, before the stream's end.
     #[tactic(auto, unfolding(crate::specs::Reading::find_at, crate::specs::Reading::found_from, crate::specs::Reading::found_none, crate::specs::Reading::finish_of))]
-    pub fn find(&mut self, stream: Stream, start: u32, byte: u8) -> Result<Found, Stop>
+    pub fn find(&mut self, stream: Stream, start: u32, byte: u8) -> Result<Found, Halt>
         ensures runs { Runs (find stream start byte) (λ found. found) self.old self.new result }
         ensures fits { IfOk result (StandsBelow 16777216) }
     {

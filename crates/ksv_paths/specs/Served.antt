@@ -5,7 +5,7 @@ use Rattle.std.specs.List.{list_all}
 use Rattle.ksv_expr_tree.specs.Tree.{Tree, Arguments, literal, named, special, member, unary, binary, logical, choice, field, special_field, call, index, cast, no_arguments, argument}
 use Rattle.ksv_expr_tree.specs.declared.tree.SpecialName.{SpecialName}
 use Rattle.ksv_expr_tree.specs.declared.tree.SpecialName.TheVariants as specials
-use Rattle.ksv_desc.specs.Description.{Description, TypeOfObjects, Kind, InSequence, Field, Repeat, Once, UntilEnd, Times, Until, Choice, Always, Switch, Extent, Sized, ToEnd, ByItself, Content, Object}
+use Rattle.ksv_desc.specs.Description.{Description, TypeOfObjects, MemberKind, Attribute, Field, Repeat, Once, Eos, Expr, Until, Choice, Always, Switch, Extent, Sized, SizeEos, ByItself, Content, Object}
 
 -- `_index` and `_` alone
 abbrev pub is_served_name : SpecialName → Bool
@@ -40,13 +40,13 @@ is_served_condition (Some e) = is_served_tree e
 
 abbrev pub is_served_repeat : Repeat → Bool
 is_served_repeat Once = true
-is_served_repeat UntilEnd = true
-is_served_repeat (Times e) = is_served_tree e
+is_served_repeat Eos = true
+is_served_repeat (Expr e) = is_served_tree e
 is_served_repeat (Until e) = is_served_tree e
 
 abbrev pub is_served_extent : Extent → Bool
 is_served_extent (Sized e) = is_served_tree e
-is_served_extent ToEnd = true
+is_served_extent SizeEos = true
 is_served_extent ByItself = true
 
 abbrev pub goes_by_itself : Extent → Bool
@@ -65,8 +65,8 @@ is_served_choice x (Switch on cases) = false
 unfoldable pub is_served_field : Field → Bool
 is_served_field f = is_served_condition f.condition && (is_served_repeat f.repeat && (is_served_extent f.extent && is_served_choice f.extent f.choice))
 
-abbrev pub is_served_kind : Kind → Bool
-is_served_kind (InSequence f) = is_served_field f
+abbrev pub is_served_kind : MemberKind → Bool
+is_served_kind (Attribute f) = is_served_field f
 is_served_kind _ = false
 
 unfoldable pub is_served_type : TypeOfObjects → Bool

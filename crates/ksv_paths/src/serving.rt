@@ -6,7 +6,7 @@ ghost use Rattle.ksv_desc.specs.Whole.{plain_pieces};
 ghost use Rattle.ksv_paths.specs.Served.{is_served_name, are_served_trees, is_served_condition, is_served_repeat, is_served_extent, is_served_content, is_served_choice, goes_by_itself, is_served_field, is_served_kind, is_served_type, is_served};
 ghost use Rattle.ksv_paths.specs.ServedCode.{is_served_expr};
 
-use ksv_desc::{Choice, Content, Desc, Extent, Field, Kind, Repeat, TypeDesc};
+use ksv_desc::{Choice, Content, Desc, Extent, Field, MemberKind, Repeat, TypeDesc};
 use ksv_expr_tree::{Expr, SpecialName};
 
 /// `_index` and `_` alone.
@@ -70,8 +70,8 @@ fn is_served_repeat(repeat: &Repeat) -> bool
     ensures { result ≡ is_served_repeat (plain_repeat repeat.now) }
 {
     match repeat {
-        Repeat::Once | Repeat::UntilEnd => true,
-        Repeat::Times(count) => is_served_expr(count),
+        Repeat::Once | Repeat::Eos => true,
+        Repeat::Expr(count) => is_served_expr(count),
         Repeat::Until(last) => is_served_expr(last),
     }
 }
@@ -82,7 +82,7 @@ fn is_served_extent(extent: &Extent) -> bool
 {
     match extent {
         Extent::Sized(size) => is_served_expr(size),
-        Extent::ToEnd | Extent::ByItself => true,
+        Extent::SizeEos | Extent::ByItself => true,
     }
 }
 
@@ -91,7 +91,7 @@ fn goes_by_itself(extent: &Extent) -> bool
 {
     match extent {
         Extent::ByItself => true,
-        Extent::Sized(_) | Extent::ToEnd => false,
+        Extent::Sized(_) | Extent::SizeEos => false,
     }
 }
 
@@ -125,11 +125,11 @@ fn is_served_field(field: &Field) -> bool
 }
 
 /// Attributes of `seq` alone.
-fn is_served_kind(kind: &Kind) -> bool
+fn is_served_kind(kind: &MemberKind) -> bool
     ensures { result ≡ is_served_kind (plain_kind kind.now) }
 {
     match kind {
-        Kind::InSequence(field) => is_served_field(field),
+        MemberKind::Attribute(field) => is_served_field(field),
         _ => false,
     }
 }

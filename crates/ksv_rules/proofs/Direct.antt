@@ -9,7 +9,7 @@ use Rattle.ksv_bytes.specs.declared.uses.Use.{Use}
 use Rattle.ksv_expr_value.specs.declared.fault.Fault.{Fault}
 use Rattle.ksv_expr_value.specs.declared.fault.FaultKind.TheVariants as kinds
 use Rattle.ksv_desc.specs.Description.{Description}
-use Rattle.ksv_memo.specs.declared.rules.Step.TheVariants as steps
+use Rattle.ksv_memo.specs.declared.rules.Next.TheVariants as steps
 use Rattle.ksv_memo.specs.declared.rules.Outcome.{Outcome}
 use Rattle.ksv_memo.specs.declared.rules.Outcome.TheVariants.{Answered, Circle}
 use Rattle.ksv_memo.specs.Meaning.{Standing, IsSettled, IsDone, on}

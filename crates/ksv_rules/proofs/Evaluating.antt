@@ -11,12 +11,12 @@ use Rattle.ksv_expr.specs.Evaluation.{resumed, outcome_of}
 use Rattle.ksv_expr_value.specs.declared.fault.Fault.{Fault}
 use Rattle.ksv_expr_value.specs.declared.value.Value.{Value}
 use Rattle.ksv_expr.specs.declared.want.Want.{Want}
-use Rattle.ksv_expr.specs.declared.want.Outcome.{Outcome}
-use Rattle.ksv_expr.specs.declared.want.Outcome.TheVariants as outcomes
+use Rattle.ksv_expr.specs.declared.want.EvalStep.{EvalStep}
+use Rattle.ksv_expr.specs.declared.want.EvalStep.TheVariants as outcomes
 use Rattle.ksv_nodes.specs.Rule.{Here, raise}
 use Rattle.ksv_nodes.specs.Turning.{State, turns, Runs}
-use Rattle.ksv_nodes.specs.declared.turn.Stop.{Stop}
-use Rattle.ksv_nodes.specs.declared.turn.Stop.TheVariants as stops
+use Rattle.ksv_nodes.specs.declared.turn.Halt.{Halt}
+use Rattle.ksv_nodes.specs.declared.turn.Halt.TheVariants as stops
 use Rattle.ksv_rules.specs.Wanted.{wanted, expression}
 
 -- behind these answers another plan is left: it goes on as the expression does
@@ -30,11 +30,11 @@ unfolding expression
 left_begins s e begun = record { plan = value_of s e; goes = λ more. refl; same = refl }
 
 module _ (s : Setting) (e : Tree) (got : List (Result Heard Fault)) (begun now : State) where
-  abbrev pub outcome : Outcome
+  abbrev pub outcome : EvalStep
   outcome = outcome_of (resumed s e got)
 
   -- what a plan comes to without a further answer
-  abbrev outcome_left : Eval Value → Outcome
+  abbrev outcome_left : Eval Value → EvalStep
   outcome_left p = outcome_of (run replying p (record { here = s.here; replies = [] }))
 
   -- the expression comes to what is left
@@ -70,7 +70,7 @@ module _ (s : Setting) (e : Tree) (got : List (Result Heard Fault)) (begun now :
   left_failed : Left s e got begun now → (f : Fault) → outcome ≡ outcomes.Done (Err f) → run turns (expression s e) begun ≡ run turns (raise {A = Value} f.kind) now
   left_failed l f h = l.same ∙ failed f l.plan (sym (came_left l) ∙ h)
 
-  pub left_raised : Left s e got begun now → (f : Fault) → outcome ≡ outcomes.Done (Err f) → {X : Type 0} (view : X → Value) (new : State) (r : Result X Stop) → Runs (raise f.kind) view now new r → Runs (expression s e) view begun new r
+  pub left_raised : Left s e got begun now → (f : Fault) → outcome ≡ outcomes.Done (Err f) → {X : Type 0} (view : X → Value) (new : State) (r : Result X Halt) → Runs (raise f.kind) view now new r → Runs (expression s e) view begun new r
   left_raised l f h view new (Ok x) r = left_failed l f h ∙ r
   left_raised l f h view new (Err stops.Memory) r = tt
   left_raised l f h view new (Err (stops.Need n)) r = left_failed l f h ∙ r
@@ -83,7 +83,7 @@ module _ (s : Setting) (e : Tree) (got : List (Result Heard Fault)) (begun now :
   left_next : (l : Left s e got begun now) (w : Want) (a : Asking w l.plan) → run turns (expression s e) begun ≡ next (run turns (wanted s w) now) (λ r t. run turns (translate (wanted s) Here (a.rest r)) t)
   left_next l w a = l.same ∙ ap (λ p. run turns (translate (wanted s) Here p) now) a.asks ∙ run_bind turns (wanted s w) (λ r. translate (wanted s) Here (a.rest r)) now
 
-  pub left_stops : Left s e got begun now → (w : Want) → outcome ≡ outcomes.Need w → {X : Type 0} (view : X → Heard) (new : State) (x : Stop) → Runs (wanted s w) view now new (Err x) → {Y : Type 0} (view' : Y → Value) → Runs (expression s e) view' begun new (Err x)
+  pub left_stops : Left s e got begun now → (w : Want) → outcome ≡ outcomes.Need w → {X : Type 0} (view : X → Heard) (new : State) (x : Halt) → Runs (wanted s w) view now new (Err x) → {Y : Type 0} (view' : Y → Value) → Runs (expression s e) view' begun new (Err x)
   left_stops l w h view new stops.Memory r view' = tt
   left_stops l w h view new (stops.Need n) r view' = left_next l w (left_asking l w h) ∙ ap (λ o. next o (λ r' t. run turns (translate (wanted s) Here ((left_asking l w h).rest r')) t)) r
   left_stops l w h view new (stops.Fault f) r view' = left_next l w (left_asking l w h) ∙ ap (λ o. next o (λ r' t. run turns (translate (wanted s) Here ((left_asking l w h).rest r')) t)) r

@@ -26,19 +26,19 @@ use Rattle.ksv_expr_value.specs.declared.value.Value.{Value}
 use Rattle.ksv_expr_value.specs.declared.value.Value.TheVariants as values
 use Rattle.ksv_expr.specs.declared.want.Want.{Want}
 use Rattle.ksv_expr.specs.declared.want.Want.TheVariants as wants
-use Rattle.ksv_desc.specs.Description.{Description, TypeOfObjects, MemberOfType, Kind, Given, InSequence, Positioned, Calculated, Field, Content, Choice, Always, Switch, Extent, Sized, ToEnd, ByItself, Repeat, Once, UntilEnd, Times, Until, Terminator}
+use Rattle.ksv_desc.specs.Description.{Description, TypeOfObjects, MemberOfType, MemberKind, Parameter, Attribute, ParseInstance, ValueInstance, Field, Content, Choice, Always, Switch, Extent, Sized, SizeEos, ByItself, Repeat, Once, Eos, Expr, Until, Terminator}
 use Rattle.ksv_desc.specs.Description as contents
 use Rattle.ksv_nodes.proofs.Bounds.{nodes_more, nodes_join, nodes_if, nodes_translate, enough, head_nodes, value_nodes, end_nodes, rest_nodes, part_nodes}
 use Rattle.ksv_nodes.specs.Bounds.{NodesAtMost}
 use Rattle.ksv_nodes.specs.Turning.{State, fresh}
 use Rattle.ksv_nodes.specs.declared.node.Node.{Node}
-use Rattle.ksv_nodes.specs.declared.node.Kind.{Kind as NodeKind}
-use Rattle.ksv_nodes.specs.declared.node.Kind.TheVariants as nodes
+use Rattle.ksv_nodes.specs.declared.node.NodeKind.{NodeKind}
+use Rattle.ksv_nodes.specs.declared.node.NodeKind.TheVariants as nodes
 use Rattle.ksv_nodes.specs.declared.given.Given.{Given as Answered}
-use Rattle.ksv_nodes.specs.declared.given.Source.{Source}
+use Rattle.ksv_nodes.specs.declared.given.MemberRef.{MemberRef}
 use Rattle.ksv_nodes.specs.declared.given.Leaf.{Leaf}
-use Rattle.ksv_nodes.specs.declared.given.Ending.{Ending}
-use Rattle.ksv_nodes.specs.declared.given.Ending.TheVariants as endings
+use Rattle.ksv_nodes.specs.declared.given.ObjectEnd.{ObjectEnd}
+use Rattle.ksv_nodes.specs.declared.given.ObjectEnd.TheVariants as endings
 use Rattle.ksv_nodes.specs.declared.given.Object.{Object}
 use Rattle.ksv_nodes.specs.declared.given.List as lists
 use Rattle.ksv_nodes.specs.declared.given.Head.{Head}
@@ -52,10 +52,10 @@ use Rattle.ksv_rules.specs.Fields.{members_of, behind, Sought, sought, in_sought
 use Rattle.ksv_rules.specs.Wanted.{whole, in_object, wanted, expression, in_integer, in_truth, integer_of, truth_of, holds, in_size, size_of}
 use Rattle.ksv_rules.specs.Integers.{integer_value}
 use Rattle.ksv_rules.specs.Values.{in_number, number_in, number_value, fixed_value, cut_by, cut_bytes, bytes_value, in_text, cut_text, text_value, content_value, choice_value, leaf_value, value_at, value_of}
-use Rattle.ksv_rules.specs.Ends.{fields_end, object_end, part_rest, list_end, gone_end, place_of, start_of, behind_element, is_last, is_by_bytes, not_empty, element_end, end_at, end_of, next_rest, rest_behind, rest_from, in_whole_list, first_rest, whole_rest, rest_at, rest_of}
+use Rattle.ksv_rules.specs.Ends.{fields_end, object_end, part_rest, list_end, absent_end, place_of, start_of, behind_element, is_last, is_by_bytes, not_empty, element_end, end_at, end_of, next_rest, rest_behind, rest_from, in_whole_list, first_rest, whole_rest, rest_at, rest_of}
 use Rattle.ksv_paths.specs.Served.{is_served}
 use Rattle.ksv_rules.specs.Meaning.{meaning_of, served_rule, rule_of}
-use Rattle.ksv_rules.specs.Heads.{leaf, leaf_to_end, terminated_at, terminated, run_of, sized_leaf, bytes_at, sized_object, object_at, content_at, shape_at, in_count, count_of, counted, until_end, repeated, attribute_at, part_end, attribute_start, attribute_head, member_at, member_head, in_list, is_past, in_next, next_start, element_start, element_head, head_at, head_of}
+use Rattle.ksv_rules.specs.Heads.{leaf, leaf_to_end, terminated_at, terminated, run_of, sized_leaf, bytes_at, sized_object, object_at, content_at, shape_at, in_count, count_of, counted, until_eos, repeated, attribute_at, part_end, attribute_start, attribute_head, member_at, member_head, in_list, is_past, in_next, next_start, element_start, element_head, head_at, head_of}
 
 -- ---- what is found in a description wants no more than all of it
 
@@ -107,12 +107,12 @@ found_nodes n t d type_number x f h each =
 abbrev maybe_wants : Option MemberOfType → ℕ
 maybe_wants o = option_map_or member_wants o 0
 
-read_nodes : {A : Type 0} (n w : ℕ) (k : Kind) (f : Field → Rule A) → kind_wants k ≤ w → ((x : Field) → NodesAtMost (n + field_wants x) (f x)) → NodesAtMost (n + w) (bind (read_by k) f)
+read_nodes : {A : Type 0} (n w : ℕ) (k : MemberKind) (f : Field → Rule A) → kind_wants k ≤ w → ((x : Field) → NodesAtMost (n + field_wants x) (f x)) → NodesAtMost (n + w) (bind (read_by k) f)
 unfolding bind
-read_nodes n w (InSequence x) f h each = nodes_more (n + field_wants x) (n + w) (f x) (omega arith) (each x)
-read_nodes n w Given f h each = tt
-read_nodes n w (Positioned p s x) f h each = tt
-read_nodes n w (Calculated c v e) f h each = tt
+read_nodes n w (Attribute x) f h each = nodes_more (n + field_wants x) (n + w) (f x) (omega arith) (each x)
+read_nodes n w Parameter f h each = tt
+read_nodes n w (ParseInstance p s x) f h each = tt
+read_nodes n w (ValueInstance c v e) f h each = tt
 
 in_field_nodes : {A : Type 0} (n w : ℕ) (o : Option MemberOfType) (f : Field → Rule A) → maybe_wants o ≤ w → ((x : Field) → NodesAtMost (n + field_wants x) (f x)) → NodesAtMost (n + w) (bind (in_field o) f)
 unfolding bind
@@ -120,7 +120,7 @@ in_field_nodes n w None f h each = tt
 in_field_nodes n w (Some m) f h each = read_nodes n w m.kind f h each
 
 -- how an attribute of a source reads
-field_nodes : {A : Type 0} (n t : ℕ) (d : Description) (source : Source) (f : Field → Rule A) → n + sum_by type_wants d.types ≤ t → ((x : Field) → NodesAtMost (n + field_wants x) (f x)) → NodesAtMost t (bind (field_of d source) f)
+field_nodes : {A : Type 0} (n t : ℕ) (d : Description) (source : MemberRef) (f : Field → Rule A) → n + sum_by type_wants d.types ≤ t → ((x : Field) → NodesAtMost (n + field_wants x) (f x)) → NodesAtMost t (bind (field_of d source) f)
 unfolding field_of
 field_nodes n t d source f h each =
     let ms = members_of d source.type_number in
@@ -134,7 +134,7 @@ field_nodes n t d source f h each =
 
 in_object_nodes : (q : Trail) (h : Head) → NodesAtMost 0 (in_object q h)
 in_object_nodes q (heads.Object o) = tt
-in_object_nodes q (heads.Gone at) = tt
+in_object_nodes q (heads.Absent at) = tt
 in_object_nodes q (heads.Leaf l) = tt
 in_object_nodes q (heads.List g) = tt
 
@@ -184,31 +184,31 @@ size_nodes s e = nodes_join _ _ (most_wants e) (most_wants e) 0 (omega arith) (i
 
 -- ---- heads
 
-leaf_nodes : (n : ℕ) (source : Source) (w : Stream) (s size : ℕ) → NodesAtMost n (leaf source w s size)
+leaf_nodes : (n : ℕ) (source : MemberRef) (w : Stream) (s size : ℕ) → NodesAtMost n (leaf source w s size)
 unfolding leaf
 leaf_nodes n source w s size = nodes_join (reach w (s + size)) _ n 0 0 (omega arith) (λ x. tt) (λ x. tt)
 
-leaf_to_end_nodes : (source : Source) (w : Stream) (s : ℕ) → NodesAtMost 0 (leaf_to_end source w s)
+leaf_to_end_nodes : (source : MemberRef) (w : Stream) (s : ℕ) → NodesAtMost 0 (leaf_to_end source w s)
 unfolding leaf_to_end
 leaf_to_end_nodes source w s = nodes_join (finish w) _ 0 0 0 (omega arith) (λ e. tt) (λ e. tt)
 
-terminated_at_nodes : (source : Source) (s : ℕ) (t : Terminator) (q : Found) → NodesAtMost 0 (terminated_at source s t q)
+terminated_at_nodes : (source : MemberRef) (s : ℕ) (t : Terminator) (q : Found) → NodesAtMost 0 (terminated_at source s t q)
 terminated_at_nodes source s t (founds.At q) = tt
 terminated_at_nodes source s t (founds.Missing e) = nodes_if t.is_required 0 _ _ tt tt
 
-run_nodes : (source : Source) (w : Stream) (s : ℕ) (t : Option Terminator) → NodesAtMost 0 (run_of source w s t)
+run_nodes : (source : MemberRef) (w : Stream) (s : ℕ) (t : Option Terminator) → NodesAtMost 0 (run_of source w s t)
 unfolding run_of terminated
 run_nodes source w s None = tt
 run_nodes source w s (Some t) = nodes_join (find w s t.byte) _ 0 0 0 (omega arith) (λ q. tt) (λ q. terminated_at_nodes source s t q)
 
-sized_leaf_nodes : (at : Setting) (source : Source) (w : Stream) (s : ℕ) (e : Tree) → NodesAtMost (most_wants e) (sized_leaf at source w s e)
+sized_leaf_nodes : (at : Setting) (source : MemberRef) (w : Stream) (s : ℕ) (e : Tree) → NodesAtMost (most_wants e) (sized_leaf at source w s e)
 unfolding sized_leaf
 sized_leaf_nodes at source w s e = nodes_join _ _ (most_wants e) (most_wants e) 0 (omega arith) (size_nodes at e) (λ n. leaf_nodes 0 source w s n)
 
-bytes_nodes : (at : Setting) (source : Source) (w : Stream) (s : ℕ) (x : Extent) (t : Option Terminator) → NodesAtMost (extent_wants x) (bytes_at at source w s x t)
+bytes_nodes : (at : Setting) (source : MemberRef) (w : Stream) (s : ℕ) (x : Extent) (t : Option Terminator) → NodesAtMost (extent_wants x) (bytes_at at source w s x t)
 unfolding bytes_at
 bytes_nodes at source w s (Sized e) t = sized_leaf_nodes at source w s e
-bytes_nodes at source w s ToEnd t = leaf_to_end_nodes source w s
+bytes_nodes at source w s SizeEos t = leaf_to_end_nodes source w s
 bytes_nodes at source w s ByItself t = run_nodes source w s t
 
 sized_object_nodes : (at : Setting) (t : ℕ) (w : Stream) (s : ℕ) (e : Tree) → NodesAtMost (most_wants e) (sized_object at t w s e)
@@ -218,10 +218,10 @@ sized_object_nodes at t w s e = nodes_join _ _ (most_wants e) (most_wants e) 0 (
 object_nodes : (at : Setting) (t : ℕ) (w : Stream) (s : ℕ) (x : Extent) → NodesAtMost (extent_wants x) (object_at at t w s x)
 unfolding object_at
 object_nodes at t w s (Sized e) = sized_object_nodes at t w s e
-object_nodes at t w s ToEnd = tt
+object_nodes at t w s SizeEos = tt
 object_nodes at t w s ByItself = tt
 
-content_nodes : (at : Setting) (source : Source) (w : Stream) (s : ℕ) (f : Field) (c : Content) → NodesAtMost (extent_wants f.extent) (content_at at source w s f c)
+content_nodes : (at : Setting) (source : MemberRef) (w : Stream) (s : ℕ) (f : Field) (c : Content) → NodesAtMost (extent_wants f.extent) (content_at at source w s f c)
 unfolding content_at
 content_nodes at source w s f contents.Bytes = bytes_nodes at source w s f.extent f.terminator
 content_nodes at source w s f (contents.Fixed bs) = leaf_nodes (extent_wants f.extent) source w s (length bs)
@@ -229,7 +229,7 @@ content_nodes at source w s f (contents.Number signed size order enum) = leaf_no
 content_nodes at source w s f (contents.Characters encoding) = bytes_nodes at source w s f.extent f.terminator
 content_nodes at source w s f (contents.Object t given) = object_nodes at t w s f.extent
 
-shape_nodes : (at : Setting) (source : Source) (w : Stream) (s : ℕ) (f : Field) (c : Choice) → NodesAtMost (extent_wants f.extent) (shape_at at source w s f c)
+shape_nodes : (at : Setting) (source : MemberRef) (w : Stream) (s : ℕ) (f : Field) (c : Choice) → NodesAtMost (extent_wants f.extent) (shape_at at source w s f c)
 unfolding shape_at
 shape_nodes at source w s f (Always c) = content_nodes at source w s f c
 shape_nodes at source w s f (Switch on cases) = tt
@@ -241,22 +241,22 @@ count_nodes : (at : Setting) (e : Tree) → NodesAtMost (most_wants e) (count_of
 unfolding count_of
 count_nodes at e = nodes_join _ _ (most_wants e) (most_wants e) 0 (omega arith) (size_nodes at e) (λ n. in_count_nodes n)
 
-counted_nodes : (at : Setting) (source : Source) (w : Stream) (s : ℕ) (e : Tree) → NodesAtMost (most_wants e) (counted at source w s e)
+counted_nodes : (at : Setting) (source : MemberRef) (w : Stream) (s : ℕ) (e : Tree) → NodesAtMost (most_wants e) (counted at source w s e)
 unfolding counted
 counted_nodes at source w s e = nodes_join _ _ (most_wants e) (most_wants e) 0 (omega arith) (count_nodes at e) (λ n. tt)
 
-until_end_nodes : (n : ℕ) (at : Setting) (source : Source) (w : Stream) (s : ℕ) → NodesAtMost n (until_end at source w s)
-unfolding until_end
-until_end_nodes n at source w s = nodes_join (done w s) _ n 0 0 (omega arith) (λ b. tt) (λ b. tt)
+until_eos_nodes : (n : ℕ) (at : Setting) (source : MemberRef) (w : Stream) (s : ℕ) → NodesAtMost n (until_eos at source w s)
+unfolding until_eos
+until_eos_nodes n at source w s = nodes_join (done w s) _ n 0 0 (omega arith) (λ b. tt) (λ b. tt)
 
-repeated_nodes : (at : Setting) (source : Source) (w : Stream) (s : ℕ) (f : Field) (r : Repeat) → NodesAtMost (repeat_wants r + extent_wants f.extent) (repeated at source w s f r)
+repeated_nodes : (at : Setting) (source : MemberRef) (w : Stream) (s : ℕ) (f : Field) (r : Repeat) → NodesAtMost (repeat_wants r + extent_wants f.extent) (repeated at source w s f r)
 unfolding repeated
 repeated_nodes at source w s f Once = nodes_more (extent_wants f.extent) _ _ (omega arith) (shape_nodes at source w s f f.choice)
-repeated_nodes at source w s f (Times e) = nodes_more (most_wants e) _ _ (omega arith) (counted_nodes at source w s e)
-repeated_nodes at source w s f UntilEnd = until_end_nodes _ at source w s
+repeated_nodes at source w s f (Expr e) = nodes_more (most_wants e) _ _ (omega arith) (counted_nodes at source w s e)
+repeated_nodes at source w s f Eos = until_eos_nodes _ at source w s
 repeated_nodes at source w s f (Until e) = tt
 
-attribute_nodes : (at : Setting) (source : Source) (w : Stream) (s : ℕ) (f : Field) → NodesAtMost (field_wants f) (attribute_at at source w s f)
+attribute_nodes : (at : Setting) (source : MemberRef) (w : Stream) (s : ℕ) (f : Field) → NodesAtMost (field_wants f) (attribute_at at source w s f)
 unfolding attribute_at
 attribute_nodes at source w s f =
     nodes_join _ _ (field_wants f) (condition_wants f.condition) (repeat_wants f.repeat + extent_wants f.extent) (omega arith) (holds_nodes at f.condition) (λ there.
@@ -275,12 +275,12 @@ attribute_head_nodes : (p q : Trail) (o : Object) (x : Sought) (f : Field) → N
 unfolding attribute_head
 attribute_head_nodes p q o x f = nodes_join _ _ (1 + field_wants f) 1 (field_wants f) (omega arith) (start_nodes q o x.before) (λ s. attribute_nodes _ _ _ s f)
 
-member_nodes : (p q : Trail) (o : Object) (x : Sought) (k : Kind) → NodesAtMost (1 + kind_wants k) (member_at p q o x k)
+member_nodes : (p q : Trail) (o : Object) (x : Sought) (k : MemberKind) → NodesAtMost (1 + kind_wants k) (member_at p q o x k)
 unfolding member_at
-member_nodes p q o x (InSequence f) = attribute_head_nodes p q o x f
-member_nodes p q o x Given = tt
-member_nodes p q o x (Positioned place stream f) = tt
-member_nodes p q o x (Calculated c v e) = tt
+member_nodes p q o x (Attribute f) = attribute_head_nodes p q o x f
+member_nodes p q o x Parameter = tt
+member_nodes p q o x (ParseInstance place stream f) = tt
+member_nodes p q o x (ValueInstance c v e) = tt
 
 -- what all expressions want
 abbrev all_wants : Description → ℕ
@@ -295,7 +295,7 @@ member_head_nodes d p q x =
 
 in_list_nodes : (l : Trail) (h : Head) → NodesAtMost 0 (in_list l h)
 in_list_nodes l (heads.List g) = tt
-in_list_nodes l (heads.Gone at) = tt
+in_list_nodes l (heads.Absent at) = tt
 in_list_nodes l (heads.Leaf b) = tt
 in_list_nodes l (heads.Object o) = tt
 
@@ -374,11 +374,11 @@ unfolding choice_value
 choice_value_nodes l f (Always c) = content_value_nodes l f c
 choice_value_nodes l f (Switch on cases) = tt
 
-read_by_nodes : (k : Kind) → NodesAtMost 0 (read_by k)
-read_by_nodes (InSequence f) = tt
-read_by_nodes Given = tt
-read_by_nodes (Positioned place stream f) = tt
-read_by_nodes (Calculated c v e) = tt
+read_by_nodes : (k : MemberKind) → NodesAtMost 0 (read_by k)
+read_by_nodes (Attribute f) = tt
+read_by_nodes Parameter = tt
+read_by_nodes (ParseInstance place stream f) = tt
+read_by_nodes (ValueInstance c v e) = tt
 
 in_field_asks : (o : Option MemberOfType) → NodesAtMost 0 (in_field o)
 in_field_asks None = tt
@@ -390,7 +390,7 @@ leaf_value_nodes d l = nodes_join _ _ 0 0 0 (omega arith) (in_field_asks (slice_
 
 value_at_nodes : (d : Description) (p : Trail) (h : Head) → NodesAtMost 0 (value_at d p h)
 unfolding value_at
-value_at_nodes d p (heads.Gone at) = tt
+value_at_nodes d p (heads.Absent at) = tt
 value_at_nodes d p (heads.Leaf l) = leaf_value_nodes d l
 value_at_nodes d p (heads.Object o) = tt
 value_at_nodes d p (heads.List g) = tt
@@ -406,7 +406,7 @@ unfolding fields_end
 fields_end_nodes p start None = tt
 fields_end_nodes p start (Some z) = nodes_join _ _ 1 1 0 (omega arith) (part_end_nodes p (steps.Name z)) (λ e. tt)
 
-object_end_nodes : (d : Description) (p : Trail) (o : Object) (e : Ending) → NodesAtMost 1 (object_end d p o e)
+object_end_nodes : (d : Description) (p : Trail) (o : Object) (e : ObjectEnd) → NodesAtMost 1 (object_end d p o e)
 unfolding object_end
 object_end_nodes d p o (endings.At e) = tt
 object_end_nodes d p o endings.OfStream = λ n. tt
@@ -420,13 +420,13 @@ list_end_nodes : (p : Trail) → NodesAtMost 1 (list_end p)
 unfolding list_end
 list_end_nodes p = nodes_join _ _ 1 1 0 (omega arith) (part_rest_nodes p (steps.Index 0)) (λ r. tt)
 
-gone_end_nodes : (at : Option ℕ) → NodesAtMost 1 (gone_end at)
-gone_end_nodes None = tt
-gone_end_nodes (Some s) = tt
+absent_end_nodes : (at : Option ℕ) → NodesAtMost 1 (absent_end at)
+absent_end_nodes None = tt
+absent_end_nodes (Some s) = tt
 
 place_nodes : (d : Description) (p : Trail) (h : Head) → NodesAtMost 1 (place_of d p h)
 unfolding place_of
-place_nodes d p (heads.Gone at) = gone_end_nodes at
+place_nodes d p (heads.Absent at) = absent_end_nodes at
 place_nodes d p (heads.Leaf l) = tt
 place_nodes d p (heads.Object o) = object_end_nodes d p o o.ending
 place_nodes d p (heads.List g) = list_end_nodes p
@@ -434,8 +434,8 @@ place_nodes d p (heads.List g) = list_end_nodes p
 is_last_nodes : (q : Trail) (g : lists.List) (p : Trail) (i e : ℕ) (r : Repeat) → NodesAtMost (repeat_wants r) (is_last q g p i e r)
 unfolding is_last
 is_last_nodes q g p i e Once = tt
-is_last_nodes q g p i e (Times n) = tt
-is_last_nodes q g p i e UntilEnd = λ b. tt
+is_last_nodes q g p i e (Expr n) = tt
+is_last_nodes q g p i e Eos = λ b. tt
 is_last_nodes q g p i e (Until c) = truth_nodes (behind_element q g p i e) c
 
 not_empty_nodes : (r : Repeat) (start e : ℕ) → NodesAtMost 0 (not_empty r start e)
@@ -478,7 +478,7 @@ rest_from_nodes p l i = nodes_join _ _ 2 1 1 (omega arith) (end_nodes p) (λ e. 
 
 in_whole_list_nodes : (l : Trail) (h : Head) → NodesAtMost 0 (in_whole_list l h)
 in_whole_list_nodes l (heads.List g) = tt
-in_whole_list_nodes l (heads.Gone at) = tt
+in_whole_list_nodes l (heads.Absent at) = tt
 in_whole_list_nodes l (heads.Leaf b) = tt
 in_whole_list_nodes l (heads.Object o) = tt
 

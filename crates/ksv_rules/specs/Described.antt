@@ -5,10 +5,10 @@ use Rattle.ksv_plan.specs.Plan.{Ran, Need, Failed, Done, run, behind}
 use Rattle.ksv_expr_tree.specs.Tree.{Tree}
 use Rattle.ksv_expr.specs.Evaluation.{most_wants}
 use Rattle.ksv_expr_value.specs.declared.fault.Fault.{Fault}
-use Rattle.ksv_desc.specs.Description.{Description, TypeOfObjects, Kind, InSequence, Field, Repeat, Once, UntilEnd, Times, Until, Extent, Sized, ToEnd, ByItself}
+use Rattle.ksv_desc.specs.Description.{Description, TypeOfObjects, MemberKind, Attribute, Field, Repeat, Once, Eos, Expr, Until, Extent, Sized, SizeEos, ByItself}
 use Rattle.ksv_memo.specs.Meaning.{Meaning}
-use Rattle.ksv_memo.specs.declared.rules.Step.{Step}
-use Rattle.ksv_memo.specs.declared.rules.Step.TheVariants as steps
+use Rattle.ksv_memo.specs.declared.rules.Next.{Next}
+use Rattle.ksv_memo.specs.declared.rules.Next.TheVariants as steps
 use Rattle.ksv_nodes.specs.declared.node.Node.{Node}
 use Rattle.ksv_nodes.specs.declared.given.Given.{Given}
 use Rattle.ksv_nodes.specs.Numbers.{node_number, node_bound}
@@ -23,21 +23,21 @@ condition_wants (Some e) = most_wants e
 
 abbrev pub repeat_wants : Repeat → ℕ
 repeat_wants Once = 0
-repeat_wants UntilEnd = 0
-repeat_wants (Times e) = most_wants e
+repeat_wants Eos = 0
+repeat_wants (Expr e) = most_wants e
 repeat_wants (Until e) = most_wants e
 
 abbrev pub extent_wants : Extent → ℕ
 extent_wants (Sized e) = most_wants e
-extent_wants ToEnd = 0
+extent_wants SizeEos = 0
 extent_wants ByItself = 0
 
 -- what the expressions of an attribute want at most
 abbrev pub field_wants : Field → ℕ
 field_wants f = condition_wants f.condition + (repeat_wants f.repeat + extent_wants f.extent)
 
-abbrev pub kind_wants : Kind → ℕ
-kind_wants (InSequence f) = field_wants f
+abbrev pub kind_wants : MemberKind → ℕ
+kind_wants (Attribute f) = field_wants f
 kind_wants _ = 0
 
 abbrev pub type_wants : TypeOfObjects → ℕ
@@ -55,7 +55,7 @@ abbrev pub resumed : Description → List ℕ → Node → List (Result Given Fa
 resumed d bytes n replies = run turns (rule_of d n) (fresh n.path bytes replies)
 
 -- what it came to
-abbrev pub step_of : Ran Node Fault State Given → Step Node (Result Given Fault)
+abbrev pub step_of : Ran Node Fault State Given → Next Node (Result Given Fault)
 step_of (Need n s) = steps.Need n
 step_of (Failed f s) = steps.Done (Err f)
 step_of (Done g s) = steps.Done (Ok g)

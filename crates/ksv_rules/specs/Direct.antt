@@ -6,7 +6,7 @@ use Rattle.ksv_expr_value.specs.declared.fault.Fault.{Fault}
 use Rattle.ksv_desc.specs.Description.{Description}
 use Rattle.ksv_memo.specs.declared.rules.Outcome.{Outcome}
 use Rattle.ksv_memo.specs.declared.rules.Outcome.TheVariants.{Answered, Circle}
-use Rattle.ksv_memo.specs.declared.rules.Step.TheVariants.{Need, Done}
+use Rattle.ksv_memo.specs.declared.rules.Next.TheVariants.{Need, Done}
 use Rattle.ksv_memo.specs.Meaning.{on, IsAddedTo}
 use Rattle.ksv_memo.specs.Evaluation.{is_among, tells}
 use Rattle.ksv_memo.specs.Right.{AreDistinct}

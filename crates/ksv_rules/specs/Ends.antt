@@ -6,9 +6,9 @@ use Rattle.ksv_expr.specs.Heard.{Setting}
 use Rattle.ksv_expr_value.specs.declared.fault.FaultKind.TheVariants as kinds
 use Rattle.ksv_expr_value.specs.declared.step.Step.{Step}
 use Rattle.ksv_expr_value.specs.declared.step.Step.TheVariants as steps
-use Rattle.ksv_desc.specs.Description.{Description, Repeat, Once, UntilEnd, Times, Until}
-use Rattle.ksv_nodes.specs.declared.given.Ending.{Ending}
-use Rattle.ksv_nodes.specs.declared.given.Ending.TheVariants as endings
+use Rattle.ksv_desc.specs.Description.{Description, Repeat, Once, Eos, Expr, Until}
+use Rattle.ksv_nodes.specs.declared.given.ObjectEnd.{ObjectEnd}
+use Rattle.ksv_nodes.specs.declared.given.ObjectEnd.TheVariants as endings
 use Rattle.ksv_nodes.specs.declared.given.Object.{Object}
 use Rattle.ksv_nodes.specs.declared.given.List as lists
 use Rattle.ksv_nodes.specs.declared.given.Head.{Head}
@@ -29,7 +29,7 @@ fields_end p start (Some z) = do
   e ← part_end p (steps.Name z)
   Answer e.place
 
-unfoldable pub object_end : Description → Trail → Object → Ending → Rule ℕ
+unfoldable pub object_end : Description → Trail → Object → ObjectEnd → Rule ℕ
 object_end d p o (endings.At e) = Answer e
 object_end d p o endings.OfStream = finish o.stream
 object_end d p o endings.ByFields = fields_end p o.start (last_attribute None (members_of d o.type_number))
@@ -46,12 +46,12 @@ list_end p = do
   Answer r.place
 
 -- an attribute that is absent ends at its place; without a place it has no end
-abbrev pub gone_end : Option ℕ → Rule ℕ
-gone_end None = raise kinds.NoSuch
-gone_end (Some s) = Answer s
+abbrev pub absent_end : Option ℕ → Rule ℕ
+absent_end None = raise kinds.NoSuch
+absent_end (Some s) = Answer s
 
 unfoldable pub place_of : Description → Trail → Head → Rule ℕ
-place_of d p (heads.Gone at) = gone_end at
+place_of d p (heads.Absent at) = absent_end at
 place_of d p (heads.Leaf l) = Answer l.end
 place_of d p (heads.Object o) = object_end d p o o.ending
 place_of d p (heads.List g) = list_end p
@@ -60,8 +60,8 @@ place_of d p (heads.List g) = list_end p
 
 -- where something begins
 abbrev pub start_of : Head → ℕ
-start_of (heads.Gone None) = 0
-start_of (heads.Gone (Some s)) = s
+start_of (heads.Absent None) = 0
+start_of (heads.Absent (Some s)) = s
 start_of (heads.Leaf l) = l.from
 start_of (heads.Object o) = o.start
 start_of (heads.List g) = g.start
@@ -78,13 +78,13 @@ behind_element q g p i e = record { home = q; stream = g.home; place = e; index 
 
 unfoldable pub is_last : Trail → lists.List → Trail → ℕ → ℕ → Repeat → Rule Bool
 is_last q g p i e Once = raise kinds.NoSuch
-is_last q g p i e (Times n) = Answer (is_counted g.count i)
-is_last q g p i e UntilEnd = done g.stream e
+is_last q g p i e (Expr n) = Answer (is_counted g.count i)
+is_last q g p i e Eos = done g.stream e
 is_last q g p i e (Until c) = truth_of (behind_element q g p i e) c
 
 -- where bytes end a list, an element without bytes would never end it
 abbrev pub is_by_bytes : Repeat → Bool
-is_by_bytes UntilEnd = true
+is_by_bytes Eos = true
 is_by_bytes (Until c) = true
 is_by_bytes _ = false
 
@@ -128,7 +128,7 @@ rest_from p l i = do
 -- the list of which an element is the first; faults stand at the list
 abbrev pub in_whole_list : Trail → Head → Rule lists.List
 in_whole_list l (heads.List g) = Answer g
-in_whole_list l (heads.Gone at) = Fail (There kinds.Absent l)
+in_whole_list l (heads.Absent at) = Fail (There kinds.Absent l)
 in_whole_list l _ = Fail (There kinds.NoSuch l)
 
 abbrev pub first_rest : Trail → Trail → lists.List → Rule Rested

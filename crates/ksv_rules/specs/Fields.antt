@@ -3,8 +3,8 @@ use Rattle.std.specs.Prelude.{ℕ, ◌+◌, ◌==◌, Bool, true, false, List, [
 use Rattle.std.specs.Option.{option_map_or}
 use Rattle.ksv_plan.specs.Plan.{Answer}
 use Rattle.ksv_expr_value.specs.declared.fault.FaultKind.TheVariants as kinds
-use Rattle.ksv_desc.specs.Description.{Description, MemberOfType, Field, Kind, InSequence}
-use Rattle.ksv_nodes.specs.declared.given.Source.{Source}
+use Rattle.ksv_desc.specs.Description.{Description, MemberOfType, Field, MemberKind, Attribute}
+use Rattle.ksv_nodes.specs.declared.given.MemberRef.{MemberRef}
 use Rattle.ksv_nodes.specs.Rule.{Rule, raise}
 
 -- the members of a type, in written order; a number that no type has is that of none
@@ -12,8 +12,8 @@ unfoldable pub members_of : Description → ℕ → List MemberOfType
 members_of d t = option_map_or (λ x. x.members) (slice_get d.types t) []
 
 -- an attribute of `seq`
-abbrev pub is_attribute : Kind → Bool
-is_attribute (InSequence f) = true
+abbrev pub is_attribute : MemberKind → Bool
+is_attribute (Attribute f) = true
 is_attribute _ = false
 
 -- the attribute of `seq` that stands last, behind a member
@@ -24,7 +24,7 @@ behind before m = if is_attribute m.kind then Some m.name else before
 pub record Sought : Type 0 where
   pub member : ℕ
   pub before : Option ℕ
-  pub kind : Kind
+  pub kind : MemberKind
 
 -- the member of a name, from the member of a place on, `before` being the attribute before that
 unfoldable pub sought : ℕ → ℕ → Option ℕ → List MemberOfType → Option Sought
@@ -45,8 +45,8 @@ last_attribute before [] = before
 last_attribute before (m ∷ ms) = last_attribute (behind before m) ms
 
 -- how a member reads, where it is one that reads
-abbrev pub read_by : Kind → Rule Field
-read_by (InSequence f) = Answer f
+abbrev pub read_by : MemberKind → Rule Field
+read_by (Attribute f) = Answer f
 read_by _ = raise kinds.NoSuch
 
 abbrev pub in_field : Option MemberOfType → Rule Field
@@ -54,5 +54,5 @@ in_field None = raise kinds.NoSuch
 in_field (Some m) = read_by m.kind
 
 -- how the attribute of a source reads; the sources of true heads are those of attributes
-unfoldable pub field_of : Description → Source → Rule Field
+unfoldable pub field_of : Description → MemberRef → Rule Field
 field_of d s = in_field (slice_get (members_of d s.type_number) s.member)

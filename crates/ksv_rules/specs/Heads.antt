@@ -12,10 +12,10 @@ use Rattle.ksv_expr_value.specs.declared.fault.FaultKind.TheVariants as kinds
 use Rattle.ksv_expr_value.specs.declared.step.Step.{Step}
 use Rattle.ksv_expr_value.specs.declared.step.Step.TheVariants as steps
 use Rattle.ksv_expr_value.specs.declared.value.Stream.{Stream}
-use Rattle.ksv_desc.specs.Description.{Description, Field, Content, Choice, Always, Switch, Extent, Sized, ToEnd, ByItself, Repeat, Once, UntilEnd, Times, Until, Terminator, Kind, InSequence}
+use Rattle.ksv_desc.specs.Description.{Description, Field, Content, Choice, Always, Switch, Extent, Sized, SizeEos, ByItself, Repeat, Once, Eos, Expr, Until, Terminator, MemberKind, Attribute}
 use Rattle.ksv_desc.specs.Description as contents
-use Rattle.ksv_nodes.specs.declared.given.Source.{Source}
-use Rattle.ksv_nodes.specs.declared.given.Ending.TheVariants as endings
+use Rattle.ksv_nodes.specs.declared.given.MemberRef.{MemberRef}
+use Rattle.ksv_nodes.specs.declared.given.ObjectEnd.TheVariants as endings
 use Rattle.ksv_nodes.specs.declared.given.Object.{Object}
 use Rattle.ksv_nodes.specs.declared.given.List as lists
 use Rattle.ksv_nodes.specs.declared.given.Head.{Head}
@@ -30,42 +30,42 @@ use Rattle.ksv_rules.specs.Wanted.{whole, in_object, holds, size_of}
 -- ---- what is read at a place
 
 -- n bytes from a place on
-unfoldable pub leaf : Source → Stream → ℕ → ℕ → Rule Head
+unfoldable pub leaf : MemberRef → Stream → ℕ → ℕ → Rule Head
 leaf source w s n = do
   reach w (s + n)
   Answer (heads.Leaf (record { source = source; from = s; to = s + n; end = s + n }))
 
 -- all bytes to the stream's end
-unfoldable pub leaf_to_end : Source → Stream → ℕ → Rule Head
+unfoldable pub leaf_to_end : MemberRef → Stream → ℕ → Rule Head
 leaf_to_end source w s = do
   e ← finish w
   Answer (heads.Leaf (record { source = source; from = s; to = e; end = e }))
 
 -- Bytes up to a terminator. It is a part of them where it is included, and what follows begins at it where it isn't consumed.
 -- Without one the bytes go on to the stream's end, unless it must be there.
-abbrev pub terminated_at : Source → ℕ → Terminator → Found → Rule Head
+abbrev pub terminated_at : MemberRef → ℕ → Terminator → Found → Rule Head
 terminated_at source s t (founds.At q) = Answer (heads.Leaf (record { source = source; from = s; to = if t.is_included then q + 1 else q; end = if t.is_consumed then q + 1 else q }))
 terminated_at source s t (founds.Missing e) = if t.is_required then raise kinds.NoTerminator else Answer (heads.Leaf (record { source = source; from = s; to = e; end = e }))
 
-unfoldable pub terminated : Source → Stream → ℕ → Terminator → Rule Head
+unfoldable pub terminated : MemberRef → Stream → ℕ → Terminator → Rule Head
 terminated source w s t = do
   q ← find w s t.byte
   terminated_at source s t q
 
 -- what goes as far as it goes by itself; where nothing says how far, nothing is there
-unfoldable pub run_of : Source → Stream → ℕ → Option Terminator → Rule Head
-run_of source w s None = Answer (heads.Gone (Some s))
+unfoldable pub run_of : MemberRef → Stream → ℕ → Option Terminator → Rule Head
+run_of source w s None = Answer (heads.Absent (Some s))
 run_of source w s (Some t) = terminated source w s t
 
 -- bytes or a text
-unfoldable pub sized_leaf : Setting → Source → Stream → ℕ → Tree → Rule Head
+unfoldable pub sized_leaf : Setting → MemberRef → Stream → ℕ → Tree → Rule Head
 sized_leaf at source w s e = do
   n ← size_of at e
   leaf source w s n
 
-unfoldable pub bytes_at : Setting → Source → Stream → ℕ → Extent → Option Terminator → Rule Head
+unfoldable pub bytes_at : Setting → MemberRef → Stream → ℕ → Extent → Option Terminator → Rule Head
 bytes_at at source w s (Sized e) t = sized_leaf at source w s e
-bytes_at at source w s ToEnd t = leaf_to_end source w s
+bytes_at at source w s SizeEos t = leaf_to_end source w s
 bytes_at at source w s ByItself t = run_of source w s t
 
 -- an object with a size has a stream of its own
@@ -78,10 +78,10 @@ sized_object at t w s e = do
 -- an object to the stream's end, and one that ends with its fields
 unfoldable pub object_at : Setting → ℕ → Stream → ℕ → Extent → Rule Head
 object_at at t w s (Sized e) = sized_object at t w s e
-object_at at t w s ToEnd = Answer (heads.Object (record { type_number = t; stream = record { from = s; to = w.to }; start = s; ending = endings.OfStream }))
+object_at at t w s SizeEos = Answer (heads.Object (record { type_number = t; stream = record { from = s; to = w.to }; start = s; ending = endings.OfStream }))
 object_at at t w s ByItself = Answer (heads.Object (record { type_number = t; stream = w; start = s; ending = endings.ByFields }))
 
-unfoldable pub content_at : Setting → Source → Stream → ℕ → Field → Content → Rule Head
+unfoldable pub content_at : Setting → MemberRef → Stream → ℕ → Field → Content → Rule Head
 content_at at source w s f contents.Bytes = bytes_at at source w s f.extent f.terminator
 content_at at source w s f (contents.Fixed bs) = leaf source w s (length bs)
 content_at at source w s f (contents.Number signed size order enum) = leaf source w s size
@@ -89,7 +89,7 @@ content_at at source w s f (contents.Characters encoding) = bytes_at at source w
 content_at at source w s f (contents.Object t given) = object_at at t w s f.extent
 
 -- what an attribute, or one of its elements, reads at a place of a stream
-unfoldable pub shape_at : Setting → Source → Stream → ℕ → Field → Choice → Rule Head
+unfoldable pub shape_at : Setting → MemberRef → Stream → ℕ → Field → Choice → Rule Head
 shape_at at source w s f (Always c) = content_at at source w s f c
 shape_at at source w s f (Switch on cases) = raise kinds.NoSuch
 
@@ -105,27 +105,27 @@ count_of at e = do
   in_count n
 
 -- the elements of an attribute
-unfoldable pub counted : Setting → Source → Stream → ℕ → Tree → Rule Head
+unfoldable pub counted : Setting → MemberRef → Stream → ℕ → Tree → Rule Head
 counted at source w s e = do
   n ← count_of at e
   Answer (heads.List (record { source = source; stream = w; home = at.stream; start = s; count = Some n; is_empty = n == 0 }))
 
-unfoldable pub until_end : Setting → Source → Stream → ℕ → Rule Head
-until_end at source w s = do
+unfoldable pub until_eos : Setting → MemberRef → Stream → ℕ → Rule Head
+until_eos at source w s = do
   b ← done w s
   Answer (heads.List (record { source = source; stream = w; home = at.stream; start = s; count = None; is_empty = b }))
 
-unfoldable pub repeated : Setting → Source → Stream → ℕ → Field → Repeat → Rule Head
+unfoldable pub repeated : Setting → MemberRef → Stream → ℕ → Field → Repeat → Rule Head
 repeated at source w s f Once = shape_at at source w s f f.choice
-repeated at source w s f (Times e) = counted at source w s e
-repeated at source w s f UntilEnd = until_end at source w s
+repeated at source w s f (Expr e) = counted at source w s e
+repeated at source w s f Eos = until_eos at source w s
 repeated at source w s f (Until e) = Answer (heads.List (record { source = source; stream = w; home = at.stream; start = s; count = None; is_empty = false }))
 
 -- an attribute whose condition is false takes no bytes
-unfoldable pub attribute_at : Setting → Source → Stream → ℕ → Field → Rule Head
+unfoldable pub attribute_at : Setting → MemberRef → Stream → ℕ → Field → Rule Head
 attribute_at at source w s f = do
   there ← holds at f.condition
-  if there then repeated at source w s f f.repeat else Answer (heads.Gone (Some s))
+  if there then repeated at source w s f f.repeat else Answer (heads.Absent (Some s))
 
 -- an attribute begins where its object does, or where the attribute before it ends
 unfoldable pub part_end : Trail → Step → Rule Ended
@@ -149,8 +149,8 @@ attribute_head p q o x f = do
   attribute_at (setting q o.stream s p) (record { type_number = o.type_number; member = x.member }) o.stream s f
 
 -- a member of an object
-unfoldable pub member_at : Trail → Trail → Object → Sought → Kind → Rule Head
-member_at p q o x (InSequence f) = attribute_head p q o x f
+unfoldable pub member_at : Trail → Trail → Object → Sought → MemberKind → Rule Head
+member_at p q o x (Attribute f) = attribute_head p q o x f
 member_at p q o x _ = raise kinds.NoSuch
 
 -- the member x of q, which is p
@@ -166,7 +166,7 @@ member_head d p q x = do
 -- The list that stands at a path. Where an attribute is absent, so are its elements; what is no list has none.
 abbrev pub in_list : Trail → Head → Rule lists.List
 in_list l (heads.List g) = Answer g
-in_list l (heads.Gone at) = Fail (There kinds.Absent l)
+in_list l (heads.Absent at) = Fail (There kinds.Absent l)
 in_list l _ = raise kinds.NoSuch
 
 -- the list is known to have no element of this index

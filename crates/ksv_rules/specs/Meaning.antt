@@ -5,8 +5,8 @@ use Rattle.ksv_expr_value.specs.Trail.{Trail}
 use Rattle.ksv_expr_value.specs.declared.fault.FaultKind.TheVariants as kinds
 use Rattle.ksv_desc.specs.Description.{Description}
 use Rattle.ksv_nodes.specs.declared.node.Node.{Node}
-use Rattle.ksv_nodes.specs.declared.node.Kind.{Kind}
-use Rattle.ksv_nodes.specs.declared.node.Kind.TheVariants as nodes
+use Rattle.ksv_nodes.specs.declared.node.NodeKind.{NodeKind}
+use Rattle.ksv_nodes.specs.declared.node.NodeKind.TheVariants as nodes
 use Rattle.ksv_nodes.specs.declared.given.Given.{Given}
 use Rattle.ksv_nodes.specs.declared.given.Given.TheVariants as givens
 use Rattle.ksv_nodes.specs.Rule.{Rule, raise}
@@ -15,7 +15,7 @@ use Rattle.ksv_rules.specs.Values.{value_of}
 use Rattle.ksv_rules.specs.Ends.{end_of, rest_of}
 use Rattle.ksv_paths.specs.Served.{is_served}
 
-unfoldable pub meaning_of : Description → Kind → Trail → Rule Given
+unfoldable pub meaning_of : Description → NodeKind → Trail → Rule Given
 meaning_of d nodes.Head p = do
   h ← head_of d p
   Answer (givens.Head h)

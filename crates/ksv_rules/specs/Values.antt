@@ -11,7 +11,7 @@ use Rattle.ksv_expr_value.specs.declared.encoding.Encoding.{Encoding}
 use Rattle.ksv_expr_value.specs.declared.fault.FaultKind.TheVariants as kinds
 use Rattle.ksv_expr_value.specs.declared.value.Value.{Value}
 use Rattle.ksv_expr_value.specs.declared.value.Value.TheVariants as values
-use Rattle.ksv_desc.specs.Description.{Description, Field, Content, Choice, Always, Switch, Extent, Sized, ToEnd, ByItself, Terminator}
+use Rattle.ksv_desc.specs.Description.{Description, Field, Content, Choice, Always, Switch, Extent, Sized, SizeEos, ByItself, Terminator}
 use Rattle.ksv_desc.specs.Description as contents
 use Rattle.ksv_nodes.specs.declared.given.Leaf.{Leaf}
 use Rattle.ksv_nodes.specs.declared.given.Head.{Head}
@@ -51,7 +51,7 @@ fixed_value l wanted = do
 -- aren't cut. Without a size the terminator isn't among the bytes, or is their last.
 abbrev pub cut_by : Extent → Option Terminator → Option Terminator
 cut_by (Sized e) t = t
-cut_by ToEnd t = t
+cut_by SizeEos t = t
 cut_by ByItself t = None
 
 abbrev pub kept_of : Terminator → List ℕ → Option ℕ → ℕ
@@ -103,7 +103,7 @@ leaf_value d l = do
   choice_value l f f.choice
 
 unfoldable pub value_at : Description → Trail → Head → Rule Value
-value_at d p (heads.Gone at) = raise kinds.Absent
+value_at d p (heads.Absent at) = raise kinds.Absent
 value_at d p (heads.Leaf l) = leaf_value d l
 value_at d p (heads.Object o) = Answer (values.Object p)
 value_at d p (heads.List g) = Answer (values.List p)

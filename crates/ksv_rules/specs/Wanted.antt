@@ -25,7 +25,7 @@ whole = record { from = 0; to = None }
 -- members.
 abbrev pub in_object : Trail → Head → Rule Object
 in_object q (heads.Object o) = Answer o
-in_object q (heads.Gone at) = Fail (There kinds.Absent q)
+in_object q (heads.Absent at) = Fail (There kinds.Absent q)
 in_object q _ = raise kinds.NoSuch
 
 -- how what an expression wants is met

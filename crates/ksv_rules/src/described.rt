@@ -12,8 +12,8 @@ use crate::rules::rule;
 use ksv_bytes::{Buffer, Use};
 use ksv_desc::Desc;
 use ksv_expr::Fault;
-use ksv_memo::{Rules, Step};
-use ksv_nodes::{Given, Node, Stop, Turn};
+use ksv_memo::{Next, Rules};
+use ksv_nodes::{Given, Halt, Node, Turn};
 use ksv_paths::served;
 use std::alloc::{AllocError, Global};
 
@@ -53,17 +53,17 @@ impl Described {
         bytes: &Buffer,
         replies: &[Answer],
         uses: &mut Vec<Use>,
-    ) -> Result<Step<Node, Answer>, AllocError>
+    ) -> Result<Next<Node, Answer>, AllocError>
         ensures step { IfOk result (λ step. step ≡ (described (plain_pieces self.now.desc)).follow bytes.now node.now replies.now) }
         ensures uses { OnOk result (uses.new.items ≡ uses.old.items ++ (described (plain_pieces self.now.desc)).added bytes.now node.now replies.now) }
         ensures refused { OnErr result (uses.new.items ≡ uses.old.items) }
     {
         let mut turn = Turn::new(alloc, &node.path, bytes, replies);
         let step = match rule(&mut turn, self.has_answers, &self.desc, node) {
-            Ok(given) => Step::Done(Ok(given)),
-            Err(Stop::Need(needed)) => Step::Need(needed),
-            Err(Stop::Fault(fault)) => Step::Done(Err(fault)),
-            Err(Stop::Memory) => return Err(AllocError),
+            Ok(given) => Next::Done(Ok(given)),
+            Err(Halt::Need(needed)) => Next::Need(needed),
+            Err(Halt::Fault(fault)) => Next::Done(Err(fault)),
+            Err(Halt::Memory) => return Err(AllocError),
         };
         let added = turn.into_uses();
         uses.extend_from_slice(&added)?;
@@ -92,7 +92,7 @@ impl Rules for Described {
         bytes: &Buffer,
         replies: &[Answer],
         uses: &mut Vec<Use>,
-    ) -> Result<Step<Node, Answer>, AllocError> {
+    ) -> Result<Next<Node, Answer>, AllocError> {
         self.step(alloc, node, bytes, replies, uses)
     }
 

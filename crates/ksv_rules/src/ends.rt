@@ -8,7 +8,7 @@ ghost use Rattle.ksv_expr_tree.specs.Tree.{view};
 ghost use Rattle.ksv_expr_value.specs.Trail.{parent};
 ghost use Rattle.ksv_nodes.specs.Turning.{Runs};
 ghost use Rattle.ksv_rules.specs.Wanted.{truth_of};
-ghost use Rattle.ksv_rules.specs.Ends.{fields_end, object_end, part_rest, list_end, gone_end, place_of, start_of, is_counted, behind_element, is_last, is_by_bytes, not_empty, element_end, end_at, end_of, next_rest, rest_behind, rest_from, in_whole_list, first_rest, whole_rest, rest_at, rest_of};
+ghost use Rattle.ksv_rules.specs.Ends.{fields_end, object_end, part_rest, list_end, absent_end, place_of, start_of, is_counted, behind_element, is_last, is_by_bytes, not_empty, element_end, end_at, end_of, next_rest, rest_behind, rest_from, in_whole_list, first_rest, whole_rest, rest_at, rest_of};
 
 use crate::fields::{field_of, last_attribute, members_of};
 use crate::heads::{in_list, part_end};
@@ -16,10 +16,10 @@ use crate::site::Site;
 use crate::wanted::truth_of;
 use ksv_desc::{Desc, Repeat};
 use ksv_expr::{Expr, Fault, FaultKind, Path, Step};
-use ksv_nodes::{Ended, Ending, Head, List, Object, Rested, Stop, Turn};
+use ksv_nodes::{Ended, Halt, Head, List, Object, ObjectEnd, Rested, Turn};
 
 /// The end of an object that ends with its last attribute; without one it ends where it begins.
-fn fields_end(turn: &mut Turn, path: &Path, start: u32, last: Option<u32>) -> Result<u32, Stop>
+fn fields_end(turn: &mut Turn, path: &Path, start: u32, last: Option<u32>) -> Result<u32, Halt>
     ensures { Runs (fields_end path.now start last) (λ place. place) turn.old turn.new result }
 {
     match last {
@@ -36,21 +36,21 @@ fn object_end(
     desc: &Desc,
     path: &Path,
     object: Object,
-    ending: Ending,
-) -> Result<u32, Stop>
+    ending: ObjectEnd,
+) -> Result<u32, Halt>
     ensures { Runs (object_end (plain_pieces desc.now) path.now object ending) (λ place. place) turn.old turn.new result }
 {
     match ending {
-        Ending::At(end) => Ok(end),
-        Ending::OfStream => turn.finish(object.stream),
-        Ending::ByFields => {
+        ObjectEnd::At(end) => Ok(end),
+        ObjectEnd::OfStream => turn.finish(object.stream),
+        ObjectEnd::ByFields => {
             let last = last_attribute(members_of(desc, object.type_number));
             fields_end(turn, path, object.start, last)
         }
     }
 }
 
-fn part_rest(turn: &mut Turn, path: &Path, step: Step) -> Result<Rested, Stop>
+fn part_rest(turn: &mut Turn, path: &Path, step: Step) -> Result<Rested, Halt>
     ensures { Runs (part_rest path.now step) (λ rested. rested) turn.old turn.new result }
 {
     let part = turn.part(path, step)?;
@@ -58,7 +58,7 @@ fn part_rest(turn: &mut Turn, path: &Path, step: Step) -> Result<Rested, Stop>
 }
 
 /// A list ends where its last element does.
-fn list_end(turn: &mut Turn, path: &Path) -> Result<u32, Stop>
+fn list_end(turn: &mut Turn, path: &Path) -> Result<u32, Halt>
     ensures { Runs (list_end path.now) (λ place. place) turn.old turn.new result }
 {
     let rest = part_rest(turn, path, Step::Index(0))?;
@@ -66,8 +66,8 @@ fn list_end(turn: &mut Turn, path: &Path) -> Result<u32, Stop>
 }
 
 /// The end of what is absent, where it has a place.
-fn gone_end(turn: &mut Turn, at: Option<u32>) -> Result<u32, Stop>
-    ensures { Runs (gone_end at) (λ place. place) turn.old turn.new result }
+fn absent_end(turn: &mut Turn, at: Option<u32>) -> Result<u32, Halt>
+    ensures { Runs (absent_end at) (λ place. place) turn.old turn.new result }
 {
     match at {
         None => turn.raise(FaultKind::NoSuch),
@@ -76,11 +76,11 @@ fn gone_end(turn: &mut Turn, at: Option<u32>) -> Result<u32, Stop>
 }
 
 /// The place behind what stands at a path.
-fn place_of(turn: &mut Turn, desc: &Desc, path: &Path, head: Head) -> Result<u32, Stop>
+fn place_of(turn: &mut Turn, desc: &Desc, path: &Path, head: Head) -> Result<u32, Halt>
     ensures { Runs (place_of (plain_pieces desc.now) path.now head) (λ place. place) turn.old turn.new result }
 {
     match head {
-        Head::Gone(at) => gone_end(turn, at),
+        Head::Absent(at) => absent_end(turn, at),
         Head::Leaf(leaf) => Ok(leaf.end),
         Head::Object(object) => object_end(turn, desc, path, object, object.ending),
         Head::List(_) => list_end(turn, path),
@@ -92,8 +92,8 @@ fn start_of(head: Head) -> u32
     ensures { result ≡ start_of head }
 {
     match head {
-        Head::Gone(None) => 0,
-        Head::Gone(Some(place)) => place,
+        Head::Absent(None) => 0,
+        Head::Absent(Some(place)) => place,
         Head::Leaf(leaf) => leaf.from,
         Head::Object(object) => object.start,
         Head::List(list) => list.start,
@@ -118,7 +118,7 @@ fn holds_behind(
     index: u32,
     end: u32,
     condition: &Expr,
-) -> Result<bool, Stop>
+) -> Result<bool, Halt>
     ensures { Runs (truth_of (behind_element (parent (parent element.now)) list element.now index end) (view condition.now)) (λ truth. truth) turn.old turn.new result }
 {
     let list_path = element.parent(turn.alloc())?;
@@ -142,13 +142,13 @@ fn is_last(
     index: u32,
     end: u32,
     repeat: &Repeat,
-) -> Result<bool, Stop>
+) -> Result<bool, Halt>
     ensures { Runs (is_last (parent (parent element.now)) list element.now index end (plain_repeat repeat.now)) (λ truth. truth) turn.old turn.new result }
 {
     match repeat {
         Repeat::Once => turn.raise(FaultKind::NoSuch),
-        Repeat::Times(_) => Ok(is_counted(list.count, index)),
-        Repeat::UntilEnd => turn.done(list.stream, end),
+        Repeat::Expr(_) => Ok(is_counted(list.count, index)),
+        Repeat::Eos => turn.done(list.stream, end),
         Repeat::Until(condition) => holds_behind(turn, list, element, index, end, condition),
     }
 }
@@ -158,14 +158,14 @@ fn is_by_bytes(repeat: &Repeat) -> bool
     ensures { result ≡ is_by_bytes (plain_repeat repeat.now) }
 {
     match repeat {
-        Repeat::UntilEnd => true,
+        Repeat::Eos => true,
         Repeat::Until(_) => true,
         _ => false,
     }
 }
 
 /// Where bytes end a list, each of its elements has some.
-fn not_empty(turn: &mut Turn, repeat: &Repeat, start: u32, end: u32) -> Result<(), Stop>
+fn not_empty(turn: &mut Turn, repeat: &Repeat, start: u32, end: u32) -> Result<(), Halt>
     ensures { Runs (not_empty (plain_repeat repeat.now) start end) (λ unit. unit) turn.old turn.new result }
 {
     if is_by_bytes(repeat) {
@@ -185,7 +185,7 @@ fn element_end(
     index: u32,
     head: Head,
     place: u32,
-) -> Result<Ended, Stop>
+) -> Result<Ended, Halt>
     ensures { Runs (element_end (plain_pieces desc.now) path.now (parent path.now) (parent (parent path.now)) index head place) (λ ended. ended) turn.old turn.new result }
 {
     let list_path = path.parent(turn.alloc())?;
@@ -204,7 +204,7 @@ fn end_at(
     step: Option<Step>,
     head: Head,
     place: u32,
-) -> Result<Ended, Stop>
+) -> Result<Ended, Halt>
     ensures { Runs (end_at (plain_pieces desc.now) path.now step head place) (λ ended. ended) turn.old turn.new result }
 {
     match step {
@@ -214,7 +214,7 @@ fn end_at(
 }
 
 /// The end of what stands at a path.
-pub(crate) fn end_of(turn: &mut Turn, desc: &Desc, path: &Path) -> Result<Ended, Stop>
+pub(crate) fn end_of(turn: &mut Turn, desc: &Desc, path: &Path) -> Result<Ended, Halt>
     ensures { Runs (end_of (plain_pieces desc.now) path.now) (λ ended. ended) turn.old turn.new result }
 {
     let head = turn.head(path.copy(turn.alloc())?)?;
@@ -223,7 +223,7 @@ pub(crate) fn end_of(turn: &mut Turn, desc: &Desc, path: &Path) -> Result<Ended,
 }
 
 /// What a list is behind an element.
-fn next_rest(turn: &mut Turn, list: &Path, index: u32) -> Result<Rested, Stop>
+fn next_rest(turn: &mut Turn, list: &Path, index: u32) -> Result<Rested, Halt>
     requires { index < 1048576 }
     ensures { Runs (next_rest list.now index) (λ rested. rested) turn.old turn.new result }
 {
@@ -233,7 +233,7 @@ fn next_rest(turn: &mut Turn, list: &Path, index: u32) -> Result<Rested, Stop>
     part_rest(turn, list, Step::Index(index + 1))
 }
 
-fn rest_behind(turn: &mut Turn, list: &Path, index: u32, end: Ended) -> Result<Rested, Stop>
+fn rest_behind(turn: &mut Turn, list: &Path, index: u32, end: Ended) -> Result<Rested, Halt>
     requires { index < 1048576 }
     ensures { Runs (rest_behind list.now index end) (λ rested. rested) turn.old turn.new result }
 {
@@ -247,7 +247,7 @@ fn rest_behind(turn: &mut Turn, list: &Path, index: u32, end: Ended) -> Result<R
 }
 
 /// What a list is from an element on.
-fn rest_from(turn: &mut Turn, path: &Path, list: &Path, index: u32) -> Result<Rested, Stop>
+fn rest_from(turn: &mut Turn, path: &Path, list: &Path, index: u32) -> Result<Rested, Halt>
     requires { index < 1048576 }
     ensures { Runs (rest_from path.now list.now index) (λ rested. rested) turn.old turn.new result }
 {
@@ -256,21 +256,21 @@ fn rest_from(turn: &mut Turn, path: &Path, list: &Path, index: u32) -> Result<Re
 }
 
 /// The list of which an element is the first; faults stand at the list.
-fn in_whole_list(turn: &mut Turn, path: &Path, head: Head) -> Result<List, Stop>
+fn in_whole_list(turn: &mut Turn, path: &Path, head: Head) -> Result<List, Halt>
     ensures { Runs (in_whole_list path.now head) (λ list. list) turn.old turn.new result }
 {
     let kind = match head {
         Head::List(list) => return Ok(list),
-        Head::Gone(_) => FaultKind::Absent,
+        Head::Absent(_) => FaultKind::Absent,
         _ => FaultKind::NoSuch,
     };
-    Err(Stop::Fault(Fault {
+    Err(Halt::Fault(Fault {
         kind,
         path: path.copy(turn.alloc())?,
     }))
 }
 
-fn first_rest(turn: &mut Turn, path: &Path, list_path: &Path, list: List) -> Result<Rested, Stop>
+fn first_rest(turn: &mut Turn, path: &Path, list_path: &Path, list: List) -> Result<Rested, Halt>
     ensures { Runs (first_rest path.now list_path.now list) (λ rested. rested) turn.old turn.new result }
 {
     if list.is_empty {
@@ -283,7 +283,7 @@ fn first_rest(turn: &mut Turn, path: &Path, list_path: &Path, list: List) -> Res
 }
 
 /// What a list is as a whole.
-fn whole_rest(turn: &mut Turn, path: &Path, list_path: &Path) -> Result<Rested, Stop>
+fn whole_rest(turn: &mut Turn, path: &Path, list_path: &Path) -> Result<Rested, Halt>
     ensures { Runs (whole_rest path.now list_path.now) (λ rested. rested) turn.old turn.new result }
 {
     let head = turn.head(list_path.copy(turn.alloc())?)?;
@@ -292,7 +292,7 @@ fn whole_rest(turn: &mut Turn, path: &Path, list_path: &Path) -> Result<Rested, 
 }
 
 /// What a list is from the element of this index on.
-fn element_rest(turn: &mut Turn, path: &Path, index: u32) -> Result<Rested, Stop>
+fn element_rest(turn: &mut Turn, path: &Path, index: u32) -> Result<Rested, Halt>
     requires { index < 1048576 }
     ensures { Runs (rest_at path.now (Some (Step.Index index))) (λ rested. rested) turn.old turn.new result }
 {
@@ -304,7 +304,7 @@ fn element_rest(turn: &mut Turn, path: &Path, index: u32) -> Result<Rested, Stop
 }
 
 /// What a list is from the element at a path on.
-pub(crate) fn rest_of(turn: &mut Turn, desc: &Desc, path: &Path) -> Result<Rested, Stop>
+pub(crate) fn rest_of(turn: &mut Turn, desc: &Desc, path: &Path) -> Result<Rested, Halt>
     ensures { Runs (rest_of (plain_pieces desc.now) path.now) (λ rested. rested) turn.old turn.new result }
 {
     match path.last() {

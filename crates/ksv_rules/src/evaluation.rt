@@ -10,12 +10,12 @@ ghost use Rattle.ksv_rules.specs.Wanted.{wanted, expression};
 
 use crate::site::Site;
 use crate::wanted::in_object;
-use ksv_expr::{Expr, Got, Outcome, Stream, Value, Want, eval};
-use ksv_nodes::{Stop, Turn};
+use ksv_expr::{EvalStep, Expr, Got, Stream, Value, Want, eval};
+use ksv_nodes::{Halt, Turn};
 
 /// The answer to a want. A fault of a node that it asks ends the rule.
 #[tactic(auto, using(ksv_plan::proofs::Running::run_bind), unfolding(crate::specs::Wanted::wanted))]
-fn answer<'a>(turn: &mut Turn<'a>, site: Site, want: Want) -> Result<Got<'a>, Stop>
+fn answer<'a>(turn: &mut Turn<'a>, site: Site, want: Want) -> Result<Got<'a>, Halt>
     ensures runs { Runs (wanted (setting_of site.entry) want) told turn.old turn.new result }
     ensures told { IfOk result (λ got. heard got ≡ Ok (told got)) }
 {
@@ -53,18 +53,18 @@ fn answer<'a>(turn: &mut Turn<'a>, site: Site, want: Want) -> Result<Got<'a>, St
 
 /// The value of an expression: it is evaluated anew with one answer more, until it wants none. Its own faults stand at the
 /// path of the node.
-pub(crate) fn value_of_expression(turn: &mut Turn, site: Site, expr: &Expr) -> Result<Value, Stop>
+pub(crate) fn value_of_expression(turn: &mut Turn, site: Site, expr: &Expr) -> Result<Value, Halt>
     ensures { Runs (expression (setting_of site.entry) (view expr.now)) (λ v. v) turn.old turn.new result }
 {
     let ctx = site.ctx();
     let mut replies: Vec<Got> = Vec::new(turn.alloc());
     loop {
         match eval(turn.alloc(), expr, &ctx, &replies)? {
-            Outcome::Done(done) => match done {
+            EvalStep::Done(done) => match done {
                 Ok(value) => return Ok(value),
                 Err(fault) => return turn.raise(fault.kind),
             },
-            Outcome::Need(want) => {
+            EvalStep::Need(want) => {
                 let got = answer(turn, site, want)?;
                 replies.push(got)?;
             }

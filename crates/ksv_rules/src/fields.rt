@@ -8,9 +8,9 @@ ghost use Rattle.ksv_nodes.specs.Turning.{Runs};
 ghost use Rattle.ksv_rules.specs.Fields.{members_of, behind, sought, member_named, last_attribute, read_by, field_of};
 ghost use Rattle.ksv_rules.specs.Members.{plain_sought};
 
-use ksv_desc::{Desc, Field, Kind, MemberDesc};
+use ksv_desc::{Desc, Field, MemberDesc, MemberKind};
 use ksv_expr::FaultKind;
-use ksv_nodes::{Source, Stop, Turn};
+use ksv_nodes::{Halt, MemberRef, Turn};
 
 /// A member that was looked for.
 #[derive(Clone, Copy)]
@@ -20,7 +20,7 @@ pub(crate) struct Sought<'d> {
     /// The name of the attribute of `seq` before it.
     pub(crate) before: Option<u32>,
     /// What it is.
-    pub(crate) kind: &'d Kind,
+    pub(crate) kind: &'d MemberKind,
 }
 
 /// The members of a type, in written order; a number that no type has is that of none.
@@ -38,7 +38,7 @@ fn behind(before: Option<u32>, member: &MemberDesc) -> Option<u32>
     ensures { result ≡ behind before (plain_member member.now) }
 {
     match member.kind {
-        Kind::InSequence(_) => Some(member.name),
+        MemberKind::Attribute(_) => Some(member.name),
         _ => before,
     }
 }
@@ -69,7 +69,7 @@ pub(crate) fn member_named<'d>(
     desc: &'d Desc,
     type_number: u32,
     name: u32,
-) -> Result<Sought<'d>, Stop>
+) -> Result<Sought<'d>, Halt>
     ensures { Runs (member_named (plain_pieces desc.now) type_number name) plain_sought turn.old turn.new result }
 {
     match find_member(members_of(desc, type_number), name) {
@@ -90,11 +90,11 @@ pub(crate) fn last_attribute(members: &[MemberDesc]) -> Option<u32>
 }
 
 /// How a member reads, where it is one that reads.
-fn read_by<'d>(turn: &mut Turn, kind: &'d Kind) -> Result<&'d Field, Stop>
+fn read_by<'d>(turn: &mut Turn, kind: &'d MemberKind) -> Result<&'d Field, Halt>
     ensures { Runs (read_by (plain_kind kind.now)) (λ field. plain_field field.now) turn.old turn.new result }
 {
     match kind {
-        Kind::InSequence(field) => Ok(field),
+        MemberKind::Attribute(field) => Ok(field),
         _ => turn.raise(FaultKind::NoSuch),
     }
 }
@@ -103,8 +103,8 @@ fn read_by<'d>(turn: &mut Turn, kind: &'d Kind) -> Result<&'d Field, Stop>
 pub(crate) fn field_of<'d>(
     turn: &mut Turn,
     desc: &'d Desc,
-    source: Source,
-) -> Result<&'d Field, Stop>
+    source: MemberRef,
+) -> Result<&'d Field, Halt>
     ensures { Runs (field_of (plain_pieces desc.now) source) (λ field. plain_field field.now) turn.old turn.new result }
 {
     match members_of(desc, source.type_number).get(source.member) {

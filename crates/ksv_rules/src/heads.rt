@@ -1,5 +1,5 @@
 //! What stands at a path, and where.
-#![tactic(auto, using(ksv_plan::proofs::Running::run_bind), unfolding(crate::specs::Heads::leaf, crate::specs::Heads::leaf_to_end, crate::specs::Heads::terminated, crate::specs::Heads::run_of, crate::specs::Heads::sized_leaf, crate::specs::Heads::bytes_at, crate::specs::Heads::sized_object, crate::specs::Heads::object_at, crate::specs::Heads::content_at, crate::specs::Heads::shape_at, crate::specs::Heads::count_of, crate::specs::Heads::counted, crate::specs::Heads::until_end, crate::specs::Heads::repeated, crate::specs::Heads::attribute_at, crate::specs::Heads::part_end, crate::specs::Heads::attribute_start, crate::specs::Heads::attribute_head, crate::specs::Heads::member_at, crate::specs::Heads::member_head, crate::specs::Heads::next_start, crate::specs::Heads::element_start, crate::specs::Heads::element_head, crate::specs::Heads::head_of))]
+#![tactic(auto, using(ksv_plan::proofs::Running::run_bind), unfolding(crate::specs::Heads::leaf, crate::specs::Heads::leaf_to_end, crate::specs::Heads::terminated, crate::specs::Heads::run_of, crate::specs::Heads::sized_leaf, crate::specs::Heads::bytes_at, crate::specs::Heads::sized_object, crate::specs::Heads::object_at, crate::specs::Heads::content_at, crate::specs::Heads::shape_at, crate::specs::Heads::count_of, crate::specs::Heads::counted, crate::specs::Heads::until_eos, crate::specs::Heads::repeated, crate::specs::Heads::attribute_at, crate::specs::Heads::part_end, crate::specs::Heads::attribute_start, crate::specs::Heads::attribute_head, crate::specs::Heads::member_at, crate::specs::Heads::member_head, crate::specs::Heads::next_start, crate::specs::Heads::element_start, crate::specs::Heads::element_head, crate::specs::Heads::head_of))]
 
 ghost use Rattle.std.specs.Prelude.{◌≡◌, option_map};
 ghost use Rattle.ksv_expr_tree.specs.Tree.{view};
@@ -8,25 +8,25 @@ ghost use Rattle.ksv_desc.specs.Whole.{plain_pieces};
 ghost use Rattle.ksv_nodes.specs.Turning.{Runs, StandsBelow};
 ghost use Rattle.ksv_rules.specs.Sites.{setting_of};
 ghost use Rattle.ksv_rules.specs.Members.{plain_sought};
-ghost use Rattle.ksv_rules.specs.Heads.{leaf, leaf_to_end, terminated_at, terminated, run_of, sized_leaf, bytes_at, sized_object, object_at, content_at, shape_at, in_count, count_of, counted, until_end, repeated, attribute_at, part_end, attribute_start, attribute_head, member_at, member_head, in_list, is_past, in_next, next_start, element_start, element_head, root_head, head_of};
+ghost use Rattle.ksv_rules.specs.Heads.{leaf, leaf_to_end, terminated_at, terminated, run_of, sized_leaf, bytes_at, sized_object, object_at, content_at, shape_at, in_count, count_of, counted, until_eos, repeated, attribute_at, part_end, attribute_start, attribute_head, member_at, member_head, in_list, is_past, in_next, next_start, element_start, element_head, root_head, head_of};
 
 use crate::fields::{Sought, field_of, member_named};
 use crate::site::Site;
 use crate::wanted::{holds, in_object, size_of};
-use ksv_desc::{Choice, Content, Desc, Extent, Field, Kind, Repeat, Terminator};
+use ksv_desc::{Choice, Content, Desc, Extent, Field, MemberKind, Repeat, Terminator};
 use ksv_expr::{Expr, Fault, FaultKind, Path, Step, Stream};
-use ksv_nodes::{Ended, Ending, Found, Head, Leaf, List, Object, Source, Stop, Turn};
+use ksv_nodes::{Ended, Found, Halt, Head, Leaf, List, MemberRef, Object, ObjectEnd, Turn};
 
 // ---- what is read at a place
 
 /// So many bytes from a place on.
 fn leaf(
     turn: &mut Turn,
-    source: Source,
+    source: MemberRef,
     stream: Stream,
     start: u32,
     size: u64,
-) -> Result<Head, Stop>
+) -> Result<Head, Halt>
     ensures { Runs (leaf source stream start size) (λ head. head) turn.old turn.new result }
 {
     let to = u128::from(start) + u128::from(size);
@@ -41,7 +41,7 @@ fn leaf(
 }
 
 /// All bytes to the stream's end.
-fn leaf_to_end(turn: &mut Turn, source: Source, stream: Stream, start: u32) -> Result<Head, Stop>
+fn leaf_to_end(turn: &mut Turn, source: MemberRef, stream: Stream, start: u32) -> Result<Head, Halt>
     ensures { Runs (leaf_to_end source stream start) (λ head. head) turn.old turn.new result }
 {
     let end = turn.finish(stream)?;
@@ -56,11 +56,11 @@ fn leaf_to_end(turn: &mut Turn, source: Source, stream: Stream, start: u32) -> R
 /// Bytes up to a terminator, of which it is known where it stands.
 fn terminated_at(
     turn: &mut Turn,
-    source: Source,
+    source: MemberRef,
     start: u32,
     terminator: Terminator,
     found: Found,
-) -> Result<Head, Stop>
+) -> Result<Head, Halt>
     requires { StandsBelow 16777216 found }
     ensures { Runs (terminated_at source start (plain_terminator terminator) found) (λ head. head) turn.old turn.new result }
 {
@@ -93,11 +93,11 @@ fn terminated_at(
 /// Bytes up to a terminator.
 fn terminated(
     turn: &mut Turn,
-    source: Source,
+    source: MemberRef,
     stream: Stream,
     start: u32,
     terminator: Terminator,
-) -> Result<Head, Stop>
+) -> Result<Head, Halt>
     ensures { Runs (terminated source stream start (plain_terminator terminator)) (λ head. head) turn.old turn.new result }
 {
     let found = turn.find(stream, start, terminator.byte)?;
@@ -107,15 +107,15 @@ fn terminated(
 /// What goes as far as it goes by itself; where nothing says how far, nothing is there.
 fn run_of(
     turn: &mut Turn,
-    source: Source,
+    source: MemberRef,
     stream: Stream,
     start: u32,
     terminator: Option<Terminator>,
-) -> Result<Head, Stop>
+) -> Result<Head, Halt>
     ensures { Runs (run_of source stream start (option_map plain_terminator terminator)) (λ head. head) turn.old turn.new result }
 {
     match terminator {
-        None => Ok(Head::Gone(Some(start))),
+        None => Ok(Head::Absent(Some(start))),
         Some(terminator) => terminated(turn, source, stream, start, terminator),
     }
 }
@@ -124,11 +124,11 @@ fn run_of(
 fn sized_leaf(
     turn: &mut Turn,
     site: Site,
-    source: Source,
+    source: MemberRef,
     stream: Stream,
     start: u32,
     size: &Expr,
-) -> Result<Head, Stop>
+) -> Result<Head, Halt>
     ensures { Runs (sized_leaf (setting_of site.entry) source stream start (view size.now)) (λ head. head) turn.old turn.new result }
 {
     let size = size_of(turn, site, size)?;
@@ -139,16 +139,16 @@ fn sized_leaf(
 fn bytes_at(
     turn: &mut Turn,
     site: Site,
-    source: Source,
+    source: MemberRef,
     stream: Stream,
     start: u32,
     field: &Field,
-) -> Result<Head, Stop>
+) -> Result<Head, Halt>
     ensures { Runs (bytes_at (setting_of site.entry) source stream start (plain_extent field.now.extent) (option_map plain_terminator field.now.terminator)) (λ head. head) turn.old turn.new result }
 {
     match &field.extent {
         Extent::Sized(size) => sized_leaf(turn, site, source, stream, start, size),
-        Extent::ToEnd => leaf_to_end(turn, source, stream, start),
+        Extent::SizeEos => leaf_to_end(turn, source, stream, start),
         Extent::ByItself => run_of(turn, source, stream, start, field.terminator),
     }
 }
@@ -161,7 +161,7 @@ fn sized_object(
     stream: Stream,
     start: u32,
     size: &Expr,
-) -> Result<Head, Stop>
+) -> Result<Head, Halt>
     ensures { Runs (sized_object (setting_of site.entry) type_number stream start (view size.now)) (λ head. head) turn.old turn.new result }
 {
     let size = size_of(turn, site, size)?;
@@ -175,7 +175,7 @@ fn sized_object(
             to: Some(end),
         },
         start,
-        ending: Ending::At(end),
+        ending: ObjectEnd::At(end),
     }))
 }
 
@@ -187,25 +187,25 @@ fn object_at(
     stream: Stream,
     start: u32,
     extent: &Extent,
-) -> Result<Head, Stop>
+) -> Result<Head, Halt>
     ensures { Runs (object_at (setting_of site.entry) type_number stream start (plain_extent extent.now)) (λ head. head) turn.old turn.new result }
 {
     match extent {
         Extent::Sized(size) => sized_object(turn, site, type_number, stream, start, size),
-        Extent::ToEnd => Ok(Head::Object(Object {
+        Extent::SizeEos => Ok(Head::Object(Object {
             type_number,
             stream: Stream {
                 from: start,
                 to: stream.to,
             },
             start,
-            ending: Ending::OfStream,
+            ending: ObjectEnd::OfStream,
         })),
         Extent::ByItself => Ok(Head::Object(Object {
             type_number,
             stream,
             start,
-            ending: Ending::ByFields,
+            ending: ObjectEnd::ByFields,
         })),
     }
 }
@@ -214,12 +214,12 @@ fn object_at(
 fn content_at(
     turn: &mut Turn,
     site: Site,
-    source: Source,
+    source: MemberRef,
     stream: Stream,
     start: u32,
     field: &Field,
     content: &Content,
-) -> Result<Head, Stop>
+) -> Result<Head, Halt>
     ensures { Runs (content_at (setting_of site.entry) source stream start (plain_field field.now) (plain_content content.now)) (λ head. head) turn.old turn.new result }
 {
     match content {
@@ -242,11 +242,11 @@ fn content_at(
 fn shape_at(
     turn: &mut Turn,
     site: Site,
-    source: Source,
+    source: MemberRef,
     stream: Stream,
     start: u32,
     field: &Field,
-) -> Result<Head, Stop>
+) -> Result<Head, Halt>
     ensures { Runs (shape_at (setting_of site.entry) source stream start (plain_field field.now) (plain_choice field.now.choice)) (λ head. head) turn.old turn.new result }
 {
     match &field.choice {
@@ -258,7 +258,7 @@ fn shape_at(
 // ---- attributes
 
 /// How many elements there are: at most 1,048,576.
-fn in_count(turn: &mut Turn, count: u64) -> Result<u32, Stop>
+fn in_count(turn: &mut Turn, count: u64) -> Result<u32, Halt>
     ensures { Runs (in_count count) (λ count. count) turn.old turn.new result }
 {
     if count > 1_048_576 {
@@ -268,7 +268,7 @@ fn in_count(turn: &mut Turn, count: u64) -> Result<u32, Stop>
 }
 
 /// How many elements an expression says that there are.
-fn count_of(turn: &mut Turn, site: Site, count: &Expr) -> Result<u32, Stop>
+fn count_of(turn: &mut Turn, site: Site, count: &Expr) -> Result<u32, Halt>
     ensures { Runs (count_of (setting_of site.entry) (view count.now)) (λ count. count) turn.old turn.new result }
 {
     let count = size_of(turn, site, count)?;
@@ -279,11 +279,11 @@ fn count_of(turn: &mut Turn, site: Site, count: &Expr) -> Result<u32, Stop>
 fn counted(
     turn: &mut Turn,
     site: Site,
-    source: Source,
+    source: MemberRef,
     stream: Stream,
     start: u32,
     count: &Expr,
-) -> Result<Head, Stop>
+) -> Result<Head, Halt>
     ensures { Runs (counted (setting_of site.entry) source stream start (view count.now)) (λ head. head) turn.old turn.new result }
 {
     let count = count_of(turn, site, count)?;
@@ -298,14 +298,14 @@ fn counted(
 }
 
 /// The elements of an attribute that go on to the stream's end.
-fn until_end(
+fn until_eos(
     turn: &mut Turn,
     site: Site,
-    source: Source,
+    source: MemberRef,
     stream: Stream,
     start: u32,
-) -> Result<Head, Stop>
-    ensures { Runs (until_end (setting_of site.entry) source stream start) (λ head. head) turn.old turn.new result }
+) -> Result<Head, Halt>
+    ensures { Runs (until_eos (setting_of site.entry) source stream start) (λ head. head) turn.old turn.new result }
 {
     let is_empty = turn.done(stream, start)?;
     Ok(Head::List(List {
@@ -322,17 +322,17 @@ fn until_end(
 fn repeated(
     turn: &mut Turn,
     site: Site,
-    source: Source,
+    source: MemberRef,
     stream: Stream,
     start: u32,
     field: &Field,
-) -> Result<Head, Stop>
+) -> Result<Head, Halt>
     ensures { Runs (repeated (setting_of site.entry) source stream start (plain_field field.now) (plain_repeat field.now.repeat)) (λ head. head) turn.old turn.new result }
 {
     match &field.repeat {
         Repeat::Once => shape_at(turn, site, source, stream, start, field),
-        Repeat::Times(count) => counted(turn, site, source, stream, start, count),
-        Repeat::UntilEnd => until_end(turn, site, source, stream, start),
+        Repeat::Expr(count) => counted(turn, site, source, stream, start, count),
+        Repeat::Eos => until_eos(turn, site, source, stream, start),
         Repeat::Until(_) => Ok(Head::List(List {
             source,
             stream,
@@ -348,22 +348,22 @@ fn repeated(
 fn attribute_at(
     turn: &mut Turn,
     site: Site,
-    source: Source,
+    source: MemberRef,
     stream: Stream,
     start: u32,
     field: &Field,
-) -> Result<Head, Stop>
+) -> Result<Head, Halt>
     ensures { Runs (attribute_at (setting_of site.entry) source stream start (plain_field field.now)) (λ head. head) turn.old turn.new result }
 {
     if holds(turn, site, &field.condition)? {
         repeated(turn, site, source, stream, start, field)
     } else {
-        Ok(Head::Gone(Some(start)))
+        Ok(Head::Absent(Some(start)))
     }
 }
 
 /// Where a part of what stands at a path ends.
-pub(crate) fn part_end(turn: &mut Turn, path: &Path, step: Step) -> Result<Ended, Stop>
+pub(crate) fn part_end(turn: &mut Turn, path: &Path, step: Step) -> Result<Ended, Halt>
     ensures { Runs (part_end path.now step) (λ ended. ended) turn.old turn.new result }
 {
     let part = turn.part(path, step)?;
@@ -376,7 +376,7 @@ fn attribute_start(
     path: &Path,
     object: Object,
     before: Option<u32>,
-) -> Result<u32, Stop>
+) -> Result<u32, Halt>
     ensures { Runs (attribute_start path.now object before) (λ place. place) turn.old turn.new result }
 {
     match before {
@@ -396,7 +396,7 @@ fn attribute_head<'p>(
     object: Object,
     sought: Sought,
     field: &Field,
-) -> Result<Head, Stop>
+) -> Result<Head, Halt>
     ensures { Runs (attribute_head path.now home.now object (plain_sought sought.entry) (plain_field field.now)) (λ head. head) turn.old turn.new result }
 {
     let start = attribute_start(turn, home, object, sought.before)?;
@@ -408,7 +408,7 @@ fn attribute_head<'p>(
         element: None,
         here: path,
     };
-    let source = Source {
+    let source = MemberRef {
         type_number: object.type_number,
         member: sought.member,
     };
@@ -422,11 +422,11 @@ fn member_at(
     home: &Path,
     object: Object,
     sought: Sought,
-) -> Result<Head, Stop>
+) -> Result<Head, Halt>
     ensures { Runs (member_at path.now home.now object (plain_sought sought.entry) (plain_kind sought.entry.kind.now)) (λ head. head) turn.old turn.new result }
 {
     match sought.kind {
-        Kind::InSequence(field) => attribute_head(turn, path, home, object, sought, field),
+        MemberKind::Attribute(field) => attribute_head(turn, path, home, object, sought, field),
         _ => turn.raise(FaultKind::NoSuch),
     }
 }
@@ -438,7 +438,7 @@ fn member_head(
     path: &Path,
     home: &Path,
     name: u32,
-) -> Result<Head, Stop>
+) -> Result<Head, Halt>
     ensures { Runs (member_head (plain_pieces desc.now) path.now home.now name) (λ head. head) turn.old turn.new result }
 {
     let head = turn.head(home.copy(turn.alloc())?)?;
@@ -450,12 +450,12 @@ fn member_head(
 // ---- elements
 
 /// The list that stands at a path. The elements of an absent attribute are absent; what is no list has none.
-pub(crate) fn in_list(turn: &mut Turn, path: &Path, head: Head) -> Result<List, Stop>
+pub(crate) fn in_list(turn: &mut Turn, path: &Path, head: Head) -> Result<List, Halt>
     ensures { Runs (in_list path.now head) (λ list. list) turn.old turn.new result }
 {
     match head {
         Head::List(list) => Ok(list),
-        Head::Gone(_) => Err(Stop::Fault(Fault {
+        Head::Absent(_) => Err(Halt::Fault(Fault {
             kind: FaultKind::Absent,
             path: path.copy(turn.alloc())?,
         })),
@@ -474,7 +474,7 @@ fn is_past(count: Option<u32>, index: u32) -> bool
 }
 
 /// Behind the last element there is none.
-fn in_next(turn: &mut Turn, ended: Ended) -> Result<u32, Stop>
+fn in_next(turn: &mut Turn, ended: Ended) -> Result<u32, Halt>
     ensures { Runs (in_next ended) (λ place. place) turn.old turn.new result }
 {
     if ended.last {
@@ -484,7 +484,7 @@ fn in_next(turn: &mut Turn, ended: Ended) -> Result<u32, Stop>
 }
 
 /// Where the element behind the one of this index begins.
-fn next_start(turn: &mut Turn, list_path: &Path, index: u32) -> Result<u32, Stop>
+fn next_start(turn: &mut Turn, list_path: &Path, index: u32) -> Result<u32, Halt>
     ensures { Runs (next_start list_path.now index) (λ place. place) turn.old turn.new result }
 {
     let ended = part_end(turn, list_path, Step::Index(index))?;
@@ -492,7 +492,7 @@ fn next_start(turn: &mut Turn, list_path: &Path, index: u32) -> Result<u32, Stop
 }
 
 /// An element begins where its list does, or where the element before it ends.
-fn element_start(turn: &mut Turn, list_path: &Path, list: List, index: u32) -> Result<u32, Stop>
+fn element_start(turn: &mut Turn, list_path: &Path, list: List, index: u32) -> Result<u32, Halt>
     ensures { Runs (element_start list_path.now list index) (λ place. place) turn.old turn.new result }
 {
     if list.is_empty || is_past(list.count, index) {
@@ -512,7 +512,7 @@ fn element_head<'p>(
     list_path: &Path,
     home: &'p Path,
     index: u32,
-) -> Result<Head, Stop>
+) -> Result<Head, Halt>
     ensures { Runs (element_head (plain_pieces desc.now) path.now list_path.now home.now index) (λ head. head) turn.old turn.new result }
 {
     let head = turn.head(list_path.copy(turn.alloc())?)?;
@@ -540,12 +540,12 @@ fn root_head() -> Head
         type_number: 0,
         stream: Stream { from: 0, to: None },
         start: 0,
-        ending: Ending::ByFields,
+        ending: ObjectEnd::ByFields,
     })
 }
 
 /// What stands at a path, and where.
-pub(crate) fn head_of(turn: &mut Turn, desc: &Desc, path: &Path) -> Result<Head, Stop>
+pub(crate) fn head_of(turn: &mut Turn, desc: &Desc, path: &Path) -> Result<Head, Halt>
     ensures { Runs (head_of (plain_pieces desc.now) path.now) (λ head. head) turn.old turn.new result }
 {
     match path.last() {

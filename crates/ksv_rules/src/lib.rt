@@ -20,6 +20,6 @@ mod wanted;
 
 pub use described::Described;
 pub use expression_laws::{expressions_are_met, rules_are_bounded};
-pub use ksv_nodes::{Ending, Given, Head, Kind, Leaf, List, Node, Object, Source};
+pub use ksv_nodes::{Given, Head, Leaf, List, MemberRef, Node, NodeKind, Object, ObjectEnd};
 pub use ksv_paths::{decimal, path_of, served, texts_are_written};
 pub use laws::{evaluation_is_direct, next_meets_truth};

@@ -10,23 +10,23 @@ use crate::heads::head_of;
 use crate::values::value_of;
 use ksv_desc::Desc;
 use ksv_expr::{FaultKind, Path};
-use ksv_nodes::{Given, Kind, Node, Stop, Turn};
+use ksv_nodes::{Given, Halt, Node, NodeKind, Turn};
 
 /// What a node of a description that is served answers.
-fn meaning_of(turn: &mut Turn, desc: &Desc, kind: Kind, path: &Path) -> Result<Given, Stop>
+fn meaning_of(turn: &mut Turn, desc: &Desc, kind: NodeKind, path: &Path) -> Result<Given, Halt>
     ensures { Runs (meaning_of (plain_pieces desc.now) kind path.now) (λ given. given) turn.old turn.new result }
 {
     match kind {
-        Kind::Head => Ok(Given::Head(head_of(turn, desc, path)?)),
-        Kind::Value => Ok(Given::Value(value_of(turn, desc, path)?)),
-        Kind::End => {
+        NodeKind::Head => Ok(Given::Head(head_of(turn, desc, path)?)),
+        NodeKind::Value => Ok(Given::Value(value_of(turn, desc, path)?)),
+        NodeKind::End => {
             let end = end_of(turn, desc, path)?;
             Ok(Given::End {
                 place: end.place,
                 last: end.last,
             })
         }
-        Kind::Rest => {
+        NodeKind::Rest => {
             let rest = rest_of(turn, desc, path)?;
             Ok(Given::Rest {
                 count: rest.count,
@@ -37,7 +37,7 @@ fn meaning_of(turn: &mut Turn, desc: &Desc, kind: Kind, path: &Path) -> Result<G
 }
 
 /// A node's rule, given whether the description is served.
-pub(crate) fn rule(turn: &mut Turn, served: bool, desc: &Desc, node: &Node) -> Result<Given, Stop>
+pub(crate) fn rule(turn: &mut Turn, served: bool, desc: &Desc, node: &Node) -> Result<Given, Halt>
     ensures { Runs (served_rule served (plain_pieces desc.now) node.now) (λ given. given) turn.old turn.new result }
 {
     if !served {

@@ -14,11 +14,11 @@ use crate::integer::integer_value;
 use crate::parts::{are, cut, len_of};
 use ksv_desc::{ByteOrder, Choice, Content, Desc, Extent, Field, Terminator};
 use ksv_expr::{Encoding, FaultKind, Integer, Parts, Path, Text, Value};
-use ksv_nodes::{Head, Leaf, Stop, Turn, first_in_parts};
+use ksv_nodes::{Halt, Head, Leaf, Turn, first_in_parts};
 
 /// The bytes of a leaf.
 #[tactic(auto, using(crate::proofs::Peeked::peeked_length))]
-fn bytes_of<'a>(turn: &mut Turn<'a>, leaf: Leaf) -> Result<Parts<'a>, Stop>
+fn bytes_of<'a>(turn: &mut Turn<'a>, leaf: Leaf) -> Result<Parts<'a>, Halt>
     ensures runs { Runs (peek leaf.from leaf.to) content turn.old turn.new result }
     ensures fits { IfOk result (λ parts. leaf.from + length (content parts) ≡ leaf.to) }
 {
@@ -44,7 +44,7 @@ fn in_number(
     turn: &mut Turn,
     enumeration: Option<u32>,
     number: Option<Integer>,
-) -> Result<Value, Stop>
+) -> Result<Value, Halt>
     ensures { Runs (in_number enumeration number) (λ value. value) turn.old turn.new result }
 {
     match number {
@@ -60,7 +60,7 @@ fn number_in(
     order: ByteOrder,
     enumeration: Option<u32>,
     parts: Parts,
-) -> Result<Value, Stop>
+) -> Result<Value, Halt>
     requires { length (content parts) < 4294967296 }
     ensures { Runs (number_in is_signed order enumeration (content parts.entry)) (λ value. value) turn.old turn.new result }
 {
@@ -78,7 +78,7 @@ fn number_value(
     is_signed: bool,
     order: ByteOrder,
     enumeration: Option<u32>,
-) -> Result<Value, Stop>
+) -> Result<Value, Halt>
     ensures { Runs (number_value leaf is_signed order enumeration) (λ value. value) turn.old turn.new result }
 {
     let bytes = bytes_of(turn, leaf)?;
@@ -86,7 +86,7 @@ fn number_value(
 }
 
 /// Certain bytes and no others.
-fn fixed_value(turn: &mut Turn, leaf: Leaf, wanted: &[u8]) -> Result<Value, Stop>
+fn fixed_value(turn: &mut Turn, leaf: Leaf, wanted: &[u8]) -> Result<Value, Halt>
     ensures { Runs (fixed_value leaf wanted.now) (λ value. value) turn.old turn.new result }
 {
     let bytes = bytes_of(turn, leaf)?;
@@ -105,7 +105,7 @@ fn cut_by(extent: &Extent, terminator: Option<Terminator>) -> Option<Terminator>
 {
     match extent {
         Extent::Sized(_) => terminator,
-        Extent::ToEnd => terminator,
+        Extent::SizeEos => terminator,
         Extent::ByItself => None,
     }
 }
@@ -129,7 +129,7 @@ fn kept(terminator: Terminator, parts: Parts) -> usize
 }
 
 /// The range of bytes, up to a terminator.
-fn cut_bytes(turn: &mut Turn, leaf: Leaf, terminator: Terminator) -> Result<Value, Stop>
+fn cut_bytes(turn: &mut Turn, leaf: Leaf, terminator: Terminator) -> Result<Value, Halt>
     ensures { Runs (cut_bytes leaf (plain_terminator terminator)) (λ value. value) turn.old turn.new result }
 {
     let bytes = bytes_of(turn, leaf)?;
@@ -141,7 +141,7 @@ fn cut_bytes(turn: &mut Turn, leaf: Leaf, terminator: Terminator) -> Result<Valu
 }
 
 /// The range of bytes; where they may be cut they are read.
-fn bytes_value(turn: &mut Turn, leaf: Leaf, terminator: Option<Terminator>) -> Result<Value, Stop>
+fn bytes_value(turn: &mut Turn, leaf: Leaf, terminator: Option<Terminator>) -> Result<Value, Halt>
     ensures { Runs (bytes_value leaf (option_map plain_terminator terminator)) (λ value. value) turn.old turn.new result }
 {
     match terminator {
@@ -154,7 +154,7 @@ fn bytes_value(turn: &mut Turn, leaf: Leaf, terminator: Option<Terminator>) -> R
 }
 
 /// A text; bytes that spell none are a fault.
-fn in_text(turn: &mut Turn, text: Option<Text>) -> Result<Value, Stop>
+fn in_text(turn: &mut Turn, text: Option<Text>) -> Result<Value, Halt>
     ensures { Runs (in_text text) (λ value. value) turn.old turn.new result }
 {
     match text {
@@ -180,7 +180,7 @@ fn text_value(
     leaf: Leaf,
     encoding: Encoding,
     terminator: Option<Terminator>,
-) -> Result<Value, Stop>
+) -> Result<Value, Halt>
     ensures { Runs (text_value leaf encoding (option_map plain_terminator terminator)) (λ value. value) turn.old turn.new result }
 {
     let bytes = bytes_of(turn, leaf)?;
@@ -193,7 +193,7 @@ fn content_value(
     leaf: Leaf,
     field: &Field,
     content: &Content,
-) -> Result<Value, Stop>
+) -> Result<Value, Halt>
     ensures { Runs (content_value leaf (plain_field field.now) (plain_content content.now)) (λ value. value) turn.old turn.new result }
 {
     match content {
@@ -213,7 +213,7 @@ fn content_value(
     }
 }
 
-fn choice_value(turn: &mut Turn, leaf: Leaf, field: &Field, choice: &Choice) -> Result<Value, Stop>
+fn choice_value(turn: &mut Turn, leaf: Leaf, field: &Field, choice: &Choice) -> Result<Value, Halt>
     ensures { Runs (choice_value leaf (plain_field field.now) (plain_choice choice.now)) (λ value. value) turn.old turn.new result }
 {
     match choice {
@@ -223,18 +223,18 @@ fn choice_value(turn: &mut Turn, leaf: Leaf, field: &Field, choice: &Choice) -> 
 }
 
 /// The value of a leaf, by the attribute that reads it.
-fn leaf_value(turn: &mut Turn, desc: &Desc, leaf: Leaf) -> Result<Value, Stop>
+fn leaf_value(turn: &mut Turn, desc: &Desc, leaf: Leaf) -> Result<Value, Halt>
     ensures { Runs (leaf_value (plain_pieces desc.now) leaf) (λ value. value) turn.old turn.new result }
 {
     let field = field_of(turn, desc, leaf.source)?;
     choice_value(turn, leaf, field, &field.choice)
 }
 
-fn value_at(turn: &mut Turn, desc: &Desc, path: &Path, head: Head) -> Result<Value, Stop>
+fn value_at(turn: &mut Turn, desc: &Desc, path: &Path, head: Head) -> Result<Value, Halt>
     ensures { Runs (value_at (plain_pieces desc.now) path.now head) (λ value. value) turn.old turn.new result }
 {
     match head {
-        Head::Gone(_) => turn.raise(FaultKind::Absent),
+        Head::Absent(_) => turn.raise(FaultKind::Absent),
         Head::Leaf(leaf) => leaf_value(turn, desc, leaf),
         Head::Object(_) => Ok(Value::Object(path.copy(turn.alloc())?)),
         Head::List(_) => Ok(Value::List(path.copy(turn.alloc())?)),
@@ -242,7 +242,7 @@ fn value_at(turn: &mut Turn, desc: &Desc, path: &Path, head: Head) -> Result<Val
 }
 
 /// The value of what stands at a path; objects and lists by their path.
-pub(crate) fn value_of(turn: &mut Turn, desc: &Desc, path: &Path) -> Result<Value, Stop>
+pub(crate) fn value_of(turn: &mut Turn, desc: &Desc, path: &Path) -> Result<Value, Halt>
     ensures { Runs (value_of (plain_pieces desc.now) path.now) (λ value. value) turn.old turn.new result }
 {
     let head = turn.head(path.copy(turn.alloc())?)?;

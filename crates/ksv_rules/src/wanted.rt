@@ -10,15 +10,15 @@ ghost use Rattle.ksv_rules.specs.Wanted.{in_object, in_integer, in_truth, intege
 use crate::evaluation::value_of_expression;
 use crate::site::Site;
 use ksv_expr::{Expr, Fault, FaultKind, Integer, Path, Value};
-use ksv_nodes::{Head, Object, Stop, Turn};
+use ksv_nodes::{Halt, Head, Object, Turn};
 
 /// The object that stands at a path. Inside an absent attribute all is absent; what is no object has no members.
-pub(crate) fn in_object(turn: &Turn, path: &Path, head: Head) -> Result<Object, Stop>
+pub(crate) fn in_object(turn: &Turn, path: &Path, head: Head) -> Result<Object, Halt>
     ensures { Runs (in_object path.now head) (λ object. object) turn.now turn.now result }
 {
     match head {
         Head::Object(object) => Ok(object),
-        Head::Gone(_) => Err(Stop::Fault(Fault {
+        Head::Absent(_) => Err(Halt::Fault(Fault {
             kind: FaultKind::Absent,
             path: path.copy(turn.alloc())?,
         })),
@@ -26,7 +26,7 @@ pub(crate) fn in_object(turn: &Turn, path: &Path, head: Head) -> Result<Object, 
     }
 }
 
-fn in_integer(turn: &mut Turn, value: Value) -> Result<Integer, Stop>
+fn in_integer(turn: &mut Turn, value: Value) -> Result<Integer, Halt>
     ensures { Runs (in_integer value) (λ number. number) turn.old turn.new result }
 {
     match value {
@@ -35,7 +35,7 @@ fn in_integer(turn: &mut Turn, value: Value) -> Result<Integer, Stop>
     }
 }
 
-fn in_truth(turn: &mut Turn, value: Value) -> Result<bool, Stop>
+fn in_truth(turn: &mut Turn, value: Value) -> Result<bool, Halt>
     ensures { Runs (in_truth value) (λ truth. truth) turn.old turn.new result }
 {
     match value {
@@ -45,7 +45,7 @@ fn in_truth(turn: &mut Turn, value: Value) -> Result<bool, Stop>
 }
 
 /// The integer that an expression gives; another kind doesn't fit.
-pub(crate) fn integer_of(turn: &mut Turn, site: Site, expr: &Expr) -> Result<Integer, Stop>
+pub(crate) fn integer_of(turn: &mut Turn, site: Site, expr: &Expr) -> Result<Integer, Halt>
     ensures { Runs (integer_of (setting_of site.entry) (view expr.now)) (λ number. number) turn.old turn.new result }
 {
     let value = value_of_expression(turn, site, expr)?;
@@ -53,7 +53,7 @@ pub(crate) fn integer_of(turn: &mut Turn, site: Site, expr: &Expr) -> Result<Int
 }
 
 /// The truth value that an expression gives; another kind doesn't fit.
-pub(crate) fn truth_of(turn: &mut Turn, site: Site, expr: &Expr) -> Result<bool, Stop>
+pub(crate) fn truth_of(turn: &mut Turn, site: Site, expr: &Expr) -> Result<bool, Halt>
     ensures { Runs (truth_of (setting_of site.entry) (view expr.now)) (λ truth. truth) turn.old turn.new result }
 {
     let value = value_of_expression(turn, site, expr)?;
@@ -61,7 +61,7 @@ pub(crate) fn truth_of(turn: &mut Turn, site: Site, expr: &Expr) -> Result<bool,
 }
 
 /// Whether a condition holds; without one it does.
-pub(crate) fn holds(turn: &mut Turn, site: Site, condition: &Option<Expr>) -> Result<bool, Stop>
+pub(crate) fn holds(turn: &mut Turn, site: Site, condition: &Option<Expr>) -> Result<bool, Halt>
     ensures { Runs (holds (setting_of site.entry) (option_map view condition.now)) (λ truth. truth) turn.old turn.new result }
 {
     match condition {
@@ -71,7 +71,7 @@ pub(crate) fn holds(turn: &mut Turn, site: Site, condition: &Option<Expr>) -> Re
 }
 
 /// A size, a count or a position isn't below 0.
-fn in_size(turn: &mut Turn, number: Integer) -> Result<u64, Stop>
+fn in_size(turn: &mut Turn, number: Integer) -> Result<u64, Halt>
     ensures { Runs (in_size number) (λ size. size) turn.old turn.new result }
 {
     let number = number.get();
@@ -82,7 +82,7 @@ fn in_size(turn: &mut Turn, number: Integer) -> Result<u64, Stop>
 }
 
 /// The size that an expression gives.
-pub(crate) fn size_of(turn: &mut Turn, site: Site, expr: &Expr) -> Result<u64, Stop>
+pub(crate) fn size_of(turn: &mut Turn, site: Site, expr: &Expr) -> Result<u64, Halt>
     ensures { Runs (size_of (setting_of site.entry) (view expr.now)) (λ size. size) turn.old turn.new result }
 {
     let number = integer_of(turn, site, expr)?;

@@ -7,11 +7,11 @@ use Rattle.ksv_schema_scope.specs.Keys.{has, says, entries_at}
 use Rattle.ksv_schema_names.specs.declared.position.Site.TheVariants as sites
 use Rattle.ksv_schema_faults.specs.Faults.{Fault, fault, bad_value}
 use Rattle.ksv_schema_keys.specs.Keys as forms
-use Rattle.ksv_schema_keys.specs.Keys.{Form, Key, form_in, is_ignored, attribute_keys, positioned_keys, value_keys, switch_keys}
+use Rattle.ksv_schema_keys.specs.Keys.{Form, Key, form_in, is_ignored, attribute_keys, parse_instance_keys, value_keys, switch_keys}
 use Rattle.ksv_schema_keys.specs.Values.{TypeText, type_text, is_str, is_strz, is_type, type_key, contents_of, is_to_end}
 use Rattle.ksv_schema_faults.specs.Rules.{Home, type_text_faults, case_faults, form_faults, value_faults, keys_faults, missing_if, switch_faults, has_encoding, field_needs, field_against, field_left_out, field_rules}
-use Rattle.ksv_schema_build.specs.Stated.{expression_at, perhaps_enum, content_at, case_of, switch_of, typed, choice_of, extent_of, repeat_of, field_of, positioned_of, calculated_of, each}
-use Rattle.ksv_desc.specs.Description.{Always, Switch, Bytes, Fixed, Sized, ToEnd, ByItself, Once, UntilEnd, Times, Until}
+use Rattle.ksv_schema_build.specs.Stated.{expression_at, perhaps_enum, content_at, case_of, switch_of, typed, choice_of, extent_of, repeat_of, field_of, parse_instance_of, value_instance_of, each}
+use Rattle.ksv_desc.specs.Description.{Always, Switch, Bytes, Fixed, Sized, SizeEos, ByItself, Once, Eos, Expr, Until}
 use Rattle.ksv_schema.proofs.Coherent.{Is, front, back, no_fault, is_map, is_bind, at_key, has_text, context, by_value, by_form, is_expression_at, is_perhaps, there, not_missing}
 use Rattle.ksv_schema.proofs.Contents.{contents_is, is_enum, AreEncodings, is_encoding, content_is, cases_are}
 
@@ -30,7 +30,7 @@ pub attributes_have : HasFieldKeys attribute_keys
 unfolding form_in
 attributes_have = record { type = refl; size = refl; contents = refl; encoding = refl; count = refl; until = refl; condition = refl; enum = refl }
 
-pub places_have : HasFieldKeys positioned_keys
+pub places_have : HasFieldKeys parse_instance_keys
 unfolding form_in
 places_have = record { type = refl; size = refl; contents = refl; encoding = refl; count = refl; until = refl; condition = refl; enum = refl }
 
@@ -86,9 +86,9 @@ is_repeat : (h : Home) (names : List (List ℕ)) (table : List Key) (line : ℕ)
 unfolding repeat_of is_ignored
 is_repeat h names table line es f k n = go (says (codes "repeat") (codes "eos") es) (says (codes "repeat") (codes "expr") es) (says (codes "repeat") (codes "until") es) refl refl
   where
-    go : (a b c : Bool) → says (codes "repeat") (codes "expr") es ≡ b → says (codes "repeat") (codes "until") es ≡ c → Is (cond a (Some UntilEnd) (cond b (option_map Times (expression_at (context h names) (codes "repeat-expr") es)) (cond c (option_map Until (expression_at (context h names) (codes "repeat-until") es)) (Some Once))))
-    go true b c x y = (UntilEnd, refl)
-    go false true c x y = is_map Times _ (is_expression_at h names (value_faults h) table sites.Count (codes "repeat-expr") es (by_value h) refl f.count k (said (says (codes "repeat") (codes "expr") es) (codes "repeat-expr") es line x n.count))
+    go : (a b c : Bool) → says (codes "repeat") (codes "expr") es ≡ b → says (codes "repeat") (codes "until") es ≡ c → Is (cond a (Some Eos) (cond b (option_map Expr (expression_at (context h names) (codes "repeat-expr") es)) (cond c (option_map Until (expression_at (context h names) (codes "repeat-until") es)) (Some Once))))
+    go true b c x y = (Eos, refl)
+    go false true c x y = is_map Expr _ (is_expression_at h names (value_faults h) table sites.Count (codes "repeat-expr") es (by_value h) refl f.count k (said (says (codes "repeat") (codes "expr") es) (codes "repeat-expr") es line x n.count))
     go false false true x y = is_map Until _ (is_expression_at h names (value_faults h) table sites.Until (codes "repeat-until") es (by_value h) refl f.until k (said (says (codes "repeat") (codes "until") es) (codes "repeat-until") es line y n.until))
     go false false false x y = (Once, refl)
 
@@ -98,9 +98,9 @@ is_extent : (h : Home) (names : List (List ℕ)) (table : List Key) (es : List P
 unfolding extent_of is_ignored
 is_extent h names table es f k = go (has (codes "size") es) (is_to_end es) refl
   where
-    go : (a b : Bool) → has (codes "size") es ≡ a → Is (cond a (option_map Sized (expression_at (context h names) (codes "size") es)) (cond b (Some ToEnd) (Some ByItself)))
+    go : (a b : Bool) → has (codes "size") es ≡ a → Is (cond a (option_map Sized (expression_at (context h names) (codes "size") es)) (cond b (Some SizeEos) (Some ByItself)))
     go true b x = is_map Sized _ (is_expression_at h names (value_faults h) table sites.Size (codes "size") es (by_value h) refl f.size k (there (entry_at (codes "size") es) x))
-    go false true x = (ToEnd, refl)
+    go false true x = (SizeEos, refl)
     go false false x = (ByItself, refl)
 
 -- ---- what is read
@@ -184,17 +184,17 @@ is_field h names table line es a f k r =
 pub is_attribute : (h : Home) (names : List (List ℕ)) (line : ℕ) (es : List Pair) → AreEncodings h.declared → keys_faults (value_faults h) attribute_keys es ≡ [] → field_rules h line es ≡ [] → Is (field_of (context h names) es)
 is_attribute h names line es a k r = is_field h names attribute_keys line es a attributes_have k r
 
-pub is_positioned : (h : Home) (names : List (List ℕ)) (line : ℕ) (es : List Pair) → AreEncodings h.declared → has (codes "pos") es ≡ true → keys_faults (value_faults h) positioned_keys es ≡ [] → field_rules h line es ≡ [] → Is (positioned_of (context h names) es)
-unfolding positioned_of is_ignored form_in
-is_positioned h names line es a p k r =
-    let place = is_expression_at h names (value_faults h) positioned_keys sites.Place (codes "pos") es (by_value h) refl refl k (there (entry_at (codes "pos") es) p) in
-    let stream = is_perhaps h names (value_faults h) positioned_keys sites.Stream (codes "io") es (by_value h) refl refl k in
-    let field = is_field h names positioned_keys line es a places_have k r in
+pub is_parse_instance : (h : Home) (names : List (List ℕ)) (line : ℕ) (es : List Pair) → AreEncodings h.declared → has (codes "pos") es ≡ true → keys_faults (value_faults h) parse_instance_keys es ≡ [] → field_rules h line es ≡ [] → Is (parse_instance_of (context h names) es)
+unfolding parse_instance_of is_ignored form_in
+is_parse_instance h names line es a p k r =
+    let place = is_expression_at h names (value_faults h) parse_instance_keys sites.Place (codes "pos") es (by_value h) refl refl k (there (entry_at (codes "pos") es) p) in
+    let stream = is_perhaps h names (value_faults h) parse_instance_keys sites.Stream (codes "io") es (by_value h) refl refl k in
+    let field = is_field h names parse_instance_keys line es a places_have k r in
     is_bind _ _ place.0 place.1 (is_bind _ _ stream.0 stream.1 (is_bind _ _ field.0 field.1 (_, refl)))
 
-pub is_calculated : (h : Home) (names : List (List ℕ)) (es : List Pair) → has (codes "value") es ≡ true → keys_faults (value_faults h) value_keys es ≡ [] → Is (calculated_of (context h names) es)
-unfolding calculated_of is_ignored form_in
-is_calculated h names es v k =
+pub is_value_instance : (h : Home) (names : List (List ℕ)) (es : List Pair) → has (codes "value") es ≡ true → keys_faults (value_faults h) value_keys es ≡ [] → Is (value_instance_of (context h names) es)
+unfolding value_instance_of is_ignored form_in
+is_value_instance h names es v k =
     let condition = is_perhaps h names (value_faults h) value_keys sites.Condition (codes "if") es (by_value h) refl refl k in
     let value = is_expression_at h names (value_faults h) value_keys sites.Value (codes "value") es (by_value h) refl refl k (there (entry_at (codes "value") es) v) in
     let enum = is_enum h names value_keys es refl k in

@@ -8,7 +8,7 @@ use Rattle.std.proofs.lemmas.List.Folds.{list_all-append}
 use Rattle.ksv_yaml_tree.specs.Tree.{Pair, line_of, text_of, mapping_of, entry_at}
 use Rattle.ksv_expr_tree.specs.Tree as expressions
 use Rattle.ksv_schema_scope.specs.declared.member.Role.{Role}
-use Rattle.ksv_schema_scope.specs.declared.member.Role.TheVariants.{Parameter, Attribute, Instance}
+use Rattle.ksv_schema_scope.specs.declared.member.Role.TheVariants as roles
 use Rattle.ksv_schema_scope.specs.Keys.{entries_in, has, says, entries_at}
 use Rattle.ksv_schema_scope.specs.Members.{is_in_params}
 use Rattle.ksv_schema_names.specs.declared.position.Site.{Site}
@@ -17,11 +17,11 @@ use Rattle.ksv_desc.specs.Names.{number_in}
 use Rattle.ksv_desc.specs.Names.{has_names}
 use Rattle.ksv_schema_faults.specs.Faults.{fault, bad_value, left_out}
 use Rattle.ksv_schema_keys.specs.Keys as forms
-use Rattle.ksv_schema_keys.specs.Keys.{Form, Key, form_in, is_ignored, attribute_keys, positioned_keys, value_keys, switch_keys}
+use Rattle.ksv_schema_keys.specs.Keys.{Form, Key, form_in, is_ignored, attribute_keys, parse_instance_keys, value_keys, switch_keys}
 use Rattle.ksv_schema_keys.specs.Values.{type_text, contents_of, is_to_end}
 use Rattle.ksv_schema_faults.specs.Rules.{Home, type_text_faults, text_faults, case_faults, form_faults, value_faults, keys_faults, missing_if, switch_faults, field_rules, value_rules, attribute_faults, instance_faults, role_faults}
-use Rattle.ksv_schema_build.specs.Stated.{naming_keys, type_words, form_words, key_words, entry_words, expression_at, perhaps_expression, perhaps_enum, content_at, case_of, each, switch_of, typed, choice_of, extent_of, terminator_of, repeat_of, field_of, positioned_of, calculated_of, kind_of}
-use Rattle.ksv_desc.specs.Description.{Case, Choice, Always, Switch, Bytes, Fixed, Extent, Sized, ToEnd, ByItself, Repeat, Once, UntilEnd, Times, Until, Field, Kind, Given, InSequence, Positioned, Calculated, Description}
+use Rattle.ksv_schema_build.specs.Stated.{naming_keys, type_words, form_words, key_words, entry_words, expression_at, perhaps_expression, perhaps_enum, content_at, case_of, each, switch_of, typed, choice_of, extent_of, terminator_of, repeat_of, field_of, parse_instance_of, value_instance_of, kind_of}
+use Rattle.ksv_desc.specs.Description.{Case, Choice, Always, Switch, Bytes, Fixed, Extent, Sized, SizeEos, ByItself, Repeat, Once, Eos, Expr, Until, Field, MemberKind, Parameter, Attribute, ParseInstance, ValueInstance, Description}
 use Rattle.ksv_desc.specs.Resolved.{Each, IfAny, IsResolvedTree, IsResolvedCase, IsResolvedChoice, IsResolvedExtent, IsResolvedRepeat, IsResolvedField, IsResolvedKind}
 use Rattle.ksv_schema.proofs.Coherent.{front, back, no_fault, some_same, at_key, context, by_value, by_form}
 use Rattle.ksv_schema.proofs.Fields.{HasFieldKeys, attributes_have, places_have}
@@ -122,21 +122,21 @@ extent_leads : (h : Home) (x : Description) → Fits h.declared x → (table : L
 unfolding extent_of is_ignored form_in
 extent_leads h x fits table es r f read s = go (has (codes "size") es) (is_to_end es) s
   where
-    go : (a b : Bool) → cond a (option_map Sized (expression_at (context h x.names) (codes "size") es)) (cond b (Some ToEnd) (Some ByItself)) ≡ Some r → IsResolvedExtent x r
+    go : (a b : Bool) → cond a (option_map Sized (expression_at (context h x.names) (codes "size") es)) (cond b (Some SizeEos) (Some ByItself)) ≡ Some r → IsResolvedExtent x r
     go true b s =
         let e = mapped Sized (expression_at (context h x.names) (codes "size") es) r s in
         subst (IsResolvedExtent x) e.2 (expression_read h x fits table sites.Size sites.Size (codes "size") es e.0 read refl f.size refl e.1)
-    go false true s = subst (IsResolvedExtent x) (some_same ToEnd r s) tt
+    go false true s = subst (IsResolvedExtent x) (some_same SizeEos r s) tt
     go false false s = subst (IsResolvedExtent x) (some_same ByItself r s) tt
 
 repeat_leads : (h : Home) (x : Description) → Fits h.declared x → (table : List Key) (es : List Pair) (r : Repeat) → HasFieldKeys table → IsRead h x table es → repeat_of (context h x.names) es ≡ Some r → IsResolvedRepeat x r
 unfolding repeat_of is_ignored form_in
 repeat_leads h x fits table es r f read s = go (says (codes "repeat") (codes "eos") es) (says (codes "repeat") (codes "expr") es) (says (codes "repeat") (codes "until") es) s
   where
-    go : (a b c : Bool) → cond a (Some UntilEnd) (cond b (option_map Times (expression_at (context h x.names) (codes "repeat-expr") es)) (cond c (option_map Until (expression_at (context h x.names) (codes "repeat-until") es)) (Some Once))) ≡ Some r → IsResolvedRepeat x r
-    go true b c s = subst (IsResolvedRepeat x) (some_same UntilEnd r s) tt
+    go : (a b c : Bool) → cond a (Some Eos) (cond b (option_map Expr (expression_at (context h x.names) (codes "repeat-expr") es)) (cond c (option_map Until (expression_at (context h x.names) (codes "repeat-until") es)) (Some Once))) ≡ Some r → IsResolvedRepeat x r
+    go true b c s = subst (IsResolvedRepeat x) (some_same Eos r s) tt
     go false true c s =
-        let e = mapped Times (expression_at (context h x.names) (codes "repeat-expr") es) r s in
+        let e = mapped Expr (expression_at (context h x.names) (codes "repeat-expr") es) r s in
         subst (IsResolvedRepeat x) e.2 (expression_read h x fits table sites.Count sites.Count (codes "repeat-expr") es e.0 read refl f.count refl e.1)
     go false false true s =
         let e = mapped Until (expression_at (context h x.names) (codes "repeat-until") es) r s in
@@ -160,33 +160,33 @@ field_leads h x fits table es r f read s =
 
 -- ---- attributes and instances
 
-positioned_leads : (h : Home) (x : Description) → Fits h.declared x → (es : List Pair) (r : Kind) → IsRead h x positioned_keys es → positioned_of (context h x.names) es ≡ Some r → IsResolvedKind x r
-unfolding positioned_of is_ignored form_in
-positioned_leads h x fits es r read s =
+parse_instance_leads : (h : Home) (x : Description) → Fits h.declared x → (es : List Pair) (r : MemberKind) → IsRead h x parse_instance_keys es → parse_instance_of (context h x.names) es ≡ Some r → IsResolvedKind x r
+unfolding parse_instance_of is_ignored form_in
+parse_instance_leads h x fits es r read s =
     let place = bound (expression_at (context h x.names) (codes "pos") es) _ r s in
     let stream = bound (perhaps_expression (context h x.names) (codes "io") es) _ r place.2 in
     let field = bound (field_of (context h x.names) es) _ r stream.2 in
-    subst (IsResolvedKind x) (some_same (Positioned place.0 stream.0 field.0) r field.2)
-    (expression_read h x fits positioned_keys sites.Place sites.Place (codes "pos") es place.0 read refl refl refl place.1, perhaps_read h x fits positioned_keys sites.Stream sites.Stream (codes "io") es stream.0 read refl refl refl stream.1, field_leads h x fits positioned_keys es field.0 places_have read field.1)
+    subst (IsResolvedKind x) (some_same (ParseInstance place.0 stream.0 field.0) r field.2)
+    (expression_read h x fits parse_instance_keys sites.Place sites.Place (codes "pos") es place.0 read refl refl refl place.1, perhaps_read h x fits parse_instance_keys sites.Stream sites.Stream (codes "io") es stream.0 read refl refl refl stream.1, field_leads h x fits parse_instance_keys es field.0 places_have read field.1)
 
-calculated_leads : (h : Home) (x : Description) → Fits h.declared x → (es : List Pair) (r : Kind) → IsRead h x value_keys es → calculated_of (context h x.names) es ≡ Some r → IsResolvedKind x r
-unfolding calculated_of is_ignored form_in
-calculated_leads h x fits es r read s =
+value_instance_leads : (h : Home) (x : Description) → Fits h.declared x → (es : List Pair) (r : MemberKind) → IsRead h x value_keys es → value_instance_of (context h x.names) es ≡ Some r → IsResolvedKind x r
+unfolding value_instance_of is_ignored form_in
+value_instance_leads h x fits es r read s =
     let condition = bound (perhaps_expression (context h x.names) (codes "if") es) _ r s in
     let value = bound (expression_at (context h x.names) (codes "value") es) _ r condition.2 in
     let enum = bound (perhaps_enum (context h x.names) es) _ r value.2 in
-    subst (IsResolvedKind x) (some_same (Calculated condition.0 value.0 enum.0) r enum.2)
+    subst (IsResolvedKind x) (some_same (ValueInstance condition.0 value.0 enum.0) r enum.2)
     (perhaps_read h x fits value_keys sites.Condition sites.Condition (codes "if") es condition.0 read refl refl refl condition.1, expression_read h x fits value_keys sites.Value sites.Value (codes "value") es value.0 read refl refl refl value.1, perhaps_enum_leads h x fits es enum.0 enum.1)
 
-pub kind_leads : (h : Home) (x : Description) → Fits h.declared x → (role : Role) (name_line line : ℕ) (es : List Pair) (r : Kind) → role_faults role h name_line line es ≡ [] → (is_in_params role ≡ false → has_names x.names (flat_map entry_words es) ≡ true) → kind_of (context h x.names) role es ≡ Some r → IsResolvedKind x r
+pub kind_leads : (h : Home) (x : Description) → Fits h.declared x → (role : Role) (name_line line : ℕ) (es : List Pair) (r : MemberKind) → role_faults role h name_line line es ≡ [] → (is_in_params role ≡ false → has_names x.names (flat_map entry_words es) ≡ true) → kind_of (context h x.names) role es ≡ Some r → IsResolvedKind x r
 unfolding role_faults kind_of attribute_faults instance_faults
-kind_leads h x fits Parameter name_line line es r k w s = subst (IsResolvedKind x) (some_same Given r s) tt
-kind_leads h x fits Attribute name_line line es r k w s =
-    let field = mapped InSequence (field_of (context h x.names) es) r s in
+kind_leads h x fits roles.Parameter name_line line es r k w s = subst (IsResolvedKind x) (some_same Parameter r s) tt
+kind_leads h x fits roles.Attribute name_line line es r k w s =
+    let field = mapped Attribute (field_of (context h x.names) es) r s in
     subst (IsResolvedKind x) field.2 (field_leads h x fits attribute_keys es field.0 attributes_have (record { faultless = front (keys_faults (value_faults h) attribute_keys es) (field_rules h line es) k; words = w refl }) field.1)
-kind_leads h x fits Instance name_line line es r k w s = go (has (codes "value") es) (has (codes "pos") es) k s
+kind_leads h x fits roles.Instance name_line line es r k w s = go (has (codes "value") es) (has (codes "pos") es) k s
   where
-    go : (v p : Bool) → cond v (keys_faults (value_faults h) value_keys es ++ value_rules es) (cond p (keys_faults (value_faults h) positioned_keys es ++ field_rules h line es) (keys_faults (value_faults h) positioned_keys es ++ fault name_line left_out)) ≡ [] → cond v (calculated_of (context h x.names) es) (positioned_of (context h x.names) es) ≡ Some r → IsResolvedKind x r
-    go true p k s = calculated_leads h x fits es r (record { faultless = front (keys_faults (value_faults h) value_keys es) (value_rules es) k; words = w refl }) s
-    go false true k s = positioned_leads h x fits es r (record { faultless = front (keys_faults (value_faults h) positioned_keys es) (field_rules h line es) k; words = w refl }) s
-    go false false k s = absurd (no_fault name_line left_out (back (keys_faults (value_faults h) positioned_keys es) (fault name_line left_out) k))
+    go : (v p : Bool) → cond v (keys_faults (value_faults h) value_keys es ++ value_rules es) (cond p (keys_faults (value_faults h) parse_instance_keys es ++ field_rules h line es) (keys_faults (value_faults h) parse_instance_keys es ++ fault name_line left_out)) ≡ [] → cond v (value_instance_of (context h x.names) es) (parse_instance_of (context h x.names) es) ≡ Some r → IsResolvedKind x r
+    go true p k s = value_instance_leads h x fits es r (record { faultless = front (keys_faults (value_faults h) value_keys es) (value_rules es) k; words = w refl }) s
+    go false true k s = parse_instance_leads h x fits es r (record { faultless = front (keys_faults (value_faults h) parse_instance_keys es) (field_rules h line es) k; words = w refl }) s
+    go false false k s = absurd (no_fault name_line left_out (back (keys_faults (value_faults h) parse_instance_keys es) (fault name_line left_out) k))

@@ -9,7 +9,7 @@ use Rattle.ksv_schema_scope.specs.Keys.{entries_in, has}
 use Rattle.ksv_schema_scope.specs.Types.{Scope, types_of}
 use Rattle.ksv_schema_scope.specs.Members.{Member, is_parameter, is_in_params, is_within, members_within, parameters_within}
 use Rattle.ksv_schema_scope.specs.declared.member.Role.{Role}
-use Rattle.ksv_schema_scope.specs.declared.member.Role.TheVariants.{Parameter, Attribute, Instance}
+use Rattle.ksv_schema_scope.specs.declared.member.Role.TheVariants as roles
 use Rattle.ksv_schema_scope.specs.Enums.{enums_of}
 use Rattle.ksv_schema_scope.specs.Declarations.{Declared, declared_in}
 use Rattle.ksv_desc.specs.Names.{distinct, number_in}
@@ -19,8 +19,8 @@ use Rattle.ksv_desc.proofs.Tabled.{is_table}
 use Rattle.ksv_schema_faults.specs.Faults.{fault, fault_if, bad_value}
 use Rattle.ksv_schema_keys.specs.Keys.{is_id}
 use Rattle.ksv_schema_faults.specs.Rules.{home_of, role_faults, mapping_faults, member_faults, member_again, is_instance, enumeration_faults, constant_faults, type_faults, each_from, limit_faults, faults_of, faults}
-use Rattle.ksv_schema_build.specs.Stated.{Context, expression_at, perhaps_expression, perhaps_enum, field_of, positioned_of, calculated_of, entry_words, member_words, member_names, names_of, are_texts, kind_of, member_of, type_of, enum_of, each, each_numbered, described, stated_by, stated}
-use Rattle.ksv_desc.specs.Description.{Kind, Given, InSequence, Positioned, Calculated, MemberOfType, TypeOfObjects, Description, as_text}
+use Rattle.ksv_schema_build.specs.Stated.{Context, expression_at, perhaps_expression, perhaps_enum, field_of, parse_instance_of, value_instance_of, entry_words, member_words, member_names, names_of, are_texts, kind_of, member_of, type_of, enum_of, each, each_numbered, described, stated_by, stated}
+use Rattle.ksv_desc.specs.Description.{MemberKind, Parameter, Attribute, ParseInstance, ValueInstance, MemberOfType, TypeOfObjects, Description, as_text}
 use Rattle.ksv_schema.specs.Outcome.{States}
 use Rattle.ksv_desc.specs.Resolved as resolved
 use Rattle.ksv_desc.specs.Resolved.{Each, IsResolvedMember, IsResolved}
@@ -72,11 +72,11 @@ all_words d = (is_table (member_names d) (flat_map member_words d.members)).has_
 -- ---- members
 
 -- a parameter
-abbrev is_given : Kind → Bool
-is_given Given = true
-is_given (InSequence f) = false
-is_given (Positioned p s f) = false
-is_given (Calculated c v e) = false
+abbrev is_given : MemberKind → Bool
+is_given Parameter = true
+is_given (Attribute f) = false
+is_given (ParseInstance p s f) = false
+is_given (ValueInstance c v e) = false
 
 same_text : (bytes text : List ℕ) → as_text bytes ≡ Some text → bytes ≡ text
 unfolding as_text
@@ -132,23 +132,23 @@ types_lead d x fits known w k n (c ∷ cs) ts s =
 
 -- ---- parameters
 
-given_is : (c : Context) (role : Role) (es : List Pair) (k : Kind) → kind_of c role es ≡ Some k → is_given k ≡ is_in_params role
-unfolding kind_of positioned_of calculated_of
-given_is c Parameter es k s = ap is_given (sym (some_same Given k s))
-given_is c Attribute es k s = let f = mapped InSequence (field_of c es) k s in ap is_given (sym f.2)
-given_is c Instance es k s = go (has (codes "value") es) s
+given_is : (c : Context) (role : Role) (es : List Pair) (k : MemberKind) → kind_of c role es ≡ Some k → is_given k ≡ is_in_params role
+unfolding kind_of parse_instance_of value_instance_of
+given_is c roles.Parameter es k s = ap is_given (sym (some_same Parameter k s))
+given_is c roles.Attribute es k s = let f = mapped Attribute (field_of c es) k s in ap is_given (sym f.2)
+given_is c roles.Instance es k s = go (has (codes "value") es) s
   where
-    go : (b : Bool) → cond b (calculated_of c es) (positioned_of c es) ≡ Some k → is_given k ≡ false
+    go : (b : Bool) → cond b (value_instance_of c es) (parse_instance_of c es) ≡ Some k → is_given k ≡ false
     go true s =
         let condition = bound (perhaps_expression c (codes "if") es) _ k s in
         let value = bound (expression_at c (codes "value") es) _ k condition.2 in
         let enum = bound (perhaps_enum c es) _ k value.2 in
-        ap is_given (sym (some_same (Calculated condition.0 value.0 enum.0) k enum.2))
+        ap is_given (sym (some_same (ValueInstance condition.0 value.0 enum.0) k enum.2))
     go false s =
         let place = bound (expression_at c (codes "pos") es) _ k s in
         let stream = bound (perhaps_expression c (codes "io") es) _ k place.2 in
         let field = bound (field_of c es) _ k stream.2 in
-        ap is_given (sym (some_same (Positioned place.0 stream.0 field.0) k field.2))
+        ap is_given (sym (some_same (ParseInstance place.0 stream.0 field.0) k field.2))
 
 parameter_is : (c : Context) (m : Member) (r : MemberOfType) → member_of c m ≡ Some r → resolved.is_parameter r ≡ is_parameter m
 unfolding member_of

@@ -9,7 +9,7 @@ use Rattle.std.proofs.lemmas.Bool.Decides.{Decides-eqb}
 use Rattle.std.proofs.lemmas.List.Folds.{list_any-append}
 use Rattle.ksv_yaml_tree.specs.Tree.{Tree, Text, Seq, Map, Pair, pairs, line_of, text_of, mapping_of, entry_at}
 use Rattle.ksv_schema_scope.specs.declared.member.Role.{Role}
-use Rattle.ksv_schema_scope.specs.declared.member.Role.TheVariants.{Parameter, Attribute, Instance}
+use Rattle.ksv_schema_scope.specs.declared.member.Role.TheVariants as roles
 use Rattle.ksv_schema_scope.specs.declared.numeral.Numeral.{Numeral}
 use Rattle.ksv_schema_scope.specs.declared.numeral.Numeral.TheVariants.{Whole, LeadingZero, NoNumeral}
 use Rattle.ksv_schema_scope.specs.Numerals.{signed_number}
@@ -21,11 +21,11 @@ use Rattle.ksv_schema_scope.specs.Declarations.{Declared}
 use Rattle.ksv_desc.specs.Names.{distinct, distinct_behind, number_in}
 use Rattle.ksv_schema_faults.specs.Faults.{Fault, fault, fault_if, bad_value, left_out}
 use Rattle.ksv_schema_keys.specs.Keys as forms
-use Rattle.ksv_schema_keys.specs.Keys.{Form, Key, form_in, is_ignored, type_keys, attribute_keys, positioned_keys, value_keys, meta_keys, constant_keys, is_id}
+use Rattle.ksv_schema_keys.specs.Keys.{Form, Key, form_in, is_ignored, type_keys, attribute_keys, parse_instance_keys, value_keys, meta_keys, constant_keys, is_id}
 use Rattle.ksv_schema_keys.specs.Values.{encoding_named}
 use Rattle.ksv_schema_faults.specs.Rules.{Home, home_in, home_of, form_faults, value_faults, keys_faults, missing_if, attribute_faults, instance_faults, role_faults, mapping_faults, member_faults, member_again, is_instance, enumeration_faults, numeral_faults, constant_value_faults, number_again, id_again, constant_faults, meta_faults, root_faults, type_key_faults, type_faults, each_from, limit_faults, faults_of, faults, field_rules, value_rules}
-use Rattle.ksv_schema_build.specs.Stated.{Context, kind_of, member_of, type_of, numbered_of, enum_of, each, each_numbered, member_names, member_words, names_of, stated_by, calculated_of, positioned_of}
-use Rattle.ksv_desc.specs.Description.{Description, Given, InSequence}
+use Rattle.ksv_schema_build.specs.Stated.{Context, kind_of, member_of, type_of, numbered_of, enum_of, each, each_numbered, member_names, member_words, names_of, stated_by, value_instance_of, parse_instance_of}
+use Rattle.ksv_desc.specs.Description.{Description, Parameter, Attribute}
 use Rattle.ksv_schema.specs.Outcome.{States}
 use Rattle.ksv_schema.proofs.Coherent.{Is, front, back, not_if, not_not, no_fault, some_same, is_map, is_bind, at_key, has_text, context, not_missing}
 use Rattle.std.specs.List.{list_all}
@@ -34,7 +34,7 @@ use Rattle.ksv_schema_build.specs.Stated.{are_texts, described}
 use Rattle.ksv_desc.specs.Description.{as_text}
 use Rattle.ksv_schema.proofs.Texts.{both, id_is_text, as_text_is}
 use Rattle.ksv_schema.proofs.Contents.{AreEncodings}
-use Rattle.ksv_schema.proofs.Fields.{is_attribute, is_positioned, is_calculated}
+use Rattle.ksv_schema.proofs.Fields.{is_attribute, is_parse_instance, is_value_instance}
 use Rattle.ksv_expr_syntax.specs.Reading.{◌>>=◌}
 use Rattle.std.specs.Prelude.{length, is_none}
 use Rattle.ksv_schema_scope.specs.Enums.{Enumeration, id_of, number_written}
@@ -156,15 +156,15 @@ are_encodings d k n text e =
 
 kind_is : (h : Home) (names : List (List ℕ)) (role : Role) (name_line line : ℕ) (es : List Pair) → AreEncodings h.declared → role_faults role h name_line line es ≡ [] → Is (kind_of (context h names) role es)
 unfolding role_faults kind_of attribute_faults instance_faults
-kind_is h names Parameter name_line line es a k = (Given, refl)
-kind_is h names Attribute name_line line es a k =
-    is_map InSequence _ (is_attribute h names line es a (front (keys_faults (value_faults h) attribute_keys es) (field_rules h line es) k) (back (keys_faults (value_faults h) attribute_keys es) (field_rules h line es) k))
-kind_is h names Instance name_line line es a k = go (has (codes "value") es) (has (codes "pos") es) refl refl k
+kind_is h names roles.Parameter name_line line es a k = (Parameter, refl)
+kind_is h names roles.Attribute name_line line es a k =
+    is_map Attribute _ (is_attribute h names line es a (front (keys_faults (value_faults h) attribute_keys es) (field_rules h line es) k) (back (keys_faults (value_faults h) attribute_keys es) (field_rules h line es) k))
+kind_is h names roles.Instance name_line line es a k = go (has (codes "value") es) (has (codes "pos") es) refl refl k
   where
-    go : (v p : Bool) → has (codes "value") es ≡ v → has (codes "pos") es ≡ p → cond v (keys_faults (value_faults h) value_keys es ++ value_rules es) (cond p (keys_faults (value_faults h) positioned_keys es ++ field_rules h line es) (keys_faults (value_faults h) positioned_keys es ++ fault name_line left_out)) ≡ [] → Is (cond v (calculated_of (context h names) es) (positioned_of (context h names) es))
-    go true p x y k = is_calculated h names es x (front (keys_faults (value_faults h) value_keys es) (value_rules es) k)
-    go false true x y k = is_positioned h names line es a y (front (keys_faults (value_faults h) positioned_keys es) (field_rules h line es) k) (back (keys_faults (value_faults h) positioned_keys es) (field_rules h line es) k)
-    go false false x y k = absurd (no_fault name_line left_out (back (keys_faults (value_faults h) positioned_keys es) (fault name_line left_out) k))
+    go : (v p : Bool) → has (codes "value") es ≡ v → has (codes "pos") es ≡ p → cond v (keys_faults (value_faults h) value_keys es ++ value_rules es) (cond p (keys_faults (value_faults h) parse_instance_keys es ++ field_rules h line es) (keys_faults (value_faults h) parse_instance_keys es ++ fault name_line left_out)) ≡ [] → Is (cond v (value_instance_of (context h names) es) (parse_instance_of (context h names) es))
+    go true p x y k = is_value_instance h names es x (front (keys_faults (value_faults h) value_keys es) (value_rules es) k)
+    go false true x y k = is_parse_instance h names line es a y (front (keys_faults (value_faults h) parse_instance_keys es) (field_rules h line es) k) (back (keys_faults (value_faults h) parse_instance_keys es) (field_rules h line es) k)
+    go false false x y k = absurd (no_fault name_line left_out (back (keys_faults (value_faults h) parse_instance_keys es) (fault name_line left_out) k))
 
 -- where the members of a type stand
 abbrev within : Declared → ℕ → Context

@@ -23,8 +23,8 @@ use Rattle.ksv_schema_names.specs.BuiltIn.{is_bits, listed, built_in}
 use Rattle.ksv_schema_names.specs.Names.{special_faults, special_field_faults, enum_at, is_member, cast_faults, is_call, name_faults, least, part_faults, list_faults}
 use Rattle.ksv_schema_names.specs.Numbered.{given_member, numbered, all_numbered}
 use Rattle.ksv_desc.specs.Names.{distinct, number_in, dotted, all_dotted}
-use Rattle.ksv_schema_build.specs.Stated.{expression_words, type_words, form_words, key_words, entry_words, member_words, member_names, names_of, are_texts, expression, expression_at, perhaps_expression, perhaps_enum, encoding_at, order_at, integer_content, language_content, content_of, content_at, value_of, case_value, case_of, switch_of, typed, choice_of, extent_of, terminator_of, repeat_of, field_of, positioned_of, calculated_of, kind_of, member_of, type_of, numbered_of, enum_of, described, stated_by, stated}
-use Rattle.ksv_desc.specs.Description.{Description, Field, Bytes, Fixed, Number, Characters, Object, EnumValue, Always, Switch, Sized, ByItself, Once, Times, Given, InSequence, Positioned, Calculated, as_text}
+use Rattle.ksv_schema_build.specs.Stated.{expression_words, type_words, form_words, key_words, entry_words, member_words, member_names, names_of, are_texts, expression, expression_at, perhaps_expression, perhaps_enum, encoding_at, order_at, integer_content, language_content, content_of, content_at, value_of, case_value, case_of, switch_of, typed, choice_of, extent_of, terminator_of, repeat_of, field_of, parse_instance_of, value_instance_of, kind_of, member_of, type_of, numbered_of, enum_of, described, stated_by, stated}
+use Rattle.ksv_desc.specs.Description.{Description, Field, Bytes, Fixed, Number, Characters, Object, EnumValue, Always, Switch, Sized, ByItself, Once, Expr, Parameter, Attribute, ParseInstance, ValueInstance, as_text}
 use Rattle.ksv_schema_keys.specs.Expressions.{tokens_of, expression_of, type_of as type_of_expressions}
 use Rattle.ksv_schema_faults.specs.Faults.{fault, over_limit, is_below, noted}
 use Rattle.ksv_schema_keys.specs.Keys.{form_in, is_ignored, is_id}
@@ -226,7 +226,7 @@ abbrev is_refused : Row → Bool
 is_refused r = option_map_or (λ f. f.line == r.line && f.number == r.number) (least_fault r.lines) false
 
 rows_are_refused : list_all is_refused refused_texts ≡ true
-unfolding least_fault read read_list place_on select_on enums_at_key enums_of_type enums_of constants_of number_written id_of id_of_number number_of_id is_number_again is_id_again enum_in enum_named members_at_key members_of_type members_of members_within parameters_within attributes_within member_named plain_number signed_number own_id types_of keys_of_type type_in nearest_type type_named order_in order_of encoding_in encoding_of is_bits listed built_in special_faults special_field_faults enum_at is_member cast_faults is_call name_faults least part_faults list_faults distinct number_in given_member dotted all_dotted numbered all_numbered expression_words type_words form_words key_words entry_words member_words member_names names_of are_texts as_text expression expression_at perhaps_expression perhaps_enum encoding_at order_at integer_content language_content content_of content_at value_of case_value case_of switch_of typed choice_of extent_of terminator_of repeat_of field_of positioned_of calculated_of kind_of member_of type_of numbered_of enum_of described stated_by stated tokens_of expression_of type_of_expressions is_below noted form_in is_ignored is_id expression_faults language_faults count_faults type_text_faults endian_faults bit_endian_faults contents_faults enum_faults case_value_faults case_key_faults case_type_faults case_faults form_faults key_faults switch_faults value_faults against field_needs integer_against field_against field_left_out field_rules value_rules parameter_faults attribute_faults instance_faults role_faults mapping_faults name_line member_again member_faults enumeration_faults constant_value_faults number_again id_again constant_faults meta_faults root_faults type_key_faults type_faults line_past member_limit limit_faults faults_of faults encoding_named type_text is_type type_key cases_of byte_number byte_at looks_like_number piece_of contents_of case_key ids_of digits is_utf8 chars encode
+unfolding least_fault read read_list place_on select_on enums_at_key enums_of_type enums_of constants_of number_written id_of id_of_number number_of_id is_number_again is_id_again enum_in enum_named members_at_key members_of_type members_of members_within parameters_within attributes_within member_named plain_number signed_number own_id types_of keys_of_type type_in nearest_type type_named order_in order_of encoding_in encoding_of is_bits listed built_in special_faults special_field_faults enum_at is_member cast_faults is_call name_faults least part_faults list_faults distinct number_in given_member dotted all_dotted numbered all_numbered expression_words type_words form_words key_words entry_words member_words member_names names_of are_texts as_text expression expression_at perhaps_expression perhaps_enum encoding_at order_at integer_content language_content content_of content_at value_of case_value case_of switch_of typed choice_of extent_of terminator_of repeat_of field_of parse_instance_of value_instance_of kind_of member_of type_of numbered_of enum_of described stated_by stated tokens_of expression_of type_of_expressions is_below noted form_in is_ignored is_id expression_faults language_faults count_faults type_text_faults endian_faults bit_endian_faults contents_faults enum_faults case_value_faults case_key_faults case_type_faults case_faults form_faults key_faults switch_faults value_faults against field_needs integer_against field_against field_left_out field_rules value_rules parameter_faults attribute_faults instance_faults role_faults mapping_faults name_line member_again member_faults enumeration_faults constant_value_faults number_again id_again constant_faults meta_faults root_faults type_key_faults type_faults line_past member_limit limit_faults faults_of faults encoding_named type_text is_type type_key cases_of byte_number byte_at looks_like_number piece_of contents_of case_key ids_of digits is_utf8 chars encode
 rows_are_refused = refl
 
 -- ---- texts that state a description
@@ -289,7 +289,7 @@ abbrev is_accepted : List (List ℕ) → Bool
 is_accepted lines = is_none (least_fault lines) && is_some (description lines)
 
 texts_are_accepted : list_all is_accepted accepted_texts ≡ true
-unfolding least_fault description read read_list place_on select_on enums_at_key enums_of_type enums_of constants_of number_written id_of id_of_number number_of_id is_number_again is_id_again enum_in enum_named members_at_key members_of_type members_of members_within parameters_within attributes_within member_named plain_number signed_number own_id types_of keys_of_type type_in nearest_type type_named order_in order_of encoding_in encoding_of is_bits listed built_in special_faults special_field_faults enum_at is_member cast_faults is_call name_faults least part_faults list_faults distinct number_in given_member dotted all_dotted numbered all_numbered expression_words type_words form_words key_words entry_words member_words member_names names_of are_texts as_text expression expression_at perhaps_expression perhaps_enum encoding_at order_at integer_content language_content content_of content_at value_of case_value case_of switch_of typed choice_of extent_of terminator_of repeat_of field_of positioned_of calculated_of kind_of member_of type_of numbered_of enum_of described stated_by stated tokens_of expression_of type_of_expressions is_below noted form_in is_ignored is_id expression_faults language_faults count_faults type_text_faults endian_faults bit_endian_faults contents_faults enum_faults case_value_faults case_key_faults case_type_faults case_faults form_faults key_faults switch_faults value_faults against field_needs integer_against field_against field_left_out field_rules value_rules parameter_faults attribute_faults instance_faults role_faults mapping_faults name_line member_again member_faults enumeration_faults constant_value_faults number_again id_again constant_faults meta_faults root_faults type_key_faults type_faults line_past member_limit limit_faults faults_of faults encoding_named type_text is_type type_key cases_of byte_number byte_at looks_like_number piece_of contents_of case_key ids_of digits is_utf8 chars encode
+unfolding least_fault description read read_list place_on select_on enums_at_key enums_of_type enums_of constants_of number_written id_of id_of_number number_of_id is_number_again is_id_again enum_in enum_named members_at_key members_of_type members_of members_within parameters_within attributes_within member_named plain_number signed_number own_id types_of keys_of_type type_in nearest_type type_named order_in order_of encoding_in encoding_of is_bits listed built_in special_faults special_field_faults enum_at is_member cast_faults is_call name_faults least part_faults list_faults distinct number_in given_member dotted all_dotted numbered all_numbered expression_words type_words form_words key_words entry_words member_words member_names names_of are_texts as_text expression expression_at perhaps_expression perhaps_enum encoding_at order_at integer_content language_content content_of content_at value_of case_value case_of switch_of typed choice_of extent_of terminator_of repeat_of field_of parse_instance_of value_instance_of kind_of member_of type_of numbered_of enum_of described stated_by stated tokens_of expression_of type_of_expressions is_below noted form_in is_ignored is_id expression_faults language_faults count_faults type_text_faults endian_faults bit_endian_faults contents_faults enum_faults case_value_faults case_key_faults case_type_faults case_faults form_faults key_faults switch_faults value_faults against field_needs integer_against field_against field_left_out field_rules value_rules parameter_faults attribute_faults instance_faults role_faults mapping_faults name_line member_again member_faults enumeration_faults constant_value_faults number_again id_again constant_faults meta_faults root_faults type_key_faults type_faults line_past member_limit limit_faults faults_of faults encoding_named type_text is_type type_key cases_of byte_number byte_at looks_like_number piece_of contents_of case_key ids_of digits is_utf8 chars encode
 texts_are_accepted = refl
 
 -- ---- a description in full
@@ -306,23 +306,23 @@ k_states : description (codes "meta:" ∷ codes "  id: k" ∷ codes "seq:" ∷ c
       record {
         id = codes "k";
         members =
-            record { name = 0; kind = InSequence (record byte { choice = Always (Fixed (75 ∷ 83 ∷ [])) }) } ∷
-            record { name = 1; kind = InSequence byte } ∷
-            record { name = 2; kind = InSequence (record byte { repeat = Times (named (word (codes "n") 1)); choice = Always (Object 1 no_arguments) }) } ∷
-            record { name = 3; kind = Calculated None (field (index (named (word (codes "items") 2)) (literal (integer 0))) (word (codes "len") 5)) None } ∷
-            record { name = 4; kind = Positioned (binary binaries.Subtract (field (special specials.Io) (word (codes "size") 7)) (literal (integer 1))) None byte } ∷ [];
+            record { name = 0; kind = Attribute (record byte { choice = Always (Fixed (75 ∷ 83 ∷ [])) }) } ∷
+            record { name = 1; kind = Attribute byte } ∷
+            record { name = 2; kind = Attribute (record byte { repeat = Expr (named (word (codes "n") 1)); choice = Always (Object 1 no_arguments) }) } ∷
+            record { name = 3; kind = ValueInstance None (field (index (named (word (codes "items") 2)) (literal (integer 0))) (word (codes "len") 5)) None } ∷
+            record { name = 4; kind = ParseInstance (binary binaries.Subtract (field (special specials.Io) (word (codes "size") 7)) (literal (integer 1))) None byte } ∷ [];
       } ∷
       record {
         id = codes "item";
         members =
-            record { name = 5; kind = InSequence byte } ∷
-            record { name = 6; kind = InSequence (record byte { choice = Always Bytes; extent = Sized (named (word (codes "len") 5)) }) } ∷ [];
+            record { name = 5; kind = Attribute byte } ∷
+            record { name = 6; kind = Attribute (record byte { choice = Always Bytes; extent = Sized (named (word (codes "len") 5)) }) } ∷ [];
       } ∷ [];
   enums = [];
   names = codes "magic" ∷ codes "n" ∷ codes "items" ∷ codes "first" ∷ codes "last" ∷ codes "len" ∷ codes "body" ∷ codes "size" ∷ [];
   known = 7;
 })
-unfolding description read read_list place_on select_on enums_at_key enums_of_type enums_of constants_of number_written id_of id_of_number number_of_id is_number_again is_id_again enum_in enum_named members_at_key members_of_type members_of members_within parameters_within attributes_within member_named plain_number signed_number own_id types_of keys_of_type type_in nearest_type type_named order_in order_of encoding_in encoding_of is_bits listed built_in special_faults special_field_faults enum_at is_member cast_faults is_call name_faults least part_faults list_faults distinct number_in given_member dotted all_dotted numbered all_numbered expression_words type_words form_words key_words entry_words member_words member_names names_of are_texts as_text expression expression_at perhaps_expression perhaps_enum encoding_at order_at integer_content language_content content_of content_at value_of case_value case_of switch_of typed choice_of extent_of terminator_of repeat_of field_of positioned_of calculated_of kind_of member_of type_of numbered_of enum_of described stated_by stated tokens_of expression_of type_of_expressions is_below noted form_in is_ignored is_id expression_faults language_faults count_faults type_text_faults endian_faults bit_endian_faults contents_faults enum_faults case_value_faults case_key_faults case_type_faults case_faults form_faults key_faults switch_faults value_faults against field_needs integer_against field_against field_left_out field_rules value_rules parameter_faults attribute_faults instance_faults role_faults mapping_faults name_line member_again member_faults enumeration_faults constant_value_faults number_again id_again constant_faults meta_faults root_faults type_key_faults type_faults line_past member_limit limit_faults faults_of faults encoding_named type_text is_type type_key cases_of byte_number byte_at looks_like_number piece_of contents_of case_key ids_of digits is_utf8 chars encode
+unfolding description read read_list place_on select_on enums_at_key enums_of_type enums_of constants_of number_written id_of id_of_number number_of_id is_number_again is_id_again enum_in enum_named members_at_key members_of_type members_of members_within parameters_within attributes_within member_named plain_number signed_number own_id types_of keys_of_type type_in nearest_type type_named order_in order_of encoding_in encoding_of is_bits listed built_in special_faults special_field_faults enum_at is_member cast_faults is_call name_faults least part_faults list_faults distinct number_in given_member dotted all_dotted numbered all_numbered expression_words type_words form_words key_words entry_words member_words member_names names_of are_texts as_text expression expression_at perhaps_expression perhaps_enum encoding_at order_at integer_content language_content content_of content_at value_of case_value case_of switch_of typed choice_of extent_of terminator_of repeat_of field_of parse_instance_of value_instance_of kind_of member_of type_of numbered_of enum_of described stated_by stated tokens_of expression_of type_of_expressions is_below noted form_in is_ignored is_id expression_faults language_faults count_faults type_text_faults endian_faults bit_endian_faults contents_faults enum_faults case_value_faults case_key_faults case_type_faults case_faults form_faults key_faults switch_faults value_faults against field_needs integer_against field_against field_left_out field_rules value_rules parameter_faults attribute_faults instance_faults role_faults mapping_faults name_line member_again member_faults enumeration_faults constant_value_faults number_again id_again constant_faults meta_faults root_faults type_key_faults type_faults line_past member_limit limit_faults faults_of faults encoding_named type_text is_type type_key cases_of byte_number byte_at looks_like_number piece_of contents_of case_key ids_of digits is_utf8 chars encode
 k_states = refl
 
 -- a switch, in which the cases keep their order, and an enum found outwards
@@ -331,10 +331,10 @@ switch_states : description (codes "meta:" ∷ codes "  id: a" ∷ codes "  endi
       record {
         id = codes "a";
         members =
-            record { name = 0; kind = InSequence (record byte { choice = Always (Number true 2 orders.Big (Some 0)) }) } ∷
+            record { name = 0; kind = Attribute (record byte { choice = Always (Number true 2 orders.Big (Some 0)) }) } ∷
             record {
               name = 1;
-              kind = InSequence (record byte {
+              kind = Attribute (record byte {
                 choice = Switch (named (word (codes "t") 0)) (
                     record { value = None; content = Object 1 (argument (literal (integer 2)) no_arguments) } ∷
                     record { value = Some (EnumValue (record { enum_number = 0; number = negsuc 0 })); content = Number false 4 orders.Big None } ∷ []);
@@ -344,10 +344,10 @@ switch_states : description (codes "meta:" ∷ codes "  id: a" ∷ codes "  endi
       record {
         id = codes "u";
         members =
-            record { name = 2; kind = Given } ∷
+            record { name = 2; kind = Parameter } ∷
             record {
               name = 3;
-              kind = InSequence (record byte {
+              kind = Attribute (record byte {
                 condition = Some (binary binaries.Equal (named (word (codes "p") 2)) (member (record { path = codes "e" ∷ []; name = codes "less"; given = Some (record { enum_number = 0; number = negsuc 0 }) })));
                 choice = Always (Characters encodings.Utf8);
                 terminator = Some (record { byte = 0; is_consumed = true; is_included = true; is_required = false });
@@ -358,7 +358,7 @@ switch_states : description (codes "meta:" ∷ codes "  id: a" ∷ codes "  endi
   names = codes "t" ∷ codes "b" ∷ codes "p" ∷ codes "s" ∷ [];
   known = 4;
 })
-unfolding description read read_list place_on select_on enums_at_key enums_of_type enums_of constants_of number_written id_of id_of_number number_of_id is_number_again is_id_again enum_in enum_named members_at_key members_of_type members_of members_within parameters_within attributes_within member_named plain_number signed_number own_id types_of keys_of_type type_in nearest_type type_named order_in order_of encoding_in encoding_of is_bits listed built_in special_faults special_field_faults enum_at is_member cast_faults is_call name_faults least part_faults list_faults distinct number_in given_member dotted all_dotted numbered all_numbered expression_words type_words form_words key_words entry_words member_words member_names names_of are_texts as_text expression expression_at perhaps_expression perhaps_enum encoding_at order_at integer_content language_content content_of content_at value_of case_value case_of switch_of typed choice_of extent_of terminator_of repeat_of field_of positioned_of calculated_of kind_of member_of type_of numbered_of enum_of described stated_by stated tokens_of expression_of type_of_expressions is_below noted form_in is_ignored is_id expression_faults language_faults count_faults type_text_faults endian_faults bit_endian_faults contents_faults enum_faults case_value_faults case_key_faults case_type_faults case_faults form_faults key_faults switch_faults value_faults against field_needs integer_against field_against field_left_out field_rules value_rules parameter_faults attribute_faults instance_faults role_faults mapping_faults name_line member_again member_faults enumeration_faults constant_value_faults number_again id_again constant_faults meta_faults root_faults type_key_faults type_faults line_past member_limit limit_faults faults_of faults encoding_named type_text is_type type_key cases_of byte_number byte_at looks_like_number piece_of contents_of case_key ids_of digits is_utf8 chars encode
+unfolding description read read_list place_on select_on enums_at_key enums_of_type enums_of constants_of number_written id_of id_of_number number_of_id is_number_again is_id_again enum_in enum_named members_at_key members_of_type members_of members_within parameters_within attributes_within member_named plain_number signed_number own_id types_of keys_of_type type_in nearest_type type_named order_in order_of encoding_in encoding_of is_bits listed built_in special_faults special_field_faults enum_at is_member cast_faults is_call name_faults least part_faults list_faults distinct number_in given_member dotted all_dotted numbered all_numbered expression_words type_words form_words key_words entry_words member_words member_names names_of are_texts as_text expression expression_at perhaps_expression perhaps_enum encoding_at order_at integer_content language_content content_of content_at value_of case_value case_of switch_of typed choice_of extent_of terminator_of repeat_of field_of parse_instance_of value_instance_of kind_of member_of type_of numbered_of enum_of described stated_by stated tokens_of expression_of type_of_expressions is_below noted form_in is_ignored is_id expression_faults language_faults count_faults type_text_faults endian_faults bit_endian_faults contents_faults enum_faults case_value_faults case_key_faults case_type_faults case_faults form_faults key_faults switch_faults value_faults against field_needs integer_against field_against field_left_out field_rules value_rules parameter_faults attribute_faults instance_faults role_faults mapping_faults name_line member_again member_faults enumeration_faults constant_value_faults number_again id_again constant_faults meta_faults root_faults type_key_faults type_faults line_past member_limit limit_faults faults_of faults encoding_named type_text is_type type_key cases_of byte_number byte_at looks_like_number piece_of contents_of case_key ids_of digits is_utf8 chars encode
 switch_states = refl
 
 -- ---- limits

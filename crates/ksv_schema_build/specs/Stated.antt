@@ -13,7 +13,7 @@ use Rattle.ksv_desc.specs.declared.order.ByteOrder.TheVariants as orders
 use Rattle.ksv_schema_scope.specs.Keys.{entries_in, has, says, text_at, entries_at}
 use Rattle.ksv_schema_scope.specs.Types.{Scope, type_named, order_of, encoding_of}
 use Rattle.ksv_schema_scope.specs.declared.member.Role.{Role}
-use Rattle.ksv_schema_scope.specs.declared.member.Role.TheVariants.{Parameter, Attribute, Instance}
+use Rattle.ksv_schema_scope.specs.declared.member.Role.TheVariants as roles
 use Rattle.ksv_schema_scope.specs.Members.{is_parameter, Member, members_within}
 use Rattle.ksv_schema_scope.specs.Enums.{Enumeration, Constant, enum_named, number_of, id_of}
 use Rattle.ksv_schema_scope.specs.Declarations.{Declared, declared_in}
@@ -23,9 +23,9 @@ use Rattle.ksv_schema_names.specs.Numbered.{given_member, numbered, all_numbered
 use Rattle.ksv_desc.specs.Names.{distinct, distinct_behind, number_in, dotted, all_dotted}
 use Rattle.ksv_schema_names.specs.declared.position.Site.TheVariants as sites
 use Rattle.ksv_expr_value.specs.declared.encoding.Encoding.{Encoding}
-use Rattle.ksv_desc.specs.Description.{Content, Bytes, Fixed, Number, Characters, Object, CaseValue, Literal, Negated, EnumValue, Case, Choice, Always, Switch, Extent, Sized, ToEnd, ByItself, Terminator, Repeat, Once, UntilEnd, Times, Until, Field, Kind, Given, InSequence, Positioned, Calculated, MemberOfType, TypeOfObjects, Numbered, Enum, Description, as_text}
+use Rattle.ksv_desc.specs.Description.{Content, Bytes, Fixed, Number, Characters, Object, CaseValue, Literal, Negated, EnumValue, Case, Choice, Always, Switch, Extent, Sized, SizeEos, ByItself, Terminator, Repeat, Once, Eos, Expr, Until, Field, MemberKind, Parameter, Attribute, ParseInstance, ValueInstance, MemberOfType, TypeOfObjects, Numbered, Enum, Description, as_text}
 use Rattle.ksv_schema_keys.specs.Keys as forms
-use Rattle.ksv_schema_keys.specs.Keys.{Form, Key, key, positioned_keys, switch_keys, form_in}
+use Rattle.ksv_schema_keys.specs.Keys.{Form, Key, key, parse_instance_keys, switch_keys, form_in}
 use Rattle.ksv_schema_keys.specs.Expressions.{expression_of}
 use Rattle.ksv_schema_keys.specs.Values.{encoding_named, TypeText, Unspelled, OfLanguage, OfDescription, type_text, is_strz, type_key, byte_at, contents_of, CaseKey, Constant as ConstantKey, Negative, Member as MemberKey, Default, NoKey, case_key, ids_of, is_true, is_not_false, is_to_end}
 
@@ -33,7 +33,7 @@ use Rattle.ksv_schema_keys.specs.Values.{encoding_named, TypeText, Unspelled, Of
 
 -- the keys at which expressions stand
 abbrev pub naming_keys : List Key
-naming_keys = key (codes "value") (forms.Expression sites.Value) ∷ positioned_keys
+naming_keys = key (codes "value") (forms.Expression sites.Value) ∷ parse_instance_keys
 
 -- the names behind dots in an expression, and in the arguments of a type
 unfoldable pub expression_words : List ℕ → List (List ℕ)
@@ -175,7 +175,7 @@ choice_of c es =
 unfoldable pub extent_of : Context → List Pair → Option Extent
 extent_of c es =
     if has (codes "size") es then option_map Sized (expression_at c (codes "size") es)
-    else if is_to_end es then Some ToEnd
+    else if is_to_end es then Some SizeEos
     else Some ByItself
 
 abbrev pub terminated_by : List Pair → ℕ → Terminator
@@ -192,8 +192,8 @@ terminator_of es = option_map (terminated_by es) (if is_some (type_key is_strz e
 
 unfoldable pub repeat_of : Context → List Pair → Option Repeat
 repeat_of c es =
-    if says (codes "repeat") (codes "eos") es then Some UntilEnd
-    else if says (codes "repeat") (codes "expr") es then option_map Times (expression_at c (codes "repeat-expr") es)
+    if says (codes "repeat") (codes "eos") es then Some Eos
+    else if says (codes "repeat") (codes "expr") es then option_map Expr (expression_at c (codes "repeat-expr") es)
     else if says (codes "repeat") (codes "until") es then option_map Until (expression_at c (codes "repeat-until") es)
     else Some Once
 
@@ -207,25 +207,25 @@ field_of c es = do
 
 -- ---- members
 
-unfoldable pub positioned_of : Context → List Pair → Option Kind
-positioned_of c es = do
+unfoldable pub parse_instance_of : Context → List Pair → Option MemberKind
+parse_instance_of c es = do
   place ← expression_at c (codes "pos") es
   stream ← perhaps_expression c (codes "io") es
   field ← field_of c es
-  Some (Positioned place stream field)
+  Some (ParseInstance place stream field)
 
-unfoldable pub calculated_of : Context → List Pair → Option Kind
-calculated_of c es = do
+unfoldable pub value_instance_of : Context → List Pair → Option MemberKind
+value_instance_of c es = do
   condition ← perhaps_expression c (codes "if") es
   value ← expression_at c (codes "value") es
   enum ← perhaps_enum c es
-  Some (Calculated condition value enum)
+  Some (ValueInstance condition value enum)
 
 -- what a member is, by where it stands
-unfoldable pub kind_of : Context → Role → List Pair → Option Kind
-kind_of c Parameter es = Some Given
-kind_of c Attribute es = option_map InSequence (field_of c es)
-kind_of c Instance es = if has (codes "value") es then calculated_of c es else positioned_of c es
+unfoldable pub kind_of : Context → Role → List Pair → Option MemberKind
+kind_of c roles.Parameter es = Some Parameter
+kind_of c roles.Attribute es = option_map Attribute (field_of c es)
+kind_of c roles.Instance es = if has (codes "value") es then value_instance_of c es else parse_instance_of c es
 
 unfoldable pub member_of : Context → Member → Option MemberOfType
 member_of c m = do

@@ -51,7 +51,7 @@ fn entries_of(alloc: Global, entries: &[Entry]) -> Result<Option<Vec<EnumEntry>>
 fn enum_of(alloc: Global, enumeration: &Enumeration) -> Result<Option<EnumDesc>, AllocError>
     ensures { IfOk result (λ o. option_map plain_enum o ≡ enum_alone (enumeration_of enumeration.now)) }
 {
-    let Some(id) = owned_text(alloc, enumeration.id())? else {
+    let Some(id) = owned_text(alloc, enumeration.id)? else {
         return Ok(None);
     };
     match entries_of(alloc, enumeration.entries())? {

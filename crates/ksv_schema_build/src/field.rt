@@ -31,7 +31,7 @@ fn extent_of(
         };
     }
     if says(entries, b"size-eos", b"true") {
-        return Ok(Some(Extent::ToEnd));
+        return Ok(Some(Extent::SizeEos));
     }
     Ok(Some(Extent::ByItself))
 }
@@ -72,11 +72,11 @@ fn repeat_of(
     ensures { IfOk result (λ o. option_map plain_repeat o ≡ repeat_of (context_of context.entry) (map pair entries.now)) }
 {
     if says(entries, b"repeat", b"eos") {
-        return Ok(Some(Repeat::UntilEnd));
+        return Ok(Some(Repeat::Eos));
     }
     if says(entries, b"repeat", b"expr") {
         return match expression_at(alloc, context, b"repeat-expr", entries)? {
-            Some(count) => Ok(Some(Repeat::Times(count))),
+            Some(count) => Ok(Some(Repeat::Expr(count))),
             None => Ok(None),
         };
     }

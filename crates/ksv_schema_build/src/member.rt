@@ -4,7 +4,7 @@ ghost use Rattle.std.specs.Prelude.{◌≡◌, map, IfOk, option_map};
 ghost use Rattle.ksv_yaml_tree.specs.View.{pair};
 ghost use Rattle.ksv_schema_scope.specs.MemberRows.{member_of as row};
 ghost use Rattle.ksv_schema_build.specs.Contexts.{context_of};
-ghost use Rattle.ksv_schema_build.specs.Stated.{positioned_of, calculated_of, kind_of, member_of, each};
+ghost use Rattle.ksv_schema_build.specs.Stated.{parse_instance_of, value_instance_of, kind_of, member_of, each};
 ghost use Rattle.ksv_desc.specs.Pieces.{plain_kind, plain_member};
 
 use crate::content::perhaps_enum;
@@ -12,20 +12,20 @@ use crate::context::Context;
 use crate::expressions::{expression_at, perhaps_expression};
 use crate::field::field_of;
 use crate::texts::as_text;
-use ksv_desc::{Kind, MemberDesc};
+use ksv_desc::{MemberDesc, MemberKind};
 use ksv_schema_scope::keys::has;
 use ksv_schema_scope::{Member, Role};
 use ksv_yaml_tree::Entry;
 use std::alloc::{AllocError, Global};
 
 /// An instance with a place.
-#[tactic(auto, unfolding(crate::specs::Stated::positioned_of))]
-fn positioned_of(
+#[tactic(auto, unfolding(crate::specs::Stated::parse_instance_of))]
+fn parse_instance_of(
     alloc: Global,
     context: Context,
     entries: &[Entry],
-) -> Result<Option<Kind>, AllocError>
-    ensures { IfOk result (λ o. option_map plain_kind o ≡ positioned_of (context_of context.entry) (map pair entries.now)) }
+) -> Result<Option<MemberKind>, AllocError>
+    ensures { IfOk result (λ o. option_map plain_kind o ≡ parse_instance_of (context_of context.entry) (map pair entries.now)) }
 {
     let Some(place) = expression_at(alloc, context, b"pos", entries)? else {
         return Ok(None);
@@ -36,7 +36,7 @@ fn positioned_of(
     let Some(field) = field_of(alloc, context, entries)? else {
         return Ok(None);
     };
-    Ok(Some(Kind::Positioned {
+    Ok(Some(MemberKind::ParseInstance {
         place,
         stream,
         field,
@@ -44,13 +44,13 @@ fn positioned_of(
 }
 
 /// An instance with a value.
-#[tactic(auto, unfolding(crate::specs::Stated::calculated_of))]
-fn calculated_of(
+#[tactic(auto, unfolding(crate::specs::Stated::value_instance_of))]
+fn value_instance_of(
     alloc: Global,
     context: Context,
     entries: &[Entry],
-) -> Result<Option<Kind>, AllocError>
-    ensures { IfOk result (λ o. option_map plain_kind o ≡ calculated_of (context_of context.entry) (map pair entries.now)) }
+) -> Result<Option<MemberKind>, AllocError>
+    ensures { IfOk result (λ o. option_map plain_kind o ≡ value_instance_of (context_of context.entry) (map pair entries.now)) }
 {
     let Some(condition) = perhaps_expression(alloc, context, b"if", entries)? else {
         return Ok(None);
@@ -61,7 +61,7 @@ fn calculated_of(
     let Some(enumeration) = perhaps_enum(alloc, context, entries)? else {
         return Ok(None);
     };
-    Ok(Some(Kind::Calculated {
+    Ok(Some(MemberKind::ValueInstance {
         condition,
         value,
         enumeration,
@@ -75,20 +75,20 @@ fn kind_of(
     context: Context,
     role: Role,
     entries: &[Entry],
-) -> Result<Option<Kind>, AllocError>
+) -> Result<Option<MemberKind>, AllocError>
     ensures { IfOk result (λ o. option_map plain_kind o ≡ kind_of (context_of context.entry) role (map pair entries.now)) }
 {
     match role {
-        Role::Parameter => Ok(Some(Kind::Given)),
+        Role::Parameter => Ok(Some(MemberKind::Parameter)),
         Role::Attribute => match field_of(alloc, context, entries)? {
-            Some(field) => Ok(Some(Kind::InSequence(field))),
+            Some(field) => Ok(Some(MemberKind::Attribute(field))),
             None => Ok(None),
         },
         Role::Instance => {
             if has(entries, b"value") {
-                calculated_of(alloc, context, entries)
+                value_instance_of(alloc, context, entries)
             } else {
-                positioned_of(alloc, context, entries)
+                parse_instance_of(alloc, context, entries)
             }
         }
     }
@@ -109,10 +109,10 @@ fn member_of(
     let Some(name) = context.names.number_of(text) else {
         return Ok(None);
     };
-    let Some(entries) = member.value().entries() else {
+    let Some(entries) = member.value.entries() else {
         return Ok(None);
     };
-    let Some(kind) = kind_of(alloc, context, member.role(), entries)? else {
+    let Some(kind) = kind_of(alloc, context, member.role, entries)? else {
         return Ok(None);
     };
     Ok(Some(MemberDesc { name, kind }))

@@ -9,7 +9,7 @@ ghost use Rattle.ksv_schema_keys.specs.Keys.{switch_keys};
 ghost use Rattle.ksv_schema_build.specs.Stated.{naming_keys, expression_words, argument_words, type_words, form_words, key_words, entry_words, member_words, are_texts};
 
 use crate::texts::as_text;
-use ksv_schema_keys::{Form, Table, TypeText, form_in, read_expression, type_text};
+use ksv_schema_keys::{Form, MappingKind, TypeText, form_in, read_expression, type_text};
 use ksv_schema_names::{Names, Site};
 use ksv_schema_scope::keys::entries_in;
 use ksv_schema_scope::{Member, Role};
@@ -112,7 +112,7 @@ fn add_form(alloc: Global, names: &mut Names, entry: &Entry, form: Form) -> Resu
 fn add_switch_key(alloc: Global, names: &mut Names, entry: &Entry) -> Result<(), AllocError>
     ensures { OnOk result (names.new ≡ distinct_behind names.old (key_words switch_keys (pair entry.now))) }
 {
-    match form_in(Table::Switch, entry.key()) {
+    match form_in(MappingKind::Switch, entry.key()) {
         Some(form) => add_form(alloc, names, entry, form),
         None => Ok(()),
     }
@@ -136,7 +136,7 @@ fn add_key(alloc: Global, names: &mut Names, entry: &Entry) -> Result<(), AllocE
     if entry.key() == b"value".as_slice() {
         return add_form(alloc, names, entry, Form::Expression(Site::Value));
     }
-    match form_in(Table::Positioned, entry.key()) {
+    match form_in(MappingKind::ParseInstance, entry.key()) {
         Some(form) => add_form(alloc, names, entry, form),
         None => Ok(()),
     }
@@ -169,10 +169,10 @@ fn add_entries(alloc: Global, names: &mut Names, entries: &[Entry]) -> Result<()
 fn add_member(alloc: Global, names: &mut Names, member: &Member) -> Result<(), AllocError>
     ensures { OnOk result (names.new ≡ distinct_behind names.old (member_words (row member.now))) }
 {
-    match member.role() {
+    match member.role {
         Role::Parameter => Ok(()),
-        Role::Attribute => add_entries(alloc, names, entries_in(member.value())),
-        Role::Instance => add_entries(alloc, names, entries_in(member.value())),
+        Role::Attribute => add_entries(alloc, names, entries_in(member.value)),
+        Role::Instance => add_entries(alloc, names, entries_in(member.value)),
     }
 }
 

@@ -29,7 +29,7 @@ use Rattle.ksv_schema_names.specs.Names.{name_faults, list_faults}
 use Rattle.ksv_desc.specs.Resolved.{count}
 use Rattle.ksv_schema_faults.specs.Faults.{Fault, fault, fault_if, unknown_key, missing_key, keys_against, unknown_name, no_byte_order, bad_value, wrong_count, left_out, over_limit, no_expression}
 use Rattle.ksv_schema_keys.specs.Keys as forms
-use Rattle.ksv_schema_keys.specs.Keys.{Form, Key, type_keys, meta_keys, parameter_keys, attribute_keys, positioned_keys, value_keys, switch_keys, constant_keys, form_in, is_ignored, is_id}
+use Rattle.ksv_schema_keys.specs.Keys.{Form, Key, type_keys, meta_keys, parameter_keys, attribute_keys, parse_instance_keys, value_keys, switch_keys, constant_keys, form_in, is_ignored, is_id}
 use Rattle.ksv_schema_keys.specs.Expressions.{expression_of}
 use Rattle.ksv_schema_keys.specs.Values.{encoding_named, TypeText, Unspelled, OfLanguage, OfDescription, type_text, is_integer, is_str, is_strz, is_of_description, is_type, type_key, cases_of, byte_number, byte_at, looks_like_number, Piece, Bytes, BadPiece, LeftOutPiece, piece_of, CaseKey, Constant as ConstantKey, Negative, Member as MemberKey, Default, NoKey, case_key, ids_of, is_to_end, is_repeated}
 
@@ -284,8 +284,8 @@ attribute_faults h line es = keys_faults (value_faults h) attribute_keys es ++ f
 unfoldable pub instance_faults : Home → ℕ → ℕ → List Pair → List Fault
 instance_faults h name_line line es =
     if has (codes "value") es then keys_faults (value_faults h) value_keys es ++ value_rules es
-    else if has (codes "pos") es then keys_faults (value_faults h) positioned_keys es ++ field_rules h line es
-    else keys_faults (value_faults h) positioned_keys es ++ fault name_line left_out
+    else if has (codes "pos") es then keys_faults (value_faults h) parse_instance_keys es ++ field_rules h line es
+    else keys_faults (value_faults h) parse_instance_keys es ++ fault name_line left_out
 
 -- what a member's mapping says, by where it stands
 unfoldable pub role_faults : Role → Home → ℕ → ℕ → List Pair → List Fault

@@ -17,7 +17,7 @@ use crate::home::home_in;
 use crate::key::note_numeral;
 use crate::mapping::note_plain_keys;
 use crate::together::note_missing_if;
-use ksv_schema_keys::{Table, is_id};
+use ksv_schema_keys::{MappingKind, is_id};
 use ksv_schema_scope::keys::{entries_in, has};
 use ksv_schema_scope::{Constant, Enumeration, Scopes, signed_number};
 use ksv_yaml_tree::{Entry, Yaml, find};
@@ -28,9 +28,9 @@ use std::alloc::{AllocError, Global};
 pub(crate) fn note_enumeration(least: &mut Option<DescFault>, enumeration: &Enumeration)
     ensures { seen_fault least.new ≡ noted (seen_fault least.old) (enumeration_faults (enumeration_of enumeration.now)) }
 {
-    let is_named = is_id(enumeration.id());
-    let has_entries = enumeration.value().entries().is_some();
-    let line = enumeration.line();
+    let is_named = is_id(enumeration.id);
+    let has_entries = enumeration.value.entries().is_some();
+    let line = enumeration.line;
     note_if(least, !is_named, line, DescFaultKind::BadValue);
     note_if(least, !has_entries, line, DescFaultKind::BadValue);
 }
@@ -46,7 +46,13 @@ fn note_constant_mapping<'a>(
 ) -> Result<(), AllocError>
     ensures { OnOk result (seen_fault least.new ≡ noted (seen_fault least.old) (keys_faults (form_faults (home_in (declared scopes.now) 0)) constant_keys (map pair entries.now) ++ missing_if (not (has (codes "id") (map pair entries.now))) line)) }
 {
-    note_plain_keys(alloc, least, home_in(scopes, 0), Table::Constant, entries)?;
+    note_plain_keys(
+        alloc,
+        least,
+        home_in(scopes, 0),
+        MappingKind::Constant,
+        entries,
+    )?;
     let has_id = has(entries, b"id");
     note_missing_if(least, !has_id, line);
     Ok(())
@@ -77,9 +83,9 @@ fn note_constant_value<'a>(
 fn id_line(constant: &Constant) -> usize
     ensures { result ≡ id_line (constant_of constant.now) }
 {
-    match find(entries_in(constant.value()), b"id") {
+    match find(entries_in(constant.value), b"id") {
         Some(entry) => entry.line(),
-        None => constant.line(),
+        None => constant.line,
     }
 }
 
@@ -96,19 +102,19 @@ fn note_constant<'a>(
     requires marked_id { constant.now.is_id_again ≡ is_id_again (take number (declared scopes.now).constants) (constant_of constant.now) }
     ensures { OnOk result (seen_fault least.new ≡ noted (seen_fault least.old) (constant_faults (declared scopes.now) number (constant_of constant.now))) }
 {
-    let line = constant.line();
-    note_numeral(least, line, signed_number(constant.key()));
-    note_constant_value(alloc, least, scopes, line, constant.value())?;
+    let line = constant.line;
+    note_numeral(least, line, signed_number(constant.key));
+    note_constant_value(alloc, least, scopes, line, constant.value)?;
     note_if(
         least,
-        constant.is_number_again(),
+        constant.is_number_again,
         line,
         DescFaultKind::KeysAgainst,
     );
     let id_line = id_line(constant);
     note_if(
         least,
-        constant.is_id_again(),
+        constant.is_id_again,
         id_line,
         DescFaultKind::KeysAgainst,
     );

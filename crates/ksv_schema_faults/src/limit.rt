@@ -46,7 +46,7 @@ fn line_past_members(members: &[Member]) -> Option<usize>
     ensures { result ≡ slice_get (map (λ m. m.line) (map member_of members.now)) 256 }
 {
     match members.get(MEMBERS) {
-        Some(member) => Some(member.line()),
+        Some(member) => Some(member.line),
         None => None,
     }
 }
@@ -74,7 +74,7 @@ fn lines_of(alloc: Global, constants: &[Constant]) -> Result<Vec<usize>, AllocEr
 {
     let mut lines = Vec::new(alloc);
     for constant in constants {
-        lines.push(constant.line())?;
+        lines.push(constant.line)?;
     }
     Ok(lines)
 }

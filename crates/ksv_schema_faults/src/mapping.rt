@@ -12,7 +12,7 @@ ghost use Rattle.ksv_schema_faults.specs.Code.{seen_fault, seen_home};
 use crate::fault::{DescFault, DescFaultKind, note, note_if};
 use crate::home::Home;
 use crate::key::note_form;
-use ksv_schema_keys::{Form, Table, form_in};
+use ksv_schema_keys::{Form, MappingKind, form_in};
 use ksv_schema_scope::keys::has;
 use ksv_yaml_tree::{Entry, Yaml};
 use std::alloc::{AllocError, Global};
@@ -34,7 +34,7 @@ fn note_plain_key(
     alloc: Global,
     least: &mut Option<DescFault>,
     home: Home,
-    table: Table,
+    table: MappingKind,
     entry: &Entry,
 ) -> Result<(), AllocError>
     ensures { OnOk result (seen_fault least.new ≡ noted (seen_fault least.old) (key_faults (form_faults (seen_home home.entry)) (keys_of table) (pair entry.now))) }
@@ -56,7 +56,7 @@ pub(crate) fn note_plain_keys(
     alloc: Global,
     least: &mut Option<DescFault>,
     home: Home,
-    table: Table,
+    table: MappingKind,
     entries: &[Entry],
 ) -> Result<(), AllocError>
     ensures { OnOk result (seen_fault least.new ≡ noted (seen_fault least.old) (keys_faults (form_faults (seen_home home.entry)) (keys_of table) (map pair entries.now))) }
@@ -78,7 +78,7 @@ fn note_switch(
 ) -> Result<(), AllocError>
     ensures { OnOk result (seen_fault least.new ≡ noted (seen_fault least.old) (switch_faults (seen_home home.entry) line (map pair entries.now))) }
 {
-    note_plain_keys(alloc, least, home, Table::Switch, entries)?;
+    note_plain_keys(alloc, least, home, MappingKind::Switch, entries)?;
     let has_subject = has(entries, b"switch-on");
     let has_cases = has(entries, b"cases");
     note_if(least, !has_subject, line, DescFaultKind::MissingKey);
@@ -127,7 +127,7 @@ fn note_key(
     alloc: Global,
     least: &mut Option<DescFault>,
     home: Home,
-    table: Table,
+    table: MappingKind,
     entry: &Entry,
 ) -> Result<(), AllocError>
     ensures { OnOk result (seen_fault least.new ≡ noted (seen_fault least.old) (key_faults (value_faults (seen_home home.entry)) (keys_of table) (pair entry.now))) }
@@ -149,7 +149,7 @@ pub(crate) fn note_keys(
     alloc: Global,
     least: &mut Option<DescFault>,
     home: Home,
-    table: Table,
+    table: MappingKind,
     entries: &[Entry],
 ) -> Result<(), AllocError>
     ensures { OnOk result (seen_fault least.new ≡ noted (seen_fault least.old) (keys_faults (value_faults (seen_home home.entry)) (keys_of table) (map pair entries.now))) }

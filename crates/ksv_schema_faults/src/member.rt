@@ -14,7 +14,7 @@ use crate::fault::{DescFault, DescFaultKind, note, note_if};
 use crate::home::Home;
 use crate::mapping::note_keys;
 use crate::together::{note_field_rules, note_missing_if, note_value_rules};
-use ksv_schema_keys::{Table, is_id};
+use ksv_schema_keys::{MappingKind, is_id};
 use ksv_schema_scope::keys::{entries_in, has, says};
 use ksv_schema_scope::{Member, Role, Scopes};
 use ksv_yaml_tree::{Entry, find};
@@ -45,8 +45,8 @@ fn home_of<'a>(scopes: &'a Scopes<'a>, member: &Member, entries: &[Entry]) -> Ho
 {
     Home {
         scopes,
-        within: member.within(),
-        in_sequence: is_attribute(member.role()),
+        within: member.within,
+        in_sequence: is_attribute(member.role),
         is_repeated: is_repeated(entries),
     }
 }
@@ -62,7 +62,7 @@ fn note_parameter(
 ) -> Result<(), AllocError>
     ensures { OnOk result (seen_fault least.new ≡ noted (seen_fault least.old) (parameter_faults (seen_home home.entry) line (map pair entries.now))) }
 {
-    note_keys(alloc, least, home, Table::Parameter, entries)?;
+    note_keys(alloc, least, home, MappingKind::Parameter, entries)?;
     let has_id = has(entries, b"id");
     note_missing_if(least, !has_id, line);
     Ok(())
@@ -79,7 +79,7 @@ fn note_attribute(
 ) -> Result<(), AllocError>
     ensures { OnOk result (seen_fault least.new ≡ noted (seen_fault least.old) (attribute_faults (seen_home home.entry) line (map pair entries.now))) }
 {
-    note_keys(alloc, least, home, Table::Attribute, entries)?;
+    note_keys(alloc, least, home, MappingKind::Attribute, entries)?;
     note_field_rules(alloc, least, home, line, entries)
 }
 
@@ -96,15 +96,15 @@ fn note_instance(
     ensures { OnOk result (seen_fault least.new ≡ noted (seen_fault least.old) (instance_faults (seen_home home.entry) name_line line (map pair entries.now))) }
 {
     if has(entries, b"value") {
-        note_keys(alloc, least, home, Table::Value, entries)?;
+        note_keys(alloc, least, home, MappingKind::Value, entries)?;
         note_value_rules(least, entries);
         return Ok(());
     }
     if has(entries, b"pos") {
-        note_keys(alloc, least, home, Table::Positioned, entries)?;
+        note_keys(alloc, least, home, MappingKind::ParseInstance, entries)?;
         return note_field_rules(alloc, least, home, line, entries);
     }
-    note_keys(alloc, least, home, Table::Positioned, entries)?;
+    note_keys(alloc, least, home, MappingKind::ParseInstance, entries)?;
     note(least, name_line, DescFaultKind::LeftOut);
     Ok(())
 }
@@ -141,16 +141,8 @@ fn note_mapping<'a>(
     ensures { OnOk result (seen_fault least.new ≡ noted (seen_fault least.old) (mapping_faults (declared scopes.now) (member_of member.now) (map pair entries.now))) }
 {
     let home = home_of(scopes, member, entries);
-    let line = member.value().line();
-    note_role(
-        alloc,
-        least,
-        member.role(),
-        home,
-        member.line(),
-        line,
-        entries,
-    )
+    let line = member.value.line();
+    note_role(alloc, least, member.role, home, member.line, line, entries)
 }
 
 fn is_instance(role: Role) -> bool
@@ -168,12 +160,12 @@ fn is_instance(role: Role) -> bool
 fn name_line(member: &Member) -> usize
     ensures { result ≡ name_line (member_of member.now) }
 {
-    if is_instance(member.role()) {
-        return member.line();
+    if is_instance(member.role) {
+        return member.line;
     }
-    match find(entries_in(member.value()), b"id") {
+    match find(entries_in(member.value), b"id") {
         Some(entry) => entry.line(),
-        None => member.line(),
+        None => member.line,
     }
 }
 
@@ -193,7 +185,7 @@ fn note_member_again(least: &mut Option<DescFault>, scopes: &Scopes, number: usi
     ensures { seen_fault least.new ≡ noted (seen_fault least.old) (member_again (declared scopes.now) number (member_of member.now)) }
 {
     let has_name = !member.name().is_empty();
-    let is_first = is_at(number, scopes.member_named(member.within(), member.name()));
+    let is_first = is_at(number, scopes.member_named(member.within, member.name()));
     note_if(
         least,
         has_name & !is_first,
@@ -206,8 +198,8 @@ fn note_member_again(least: &mut Option<DescFault>, scopes: &Scopes, number: usi
 fn note_name_of_instance(least: &mut Option<DescFault>, member: &Member)
     ensures { seen_fault least.new ≡ noted (seen_fault least.old) (fault_if (is_instance (member_of member.now).role && not (is_id (member_of member.now).name)) (member_of member.now).line bad_value) }
 {
-    let is_bad = is_instance(member.role()) & !is_id(member.name());
-    note_if(least, is_bad, member.line(), DescFaultKind::BadValue);
+    let is_bad = is_instance(member.role) & !is_id(member.name());
+    note_if(least, is_bad, member.line, DescFaultKind::BadValue);
 }
 
 /// Notes the faults of a member, of this number among all members.
@@ -221,9 +213,9 @@ pub(crate) fn note_member<'a>(
 ) -> Result<(), AllocError>
     ensures { OnOk result (seen_fault least.new ≡ noted (seen_fault least.old) (member_faults (declared scopes.now) number (member_of member.now))) }
 {
-    match member.value().entries() {
+    match member.value.entries() {
         Some(entries) => note_mapping(alloc, least, scopes, member, entries)?,
-        None => note(least, member.line(), DescFaultKind::BadValue),
+        None => note(least, member.line, DescFaultKind::BadValue),
     }
     note_name_of_instance(least, member);
     note_member_again(least, scopes, number, member);

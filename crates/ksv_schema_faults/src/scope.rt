@@ -15,7 +15,7 @@ use crate::fault::{DescFault, DescFaultKind, note, note_if};
 use crate::home::home_in;
 use crate::mapping::note_plain_keys;
 use crate::together::{note_left_out_if, note_missing_if};
-use ksv_schema_keys::{Table, is_id};
+use ksv_schema_keys::{MappingKind, is_id};
 use ksv_schema_scope::Scopes;
 use ksv_schema_scope::keys::has;
 use ksv_yaml_tree::{Entry, Yaml, find};
@@ -33,7 +33,13 @@ fn note_meta_keys<'a>(
 ) -> Result<(), AllocError>
     ensures { OnOk result (seen_fault least.new ≡ noted (seen_fault least.old) (keys_faults (form_faults (home_in (declared scopes.now) number)) meta_keys (map pair entries.now) ++ missing_if (number == 0 && not (has (codes "id") (map pair entries.now))) line)) }
 {
-    note_plain_keys(alloc, least, home_in(scopes, number), Table::Meta, entries)?;
+    note_plain_keys(
+        alloc,
+        least,
+        home_in(scopes, number),
+        MappingKind::Meta,
+        entries,
+    )?;
     let has_id = has(entries, b"id");
     note_missing_if(least, (number == 0) & !has_id, line);
     Ok(())
@@ -93,7 +99,13 @@ fn note_type_keys<'a>(
 ) -> Result<(), AllocError>
     ensures { OnOk result (seen_fault least.new ≡ noted (seen_fault least.old) (keys_faults (form_faults (home_in (declared scopes.now) number)) type_keys (map pair entries.now) ++ meta_faults (declared scopes.now) number (entry_at (codes "meta") (map pair entries.now)) ++ (if number == 0 then root_faults line (map pair entries.now) else []))) }
 {
-    note_plain_keys(alloc, least, home_in(scopes, number), Table::Type, entries)?;
+    note_plain_keys(
+        alloc,
+        least,
+        home_in(scopes, number),
+        MappingKind::Type,
+        entries,
+    )?;
     note_meta(alloc, least, scopes, number, find(entries, b"meta"))?;
     note_if_root(least, number, line, entries);
     Ok(())

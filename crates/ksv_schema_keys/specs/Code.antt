@@ -17,10 +17,10 @@ use Rattle.ksv_schema_keys.specs.declared.values.CaseKey.TheVariants as case_key
 use Rattle.ksv_schema_keys.specs.Values.{TypeText, Unspelled, OfLanguage, OfDescription, is_integer, is_str, is_strz, is_of_description, Piece, Bytes, BadPiece, LeftOutPiece, names_in, CaseKey, Constant, Negative, Member, Default, NoKey}
 use Rattle.ksv_schema_keys.specs.declared.keys.Form.{Form as FormOfCode}
 use Rattle.ksv_schema_keys.specs.declared.keys.Form.TheVariants as form
-use Rattle.ksv_schema_keys.specs.declared.keys.Table.{Table}
-use Rattle.ksv_schema_keys.specs.declared.keys.Table.TheVariants as table
+use Rattle.ksv_schema_keys.specs.declared.keys.MappingKind.{MappingKind}
+use Rattle.ksv_schema_keys.specs.declared.keys.MappingKind.TheVariants as table
 use Rattle.ksv_schema_keys.specs.Keys as forms
-use Rattle.ksv_schema_keys.specs.Keys.{Form, Key, flag, type_keys, meta_keys, parameter_keys, attribute_keys, positioned_keys, value_keys, switch_keys, constant_keys}
+use Rattle.ksv_schema_keys.specs.Keys.{Form, Key, flag, type_keys, meta_keys, parameter_keys, attribute_keys, parse_instance_keys, value_keys, switch_keys, constant_keys}
 
 -- ---- keys
 
@@ -48,12 +48,12 @@ abbrev pub seen_form : Option FormOfCode → Option Form
 seen_form o = option_map form_of o
 
 -- the keys of a mapping
-abbrev pub keys_of : Table → List Key
+abbrev pub keys_of : MappingKind → List Key
 keys_of table.Type = type_keys
 keys_of table.Meta = meta_keys
 keys_of table.Parameter = parameter_keys
 keys_of table.Attribute = attribute_keys
-keys_of table.Positioned = positioned_keys
+keys_of table.ParseInstance = parse_instance_keys
 keys_of table.Value = value_keys
 keys_of table.Switch = switch_keys
 keys_of table.Constant = constant_keys

@@ -108,8 +108,8 @@ abbrev pub attribute_keys : List Key
 attribute_keys = key (codes "id") Id ∷ field_keys
 
 -- an instance with a place of its own
-abbrev pub positioned_keys : List Key
-positioned_keys =
+abbrev pub parse_instance_keys : List Key
+parse_instance_keys =
     key (codes "pos") (Expression sites.Place) ∷
     key (codes "io") (Expression sites.Stream) ∷ field_keys
 

@@ -2,7 +2,7 @@
 
 ghost use Rattle.std.specs.Prelude.{◌≡◌, drop};
 ghost use Rattle.std.specs.List.{list_all};
-ghost use Rattle.ksv_schema_keys.specs.Keys.{type_keys, meta_keys, parameter_keys, field_keys, attribute_keys, positioned_keys, value_keys, switch_keys, constant_keys, form_in, is_letter, is_id_byte, is_id};
+ghost use Rattle.ksv_schema_keys.specs.Keys.{type_keys, meta_keys, parameter_keys, field_keys, attribute_keys, parse_instance_keys, value_keys, switch_keys, constant_keys, form_in, is_letter, is_id_byte, is_id};
 ghost use Rattle.ksv_schema_keys.specs.Code.{seen_form, keys_of};
 
 use ksv_schema_names::Site;
@@ -50,7 +50,7 @@ pub enum Form {
 
 /// A mapping of fixed keys.
 #[derive(Clone, Copy)]
-pub enum Table {
+pub enum MappingKind {
     /// A type.
     Type,
     /// The key `meta` of a type.
@@ -60,7 +60,7 @@ pub enum Table {
     /// An attribute of a `seq`.
     Attribute,
     /// An instance with a place of its own.
-    Positioned,
+    ParseInstance,
     /// An instance with a value.
     Value,
     /// The key `type` of an attribute, where it is a mapping.
@@ -71,18 +71,18 @@ pub enum Table {
 
 /// What stands at a key, where the table has it.
 #[tactic(auto, unfolding(crate::specs::Keys::form_in))]
-pub fn form_in(table: Table, key: &[u8]) -> Option<Form>
+pub fn form_in(table: MappingKind, key: &[u8]) -> Option<Form>
     ensures { seen_form result ≡ form_in (keys_of table) key.now }
 {
     match table {
-        Table::Type => type_form(key),
-        Table::Meta => meta_form(key),
-        Table::Parameter => parameter_form(key),
-        Table::Attribute => attribute_form(key),
-        Table::Positioned => positioned_form(key),
-        Table::Value => value_form(key),
-        Table::Switch => switch_form(key),
-        Table::Constant => constant_form(key),
+        MappingKind::Type => type_form(key),
+        MappingKind::Meta => meta_form(key),
+        MappingKind::Parameter => parameter_form(key),
+        MappingKind::Attribute => attribute_form(key),
+        MappingKind::ParseInstance => parse_instance_form(key),
+        MappingKind::Value => value_form(key),
+        MappingKind::Switch => switch_form(key),
+        MappingKind::Constant => constant_form(key),
     }
 }
 
@@ -252,8 +252,8 @@ fn attribute_form(key: &[u8]) -> Option<Form>
 }
 
 #[tactic(auto, unfolding(crate::specs::Keys::form_in))]
-fn positioned_form(key: &[u8]) -> Option<Form>
-    ensures { seen_form result ≡ form_in positioned_keys key.now }
+fn parse_instance_form(key: &[u8]) -> Option<Form>
+    ensures { seen_form result ≡ form_in parse_instance_keys key.now }
 {
     if key == b"pos".as_slice() {
         Some(Form::Expression(Site::Place))

@@ -1,7 +1,6 @@
 //! A member of a type.
 
 ghost use Rattle.std.specs.Prelude.{◌≡◌};
-ghost use Rattle.ksv_yaml_tree.specs.View.{view};
 ghost use Rattle.ksv_schema_scope.specs.MemberRows.{member_of};
 
 use ksv_yaml_tree::Yaml;
@@ -29,35 +28,18 @@ pub(crate) enum MemberName<'a> {
 /// A parameter, attribute or instance of a type.
 #[derive(Drop)]
 pub struct Member<'a> {
-    pub(crate) within: usize,
-    pub(crate) role: Role,
-    pub(crate) line: usize,
+    /// The number of the type whose member it is.
+    pub within: usize,
+    /// Where it stands.
+    pub role: Role,
+    /// Its first line; of an instance that of its name.
+    pub line: usize,
     pub(crate) name: MemberName<'a>,
-    pub(crate) value: &'a Yaml,
+    /// What it says.
+    pub value: &'a Yaml,
 }
 
 impl<'a> Member<'a> {
-    /// The number of the type whose member it is.
-    pub fn within(&self) -> usize
-        ensures { result ≡ (member_of self.now).within }
-    {
-        self.within
-    }
-
-    /// Where it stands.
-    pub fn role(&self) -> Role
-        ensures { result ≡ (member_of self.now).role }
-    {
-        self.role
-    }
-
-    /// Its first line; of an instance that of its name.
-    pub fn line(&self) -> usize
-        ensures { result ≡ (member_of self.now).line }
-    {
-        self.line
-    }
-
     /// Its name: `_unnamedK` for an attribute without an id, and the empty text for a parameter without one.
     pub fn name(&self) -> &[u8]
         ensures { result.now ≡ (member_of self.now).name }
@@ -66,12 +48,5 @@ impl<'a> Member<'a> {
             MemberName::Written(name) => name,
             MemberName::Made(name) => name.as_str().as_bytes(),
         }
-    }
-
-    /// What it says.
-    pub fn value(&self) -> &'a Yaml
-        ensures { view result.now ≡ (member_of self.now).value }
-    {
-        self.value
     }
 }

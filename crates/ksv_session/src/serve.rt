@@ -9,7 +9,7 @@ ghost use Rattle.ksv_session.specs.Runs.{Ended, Fed, Stands};
 use crate::session::{NewFault, Session};
 use ksv_bytes::Buffer;
 use ksv_desc::Desc;
-use ksv_lines::{Failed, Line, Sink, Source, send};
+use ksv_lines::{Failed, LineBuffer, Sink, Source, send};
 use std::alloc::Global;
 
 /// Why a session ended.
@@ -44,7 +44,7 @@ fn answer_line<W: Sink>(session: &mut Session, line: &[u8], writer: &mut W) -> R
 /// Takes a piece of the input, answers each line that it ends, and says whether the session ended.
 fn feed<W: Sink>(
     session: &mut Session,
-    line: &mut Line,
+    line: &mut LineBuffer,
     piece: &[u8],
     writer: &mut W,
 ) -> Result<bool, Failed>
@@ -70,7 +70,7 @@ fn feed<W: Sink>(
 }
 
 /// Answers what stands behind the last LF.
-fn finish<W: Sink>(session: &mut Session, line: &Line, writer: &mut W) -> End
+fn finish<W: Sink>(session: &mut Session, line: &LineBuffer, writer: &mut W) -> End
     requires { W.failed writer.old ≡ false }
     ensures goes { (d : Description) (begin taken before : List ℕ) → description_of session.old ≡ d
         → Stands d begin taken session.old.bytes line.now W.tells before (W.bytes writer.old)
@@ -96,7 +96,7 @@ fn serve<R: Source, W: Sink>(reader: &mut R, writer: &mut W, session: &mut Sessi
         → 2 ^ 64 - 1 + length (R.bytes reader.new) ≤ length (R.bytes reader.old) }
     ensures write_fault { IsTrue (W.failed writer.new) ↔ (result ≡ End.WriteFailed) }
 {
-    let mut line = Line::new();
+    let mut line = LineBuffer::new();
     let mut piece = [0u8; PIECE_ROOM];
     for turn in 0..u64::MAX {
         let count = match reader.read(&mut piece) {

@@ -15,7 +15,7 @@ use itoa::Buffer as Digits;
 use ksv_bytes::{Buffer, Window};
 use ksv_desc::Desc;
 use ksv_expr_value::{Fault, FaultKind, Integer, Path, Step, Text, Value};
-use ksv_rules::{Described, Given, Head, Kind, Node};
+use ksv_rules::{Described, Given, Head, Node, NodeKind};
 use serde_json::Value as Json;
 use std::alloc::{AllocError, Global};
 
@@ -181,7 +181,7 @@ fn asked_object_text(
     ensures { ComesTo (with_given (answered (plain_pieces described.now.desc) buffer.now (head_node object.now)) (of_head (plain_pieces described.now.desc) path.now)) (λ text. string_bytes text) result }
 {
     let node = Node {
-        kind: Kind::Head,
+        kind: NodeKind::Head,
         path: object.copy(alloc)?,
     };
     let given = ask(alloc, described, buffer, node)?;
@@ -203,7 +203,7 @@ fn asked_list_text(
         return Err(fault_at(alloc, list, FaultKind::PathTooLong));
     };
     let node = Node {
-        kind: Kind::Rest,
+        kind: NodeKind::Rest,
         path: first,
     };
     let given = ask(alloc, described, buffer, node)?;
@@ -263,7 +263,7 @@ fn told_text(
     ensures { ComesTo (told_at (plain_pieces described.now.desc) buffer.now path.now) (λ text. string_bytes text) result }
 {
     let node = Node {
-        kind: Kind::Value,
+        kind: NodeKind::Value,
         path: path.copy(alloc)?,
     };
     let given = ask(alloc, described, buffer, node)?;

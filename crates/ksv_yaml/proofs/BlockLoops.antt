@@ -18,7 +18,7 @@ use Rattle.ksv_yaml_scan.proofs.Choices.{at_true, at_false, pick_true, pick_fals
 use Rattle.ksv_yaml_scan.specs.declared.line.Line.{Line as CodeLine}
 use Rattle.ksv_yaml_scan.specs.Got.{Got, got, ◌>>=◌}
 use Rattle.ksv_yaml_scan.specs.Lines.{Line, is_quiet, loud}
-use Rattle.ksv_yaml_scan.specs.Starts.{Kind, Dashed, Start, Nothing, Dash, Key, Inline, Refused, start_of, is_dash, is_key}
+use Rattle.ksv_yaml_scan.specs.Starts.{InlineKind, Dashed, Start, Nothing, Dash, Key, Inline, Refused, start_of, is_dash, is_key}
 use Rattle.ksv_yaml_scan.specs.Views.{lines_view}
 
 -- ---- what is left is no more than what there was
@@ -38,7 +38,7 @@ behind_lighter (l ∷ xs) ys = let h = behind_lighter xs ys in omega arith
 took_lighter : {P : List Line → Type 0} (ls rest : List Line) → Took Line ls rest P → weight rest ≤ weight ls
 took_lighter ls rest t = let h = behind_lighter t.front rest in let e = ap weight t.cut in omega arith
 
-pub inline_lighter : (d n : ℕ) (k : Kind) (l : Line) (ls : List Line) (r : Result (Yaml × Bor (List CodeLine)) ReadFault) → GivesInline d n k l ls r → IfOk r (λ x. weight (lines_view x.1.now) ≤ weight ls)
+pub inline_lighter : (d n : ℕ) (k : InlineKind) (l : Line) (ls : List Line) (r : Result (Yaml × Bor (List CodeLine)) ReadFault) → GivesInline d n k l ls r → IfOk r (λ x. weight (lines_view x.1.now) ≤ weight ls)
 inline_lighter d n k l ls (Ok x) h = took_lighter ls (lines_view x.1.now) (inlined_sound d n k l ls (record { value = view x.0; rest = lines_view x.1.now }) h)
 inline_lighter d n k l ls (Err e) h = tt
 
@@ -100,7 +100,7 @@ node_entries {d} {n} {l} {ls} key behind o e d0 r = record {
 pub node_entries_limit : {d n : ℕ} {l : Line} {ls : List Line} (key behind : List ℕ) → start_of l.content ≡ Key key behind → d ≡ 0 → NodeIs d n l ls None
 node_entries_limit {d} {n} {l} {ls} key behind e d0 = record { is = λ f g. let i = node_start d n l ls (Key key behind) e f (omega arith) in i.2 ∙ deeper_none d _ d0 }
 
-pub node_inline : {d n : ℕ} {l : Line} {ls : List Line} (k : Kind) (o : Option (Got Line Tree)) → start_of l.content ≡ Inline k → inlined d n k l ls ≡ o → NodeIs d n l ls o
+pub node_inline : {d n : ℕ} {l : Line} {ls : List Line} (k : InlineKind) (o : Option (Got Line Tree)) → start_of l.content ≡ Inline k → inlined d n k l ls ≡ o → NodeIs d n l ls o
 node_inline {d} {n} {l} {ls} k o e r = record { is = λ f g. let i = node_start d n l ls (Inline k) e f (omega arith) in i.2 ∙ r }
 
 pub node_nothing : {d n : ℕ} {l : Line} {ls : List Line} → start_of l.content ≡ Nothing → NodeIs d n l ls None
@@ -446,7 +446,7 @@ items_on {d} {m} so_far all l ls k t left n ns z e s zn en h w now v = record {
 
 -- ---- on the entry's own line
 
-pub here_read : (d : ℕ) (l : Line) (behind : List ℕ) (ls : List Line) (k : Kind) (r : Result (Yaml × Bor (List CodeLine)) ReadFault) → start_of behind ≡ Inline k → GivesInline d (l.indent + 1) k (from_here l behind) ls r → GivesHere d l behind ls r
+pub here_read : (d : ℕ) (l : Line) (behind : List ℕ) (ls : List Line) (k : InlineKind) (r : Result (Yaml × Bor (List CodeLine)) ReadFault) → start_of behind ≡ Inline k → GivesInline d (l.indent + 1) k (from_here l behind) ls r → GivesHere d l behind ls r
 here_read d l behind ls k r e h =
     let s : suc l.indent ≡ l.indent + 1 = omega arith in
     gives_on (λ (o : Option (Got Line Tree)). inlined d (l.indent + 1) k (from_here l behind) ls ≡ o) (λ (o : Option (Got Line Tree)). value_here (start_of behind) d l behind ls ≡ o) view lines_view r

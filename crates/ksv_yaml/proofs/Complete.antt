@@ -7,7 +7,7 @@ use Rattle.ksv_yaml.specs.Grammar.{AreQuiet, Inlined, at_column, from_here, Node
 use Rattle.ksv_yaml.specs.Reading.{is_among, node, node_by, entries, entries_by, more_entries, value, value_below, value_here, items, items_by, more_items, item_at, item_below, weight, unless_level}
 use Rattle.ksv_yaml_scan.specs.Got.{Got, got, ◌>>=◌}
 use Rattle.ksv_yaml_scan.specs.Lines.{Line, is_nil, shown, is_quiet, loud}
-use Rattle.ksv_yaml_scan.specs.Starts.{Kind, Dashed, Start, Nothing, Dash, Key, dash_of, key_of, kind_of, start_by, start_of, is_dash, is_key}
+use Rattle.ksv_yaml_scan.specs.Starts.{InlineKind, Dashed, Start, Nothing, Dash, Key, dash_of, key_of, kind_of, start_by, start_of, is_dash, is_key}
 use Rattle.ksv_yaml.proofs.Steps.{one_less, two_less, Loud, loud_behind}
 use Rattle.ksv_yaml_scan.proofs.Choices.{pick_true, pick_false, and_true, and_first, and_second}
 use Rattle.ksv_yaml.proofs.Distinct.{AreClear, distinct_clear}
@@ -47,7 +47,7 @@ abbrev IsLoud : Start → Type 0
 IsLoud Nothing = ⊥
 IsLoud s = Unit {0}
 
-loud_start : (b : Bool) (o : Option Dashed) (k : Option (List ℕ × List ℕ)) (i : Option Kind) → IsLoud (start_by b o k i) → b ≡ false
+loud_start : (b : Bool) (o : Option Dashed) (k : Option (List ℕ × List ℕ)) (i : Option InlineKind) → IsLoud (start_by b o k i) → b ≡ false
 loud_start true o k i h = absurd h
 loud_start false o k i h = refl
 
@@ -297,7 +297,7 @@ ok_level {d} l h {ls} {is} xs ys split q el o = record {
     items_as : (f d m : ℕ) (rest : List Line) {a b : Line} {us bs : List Line} → a ∷ us ≡ b ∷ bs → items f d m a (us ++ rest) ≡ items f d m b (bs ++ rest)
     items_as f d m rest {a} {b} {us} {bs} h = ap (λ (a : Line). items f d m a (us ++ rest)) (head_is h) ∙ ap (λ (us : List Line). items f d m b (us ++ rest)) (tail_is h)
 
-ok_here : {d : ℕ} (c : ℕ) (l : Line) (cs : List ℕ) {ls : List Line} {k : Kind} {t : Tree} → kind_of (c ∷ cs) ≡ Some k → Inlined d (suc l.indent) k (from_here l (c ∷ cs)) ls t → ValueOk d l (c ∷ cs) ls t
+ok_here : {d : ℕ} (c : ℕ) (l : Line) (cs : List ℕ) {ls : List Line} {k : InlineKind} {t : Tree} → kind_of (c ∷ cs) ≡ Some k → Inlined d (suc l.indent) k (from_here l (c ∷ cs)) ls t → ValueOk d l (c ∷ cs) ls t
 ok_here {d} c l cs {ls} {k} e0 w =
     let e = kind_start (c ∷ cs) k e0 in
     record {
@@ -338,7 +338,7 @@ ok_compact {d} k c l cs {ls} {t} o = record {
     node_as : (f d m : ℕ) (rest : List Line) {a b : Line} {us bs : List Line} → a ∷ us ≡ b ∷ bs → node f d m a (us ++ rest) ≡ node f d m b (bs ++ rest)
     node_as f d m rest {a} {b} {us} {bs} h = ap (λ (a : Line). node f d m a (us ++ rest)) (head_is h) ∙ ap (λ (us : List Line). node f d m b (us ++ rest)) (tail_is h)
 
-ok_tabbed : {d : ℕ} (k c : ℕ) (l : Line) (cs : List ℕ) {ls : List Line} {i : Kind} {t : Tree} → kind_of (c ∷ cs) ≡ Some i → Inlined d (suc l.indent) i (from_here l (c ∷ cs)) ls t → ItemOk d l k true (c ∷ cs) ls t
+ok_tabbed : {d : ℕ} (k c : ℕ) (l : Line) (cs : List ℕ) {ls : List Line} {i : InlineKind} {t : Tree} → kind_of (c ∷ cs) ≡ Some i → Inlined d (suc l.indent) i (from_here l (c ∷ cs)) ls t → ItemOk d l k true (c ∷ cs) ls t
 ok_tabbed {d} k c l cs {ls} {i} e0 w =
     let e = kind_start (c ∷ cs) i e0 in
     record {
@@ -351,7 +351,7 @@ ok_tabbed {d} k c l cs {ls} {i} e0 w =
 
 -- ---- nodes
 
-ok_inline : {d n : ℕ} {l : Line} {ls : List Line} {k : Kind} {t : Tree} → n ≤ l.indent → kind_of l.content ≡ Some k → Inlined d n k l ls t → NodeOk d n (l ∷ ls) t
+ok_inline : {d n : ℕ} {l : Line} {ls : List Line} {k : InlineKind} {t : Tree} → n ≤ l.indent → kind_of l.content ≡ Some k → Inlined d n k l ls t → NodeOk d n (l ∷ ls) t
 ok_inline {d} {n} {l} {ls} {k} deep e0 w =
     let e = kind_start l.content k e0 in
     record {

@@ -10,7 +10,7 @@ use Rattle.ksv_yaml_scan.specs.Blocks.{is_blank, block_text, is_inner}
 use Rattle.ksv_yaml_scan.specs.Got.{Got, got, ◌>>=◌}
 use Rattle.ksv_yaml_scan.specs.Lines.{Line, is_nil, shown, is_quiet, is_within, loud, front, behind}
 use Rattle.ksv_yaml_scan.specs.Plain.{more_of, line_on, goes_on}
-use Rattle.ksv_yaml_scan.specs.Starts.{Kind}
+use Rattle.ksv_yaml_scan.specs.Starts.{InlineKind}
 use Rattle.ksv_yaml_scan.specs.Tokens.{Token, tokens_of}
 use Rattle.ksv_yaml.proofs.Steps.{Loud, loud_behind}
 use Rattle.ksv_yaml_scan.proofs.Choices.{at_true, at_false, or_false}
@@ -98,7 +98,7 @@ stops_within n (l ∷ ls) h = or_false (is_quiet l) (nat_le n l.indent) h.0 (not
 
 -- ---- all kinds
 
-pub inlined_complete : {d n : ℕ} {k : Kind} {l : Line} {ls : List Line} {t : Tree} → Inlined d n k l ls t → (rest : List Line) → Before n rest → inlined d n k l (ls ++ rest) ≡ got t rest
+pub inlined_complete : {d n : ℕ} {k : InlineKind} {l : Line} {ls : List Line} {t : Tree} → Inlined d n k l ls t → (rest : List Line) → Before n rest → inlined d n k l (ls ++ rest) ≡ got t rest
 inlined_complete {l = l} (plain {text = text} g) rest h = ap (λ (o : Option (Got Line (List ℕ))). o >>= λ r. got (Text l.number false (text ++ r.value)) r.rest) (goes_on_complete g rest h)
 inlined_complete {n = n} {l = l} (quoted {ls = ls} {text = text} q) rest h = ap (λ (r : List Line). got (Text l.number true text) r) (loud_behind ls rest q (before_loud n rest h))
 inlined_complete {n = n} {l = l} (block {ls = ls} {fold = fold} {keep = keep} {text = text} xs ys split a v q e) rest h =

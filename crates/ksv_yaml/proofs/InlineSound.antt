@@ -10,7 +10,7 @@ use Rattle.ksv_yaml_scan.specs.Blocks.{block_text, is_inner}
 use Rattle.ksv_yaml_scan.specs.Got.{Got, got, ◌>>=◌}
 use Rattle.ksv_yaml_scan.specs.Lines.{Line, is_quiet, is_within, loud, front, behind}
 use Rattle.ksv_yaml_scan.specs.Plain.{more_of, line_on, goes_on}
-use Rattle.ksv_yaml_scan.specs.Starts.{Kind, Plain, Quoted, Block, Flowing}
+use Rattle.ksv_yaml_scan.specs.Starts.{InlineKind, Plain, Quoted, Block, Flowing}
 use Rattle.ksv_yaml_scan.specs.Tokens.{Token, tokens_of}
 use Rattle.ksv_yaml.specs.Flow.{Flow}
 use Rattle.ksv_yaml.proofs.Steps.{bind_some, at_got, Took, took_none, took_as, took_first, loud_took}
@@ -88,7 +88,7 @@ all_some : (t : Tree) (us : List Token) (ls : List Line) (x : Got Line Tree) →
 all_some t [] ls x h = (refl, h)
 all_some t (u ∷ us) ls x h = absurd cc
 
-pub inlined_sound : (d n : ℕ) (k : Kind) (l : Line) (ls : List Line) (x : Got Line Tree) → inlined d n k l ls ≡ Some x → Took Line ls x.rest (λ xs. Inlined d n k l xs x.value)
+pub inlined_sound : (d n : ℕ) (k : InlineKind) (l : Line) (ls : List Line) (x : Got Line Tree) → inlined d n k l ls ≡ Some x → Took Line ls x.rest (λ xs. Inlined d n k l xs x.value)
 inlined_sound d n (Plain text c) l ls x h =
     let r = bind_some (goes_on n c ls) (λ r. got (Text l.number false (text ++ r.value)) r.rest) x h in
     at_got (λ (x : Got Line Tree). Took Line ls x.rest (λ xs. Inlined d n (Plain text c) l xs x.value)) (Text l.number false (text ++ r.0.value)) r.0.rest x r.2 (took_as _ (λ xs g. plain g) (goes_on_sound n c ls r.0 r.1))

@@ -7,7 +7,7 @@ use Rattle.ksv_yaml.specs.Grammar.{AreQuiet, at_column, from_here, Node, map, se
 use Rattle.ksv_yaml.specs.Reading.{deeper, is_among, inlined, unless_level, node, node_by, entries, entries_by, more_entries, value, value_below, value_here, items, items_by, more_items, item_at, item_below}
 use Rattle.ksv_yaml_scan.specs.Got.{Got, got, ◌>>=◌}
 use Rattle.ksv_yaml_scan.specs.Lines.{Line, shown, columns, has_tab, white_or_end, loud}
-use Rattle.ksv_yaml_scan.specs.Starts.{Kind, Dashed, Start, Nothing, Dash, Key, Inline, Refused, dash_of, key_of, start_of, is_dash, is_key}
+use Rattle.ksv_yaml_scan.specs.Starts.{InlineKind, Dashed, Start, Nothing, Dash, Key, Inline, Refused, dash_of, key_of, start_of, is_dash, is_key}
 use Rattle.ksv_yaml.proofs.Steps.{bind_some, deeper_some, at_got, Took, took_as, took_then, took_first, loud_took}
 use Rattle.ksv_yaml_scan.proofs.Choices.{picked, pick_guard, both_true}
 use Rattle.ksv_yaml.proofs.Distinct.{AreClear, clear_distinct}
@@ -47,7 +47,7 @@ level_some : {A : Type 0} (m : ℕ) (ls : List Line) (o : Option A) (x : A) → 
 level_some m [] o x h = h
 level_some m (l ∷ ls) o x h = elim (picked (nat_lt l.indent m) o None (Some x) h) [ inl a ↦ a.1 | inr a ↦ absurd cc ]
 
-here_some : (b : Start) (d : ℕ) (l : Line) (cs : List ℕ) (ls : List Line) (x : Got Line Tree) → value_here b d l cs ls ≡ Some x → (k : Kind) × (b ≡ Inline k) × (inlined d (suc l.indent) k (from_here l cs) ls ≡ Some x)
+here_some : (b : Start) (d : ℕ) (l : Line) (cs : List ℕ) (ls : List Line) (x : Got Line Tree) → value_here b d l cs ls ≡ Some x → (k : InlineKind) × (b ≡ Inline k) × (inlined d (suc l.indent) k (from_here l cs) ls ≡ Some x)
 here_some (Inline k) d l cs ls x h = (k, refl, h)
 here_some b d l cs ls x h = absurd cc
 

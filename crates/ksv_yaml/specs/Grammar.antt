@@ -8,7 +8,7 @@ use Rattle.ksv_yaml_tree.specs.Tree.{Tree, Text, Seq, Map, Items, no_items, item
 use Rattle.ksv_yaml_scan.specs.Blocks.{is_inner, block_text}
 use Rattle.ksv_yaml_scan.specs.Lines.{Line, is_quiet, is_within}
 use Rattle.ksv_yaml_scan.specs.Plain.{more_of}
-use Rattle.ksv_yaml_scan.specs.Starts.{Kind, Plain, Quoted, Block, Flowing, Dashed, dash_of, key_of, kind_of}
+use Rattle.ksv_yaml_scan.specs.Starts.{InlineKind, Plain, Quoted, Block, Flowing, Dashed, dash_of, key_of, kind_of}
 use Rattle.ksv_yaml_scan.specs.Tokens.{Token, tokens_of}
 use Rattle.ksv_yaml.specs.Flow.{Flow}
 
@@ -38,7 +38,7 @@ pub data GoesOn : ℕ → Bool → List Line → List ℕ → Type 0 where
   goes : {n : ℕ} {c : Bool} {l : Line} {ls : List Line} {text rest : List ℕ} → is_quiet l ≡ false → n ≤ l.indent → more_of l.content ≡ Some (text, c) → GoesOn n c ls rest → GoesOn n false (l ∷ ls) (32 ∷ (text ++ rest))
 
 -- a scalar or flow node that begins on the line and goes on over others, none of which stands before column n; at most d flow nodes stand in each other
-pub data Inlined : ℕ → ℕ → Kind → Line → List Line → Tree → Type 0 where
+pub data Inlined : ℕ → ℕ → InlineKind → Line → List Line → Tree → Type 0 where
   -- a plain scalar, over one line or several (7.3.3)
   plain : {d n : ℕ} {l : Line} {ls : List Line} {c : Bool} {text rest : List ℕ} → GoesOn n c ls rest → Inlined d n (Plain text c) l ls (Text l.number false (text ++ rest))
   -- a quoted scalar, on one line (7.3.1, 7.3.2; over several lines it is left out)
@@ -65,7 +65,7 @@ mutual
     -- a block sequence (8.2.1)
     seq : {d n : ℕ} {l : Line} {ls : List Line} {is : Items} → n ≤ l.indent → Sequence d l.indent (l ∷ ls) is → Node (suc d) n (l ∷ ls) (Seq l.number is)
     -- a scalar or flow node (8.2.3)
-    inline : {d n : ℕ} {l : Line} {ls : List Line} {k : Kind} {t : Tree} → n ≤ l.indent → kind_of l.content ≡ Some k → Inlined d n k l ls t → Node d n (l ∷ ls) t
+    inline : {d n : ℕ} {l : Line} {ls : List Line} {k : InlineKind} {t : Tree} → n ≤ l.indent → kind_of l.content ≡ Some k → Inlined d n k l ls t → Node d n (l ∷ ls) t
 
   -- the entries of a mapping, each beginning at its indentation with a key and a colon
   pub data Mapping : ℕ → ℕ → List Line → Entries → Type 0 where
@@ -81,7 +81,7 @@ mutual
     -- a sequence at the key's own indentation (8.2.1)
     level : {d : ℕ} {l h : Line} {ls : List Line} {is : Items} (xs ys : List Line) → ls ≡ xs ++ h ∷ ys → AreQuiet xs → h.indent ≡ l.indent → Sequence d l.indent (h ∷ ys) is → Value (suc d) l [] ls (Seq h.number is)
     -- a scalar or flow node on the key's line
-    here : {d c : ℕ} {l : Line} {cs : List ℕ} {ls : List Line} {k : Kind} {t : Tree} → kind_of (c ∷ cs) ≡ Some k → Inlined d (suc l.indent) k (from_here l (c ∷ cs)) ls t → Value d l (c ∷ cs) ls t
+    here : {d c : ℕ} {l : Line} {cs : List ℕ} {ls : List Line} {k : InlineKind} {t : Tree} → kind_of (c ∷ cs) ≡ Some k → Inlined d (suc l.indent) k (from_here l (c ∷ cs)) ls t → Value d l (c ∷ cs) ls t
 
   -- the items of a sequence, each beginning at its indentation with a dash
   pub data Sequence : ℕ → ℕ → List Line → Items → Type 0 where
@@ -97,7 +97,7 @@ mutual
     -- a node on the dash's line (8.2.1, compact forms): the rest of the line, with the dash as a space
     compact : {d k c : ℕ} {l : Line} {cs : List ℕ} {ls : List Line} {t : Tree} → Node d (suc l.indent) (at_column l k (c ∷ cs) ∷ ls) t → Item d l k false (c ∷ cs) ls t
     -- behind a tab only a scalar or flow node: tabs are no indentation (6.1)
-    tabbed : {d k c : ℕ} {l : Line} {cs : List ℕ} {ls : List Line} {i : Kind} {t : Tree} → kind_of (c ∷ cs) ≡ Some i → Inlined d (suc l.indent) i (from_here l (c ∷ cs)) ls t → Item d l k true (c ∷ cs) ls t
+    tabbed : {d k c : ℕ} {l : Line} {cs : List ℕ} {ls : List Line} {i : InlineKind} {t : Tree} → kind_of (c ∷ cs) ≡ Some i → Inlined d (suc l.indent) i (from_here l (c ∷ cs)) ls t → Item d l k true (c ∷ cs) ls t
 
 -- ---- the whole text
 

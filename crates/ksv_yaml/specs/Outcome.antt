@@ -13,7 +13,7 @@ use Rattle.ksv_yaml_scan.specs.declared.line.Line.{Line as CodeLine}
 use Rattle.ksv_yaml_scan.specs.declared.flow.Token.{Token as CodeToken}
 use Rattle.ksv_yaml_scan.specs.Got.{Got, got}
 use Rattle.ksv_yaml_scan.specs.Lines.{Line}
-use Rattle.ksv_yaml_scan.specs.Starts.{Kind, start_of}
+use Rattle.ksv_yaml_scan.specs.Starts.{InlineKind, start_of}
 use Rattle.ksv_yaml_scan.specs.Tokens.{Token, Close, CloseMap, Comma, Key}
 use Rattle.ksv_yaml_scan.specs.Views.{lines_view, tokens_view}
 
@@ -91,7 +91,7 @@ GivesFlowEntries d ts r = Gives (FlowEntriesIs d ts) (λ v. entries_of (map pair
 -- ---- blocks
 
 -- a function answered the scalar or flow node that reading finds
-abbrev pub GivesInline : ℕ → ℕ → Kind → Line → List Line → Result (Yaml × Bor (List CodeLine)) ReadFault → Type 0
+abbrev pub GivesInline : ℕ → ℕ → InlineKind → Line → List Line → Result (Yaml × Bor (List CodeLine)) ReadFault → Type 0
 GivesInline d n k l ls r = Gives (λ o. inlined d n k l ls ≡ o) view lines_view r
 
 -- a scalar or flow node behind a key, or behind a dash and a tab

@@ -8,7 +8,7 @@ use Rattle.ksv_yaml_scan.specs.Blocks.{block_text, is_inner}
 use Rattle.ksv_yaml_scan.specs.Got.{Got, got, ◌>>=◌}
 use Rattle.ksv_yaml_scan.specs.Lines.{Line, is_within, loud, front, behind}
 use Rattle.ksv_yaml_scan.specs.Plain.{goes_on}
-use Rattle.ksv_yaml_scan.specs.Starts.{Kind, Plain, Quoted, Block, Flowing, Start, Nothing, Dash, Key, Inline, Refused, start_of, is_dash, is_key}
+use Rattle.ksv_yaml_scan.specs.Starts.{InlineKind, Plain, Quoted, Block, Flowing, Start, Nothing, Dash, Key, Inline, Refused, start_of, is_dash, is_key}
 use Rattle.ksv_yaml_scan.specs.Tokens.{Token, Open, Close, OpenMap, CloseMap, Comma, Scalar, tokens_of}
 use Rattle.ksv_yaml_scan.specs.Tokens as parts
 
@@ -71,7 +71,7 @@ abbrev pub flow_in : ℕ → List Token → Option (Got Token Tree)
 flow_in d ts = flow (3 * length ts + 1) d ts
 
 -- a scalar or flow node that begins on a line
-abbrev pub inlined : ℕ → ℕ → Kind → Line → List Line → Option (Got Line Tree)
+abbrev pub inlined : ℕ → ℕ → InlineKind → Line → List Line → Option (Got Line Tree)
 inlined d n (Plain text c) l ls = goes_on n c ls >>= λ r. got (Text l.number false (text ++ r.value)) r.rest
 inlined d n (Quoted text) l ls = got (Text l.number true text) (loud ls)
 inlined d n (Block fold keep) l ls = block_text fold keep (front (is_inner n) ls) >>= λ text. got (Text l.number false text) (loud (behind (is_inner n) ls))

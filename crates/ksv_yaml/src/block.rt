@@ -1,7 +1,7 @@
 //! Blocks that are open, and lines that fit none of them.
 
 use crate::fault::{ReadFault, ReadKind, kind_of, no_memory};
-use ksv_yaml_scan::fault::{Fault, ScanError};
+use ksv_yaml_scan::fault::{ScanError, ScanFault};
 use ksv_yaml_scan::line::Line;
 use ksv_yaml_scan::start::{Start, is_dash, read_start};
 use std::alloc::Global;
@@ -18,7 +18,7 @@ pub(crate) struct Open<'o> {
 pub(crate) fn misplaced(alloc: Global, line: Line, kind: ReadKind) -> ReadFault {
     let kind = match read_start(alloc, line.content) {
         Err(ScanError::NoMemory) => return no_memory(),
-        Err(ScanError::Fault(Fault::NotClosed)) => ReadKind::NotClosed,
+        Err(ScanError::Fault(ScanFault::NotClosed)) => ReadKind::NotClosed,
         Err(ScanError::Fault(_)) => kind,
         Ok(_) => kind,
     };

@@ -3,7 +3,7 @@
 ghost use Rattle.std.specs.Prelude.{◌≡◌, true, false};
 ghost use Rattle.ksv_yaml.specs.Faults.{code_of, public_kind, wants_memory, lines_want};
 
-use ksv_yaml_scan::fault::{Fault, LineError, LineFault};
+use ksv_yaml_scan::fault::{LineError, LineFault, ScanFault};
 use std::alloc::{AllocError, AllocFailed};
 use thiserror::Error;
 
@@ -156,14 +156,14 @@ pub(crate) fn at_line(fault: LineFault) -> ReadFault
 }
 
 /// The kind of what the scanner found.
-pub(crate) fn kind_of(fault: Fault) -> ReadKind
+pub(crate) fn kind_of(fault: ScanFault) -> ReadKind
     ensures { wants_memory result ≡ false }
 {
     match fault {
-        Fault::Tab => ReadKind::Tab,
-        Fault::NotClosed => ReadKind::NotClosed,
-        Fault::Indentation => ReadKind::Indentation,
-        Fault::ValueForKey => ReadKind::ValueForKey,
-        Fault::LeftOut => ReadKind::LeftOut,
+        ScanFault::Tab => ReadKind::Tab,
+        ScanFault::NotClosed => ReadKind::NotClosed,
+        ScanFault::Indentation => ReadKind::Indentation,
+        ScanFault::ValueForKey => ReadKind::ValueForKey,
+        ScanFault::LeftOut => ReadKind::LeftOut,
     }
 }

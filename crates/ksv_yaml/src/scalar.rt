@@ -17,7 +17,7 @@ use ksv_yaml_scan::flow::flow_parts;
 use ksv_yaml_scan::line::Line;
 use ksv_yaml_scan::plain::continue_plain;
 use ksv_yaml_scan::quiet::{block_lines, flow_lines, skip_quiet};
-use ksv_yaml_scan::start::{Kind, Start, read_start};
+use ksv_yaml_scan::start::{InlineKind, Start, read_start};
 use ksv_yaml_tree::Yaml;
 use std::alloc::Global;
 
@@ -44,7 +44,7 @@ pub(crate) fn scalar<'a, 'b>(
     alloc: Global,
     depth: u32,
     floor: usize,
-    kind: Kind,
+    kind: InlineKind,
     first: Line<'a>,
     rest: &'b [Line<'a>],
     open: Option<&Open>,
@@ -52,17 +52,17 @@ pub(crate) fn scalar<'a, 'b>(
     ensures read { GivesInline depth floor (kind_view kind) (line_view first.entry) (lines_view rest.now) result }
 {
     match kind {
-        Kind::Plain { text, commented } => {
+        InlineKind::Plain { text, commented } => {
             let (text, left) = continue_plain(alloc, text, commented, floor, rest)?;
             Ok((make_text(first.number, false, text), left))
         }
-        Kind::Quoted { text } => Ok((make_text(first.number, true, text), skip_quiet(rest))),
-        Kind::Block { folded, keep } => {
+        InlineKind::Quoted { text } => Ok((make_text(first.number, true, text), skip_quiet(rest))),
+        InlineKind::Block { folded, keep } => {
             let (lines, behind) = block_lines(rest, floor);
             let text = block_scalar(alloc, folded, keep, lines)?;
             Ok((make_text(first.number, false, text), skip_quiet(behind)))
         }
-        Kind::Flow => flow(alloc, depth, floor, first, rest, open),
+        InlineKind::Flow => flow(alloc, depth, floor, first, rest, open),
     }
 }
 

@@ -5,26 +5,26 @@ use Rattle.std.proofs.lemmas.Bool.{eqb-true}
 use Rattle.ksv_yaml_scan.specs.Lines.{is_nil, is_white, skip, shown, is_clear, white_or_end}
 use Rattle.ksv_yaml_scan.specs.Plain.{is_bracket, is_special, starts_plain, Ending, Colon, Bracket, Comment, End, Run, stop, run_by, run, plain_of_run}
 use Rattle.ksv_yaml_scan.specs.Quoted.{Quote, quote_of}
-use Rattle.ksv_yaml_scan.specs.Starts.{Kind, Quoted, Flowing, Dashed, Dash, Key, Inline, Refused, starts_quote, dash_of, key_at_colon, key_of_quote, key_of_run, key_of, plain_kind, quoted_kind, block_kind, kind_of, start_by, start_of, is_dash}
+use Rattle.ksv_yaml_scan.specs.Starts.{InlineKind, Quoted, Flowing, Dashed, Dash, Key, Inline, Refused, starts_quote, dash_of, key_at_colon, key_of_quote, key_of_run, key_of, plain_kind, quoted_kind, block_kind, kind_of, start_by, start_of, is_dash}
 use Rattle.ksv_yaml_scan.proofs.Choices.{chosen, at_true, at_false}
 
 -- ---- what `start_of` found
 
-start_dash_by : (b : Bool) (o : Option Dashed) (k : Option (List ℕ × List ℕ)) (i : Option Kind) (x : Dashed) → start_by b o k i ≡ Dash x → o ≡ Some x
+start_dash_by : (b : Bool) (o : Option Dashed) (k : Option (List ℕ × List ℕ)) (i : Option InlineKind) (x : Dashed) → start_by b o k i ≡ Dash x → o ≡ Some x
 start_dash_by true o k i x h = absurd cc
 start_dash_by false (Some d) k i x h = cc
 start_dash_by false None (Some k) i x h = absurd cc
 start_dash_by false None None (Some i) x h = absurd cc
 start_dash_by false None None None x h = absurd cc
 
-start_key_by : (b : Bool) (o : Option Dashed) (k : Option (List ℕ × List ℕ)) (i : Option Kind) (key rest : List ℕ) → start_by b o k i ≡ Key key rest → k ≡ Some (key, rest)
+start_key_by : (b : Bool) (o : Option Dashed) (k : Option (List ℕ × List ℕ)) (i : Option InlineKind) (key rest : List ℕ) → start_by b o k i ≡ Key key rest → k ≡ Some (key, rest)
 start_key_by true o k i key rest h = absurd cc
 start_key_by false (Some d) k i key rest h = absurd cc
 start_key_by false None (Some k) i key rest h = let e : k.0 ≡ key = cc in let f : k.1 ≡ rest = cc in ap (λ (a : List ℕ). let some : List ℕ × List ℕ → Option (List ℕ × List ℕ) = λ x. Some x in some (a, k.1)) e ∙ ap (λ (b : List ℕ). let some : List ℕ × List ℕ → Option (List ℕ × List ℕ) = λ x. Some x in some (key, b)) f
 start_key_by false None None (Some i) key rest h = absurd cc
 start_key_by false None None None key rest h = absurd cc
 
-start_inline_by : (b : Bool) (o : Option Dashed) (k : Option (List ℕ × List ℕ)) (i : Option Kind) (x : Kind) → start_by b o k i ≡ Inline x → i ≡ Some x
+start_inline_by : (b : Bool) (o : Option Dashed) (k : Option (List ℕ × List ℕ)) (i : Option InlineKind) (x : InlineKind) → start_by b o k i ≡ Inline x → i ≡ Some x
 start_inline_by true o k i x h = absurd cc
 start_inline_by false (Some d) k i x h = absurd cc
 start_inline_by false None (Some k) i x h = absurd cc
@@ -37,7 +37,7 @@ start_dash cs x h = start_dash_by (is_nil (shown cs)) (dash_of cs) (key_of cs) (
 pub start_key : (cs key rest : List ℕ) → start_of cs ≡ Key key rest → key_of cs ≡ Some (key, rest)
 start_key cs key rest h = start_key_by (is_nil (shown cs)) (dash_of cs) (key_of cs) (kind_of cs) key rest h
 
-pub start_inline : (cs : List ℕ) (x : Kind) → start_of cs ≡ Inline x → kind_of cs ≡ Some x
+pub start_inline : (cs : List ℕ) (x : InlineKind) → start_of cs ≡ Inline x → kind_of cs ≡ Some x
 start_inline cs x h = start_inline_by (is_nil (shown cs)) (dash_of cs) (key_of cs) (kind_of cs) x h
 
 -- ---- what stands at the front
@@ -124,12 +124,12 @@ as_key cs key rest o h =
     ∙ ap (λ (d : Option Dashed). start_by false d (key_of cs) (kind_of cs)) o.dash
     ∙ ap (λ (k : Option (List ℕ × List ℕ)). start_by false None k (kind_of cs)) h
 
-as_inline : (cs : List ℕ) (x : Kind) → IsOther cs → key_of cs ≡ None → kind_of cs ≡ Some x → start_of cs ≡ Inline x
+as_inline : (cs : List ℕ) (x : InlineKind) → IsOther cs → key_of cs ≡ None → kind_of cs ≡ Some x → start_of cs ≡ Inline x
 as_inline cs x o k h =
     ap (λ (b : Bool). start_by b (dash_of cs) (key_of cs) (kind_of cs)) o.loud
     ∙ ap (λ (d : Option Dashed). start_by false d (key_of cs) (kind_of cs)) o.dash
     ∙ ap (λ (k : Option (List ℕ × List ℕ)). start_by false None k (kind_of cs)) k
-    ∙ ap (λ (i : Option Kind). start_by false None None i) h
+    ∙ ap (λ (i : Option InlineKind). start_by false None None i) h
 
 some_quote : (o : Option Quote) (x : List ℕ × List ℕ) → key_of_quote o ≡ Some x → (q : Quote) × (o ≡ Some q)
 some_quote None x h = absurd cc
@@ -142,7 +142,7 @@ key_start cs key rest h = elim (chosen (starts_plain cs) (key_of_run (run false 
 ]
 
 -- a run that a value is has no colon
-run_no_key : (text : List ℕ) (e : Ending) (x : Kind) → plain_kind (plain_of_run text e) ≡ Some x → key_of_run text e ≡ None
+run_no_key : (text : List ℕ) (e : Ending) (x : InlineKind) → plain_kind (plain_of_run text e) ≡ Some x → key_of_run text e ≡ None
 run_no_key text (Colon rest) x h = absurd cc
 run_no_key text (Bracket rest) x h = refl
 run_no_key text Comment x h = refl
@@ -166,11 +166,11 @@ clear_no_key : (key cs : List ℕ) → is_clear cs ≡ true → key_at_colon key
 clear_no_key key [] h = refl
 clear_no_key key (c ∷ cs) h = clear_step (is_white c) c cs key h
 
-quoted_no_key : (o : Option Quote) (x : Kind) → quoted_kind o ≡ Some x → key_of_quote o ≡ None
+quoted_no_key : (o : Option Quote) (x : InlineKind) → quoted_kind o ≡ Some x → key_of_quote o ≡ None
 quoted_no_key None x h = refl
 quoted_no_key (Some q) x h = clear_no_key q.text q.rest (then_some (is_clear q.rest) (Quoted q.text) x h)
 
-quoted_some : (o : Option Quote) (x : Kind) → quoted_kind o ≡ Some x → (q : Quote) × (o ≡ Some q)
+quoted_some : (o : Option Quote) (x : InlineKind) → quoted_kind o ≡ Some x → (q : Quote) × (o ≡ Some q)
 quoted_some None x h = absurd cc
 quoted_some (Some q) x h = (q, refl)
 
@@ -182,10 +182,10 @@ record IsAlone (cs : List ℕ) : Type 0 where
 alone : (k c : ℕ) (cs : List ℕ) → (c == k) ≡ true → IsAlone (k ∷ cs) → IsAlone (c ∷ cs)
 alone k c cs h p = at_byte k c (λ (c : ℕ). IsAlone (c ∷ cs)) h p
 
-alone_start : (cs : List ℕ) (x : Kind) → IsAlone cs → kind_of cs ≡ Some x → start_of cs ≡ Inline x
+alone_start : (cs : List ℕ) (x : InlineKind) → IsAlone cs → kind_of cs ≡ Some x → start_of cs ≡ Inline x
 alone_start cs x a h = as_inline cs x a.other a.key h
 
-pub kind_start : (cs : List ℕ) (x : Kind) → kind_of cs ≡ Some x → start_of cs ≡ Inline x
+pub kind_start : (cs : List ℕ) (x : InlineKind) → kind_of cs ≡ Some x → start_of cs ≡ Inline x
 kind_start [] x h = absurd cc
 kind_start (c ∷ cs) x h =
     elim (chosen (starts_plain (c ∷ cs)) _ _ (Some x) h) [
@@ -205,13 +205,13 @@ kind_start (c ∷ cs) x h =
       ]
     ]
   where
-    then_kind : (b : Bool) (o : Option Kind) (x : Kind) → cond b o None ≡ Some x → b ≡ true
+    then_kind : (b : Bool) (o : Option InlineKind) (x : InlineKind) → cond b o None ≡ Some x → b ≡ true
     then_kind true o x h = refl
     then_kind false o x h = absurd cc
 
 -- ---- whether a dash begins
 
-no_dash_by : (b : Bool) (k : Option (List ℕ × List ℕ)) (i : Option Kind) → is_dash (start_by b None k i) ≡ false
+no_dash_by : (b : Bool) (k : Option (List ℕ × List ℕ)) (i : Option InlineKind) → is_dash (start_by b None k i) ≡ false
 no_dash_by true k i = refl
 no_dash_by false (Some k) i = refl
 no_dash_by false None (Some i) = refl
@@ -228,7 +228,7 @@ start_refused cs l d k i =
     ap (λ (b : Bool). start_by b (dash_of cs) (key_of cs) (kind_of cs)) l
     ∙ ap (λ (d : Option Dashed). start_by false d (key_of cs) (kind_of cs)) d
     ∙ ap (λ (k : Option (List ℕ × List ℕ)). start_by false None k (kind_of cs)) k
-    ∙ ap (λ (i : Option Kind). start_by false None None i) i
+    ∙ ap (λ (i : Option InlineKind). start_by false None None i) i
 
 -- outside flow nodes no run ends at a bracket
 no_bracket_by : (o : Option Ending) (c : ℕ) (r : Run) (rest : List ℕ) → ((rest : List ℕ) → (let some : Ending → Option Ending = λ e. Some e in o ≡ some (Bracket rest)) → ⊥) → (r.ending ≡ Bracket rest → ⊥) → (run_by o c r).ending ≡ Bracket rest → ⊥

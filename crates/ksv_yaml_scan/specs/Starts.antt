@@ -5,13 +5,13 @@ use Rattle.ksv_yaml_scan.specs.Plain.{starts_plain, Ending, Colon, run, plain_of
 use Rattle.ksv_yaml_scan.specs.Quoted.{Quote, quote_of}
 
 -- A scalar or a flow node.
-pub data Kind : Type 0 where
+pub data InlineKind : Type 0 where
   -- the text on this line, and whether a comment ends it
-  Plain : List ℕ → Bool → Kind
-  Quoted : List ℕ → Kind
+  Plain : List ℕ → Bool → InlineKind
+  Quoted : List ℕ → InlineKind
   -- whether it is folded, and whether its last line end is kept
-  Block : Bool → Bool → Kind
-  Flowing : Kind
+  Block : Bool → Bool → InlineKind
+  Flowing : InlineKind
 
 -- A dash: how many columns further what stands behind it begins, whether a tab stands between, and what stands there.
 pub record Dashed : Type 0 where
@@ -25,7 +25,7 @@ pub data Start : Type 0 where
   Dash : Dashed → Start
   -- the key, and what stands behind its colon
   Key : List ℕ → List ℕ → Start
-  Inline : Kind → Start
+  Inline : InlineKind → Start
   Refused : Start
 
 -- a quote stands here
@@ -58,22 +58,22 @@ abbrev pub key_of : List ℕ → Option (List ℕ × List ℕ)
 key_of cs = if starts_plain cs then (let r = run false false cs in key_of_run r.text r.ending) else key_of_quote (quote_of cs)
 
 -- a plain scalar
-abbrev pub plain_kind : Option (List ℕ × Bool) → Option Kind
+abbrev pub plain_kind : Option (List ℕ × Bool) → Option InlineKind
 plain_kind None = None
 plain_kind (Some p) = Some (Plain p.0 p.1)
 
 -- a quoted scalar, behind which nothing but a comment stands
-abbrev pub quoted_kind : Option Quote → Option Kind
+abbrev pub quoted_kind : Option Quote → Option InlineKind
 quoted_kind None = None
 quoted_kind (Some q) = if is_clear q.rest then Some (Quoted q.text) else None
 
 -- a block scalar, by what stands behind | or >: a dash, and then nothing but a comment
-abbrev pub block_kind : Bool → List ℕ → Option Kind
+abbrev pub block_kind : Bool → List ℕ → Option InlineKind
 block_kind folded [] = Some (Block folded true)
 block_kind folded (c ∷ cs) = if c == 45 then (if is_clear cs then Some (Block folded false) else None) else (if is_clear (c ∷ cs) then Some (Block folded true) else None)
 
 -- a scalar or a flow node
-abbrev pub kind_of : List ℕ → Option Kind
+abbrev pub kind_of : List ℕ → Option InlineKind
 kind_of [] = None
 kind_of (c ∷ cs) =
     if starts_plain (c ∷ cs) then (let r = run false false (c ∷ cs) in plain_kind (plain_of_run r.text r.ending))
@@ -84,7 +84,7 @@ kind_of (c ∷ cs) =
     else None))))
 
 -- the first of these: nothing, a dash, a key, a scalar or flow node
-abbrev pub start_by : Bool → Option Dashed → Option (List ℕ × List ℕ) → Option Kind → Start
+abbrev pub start_by : Bool → Option Dashed → Option (List ℕ × List ℕ) → Option InlineKind → Start
 start_by true d k i = Nothing
 start_by false (Some d) k i = Dash d
 start_by false None (Some k) i = Key k.0 k.1

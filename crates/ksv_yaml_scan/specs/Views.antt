@@ -9,8 +9,8 @@ use Rattle.ksv_yaml_scan.specs.declared.fault.LineError.TheVariants as on_line
 use Rattle.ksv_yaml_scan.specs.declared.fault.TextError.{TextError}
 use Rattle.ksv_yaml_scan.specs.declared.fault.TextError.TheVariants as of_text
 use Rattle.ksv_yaml_scan.specs.declared.fault.LineFault.{LineFault}
-use Rattle.ksv_yaml_scan.specs.declared.start.Kind.{Kind as CodeKind}
-use Rattle.ksv_yaml_scan.specs.declared.start.Kind.TheVariants as kinds
+use Rattle.ksv_yaml_scan.specs.declared.start.InlineKind.{InlineKind as CodeKind}
+use Rattle.ksv_yaml_scan.specs.declared.start.InlineKind.TheVariants as kinds
 use Rattle.ksv_yaml_scan.specs.declared.start.Start.{Start as CodeStart}
 use Rattle.ksv_yaml_scan.specs.declared.start.Start.TheVariants as starts
 use Rattle.ksv_yaml_scan.specs.declared.flow.Token.{Token as CodeToken}
@@ -26,7 +26,7 @@ use Rattle.ksv_yaml_scan.specs.Lines.{Line, HasNumber}
 use Rattle.ksv_yaml_scan.specs.Quoted.{Quote}
 use Rattle.ksv_yaml_scan.specs.Plain.{Ending, Colon, Bracket, Comment, End, Run}
 use Rattle.ksv_yaml_scan.specs.Text.{IsTooLong, IsNotUtf8}
-use Rattle.ksv_yaml_scan.specs.Starts.{Kind, Plain, Quoted, Block, Flowing, Start, Nothing, Dash, Key, Inline}
+use Rattle.ksv_yaml_scan.specs.Starts.{InlineKind, Plain, Quoted, Block, Flowing, Start, Nothing, Dash, Key, Inline}
 use Rattle.ksv_yaml_scan.specs.Tokens.{Token, Open, Close, OpenMap, CloseMap, Comma, Scalar, Key as KeyToken, Cut, Bad, Over, White, Part as PartCut, line_tokens, both}
 
 -- a line without where it lies in memory
@@ -63,7 +63,7 @@ abbrev pub quote_view : CodeQuote → Quote
 quote_view q = record { text = q.text.items; rest = q.rest.now }
 
 -- the kind of a scalar, or a flow node
-abbrev pub kind_view : CodeKind → Kind
+abbrev pub kind_view : CodeKind → InlineKind
 kind_view (kinds.Plain text commented) = Plain text.items commented
 kind_view (kinds.Quoted text) = Quoted text.items
 kind_view (kinds.Block folded keep) = Block folded keep

@@ -7,7 +7,7 @@ ghost use Rattle.ksv_yaml_scan.specs.Blocks.{Row, make_row, inner_indent, is_lev
 ghost use Rattle.ksv_yaml_scan.specs.Rows.{gap, rows, rows_on, last_ended};
 ghost use Rattle.ksv_yaml_scan.specs.Views.{lines_view, UnlessOn};
 
-use crate::fault::{Fault, LineError, LineFault};
+use crate::fault::{LineError, LineFault, ScanFault};
 use crate::line::Line;
 use crate::white::{is_white, next};
 use std::alloc::{AllocError, Global};
@@ -48,7 +48,7 @@ fn misplaced(line: usize) -> LineFault
 {
     LineFault {
         line,
-        fault: Fault::Indentation,
+        fault: ScanFault::Indentation,
     }
 }
 

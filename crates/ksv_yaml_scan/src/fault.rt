@@ -8,7 +8,7 @@ use std::alloc::{AllocError, AllocFailed};
 
 /// What is wrong with what stands on a line.
 #[derive(Debug, Clone, Copy)]
-pub enum Fault {
+pub enum ScanFault {
     /// A tab stands in front of what begins on the line.
     Tab,
     /// A quote has no end on its line.
@@ -27,14 +27,14 @@ pub struct LineFault {
     /// The line's number, counted from 1.
     pub line: usize,
     /// What is wrong with it.
-    pub fault: Fault,
+    pub fault: ScanFault,
 }
 
 /// Why there is no answer about a line.
 #[derive(Debug, Clone, Copy)]
 pub enum ScanError {
     /// The line is wrong.
-    Fault(Fault),
+    Fault(ScanFault),
     /// Memory ran out.
     NoMemory,
 }
@@ -75,10 +75,10 @@ impl<T: Drop> From<AllocFailed<T>> for ScanError {
     }
 }
 
-impl From<Fault> for ScanError {
-    ghost from_gives = { λ f e. e ≡ scan.Fault f };
+impl From<ScanFault> for ScanError {
+    ghost from_gives = { λ f e. e ≡ scan.ScanFault f };
 
-    fn from(fault: Fault) -> ScanError {
+    fn from(fault: ScanFault) -> ScanError {
         ScanError::Fault(fault)
     }
 }

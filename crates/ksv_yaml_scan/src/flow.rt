@@ -7,7 +7,7 @@ ghost use Rattle.ksv_yaml_scan.specs.Quoted.{quote_of};
 ghost use Rattle.ksv_yaml_scan.specs.Tokens.{Bad, quoted_cut, plain_part, cut as cut_of, tokens_of};
 ghost use Rattle.ksv_yaml_scan.specs.Views.{line_view, lines_view, cut_view, LineAdds, PartsAre};
 
-use crate::fault::{Fault, LineFault, ScanError};
+use crate::fault::{LineFault, ScanError, ScanFault};
 use crate::line::Line;
 use crate::plain::{Ending, plain_run, starts_plain};
 use crate::quoted::{Quote, read_quote};
@@ -44,7 +44,7 @@ pub enum Part {
 
 /// The parts that stand on lines.
 #[derive(Drop)]
-pub struct Parts {
+pub struct FlowParts {
     /// The parts, in order, up to the fault if there is one.
     pub tokens: Vec<Token>,
     /// What is wrong behind them; nothing where all the lines are parts, white space and comments.
@@ -57,7 +57,7 @@ enum Cut<'a> {
     /// Nothing more, or a comment.
     Over,
     /// No part of a flow node.
-    Bad(Fault),
+    Bad(ScanFault),
     /// White space, and what is behind it.
     White(&'a [u8]),
     /// A part, and what is behind it.
@@ -65,22 +65,22 @@ enum Cut<'a> {
 }
 
 /// The parts of flow nodes that stand on lines: the first one and those behind it.
-pub fn flow_parts(alloc: Global, first: Line, lines: &[Line]) -> Result<Parts, AllocError>
+pub fn flow_parts(alloc: Global, first: Line, lines: &[Line]) -> Result<FlowParts, AllocError>
     ensures parts { IfOk result (λ p. let ls = line_view first.entry ∷ lines_view lines.now in PartsAre ls (tokens_of ls) p.tokens.items p.fault) }
     ensures numbered { IfOk result (λ p. All (λ t. HasNumber (line_view first.entry ∷ lines_view lines.now) t.line) p.tokens.items) }
 {
     let mut tokens = Vec::new(alloc);
     let fault = push_line(alloc, &mut tokens, first)?;
     if fault.is_some() {
-        return Ok(Parts { tokens, fault });
+        return Ok(FlowParts { tokens, fault });
     }
     for line in lines {
         let fault = push_line(alloc, &mut tokens, *line)?;
         if fault.is_some() {
-            return Ok(Parts { tokens, fault });
+            return Ok(FlowParts { tokens, fault });
         }
     }
-    Ok(Parts {
+    Ok(FlowParts {
         tokens,
         fault: None,
     })
@@ -136,7 +136,7 @@ fn cut_part(alloc: Global, content: &[u8], white: bool) -> Result<Cut<'_>, Alloc
         b'#' => Ok(if white {
             Cut::Over
         } else {
-            Cut::Bad(Fault::LeftOut)
+            Cut::Bad(ScanFault::LeftOut)
         }),
         b'[' => Ok(Cut::Part(Part::Open, rest)),
         b']' => Ok(Cut::Part(Part::Close, rest)),
@@ -171,7 +171,7 @@ fn cut_plain(alloc: Global, content: &[u8]) -> Result<Cut<'_>, AllocError>
     ensures { IfOk result (λ k. (n : ℕ) → (if starts_plain_of content.now then plain_part n (run true false content.now) else Bad) ≡ cut_view n k) }
 {
     if !starts_plain(content) {
-        return Ok(Cut::Bad(Fault::LeftOut));
+        return Ok(Cut::Bad(ScanFault::LeftOut));
     }
     let run = plain_run(content, true, false);
     let text = Vec::from_slice(alloc, run.text)?;

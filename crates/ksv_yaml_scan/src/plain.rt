@@ -6,7 +6,7 @@ ghost use Rattle.ksv_yaml_scan.specs.Got.{got};
 ghost use Rattle.ksv_yaml_scan.specs.Plain.{plain_text, more_of, is_bracket as is_bracket_byte, is_special as is_special_byte, is_indicator as is_indicator_byte, is_lone as is_lone_byte, starts_plain as starts_plain_of, stop, run};
 ghost use Rattle.ksv_yaml_scan.specs.Views.{lines_view, ending_view, run_view, more_view, EndsWithin, UnlessOn};
 
-use crate::fault::{Fault, LineError, LineFault};
+use crate::fault::{LineError, LineFault, ScanFault};
 use crate::line::Line;
 use crate::quiet::{is_quiet, skip_quiet};
 use crate::white::{is_white, is_white_or_end, next, skip};
@@ -158,7 +158,7 @@ pub fn continue_plain<'a, 'b>(
         let Some((more, ended)) = more_text(line.content) else {
             return Err(LineError::Fault(LineFault {
                 line: line.number,
-                fault: Fault::ValueForKey,
+                fault: ScanFault::ValueForKey,
             }));
         };
         text.push(b' ')?;

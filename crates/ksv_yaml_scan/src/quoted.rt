@@ -4,7 +4,7 @@ ghost use Rattle.std.specs.Prelude.{◌≡◌, ℕ, suc, ◌+◌, ◌*◌, ◌<�
 ghost use Rattle.ksv_yaml_scan.specs.Quoted.{Between, Escaped, single, double, with_bytes, inside, quote_of, hex_digit as hex_digit_of, letter_of, is_surrogate as is_surrogate_of, utf8, digits_from};
 ghost use Rattle.ksv_yaml_scan.specs.Views.{quote_view, Unless};
 
-use crate::fault::{Fault, ScanError};
+use crate::fault::{ScanError, ScanFault};
 use crate::white::next;
 use std::alloc::{AllocError, Global};
 
@@ -22,12 +22,12 @@ pub(crate) fn read_quote(alloc: Global, content: &[u8]) -> Result<Quote<'_>, Sca
     ensures err { IfErr result (λ e. Unless e (quote_of content.now ≡ None)) }
 {
     let Some((byte, rest)) = next(content) else {
-        return Err(ScanError::Fault(Fault::LeftOut));
+        return Err(ScanError::Fault(ScanFault::LeftOut));
     };
     match byte {
         b'\'' => read_single(alloc, rest),
         b'"' => read_double(alloc, rest),
-        _ => Err(ScanError::Fault(Fault::LeftOut)),
+        _ => Err(ScanError::Fault(ScanFault::LeftOut)),
     }
 }
 
@@ -49,7 +49,7 @@ fn read_single(alloc: Global, content: &[u8]) -> Result<Quote<'_>, ScanError>
         }
         text.push(byte)?;
     }
-    Err(ScanError::Fault(Fault::NotClosed))
+    Err(ScanError::Fault(ScanFault::NotClosed))
 }
 
 /// The text behind a double quote, up to the next one that no backslash stands before.
@@ -73,27 +73,27 @@ fn read_double(alloc: Global, content: &[u8]) -> Result<Quote<'_>, ScanError>
             rest = behind;
         }
     }
-    Err(ScanError::Fault(Fault::NotClosed))
+    Err(ScanError::Fault(ScanFault::NotClosed))
 }
 
 /// The character that stands behind a backslash, and what is behind it.
-fn read_escape(content: &[u8]) -> Result<(u32, &[u8]), Fault>
+fn read_escape(content: &[u8]) -> Result<(u32, &[u8]), ScanFault>
     ensures ok { IfOk result (λ x. inside double Escaped content.now ≡ with_bytes (utf8 x.0) (inside double Between x.1.now)) }
     ensures within { IfOk result (λ x. (x.0 < 65536) × (length x.1.now < length content.now)) }
     ensures err { IfErr result (λ _. inside double Escaped content.now ≡ None) }
 {
     let Some((byte, rest)) = next(content) else {
-        return Err(Fault::NotClosed);
+        return Err(ScanFault::NotClosed);
     };
     let (code, rest) = read_code(byte, rest)?;
     if is_surrogate(code) {
-        return Err(Fault::LeftOut);
+        return Err(ScanFault::LeftOut);
     }
     Ok((code, rest))
 }
 
 /// The number that stands behind a backslash: of two or four digits, or a letter's.
-fn read_code(byte: u8, content: &[u8]) -> Result<(u32, &[u8]), Fault>
+fn read_code(byte: u8, content: &[u8]) -> Result<(u32, &[u8]), ScanFault>
     ensures ok { IfOk result (λ x. inside double Escaped (byte ∷ content.now) ≡ digits_from 0 x.0 x.1.now) }
     ensures within { IfOk result (λ x. (x.0 < 65536) × (length x.1.now ≤ length content.now)) }
     ensures err { IfErr result (λ _. inside double Escaped (byte ∷ content.now) ≡ None) }
@@ -103,7 +103,7 @@ fn read_code(byte: u8, content: &[u8]) -> Result<(u32, &[u8]), Fault>
         b'u' => read_pair(content),
         _ => match letter(byte) {
             Some(byte) => Ok((byte as u32, content)),
-            None => Err(Fault::LeftOut),
+            None => Err(ScanFault::LeftOut),
         },
     }
 }
@@ -136,7 +136,7 @@ fn is_surrogate(code: u32) -> bool
 }
 
 /// The number that four hexadecimal digits are, and what is behind them.
-fn read_pair(content: &[u8]) -> Result<(u32, &[u8]), Fault>
+fn read_pair(content: &[u8]) -> Result<(u32, &[u8]), ScanFault>
     ensures ok { IfOk result (λ x. (k n : ℕ) → digits_from (suc (suc (suc (suc k)))) n content.now ≡ digits_from k (n * 65536 + x.0) x.1.now) }
     ensures within { IfOk result (λ x. (x.0 < 65536) × (length x.1.now < length content.now)) }
     ensures err { IfErr result (λ _. (k n : ℕ) → digits_from (suc (suc (suc (suc k)))) n content.now ≡ None) }
@@ -147,7 +147,7 @@ fn read_pair(content: &[u8]) -> Result<(u32, &[u8]), Fault>
 }
 
 /// The number that two hexadecimal digits are, and what is behind them.
-fn read_byte(content: &[u8]) -> Result<(u32, &[u8]), Fault>
+fn read_byte(content: &[u8]) -> Result<(u32, &[u8]), ScanFault>
     ensures ok { IfOk result (λ x. (k n : ℕ) → digits_from (suc (suc k)) n content.now ≡ digits_from k (n * 256 + x.0) x.1.now) }
     ensures within { IfOk result (λ x. (x.0 < 256) × (length x.1.now < length content.now)) }
     ensures err { IfErr result (λ _. (k n : ℕ) → digits_from (suc (suc k)) n content.now ≡ None) }
@@ -158,17 +158,17 @@ fn read_byte(content: &[u8]) -> Result<(u32, &[u8]), Fault>
 }
 
 /// The number that a hexadecimal digit is, and what is behind it.
-fn read_digit(content: &[u8]) -> Result<(u32, &[u8]), Fault>
+fn read_digit(content: &[u8]) -> Result<(u32, &[u8]), ScanFault>
     ensures ok { IfOk result (λ x. (k n : ℕ) → digits_from (suc k) n content.now ≡ digits_from k (n * 16 + x.0) x.1.now) }
     ensures within { IfOk result (λ x. (x.0 < 16) × (length x.1.now < length content.now)) }
     ensures err { IfErr result (λ _. (k n : ℕ) → digits_from (suc k) n content.now ≡ None) }
 {
     let Some((byte, rest)) = next(content) else {
-        return Err(Fault::NotClosed);
+        return Err(ScanFault::NotClosed);
     };
     match hex_digit(byte) {
         Some(digit) => Ok((digit, rest)),
-        None => Err(Fault::LeftOut),
+        None => Err(ScanFault::LeftOut),
     }
 }
 

@@ -7,7 +7,7 @@ ghost use Rattle.ksv_yaml_scan.specs.Plain.{starts_plain as starts_plain_of};
 ghost use Rattle.ksv_yaml_scan.specs.Starts.{Refused, starts_quote, dash_of, key_at_colon, block_kind as block_kind_of, start_of, is_dash as is_dash_start};
 ghost use Rattle.ksv_yaml_scan.specs.Views.{kind_view, start_view, StartsWithin, Unless};
 
-use crate::fault::{Fault, ScanError};
+use crate::fault::{ScanError, ScanFault};
 use crate::plain::{Ending, plain_run, starts_plain};
 use crate::quoted::{Quote, read_quote};
 use crate::white::{is_clear, is_white, is_white_or_end, next, shown, skip};
@@ -15,7 +15,7 @@ use std::alloc::Global;
 
 /// A scalar or a flow node.
 #[derive(Debug, Drop)]
-pub enum Kind {
+pub enum InlineKind {
     /// A plain scalar: its text on this line, and whether a comment ends it.
     Plain { text: Vec<u8>, commented: bool },
     /// A quoted scalar: its text.
@@ -43,12 +43,12 @@ pub enum Start<'a> {
         behind: &'a [u8],
     },
     /// A scalar or a flow node.
-    Inline(Kind),
+    Inline(InlineKind),
 }
 
 /// What begins on a line with this content.
 ///
-/// A `Fault` says that nothing of the subset begins there.
+/// A `ScanFault` says that nothing of the subset begins there.
 pub fn read_start(alloc: Global, content: &[u8]) -> Result<Start<'_>, ScanError>
     ensures ok { IfOk result (λ s. start_of content.now ≡ start_view s) }
     ensures within { IfOk result (λ s. StartsWithin (length content.now) s) }
@@ -100,11 +100,11 @@ fn read_plain(alloc: Global, content: &[u8]) -> Result<Start<'_>, ScanError>
             key: text,
             behind: shown(rest),
         }),
-        Ending::Comment => Ok(Start::Inline(Kind::Plain {
+        Ending::Comment => Ok(Start::Inline(InlineKind::Plain {
             text,
             commented: true,
         })),
-        Ending::End => Ok(Start::Inline(Kind::Plain {
+        Ending::End => Ok(Start::Inline(InlineKind::Plain {
             text,
             commented: false,
         })),
@@ -122,19 +122,19 @@ fn read_marked(alloc: Global, content: &[u8]) -> Result<Start<'_>, ScanError>
     ensures err { IfErr result (λ e. Unless e (start_of content.now ≡ Refused)) }
 {
     let Some((byte, rest)) = next(content) else {
-        return Err(ScanError::Fault(Fault::LeftOut));
+        return Err(ScanError::Fault(ScanFault::LeftOut));
     };
     let kind = match byte {
         b'\'' | b'"' => return read_quoted(alloc, content),
-        b'[' | b'{' => Some(Kind::Flow),
+        b'[' | b'{' => Some(InlineKind::Flow),
         b'|' => block_kind(rest, false),
         b'>' => block_kind(rest, true),
-        b' ' | b'\t' => return Err(ScanError::Fault(Fault::Tab)),
+        b' ' | b'\t' => return Err(ScanError::Fault(ScanFault::Tab)),
         _ => None,
     };
     match kind {
         Some(kind) => Ok(Start::Inline(kind)),
-        None => Err(ScanError::Fault(Fault::LeftOut)),
+        None => Err(ScanError::Fault(ScanFault::LeftOut)),
     }
 }
 
@@ -150,9 +150,9 @@ fn read_quoted(alloc: Global, content: &[u8]) -> Result<Start<'_>, ScanError>
         return Ok(Start::Key { key: text, behind });
     }
     if is_clear(rest) {
-        return Ok(Start::Inline(Kind::Quoted { text }));
+        return Ok(Start::Inline(InlineKind::Quoted { text }));
     }
-    Err(ScanError::Fault(Fault::LeftOut))
+    Err(ScanError::Fault(ScanFault::LeftOut))
 }
 
 /// What stands behind a colon that ends a key.
@@ -172,15 +172,15 @@ fn behind_colon(content: &[u8]) -> Option<&[u8]>
 }
 
 /// The block scalar behind whose sign this stands.
-fn block_kind(content: &[u8], folded: bool) -> Option<Kind>
+fn block_kind(content: &[u8], folded: bool) -> Option<InlineKind>
     ensures { option_map kind_view result ≡ block_kind_of folded content.now }
 {
     let Some((byte, rest)) = next(content) else {
-        return Some(Kind::Block { folded, keep: true });
+        return Some(InlineKind::Block { folded, keep: true });
     };
     let keep = byte != b'-';
     if is_clear(if keep { content } else { rest }) {
-        Some(Kind::Block { folded, keep })
+        Some(InlineKind::Block { folded, keep })
     } else {
         None
     }

@@ -1,5 +1,5 @@
 use Rattle.std.proofs.Common.{sym, ◌∙◌, subst}
-use Rattle.ksv_memo.specs.declared.rules.Step.TheVariants.{Need, Done}
+use Rattle.ksv_memo.specs.declared.rules.Next.TheVariants.{Need, Done}
 use Rattle.ksv_memo.specs.Meaning.{on}
 use Rattle.ksv_memo.specs.Open.{open_of}
 use Rattle.ksv_memo.specs.Running.{IsStack}

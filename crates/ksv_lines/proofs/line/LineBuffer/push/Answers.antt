@@ -1,6 +1,6 @@
 use Rattle.std.proofs.Common.{◌≡◌, ◌<◌, ◌++◌, List, ℕ, [], ◌∷◌, length, take, sym, ◌∙◌, ap, arith}
 use Rattle.std.proofs.lemmas.List.{length-append, take-append-le, take_all}
-use Rattle.ksv_lines.proofs.line.Line.push.Goals as goal
+use Rattle.ksv_lines.proofs.line.LineBuffer.push.Goals as goal
 
 -- room for one more
 grown : (line : List ℕ) (byte : ℕ) → length line < 4097 → line ++ byte ∷ [] ≡ take 4097 (line ++ byte ∷ [])
