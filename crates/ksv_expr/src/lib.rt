@@ -1,25 +1,12 @@
-//! Values of a described file, and expressions over them.
+//! Values of a described file, and expressions over them: their text, their tree and their evaluation.
+//!
+//! The parser (ksv_expr_syntax) and the evaluation (ksv_expr_eval) don't stand on each other, so that what only evaluates
+//! doesn't wait for the parser's proof.
 #![tactic(auto)]
 
-mod arithmetic;
-mod asking;
-mod context;
-mod evaluation;
-mod forms;
-mod laws;
-mod method;
-mod operators;
-mod replies;
-mod texts;
-mod want;
-
-pub use context::Ctx;
-pub use evaluation::eval;
-pub use ksv_expr_syntax::{ExprFault, ExprFaultKind, parse, parse_type};
-pub use ksv_expr_tree::Expr;
-pub use ksv_expr_value::{
-    Encoding, Fault, FaultKind, Integer, Parts, Path, Step, Stream, Text, Value,
-    equal_paths_are_same, paths_are_numbered,
+pub use ksv_expr_eval::{
+    Ctx, Encoding, EvalStep, Expr, Fault, FaultKind, Got, Integer, Parts, Path, Step, Stream, Text,
+    Value, Want, bits_are_told, division_is_floored, equal_paths_are_same, eval, is_bounded,
+    meaning_is_direct, paths_are_numbered, truth_is_met,
 };
-pub use laws::{bits_are_told, division_is_floored, is_bounded, meaning_is_direct, truth_is_met};
-pub use want::{EvalStep, Got, Want};
+pub use ksv_expr_syntax::{ExprFault, ExprFaultKind, parse, parse_type};

@@ -2,7 +2,7 @@
 
 ghost use Rattle.std.specs.Prelude.{◌≡◌, IfOk};
 
-use ksv_expr::{Stream, Value};
+use ksv_expr_eval::{Stream, Value};
 use std::alloc::{AllocError, Global};
 
 /// The attribute by which something is read: a member of a type of the description.

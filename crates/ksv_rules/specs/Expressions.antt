@@ -1,11 +1,11 @@
--- What an expression of a description means in a rule: its value as ksv_expr tells it, each want answered as the rules answer
+-- What an expression of a description means in a rule: its value as ksv_expr_eval tells it, each want answered as the rules answer
 -- it. The language of expressions is that of the Kaitai Struct User Guide; what they ask and use is this project's own.
 use Rattle.std.specs.Prelude.{◌≡◌, ℕ, List, flat_map, Result}
 use Rattle.ksv_expr_tree.specs.Tree.{Tree}
-use Rattle.ksv_expr.specs.Heard.{Setting, Heard}
-use Rattle.ksv_expr.specs.Evaluation.{Ev, wants_made}
+use Rattle.ksv_expr_eval.specs.Heard.{Setting, Heard}
+use Rattle.ksv_expr_eval.specs.Evaluation.{Ev, wants_made}
 use Rattle.ksv_expr_value.specs.declared.fault.Fault.{Fault}
-use Rattle.ksv_expr.specs.declared.want.Want.{Want}
+use Rattle.ksv_expr_eval.specs.declared.want.Want.{Want}
 use Rattle.ksv_nodes.specs.Truth.{answer_of, asks_of, uses_of}
 use Rattle.ksv_nodes.specs.declared.node.Node.{Node}
 use Rattle.ksv_nodes.specs.declared.given.Given.{Given}

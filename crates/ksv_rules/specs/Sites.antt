@@ -1,6 +1,6 @@
 -- What an expression is evaluated in, where the code keeps it.
 use Rattle.std.specs.Prelude.{option_copied}
-use Rattle.ksv_expr.specs.Heard.{Setting}
+use Rattle.ksv_expr_eval.specs.Heard.{Setting}
 use Rattle.ksv_rules.specs.declared.site.Site.{Site}
 
 abbrev pub setting_of : Site → Setting

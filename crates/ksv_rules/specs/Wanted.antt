@@ -1,17 +1,17 @@
 -- Expressions in rules: what an expression wants is asked of nodes and read from the bytes. Expressions are those of the
--- Kaitai Struct User Guide; their meaning is ksv_expr's.
+-- Kaitai Struct User Guide; their meaning is ksv_expr_eval's.
 use Rattle.std.specs.Prelude.{ℕ, Bool, true, ℤ, pos, negsuc, Option, Some, None}
 use Rattle.ksv_plan.specs.Plan.{Answer, Fail, ◌>>=◌, translate}
 use Rattle.ksv_expr_tree.specs.Tree.{Tree}
 use Rattle.ksv_expr_value.specs.Trail.{Trail}
-use Rattle.ksv_expr.specs.Heard.{Setting, Heard, Valued, Opened, Numbered, Decided, Read}
-use Rattle.ksv_expr.specs.Meaning.{value_of}
+use Rattle.ksv_expr_eval.specs.Heard.{Setting, Heard, Valued, Opened, Numbered, Decided, Read}
+use Rattle.ksv_expr_eval.specs.Meaning.{value_of}
 use Rattle.ksv_expr_value.specs.declared.fault.FaultKind.TheVariants as kinds
 use Rattle.ksv_expr_value.specs.declared.value.Stream.{Stream}
 use Rattle.ksv_expr_value.specs.declared.value.Value.{Value}
 use Rattle.ksv_expr_value.specs.declared.value.Value.TheVariants as values
-use Rattle.ksv_expr.specs.declared.want.Want.{Want}
-use Rattle.ksv_expr.specs.declared.want.Want.TheVariants as wants
+use Rattle.ksv_expr_eval.specs.declared.want.Want.{Want}
+use Rattle.ksv_expr_eval.specs.declared.want.Want.TheVariants as wants
 use Rattle.ksv_nodes.specs.declared.given.Head.{Head}
 use Rattle.ksv_nodes.specs.declared.given.Head.TheVariants as heads
 use Rattle.ksv_nodes.specs.declared.given.Object.{Object}

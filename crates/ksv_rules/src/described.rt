@@ -11,7 +11,7 @@ ghost use Rattle.ksv_rules.specs.Lawful.{described_lawful};
 use crate::rules::rule;
 use ksv_bytes::{Buffer, Use};
 use ksv_desc::Desc;
-use ksv_expr::Fault;
+use ksv_expr_eval::Fault;
 use ksv_memo::{Next, Rules};
 use ksv_nodes::{Given, Halt, Node, Turn};
 use ksv_paths::served;

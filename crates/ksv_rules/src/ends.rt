@@ -15,7 +15,7 @@ use crate::heads::{in_list, part_end};
 use crate::site::Site;
 use crate::wanted::truth_of;
 use ksv_desc::{Desc, Repeat};
-use ksv_expr::{Expr, Fault, FaultKind, Path, Step};
+use ksv_expr_eval::{Expr, Fault, FaultKind, Path, Step};
 use ksv_nodes::{Ended, Halt, Head, List, Object, ObjectEnd, Rested, Turn};
 
 /// The end of an object that ends with its last attribute; without one it ends where it begins.

@@ -2,7 +2,7 @@
 
 ghost use Rattle.std.specs.Prelude.{◌≡◌, IfOk, Ok};
 ghost use Rattle.ksv_expr_tree.specs.Tree.{view};
-ghost use Rattle.ksv_expr.specs.Heard.{heard};
+ghost use Rattle.ksv_expr_eval.specs.Heard.{heard};
 ghost use Rattle.ksv_nodes.specs.Turning.{Runs};
 ghost use Rattle.ksv_rules.specs.Sites.{setting_of};
 ghost use Rattle.ksv_rules.specs.Told.{told};
@@ -10,7 +10,7 @@ ghost use Rattle.ksv_rules.specs.Wanted.{wanted, expression};
 
 use crate::site::Site;
 use crate::wanted::in_object;
-use ksv_expr::{EvalStep, Expr, Got, Stream, Value, Want, eval};
+use ksv_expr_eval::{EvalStep, Expr, Got, Stream, Value, Want, eval};
 use ksv_nodes::{Halt, Turn};
 
 /// The answer to a want. A fault of a node that it asks ends the rule.

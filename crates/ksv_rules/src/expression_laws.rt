@@ -3,7 +3,7 @@
 ghost use Rattle.ksv_rules.specs.Bounds.{RulesAreBounded};
 ghost use Rattle.ksv_rules.specs.Expressions.{ExpressionsAreMet};
 
-/// An expression in a rule means what `ksv_expr` says, each of its wants answered as the rules answer it. It asks and uses what
+/// An expression in a rule means what `ksv_expr_eval` says, each of its wants answered as the rules answer it. It asks and uses what
 /// its wants do, one after the other.
 pub fn expressions_are_met()
     ensures { ExpressionsAreMet }

@@ -9,7 +9,7 @@ ghost use Rattle.ksv_rules.specs.Fields.{members_of, behind, sought, member_name
 ghost use Rattle.ksv_rules.specs.Members.{plain_sought};
 
 use ksv_desc::{Desc, Field, MemberDesc, MemberKind};
-use ksv_expr::FaultKind;
+use ksv_expr_eval::FaultKind;
 use ksv_nodes::{Halt, MemberRef, Turn};
 
 /// A member that was looked for.

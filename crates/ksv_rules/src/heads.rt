@@ -14,7 +14,7 @@ use crate::fields::{Sought, field_of, member_named};
 use crate::site::Site;
 use crate::wanted::{holds, in_object, size_of};
 use ksv_desc::{Choice, Content, Desc, Extent, Field, MemberKind, Repeat, Terminator};
-use ksv_expr::{Expr, Fault, FaultKind, Path, Step, Stream};
+use ksv_expr_eval::{Expr, Fault, FaultKind, Path, Step, Stream};
 use ksv_nodes::{Ended, Found, Halt, Head, Leaf, List, MemberRef, Object, ObjectEnd, Turn};
 
 // ---- what is read at a place

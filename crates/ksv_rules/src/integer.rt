@@ -6,7 +6,7 @@ ghost use Rattle.ksv_rules.specs.Integers.{integer_value, unsigned_value, sum_of
 
 use crate::parts::len_of;
 use ksv_desc::ByteOrder;
-use ksv_expr::Parts;
+use ksv_expr_eval::Parts;
 
 /// The number that bytes write, the most significant first.
 fn big_endian(bytes: &[u8]) -> u64

@@ -9,7 +9,7 @@ use crate::ends::{end_of, rest_of};
 use crate::heads::head_of;
 use crate::values::value_of;
 use ksv_desc::Desc;
-use ksv_expr::{FaultKind, Path};
+use ksv_expr_eval::{FaultKind, Path};
 use ksv_nodes::{Given, Halt, Node, NodeKind, Turn};
 
 /// What a node of a description that is served answers.

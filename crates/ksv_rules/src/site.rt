@@ -3,7 +3,7 @@
 ghost use Rattle.std.specs.Prelude.{◌≡◌};
 ghost use Rattle.ksv_rules.specs.Sites.{setting_of};
 
-use ksv_expr::{Ctx, Path, Stream};
+use ksv_expr_eval::{Ctx, Path, Stream};
 
 /// Where an expression stands.
 #[derive(Clone, Copy)]

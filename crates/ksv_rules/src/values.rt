@@ -13,7 +13,7 @@ use crate::fields::field_of;
 use crate::integer::integer_value;
 use crate::parts::{are, cut, len_of};
 use ksv_desc::{ByteOrder, Choice, Content, Desc, Extent, Field, Terminator};
-use ksv_expr::{Encoding, FaultKind, Integer, Parts, Path, Text, Value};
+use ksv_expr_eval::{Encoding, FaultKind, Integer, Parts, Path, Text, Value};
 use ksv_nodes::{Halt, Head, Leaf, Turn, first_in_parts};
 
 /// The bytes of a leaf.

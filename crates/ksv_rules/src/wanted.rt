@@ -9,7 +9,7 @@ ghost use Rattle.ksv_rules.specs.Wanted.{in_object, in_integer, in_truth, intege
 
 use crate::evaluation::value_of_expression;
 use crate::site::Site;
-use ksv_expr::{Expr, Fault, FaultKind, Integer, Path, Value};
+use ksv_expr_eval::{Expr, Fault, FaultKind, Integer, Path, Value};
 use ksv_nodes::{Halt, Head, Object, Turn};
 
 /// The object that stands at a path. Inside an absent attribute all is absent; what is no object has no members.

@@ -2,8 +2,8 @@ use Rattle.std.proofs.Common.{◌≡◌, Ok, Err, [], ◌∷◌, map}
 use Rattle.std.proofs.lemmas.List.{map-append}
 use Rattle.std.proofs.lemmas.Result.{err_from_is_err_and}
 use Rattle.ksv_expr_tree.specs.Tree.{view}
-use Rattle.ksv_expr.specs.Heard.{heard}
-use Rattle.ksv_expr.specs.declared.want.EvalStep.TheVariants as outcomes
+use Rattle.ksv_expr_eval.specs.Heard.{heard}
+use Rattle.ksv_expr_eval.specs.declared.want.EvalStep.TheVariants as outcomes
 use Rattle.ksv_rules.specs.Sites.{setting_of}
 use Rattle.ksv_rules.specs.Told.{told}
 use Rattle.ksv_rules.proofs.Evaluating.{outcome, left_begins, left_done, left_raised, left_stops, left_goes}

@@ -1,7 +1,7 @@
 use Rattle.std.proofs.Common.{◌-◌, length, map}
 use Rattle.ksv_expr_tree.specs.Tree.{view}
-use Rattle.ksv_expr.specs.Heard.{heard}
-use Rattle.ksv_expr.specs.Evaluation.{most_wants}
+use Rattle.ksv_expr_eval.specs.Heard.{heard}
+use Rattle.ksv_expr_eval.specs.Evaluation.{most_wants}
 use Rattle.ksv_rules.specs.Sites.{setting_of}
 use Rattle.ksv_rules.proofs.Evaluating.{Left}
 use Rattle.ksv_rules.proofs.evaluation.value_of_expression.Given as goal

@@ -1,0 +1,35 @@
+-- A floored remainder by a divisor below 0, as the machine takes it of both numbers with their signs turned.
+use Rattle.std.proofs.Common.{◌≡◌, ℕ, suc, ◌-◌, ◌^◌, ◌<◌, ◌≤◌, ◌%◌, ℤ, pos, negsuc, neg_ℤ, ◌-ℤ◌, true, arith, refl, ap, sym, ◌∙◌}
+use Rattle.std.proofs.lemmas.Bool.{ltb-true}
+use Rattle.std.proofs.lemmas.Int.{ints}
+use Rattle.std.specs.Prelude.{int_lt}
+use Rattle.std.specs.Int.{cast_unsigned, cast_signed, int_rem_euclid, w128}
+use Rattle.ksv_expr_eval.specs.Integers.{remainder_by, floored_remainder}
+use Rattle.ksv_expr_value.specs.Range.{in_range}
+
+-- a number, as 128 bits hold it
+abbrev pub seen : ℤ → ℤ
+seen z = cast_signed w128 (cast_unsigned w128 z)
+
+turned : (a : ℤ) → in_range a ≡ true → seen (pos 0 -ℤ seen a) ≡ neg_ℤ a
+turned (pos n) h = let l = ltb-true n (2 ^ 64) h in omega (arith, ints)
+turned (negsuc n) h = let l = ltb-true n (2 ^ 63) h in omega (arith, ints)
+
+by_sign : (a : ℤ) (n : ℕ) → int_rem_euclid a (pos (suc n)) ≡ remainder_by a (suc n)
+by_sign (pos a) n = refl
+by_sign (negsuc a) n = refl
+
+below : (a : ℤ) (n : ℕ) → (m : ℕ) × ((remainder_by a (suc n) ≡ pos m) × (m ≤ n))
+below (pos a) n = (a % suc n, (refl, omega arith))
+below (negsuc a) n = (suc n - 1 - a % suc n, (refl, omega arith))
+
+outer : (r : ℤ) (m : ℕ) → r ≡ pos m → m < 2 ^ 64 → seen (pos 0 -ℤ seen r) ≡ neg_ℤ r
+outer r m e h = omega (arith, ints)
+
+pub seen_remainder : (a d r : ℤ) → in_range a ≡ true → in_range d ≡ true → int_lt (seen d) (pos 0) ≡ true → r ≡ int_rem_euclid (seen (pos 0 -ℤ seen a)) (seen (pos 0 -ℤ seen d)) → seen (pos 0 -ℤ seen r) ≡ floored_remainder a d
+seen_remainder a (pos n) r h k neg e = let l = ltb-true n (2 ^ 64) k in let same : seen (pos n) ≡ pos n = omega (arith, ints) in let no : int_lt (pos n) (pos 0) ≡ true = ap (λ z. int_lt z (pos 0)) (sym same) ∙ neg in absurd (omega (arith, ltb-true n 0 no))
+seen_remainder a (negsuc n) r h k neg e =
+    let l = ltb-true n (2 ^ 63) k in
+    let rest : r ≡ remainder_by (neg_ℤ a) (suc n) = e ∙ ap (λ z. int_rem_euclid z (seen (pos 0 -ℤ seen (negsuc n)))) (turned a h) ∙ ap (int_rem_euclid (neg_ℤ a)) (turned (negsuc n) k) ∙ by_sign (neg_ℤ a) n in
+    let few = below (neg_ℤ a) n in
+    outer r few.0 (rest ∙ few.1.0) (omega (arith, few.1.1)) ∙ ap neg_ℤ rest

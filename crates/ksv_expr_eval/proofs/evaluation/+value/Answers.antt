@@ -1,0 +1,49 @@
+-- A call is evaluated as its meaning says, by how many arguments it has.
+use Rattle.std.proofs.Common.{◌≡◌, ◌≤◌, [], ◌∷◌, length, ◌⊎◌, inl, inr, ap, sym, ◌∙◌, arith}
+use Rattle.ksv_plan.proofs.Running.{run_bind}
+use Rattle.ksv_expr_eval.proofs.Cases.{call_of_one, call_of_two, call_of_other, is_one, is_two}
+use Rattle.ksv_expr_eval.proofs.evaluation.+value.Goals as goal
+
+pub value-returns-in_err-object-in-len1 : goal.value-returns-in_err-object-in-len1
+value-returns-in_err-object-in-len1 t c =
+    let items : c.in-Call.arguments.items ≡ c.argument-item.result ∷ [] = sym c.as_slice.ensures.value ∙ is_one c.as_slice.result.now c.argument-item.result (omega arith) (omega arith) c.argument-item.is in
+    let law = call_of_one c.args.ctx.now c.args.expr.now c.in-Call.object c.in-Call.method c.in-Call.arguments c.argument-item.result c.in-Call.is items in
+    grind (arith, run_bind, law)
+
+pub value-returns-in-len1 : goal.value-returns-in-len1
+value-returns-in-len1 t c =
+    let items : c.in-Call.arguments.items ≡ c.argument-item.result ∷ [] = sym c.as_slice.ensures.value ∙ is_one c.as_slice.result.now c.argument-item.result (omega arith) (omega arith) c.argument-item.is in
+    let law = call_of_one c.args.ctx.now c.args.expr.now c.in-Call.object c.in-Call.method c.in-Call.arguments c.argument-item.result c.in-Call.is items in
+    grind (arith, run_bind, law)
+
+pub value-returns-in_err-object-in-len2 : goal.value-returns-in_err-object-in-len2
+value-returns-in_err-object-in-len2 t c =
+    let items : c.in-Call.arguments.items ≡ c.first-item.result ∷ c.second-item.result ∷ [] = sym c.as_slice.ensures.value ∙ is_two c.as_slice.result.now c.first-item.result c.second-item.result (omega arith) (omega arith) c.first-item.is c.second-item.is in
+    let law = call_of_two c.args.ctx.now c.args.expr.now c.in-Call.object c.in-Call.method c.in-Call.arguments c.first-item.result c.second-item.result c.in-Call.is items in
+    grind (arith, run_bind, law)
+
+pub value-returns-in_err-first-in-len2 : goal.value-returns-in_err-first-in-len2
+value-returns-in_err-first-in-len2 t c =
+    let items : c.in-Call.arguments.items ≡ c.first-item.result ∷ c.second-item.result ∷ [] = sym c.as_slice.ensures.value ∙ is_two c.as_slice.result.now c.first-item.result c.second-item.result (omega arith) (omega arith) c.first-item.is c.second-item.is in
+    let law = call_of_two c.args.ctx.now c.args.expr.now c.in-Call.object c.in-Call.method c.in-Call.arguments c.first-item.result c.second-item.result c.in-Call.is items in
+    grind (arith, run_bind, law)
+
+pub value-returns-in-len2 : goal.value-returns-in-len2
+value-returns-in-len2 t c =
+    let items : c.in-Call.arguments.items ≡ c.first-item.result ∷ c.second-item.result ∷ [] = sym c.as_slice.ensures.value ∙ is_two c.as_slice.result.now c.first-item.result c.second-item.result (omega arith) (omega arith) c.first-item.is c.second-item.is in
+    let law = call_of_two c.args.ctx.now c.args.expr.now c.in-Call.object c.in-Call.method c.in-Call.arguments c.first-item.result c.second-item.result c.in-Call.is items in
+    grind (arith, run_bind, law)
+
+pub value-returns-in-empty : goal.value-returns-in-empty
+value-returns-in-empty t c =
+    let same : length c.as_slice.result.now ≡ length c.in-Call.arguments.items = ap length c.as_slice.ensures.value in
+    let other : (length c.in-Call.arguments.items ≡ 0) ⊎ (3 ≤ length c.in-Call.arguments.items) = inl (omega arith) in
+    let law = call_of_other c.args.ctx.now c.args.expr.now c.in-Call.object c.in-Call.method c.in-Call.arguments c.in-Call.is other in
+    grind (arith, run_bind, law)
+
+pub value-returns-in-Call : goal.value-returns-in-Call
+value-returns-in-Call t c =
+    let same : length c.as_slice.result.now ≡ length c.in-Call.arguments.items = ap length c.as_slice.ensures.value in
+    let other : (length c.in-Call.arguments.items ≡ 0) ⊎ (3 ≤ length c.in-Call.arguments.items) = inr (omega arith) in
+    let law = call_of_other c.args.ctx.now c.args.expr.now c.in-Call.object c.in-Call.method c.in-Call.arguments c.in-Call.is other in
+    grind (arith, run_bind, law)

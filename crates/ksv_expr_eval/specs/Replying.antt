@@ -1,0 +1,47 @@
+-- What functions of the evaluation promise: they run a plan against the replies.
+use Rattle.std.specs.Prelude.{◌≡◌, Result, Ok, Err}
+use Rattle.std.specs.Borrow.{Bor}
+use Rattle.ksv_plan.specs.Plan.{Ran, Need, Failed, Done, Handler, run}
+use Rattle.ksv_plan.specs.Asking.{by_replies}
+use Rattle.ksv_expr_value.specs.Trail.{Trail}
+use Rattle.ksv_expr_eval.specs.Heard.{Heard, heard}
+use Rattle.ksv_expr_eval.specs.Asked.{Eval, State, want_for}
+use Rattle.ksv_expr_value.specs.declared.fault.Fault.{Fault}
+use Rattle.ksv_expr_value.specs.declared.fault.FaultKind.{FaultKind}
+use Rattle.ksv_expr_eval.specs.declared.want.Want.{Want}
+use Rattle.ksv_expr_eval.specs.declared.want.Got.{Got}
+use Rattle.ksv_expr_eval.specs.declared.replies.Halt.{Halt}
+use Rattle.ksv_expr_eval.specs.declared.replies.Halt.TheVariants as halts
+
+-- a fault of an expression stands at the path where its faults stand
+abbrev pub fault_at : Trail → FaultKind → Fault
+fault_at p k = record { kind = k; path = p }
+
+-- replies answer the questions of an expression
+abbrev pub replying : Handler Want (λ _. Heard) FaultKind State Want Fault
+replying = by_replies fault_at
+
+-- What a function returned, seen by view, is what running a plan gives, unless memory ran out.
+abbrev pub Runs : {X A : Type 0} → Eval A → (X → A) → State → State → Result X Halt → Type 0
+Runs plan view old new (Ok x) = run replying plan old ≡ Done (view x) new
+Runs plan view old new (Err halts.Memory) = Unit {0}
+Runs plan view old new (Err (halts.Need w)) = run replying plan old ≡ Need w new
+Runs plan view old new (Err (halts.Fault f)) = run replying plan old ≡ Failed f new
+
+-- what one reply comes to
+abbrev pub come : Result Heard Fault → State → Ran Want Fault State Heard
+come (Ok h) s = Done h s
+come (Err f) s = Failed f s
+
+-- the function took the reply to this want, or found none
+abbrev pub RepliesWith : Want → State → State → Result (Bor Got) Halt → Type 0
+RepliesWith w old new (Ok g) = run replying (want_for w) old ≡ come (heard g.now) new
+RepliesWith w old new (Err halts.Memory) = Unit {0}
+RepliesWith w old new (Err (halts.Need n)) = run replying (want_for w) old ≡ Need n new
+RepliesWith w old new (Err (halts.Fault f)) = run replying (want_for w) old ≡ Failed f new
+
+-- it stopped with this fault, unless memory ran out
+abbrev pub IsFault : Fault → Halt → Type 0
+IsFault f halts.Memory = Unit {0}
+IsFault f (halts.Need n) = ⊥
+IsFault f (halts.Fault e) = e ≡ f

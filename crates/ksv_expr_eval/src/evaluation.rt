@@ -1,0 +1,262 @@
+//! The value of an expression, by replies to its questions.
+
+ghost use Rattle.std.specs.Prelude.{◌≡◌, ◌≤◌, pos, IfOk, map, length, if◌then◌else◌};
+ghost use Rattle.ksv_plan.specs.Plan.{Answer, bind};
+ghost use Rattle.ksv_expr_tree.specs.Tree.{view, literal_of, name_of};
+ghost use Rattle.ksv_expr_value.specs.declared.value.Value.TheVariants as values;
+ghost use Rattle.ksv_expr_eval.specs.Heard.{heard};
+ghost use Rattle.ksv_expr_eval.specs.Asked.{given};
+ghost use Rattle.ksv_expr_eval.specs.Operators.{unary_of};
+ghost use Rattle.ksv_expr_eval.specs.Evaluation.{outcome_of, resumed, most_wants, IsDone};
+ghost use Rattle.ksv_expr_eval.specs.Replying.{Runs};
+ghost use Rattle.ksv_expr_eval.specs.Meaning.{meaning, literal_value, is_own_stream, decides, in_truth_value, truth_value, binary_of, field_of, special_of, call_one, call_two, item_at, cast_to};
+ghost use Rattle.ksv_expr_eval.specs.Methods.{method_named};
+
+use crate::context::Ctx;
+use crate::method::Method;
+use crate::replies::{Halt, Replies};
+use crate::want::{EvalStep, Got};
+use crate::{asking, forms, operators};
+use ksv_expr_tree::{
+    BinaryOperator, Expr, Literal, LogicalOperator, Name, SpecialName, TypeName, UnaryOperator,
+};
+use ksv_expr_value::{FaultKind, Integer, Text, Value};
+use std::alloc::{AllocError, Global};
+
+fn is_own_stream(expr: &Expr) -> bool
+    ensures { result ≡ is_own_stream (view expr.now) }
+{
+    match expr {
+        Expr::Special(name) => matches!(name, SpecialName::Io),
+        _ => false,
+    }
+}
+
+fn literal(replies: &Replies, literal: &Literal) -> Result<Value, Halt>
+    ensures { Runs (given (Ok (literal_value (literal_of literal.now)))) (λ v. v) replies.now replies.now result }
+{
+    Ok(match literal {
+        Literal::Number(number) => Value::Int(Integer::from(*number)),
+        Literal::Truth(truth) => Value::Bool(*truth),
+        Literal::Text(text) => {
+            Value::Text(Text::new(String::from_str(replies.alloc(), text.as_str())?))
+        }
+    })
+}
+
+/// Whether the left operand decides alone.
+fn decides(operator: LogicalOperator, left: bool) -> bool
+    ensures { result ≡ decides operator left }
+{
+    match operator {
+        LogicalOperator::And => !left,
+        LogicalOperator::Or => left,
+    }
+}
+
+/// The right operand, and then the operator.
+#[cycle(value)]
+#[tactic(auto, using(ksv_plan::proofs::Running::run_bind))]
+fn binary_with(
+    replies: &mut Replies,
+    ctx: &Ctx,
+    operator: BinaryOperator,
+    left: &Value,
+    right: &Expr,
+) -> Result<Value, Halt>
+    ensures { Runs (bind (meaning ctx.now right.now) (λ w. binary_of operator left.now w)) (λ v. v) replies.old replies.new result }
+{
+    let right = value(replies, ctx, right)?;
+    forms::binary(replies, operator, left, &right)
+}
+
+/// What the left operand decides, or the right one.
+#[cycle(value)]
+#[tactic(auto, using(ksv_plan::proofs::Running::run_bind))]
+fn logical_with(
+    replies: &mut Replies,
+    ctx: &Ctx,
+    operator: LogicalOperator,
+    left: &Value,
+    right: &Expr,
+) -> Result<Value, Halt>
+    ensures { Runs (bind (in_truth_value left.now) (λ b. if decides operator b then Answer (values.Bool b) else bind (meaning ctx.now right.now) truth_value)) (λ v. v) replies.old replies.new result }
+{
+    let left = forms::in_truth_value(replies, left)?;
+    if decides(operator, left) {
+        return Ok(Value::Bool(left));
+    }
+    let right = value(replies, ctx, right)?;
+    forms::truth_value(replies, &right)
+}
+
+#[cycle(value)]
+#[tactic(auto, using(ksv_plan::proofs::Running::run_bind))]
+fn unary_expr(
+    replies: &mut Replies,
+    ctx: &Ctx,
+    operator: UnaryOperator,
+    operand: &Expr,
+) -> Result<Value, Halt>
+    ensures { Runs (bind (meaning ctx.now operand.now) (λ v. given (unary_of operator v))) (λ v. v) replies.old replies.new result }
+{
+    let operand = value(replies, ctx, operand)?;
+    replies.given(operators::unary(operator, &operand))
+}
+
+#[cycle(value)]
+#[tactic(auto, using(ksv_plan::proofs::Running::run_bind))]
+fn field_expr(replies: &mut Replies, ctx: &Ctx, object: &Expr, name: &Name) -> Result<Value, Halt>
+    ensures { Runs (bind (meaning ctx.now object.now) (λ v. field_of ctx.now (is_own_stream (view object.now)) v (name_of name.now))) (λ v. v) replies.old replies.new result }
+{
+    let own = is_own_stream(object);
+    let object = value(replies, ctx, object)?;
+    forms::field(replies, ctx, own, &object, name)
+}
+
+#[cycle(value)]
+#[tactic(auto, using(ksv_plan::proofs::Running::run_bind))]
+fn special_field_expr(
+    replies: &mut Replies,
+    ctx: &Ctx,
+    object: &Expr,
+    name: SpecialName,
+) -> Result<Value, Halt>
+    ensures { Runs (bind (meaning ctx.now object.now) (λ v. special_of v name)) (λ v. v) replies.old replies.new result }
+{
+    let object = value(replies, ctx, object)?;
+    forms::special_field(replies, &object, name)
+}
+
+/// The argument, and then the method.
+#[cycle(value)]
+#[tactic(auto, using(ksv_plan::proofs::Running::run_bind))]
+fn call_with_one(
+    replies: &mut Replies,
+    ctx: &Ctx,
+    object: &Value,
+    method: &str,
+    argument: &Expr,
+) -> Result<Value, Halt>
+    ensures { Runs (bind (meaning ctx.now argument.now) (λ w. call_one object.now (method_named method.now) w)) (λ v. v) replies.old replies.new result }
+{
+    let argument = value(replies, ctx, argument)?;
+    forms::call_one(replies, object, Method::named(method), &argument)
+}
+
+/// The second argument, and then the method.
+#[cycle(value)]
+#[tactic(auto, using(ksv_plan::proofs::Running::run_bind))]
+fn call_with_two(
+    replies: &mut Replies,
+    ctx: &Ctx,
+    object: &Value,
+    method: &str,
+    first: &Value,
+    second: &Expr,
+) -> Result<Value, Halt>
+    ensures { Runs (bind (meaning ctx.now second.now) (λ u. call_two object.now (method_named method.now) first.now u)) (λ v. v) replies.old replies.new result }
+{
+    let second = value(replies, ctx, second)?;
+    forms::call_two(replies, object, Method::named(method), first, &second)
+}
+
+/// The place, and then what stands there.
+#[cycle(value)]
+#[tactic(auto, using(ksv_plan::proofs::Running::run_bind))]
+fn item_with(replies: &mut Replies, ctx: &Ctx, list: &Value, place: &Expr) -> Result<Value, Halt>
+    ensures { Runs (bind (meaning ctx.now place.now) (λ w. item_at list.now w)) (λ v. v) replies.old replies.new result }
+{
+    let place = value(replies, ctx, place)?;
+    forms::item_at(replies, list, &place)
+}
+
+#[cycle(value)]
+#[tactic(auto, using(ksv_plan::proofs::Running::run_bind))]
+fn cast_expr(
+    replies: &mut Replies,
+    ctx: &Ctx,
+    object: &Expr,
+    type_name: &TypeName,
+) -> Result<Value, Halt>
+    ensures { Runs (bind (meaning ctx.now object.now) (λ v. cast_to v type_name.now.number)) (λ v. v) replies.old replies.new result }
+{
+    let object = value(replies, ctx, object)?;
+    forms::cast_to(replies, &object, type_name.number)
+}
+
+#[cycle(value)]
+#[tactic(auto, using(ksv_plan::proofs::Running::run_bind, crate::proofs::Cases::of_literal, crate::proofs::Cases::of_name, crate::proofs::Cases::of_special, crate::proofs::Cases::of_member, crate::proofs::Cases::of_unary, crate::proofs::Cases::of_binary, crate::proofs::Cases::of_logical, crate::proofs::Cases::of_choice, crate::proofs::Cases::of_field, crate::proofs::Cases::of_special_field, crate::proofs::Cases::of_index, crate::proofs::Cases::of_cast))]
+fn value(replies: &mut Replies, ctx: &Ctx, expr: &Expr) -> Result<Value, Halt>
+    ensures { Runs (meaning ctx.now expr.now) (λ v. v) replies.old replies.new result }
+{
+    match expr {
+        Expr::Literal(constant) => literal(replies, constant),
+        Expr::Name(name) => asking::member_value(replies, ctx.home(), name.number),
+        Expr::Special(name) => asking::special_value(replies, ctx, *name),
+        Expr::Member(member) => asking::enum_member(replies, member.given),
+        Expr::Unary(operator, operand) => unary_expr(replies, ctx, *operator, operand),
+        Expr::Binary(operator, left, right) => {
+            let left = value(replies, ctx, left)?;
+            binary_with(replies, ctx, *operator, &left, right)
+        }
+        Expr::Logical(operator, left, right) => {
+            let left = value(replies, ctx, left)?;
+            logical_with(replies, ctx, *operator, &left, right)
+        }
+        Expr::Choice(condition, yes, no) => {
+            let condition = value(replies, ctx, condition)?;
+            if forms::in_truth_value(replies, &condition)? {
+                value(replies, ctx, yes)
+            } else {
+                value(replies, ctx, no)
+            }
+        }
+        Expr::Field(object, name) => field_expr(replies, ctx, object, name),
+        Expr::SpecialField(object, name) => special_field_expr(replies, ctx, object, *name),
+        Expr::Call(object, method, arguments) => match arguments.as_slice() {
+            [] => replies.raise(FaultKind::BadType),
+            [argument] => {
+                let object = value(replies, ctx, object)?;
+                call_with_one(replies, ctx, &object, method.as_str(), argument)
+            }
+            [first, second] => {
+                let object = value(replies, ctx, object)?;
+                let first = value(replies, ctx, first)?;
+                call_with_two(replies, ctx, &object, method.as_str(), &first, second)
+            }
+            _ => replies.raise(FaultKind::BadType),
+        },
+        Expr::Index(list, place) => {
+            let list = value(replies, ctx, list)?;
+            item_with(replies, ctx, &list, place)
+        }
+        Expr::Cast(object, type_name) => cast_expr(replies, ctx, object, type_name),
+    }
+}
+
+#[tactic(auto, unfolding(crate::specs::Meaning::meaning))]
+fn outcome(alloc: Global, expr: &Expr, ctx: &Ctx, replies: &[Got]) -> Result<EvalStep, AllocError>
+    ensures { IfOk result (λ outcome. outcome ≡ outcome_of (resumed ctx.now (view expr.now) (map heard replies.now))) }
+{
+    let mut replies = Replies::new(alloc, ctx.here(), replies);
+    match value(&mut replies, ctx, expr) {
+        Ok(value) => Ok(EvalStep::Done(Ok(value))),
+        Err(Halt::Need(want)) => Ok(EvalStep::Need(want)),
+        Err(Halt::Fault(fault)) => Ok(EvalStep::Done(Err(fault))),
+        Err(Halt::Memory) => Err(AllocError),
+    }
+}
+
+/// The value of an expression in its context, by the replies to its questions in their order: the question that has no
+/// reply yet, or the value or fault that it ends with. A reply that is a fault ends the expression with that fault, and
+/// replies behind the end aren't looked at.
+///
+/// The outcome rests on nothing but the expression, the context and what the replies say; of lent bytes that is their
+/// content. [`crate::truth_is_met`] says what it is for true replies, and no expression asks for ever.
+pub fn eval(alloc: Global, expr: &Expr, ctx: &Ctx, replies: &[Got]) -> Result<EvalStep, AllocError>
+    ensures outcome { IfOk result (λ outcome. outcome ≡ outcome_of (resumed ctx.now (view expr.now) (map heard replies.now))) }
+    ensures ended { IfOk result (λ outcome. most_wants (view expr.now) ≤ length replies.now → IsDone outcome) }
+{
+    outcome(alloc, expr, ctx, replies)
+}

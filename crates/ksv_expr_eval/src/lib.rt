@@ -1,0 +1,24 @@
+//! Evaluation of expressions by replies: an expression asks for what it needs of the file, and is told.
+#![tactic(auto)]
+
+mod arithmetic;
+mod asking;
+mod context;
+mod evaluation;
+mod forms;
+mod laws;
+mod method;
+mod operators;
+mod replies;
+mod texts;
+mod want;
+
+pub use context::Ctx;
+pub use evaluation::eval;
+pub use ksv_expr_tree::Expr;
+pub use ksv_expr_value::{
+    Encoding, Fault, FaultKind, Integer, Parts, Path, Step, Stream, Text, Value,
+    equal_paths_are_same, paths_are_numbered,
+};
+pub use laws::{bits_are_told, division_is_floored, is_bounded, meaning_is_direct, truth_is_met};
+pub use want::{EvalStep, Got, Want};
