@@ -76,7 +76,7 @@ impl<T: Drop> From<AllocFailed<T>> for ScanError {
 }
 
 impl From<ScanFault> for ScanError {
-    ghost from_gives = { λ f e. e ≡ scan.ScanFault f };
+    ghost from_gives = { λ f e. e ≡ scan.Fault f };
 
     fn from(fault: ScanFault) -> ScanError {
         ScanError::Fault(fault)
