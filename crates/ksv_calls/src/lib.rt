@@ -1,4 +1,4 @@
-//! Tests that call what no table's row and no dialogue reaches: devices that fail, sessions however the reader cuts, nodes of a
+//! Tests that call what no table's row and no dialogue reaches: writers that fail, a file of the most bytes, nodes of a
 //! described file, messages, and each law of rules and descriptions once. The other `_calls` crates test what is below.
 #![tactic(auto)]
 
@@ -14,5 +14,3 @@ mod messages;
 mod nodes;
 #[cfg(test)]
 mod sessions;
-#[cfg(test)]
-mod spelled;
