@@ -1,41 +1,10 @@
-//! Readers that give few bytes at once, readers and writers that fail, and sessions over them.
+//! Writers that fail, and sessions over them.
 
-use ksv::{Desc, End, Failed, Memory, Sink, Source, Std, describe, run};
+use ksv::{Desc, End, Failed, Memory, Sink, Std, describe, run};
 use ksv_bytes::{Buffer, Window};
 use std::alloc::Global;
 use std::io;
 use std::test::Fail;
-
-/// A source that gives few bytes at once, and fails at a read.
-#[derive(Drop)]
-pub(crate) struct Pieces<'a> {
-    pub left: &'a [u8],
-    pub step: usize,
-    pub reads_left: usize,
-    pub failed: bool,
-}
-
-impl Source for Pieces<'_> {
-    ghost use Rattle.std.specs.Prelude.{true};
-
-    ghost tells = { true };
-
-    ghost bytes = { λ p. p.left.now };
-
-    ghost failed = { λ p. p.failed };
-
-    fn read(&mut self, buf: &mut [u8]) -> Result<usize, Failed> {
-        if self.reads_left == 0 {
-            self.failed = true;
-            return Err(Failed);
-        }
-        self.reads_left -= 1;
-        let count = self.left.len().min(buf.len()).min(self.step.max(1));
-        buf[..count].copy_from_slice(&self.left[..count]);
-        self.left = &self.left[count..];
-        Ok(count)
-    }
-}
 
 /// A sink over memory that takes few bytes at once, and fails at a call.
 #[derive(Drop)]
@@ -128,34 +97,6 @@ pub(crate) fn bytes_of(alloc: Global, buffer: &Buffer) -> Result<Vec<u8>, Fail> 
 const INPUT: &[u8] = b"get /a\nget /b\nset 1 0080\nsize\nquit\n";
 
 const OUTPUT: &[u8] = b"7\n-2\nok 3\nsize 3\nbye\n";
-
-#[test]
-fn a_failed_read_answers_the_whole_lines_before_it(rt: HostRuntime) -> Result<(), Fail> {
-    let alloc = rt.alloc();
-    for reads in 0..INPUT.len() {
-        let mut reader = Pieces {
-            left: INPUT,
-            step: 1,
-            reads_left: reads,
-            failed: false,
-        };
-        let mut writer = Memory::new(Vec::with_capacity(alloc, 100)?);
-        let desc = accepted(alloc, FIRST)?;
-        let (_, end) = run(
-            alloc,
-            &mut reader,
-            &mut writer,
-            desc,
-            b"\x07\xfe\xff".to_vec(alloc)?,
-        )?;
-        assert!(rt; end == End::ReadFailed);
-        let lines = INPUT[..reads].iter().filter(|byte| **byte == b'\n').count();
-        let written = writer.bytes.iter().filter(|byte| **byte == b'\n').count();
-        assert_eq!(rt; written, lines, "after {reads} reads");
-        assert!(rt; OUTPUT.starts_with(writer.bytes.as_slice()));
-    }
-    Ok(())
-}
 
 #[test]
 fn a_failed_write_leaves_a_beginning_of_the_output(rt: HostRuntime) -> Result<(), Fail> {

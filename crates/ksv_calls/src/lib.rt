@@ -1,26 +1,16 @@
-//! Tests that call what no table's row and no dialogue reaches: devices that fail, readings and the engine below a session,
-//! memory, limits of paths and numbers, and each law once. No function stands here but tests and what they share.
+//! Tests that call what no table's row and no dialogue reaches: writers that fail, a file of the most bytes, nodes of a
+//! described file, messages, and each law of rules and descriptions once. The other `_calls` crates test what is below.
 #![tactic(auto)]
 
-#[cfg(test)]
-mod bytes;
 #[cfg(test)]
 mod descriptions;
 #[cfg(test)]
 mod devices;
 #[cfg(test)]
-mod expressions;
-#[cfg(test)]
 mod laws;
-#[cfg(test)]
-mod memo;
 #[cfg(test)]
 mod messages;
 #[cfg(test)]
 mod nodes;
 #[cfg(test)]
 mod sessions;
-#[cfg(test)]
-mod spelled;
-#[cfg(test)]
-mod turns;

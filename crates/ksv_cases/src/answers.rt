@@ -6,7 +6,7 @@ use crate::lines::add_lines;
 use crate::names::add_names;
 use crate::row::Row;
 use crate::scopes::add_scopes;
-use crate::sessions::add_session;
+use crate::sessions::{Given, add_broken, add_cut, add_inputs, add_session};
 use crate::trees::{add_tree, add_trees};
 use std::alloc::{AllocError, Global};
 
@@ -30,6 +30,24 @@ pub(crate) fn answer(
         "lines" => add_lines(alloc, questions, found),
         "scopes" => add_scopes(alloc, text, questions, found),
         "names" => add_names(alloc, text, questions, found),
-        _ => add_session(alloc, text, row.kind, questions.as_bytes(), found),
+        kind => add_dialogue(alloc, text, kind, questions, found),
+    }
+}
+
+/// Adds what sessions write over a file, whose bytes stand behind the word that says how the lines are read.
+fn add_dialogue(
+    alloc: Global,
+    ksy: &[u8],
+    kind: &str,
+    lines: &str,
+    found: &mut String,
+) -> Result<(), AllocError> {
+    let (word, file) = kind.split_once(' ').unwrap_or((kind, ""));
+    let given = Given { ksy, file };
+    match word {
+        "cut" => add_cut(alloc, given, lines, found),
+        "inputs" => add_inputs(alloc, given, lines, found),
+        "broken" => add_broken(alloc, given, lines, found),
+        _ => add_session(alloc, given, lines, found),
     }
 }

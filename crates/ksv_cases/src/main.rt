@@ -13,6 +13,7 @@ mod descriptions;
 mod lines;
 mod names;
 mod question;
+mod reader;
 mod row;
 mod scopes;
 mod sessions;

@@ -1,7 +1,7 @@
 //! Each call of a turn on its happy path and on its fault, and the readings with what they rest on.
 
 use ksv_bytes::Buffer;
-use ksv_expr::{Fault, FaultKind, Parts, Path, Step, Stream, Value};
+use ksv_expr_eval::{Fault, FaultKind, Parts, Path, Step, Stream, Value};
 use ksv_nodes::{Ended, Given, Halt, Head, Node, NodeKind, Rested, Turn, first_in_parts};
 use std::alloc::{AllocError, Global};
 use std::test::Fail;

@@ -1,0 +1,8 @@
+//! Tests that call what expressions stand on themselves: paths, integers, bytes in parts, encodings, refused texts, and each
+//! law of expressions once.
+#![tactic(auto)]
+
+#[cfg(test)]
+mod expressions;
+#[cfg(test)]
+mod laws;
