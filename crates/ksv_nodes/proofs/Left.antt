@@ -48,7 +48,7 @@ module _ (here : Trail) (bytes : List ℕ) where
       }
   seen_left r k each replies us n s None is e = absurd (cc)
 
-  -- where a run stops at a node
+  -- where a run halts at a node
   pub left : {A : Type 0} (p : Rule A) (replies : List (Result Given Fault)) (us : List Use) (n : Node) (s : State) → run turns p (at replies us) ≡ Need n s → Left p replies us n s
   left (Answer a) replies us n s e = absurd (cc)
   left (Fail f) replies us n s e = absurd (cc)

@@ -6,7 +6,7 @@ use Rattle.ksv_nodes.specs.contracts.node.NodeKind.{the_type}
 use Rattle.std.specs.Cmp.{first_so, second_so}
 use Rattle.ksv_expr_value.specs.Exact.{path_exact}
 use Rattle.ksv_expr_value.specs.contracts.path.PathPartialEq.TheImpl.{ghosts as path_tests}
-use Rattle.ksv_nodes.specs.contracts.node.KindPartialEq.TheImpl.{ghosts as kind_tests}
+use Rattle.ksv_nodes.specs.contracts.node.NodeKindPartialEq.TheImpl.{ghosts as kind_tests}
 use Rattle.ksv_nodes.specs.contracts.node.NodePartialEq.TheImpl.{ghosts as node_tests}
 use Rattle.ksv_nodes.specs.declared.node.NodeKind.{NodeKind}
 use Rattle.ksv_nodes.specs.declared.node.Node.{Node}

@@ -13,7 +13,7 @@ use Rattle.ksv_nodes.specs.declared.given.Given.{Given}
 use Rattle.ksv_nodes.specs.declared.turn.Found.{Found}
 use Rattle.ksv_nodes.specs.declared.turn.Found.TheVariants as founds
 use Rattle.ksv_nodes.specs.declared.turn.Halt.{Halt}
-use Rattle.ksv_nodes.specs.declared.turn.Halt.TheVariants as stops
+use Rattle.ksv_nodes.specs.declared.turn.Halt.TheVariants as halts
 use Rattle.ksv_nodes.specs.Reading.{Look, look}
 use Rattle.ksv_nodes.specs.Rule.{Query, Of, See, Reply, Raised, Here, There, Rule}
 
@@ -37,7 +37,7 @@ seen_in None s = Failed (fault_at s.here kinds.EndOfBytes) s
 abbrev pub looked : {A : Type 0} → Look A → State → Ran Node Fault State A
 looked l s = seen_in l.seen (record s { uses = s.uses ++ l.uses })
 
--- the reply to a node: the first of the list, which is then gone; without one the node is needed
+-- the reply to a node: the first of the list, which is then taken; without one the node is needed
 abbrev pub replied : Node → List (Result Given Fault) → State → Ran Node Fault State Given
 replied n [] s = Need n s
 replied n (Ok g ∷ replies) s = Done g (record s { replies = replies })
@@ -62,9 +62,9 @@ fresh here bytes replies = record { here = here; bytes = bytes; replies = replie
 -- What a function returned, seen by view, is what running a rule gives, unless memory ran out.
 abbrev pub Runs : {X A : Type 0} → Rule A → (X → A) → State → State → Result X Halt → Type 0
 Runs rule view old new (Ok x) = run turns rule old ≡ Done (view x) new
-Runs rule view old new (Err stops.Memory) = Unit {0}
-Runs rule view old new (Err (stops.Need n)) = run turns rule old ≡ Need n new
-Runs rule view old new (Err (stops.Fault f)) = run turns rule old ≡ Failed f new
+Runs rule view old new (Err halts.Memory) = Unit {0}
+Runs rule view old new (Err (halts.Need n)) = run turns rule old ≡ Need n new
+Runs rule view old new (Err (halts.Fault f)) = run turns rule old ≡ Failed f new
 
 -- what one reply comes to
 abbrev pub come : Result Given Fault → State → Ran Node Fault State Given
@@ -78,15 +78,15 @@ ask n = Ask (Of n) (λ g. Answer g)
 -- the function took the reply to this node, or found none
 abbrev pub RepliesWith : Node → State → State → Result (Bor (Result Given Fault)) Halt → Type 0
 RepliesWith n old new (Ok g) = run turns (ask n) old ≡ come g.now new
-RepliesWith n old new (Err stops.Memory) = Unit {0}
-RepliesWith n old new (Err (stops.Need m)) = run turns (ask n) old ≡ Need m new
-RepliesWith n old new (Err (stops.Fault f)) = run turns (ask n) old ≡ Failed f new
+RepliesWith n old new (Err halts.Memory) = Unit {0}
+RepliesWith n old new (Err (halts.Need m)) = run turns (ask n) old ≡ Need m new
+RepliesWith n old new (Err (halts.Fault f)) = run turns (ask n) old ≡ Failed f new
 
--- it stopped with this fault, unless memory ran out
+-- it halted with this fault, unless memory ran out
 abbrev pub IsFault : Fault → Halt → Type 0
-IsFault f stops.Memory = Unit {0}
-IsFault f (stops.Need n) = ⊥
-IsFault f (stops.Fault e) = e ≡ f
+IsFault f halts.Memory = Unit {0}
+IsFault f (halts.Need n) = ⊥
+IsFault f (halts.Fault e) = e ≡ f
 
 -- a byte that was found stands at a place below n
 abbrev pub StandsBelow : ℕ → Found → Type 0

@@ -24,7 +24,7 @@ pub enum Found {
     Missing(u32),
 }
 
-/// Why a rule stops before its end.
+/// Why a rule halts before its end.
 #[derive(Drop)]
 pub enum Halt {
     /// It needs the answer of this node.

@@ -16,7 +16,7 @@ use Rattle.ksv_expr_eval.specs.declared.want.EvalStep.TheVariants as outcomes
 use Rattle.ksv_nodes.specs.Rule.{Here, raise}
 use Rattle.ksv_nodes.specs.Turning.{State, turns, Runs}
 use Rattle.ksv_nodes.specs.declared.turn.Halt.{Halt}
-use Rattle.ksv_nodes.specs.declared.turn.Halt.TheVariants as stops
+use Rattle.ksv_nodes.specs.declared.turn.Halt.TheVariants as halts
 use Rattle.ksv_rules.specs.Wanted.{wanted, expression}
 
 -- behind these answers another plan is left: it goes on as the expression does
@@ -72,9 +72,9 @@ module _ (s : Setting) (e : Tree) (got : List (Result Heard Fault)) (begun now :
 
   pub left_raised : Left s e got begun now → (f : Fault) → outcome ≡ outcomes.Done (Err f) → {X : Type 0} (view : X → Value) (new : State) (r : Result X Halt) → Runs (raise f.kind) view now new r → Runs (expression s e) view begun new r
   left_raised l f h view new (Ok x) r = left_failed l f h ∙ r
-  left_raised l f h view new (Err stops.Memory) r = tt
-  left_raised l f h view new (Err (stops.Need n)) r = left_failed l f h ∙ r
-  left_raised l f h view new (Err (stops.Fault g)) r = left_failed l f h ∙ r
+  left_raised l f h view new (Err halts.Memory) r = tt
+  left_raised l f h view new (Err (halts.Need n)) r = left_failed l f h ∙ r
+  left_raised l f h view new (Err (halts.Fault g)) r = left_failed l f h ∙ r
 
   left_asking : (l : Left s e got begun now) (w : Want) → outcome ≡ outcomes.Need w → Asking w l.plan
   left_asking l w h = asking w l.plan (sym (came_left l) ∙ h)
@@ -83,10 +83,10 @@ module _ (s : Setting) (e : Tree) (got : List (Result Heard Fault)) (begun now :
   left_next : (l : Left s e got begun now) (w : Want) (a : Asking w l.plan) → run turns (expression s e) begun ≡ next (run turns (wanted s w) now) (λ r t. run turns (translate (wanted s) Here (a.rest r)) t)
   left_next l w a = l.same ∙ ap (λ p. run turns (translate (wanted s) Here p) now) a.asks ∙ run_bind turns (wanted s w) (λ r. translate (wanted s) Here (a.rest r)) now
 
-  pub left_stops : Left s e got begun now → (w : Want) → outcome ≡ outcomes.Need w → {X : Type 0} (view : X → Heard) (new : State) (x : Halt) → Runs (wanted s w) view now new (Err x) → {Y : Type 0} (view' : Y → Value) → Runs (expression s e) view' begun new (Err x)
-  left_stops l w h view new stops.Memory r view' = tt
-  left_stops l w h view new (stops.Need n) r view' = left_next l w (left_asking l w h) ∙ ap (λ o. next o (λ r' t. run turns (translate (wanted s) Here ((left_asking l w h).rest r')) t)) r
-  left_stops l w h view new (stops.Fault f) r view' = left_next l w (left_asking l w h) ∙ ap (λ o. next o (λ r' t. run turns (translate (wanted s) Here ((left_asking l w h).rest r')) t)) r
+  pub left_halts : Left s e got begun now → (w : Want) → outcome ≡ outcomes.Need w → {X : Type 0} (view : X → Heard) (new : State) (x : Halt) → Runs (wanted s w) view now new (Err x) → {Y : Type 0} (view' : Y → Value) → Runs (expression s e) view' begun new (Err x)
+  left_halts l w h view new halts.Memory r view' = tt
+  left_halts l w h view new (halts.Need n) r view' = left_next l w (left_asking l w h) ∙ ap (λ o. next o (λ r' t. run turns (translate (wanted s) Here ((left_asking l w h).rest r')) t)) r
+  left_halts l w h view new (halts.Fault f) r view' = left_next l w (left_asking l w h) ∙ ap (λ o. next o (λ r' t. run turns (translate (wanted s) Here ((left_asking l w h).rest r')) t)) r
 
   pub left_goes : Left s e got begun now → (w : Want) → outcome ≡ outcomes.Need w → (r : Heard) (new : State) → run turns (wanted s w) now ≡ Done r new → Left s e (got ++ Ok r ∷ []) begun new
   left_goes l w h r new ran =

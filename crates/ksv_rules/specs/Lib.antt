@@ -15,3 +15,4 @@ pub mod Described
 pub mod Bounds
 pub mod Lawful
 pub mod Direct
+pub mod Code

@@ -1,6 +1,6 @@
 //! The rules of a description, for an engine.
 
-ghost use Rattle.std.specs.Prelude.{◌≡◌, ◌++◌, IfOk, OnOk, OnErr};
+ghost use Rattle.std.specs.Prelude.{◌≡◌};
 ghost use Rattle.ksv_desc.specs.Whole.{plain_pieces};
 ghost use Rattle.ksv_memo.specs.Meaning.{IsAddedTo};
 ghost use Rattle.ksv_nodes.specs.Exact.{node_exact};
@@ -43,32 +43,6 @@ impl Described {
     {
         &self.desc
     }
-
-    /// What a node does next after these replies, and what its readings rest on.
-    #[tactic(auto, unfolding(crate::specs::Meaning::rule_of))]
-    fn step(
-        &self,
-        alloc: Global,
-        node: &Node,
-        bytes: &Buffer,
-        replies: &[Answer],
-        uses: &mut Vec<Use>,
-    ) -> Result<Next<Node, Answer>, AllocError>
-        ensures step { IfOk result (λ step. step ≡ (described (plain_pieces self.now.desc)).follow bytes.now node.now replies.now) }
-        ensures uses { OnOk result (uses.new.items ≡ uses.old.items ++ (described (plain_pieces self.now.desc)).added bytes.now node.now replies.now) }
-        ensures refused { OnErr result (uses.new.items ≡ uses.old.items) }
-    {
-        let mut turn = Turn::new(alloc, &node.path, bytes, replies);
-        let step = match rule(&mut turn, self.has_answers, &self.desc, node) {
-            Ok(given) => Next::Done(Ok(given)),
-            Err(Halt::Need(needed)) => Next::Need(needed),
-            Err(Halt::Fault(fault)) => Next::Done(Err(fault)),
-            Err(Halt::Memory) => return Err(AllocError),
-        };
-        let added = turn.into_uses();
-        uses.extend_from_slice(&added)?;
-        Ok(step)
-    }
 }
 
 impl Rules for Described {
@@ -85,6 +59,7 @@ impl Rules for Described {
 
     ghost meaning = { λ rules. described (plain_pieces rules.desc) };
 
+    #[tactic(auto, unfolding(crate::specs::Meaning::rule_of))]
     fn next(
         &self,
         alloc: Global,
@@ -93,7 +68,16 @@ impl Rules for Described {
         replies: &[Answer],
         uses: &mut Vec<Use>,
     ) -> Result<Next<Node, Answer>, AllocError> {
-        self.step(alloc, node, bytes, replies, uses)
+        let mut turn = Turn::new(alloc, &node.path, bytes, replies);
+        let next = match rule(&mut turn, self.has_answers, &self.desc, node) {
+            Ok(given) => Next::Done(Ok(given)),
+            Err(Halt::Need(needed)) => Next::Need(needed),
+            Err(Halt::Fault(fault)) => Next::Done(Err(fault)),
+            Err(Halt::Memory) => return Err(AllocError),
+        };
+        let added = turn.into_uses();
+        uses.extend_from_slice(&added)?;
+        Ok(next)
     }
 
     fn copy_node(&self, alloc: Global, node: &Node) -> Result<Node, AllocError> {

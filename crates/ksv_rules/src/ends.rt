@@ -1,5 +1,5 @@
 //! Where something ends, and how a list goes on to its last element.
-#![tactic(auto, using(ksv_plan::proofs::Running::run_bind), unfolding(crate::specs::Ends::fields_end, crate::specs::Ends::object_end, crate::specs::Ends::part_rest, crate::specs::Ends::list_end, crate::specs::Ends::place_of, crate::specs::Ends::is_last, crate::specs::Ends::not_empty, crate::specs::Ends::element_end, crate::specs::Ends::end_of, crate::specs::Ends::next_rest, crate::specs::Ends::rest_from, crate::specs::Ends::whole_rest, crate::specs::Ends::rest_of))]
+#![tactic(auto)]
 
 ghost use Rattle.std.specs.Prelude.{◌≡◌, ◌+◌, ◌<◌, Some};
 ghost use Rattle.ksv_desc.specs.Pieces.{plain_repeat};
@@ -13,12 +13,13 @@ ghost use Rattle.ksv_rules.specs.Ends.{fields_end, object_end, part_rest, list_e
 use crate::fields::{field_of, last_attribute, members_of};
 use crate::heads::{in_list, part_end};
 use crate::site::Site;
-use crate::wanted::truth_of;
+use crate::wanted::{missing, truth_of};
 use ksv_desc::{Desc, Repeat};
-use ksv_expr_eval::{Expr, Fault, FaultKind, Path, Step};
+use ksv_expr_eval::{Expr, FaultKind, Path, Step};
 use ksv_nodes::{Ended, Halt, Head, List, Object, ObjectEnd, Rested, Turn};
 
 /// The end of an object that ends with its last attribute; without one it ends where it begins.
+#[tactic(auto, using(ksv_plan::proofs::Running::run_bind), unfolding(crate::specs::Ends::fields_end))]
 fn fields_end(turn: &mut Turn, path: &Path, start: u32, last: Option<u32>) -> Result<u32, Halt>
     ensures { Runs (fields_end path.now start last) (λ place. place) turn.old turn.new result }
 {
@@ -31,6 +32,7 @@ fn fields_end(turn: &mut Turn, path: &Path, start: u32, last: Option<u32>) -> Re
     }
 }
 
+#[tactic(auto, unfolding(crate::specs::Ends::object_end))]
 fn object_end(
     turn: &mut Turn,
     desc: &Desc,
@@ -50,6 +52,7 @@ fn object_end(
     }
 }
 
+#[tactic(auto, using(ksv_plan::proofs::Running::run_bind), unfolding(crate::specs::Ends::part_rest))]
 fn part_rest(turn: &mut Turn, path: &Path, step: Step) -> Result<Rested, Halt>
     ensures { Runs (part_rest path.now step) (λ rested. rested) turn.old turn.new result }
 {
@@ -58,6 +61,7 @@ fn part_rest(turn: &mut Turn, path: &Path, step: Step) -> Result<Rested, Halt>
 }
 
 /// A list ends where its last element does.
+#[tactic(auto, using(ksv_plan::proofs::Running::run_bind), unfolding(crate::specs::Ends::list_end))]
 fn list_end(turn: &mut Turn, path: &Path) -> Result<u32, Halt>
     ensures { Runs (list_end path.now) (λ place. place) turn.old turn.new result }
 {
@@ -76,6 +80,7 @@ fn absent_end(turn: &mut Turn, at: Option<u32>) -> Result<u32, Halt>
 }
 
 /// The place behind what stands at a path.
+#[tactic(auto, unfolding(crate::specs::Ends::place_of))]
 fn place_of(turn: &mut Turn, desc: &Desc, path: &Path, head: Head) -> Result<u32, Halt>
     ensures { Runs (place_of (plain_pieces desc.now) path.now head) (λ place. place) turn.old turn.new result }
 {
@@ -135,6 +140,7 @@ fn holds_behind(
 }
 
 /// Whether an element, which ends at a place, is the last one of its list.
+#[tactic(auto, unfolding(crate::specs::Ends::is_last))]
 fn is_last(
     turn: &mut Turn,
     list: List,
@@ -165,6 +171,7 @@ fn is_by_bytes(repeat: &Repeat) -> bool
 }
 
 /// Where bytes end a list, each of its elements has some.
+#[tactic(auto, unfolding(crate::specs::Ends::not_empty))]
 fn not_empty(turn: &mut Turn, repeat: &Repeat, start: u32, end: u32) -> Result<(), Halt>
     ensures { Runs (not_empty (plain_repeat repeat.now) start end) (λ unit. unit) turn.old turn.new result }
 {
@@ -214,6 +221,7 @@ fn end_at(
 }
 
 /// The end of what stands at a path.
+#[tactic(auto, using(ksv_plan::proofs::Running::run_bind), unfolding(crate::specs::Ends::end_of))]
 pub(crate) fn end_of(turn: &mut Turn, desc: &Desc, path: &Path) -> Result<Ended, Halt>
     ensures { Runs (end_of (plain_pieces desc.now) path.now) (λ ended. ended) turn.old turn.new result }
 {
@@ -223,6 +231,7 @@ pub(crate) fn end_of(turn: &mut Turn, desc: &Desc, path: &Path) -> Result<Ended,
 }
 
 /// What a list is behind an element.
+#[tactic(auto, unfolding(crate::specs::Ends::next_rest))]
 fn next_rest(turn: &mut Turn, list: &Path, index: u32) -> Result<Rested, Halt>
     requires { index < 1048576 }
     ensures { Runs (next_rest list.now index) (λ rested. rested) turn.old turn.new result }
@@ -247,6 +256,7 @@ fn rest_behind(turn: &mut Turn, list: &Path, index: u32, end: Ended) -> Result<R
 }
 
 /// What a list is from an element on.
+#[tactic(auto, using(ksv_plan::proofs::Running::run_bind), unfolding(crate::specs::Ends::rest_from))]
 fn rest_from(turn: &mut Turn, path: &Path, list: &Path, index: u32) -> Result<Rested, Halt>
     requires { index < 1048576 }
     ensures { Runs (rest_from path.now list.now index) (λ rested. rested) turn.old turn.new result }
@@ -256,18 +266,13 @@ fn rest_from(turn: &mut Turn, path: &Path, list: &Path, index: u32) -> Result<Re
 }
 
 /// The list of which an element is the first; faults stand at the list.
-fn in_whole_list(turn: &mut Turn, path: &Path, head: Head) -> Result<List, Halt>
-    ensures { Runs (in_whole_list path.now head) (λ list. list) turn.old turn.new result }
+fn in_whole_list(turn: &Turn, path: &Path, head: Head) -> Result<List, Halt>
+    ensures { Runs (in_whole_list path.now head) (λ list. list) turn.now turn.now result }
 {
-    let kind = match head {
-        Head::List(list) => return Ok(list),
-        Head::Absent(_) => FaultKind::Absent,
-        _ => FaultKind::NoSuch,
-    };
-    Err(Halt::Fault(Fault {
-        kind,
-        path: path.copy(turn.alloc())?,
-    }))
+    match head {
+        Head::List(list) => Ok(list),
+        _ => missing(turn, path, head, path),
+    }
 }
 
 fn first_rest(turn: &mut Turn, path: &Path, list_path: &Path, list: List) -> Result<Rested, Halt>
@@ -283,6 +288,7 @@ fn first_rest(turn: &mut Turn, path: &Path, list_path: &Path, list: List) -> Res
 }
 
 /// What a list is as a whole.
+#[tactic(auto, using(ksv_plan::proofs::Running::run_bind), unfolding(crate::specs::Ends::whole_rest))]
 fn whole_rest(turn: &mut Turn, path: &Path, list_path: &Path) -> Result<Rested, Halt>
     ensures { Runs (whole_rest path.now list_path.now) (λ rested. rested) turn.old turn.new result }
 {
@@ -304,6 +310,7 @@ fn element_rest(turn: &mut Turn, path: &Path, index: u32) -> Result<Rested, Halt
 }
 
 /// What a list is from the element at a path on.
+#[tactic(auto, unfolding(crate::specs::Ends::rest_of))]
 pub(crate) fn rest_of(turn: &mut Turn, desc: &Desc, path: &Path) -> Result<Rested, Halt>
     ensures { Runs (rest_of (plain_pieces desc.now) path.now) (λ rested. rested) turn.old turn.new result }
 {

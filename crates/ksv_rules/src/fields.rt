@@ -1,5 +1,5 @@
 //! What a description says of the members of its types.
-#![tactic(auto, using(ksv_plan::proofs::Running::run_bind), unfolding(crate::specs::Fields::members_of, crate::specs::Fields::sought, crate::specs::Fields::member_named, crate::specs::Fields::field_of))]
+#![tactic(auto)]
 
 ghost use Rattle.std.specs.Prelude.{◌≡◌, None, map, option_map};
 ghost use Rattle.ksv_desc.specs.Pieces.{plain_member, plain_field, plain_kind};
@@ -24,6 +24,7 @@ pub(crate) struct Sought<'d> {
 }
 
 /// The members of a type, in written order; a number that no type has is that of none.
+#[tactic(auto, unfolding(crate::specs::Fields::members_of))]
 pub(crate) fn members_of(desc: &Desc, type_number: u32) -> &[MemberDesc]
     ensures { map plain_member result.now ≡ members_of (plain_pieces desc.now) type_number }
 {
@@ -44,6 +45,7 @@ fn behind(before: Option<u32>, member: &MemberDesc) -> Option<u32>
 }
 
 /// The member of a name.
+#[tactic(auto, unfolding(crate::specs::Fields::sought))]
 fn find_member(members: &[MemberDesc], name: u32) -> Option<Sought<'_>>
     ensures { option_map plain_sought result ≡ sought name 0 None (map plain_member members.now) }
 {
@@ -64,6 +66,7 @@ fn find_member(members: &[MemberDesc], name: u32) -> Option<Sought<'_>>
 }
 
 /// The member of a name of a type.
+#[tactic(auto, unfolding(crate::specs::Fields::member_named))]
 pub(crate) fn member_named<'d>(
     turn: &mut Turn,
     desc: &'d Desc,
@@ -100,6 +103,7 @@ fn read_by<'d>(turn: &mut Turn, kind: &'d MemberKind) -> Result<&'d Field, Halt>
 }
 
 /// How the attribute of a source reads.
+#[tactic(auto, unfolding(crate::specs::Fields::field_of))]
 pub(crate) fn field_of<'d>(
     turn: &mut Turn,
     desc: &'d Desc,

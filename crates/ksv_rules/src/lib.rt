@@ -14,6 +14,7 @@ mod integer;
 mod laws;
 mod parts;
 mod rules;
+mod shapes;
 mod site;
 mod values;
 mod wanted;

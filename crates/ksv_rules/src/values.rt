@@ -1,5 +1,5 @@
 //! The value of what stands at a path.
-#![tactic(auto, using(ksv_plan::proofs::Running::run_bind), unfolding(crate::specs::Values::number_value, crate::specs::Values::fixed_value, crate::specs::Values::kept, crate::specs::Values::cut_bytes, crate::specs::Values::bytes_value, crate::specs::Values::text_value, crate::specs::Values::content_value, crate::specs::Values::choice_value, crate::specs::Values::leaf_value, crate::specs::Values::value_at, crate::specs::Values::value_of))]
+#![tactic(auto)]
 
 ghost use Rattle.std.specs.Prelude.{◌≡◌, ◌≤◌, ◌<◌, ◌+◌, IfOk, length, option_map};
 ghost use Rattle.ksv_expr_value.specs.Bytes.{content};
@@ -72,6 +72,7 @@ fn number_in(
 }
 
 /// The integer of a leaf.
+#[tactic(auto, using(ksv_plan::proofs::Running::run_bind), unfolding(crate::specs::Values::number_value))]
 fn number_value(
     turn: &mut Turn,
     leaf: Leaf,
@@ -86,6 +87,7 @@ fn number_value(
 }
 
 /// Certain bytes and no others.
+#[tactic(auto, using(ksv_plan::proofs::Running::run_bind), unfolding(crate::specs::Values::fixed_value))]
 fn fixed_value(turn: &mut Turn, leaf: Leaf, wanted: &[u8]) -> Result<Value, Halt>
     ensures { Runs (fixed_value leaf wanted.now) (λ value. value) turn.old turn.new result }
 {
@@ -111,6 +113,7 @@ fn cut_by(extent: &Extent, terminator: Option<Terminator>) -> Option<Terminator>
 }
 
 /// How many of the bytes are kept.
+#[tactic(auto, unfolding(crate::specs::Values::kept))]
 fn kept(terminator: Terminator, parts: Parts) -> usize
     requires { length (content parts) < 4294967296 }
     ensures kept { result ≡ kept (plain_terminator terminator) (content parts.entry) }
@@ -129,6 +132,7 @@ fn kept(terminator: Terminator, parts: Parts) -> usize
 }
 
 /// The range of bytes, up to a terminator.
+#[tactic(auto, using(ksv_plan::proofs::Running::run_bind), unfolding(crate::specs::Values::cut_bytes))]
 fn cut_bytes(turn: &mut Turn, leaf: Leaf, terminator: Terminator) -> Result<Value, Halt>
     ensures { Runs (cut_bytes leaf (plain_terminator terminator)) (λ value. value) turn.old turn.new result }
 {
@@ -141,6 +145,7 @@ fn cut_bytes(turn: &mut Turn, leaf: Leaf, terminator: Terminator) -> Result<Valu
 }
 
 /// The range of bytes; where they may be cut they are read.
+#[tactic(auto, unfolding(crate::specs::Values::bytes_value))]
 fn bytes_value(turn: &mut Turn, leaf: Leaf, terminator: Option<Terminator>) -> Result<Value, Halt>
     ensures { Runs (bytes_value leaf (option_map plain_terminator terminator)) (λ value. value) turn.old turn.new result }
 {
@@ -175,6 +180,7 @@ fn cut_text(terminator: Option<Terminator>, parts: Parts) -> Parts
 }
 
 /// The text of a leaf.
+#[tactic(auto, using(ksv_plan::proofs::Running::run_bind), unfolding(crate::specs::Values::text_value))]
 fn text_value(
     turn: &mut Turn,
     leaf: Leaf,
@@ -188,6 +194,7 @@ fn text_value(
     in_text(turn, text)
 }
 
+#[tactic(auto, unfolding(crate::specs::Values::content_value))]
 fn content_value(
     turn: &mut Turn,
     leaf: Leaf,
@@ -213,6 +220,7 @@ fn content_value(
     }
 }
 
+#[tactic(auto, unfolding(crate::specs::Values::choice_value))]
 fn choice_value(turn: &mut Turn, leaf: Leaf, field: &Field, choice: &Choice) -> Result<Value, Halt>
     ensures { Runs (choice_value leaf (plain_field field.now) (plain_choice choice.now)) (λ value. value) turn.old turn.new result }
 {
@@ -223,6 +231,7 @@ fn choice_value(turn: &mut Turn, leaf: Leaf, field: &Field, choice: &Choice) -> 
 }
 
 /// The value of a leaf, by the attribute that reads it.
+#[tactic(auto, using(ksv_plan::proofs::Running::run_bind), unfolding(crate::specs::Values::leaf_value))]
 fn leaf_value(turn: &mut Turn, desc: &Desc, leaf: Leaf) -> Result<Value, Halt>
     ensures { Runs (leaf_value (plain_pieces desc.now) leaf) (λ value. value) turn.old turn.new result }
 {
@@ -230,6 +239,7 @@ fn leaf_value(turn: &mut Turn, desc: &Desc, leaf: Leaf) -> Result<Value, Halt>
     choice_value(turn, leaf, field, &field.choice)
 }
 
+#[tactic(auto, unfolding(crate::specs::Values::value_at))]
 fn value_at(turn: &mut Turn, desc: &Desc, path: &Path, head: Head) -> Result<Value, Halt>
     ensures { Runs (value_at (plain_pieces desc.now) path.now head) (λ value. value) turn.old turn.new result }
 {
@@ -242,6 +252,7 @@ fn value_at(turn: &mut Turn, desc: &Desc, path: &Path, head: Head) -> Result<Val
 }
 
 /// The value of what stands at a path; objects and lists by their path.
+#[tactic(auto, using(ksv_plan::proofs::Running::run_bind), unfolding(crate::specs::Values::value_of))]
 pub(crate) fn value_of(turn: &mut Turn, desc: &Desc, path: &Path) -> Result<Value, Halt>
     ensures { Runs (value_of (plain_pieces desc.now) path.now) (λ value. value) turn.old turn.new result }
 {

@@ -1,9 +1,10 @@
 //! Integers, truth values and sizes that expressions give, and the objects at paths.
-#![tactic(auto, using(ksv_plan::proofs::Running::run_bind), unfolding(crate::specs::Wanted::integer_of, crate::specs::Wanted::truth_of, crate::specs::Wanted::holds, crate::specs::Wanted::size_of))]
+#![tactic(auto)]
 
 ghost use Rattle.std.specs.Prelude.{option_map};
 ghost use Rattle.ksv_expr_tree.specs.Tree.{view};
 ghost use Rattle.ksv_nodes.specs.Turning.{Runs};
+ghost use Rattle.ksv_rules.specs.Code.{missing};
 ghost use Rattle.ksv_rules.specs.Sites.{setting_of};
 ghost use Rattle.ksv_rules.specs.Wanted.{in_object, in_integer, in_truth, integer_of, truth_of, holds, in_size, size_of};
 
@@ -12,17 +13,26 @@ use crate::site::Site;
 use ksv_expr_eval::{Expr, Fault, FaultKind, Integer, Path, Value};
 use ksv_nodes::{Halt, Head, Object, Turn};
 
+/// The fault of a head at a path that isn't what is looked for there: where nothing stands it is absent, at that path;
+/// else there is no such thing, which is a fault of the asker.
+pub(crate) fn missing<X>(turn: &Turn, path: &Path, head: Head, asker: &Path) -> Result<X, Halt>
+    ensures { Runs (missing path.now head asker.now) (λ x. x) turn.now turn.now result }
+{
+    let (kind, at) = match head {
+        Head::Absent(_) => (FaultKind::Absent, path),
+        _ => (FaultKind::NoSuch, asker),
+    };
+    let path = at.copy(turn.alloc())?;
+    Err(Halt::Fault(Fault { kind, path }))
+}
+
 /// The object that stands at a path. Inside an absent attribute all is absent; what is no object has no members.
 pub(crate) fn in_object(turn: &Turn, path: &Path, head: Head) -> Result<Object, Halt>
     ensures { Runs (in_object path.now head) (λ object. object) turn.now turn.now result }
 {
     match head {
         Head::Object(object) => Ok(object),
-        Head::Absent(_) => Err(Halt::Fault(Fault {
-            kind: FaultKind::Absent,
-            path: path.copy(turn.alloc())?,
-        })),
-        _ => turn.raise(FaultKind::NoSuch),
+        _ => missing(turn, path, head, turn.here()),
     }
 }
 
@@ -45,6 +55,7 @@ fn in_truth(turn: &mut Turn, value: Value) -> Result<bool, Halt>
 }
 
 /// The integer that an expression gives; another kind doesn't fit.
+#[tactic(auto, using(ksv_plan::proofs::Running::run_bind), unfolding(crate::specs::Wanted::integer_of))]
 pub(crate) fn integer_of(turn: &mut Turn, site: Site, expr: &Expr) -> Result<Integer, Halt>
     ensures { Runs (integer_of (setting_of site.entry) (view expr.now)) (λ number. number) turn.old turn.new result }
 {
@@ -53,6 +64,7 @@ pub(crate) fn integer_of(turn: &mut Turn, site: Site, expr: &Expr) -> Result<Int
 }
 
 /// The truth value that an expression gives; another kind doesn't fit.
+#[tactic(auto, using(ksv_plan::proofs::Running::run_bind), unfolding(crate::specs::Wanted::truth_of))]
 pub(crate) fn truth_of(turn: &mut Turn, site: Site, expr: &Expr) -> Result<bool, Halt>
     ensures { Runs (truth_of (setting_of site.entry) (view expr.now)) (λ truth. truth) turn.old turn.new result }
 {
@@ -61,6 +73,7 @@ pub(crate) fn truth_of(turn: &mut Turn, site: Site, expr: &Expr) -> Result<bool,
 }
 
 /// Whether a condition holds; without one it does.
+#[tactic(auto, unfolding(crate::specs::Wanted::holds))]
 pub(crate) fn holds(turn: &mut Turn, site: Site, condition: &Option<Expr>) -> Result<bool, Halt>
     ensures { Runs (holds (setting_of site.entry) (option_map view condition.now)) (λ truth. truth) turn.old turn.new result }
 {
@@ -82,6 +95,7 @@ fn in_size(turn: &mut Turn, number: Integer) -> Result<u64, Halt>
 }
 
 /// The size that an expression gives.
+#[tactic(auto, using(ksv_plan::proofs::Running::run_bind), unfolding(crate::specs::Wanted::size_of))]
 pub(crate) fn size_of(turn: &mut Turn, site: Site, expr: &Expr) -> Result<u64, Halt>
     ensures { Runs (size_of (setting_of site.entry) (view expr.now)) (λ size. size) turn.old turn.new result }
 {

@@ -6,7 +6,7 @@ use Rattle.ksv_expr_eval.specs.Heard.{heard}
 use Rattle.ksv_expr_eval.specs.declared.want.EvalStep.TheVariants as outcomes
 use Rattle.ksv_rules.specs.Sites.{setting_of}
 use Rattle.ksv_rules.specs.Told.{told}
-use Rattle.ksv_rules.proofs.Evaluating.{outcome, left_begins, left_done, left_raised, left_stops, left_goes}
+use Rattle.ksv_rules.proofs.Evaluating.{outcome, left_begins, left_done, left_raised, left_halts, left_goes}
 use Rattle.ksv_rules.proofs.evaluation.value_of_expression.Goals as goal
 
 pub loop-replies-init : goal.loop-replies-init
@@ -26,7 +26,7 @@ pub returns-in_err-got-in-Need : goal.returns-in_err-got-in-Need
 returns-in_err-got-in-Need c =
     let e : outcome (setting_of c.args.site) (view c.args.expr.now) (map heard c.loop-replies.replies.items) c.args.turn.now c.loop-replies.turn ≡ outcomes.Need c.in-Need.want = cc (c.in_ok-done.ensures.outcome, c.ctx-ctx.ensures) in
     let p = err_from_is_err_and c.from_residual-in_err-got-in-Need.result c.from_residual-in_err-got-in-Need.ensures.1 in
-    rw (p.1, p.2) (left_stops _ _ _ _ _ c.loop-replies.invariant c.in-Need.want e told c.answer.new.turn _ c.in_err-got-in-Need.ensures.runs (λ v. v))
+    rw (p.1, p.2) (left_halts _ _ _ _ _ c.loop-replies.invariant c.in-Need.want e told c.answer.new.turn _ c.in_err-got-in-Need.ensures.runs (λ v. v))
 
 pub loop-replies-preserved : goal.loop-replies-preserved
 loop-replies-preserved c =

@@ -1,0 +1,256 @@
+//! What an attribute, or one of its elements, reads at a place.
+#![tactic(auto)]
+
+ghost use Rattle.std.specs.Prelude.{◌≡◌, option_map};
+ghost use Rattle.ksv_expr_tree.specs.Tree.{view};
+ghost use Rattle.ksv_desc.specs.Pieces.{plain_content, plain_choice, plain_extent, plain_terminator, plain_field};
+ghost use Rattle.ksv_nodes.specs.Turning.{Runs, StandsBelow};
+ghost use Rattle.ksv_rules.specs.Sites.{setting_of};
+ghost use Rattle.ksv_rules.specs.Heads.{leaf, leaf_to_end, terminated_at, terminated, run_of, sized_leaf, bytes_at, sized_object, object_at, content_at, shape_at};
+
+use crate::site::Site;
+use crate::wanted::size_of;
+use ksv_desc::{Choice, Content, Extent, Field, Terminator};
+use ksv_expr_eval::{Expr, FaultKind, Stream};
+use ksv_nodes::{Found, Halt, Head, Leaf, MemberRef, Object, ObjectEnd, Turn};
+
+/// So many bytes from a place on.
+#[tactic(auto, using(ksv_plan::proofs::Running::run_bind), unfolding(crate::specs::Heads::leaf))]
+fn leaf(
+    turn: &mut Turn,
+    source: MemberRef,
+    stream: Stream,
+    start: u32,
+    size: u64,
+) -> Result<Head, Halt>
+    ensures { Runs (leaf source stream start size) (λ head. head) turn.old turn.new result }
+{
+    let to = u128::from(start) + u128::from(size);
+    turn.reach(stream, to)?;
+    let to = to as u32;
+    Ok(Head::Leaf(Leaf {
+        source,
+        from: start,
+        to,
+        end: to,
+    }))
+}
+
+/// All bytes to the stream's end.
+#[tactic(auto, using(ksv_plan::proofs::Running::run_bind), unfolding(crate::specs::Heads::leaf_to_end))]
+fn leaf_to_end(turn: &mut Turn, source: MemberRef, stream: Stream, start: u32) -> Result<Head, Halt>
+    ensures { Runs (leaf_to_end source stream start) (λ head. head) turn.old turn.new result }
+{
+    let end = turn.finish(stream)?;
+    Ok(Head::Leaf(Leaf {
+        source,
+        from: start,
+        to: end,
+        end,
+    }))
+}
+
+/// Bytes up to a terminator, of which it is known where it stands.
+fn terminated_at(
+    turn: &mut Turn,
+    source: MemberRef,
+    start: u32,
+    terminator: Terminator,
+    found: Found,
+) -> Result<Head, Halt>
+    requires { StandsBelow 16777216 found }
+    ensures { Runs (terminated_at source start (plain_terminator terminator) found) (λ head. head) turn.old turn.new result }
+{
+    let (to, end) = match found {
+        Found::At(place) => {
+            let behind = place + 1;
+            let to = if terminator.is_included {
+                behind
+            } else {
+                place
+            };
+            let end = if terminator.is_consumed {
+                behind
+            } else {
+                place
+            };
+            (to, end)
+        }
+        Found::Missing(_) if terminator.is_required => return turn.raise(FaultKind::NoTerminator),
+        Found::Missing(end) => (end, end),
+    };
+    Ok(Head::Leaf(Leaf {
+        source,
+        from: start,
+        to,
+        end,
+    }))
+}
+
+/// Bytes up to a terminator.
+#[tactic(auto, using(ksv_plan::proofs::Running::run_bind), unfolding(crate::specs::Heads::terminated))]
+fn terminated(
+    turn: &mut Turn,
+    source: MemberRef,
+    stream: Stream,
+    start: u32,
+    terminator: Terminator,
+) -> Result<Head, Halt>
+    ensures { Runs (terminated source stream start (plain_terminator terminator)) (λ head. head) turn.old turn.new result }
+{
+    let found = turn.find(stream, start, terminator.byte)?;
+    terminated_at(turn, source, start, terminator, found)
+}
+
+/// What goes as far as it goes by itself; where nothing says how far, nothing is there.
+#[tactic(auto, unfolding(crate::specs::Heads::run_of))]
+fn run_of(
+    turn: &mut Turn,
+    source: MemberRef,
+    stream: Stream,
+    start: u32,
+    terminator: Option<Terminator>,
+) -> Result<Head, Halt>
+    ensures { Runs (run_of source stream start (option_map plain_terminator terminator)) (λ head. head) turn.old turn.new result }
+{
+    match terminator {
+        None => Ok(Head::Absent(Some(start))),
+        Some(terminator) => terminated(turn, source, stream, start, terminator),
+    }
+}
+
+/// Bytes or a text of a size that is evaluated.
+#[tactic(auto, using(ksv_plan::proofs::Running::run_bind), unfolding(crate::specs::Heads::sized_leaf))]
+fn sized_leaf(
+    turn: &mut Turn,
+    site: Site,
+    source: MemberRef,
+    stream: Stream,
+    size: &Expr,
+) -> Result<Head, Halt>
+    ensures { Runs (sized_leaf (setting_of site.entry) source stream site.entry.place (view size.now)) (λ head. head) turn.old turn.new result }
+{
+    let size = size_of(turn, site, size)?;
+    leaf(turn, source, stream, site.place, size)
+}
+
+/// Bytes or a text.
+#[tactic(auto, unfolding(crate::specs::Heads::bytes_at))]
+fn bytes_at(
+    turn: &mut Turn,
+    site: Site,
+    source: MemberRef,
+    stream: Stream,
+    field: &Field,
+) -> Result<Head, Halt>
+    ensures { Runs (bytes_at (setting_of site.entry) source stream site.entry.place (plain_extent field.now.extent) (option_map plain_terminator field.now.terminator)) (λ head. head) turn.old turn.new result }
+{
+    match &field.extent {
+        Extent::Sized(size) => sized_leaf(turn, site, source, stream, size),
+        Extent::SizeEos => leaf_to_end(turn, source, stream, site.place),
+        Extent::ByItself => run_of(turn, source, stream, site.place, field.terminator),
+    }
+}
+
+/// An object with a size has a stream of its own.
+#[tactic(auto, using(ksv_plan::proofs::Running::run_bind), unfolding(crate::specs::Heads::sized_object))]
+fn sized_object(
+    turn: &mut Turn,
+    site: Site,
+    type_number: u32,
+    stream: Stream,
+    size: &Expr,
+) -> Result<Head, Halt>
+    ensures { Runs (sized_object (setting_of site.entry) type_number stream site.entry.place (view size.now)) (λ head. head) turn.old turn.new result }
+{
+    let size = size_of(turn, site, size)?;
+    let start = site.place;
+    let end = u128::from(start) + u128::from(size);
+    turn.reach(stream, end)?;
+    let end = end as u32;
+    Ok(Head::Object(Object {
+        type_number,
+        stream: Stream {
+            from: start,
+            to: Some(end),
+        },
+        start,
+        ending: ObjectEnd::At(end),
+    }))
+}
+
+/// An object of a type: one to the stream's end has a stream of its own too, another ends with its fields.
+#[tactic(auto, unfolding(crate::specs::Heads::object_at))]
+fn object_at(
+    turn: &mut Turn,
+    site: Site,
+    type_number: u32,
+    stream: Stream,
+    extent: &Extent,
+) -> Result<Head, Halt>
+    ensures { Runs (object_at (setting_of site.entry) type_number stream site.entry.place (plain_extent extent.now)) (λ head. head) turn.old turn.new result }
+{
+    let start = site.place;
+    match extent {
+        Extent::Sized(size) => sized_object(turn, site, type_number, stream, size),
+        Extent::SizeEos => Ok(Head::Object(Object {
+            type_number,
+            stream: Stream {
+                from: start,
+                to: stream.to,
+            },
+            start,
+            ending: ObjectEnd::OfStream,
+        })),
+        Extent::ByItself => Ok(Head::Object(Object {
+            type_number,
+            stream,
+            start,
+            ending: ObjectEnd::ByFields,
+        })),
+    }
+}
+
+/// What an attribute of this content reads at a place of a stream.
+#[tactic(auto, unfolding(crate::specs::Heads::content_at))]
+fn content_at(
+    turn: &mut Turn,
+    site: Site,
+    source: MemberRef,
+    stream: Stream,
+    field: &Field,
+    content: &Content,
+) -> Result<Head, Halt>
+    ensures { Runs (content_at (setting_of site.entry) source stream site.entry.place (plain_field field.now) (plain_content content.now)) (λ head. head) turn.old turn.new result }
+{
+    match content {
+        Content::Bytes => bytes_at(turn, site, source, stream, field),
+        Content::Fixed(bytes) => leaf(turn, source, stream, site.place, bytes.len() as u64),
+        Content::Number { size, .. } => { leaf(turn, source, stream, site.place, u64::from(*size)) }
+        Content::Characters(_) => bytes_at(turn, site, source, stream, field),
+        Content::Object { type_number, .. } => object_at(
+            turn,
+            site,
+            *type_number,
+            stream,
+            &field.extent,
+        ),
+    }
+}
+
+/// What an attribute, or one of its elements, reads at a place of a stream.
+#[tactic(auto, unfolding(crate::specs::Heads::shape_at))]
+pub(crate) fn shape_at(
+    turn: &mut Turn,
+    site: Site,
+    source: MemberRef,
+    stream: Stream,
+    field: &Field,
+) -> Result<Head, Halt>
+    ensures { Runs (shape_at (setting_of site.entry) source stream site.entry.place (plain_field field.now) (plain_choice field.now.choice)) (λ head. head) turn.old turn.new result }
+{
+    match &field.choice {
+        Choice::Always(content) => content_at(turn, site, source, stream, field, content),
+        Choice::Switch { .. } => turn.raise(FaultKind::NoSuch),
+    }
+}
