@@ -1,3 +1,4 @@
 pub mod CommandLineLemmas
 pub mod WordLemmas
 pub mod CutLemmas
+pub mod Written

@@ -7,7 +7,7 @@ use clap::{Arg, ArgAction, Command, Error};
 use std::alloc::{AllocError, Global};
 
 /// What a command line names.
-#[derive(Clone, Copy, Debug)]
+#[derive(Clone, Copy)]
 pub struct Args<'a> {
     /// The path of the file.
     pub file: &'a str,

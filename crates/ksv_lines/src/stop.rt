@@ -6,7 +6,7 @@ use crate::device::{Failed, Sink, write_all};
 use itoa::Buffer as Digits;
 
 /// Why the program stops, other than at the end of a session that went well.
-#[derive(Clone, Copy, Debug, PartialEq, Eq)]
+#[derive(Clone, Copy)]
 pub enum Stop {
     /// The file can't be read.
     FileUnreadable,

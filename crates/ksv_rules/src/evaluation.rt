@@ -4,14 +4,39 @@ ghost use Rattle.std.specs.Prelude.{◌≡◌, IfOk, Ok};
 ghost use Rattle.ksv_expr_tree.specs.Tree.{view};
 ghost use Rattle.ksv_expr_eval.specs.Heard.{heard};
 ghost use Rattle.ksv_nodes.specs.Turning.{Runs};
+ghost use Rattle.ksv_rules.specs.Code.{ask_opened, ask_valued};
 ghost use Rattle.ksv_rules.specs.Sites.{setting_of};
 ghost use Rattle.ksv_rules.specs.Told.{told};
 ghost use Rattle.ksv_rules.specs.Wanted.{wanted, expression};
 
 use crate::site::Site;
 use crate::wanted::in_object;
-use ksv_expr_eval::{EvalStep, Expr, Got, Stream, Value, Want, eval};
+use ksv_expr_eval::{EvalStep, Expr, Got, Path, Stream, Value, Want, eval};
 use ksv_nodes::{Halt, Turn};
+
+/// The value of what stands at a path.
+#[tactic(auto, using(ksv_plan::proofs::Running::run_bind))]
+fn valued<'a>(turn: &mut Turn<'a>, path: Path) -> Result<Got<'a>, Halt>
+    ensures runs { Runs (ask_valued path) told turn.old turn.new result }
+    ensures told { IfOk result (λ got. heard got ≡ Ok (told got)) }
+{
+    let value = turn.value(path)?;
+    Ok(Got::Value(value.copy(turn.alloc())?))
+}
+
+/// The type and the stream of the object at a path.
+#[tactic(auto, using(ksv_plan::proofs::Running::run_bind))]
+fn opened<'a>(turn: &mut Turn<'a>, path: &Path) -> Result<Got<'a>, Halt>
+    ensures runs { Runs (ask_opened path.now) told turn.old turn.new result }
+    ensures told { IfOk result (λ got. heard got ≡ Ok (told got)) }
+{
+    let head = turn.head(path.copy(turn.alloc())?)?;
+    let object = in_object(turn, path, head)?;
+    Ok(Got::Object {
+        type_number: object.type_number,
+        stream: object.stream,
+    })
+}
 
 /// The answer to a want. A fault of a node that it asks ends the rule.
 #[tactic(auto, using(ksv_plan::proofs::Running::run_bind), unfolding(crate::specs::Wanted::wanted))]
@@ -20,18 +45,8 @@ fn answer<'a>(turn: &mut Turn<'a>, site: Site, want: Want) -> Result<Got<'a>, Ha
     ensures told { IfOk result (λ got. heard got ≡ Ok (told got)) }
 {
     match want {
-        Want::Value(path) => {
-            let value = turn.value(path)?;
-            Ok(Got::Value(value.copy(turn.alloc())?))
-        }
-        Want::Head(path) => {
-            let head = turn.head(path.copy(turn.alloc())?)?;
-            let object = in_object(turn, &path, head)?;
-            Ok(Got::Object {
-                type_number: object.type_number,
-                stream: object.stream,
-            })
-        }
+        Want::Value(path) => valued(turn, path),
+        Want::Head(path) => opened(turn, &path),
         Want::Rest(path) => {
             let rested = turn.rest(path)?;
             Ok(Got::Number(u64::from(rested.count)))

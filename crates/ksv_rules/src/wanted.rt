@@ -3,6 +3,8 @@
 
 ghost use Rattle.std.specs.Prelude.{option_map};
 ghost use Rattle.ksv_expr_tree.specs.Tree.{view};
+ghost use Rattle.ksv_plan.specs.Plan.{Fail};
+ghost use Rattle.ksv_nodes.specs.Rule.{There};
 ghost use Rattle.ksv_nodes.specs.Turning.{Runs};
 ghost use Rattle.ksv_rules.specs.Code.{missing};
 ghost use Rattle.ksv_rules.specs.Sites.{setting_of};
@@ -13,17 +15,23 @@ use crate::site::Site;
 use ksv_expr_eval::{Expr, Fault, FaultKind, Integer, Path, Value};
 use ksv_nodes::{Halt, Head, Object, Turn};
 
+/// A fault of a kind at a path.
+fn fault_at<X>(turn: &Turn, path: &Path, kind: FaultKind) -> Result<X, Halt>
+    ensures { Runs (Fail (There kind path.now)) (λ x. x) turn.now turn.now result }
+{
+    let path = path.copy(turn.alloc())?;
+    Err(Halt::Fault(Fault { kind, path }))
+}
+
 /// The fault of a head at a path that isn't what is looked for there: where nothing stands it is absent, at that path;
 /// else there is no such thing, which is a fault of the asker.
 pub(crate) fn missing<X>(turn: &Turn, path: &Path, head: Head, asker: &Path) -> Result<X, Halt>
     ensures { Runs (missing path.now head asker.now) (λ x. x) turn.now turn.now result }
 {
-    let (kind, at) = match head {
-        Head::Absent(_) => (FaultKind::Absent, path),
-        _ => (FaultKind::NoSuch, asker),
-    };
-    let path = at.copy(turn.alloc())?;
-    Err(Halt::Fault(Fault { kind, path }))
+    match head {
+        Head::Absent(_) => fault_at(turn, path, FaultKind::Absent),
+        _ => fault_at(turn, asker, FaultKind::NoSuch),
+    }
 }
 
 /// The object that stands at a path. Inside an absent attribute all is absent; what is no object has no members.
