@@ -1,13 +1,18 @@
 -- What the code's values are to the definitions.
-use Rattle.std.specs.Prelude.{◌==◌, ◌||◌, ◌++◌, not, is_none, false, ℕ, Bool, List, [], map, Option, option_map, codes}
+use Rattle.std.specs.Prelude.{◌==◌, ◌||◌, ◌++◌, not, is_some, is_none, true, false, ℕ, Bool, List, [], ◌∷◌, map, Option, option_map, codes}
 use Rattle.std.specs.Option.{option_map_or}
+use Rattle.std.specs.List.{list_any}
+use Rattle.std.specs.Str.{bytes_eq}
 use Rattle.std.specs.List.Sorted.{IsPermutation, IsNonDecreasing}
 use Rattle.ksv_yaml_tree.specs.Tree.{Tree, Pair, entry_at}
 use Rattle.ksv_schema_scope.specs.Types.{Scope}
 use Rattle.ksv_schema_scope.specs.Keys.{has, says}
 use Rattle.ksv_schema_scope.specs.Members.{members_within}
 use Rattle.ksv_schema_scope.specs.Declarations.{Declared, declared}
-use Rattle.ksv_schema_keys.specs.Values.{is_to_end, byte_at, type_key, is_integer}
+use Rattle.ksv_schema_keys.specs.declared.keys.Form.{Form}
+use Rattle.ksv_schema_keys.specs.declared.keys.Form.TheVariants as form
+use Rattle.ksv_schema_keys.specs.Keys.{is_id}
+use Rattle.ksv_schema_keys.specs.Values.{encoding_named, is_to_end, byte_at, type_key, is_integer}
 use Rattle.ksv_schema_faults.specs.declared.home.Home.{Home as HomeOfCode}
 use Rattle.ksv_schema_faults.specs.declared.fault.DescFault.{DescFault}
 use Rattle.ksv_schema_faults.specs.declared.fault.DescFaultKind.{DescFaultKind}
@@ -56,6 +61,17 @@ seen_fault o = option_map plain o
 
 abbrev pub seen_home : HomeOfCode → Home
 seen_home h = record { declared = declared h.scopes.now; within = h.within; in_sequence = h.in_sequence; is_repeated = h.is_repeated }
+
+-- ---- one key
+
+-- whether a text may stand at a key of a form, as far as the text alone tells
+abbrev pub fits : Form → List ℕ → Bool
+fits form.Id text = is_id text
+fits form.Flag text = list_any (bytes_eq text) (codes "true" ∷ codes "false" ∷ [])
+fits form.Repeat text = list_any (bytes_eq text) (codes "eos" ∷ codes "expr" ∷ codes "until" ∷ [])
+fits form.Coding text = is_some (encoding_named text)
+fits form.ParameterType text = not (bytes_eq text (codes "io"))
+fits _ text = true
 
 -- ---- keys together
 

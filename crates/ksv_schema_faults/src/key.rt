@@ -13,7 +13,7 @@ ghost use Rattle.ksv_schema_keys.specs.Keys as forms;
 ghost use Rattle.ksv_schema_keys.specs.Values.{encoding_named, type_text, byte_number, piece_of, case_key, ids_of};
 ghost use Rattle.ksv_schema_faults.specs.Rules.{text_faults, text_unless, expression_faults, type_text_faults, numeral_faults, endian_faults, bit_endian_faults, piece_faults, contents_faults, enum_faults, case_value_faults, case_key_faults, case_type_faults, case_faults, form_faults};
 ghost use Rattle.ksv_schema_keys.specs.Code.{seen_expression, seen_type_text, seen_piece, seen_path, form_of};
-ghost use Rattle.ksv_schema_faults.specs.Code.{seen_fault, seen_home};
+ghost use Rattle.ksv_schema_faults.specs.Code.{number_of, seen_fault, seen_home, fits};
 
 use crate::expression::{note_expression, note_names, note_type_text};
 use crate::fault::{DescFault, DescFaultKind, note, note_if};
@@ -30,30 +30,10 @@ use ksv_schema_scope::keys::has;
 use ksv_yaml_tree::{Entry, Yaml};
 use std::alloc::{AllocError, Global};
 
-/// Notes a text that is no id.
-fn note_id(least: &mut Option<DescFault>, entry: &Entry)
-    ensures { seen_fault least.new ≡ noted (seen_fault least.old) (text_unless is_id bad_value (pair entry.now)) }
-{
-    match entry.value().text() {
-        Some(text) => note_if(least, !is_id(text), entry.line(), DescFaultKind::BadValue),
-        None => note(least, entry.line(), DescFaultKind::BadValue),
-    }
-}
-
 fn is_flag(text: &[u8]) -> bool
     ensures { result ≡ list_any (bytes_eq text.now) (codes "true" ∷ codes "false" ∷ []) }
 {
     text == b"true".as_slice() || text == b"false".as_slice()
-}
-
-/// Notes a text other than `true` and `false`.
-fn note_flag(least: &mut Option<DescFault>, entry: &Entry)
-    ensures { seen_fault least.new ≡ noted (seen_fault least.old) (text_unless (λ text. list_any (bytes_eq text) (codes "true" ∷ codes "false" ∷ [])) bad_value (pair entry.now)) }
-{
-    match entry.value().text() {
-        Some(text) => note_if(least, !is_flag(text), entry.line(), DescFaultKind::BadValue),
-        None => note(least, entry.line(), DescFaultKind::BadValue),
-    }
 }
 
 fn is_repeat(text: &[u8]) -> bool
@@ -62,54 +42,26 @@ fn is_repeat(text: &[u8]) -> bool
     text == b"eos".as_slice() || text == b"expr".as_slice() || text == b"until".as_slice()
 }
 
-/// Notes a text other than `eos`, `expr` and `until`.
-fn note_repeat(least: &mut Option<DescFault>, entry: &Entry)
-    ensures { seen_fault least.new ≡ noted (seen_fault least.old) (text_unless (λ text. list_any (bytes_eq text) (codes "eos" ∷ codes "expr" ∷ codes "until" ∷ [])) bad_value (pair entry.now)) }
+/// Whether a text may stand at a key of this form, as far as the text alone tells.
+fn fits(form: Form, text: &[u8]) -> bool
+    ensures { result ≡ fits form text.now }
 {
-    match entry.value().text() {
-        Some(text) => note_if(
-            least,
-            !is_repeat(text),
-            entry.line(),
-            DescFaultKind::BadValue,
-        ),
-        None => note(least, entry.line(), DescFaultKind::BadValue),
+    match form {
+        Form::Id => is_id(text),
+        Form::Flag => is_flag(text),
+        Form::Repeat => is_repeat(text),
+        Form::Coding => encoding_named(text).is_some(),
+        Form::ParameterType => text != b"io".as_slice(),
+        _ => true,
     }
 }
 
-/// Notes the name of an encoding that is left out.
-fn note_coding(least: &mut Option<DescFault>, entry: &Entry)
-    ensures { seen_fault least.new ≡ noted (seen_fault least.old) (text_unless (λ text. is_some (encoding_named text)) left_out (pair entry.now)) }
+/// Notes a text that doesn't fit at a key of this form, and a node that is no text.
+fn note_text(least: &mut Option<DescFault>, form: Form, entry: &Entry, kind: DescFaultKind)
+    ensures { seen_fault least.new ≡ noted (seen_fault least.old) (text_unless (fits form) (number_of kind) (pair entry.now)) }
 {
     match entry.value().text() {
-        Some(text) => {
-            let is_known = encoding_named(text).is_some();
-            note_if(least, !is_known, entry.line(), DescFaultKind::LeftOut);
-        }
-        None => note(least, entry.line(), DescFaultKind::BadValue),
-    }
-}
-
-/// Notes the type `io` of a parameter.
-fn note_parameter_type(least: &mut Option<DescFault>, entry: &Entry)
-    ensures { seen_fault least.new ≡ noted (seen_fault least.old) (text_unless (λ text. not (bytes_eq text (codes "io"))) left_out (pair entry.now)) }
-{
-    match entry.value().text() {
-        Some(text) => {
-            let is_stream = text == b"io".as_slice();
-            note_if(least, is_stream, entry.line(), DescFaultKind::LeftOut);
-        }
-        None => note(least, entry.line(), DescFaultKind::BadValue),
-    }
-}
-
-/// Notes a node that is no text.
-#[tactic(auto, using(crate::proofs::Noted::steps))]
-fn note_any_text(least: &mut Option<DescFault>, entry: &Entry)
-    ensures { seen_fault least.new ≡ noted (seen_fault least.old) (text_unless (λ text. true) bad_value (pair entry.now)) }
-{
-    match entry.value().text() {
-        Some(_) => {}
+        Some(text) => note_if(least, !fits(form, text), entry.line(), kind),
         None => note(least, entry.line(), DescFaultKind::BadValue),
     }
 }
@@ -269,6 +221,25 @@ fn note_case_type(least: &mut Option<DescFault>, home: Home, line: usize, text: 
     note_if(least, is_text, line, DescFaultKind::LeftOut);
 }
 
+/// Notes the faults of the type at a case.
+fn note_case_at(
+    alloc: Global,
+    least: &mut Option<DescFault>,
+    home: Home,
+    entry: &Entry,
+) -> Result<(), AllocError>
+    ensures { OnOk result (seen_fault least.new ≡ noted (seen_fault least.old) (text_faults (λ text. case_type_faults (seen_home home.entry) (pair entry.now).line (type_text text)) (pair entry.now))) }
+{
+    match entry.value().text() {
+        Some(text) => {
+            let text = type_text(alloc, text)?;
+            note_case_type(least, home, entry.line(), &text);
+        }
+        None => note(least, entry.line(), DescFaultKind::BadValue),
+    }
+    Ok(())
+}
+
 /// Notes the faults of a case: of its key, and of its type.
 #[tactic(auto, using(crate::proofs::Noted::steps), unfolding(crate::specs::Rules::case_faults))]
 fn note_case(
@@ -279,16 +250,9 @@ fn note_case(
 ) -> Result<(), AllocError>
     ensures { OnOk result (seen_fault least.new ≡ noted (seen_fault least.old) (case_faults (seen_home home.entry) (pair entry.now))) }
 {
-    let line = entry.line();
     let read = read_expression(alloc, entry.key())?;
-    note_case_key(least, home, line, &read);
-    match entry.value().text() {
-        Some(text) => {
-            let text = type_text(alloc, text)?;
-            note_case_type(least, home, line, &text);
-        }
-        None => note(least, line, DescFaultKind::BadValue),
-    }
+    note_case_key(least, home, entry.line(), &read);
+    note_case_at(alloc, least, home, entry)?;
     Ok(())
 }
 
@@ -420,14 +384,14 @@ pub(crate) fn note_form(
             line,
             DescFaultKind::BadValue,
         ),
-        Form::Id => note_id(least, entry),
-        Form::Flag => note_flag(least, entry),
-        Form::Repeat => note_repeat(least, entry),
+        Form::Id => note_text(least, Form::Id, entry, DescFaultKind::BadValue),
+        Form::Flag => note_text(least, Form::Flag, entry, DescFaultKind::BadValue),
+        Form::Repeat => note_text(least, Form::Repeat, entry, DescFaultKind::BadValue),
         Form::Endian => note_endian(least, line, value),
         Form::BitEndian => note_bit_endian(least, entry),
-        Form::Coding => note_coding(least, entry),
-        Form::ParameterType => note_parameter_type(least, entry),
-        Form::AnyText => note_any_text(least, entry),
+        Form::Coding => note_text(least, Form::Coding, entry, DescFaultKind::LeftOut),
+        Form::ParameterType => note_text(least, Form::ParameterType, entry, DescFaultKind::LeftOut),
+        Form::AnyText => note_text(least, Form::AnyText, entry, DescFaultKind::BadValue),
         Form::Expression(site) => note_expression_at(alloc, least, home, site, entry)?,
         Form::TypeOrSwitch => note_type_at(alloc, least, home, entry)?,
         Form::Cases => note_cases_at(alloc, least, home, entry)?,

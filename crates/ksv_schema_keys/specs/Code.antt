@@ -17,10 +17,11 @@ use Rattle.ksv_schema_keys.specs.declared.values.CaseKey.TheVariants as case_key
 use Rattle.ksv_schema_keys.specs.Values.{TypeText, Unspelled, OfLanguage, OfDescription, is_integer, is_str, is_strz, is_of_description, Piece, Bytes, BadPiece, LeftOutPiece, names_in, CaseKey, Constant, Negative, Member, Default, NoKey}
 use Rattle.ksv_schema_keys.specs.declared.keys.Form.{Form as FormOfCode}
 use Rattle.ksv_schema_keys.specs.declared.keys.Form.TheVariants as form
+use Rattle.ksv_schema_keys.specs.declared.keys.Key.{Key as KeyOfCode}
 use Rattle.ksv_schema_keys.specs.declared.keys.MappingKind.{MappingKind}
 use Rattle.ksv_schema_keys.specs.declared.keys.MappingKind.TheVariants as table
 use Rattle.ksv_schema_keys.specs.Keys as forms
-use Rattle.ksv_schema_keys.specs.Keys.{Form, Key, flag, type_keys, meta_keys, parameter_keys, attribute_keys, parse_instance_keys, value_keys, switch_keys, constant_keys}
+use Rattle.ksv_schema_keys.specs.Keys.{Form, Key, key, flag, type_keys, meta_keys, parameter_keys, attribute_keys, parse_instance_keys, value_keys, switch_keys, constant_keys}
 
 -- ---- keys
 
@@ -46,6 +47,9 @@ form_of form.Contents = forms.Contents
 
 abbrev pub seen_form : Option FormOfCode → Option Form
 seen_form o = option_map form_of o
+
+abbrev pub seen_key : KeyOfCode → Key
+seen_key k = key k.0.now (form_of k.1)
 
 -- the keys of a mapping
 abbrev pub keys_of : MappingKind → List Key

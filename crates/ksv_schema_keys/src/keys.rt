@@ -1,9 +1,9 @@
 //! Which keys each mapping of a description may have, and what stands at each of them.
 
-ghost use Rattle.std.specs.Prelude.{◌≡◌, drop};
+ghost use Rattle.std.specs.Prelude.{◌≡◌, map};
 ghost use Rattle.std.specs.List.{list_all};
-ghost use Rattle.ksv_schema_keys.specs.Keys.{type_keys, meta_keys, parameter_keys, field_keys, attribute_keys, parse_instance_keys, value_keys, switch_keys, constant_keys, form_in, is_letter, is_id_byte, is_id};
-ghost use Rattle.ksv_schema_keys.specs.Code.{seen_form, keys_of};
+ghost use Rattle.ksv_schema_keys.specs.Keys.{field_keys, attribute_keys, parse_instance_keys, form_in, is_letter, is_id_byte, is_id};
+ghost use Rattle.ksv_schema_keys.specs.Code.{seen_form, seen_key, keys_of};
 
 use ksv_schema_names::Site;
 
@@ -69,177 +69,107 @@ pub enum MappingKind {
     Constant,
 }
 
-/// What stands at a key, where the table has it.
+/// A key, and what stands at it.
+struct Key(&'static [u8], Form);
+
+/// The keys of a type.
+static TYPE_KEYS: [Key; 6] = [
+    Key(b"meta", Form::Mapping),
+    Key(b"params", Form::Listing),
+    Key(b"seq", Form::Listing),
+    Key(b"types", Form::Mapping),
+    Key(b"instances", Form::Mapping),
+    Key(b"enums", Form::Mapping),
+];
+
+/// The keys of `meta`.
+static META_KEYS: [Key; 13] = [
+    Key(b"id", Form::Id),
+    Key(b"endian", Form::Endian),
+    Key(b"encoding", Form::Coding),
+    Key(b"bit-endian", Form::BitEndian),
+    Key(b"title", Form::Ignored),
+    Key(b"application", Form::Ignored),
+    Key(b"file-extension", Form::Ignored),
+    Key(b"license", Form::Ignored),
+    Key(b"xref", Form::Ignored),
+    Key(b"ks-version", Form::Ignored),
+    Key(b"tags", Form::Ignored),
+    Key(b"imports", Form::NotHere),
+    Key(b"ks-opaque-types", Form::NotHere),
+];
+
+/// The keys of a parameter.
+static PARAMETER_KEYS: [Key; 3] = [
+    Key(b"id", Form::Id),
+    Key(b"type", Form::ParameterType),
+    Key(b"enum", Form::AnyText),
+];
+
+/// The keys of an attribute, but for its id.
+static FIELD_KEYS: [Key; 17] = [
+    Key(b"type", Form::TypeOrSwitch),
+    Key(b"size", Form::Expression(Site::Size)),
+    Key(b"size-eos", Form::Flag),
+    Key(b"contents", Form::Contents),
+    Key(b"encoding", Form::Coding),
+    Key(b"terminator", Form::Byte),
+    Key(b"consume", Form::Flag),
+    Key(b"include", Form::Flag),
+    Key(b"eos-error", Form::Flag),
+    Key(b"repeat", Form::Repeat),
+    Key(b"repeat-expr", Form::Expression(Site::Count)),
+    Key(b"repeat-until", Form::Expression(Site::Until)),
+    Key(b"if", Form::Expression(Site::Condition)),
+    Key(b"enum", Form::EnumName),
+    Key(b"process", Form::NotHere),
+    Key(b"pad-right", Form::NotHere),
+    Key(b"valid", Form::NotHere),
+];
+
+/// The keys of an instance with a value.
+static VALUE_KEYS: [Key; 9] = [
+    Key(b"value", Form::Expression(Site::Value)),
+    Key(b"if", Form::Expression(Site::Condition)),
+    Key(b"enum", Form::EnumName),
+    Key(b"valid", Form::NotHere),
+    Key(b"pos", Form::Ignored),
+    Key(b"io", Form::Ignored),
+    Key(b"type", Form::Ignored),
+    Key(b"size", Form::Ignored),
+    Key(b"repeat", Form::Ignored),
+];
+
+/// The keys of a switch.
+static SWITCH_KEYS: [Key; 2] = [
+    Key(b"switch-on", Form::Expression(Site::Switch)),
+    Key(b"cases", Form::Cases),
+];
+
+/// The keys of what a number of an enum stands for.
+static CONSTANT_KEYS: [Key; 1] = [Key(b"id", Form::Id)];
+
+/// What stands at a key, where these have it.
 #[tactic(auto, unfolding(crate::specs::Keys::form_in))]
-pub fn form_in(table: MappingKind, key: &[u8]) -> Option<Form>
-    ensures { seen_form result ≡ form_in (keys_of table) key.now }
+fn form_among(keys: &[Key], name: &[u8]) -> Option<Form>
+    ensures { seen_form result ≡ form_in (map seen_key keys.now) name.now }
 {
-    match table {
-        MappingKind::Type => type_form(key),
-        MappingKind::Meta => meta_form(key),
-        MappingKind::Parameter => parameter_form(key),
-        MappingKind::Attribute => attribute_form(key),
-        MappingKind::ParseInstance => parse_instance_form(key),
-        MappingKind::Value => value_form(key),
-        MappingKind::Switch => switch_form(key),
-        MappingKind::Constant => constant_form(key),
+    for key in keys {
+        if name == key.0 {
+            return Some(key.1);
+        }
     }
+    None
 }
 
-#[tactic(auto, unfolding(crate::specs::Keys::form_in))]
-fn type_form(key: &[u8]) -> Option<Form>
-    ensures { seen_form result ≡ form_in type_keys key.now }
-{
-    if key == b"meta".as_slice() {
-        Some(Form::Mapping)
-    } else if key == b"params".as_slice() {
-        Some(Form::Listing)
-    } else if key == b"seq".as_slice() {
-        Some(Form::Listing)
-    } else if key == b"types".as_slice() {
-        Some(Form::Mapping)
-    } else if key == b"instances".as_slice() {
-        Some(Form::Mapping)
-    } else if key == b"enums".as_slice() {
-        Some(Form::Mapping)
-    } else {
-        None
-    }
-}
-
-#[tactic(auto, unfolding(crate::specs::Keys::form_in))]
-fn meta_form(key: &[u8]) -> Option<Form>
-    ensures { seen_form result ≡ form_in meta_keys key.now }
-{
-    if key == b"id".as_slice() {
-        Some(Form::Id)
-    } else if key == b"endian".as_slice() {
-        Some(Form::Endian)
-    } else if key == b"encoding".as_slice() {
-        Some(Form::Coding)
-    } else if key == b"bit-endian".as_slice() {
-        Some(Form::BitEndian)
-    } else {
-        unread_meta_form(key)
-    }
-}
-
-/// The keys of `meta` that nothing reads.
-#[tactic(auto, unfolding(crate::specs::Keys::form_in))]
-fn unread_meta_form(key: &[u8]) -> Option<Form>
-    ensures { seen_form result ≡ form_in (drop 4 meta_keys) key.now }
-{
-    if key == b"title".as_slice() {
-        Some(Form::Ignored)
-    } else if key == b"application".as_slice() {
-        Some(Form::Ignored)
-    } else if key == b"file-extension".as_slice() {
-        Some(Form::Ignored)
-    } else if key == b"license".as_slice() {
-        Some(Form::Ignored)
-    } else if key == b"xref".as_slice() {
-        Some(Form::Ignored)
-    } else if key == b"ks-version".as_slice() {
-        Some(Form::Ignored)
-    } else if key == b"tags".as_slice() {
-        Some(Form::Ignored)
-    } else if key == b"imports".as_slice() {
-        Some(Form::NotHere)
-    } else if key == b"ks-opaque-types".as_slice() {
-        Some(Form::NotHere)
-    } else {
-        None
-    }
-}
-
-#[tactic(auto, unfolding(crate::specs::Keys::form_in))]
-fn parameter_form(key: &[u8]) -> Option<Form>
-    ensures { seen_form result ≡ form_in parameter_keys key.now }
-{
-    if key == b"id".as_slice() {
-        Some(Form::Id)
-    } else if key == b"type".as_slice() {
-        Some(Form::ParameterType)
-    } else if key == b"enum".as_slice() {
-        Some(Form::AnyText)
-    } else {
-        None
-    }
-}
-
-#[tactic(auto, unfolding(crate::specs::Keys::form_in))]
+/// What stands at a key of an attribute, but for its id.
 fn field_form(key: &[u8]) -> Option<Form>
     ensures { seen_form result ≡ form_in field_keys key.now }
 {
-    if key == b"type".as_slice() {
-        Some(Form::TypeOrSwitch)
-    } else if key == b"size".as_slice() {
-        Some(Form::Expression(Site::Size))
-    } else if key == b"size-eos".as_slice() {
-        Some(Form::Flag)
-    } else if key == b"contents".as_slice() {
-        Some(Form::Contents)
-    } else if key == b"encoding".as_slice() {
-        Some(Form::Coding)
-    } else if key == b"terminator".as_slice() {
-        Some(Form::Byte)
-    } else {
-        ending_form(key)
-    }
+    form_among(FIELD_KEYS.as_slice(), key)
 }
 
-/// The keys of an attribute behind `terminator`.
-#[tactic(auto, unfolding(crate::specs::Keys::form_in))]
-fn ending_form(key: &[u8]) -> Option<Form>
-    ensures { seen_form result ≡ form_in (drop 6 field_keys) key.now }
-{
-    if key == b"consume".as_slice() {
-        Some(Form::Flag)
-    } else if key == b"include".as_slice() {
-        Some(Form::Flag)
-    } else if key == b"eos-error".as_slice() {
-        Some(Form::Flag)
-    } else {
-        repeat_form(key)
-    }
-}
-
-/// The keys of an attribute from `repeat` on.
-#[tactic(auto, unfolding(crate::specs::Keys::form_in))]
-fn repeat_form(key: &[u8]) -> Option<Form>
-    ensures { seen_form result ≡ form_in (drop 9 field_keys) key.now }
-{
-    if key == b"repeat".as_slice() {
-        Some(Form::Repeat)
-    } else if key == b"repeat-expr".as_slice() {
-        Some(Form::Expression(Site::Count))
-    } else if key == b"repeat-until".as_slice() {
-        Some(Form::Expression(Site::Until))
-    } else {
-        condition_form(key)
-    }
-}
-
-/// The keys of an attribute from `if` on.
-#[tactic(auto, unfolding(crate::specs::Keys::form_in))]
-fn condition_form(key: &[u8]) -> Option<Form>
-    ensures { seen_form result ≡ form_in (drop 12 field_keys) key.now }
-{
-    if key == b"if".as_slice() {
-        Some(Form::Expression(Site::Condition))
-    } else if key == b"enum".as_slice() {
-        Some(Form::EnumName)
-    } else if key == b"process".as_slice() {
-        Some(Form::NotHere)
-    } else if key == b"pad-right".as_slice() {
-        Some(Form::NotHere)
-    } else if key == b"valid".as_slice() {
-        Some(Form::NotHere)
-    } else {
-        None
-    }
-}
-
+/// What stands at a key of an attribute.
 #[tactic(auto, unfolding(crate::specs::Keys::form_in))]
 fn attribute_form(key: &[u8]) -> Option<Form>
     ensures { seen_form result ≡ form_in attribute_keys key.now }
@@ -251,6 +181,7 @@ fn attribute_form(key: &[u8]) -> Option<Form>
     }
 }
 
+/// What stands at a key of an instance with a place of its own.
 #[tactic(auto, unfolding(crate::specs::Keys::form_in))]
 fn parse_instance_form(key: &[u8]) -> Option<Form>
     ensures { seen_form result ≡ form_in parse_instance_keys key.now }
@@ -264,54 +195,19 @@ fn parse_instance_form(key: &[u8]) -> Option<Form>
     }
 }
 
-#[tactic(auto, unfolding(crate::specs::Keys::form_in))]
-fn value_form(key: &[u8]) -> Option<Form>
-    ensures { seen_form result ≡ form_in value_keys key.now }
+/// What stands at a key, where the table has it.
+pub fn form_in(table: MappingKind, key: &[u8]) -> Option<Form>
+    ensures { seen_form result ≡ form_in (keys_of table) key.now }
 {
-    if key == b"value".as_slice() {
-        Some(Form::Expression(Site::Value))
-    } else if key == b"if".as_slice() {
-        Some(Form::Expression(Site::Condition))
-    } else if key == b"enum".as_slice() {
-        Some(Form::EnumName)
-    } else if key == b"valid".as_slice() {
-        Some(Form::NotHere)
-    } else if key == b"pos".as_slice() {
-        Some(Form::Ignored)
-    } else if key == b"io".as_slice() {
-        Some(Form::Ignored)
-    } else if key == b"type".as_slice() {
-        Some(Form::Ignored)
-    } else if key == b"size".as_slice() {
-        Some(Form::Ignored)
-    } else if key == b"repeat".as_slice() {
-        Some(Form::Ignored)
-    } else {
-        None
-    }
-}
-
-#[tactic(auto, unfolding(crate::specs::Keys::form_in))]
-fn switch_form(key: &[u8]) -> Option<Form>
-    ensures { seen_form result ≡ form_in switch_keys key.now }
-{
-    if key == b"switch-on".as_slice() {
-        Some(Form::Expression(Site::Switch))
-    } else if key == b"cases".as_slice() {
-        Some(Form::Cases)
-    } else {
-        None
-    }
-}
-
-#[tactic(auto, unfolding(crate::specs::Keys::form_in))]
-fn constant_form(key: &[u8]) -> Option<Form>
-    ensures { seen_form result ≡ form_in constant_keys key.now }
-{
-    if key == b"id".as_slice() {
-        Some(Form::Id)
-    } else {
-        None
+    match table {
+        MappingKind::Type => form_among(TYPE_KEYS.as_slice(), key),
+        MappingKind::Meta => form_among(META_KEYS.as_slice(), key),
+        MappingKind::Parameter => form_among(PARAMETER_KEYS.as_slice(), key),
+        MappingKind::Attribute => attribute_form(key),
+        MappingKind::ParseInstance => parse_instance_form(key),
+        MappingKind::Value => form_among(VALUE_KEYS.as_slice(), key),
+        MappingKind::Switch => form_among(SWITCH_KEYS.as_slice(), key),
+        MappingKind::Constant => form_among(CONSTANT_KEYS.as_slice(), key),
     }
 }
 
