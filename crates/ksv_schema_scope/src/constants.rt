@@ -6,8 +6,7 @@ ghost use Rattle.std.specs.Option.{option_map_or};
 ghost use Rattle.std.specs.Ordering.{int_eq};
 ghost use Rattle.std.specs.Str.{bytes_eq};
 ghost use Rattle.ksv_yaml_tree.specs.View.{view, pair, seen_text};
-ghost use Rattle.ksv_schema_scope.specs.Enums.{number_written, id_of, constants_of, id_of_number, number_of_id};
-ghost use Rattle.ksv_schema_scope.specs.EnumRows.{enumeration_of};
+ghost use Rattle.ksv_schema_scope.specs.Enums.{number_written, id_of};
 
 use crate::enumeration::Enumeration;
 use crate::keys::{entries_in, text_at};
@@ -58,7 +57,7 @@ fn is_named(entry: &Entry, id: &[u8]) -> bool
 }
 
 /// The id of the first entry that has this number.
-fn id_in<'a>(entries: &'a [Entry], number: i128) -> Option<&'a [u8]>
+pub(crate) fn id_in<'a>(entries: &'a [Entry], number: i128) -> Option<&'a [u8]>
     ensures { seen_text result ≡ option_and_then (λ p. id_of p.value) (find (λ p. option_map_or (λ m. int_eq m number) (number_written p.key) false) (map pair entries.now)) }
 {
     for entry in entries {
@@ -70,7 +69,7 @@ fn id_in<'a>(entries: &'a [Entry], number: i128) -> Option<&'a [u8]>
 }
 
 /// The number of the first entry that has this id.
-fn number_in(entries: &[Entry], id: &[u8]) -> Option<i128>
+pub(crate) fn number_in(entries: &[Entry], id: &[u8]) -> Option<i128>
     ensures { result ≡ option_and_then (λ p. number_written p.key) (find (λ p. option_map_or (λ name. bytes_eq name id.now) (id_of p.value) false) (map pair entries.now)) }
 {
     for entry in entries {
@@ -96,22 +95,4 @@ pub(crate) fn entries_of<'a>(enums: &[Enumeration<'a>], e: usize) -> &'a [Entry]
         Some(enumeration) => entries_in(enumeration.value),
         None => &[],
     }
-}
-
-/// The id of a number in the enum `e`.
-pub(crate) fn id_of_number<'a>(
-    enums: &[Enumeration<'a>],
-    e: usize,
-    number: i128,
-) -> Option<&'a [u8]>
-    ensures { seen_text result ≡ id_of_number (constants_of (map enumeration_of enums.now)) e number }
-{
-    id_in(entries_of(enums, e), number)
-}
-
-/// The number of an id in the enum `e`.
-pub(crate) fn number_of_id(enums: &[Enumeration], e: usize, id: &[u8]) -> Option<i128>
-    ensures { result ≡ number_of_id (constants_of (map enumeration_of enums.now)) e id.now }
-{
-    number_in(entries_of(enums, e), id)
 }

@@ -3,15 +3,15 @@
 ghost use Rattle.std.specs.Prelude.{◌≡◌, ◌<◌, ◌++◌, ◌==◌, ◌&&◌, length, IfSome, map, OnOk, IfOk, flat_map, string_bytes};
 ghost use Rattle.std.specs.List.{position_from};
 ghost use Rattle.std.specs.Str.{bytes_eq};
-ghost use Rattle.ksv_yaml_tree.specs.View.{view, pair};
-ghost use Rattle.ksv_schema_scope.specs.Enums.{enumeration, enums_at_key, enums_of, enum_in, enum_along, enum_named};
+ghost use Rattle.ksv_yaml_tree.specs.View.{pair};
+ghost use Rattle.ksv_schema_scope.specs.Enums.{enumeration, enums_at_key, enums_of, enum_in, enum_along};
 ghost use Rattle.ksv_schema_scope.specs.EnumRows.{enumeration_of};
 ghost use Rattle.ksv_schema_scope.specs.Rows.{scopes_of, AreOrdered};
 ghost use Rattle.ksv_schema_scope.specs.Types.{outwards, from};
 
 use crate::enumeration::Enumeration;
 use crate::keys::entries_in;
-use crate::outwards::{keys_of_type, nearest_type, outer_of, type_along};
+use crate::outwards::{keys_of_type, outer_of, type_along};
 use crate::row::TypeRow;
 use ksv_yaml_tree::Entry;
 use std::alloc::{AllocError, Global};
@@ -109,7 +109,12 @@ fn enum_in(enums: &[Enumeration], name: &[u8], n: usize) -> Option<usize>
 }
 
 /// The enum of this name directly within the type `n`, or within the nearest around it.
-fn enum_outwards(types: &[TypeRow], enums: &[Enumeration], n: usize, name: &[u8]) -> Option<usize>
+pub(crate) fn enum_outwards(
+    types: &[TypeRow],
+    enums: &[Enumeration],
+    n: usize,
+    name: &[u8],
+) -> Option<usize>
     requires { AreOrdered types.now }
     ensures value { result ≡ outwards (enum_in (map enumeration_of enums.now) name.now) (from (scopes_of types.now) n) }
     ensures inside { IfSome result (λ k. k < length enums.now) }
@@ -127,7 +132,12 @@ fn enum_outwards(types: &[TypeRow], enums: &[Enumeration], n: usize, name: &[u8]
 }
 
 /// The enum to which a path of names leads from the type `n` inwards: types, and last the enum.
-fn enum_along(types: &[TypeRow], enums: &[Enumeration], n: usize, path: &[String]) -> Option<usize>
+pub(crate) fn enum_along(
+    types: &[TypeRow],
+    enums: &[Enumeration],
+    n: usize,
+    path: &[String],
+) -> Option<usize>
     ensures value { result ≡ enum_along (scopes_of types.now) (map enumeration_of enums.now) n (map string_bytes path.now) }
     ensures inside { IfSome result (λ k. k < length enums.now) }
 {
@@ -137,27 +147,5 @@ fn enum_along(types: &[TypeRow], enums: &[Enumeration], n: usize, path: &[String
             None => None,
         },
         None => None,
-    }
-}
-
-/// The enum that a path of names is where it is used in the type `n`.
-#[tactic(auto, unfolding(crate::specs::Enums::enum_named))]
-pub(crate) fn enum_named(
-    types: &[TypeRow],
-    enums: &[Enumeration],
-    n: usize,
-    path: &[String],
-) -> Option<usize>
-    requires { AreOrdered types.now }
-    ensures value { result ≡ enum_named (scopes_of types.now) (map enumeration_of enums.now) n (map string_bytes path.now) }
-    ensures inside { IfSome result (λ k. k < length enums.now) }
-{
-    match path {
-        [] => None,
-        [name] => enum_outwards(types, enums, n, name.as_str().as_bytes()),
-        [first, rest @ ..] => match nearest_type(types, n, first.as_str().as_bytes()) {
-            Some(found) => enum_along(types, enums, found, rest),
-            None => None,
-        },
     }
 }

@@ -6,7 +6,7 @@ ghost use Rattle.std.specs.List.Sorted.{IsNonDecreasingBy, IsPartitionPoint};
 ghost use Rattle.std.specs.Str.{bytes_eq};
 ghost use Rattle.ksv_yaml_tree.specs.View.{view, pair, seen_text};
 ghost use Rattle.ksv_schema_scope.specs.Keys.{text_at, entries_in};
-ghost use Rattle.ksv_schema_scope.specs.Members.{parameter, attribute, attributes_from, instance, members_at_key, members_of, members_within, member_named, is_in_params, parameters_within};
+ghost use Rattle.ksv_schema_scope.specs.Members.{parameter, attribute, attributes_from, instance, members_at_key, members_of, is_in_params};
 ghost use Rattle.ksv_schema_scope.specs.MemberRows.{member_of, IsRange};
 ghost use Rattle.ksv_schema_scope.specs.Rows.{scopes_of};
 
@@ -187,40 +187,19 @@ fn past(members: &[Member], n: usize) -> usize
 }
 
 /// The numbers of the members of the type `n`: the first one, and the one behind the last.
-fn range_of(members: &[Member], n: usize) -> (usize, usize)
+pub(crate) fn range_of(members: &[Member], n: usize) -> (usize, usize)
     requires { IsNonDecreasingBy (λ m. m.within) members.now }
     ensures { IsRange n members.now result.0 result.1 }
 {
     (first_of(members, n), past(members, n))
 }
 
-/// The members of the type `n`.
-pub(crate) fn members_within<'a, 'b>(members: &'b [Member<'a>], n: usize) -> &'b [Member<'a>]
-    requires { IsNonDecreasingBy (λ m. m.within) members.now }
-    ensures { map member_of result.now ≡ members_within (map member_of members.now) n }
-{
-    let (first, past) = range_of(members, n);
-    &members[first..past]
-}
-
 /// The place of the first member of this name.
-fn first_named(members: &[Member], name: &[u8]) -> Option<usize>
+pub(crate) fn first_named(members: &[Member], name: &[u8]) -> Option<usize>
     ensures inside { IfSome result (λ k. k < length members.now) }
     ensures value { result ≡ position_from (λ m. bytes_eq (member_of m).name name.now) 0 members.now }
 {
     members.iter().position(|member| member.name() == name)
-}
-
-/// The first member of this name in the type `n`, by its number among all members.
-pub(crate) fn member_named(members: &[Member], n: usize, name: &[u8]) -> Option<usize>
-    requires { IsNonDecreasingBy (λ m. m.within) members.now }
-    ensures { result ≡ member_named (map member_of members.now) n name.now }
-{
-    let (first, past) = range_of(members, n);
-    match first_named(&members[first..past], name) {
-        Some(place) => Some(first + place),
-        None => None,
-    }
 }
 
 /// Whether a member stands in `params`.
@@ -235,16 +214,8 @@ fn is_parameter(member: &Member) -> bool
 }
 
 /// How many of these members are parameters.
-fn count_parameters(members: &[Member]) -> usize
+pub(crate) fn count_parameters(members: &[Member]) -> usize
     ensures { result ≡ count_by (λ m. is_in_params m.role) members.now }
 {
     members.iter().filter(|member| is_parameter(member)).count()
-}
-
-/// How many parameters the type `n` has.
-pub(crate) fn count_of_parameters(members: &[Member], n: usize) -> usize
-    requires { IsNonDecreasingBy (λ m. m.within) members.now }
-    ensures { result ≡ length (parameters_within (map member_of members.now) n) }
-{
-    count_parameters(members_within(members, n))
 }

@@ -2,7 +2,7 @@
 
 ghost use Rattle.std.specs.Prelude.{◌≡◌, ◌≤◌, ◌^◌, min, IsTrue, IsFalse, MatchOption, slice_index, length, nat_lt, ◌==◌, ◌&&◌};
 ghost use Rattle.std.specs.Str.Parse.{digits_value};
-ghost use Rattle.ksv_schema_scope.specs.Numerals.{is_numeral, whole_to, decimal_to, hexadecimal_to, opposite, plain_number, signed_number};
+ghost use Rattle.ksv_schema_scope.specs.Numerals.{is_numeral, decimal_to, hexadecimal_to, opposite, plain_number, signed_number};
 
 /// What a text says where a plain number is wanted.
 #[derive(Clone, Copy, Debug)]
@@ -22,7 +22,6 @@ const LIMIT: u128 = 0x1_0000_0000_0000_0000;
 const LOWEST: u64 = 0x8000_0000_0000_0000;
 
 /// What digits are worth, or the limit where that is more.
-#[tactic(auto, using(crate::proofs::Digits::digits_more, crate::proofs::Digits::number_more))]
 fn worth(digits: &[u8], radix: u32) -> Option<u128>
     requires lower { 2 ≤ radix }
     requires upper { radix ≤ 36 }

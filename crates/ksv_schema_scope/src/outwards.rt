@@ -1,15 +1,15 @@
 //! Names that are looked for in the table of types, and byte order and encoding in force.
 
-ghost use Rattle.std.specs.Prelude.{◌≡◌, ◌<◌, ℕ, map, string_bytes, slice_get, length, IfSome, option_map};
+ghost use Rattle.std.specs.Prelude.{◌≡◌, ◌<◌, map, string_bytes, slice_get, length, IfSome};
 ghost use Rattle.std.specs.List.{position_from};
 ghost use Rattle.ksv_yaml_tree.specs.View.{pair, seen_text};
-ghost use Rattle.ksv_schema_scope.specs.Types.{type_in, outwards, from, root_named, nearest_type, type_along, type_named, keys_of_type, order_named, order_in, order_of, encoding_in, encoding_of};
-ghost use Rattle.ksv_schema_scope.specs.Rows.{scopes_of, AreOrdered, outer_of, is_row_named, seen_node};
+ghost use Rattle.ksv_schema_scope.specs.Types.{type_in, outwards, from, root_named, nearest_type, type_along, keys_of_type, order_named, order_in, order_of, encoding_in, encoding_of};
+ghost use Rattle.ksv_schema_scope.specs.Rows.{scopes_of, AreOrdered, outer_of, is_row_named};
 
 use crate::keys::{entries_at, entries_in, text_at};
 use crate::row::TypeRow;
 use ksv_desc::ByteOrder;
-use ksv_yaml_tree::{Entry, Yaml};
+use ksv_yaml_tree::Entry;
 
 /// The row of the type `n`.
 pub(crate) fn row<'a>(types: &[TypeRow<'a>], n: usize) -> Option<TypeRow<'a>>
@@ -107,63 +107,6 @@ pub(crate) fn type_along(types: &[TypeRow], n: usize, path: &[String]) -> Option
         }
     }
     Some(at)
-}
-
-/// The type that a path of names is where it is used in the type `n`.
-#[tactic(auto, unfolding(crate::specs::Types::type_named))]
-pub(crate) fn type_named(types: &[TypeRow], n: usize, path: &[String]) -> Option<usize>
-    requires { AreOrdered types.now }
-    ensures value { result ≡ type_named (scopes_of types.now) n (map string_bytes path.now) }
-    ensures inside { IfSome result (λ k. k < length types.now) }
-{
-    match path.split_first() {
-        Some((first, rest)) => match nearest_type(types, n, first.as_str().as_bytes()) {
-            Some(found) => type_along(types, found, rest),
-            None => None,
-        },
-        None => None,
-    }
-}
-
-/// How many types there are.
-#[tactic(auto, using(crate::proofs::Growing::length_scopes))]
-pub(crate) fn count(types: &[TypeRow]) -> usize
-    ensures { result ≡ length (scopes_of types.now) }
-{
-    types.len()
-}
-
-/// The line of a type's name.
-#[tactic(auto, using(crate::proofs::Around::line_here, crate::proofs::Around::line_past))]
-pub(crate) fn line_of_type(types: &[TypeRow], n: usize) -> Option<usize>
-    ensures { result ≡ option_map (λ s. s.line) (slice_get (scopes_of types.now) n) }
-{
-    match row(types, n) {
-        Some(row) => Some(row.line),
-        None => None,
-    }
-}
-
-/// A type's name.
-#[tactic(auto, using(crate::proofs::Around::id_here, crate::proofs::Around::id_past))]
-pub(crate) fn id_of_type<'a>(types: &[TypeRow<'a>], n: usize) -> Option<&'a [u8]>
-    ensures { seen_text result ≡ option_map (λ s. s.id) (slice_get (scopes_of types.now) n) }
-{
-    match row(types, n) {
-        Some(row) => Some(row.id),
-        None => None,
-    }
-}
-
-/// What a type says.
-#[tactic(auto, using(crate::proofs::Around::value_here, crate::proofs::Around::value_past))]
-pub(crate) fn value_of_type<'a>(types: &[TypeRow<'a>], n: usize) -> Option<&'a Yaml>
-    ensures { seen_node result ≡ option_map (λ s. s.value) (slice_get (scopes_of types.now) n) }
-{
-    match row(types, n) {
-        Some(row) => Some(row.value),
-        None => None,
-    }
 }
 
 /// The keys of the type `n`.

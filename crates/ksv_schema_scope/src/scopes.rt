@@ -1,10 +1,8 @@
 //! The table of what a tree declares.
 
-ghost use Rattle.std.specs.Prelude.{◌≡◌, [], map, length, IfOk, IfSome, ◌<◌, ◌^◌, string_bytes, slice_get, option_map};
-ghost use Rattle.std.specs.Option.{option_map_or};
+ghost use Rattle.std.specs.Prelude.{◌≡◌, map, length, IfOk, IfSome, ◌<◌, ◌^◌, string_bytes, slice_get, option_map};
 ghost use Rattle.ksv_yaml_tree.specs.View.{view, pair, seen_text};
 ghost use Rattle.ksv_schema_scope.specs.Declarations.{declared};
-ghost use Rattle.ksv_schema_scope.specs.Keys.{entries_in};
 ghost use Rattle.ksv_schema_scope.specs.Types.{keys_of_type, type_named, order_of, encoding_of};
 ghost use Rattle.ksv_schema_scope.specs.Members.{members_within, member_named, parameters_within};
 ghost use Rattle.ksv_schema_scope.specs.Enums.{enum_named, id_of_number, number_of_id};
@@ -14,10 +12,14 @@ ghost use Rattle.ksv_schema_scope.specs.ConstantRows.{constant_of, AreMarked};
 ghost use Rattle.ksv_schema_scope.specs.Rows.{seen_node};
 
 use crate::constant::Constant;
+use crate::constants::{entries_of, id_in, number_in};
 use crate::enumeration::Enumeration;
+use crate::enums::{enum_along, enum_outwards};
 use crate::member::Member;
+use crate::members::{count_parameters, first_named, range_of};
+use crate::outwards::{encoding_of, keys_of_type, nearest_type, order_of, row, type_along};
 use crate::row::TypeRow;
-use crate::{constants, enums, listing, members, outwards, types};
+use crate::{enums, listing, members, types};
 use ksv_desc::ByteOrder;
 use ksv_yaml_tree::{Entry, Yaml};
 use std::alloc::{AllocError, Global};
@@ -80,60 +82,67 @@ impl<'a> Scopes<'a> {
     }
 
     /// How many types there are.
+    #[tactic(auto, using(crate::proofs::Growing::length_scopes))]
     pub fn count_of_types(&self) -> usize
         ensures { result ≡ length (declared self.now).types }
     {
-        outwards::count(&self.types)
+        self.types.len()
     }
 
     /// The line of a type's name; of the root its first line.
+    #[tactic(auto, using(crate::proofs::Around::line_here, crate::proofs::Around::line_past))]
     pub fn line_of_type(&self, n: usize) -> Option<usize>
         ensures { result ≡ option_map (λ s. s.line) (slice_get (declared self.now).types n) }
     {
-        outwards::line_of_type(&self.types, n)
+        Some(row(&self.types, n)?.line)
     }
 
     /// A type's name; of the root its own id.
+    #[tactic(auto, using(crate::proofs::Around::id_here, crate::proofs::Around::id_past))]
     pub fn id_of_type(&self, n: usize) -> Option<&'a [u8]>
         ensures { seen_text result ≡ option_map (λ s. s.id) (slice_get (declared self.now).types n) }
     {
-        outwards::id_of_type(&self.types, n)
+        Some(row(&self.types, n)?.id)
     }
 
     /// What a type says.
+    #[tactic(auto, using(crate::proofs::Around::value_here, crate::proofs::Around::value_past))]
     pub fn value_of_type(&self, n: usize) -> Option<&'a Yaml>
         ensures { seen_node result ≡ option_map (λ s. s.value) (slice_get (declared self.now).types n) }
     {
-        outwards::value_of_type(&self.types, n)
+        Some(row(&self.types, n)?.value)
     }
 
     /// The keys of a type.
     pub fn keys_of_type(&self, n: usize) -> &'a [Entry]
         ensures { map pair result.now ≡ keys_of_type (declared self.now).types n }
     {
-        outwards::keys_of_type(&self.types, n)
+        keys_of_type(&self.types, n)
     }
 
     /// The type that a path of names is where it is used in the type `n`.
+    #[tactic(auto, unfolding(crate::specs::Types::type_named))]
     pub fn type_named(&self, n: usize, path: &[String]) -> Option<usize>
         ensures value { result ≡ type_named (declared self.now).types n (map string_bytes path.now) }
         ensures fits { IfSome result (λ k. k < 2 ^ 32) }
     {
-        outwards::type_named(&self.types, n, path)
+        let (first, rest) = path.split_first()?;
+        let found = nearest_type(&self.types, n, first.as_str().as_bytes())?;
+        type_along(&self.types, found, rest)
     }
 
     /// The byte order in force in the type `n`.
     pub fn order_of(&self, n: usize) -> Option<ByteOrder>
         ensures { result ≡ order_of (declared self.now).types n }
     {
-        outwards::order_of(&self.types, n)
+        order_of(&self.types, n)
     }
 
     /// The name of the encoding in force in the type `n`.
     pub fn encoding_of(&self, n: usize) -> Option<&'a [u8]>
         ensures { seen_text result ≡ encoding_of (declared self.now).types n }
     {
-        outwards::encoding_of(&self.types, n)
+        encoding_of(&self.types, n)
     }
 
     /// The members of all types.
@@ -147,21 +156,28 @@ impl<'a> Scopes<'a> {
     pub fn members_within(&self, n: usize) -> &[Member<'a>]
         ensures { map member_of result.now ≡ members_within (declared self.now).members n }
     {
-        members::members_within(&self.members, n)
+        let members = self.members.as_slice();
+        let (first, past) = range_of(members, n);
+        &members[first..past]
     }
 
     /// How many parameters the type `n` has.
     pub fn count_of_parameters(&self, n: usize) -> usize
         ensures { result ≡ length (parameters_within (declared self.now).members n) }
     {
-        members::count_of_parameters(&self.members, n)
+        count_parameters(self.members_within(n))
     }
 
     /// The first member of this name in the type `n`, by its number among all members.
     pub fn member_named(&self, n: usize, name: &[u8]) -> Option<usize>
         ensures { result ≡ member_named (declared self.now).members n name.now }
     {
-        members::member_named(&self.members, n, name)
+        let members = self.members.as_slice();
+        let (first, past) = range_of(members, n);
+        match first_named(&members[first..past], name) {
+            Some(place) => Some(first + place),
+            None => None,
+        }
     }
 
     /// The enums of all types.
@@ -172,11 +188,19 @@ impl<'a> Scopes<'a> {
     }
 
     /// The enum that a path of names is where it is used in the type `n`.
+    #[tactic(auto, unfolding(crate::specs::Enums::enum_named))]
     pub fn enum_named(&self, n: usize, path: &[String]) -> Option<usize>
         ensures value { result ≡ enum_named (declared self.now).types (declared self.now).enums n (map string_bytes path.now) }
         ensures fits { IfSome result (λ k. k < 2 ^ 32) }
     {
-        enums::enum_named(&self.types, &self.enums, n, path)
+        match path {
+            [] => None,
+            [name] => enum_outwards(&self.types, &self.enums, n, name.as_str().as_bytes()),
+            [first, rest @ ..] => {
+                let found = nearest_type(&self.types, n, first.as_str().as_bytes())?;
+                enum_along(&self.types, &self.enums, found, rest)
+            }
+        }
     }
 
     /// The entries of all enums, with a mark on each whose number, or whose id, an entry before it in the same enum has.
@@ -193,13 +217,13 @@ impl<'a> Scopes<'a> {
     pub fn id_of_number(&self, e: usize, number: i128) -> Option<&'a [u8]>
         ensures { seen_text result ≡ id_of_number (declared self.now).constants e number }
     {
-        constants::id_of_number(&self.enums, e, number)
+        id_in(entries_of(&self.enums, e), number)
     }
 
     /// The number that an id has in the enum `e`.
     pub fn number_of_id(&self, e: usize, id: &[u8]) -> Option<i128>
         ensures { result ≡ number_of_id (declared self.now).constants e id.now }
     {
-        constants::number_of_id(&self.enums, e, id)
+        number_in(entries_of(&self.enums, e), id)
     }
 }

@@ -1,8 +1,7 @@
 //! The types of a description, in the order of the text.
 
-ghost use Rattle.std.specs.Prelude.{◌≡◌, ℕ, ◌+◌, ◌<◌, ◌++◌, ◌∷◌, [], length, OnOk, IfOk, None, map, unwrap_or, codes};
-ghost use Rattle.ksv_yaml_tree.specs.Tree.{mapping_of};
-ghost use Rattle.ksv_yaml_tree.specs.View.{view, pair, seen_text};
+ghost use Rattle.std.specs.Prelude.{◌≡◌, ◌+◌, ◌<◌, ◌++◌, [], length, OnOk, IfOk, None};
+ghost use Rattle.ksv_yaml_tree.specs.View.{view};
 ghost use Rattle.ksv_schema_scope.specs.Types.{types_within, types_named, types_of, root_scope, from};
 ghost use Rattle.ksv_schema_scope.specs.Rows.{scopes_of, scope_of, AreOrdered};
 
