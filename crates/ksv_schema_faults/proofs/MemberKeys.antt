@@ -1,14 +1,16 @@
 -- A key of `cases` that is a member is noted as the expression that it is.
-use Rattle.std.proofs.Common.{◌≡◌, ℕ, ◌^◌, Bool, true, false, Some, refl, ◌∙◌}
+use Rattle.std.proofs.Common.{◌≡◌, ℕ, ◌^◌, Bool, true, false, [], Option, Some, refl, sym, ap, ◌∙◌}
 use Rattle.std.specs.Prelude.{nat_le, if◌then◌else◌}
 use Rattle.ksv_expr_tree.specs.declared.tree.SpecialName.TheVariants as specials
 use Rattle.ksv_expr_tree.specs.declared.tree.UnaryOperator.TheVariants as unaries
 use Rattle.ksv_expr_tree.specs.Tree.{Tree, MemberPath, literal, integer, truth, string, named, special, member, unary, binary, logical, choice, field, special_field, call, index, cast}
 use Rattle.ksv_schema_names.specs.declared.position.Site.TheVariants as sites
-use Rattle.ksv_schema_keys.specs.Values.{Negative, Member, NoKey, case_key}
+use Rattle.ksv_schema_keys.specs.Values.{CaseKey, Negative, Member, NoKey, case_key}
 use Rattle.ksv_schema_keys.specs.Code.{negative_key}
 use Rattle.ksv_schema_keys.proofs.CaseKeys.{key_negated}
+use Rattle.ksv_schema_faults.specs.Faults.{Fault, noted}
 use Rattle.ksv_schema_faults.specs.Rules.{Home, expression_faults, case_value_faults}
+use Rattle.ksv_schema_faults.proofs.Noted.{noted_none}
 
 not_negative : (n : ℕ) (m : MemberPath) (b : Bool) → Member m ≡ (if b then Negative n else NoKey) → ⊥
 not_negative n m true h = absurd cc
@@ -53,3 +55,10 @@ member_noted h line (special_field x s) m k = absurd cc
 member_noted h line (call x n es) m k = absurd cc
 member_noted h line (index x y) m k = absurd cc
 member_noted h line (cast x t) m k = absurd cc
+
+-- the other keys are noted by what they are
+pub key_noted : (h : Home) (line : ℕ) (o : Option Fault) (e : Tree) (k : CaseKey) → k ≡ case_key e → noted o (case_value_faults h line k) ≡ noted o (case_value_faults h line (case_key e))
+key_noted h line o e k is = ap (λ (k : CaseKey). noted o (case_value_faults h line k)) is
+
+pub silent_key : (h : Home) (line : ℕ) (o : Option Fault) (e : Tree) (k : CaseKey) → case_value_faults h line k ≡ [] → k ≡ case_key e → o ≡ noted o (case_value_faults h line (case_key e))
+silent_key h line o e k none is = sym (noted_none o) ∙ sym (ap (noted o) none) ∙ key_noted h line o e k is

@@ -30,26 +30,16 @@ use ksv_schema_scope::keys::has;
 use ksv_yaml_tree::{Entry, Yaml};
 use std::alloc::{AllocError, Global};
 
-fn is_flag(text: &[u8]) -> bool
-    ensures { result ≡ list_any (bytes_eq text.now) (codes "true" ∷ codes "false" ∷ []) }
-{
-    text == b"true".as_slice() || text == b"false".as_slice()
-}
-
-fn is_repeat(text: &[u8]) -> bool
-    ensures { result ≡ list_any (bytes_eq text.now) (codes "eos" ∷ codes "expr" ∷ codes "until" ∷ []) }
-{
-    text == b"eos".as_slice() || text == b"expr".as_slice() || text == b"until".as_slice()
-}
-
 /// Whether a text may stand at a key of this form, as far as the text alone tells.
 fn fits(form: Form, text: &[u8]) -> bool
     ensures { result ≡ fits form text.now }
 {
     match form {
         Form::Id => is_id(text),
-        Form::Flag => is_flag(text),
-        Form::Repeat => is_repeat(text),
+        Form::Flag => text == b"true".as_slice() || text == b"false".as_slice(),
+        Form::Repeat => {
+            text == b"eos".as_slice() || text == b"expr".as_slice() || text == b"until".as_slice()
+        }
         Form::Coding => encoding_named(text).is_some(),
         Form::ParameterType => text != b"io".as_slice(),
         _ => true,
@@ -182,7 +172,6 @@ fn note_enum(least: &mut Option<DescFault>, home: Home, line: usize, path: &Opti
 }
 
 /// Notes an expression that can't be a key of `cases`.
-#[tactic(auto, using(crate::proofs::Noted::steps), unfolding(crate::specs::Rules::case_value_faults))]
 fn note_case_value(least: &mut Option<DescFault>, home: Home, line: usize, expr: &Expr)
     ensures { seen_fault least.new ≡ noted (seen_fault least.old) (case_value_faults (seen_home home.entry) line (case_key (view_expression expr.now))) }
 {

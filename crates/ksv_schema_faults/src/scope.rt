@@ -70,20 +70,12 @@ fn note_meta<'a>(
 
 /// Notes what the root lacks, and its parameters.
 #[tactic(auto, using(crate::proofs::Noted::steps), unfolding(crate::specs::Rules::root_faults))]
-fn note_root(least: &mut Option<DescFault>, line: usize, entries: &[Entry])
-    ensures { seen_fault least.new ≡ noted (seen_fault least.old) (root_faults line (map pair entries.now)) }
-{
-    let has_meta = has(entries, b"meta");
-    note_missing_if(least, !has_meta, line);
-    note_left_out_if(least, true, entries, b"params");
-}
-
-#[tactic(auto, using(crate::proofs::Noted::steps))]
-fn note_if_root(least: &mut Option<DescFault>, number: usize, line: usize, entries: &[Entry])
+fn note_root(least: &mut Option<DescFault>, number: usize, line: usize, entries: &[Entry])
     ensures { seen_fault least.new ≡ noted (seen_fault least.old) (if number == 0 then root_faults line (map pair entries.now) else []) }
 {
     if number == 0 {
-        note_root(least, line, entries);
+        note_missing_if(least, !has(entries, b"meta"), line);
+        note_left_out_if(least, true, entries, b"params");
     }
 }
 
@@ -107,7 +99,7 @@ fn note_type_keys<'a>(
         entries,
     )?;
     note_meta(alloc, least, scopes, number, find(entries, b"meta"))?;
-    note_if_root(least, number, line, entries);
+    note_root(least, number, line, entries);
     Ok(())
 }
 
