@@ -2,3 +2,4 @@
 pub mod Stated
 pub mod Entries
 pub mod Contexts
+pub mod Code

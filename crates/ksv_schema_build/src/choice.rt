@@ -1,21 +1,24 @@
 //! What is read each time, or what a switch chooses.
 
-ghost use Rattle.std.specs.Prelude.{◌≡◌, map, IfOk, option_map};
+ghost use Rattle.std.specs.Prelude.{◌≡◌, map, IfOk, option_map, Some};
 ghost use Rattle.ksv_yaml_tree.specs.View.{pair};
-ghost use Rattle.ksv_expr_tree.specs.Tree.{view, literal_of};
+ghost use Rattle.ksv_expr_tree.specs.Tree.{view, literal_of, member_of};
 ghost use Rattle.ksv_schema_build.specs.Contexts.{context_of};
 ghost use Rattle.ksv_schema_build.specs.Stated.{value_of, case_value, case_of, each, switch_of, typed, choice_of};
-ghost use Rattle.ksv_desc.specs.Description.{Always, Fixed};
+ghost use Rattle.ksv_schema_build.specs.Code.{member_value, value_read};
+ghost use Rattle.ksv_desc.specs.Description.{Always, Fixed, Literal as LiteralValue};
 ghost use Rattle.ksv_schema_keys.specs.Values.{contents_of};
 ghost use Rattle.ksv_desc.specs.Pieces.{plain_value, plain_case, plain_choice};
-ghost use Rattle.ksv_schema_keys.specs.Code.{seen_case_key};
+ghost use Rattle.ksv_schema_keys.specs.Code.{seen_case_key, seen_expression};
 
+use crate::both::both;
 use crate::content::content_at;
 use crate::contents::contents_of;
 use crate::context::Context;
 use crate::expressions::expression_at;
 use ksv_desc::{Case, CaseValue, Choice, Content};
-use ksv_expr_tree::Literal;
+use ksv_expr_syntax::ExprFault;
+use ksv_expr_tree::{Expr, Literal, Member};
 use ksv_schema_keys::{CaseKey, case_key, read_expression};
 use ksv_schema_names::given_member;
 use ksv_schema_scope::keys::entries_at;
@@ -33,6 +36,24 @@ fn copied(alloc: Global, literal: &Literal) -> Result<Literal, AllocError>
     }
 }
 
+/// A case of a constant.
+fn constant_value(alloc: Global, literal: &Literal) -> Result<Option<CaseValue>, AllocError>
+    ensures { IfOk result (λ o. option_map plain_value o ≡ Some (LiteralValue (literal_of literal.now))) }
+{
+    let literal = copied(alloc, literal)?;
+    Ok(Some(CaseValue::Literal(literal)))
+}
+
+/// A case of a member of an enum.
+fn member_value(context: Context, member: &Member) -> Option<Option<CaseValue>>
+    ensures { option_map (option_map plain_value) result ≡ member_value (context_of context.entry) (member_of member.now) }
+{
+    match given_member(context.scopes, context.within, member) {
+        Some(given) => Some(Some(CaseValue::Member(given))),
+        None => None,
+    }
+}
+
 /// What a key of `cases` is compared with; none for `_`.
 #[tactic(auto, unfolding(crate::specs::Stated::value_of))]
 fn value_of(
@@ -43,17 +64,25 @@ fn value_of(
     ensures { IfOk result (λ o. option_map (option_map plain_value) o ≡ value_of (context_of context.entry) (seen_case_key key.entry)) }
 {
     match key {
-        CaseKey::Constant(literal) => {
-            let literal = copied(alloc, literal)?;
-            Ok(Some(Some(CaseValue::Literal(literal))))
-        }
+        CaseKey::Constant(literal) => Ok(Some(constant_value(alloc, literal)?)),
         CaseKey::Negative(number) => Ok(Some(Some(CaseValue::Negated(number)))),
-        CaseKey::Member(member) => match given_member(context.scopes, context.within, member) {
-            Some(given) => Ok(Some(Some(CaseValue::Member(given)))),
-            None => Ok(None),
-        },
+        CaseKey::Member(member) => Ok(member_value(context, member)),
         CaseKey::Default => Ok(Some(None)),
         CaseKey::NoKey => Ok(None),
+    }
+}
+
+/// What an expression is compared with, where one was read.
+fn value_read(
+    alloc: Global,
+    context: Context,
+    read: &Result<Expr, ExprFault>,
+) -> Result<Option<Option<CaseValue>>, AllocError>
+    ensures { IfOk result (λ o. option_map (option_map plain_value) o ≡ value_read (context_of context.entry) (seen_expression read.now)) }
+{
+    match read {
+        Ok(expr) => value_of(alloc, context, case_key(expr)),
+        Err(_) => Ok(None),
     }
 }
 
@@ -66,10 +95,8 @@ fn case_value(
 ) -> Result<Option<Option<CaseValue>>, AllocError>
     ensures { IfOk result (λ o. option_map (option_map plain_value) o ≡ case_value (context_of context.entry) text.now) }
 {
-    match read_expression(alloc, text)? {
-        Ok(expr) => value_of(alloc, context, case_key(&expr)),
-        Err(_) => Ok(None),
-    }
+    let read = read_expression(alloc, text)?;
+    value_read(alloc, context, &read)
 }
 
 /// A case.
@@ -85,10 +112,11 @@ fn case_of(
     let Some(value) = case_value(alloc, context, case.key())? else {
         return Ok(None);
     };
-    let Some(content) = content_at(alloc, context, entries, case)? else {
-        return Ok(None);
-    };
-    Ok(Some(Case { value, content }))
+    let content = content_at(alloc, context, entries, case);
+    match both(value, content)? {
+        Some((value, content)) => Ok(Some(Case { value, content })),
+        None => Ok(None),
+    }
 }
 
 /// The cases of a switch.
@@ -123,10 +151,11 @@ fn switch_of(
     let Some(on) = expression_at(alloc, context, b"switch-on", keys)? else {
         return Ok(None);
     };
-    let Some(cases) = cases_of(alloc, context, entries, entries_at(keys, b"cases"))? else {
-        return Ok(None);
-    };
-    Ok(Some(Choice::Switch { on, cases }))
+    let cases = cases_of(alloc, context, entries, entries_at(keys, b"cases"));
+    match both(on, cases)? {
+        Some((on, cases)) => Ok(Some(Choice::Switch { on, cases })),
+        None => Ok(None),
+    }
 }
 
 /// What stands at the key `type`: a text, or a switch.

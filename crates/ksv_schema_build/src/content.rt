@@ -8,9 +8,10 @@ ghost use Rattle.ksv_schema_scope.specs.Types.{type_named};
 ghost use Rattle.ksv_schema_names.specs.Numbered.{all_numbered};
 ghost use Rattle.ksv_schema_build.specs.Contexts.{context_of};
 ghost use Rattle.ksv_schema_build.specs.Stated.{perhaps_enum, encoding_at, order_at, integer_content, language_content, content_of, content_at};
+ghost use Rattle.ksv_schema_build.specs.Code.{enum_of, enum_at};
 ghost use Rattle.ksv_desc.specs.Description.{Characters, Object};
 ghost use Rattle.ksv_desc.specs.Pieces.{plain_content};
-ghost use Rattle.ksv_schema_keys.specs.Code.{seen_type_text};
+ghost use Rattle.ksv_schema_keys.specs.Code.{seen_path, seen_type_text};
 
 use crate::context::Context;
 use ksv_desc::Content;
@@ -22,6 +23,32 @@ use ksv_schema_scope::ByteOrder;
 use ksv_schema_scope::keys::{has, text_at};
 use ksv_yaml_tree::Entry;
 use std::alloc::{AllocError, Global};
+
+/// The number of the enum of this path.
+fn enum_of(context: Context, path: &Option<Vec<String>>) -> Option<u32>
+    ensures { result ≡ enum_of (context_of context.entry) (seen_path path.now) }
+{
+    match path {
+        Some(path) => match context.scopes.enum_named(context.within, path.as_slice()) {
+            Some(number) => Some(number as u32),
+            None => None,
+        },
+        None => None,
+    }
+}
+
+/// The number of the enum at the key `enum`.
+fn enum_at(alloc: Global, context: Context, entries: &[Entry]) -> Result<Option<u32>, AllocError>
+    ensures { IfOk result (λ o. o ≡ enum_at (context_of context.entry) (map pair entries.now)) }
+{
+    match text_at(entries, b"enum") {
+        Some(text) => {
+            let path = ids_of(alloc, text)?;
+            Ok(enum_of(context, &path))
+        }
+        None => Ok(None),
+    }
+}
 
 /// The number of the enum at the key `enum`, which may be left away.
 #[tactic(auto, unfolding(crate::specs::Stated::perhaps_enum))]
@@ -35,14 +62,8 @@ pub(crate) fn perhaps_enum(
     if !has(entries, b"enum") {
         return Ok(Some(None));
     }
-    let Some(text) = text_at(entries, b"enum") else {
-        return Ok(None);
-    };
-    let Some(path) = ids_of(alloc, text)? else {
-        return Ok(None);
-    };
-    match context.scopes.enum_named(context.within, path.as_slice()) {
-        Some(number) => Ok(Some(Some(number as u32))),
+    match enum_at(alloc, context, entries)? {
+        Some(number) => Ok(Some(Some(number))),
         None => Ok(None),
     }
 }

@@ -5,6 +5,7 @@ ghost use Rattle.ksv_schema_scope.specs.Declarations.{declared};
 ghost use Rattle.ksv_schema_build.specs.Stated.{described, stated_by};
 ghost use Rattle.ksv_desc.specs.Whole.{plain_pieces};
 
+use crate::both::both;
 use crate::enums::enums_of;
 use crate::names::{add_dotted, add_members};
 use crate::types::types_of;
@@ -26,15 +27,16 @@ fn described(
     let Some(types) = types_of(alloc, scopes, &names)? else {
         return Ok(None);
     };
-    let Some(enums) = enums_of(alloc, scopes)? else {
-        return Ok(None);
-    };
-    Ok(Some(Pieces {
-        types,
-        enums,
-        names,
-        known,
-    }))
+    let enums = enums_of(alloc, scopes);
+    match both(types, enums)? {
+        Some((types, enums)) => Ok(Some(Pieces {
+            types,
+            enums,
+            names,
+            known,
+        })),
+        None => Ok(None),
+    }
 }
 
 /// The description that a tree states.

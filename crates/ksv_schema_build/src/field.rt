@@ -6,6 +6,7 @@ ghost use Rattle.ksv_schema_build.specs.Contexts.{context_of};
 ghost use Rattle.ksv_schema_build.specs.Stated.{extent_of, terminated_by, terminator_of, repeat_of, field_of};
 ghost use Rattle.ksv_desc.specs.Pieces.{plain_extent, plain_terminator, plain_repeat, plain_field};
 
+use crate::both::both;
 use crate::choice::choice_of;
 use crate::context::Context;
 use crate::expressions::{expression_at, perhaps_expression};
@@ -98,19 +99,22 @@ pub(crate) fn field_of(
 ) -> Result<Option<Field>, AllocError>
     ensures { IfOk result (λ o. option_map plain_field o ≡ field_of (context_of context.entry) (map pair entries.now)) }
 {
+    let terminator = terminator_of(alloc, entries)?;
     let Some(condition) = perhaps_expression(alloc, context, b"if", entries)? else {
         return Ok(None);
     };
-    let Some(repeat) = repeat_of(alloc, context, entries)? else {
+    let repeat = repeat_of(alloc, context, entries);
+    let Some(turns) = both(condition, repeat)? else {
         return Ok(None);
     };
-    let Some(choice) = choice_of(alloc, context, entries)? else {
+    let choice = choice_of(alloc, context, entries);
+    let Some(chosen) = both(turns, choice)? else {
         return Ok(None);
     };
-    let Some(extent) = extent_of(alloc, context, entries)? else {
+    let extent = extent_of(alloc, context, entries);
+    let Some((((condition, repeat), choice), extent)) = both(chosen, extent)? else {
         return Ok(None);
     };
-    let terminator = terminator_of(alloc, entries)?;
     Ok(Some(Field {
         condition,
         repeat,

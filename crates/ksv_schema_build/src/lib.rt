@@ -3,6 +3,7 @@
 //! `specs/Stated` defines it piece by piece; where a tree has a fault it may state none.
 #![tactic(auto)]
 
+mod both;
 mod choice;
 mod content;
 mod contents;

@@ -7,6 +7,7 @@ ghost use Rattle.ksv_schema_build.specs.Contexts.{context_of};
 ghost use Rattle.ksv_schema_build.specs.Stated.{parse_instance_of, value_instance_of, kind_of, member_of, each};
 ghost use Rattle.ksv_desc.specs.Pieces.{plain_kind, plain_member};
 
+use crate::both::both;
 use crate::content::perhaps_enum;
 use crate::context::Context;
 use crate::expressions::{expression_at, perhaps_expression};
@@ -30,10 +31,12 @@ fn parse_instance_of(
     let Some(place) = expression_at(alloc, context, b"pos", entries)? else {
         return Ok(None);
     };
-    let Some(stream) = perhaps_expression(alloc, context, b"io", entries)? else {
+    let stream = perhaps_expression(alloc, context, b"io", entries);
+    let Some(at) = both(place, stream)? else {
         return Ok(None);
     };
-    let Some(field) = field_of(alloc, context, entries)? else {
+    let field = field_of(alloc, context, entries);
+    let Some(((place, stream), field)) = both(at, field)? else {
         return Ok(None);
     };
     Ok(Some(MemberKind::ParseInstance {
@@ -55,10 +58,12 @@ fn value_instance_of(
     let Some(condition) = perhaps_expression(alloc, context, b"if", entries)? else {
         return Ok(None);
     };
-    let Some(value) = expression_at(alloc, context, b"value", entries)? else {
+    let value = expression_at(alloc, context, b"value", entries);
+    let Some(computed) = both(condition, value)? else {
         return Ok(None);
     };
-    let Some(enumeration) = perhaps_enum(alloc, context, entries)? else {
+    let enumeration = perhaps_enum(alloc, context, entries);
+    let Some(((condition, value), enumeration)) = both(computed, enumeration)? else {
         return Ok(None);
     };
     Ok(Some(MemberKind::ValueInstance {
