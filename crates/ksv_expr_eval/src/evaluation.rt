@@ -186,7 +186,7 @@ fn cast_expr(
 }
 
 #[cycle(value)]
-#[tactic(auto, using(ksv_plan::proofs::Running::run_bind, crate::proofs::Cases::of_literal, crate::proofs::Cases::of_name, crate::proofs::Cases::of_special, crate::proofs::Cases::of_member, crate::proofs::Cases::of_unary, crate::proofs::Cases::of_binary, crate::proofs::Cases::of_logical, crate::proofs::Cases::of_choice, crate::proofs::Cases::of_field, crate::proofs::Cases::of_special_field, crate::proofs::Cases::of_index, crate::proofs::Cases::of_cast))]
+#[tactic(auto, using(ksv_plan::proofs::Running::run_bind, crate::proofs::Cases::of_binary, crate::proofs::Cases::of_logical, crate::proofs::Cases::of_choice, crate::proofs::Cases::of_index))]
 fn value(replies: &mut Replies, ctx: &Ctx, expr: &Expr) -> Result<Value, Halt>
     ensures { Runs (meaning ctx.now expr.now) (λ v. v) replies.old replies.new result }
 {

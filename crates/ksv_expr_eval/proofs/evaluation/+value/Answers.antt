@@ -1,7 +1,7 @@
--- A call is evaluated as its meaning says, by how many arguments it has.
+-- A form that is one call of a function is evaluated as its meaning says, and a call of a method too, by how many arguments it has.
 use Rattle.std.proofs.Common.{◌≡◌, ◌≤◌, [], ◌∷◌, length, ◌⊎◌, inl, inr, ap, sym, ◌∙◌, arith}
 use Rattle.ksv_plan.proofs.Running.{run_bind}
-use Rattle.ksv_expr_eval.proofs.Cases.{call_of_one, call_of_two, call_of_other, is_one, is_two}
+use Rattle.ksv_expr_eval.proofs.Cases.{of_literal, of_name, of_special, of_member, of_unary, of_field, of_special_field, of_cast, call_of_one, call_of_two, call_of_other, is_one, is_two}
 use Rattle.ksv_expr_eval.proofs.evaluation.+value.Goals as goal
 
 pub value-returns-in_err-object-in-len1 : goal.value-returns-in_err-object-in-len1
@@ -47,3 +47,27 @@ value-returns-in-Call t c =
     let other : (length c.in-Call.arguments.items ≡ 0) ⊎ (3 ≤ length c.in-Call.arguments.items) = inr (omega arith) in
     let law = call_of_other c.args.ctx.now c.args.expr.now c.in-Call.object c.in-Call.method c.in-Call.arguments c.in-Call.is other in
     grind (arith, run_bind, law)
+
+pub value-returns-in-Literal : goal.value-returns-in-Literal
+value-returns-in-Literal t c = grind (arith, of_literal)
+
+pub value-returns-in-Name : goal.value-returns-in-Name
+value-returns-in-Name t c = grind (arith, of_name)
+
+pub value-returns-in-Special : goal.value-returns-in-Special
+value-returns-in-Special t c = grind (arith, of_special)
+
+pub value-returns-in-Member : goal.value-returns-in-Member
+value-returns-in-Member t c = grind (arith, of_member)
+
+pub value-returns-in-Unary : goal.value-returns-in-Unary
+value-returns-in-Unary t c = grind (arith, of_unary)
+
+pub value-returns-in-Field : goal.value-returns-in-Field
+value-returns-in-Field t c = grind (arith, of_field)
+
+pub value-returns-in-SpecialField : goal.value-returns-in-SpecialField
+value-returns-in-SpecialField t c = grind (arith, of_special_field)
+
+pub value-returns : goal.value-returns
+value-returns t c = grind (arith, of_cast)
