@@ -188,7 +188,6 @@ fn is_call(method: &str, count: usize) -> bool
 
 /// The faults of a part.
 #[cycle(faults)]
-#[tactic(auto, using(crate::proofs::Noted::steps, crate::proofs::Forms::of_literal, crate::proofs::Forms::of_name, crate::proofs::Forms::of_special, crate::proofs::Forms::of_member, crate::proofs::Forms::of_unary, crate::proofs::Forms::of_binary, crate::proofs::Forms::of_logical, crate::proofs::Forms::of_choice, crate::proofs::Forms::of_field, crate::proofs::Forms::of_special_field, crate::proofs::Forms::of_index, crate::proofs::Forms::of_cast))]
 fn note_part(
     found: &mut Option<NameFault>,
     scopes: &Scopes,

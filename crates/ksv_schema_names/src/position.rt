@@ -1,7 +1,7 @@
 //! Where an expression stands, and what is wrong with a name in it.
 
 /// The key at which an expression stands.
-#[derive(Clone, Copy, PartialEq, Eq, Debug)]
+#[derive(Clone, Copy)]
 pub enum Site {
     /// `if`
     Condition,

@@ -1,11 +1,11 @@
--- Arguments are noted one after the other, and a call's parts likewise.
-use Rattle.std.proofs.Common.{◌∙◌, sym, ap}
+-- Each form by its own equation; arguments are noted one after the other, and a call's parts likewise.
+use Rattle.std.proofs.Common.{◌∙◌, sym, ap, arith}
 use Rattle.ksv_expr_tree.specs.Tree.{view}
 use Rattle.ksv_schema_scope.specs.Declarations.{declared}
 use Rattle.ksv_schema_names.specs.Names.{Other, part_faults, least}
 use Rattle.ksv_schema_names.specs.Code.{behind_of, faults_at}
-use Rattle.ksv_schema_names.proofs.Noted.{least_step, least_end}
-use Rattle.ksv_schema_names.proofs.Forms.{list_flat, noted_call}
+use Rattle.ksv_schema_names.proofs.Noted.{least_step, least_end, steps}
+use Rattle.ksv_schema_names.proofs.Forms.{list_flat, noted_call, of_literal, of_name, of_special, of_member, of_unary, of_binary, of_logical, of_choice, of_field, of_special_field, of_index, of_cast}
 use Rattle.ksv_schema_names.proofs.faults.+faults.Goals as goal
 
 pub note_list-loop-argument-preserved : goal.note_list-loop-argument-preserved
@@ -24,3 +24,33 @@ note_part-returns-in-Call t c =
     (cc (c.is_call-is_known.ensures, c.as_str-in-Call.ensures.value, c.len.ensures, c.note-in-Call.ensures))
     (cc (c.note_part-in-Call.ensures, c.deref-in-Call.ensures))
     (cc (c.note_list.ensures, c.deref-in-Call-2.ensures.value))
+
+pub note_part-returns-in-Literal : goal.note_part-returns-in-Literal
+note_part-returns-in-Literal t c = grind (arith, steps, of_literal)
+
+pub note_part-returns-in-Name : goal.note_part-returns-in-Name
+note_part-returns-in-Name t c = grind (arith, steps, of_name)
+
+pub note_part-returns-in-Special : goal.note_part-returns-in-Special
+note_part-returns-in-Special t c = grind (arith, of_special)
+
+pub note_part-returns-in-Member : goal.note_part-returns-in-Member
+note_part-returns-in-Member t c = grind (arith, steps, of_member)
+
+pub note_part-returns-in-Unary : goal.note_part-returns-in-Unary
+note_part-returns-in-Unary t c = grind (arith, of_unary)
+
+pub note_part-returns-in-Binary : goal.note_part-returns-in-Binary
+note_part-returns-in-Binary t c = grind (arith, steps, of_binary, of_logical, of_index)
+
+pub note_part-returns-in-Choice : goal.note_part-returns-in-Choice
+note_part-returns-in-Choice t c = grind (arith, steps, of_choice)
+
+pub note_part-returns-in-Field : goal.note_part-returns-in-Field
+note_part-returns-in-Field t c = grind (arith, of_field)
+
+pub note_part-returns-in-SpecialField : goal.note_part-returns-in-SpecialField
+note_part-returns-in-SpecialField t c = grind (arith, steps, of_special_field)
+
+pub note_part-returns-in-Cast : goal.note_part-returns-in-Cast
+note_part-returns-in-Cast t c = grind (arith, steps, of_cast)
