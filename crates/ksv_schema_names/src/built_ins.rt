@@ -1,7 +1,8 @@
 //! The types that the language itself has.
 
-ghost use Rattle.std.specs.Prelude.{◌≡◌, Some, map, string_bytes};
-ghost use Rattle.ksv_schema_names.specs.BuiltIn.{Integer, is_width, before_order, is_bits, listed, built_in, built_in_at};
+ghost use Rattle.std.specs.Prelude.{◌≡◌, map, string_bytes};
+ghost use Rattle.ksv_schema_names.specs.BuiltIn.{is_width, before_order, is_bits, listed, built_in, built_in_at};
+ghost use Rattle.ksv_schema_names.specs.Code.{type_among, seen_integer, other_types};
 
 use ksv_schema_scope::ByteOrder;
 
@@ -37,42 +38,56 @@ pub fn built_in(name: &[u8]) -> Option<BuiltIn>
     }
 }
 
-fn integer(is_signed: bool, size: u8, order: Option<ByteOrder>) -> Option<BuiltIn>
-    ensures { result ≡ Some (Integer is_signed size order) }
+/// The name of an integer: whether it has a sign, how many bytes it has, and their order, where the name says it.
+struct IntegerName(&'static [u8], bool, u8, Option<ByteOrder>);
+
+/// The integers of the language.
+static INTEGERS: [IntegerName; 20] = [
+    IntegerName(b"u1", false, 1, None),
+    IntegerName(b"u2", false, 2, None),
+    IntegerName(b"u2le", false, 2, Some(ByteOrder::Little)),
+    IntegerName(b"u2be", false, 2, Some(ByteOrder::Big)),
+    IntegerName(b"u4", false, 4, None),
+    IntegerName(b"u4le", false, 4, Some(ByteOrder::Little)),
+    IntegerName(b"u4be", false, 4, Some(ByteOrder::Big)),
+    IntegerName(b"u8", false, 8, None),
+    IntegerName(b"u8le", false, 8, Some(ByteOrder::Little)),
+    IntegerName(b"u8be", false, 8, Some(ByteOrder::Big)),
+    IntegerName(b"s1", true, 1, None),
+    IntegerName(b"s2", true, 2, None),
+    IntegerName(b"s2le", true, 2, Some(ByteOrder::Little)),
+    IntegerName(b"s2be", true, 2, Some(ByteOrder::Big)),
+    IntegerName(b"s4", true, 4, None),
+    IntegerName(b"s4le", true, 4, Some(ByteOrder::Little)),
+    IntegerName(b"s4be", true, 4, Some(ByteOrder::Big)),
+    IntegerName(b"s8", true, 8, None),
+    IntegerName(b"s8le", true, 8, Some(ByteOrder::Little)),
+    IntegerName(b"s8be", true, 8, Some(ByteOrder::Big)),
+];
+
+/// The integer of a name, where these have it.
+#[tactic(auto, unfolding(crate::specs::Code::type_among))]
+fn integer_among(integers: &[IntegerName], name: &[u8]) -> Option<BuiltIn>
+    ensures { result ≡ type_among (map seen_integer integers.now) name.now }
 {
-    Some(BuiltIn::Integer {
-        is_signed,
-        size,
-        order,
-    })
+    for integer in integers {
+        if name == integer.0 {
+            return Some(BuiltIn::Integer {
+                is_signed: integer.1,
+                size: integer.2,
+                order: integer.3,
+            });
+        }
+    }
+    None
 }
 
-/// The type of a name in the table.
-#[tactic(auto, unfolding(crate::specs::BuiltIn::listed))]
-fn in_table(name: &[u8]) -> Option<BuiltIn>
-    ensures { result ≡ listed name.now }
+/// The type of a name in the table that is no integer.
+#[tactic(auto, unfolding(crate::specs::Code::type_among))]
+fn other_type(name: &[u8]) -> Option<BuiltIn>
+    ensures { result ≡ type_among other_types name.now }
 {
     match name {
-        b"u1" => integer(false, 1, None),
-        b"u2" => integer(false, 2, None),
-        b"u2le" => integer(false, 2, Some(ByteOrder::Little)),
-        b"u2be" => integer(false, 2, Some(ByteOrder::Big)),
-        b"u4" => integer(false, 4, None),
-        b"u4le" => integer(false, 4, Some(ByteOrder::Little)),
-        b"u4be" => integer(false, 4, Some(ByteOrder::Big)),
-        b"u8" => integer(false, 8, None),
-        b"u8le" => integer(false, 8, Some(ByteOrder::Little)),
-        b"u8be" => integer(false, 8, Some(ByteOrder::Big)),
-        b"s1" => integer(true, 1, None),
-        b"s2" => integer(true, 2, None),
-        b"s2le" => integer(true, 2, Some(ByteOrder::Little)),
-        b"s2be" => integer(true, 2, Some(ByteOrder::Big)),
-        b"s4" => integer(true, 4, None),
-        b"s4le" => integer(true, 4, Some(ByteOrder::Little)),
-        b"s4be" => integer(true, 4, Some(ByteOrder::Big)),
-        b"s8" => integer(true, 8, None),
-        b"s8le" => integer(true, 8, Some(ByteOrder::Little)),
-        b"s8be" => integer(true, 8, Some(ByteOrder::Big)),
         b"str" => Some(BuiltIn::Str),
         b"strz" => Some(BuiltIn::Strz),
         b"f4" => Some(BuiltIn::NotHere),
@@ -82,6 +97,16 @@ fn in_table(name: &[u8]) -> Option<BuiltIn>
         b"f8le" => Some(BuiltIn::NotHere),
         b"f8be" => Some(BuiltIn::NotHere),
         _ => None,
+    }
+}
+
+/// The type of a name in the table.
+fn in_table(name: &[u8]) -> Option<BuiltIn>
+    ensures { result ≡ listed name.now }
+{
+    match integer_among(INTEGERS.as_slice(), name) {
+        Some(integer) => Some(integer),
+        None => other_type(name),
     }
 }
 
