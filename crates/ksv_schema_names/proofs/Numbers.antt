@@ -1,5 +1,5 @@
 -- An expression whose parts were given their numbers was given its own: what it is at each form.
-use Rattle.std.proofs.Common.{◌≡◌, ℕ, suc, ◌<◌, List, [], ◌∷◌, map, length, get_or, refl, sym, ap, ◌∙◌, arith, string_bytes, Box, Global, String, Vec}
+use Rattle.std.proofs.Common.{◌≡◌, ℕ, suc, ◌<◌, List, [], Option, ◌∷◌, map, length, get_or, refl, sym, ap, ◌∙◌, arith, string_bytes, Box, Global, String, Vec}
 use Rattle.std.specs.Vec.{with_items}
 use Rattle.std.proofs.lemmas.List.{with_items_is}
 use Rattle.ksv_expr_tree.specs.declared.tree.Expr.{Expr, Unary', Binary', Logical', Choice', Field', SpecialField', Index', Cast'}
@@ -12,14 +12,22 @@ use Rattle.ksv_expr_tree.specs.declared.tree.SpecialName.{SpecialName}
 use Rattle.ksv_expr_tree.specs.declared.tree.UnaryOperator.{UnaryOperator}
 use Rattle.ksv_expr_tree.specs.declared.tree.BinaryOperator.{BinaryOperator}
 use Rattle.ksv_expr_tree.specs.declared.tree.LogicalOperator.{LogicalOperator}
-use Rattle.ksv_expr_tree.specs.Tree.{Tree, view, name_of, path_of, member_of, arguments_of, argument, named, member, unary, binary, logical, choice, field, special_field, call, index, cast}
+use Rattle.ksv_expr_tree.specs.declared.tree.EnumMember.{EnumMember}
+use Rattle.ksv_expr_tree.specs.Tree.{Tree, MemberPath, view, name_of, path_of, member_of, arguments_of, argument, named, member, unary, binary, logical, choice, field, special_field, call, index, cast}
 use Rattle.ksv_schema_scope.specs.Declarations.{Declared}
-use Rattle.ksv_schema_names.specs.Numbered.{numbered, all_numbered, numbered_word, numbered_type, numbered_member}
+use Rattle.ksv_schema_names.specs.Numbered.{numbered, all_numbered, numbered_word, numbered_type, numbered_member, given_member}
 use Rattle.ksv_desc.proofs.Views.{view_literal, view_name, view_special, view_member, view_unary, view_binary, view_logical, view_choice, view_field, view_special_field, view_call, view_index, view_cast}
 
 -- a name, a type's name or a member that lay in the expression
 pub piece : {A B : Type 0} (see : A → B) (f : B → B) (x y : A) → x ≡ y → (new : A) → see new ≡ f (see x) → see new ≡ f (see y)
 piece {A = A} see f x y is new there = there ∙ ap (λ (z : A). f (see z)) is
+
+abbrev with_given : MemberPath → Option EnumMember → MemberPath
+with_given m g = record { path = m.path; name = m.name; given = g }
+
+-- a member that was given what it stands for
+pub given_is : (d : Declared) (n : ℕ) (m : MemberPath) (g : Option EnumMember) → g ≡ given_member d n m → with_given m g ≡ numbered_member d n m
+given_is d n m g is = ap (with_given m) is
 
 module _ (d : Declared) (s : List (List ℕ)) (n : ℕ) where
   -- a part that lay in a box
