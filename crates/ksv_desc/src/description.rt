@@ -64,7 +64,7 @@ impl Desc {
         ensures { result.now ≡ type_id (plain_pieces self.now) number }
     {
         match self.type_desc(number) {
-            Some(found) => found.id(),
+            Some(described) => described.id.as_str(),
             None => "",
         }
     }
@@ -75,7 +75,7 @@ impl Desc {
         ensures { result.now ≡ members (plain_pieces self.now) number }
     {
         match self.type_desc(number) {
-            Some(found) => found.names(),
+            Some(found) => found.names.as_slice(),
             None => &[],
         }
     }
@@ -86,7 +86,7 @@ impl Desc {
         ensures { result.now ≡ fields (plain_pieces self.now) number }
     {
         match self.type_desc(number) {
-            Some(found) => found.fields(),
+            Some(found) => found.fields.as_slice(),
             None => &[],
         }
     }

@@ -1,6 +1,6 @@
 //! Types.
 
-ghost use Rattle.std.specs.Prelude.{◌≡◌, map, filter, IfOk, string_bytes};
+ghost use Rattle.std.specs.Prelude.{◌≡◌, map, filter, IfOk};
 ghost use Rattle.ksv_desc.specs.Sequence.{is_attribute};
 
 use crate::members::MemberDesc;
@@ -9,10 +9,10 @@ use std::alloc::{AllocError, Global};
 /// A type: its name (of the root its own id), and its members in written order.
 #[derive(Drop)]
 pub struct TypeDesc {
-    id: String,
+    pub(crate) id: String,
     members: Vec<MemberDesc>,
-    names: Vec<u32>,
-    fields: Vec<u32>,
+    pub(crate) names: Vec<u32>,
+    pub(crate) fields: Vec<u32>,
     ghost names_are: { names.items ≡ map (λ m. m.name) members.items },
     ghost fields_are: { fields.items ≡ map (λ m. m.name) (filter is_attribute members.items) },
 }
@@ -57,31 +57,10 @@ impl TypeDesc {
         })
     }
 
-    /// Its name.
-    pub fn id(&self) -> &str
-        ensures { result.now ≡ string_bytes self.now.id }
-    {
-        self.id.as_str()
-    }
-
     /// Its members.
     pub fn members(&self) -> &[MemberDesc]
         ensures { result.now ≡ self.now.members.items }
     {
         self.members.as_slice()
-    }
-
-    /// The numbers of its members' names.
-    pub fn names(&self) -> &[u32]
-        ensures { result.now ≡ map (λ m. m.name) self.now.members.items }
-    {
-        self.names.as_slice()
-    }
-
-    /// The numbers of the names of those of its members that stand in its `seq`.
-    pub fn fields(&self) -> &[u32]
-        ensures { result.now ≡ map (λ m. m.name) (filter is_attribute self.now.members.items) }
-    {
-        self.fields.as_slice()
     }
 }
