@@ -34,6 +34,8 @@ pub dotted_member : (m : Member) → dotted_in (made.Member m) ≡ []
 unfolding dotted_in dotted
 dotted_member m = ap dotted (view_member m)
 
+pub ruleset leaves = (dotted_literal, dotted_name, dotted_special, dotted_member)
+
 pub dotted_unary : (op : UnaryOperator) (q : _) (e : Expr) → dotted_in (Unary' op q e) ≡ dotted_in e
 unfolding dotted_in dotted
 dotted_unary op q e = ap dotted (view_unary op q e)

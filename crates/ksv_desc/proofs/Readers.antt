@@ -1,5 +1,5 @@
 -- What the readers of a description find.
-use Rattle.std.proofs.Common.{◌≡◌, ℕ, zero, suc, ◌+◌, ◌<◌, ◌≤◌, Bool, true, false, cond, List, [], ◌∷◌, map, filter, take, ap, ◌∙◌, refl, Some, None, arith}
+use Rattle.std.proofs.Common.{◌≡◌, ℕ, zero, suc, ◌+◌, ◌<◌, ◌≤◌, Bool, true, false, cond, List, [], ◌∷◌, ◌++◌, length, get_or, drop, map, filter, take, ap, sym, ◌∙◌, refl, Some, None, arith, append_assoc, add-one, drop-cons}
 use Rattle.std.specs.List.{position_from}
 use Rattle.ksv_desc.specs.declared.members.MemberKind.{MemberKind}
 use Rattle.ksv_desc.specs.declared.members.MemberKind.TheVariants as kinds
@@ -32,6 +32,16 @@ fields_same (m ∷ ms) =
     go : (b : Bool) → map (λ m. m.name) (filter plain_is (map plain_member ms)) ≡ map (λ m. m.name) (filter is_attribute ms) → map (λ (m : MemberOfType). m.name) (cond b (plain_member m ∷ filter plain_is (map plain_member ms)) (filter plain_is (map plain_member ms))) ≡ map (λ (m : MemberDesc). m.name) (cond b (m ∷ filter is_attribute ms) (filter is_attribute ms))
     go true h = ap (λ (ns : List ℕ). m.name ∷ ns) h
     go false h = h
+
+-- ---- lists of names that grow member by member
+
+pub name_more : (xs ns : List ℕ) (ms : List MemberDesc) (i : ℕ) (m : MemberDesc) (whole : List ℕ) → i < length ms → m ≡ get_or ms i m → ns ≡ xs ++ m.name ∷ [] → xs ++ map (λ m. m.name) (drop i ms) ≡ whole → ns ++ map (λ m. m.name) (drop (i + 1) ms) ≡ whole
+name_more xs ns ms i m whole lt is new so_far =
+    let rest = map (λ (m : MemberDesc). m.name) (drop (suc i) ms) in
+    ap (λ (j : ℕ). ns ++ map (λ (m : MemberDesc). m.name) (drop j ms)) (add-one i)
+    ∙ ap (λ (l : List ℕ). l ++ rest) new ∙ append_assoc xs (m.name ∷ []) rest
+    ∙ ap (λ (k : MemberDesc). xs ++ k.name ∷ rest) is
+    ∙ sym (ap (λ (ys : List MemberDesc). xs ++ map (λ (m : MemberDesc). m.name) ys) (drop-cons ms i m lt)) ∙ so_far
 
 -- ---- the first of those in front
 

@@ -106,7 +106,7 @@ impl Names {
 
 /// Adds the names behind the dots of an expression.
 #[cycle(dots)]
-#[tactic(auto, using(crate::proofs::Dots::steps, crate::proofs::Dots::dotted_literal, crate::proofs::Dots::dotted_name, crate::proofs::Dots::dotted_special, crate::proofs::Dots::dotted_member, crate::proofs::Dots::dotted_unary, crate::proofs::Dots::dotted_binary, crate::proofs::Dots::dotted_logical, crate::proofs::Dots::dotted_choice, crate::proofs::Dots::dotted_field, crate::proofs::Dots::dotted_special_field, crate::proofs::Dots::dotted_index, crate::proofs::Dots::dotted_cast))]
+#[tactic(auto, using(crate::proofs::Dots::steps, crate::proofs::Dots::leaves))]
 fn add_in(names: &mut Names, expr: &Expr) -> Result<(), AllocError>
     ensures { OnOk result (names.new ≡ distinct_behind names.old (dotted_in expr.now)) }
 {

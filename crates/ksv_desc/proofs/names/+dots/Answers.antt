@@ -1,9 +1,9 @@
--- Names of arguments are added one after the other, and those of a call's parts likewise.
-use Rattle.std.proofs.Common.{◌∙◌, sym, ap}
+-- Each form with parts by its own equation; names of arguments are added one after the other, and those of a call's parts likewise.
+use Rattle.std.proofs.Common.{◌∙◌, sym, ap, arith}
 use Rattle.ksv_expr_tree.specs.Tree.{view}
 use Rattle.ksv_desc.specs.Names.{distinct_behind, dotted}
 use Rattle.ksv_desc.specs.Code.{dotted_in}
-use Rattle.ksv_desc.proofs.Dots.{distinct_step, distinct_end, all_flat, added_call}
+use Rattle.ksv_desc.proofs.Dots.{distinct_step, distinct_end, all_flat, added_call, steps, dotted_unary, dotted_binary, dotted_logical, dotted_choice, dotted_field, dotted_special_field, dotted_index, dotted_cast}
 use Rattle.ksv_desc.proofs.names.+dots.Goals as goal
 
 pub add_in-returns-in_ok-add_in_each-in-Call : goal.add_in-returns-in_ok-add_in_each-in-Call
@@ -20,3 +20,15 @@ add_in_each-loop-argument-preserved t c =
 pub add_in_each-returns : goal.add_in_each-returns
 add_in_each-returns t c =
     distinct_end view dotted c.args.arguments.now _ _ _ c.loop-argument-test.false c.loop-argument.invariant ∙ sym (ap (distinct_behind c.args.names.now) (all_flat _))
+
+pub add_in-returns-in-Unary : goal.add_in-returns-in-Unary
+add_in-returns-in-Unary t c = grind (arith, dotted_unary, dotted_special_field, dotted_cast)
+
+pub add_in-returns-in_ok-add_in-in-Binary : goal.add_in-returns-in_ok-add_in-in-Binary
+add_in-returns-in_ok-add_in-in-Binary t c = grind (arith, steps, dotted_binary, dotted_logical, dotted_index)
+
+pub add_in-returns-in_ok-add_in-in-Choice-2 : goal.add_in-returns-in_ok-add_in-in-Choice-2
+add_in-returns-in_ok-add_in-in-Choice-2 t c = grind (arith, steps, dotted_choice)
+
+pub add_in-returns-in_ok-add_in-in-Field : goal.add_in-returns-in_ok-add_in-in-Field
+add_in-returns-in_ok-add_in-in-Field t c = grind (arith, steps, dotted_field)
