@@ -79,14 +79,14 @@ impl<'a> Ctx<'a> {
     }
 
     /// The home's stream.
-    pub(crate) fn stream(&self) -> Stream
+    pub fn stream(&self) -> Stream
         ensures { result ≡ self.now.stream }
     {
         self.stream
     }
 
     /// The present place in the file.
-    pub(crate) fn place(&self) -> u32
+    pub fn place(&self) -> u32
         ensures { result ≡ self.now.place }
     {
         self.place

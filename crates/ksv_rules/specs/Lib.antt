@@ -1,5 +1,4 @@
 -- The definitions of node rules.
-pub mod Sites
 pub mod Told
 pub mod Fields
 pub mod Members

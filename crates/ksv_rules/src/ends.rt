@@ -12,10 +12,9 @@ ghost use Rattle.ksv_rules.specs.Ends.{fields_end, object_end, part_rest, list_e
 
 use crate::fields::{field_of, last_attribute, members_of};
 use crate::heads::{in_list, part_end};
-use crate::site::Site;
 use crate::wanted::{missing, truth_of};
 use ksv_desc::{Desc, Repeat};
-use ksv_expr_eval::{Expr, FaultKind, Path, Step};
+use ksv_expr_eval::{Ctx, Expr, FaultKind, Path, Step};
 use ksv_nodes::{Ended, Halt, Head, List, Object, ObjectEnd, Rested, Turn};
 
 /// The end of an object that ends with its last attribute; without one it ends where it begins.
@@ -128,15 +127,10 @@ fn holds_behind(
 {
     let list_path = element.parent(turn.alloc())?;
     let home = list_path.parent(turn.alloc())?;
-    let site = Site {
-        home: &home,
-        stream: list.home,
-        place: end,
-        index: Some(index),
-        element: Some(element),
-        here: element,
-    };
-    truth_of(turn, site, condition)
+    let ctx = Ctx::new(&home, list.home, end, element)
+        .within(index)
+        .behind(element);
+    truth_of(turn, &ctx, condition)
 }
 
 /// Whether an element, which ends at a place, is the last one of its list.

@@ -5,13 +5,11 @@ ghost use Rattle.ksv_expr_tree.specs.Tree.{view};
 ghost use Rattle.ksv_expr_eval.specs.Heard.{heard};
 ghost use Rattle.ksv_nodes.specs.Turning.{Runs};
 ghost use Rattle.ksv_rules.specs.Code.{ask_opened, ask_valued};
-ghost use Rattle.ksv_rules.specs.Sites.{setting_of};
 ghost use Rattle.ksv_rules.specs.Told.{told};
 ghost use Rattle.ksv_rules.specs.Wanted.{wanted, expression};
 
-use crate::site::Site;
 use crate::wanted::in_object;
-use ksv_expr_eval::{EvalStep, Expr, Got, Path, Stream, Value, Want, eval};
+use ksv_expr_eval::{Ctx, EvalStep, Expr, Got, Path, Stream, Value, Want, eval};
 use ksv_nodes::{Halt, Turn};
 
 /// The value of what stands at a path.
@@ -40,8 +38,8 @@ fn opened<'a>(turn: &mut Turn<'a>, path: &Path) -> Result<Got<'a>, Halt>
 
 /// The answer to a want. A fault of a node that it asks ends the rule.
 #[tactic(auto, using(ksv_plan::proofs::Running::run_bind), unfolding(crate::specs::Wanted::wanted))]
-fn answer<'a>(turn: &mut Turn<'a>, site: Site, want: Want) -> Result<Got<'a>, Halt>
-    ensures runs { Runs (wanted (setting_of site.entry) want) told turn.old turn.new result }
+fn answer<'a>(turn: &mut Turn<'a>, ctx: &Ctx, want: Want) -> Result<Got<'a>, Halt>
+    ensures runs { Runs (wanted ctx.now want) told turn.old turn.new result }
     ensures told { IfOk result (λ got. heard got ≡ Ok (told got)) }
 {
     match want {
@@ -56,7 +54,7 @@ fn answer<'a>(turn: &mut Turn<'a>, site: Site, want: Want) -> Result<Got<'a>, Ha
             Ok(Got::Number(u64::from(size)))
         }
         Want::Done => {
-            let is_done = turn.done(site.stream, site.place)?;
+            let is_done = turn.done(ctx.stream(), ctx.place())?;
             Ok(Got::Truth(is_done))
         }
         Want::Bytes { from, to } => {
@@ -68,19 +66,18 @@ fn answer<'a>(turn: &mut Turn<'a>, site: Site, want: Want) -> Result<Got<'a>, Ha
 
 /// The value of an expression: it is evaluated anew with one answer more, until it wants none. Its own faults stand at the
 /// path of the node.
-pub(crate) fn value_of_expression(turn: &mut Turn, site: Site, expr: &Expr) -> Result<Value, Halt>
-    ensures { Runs (expression (setting_of site.entry) (view expr.now)) (λ v. v) turn.old turn.new result }
+pub(crate) fn value_of_expression(turn: &mut Turn, ctx: &Ctx, expr: &Expr) -> Result<Value, Halt>
+    ensures { Runs (expression ctx.now (view expr.now)) (λ v. v) turn.old turn.new result }
 {
-    let ctx = site.ctx();
     let mut replies: Vec<Got> = Vec::new(turn.alloc());
     loop {
-        match eval(turn.alloc(), expr, &ctx, &replies)? {
+        match eval(turn.alloc(), expr, ctx, &replies)? {
             EvalStep::Done(done) => match done {
                 Ok(value) => return Ok(value),
                 Err(fault) => return turn.raise(fault.kind),
             },
             EvalStep::Need(want) => {
-                let got = answer(turn, site, want)?;
+                let got = answer(turn, ctx, want)?;
                 replies.push(got)?;
             }
         }

@@ -6,16 +6,14 @@ ghost use Rattle.ksv_expr_tree.specs.Tree.{view};
 ghost use Rattle.ksv_desc.specs.Pieces.{plain_repeat, plain_field, plain_kind};
 ghost use Rattle.ksv_desc.specs.Whole.{plain_pieces};
 ghost use Rattle.ksv_nodes.specs.Turning.{Runs};
-ghost use Rattle.ksv_rules.specs.Sites.{setting_of};
 ghost use Rattle.ksv_rules.specs.Members.{plain_sought};
 ghost use Rattle.ksv_rules.specs.Heads.{in_count, count_of, counted, until_eos, repeated, attribute_at, part_end, attribute_start, attribute_head, member_at, member_head, in_list, is_past, in_next, next_start, element_start, element_head, root_head, head_of};
 
 use crate::fields::{Sought, field_of, member_named};
 use crate::shapes::shape_at;
-use crate::site::Site;
 use crate::wanted::{holds, in_object, missing, size_of};
 use ksv_desc::{Desc, Field, MemberKind, Repeat};
-use ksv_expr_eval::{Expr, FaultKind, Path, Step, Stream};
+use ksv_expr_eval::{Ctx, Expr, FaultKind, Path, Step, Stream};
 use ksv_nodes::{Ended, Halt, Head, List, MemberRef, Object, ObjectEnd, Turn};
 
 // ---- attributes
@@ -32,10 +30,10 @@ fn in_count(turn: &mut Turn, count: u64) -> Result<u32, Halt>
 
 /// How many elements an expression says that there are.
 #[tactic(auto, using(ksv_plan::proofs::Running::run_bind), unfolding(crate::specs::Heads::count_of))]
-fn count_of(turn: &mut Turn, site: Site, count: &Expr) -> Result<u32, Halt>
-    ensures { Runs (count_of (setting_of site.entry) (view count.now)) (λ count. count) turn.old turn.new result }
+fn count_of(turn: &mut Turn, ctx: &Ctx, count: &Expr) -> Result<u32, Halt>
+    ensures { Runs (count_of ctx.now (view count.now)) (λ count. count) turn.old turn.new result }
 {
-    let count = size_of(turn, site, count)?;
+    let count = size_of(turn, ctx, count)?;
     in_count(turn, count)
 }
 
@@ -43,19 +41,19 @@ fn count_of(turn: &mut Turn, site: Site, count: &Expr) -> Result<u32, Halt>
 #[tactic(auto, using(ksv_plan::proofs::Running::run_bind), unfolding(crate::specs::Heads::counted))]
 fn counted(
     turn: &mut Turn,
-    site: Site,
+    ctx: &Ctx,
     source: MemberRef,
     stream: Stream,
     count: &Expr,
 ) -> Result<Head, Halt>
-    ensures { Runs (counted (setting_of site.entry) source stream site.entry.place (view count.now)) (λ head. head) turn.old turn.new result }
+    ensures { Runs (counted ctx.now source stream ctx.now.place (view count.now)) (λ head. head) turn.old turn.new result }
 {
-    let count = count_of(turn, site, count)?;
+    let count = count_of(turn, ctx, count)?;
     Ok(Head::List(List {
         source,
         stream,
-        home: site.stream,
-        start: site.place,
+        home: ctx.stream(),
+        start: ctx.place(),
         count: Some(count),
         is_empty: count == 0,
     }))
@@ -63,15 +61,15 @@ fn counted(
 
 /// The elements of an attribute that go on to the stream's end.
 #[tactic(auto, using(ksv_plan::proofs::Running::run_bind), unfolding(crate::specs::Heads::until_eos))]
-fn until_eos(turn: &mut Turn, site: Site, source: MemberRef, stream: Stream) -> Result<Head, Halt>
-    ensures { Runs (until_eos (setting_of site.entry) source stream site.entry.place) (λ head. head) turn.old turn.new result }
+fn until_eos(turn: &mut Turn, ctx: &Ctx, source: MemberRef, stream: Stream) -> Result<Head, Halt>
+    ensures { Runs (until_eos ctx.now source stream ctx.now.place) (λ head. head) turn.old turn.new result }
 {
-    let is_empty = turn.done(stream, site.place)?;
+    let is_empty = turn.done(stream, ctx.place())?;
     Ok(Head::List(List {
         source,
         stream,
-        home: site.stream,
-        start: site.place,
+        home: ctx.stream(),
+        start: ctx.place(),
         count: None,
         is_empty,
     }))
@@ -81,22 +79,22 @@ fn until_eos(turn: &mut Turn, site: Site, source: MemberRef, stream: Stream) -> 
 #[tactic(auto, unfolding(crate::specs::Heads::repeated))]
 fn repeated(
     turn: &mut Turn,
-    site: Site,
+    ctx: &Ctx,
     source: MemberRef,
     stream: Stream,
     field: &Field,
 ) -> Result<Head, Halt>
-    ensures { Runs (repeated (setting_of site.entry) source stream site.entry.place (plain_field field.now) (plain_repeat field.now.repeat)) (λ head. head) turn.old turn.new result }
+    ensures { Runs (repeated ctx.now source stream ctx.now.place (plain_field field.now) (plain_repeat field.now.repeat)) (λ head. head) turn.old turn.new result }
 {
     match &field.repeat {
-        Repeat::Once => shape_at(turn, site, source, stream, field),
-        Repeat::Expr(count) => counted(turn, site, source, stream, count),
-        Repeat::Eos => until_eos(turn, site, source, stream),
+        Repeat::Once => shape_at(turn, ctx, source, stream, field),
+        Repeat::Expr(count) => counted(turn, ctx, source, stream, count),
+        Repeat::Eos => until_eos(turn, ctx, source, stream),
         Repeat::Until(_) => Ok(Head::List(List {
             source,
             stream,
-            home: site.stream,
-            start: site.place,
+            home: ctx.stream(),
+            start: ctx.place(),
             count: None,
             is_empty: false,
         })),
@@ -107,17 +105,17 @@ fn repeated(
 #[tactic(auto, using(ksv_plan::proofs::Running::run_bind), unfolding(crate::specs::Heads::attribute_at))]
 fn attribute_at(
     turn: &mut Turn,
-    site: Site,
+    ctx: &Ctx,
     source: MemberRef,
     stream: Stream,
     field: &Field,
 ) -> Result<Head, Halt>
-    ensures { Runs (attribute_at (setting_of site.entry) source stream site.entry.place (plain_field field.now)) (λ head. head) turn.old turn.new result }
+    ensures { Runs (attribute_at ctx.now source stream ctx.now.place (plain_field field.now)) (λ head. head) turn.old turn.new result }
 {
-    if holds(turn, site, &field.condition)? {
-        repeated(turn, site, source, stream, field)
+    if holds(turn, ctx, &field.condition)? {
+        repeated(turn, ctx, source, stream, field)
     } else {
-        Ok(Head::Absent(Some(site.place)))
+        Ok(Head::Absent(Some(ctx.place())))
     }
 }
 
@@ -162,19 +160,12 @@ fn attribute_head<'p>(
     ensures { Runs (attribute_head path.now home.now object (plain_sought sought.entry) (plain_field field.now)) (λ head. head) turn.old turn.new result }
 {
     let start = attribute_start(turn, home, object, sought.before)?;
-    let site = Site {
-        home,
-        stream: object.stream,
-        place: start,
-        index: None,
-        element: None,
-        here: path,
-    };
+    let ctx = Ctx::new(home, object.stream, start, path);
     let source = MemberRef {
         type_number: object.type_number,
         member: sought.member,
     };
-    attribute_at(turn, site, source, object.stream, field)
+    attribute_at(turn, &ctx, source, object.stream, field)
 }
 
 /// A member of an object.
@@ -282,15 +273,8 @@ fn element_head<'p>(
     let list = in_list(turn, list_path, head)?;
     let start = element_start(turn, list_path, list, index)?;
     let field = field_of(turn, desc, list.source)?;
-    let site = Site {
-        home,
-        stream: list.home,
-        place: start,
-        index: Some(index),
-        element: None,
-        here: path,
-    };
-    shape_at(turn, site, list.source, list.stream, field)
+    let ctx = Ctx::new(home, list.home, start, path).within(index);
+    shape_at(turn, &ctx, list.source, list.stream, field)
 }
 
 // ---- heads

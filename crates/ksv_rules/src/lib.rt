@@ -15,7 +15,6 @@ mod laws;
 mod parts;
 mod rules;
 mod shapes;
-mod site;
 mod values;
 mod wanted;
 

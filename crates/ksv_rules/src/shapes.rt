@@ -5,13 +5,11 @@ ghost use Rattle.std.specs.Prelude.{◌≡◌, option_map};
 ghost use Rattle.ksv_expr_tree.specs.Tree.{view};
 ghost use Rattle.ksv_desc.specs.Pieces.{plain_content, plain_choice, plain_extent, plain_terminator, plain_field};
 ghost use Rattle.ksv_nodes.specs.Turning.{Runs, StandsBelow};
-ghost use Rattle.ksv_rules.specs.Sites.{setting_of};
 ghost use Rattle.ksv_rules.specs.Heads.{leaf, leaf_to_end, terminated_at, terminated, run_of, sized_leaf, bytes_at, sized_object, object_at, content_at, shape_at};
 
-use crate::site::Site;
 use crate::wanted::size_of;
 use ksv_desc::{Choice, Content, Extent, Field, Terminator};
-use ksv_expr_eval::{Expr, FaultKind, Stream};
+use ksv_expr_eval::{Ctx, Expr, FaultKind, Stream};
 use ksv_nodes::{Found, Halt, Head, Leaf, MemberRef, Object, ObjectEnd, Turn};
 
 /// So many bytes from a place on.
@@ -123,32 +121,32 @@ fn run_of(
 #[tactic(auto, using(ksv_plan::proofs::Running::run_bind), unfolding(crate::specs::Heads::sized_leaf))]
 fn sized_leaf(
     turn: &mut Turn,
-    site: Site,
+    ctx: &Ctx,
     source: MemberRef,
     stream: Stream,
     size: &Expr,
 ) -> Result<Head, Halt>
-    ensures { Runs (sized_leaf (setting_of site.entry) source stream site.entry.place (view size.now)) (λ head. head) turn.old turn.new result }
+    ensures { Runs (sized_leaf ctx.now source stream ctx.now.place (view size.now)) (λ head. head) turn.old turn.new result }
 {
-    let size = size_of(turn, site, size)?;
-    leaf(turn, source, stream, site.place, size)
+    let size = size_of(turn, ctx, size)?;
+    leaf(turn, source, stream, ctx.place(), size)
 }
 
 /// Bytes or a text.
 #[tactic(auto, unfolding(crate::specs::Heads::bytes_at))]
 fn bytes_at(
     turn: &mut Turn,
-    site: Site,
+    ctx: &Ctx,
     source: MemberRef,
     stream: Stream,
     field: &Field,
 ) -> Result<Head, Halt>
-    ensures { Runs (bytes_at (setting_of site.entry) source stream site.entry.place (plain_extent field.now.extent) (option_map plain_terminator field.now.terminator)) (λ head. head) turn.old turn.new result }
+    ensures { Runs (bytes_at ctx.now source stream ctx.now.place (plain_extent field.now.extent) (option_map plain_terminator field.now.terminator)) (λ head. head) turn.old turn.new result }
 {
     match &field.extent {
-        Extent::Sized(size) => sized_leaf(turn, site, source, stream, size),
-        Extent::SizeEos => leaf_to_end(turn, source, stream, site.place),
-        Extent::ByItself => run_of(turn, source, stream, site.place, field.terminator),
+        Extent::Sized(size) => sized_leaf(turn, ctx, source, stream, size),
+        Extent::SizeEos => leaf_to_end(turn, source, stream, ctx.place()),
+        Extent::ByItself => run_of(turn, source, stream, ctx.place(), field.terminator),
     }
 }
 
@@ -156,15 +154,15 @@ fn bytes_at(
 #[tactic(auto, using(ksv_plan::proofs::Running::run_bind), unfolding(crate::specs::Heads::sized_object))]
 fn sized_object(
     turn: &mut Turn,
-    site: Site,
+    ctx: &Ctx,
     type_number: u32,
     stream: Stream,
     size: &Expr,
 ) -> Result<Head, Halt>
-    ensures { Runs (sized_object (setting_of site.entry) type_number stream site.entry.place (view size.now)) (λ head. head) turn.old turn.new result }
+    ensures { Runs (sized_object ctx.now type_number stream ctx.now.place (view size.now)) (λ head. head) turn.old turn.new result }
 {
-    let size = size_of(turn, site, size)?;
-    let start = site.place;
+    let size = size_of(turn, ctx, size)?;
+    let start = ctx.place();
     let end = u128::from(start) + u128::from(size);
     turn.reach(stream, end)?;
     let end = end as u32;
@@ -183,16 +181,16 @@ fn sized_object(
 #[tactic(auto, unfolding(crate::specs::Heads::object_at))]
 fn object_at(
     turn: &mut Turn,
-    site: Site,
+    ctx: &Ctx,
     type_number: u32,
     stream: Stream,
     extent: &Extent,
 ) -> Result<Head, Halt>
-    ensures { Runs (object_at (setting_of site.entry) type_number stream site.entry.place (plain_extent extent.now)) (λ head. head) turn.old turn.new result }
+    ensures { Runs (object_at ctx.now type_number stream ctx.now.place (plain_extent extent.now)) (λ head. head) turn.old turn.new result }
 {
-    let start = site.place;
+    let start = ctx.place();
     match extent {
-        Extent::Sized(size) => sized_object(turn, site, type_number, stream, size),
+        Extent::Sized(size) => sized_object(turn, ctx, type_number, stream, size),
         Extent::SizeEos => Ok(Head::Object(Object {
             type_number,
             stream: Stream {
@@ -215,22 +213,24 @@ fn object_at(
 #[tactic(auto, unfolding(crate::specs::Heads::content_at))]
 fn content_at(
     turn: &mut Turn,
-    site: Site,
+    ctx: &Ctx,
     source: MemberRef,
     stream: Stream,
     field: &Field,
     content: &Content,
 ) -> Result<Head, Halt>
-    ensures { Runs (content_at (setting_of site.entry) source stream site.entry.place (plain_field field.now) (plain_content content.now)) (λ head. head) turn.old turn.new result }
+    ensures { Runs (content_at ctx.now source stream ctx.now.place (plain_field field.now) (plain_content content.now)) (λ head. head) turn.old turn.new result }
 {
     match content {
-        Content::Bytes => bytes_at(turn, site, source, stream, field),
-        Content::Fixed(bytes) => leaf(turn, source, stream, site.place, bytes.len() as u64),
-        Content::Number { size, .. } => { leaf(turn, source, stream, site.place, u64::from(*size)) }
-        Content::Characters(_) => bytes_at(turn, site, source, stream, field),
+        Content::Bytes => bytes_at(turn, ctx, source, stream, field),
+        Content::Fixed(bytes) => leaf(turn, source, stream, ctx.place(), bytes.len() as u64),
+        Content::Number { size, .. } => {
+            leaf(turn, source, stream, ctx.place(), u64::from(*size))
+        }
+        Content::Characters(_) => bytes_at(turn, ctx, source, stream, field),
         Content::Object { type_number, .. } => object_at(
             turn,
-            site,
+            ctx,
             *type_number,
             stream,
             &field.extent,
@@ -242,15 +242,15 @@ fn content_at(
 #[tactic(auto, unfolding(crate::specs::Heads::shape_at))]
 pub(crate) fn shape_at(
     turn: &mut Turn,
-    site: Site,
+    ctx: &Ctx,
     source: MemberRef,
     stream: Stream,
     field: &Field,
 ) -> Result<Head, Halt>
-    ensures { Runs (shape_at (setting_of site.entry) source stream site.entry.place (plain_field field.now) (plain_choice field.now.choice)) (λ head. head) turn.old turn.new result }
+    ensures { Runs (shape_at ctx.now source stream ctx.now.place (plain_field field.now) (plain_choice field.now.choice)) (λ head. head) turn.old turn.new result }
 {
     match &field.choice {
-        Choice::Always(content) => content_at(turn, site, source, stream, field, content),
+        Choice::Always(content) => content_at(turn, ctx, source, stream, field, content),
         Choice::Switch { .. } => turn.raise(FaultKind::NoSuch),
     }
 }

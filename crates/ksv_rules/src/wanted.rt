@@ -7,12 +7,10 @@ ghost use Rattle.ksv_plan.specs.Plan.{Fail};
 ghost use Rattle.ksv_nodes.specs.Rule.{There};
 ghost use Rattle.ksv_nodes.specs.Turning.{Runs};
 ghost use Rattle.ksv_rules.specs.Code.{missing};
-ghost use Rattle.ksv_rules.specs.Sites.{setting_of};
 ghost use Rattle.ksv_rules.specs.Wanted.{in_object, in_integer, in_truth, integer_of, truth_of, holds, in_size, size_of};
 
 use crate::evaluation::value_of_expression;
-use crate::site::Site;
-use ksv_expr_eval::{Expr, Fault, FaultKind, Integer, Path, Value};
+use ksv_expr_eval::{Ctx, Expr, Fault, FaultKind, Integer, Path, Value};
 use ksv_nodes::{Halt, Head, Object, Turn};
 
 /// A fault of a kind at a path.
@@ -64,30 +62,30 @@ fn in_truth(turn: &mut Turn, value: Value) -> Result<bool, Halt>
 
 /// The integer that an expression gives; another kind doesn't fit.
 #[tactic(auto, using(ksv_plan::proofs::Running::run_bind), unfolding(crate::specs::Wanted::integer_of))]
-pub(crate) fn integer_of(turn: &mut Turn, site: Site, expr: &Expr) -> Result<Integer, Halt>
-    ensures { Runs (integer_of (setting_of site.entry) (view expr.now)) (λ number. number) turn.old turn.new result }
+pub(crate) fn integer_of(turn: &mut Turn, ctx: &Ctx, expr: &Expr) -> Result<Integer, Halt>
+    ensures { Runs (integer_of ctx.now (view expr.now)) (λ number. number) turn.old turn.new result }
 {
-    let value = value_of_expression(turn, site, expr)?;
+    let value = value_of_expression(turn, ctx, expr)?;
     in_integer(turn, value)
 }
 
 /// The truth value that an expression gives; another kind doesn't fit.
 #[tactic(auto, using(ksv_plan::proofs::Running::run_bind), unfolding(crate::specs::Wanted::truth_of))]
-pub(crate) fn truth_of(turn: &mut Turn, site: Site, expr: &Expr) -> Result<bool, Halt>
-    ensures { Runs (truth_of (setting_of site.entry) (view expr.now)) (λ truth. truth) turn.old turn.new result }
+pub(crate) fn truth_of(turn: &mut Turn, ctx: &Ctx, expr: &Expr) -> Result<bool, Halt>
+    ensures { Runs (truth_of ctx.now (view expr.now)) (λ truth. truth) turn.old turn.new result }
 {
-    let value = value_of_expression(turn, site, expr)?;
+    let value = value_of_expression(turn, ctx, expr)?;
     in_truth(turn, value)
 }
 
 /// Whether a condition holds; without one it does.
 #[tactic(auto, unfolding(crate::specs::Wanted::holds))]
-pub(crate) fn holds(turn: &mut Turn, site: Site, condition: &Option<Expr>) -> Result<bool, Halt>
-    ensures { Runs (holds (setting_of site.entry) (option_map view condition.now)) (λ truth. truth) turn.old turn.new result }
+pub(crate) fn holds(turn: &mut Turn, ctx: &Ctx, condition: &Option<Expr>) -> Result<bool, Halt>
+    ensures { Runs (holds ctx.now (option_map view condition.now)) (λ truth. truth) turn.old turn.new result }
 {
     match condition {
         None => Ok(true),
-        Some(expr) => truth_of(turn, site, expr),
+        Some(expr) => truth_of(turn, ctx, expr),
     }
 }
 
@@ -104,9 +102,9 @@ fn in_size(turn: &mut Turn, number: Integer) -> Result<u64, Halt>
 
 /// The size that an expression gives.
 #[tactic(auto, using(ksv_plan::proofs::Running::run_bind), unfolding(crate::specs::Wanted::size_of))]
-pub(crate) fn size_of(turn: &mut Turn, site: Site, expr: &Expr) -> Result<u64, Halt>
-    ensures { Runs (size_of (setting_of site.entry) (view expr.now)) (λ size. size) turn.old turn.new result }
+pub(crate) fn size_of(turn: &mut Turn, ctx: &Ctx, expr: &Expr) -> Result<u64, Halt>
+    ensures { Runs (size_of ctx.now (view expr.now)) (λ size. size) turn.old turn.new result }
 {
-    let number = integer_of(turn, site, expr)?;
+    let number = integer_of(turn, ctx, expr)?;
     in_size(turn, number)
 }
