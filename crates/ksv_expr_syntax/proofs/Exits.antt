@@ -15,7 +15,7 @@ use Rattle.ksv_expr_syntax.specs.Grammar.{Level, Whole, Joined, Negation, Compar
 use Rattle.ksv_expr_syntax.specs.Reading.{Next, next, Found, FoundList, found, found_list, ◌>>=◌, choose, spend, after, operator_at, comparison_at, prefix_at, path_at, path_on, path_tree, read, read_list, place_on, select_on}
 use Rattle.ksv_expr_syntax.specs.declared.parser.Opening.{Opening}
 use Rattle.ksv_expr_syntax.specs.declared.parser.Opening.TheVariants as openings
-use Rattle.ksv_expr_syntax.specs.Code.{cast_at, suffix_step, OpensWith}
+use Rattle.ksv_expr_syntax.specs.Code.{read_before, arms_at, cast_at, suffix_step, OpensWith}
 use Rattle.ksv_expr_syntax.specs.Code.{Gives, GivesCast, GivesSuffix}
 use Rattle.ksv_expr_syntax.specs.Lexemes.{lexemes}
 use Rattle.ksv_expr_tree.specs.Tree.{view, arguments_of}
@@ -78,6 +78,23 @@ no_way o x f h = ap (λ o. choose o x f) h
 pub one_way : {A B : Type 0} (o : Option A) (a : A) (x : B) (f : A → B) → o ≡ Some a → choose o x f ≡ f a
 one_way o a x f h = ap (λ o. choose o x f) h
 
+-- ---- an expression and a symbol behind it
+
+pub before_fails : (s : Symbol) (d : ℕ) (ts : List Lexeme) (p : ℕ) → read Whole d ts p ≡ None → read_before s d ts p ≡ None
+before_fails s d ts p h = bind_none _ _ h
+
+pub before_open : (s : Symbol) (d : ℕ) (ts : List Lexeme) (p : ℕ) (e : Tree) (us : List Lexeme) (q : ℕ) → read Whole d ts p ≡ found e us q → after s us ≡ None → read_before s d ts p ≡ None
+before_open s d ts p e us q h n = bind_is _ (found e us q) (λ a. after s a.rest >>= λ us. found a.tree us a.left) h ∙ bind_none _ _ n
+
+pub before_is : (s : Symbol) (d : ℕ) (ts : List Lexeme) (p : ℕ) (e : Tree) (us : List Lexeme) (q : ℕ) (vs : List Lexeme) → read Whole d ts p ≡ found e us q → after s us ≡ Some vs → read_before s d ts p ≡ found e vs q
+before_is s d ts p e us q vs h n = bind_is _ (found e us q) (λ a. after s a.rest >>= λ us. found a.tree us a.left) h ∙ bind_is _ (Some vs) _ n
+
+pub before_then : (s : Symbol) (d : ℕ) (ts : List Lexeme) (p : ℕ) (g : Tree → List Lexeme → ℕ → Option Found) → (read Whole d ts p >>= λ a. after s a.rest >>= λ us. g a.tree us a.left) ≡ (read_before s d ts p >>= λ a. g a.tree a.rest a.left)
+before_then s d ts p g = elim (read Whole d ts p) as (λ o. (o >>= λ a. after s a.rest >>= λ us. g a.tree us a.left) ≡ ((o >>= λ a. after s a.rest >>= λ us. found a.tree us a.left) >>= λ a. g a.tree a.rest a.left)) [
+  | None ↦ refl
+  | Some a ↦ elim (after s a.rest) as (λ o. (o >>= λ us. g a.tree us a.left) ≡ ((o >>= λ us. found a.tree us a.left) >>= λ a. g a.tree a.rest a.left)) [ None ↦ refl | Some us ↦ refl ]
+]
+
 -- ---- choices
 
 pub condition_fails : (d : ℕ) (ts : List Lexeme) (p : ℕ) → read (Joined tier.Or) d ts p ≡ None → read Whole d ts p ≡ None
@@ -89,20 +106,14 @@ only_condition d ts p e us q h n = read_whole d ts p ∙ bind_is _ _ (λ a. pick
 arms_begin : (d : ℕ) (ts : List Lexeme) (p : ℕ) (e : Tree) (us : List Lexeme) (q : ℕ) (vs : List Lexeme) → read (Joined tier.Or) d ts p ≡ found e us q → after tok.Question us ≡ Some vs → read Whole d ts p ≡ spend d (λ d. spend q (λ p. read Whole d vs p >>= λ a. after tok.Colon a.rest >>= λ us. read Whole d us a.left >>= λ b. found (choice e a.tree b.tree) b.rest b.left))
 arms_begin d ts p e us q vs h n = read_whole d ts p ∙ bind_is _ _ (λ a. pick_on a.tree d a.rest a.left) h ∙ pick_on_is e d us q ∙ one_way _ vs _ _ n ∙ arm_on_is e d vs q
 
-pub arms_too_deep : (d : ℕ) (ts : List Lexeme) (p : ℕ) (e : Tree) (us : List Lexeme) (q : ℕ) (vs : List Lexeme) → read (Joined tier.Or) d ts p ≡ found e us q → after tok.Question us ≡ Some vs → d ≡ 0 → read Whole d ts p ≡ None
-arms_too_deep d ts p e us q vs h n z = arms_begin d ts p e us q vs h n ∙ spend_zero d _ z
+pub choice_is : (d : ℕ) (ts : List Lexeme) (p : ℕ) (e : Tree) (us : List Lexeme) (q : ℕ) (vs : List Lexeme) (o : Option Found) → read (Joined tier.Or) d ts p ≡ found e us q → after tok.Question us ≡ Some vs → arms_at e d vs q ≡ o → read Whole d ts p ≡ o
+choice_is d ts p e us q vs o h n k = arms_begin d ts p e us q vs h n ∙ k
 
-pub arms_too_many : (d : ℕ) (ts : List Lexeme) (p : ℕ) (e : Tree) (us : List Lexeme) (q : ℕ) (vs : List Lexeme) → read (Joined tier.Or) d ts p ≡ found e us q → after tok.Question us ≡ Some vs → q ≡ 0 → read Whole d ts p ≡ None
-arms_too_many d ts p e us q vs h n z = arms_begin d ts p e us q vs h n ∙ spend_inner d q _ z
+pub arms_first : (d : ℕ) (ts : List Lexeme) (p c q : ℕ) (o : Option Found) (e : Tree) → d ≡ suc c → p ≡ suc q → read_before tok.Colon c ts q ≡ o → arms_at e d ts p ≡ (o >>= λ a. read Whole c a.rest a.left >>= λ b. found (choice e a.tree b.tree) b.rest b.left)
+arms_first d ts p c q o e x y h = spend_one d c _ x ∙ spend_one p q _ y ∙ before_then tok.Colon c ts q (λ a us r. read Whole c us r >>= λ b. found (choice e a b.tree) b.rest b.left) ∙ bind_is _ o _ h
 
-pub one_arm : (d : ℕ) (ts : List Lexeme) (p : ℕ) (e : Tree) (us : List Lexeme) (q : ℕ) (vs : List Lexeme) (c r : ℕ) (o : Option Found) → read (Joined tier.Or) d ts p ≡ found e us q → after tok.Question us ≡ Some vs → d ≡ suc c → q ≡ suc r → read Whole c vs r ≡ o → read Whole d ts p ≡ (o >>= λ a. after tok.Colon a.rest >>= λ us. read Whole c us a.left >>= λ b. found (choice e a.tree b.tree) b.rest b.left)
-one_arm d ts p e us q vs c r o h n x y k = arms_begin d ts p e us q vs h n ∙ spend_one d c _ x ∙ spend_one q r _ y ∙ bind_is _ o _ k
-
-pub no_other_arm : (d : ℕ) (ts : List Lexeme) (p : ℕ) (e : Tree) (us : List Lexeme) (q : ℕ) (vs : List Lexeme) (c r : ℕ) (a : Tree) (ws : List Lexeme) (w : ℕ) → read (Joined tier.Or) d ts p ≡ found e us q → after tok.Question us ≡ Some vs → d ≡ suc c → q ≡ suc r → read Whole c vs r ≡ found a ws w → after tok.Colon ws ≡ None → read Whole d ts p ≡ None
-no_other_arm d ts p e us q vs c r a ws w h n x y k m = one_arm d ts p e us q vs c r (found a ws w) h n x y k ∙ bind_none _ _ m
-
-pub two_arms : (d : ℕ) (ts : List Lexeme) (p : ℕ) (e : Tree) (us : List Lexeme) (q : ℕ) (vs : List Lexeme) (c r : ℕ) (a : Tree) (ws : List Lexeme) (w : ℕ) (xs : List Lexeme) (o : Option Found) → read (Joined tier.Or) d ts p ≡ found e us q → after tok.Question us ≡ Some vs → d ≡ suc c → q ≡ suc r → read Whole c vs r ≡ found a ws w → after tok.Colon ws ≡ Some xs → read Whole c xs w ≡ o → read Whole d ts p ≡ (o >>= λ b. found (choice e a b.tree) b.rest b.left)
-two_arms d ts p e us q vs c r a ws w xs o h n x y k m i = one_arm d ts p e us q vs c r (found a ws w) h n x y k ∙ bind_is _ (Some xs) _ m ∙ bind_is _ o _ i
+pub arms_second : (d : ℕ) (ts : List Lexeme) (p c q : ℕ) (a : Tree) (us : List Lexeme) (r : ℕ) (o : Option Found) (e : Tree) → d ≡ suc c → p ≡ suc q → read_before tok.Colon c ts q ≡ found a us r → read Whole c us r ≡ o → arms_at e d ts p ≡ (o >>= λ b. found (choice e a b.tree) b.rest b.left)
+arms_second d ts p c q a us r o e x y h k = arms_first d ts p c q (found a us r) e x y h ∙ bind_is _ o _ k
 
 -- ---- operators between operands
 
@@ -200,14 +211,8 @@ suffix_too_many openings.Bracket e d ts p h = place_on_is e d ts p ∙ spend_inn
 pub place_too_deep : (e : Tree) (d : ℕ) (ts : List Lexeme) (p : ℕ) → d ≡ 0 → place_on e d ts p ≡ None
 place_too_deep e d ts p h = place_on_is e d ts p ∙ spend_zero d _ h
 
-pub place_step : (e : Tree) (d : ℕ) (ts : List Lexeme) (p : ℕ) (c q : ℕ) (o : Option Found) → d ≡ suc c → p ≡ suc q → read Whole c ts q ≡ o → place_on e d ts p ≡ (o >>= λ a. after tok.CloseBracket a.rest >>= λ us. found (index e a.tree) us a.left)
-place_step e d ts p c q o x y h = place_on_is e d ts p ∙ spend_one d c _ x ∙ spend_one p q _ y ∙ bind_is _ o _ h
-
-pub place_open : (e : Tree) (d : ℕ) (ts : List Lexeme) (p : ℕ) (c q : ℕ) (a : Tree) (us : List Lexeme) (r : ℕ) → d ≡ suc c → p ≡ suc q → read Whole c ts q ≡ found a us r → after tok.CloseBracket us ≡ None → place_on e d ts p ≡ None
-place_open e d ts p c q a us r x y h n = place_step e d ts p c q (found a us r) x y h ∙ bind_none _ _ n
-
-pub place_ends : (e : Tree) (d : ℕ) (ts : List Lexeme) (p : ℕ) (c q : ℕ) (a : Tree) (us : List Lexeme) (r : ℕ) (vs : List Lexeme) → d ≡ suc c → p ≡ suc q → read Whole c ts q ≡ found a us r → after tok.CloseBracket us ≡ Some vs → place_on e d ts p ≡ found (index e a) vs r
-place_ends e d ts p c q a us r vs x y h n = place_step e d ts p c q (found a us r) x y h ∙ bind_is _ (Some vs) _ n
+pub place_step : (e : Tree) (d : ℕ) (ts : List Lexeme) (p : ℕ) (c q : ℕ) (o : Option Found) → d ≡ suc c → p ≡ suc q → read_before tok.CloseBracket c ts q ≡ o → place_on e d ts p ≡ (o >>= λ a. found (index e a.tree) a.rest a.left)
+place_step e d ts p c q o x y h = place_on_is e d ts p ∙ spend_one d c _ x ∙ spend_one p q _ y ∙ before_then tok.CloseBracket c ts q (λ a us r. found (index e a) us r) ∙ bind_is _ o _ h
 
 pub select_cast : (e : Tree) (d : ℕ) (ts : List Lexeme) (p : ℕ) (o : Option Found) → ((w : List ℕ) (rest : List Lexeme) → ts ≢ word w ∷ rest) → cast_at e ts p ≡ o → select_on e d ts (suc p) ≡ o
 select_cast e d [] p o n h = select_end e d (suc p) ∙ h
@@ -311,14 +316,8 @@ group_begins d ts p us n = ap (λ ts. read Primary d ts p) (after_some tok.OpenP
 pub group_too_deep : (d : ℕ) (ts : List Lexeme) (p : ℕ) (us : List Lexeme) → after tok.OpenParenthesis ts ≡ Some us → d ≡ 0 → read Primary d ts p ≡ None
 group_too_deep d ts p us n h = group_begins d ts p us n ∙ spend_zero d _ h
 
-pub group_step : (d : ℕ) (ts : List Lexeme) (p : ℕ) (us : List Lexeme) (c : ℕ) (o : Option Found) → after tok.OpenParenthesis ts ≡ Some us → d ≡ suc c → read Whole c us p ≡ o → read Primary d ts p ≡ (o >>= λ a. after tok.CloseParenthesis a.rest >>= λ us. found a.tree us a.left)
-group_step d ts p us c o n x h = group_begins d ts p us n ∙ spend_one d c _ x ∙ bind_is _ o _ h
-
-pub group_open : (d : ℕ) (ts : List Lexeme) (p : ℕ) (us : List Lexeme) (c : ℕ) (e : Tree) (vs : List Lexeme) (q : ℕ) → after tok.OpenParenthesis ts ≡ Some us → d ≡ suc c → read Whole c us p ≡ found e vs q → after tok.CloseParenthesis vs ≡ None → read Primary d ts p ≡ None
-group_open d ts p us c e vs q n x h m = group_step d ts p us c (found e vs q) n x h ∙ bind_none _ _ m
-
-pub group_is : (d : ℕ) (ts : List Lexeme) (p : ℕ) (us : List Lexeme) (c : ℕ) (e : Tree) (vs : List Lexeme) (q : ℕ) (ws : List Lexeme) → after tok.OpenParenthesis ts ≡ Some us → d ≡ suc c → read Whole c us p ≡ found e vs q → after tok.CloseParenthesis vs ≡ Some ws → read Primary d ts p ≡ found e ws q
-group_is d ts p us c e vs q ws n x h m = group_step d ts p us c (found e vs q) n x h ∙ bind_is _ (Some ws) _ m
+pub group_is : (d : ℕ) (ts : List Lexeme) (p : ℕ) (us : List Lexeme) (c : ℕ) (o : Option Found) → after tok.OpenParenthesis ts ≡ Some us → d ≡ suc c → read_before tok.CloseParenthesis c us p ≡ o → read Primary d ts p ≡ o
+group_is d ts p us c o n x h = group_begins d ts p us n ∙ spend_one d c _ x ∙ h
 
 -- ---- tokens as the code holds them
 

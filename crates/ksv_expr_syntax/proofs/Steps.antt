@@ -26,6 +26,19 @@ pub choose_some : {A B : Type 0} (o : Option A) (x : Option B) (f : A → Option
 choose_some None x f y h = inl (refl, h)
 choose_some (Some a) x f y h = inr (a, refl, h)
 
+-- the same three, with what follows of a step as an argument
+pub with_bind : {A B P : Type 0} (r : Option A) (f : A → Option B) (y : B) → (r >>= f) ≡ Some y → ((x : A) → r ≡ Some x → f x ≡ Some y → P) → P
+with_bind None f y h k = absurd cc
+with_bind (Some x) f y h k = k x refl h
+
+pub with_spend : {A P : Type 0} (n : ℕ) (f : ℕ → Option A) (y : A) → spend n f ≡ Some y → ((m : ℕ) → n ≡ suc m → f m ≡ Some y → P) → P
+with_spend zero f y h k = absurd cc
+with_spend (suc n) f y h k = k n refl h
+
+pub with_choice : {A B P : Type 0} (o : Option A) (x : Option B) (f : A → Option B) (y : B) → choose o x f ≡ Some y → (o ≡ None → x ≡ Some y → P) → ((a : A) → o ≡ Some a → f a ≡ Some y → P) → P
+with_choice None x f y h none some = none refl h
+with_choice (Some a) x f y h none some = some a refl h
+
 if_some : {A : Type 0} (b : Bool) (x y : A) → (if b then Some x else None) ≡ Some y → (b ≡ true) × (x ≡ y)
 if_some true x y h = (refl, cc)
 if_some false x y h = absurd cc

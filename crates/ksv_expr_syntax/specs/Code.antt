@@ -16,16 +16,33 @@ use Rattle.ksv_expr_syntax.specs.declared.fault.ExprFaultKind.TheVariants as kin
 use Rattle.ksv_expr_syntax.specs.declared.cursor.Rest.{Rest}
 use Rattle.ksv_expr_syntax.specs.declared.parser.Opening.{Opening}
 use Rattle.ksv_expr_syntax.specs.declared.parser.Opening.TheVariants as openings
+use Rattle.ksv_expr_syntax.specs.declared.token.Symbol.{Symbol}
 use Rattle.ksv_expr_syntax.specs.declared.token.Symbol.TheVariants as tok
-use Rattle.ksv_expr_tree.specs.Tree.{Tree, cast, no_arguments, view, arguments_of}
+use Rattle.ksv_expr_tree.specs.Tree.{Tree, choice, cast, no_arguments, view, arguments_of}
 use Rattle.ksv_expr_syntax.specs.Lexemes.{Lexeme, lexemes}
-use Rattle.ksv_expr_syntax.specs.Grammar.{Level}
-use Rattle.ksv_expr_syntax.specs.Reading.{next, Found, FoundList, found, found_list, ◌>>=◌, choose, after, read, read_list, place_on, select_on, path_at}
+use Rattle.ksv_expr_syntax.specs.Grammar.{Level, Whole}
+use Rattle.ksv_expr_syntax.specs.Reading.{next, Found, FoundList, found, found_list, ◌>>=◌, choose, spend, after, read, read_list, place_on, select_on, path_at}
 
 -- a function answered what reading a level finds, unless memory was wanting
 abbrev pub Gives : Level → ℕ → List Lexeme → ℕ → Result (Expr × Rest) ExprFault → Type 0
 Gives l d ts p (Ok x) = read l d ts p ≡ found (view x.0) (lexemes x.1.tokens.now) x.1.parts
 Gives l d ts p (Err e) = e.kind ≢ kinds.NoMemory → read l d ts p ≡ None
+
+-- an expression, and this symbol behind it
+abbrev pub read_before : Symbol → ℕ → List Lexeme → ℕ → Option Found
+read_before s d ts p = read Whole d ts p >>= λ a. after s a.rest >>= λ us. found a.tree us a.left
+
+abbrev pub GivesBefore : Symbol → ℕ → List Lexeme → ℕ → Result (Expr × Rest) ExprFault → Type 0
+GivesBefore s d ts p (Ok x) = read_before s d ts p ≡ found (view x.0) (lexemes x.1.tokens.now) x.1.parts
+GivesBefore s d ts p (Err e) = e.kind ≢ kinds.NoMemory → read_before s d ts p ≡ None
+
+-- both arms of a choice behind this condition
+abbrev pub arms_at : Tree → ℕ → List Lexeme → ℕ → Option Found
+arms_at e d ts p = spend d (λ d. spend p (λ p. read Whole d ts p >>= λ a. after tok.Colon a.rest >>= λ us. read Whole d us a.left >>= λ b. found (choice e a.tree b.tree) b.rest b.left))
+
+abbrev pub GivesArms : ℕ → List Lexeme → ℕ → Result (Expr × Expr × Rest) ExprFault → Type 0
+GivesArms d ts p (Ok x) = (e : Tree) → arms_at e d ts p ≡ found (choice e (view x.0) (view x.1)) (lexemes x.2.tokens.now) x.2.parts
+GivesArms d ts p (Err f) = f.kind ≢ kinds.NoMemory → (e : Tree) → arms_at e d ts p ≡ None
 
 -- likewise for arguments and their closing parenthesis
 abbrev pub GivesList : ℕ → List Lexeme → ℕ → Result (Vec Expr Global × Rest) ExprFault → Type 0
@@ -55,6 +72,11 @@ GivesSuffix o e d ts p (Err f) = f.kind ≢ kinds.NoMemory → suffix_step o e d
 -- a cast of this tree
 abbrev pub cast_at : Tree → List Lexeme → ℕ → Option Found
 cast_at e ts p = after tok.As ts >>= λ us. after tok.Less us >>= λ vs. path_at vs >>= λ x. after tok.Greater x.behind >>= λ ws. found (cast e (record { path = x.what; number = None })) ws p
+
+-- the names of a cast of any tree
+abbrev pub GivesCastType : List Lexeme → ℕ → Result (Vec (String Global) Global × Rest) ExprFault → Type 0
+GivesCastType ts p (Ok x) = (e : Tree) → cast_at e ts p ≡ found (cast e (record { path = map string_bytes x.0.items; number = None })) (lexemes x.1.tokens.now) x.1.parts
+GivesCastType ts p (Err f) = f.kind ≢ kinds.NoMemory → (e : Tree) → cast_at e ts p ≡ None
 
 abbrev pub GivesCast : Tree → List Lexeme → ℕ → Result (Expr × Rest) ExprFault → Type 0
 GivesCast e ts p (Ok x) = cast_at e ts p ≡ found (view x.0) (lexemes x.1.tokens.now) x.1.parts

@@ -1,6 +1,6 @@
 //! Expressions as the parser makes them, each with the plain tree that it is.
 
-ghost use Rattle.std.specs.Prelude.{◌≡◌, None, map, IfOk, string_bytes};
+ghost use Rattle.std.specs.Prelude.{◌≡◌, None, map, IfOk, string_bytes, box_value};
 ghost use Rattle.ksv_expr_tree.specs.Tree.{view, arguments_of, literal_of, literal, member, unary, binary, logical, choice, call, index, cast};
 ghost use Rattle.ksv_expr_syntax.specs.Grammar.{special_of, name_tree, select_tree};
 
@@ -36,6 +36,13 @@ pub(crate) fn member_expr(path: Vec<String>, name: String) -> Expr
     })
 }
 
+/// Two expressions, each in a box.
+fn boxed(alloc: Global, left: Expr, right: Expr) -> Result<(Box<Expr>, Box<Expr>), AllocError>
+    ensures { IfOk result (λ x. (box_value x.0 ≡ left) × (box_value x.1 ≡ right)) }
+{
+    Ok((Box::new(alloc, left)?, Box::new(alloc, right)?))
+}
+
 pub(crate) fn unary_expr(
     alloc: Global,
     operator: UnaryOperator,
@@ -54,7 +61,8 @@ pub(crate) fn binary_expr(
 ) -> Result<Expr, AllocError>
     ensures { IfOk result (λ e. view e ≡ binary operator (view left) (view right)) }
 {
-    Ok(Expr::Binary(operator, Box::new(alloc, left)?, Box::new(alloc, right)?))
+    let (left, right) = boxed(alloc, left, right)?;
+    Ok(Expr::Binary(operator, left, right))
 }
 
 pub(crate) fn logical_expr(
@@ -65,7 +73,8 @@ pub(crate) fn logical_expr(
 ) -> Result<Expr, AllocError>
     ensures { IfOk result (λ e. view e ≡ logical operator (view left) (view right)) }
 {
-    Ok(Expr::Logical(operator, Box::new(alloc, left)?, Box::new(alloc, right)?))
+    let (left, right) = boxed(alloc, left, right)?;
+    Ok(Expr::Logical(operator, left, right))
 }
 
 pub(crate) fn choice_expr(
@@ -76,11 +85,8 @@ pub(crate) fn choice_expr(
 ) -> Result<Expr, AllocError>
     ensures { IfOk result (λ e. view e ≡ choice (view condition) (view yes) (view no)) }
 {
-    Ok(Expr::Choice(
-        Box::new(alloc, condition)?,
-        Box::new(alloc, yes)?,
-        Box::new(alloc, no)?,
-    ))
+    let (yes, no) = boxed(alloc, yes, no)?;
+    Ok(Expr::Choice(Box::new(alloc, condition)?, yes, no))
 }
 
 /// A name behind a dot, with no number.
@@ -108,7 +114,8 @@ pub(crate) fn call_expr(
 pub(crate) fn index_expr(alloc: Global, list: Expr, place: Expr) -> Result<Expr, AllocError>
     ensures { IfOk result (λ e. view e ≡ index (view list) (view place)) }
 {
-    Ok(Expr::Index(Box::new(alloc, list)?, Box::new(alloc, place)?))
+    let (list, place) = boxed(alloc, list, place)?;
+    Ok(Expr::Index(list, place))
 }
 
 pub(crate) fn cast_expr(alloc: Global, object: Expr, path: Vec<String>) -> Result<Expr, AllocError>

@@ -5,7 +5,7 @@ ghost use Rattle.ksv_expr_tree.specs.Tree.{view};
 ghost use Rattle.ksv_expr_syntax.specs.Lexemes.{Lexeme, lexemes, lexeme_of};
 ghost use Rattle.ksv_expr_syntax.specs.Grammar.{Whole, Joined, Negation, Comparison, Prefix, Postfix, Primary, tighter, join_tree, is_left_out};
 ghost use Rattle.ksv_expr_syntax.specs.Reading.{after, path_tree};
-ghost use Rattle.ksv_expr_syntax.specs.Code.{Gives, GivesList, GivesSuffix, GivesCast, OpensWith};
+ghost use Rattle.ksv_expr_syntax.specs.Code.{Gives, GivesArms, GivesBefore, GivesList, GivesSuffix, GivesCast, GivesCastType, OpensWith};
 
 use crate::cursor::{
     Rest, behind, deeper, expect, first, left_out, name, open_group, path, spend, unexpected,
@@ -69,15 +69,24 @@ fn begins_left_out(text: &str) -> bool
     text == "sizeof" || text == "bitsizeof"
 }
 
-/// `as<a::b>` behind this object and a dot.
-fn cast<'a>(alloc: Global, object: Expr, at: Rest<'a>) -> Result<(Expr, Rest<'a>), ExprFault>
-    ensures is { GivesCast (view object) (lexemes at.entry.tokens.now) at.entry.parts result }
+/// The names in `as<a::b>`.
+fn cast_type<'a>(alloc: Global, at: Rest<'a>) -> Result<(Vec<String>, Rest<'a>), ExprFault>
+    ensures is { GivesCastType (lexemes at.entry.tokens.now) at.entry.parts result }
     ensures shorter { IfOk result (λ x. length x.1.tokens.now < length at.entry.tokens.now) }
 {
     let now = expect(at, Symbol::As)?;
     let now = expect(now, Symbol::Less)?;
     let (names, now) = path(alloc, now)?;
     let now = expect(now, Symbol::Greater)?;
+    Ok((names, now))
+}
+
+/// `as<a::b>` behind this object and a dot.
+fn cast<'a>(alloc: Global, object: Expr, at: Rest<'a>) -> Result<(Expr, Rest<'a>), ExprFault>
+    ensures is { GivesCast (view object) (lexemes at.entry.tokens.now) at.entry.parts result }
+    ensures shorter { IfOk result (λ x. length x.1.tokens.now < length at.entry.tokens.now) }
+{
+    let (names, now) = cast_type(alloc, at)?;
     Ok((make::cast_expr(alloc, object, names)?, now))
 }
 
@@ -95,12 +104,42 @@ pub(crate) fn whole<'a>(
     let Some(rest) = behind(at.tokens, Symbol::Question) else {
         return Ok((condition, at));
     };
-    let inner = deeper(depth, at)?;
-    let at = spend(at, rest)?;
-    let (yes, at) = whole(alloc, inner, at)?;
-    let at = expect(at, Symbol::Colon)?;
-    let (no, at) = whole(alloc, inner, at)?;
+    let (yes, no, at) = arms(alloc, depth, at, rest)?;
     Ok((make::choice_expr(alloc, condition, yes, no)?, at))
+}
+
+/// Both arms of a choice; `rest` is what stands behind `?`, which begins `at`.
+#[cycle(parser)]
+fn arms<'a>(
+    alloc: Global,
+    depth: u32,
+    at: Rest<'a>,
+    rest: &'a [Placed],
+) -> Result<(Expr, Expr, Rest<'a>), ExprFault>
+    ensures is { GivesArms depth (lexemes rest.now) at.entry.parts result }
+    ensures shorter { IfOk result (λ x. length x.2.tokens.now < length rest.now) }
+{
+    let inner = deeper(depth, at)?;
+    let start = spend(at, rest)?;
+    let (yes, now) = before(alloc, inner, start, Symbol::Colon)?;
+    let (no, now) = whole(alloc, inner, now)?;
+    Ok((yes, no, now))
+}
+
+/// An expression, and this symbol behind it.
+#[cycle(parser)]
+fn before<'a>(
+    alloc: Global,
+    depth: u32,
+    at: Rest<'a>,
+    wanted: Symbol,
+) -> Result<(Expr, Rest<'a>), ExprFault>
+    ensures is { GivesBefore wanted depth (lexemes at.entry.tokens.now) at.entry.parts result }
+    ensures shorter { IfOk result (λ x. length x.1.tokens.now < length at.entry.tokens.now) }
+{
+    let (expr, after) = whole(alloc, depth, at)?;
+    let now = expect(after, wanted)?;
+    Ok((expr, now))
 }
 
 /// Operands of this precedence, joined from the left.
@@ -225,8 +264,7 @@ fn suffix<'a>(
         Opening::Dot => selected(alloc, depth, object, start),
         Opening::Bracket => {
             let inner = deeper(depth, at)?;
-            let (place, now) = whole(alloc, inner, start)?;
-            let now = expect(now, Symbol::CloseBracket)?;
+            let (place, now) = before(alloc, inner, start, Symbol::CloseBracket)?;
             Ok((make::index_expr(alloc, object, place)?, now))
         }
     }
@@ -314,8 +352,7 @@ fn primary<'a>(alloc: Global, depth: u32, at: Rest<'a>) -> Result<(Expr, Rest<'a
         Token::Symbol(_) => {
             let start = open_group(at)?;
             let inner = deeper(depth, at)?;
-            let (expr, now) = whole(alloc, inner, start)?;
-            let now = expect(now, Symbol::CloseParenthesis)?;
+            let (expr, now) = before(alloc, inner, start, Symbol::CloseParenthesis)?;
             Ok((expr, now))
         }
     }

@@ -1,12 +1,14 @@
 -- What each exit of the parser's functions gives.
 use Rattle.std.proofs.Common.{◌∷◌, length, map, string_bytes, None, arith, sym, ap, subst, ◌∙◌}
 use Rattle.std.proofs.lemmas.Result.{err_from_is_err_and}
-use Rattle.ksv_expr_tree.specs.Tree.{view, arguments_of, literal_of, literal, call, index}
+use Rattle.ksv_expr_tree.specs.Tree.{view, arguments_of, literal_of, literal, choice, call}
 use Rattle.ksv_expr_syntax.specs.Lexemes.{lexemes, lexeme_of, constant}
-use Rattle.ksv_expr_syntax.specs.Grammar.{Whole, Joined, Negation, Comparison, Prefix, Postfix, select_tree, is_left_out}
+use Rattle.ksv_expr_syntax.specs.Grammar.{Joined, Negation, Comparison, Prefix, Postfix, select_tree, is_left_out}
 use Rattle.ksv_expr_syntax.specs.Reading.{found, found_list, path_at, path_tree, read}
+use Rattle.ksv_expr_syntax.specs.Code.{read_before}
+use Rattle.ksv_expr_syntax.specs.declared.token.Symbol.TheVariants as tok
 use Rattle.ksv_expr_syntax.proofs.Flow.{join_on}
-use Rattle.ksv_expr_syntax.proofs.Exits.{ListNow, moved, moved_next, moved_cons, gives_on, gives_cast, arguments_push, condition_fails, only_condition, arms_too_deep, arms_too_many, one_arm, no_other_arm, two_arms, left_fails, join_start, join_end, join_too_many, join_step, not_here, not_too_deep, not_too_many, not_step, compare_fails, compare_only, compare_too_many, compare_step, prefix_here, prefix_too_deep, prefix_too_many, prefix_step, postfix_fails, suffix_start, suffix_end, suffix_go, suffix_too_many, place_too_deep, place_step, place_open, place_ends, select_name, call_too_deep, call_step, list_none, list_start, list_fails, list_open, list_ends, list_goes_on, nothing_here, literal_too_many, literal_is, word_left_out, word_too_many, word_fails, word_is, symbol_fails, group_too_deep, group_step, group_open, group_is}
+use Rattle.ksv_expr_syntax.proofs.Exits.{ListNow, moved, moved_next, moved_cons, gives_on, gives_cast, arguments_push, condition_fails, only_condition, choice_is, arms_first, arms_second, before_fails, before_open, before_is, spend_zero, spend_inner, left_fails, join_start, join_end, join_too_many, join_step, not_here, not_too_deep, not_too_many, not_step, compare_fails, compare_only, compare_too_many, compare_step, prefix_here, prefix_too_deep, prefix_too_many, prefix_step, postfix_fails, suffix_start, suffix_end, suffix_go, suffix_too_many, place_too_deep, place_step, select_name, call_too_deep, call_step, list_none, list_start, list_fails, list_open, list_ends, list_goes_on, nothing_here, literal_too_many, literal_is, word_left_out, word_too_many, word_fails, word_is, symbol_fails, group_too_deep, group_is}
 use Rattle.ksv_expr_syntax.proofs.parser.+parser.Goals as goal
 
 pub whole-returns-in_err-condition-clause-is : goal.whole-returns-in_err-condition-clause-is
@@ -17,33 +19,49 @@ whole-returns-in_err-condition-clause-is t c =
 pub whole-returns-in_default-clause-is : goal.whole-returns-in_default-clause-is
 whole-returns-in_default-clause-is t c = only_condition c.args.depth (lexemes c.args.at.tokens.now) c.args.at.parts (view c.in_ok-condition.condition) (lexemes c.in_ok-condition.at.tokens.now) c.in_ok-condition.at.parts c.in_ok-condition.ensures.is c.in_default.ensures.is
 
-pub whole-returns-in_err-inner-clause-is : goal.whole-returns-in_err-inner-clause-is
-whole-returns-in_err-inner-clause-is t c =
-    let p = err_from_is_err_and c.from_residual-in_err-inner.result c.from_residual-in_err-inner.ensures.1 in
-    rw (p.1, p.2) (λ n. arms_too_deep c.args.depth (lexemes c.args.at.tokens.now) c.args.at.parts (view c.in_ok-condition.condition) (lexemes c.in_ok-condition.at.tokens.now) c.in_ok-condition.at.parts (lexemes c.in-Some.rest.now) c.in_ok-condition.ensures.is c.in-Some.ensures.is c.in_err-inner.ensures)
-
-pub whole-returns-in_err-at-clause-is : goal.whole-returns-in_err-at-clause-is
-whole-returns-in_err-at-clause-is t c =
-    let p = err_from_is_err_and c.from_residual-in_err-at.result c.from_residual-in_err-at.ensures.1 in
-    rw (p.1, p.2) (λ n. arms_too_many c.args.depth (lexemes c.args.at.tokens.now) c.args.at.parts (view c.in_ok-condition.condition) (lexemes c.in_ok-condition.at.tokens.now) c.in_ok-condition.at.parts (lexemes c.in-Some.rest.now) c.in_ok-condition.ensures.is c.in-Some.ensures.is c.in_err-at.ensures.is)
-
 pub whole-returns-in_err-yes-clause-is : goal.whole-returns-in_err-yes-clause-is
 whole-returns-in_err-yes-clause-is t c =
     let p = err_from_is_err_and c.from_residual-in_err-yes.result c.from_residual-in_err-yes.ensures.1 in
-    rw (p.1, p.2) (λ n. one_arm c.args.depth (lexemes c.args.at.tokens.now) c.args.at.parts (view c.in_ok-condition.condition) (lexemes c.in_ok-condition.at.tokens.now) c.in_ok-condition.at.parts (lexemes c.in_ok-at.at.tokens.now) c.in_ok-inner.inner c.in_ok-at.at.parts None c.in_ok-condition.ensures.is (moved _ c.in-Some.rest.now c.in_ok-at.at.tokens.now c.in-Some.ensures.is c.in_ok-at.ensures.same) c.in_ok-inner.ensures c.in_ok-at.ensures.is (c.in_err-yes.ensures.is n))
-
-pub whole-returns-in_err-at-2-clause-is : goal.whole-returns-in_err-at-2-clause-is
-whole-returns-in_err-at-2-clause-is t c =
-    let p = err_from_is_err_and c.from_residual-in_err-at-2.result c.from_residual-in_err-at-2.ensures.1 in
-    rw (p.1, p.2) (λ n. no_other_arm c.args.depth (lexemes c.args.at.tokens.now) c.args.at.parts (view c.in_ok-condition.condition) (lexemes c.in_ok-condition.at.tokens.now) c.in_ok-condition.at.parts (lexemes c.in_ok-at.at.tokens.now) c.in_ok-inner.inner c.in_ok-at.at.parts (view c.in_ok-yes.yes) (lexemes c.in_ok-yes.at.tokens.now) c.in_ok-yes.at.parts c.in_ok-condition.ensures.is (moved _ c.in-Some.rest.now c.in_ok-at.at.tokens.now c.in-Some.ensures.is c.in_ok-at.ensures.same) c.in_ok-inner.ensures c.in_ok-at.ensures.is c.in_ok-yes.ensures.is c.in_err-at-2.ensures.is)
-
-pub whole-returns-in_err-no-clause-is : goal.whole-returns-in_err-no-clause-is
-whole-returns-in_err-no-clause-is t c =
-    let p = err_from_is_err_and c.from_residual-in_err-no.result c.from_residual-in_err-no.ensures.1 in
-    rw (p.1, p.2) (λ n. two_arms c.args.depth (lexemes c.args.at.tokens.now) c.args.at.parts (view c.in_ok-condition.condition) (lexemes c.in_ok-condition.at.tokens.now) c.in_ok-condition.at.parts (lexemes c.in_ok-at.at.tokens.now) c.in_ok-inner.inner c.in_ok-at.at.parts (view c.in_ok-yes.yes) (lexemes c.in_ok-yes.at.tokens.now) c.in_ok-yes.at.parts (lexemes c.in_ok-at-2.at.tokens.now) None c.in_ok-condition.ensures.is (moved _ c.in-Some.rest.now c.in_ok-at.at.tokens.now c.in-Some.ensures.is c.in_ok-at.ensures.same) c.in_ok-inner.ensures c.in_ok-at.ensures.is c.in_ok-yes.ensures.is c.in_ok-at-2.ensures.is (ap (λ p. read Whole c.in_ok-inner.inner (lexemes c.in_ok-at-2.at.tokens.now) p) (sym c.in_ok-at-2.ensures.same) ∙ c.in_err-no.ensures.is n))
+    rw (p.1, p.2) (λ n. choice_is c.args.depth (lexemes c.args.at.tokens.now) c.args.at.parts (view c.in_ok-condition.condition) (lexemes c.in_ok-condition.at.tokens.now) c.in_ok-condition.at.parts (lexemes c.in-Some.rest.now) None c.in_ok-condition.ensures.is c.in-Some.ensures.is (c.in_err-yes.ensures.is n (view c.in_ok-condition.condition)))
 
 pub whole-returns-clause-is : goal.whole-returns-clause-is
-whole-returns-clause-is t c = two_arms c.args.depth (lexemes c.args.at.tokens.now) c.args.at.parts (view c.in_ok-condition.condition) (lexemes c.in_ok-condition.at.tokens.now) c.in_ok-condition.at.parts (lexemes c.in_ok-at.at.tokens.now) c.in_ok-inner.inner c.in_ok-at.at.parts (view c.in_ok-yes.yes) (lexemes c.in_ok-yes.at.tokens.now) c.in_ok-yes.at.parts (lexemes c.in_ok-at-2.at.tokens.now) (found (view c.in_ok-no.no) (lexemes c.in_ok-no.at.tokens.now) c.in_ok-no.at.parts) c.in_ok-condition.ensures.is (moved _ c.in-Some.rest.now c.in_ok-at.at.tokens.now c.in-Some.ensures.is c.in_ok-at.ensures.same) c.in_ok-inner.ensures c.in_ok-at.ensures.is c.in_ok-yes.ensures.is c.in_ok-at-2.ensures.is (ap (λ p. read Whole c.in_ok-inner.inner (lexemes c.in_ok-at-2.at.tokens.now) p) (sym c.in_ok-at-2.ensures.same) ∙ c.in_ok-no.ensures.is) ∙ ap (λ e. found e (lexemes c.in_ok-no.at.tokens.now) c.in_ok-no.at.parts) (sym c.in_ok-choice_expr.ensures)
+whole-returns-clause-is t c = choice_is c.args.depth (lexemes c.args.at.tokens.now) c.args.at.parts (view c.in_ok-condition.condition) (lexemes c.in_ok-condition.at.tokens.now) c.in_ok-condition.at.parts (lexemes c.in-Some.rest.now) (found (choice (view c.in_ok-condition.condition) (view c.in_ok-yes.yes) (view c.in_ok-yes.no)) (lexemes c.in_ok-yes.at.tokens.now) c.in_ok-yes.at.parts) c.in_ok-condition.ensures.is c.in-Some.ensures.is (c.in_ok-yes.ensures.is (view c.in_ok-condition.condition)) ∙ ap (λ e. found e (lexemes c.in_ok-yes.at.tokens.now) c.in_ok-yes.at.parts) (sym c.in_ok-choice_expr.ensures)
+
+pub arms-returns-in_err-inner-clause-is : goal.arms-returns-in_err-inner-clause-is
+arms-returns-in_err-inner-clause-is t c =
+    let p = err_from_is_err_and c.from_residual.result c.from_residual.ensures.1 in
+    rw (p.1, p.2) (λ n. λ e. spend_zero c.args.depth _ c.in_err-inner.ensures)
+
+pub arms-returns-in_err-start-clause-is : goal.arms-returns-in_err-start-clause-is
+arms-returns-in_err-start-clause-is t c =
+    let p = err_from_is_err_and c.from_residual-in_err-start.result c.from_residual-in_err-start.ensures.1 in
+    rw (p.1, p.2) (λ n. λ e. spend_inner c.args.depth c.args.at.parts _ c.in_err-start.ensures.is)
+
+pub arms-returns-in_err-yes-clause-is : goal.arms-returns-in_err-yes-clause-is
+arms-returns-in_err-yes-clause-is t c =
+    let p = err_from_is_err_and c.from_residual-in_err-yes.result c.from_residual-in_err-yes.ensures.1 in
+    rw (p.1, p.2) (λ n. λ e. arms_first c.args.depth (lexemes c.args.rest.now) c.args.at.parts c.in_ok-inner.inner c.in_ok-start.start.parts None e c.in_ok-inner.ensures c.in_ok-start.ensures.is (ap (λ ts. read_before tok.Colon c.in_ok-inner.inner (lexemes ts) c.in_ok-start.start.parts) (sym c.in_ok-start.ensures.same) ∙ c.in_err-yes.ensures.is n))
+
+pub arms-returns-in_err-no-clause-is : goal.arms-returns-in_err-no-clause-is
+arms-returns-in_err-no-clause-is t c =
+    let p = err_from_is_err_and c.from_residual-in_err-no.result c.from_residual-in_err-no.ensures.1 in
+    rw (p.1, p.2) (λ n. λ e. arms_second c.args.depth (lexemes c.args.rest.now) c.args.at.parts c.in_ok-inner.inner c.in_ok-start.start.parts (view c.in_ok-yes.yes) (lexemes c.in_ok-yes.now.tokens.now) c.in_ok-yes.now.parts None e c.in_ok-inner.ensures c.in_ok-start.ensures.is (ap (λ ts. read_before tok.Colon c.in_ok-inner.inner (lexemes ts) c.in_ok-start.start.parts) (sym c.in_ok-start.ensures.same) ∙ c.in_ok-yes.ensures.is) (c.in_err-no.ensures.is n))
+
+pub arms-returns-clause-is : goal.arms-returns-clause-is
+arms-returns-clause-is t c = λ e. arms_second c.args.depth (lexemes c.args.rest.now) c.args.at.parts c.in_ok-inner.inner c.in_ok-start.start.parts (view c.in_ok-yes.yes) (lexemes c.in_ok-yes.now.tokens.now) c.in_ok-yes.now.parts (found (view c.in_ok-no.no) (lexemes c.in_ok-no.now.tokens.now) c.in_ok-no.now.parts) e c.in_ok-inner.ensures c.in_ok-start.ensures.is (ap (λ ts. read_before tok.Colon c.in_ok-inner.inner (lexemes ts) c.in_ok-start.start.parts) (sym c.in_ok-start.ensures.same) ∙ c.in_ok-yes.ensures.is) c.in_ok-no.ensures.is
+
+pub before-returns-in_err-expr-clause-is : goal.before-returns-in_err-expr-clause-is
+before-returns-in_err-expr-clause-is t c =
+    let p = err_from_is_err_and c.from_residual.result c.from_residual.ensures.1 in
+    rw (p.1, p.2) (λ n. before_fails c.args.wanted c.args.depth (lexemes c.args.at.tokens.now) c.args.at.parts (c.in_err-expr.ensures.is n))
+
+pub before-returns-in_err-now-clause-is : goal.before-returns-in_err-now-clause-is
+before-returns-in_err-now-clause-is t c =
+    let p = err_from_is_err_and c.from_residual-in_err-now.result c.from_residual-in_err-now.ensures.1 in
+    rw (p.1, p.2) (λ n. before_open c.args.wanted c.args.depth (lexemes c.args.at.tokens.now) c.args.at.parts (view c.in_ok-expr.expr) (lexemes c.in_ok-expr.after.tokens.now) c.in_ok-expr.after.parts c.in_ok-expr.ensures.is c.in_err-now.ensures.is)
+
+pub before-returns-clause-is : goal.before-returns-clause-is
+before-returns-clause-is t c = before_is c.args.wanted c.args.depth (lexemes c.args.at.tokens.now) c.args.at.parts (view c.in_ok-expr.expr) (lexemes c.in_ok-expr.after.tokens.now) c.in_ok-expr.after.parts (lexemes c.in_ok-now.now.tokens.now) c.in_ok-expr.ensures.is c.in_ok-now.ensures.is ∙ ap (λ q. found (view c.in_ok-expr.expr) (lexemes c.in_ok-now.now.tokens.now) q) (sym c.in_ok-now.ensures.same)
 
 pub joined-returns-in_err-left-clause-is : goal.joined-returns-in_err-left-clause-is
 joined-returns-in_err-left-clause-is t c =
@@ -170,15 +188,10 @@ suffix-returns-in_err-inner-in-Bracket-clause-is t c =
 pub suffix-returns-in_err-place-in-Bracket-clause-is : goal.suffix-returns-in_err-place-in-Bracket-clause-is
 suffix-returns-in_err-place-in-Bracket-clause-is t c =
     let p = err_from_is_err_and c.from_residual-in_err-place-in-Bracket.result c.from_residual-in_err-place-in-Bracket.ensures.1 in
-    rw (p.1, p.2, c.in-Bracket.is) (λ n. place_step (view c.args.object) c.args.depth (lexemes c.args.rest.now) c.args.at.parts c.in_ok-inner-in-Bracket.inner c.in_ok-start.start.parts None c.in_ok-inner-in-Bracket.ensures c.in_ok-start.ensures.is (ap (λ ts. read Whole c.in_ok-inner-in-Bracket.inner (lexemes ts) c.in_ok-start.start.parts) (sym c.in_ok-start.ensures.same) ∙ c.in_err-place-in-Bracket.ensures.is n))
-
-pub suffix-returns-in_err-now-in-Bracket-clause-is : goal.suffix-returns-in_err-now-in-Bracket-clause-is
-suffix-returns-in_err-now-in-Bracket-clause-is t c =
-    let p = err_from_is_err_and c.from_residual-in_err-now-in-Bracket.result c.from_residual-in_err-now-in-Bracket.ensures.1 in
-    rw (p.1, p.2, c.in-Bracket.is) (λ n. place_open (view c.args.object) c.args.depth (lexemes c.args.rest.now) c.args.at.parts c.in_ok-inner-in-Bracket.inner c.in_ok-start.start.parts (view c.in_ok-place-in-Bracket.place) (lexemes c.in_ok-place-in-Bracket.now.tokens.now) c.in_ok-place-in-Bracket.now.parts c.in_ok-inner-in-Bracket.ensures c.in_ok-start.ensures.is (ap (λ ts. read Whole c.in_ok-inner-in-Bracket.inner (lexemes ts) c.in_ok-start.start.parts) (sym c.in_ok-start.ensures.same) ∙ c.in_ok-place-in-Bracket.ensures.is) c.in_err-now-in-Bracket.ensures.is)
+    rw (p.1, p.2, c.in-Bracket.is) (λ n. place_step (view c.args.object) c.args.depth (lexemes c.args.rest.now) c.args.at.parts c.in_ok-inner-in-Bracket.inner c.in_ok-start.start.parts None c.in_ok-inner-in-Bracket.ensures c.in_ok-start.ensures.is (ap (λ ts. read_before tok.CloseBracket c.in_ok-inner-in-Bracket.inner (lexemes ts) c.in_ok-start.start.parts) (sym c.in_ok-start.ensures.same) ∙ c.in_err-place-in-Bracket.ensures.is n))
 
 pub suffix-returns-in_ok-index_expr-in-Bracket-clause-is : goal.suffix-returns-in_ok-index_expr-in-Bracket-clause-is
-suffix-returns-in_ok-index_expr-in-Bracket-clause-is t c = rw c.in-Bracket.is (place_ends (view c.args.object) c.args.depth (lexemes c.args.rest.now) c.args.at.parts c.in_ok-inner-in-Bracket.inner c.in_ok-start.start.parts (view c.in_ok-place-in-Bracket.place) (lexemes c.in_ok-place-in-Bracket.now.tokens.now) c.in_ok-place-in-Bracket.now.parts (lexemes c.in_ok-now-in-Bracket.now.tokens.now) c.in_ok-inner-in-Bracket.ensures c.in_ok-start.ensures.is (ap (λ ts. read Whole c.in_ok-inner-in-Bracket.inner (lexemes ts) c.in_ok-start.start.parts) (sym c.in_ok-start.ensures.same) ∙ c.in_ok-place-in-Bracket.ensures.is) c.in_ok-now-in-Bracket.ensures.is ∙ ap (λ q. found (index (view c.args.object) (view c.in_ok-place-in-Bracket.place)) (lexemes c.in_ok-now-in-Bracket.now.tokens.now) q) (sym c.in_ok-now-in-Bracket.ensures.same) ∙ ap (λ e. found e (lexemes c.in_ok-now-in-Bracket.now.tokens.now) c.in_ok-now-in-Bracket.now.parts) (sym c.in_ok-index_expr-in-Bracket.ensures))
+suffix-returns-in_ok-index_expr-in-Bracket-clause-is t c = rw c.in-Bracket.is (place_step (view c.args.object) c.args.depth (lexemes c.args.rest.now) c.args.at.parts c.in_ok-inner-in-Bracket.inner c.in_ok-start.start.parts (found (view c.in_ok-place-in-Bracket.place) (lexemes c.in_ok-place-in-Bracket.now.tokens.now) c.in_ok-place-in-Bracket.now.parts) c.in_ok-inner-in-Bracket.ensures c.in_ok-start.ensures.is (ap (λ ts. read_before tok.CloseBracket c.in_ok-inner-in-Bracket.inner (lexemes ts) c.in_ok-start.start.parts) (sym c.in_ok-start.ensures.same) ∙ c.in_ok-place-in-Bracket.ensures.is) ∙ ap (λ e. found e (lexemes c.in_ok-place-in-Bracket.now.tokens.now) c.in_ok-place-in-Bracket.now.parts) (sym c.in_ok-index_expr-in-Bracket.ensures))
 
 pub selected-returns-in_default-clause-is : goal.selected-returns-in_default-clause-is
 selected-returns-in_default-clause-is t c = gives_cast (view c.args.object) c.args.depth (lexemes c.args.at.tokens.now) c.args.at.parts c.cast.result c.in_default.ensures.is c.cast.ensures.is
@@ -264,15 +277,10 @@ primary-returns-in_err-inner-in-Symbol t c =
 pub primary-returns-in_err-expr-in-Symbol : goal.primary-returns-in_err-expr-in-Symbol
 primary-returns-in_err-expr-in-Symbol t c =
     let p = err_from_is_err_and c.from_residual-in_err-expr-in-Symbol.result c.from_residual-in_err-expr-in-Symbol.ensures.1 in
-    record { is = rw (p.1, p.2) (λ n. group_step c.args.depth (lexemes c.args.at.tokens.now) c.args.at.parts (lexemes c.in_ok-start-in-Symbol.start.tokens.now) c.in_ok-inner-in-Symbol.inner None c.in_ok-start-in-Symbol.ensures.is c.in_ok-inner-in-Symbol.ensures (ap (λ p. read Whole c.in_ok-inner-in-Symbol.inner (lexemes c.in_ok-start-in-Symbol.start.tokens.now) p) (sym c.in_ok-start-in-Symbol.ensures.same) ∙ c.in_err-expr-in-Symbol.ensures.is n)); shorter = rw p.1 tt }
+    record { is = rw (p.1, p.2) (λ n. group_is c.args.depth (lexemes c.args.at.tokens.now) c.args.at.parts (lexemes c.in_ok-start-in-Symbol.start.tokens.now) c.in_ok-inner-in-Symbol.inner None c.in_ok-start-in-Symbol.ensures.is c.in_ok-inner-in-Symbol.ensures (ap (λ p. read_before tok.CloseParenthesis c.in_ok-inner-in-Symbol.inner (lexemes c.in_ok-start-in-Symbol.start.tokens.now) p) (sym c.in_ok-start-in-Symbol.ensures.same) ∙ c.in_err-expr-in-Symbol.ensures.is n)); shorter = rw p.1 tt }
 
-pub primary-returns-in_err-now-in-Symbol : goal.primary-returns-in_err-now-in-Symbol
-primary-returns-in_err-now-in-Symbol t c =
-    let p = err_from_is_err_and c.from_residual-in_err-now-in-Symbol.result c.from_residual-in_err-now-in-Symbol.ensures.1 in
-    record { is = rw (p.1, p.2) (λ n. group_open c.args.depth (lexemes c.args.at.tokens.now) c.args.at.parts (lexemes c.in_ok-start-in-Symbol.start.tokens.now) c.in_ok-inner-in-Symbol.inner (view c.in_ok-expr-in-Symbol.expr) (lexemes c.in_ok-expr-in-Symbol.now.tokens.now) c.in_ok-expr-in-Symbol.now.parts c.in_ok-start-in-Symbol.ensures.is c.in_ok-inner-in-Symbol.ensures (ap (λ p. read Whole c.in_ok-inner-in-Symbol.inner (lexemes c.in_ok-start-in-Symbol.start.tokens.now) p) (sym c.in_ok-start-in-Symbol.ensures.same) ∙ c.in_ok-expr-in-Symbol.ensures.is) c.in_err-now-in-Symbol.ensures.is); shorter = rw p.1 tt }
-
-pub primary-returns-in_ok-now-in-Symbol : goal.primary-returns-in_ok-now-in-Symbol
-primary-returns-in_ok-now-in-Symbol t c = record {
-  is = group_is c.args.depth (lexemes c.args.at.tokens.now) c.args.at.parts (lexemes c.in_ok-start-in-Symbol.start.tokens.now) c.in_ok-inner-in-Symbol.inner (view c.in_ok-expr-in-Symbol.expr) (lexemes c.in_ok-expr-in-Symbol.now.tokens.now) c.in_ok-expr-in-Symbol.now.parts (lexemes c.in_ok-now-in-Symbol.now.tokens.now) c.in_ok-start-in-Symbol.ensures.is c.in_ok-inner-in-Symbol.ensures (ap (λ p. read Whole c.in_ok-inner-in-Symbol.inner (lexemes c.in_ok-start-in-Symbol.start.tokens.now) p) (sym c.in_ok-start-in-Symbol.ensures.same) ∙ c.in_ok-expr-in-Symbol.ensures.is) c.in_ok-now-in-Symbol.ensures.is ∙ ap (λ q. found (view c.in_ok-expr-in-Symbol.expr) (lexemes c.in_ok-now-in-Symbol.now.tokens.now) q) (sym c.in_ok-now-in-Symbol.ensures.same);
-  shorter = omega (arith, c.in_ok-start-in-Symbol.ensures.shorter, c.in_ok-expr-in-Symbol.ensures.shorter, c.in_ok-now-in-Symbol.ensures.shorter);
+pub primary-returns-in_ok-expr-in-Symbol : goal.primary-returns-in_ok-expr-in-Symbol
+primary-returns-in_ok-expr-in-Symbol t c = record {
+  is = group_is c.args.depth (lexemes c.args.at.tokens.now) c.args.at.parts (lexemes c.in_ok-start-in-Symbol.start.tokens.now) c.in_ok-inner-in-Symbol.inner (found (view c.in_ok-expr-in-Symbol.expr) (lexemes c.in_ok-expr-in-Symbol.now.tokens.now) c.in_ok-expr-in-Symbol.now.parts) c.in_ok-start-in-Symbol.ensures.is c.in_ok-inner-in-Symbol.ensures (ap (λ p. read_before tok.CloseParenthesis c.in_ok-inner-in-Symbol.inner (lexemes c.in_ok-start-in-Symbol.start.tokens.now) p) (sym c.in_ok-start-in-Symbol.ensures.same) ∙ c.in_ok-expr-in-Symbol.ensures.is);
+  shorter = omega (arith, c.in_ok-start-in-Symbol.ensures.shorter, c.in_ok-expr-in-Symbol.ensures.shorter);
 }

@@ -13,6 +13,12 @@ decreases-arguments l = 64 * length l.at.tokens.now + 32
 abbrev pub decreases-whole : goal.decreases-whole
 decreases-whole l = 64 * length l.at.tokens.now + 30
 
+abbrev pub decreases-before : goal.decreases-before
+decreases-before l = 64 * length l.at.tokens.now + 31
+
+abbrev pub decreases-arms : goal.decreases-arms
+decreases-arms l = 64 * length l.rest.now + 40
+
 abbrev pub decreases-joined : goal.decreases-joined
 decreases-joined l = 64 * length l.at.tokens.now + 2 * level_of l.precedence + 1
 
