@@ -52,6 +52,9 @@ value /len => no-such at /len";
 /// An attribute whose size needs its own end.
 const CIRCLE: &str = "meta:\n  id: t\nseq:\n  - id: a\n    size: b\n  - id: b\n    type: u1\n";
 
+/// Bytes up to the end of the file.
+const BYTES: &str = "meta:\n  id: t\nseq:\n  - id: xs\n    type: u1\n    repeat: eos\n";
+
 /// The description that a text states.
 pub(crate) fn described(alloc: Global, text: &str) -> Result<Desc, Fail> {
     match load(alloc, &read(alloc, text.as_bytes())?) {
@@ -188,6 +191,40 @@ fn a_size_behind_is_a_circle(rt: HostRuntime) -> Result<(), Fail> {
     let rules = Described::new(described(alloc, CIRCLE)?);
     let found = answer(alloc, &rules, &bytes, NodeKind::Value, "/a")?;
     assert_eq!(rt; found.as_str(), "circle at /a");
+    Ok(())
+}
+
+/// The nodes that `get /xs` asks of an engine.
+fn asked(alloc: Global, rules: &Described) -> Result<(Node, Node), Fail> {
+    let list = path_of(alloc, rules.desc(), b"/xs")?;
+    let first = path_of(alloc, rules.desc(), b"/xs/0")?;
+    match (list, first) {
+        (Some(list), Some(first)) => Ok((
+            Node {
+                kind: NodeKind::Value,
+                path: list,
+            },
+            Node {
+                kind: NodeKind::Rest,
+                path: first,
+            },
+        )),
+        _ => Err(Fail::from("no path")),
+    }
+}
+
+#[test]
+fn an_engine_keeps_and_counts(rt: HostRuntime) -> Result<(), Fail> {
+    let alloc = rt.alloc();
+    let bytes = Buffer::new(b"\x01\x02\x03\x04\x05".to_vec(alloc)?)?;
+    let rules = Described::new(described(alloc, BYTES)?);
+    let (list, first) = asked(alloc, &rules)?;
+    let mut engine = Engine::new(alloc);
+    engine.begin();
+    engine.ask(&rules, &bytes, list)?;
+    engine.ask(&rules, &bytes, first)?;
+    assert_eq!(rt; engine.kept(), 18);
+    assert!(rt; engine.turns() == Some(49));
     Ok(())
 }
 

@@ -146,7 +146,7 @@ fn add_part(part: &Part, found: &mut String) -> Result<(), AllocError> {
             found.push_str(if *quoted { " quoted" } else { "" })?;
             add_text(found, text.as_slice())
         }
-        Part::Key { text } => {
+        Part::Key { text, .. } => {
             found.push_str(" key")?;
             add_text(found, text.as_slice())
         }

@@ -22,7 +22,7 @@ use Rattle.ksv_expr_value.specs.declared.value.Stream.{Stream}
 use Rattle.ksv_expr_value.specs.declared.value.Value.{Value}
 use Rattle.ksv_expr_value.specs.declared.value.Value.TheVariants as values
 use Rattle.ksv_expr_eval.specs.declared.want.Want.TheVariants as wants
-use Rattle.ksv_expr_value.specs.Trail.{Trail, root, child, holder}
+use Rattle.ksv_expr_value.specs.Trail.{Trail, element_limit, root, child, holder}
 use Rattle.ksv_expr_value.specs.Range.{ranged}
 use Rattle.ksv_expr_eval.specs.Methods.{method_named}
 use Rattle.ksv_expr_value.specs.Encodings.{encoding_named, decoded}
@@ -50,7 +50,7 @@ member_value q x = do
 
 -- the path of an element of a list
 unfoldable pub element_path : Trail → ℤ → Eval Trail
-element_path l (pos i) = if nat_lt i 1048576 then in_path (child l (steps.Index i)) else raise kinds.BadIndex
+element_path l (pos i) = if nat_lt i element_limit then in_path (child l (steps.Index i)) else raise kinds.BadIndex
 element_path l (negsuc i) = raise kinds.BadIndex
 
 -- the value of an element of a list

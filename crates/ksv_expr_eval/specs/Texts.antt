@@ -8,9 +8,13 @@ use Rattle.ksv_expr_value.specs.declared.fault.FaultKind.TheVariants as kinds
 use Rattle.ksv_expr_value.specs.Range.{in_range}
 use Rattle.std.specs.Str.{chars, encode_utf8_all}
 
--- one text behind another, where both together have at most 16,777,216 bytes
+-- the most bytes that a text may have: 16 MiB
+abbrev pub text_limit : ℕ
+text_limit = 16777216
+
+-- one text after another, where both together have no more bytes
 abbrev pub joined : List ℕ → List ℕ → Option (List ℕ)
-joined a b = if nat_le (length a + length b) 16777216 then Some (a ++ b) else None
+joined a b = if nat_le (length a + length b) text_limit then Some (a ++ b) else None
 
 -- how many characters the text has
 abbrev pub char_count : List ℕ → ℕ

@@ -11,19 +11,26 @@ use mathlib.Core.Bool.{Bool-set}
 use Rattle.ksv_expr_value.specs.declared.step.Step.{Step}
 use Rattle.ksv_expr_value.specs.declared.step.Step.TheVariants.{Name, Index}
 
--- a name is a `u32`, and an index is below 1,048,576
+-- the most steps of a path, and the number of elements that a list has at most
+abbrev pub step_limit : ℕ
+step_limit = 64
+
+abbrev pub element_limit : ℕ
+element_limit = 1048576
+
+-- a name is a `u32`, and an index is below the number of elements
 abbrev pub step_fits : Step → Bool
 step_fits (Name n) = nat_lt n (2 ^ 32)
-step_fits (Index i) = nat_lt i 1048576
+step_fits (Index i) = nat_lt i element_limit
 
 -- a step in its range, as a fact
 abbrev pub InRange : Step → Type 0
 InRange (Name n) = n < 2 ^ 32
-InRange (Index i) = i < 1048576
+InRange (Index i) = i < element_limit
 
--- at most 64 steps, each in its range
+-- so many steps at most, each in its range
 unfoldable pub fits : List Step → Bool
-fits steps = nat_le (length steps) 64 && list_all step_fits steps
+fits steps = nat_le (length steps) step_limit && list_all step_fits steps
 
 -- a path
 pub record Trail : Type 0 where

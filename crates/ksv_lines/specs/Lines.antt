@@ -2,6 +2,13 @@
 use Rattle.std.specs.Prelude.{ℕ, ◌≡◌, ◌≤◌, ◌-◌, ◌==◌, ◌&&◌, ◌||◌, not, nat_lt, Bool, true, false, List, [], ◌∷◌, length, slice_index, take, if◌then◌else◌}
 use Rattle.std.specs.List.{filter, slice_split}
 
+-- the most bytes of a line, its LF aside, and one more, by which a line that is too long is known
+abbrev pub line_limit : ℕ
+line_limit = 4096
+
+abbrev pub line_room : ℕ
+line_room = 4097
+
 abbrev pub is_line_end : ℕ → Bool
 is_line_end c = c == 10
 

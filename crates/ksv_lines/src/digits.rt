@@ -1,6 +1,7 @@
 //! Bytes that a line writes as hexadecimal digits.
 ghost use Rattle.std.specs.Prelude.{◌≡◌, ◌≤◌, length};
 ghost use Rattle.ksv_lines.specs.Digits.{bytes_of};
+ghost use Rattle.ksv_lines.specs.Lines.{line_limit};
 
 use std::marker::Model;
 
@@ -35,7 +36,7 @@ impl EditBytes {
 
 /// The bytes of an even number of hexadecimal digits.
 pub fn edit_bytes(digits: &[u8]) -> Option<EditBytes>
-    requires { length digits.now ≤ 4096 }
+    requires { length digits.now ≤ line_limit }
     ensures { result ≡ bytes_of digits.now }
 {
     let mut room = [0; EDIT_LIMIT];

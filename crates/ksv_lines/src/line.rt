@@ -1,5 +1,6 @@
 //! The line that is being read.
 ghost use Rattle.std.specs.Prelude.{◌≡◌, ◌≤◌, ◌++◌, List, ℕ, [], ◌∷◌, length, take};
+ghost use Rattle.ksv_lines.specs.Lines.{line_room};
 
 use arrayvec::ArrayVec;
 use std::marker::Model;
@@ -32,7 +33,7 @@ impl LineBuffer {
 
     /// Adds a byte, or drops it where the line is too long already.
     pub fn push(&mut self, byte: u8)
-        ensures { self.new ≡ take 4097 (self.old ++ byte ∷ []) }
+        ensures { self.new ≡ take line_room (self.old ++ byte ∷ []) }
     {
         if self.front.len() < LINE_ROOM {
             self.front.push(byte);
@@ -49,7 +50,7 @@ impl LineBuffer {
     /// What was gathered.
     pub fn as_slice(&self) -> &[u8]
         ensures value { result.now ≡ self.now }
-        ensures short { length result.now ≤ 4097 }
+        ensures short { length result.now ≤ line_room }
     {
         self.front.as_slice()
     }

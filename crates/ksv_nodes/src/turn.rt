@@ -1,6 +1,7 @@
 //! One turn of a node's rule: what it asks is answered by the replies, in their order.
 
 ghost use Rattle.std.specs.Prelude.{◌≡◌, ◌≤◌, ◌<◌, ◌++◌, length, [], IfErr, IsErr, IfOk};
+ghost use Rattle.ksv_bytes.specs.Edits.{file_limit};
 ghost use Rattle.ksv_expr_value.specs.Bytes.{content};
 ghost use Rattle.std.specs.Prelude.{◌+◌, slice_range, IfSome};
 ghost use Rattle.ksv_nodes.specs.Reading.{first_at, end_in};
@@ -220,7 +221,7 @@ impl<'a> Turn<'a> {
     #[tactic(auto, unfolding(crate::specs::Reading::reach_within, crate::specs::Reading::reach_file))]
     pub fn reach(&mut self, stream: Stream, to: u128) -> Result<(), Halt>
         ensures runs { Runs (reach stream to) (λ unit. unit) self.old self.new result }
-        ensures fits { IfOk result (λ _. to ≤ 16777216) }
+        ensures fits { IfOk result (λ _. to ≤ file_limit) }
     {
         if let Some(end) = stream.to {
             if u128::from(end) < to {
@@ -309,7 +310,7 @@ impl<'a> Turn<'a> {
     fn first_in(&self, from: u32, to: u32, byte: u8) -> Option<u32>
         ensures found { result ≡ first_at byte (slice_range self.now.bytes from to) }
         ensures inside { IfSome result (λ place. from + place < length self.now.bytes) }
-        ensures small { IfSome result (λ place. from + place < 16777216) }
+        ensures small { IfSome result (λ place. from + place < file_limit) }
     {
         let from = from as usize;
         let to = (to as usize).min(self.bytes.len());
@@ -325,7 +326,7 @@ impl<'a> Turn<'a> {
     #[tactic(auto, unfolding(crate::specs::Reading::find_at, crate::specs::Reading::found_from, crate::specs::Reading::found_none, crate::specs::Reading::finish_of))]
     pub fn find(&mut self, stream: Stream, start: u32, byte: u8) -> Result<Found, Halt>
         ensures runs { Runs (find stream start byte) (λ found. found) self.old self.new result }
-        ensures fits { IfOk result (StandsBelow 16777216) }
+        ensures fits { IfOk result (StandsBelow file_limit) }
     {
         let end = self.end_in(stream);
         match self.first_in(start, end, byte) {

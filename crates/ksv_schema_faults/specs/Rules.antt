@@ -31,7 +31,7 @@ use Rattle.ksv_schema_faults.specs.Faults.{Fault, fault, fault_if, unknown_key, 
 use Rattle.ksv_schema_keys.specs.Keys as forms
 use Rattle.ksv_schema_keys.specs.Keys.{Form, Key, type_keys, meta_keys, parameter_keys, attribute_keys, parse_instance_keys, value_keys, switch_keys, constant_keys, form_in, is_ignored, is_id}
 use Rattle.ksv_schema_keys.specs.Expressions.{expression_of}
-use Rattle.ksv_schema_keys.specs.Values.{encoding_named, TypeText, Unspelled, OfLanguage, OfDescription, type_text, is_integer, is_str, is_strz, is_of_description, is_type, type_key, cases_of, byte_number, byte_at, looks_like_number, Piece, Bytes, BadPiece, LeftOutPiece, piece_of, CaseKey, Constant as ConstantKey, Negative, Member as MemberKey, Default, NoKey, case_key, ids_of, is_to_end, is_repeated}
+use Rattle.ksv_schema_keys.specs.Values.{encoding_named, TypeText, Unspelled, OfLanguage, OfDescription, type_text, is_integer, is_str, is_strz, is_type, type_key, cases_of, byte_number, byte_at, looks_like_number, Piece, Bytes, BadPiece, LeftOutPiece, piece_of, CaseKey, Constant as ConstantKey, Negative, Member as MemberKey, Default, NoKey, case_key, ids_of, is_to_end, is_repeated}
 
 -- where a mapping stands: in which type, whether in its `seq`, and whether it is of something repeated
 pub record Home : Type 0 where
@@ -244,16 +244,22 @@ field_against es =
     ++ alone_if (not (says (codes "repeat") (codes "expr") es)) (entry_at (codes "repeat-expr") es)
     ++ alone_if (not (says (codes "repeat") (codes "until") es)) (entry_at (codes "repeat-until") es)
 
+-- a type that the description declares; a type that is unknown is at fault alone
+abbrev pub is_declared : Home → TypeText → Bool
+is_declared h Unspelled = false
+is_declared h (OfLanguage b es) = false
+is_declared h (OfDescription t es) = is_some (type_named h.declared.types h.within t.path)
+
 -- a terminator of a type of the description, or of `strz` another one than 0
-unfoldable pub field_left_out : List Pair → List Fault
-field_left_out es =
-    let of_description = is_some (type_key is_of_description es) || list_any (is_type is_of_description) (cases_of es) in
+unfoldable pub field_left_out : Home → List Pair → List Fault
+field_left_out h es =
+    let of_description = is_some (type_key (is_declared h) es) || list_any (is_type (is_declared h)) (cases_of es) in
     let is_other = option_map_or (λ b. not (b == 0)) (byte_at (codes "terminator") es) false in
     left_out_if of_description (entry_at (codes "terminator") es)
     ++ left_out_if (is_some (type_key is_strz es) && is_other) (entry_at (codes "terminator") es)
 
 unfoldable pub field_rules : Home → ℕ → List Pair → List Fault
-field_rules h line es = field_needs h line es ++ field_against es ++ field_left_out es
+field_rules h line es = field_needs h line es ++ field_against es ++ field_left_out h es
 
 -- a value has no place, type, size or repetition
 unfoldable pub value_rules : List Pair → List Fault
@@ -367,7 +373,17 @@ type_faults d n s =
     option_map_or (type_key_faults d n s) (mapping_of s.value) (fault s.line bad_value)
     ++ fault_if (not (n == 0) && not (is_id s.id)) s.line bad_value
 
--- ---- limits: 1,024 types, 256 members of a type, 65,536 entries of enums
+-- ---- limits
+
+-- the most types, members of a type, and entries of all enums
+abbrev pub most_types : ℕ
+most_types = 1024
+
+abbrev pub most_members : ℕ
+most_members = 256
+
+abbrev pub most_entries : ℕ
+most_entries = 65536
 
 -- the first of these past a limit
 abbrev pub past : ℕ → List ℕ → List Fault
@@ -382,7 +398,7 @@ unfoldable pub line_past : ℕ → List ℕ → Option ℕ
 line_past limit lines = fold lower None (filter (λ line. nat_lt limit (length (filter (λ other. nat_le other line) lines))) lines)
 
 unfoldable pub member_limit : Declared → ℕ → Scope → List Fault
-member_limit d n s = past 256 (map (λ m. m.line) (members_within d.members n))
+member_limit d n s = past most_members (map (λ m. m.line) (members_within d.members n))
 
 -- ---- a description
 
@@ -393,9 +409,9 @@ each_from faults n (x ∷ xs) = faults n x ++ each_from faults (n + 1) xs
 
 unfoldable pub limit_faults : Declared → List Fault
 limit_faults d =
-    past 1024 (map (λ s. s.line) d.types)
+    past most_types (map (λ s. s.line) d.types)
     ++ each_from (member_limit d) 0 d.types
-    ++ map (λ line. record { line = line; number = over_limit }) (option_to_list (line_past 65536 (map (λ c. c.line) d.constants)))
+    ++ map (λ line. record { line = line; number = over_limit }) (option_to_list (line_past most_entries (map (λ c. c.line) d.constants)))
 
 unfoldable pub faults_of : Declared → List Fault
 faults_of d =

@@ -6,13 +6,14 @@ ghost use Rattle.ksv_yaml_tree.specs.Tree.{entry_at};
 ghost use Rattle.ksv_yaml_tree.specs.View.{pair, seen_entry};
 ghost use Rattle.ksv_schema_scope.specs.Keys.{has, says};
 ghost use Rattle.ksv_schema_faults.specs.Faults.{noted};
-ghost use Rattle.ksv_schema_keys.specs.Values.{cases_of, is_to_end, is_integer, is_str, is_strz, is_of_description, is_type, type_key};
-ghost use Rattle.ksv_schema_faults.specs.Rules.{against, alone_if, left_out_if, missing_if, to_end_key, has_encoding, field_needs, integer_against, field_against, field_left_out, field_rules, value_rules};
+ghost use Rattle.ksv_schema_keys.specs.Code.{seen_type_text};
+ghost use Rattle.ksv_schema_keys.specs.Values.{cases_of, is_to_end, is_integer, is_str, is_strz, is_type, type_key};
+ghost use Rattle.ksv_schema_faults.specs.Rules.{against, alone_if, is_declared, left_out_if, missing_if, to_end_key, has_encoding, field_needs, integer_against, field_against, field_left_out, field_rules, value_rules};
 ghost use Rattle.ksv_schema_faults.specs.Code.{seen_fault, seen_home, is_bounded, contents_against, lonely, has_other_terminator};
 
 use crate::fault::{DescFault, DescFaultKind, note, note_if};
 use crate::home::Home;
-use ksv_schema_keys::{TypeKind, byte_at, is_type, type_key};
+use ksv_schema_keys::{TypeKind, TypeText, byte_at, is_type, type_key, type_text};
 use ksv_schema_scope::keys::{entries_at, has, says, text_at};
 use ksv_yaml_tree::{Entry, find};
 use std::alloc::{AllocError, Global};
@@ -334,12 +335,50 @@ fn note_field_against(
     note_lonely(alloc, least, entries)
 }
 
-/// Whether a case is of a type of the description.
-fn has_object(alloc: Global, cases: &[Entry]) -> Result<bool, AllocError>
-    ensures { IfOk result (λ b. b ≡ list_any (is_type is_of_description) (map pair cases.now)) }
+/// Whether a type is one that the description declares.
+fn is_declared(home: Home, text: &TypeText) -> bool
+    ensures { result ≡ is_declared (seen_home home.entry) (seen_type_text text.now) }
+{
+    match text {
+        TypeText::OfDescription(name, _) => home
+            .scopes
+            .type_named(home.within, name.path.as_slice())
+            .is_some(),
+        TypeText::OfLanguage(..) | TypeText::Unspelled(_) => false,
+    }
+}
+
+/// Whether the text of such a type stands at an entry.
+#[tactic(auto, unfolding(ksv_schema_keys::specs::Values::is_type))]
+fn has_declared(alloc: Global, home: Home, entry: &Entry) -> Result<bool, AllocError>
+    ensures { IfOk result (λ b. b ≡ is_type (is_declared (seen_home home.entry)) (pair entry.now)) }
+{
+    match entry.value().text() {
+        Some(text) => {
+            let text = type_text(alloc, text)?;
+            Ok(is_declared(home, &text))
+        }
+        None => Ok(false),
+    }
+}
+
+/// Whether such a type stands at the key `type`.
+#[tactic(auto, unfolding(ksv_schema_keys::specs::Values::type_key))]
+fn is_object(alloc: Global, home: Home, entries: &[Entry]) -> Result<bool, AllocError>
+    ensures { IfOk result (λ b. b ≡ is_some (type_key (is_declared (seen_home home.entry)) (map pair entries.now))) }
+{
+    match find(entries, b"type") {
+        Some(entry) => has_declared(alloc, home, entry),
+        None => Ok(false),
+    }
+}
+
+/// Whether a case is of such a type.
+fn has_object(alloc: Global, home: Home, cases: &[Entry]) -> Result<bool, AllocError>
+    ensures { IfOk result (λ b. b ≡ list_any (is_type (is_declared (seen_home home.entry))) (map pair cases.now)) }
 {
     for case in cases {
-        if is_type(alloc, TypeKind::OfDescription, case)? {
+        if has_declared(alloc, home, case)? {
             return Ok(true);
         }
     }
@@ -361,12 +400,13 @@ fn has_other_terminator(entries: &[Entry]) -> bool
 fn note_field_left_out(
     alloc: Global,
     least: &mut Option<DescFault>,
+    home: Home,
     entries: &[Entry],
 ) -> Result<(), AllocError>
-    ensures { OnOk result (seen_fault least.new ≡ noted (seen_fault least.old) (field_left_out (map pair entries.now))) }
+    ensures { OnOk result (seen_fault least.new ≡ noted (seen_fault least.old) (field_left_out (seen_home home.entry) (map pair entries.now))) }
 {
-    let is_object = type_key(alloc, TypeKind::OfDescription, entries)?.is_some();
-    let has_object = has_object(alloc, cases_of(entries))?;
+    let is_object = is_object(alloc, home, entries)?;
+    let has_object = has_object(alloc, home, cases_of(entries))?;
     let is_strz = type_key(alloc, TypeKind::Strz, entries)?.is_some();
     let is_other = has_other_terminator(entries);
     note_left_out_if(least, is_object | has_object, entries, b"terminator");
@@ -387,7 +427,7 @@ pub(crate) fn note_field_rules(
 {
     note_field_needs(alloc, least, home, line, entries)?;
     note_field_against(alloc, least, entries)?;
-    note_field_left_out(alloc, least, entries)
+    note_field_left_out(alloc, least, home, entries)
 }
 
 /// Notes the keys of an instance that stand against its value.

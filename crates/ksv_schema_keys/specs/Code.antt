@@ -14,7 +14,7 @@ use Rattle.ksv_schema_keys.specs.declared.values.Piece as pieces
 use Rattle.ksv_schema_keys.specs.declared.values.Piece.TheVariants as piece
 use Rattle.ksv_schema_keys.specs.declared.values.CaseKey as case_keys
 use Rattle.ksv_schema_keys.specs.declared.values.CaseKey.TheVariants as case_key
-use Rattle.ksv_schema_keys.specs.Values.{TypeText, Unspelled, OfLanguage, OfDescription, is_integer, is_str, is_strz, is_of_description, Piece, Bytes, BadPiece, LeftOutPiece, names_in, CaseKey, Constant, Negative, Member, Default, NoKey}
+use Rattle.ksv_schema_keys.specs.Values.{TypeText, Unspelled, OfLanguage, OfDescription, is_integer, is_str, is_strz, Piece, Bytes, BadPiece, LeftOutPiece, names_in, CaseKey, Constant, Negative, Member, Default, NoKey}
 use Rattle.ksv_schema_keys.specs.declared.keys.Form.{Form as FormOfCode}
 use Rattle.ksv_schema_keys.specs.declared.keys.Form.TheVariants as form
 use Rattle.ksv_schema_keys.specs.declared.keys.Key.{Key as KeyOfCode}
@@ -85,7 +85,6 @@ abbrev pub kind_test : TypeKind → TypeText → Bool
 kind_test kind.Integer = is_integer
 kind_test kind.Str = is_str
 kind_test kind.Strz = is_strz
-kind_test kind.OfDescription = is_of_description
 
 -- a number from 0 to a bound
 pub record IsUpTo (most : ℕ) (n : ℤ) : Type 0 where

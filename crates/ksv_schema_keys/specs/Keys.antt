@@ -119,6 +119,8 @@ value_keys =
     key (codes "value") (Expression sites.Value) ∷
     key (codes "if") (Expression sites.Condition) ∷
     key (codes "enum") EnumName ∷
+    key (codes "process") NotHere ∷
+    key (codes "pad-right") NotHere ∷
     key (codes "valid") NotHere ∷
     key (codes "pos") Ignored ∷
     key (codes "io") Ignored ∷

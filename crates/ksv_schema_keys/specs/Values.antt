@@ -56,10 +56,6 @@ abbrev pub is_strz : TypeText → Bool
 is_strz (OfLanguage Strz es) = true
 is_strz _ = false
 
-abbrev pub is_of_description : TypeText → Bool
-is_of_description (OfDescription t es) = true
-is_of_description _ = false
-
 -- the text of a type at an entry, where it is of this kind
 unfoldable pub is_type : (TypeText → Bool) → Pair → Bool
 is_type kind p = option_map_or (λ text. kind (type_text text)) (text_of p.value) false

@@ -128,10 +128,12 @@ static FIELD_KEYS: [Key; 17] = [
 ];
 
 /// The keys of an instance with a value.
-static VALUE_KEYS: [Key; 9] = [
+static VALUE_KEYS: [Key; 11] = [
     Key(b"value", Form::Expression(Site::Value)),
     Key(b"if", Form::Expression(Site::Condition)),
     Key(b"enum", Form::EnumName),
+    Key(b"process", Form::NotHere),
+    Key(b"pad-right", Form::NotHere),
     Key(b"valid", Form::NotHere),
     Key(b"pos", Form::Ignored),
     Key(b"io", Form::Ignored),

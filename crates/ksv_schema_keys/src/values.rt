@@ -5,7 +5,7 @@ ghost use Rattle.ksv_yaml_tree.specs.View.{view, pair, seen_entry, seen_text};
 ghost use Rattle.std.specs.List.{list_all};
 ghost use Rattle.ksv_expr_tree.specs.Tree.{view as view_expression, view_type, literal_of, special, unary};
 ghost use Rattle.ksv_schema_scope.specs.Numerals.{is_digit, is_numeral};
-ghost use Rattle.ksv_schema_keys.specs.Values.{encoding_named, of_name, type_text, is_integer, is_str, is_strz, is_of_description, is_type, type_key, byte_number, byte_at, looks_like_number, number_piece, piece_of, case_key};
+ghost use Rattle.ksv_schema_keys.specs.Values.{encoding_named, of_name, type_text, is_integer, is_str, is_strz, is_type, type_key, byte_number, byte_at, looks_like_number, number_piece, piece_of, case_key};
 ghost use Rattle.ksv_schema_keys.specs.Code.{seen_type_text, kind_test, IsUpTo, seen_piece, seen_case_key, negative_constant, negative_key};
 ghost use Rattle.ksv_schema_names.specs.BuiltIn.{built_in_at};
 
@@ -77,8 +77,6 @@ pub enum TypeKind {
     Str,
     /// `strz`
     Strz,
-    /// A type of the description.
-    OfDescription,
 }
 
 fn is_integer(text: &TypeText) -> bool
@@ -101,12 +99,6 @@ fn is_strz(text: &TypeText) -> bool
     matches!(text, TypeText::OfLanguage(BuiltIn::Strz, _))
 }
 
-fn is_of_description(text: &TypeText) -> bool
-    ensures { result ≡ is_of_description (seen_type_text text.now) }
-{
-    matches!(text, TypeText::OfDescription(..))
-}
-
 /// Whether a type is of this kind.
 pub fn is_of_kind(kind: TypeKind, text: &TypeText) -> bool
     ensures { result ≡ kind_test kind (seen_type_text text.now) }
@@ -115,7 +107,6 @@ pub fn is_of_kind(kind: TypeKind, text: &TypeText) -> bool
         TypeKind::Integer => is_integer(text),
         TypeKind::Str => is_str(text),
         TypeKind::Strz => is_strz(text),
-        TypeKind::OfDescription => is_of_description(text),
     }
 }
 

@@ -3,7 +3,7 @@
 use Rattle.std.specs.Prelude.{ℕ, Bool, true, false, ◌==◌, nat_lt, List, [], ◌∷◌, length, codes, slice_index, Option, Some, None, if◌then◌else◌}
 use Rattle.std.specs.Str.{bytes_eq}
 use Rattle.ksv_lines.specs.Digits.{bytes_of}
-use Rattle.ksv_lines.specs.Lines.{without_carriage_return, words_of}
+use Rattle.ksv_lines.specs.Lines.{line_limit, without_carriage_return, words_of}
 use Rattle.ksv_desc.specs.Description.{Description}
 use Rattle.ksv_session.specs.Numbers.{number_of}
 use Rattle.ksv_expr_value.specs.Trail.{Trail}
@@ -11,10 +11,6 @@ use Rattle.ksv_paths.specs.PathTexts.{path_named}
 use Rattle.ksv_session.specs.declared.command.Command.{Command}
 use Rattle.ksv_session.specs.declared.command.Command.TheVariants.{App, Blank, Get, Quit, Refused, Set, Size}
 use Rattle.ksv_session.specs.declared.refusal.LineRefusal.TheVariants as refusals
-
--- the most bytes of a line, its LF aside
-abbrev pub line_limit : ℕ
-line_limit = 4096
 
 abbrev pub wrong_arguments : Command
 wrong_arguments = Refused refusals.WrongArguments

@@ -1,7 +1,7 @@
 -- A run of a session over devices: what stands when it ends.
 use Rattle.std.specs.Prelude.{◌≡◌, ℕ, suc, ◌<◌, ◌≤◌, Bool, true, false, List, [], ◌∷◌, ◌++◌, length, take, IsTrue, Result, Ok, Err}
 use Rattle.ksv_desc.specs.Description.{Description}
-use Rattle.ksv_lines.specs.Lines.{lines_of}
+use Rattle.ksv_lines.specs.Lines.{line_room, lines_of}
 use Rattle.ksv_session.specs.Replies.{Event}
 use Rattle.ksv_session.specs.Session.{lines_in, session}
 use Rattle.ksv_lines.specs.declared.device.Failed.{Failed}
@@ -54,12 +54,12 @@ Ended ends.ReadFailed d begin input left now tells before written = Stops d begi
 Ended ends.WriteFailed d begin input left now tells before written = Breaks d begin input now tells before written
 
 -- While the session goes on: of what was taken the whole lines are answered, and of the line behind them the
--- first 4,097 bytes are gathered, which tell whether it is too long.
+-- first `line_room` bytes are gathered, which tell whether it is too long.
 pub record Stands (d : Description) (begin taken now line : List ℕ) (tells : Bool) (before written : List ℕ) : Type 0 where
   pub events : List Event
   pub rest : List ℕ
   pub lines : lines_in events ++ rest ∷ [] ≡ lines_of taken
-  pub gathered : line ≡ take 4097 rest
+  pub gathered : line ≡ take line_room rest
   pub fair : (session d begin events).fair ≡ true
   pub bytes : now ≡ (session d begin events).bytes
   pub output : IsTrue tells → written ≡ before ++ (session d begin events).output

@@ -1,7 +1,7 @@
 //! Reads a line: nothing, a command with its values, or a refusal.
 ghost use Rattle.std.specs.Prelude.{◌≡◌, ◌≤◌, ◌↔◌, [], length, IfOk, IfSome, IsTrue, OnErr, option_copied};
 ghost use Rattle.ksv_desc.specs.Whole.{plain_pieces};
-ghost use Rattle.ksv_lines.specs.Lines.{words_of};
+ghost use Rattle.ksv_lines.specs.Lines.{line_limit, words_of};
 ghost use Rattle.ksv_session.specs.Commands.{alone, app_of, command_named, command_of, get_of, is_question, only, set_of};
 
 use crate::number::number;
@@ -66,7 +66,7 @@ fn get(alloc: Global, desc: &Desc, arguments: &[u8]) -> Result<Command, AllocErr
 
 /// Reads the arguments of `set`.
 fn set(arguments: &[u8]) -> Command
-    requires { length arguments.now ≤ 4096 }
+    requires { length arguments.now ≤ line_limit }
     ensures { result ≡ set_of (words_of arguments.now) }
 {
     let Some((place, behind)) = next_word(arguments) else {
@@ -86,7 +86,7 @@ fn set(arguments: &[u8]) -> Command
 
 /// Reads the arguments of `app`.
 fn app(arguments: &[u8]) -> Command
-    requires { length arguments.now ≤ 4096 }
+    requires { length arguments.now ≤ line_limit }
     ensures { result ≡ app_of (only (words_of arguments.now)) }
 {
     let Some(digits) = only_word(arguments) else {
@@ -116,7 +116,7 @@ fn command_with(
     name: &[u8],
     arguments: &[u8],
 ) -> Result<Command, AllocError>
-    requires { length arguments.now ≤ 4096 }
+    requires { length arguments.now ≤ line_limit }
     ensures command { IfOk result (λ command. command ≡ command_named (plain_pieces desc.now) name.now (words_of arguments.now)) }
     ensures refused { OnErr result (IsTrue (is_question (command_named (plain_pieces desc.now) name.now (words_of arguments.now)))) }
 {

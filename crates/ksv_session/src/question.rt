@@ -2,7 +2,7 @@
 ghost use Rattle.std.specs.Prelude.{◌≡◌};
 ghost use Rattle.ksv_desc.specs.Whole.{plain_pieces};
 ghost use Rattle.ksv_nodes.specs.Turning.{fault_at};
-ghost use Rattle.ksv_session.specs.Asked.{plain_answer};
+ghost use Rattle.ksv_session.specs.Asked.{plain_answer, IsRightFor};
 ghost use Rattle.ksv_session.specs.Questions.{answered};
 ghost use Rattle.ksv_session.specs.Seen.{ComesTo, IsFault};
 
@@ -56,16 +56,17 @@ fn of_answer(answer: Answer<Node, Given, Fault>) -> Result<Given, Untold>
     }
 }
 
-/// What a node answers on the bytes that stand. Nothing is kept of earlier questions.
+/// What a node answers on the bytes as they are, by an engine that is right for them and stays so.
 pub(crate) fn ask(
-    alloc: Global,
+    engine: &mut Engine<Described>,
     described: &Described,
     buffer: &Buffer,
     node: Node,
 ) -> Result<Given, Untold>
-    ensures { ComesTo (answered (plain_pieces described.now.desc) buffer.now node) (λ given. given) result }
+    requires { IsRightFor (plain_pieces described.now.desc) buffer.now engine.old.kept }
+    ensures answer { ComesTo (answered (plain_pieces described.now.desc) buffer.now node) (λ given. given) result }
+    ensures right { IsRightFor (plain_pieces described.now.desc) buffer.now engine.new.kept }
 {
-    let mut engine = Engine::new(alloc);
     let answer = engine.ask(described, buffer, node)?;
     of_answer(answer)
 }

@@ -1,5 +1,6 @@
 //! A session over devices.
 ghost use Rattle.std.specs.Prelude.{◌≡◌, ◌≢◌, ◌≤◌, ◌<◌, ◌+◌, ◌-◌, ◌^◌, ◌↔◌, ◌++◌, List, ℕ, false, [], length, IsTrue, is_err, IsErr, IfOk, OnErr};
+ghost use Rattle.ksv_bytes.specs.Edits.{file_limit};
 ghost use Rattle.ksv_session.specs.Answered.{Answered};
 ghost use Rattle.ksv_desc.specs.Description.{Description};
 ghost use Rattle.ksv_desc.specs.Whole.{plain_pieces};
@@ -136,7 +137,7 @@ pub fn run<R: Source, W: Sink>(
     ensures read_end { IsTrue R.tells → IfOk result (λ done. done.1 ≡ End.ReadFailed → R.failed reader.new ≡ false
         → 2 ^ 64 - 1 + length (R.bytes reader.new) ≤ length (R.bytes reader.old)) }
     ensures write_fault { IfOk result (λ done. IsTrue (W.failed writer.new) ↔ (done.1 ≡ End.WriteFailed)) }
-    ensures too_large { IsErr result ↔ (16777216 < length bytes.items) }
+    ensures too_large { IsErr result ↔ (file_limit < length bytes.items) }
     ensures untouched { OnErr result ((reader.new ≡ reader.old) × (writer.new ≡ writer.old)) }
 {
     let mut session = Session::new(alloc, desc, bytes)?;

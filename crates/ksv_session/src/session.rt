@@ -1,5 +1,6 @@
 //! A session: the bytes that stand, and what each line is answered.
 ghost use Rattle.std.specs.Prelude.{◌≡◌, ◌<◌, ◌↔◌, ◌++◌, true, false, codes, length, if◌then◌else◌, IsTrue, IfOk, IsErr};
+ghost use Rattle.ksv_bytes.specs.Edits.{file_limit};
 ghost use Rattle.ksv_session.specs.Explored.{description_of};
 ghost use Rattle.ksv_session.specs.Commands.{command_of};
 ghost use Rattle.ksv_session.specs.Questions.{question_text};
@@ -49,7 +50,7 @@ impl Session {
     /// A session over the bytes of a file. It takes no memory.
     pub fn new(alloc: Global, desc: Desc, bytes: Vec<u8>) -> Result<Session, NewFault>
         ensures begun { IfOk result (λ session. session ≡ record { pieces = desc; bytes = bytes.items }) }
-        ensures refused { IsErr result ↔ (16777216 < length bytes.items) }
+        ensures refused { IsErr result ↔ (file_limit < length bytes.items) }
     {
         match Buffer::new(bytes) {
             Ok(buffer) => Ok(Session {

@@ -7,6 +7,7 @@ ghost use Rattle.ksv_nodes.specs.Rule.{head_node, rest_node};
 ghost use Rattle.ksv_nodes.specs.Truth.{with_given};
 ghost use Rattle.ksv_desc.specs.Whole.{plain_pieces};
 ghost use Rattle.ksv_paths.specs.PathTexts.{path_text, step_text, steps_text};
+ghost use Rattle.ksv_session.specs.Asked.{IsRightFor};
 ghost use Rattle.ksv_session.specs.Questions.{answered, bytes_text, fault_text, member_text, of_answer, of_head, of_list, of_object, of_rest, of_value, question_text, quoted_text, told_at, truth_text};
 ghost use Rattle.ksv_session.specs.Seen.{ComesTo};
 
@@ -15,6 +16,7 @@ use itoa::Buffer as Digits;
 use ksv_bytes::{Buffer, Window};
 use ksv_desc::Desc;
 use ksv_expr_value::{Fault, FaultKind, Integer, Path, Step, Text, Value};
+use ksv_memo::Engine;
 use ksv_rules::{Described, Given, Head, Node, NodeKind};
 use serde_json::Value as Json;
 use std::alloc::{AllocError, Global};
@@ -173,18 +175,20 @@ fn rest_text(alloc: Global, path: &Path, given: &Given) -> Result<String, Untold
 /// The text of the object of a path.
 fn asked_object_text(
     alloc: Global,
+    engine: &mut Engine<Described>,
     described: &Described,
     buffer: &Buffer,
     path: &Path,
     object: &Path,
 ) -> Result<String, Untold>
+    requires { IsRightFor (plain_pieces described.now.desc) buffer.now engine.old.kept }
     ensures { ComesTo (with_given (answered (plain_pieces described.now.desc) buffer.now (head_node object.now)) (of_head (plain_pieces described.now.desc) path.now)) (λ text. string_bytes text) result }
 {
     let node = Node {
         kind: NodeKind::Head,
         path: object.copy(alloc)?,
     };
-    let given = ask(alloc, described, buffer, node)?;
+    let given = ask(engine, described, buffer, node)?;
     head_text(alloc, described.desc(), path, &given)
 }
 
@@ -192,11 +196,13 @@ fn asked_object_text(
 #[tactic(auto, unfolding(crate::specs::Questions::of_list))]
 fn asked_list_text(
     alloc: Global,
+    engine: &mut Engine<Described>,
     described: &Described,
     buffer: &Buffer,
     path: &Path,
     list: &Path,
 ) -> Result<String, Untold>
+    requires { IsRightFor (plain_pieces described.now.desc) buffer.now engine.old.kept }
     ensures { ComesTo (of_list (plain_pieces described.now.desc) buffer.now path.now list.now (child list.now (IndexStep 0))) (λ text. string_bytes text) result }
 {
     let Some(first) = list.child_index(alloc, 0)? else {
@@ -206,7 +212,7 @@ fn asked_list_text(
         kind: NodeKind::Rest,
         path: first,
     };
-    let given = ask(alloc, described, buffer, node)?;
+    let given = ask(engine, described, buffer, node)?;
     rest_text(alloc, path, &given)
 }
 
@@ -214,11 +220,13 @@ fn asked_list_text(
 #[tactic(auto, unfolding(crate::specs::Questions::of_value))]
 fn value_text(
     alloc: Global,
+    engine: &mut Engine<Described>,
     described: &Described,
     buffer: &Buffer,
     path: &Path,
     value: &Value,
 ) -> Result<String, Untold>
+    requires { IsRightFor (plain_pieces described.now.desc) buffer.now engine.old.kept }
     ensures { ComesTo (of_value (plain_pieces described.now.desc) buffer.now path.now value.now) (λ text. string_bytes text) result }
 {
     match value {
@@ -230,8 +238,8 @@ fn value_text(
             enum_number,
             number,
         } => Ok(member_text(alloc, described.desc(), *enum_number, *number)?),
-        Value::Object(object) => asked_object_text(alloc, described, buffer, path, object),
-        Value::List(list) => asked_list_text(alloc, described, buffer, path, list),
+        Value::Object(object) => asked_object_text(alloc, engine, described, buffer, path, object),
+        Value::List(list) => asked_list_text(alloc, engine, described, buffer, path, list),
         Value::Stream(_) => Err(fault_at(alloc, path, FaultKind::BadType)),
     }
 }
@@ -239,20 +247,22 @@ fn value_text(
 /// The text of what is answered for the value at a path.
 fn answer_text(
     alloc: Global,
+    engine: &mut Engine<Described>,
     described: &Described,
     buffer: &Buffer,
     path: &Path,
     given: &Given,
 ) -> Result<String, Untold>
+    requires { IsRightFor (plain_pieces described.now.desc) buffer.now engine.old.kept }
     ensures { ComesTo (of_answer (plain_pieces described.now.desc) buffer.now path.now given.now) (λ text. string_bytes text) result }
 {
     match given {
-        Given::Value(value) => value_text(alloc, described, buffer, path, value),
+        Given::Value(value) => value_text(alloc, engine, described, buffer, path, value),
         _ => Err(fault_at(alloc, path, FaultKind::BadType)),
     }
 }
 
-/// The text of the value at a path, which is asked.
+/// The text of the value at a path, by one engine: no node is evaluated twice.
 #[tactic(auto, unfolding(crate::specs::Questions::told_at))]
 fn told_text(
     alloc: Global,
@@ -266,8 +276,9 @@ fn told_text(
         kind: NodeKind::Value,
         path: path.copy(alloc)?,
     };
-    let given = ask(alloc, described, buffer, node)?;
-    answer_text(alloc, described, buffer, path, &given)
+    let mut engine = Engine::new(alloc);
+    let given = ask(&mut engine, described, buffer, node)?;
+    answer_text(alloc, &mut engine, described, buffer, path, &given)
 }
 
 /// The text of the value at a path, or of the fault that stands in its way.

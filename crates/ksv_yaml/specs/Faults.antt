@@ -11,7 +11,7 @@ use Rattle.ksv_yaml_tree.specs.View.{view}
 use Rattle.ksv_yaml.specs.Text.{Spells}
 use Rattle.ksv_yaml_scan.specs.declared.fault.LineError.{LineError}
 use Rattle.ksv_yaml_scan.specs.declared.fault.LineError.TheVariants as on_line
-use Rattle.ksv_yaml_scan.specs.Text.{IsLine, IsTooLong, IsNotUtf8}
+use Rattle.ksv_yaml_scan.specs.Text.{text_limit, IsLine, IsTooLong, IsNotUtf8}
 
 -- the code of a kind
 abbrev pub code_of : YamlKind → List ℕ
@@ -81,7 +81,7 @@ IsOfLines NoMemory = Unit {0}
 
 -- The text is short enough and UTF-8, the number is that of one of its lines (1 for the empty text), and it spells no tree.
 pub record IsUnspelled (text : List ℕ) (line : ℕ) : Type 0 where
-  pub small : length text ≤ 1048576
+  pub small : length text ≤ text_limit
   pub utf8 : IsUtf8 text
   pub place : IsLine text line
   pub none : (t : Tree) → Spells text t → ⊥

@@ -3,11 +3,11 @@ use Rattle.std.specs.Prelude.{◌≡◌, ℕ, ◌≤◌, true, List, length, Opt
 use Rattle.ksv_yaml_tree.specs.Tree.{Tree}
 use Rattle.ksv_yaml.specs.Grammar.{Spelled}
 use Rattle.ksv_yaml.specs.Reading.{tree_of}
-use Rattle.ksv_yaml_scan.specs.Text.{lines_of, is_allowed}
+use Rattle.ksv_yaml_scan.specs.Text.{text_limit, lines_of, is_allowed}
 
 -- The text spells the tree: at most 1,048,576 bytes, UTF-8, no control character but tabs and line ends (5.1), and its lines spell it.
 pub record Spells (text : List ℕ) (t : Tree) : Type 0 where
-  pub small : length text ≤ 1048576
+  pub small : length text ≤ text_limit
   pub utf8 : IsUtf8 text
   pub allowed : is_allowed text ≡ true
   pub lines : Spelled (lines_of text) t

@@ -6,10 +6,12 @@ ghost use Rattle.ksv_yaml_tree.specs.View.{pair};
 ghost use Rattle.ksv_yaml.specs.Outcome.{keys_of, behind_close as behind_close_of, behind_close_map as behind_close_map_of, behind_comma as behind_comma_of, key_at as key_at_of, seen_behind, seen_key, GivesFlow, GivesFlowItems, GivesFlowEntries};
 ghost use Rattle.ksv_yaml_scan.specs.Views.{tokens_view};
 
+use crate::block::misplaced;
 use crate::fault::{ReadFault, ReadKind};
 use crate::keys::{add_key, no_keys};
 use crate::make::{make_entry, make_list, make_mapping, make_text};
 use ksv_yaml_scan::flow::{Part, Token};
+use ksv_yaml_scan::line::Line;
 use ksv_yaml_tree::{Entry, Yaml};
 use std::alloc::Global;
 
@@ -74,7 +76,7 @@ fn key_at(tokens: &[Token]) -> Option<(usize, &[u8], &[Token])>
         return None;
     };
     match &token.part {
-        Part::Key { text } => Some((token.line, text.as_slice(), rest)),
+        Part::Key { text, .. } => Some((token.line, text.as_slice(), rest)),
         _ => None,
     }
 }
@@ -84,13 +86,23 @@ fn unexpected(tokens: &[Token], end: ReadFault) -> ReadFault {
     let [token, ..] = tokens else {
         return end;
     };
-    let kind = match token.part {
-        Part::Key { .. } => ReadKind::ValueForKey,
-        _ => ReadKind::LeftOut,
-    };
     ReadFault {
         line: token.line,
-        kind,
+        kind: unexpected_kind(&token.part),
+    }
+}
+
+/// The kind of a part that can't stand where it does: a plain scalar with a colon inside, or a form that the subset leaves out.
+fn unexpected_kind(part: &Part) -> ReadKind {
+    match part {
+        Part::Key { quoted, .. } => {
+            if *quoted {
+                ReadKind::LeftOut
+            } else {
+                ReadKind::ValueForKey
+            }
+        }
+        _ => ReadKind::LeftOut,
     }
 }
 
@@ -211,24 +223,35 @@ pub(crate) fn too_deep(line: usize) -> ReadFault {
     }
 }
 
-/// The fault of what stands behind a flow node: the first part left, or `end` where none is.
-pub(crate) fn left_over(tokens: &[Token], left: &[Token], end: ReadFault) -> ReadFault {
-    let Some((token, _)) = next(left) else {
-        return end;
+/// The fault of what follows a flow node, behind which these parts are left, or `end` where none is. On the node's last line it is
+/// a form that the subset leaves out; a line below it can't stand there.
+pub(crate) fn left_over(
+    alloc: Global,
+    tokens: &[Token],
+    left: &[Token],
+    end: ReadFault,
+    lines: &[Line],
+) -> ReadFault {
+    let fault = match next(left) {
+        Some((token, _)) => ReadFault {
+            line: token.line,
+            kind: ReadKind::LeftOut,
+        },
+        None => end,
     };
-    let before = tokens.len().saturating_sub(left.len()).saturating_sub(1);
-    let kind = match tokens.get(before) {
-        Some(last) => {
-            if last.line == token.line {
-                ReadKind::LeftOut
-            } else {
-                ReadKind::Indentation
-            }
+    for line in lines {
+        if line.number == fault.line && line.number > last_line(tokens, left) {
+            return misplaced(alloc, *line, ReadKind::Indentation);
         }
-        None => ReadKind::LeftOut,
-    };
-    ReadFault {
-        line: token.line,
-        kind,
+    }
+    fault
+}
+
+/// The line of the last part of a flow node, behind which these parts are left.
+fn last_line(tokens: &[Token], left: &[Token]) -> usize {
+    let count = tokens.len().saturating_sub(left.len());
+    match tokens.get(count.saturating_sub(1)) {
+        Some(last) => last.line,
+        None => 0,
     }
 }

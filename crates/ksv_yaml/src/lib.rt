@@ -17,6 +17,7 @@ mod scalar;
 ghost use Rattle.std.specs.Prelude.{◌≡◌, ◌≤◌, ℕ, List, Option, Some, None, length, IsUtf8};
 ghost use Rattle.ksv_yaml_tree.specs.Tree.{Tree};
 ghost use Rattle.ksv_yaml.specs.Text.{Spells, tree_of_text};
+ghost use Rattle.ksv_yaml_scan.specs.Text.{text_limit};
 
 pub use document::read;
 pub use fault::{YamlFault, YamlKind};
@@ -29,6 +30,6 @@ pub fn one_tree()
 
 /// Reading finds exactly the tree that a text spells.
 pub fn reading_is_spelling()
-    ensures sound { (text : List ℕ) (t : Tree) → length text ≤ 1048576 → IsUtf8 text → tree_of_text text ≡ Some t → Spells text t }
+    ensures sound { (text : List ℕ) (t : Tree) → length text ≤ text_limit → IsUtf8 text → tree_of_text text ≡ Some t → Spells text t }
     ensures complete { (text : List ℕ) (t : Tree) → Spells text t → tree_of_text text ≡ Some t }
 {}

@@ -88,10 +88,10 @@ fn flow<'a, 'b>(
         Err(fault) => return Err(named(alloc, fault, behind, open)),
     };
     if parts.fault.is_some() {
-        return Err(left_over(&parts.tokens, left, end));
+        return Err(left_over(alloc, &parts.tokens, left, end, lines));
     }
     if !left.is_empty() {
-        return Err(left_over(&parts.tokens, left, end));
+        return Err(left_over(alloc, &parts.tokens, left, end, lines));
     }
     Ok((tree, behind))
 }

@@ -93,19 +93,23 @@ line_at text place = suc (count_by (λ c. c == 10) (take place text))
 abbrev pub IsLine : List ℕ → ℕ → Type 0
 IsLine text n = (0 < n) × (n ≤ max 1 (length (cut_lines (unmarked text))))
 
--- A text of at most 1,048,576 bytes of UTF-8 has these lines, and its first control character on that one.
+-- the most bytes that a text may have: 1 MiB
+abbrev pub text_limit : ℕ
+text_limit = 1048576
+
+-- A text of no more bytes, which are UTF-8, has these lines, and its first control character on that one.
 pub record IsCut (text : List ℕ) (ls : List Line) (first : Option ℕ) : Type 0 where
-  pub small : length text ≤ 1048576
+  pub small : length text ≤ text_limit
   pub utf8 : IsUtf8 text
   pub lines : lines_of text ≡ ls
   pub stray : stray_line text ≡ first
 
--- Longer than 1,048,576 bytes.
+-- Longer than that.
 abbrev pub IsTooLong : List ℕ → Type 0
-IsTooLong text = 1048576 < length text
+IsTooLong text = text_limit < length text
 
 -- Small enough, but no UTF-8, which the byte that is the first bad one shows on this line.
 pub record IsNotUtf8 (text : List ℕ) (number : ℕ) : Type 0 where
-  pub small : length text ≤ 1048576
+  pub small : length text ≤ text_limit
   pub bad : IsUtf8 text → ⊥
   pub line : number ≡ line_at text (utf8_valid_len text)

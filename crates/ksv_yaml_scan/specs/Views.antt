@@ -90,7 +90,7 @@ part_view n parts.OpenMap = OpenMap n
 part_view n parts.CloseMap = CloseMap
 part_view n parts.Comma = Comma
 part_view n (parts.Scalar quoted text) = Scalar n quoted text.items
-part_view n (parts.Key text) = KeyToken n text.items
+part_view n (parts.Key quoted text) = KeyToken n text.items
 
 -- a part
 abbrev pub token_view : CodeToken → Token

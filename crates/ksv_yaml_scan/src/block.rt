@@ -28,10 +28,10 @@ pub fn block_scalar(
         return Ok(Vec::new(alloc));
     };
     if !is_led(lines, first.indent) {
-        return Err(LineError::Fault(misplaced(first.number)));
+        return Err(LineError::Fault(misplaced(first)));
     }
-    if let Some(number) = shallow_line(lines, first.indent) {
-        return Err(LineError::Fault(misplaced(number)));
+    if let Some(line) = shallow_line(lines, first.indent) {
+        return Err(LineError::Fault(misplaced(line)));
     }
     let Joined {
         mut text,
@@ -42,13 +42,17 @@ pub fn block_scalar(
     Ok(text)
 }
 
-/// The indentation of this line is wrong.
-fn misplaced(line: usize) -> LineFault
-    ensures { result.line ≡ line }
+/// The indentation of this line is wrong, or a tab stands in it.
+fn misplaced(line: Line) -> LineFault
+    ensures { result.line ≡ line.entry.number }
 {
+    let fault = match line.content.first() {
+        Some(b'\t') => ScanFault::Tab,
+        _ => ScanFault::Indentation,
+    };
     LineFault {
-        line,
-        fault: ScanFault::Indentation,
+        line: line.number,
+        fault,
     }
 }
 
@@ -80,13 +84,13 @@ fn is_led(lines: &[Line], indent: usize) -> bool
     true
 }
 
-/// The number of the first line that isn't blank and has less than this indentation.
-fn shallow_line(lines: &[Line], indent: usize) -> Option<usize>
-    ensures { MatchOption result (is_level_at indent (lines_view lines.now) ≡ true) (λ n. (is_level_at indent (lines_view lines.now) ≡ false) × HasNumber (lines_view lines.now) n) }
+/// The first line that isn't blank and has less than this indentation.
+fn shallow_line<'a>(lines: &[Line<'a>], indent: usize) -> Option<Line<'a>>
+    ensures { MatchOption result (is_level_at indent (lines_view lines.now) ≡ true) (λ l. (is_level_at indent (lines_view lines.now) ≡ false) × HasNumber (lines_view lines.now) l.number) }
 {
     for line in lines {
         if !line.content.is_empty() && line.indent < indent {
-            return Some(line.number);
+            return Some(*line);
         }
     }
     None

@@ -39,7 +39,7 @@ pub enum Part {
     /// A scalar that no colon follows on its line.
     Scalar { quoted: bool, text: Vec<u8> },
     /// A scalar, and the colon behind it.
-    Key { text: Vec<u8> },
+    Key { quoted: bool, text: Vec<u8> },
 }
 
 /// The parts that stand on lines.
@@ -159,7 +159,7 @@ fn cut_quoted(alloc: Global, content: &[u8]) -> Result<Cut<'_>, AllocError>
     };
     if let Some((byte, behind)) = next(skip(rest)) {
         if byte == b':' {
-            return Ok(Cut::Part(Part::Key { text }, behind));
+            return Ok(Cut::Part(Part::Key { quoted: true, text }, behind));
         }
         return Ok(Cut::Part(Part::Scalar { quoted: true, text }, rest));
     }
@@ -177,7 +177,13 @@ fn cut_plain(alloc: Global, content: &[u8]) -> Result<Cut<'_>, AllocError>
     let text = Vec::from_slice(alloc, run.text)?;
     let (_, end) = content.split_at(content.len());
     match run.ending {
-        Ending::Colon(rest) => Ok(Cut::Part(Part::Key { text }, rest)),
+        Ending::Colon(rest) => Ok(Cut::Part(
+            Part::Key {
+                quoted: false,
+                text,
+            },
+            rest,
+        )),
         Ending::Bracket(rest) => Ok(Cut::Part(
             Part::Scalar {
                 quoted: false,

@@ -65,15 +65,33 @@ fn read_double(alloc: Global, content: &[u8]) -> Result<Quote<'_>, ScanError>
             return Ok(Quote { text, rest: behind });
         }
         if byte == b'\\' {
-            let (code, behind) = read_escape(behind)?;
+            let (code, after) = match read_escape(behind) {
+                Ok(escape) => escape,
+                Err(fault) => return Err(ScanError::Fault(bad_escape(fault, behind))),
+            };
             push_code(&mut text, code)?;
-            rest = behind;
+            rest = after;
         } else {
             text.push(byte)?;
             rest = behind;
         }
     }
     Err(ScanError::Fault(ScanFault::NotClosed))
+}
+
+/// The fault of an escape that there isn't, by what follows the backslash: that the quote isn't closed on its line comes first.
+fn bad_escape(fault: ScanFault, content: &[u8]) -> ScanFault {
+    let mut escaped = true;
+    for byte in content {
+        if escaped {
+            escaped = false;
+        } else if *byte == b'\\' {
+            escaped = true;
+        } else if *byte == b'"' {
+            return fault;
+        }
+    }
+    ScanFault::NotClosed
 }
 
 /// The character that stands behind a backslash, and what is behind it.
