@@ -1,10 +1,9 @@
 -- A run of a session over devices: what stands when it ends.
-use Rattle.std.specs.Prelude.{◌≡◌, ℕ, suc, ◌<◌, ◌≤◌, Bool, true, false, List, [], ◌∷◌, ◌++◌, length, take, IsTrue, Result, Ok, Err}
+use Rattle.std.specs.Prelude.{◌≡◌, ℕ, suc, ◌<◌, ◌≤◌, Bool, true, false, List, [], ◌∷◌, ◌++◌, length, take, IsTrue}
 use Rattle.ksv_desc.specs.Description.{Description}
-use Rattle.ksv_lines.specs.Lines.{line_room, lines_of}
+use Rattle.ksv_lines.specs.Lines.{lines_of}
 use Rattle.ksv_session.specs.Replies.{Event}
 use Rattle.ksv_session.specs.Session.{lines_in, session}
-use Rattle.ksv_lines.specs.declared.device.Failed.{Failed}
 use Rattle.ksv_session.specs.declared.serve.End.{End}
 use Rattle.ksv_session.specs.declared.serve.End.TheVariants as ends
 
@@ -52,21 +51,3 @@ Ended ends.Quit d begin input left now tells before written = Serves d begin inp
 Ended ends.Input d begin input left now tells before written = Serves d begin input now tells before written false × (left ≡ [])
 Ended ends.ReadFailed d begin input left now tells before written = Stops d begin input left now tells before written
 Ended ends.WriteFailed d begin input left now tells before written = Breaks d begin input now tells before written
-
--- While the session goes on: of what was taken the whole lines are answered, and of the line behind them the
--- first `line_room` bytes are gathered, which tell whether it is too long.
-pub record Stands (d : Description) (begin taken now line : List ℕ) (tells : Bool) (before written : List ℕ) : Type 0 where
-  pub events : List Event
-  pub rest : List ℕ
-  pub lines : lines_in events ++ rest ∷ [] ≡ lines_of taken
-  pub gathered : line ≡ take line_room rest
-  pub fair : (session d begin events).fair ≡ true
-  pub bytes : now ≡ (session d begin events).bytes
-  pub output : IsTrue tells → written ≡ before ++ (session d begin events).output
-  pub goes_on : (session d begin events).ended ≡ false
-
--- After a piece of the input: a line in it ended the session, or all of it was taken, or a write failed.
-abbrev pub Fed : Description → List ℕ → List ℕ → List ℕ → List ℕ → List ℕ → Bool → List ℕ → List ℕ → Result Bool Failed → Type 0
-Fed d begin taken input now line tells before written (Ok true) = Serves d begin input now tells before written true
-Fed d begin taken input now line tells before written (Ok false) = Stands d begin taken now line tells before written
-Fed d begin taken input now line tells before written (Err f) = Breaks d begin input now tells before written

@@ -2,9 +2,8 @@
 ghost use Rattle.std.specs.Prelude.{◌≡◌};
 ghost use Rattle.ksv_desc.specs.Whole.{plain_pieces};
 ghost use Rattle.ksv_nodes.specs.Turning.{fault_at};
-ghost use Rattle.ksv_session.specs.Asked.{plain_answer, IsRightFor};
+ghost use Rattle.ksv_session.specs.Code.{ComesTo, IsFault, IsRightFor, plain_answer};
 ghost use Rattle.ksv_session.specs.Questions.{answered};
-ghost use Rattle.ksv_session.specs.Seen.{ComesTo, IsFault};
 
 use ksv_bytes::Buffer;
 use ksv_expr_value::{Fault, FaultKind, Path};

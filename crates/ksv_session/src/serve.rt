@@ -1,11 +1,11 @@
 //! A session over devices.
 ghost use Rattle.std.specs.Prelude.{◌≡◌, ◌≢◌, ◌≤◌, ◌<◌, ◌+◌, ◌-◌, ◌^◌, ◌↔◌, ◌++◌, List, ℕ, false, [], length, IsTrue, is_err, IsErr, IfOk, OnErr};
 ghost use Rattle.ksv_bytes.specs.Edits.{file_limit};
-ghost use Rattle.ksv_session.specs.Answered.{Answered};
+ghost use Rattle.ksv_session.specs.Code.{Answered, Fed, Stands};
 ghost use Rattle.ksv_desc.specs.Description.{Description};
 ghost use Rattle.ksv_desc.specs.Whole.{plain_pieces};
 ghost use Rattle.ksv_session.specs.Explored.{description_of};
-ghost use Rattle.ksv_session.specs.Runs.{Ended, Fed, Stands};
+ghost use Rattle.ksv_session.specs.Runs.{Ended};
 
 use crate::session::{NewFault, Session};
 use ksv_bytes::Buffer;

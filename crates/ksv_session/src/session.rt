@@ -5,7 +5,8 @@ ghost use Rattle.ksv_session.specs.Explored.{description_of};
 ghost use Rattle.ksv_session.specs.Commands.{command_of};
 ghost use Rattle.ksv_session.specs.Questions.{question_text};
 ghost use Rattle.ksv_session.specs.Replies.{answer, may_be_refused, no_memory_text};
-ghost use Rattle.ksv_session.specs.Seen.{answer_seen, edit_text, is_last, is_refusal, reply_text, wants_memory};
+ghost use Rattle.ksv_session.specs.Code.{edit_text, wants_memory};
+ghost use Rattle.ksv_session.specs.Seen.{answer_seen, is_last, is_refusal, reply_text};
 
 use crate::command::{Command, read_line};
 use crate::reply::{Reply, edit_reply, refused_edit, refused_line, size_reply};

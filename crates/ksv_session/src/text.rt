@@ -7,9 +7,8 @@ ghost use Rattle.ksv_nodes.specs.Rule.{head_node, rest_node};
 ghost use Rattle.ksv_nodes.specs.Truth.{with_given};
 ghost use Rattle.ksv_desc.specs.Whole.{plain_pieces};
 ghost use Rattle.ksv_paths.specs.PathTexts.{path_text, step_text, steps_text};
-ghost use Rattle.ksv_session.specs.Asked.{IsRightFor};
+ghost use Rattle.ksv_session.specs.Code.{ComesTo, IsRightFor};
 ghost use Rattle.ksv_session.specs.Questions.{answered, bytes_text, fault_text, member_text, of_answer, of_head, of_list, of_object, of_rest, of_value, question_text, quoted_text, told_at, truth_text};
-ghost use Rattle.ksv_session.specs.Seen.{ComesTo};
 
 use crate::question::{Untold, ask, fault_at};
 use itoa::Buffer as Digits;

@@ -1,6 +1,6 @@
 use Rattle.std.proofs.Common.{subst}
 use Rattle.ksv_desc.specs.Whole.{plain_pieces}
-use Rattle.ksv_session.specs.Seen.{ComesTo}
+use Rattle.ksv_session.specs.Code.{ComesTo}
 use Rattle.ksv_session.proofs.AskLemmas.{asked_is}
 use Rattle.ksv_session.proofs.question.ask.Goals as goal
 
