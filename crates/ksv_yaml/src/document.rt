@@ -3,7 +3,8 @@
 ghost use Rattle.std.specs.Prelude.{◌≡◌, ◌<◌, ◌≤◌, ℕ, List, max, length, true, false, Some, None, IfOk, IfErr};
 ghost use Rattle.ksv_yaml_tree.specs.Tree.{Tree};
 ghost use Rattle.ksv_yaml_tree.specs.View.{view};
-ghost use Rattle.ksv_yaml.specs.Faults.{wants_memory, names_memory, IsOfLines, Refuses, IsTreeOrNoMemory};
+ghost use Rattle.ksv_yaml.specs.Code.{wants_memory, names_memory, IsOfLines};
+ghost use Rattle.ksv_yaml.specs.Faults.{Refuses, IsTreeOrNoMemory};
 ghost use Rattle.ksv_yaml.specs.Grammar.{is_mark as is_mark_line};
 ghost use Rattle.ksv_yaml.specs.Reading.{behind_mark, tree_of};
 ghost use Rattle.ksv_yaml.specs.Text.{Spells};

@@ -1,7 +1,8 @@
 //! Why a text has no tree.
 
 ghost use Rattle.std.specs.Prelude.{◌≡◌, true, false};
-ghost use Rattle.ksv_yaml.specs.Faults.{code_of, public_kind, wants_memory, lines_want};
+ghost use Rattle.ksv_yaml.specs.Code.{public_kind, wants_memory, lines_want};
+ghost use Rattle.ksv_yaml.specs.Faults.{code_of};
 
 use ksv_yaml_scan::fault::{LineError, LineFault, ScanFault};
 use std::alloc::{AllocError, AllocFailed};

@@ -3,7 +3,7 @@
 ghost use Rattle.std.specs.Prelude.{◌≡◌, ◌<◌, ◌∷◌, [], List, length, map, IfOk, IfSome, MatchOption};
 ghost use Rattle.ksv_yaml.specs.Reading.{is_among};
 ghost use Rattle.ksv_yaml_tree.specs.View.{pair};
-ghost use Rattle.ksv_yaml.specs.Outcome.{keys_of, behind_close as behind_close_of, behind_close_map as behind_close_map_of, behind_comma as behind_comma_of, key_at as key_at_of, seen_behind, seen_key, GivesFlow, GivesFlowItems, GivesFlowEntries};
+ghost use Rattle.ksv_yaml.specs.Code.{keys_of, behind_close as behind_close_of, behind_close_map as behind_close_map_of, behind_comma as behind_comma_of, key_at as key_at_of, seen_behind, seen_key, GivesFlow, GivesFlowItems, GivesFlowEntries};
 ghost use Rattle.ksv_yaml_scan.specs.Views.{tokens_view};
 
 use crate::block::misplaced;

@@ -1,7 +1,7 @@
 //! Keys of a mapping that were read already.
 
 ghost use Rattle.std.specs.Prelude.{◌≡◌, ◌++◌, ◌∷◌, [], List, ℕ, true, not, IfOk, IfErr};
-ghost use Rattle.ksv_yaml.specs.Faults.{wants_memory};
+ghost use Rattle.ksv_yaml.specs.Code.{wants_memory};
 ghost use Rattle.ksv_yaml.specs.Reading.{is_among};
 ghost use Rattle.ksv_yaml.specs.Keys.{HoldsKeys};
 

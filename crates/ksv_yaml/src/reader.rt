@@ -1,9 +1,8 @@
 //! Reads blocks from front to back.
 
 ghost use Rattle.std.specs.Prelude.{◌≡◌, ◌+◌, ◌≤◌, ◌<◌, [], ◌∷◌, true, false, length, IfOk, IfErr, MatchOption};
-ghost use Rattle.ksv_yaml.specs.Faults.{wants_memory};
 ghost use Rattle.ksv_yaml.specs.Reading.{weight};
-ghost use Rattle.ksv_yaml.specs.Outcome.{GivesHere, GivesNode, GivesEntries, GivesItems, GivesValue, GivesItem};
+ghost use Rattle.ksv_yaml.specs.Code.{GivesHere, GivesNode, GivesEntries, GivesItems, GivesValue, GivesItem, wants_memory};
 ghost use Rattle.ksv_yaml_scan.specs.Lines.{loud};
 ghost use Rattle.ksv_yaml_scan.specs.Starts.{Dash, Key, start_of, is_dash as is_dash_start, is_key};
 ghost use Rattle.ksv_yaml_scan.specs.Views.{line_view, lines_view};

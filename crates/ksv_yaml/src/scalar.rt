@@ -1,9 +1,8 @@
 //! Scalars and flow nodes, which begin on a line and may go on over others.
 
 ghost use Rattle.std.specs.Prelude.{◌≡◌, ◌≤◌, ◌∷◌, [], true, false, length, IfOk, IfErr, MatchOption};
-ghost use Rattle.ksv_yaml.specs.Faults.{wants_memory};
 ghost use Rattle.ksv_yaml.specs.Reading.{weight};
-ghost use Rattle.ksv_yaml.specs.Outcome.{GivesInline};
+ghost use Rattle.ksv_yaml.specs.Code.{GivesInline, wants_memory};
 ghost use Rattle.ksv_yaml_scan.specs.Starts.{Refused, Flowing, start_of};
 ghost use Rattle.ksv_yaml_scan.specs.Views.{line_view, lines_view, kind_view, start_view, StartsWithin};
 

@@ -1,14 +1,20 @@
--- What the reader's functions answer, beside what reading finds.
-use Rattle.std.specs.Prelude.{◌≡◌, ℕ, ◌+◌, ◌*◌, ◌≤◌, Bool, false, List, [], ◌∷◌, length, map, Option, Some, None, Result, Ok, Err, Vec}
+-- Words that only private contracts cite: what the reader's functions answer, beside what reading finds. A reader of the public
+-- contract may skip this file.
+use Rattle.std.specs.Prelude.{◌≡◌, ℕ, ◌+◌, ◌*◌, ◌≤◌, Bool, true, false, List, [], ◌∷◌, length, map, Option, Some, None, Result, Ok, Err, Vec}
 use Rattle.std.specs.Borrow.{Bor}
 use Rattle.std.specs.declared.alloc.Global.{Global}
 use Rattle.ksv_yaml.specs.declared.fault.ReadFault.{ReadFault}
+use Rattle.ksv_yaml.specs.declared.fault.ReadKind.{ReadKind}
+use Rattle.ksv_yaml.specs.declared.fault.ReadKind.TheVariants as read
+use Rattle.ksv_yaml.specs.declared.fault.YamlKind.{YamlKind}
+use Rattle.ksv_yaml.specs.declared.fault.YamlKind.TheVariants.{NotUtf8, TooLong, Tab, Indentation, KeyTwice, LeftOut, NotClosed, ValueForKey, TooDeep, NoMemory}
 use Rattle.ksv_yaml_tree.specs.declared.tree.Yaml.{Yaml}
 use Rattle.ksv_yaml_tree.specs.declared.tree.Entry.{Entry}
 use Rattle.ksv_yaml_tree.specs.Tree.{Tree, Items, Entries, Pair}
 use Rattle.ksv_yaml_tree.specs.View.{items_of, entries_of, view, pair}
-use Rattle.ksv_yaml.specs.Faults.{wants_memory}
 use Rattle.ksv_yaml.specs.Reading.{flow, flow_items, flow_entries, inlined, value_here, node, entries, value, items, item_at, weight}
+use Rattle.ksv_yaml_scan.specs.declared.fault.LineError.{LineError}
+use Rattle.ksv_yaml_scan.specs.declared.fault.LineError.TheVariants as on_line
 use Rattle.ksv_yaml_scan.specs.declared.line.Line.{Line as CodeLine}
 use Rattle.ksv_yaml_scan.specs.declared.flow.Token.{Token as CodeToken}
 use Rattle.ksv_yaml_scan.specs.Got.{Got, got}
@@ -16,6 +22,63 @@ use Rattle.ksv_yaml_scan.specs.Lines.{Line}
 use Rattle.ksv_yaml_scan.specs.Starts.{InlineKind, start_of}
 use Rattle.ksv_yaml_scan.specs.Tokens.{Token, Close, CloseMap, Comma, Key}
 use Rattle.ksv_yaml_scan.specs.Views.{lines_view, tokens_view}
+
+-- ---- faults
+
+-- memory was refused to the reader of lines
+abbrev pub wants_memory : ReadKind → Bool
+wants_memory read.Tab = false
+wants_memory read.Indentation = false
+wants_memory read.KeyTwice = false
+wants_memory read.LeftOut = false
+wants_memory read.NotClosed = false
+wants_memory read.ValueForKey = false
+wants_memory read.TooDeep = false
+wants_memory read.NoMemory = true
+
+-- memory was refused to the scanner
+abbrev pub lines_want : LineError → Bool
+lines_want (on_line.Fault fault) = false
+lines_want on_line.NoMemory = true
+
+-- a kind as callers see it
+abbrev pub public_kind : ReadKind → YamlKind
+public_kind read.Tab = Tab
+public_kind read.Indentation = Indentation
+public_kind read.KeyTwice = KeyTwice
+public_kind read.LeftOut = LeftOut
+public_kind read.NotClosed = NotClosed
+public_kind read.ValueForKey = ValueForKey
+public_kind read.TooDeep = TooDeep
+public_kind read.NoMemory = NoMemory
+
+-- the kind is that of refused memory
+abbrev pub names_memory : YamlKind → Bool
+names_memory NoMemory = true
+names_memory NotUtf8 = false
+names_memory TooLong = false
+names_memory Tab = false
+names_memory Indentation = false
+names_memory KeyTwice = false
+names_memory LeftOut = false
+names_memory NotClosed = false
+names_memory ValueForKey = false
+names_memory TooDeep = false
+
+-- the kind isn't one of those for which no line is read
+abbrev pub IsOfLines : YamlKind → Type 0
+IsOfLines NotUtf8 = ⊥
+IsOfLines TooLong = ⊥
+IsOfLines Tab = Unit {0}
+IsOfLines Indentation = Unit {0}
+IsOfLines KeyTwice = Unit {0}
+IsOfLines LeftOut = Unit {0}
+IsOfLines NotClosed = Unit {0}
+IsOfLines ValueForKey = Unit {0}
+IsOfLines TooDeep = Unit {0}
+IsOfLines NoMemory = Unit {0}
+
+-- ---- what is read
 
 -- the keys of entries
 abbrev pub keys_of : List Pair → List (List ℕ)
