@@ -1,3 +1,4 @@
+-- With lemmas, which a reader may skip.
 -- Each path has a number of its own, which contracts alone see; there are finitely many.
 use Rattle.std.specs.Prelude.{◌≡◌, ℕ, ◌+◌, ◌*◌, ◌^◌, ◌<◌, ◌≤◌, zero, suc, List, [], ◌∷◌, length, true, refl}
 use Rattle.std.specs.List.{list_all}

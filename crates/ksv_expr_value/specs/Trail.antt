@@ -1,5 +1,6 @@
 -- What a contract sees of a path: its steps from the last to the first, of which there are at most 64, with indices below
--- 1,048,576. A path leads from the root by names of members and by indices of elements.
+-- 1,048,576. A path leads from the root by names of members and by indices of elements. The names with a `-` are lemmas, which a
+-- reader may skip.
 use Rattle.std.specs.Prelude.{◌≡◌, ℕ, ◌<◌, ◌≤◌, ◌^◌, nat_lt, nat_le, Bool, true, false, ◌&&◌, List, [], ◌∷◌, length, IsTrue, Option, Some, None, IfSome, refl, suc}
 use Rattle.std.specs.List.{list_all}
 use Rattle.std.specs.Cmp.{first_so, second_so}

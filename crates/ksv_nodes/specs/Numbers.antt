@@ -1,3 +1,4 @@
+-- With lemmas, which a reader may skip.
 -- Each node has a number of its own, which contracts alone see; there are finitely many.
 use Rattle.std.specs.Prelude.{◌≡◌, ℕ, ◌+◌, ◌*◌, ◌<◌, zero, suc, refl}
 use Rattle.std.proofs.Common.{arith, ap}
