@@ -1,4 +1,4 @@
-//! What the program says, and the words that it takes.
+//! The program's messages, and the words that it takes.
 
 use ksv::{Memory, Stop, arguments, say};
 use std::alloc::{AllocError, Global};
@@ -61,8 +61,8 @@ ksv f k x => UnknownArgument 2 true
 ksv --fast f k => UnknownArgument 2 true
 ksv --help => DisplayHelp 0 true";
 
-/// What some words are taken for: the file and its description, or the kind of the error, its exit code, and whether it
-/// tells the usage.
+/// What some words are taken for: the file and its description, or the kind of the error, its exit code, and
+/// whether it prints the usage.
 fn taken(alloc: Global, words: &[&str]) -> Result<String, AllocError> {
     match arguments(alloc, words) {
         Ok(args) => format!(in alloc; "{} {}", args.file, args.ksy),
