@@ -3,8 +3,8 @@
 ghost use Rattle.ksv_expr_eval.specs.Arithmetic.{DivisionIsFloored, BitsAreTold};
 ghost use Rattle.ksv_expr_eval.specs.Evaluation.{TruthIsMet, IsBounded, MeaningIsDirect};
 
-/// Where the replies are the answers of a map, an evaluation asks for what its expression wants there, one want after the
-/// other, and ends with the expression's value.
+/// If the replies are the answers of a map, an evaluation asks for what its expression wants there, one want after
+/// the other, and ends with the expression's value.
 pub fn truth_is_met()
     ensures { TruthIsMet }
 {}

@@ -1,4 +1,4 @@
-//! Laws that hold of all rules, as the contracts of functions that do nothing.
+//! Laws of all rules, each a contract of a function that does nothing.
 ghost use Rattle.std.specs.Prelude.{ℕ, List, Result};
 ghost use Rattle.std.specs.List.{AllByRecursion};
 ghost use Rattle.ksv_bytes.specs.Uses.{Makes, Touches};
