@@ -6,6 +6,6 @@ abbrev pub in_range : ℤ → Bool
 in_range (pos n) = nat_lt n (2 ^ 64)
 in_range (negsuc n) = nat_lt n (2 ^ 63)
 
--- an exact result, where it is in the range
+-- an exact result, if it is in the range
 abbrev pub ranged : ℤ → Option ℤ
 ranged z = if in_range z then Some z else None

@@ -9,7 +9,7 @@ ghost use Rattle.ksv_memo.specs.Right.{IsRight};
 use crate::rules::Rules;
 use ksv_bytes::Change;
 
-/// Kept answers none of whose uses an edit touches are right for the bytes after it too.
+/// If an edit touches no use of a kept answer, the answer is right for the bytes after the edit too.
 pub fn untouched_answers_stay_right<R: Rules>(_rules: &R, _change: Change)
     ensures { (before after : List ℕ) (kept : List (Entry R.Node (Result R.Value R.Fault))) → Makes _change before after → IsRight (on (R.meaning _rules.now) before) kept → AllByRecursion (λ entry. AllByRecursion (λ used. Touches _change used → ⊥) entry.uses) kept → IsRight (on (R.meaning _rules.now) after) kept }
 {}
