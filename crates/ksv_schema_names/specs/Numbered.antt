@@ -1,4 +1,4 @@
--- The numbers that the names of an expression are given.
+-- The numbers that the names of an expression get.
 --
 -- A name's number is its place in the description's table of names, a type's its place among the types, a member's those of
 -- its enum and of itself.
@@ -21,7 +21,7 @@ numbered_word names w = record { text = w.text; number = number_in names w.text 
 abbrev pub numbered_type : Declared → ℕ → TypePath → TypePath
 numbered_type d n t = record { path = t.path; number = type_named d.types n t.path }
 
--- what a path of an enum's member stands for
+-- the numbers of an enum's member
 abbrev pub enum_member : ℕ → ℤ → EnumMember
 enum_member e number = record { enum_number = e; number = number }
 
@@ -32,7 +32,7 @@ abbrev pub numbered_member : Declared → ℕ → MemberPath → MemberPath
 numbered_member d n m = record { path = m.path; name = m.name; given = given_member d n m }
 
 unfoldable mutual
-  -- an expression that stands in the type n, with these names
+  -- an expression in the type n, with these names
   pub numbered : Declared → List (List ℕ) → ℕ → Tree → Tree
   numbered d names n (literal c) = literal c
   numbered d names n (named w) = named (numbered_word names w)

@@ -1,15 +1,15 @@
--- What stands when one line is answered over a device.
+-- What holds when one line is answered over a device.
 use Rattle.std.specs.Prelude.{◌≡◌, ℕ, Bool, List, ◌++◌, take, true, IsTrue, Result, Ok, Err}
 use Rattle.ksv_session.specs.Explored.{Explored, description_of}
 use Rattle.ksv_session.specs.Replies.{Answer, Event, answer, is_fair}
 use Rattle.ksv_lines.specs.declared.device.Failed.{Failed}
 
--- of a reply's text all was written, and it says whether the session ends; or a beginning was
+-- all of a reply's text was written, and the result is whether the session ends; or a beginning of it was written
 abbrev pub Wrote : Answer → Bool → List ℕ → List ℕ → Result Bool Failed → Type 0
 Wrote a tells before written (Ok ended) = (ended ≡ a.ends) × (IsTrue tells → written ≡ before ++ a.text)
 Wrote a tells before written (Err failed) = IsTrue tells → (count : ℕ) × (written ≡ before ++ take count a.text)
 
--- a line was answered as it must be, whether or not memory was refused, and the reply written
+-- a line was answered as it must be, whether memory was refused or not, and the reply written
 pub record Answered (old : Explored) (line : List ℕ) (new : Explored) (tells : Bool) (before written : List ℕ) (result : Result Bool Failed) : Type 0 where
   pub event : Event
   pub line_is : event.line ≡ line

@@ -1,4 +1,4 @@
--- What an engine's answer is to a question, and which engine may be asked.
+-- What an engine's answer to a question means, and which engine may be asked.
 use Rattle.std.specs.Prelude.{ℕ, List, Result, Ok, Err}
 use Rattle.ksv_desc.specs.Description.{Description}
 use Rattle.ksv_expr_value.specs.declared.fault.Fault.{Fault}
