@@ -1,4 +1,4 @@
--- What a refusal says.
+-- What a refusal means.
 use Rattle.std.specs.Prelude.{◌≡◌, ℕ, ◌≤◌, Bool, true, false, List, length, codes, IsUtf8, Result, Ok, Err}
 use Rattle.ksv_yaml.specs.declared.fault.YamlKind.{YamlKind}
 use Rattle.ksv_yaml.specs.declared.fault.YamlKind.TheVariants.{NotUtf8, TooLong, Tab, Indentation, KeyTwice, LeftOut, NotClosed, ValueForKey, TooDeep, NoMemory}
@@ -79,14 +79,16 @@ IsOfLines ValueForKey = Unit {0}
 IsOfLines TooDeep = Unit {0}
 IsOfLines NoMemory = Unit {0}
 
--- The text is short enough and UTF-8, the number is that of one of its lines (1 for the empty text), and it spells no tree.
+-- The text is short enough and UTF-8, the number is that of one of its lines (1 for the empty text), and it spells
+-- no tree.
 pub record IsUnspelled (text : List ℕ) (line : ℕ) : Type 0 where
   pub small : length text ≤ text_limit
   pub utf8 : IsUtf8 text
   pub place : IsLine text line
   pub none : (t : Tree) → Spells text t → ⊥
 
--- what the refusal of a text says, by its kind; no two of these, but for want of memory, are true of one text
+-- what the refusal of a text means, by its kind: it is too long, isn't UTF-8, or spells no tree; no text is two of
+-- these
 abbrev pub Refuses : List ℕ → YamlKind → ℕ → Type 0
 Refuses text TooLong line = IsTooLong text × (line ≡ 1)
 Refuses text NotUtf8 line = IsNotUtf8 text line
@@ -99,7 +101,7 @@ Refuses text NotClosed line = IsUnspelled text line
 Refuses text ValueForKey line = IsUnspelled text line
 Refuses text TooDeep line = IsUnspelled text line
 
--- the answer is this tree, or that memory was refused
+-- the result is this tree, or that memory was refused
 abbrev pub IsTreeOrNoMemory : Tree → Result Yaml YamlFault → Type 0
 IsTreeOrNoMemory t (Ok u) = view u ≡ t
 IsTreeOrNoMemory t (Err fault) = fault.kind ≡ NoMemory
