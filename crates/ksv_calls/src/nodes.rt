@@ -117,7 +117,7 @@ fn paths_of_64_steps_are_named(rt: HostRuntime) -> Result<(), Fail> {
     Ok(())
 }
 
-/// What a node answers, but for a value.
+/// What a node answers, except a value.
 fn given_text(alloc: Global, given: &Given) -> Result<String, AllocError> {
     match given {
         Given::Head(Head::Leaf(leaf)) => {

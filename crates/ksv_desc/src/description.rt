@@ -13,7 +13,7 @@ use std::marker::Model;
 
 /// A description: its types with their members, its enums and the names of all members, each known by its number.
 ///
-/// Every reference is resolved: each number in it is that of something there is.
+/// Every reference is resolved: each number in it belongs to something in the description.
 #[derive(Drop)]
 pub struct Desc {
     pieces: Pieces,

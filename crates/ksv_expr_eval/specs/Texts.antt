@@ -12,7 +12,7 @@ use Rattle.std.specs.Str.{chars, encode_utf8_all}
 abbrev pub text_limit : ℕ
 text_limit = 16777216
 
--- one text after another, if both together have no more bytes than that
+-- one text after another, if both together are within the limit
 abbrev pub joined : List ℕ → List ℕ → Option (List ℕ)
 joined a b = if nat_le (length a + length b) text_limit then Some (a ++ b) else None
 

@@ -92,7 +92,7 @@ abbrev pub GivesQuoted : List ℕ → Result (Vec ℕ Global × Bor (List ℕ)) 
 GivesQuoted bs (Ok x) = quoted bs ≡ Some (record { bytes = x.0.items; rest = x.1.now })
 GivesQuoted bs (Err k) = k ≢ kinds.NoMemory → quoted bs ≡ None
 
--- the tokens of a text, or None if something is wrong with it, unless memory was refused
+-- the tokens of a text, or a fault if it has none, unless memory was refused
 abbrev pub GivesTokens : List ℕ → Result Scan ExprFault → Type 0
 GivesTokens bs (Ok s) = MatchOption s.fault (Tokens false bs (lexemes s.tokens.items)) (λ _. (ts : List Lexeme) → Tokens false bs ts → ⊥)
 GivesTokens bs (Err e) = e.kind ≢ kinds.NoMemory → (ts : List Lexeme) → Tokens false bs ts → ⊥

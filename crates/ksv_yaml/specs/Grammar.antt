@@ -49,7 +49,7 @@ pub data Inlined : ℕ → ℕ → InlineKind → Line → List Line → Tree �
   quoted : {d n : ℕ} {l : Line} {ls : List Line} {text : List ℕ} → AreQuiet ls → Inlined d n (Quoted text) l ls (Text l.number true text)
   -- a block scalar with all lines that follow while they are blank or deep enough (8.1)
   block : {d n : ℕ} {l : Line} {ls : List Line} {fold keep : Bool} {text : List ℕ} (xs ys : List Line) → ls ≡ xs ++ ys → AreInner n xs → Leaves n ys → AreQuiet ys → block_text fold keep xs ≡ Some text → Inlined d n (Block fold keep) l ls (Text l.number false text)
-  -- a flow sequence or mapping (7.4): the parts of its lines, comments aside, spell it
+  -- a flow sequence or mapping (7.4): the parts of its lines, without comments, spell it
   flow : {d n : ℕ} {l : Line} {ls : List Line} {ts : List Token} {t : Tree} → AreWithin n ls → tokens_of (l ∷ ls) ≡ Some ts → Flow d ts t → Inlined d n Flowing l ls t
 
 -- the line as if k columns of spaces were in front of these bytes
