@@ -32,7 +32,7 @@ pub enum Change {
 pub fn touches(change: Change, used: Use) -> bool
     ensures table { IsTrue result ↔ Touches change used }
 
-    // What a use that an edit doesn't touch depends on is the same before and after the edit.
+    // If an edit doesn't touch a use, what the use depends on is the same before and after it.
     ensures untouched { result ≡ false → Keeps change used }
 {
     is_touched(change, used)

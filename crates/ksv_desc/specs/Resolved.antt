@@ -1,5 +1,5 @@
--- Each number in a description is that of something there is: names, types, enums and their members; and each
--- parameter has its argument.
+-- Each number in a description belongs to a name, a type, an enum or an enum's member in it; and each parameter has
+-- its argument.
 use Rattle.std.specs.Prelude.{◌≡◌, ℕ, ◌<◌, ◌≤◌, suc, Bool, true, false, List, [], ◌∷◌, length, filter, Option, Some, None, slice_get}
 use Rattle.std.specs.Option.{option_map_or}
 use Rattle.ksv_expr_tree.specs.Tree.{Tree, literal, named, special, member, unary, binary, logical, choice, field, special_field, call, index, cast, Arguments, no_arguments, argument, Word}

@@ -117,7 +117,7 @@ pub(crate) fn spend<'a>(at: Rest<'a>, tokens: &'a [Placed]) -> Result<Rest<'a>, 
     })
 }
 
-/// How many levels may be nested in the next token's.
+/// How many levels may still be nested in the one that begins with the next token.
 pub(crate) fn deeper(depth: u32, at: Rest) -> Result<u32, ExprFault>
     ensures { MatchResult result (λ d. depth ≡ suc d) (λ _. depth ≡ 0) }
 {

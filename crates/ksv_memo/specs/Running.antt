@@ -22,19 +22,19 @@ answering w opened m = (tells w opened m).outcome
 abbrev pub Agrees : {N A : Type 0} → List (Entry N A) → (N → Outcome N A) → Type 0
 Agrees es g = AllByRecursion (λ e. g e.node ≡ Answered e.answer) es
 
--- by kept answers alone, the node got these replies
+-- for all answers that agree with the kept ones, the node gets these replies
 pub record HasCome {N A : Type 0} (w : Standing N A) (es : List (Entry N A)) (o : Open N A) : Type 0 where
   pub came : (g : N → Outcome N A) → Agrees es g → told w g o.node (suc w.replies) [] ≡ after o.asked o.uses (told w g o.node (suc w.replies - length o.replies) o.replies)
   pub closed : AllByRecursion (λ m. is_among w.number (nodes_of es) m ≡ true) o.asked
   pub few : length o.replies ≤ w.replies
 
--- it got these replies, and waits for that of a node
+-- it gets these replies, and then waits for that of a node
 pub record IsWaiting {N A : Type 0} (w : Standing N A) (es : List (Entry N A)) (o : Open N A) (m : N) : Type 0 where
   pub came : (g : N → Outcome N A) → Agrees es g → told w g o.node (suc w.replies) [] ≡ after (o.asked ++ m ∷ []) o.uses (with_reply (λ a. told w g o.node (w.replies - length o.replies) (o.replies ++ a ∷ [])) (g m))
   pub closed : AllByRecursion (λ m. is_among w.number (nodes_of es) m ≡ true) o.asked
   pub few : length o.replies < w.replies
 
--- it has its answer
+-- it gets its answer
 pub record HasEnded {N A : Type 0} (w : Standing N A) (es : List (Entry N A)) (o : Open N A) (a : A) : Type 0 where
   pub came : (g : N → Outcome N A) → Agrees es g → told w g o.node (suc w.replies) [] ≡ record { outcome = Answered a; asked = o.asked; uses = o.uses }
   pub closed : AllByRecursion (λ m. is_among w.number (nodes_of es) m ≡ true) o.asked

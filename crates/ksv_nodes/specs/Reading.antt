@@ -8,7 +8,7 @@ use Rattle.ksv_expr_value.specs.declared.value.Stream.{Stream}
 use Rattle.ksv_nodes.specs.declared.turn.Found.{Found}
 use Rattle.ksv_nodes.specs.declared.turn.Found.TheVariants as founds
 
--- A reading: whether a stream goes on to a place; where a stream ends; whether a place is at the end of a stream;
+-- A reading: that a stream goes on to a place; where a stream ends; whether a place is at the end of a stream;
 -- the bytes of a range; the first byte of a value from a place of a stream on.
 pub data Reading : Type 0 where
   Reach : Stream → ℕ → Reading
@@ -38,7 +38,7 @@ gives a us = record { seen = Some a; uses = us }
 abbrev pub ends_before : {A : Type 0} → List Use → Look A
 ends_before us = record { seen = None; uses = us }
 
--- whether the file goes on to a place
+-- that the file goes on to a place
 unfoldable pub reach_file : List ℕ → ℕ → Look (Unit {0})
 reach_file bytes t = if nat_le t (length bytes) then gives tt (uses.Reach t ∷ []) else ends_before (uses.Size ∷ [])
 

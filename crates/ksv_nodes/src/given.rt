@@ -64,7 +64,7 @@ pub struct List {
     pub start: u32,
     /// How many there are, if that is known beforehand.
     pub count: Option<u32>,
-    /// Whether there is none.
+    /// Whether there are none.
     pub is_empty: bool,
 }
 

@@ -20,8 +20,8 @@ pub fn faulty_trees_are_refused()
     ensures one { (t : Yaml) (f g : Fault) → Refuses t f → Refuses t g → f ≡ g }
 {}
 
-/// In a description that a tree states each number is that of something there is (names, types, enums and their
-/// members), and each parameter has its argument.
+/// In a description that a tree states each number belongs to a name, a type, an enum or an enum's member in it, and
+/// each parameter has its argument.
 pub fn descriptions_are_resolved()
     ensures { (t : Yaml) (d : Description) → States t d → IsResolved d }
 {}

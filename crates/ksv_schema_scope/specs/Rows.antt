@@ -8,7 +8,7 @@ use Rattle.ksv_yaml_tree.specs.declared.tree.Yaml.{Yaml}
 use Rattle.ksv_schema_scope.specs.declared.row.TypeRow.{TypeRow}
 use Rattle.ksv_schema_scope.specs.Types.{Scope, from, is_directly_in}
 
--- the types around a type, from the number of the nearest on
+-- the types around a type, given the number of the nearest
 abbrev pub around_by : List Scope → Option ℕ → List ℕ
 around_by types None = []
 around_by types (Some n) = from types n
