@@ -165,7 +165,7 @@ fn add_lists(
     add(found, &entries_at(keys, key).len())
 }
 
-/// Adds an enum: its type, its name and line, and twice how many entries it has.
+/// Adds an enum: its type, its name and line, and how many entries it has, found in two ways.
 fn add_enum(scopes: &Scopes<'_>, number: usize, found: &mut String) -> Result<(), AllocError> {
     let Some(it) = scopes.enums().get(number) else {
         return found.push_str(" nothing");

@@ -1,4 +1,4 @@
--- The value of an expression: over any map from wants to answers, and resumed from replies. The first knows no replies.
+-- The value of an expression: over any map from wants to answers, and resumed from replies. The first doesn't use replies.
 use Rattle.std.specs.Prelude.{◌≡◌, ℕ, ◌+◌, ◌≤◌, ◌<◌, List, ◌++◌, length, map, take, slice_get, Some, Result, Ok, Err, if◌then◌else◌}
 use Rattle.ksv_plan.specs.Plan.{Ran, Need, Failed, Done, run}
 use Rattle.ksv_plan.specs.Asking.{and_then, answer_of, asks_of}

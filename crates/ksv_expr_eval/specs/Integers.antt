@@ -21,7 +21,7 @@ abbrev pub floored_remainder : ℤ → ℤ → ℤ
 floored_remainder a (pos b) = remainder_by a b
 floored_remainder a (negsuc b) = neg_ℤ (remainder_by (neg_ℤ a) (suc b))
 
--- A shift to the left by n places is a product with 2^n, and one to the right the floored quotient by it.
+-- A shift to the left by n places is the product with 2^n, one to the right the floored quotient by 2^n.
 abbrev pub shifted_left : ℤ → ℕ → ℤ
 shifted_left a n = a *ℤ pos (2 ^ n)
 

@@ -19,7 +19,7 @@ pub fn meaning_is_direct()
     ensures { MeaningIsDirect }
 {}
 
-/// A dividend is its floored quotient times the divisor, and a remainder between 0 and the divisor.
+/// A dividend is its floored quotient times the divisor plus a remainder between 0 and the divisor.
 pub fn division_is_floored()
     ensures { DivisionIsFloored }
 {}

@@ -1,4 +1,4 @@
--- Integers of expressions: their range, which is this project's own, as is that a result outside of it is a fault.
+-- The range of expressions' integers. The range, and that a result outside it is a fault, are this project's own.
 use Rattle.std.specs.Prelude.{ℕ, ◌^◌, Bool, nat_lt, ℤ, pos, negsuc, Option, Some, None, if◌then◌else◌}
 
 -- An integer is at least -2^63 and below 2^64. (`negsuc n` is -(n + 1).)

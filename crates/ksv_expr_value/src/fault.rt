@@ -17,7 +17,7 @@ pub enum FaultKind {
     EndOfBytes,
     /// F4: a value of a kind that doesn't fit.
     BadType,
-    /// F5: an integer outside -2^63 to 2^64 - 1, or a count of places outside 0 to 63.
+    /// F5: an integer outside -2^63 to 2^64 - 1, or a shift by a count outside 0 to 63.
     Overflow,
     /// F6: a division by 0.
     ZeroDivisor,

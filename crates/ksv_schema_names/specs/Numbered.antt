@@ -1,7 +1,7 @@
 -- The numbers that the names of an expression get.
 --
--- A name's number is its place in the description's table of names, a type's its place among the types, a member's those of
--- its enum and of itself.
+-- A name's number is its place in the description's table of names. A type's number is its place among the types. An
+-- enum's member has the number of its enum and its own.
 use Rattle.std.specs.Prelude.{ℕ, if◌then◌else◌, ℤ, List, [], ◌∷◌, ◌++◌, Option, option_and_then, option_map}
 use Rattle.std.specs.List.{list_any, position_from}
 use Rattle.std.specs.Str.{bytes_eq}

@@ -19,7 +19,7 @@ is_special c = is_bracket c || (is_white c || is_indicator c)
 abbrev pub is_lone : ℕ → Bool
 is_lone c = (c == 45) || ((c == 63) || (c == 58))
 
--- a plain scalar begins here: with nothing special, nor with - ? : before white space or the line's end
+-- a plain scalar begins here: not with a special byte, nor with - ? : before white space or the line's end
 abbrev pub starts_plain : List ℕ → Bool
 starts_plain [] = false
 starts_plain (c ∷ cs) = if is_special c then false else not (is_lone c && white_or_end cs)

@@ -33,7 +33,7 @@ struct FirstLine<'a> {
 
 /// Cuts a text into lines, each up to LF or CR LF; a byte order mark at the start is skipped.
 ///
-/// A text of more than [`MAX_LENGTH`] bytes is `TooLong`, another that isn't UTF-8 is `NotUtf8`.
+/// A text of more than [`MAX_LENGTH`] bytes is `TooLong`, any other that isn't UTF-8 is `NotUtf8`.
 pub fn cut(alloc: Global, text: &[u8]) -> Result<Text<'_>, TextError>
     ensures ok { IfOk result (λ t. IsCut text.now (lines_view t.lines.items) t.stray) }
     ensures err { IfErr result (λ e. RefusesText text.now e) }
