@@ -2,11 +2,11 @@
 //!
 //! Numbers of types, members, enums and their entries come after the colon of a question. `all` prints how much
 //! there is, `type`, `member`, `enum` and `constant` one of these, `within` how many members and parameters a type
-//! has, `inherited` the byte order and the encoding there, `says KEY TEXT` the text of a member at a key, `lists
-//! KEY` what a type has at a key. `path`, `named`, `id` and `value` look up a type and an enum, a member, the id of
-//! a number and the number of an id, `everywhere` a type from all types; `misplaced` counts members that aren't
-//! found, and `again` entries that are there twice. `plain` (to 255), `signed`, `written` and `order` read a number
-//! or a byte order alone.
+//! has, `inherited` the byte order and the encoding there, `says KEY TEXT` the text of a member at a key,
+//! `lists KEY` what a type has at a key. `path`, `named`, `id` and `value` look up a type and an enum, a member,
+//! the id of a number and the number of an id, `everywhere` a type from all types; `misplaced` counts members that
+//! aren't found, and `again` entries that are there twice. `plain` (to 255), `signed`, `written` and `order` read a
+//! number or a byte order alone.
 
 use crate::question::{Question, question_of};
 use crate::shown::{add, add_debug, add_word};

@@ -1,15 +1,15 @@
 //! Takes the rows of tables, and compares the result of each with the one beside it: `ksv_expr_cases TABLE..`.
 //!
-//! It prints the rows that have another result, and for each table how many rows it has. A row is a line `INPUT =>
-//! WANTED`, and belongs to the heading above it, `== KIND`, which defines what the input is:
+//! It prints the rows that have another result, and for each table how many rows it has. A row is a line
+//! `INPUT => WANTED`, and belongs to the heading above it, `== KIND`, which defines what the input is:
 //!
 //! - `tree`: the text of an expression; wanted is its tree, or its refusal with the place;
 //! - `type`: the text of a type with its arguments, in the same way;
 //! - `path`: a path; wanted are the path, its parent, and the object that holds it;
 //! - `ask HOME FROM TO PLACE HERE INDEX ELEMENT`: an expression of the object at the path HOME, whose stream is
 //!   from FROM to TO, at the current PLACE, with faults at the path HERE, within the element of this INDEX and
-//!   after the ELEMENT of this path (`-`: none). After the expression come its questions with the reply to each, `;
-//!   QUESTION -> REPLY`; wanted is the end.
+//!   after the ELEMENT of this path (`-`: none). After the expression come its questions with the reply to each,
+//!   `; QUESTION -> REPLY`; wanted is the end.
 //!
 //! `{HEX}` means these bytes, and `{N*TEXT}` N times this text: in what is wanted, in inputs of the first two
 //! kinds, and in the paths and texts of the others.
