@@ -24,7 +24,7 @@ impl Model for Buffer {
     ghost invariant = { λ buffer. length buffer.bytes.items ≤ file_limit };
 }
 
-/// B3: a file of more than [`FILE_LIMIT`] bytes, which are handed back.
+/// B3: a file of more than [`FILE_LIMIT`] bytes, which are returned.
 #[derive(Debug, Drop, Error)]
 #[error("file too large")]
 pub struct TooLarge {
@@ -69,7 +69,7 @@ impl Buffer {
         (&self.bytes[window.from..window.to], &[])
     }
 
-    /// Writes bytes over those that stand from a place on. It takes no memory.
+    /// Writes bytes over those from a place on. It takes no memory.
     pub fn overwrite(&mut self, at: usize, bytes: &[u8]) -> Result<(), EditRefusal>
         ensures { MatchResult result
             (λ _. overwrite self.old at bytes.now ≡ Ok self.new)
@@ -85,7 +85,7 @@ impl Buffer {
         Ok(())
     }
 
-    /// Adds bytes at the end. Want of memory is answered only where nothing else stands against the edit.
+    /// Adds bytes at the end. It can be out of memory only where nothing else is wrong with the edit.
     pub fn append(&mut self, bytes: &[u8]) -> Result<(), EditRefusal>
         ensures done { OnOk result (append self.old bytes.now ≡ Ok self.new) }
         ensures unchanged { OnErr result (self.new ≡ self.old) }

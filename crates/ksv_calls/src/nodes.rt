@@ -29,7 +29,7 @@ types:
         size: len
 ";
 
-/// Texts that each name a path of `LIST`, which is written so again.
+/// Texts that each name a path of `LIST`, whose text is the same again.
 const PATHS: &str = "/|/n|/items|/items/3/len|/len/body|/0|/0/0|/1048575";
 
 /// Texts that name none.
@@ -96,7 +96,7 @@ fn paths_are_named(rt: HostRuntime) -> Result<(), Fail> {
     Ok(())
 }
 
-/// How many steps the path has that so many indices name.
+/// The length of the path that this many indices name.
 fn steps_named(alloc: Global, desc: &Desc, steps: usize) -> Result<Option<usize>, AllocError> {
     let mut text = String::new(alloc);
     for _ in 0..steps {
@@ -117,7 +117,7 @@ fn paths_of_64_steps_are_named(rt: HostRuntime) -> Result<(), Fail> {
     Ok(())
 }
 
-/// What a node answers, but for a value.
+/// What a node answers, except a value.
 fn given_text(alloc: Global, given: &Given) -> Result<String, AllocError> {
     match given {
         Given::Head(Head::Leaf(leaf)) => {

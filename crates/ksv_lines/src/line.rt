@@ -8,8 +8,8 @@ use std::marker::Model;
 /// One byte more than a line may have.
 const LINE_ROOM: usize = 4097;
 
-/// The front of a line, up to the byte that makes it too long: so a line that is too long is known by it, and the
-/// rest of it is dropped.
+/// The beginning of a line, up to the byte that makes it too long. So a line that is too long is known by its
+/// length, and the rest of it is dropped.
 #[derive(Drop)]
 pub struct LineBuffer {
     front: ArrayVec<u8, LINE_ROOM>,
@@ -31,7 +31,7 @@ impl LineBuffer {
         }
     }
 
-    /// Adds a byte, or drops it where the line is too long already.
+    /// Adds a byte, or drops it if the line is too long already.
     pub fn push(&mut self, byte: u8)
         ensures { self.new ≡ take line_room (self.old ++ byte ∷ []) }
     {

@@ -65,7 +65,7 @@ fn row_number(byte: u8) -> RowNumber
     RowNumber { number: byte }
 }
 
-/// What a row that a byte names does next. The byte is read in its first call alone.
+/// What a row that a byte names does next. The byte is read only in its first call.
 fn named(
     place: u32,
     bytes: &Buffer,

@@ -16,7 +16,7 @@ use ksv_expr_eval::{Fault, FaultKind, Parts, Path, Step, Stream, Value};
 use std::alloc::{AllocError, AllocFailed, Global};
 use std::marker::Model;
 
-/// Where the first byte of a value stands in a stream.
+/// Where the first byte of a value is in a stream.
 #[derive(Clone, Copy, Debug)]
 pub enum Found {
     /// At this place.
@@ -58,7 +58,7 @@ impl<T: Drop> From<AllocFailed<T>> for Halt {
     }
 }
 
-/// A node's rule on its way: the replies that it had, and what its readings rest on so far.
+/// A node's rule while it runs: the replies so far, and what its readings depend on so far.
 #[derive(Drop)]
 pub struct Turn<'a> {
     alloc: Global,
@@ -100,7 +100,7 @@ impl<'a> Turn<'a> {
         }
     }
 
-    /// What the rule allocates with.
+    /// The allocator of the rule.
     pub fn alloc(&self) -> Global {
         self.alloc
     }
@@ -112,14 +112,14 @@ impl<'a> Turn<'a> {
         self.here
     }
 
-    /// What its readings rest on.
+    /// What its readings depend on.
     pub fn into_uses(self) -> Vec<Use>
         ensures { result.items ≡ self.entry.uses }
     {
         self.uses
     }
 
-    /// The next reply, which is to this node.
+    /// The next reply, which is for this node.
     fn reply(&mut self, node: Node) -> Result<&'a Result<Given, Fault>, Halt>
         ensures { RepliesWith node self.old self.new result }
     {
@@ -149,7 +149,7 @@ impl<'a> Turn<'a> {
         }))
     }
 
-    /// What stands at a path, and where.
+    /// What is at a path, and where.
     pub fn head(&mut self, path: Path) -> Result<Head, Halt>
         ensures { Runs (ask_head path) (λ head. head) self.old self.new result }
     {
@@ -173,7 +173,7 @@ impl<'a> Turn<'a> {
         }
     }
 
-    /// Where what stands at a path ends.
+    /// Where the thing at a path ends.
     pub fn end(&mut self, path: Path) -> Result<Ended, Halt>
         ensures { Runs (ask_end path) (λ ended. ended) self.old self.new result }
     {
@@ -203,7 +203,7 @@ impl<'a> Turn<'a> {
         }
     }
 
-    /// The path one step on. A path that doesn't fit is a fault of the node.
+    /// The path one step further. A path that doesn't fit is a fault of the node.
     pub fn part(&self, path: &Path, step: Step) -> Result<Path, Halt>
         ensures { Runs (part path.now step) (λ part. part) self.now self.now result }
     {
@@ -217,7 +217,7 @@ impl<'a> Turn<'a> {
         }
     }
 
-    /// Sees to it that a stream and the file go on to a place.
+    /// Requires that a stream and the file go on to a place.
     #[tactic(auto, unfolding(crate::specs::Reading::reach_within, crate::specs::Reading::reach_file))]
     pub fn reach(&mut self, stream: Stream, to: u128) -> Result<(), Halt>
         ensures runs { Runs (reach stream to) (λ unit. unit) self.old self.new result }
@@ -251,7 +251,7 @@ impl<'a> Turn<'a> {
         }
     }
 
-    /// Whether a place is at the end of a stream or behind it.
+    /// Whether a place is at the end of a stream or after it.
     #[tactic(auto, unfolding(crate::specs::Reading::done_at))]
     pub fn done(&mut self, stream: Stream, place: u32) -> Result<bool, Halt>
         ensures { Runs (done stream place) (λ is_done. is_done) self.old self.new result }
@@ -295,7 +295,7 @@ impl<'a> Turn<'a> {
         self.raise(FaultKind::EndOfBytes)
     }
 
-    /// Where a stream ends in the bytes. This tells nothing of what it rests on.
+    /// Where a stream ends in the bytes. It notes no use.
     fn end_in(&self, stream: Stream) -> u32
         ensures { result ≡ end_in self.now.bytes stream.to }
     {
@@ -305,7 +305,7 @@ impl<'a> Turn<'a> {
         }
     }
 
-    /// How many bytes stand before the first such byte of a range. This tells nothing of what it rests on.
+    /// How many bytes come before the first such byte of a range. It notes no use.
     #[tactic(auto, using(crate::proofs::First::range_cut, crate::proofs::First::range_none))]
     fn first_in(&self, from: u32, to: u32, byte: u8) -> Option<u32>
         ensures found { result ≡ first_at byte (slice_range self.now.bytes from to) }

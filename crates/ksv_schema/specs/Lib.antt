@@ -1,3 +1,3 @@
--- What a tree is to the loader.
+-- What the loader makes of a tree.
 pub mod Outcome
 pub mod Examples

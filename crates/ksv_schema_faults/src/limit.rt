@@ -79,7 +79,7 @@ fn lines_of(alloc: Global, constants: &[Constant]) -> Result<Vec<usize>, AllocEr
     Ok(lines)
 }
 
-/// The same in rising order.
+/// The same lines in ascending order.
 fn rising_lines(alloc: Global, constants: &[Constant]) -> Result<Vec<usize>, AllocError>
     ensures { IfOk result (λ v. AreRising (map (λ c. c.line) (map constant_of constants.now)) v.items) }
 {
@@ -94,7 +94,7 @@ fn past_limit(lines: &[usize]) -> Option<usize>
     lines.get(CONSTANTS).copied()
 }
 
-/// The lowest line by which there are more entries of enums than the limit.
+/// The lowest line at which there are more entries of enums than the limit.
 #[tactic(auto, using(crate::proofs::Past::line_past_is))]
 fn line_past_constants(alloc: Global, constants: &[Constant]) -> Result<Option<usize>, AllocError>
     ensures { IfOk result (λ o. o ≡ line_past most_entries (map (λ c. c.line) (map constant_of constants.now))) }

@@ -34,20 +34,20 @@ plain_answer (answers.Circle n) = circle n
 abbrev pub IsRightFor : Description → List ℕ → List (Entry Node (Result Given Fault)) → Type 0
 IsRightFor d b kept = IsRight (on (described d) b) kept
 
--- what was returned, seen by view, is a value that was to come or its fault, want of memory aside
+-- what was returned, seen by view, is the expected value or its fault, unless memory ran out
 abbrev pub ComesTo : {X A : Type 0} → Result A Fault → (X → A) → Result X Untold → Type 0
 ComesTo r view (Ok x) = r ≡ Ok (view x)
 ComesTo r view (Err untolds.NoMemory) = Unit {0}
 ComesTo r view (Err (untolds.Fault f)) = r ≡ Err f
 
--- what stands in the way is this fault, want of memory aside
+-- the fault that prevents a text is this one, unless memory ran out
 abbrev pub IsFault : Fault → Untold → Type 0
 IsFault f untolds.NoMemory = Unit {0}
 IsFault f (untolds.Fault e) = e ≡ f
 
 -- ---- edits
 
--- what an edit that was tried is answered, with the bytes that stand then
+-- the reply to an edit that was tried, with the bytes after it
 abbrev pub edit_text : {A : Type 0} → List ℕ → Result A EditRefusal → List ℕ
 edit_text b (Ok done) = codes "ok " ++ decimal (length b) ++ codes "\n"
 edit_text b (Err refusal) = edit_refusal_text refusal
@@ -78,8 +78,8 @@ pub record Answered (old : Explored) (line : List ℕ) (new : Explored) (tells :
 
 -- ---- the lines of an input that is taken in pieces
 
--- While the session goes on: of what was taken the whole lines are answered, and of the line behind them the
--- first `line_room` bytes are gathered, which tell whether it is too long.
+-- While the session goes on: of what was taken the whole lines are answered, and of the line after them the first
+-- `line_room` bytes are gathered, which show whether it is too long.
 pub record Stands (d : Description) (begin taken now line : List ℕ) (tells : Bool) (before written : List ℕ) : Type 0 where
   pub events : List Event
   pub rest : List ℕ

@@ -1,4 +1,4 @@
--- What values of the code say, in the words of the other files.
+-- What values of the code mean, in the words of the other files.
 use Rattle.std.specs.Prelude.{ℕ, Bool, true, false, List, [], codes, string_bytes}
 use Rattle.ksv_session.specs.Replies.{Answer, no_memory_text}
 use Rattle.ksv_session.specs.declared.reply.Reply.{Reply}
@@ -12,7 +12,7 @@ reply_text (replies.Text text) = string_bytes text
 reply_text replies.NoMemory = no_memory_text
 reply_text replies.Bye = codes "bye\n"
 
--- whether a reply says that memory was refused
+-- whether a reply is that memory was refused
 abbrev pub is_refusal : Reply → Bool
 is_refusal replies.None = false
 is_refusal (replies.Short text) = false
@@ -27,6 +27,6 @@ is_last (replies.Text text) = false
 is_last replies.NoMemory = false
 is_last replies.Bye = true
 
--- a reply, with the bytes from then on
+-- a reply, with the bytes after it
 abbrev pub answer_seen : List ℕ → Reply → Answer
 answer_seen b reply = record { bytes = b; text = reply_text reply; ends = is_last reply }

@@ -15,12 +15,12 @@ use std::alloc::{AllocError, Global};
 /// The most bytes of a line, its LF aside.
 const LINE_LIMIT: usize = 4096;
 
-/// What a line says.
+/// What a line means.
 #[derive(Drop)]
 pub(crate) enum Command {
     /// Nothing: no word, or a first word that begins with `#`.
     Blank,
-    /// No command.
+    /// A refused line.
     Refused(LineRefusal),
     /// `get PATH`: the value at a path.
     Get(Path),
@@ -41,7 +41,7 @@ fn no_word(text: &[u8]) -> bool
     next_word(text).is_none()
 }
 
-/// The word of a text that has just one.
+/// The word of a text that has exactly one.
 fn only_word(text: &[u8]) -> Option<&[u8]>
     ensures word { option_copied result ≡ only (words_of text.now) }
     ensures within { IfSome result (λ word. length word.now ≤ length text.now) }
@@ -50,7 +50,7 @@ fn only_word(text: &[u8]) -> Option<&[u8]>
     if no_word(rest) { Some(word) } else { None }
 }
 
-/// Reads the arguments of `get`. Only a path takes memory.
+/// Reads the arguments of `get`. Only a valid path takes memory.
 fn get(alloc: Global, desc: &Desc, arguments: &[u8]) -> Result<Command, AllocError>
     ensures command { IfOk result (λ command. command ≡ get_of (plain_pieces desc.now) (only (words_of arguments.now))) }
     ensures refused { OnErr result (IsTrue (is_question (get_of (plain_pieces desc.now) (only (words_of arguments.now))))) }

@@ -11,10 +11,10 @@ use ksv_memo::{Answer, Engine};
 use ksv_rules::{Described, Given, Node};
 use std::alloc::{AllocError, Global};
 
-/// Why there is no text of a value.
+/// Why a value has no text.
 #[derive(Drop)]
 pub(crate) enum Untold {
-    /// A fault stands in its way.
+    /// A fault prevents it.
     Fault(Fault),
     /// Memory was refused.
     NoMemory,
@@ -41,7 +41,7 @@ pub(crate) fn fault_at(alloc: Global, path: &Path, kind: FaultKind) -> Untold
     }
 }
 
-/// What an engine's answer says; of a circle it is the fault at the path of the node that was open.
+/// What an engine's answer means; a circle is the fault at the path of the node that was open.
 fn of_answer(answer: Answer<Node, Given, Fault>) -> Result<Given, Untold>
     ensures { ComesTo (plain_answer answer) (λ given. given) result }
 {
@@ -55,7 +55,7 @@ fn of_answer(answer: Answer<Node, Given, Fault>) -> Result<Given, Untold>
     }
 }
 
-/// What a node answers on the bytes as they are, by an engine that is right for them and stays so.
+/// What a node answers on the current bytes, by an engine that is right for them and still is afterwards.
 pub(crate) fn ask(
     engine: &mut Engine<Described>,
     described: &Described,

@@ -90,7 +90,7 @@ fn quoted_text(alloc: Global, text: &Text) -> Result<String, AllocError>
     Json::String(String::from_str(alloc, text.as_str())?).to_string(alloc)
 }
 
-/// The part of a range that lies in the file.
+/// The part of a range that is in the file.
 fn window(buffer: &Buffer, from: u32, to: u32) -> Window
     ensures ordered { result.from ≤ result.to }
     ensures inside { result.to ≤ length buffer.now }
@@ -101,7 +101,7 @@ fn window(buffer: &Buffer, from: u32, to: u32) -> Window
     Window { from, to }
 }
 
-/// The digits of the bytes of a range, as they stand.
+/// The digits of the bytes of a range, as they are now.
 #[tactic(auto, unfolding(crate::specs::Questions::bytes_text))]
 fn bytes_text(alloc: Global, buffer: &Buffer, from: u32, to: u32) -> Result<String, AllocError>
     ensures { IfOk result (λ text. string_bytes text ≡ bytes_text buffer.now from to) }
@@ -132,7 +132,7 @@ fn member_text(
     Ok(text)
 }
 
-/// An object by its type's id; anything else doesn't fit.
+/// An object by its type's id; any other head doesn't fit.
 fn object_text(alloc: Global, desc: &Desc, path: &Path, head: Head) -> Result<String, Untold>
     ensures { ComesTo (of_object (plain_pieces desc.now) path.now head) (λ text. string_bytes text) result }
 {
@@ -146,7 +146,7 @@ fn object_text(alloc: Global, desc: &Desc, path: &Path, head: Head) -> Result<St
     }
 }
 
-/// The text of an object, by what stands there.
+/// The text of an object, by what is there.
 fn head_text(alloc: Global, desc: &Desc, path: &Path, given: &Given) -> Result<String, Untold>
     ensures { ComesTo (of_head (plain_pieces desc.now) path.now given.now) (λ text. string_bytes text) result }
 {
@@ -243,7 +243,7 @@ fn value_text(
     }
 }
 
-/// The text of what is answered for the value at a path.
+/// The text of the answer for the value at a path.
 fn answer_text(
     alloc: Global,
     engine: &mut Engine<Described>,
@@ -280,7 +280,7 @@ fn told_text(
     answer_text(alloc, &mut engine, described, buffer, path, &given)
 }
 
-/// The text of the value at a path, or of the fault that stands in its way.
+/// The text of the value at a path, or of the fault that prevents it.
 #[tactic(auto, unfolding(crate::specs::Questions::question_text))]
 fn question_text(
     alloc: Global,

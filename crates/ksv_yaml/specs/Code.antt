@@ -88,32 +88,32 @@ keys_of ps = map (λ p. p.key) ps
 abbrev pub Fails : {L A : Type 0} → (Option (Got L A) → Type 0) → ReadFault → Type 0
 Fails P e = wants_memory e.kind ≡ false → P None
 
--- a function answered what reading finds: the value, as `see` sees it, and what is behind it; or it failed
+-- a function returned what reading finds: the value, as `see` sees it, and what comes after it; or it failed
 abbrev pub Gives : {X C L A : Type 0} → (Option (Got L A) → Type 0) → (X → A) → (List C → List L) → Result (X × Bor (List C)) ReadFault → Type 0
 Gives P see seen (Ok x) = P (got (see x.0) (seen x.1.now))
 Gives P see seen (Err e) = Fails P e
 
 -- ---- flow nodes
 
--- behind a ] at the front
+-- after a ] at the front
 abbrev pub behind_close : List Token → Option (List Token)
 behind_close [] = None
 behind_close (Close ∷ ts) = Some ts
 behind_close (t ∷ ts) = None
 
--- behind a } at the front
+-- after a } at the front
 abbrev pub behind_close_map : List Token → Option (List Token)
 behind_close_map [] = None
 behind_close_map (CloseMap ∷ ts) = Some ts
 behind_close_map (t ∷ ts) = None
 
--- behind a comma at the front
+-- after a comma at the front
 abbrev pub behind_comma : List Token → Option (List Token)
 behind_comma [] = None
 behind_comma (Comma ∷ ts) = Some ts
 behind_comma (t ∷ ts) = None
 
--- a key at the front, its line first, and what is behind it
+-- a key at the front, its line first, and what comes after it
 abbrev pub key_at : List Token → Option (ℕ × List ℕ × List Token)
 key_at [] = None
 key_at (Key k key ∷ ts) = Some (k, key, ts)
@@ -129,19 +129,19 @@ abbrev pub seen_key : Option (ℕ × Bor (List ℕ) × Bor (List CodeToken)) →
 seen_key None = None
 seen_key (Some x) = Some (x.0, x.1.now, tokens_view x.2.now)
 
--- Reading these parts, with calls enough, finds this.
+-- Reading these parts, with enough calls, finds this.
 pub record FlowIs (d : ℕ) (ts : List Token) (o : Option (Got Token Tree)) : Type 0 where
   pub is : (f : ℕ) → 3 * length ts + 1 ≤ f → flow f d ts ≡ o
 
--- The same of items up to their bracket.
+-- The same for items up to their bracket.
 pub record FlowItemsIs (d : ℕ) (ts : List Token) (o : Option (Got Token Items)) : Type 0 where
   pub is : (f : ℕ) → 3 * length ts + 3 ≤ f → flow_items f d ts ≡ o
 
--- The same of entries up to their brace.
+-- The same for entries up to their brace.
 pub record FlowEntriesIs (d : ℕ) (ts : List Token) (o : Option (Got Token Entries)) : Type 0 where
   pub is : (f : ℕ) → 3 * length ts + 3 ≤ f → flow_entries f d [] ts ≡ o
 
--- a function answered what reading these parts finds
+-- a function returned what reading these parts finds
 abbrev pub GivesFlow : ℕ → List Token → Result (Yaml × Bor (List CodeToken)) ReadFault → Type 0
 GivesFlow d ts r = Gives (FlowIs d ts) view tokens_view r
 
@@ -153,35 +153,35 @@ GivesFlowEntries d ts r = Gives (FlowEntriesIs d ts) (λ v. entries_of (map pair
 
 -- ---- blocks
 
--- a function answered the scalar or flow node that reading finds
+-- a function returned the scalar or flow node that reading finds
 abbrev pub GivesInline : ℕ → ℕ → InlineKind → Line → List Line → Result (Yaml × Bor (List CodeLine)) ReadFault → Type 0
 GivesInline d n k l ls r = Gives (λ o. inlined d n k l ls ≡ o) view lines_view r
 
--- a scalar or flow node behind a key, or behind a dash and a tab
+-- a scalar or flow node after a key, or after a dash and a tab
 abbrev pub GivesHere : ℕ → Line → List ℕ → List Line → Result (Yaml × Bor (List CodeLine)) ReadFault → Type 0
 GivesHere d l behind ls r = Gives (λ o. value_here (start_of behind) d l behind ls ≡ o) view lines_view r
 
--- Reading these lines, with calls enough, finds this.
+-- Reading these lines, with enough calls, finds this.
 pub record NodeIs (d n : ℕ) (l : Line) (ls : List Line) (o : Option (Got Line Tree)) : Type 0 where
   pub is : (f : ℕ) → 8 * weight (l ∷ ls) + 8 ≤ f → node f d n l ls ≡ o
 
--- The same of the entries of a mapping.
+-- The same for the entries of a mapping.
 pub record EntriesIs (d m : ℕ) (l : Line) (ls : List Line) (o : Option (Got Line Entries)) : Type 0 where
   pub is : (f : ℕ) → 8 * weight (l ∷ ls) + 5 ≤ f → entries f d m [] l ls ≡ o
 
--- The same of what stands behind a key.
+-- The same for what comes after a key.
 pub record ValueIs (d : ℕ) (l : Line) (behind : List ℕ) (ls : List Line) (o : Option (Got Line Tree)) : Type 0 where
   pub is : (f : ℕ) → 8 * weight ls + 10 ≤ f → value f d l behind ls ≡ o
 
--- The same of the items of a sequence.
+-- The same for the items of a sequence.
 pub record ItemsIs (d m : ℕ) (l : Line) (ls : List Line) (o : Option (Got Line Items)) : Type 0 where
   pub is : (f : ℕ) → 8 * weight (l ∷ ls) + 5 ≤ f → items f d m l ls ≡ o
 
--- The same of what stands behind a dash.
+-- The same for what comes after a dash.
 pub record ItemIs (d : ℕ) (l : Line) (k : ℕ) (tab : Bool) (behind : List ℕ) (ls : List Line) (o : Option (Got Line Tree)) : Type 0 where
   pub is : (f : ℕ) → 8 * (length behind + weight ls) + 18 ≤ f → item_at f d l k tab behind ls ≡ o
 
--- a function answered what reading these lines finds
+-- a function returned what reading these lines finds
 abbrev pub GivesNode : ℕ → ℕ → Line → List Line → Result (Yaml × Bor (List CodeLine)) ReadFault → Type 0
 GivesNode d n l ls r = Gives (NodeIs d n l ls) view lines_view r
 

@@ -1,4 +1,4 @@
--- What a refusal says.
+-- What a refusal means.
 use Rattle.std.specs.Prelude.{◌≡◌, ℕ, ◌≤◌, List, length, codes, IsUtf8, Result, Ok, Err}
 use Rattle.ksv_yaml.specs.declared.fault.YamlKind.{YamlKind}
 use Rattle.ksv_yaml.specs.declared.fault.YamlKind.TheVariants.{NotUtf8, TooLong, Tab, Indentation, KeyTwice, LeftOut, NotClosed, ValueForKey, TooDeep, NoMemory}
@@ -29,7 +29,8 @@ pub record IsUnspelled (text : List ℕ) (line : ℕ) : Type 0 where
   pub place : IsLine text line
   pub none : (t : Tree) → Spells text t → ⊥
 
--- what the refusal of a text says, by its kind; no two of these, but for want of memory, are true of one text
+-- what the refusal of a text means, by its kind: it is too long, isn't UTF-8, or spells no tree; no text is two of
+-- these
 abbrev pub Refuses : List ℕ → YamlKind → ℕ → Type 0
 Refuses text TooLong line = IsTooLong text × (line ≡ 1)
 Refuses text NotUtf8 line = IsNotUtf8 text line
@@ -42,7 +43,7 @@ Refuses text NotClosed line = IsUnspelled text line
 Refuses text ValueForKey line = IsUnspelled text line
 Refuses text TooDeep line = IsUnspelled text line
 
--- the answer is this tree, or that memory was refused
+-- the result is this tree, or that memory was refused
 abbrev pub IsTreeOrNoMemory : Tree → Result Yaml YamlFault → Type 0
 IsTreeOrNoMemory t (Ok u) = view u ≡ t
 IsTreeOrNoMemory t (Err fault) = fault.kind ≡ NoMemory

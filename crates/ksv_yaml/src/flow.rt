@@ -15,7 +15,7 @@ use ksv_yaml_scan::line::Line;
 use ksv_yaml_tree::{Entry, Yaml};
 use std::alloc::Global;
 
-/// The part at the front, and those behind it.
+/// The part at the front, and those after it.
 fn next(tokens: &[Token]) -> Option<(&Token, &[Token])>
     ensures { MatchOption result (tokens.now ≡ []) (λ x. tokens.now ≡ x.0.now ∷ x.1.now) }
 {
@@ -25,7 +25,7 @@ fn next(tokens: &[Token]) -> Option<(&Token, &[Token])>
     }
 }
 
-/// What stands behind a `]` at the front.
+/// What comes after a `]` at the front.
 fn behind_close(tokens: &[Token]) -> Option<&[Token]>
     ensures value { seen_behind result ≡ behind_close_of (tokens_view tokens.now) }
     ensures shorter { IfSome result (λ rest. length (tokens_view rest.now) < length (tokens_view tokens.now)) }
@@ -39,7 +39,7 @@ fn behind_close(tokens: &[Token]) -> Option<&[Token]>
     }
 }
 
-/// What stands behind a `}` at the front.
+/// What comes after a `}` at the front.
 fn behind_close_map(tokens: &[Token]) -> Option<&[Token]>
     ensures value { seen_behind result ≡ behind_close_map_of (tokens_view tokens.now) }
     ensures shorter { IfSome result (λ rest. length (tokens_view rest.now) < length (tokens_view tokens.now)) }
@@ -53,7 +53,7 @@ fn behind_close_map(tokens: &[Token]) -> Option<&[Token]>
     }
 }
 
-/// What stands behind a comma at the front.
+/// What comes after a comma at the front.
 fn behind_comma(tokens: &[Token]) -> Option<&[Token]>
     ensures value { seen_behind result ≡ behind_comma_of (tokens_view tokens.now) }
     ensures shorter { IfSome result (λ rest. length (tokens_view rest.now) < length (tokens_view tokens.now)) }
@@ -67,7 +67,7 @@ fn behind_comma(tokens: &[Token]) -> Option<&[Token]>
     }
 }
 
-/// The key at the front with its line, and what stands behind it.
+/// The key at the front with its line, and what comes after it.
 fn key_at(tokens: &[Token]) -> Option<(usize, &[u8], &[Token])>
     ensures value { seen_key result ≡ key_at_of (tokens_view tokens.now) }
     ensures shorter { IfSome result (λ x. length (tokens_view x.2.now) < length (tokens_view tokens.now)) }
@@ -81,7 +81,7 @@ fn key_at(tokens: &[Token]) -> Option<(usize, &[u8], &[Token])>
     }
 }
 
-/// The fault that this part, or the end of the parts, can't stand here.
+/// The fault if this part, or the end of the parts, isn't allowed here.
 fn unexpected(tokens: &[Token], end: ReadFault) -> ReadFault {
     let [token, ..] = tokens else {
         return end;
@@ -92,7 +92,7 @@ fn unexpected(tokens: &[Token], end: ReadFault) -> ReadFault {
     }
 }
 
-/// The kind of a part that can't stand where it does: a plain scalar with a colon inside, or a form that the subset leaves out.
+/// The kind of a part that isn't allowed here: a plain scalar with a colon inside, or an unsupported form.
 fn unexpected_kind(part: &Part) -> ReadKind {
     match part {
         Part::Key { quoted, .. } => {
@@ -106,7 +106,8 @@ fn unexpected_kind(part: &Part) -> ReadKind {
     }
 }
 
-/// The flow node at the front, in which at most `depth` nodes stand in each other, and the parts behind it; `end` is the fault that no part is left.
+/// The flow node at the front, with at most `depth` nested nodes, and the parts after it; `end` is the fault if no
+/// part is left.
 #[cycle(flow)]
 pub(crate) fn flow_node(
     alloc: Global,
@@ -145,7 +146,7 @@ pub(crate) fn flow_node(
     }
 }
 
-/// The items up to the bracket that closes them, and the parts behind it.
+/// The items up to the bracket that closes them, and the parts after it.
 #[cycle(flow)]
 fn flow_items(
     alloc: Global,
@@ -174,7 +175,7 @@ fn flow_items(
     }
 }
 
-/// The entries up to the brace that closes them, and the parts behind it.
+/// The entries up to the brace that closes them, and the parts after it.
 #[cycle(flow)]
 fn flow_entries(
     alloc: Global,
@@ -215,7 +216,7 @@ fn flow_entries(
     }
 }
 
-/// The fault that a node stands within 64 others.
+/// The fault of a node that is nested in 64 others.
 pub(crate) fn too_deep(line: usize) -> ReadFault {
     ReadFault {
         line,
@@ -223,8 +224,8 @@ pub(crate) fn too_deep(line: usize) -> ReadFault {
     }
 }
 
-/// The fault of what follows a flow node, behind which these parts are left, or `end` where none is. On the node's last line it is
-/// a form that the subset leaves out; a line below it can't stand there.
+/// The fault of what follows a flow node: these parts, or `end` if there are none. On the node's last line it is an
+/// unsupported form; a line below isn't allowed there.
 pub(crate) fn left_over(
     alloc: Global,
     tokens: &[Token],
@@ -247,7 +248,7 @@ pub(crate) fn left_over(
     fault
 }
 
-/// The line of the last part of a flow node, behind which these parts are left.
+/// The line of the last part of a flow node after which these parts are left.
 fn last_line(tokens: &[Token], left: &[Token]) -> usize {
     let count = tokens.len().saturating_sub(left.len());
     match tokens.get(count.saturating_sub(1)) {

@@ -16,7 +16,7 @@ pub(crate) fn no_keys(alloc: Global) -> HashSet<Vec<u8>>
     HashSet::new(alloc)
 }
 
-/// Adds a key, and tells whether it is new.
+/// Adds a key, and returns whether it is new.
 pub(crate) fn add_key(
     alloc: Global,
     keys: &mut HashSet<Vec<u8>>,

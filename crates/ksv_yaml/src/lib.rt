@@ -1,8 +1,12 @@
 //! Reads a subset of YAML 1.2 to a tree.
 //!
-//! [`read`] answers with a tree exactly where the text spells one, and with that one. What a text spells is a relation by cases on whole blocks of lines (`specs/Grammar`, `specs/Flow`); that no text spells two trees is the law [`one_tree`].
+//! Unless memory is refused, [`read`] returns a tree exactly if the text spells one, and then that one. What a text
+//! spells is a relation by cases on whole blocks of lines (`specs/Grammar`, `specs/Flow`); that no text spells two
+//! trees is the law [`one_tree`].
 //!
-//! The subset has block and flow mappings and sequences, compact items, plain and quoted scalars, block scalars, comments and one mark `---`. Anchors, aliases, tags, complex keys, directives and several documents are left out.
+//! The subset has block and flow mappings and sequences, compact items, plain and quoted scalars, block scalars,
+//! comments and one mark `---`. Anchors, aliases, tags, complex keys, directives and several documents are
+//! unsupported.
 #![tactic(auto)]
 
 mod block;

@@ -20,7 +20,7 @@ use ksv_yaml_scan::start::{InlineKind, Start, read_start};
 use ksv_yaml_tree::Yaml;
 use std::alloc::Global;
 
-/// What begins on a line, or in the midst of one, with this content.
+/// What begins on a line, or in the middle of one, with this content.
 pub(crate) fn start_at(alloc: Global, line: usize, content: &[u8]) -> Result<Start<'_>, ReadFault>
     ensures ok { IfOk result (λ s. start_of content.now ≡ start_view s) }
     ensures within { IfOk result (λ s. StartsWithin (length content.now) s) }
@@ -36,9 +36,10 @@ pub(crate) fn start_at(alloc: Global, line: usize, content: &[u8]) -> Result<Sta
     }
 }
 
-/// The scalar or flow node of this kind that begins on a line, and the lines behind it and the quiet ones that follow.
+/// The scalar or flow node of this kind that begins on a line, and the lines after it and the quiet ones that
+/// follow.
 ///
-/// It goes on over lines none of which stands before the column `floor`, and at most `depth` flow nodes stand in each other.
+/// It continues on lines none of which is before the column `floor`, with at most `depth` nested flow nodes.
 pub(crate) fn scalar<'a, 'b>(
     alloc: Global,
     depth: u32,
@@ -65,7 +66,7 @@ pub(crate) fn scalar<'a, 'b>(
     }
 }
 
-/// The flow node that begins on a line, and the lines behind it and the quiet ones that follow.
+/// The flow node that begins on a line, and the lines after it and the quiet ones that follow.
 fn flow<'a, 'b>(
     alloc: Global,
     depth: u32,
@@ -95,7 +96,8 @@ fn flow<'a, 'b>(
     Ok((tree, behind))
 }
 
-/// The fault of a flow node that ends with these lines before it is closed: it stands on the next line, or at the end of the text.
+/// The fault of a flow node that ends with these lines before it is closed: it is on the next line, or at the end
+/// of the text.
 fn not_closed(first: Line, lines: &[Line], behind: &[Line]) -> ReadFault {
     let line = match behind.first() {
         Some(next) => next.number,
@@ -110,7 +112,7 @@ fn not_closed(first: Line, lines: &[Line], behind: &[Line]) -> ReadFault {
     }
 }
 
-/// The fault of a flow node with the kind that it has where the node was cut short by a line that isn't deep enough.
+/// The fault of a flow node, with its kind if the node was cut short by a line that isn't deep enough.
 fn named(alloc: Global, fault: ReadFault, behind: &[Line], open: Option<&Open>) -> ReadFault
     ensures { wants_memory fault.kind ≡ true → wants_memory result.kind ≡ true }
 {
