@@ -9,3 +9,9 @@ returns-in-Meta c =
     c.form_among-in-Meta.ensures
     ∙ ap (λ keys. form_in (map seen_key keys) c.args.key.now) c.as_slice-in-Meta.ensures
     ∙ ap (λ table. form_in (keys_of table) c.args.key.now) (sym c.in-Meta.is)
+
+pub returns-in-Value : goal.returns-in-Value
+returns-in-Value c =
+    c.form_among-in-Value.ensures
+    ∙ ap (λ keys. form_in (map seen_key keys) c.args.key.now) c.as_slice-in-Value.ensures
+    ∙ ap (λ table. form_in (keys_of table) c.args.key.now) (sym c.in-Value.is)
