@@ -1,4 +1,5 @@
 -- Paths as texts, and which descriptions are served.
 pub mod PathTexts
+pub mod Laws
 pub mod Served
 pub mod ServedCode
