@@ -1,5 +1,5 @@
 -- No expression fails as a circle: that is a fault of nodes alone.
-use Rattle.std.proofs.Common.{ℕ, ◌-◌, ◌+◌, Bool, true, false, ◌==◌, nat_lt, if◌then◌else◌, ℤ, pos, negsuc, List, [], ◌∷◌, Option, Some, None, Result, Ok, Err}
+use Rattle.std.proofs.Common.{codes, bytes_eq, ℕ, ◌-◌, ◌+◌, Bool, true, false, ◌==◌, nat_lt, if◌then◌else◌, ℤ, pos, negsuc, List, [], ◌∷◌, Option, Some, None, Result, Ok, Err}
 use Rattle.std.specs.Ordering.{int_eq}
 use Rattle.std.specs.declared.cmp.Ordering.{Ordering}
 use Rattle.ksv_plan.specs.Plan.{Plan, Answer, Fail, Ask, bind, translate}
@@ -21,14 +21,12 @@ use Rattle.ksv_expr_value.specs.declared.step.Step.TheVariants as steps
 use Rattle.ksv_expr_value.specs.declared.value.Stream.{Stream}
 use Rattle.ksv_expr_value.specs.declared.value.Value.{Value}
 use Rattle.ksv_expr_value.specs.declared.value.Value.TheVariants as values
-use Rattle.ksv_expr_eval.specs.declared.method.Method.{Method}
-use Rattle.ksv_expr_eval.specs.declared.method.Method.TheVariants as methods
 use Rattle.ksv_expr_eval.specs.declared.want.Want.{Want}
 use Rattle.ksv_expr_eval.specs.declared.want.Want.TheVariants as wants
 use Rattle.ksv_expr_eval.specs.Methods.{method_named}
 use Rattle.ksv_expr_eval.specs.Integers.{floored_quotient, floored_remainder, shifted_left, shifted_right, places}
 use Rattle.ksv_expr_eval.specs.Texts.{joined, substring, exact, number_of, text_number, written_in}
-use Rattle.ksv_expr_eval.specs.Operators.{exactly, quotient_of, remainder_of, shifted_left_by, shifted_right_by, matched, ordered, integers_of, same_truth, joined_text, texts_of, members_of, integer_with, truth_with, unary_of, as_value, integer_method, truth_method, text_method, bytes_method, member_method, substring_of, text_call_one, text_call_two}
+use Rattle.ksv_expr_eval.specs.Operators.{exactly, quotient_of, remainder_of, shifted_left_by, shifted_right_by, matched, ordered, integers_of, same_truth, joined_text, texts_of, members_of, integer_with, truth_with, unary_of, as_value, substring_of}
 use Rattle.ksv_expr_eval.specs.Heard.{Setting, Valued, Opened, Numbered, Decided, Read}
 use Rattle.ksv_expr_eval.specs.Asked.{Eval, raise, given, value_for, opened_for, number_for, truth_for, bytes_for}
 use Rattle.ksv_expr_eval.specs.Meaning.{in_path, member_path, member_value, element_path, element_value, element_count, holder_of, stream_of, index_value, element_read, special_value, ranged_member, enum_member, in_truth_value, truth_value, decides, same_bytes, bytes_with, integer_and, truth_and, text_and, bytes_and, member_and, binary_of, distance, size_to, stream_size, at_end, stream_method, list_size, last_element, list_method, method_of, method_by, field_of, is_own_stream, object_special, special_of, decoded_text, decoded_by, text_in, bytes_call, call_one, call_two, first_byte, byte_from, byte_at, list_at, bytes_at, item_at, object_of_type, object_as, cast_to, value_of}
@@ -162,39 +160,9 @@ number_own radix t = by_number (written_in radix t)
     by_number None = tt
     by_number (Some z) = as_own (exact z) (exact_own z)
 
-integer_method_own : (m : Method) (a : ℤ) → OwnResult (integer_method m a)
-integer_method_own methods.ToText a = tt
-integer_method_own _ a = tt
-
-truth_method_own : (m : Method) (b : Bool) → OwnResult (truth_method m b)
-truth_method_own methods.ToInteger b = tt
-truth_method_own _ b = tt
-
-text_method_own : (m : Method) (t : List ℕ) → OwnResult (text_method m t)
-text_method_own methods.Length t = tt
-text_method_own methods.Reverse t = tt
-text_method_own methods.ToInteger t = number_own (pos 10) t
-text_method_own _ t = tt
-
-bytes_method_own : (m : Method) (f t : ℕ) → OwnResult (bytes_method m f t)
-bytes_method_own methods.Length f t = tt
-bytes_method_own _ f t = tt
-
-member_method_own : (m : Method) (n : ℤ) → OwnResult (member_method m n)
-member_method_own methods.ToInteger n = tt
-member_method_own _ n = tt
-
 substring_own : (t : Option (List ℕ)) → OwnResult (substring_of t)
 substring_own None = tt
 substring_own (Some t) = tt
-
-text_call_one_own : (m : Method) (t : List ℕ) (v : Value) → OwnResult (text_call_one m t v)
-text_call_one_own methods.ToInteger t (values.Int radix) = number_own radix t
-text_call_one_own _ t v = tt
-
-text_call_two_own : (m : Method) (t : List ℕ) (v w : Value) → OwnResult (text_call_two m t v w)
-text_call_two_own methods.Substring t (values.Int i) (values.Int j) = substring_own (substring t i j)
-text_call_two_own _ t v w = tt
 
 given_own : {A : Type 0} (r : Result A FaultKind) → OwnResult r → Own (given r)
 given_own (Ok a) h = tt
@@ -336,7 +304,7 @@ binary_own op (values.Bytes f t) w = bytes_and_own op f t w
 binary_own op (values.Member e m) w = member_and_own op e m w
 binary_own op _ w = tt
 
--- ---- behind a dot
+-- ---- after a dot
 
 distance_own : (end start : ℕ) → Own (distance end start)
 distance_own end start = given_own _ (exactly_own _)
@@ -353,13 +321,6 @@ end_own : Own at_end
 unfolding at_end
 end_own = join _ _ (truth_for_own wants.Done) (λ b. tt)
 
-stream_method_own : (s : Setting) (own : Bool) (w : Stream) (m : Method) → Own (stream_method s own w m)
-unfolding stream_method
-stream_method_own s own w methods.Size = stream_size_own w
-stream_method_own s own w methods.Place = choose own _ _ (distance_own s.place w.from) tt
-stream_method_own s own w methods.IsAtEnd = choose own _ _ end_own tt
-stream_method_own s own w _ = tt
-
 list_size_own : (l : Trail) → Own (list_size l)
 unfolding list_size
 list_size_own l = join _ _ (count_own l) (λ n. tt)
@@ -368,38 +329,39 @@ last_own : (l : Trail) → Own (last_element l)
 unfolding last_element
 last_own l = join _ _ (count_own l) (λ n. element_own l _)
 
-list_method_own : (l : Trail) (m : Method) → Own (list_method l m)
-unfolding list_method
-list_method_own l methods.First = element_own l (pos 0)
-list_method_own l methods.Last = last_own l
-list_method_own l methods.Size = list_size_own l
-list_method_own l _ = tt
+-- what holds of no method and of each, by their names, holds of the method of any name
+by_method : (P : Option _ → Type 0) (name : List ℕ) → P None → P (method_named (codes "first")) → P (method_named (codes "last")) → P (method_named (codes "size")) → P (method_named (codes "length")) → P (method_named (codes "reverse"))
+    → P (method_named (codes "substring")) → P (method_named (codes "to_i")) → P (method_named (codes "to_s")) → P (method_named (codes "pos")) → P (method_named (codes "eof")) → P (method_named name)
+by_method P name none first last size length reverse part integer text place end =
+    pick (bytes_eq name (codes "first")) _ _ first (pick (bytes_eq name (codes "last")) _ _ last (pick (bytes_eq name (codes "size")) _ _ size (pick (bytes_eq name (codes "length")) _ _ length
+    (pick (bytes_eq name (codes "reverse")) _ _ reverse (pick (bytes_eq name (codes "substring")) _ _ part (pick (bytes_eq name (codes "to_i")) _ _ integer (pick (bytes_eq name (codes "to_s")) _ _ text
+    (pick (bytes_eq name (codes "pos")) _ _ place (pick (bytes_eq name (codes "eof")) _ _ end none)))))))))
+  where
+    pick : (b : Bool) (x y : Option _) → P x → P y → P (if b then x else y)
+    pick true x y p q = p
+    pick false x y p q = q
 
-method_own : (s : Setting) (own : Bool) (v : Value) (m : Method) → Own (method_of s own v m)
-unfolding method_of
-method_own s own (values.Int a) m = given_own _ (integer_method_own m a)
-method_own s own (values.Bool b) m = given_own _ (truth_method_own m b)
-method_own s own (values.Text t) m = given_own _ (text_method_own m t)
-method_own s own (values.Bytes f t) m = given_own _ (bytes_method_own m f t)
-method_own s own (values.Member e n) m = given_own _ (member_method_own m n)
-method_own s own (values.Object q) m = tt
-method_own s own (values.List l) m = list_method_own l m
-method_own s own (values.Stream w) m = stream_method_own s own w m
-
-method_by_own : (s : Setting) (own : Bool) (v : Value) (m : Option Method) → Own (method_by s own v m)
-method_by_own s own v None = tt
-method_by_own s own v (Some m) = method_own s own v m
+method_own : (s : Setting) (own : Bool) (v : Value) (name : List ℕ) → Own (method_by s own v (method_named name))
+unfolding method_of list_method stream_method
+method_own s own (values.Int a) name = by_method (λ m. Own (method_by s own (values.Int a) m)) name tt tt tt tt tt tt tt tt tt tt tt
+method_own s own (values.Bool b) name = by_method (λ m. Own (method_by s own (values.Bool b) m)) name tt tt tt tt tt tt tt tt tt tt tt
+method_own s own (values.Text t) name = by_method (λ m. Own (method_by s own (values.Text t) m)) name tt tt tt tt tt tt tt (given_own _ (number_own (pos 10) t)) tt tt tt
+method_own s own (values.Bytes f t) name = by_method (λ m. Own (method_by s own (values.Bytes f t) m)) name tt tt tt tt tt tt tt tt tt tt tt
+method_own s own (values.Member e n) name = by_method (λ m. Own (method_by s own (values.Member e n) m)) name tt tt tt tt tt tt tt tt tt tt tt
+method_own s own (values.Object q) name = by_method (λ m. Own (method_by s own (values.Object q) m)) name tt tt tt tt tt tt tt tt tt tt tt
+method_own s own (values.List l) name = by_method (λ m. Own (method_by s own (values.List l) m)) name tt (element_own l (pos 0)) (last_own l) (list_size_own l) tt tt tt tt tt tt tt
+method_own s own (values.Stream w) name = by_method (λ m. Own (method_by s own (values.Stream w) m)) name tt tt tt (stream_size_own w) tt tt tt tt tt (choose own _ _ (distance_own s.place w.from) tt) (choose own _ _ end_own tt)
 
 field_own : (s : Setting) (own : Bool) (v : Value) (n : Word) → Own (field_of s own v n)
 unfolding field_of
 field_own s own (values.Object q) n = member_own q n.number
-field_own s own (values.Int a) n = method_by_own s own (values.Int a) (method_named n.text)
-field_own s own (values.Bool b) n = method_by_own s own (values.Bool b) (method_named n.text)
-field_own s own (values.Text t) n = method_by_own s own (values.Text t) (method_named n.text)
-field_own s own (values.Bytes f t) n = method_by_own s own (values.Bytes f t) (method_named n.text)
-field_own s own (values.Member e m) n = method_by_own s own (values.Member e m) (method_named n.text)
-field_own s own (values.List l) n = method_by_own s own (values.List l) (method_named n.text)
-field_own s own (values.Stream w) n = method_by_own s own (values.Stream w) (method_named n.text)
+field_own s own (values.Int a) n = method_own s own (values.Int a) n.text
+field_own s own (values.Bool b) n = method_own s own (values.Bool b) n.text
+field_own s own (values.Text t) n = method_own s own (values.Text t) n.text
+field_own s own (values.Bytes f t) n = method_own s own (values.Bytes f t) n.text
+field_own s own (values.Member e m) n = method_own s own (values.Member e m) n.text
+field_own s own (values.List l) n = method_own s own (values.List l) n.text
+field_own s own (values.Stream w) n = method_own s own (values.Stream w) n.text
 
 object_special_own : (q : Trail) (n : SpecialName) → Own (object_special q n)
 object_special_own q specials.Root = tt
@@ -424,23 +386,32 @@ text_in_own : (f t : ℕ) (e : List ℕ) → Own (text_in f t e)
 unfolding text_in
 text_in_own f t e = join _ _ (bytes_for_own (wants.Bytes f t)) (λ bs. decoded_by_own (encoding_named e) bs)
 
-bytes_call_own : (m : Method) (f t : ℕ) (a : Value) → Own (bytes_call m f t a)
-unfolding bytes_call
-bytes_call_own methods.ToText f t (values.Text e) = text_in_own f t e
-bytes_call_own _ f t a = tt
+-- a method with one value in parentheses, and with two
+to_text_own : (f t : ℕ) (a : Value) → Own (call_one (values.Bytes f t) (method_named (codes "to_s")) a)
+unfolding call_one bytes_call
+to_text_own f t (values.Text e) = text_in_own f t e
+to_text_own f t _ = tt
 
-call_one_own : (v : Value) (m : Option Method) (a : Value) → Own (call_one v m a)
+to_integer_own : (t : List ℕ) (a : Value) → Own (call_one (values.Text t) (method_named (codes "to_i")) a)
 unfolding call_one
-call_one_own v None a = tt
-call_one_own (values.Text t) (Some m) a = given_own _ (text_call_one_own m t a)
-call_one_own (values.Bytes f t) (Some m) a = bytes_call_own m f t a
-call_one_own v (Some m) a = tt
+to_integer_own t (values.Int radix) = given_own _ (number_own radix t)
+to_integer_own t _ = tt
 
-call_two_own : (v : Value) (m : Option Method) (a b : Value) → Own (call_two v m a b)
+between_own : (t : List ℕ) (a b : Value) → Own (call_two (values.Text t) (method_named (codes "substring")) a b)
 unfolding call_two
-call_two_own v None a b = tt
-call_two_own (values.Text t) (Some m) a b = given_own _ (text_call_two_own m t a b)
-call_two_own v (Some m) a b = tt
+between_own t (values.Int i) (values.Int j) = given_own _ (substring_own (substring t i j))
+between_own t _ b = tt
+
+call_one_own : (v : Value) (name : List ℕ) (a : Value) → Own (call_one v (method_named name) a)
+unfolding call_one bytes_call
+call_one_own (values.Text t) name a = by_method (λ m. Own (call_one (values.Text t) m a)) name tt tt tt tt tt tt tt (to_integer_own t a) tt tt tt
+call_one_own (values.Bytes f t) name a = by_method (λ m. Own (call_one (values.Bytes f t) m a)) name tt tt tt tt tt tt tt tt (to_text_own f t a) tt tt
+call_one_own v name a = by_method (λ m. Own (call_one v m a)) name tt tt tt tt tt tt tt tt tt tt tt
+
+call_two_own : (v : Value) (name : List ℕ) (a b : Value) → Own (call_two v (method_named name) a b)
+unfolding call_two
+call_two_own (values.Text t) name a b = by_method (λ m. Own (call_two (values.Text t) m a b)) name tt tt tt tt tt tt (between_own t a b) tt tt tt tt
+call_two_own v name a b = by_method (λ m. Own (call_two v m a b)) name tt tt tt tt tt tt tt tt tt tt tt
 
 first_byte_own : (bs : List ℕ) → Own (first_byte bs)
 first_byte_own [] = tt
@@ -499,8 +470,8 @@ value_own s (choice c y n) = join _ _ (value_own s c) (λ v. join _ _ (truth_own
 value_own s (field e n) = join _ _ (value_own s e) (λ v. field_own s (is_own_stream e) v n)
 value_own s (special_field e n) = join _ _ (value_own s e) (λ v. special_of_own v n)
 value_own s (call e m no_arguments) = tt
-value_own s (call e m (argument a no_arguments)) = join _ _ (value_own s e) (λ v. join _ _ (value_own s a) (λ x. call_one_own v (method_named m) x))
-value_own s (call e m (argument a (argument b no_arguments))) = join _ _ (value_own s e) (λ v. join _ _ (value_own s a) (λ x. join _ _ (value_own s b) (λ y. call_two_own v (method_named m) x y)))
+value_own s (call e m (argument a no_arguments)) = join _ _ (value_own s e) (λ v. join _ _ (value_own s a) (λ x. call_one_own v m x))
+value_own s (call e m (argument a (argument b no_arguments))) = join _ _ (value_own s e) (λ v. join _ _ (value_own s a) (λ x. join _ _ (value_own s b) (λ y. call_two_own v m x y)))
 value_own s (call e m (argument a (argument b (argument c more)))) = tt
 value_own s (index e i) = join _ _ (value_own s e) (λ v. join _ _ (value_own s i) (λ w. item_own v w))
 value_own s (cast e t) = join _ _ (value_own s e) (λ v. cast_own v t.number)

@@ -1,4 +1,4 @@
--- Each place in an answer is one of the file.
+-- Each place in an answer lies in the file.
 use Rattle.std.proofs.Common.{◌≡◌, ◌∙◌, ℕ, zero, suc, ◌+◌, ◌-◌, ◌==◌, ◌≤◌, Bool, true, false, if◌then◌else◌, ◌||◌, List, [], ◌∷◌, length, Option, Some, None, Result, Ok, Err, refl, sym, ap, subst, arith}
 use Rattle.std.specs.Prelude.{slice_range}
 use Rattle.std.proofs.lemmas.Bool.Decides.{nat_tests}
@@ -60,10 +60,10 @@ module _ (met : Node → Result Given Fault) (here : Trail) (bytes : List ℕ) (
   -- ---- readings
 
   reached : (w : Stream) (t : ℕ) (x : Unit {0}) → answer (reach w t) ≡ Ok x → t ≤ size
+  unfolding reach_within reach_file
   reached w t x e = by_end w.to e
     where
       by_end : (to : Option ℕ) → with_seen here (reach_within bytes to t).seen (λ y. Ok y) ≡ Ok x → t ≤ length bytes
-      unfolding reach_within reach_file
       by_end None h = grind (arith, nat_tests, common_steps)
       by_end (Some end) h = grind (arith, nat_tests, common_steps)
 
@@ -72,10 +72,10 @@ module _ (met : Node → Result Given Fault) (here : Trail) (bytes : List ℕ) (
   end_is_in (Some end) h = h
 
   finished : (w : Stream) (e : ℕ) → IsEndIn size w.to → answer (finish w) ≡ Ok e → e ≤ size
+  unfolding finish_of
   finished w e within h = by_end w.to within h
     where
       by_end : (to : Option ℕ) → IsEndIn (length bytes) to → with_seen here (finish_of bytes to).seen (λ y. Ok y) ≡ Ok e → e ≤ length bytes
-      unfolding finish_of
       by_end None k h' = let same : length bytes ≡ e = ok_is (length bytes) e h' in omega arith
       by_end (Some end) k h' = let same : end ≡ e = ok_is end e h' in omega arith
 
@@ -84,7 +84,7 @@ module _ (met : Node → Result Given Fault) (here : Trail) (bytes : List ℕ) (
   IsFoundIn (founds.Missing e) = e ≤ size
 
   found : (w : Stream) (s b : ℕ) (q : Found) → IsEndIn size w.to → answer (find w s b) ≡ Ok q → IsFoundIn q
-  unfolding find_at found_from
+  unfolding find_at found_from found_none
   found w s b q within h = by_place (first_at b (slice_range bytes s (end_in bytes w.to))) refl h
     where
       missing : (o : Option (List ℕ)) → with_seen here (elim o [ None ↦ None | Some bs ↦ Some (founds.Missing (end_in bytes w.to)) ]) (λ y. Ok y) ≡ Ok q → IsFoundIn q
@@ -92,7 +92,6 @@ module _ (met : Node → Result Given Fault) (here : Trail) (bytes : List ℕ) (
       missing (Some bs) h' = subst IsFoundIn (ok_is (founds.Missing (end_in bytes w.to)) q h') (end_is_in w.to within)
 
       by_place : (o : Option ℕ) → first_at b (slice_range bytes s (end_in bytes w.to)) ≡ o → with_seen here (found_from bytes w.to s (end_in bytes w.to) o).seen (λ y. Ok y) ≡ Ok q → IsFoundIn q
-      unfolding found_from found_none
       by_place (Some i) is h' =
           let inside = range_reaches bytes s (end_in bytes w.to) i (first_at_below b (slice_range bytes s (end_in bytes w.to)) i is) in
           subst IsFoundIn (ok_is (founds.At (s + i)) q h') inside
@@ -289,7 +288,6 @@ module _ (met : Node → Result Given Fault) (here : Trail) (bytes : List ℕ) (
   object_end_in d p o endings.ByFields e within le h = by_last (last_attribute None (members_of d o.type_number)) h
     where
       by_last : (z : Option ℕ) → answer_of met here bytes (fields_end p o.start z) ≡ Ok e → e ≤ length bytes
-      unfolding fields_end
       by_last None h' = place_is o.start e within.0 h'
       by_last (Some z) h' =
           let b = goes_on met here bytes (part_end p (steps.Name z)) (λ x. Answer x.place) e h' in

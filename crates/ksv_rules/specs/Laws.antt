@@ -116,7 +116,7 @@ pub record EndsBefore (d : Description) (bytes : List ℕ) (opened : List Node) 
   pub path : child (parent p) (Index i) ≡ Some before
   pub ended : from_nothing d bytes opened (end_node before) ≡ Ok (givens.End (start_of h) false)
 
--- An element behind another begins where that one ends.
+-- An element after another begins where that one ends.
 abbrev pub ElementsTouch : Type 0
 ElementsTouch = (d : Description) (bytes : List ℕ) (opened : List Node) (p : Trail) (i : ℕ) (h : Head) → last p ≡ Some (Index (i + 1)) → from_nothing d bytes opened (head_node p) ≡ Ok (givens.Head h) → EndsBefore d bytes opened p i h
 
@@ -132,7 +132,7 @@ abbrev pub IsObjectEndIn : ℕ → ObjectEnd → Type 0
 IsObjectEndIn size (endings.At e) = e ≤ size
 IsObjectEndIn size _ = Unit {0}
 
--- each place in a head, in a value and in any answer: it is one of the file, or the end of it
+-- each place in a head, in a value and in any answer: it is a place of a byte, or the end of the file
 abbrev pub IsHeadIn : ℕ → Head → Type 0
 IsHeadIn size (heads.Absent at) = IsEndIn size at
 IsHeadIn size (heads.Leaf l) = (l.from ≤ size) × (l.to ≤ size) × (l.end ≤ size)
@@ -149,6 +149,6 @@ IsIn size (givens.Value v) = IsValueIn size v
 IsIn size (givens.End place last) = place ≤ size
 IsIn size (givens.Rest count place) = place ≤ size
 
--- Each place in an answer is one of the file's, or its end: nothing is read, begins or ends behind it.
+-- Each place in an answer lies in the file: nothing begins or ends after its last byte.
 abbrev pub PlacesAreInFile : Type 0
 PlacesAreInFile = (d : Description) (bytes : List ℕ) (opened : List Node) (n : Node) (g : Given) → from_nothing d bytes opened n ≡ Ok g → IsIn (length bytes) g

@@ -43,12 +43,12 @@ pub fn circles_lead_back()
     ensures { CirclesLeadBack }
 {}
 
-/// An element behind another begins where that one ends, which isn't the last.
+/// An element after another begins where that one ends, which isn't the last.
 pub fn elements_touch()
     ensures { ElementsTouch }
 {}
 
-/// Each place in an answer is one of the file's, or its end.
+/// Each place in an answer lies in the file.
 pub fn places_are_in_file()
     ensures { PlacesAreInFile }
 {}
