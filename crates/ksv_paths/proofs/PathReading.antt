@@ -29,7 +29,7 @@ use Rattle.ksv_paths.proofs.PathTexts.{path_is}
 
 -- ---- bytes
 
--- bytes of ids and digits stand behind the slash in ASCII
+-- in ASCII, bytes of ids and digits come after the slash
 id_byte : (c : ℕ) → is_id_byte c ≡ true → (47 < c) × (c < 128)
 id_byte c h = (grind (arith, nat_tests), grind (arith, nat_tests))
 
@@ -129,7 +129,7 @@ module _ (d : Description) (table : HasIds d) where
 digits : IsNumeralModel (λ ds. list_all is_ascii_digit ds ≡ true) (digits_value 10)
 digits = numerals_by_value _ (search rules)
 
--- no zero stands in front
+-- a number has no zero in front, unless it is 0
 plain : (i : ℕ) → i < 2 ^ 64 → (length (decimal i) == 1 || not (slice_index (decimal i) 0 == 48)) ≡ true
 plain i small = elim (cases_lt 0 i) [
   | inl some ↦ (let first = first_decimal i some small in let other : (slice_index (decimal i) 0 == 48) ≡ false = grind (arith, nat_tests) in rw other (or_true (length (decimal i) == 1)))
@@ -145,20 +145,23 @@ decimal_is text i all some value small =
     let short : digits_value 10 text < 2 ^ 64 = omega arith in
     rw (all, lt-ltb 0 (length text) some, lt-ltb (digits_value 10 text) (2 ^ 64) short) (ap Some value)
 
-index_is_read : (i : ℕ) → i < 1048576 → index_of (decimal i) ≡ Some i
-index_is_read i lt =
-    let small : i < 2 ^ 64 = omega arith in
-    let is : decimal_of (decimal i) ≡ Some i = decimal_is (decimal i) i (digits_decimal digits i small) (decimal_nonempty i small) (digits_value-decimal digits i small) small in
-    ap (λ b. if b then below_limit (decimal_of (decimal i)) else None) (plain i small) ∙ ap below_limit is ∙ ap (λ b. if b then Some i else None) (lt-ltb i 1048576 lt)
+index_small : (i : ℕ) → step_fits (Index i) ≡ true → i < 2 ^ 64
+index_small i fit = grind (arith, nat_tests)
 
-index_piece : (d : Description) → HasIds d → (i : ℕ) → i < 1048576 → IsPiece d (Index i)
-index_piece d table i lt =
-    let small : i < 2 ^ 64 = omega arith in
+index_is_read : (i : ℕ) → step_fits (Index i) ≡ true → index_of (decimal i) ≡ Some i
+index_is_read i fit =
+    let small = index_small i fit in
+    let is : decimal_of (decimal i) ≡ Some i = decimal_is (decimal i) i (digits_decimal digits i small) (decimal_nonempty i small) (digits_value-decimal digits i small) small in
+    ap (λ b. if b then below_limit (decimal_of (decimal i)) else None) (plain i small) ∙ ap below_limit is ∙ ap (λ b. if b then Some i else None) fit
+
+index_piece : (d : Description) → HasIds d → (i : ℕ) → step_fits (Index i) ≡ true → IsPiece d (Index i)
+index_piece d table i fit =
+    let small = index_small i fit in
     let all = digits_decimal digits i small in
     record {
       some = decimal_nonempty i small;
       whole = λ k e h. not_slash (get_or (decimal i) k e) (digit_byte (get_or (decimal i) k e) (AllPass-from_list_all is_ascii_digit (decimal i) all k e h));
-      named = ap (λ o. name_or_index o (decimal i)) (no_name d table (decimal i) all) ∙ ap (option_map Index) (index_is_read i lt);
+      named = ap (λ o. name_or_index o (decimal i)) (no_name d table (decimal i) all) ∙ ap (option_map Index) (index_is_read i fit);
     }
 
 -- ---- the pieces of a path
@@ -169,7 +172,7 @@ pieces d table (step ∷ steps) known fit = (one step known.0 (first_so (step_fi
   where
     one : (s : Step) → IsKnown d s → step_fits s ≡ true → IsPiece d s
     one (Name n) lt e = name_piece d table n lt
-    one (Index i) lt e = index_piece d table i (grind (arith, nat_tests))
+    one (Index i) lt e = index_piece d table i e
 
 all_push : {A : Type 0} (P : A → Type 0) (xs : List A) (x : A) → AllByRecursion P xs → P x → AllByRecursion P (xs ++ x ∷ [])
 all_push P [] x h p = (p, tt)

@@ -9,7 +9,7 @@ use Rattle.ksv_desc.specs.Names.{AreDistinct}
 use Rattle.ksv_desc.specs.Description.{Description, name}
 use Rattle.ksv_paths.specs.PathTexts.{path_text, path_named}
 
--- an id of the Kaitai Struct User Guide: a letter a to z, and behind it letters, digits and `_`
+-- an id of the Kaitai Struct User Guide: a letter a to z, and then letters, digits and `_`
 abbrev pub is_letter : ℕ → Bool
 is_letter c = nat_le 97 c && nat_le c 122
 

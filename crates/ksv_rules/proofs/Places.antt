@@ -334,7 +334,7 @@ module _ (met : Node → Result Given Fault) (here : Trail) (bytes : List ℕ) (
     where
       by_last : (b : Bool) {place : ℕ} → place ≤ length bytes → answer_of met here bytes (if b then Answer (record { count = i + 1; place = place }) else next_rest l i) ≡ Ok x → x.place ≤ length bytes
       by_last true {place} le z' = rested_is (record { count = i + 1; place = place }) x le z'
-      by_last false {place} le z' = part_rest_lies l (steps.Index (i + 1)) x (refused met here bytes (i + 1 == 1048576) (part_rest l (steps.Index (i + 1))) kinds.TooMany x z')
+      by_last false {place} le z' = part_rest_lies l (steps.Index (i + 1)) x (refused met here bytes _ (part_rest l (steps.Index (i + 1))) kinds.TooMany x z')
 
   whole_rest_in : (p l : Trail) (x : Rested) → answer (whole_rest p l) ≡ Ok x → x.place ≤ size
   unfolding whole_rest
