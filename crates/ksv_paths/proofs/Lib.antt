@@ -4,3 +4,4 @@ pub mod Digits
 pub mod PathTexts
 pub mod PathSpelling
 pub mod ServedForms
+pub mod PathReading

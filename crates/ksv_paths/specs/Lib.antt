@@ -1,3 +1,4 @@
 -- Paths as texts, and which descriptions are served.
 pub mod PathTexts
+pub mod Laws
 pub mod Served

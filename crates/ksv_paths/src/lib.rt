@@ -8,6 +8,6 @@ mod laws;
 mod path_text;
 mod serving;
 
-pub use laws::texts_are_written;
+pub use laws::{paths_are_read, texts_are_written};
 pub use path_text::{decimal, path_of};
 pub use serving::served;

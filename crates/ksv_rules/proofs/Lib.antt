@@ -2,5 +2,10 @@
 pub mod Evaluating
 pub mod Direct
 pub mod Meeting
+pub mod Forms
+pub mod OwnFaults
+pub mod Circles
+pub mod Touching
+pub mod Places
 pub mod Integers
 pub mod Peeked

@@ -14,4 +14,5 @@ pub mod Described
 pub mod Bounds
 pub mod Lawful
 pub mod Direct
+pub mod Laws
 pub mod Code

@@ -1,6 +1,7 @@
 //! Laws of the rules of a description, each a contract of a function that does nothing.
 
 ghost use Rattle.ksv_rules.specs.Direct.{AnswersAreDirect, AsksAreDirect, AnswersFollowRules, NextMeetsTruth};
+ghost use Rattle.ksv_rules.specs.Laws.{AnswersHaveForms, AnswersStay, ValuesHaveHeads, NoRuleMakesCircles, CirclesLeadBack, ElementsTouch, PlacesAreInFile};
 
 /// Evaluation from nothing by replies, as an engine has it, is evaluation from nothing by direct recursion on the rules: what a
 /// node answers, what it asks, and what it uses.
@@ -14,4 +15,40 @@ pub fn evaluation_is_direct()
 /// of its rule; what it uses is what the rule uses.
 pub fn next_meets_truth()
     ensures { NextMeetsTruth }
+{}
+
+/// An answer that is no fault has its node's form, and a value is no stream.
+pub fn answers_have_forms()
+    ensures { AnswersHaveForms }
+{}
+
+/// With fewer nodes open, a node gives the same answer, unless it was a fault.
+pub fn answers_stay()
+    ensures { AnswersStay }
+{}
+
+/// A value is one of the head at its path: of a leaf an integer, a member, a text or bytes of it; of an object and a list its path.
+pub fn values_have_heads()
+    ensures { ValuesHaveHeads }
+{}
+
+/// No rule makes a circle: a fault of this kind is the answer of a node that the rule asks.
+pub fn no_rule_makes_circles()
+    ensures { NoRuleMakesCircles }
+{}
+
+/// A node answers the fault circle just where nodes that ask one another lead from it to one that is open, and the fault is at the
+/// path of that one.
+pub fn circles_lead_back()
+    ensures { CirclesLeadBack }
+{}
+
+/// An element after another begins where that one ends, which isn't the last.
+pub fn elements_touch()
+    ensures { ElementsTouch }
+{}
+
+/// Each place in an answer lies in the file.
+pub fn places_are_in_file()
+    ensures { PlacesAreInFile }
 {}

@@ -1,0 +1,154 @@
+-- Laws of what nodes answer. They speak of the definitions alone: an error that a rule and its function had in common would break
+-- them. These laws are this project's own.
+use Rattle.std.specs.Prelude.{◌≡◌, ◌↔◌, ℕ, ◌+◌, ◌≤◌, true, false, List, [], ◌∷◌, Contains, length, Option, Some, None, Result, Ok, Err}
+use Rattle.ksv_expr_value.specs.Trail.{Trail, child, parent, last}
+use Rattle.ksv_expr_value.specs.declared.step.Step.TheVariants.{Index}
+use Rattle.ksv_expr_value.specs.declared.fault.Fault.{Fault}
+use Rattle.ksv_expr_value.specs.declared.fault.FaultKind.TheVariants as kinds
+use Rattle.ksv_expr_value.specs.declared.value.Value.{Value}
+use Rattle.ksv_expr_value.specs.declared.value.Value.TheVariants as values
+use Rattle.ksv_desc.specs.Description.{Description}
+use Rattle.ksv_memo.specs.Evaluation.{is_among}
+use Rattle.ksv_memo.specs.Meaning.{on}
+use Rattle.ksv_memo.specs.Right.{AreDistinct}
+use Rattle.ksv_nodes.specs.declared.node.Node.{Node}
+use Rattle.ksv_nodes.specs.declared.node.NodeKind.{NodeKind}
+use Rattle.ksv_nodes.specs.declared.node.NodeKind.TheVariants as nodes
+use Rattle.ksv_nodes.specs.declared.given.Given.{Given}
+use Rattle.ksv_nodes.specs.declared.given.Given.TheVariants as givens
+use Rattle.ksv_nodes.specs.declared.given.Head.{Head}
+use Rattle.ksv_nodes.specs.declared.given.Head.TheVariants as heads
+use Rattle.ksv_nodes.specs.declared.given.Leaf.{Leaf}
+use Rattle.ksv_nodes.specs.declared.given.ObjectEnd.{ObjectEnd}
+use Rattle.ksv_nodes.specs.declared.given.ObjectEnd.TheVariants as endings
+use Rattle.ksv_nodes.specs.Numbers.{node_number}
+use Rattle.ksv_nodes.specs.Rule.{head_node, value_node, end_node}
+use Rattle.ksv_nodes.specs.Truth.{answer_of, asks_of}
+use Rattle.ksv_nodes.specs.Turning.{fault_at}
+use Rattle.ksv_rules.specs.Ends.{start_of}
+use Rattle.ksv_rules.specs.Meaning.{rule_of}
+use Rattle.ksv_rules.specs.FromNothing.{from_nothing, asks}
+use Rattle.ksv_rules.specs.Described.{described}
+
+-- ---- forms
+
+-- only an expression that names a stream gives one
+abbrev pub IsNoStream : Value → Type 0
+IsNoStream (values.Stream w) = ⊥
+IsNoStream _ = Unit {0}
+
+-- the form of each kind of node; a value is no stream
+abbrev pub HasForm : NodeKind → Given → Type 0
+HasForm nodes.Head (givens.Head h) = Unit {0}
+HasForm nodes.Value (givens.Value v) = IsNoStream v
+HasForm nodes.End (givens.End place last) = Unit {0}
+HasForm nodes.Rest (givens.Rest count place) = Unit {0}
+HasForm _ _ = ⊥
+
+-- An answer that is no fault has its node's form, whatever is open.
+abbrev pub AnswersHaveForms : Type 0
+AnswersHaveForms = (d : Description) (bytes : List ℕ) (opened : List Node) (n : Node) (g : Given) → from_nothing d bytes opened n ≡ Ok g → HasForm n.kind g
+
+-- ---- open nodes
+
+-- all of the first nodes are among the second
+abbrev pub AreAmong : List Node → List Node → Type 0
+AreAmong others opened = (m : Node) → is_among node_number others m ≡ true → is_among node_number opened m ≡ true
+
+-- With fewer nodes open, a node gives the same answer, unless it was a fault: what is open makes faults and nothing else.
+abbrev pub AnswersStay : Type 0
+AnswersStay = (d : Description) (bytes : List ℕ) (opened others : List Node) (n : Node) (g : Given) → AreAmong others opened → from_nothing d bytes opened n ≡ Ok g → from_nothing d bytes others n ≡ Ok g
+
+-- ---- values
+
+-- the value of a leaf: an integer, a member of an enum, a text, or bytes from the leaf's first one on
+abbrev pub IsOfLeaf : Leaf → Value → Type 0
+IsOfLeaf l (values.Int n) = Unit {0}
+IsOfLeaf l (values.Member e n) = Unit {0}
+IsOfLeaf l (values.Text t) = Unit {0}
+IsOfLeaf l (values.Bytes from to) = (from ≡ l.from) × (to ≤ l.to)
+IsOfLeaf l _ = ⊥
+
+-- the value of what is at a path: of an object and of a list it is that path, and an absent attribute has none
+abbrev pub IsOfHead : Trail → Head → Value → Type 0
+IsOfHead p (heads.Absent at) v = ⊥
+IsOfHead p (heads.Leaf l) v = IsOfLeaf l v
+IsOfHead p (heads.Object o) v = v ≡ values.Object p
+IsOfHead p (heads.List g) v = v ≡ values.List p
+
+-- the head at a path is answered too, and the value is one of it
+pub record HasHead (d : Description) (bytes : List ℕ) (opened : List Node) (p : Trail) (v : Value) : Type 0 where
+  pub head : Head
+  pub answered : from_nothing d bytes opened (head_node p) ≡ Ok (givens.Head head)
+  pub fits : IsOfHead p head v
+
+-- A value is one of the head at its path.
+abbrev pub ValuesHaveHeads : Type 0
+ValuesHaveHeads = (d : Description) (bytes : List ℕ) (opened : List Node) (p : Trail) (v : Value) → from_nothing d bytes opened (value_node p) ≡ Ok (givens.Value v) → HasHead d bytes opened p v
+
+-- ---- circles
+
+-- a node that the rule of another asked answered this fault, where each asked node has the answer that `met` gives
+pub record HasSource (d : Description) (bytes : List ℕ) (met : Node → Result Given Fault) (n : Node) (f : Fault) : Type 0 where
+  pub node : Node
+  pub asked : Contains (asks_of met n.path bytes (rule_of d n)) node
+  pub answer : met node ≡ Err f
+
+-- No rule makes a circle: whatever the nodes that it asks answer, a fault of this kind is the answer of one of them.
+abbrev pub NoRuleMakesCircles : Type 0
+NoRuleMakesCircles = (d : Description) (bytes : List ℕ) (met : Node → Result Given Fault) (n : Node) (f : Fault) → answer_of met n.path bytes (rule_of d n) ≡ Err f → f.kind ≡ kinds.Circle → HasSource d bytes met n f
+
+-- A way from a node on: each node of it is asked by the one before, with all before that one open, and the last is open already. It
+-- is a node of this path.
+abbrev pub LeadsBack : Description → List ℕ → List Node → Node → List Node → Trail → Type 0
+LeadsBack d bytes opened n [] p = (is_among node_number opened n ≡ true) × (n.path ≡ p)
+LeadsBack d bytes opened n (m ∷ way) p = (is_among node_number opened n ≡ false) × Contains (asks d bytes opened n) m × LeadsBack d bytes (n ∷ opened) m way p
+
+-- A node answers the fault circle at a path just where such a way leads from it to a node of this path.
+abbrev pub CirclesLeadBack : Type 0
+CirclesLeadBack = (d : Description) (bytes : List ℕ) (opened : List Node) (n : Node) (p : Trail) → AreDistinct (on (described d) bytes) opened → (from_nothing d bytes opened n ≡ Err (fault_at p kinds.Circle)) ↔ ((way : List Node) × LeadsBack d bytes opened n way p)
+
+-- ---- elements
+
+-- the element before, whose number is i, isn't the last, and ends where this head begins
+pub record EndsBefore (d : Description) (bytes : List ℕ) (opened : List Node) (p : Trail) (i : ℕ) (h : Head) : Type 0 where
+  pub before : Trail
+  pub path : child (parent p) (Index i) ≡ Some before
+  pub ended : from_nothing d bytes opened (end_node before) ≡ Ok (givens.End (start_of h) false)
+
+-- An element after another begins where that one ends.
+abbrev pub ElementsTouch : Type 0
+ElementsTouch = (d : Description) (bytes : List ℕ) (opened : List Node) (p : Trail) (i : ℕ) (h : Head) → last p ≡ Some (Index (i + 1)) → from_nothing d bytes opened (head_node p) ≡ Ok (givens.Head h) → EndsBefore d bytes opened p i h
+
+-- ---- places
+
+-- in a file of so many bytes: the end of a stream, where it has one of its own
+abbrev pub IsEndIn : ℕ → Option ℕ → Type 0
+IsEndIn size None = Unit {0}
+IsEndIn size (Some t) = t ≤ size
+
+-- a known end of an object
+abbrev pub IsObjectEndIn : ℕ → ObjectEnd → Type 0
+IsObjectEndIn size (endings.At e) = e ≤ size
+IsObjectEndIn size _ = Unit {0}
+
+-- each place in a head, in a value and in any answer: it is a place of a byte, or the end of the file
+abbrev pub IsHeadIn : ℕ → Head → Type 0
+IsHeadIn size (heads.Absent at) = IsEndIn size at
+IsHeadIn size (heads.Leaf l) = (l.from ≤ size) × (l.to ≤ size) × (l.end ≤ size)
+IsHeadIn size (heads.Object o) = (o.start ≤ size) × IsEndIn size o.stream.to × IsObjectEndIn size o.ending
+IsHeadIn size (heads.List g) = (g.start ≤ size) × IsEndIn size g.stream.to
+
+abbrev pub IsValueIn : ℕ → Value → Type 0
+IsValueIn size (values.Bytes from to) = (from ≤ size) × (to ≤ size)
+IsValueIn size _ = Unit {0}
+
+abbrev pub IsIn : ℕ → Given → Type 0
+IsIn size (givens.Head h) = IsHeadIn size h
+IsIn size (givens.Value v) = IsValueIn size v
+IsIn size (givens.End place last) = place ≤ size
+IsIn size (givens.Rest count place) = place ≤ size
+
+-- Each place in an answer lies in the file: nothing begins or ends after its last byte.
+abbrev pub PlacesAreInFile : Type 0
+PlacesAreInFile = (d : Description) (bytes : List ℕ) (opened : List Node) (n : Node) (g : Given) → from_nothing d bytes opened n ≡ Ok g → IsIn (length bytes) g
