@@ -33,8 +33,8 @@ Told = Result (List ℕ) Fault
 abbrev pub answered : Description → List ℕ → Node → Result Given Fault
 answered d b n = from_nothing d b [] n
 
--- An answer of another form than its node's, and a stream as a value, never occur. They are the fault bad-type at
--- the asked path.
+-- An answer of another form than its node's, and a stream as a value, never occur: the law `AnswersHaveForms` of ksv_rules. They
+-- are the fault bad-type at the asked path, so that texts are defined for all answers.
 abbrev pub misfit : Trail → Told
 misfit p = Err (fault_at p kinds.BadType)
 
