@@ -1,6 +1,6 @@
 -- The text of a path whose names are those of members, read, gives the path again.
-use Rattle.std.proofs.Common.{◌≡◌, ◌∙◌, ℕ, zero, suc, ◌+◌, ◌^◌, ◌<◌, ◌≤◌, Bool, true, false, cond, if◌then◌else◌, List, [], ◌∷◌, ◌++◌, length, get_or, map, reverse, take, Option, Some, None, refl, sym, ap, subst, arith, rules, inl, inr, append-nil, length-append}
-use Rattle.std.specs.Prelude.{◌==◌, ◌||◌, not, nat_lt, decimal, slice_get, slice_index, unwrap_or, option_map, option_and_then}
+use Rattle.std.proofs.Common.{◌≡◌, ◌∙◌, ℕ, zero, suc, ◌+◌, ◌^◌, ◌<◌, ◌≤◌, Bool, true, false, cond, if◌then◌else◌, List, [], ◌∷◌, ◌++◌, length, get_or, map, reverse, take, Some, None, refl, sym, ap, subst, arith, rules, inl, inr, append-nil, length-append}
+use Rattle.std.specs.Prelude.{◌==◌, ◌||◌, not, decimal, slice_get, slice_index, unwrap_or, option_map, option_and_then}
 use Rattle.std.specs.Char.{is_ascii_digit}
 use Rattle.std.specs.Cmp.{first_so, second_so}
 use Rattle.std.specs.List.{All, AllByRecursion, list_all, position_from, slice_split}
@@ -17,13 +17,13 @@ use Rattle.std.proofs.lemmas.Slice.Eq.{bytes_eq-Decides}
 use Rattle.std.proofs.lemmas.Str.{IsUtf8-from_ascii, is_utf8-from_IsUtf8}
 use Rattle.std.proofs.lemmas.Str.Ascii.{IsAscii-from_all}
 use Rattle.std.proofs.lemmas.Str.Parse.{IsNumeralModel, numerals_by_value}
-use Rattle.ksv_expr_value.specs.Trail.{Trail, root, same_trail, step_fits, all_fit}
+use Rattle.ksv_expr_value.specs.Trail.{root, same_trail, step_fits, all_fit}
 use Rattle.ksv_expr_value.specs.declared.step.Step.{Step}
 use Rattle.ksv_expr_value.specs.declared.step.Step.TheVariants.{Index, Name}
-use Rattle.ksv_desc.specs.Names.{AreDistinct, number_in}
+use Rattle.ksv_desc.specs.Names.{number_in}
 use Rattle.ksv_desc.specs.Description.{Description, as_text, name, number_of_name}
 use Rattle.ksv_desc.proofs.Readers.{found_in_front}
-use Rattle.ksv_paths.specs.PathTexts.{step_text, steps_text, or_slash, path_text, decimal_of, below_limit, index_of, name_of, name_or_index, step_of, in_front, behind_step, steps_of, is_slash, path_of_steps, path_named}
+use Rattle.ksv_paths.specs.PathTexts.{step_text, steps_text, or_slash, decimal_of, below_limit, index_of, name_of, name_or_index, step_of, in_front, behind_step, steps_of, is_slash, path_of_steps, path_named}
 use Rattle.ksv_paths.specs.Laws.{is_letter, is_id_byte, is_id, HasIds, IsKnown, PathsAreRead}
 use Rattle.ksv_paths.proofs.PathTexts.{path_is}
 

@@ -1,5 +1,5 @@
 -- A circle comes from nodes that ask for each other, and from no rule.
-use Rattle.std.proofs.Common.{◌≡◌, ◌∙◌, ℕ, zero, suc, ◌+◌, ◌-◌, ◌==◌, ◌<◌, ◌≤◌, nat_lt, nat_le, Bool, true, false, cond, if◌then◌else◌, ◌||◌, ℤ, pos, negsuc, List, [], ◌∷◌, ◌++◌, length, slice_get, Option, Some, None, Result, Ok, Err, refl, sym, ap, subst, arith, inl, inr}
+use Rattle.std.proofs.Common.{◌≡◌, ◌∙◌, ℕ, zero, suc, ◌+◌, ◌-◌, ◌==◌, ◌<◌, ◌≤◌, nat_lt, nat_le, Bool, true, false, cond, if◌then◌else◌, ◌||◌, ℤ, pos, negsuc, List, [], ◌∷◌, length, slice_get, Option, Some, None, Result, Ok, Err, refl, sym, ap, subst, arith, inl, inr}
 use Rattle.std.specs.Prelude.{Contains}
 use Rattle.std.specs.Str.{bytes_eq}
 use Rattle.std.proofs.lemmas.List.Elements.{Contains-append_left, Contains-append_right, Contains-append_cases, Contains-push, Contains-push_cases}
@@ -15,7 +15,6 @@ use Rattle.ksv_expr_value.specs.Range.{ranged}
 use Rattle.ksv_expr_value.specs.Encodings.{decoded}
 use Rattle.ksv_expr_value.specs.declared.encoding.Encoding.{Encoding}
 use Rattle.ksv_expr_value.specs.declared.fault.Fault.{Fault}
-use Rattle.ksv_expr_value.specs.declared.fault.FaultKind.{FaultKind}
 use Rattle.ksv_expr_value.specs.declared.fault.FaultKind.TheVariants as kinds
 use Rattle.ksv_expr_value.specs.declared.step.Step.{Step}
 use Rattle.ksv_expr_value.specs.declared.step.Step.TheVariants as steps
@@ -37,13 +36,12 @@ use Rattle.ksv_nodes.specs.declared.given.Object.{Object}
 use Rattle.ksv_nodes.specs.declared.given.List as lists
 use Rattle.ksv_nodes.specs.declared.given.Head.{Head}
 use Rattle.ksv_nodes.specs.declared.given.Head.TheVariants as heads
-use Rattle.ksv_nodes.specs.declared.given.Ended.{Ended}
 use Rattle.ksv_nodes.specs.declared.turn.Found.{Found}
 use Rattle.ksv_nodes.specs.declared.turn.Found.TheVariants as founds
 use Rattle.ksv_nodes.specs.Reading.{Seen, look}
 use Rattle.ksv_nodes.specs.Rule.{Rule, Raised, Here, There, Of, See, in_path, ask_head, ask_value, ask_end, ask_rest, part, reach, finish, done, peek, find}
 use Rattle.ksv_nodes.specs.Truth.{answer_of, asks_of, with_given, with_seen, behind_given, behind_seen}
-use Rattle.ksv_nodes.specs.Turning.{fault_at, raised}
+use Rattle.ksv_nodes.specs.Turning.{fault_at}
 use Rattle.ksv_nodes.specs.Numbers.{node_number, node_bound, node_number-one, node_number-below}
 use Rattle.ksv_memo.specs.Evaluation.{is_among}
 use Rattle.ksv_memo.specs.Meaning.{Standing, IsSettled, on}
@@ -52,14 +50,13 @@ use Rattle.ksv_memo.proofs.Evals.{few, AreDistinct-cons}
 use Rattle.ksv_rules.specs.Fields.{members_of, Sought, sought, in_sought, member_named, last_attribute, read_by, in_field, field_of}
 use Rattle.ksv_rules.specs.Wanted.{whole, in_object, wanted, expression, in_integer, in_truth, integer_of, truth_of, holds, in_size, size_of}
 use Rattle.ksv_rules.specs.Integers.{integer_value}
-use Rattle.ksv_rules.specs.Values.{in_number, number_in, number_value, fixed_value, cut_by, cut_bytes, bytes_value, in_text, cut_text, text_value, content_value, choice_value, leaf_value, value_at, value_of}
-use Rattle.ksv_rules.specs.Ends.{fields_end, object_end, part_rest, list_end, absent_end, place_of, start_of, behind_element, is_last, is_by_bytes, not_empty, element_end, end_at, end_of, next_rest, rest_behind, rest_from, in_whole_list, first_rest, whole_rest, rest_at, rest_of}
-use Rattle.ksv_rules.specs.Heads.{leaf, leaf_to_end, terminated_at, terminated, run_of, sized_leaf, bytes_at, sized_object, object_at, content_at, shape_at, in_count, count_of, counted, until_eos, repeated, attribute_at, part_end, attribute_start, attribute_head, member_at, member_head, in_list, is_past, in_next, next_start, element_start, element_head, head_at, head_of}
+use Rattle.ksv_rules.specs.Values.{in_number, number_value, fixed_value, cut_by, cut_bytes, bytes_value, in_text, cut_text, text_value, content_value, choice_value, leaf_value, value_at, value_of}
+use Rattle.ksv_rules.specs.Ends.{fields_end, object_end, part_rest, list_end, absent_end, place_of, start_of, behind_element, is_last, is_by_bytes, not_empty, element_end, end_at, end_of, next_rest, rest_from, in_whole_list, whole_rest, rest_at, rest_of}
+use Rattle.ksv_rules.specs.Heads.{leaf, leaf_to_end, terminated_at, terminated, run_of, sized_leaf, bytes_at, sized_object, object_at, content_at, shape_at, in_count, count_of, counted, until_eos, repeated, attribute_at, part_end, attribute_start, attribute_head, member_at, member_head, in_list, is_past, next_start, element_start, element_head, head_at, head_of}
 use Rattle.ksv_rules.specs.Meaning.{meaning_of, served_rule, rule_of}
-use Rattle.ksv_rules.specs.FromNothing.{circle, answer_within, from_nothing, asks}
+use Rattle.ksv_rules.specs.FromNothing.{circle, answer_within, from_nothing}
 use Rattle.ksv_rules.specs.Described.{described}
 use Rattle.ksv_rules.specs.Bounds.{settles}
-use Rattle.ksv_rules.specs.Direct.{IsFree}
 use Rattle.ksv_rules.specs.Laws.{NoRuleMakesCircles, LeadsBack, CirclesLeadBack}
 use Rattle.ksv_rules.proofs.Direct.{answers_follow_rules}
 use Rattle.ksv_rules.proofs.OwnFaults.{FailsAs, fails_bind, fails_if, fails_translate, IsOwn, value_own}

@@ -1,5 +1,5 @@
 -- An answer has its node's form, and a value is one of the head at its path.
-use Rattle.std.proofs.Common.{◌≡◌, ◌∙◌, ℕ, zero, suc, ◌+◌, ◌≤◌, Bool, true, false, cond, if◌then◌else◌, ◌||◌, ℤ, List, [], ◌∷◌, length, Option, Some, None, Result, Ok, Err, refl, sym, ap, subst, arith}
+use Rattle.std.proofs.Common.{◌≡◌, ◌∙◌, ℕ, zero, suc, ◌+◌, ◌≤◌, Bool, true, false, cond, if◌then◌else◌, ◌||◌, ℤ, List, ◌∷◌, length, Option, Some, None, Result, Ok, Err, refl, sym, ap, subst, arith}
 use Rattle.std.specs.Prelude.{nat_le, nat_eq}
 use Rattle.std.specs.Str.{bytes_eq}
 use Rattle.std.proofs.lemmas.Bool.Decides.{nat_tests}
@@ -39,7 +39,7 @@ use Rattle.ksv_rules.specs.Values.{in_number, number_in, number_value, fixed_val
 use Rattle.ksv_rules.specs.Ends.{end_of, rest_of}
 use Rattle.ksv_rules.specs.Meaning.{meaning_of, served_rule, rule_of}
 use Rattle.ksv_rules.specs.FromNothing.{circle, answer_within, from_nothing}
-use Rattle.ksv_rules.specs.Laws.{IsNoStream, HasForm, AnswersHaveForms, AreAmong, AnswersStay, IsOfLeaf, IsOfHead, HasHead, ValuesHaveHeads}
+use Rattle.ksv_rules.specs.Laws.{IsNoStream, HasForm, AnswersHaveForms, AreAmong, AnswersStay, IsOfLeaf, IsOfHead, ValuesHaveHeads}
 use Rattle.ksv_rules.proofs.Meeting.{answer_bind}
 use Rattle.ksv_paths.specs.Served.{is_served}
 
@@ -288,7 +288,7 @@ module _ (d : Description) (bytes : List ℕ) where
       let free : is_among node_number others n ≡ false = not_among (is_among node_number others n) (is_among node_number opened n) (among n) r.0 in
       let rule = answer_of (answer_within d bytes depth' (n ∷ others)) n.path bytes (rule_of d n) in
       let same : rule ≡ Ok g = same_answer (answer_within d bytes depth (n ∷ opened)) (answer_within d bytes depth' (n ∷ others)) n.path bytes
-          (λ m g' e. stays_within depth depth' (n ∷ opened) (n ∷ others) m g' (omega arith) (among_both n others opened among) e) (rule_of d n) g r.1 in
+      (λ m g' e. stays_within depth depth' (n ∷ opened) (n ∷ others) m g' (omega arith) (among_both n others opened among) e) (rule_of d n) g r.1 in
       ap (λ b. cond b (circle n) rule) free ∙ same
 
   -- ---- the head of a value

@@ -7,5 +7,6 @@ pub mod OwnFaults
 pub mod Circles
 pub mod Touching
 pub mod Places
+pub mod Enclosing
 pub mod Integers
 pub mod Peeked

@@ -1,12 +1,11 @@
 -- Each place in an answer lies in the file.
-use Rattle.std.proofs.Common.{◌≡◌, ◌∙◌, ℕ, zero, suc, ◌+◌, ◌-◌, ◌==◌, ◌≤◌, Bool, true, false, if◌then◌else◌, ◌||◌, List, [], ◌∷◌, length, Option, Some, None, Result, Ok, Err, refl, sym, ap, subst, arith}
+use Rattle.std.proofs.Common.{◌≡◌, ℕ, zero, suc, ◌+◌, ◌-◌, ◌==◌, ◌≤◌, Bool, true, false, if◌then◌else◌, ◌||◌, List, ◌∷◌, length, Option, Some, None, Result, Ok, Err, refl, subst, arith}
 use Rattle.std.specs.Prelude.{slice_range}
 use Rattle.std.proofs.lemmas.Bool.Decides.{nat_tests}
 use Rattle.std.proofs.lemmas.Grind.{common_steps}
-use Rattle.ksv_plan.specs.Plan.{Answer, Fail, Ask, bind}
-use Rattle.ksv_expr_tree.specs.Tree.{Tree}
+use Rattle.ksv_plan.specs.Plan.{Answer}
 use Rattle.ksv_expr_eval.specs.Heard.{Setting}
-use Rattle.ksv_expr_value.specs.Trail.{Trail, child, parent, last}
+use Rattle.ksv_expr_value.specs.Trail.{Trail, parent, last}
 use Rattle.ksv_expr_value.specs.declared.fault.Fault.{Fault}
 use Rattle.ksv_expr_value.specs.declared.fault.FaultKind.TheVariants as kinds
 use Rattle.ksv_expr_value.specs.declared.step.Step.{Step}
@@ -22,7 +21,6 @@ use Rattle.ksv_nodes.specs.declared.node.NodeKind.TheVariants as nodes
 use Rattle.ksv_nodes.specs.declared.given.Given.{Given}
 use Rattle.ksv_nodes.specs.declared.given.Given.TheVariants as givens
 use Rattle.ksv_nodes.specs.declared.given.MemberRef.{MemberRef}
-use Rattle.ksv_nodes.specs.declared.given.Leaf.{Leaf}
 use Rattle.ksv_nodes.specs.declared.given.ObjectEnd.{ObjectEnd}
 use Rattle.ksv_nodes.specs.declared.given.ObjectEnd.TheVariants as endings
 use Rattle.ksv_nodes.specs.declared.given.Object.{Object}
@@ -34,20 +32,20 @@ use Rattle.ksv_nodes.specs.declared.given.Rested.{Rested}
 use Rattle.ksv_nodes.specs.declared.turn.Found.{Found}
 use Rattle.ksv_nodes.specs.declared.turn.Found.TheVariants as founds
 use Rattle.ksv_nodes.specs.Numbers.{node_bound}
-use Rattle.ksv_nodes.specs.Reading.{Look, reach_file, reach_within, finish_of, peek_at, first_at, end_in, found_none, found_from, find_at}
-use Rattle.ksv_nodes.specs.Rule.{Rule, raise, part, in_end, in_rest, ask_head, ask_end, ask_rest, head_node, value_node, end_node, rest_node, reach, finish, done, find}
+use Rattle.ksv_nodes.specs.Reading.{reach_file, reach_within, finish_of, peek_at, first_at, end_in, found_none, found_from, find_at}
+use Rattle.ksv_nodes.specs.Rule.{Rule, part, in_end, in_rest, ask_head, ask_end, ask_rest, head_node, end_node, rest_node, reach, finish, done, find}
 use Rattle.ksv_nodes.specs.Truth.{answer_of, with_given, with_seen}
 use Rattle.ksv_nodes.proofs.First.{first_at_below}
 use Rattle.ksv_nodes.proofs.Looks.{range_reaches}
-use Rattle.ksv_rules.specs.Wanted.{whole, in_object, holds, size_of}
+use Rattle.ksv_rules.specs.Wanted.{in_object, holds, size_of}
 use Rattle.ksv_rules.specs.Fields.{members_of, Sought, member_named, last_attribute, field_of}
 use Rattle.ksv_rules.specs.Heads.{leaf, leaf_to_end, terminated_at, terminated, run_of, sized_leaf, bytes_at, sized_object, object_at, content_at, shape_at, count_of, counted, until_eos, repeated, attribute_at, part_end, attribute_start, attribute_head, member_at, member_head, in_list, is_past, in_next, next_start, element_start, element_head, root_head, head_at, head_of}
 use Rattle.ksv_rules.specs.Values.{value_of}
-use Rattle.ksv_rules.specs.Ends.{fields_end, object_end, part_rest, list_end, absent_end, place_of, is_last, not_empty, element_end, end_at, end_of, next_rest, rest_behind, rest_from, in_whole_list, first_rest, whole_rest, rest_at, rest_of}
+use Rattle.ksv_rules.specs.Ends.{fields_end, object_end, part_rest, list_end, place_of, is_last, not_empty, element_end, end_at, end_of, next_rest, rest_behind, rest_from, in_whole_list, whole_rest, rest_at, rest_of}
 use Rattle.ksv_rules.specs.Meaning.{meaning_of}
 use Rattle.ksv_rules.specs.FromNothing.{answer_within, from_nothing}
-use Rattle.ksv_rules.specs.Laws.{IsOfLeaf, IsOfHead, IsEndIn, IsObjectEndIn, IsHeadIn, IsValueIn, IsIn, PlacesAreInFile}
-use Rattle.ksv_rules.proofs.Forms.{ok_is, Before, goes_on, asked_head, passed, refused, value_is, put_in, meaning_is, ruled, no_depth}
+use Rattle.ksv_rules.specs.Laws.{IsOfHead, IsEndIn, IsObjectEndIn, IsHeadIn, IsValueIn, IsIn, PlacesAreInFile}
+use Rattle.ksv_rules.proofs.Forms.{ok_is, goes_on, asked_head, refused, value_is, put_in, meaning_is, ruled, no_depth}
 
 -- what the nodes that are asked answer lies in the file
 module _ (met : Node → Result Given Fault) (here : Trail) (bytes : List ℕ) (lies : (m : Node) (g : Given) → met m ≡ Ok g → IsIn (length bytes) g) where

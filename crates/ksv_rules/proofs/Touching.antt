@@ -1,14 +1,11 @@
 -- An element begins where the one before it ends.
-use Rattle.std.proofs.Common.{◌≡◌, ◌∙◌, ℕ, zero, suc, ◌+◌, ◌-◌, ◌==◌, Bool, true, false, if◌then◌else◌, ◌||◌, List, [], ◌∷◌, length, Option, Some, None, Result, Ok, Err, refl, sym, ap, subst, arith}
+use Rattle.std.proofs.Common.{◌≡◌, ◌∙◌, ℕ, zero, suc, ◌+◌, ◌-◌, ◌==◌, Bool, true, false, if◌then◌else◌, ◌||◌, List, ◌∷◌, length, Option, Some, None, Result, Ok, Err, refl, sym, ap, subst, arith}
 use Rattle.std.proofs.lemmas.Bool.Decides.{nat_tests}
-use Rattle.ksv_plan.specs.Plan.{Answer, Fail, Ask, bind}
-use Rattle.ksv_expr_tree.specs.Tree.{Tree}
+use Rattle.ksv_plan.specs.Plan.{Answer}
 use Rattle.ksv_expr_eval.specs.Heard.{Setting}
 use Rattle.ksv_expr_value.specs.Trail.{Trail, child, parent, last}
 use Rattle.ksv_expr_value.specs.declared.fault.Fault.{Fault}
-use Rattle.ksv_expr_value.specs.declared.fault.FaultKind.{FaultKind}
 use Rattle.ksv_expr_value.specs.declared.fault.FaultKind.TheVariants as kinds
-use Rattle.ksv_expr_value.specs.declared.step.Step.{Step}
 use Rattle.ksv_expr_value.specs.declared.step.Step.TheVariants as steps
 use Rattle.ksv_expr_value.specs.declared.value.Stream.{Stream}
 use Rattle.ksv_desc.specs.Description.{Description, Field, Content, Choice, Always, Switch, Extent, Sized, SizeEos, ByItself, Terminator}
@@ -19,12 +16,11 @@ use Rattle.ksv_nodes.specs.declared.given.Given.TheVariants as givens
 use Rattle.ksv_nodes.specs.declared.given.MemberRef.{MemberRef}
 use Rattle.ksv_nodes.specs.declared.given.List as lists
 use Rattle.ksv_nodes.specs.declared.given.Head.{Head}
-use Rattle.ksv_nodes.specs.declared.given.Head.TheVariants as heads
 use Rattle.ksv_nodes.specs.declared.given.Ended.{Ended}
 use Rattle.ksv_nodes.specs.declared.turn.Found.{Found}
 use Rattle.ksv_nodes.specs.declared.turn.Found.TheVariants as founds
 use Rattle.ksv_nodes.specs.Numbers.{node_bound}
-use Rattle.ksv_nodes.specs.Rule.{Rule, raise, in_path, part, in_end, ask_head, ask_end, head_node, end_node, reach, finish, find}
+use Rattle.ksv_nodes.specs.Rule.{in_path, part, in_end, ask_head, ask_end, head_node, end_node, reach, finish, find}
 use Rattle.ksv_nodes.specs.Truth.{answer_of, with_given}
 use Rattle.ksv_rules.specs.Wanted.{size_of}
 use Rattle.ksv_rules.specs.Fields.{field_of}
@@ -32,8 +28,8 @@ use Rattle.ksv_rules.specs.Heads.{leaf, leaf_to_end, terminated_at, terminated, 
 use Rattle.ksv_rules.specs.Ends.{start_of}
 use Rattle.ksv_rules.specs.Meaning.{meaning_of}
 use Rattle.ksv_rules.specs.FromNothing.{answer_within, from_nothing}
-use Rattle.ksv_rules.specs.Laws.{EndsBefore, ElementsTouch}
-use Rattle.ksv_rules.proofs.Forms.{ok_is, Before, goes_on, refused, meaning_is, ruled, no_depth, stays_within, among_more}
+use Rattle.ksv_rules.specs.Laws.{ElementsTouch}
+use Rattle.ksv_rules.proofs.Forms.{ok_is, goes_on, refused, meaning_is, ruled, no_depth, stays_within, among_more}
 
 module _ (met : Node → Result Given Fault) (here : Trail) (bytes : List ℕ) where
   -- ---- where something begins that is read at a place
@@ -89,7 +85,7 @@ module _ (met : Node → Result Given Fault) (here : Trail) (bytes : List ℕ) w
 
   -- ---- the element before
 
-  asked_end : (p : Trail) (x : Ended) → answer_of met here bytes (ask_end p) ≡ Ok x → met (end_node p) ≡ Ok (givens.End x.place x.last)
+  pub asked_end : (p : Trail) (x : Ended) → answer_of met here bytes (ask_end p) ≡ Ok x → met (end_node p) ≡ Ok (givens.End x.place x.last)
   asked_end p x e = by_given (met (end_node p)) refl e
     where
       by_given : (r : Result Given Fault) → met (end_node p) ≡ r → with_given r (λ g. answer_of met here bytes (in_end g)) ≡ Ok x → met (end_node p) ≡ Ok (givens.End x.place x.last)
@@ -97,7 +93,7 @@ module _ (met : Node → Result Given Fault) (here : Trail) (bytes : List ℕ) w
       by_given (Ok _) is e' = absurd (cc)
       by_given (Err f) is e' = absurd (cc)
 
-  part_is : (o : Option Trail) (q : Trail) → answer_of met here bytes (in_path o) ≡ Ok q → o ≡ Some q
+  pub part_is : (o : Option Trail) (q : Trail) → answer_of met here bytes (in_path o) ≡ Ok q → o ≡ Some q
   part_is None q e = absurd (cc)
   part_is (Some p) q e = ap Some (ok_is p q e)
 

@@ -1,8 +1,10 @@
 -- Laws of what nodes answer. They speak of the definitions alone: an error that a rule and its function had in common would break
 -- them. These laws are this project's own.
-use Rattle.std.specs.Prelude.{◌≡◌, ◌↔◌, ℕ, ◌+◌, ◌≤◌, true, false, List, [], ◌∷◌, Contains, length, Option, Some, None, Result, Ok, Err}
+use Rattle.std.specs.Prelude.{◌≡◌, ◌↔◌, ℕ, ◌+◌, ◌≤◌, Bool, true, false, List, [], ◌∷◌, Contains, length, Option, Some, None, Result, Ok, Err}
 use Rattle.ksv_expr_value.specs.Trail.{Trail, child, parent, last}
+use Rattle.ksv_expr_value.specs.declared.step.Step.{Step}
 use Rattle.ksv_expr_value.specs.declared.step.Step.TheVariants.{Index}
+use Rattle.ksv_expr_value.specs.declared.value.Stream.{Stream}
 use Rattle.ksv_expr_value.specs.declared.fault.Fault.{Fault}
 use Rattle.ksv_expr_value.specs.declared.fault.FaultKind.TheVariants as kinds
 use Rattle.ksv_expr_value.specs.declared.value.Value.{Value}
@@ -22,6 +24,7 @@ use Rattle.ksv_nodes.specs.declared.given.Leaf.{Leaf}
 use Rattle.ksv_nodes.specs.declared.given.ObjectEnd.{ObjectEnd}
 use Rattle.ksv_nodes.specs.declared.given.ObjectEnd.TheVariants as endings
 use Rattle.ksv_nodes.specs.Numbers.{node_number}
+use Rattle.ksv_nodes.specs.Reading.{end_in}
 use Rattle.ksv_nodes.specs.Rule.{head_node, value_node, end_node}
 use Rattle.ksv_nodes.specs.Truth.{answer_of, asks_of}
 use Rattle.ksv_nodes.specs.Turning.{fault_at}
@@ -152,3 +155,46 @@ IsIn size (givens.Rest count place) = place ≤ size
 -- Each place in an answer lies in the file: nothing begins or ends after its last byte.
 abbrev pub PlacesAreInFile : Type 0
 PlacesAreInFile = (d : Description) (bytes : List ℕ) (opened : List Node) (n : Node) (g : Given) → from_nothing d bytes opened n ≡ Ok g → IsIn (length bytes) g
+
+-- ---- streams
+
+-- a place of a stream, or its end
+abbrev pub IsBetween : List ℕ → Stream → ℕ → Type 0
+IsBetween bytes w n = (w.from ≤ n) × (n ≤ end_in bytes w.to)
+
+-- a known end of an object
+abbrev pub IsEndBetween : List ℕ → Stream → ObjectEnd → Type 0
+IsEndBetween bytes w (endings.At e) = IsBetween bytes w e
+IsEndBetween bytes w _ = Unit {0}
+
+-- What is read lies in a stream. Bytes don't end before they begin; an object begins in a stream of its own, which lies in the other;
+-- elements are read in the stream of their list.
+abbrev pub LiesIn : List ℕ → Stream → Head → Type 0
+LiesIn bytes w (heads.Absent None) = Unit {0}
+LiesIn bytes w (heads.Absent (Some s)) = IsBetween bytes w s
+LiesIn bytes w (heads.Leaf l) = IsBetween bytes w l.from × IsBetween bytes w l.to × IsBetween bytes w l.end × (l.from ≤ l.to)
+LiesIn bytes w (heads.Object o) = IsBetween bytes w o.start × IsBetween bytes w o.stream.from × (end_in bytes o.stream.to ≤ end_in bytes w.to) × IsBetween bytes o.stream o.start × IsEndBetween bytes w o.ending
+LiesIn bytes w (heads.List g) = IsBetween bytes w g.start × (g.stream ≡ w)
+
+-- the stream in which the attributes of an object, or the elements of a list, are read
+abbrev pub IsStreamOf : Head → Stream → Type 0
+IsStreamOf (heads.Object o) w = o.stream ≡ w
+IsStreamOf (heads.List g) w = g.stream ≡ w
+IsStreamOf _ w = ⊥
+
+-- the object or list that holds a path has a stream of which this is true
+pub record IsHeld (met : Node → Result Given Fault) (p : Trail) (P : Stream → Type 0) : Type 0 where
+  pub holder : Head
+  pub answered : met (head_node (parent p)) ≡ Ok (givens.Head holder)
+  pub stream : Stream
+  pub own : IsStreamOf holder stream
+  pub lies : P stream
+
+-- What is at a path, and where it ends, lies in the stream of the object or list that holds it.
+abbrev pub HeadsLieInStreams : Type 0
+HeadsLieInStreams = (d : Description) (bytes : List ℕ) (opened : List Node) (p : Trail) (step : Step) (h : Head) → last p ≡ Some step → from_nothing d bytes opened (head_node p) ≡ Ok (givens.Head h)
+    → IsHeld (from_nothing d bytes opened) p (λ w. LiesIn bytes w h)
+
+abbrev pub EndsLieInStreams : Type 0
+EndsLieInStreams = (d : Description) (bytes : List ℕ) (opened : List Node) (p : Trail) (step : Step) (place : ℕ) (is_last : Bool) → last p ≡ Some step → from_nothing d bytes opened (end_node p) ≡ Ok (givens.End place is_last)
+    → IsHeld (from_nothing d bytes opened) p (λ w. IsBetween bytes w place)

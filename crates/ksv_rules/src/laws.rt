@@ -1,7 +1,7 @@
 //! Laws of the rules of a description, each a contract of a function that does nothing.
 
 ghost use Rattle.ksv_rules.specs.Direct.{AnswersAreDirect, AsksAreDirect, AnswersFollowRules, NextMeetsTruth};
-ghost use Rattle.ksv_rules.specs.Laws.{AnswersHaveForms, AnswersStay, ValuesHaveHeads, NoRuleMakesCircles, CirclesLeadBack, ElementsTouch, PlacesAreInFile};
+ghost use Rattle.ksv_rules.specs.Laws.{AnswersHaveForms, AnswersStay, ValuesHaveHeads, NoRuleMakesCircles, CirclesLeadBack, ElementsTouch, PlacesAreInFile, HeadsLieInStreams, EndsLieInStreams};
 
 /// Evaluation from nothing by replies, as an engine has it, is evaluation from nothing by direct recursion on the rules: what a
 /// node answers, what it asks, and what it uses.
@@ -51,4 +51,11 @@ pub fn elements_touch()
 /// Each place in an answer lies in the file.
 pub fn places_are_in_file()
     ensures { PlacesAreInFile }
+{}
+
+/// What is at a path, and where it ends, lies in the stream of the object or list that holds it, and bytes don't end before they
+/// begin.
+pub fn parts_lie_in_streams()
+    ensures heads { HeadsLieInStreams }
+    ensures ends { EndsLieInStreams }
 {}
