@@ -1,3 +1,2 @@
 -- What a tree is to the loader.
 pub mod Outcome
-pub mod Examples
