@@ -1,8 +1,9 @@
 //! A session of line commands over a file and its description.
 //!
 //! [`describe`] reads a description, [`Session::line`] answers one line, and [`run`] serves a whole session over a
-//! [`Source`] and a [`Sink`]. This crate only hands on what stands below it: lines and devices (ksv_lines), descriptions
-//! (ksv_describe), and the session (ksv_session), whose `specs/Runs.antt` has the headline that `run` is proved to meet.
+//! [`Source`] and a [`Sink`]. This crate only re-exports what is below it: lines and devices (ksv_lines),
+//! descriptions (ksv_describe), and the session (ksv_session), whose `specs/Runs.antt` has the headline that `run`
+//! is proved to meet.
 #![tactic(auto)]
 
 pub use ksv_desc::Desc;

@@ -1,18 +1,18 @@
--- Uses of bytes and changes of them: what an answer rests on, and what an edit may have changed of it.
--- The rule of what an edit touches is this project's own.
+-- Uses of bytes and changes of them: what an answer depends on, and what an edit may have changed of it. The rule
+-- of what an edit touches is this project's own.
 use Rattle.std.specs.Prelude.{◌≡◌, ℕ, ◌+◌, ◌<◌, ◌≤◌, List, ◌++◌, length, take, drop, slice_range}
 use Rattle.ksv_bytes.specs.declared.uses.Use.{Use}
 use Rattle.ksv_bytes.specs.declared.uses.Use.TheVariants.{Bytes, Reach, Size}
 use Rattle.ksv_bytes.specs.declared.uses.Change.{Change}
 use Rattle.ksv_bytes.specs.declared.uses.Change.TheVariants.{Overwrite, Insert, Delete, Append}
 
--- a reading of the bytes can have this use: a range isn't empty, and the bytes reach the places
+-- a reading of the bytes can have this use: a range isn't empty, and the places are within the bytes
 abbrev pub CanUse : List ℕ → Use → Type 0
 CanUse bytes (Bytes from to) = (from < to) × (to ≤ length bytes)
 CanUse bytes (Reach to) = to ≤ length bytes
 CanUse bytes Size = Unit {0}
 
--- two lists of bytes are the same as far as a use goes
+-- two lists of bytes are the same for a use
 abbrev pub AgreeOn : List ℕ → List ℕ → Use → Type 0
 AgreeOn bytes others (Bytes from to) = (to ≤ length bytes) × (to ≤ length others) × (slice_range others from to ≡ slice_range bytes from to)
 AgreeOn bytes others (Reach to) = (to ≤ length bytes) × (to ≤ length others)
@@ -25,8 +25,8 @@ Makes (Insert at n) before after = (new : List ℕ) × (length new ≡ n) × (at
 Makes (Delete at n) before after = (at + n ≤ length before) × (after ≡ take at before ++ drop (at + n) before)
 Makes Append before after = (new : List ℕ) × (after ≡ before ++ new)
 
--- the change touches the use: an overwrite the ranges that it meets, an insert or a delete what ends behind its place
--- and the size, an append the size alone
+-- the change touches the use: an overwrite the ranges that it meets, an insert or a delete what ends after its
+-- place and the size, an append the size alone
 abbrev pub Touches : Change → Use → Type 0
 Touches (Overwrite at n) (Bytes from to) = (from < at + n) × (at < to)
 Touches (Overwrite at n) (Reach to) = ⊥
@@ -41,6 +41,6 @@ Touches Append (Bytes from to) = ⊥
 Touches Append (Reach to) = ⊥
 Touches Append Size = Unit {0}
 
--- whatever edit the change is of, the bytes before and after it agree on the use
+-- for each edit with this change, the bytes before and after it agree on the use
 abbrev pub Keeps : Change → Use → Type 0
 Keeps change used = (before after : List ℕ) → Makes change before after → CanUse before used → AgreeOn before after used

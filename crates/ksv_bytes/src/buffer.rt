@@ -1,6 +1,6 @@
 //! The bytes of a file.
 ghost use Rattle.std.specs.Prelude.{◌≡◌, ◌≤◌, ◌<◌, ◌↔◌, ◌⊎◌, ◌++◌, List, ℕ, length, IfOk, IfErr, OnOk, IsOk, IsErr, OnErr, IsTrue, MatchResult, slice_range};
-ghost use Rattle.ksv_bytes.specs.Edits.{append, overwrite, IsRefusedAs};
+ghost use Rattle.ksv_bytes.specs.Edits.{append, file_limit, overwrite, IsRefusedAs};
 
 use crate::edit::EditRefusal;
 use crate::window::Window;
@@ -21,10 +21,10 @@ impl Model for Buffer {
 
     ghost view = { λ buffer. buffer.bytes.items };
 
-    ghost invariant = { λ buffer. length buffer.bytes.items ≤ 16777216 };
+    ghost invariant = { λ buffer. length buffer.bytes.items ≤ file_limit };
 }
 
-/// B3: a file of more than [`FILE_LIMIT`] bytes, which are handed back.
+/// B3: a file of more than [`FILE_LIMIT`] bytes, which are returned.
 #[derive(Debug, Drop, Error)]
 #[error("file too large")]
 pub struct TooLarge {
@@ -36,7 +36,7 @@ impl Buffer {
     /// The buffer of these bytes. It takes no memory.
     pub fn new(bytes: Vec<u8>) -> Result<Buffer, TooLarge>
         ensures taken { IfOk result (λ buffer. buffer ≡ bytes.items) }
-        ensures refused { IsErr result ↔ (16777216 < length bytes.items) }
+        ensures refused { IsErr result ↔ (file_limit < length bytes.items) }
         ensures handed_back { IfErr result (λ large. large.bytes ≡ bytes) }
     {
         if bytes.len() > FILE_LIMIT {
@@ -48,7 +48,7 @@ impl Buffer {
     /// The number of bytes.
     pub fn len(&self) -> usize
         ensures len { result ≡ length self.now }
-        ensures limit { result ≤ 16777216 }
+        ensures limit { result ≤ file_limit }
     {
         self.bytes.len()
     }
@@ -69,7 +69,7 @@ impl Buffer {
         (&self.bytes[window.from..window.to], &[])
     }
 
-    /// Writes bytes over those that stand from a place on. It takes no memory.
+    /// Writes bytes over those from a place on. It takes no memory.
     pub fn overwrite(&mut self, at: usize, bytes: &[u8]) -> Result<(), EditRefusal>
         ensures { MatchResult result
             (λ _. overwrite self.old at bytes.now ≡ Ok self.new)
@@ -85,7 +85,7 @@ impl Buffer {
         Ok(())
     }
 
-    /// Adds bytes at the end. Want of memory is answered only where nothing else stands against the edit.
+    /// Adds bytes at the end. It can be out of memory only where nothing else is wrong with the edit.
     pub fn append(&mut self, bytes: &[u8]) -> Result<(), EditRefusal>
         ensures done { OnOk result (append self.old bytes.now ≡ Ok self.new) }
         ensures unchanged { OnErr result (self.new ≡ self.old) }

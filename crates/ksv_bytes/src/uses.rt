@@ -1,9 +1,9 @@
-//! What an answer rests on in the bytes, and which of it an edit touches.
+//! What an answer depends on in the bytes, and which of it an edit touches.
 ghost use Rattle.std.specs.Prelude.{◌≡◌, ◌↔◌, IsTrue, false};
 ghost use Rattle.ksv_bytes.specs.Uses.{Touches, Keeps};
 
-/// What one reading of the bytes rests on. Places count from the first byte, and lie below 2^32, as a file has at most
-/// 16,777,216 bytes.
+/// What one reading of the bytes depends on. Places count from the first byte, and are below 2^32, since a file has
+/// at most 16,777,216 bytes.
 #[derive(Clone, Copy, Debug, PartialEq, Eq)]
 pub enum Use {
     /// The bytes from the first place up to the second, and that the file reaches that far.
@@ -17,22 +17,22 @@ pub enum Use {
 /// An edit that was made, without the bytes that it wrote.
 #[derive(Clone, Copy)]
 pub enum Change {
-    /// `n` bytes from the place `at` on were replaced by as many others.
+    /// `n` bytes from the place `at` on were replaced by `n` others.
     Overwrite { at: usize, n: usize },
     /// `n` bytes were put before the byte at the place `at`.
     Insert { at: usize, n: usize },
-    /// `n` bytes from the place `at` on were taken out.
+    /// `n` bytes from the place `at` on were deleted.
     Delete { at: usize, n: usize },
-    /// Bytes were put behind the last one.
+    /// Bytes were added after the last one.
     Append,
 }
 
-/// Whether an edit may have changed what a use rests on. An overwrite touches the ranges that it meets. An insert or a
-/// delete touches what ends behind its place, and the size. An append touches the size alone.
+/// Whether an edit may have changed what a use depends on. An overwrite touches the ranges that it meets. An insert
+/// or a delete touches what ends after its place, and the size. An append touches the size alone.
 pub fn touches(change: Change, used: Use) -> bool
     ensures table { IsTrue result ↔ Touches change used }
 
-    // What an edit leaves alone is the same before and after it.
+    // If an edit doesn't touch a use, what the use depends on is the same before and after it.
     ensures untouched { result ≡ false → Keeps change used }
 {
     is_touched(change, used)

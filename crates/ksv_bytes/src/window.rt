@@ -6,6 +6,6 @@
 pub struct Window {
     /// The first byte's place.
     pub from: usize,
-    /// The place behind the last byte.
+    /// The place after the last byte.
     pub to: usize,
 }

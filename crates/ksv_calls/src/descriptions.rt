@@ -1,4 +1,4 @@
-//! What is asked of a tree of YAML, and what a description says of itself.
+//! What is asked of a tree of YAML, and what a description holds.
 
 use crate::nodes::{LIST, described};
 use ksv_schema::{DescFault, DescFaultKind};

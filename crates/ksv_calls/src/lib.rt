@@ -1,5 +1,6 @@
-//! Tests that call what no table's row and no dialogue reaches: writers that fail, a file of the most bytes, nodes of a
-//! described file, messages, and each law of rules and descriptions once. The other `_calls` crates test what is below.
+//! Tests that call what no table's row and no dialogue reaches: writers that fail, a file of the greatest size,
+//! nodes of a described file, messages, and each law of rules and descriptions once. The other `_calls` crates test
+//! what is below.
 #![tactic(auto)]
 
 #[cfg(test)]

@@ -1,4 +1,4 @@
-//! What the program says, and the words that it takes.
+//! The program's messages, and the words that it takes.
 
 use ksv::{Memory, Stop, arguments, say};
 use std::alloc::{AllocError, Global};
@@ -54,15 +54,15 @@ fn each_stop_has_its_message_and_status(rt: HostRuntime) -> Result<(), Fail> {
     Ok(())
 }
 
-/// Words, and what they are taken for.
+/// Words, and how they are read.
 const WORDS: &str = "ksv f k => f k
 ksv f => MissingRequiredArgument 2 true
 ksv f k x => UnknownArgument 2 true
 ksv --fast f k => UnknownArgument 2 true
 ksv --help => DisplayHelp 0 true";
 
-/// What some words are taken for: the file and its description, or the kind of the error, its exit code, and whether it
-/// tells the usage.
+/// How some words are read: the file and its description, or the kind of the error, its exit code, and
+/// whether it prints the usage.
 fn taken(alloc: Global, words: &[&str]) -> Result<String, AllocError> {
     match arguments(alloc, words) {
         Ok(args) => format!(in alloc; "{} {}", args.file, args.ksy),

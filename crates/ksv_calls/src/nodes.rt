@@ -29,7 +29,7 @@ types:
         size: len
 ";
 
-/// Texts that each name a path of `LIST`, which is written so again.
+/// Texts that each name a path of `LIST`, whose text is the same again.
 const PATHS: &str = "/|/n|/items|/items/3/len|/len/body|/0|/0/0|/1048575";
 
 /// Texts that name none.
@@ -51,6 +51,9 @@ value /len => no-such at /len";
 
 /// An attribute whose size needs its own end.
 const CIRCLE: &str = "meta:\n  id: t\nseq:\n  - id: a\n    size: b\n  - id: b\n    type: u1\n";
+
+/// Bytes up to the end of the file.
+const BYTES: &str = "meta:\n  id: t\nseq:\n  - id: xs\n    type: u1\n    repeat: eos\n";
 
 /// The description that a text states.
 pub(crate) fn described(alloc: Global, text: &str) -> Result<Desc, Fail> {
@@ -93,7 +96,7 @@ fn paths_are_named(rt: HostRuntime) -> Result<(), Fail> {
     Ok(())
 }
 
-/// How many steps the path has that so many indices name.
+/// The length of the path that this many indices name.
 fn steps_named(alloc: Global, desc: &Desc, steps: usize) -> Result<Option<usize>, AllocError> {
     let mut text = String::new(alloc);
     for _ in 0..steps {
@@ -114,7 +117,7 @@ fn paths_of_64_steps_are_named(rt: HostRuntime) -> Result<(), Fail> {
     Ok(())
 }
 
-/// What a node answers, but for a value.
+/// What a node answers, except a value.
 fn given_text(alloc: Global, given: &Given) -> Result<String, AllocError> {
     match given {
         Given::Head(Head::Leaf(leaf)) => {
@@ -188,6 +191,40 @@ fn a_size_behind_is_a_circle(rt: HostRuntime) -> Result<(), Fail> {
     let rules = Described::new(described(alloc, CIRCLE)?);
     let found = answer(alloc, &rules, &bytes, NodeKind::Value, "/a")?;
     assert_eq!(rt; found.as_str(), "circle at /a");
+    Ok(())
+}
+
+/// The nodes that `get /xs` asks of an engine.
+fn asked(alloc: Global, rules: &Described) -> Result<(Node, Node), Fail> {
+    let list = path_of(alloc, rules.desc(), b"/xs")?;
+    let first = path_of(alloc, rules.desc(), b"/xs/0")?;
+    match (list, first) {
+        (Some(list), Some(first)) => Ok((
+            Node {
+                kind: NodeKind::Value,
+                path: list,
+            },
+            Node {
+                kind: NodeKind::Rest,
+                path: first,
+            },
+        )),
+        _ => Err(Fail::from("no path")),
+    }
+}
+
+#[test]
+fn an_engine_keeps_and_counts(rt: HostRuntime) -> Result<(), Fail> {
+    let alloc = rt.alloc();
+    let bytes = Buffer::new(b"\x01\x02\x03\x04\x05".to_vec(alloc)?)?;
+    let rules = Described::new(described(alloc, BYTES)?);
+    let (list, first) = asked(alloc, &rules)?;
+    let mut engine = Engine::new(alloc);
+    engine.begin();
+    engine.ask(&rules, &bytes, list)?;
+    engine.ask(&rules, &bytes, first)?;
+    assert_eq!(rt; engine.kept(), 18);
+    assert!(rt; engine.turns() == Some(49));
     Ok(())
 }
 

@@ -1,4 +1,4 @@
-//! A file of the most bytes, and a session line by line.
+//! A file of the greatest size, and a session line by line.
 
 use crate::devices::{FIRST, accepted};
 use ksv::{Memory, NewFault, Session, run};

@@ -1,4 +1,4 @@
-//! What each kind of row is answered.
+//! The answers to each kind of row.
 
 use crate::described::add_described;
 use crate::descriptions::add_loaded;
@@ -10,7 +10,7 @@ use crate::sessions::{Given, add_broken, add_cut, add_inputs, add_session};
 use crate::trees::{add_tree, add_trees};
 use std::alloc::{AllocError, Global};
 
-/// Adds what a row is answered, a line for each reply.
+/// Adds the answer to a row, a line for each reply.
 pub(crate) fn answer(
     alloc: Global,
     row: Row<'_>,
@@ -34,7 +34,7 @@ pub(crate) fn answer(
     }
 }
 
-/// Adds what sessions write over a file, whose bytes stand behind the word that says how the lines are read.
+/// Adds what sessions write over a file. Its bytes come after the word for how the lines are read.
 fn add_dialogue(
     alloc: Global,
     ksy: &[u8],

@@ -1,4 +1,4 @@
-//! The bytes of a file, as a table tells them.
+//! The bytes of a file, as tables write them.
 
 use std::alloc::{AllocError, Global};
 

@@ -1,6 +1,6 @@
-//! Descriptions whose lines are told by how often they stand there.
+//! Descriptions whose lines are written with the number of their copies.
 //!
-//! A line `*N LINE` stands for N such lines, and the lines between `**N` and `**` stand there N times. In a copy `#` is
+//! A line `*N LINE` means N such lines, and the lines between `**N` and `**` are repeated N times. In a copy `#` is
 //! its number, from 0.
 
 use bstr::ByteSlice;
@@ -26,7 +26,7 @@ pub(crate) fn add_described(
     Ok(())
 }
 
-/// Adds lines so often.
+/// Adds lines this often.
 fn add_group(
     alloc: Global,
     text: &mut Vec<u8>,
@@ -40,7 +40,7 @@ fn add_group(
     Ok(())
 }
 
-/// Adds lines in which `#` is this mark, of a line `*N LINE` its copies.
+/// Adds lines in which `#` is this mark; of a line `*N LINE`, its copies.
 fn add_lines(
     alloc: Global,
     text: &mut Vec<u8>,

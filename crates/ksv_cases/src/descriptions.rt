@@ -1,8 +1,8 @@
-//! Descriptions: what loading one answers, and what one has.
+//! Descriptions: the answer to loading one, and what one has.
 //!
-//! `type:N` tells the type of a number: its name, the numbers of its members' names, of the names of those in its `seq`,
-//! and how many these are. `enum:E N` tells an enum: whether it is there, its name, and what a number stands for in it.
-//! `number TEXT` tells the number of a name, and `name:N` the name of a number.
+//! `type:N` prints the type of a number: its name, the numbers of its members' names, of the names of those in its
+//! `seq`, and how many these are. `enum:E N` prints an enum: whether it is there, its name, and the id of a number
+//! in it. `number TEXT` prints the number of a name, and `name:N` the name of a number.
 
 use crate::question::{Question, question_of};
 use crate::shown::{add, add_debug};
@@ -11,7 +11,7 @@ use ksv_schema::{Desc, load};
 use ksv_yaml::read;
 use std::alloc::{AllocError, Global};
 
-/// Adds what loading a text answers: `ok` and then what is answered to questions, or the code and the fault.
+/// Adds the answer to loading a text: `ok` and then the answers to questions, or the code and the fault.
 pub(crate) fn add_loaded(
     alloc: Global,
     text: &[u8],
@@ -31,7 +31,7 @@ pub(crate) fn add_loaded(
     }
 }
 
-/// Adds what is answered to questions about a description.
+/// Adds the answers to questions about a description.
 fn add_answers(desc: &Desc, questions: &str, found: &mut String) -> Result<(), AllocError> {
     found.push_str("ok\n")?;
     for line in questions.lines() {
@@ -41,7 +41,7 @@ fn add_answers(desc: &Desc, questions: &str, found: &mut String) -> Result<(), A
     Ok(())
 }
 
-/// Adds what is answered to a question about a description.
+/// Adds the answer to a question about a description.
 fn add_answer(desc: &Desc, question: Question<'_>, found: &mut String) -> Result<(), AllocError> {
     let number = question.word.parse().unwrap_or(0u32);
     found.push_str(question.verb)?;
@@ -61,7 +61,7 @@ fn add_type(desc: &Desc, number: u32, found: &mut String) -> Result<(), AllocErr
     add_debug(found, &count_in_sequence(desc, number))
 }
 
-/// How many members of a type stand in its `seq`.
+/// How many members of a type are in its `seq`.
 fn count_in_sequence(desc: &Desc, number: u32) -> Option<usize> {
     let mut count = 0usize;
     for member in desc.type_desc(number)?.members() {
@@ -72,7 +72,7 @@ fn count_in_sequence(desc: &Desc, number: u32) -> Option<usize> {
     Some(count)
 }
 
-/// Adds an enum, and what a number stands for in it.
+/// Adds an enum, and the id of a number in it.
 fn add_enum(
     desc: &Desc,
     enumeration: u32,

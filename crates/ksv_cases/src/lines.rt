@@ -1,11 +1,12 @@
-//! Lines: what begins on one, and what stands on several.
+//! Lines: what begins on one, and what is on several.
 //!
-//! `start TEXT` tells what begins on a line, and `dash TEXT` whether an item of a sequence does. The others cut a text into
-//! lines: `cut` tells the lines, each with its number, indentation, content and whether it is ended; `count` how many
-//! these are; `stray` the first that has a control character; `quiet` which say nothing, and how many stand behind those
-//! at the front; `node:N` how many lines belong to a block and to a flow node at a column, and how many stand behind;
-//! `plain:N` and `commented:N` how a plain scalar `a` goes on at a column, and how many lines are left; `block:SIGN` the
-//! text of a block scalar of this sign; `flow` the parts of flow nodes, each with its line.
+//! `start TEXT` prints what begins on a line, and `dash TEXT` whether an item of a sequence does. The others cut a
+//! text into lines. `cut` prints the lines, each with its number, indentation, content and whether it is ended;
+//! `count` how many these are; `stray` the first that has a control character; `quiet` which are quiet, and how
+//! many come after the quiet ones at the front; `node:N` how many lines belong to a block and to a flow node at a
+//! column, and how many come after; `plain:N` and `commented:N` how a plain scalar `a` goes on at a column, and how
+//! many lines are left; `block:SIGN` the text of a block scalar of this sign; `flow` the parts of flow nodes, each
+//! with its line.
 
 use crate::question::{Question, question_of};
 use crate::shown::{add, add_debug, add_text};
@@ -18,7 +19,7 @@ use ksv_yaml_scan::quiet::{block_lines, flow_lines, is_quiet, skip_quiet};
 use ksv_yaml_scan::start::{InlineKind, Start, is_dash, read_start};
 use std::alloc::{AllocError, Global};
 
-/// Adds what is answered to questions about lines.
+/// Adds the answers to questions about lines.
 pub(crate) fn add_lines(
     alloc: Global,
     questions: &str,
@@ -31,7 +32,7 @@ pub(crate) fn add_lines(
     Ok(())
 }
 
-/// Adds what is answered to a question about a line or several.
+/// Adds the answer to a question about a line or several.
 fn add_answer(alloc: Global, question: Question<'_>, found: &mut String) -> Result<(), AllocError> {
     let text = question.bytes(alloc)?;
     found.push_str(question.verb)?;
@@ -45,7 +46,7 @@ fn add_answer(alloc: Global, question: Question<'_>, found: &mut String) -> Resu
     }
 }
 
-/// Adds what is answered to a question about a text that is cut into lines.
+/// Adds the answer to a question about a text that is cut into lines.
 fn add_of_text(
     alloc: Global,
     question: Question<'_>,
@@ -77,7 +78,7 @@ fn add_cut(lines: &[Line<'_>], found: &mut String) -> Result<(), AllocError> {
     Ok(())
 }
 
-/// Adds which lines say nothing, and how many stand behind those at the front.
+/// Adds which lines are quiet, and how many come after the quiet ones at the front.
 fn add_quiet(lines: &[Line<'_>], found: &mut String) -> Result<(), AllocError> {
     for line in lines {
         add(found, &is_quiet(line))?;
@@ -85,7 +86,7 @@ fn add_quiet(lines: &[Line<'_>], found: &mut String) -> Result<(), AllocError> {
     add(found, &skip_quiet(lines).len())
 }
 
-/// Adds how many lines belong to a block node at a column, and how many stand behind; the same of a flow node.
+/// Adds how many lines belong to a block node at a column, and how many come after; the same for a flow node.
 fn add_node(lines: &[Line<'_>], column: usize, found: &mut String) -> Result<(), AllocError> {
     let (front, behind) = block_lines(lines, column);
     add(found, &front.len())?;
@@ -126,7 +127,7 @@ fn add_block(
     }
 }
 
-/// Adds the parts of flow nodes, each with its line, and what is wrong behind them.
+/// Adds the parts of flow nodes, each with its line, and what is wrong after them.
 fn add_flow(alloc: Global, lines: &[Line<'_>], found: &mut String) -> Result<(), AllocError> {
     let [first, rest @ ..] = lines else {
         return found.push_str(" nothing");
@@ -146,7 +147,7 @@ fn add_part(part: &Part, found: &mut String) -> Result<(), AllocError> {
             found.push_str(if *quoted { " quoted" } else { "" })?;
             add_text(found, text.as_slice())
         }
-        Part::Key { text } => {
+        Part::Key { text, .. } => {
             found.push_str(" key")?;
             add_text(found, text.as_slice())
         }

@@ -1,9 +1,9 @@
-//! Runs the rows of tables, and compares what is answered with what stands there: `ksv_cases TABLE..`.
+//! Runs the rows of tables, and compares their answers with those in the table: `ksv_cases TABLE..`.
 //!
-//! It prints the rows that are answered otherwise, and for each table how many rows and replies it has. A row is a heading
-//! `== TITLE`, the lines of a description, a line `-- KIND` that says what is done with it, and then questions and
-//! replies, each reply on a line that begins with `>`. What the kinds do stands in `answers`, and how a description may be
-//! written in short in `described`.
+//! It prints the rows whose answers differ, and for each table how many rows and replies it has. A row is a heading
+//! `== TITLE`, the lines of a description, a line `-- KIND` for what is done with it, and then questions and
+//! replies, each reply on a line that begins with `>`. `answers` explains the kinds, and `described` how a
+//! description may be shortened.
 #![tactic(auto)]
 
 mod answers;
@@ -25,7 +25,7 @@ use crate::row::{Row, row_of};
 use std::process::ExitCode;
 use std::{env, fs, io};
 
-/// How many rows and replies a table has, and how many of the rows are answered otherwise.
+/// How many rows and replies a table has, and how many of the rows have another answer.
 #[derive(Clone, Copy)]
 struct Tally {
     rows: usize,
@@ -33,7 +33,7 @@ struct Tally {
     wrong: usize,
 }
 
-/// Runs a row that stands on this line of a table; prints how it goes where it goes otherwise.
+/// Runs a row that is on this line of a table; prints the answer if it differs.
 fn run_row(rt: &HostRuntime, tally: &mut Tally, line: usize, row: Row<'_>) -> io::Result<()> {
     let mut questions = String::new(rt.alloc());
     let mut wanted = String::new(rt.alloc());

@@ -1,11 +1,11 @@
 //! Names in expressions: what is wrong with them, and the numbers that they are given.
 //!
-//! A question about an expression has behind its colon the number of the type in which it stands. `fault` tells what is
-//! wrong with the names of an expression `SITE PLACES EXPRESSION`, where of the places `s` says that it stands in a `seq`
-//! and `r` that it is repeated; `arguments` the same of a type's arguments. `numbers` tells the numbers of an expression's
-//! names, `member` what an enum's member stands for, `type` the number of a type in `t` and those of its arguments. `add`
-//! adds a name to the table, `name:N` and `number` look for one. `built_in` and `built_in_at` tell a type of the language
-//! by a name and by a path.
+//! A question about an expression has after its colon the number of the type that the expression is in. `fault`
+//! prints what is wrong with the names of an expression `SITE PLACES EXPRESSION`; among the places `s` means that
+//! it is in a `seq` and `r` that it is repeated. `arguments` does the same for a type's arguments. `numbers` prints
+//! the numbers of an expression's names, `member` the value of an enum's member, `type` the number of a type in `t`
+//! and those of its arguments. `add` adds a name to the table, `name:N` and `number` look one up. `built_in` and
+//! `built_in_at` print a type of the language by a name and by a path.
 
 use crate::question::{Question, question_of};
 use crate::shown::{add, add_debug};
@@ -20,7 +20,7 @@ use ksv_schema_scope::Scopes;
 use ksv_yaml::read;
 use std::alloc::{AllocError, Global};
 
-/// Adds what is answered to questions about names in the description of a text.
+/// Adds the answers to questions about names in the description of a text.
 pub(crate) fn add_names(
     alloc: Global,
     text: &[u8],
@@ -36,7 +36,7 @@ pub(crate) fn add_names(
     }
 }
 
-/// Adds what is answered to questions about names; the table of names grows with them.
+/// Adds the answers to questions about names; the table of names grows with them.
 fn add_answers(
     alloc: Global,
     scopes: &Scopes<'_>,
@@ -51,7 +51,7 @@ fn add_answers(
     Ok(())
 }
 
-/// Adds what is answered to a question about names.
+/// Adds the answer to a question about names.
 fn add_answer(
     alloc: Global,
     scopes: &Scopes<'_>,
@@ -81,7 +81,7 @@ fn add_answer(
     }
 }
 
-/// Adds what is answered to a question about the table of names alone.
+/// Adds the answer to a question about the table of names alone.
 fn add_in_table(
     names: &mut Names,
     question: Question<'_>,
@@ -161,7 +161,7 @@ fn add_numbers(
     add_numbered(&expr, found)
 }
 
-/// Adds what an enum's member stands for.
+/// Adds the value of an enum's member.
 fn add_member(
     scopes: &Scopes<'_>,
     within: usize,
@@ -174,7 +174,7 @@ fn add_member(
     }
 }
 
-/// Adds what is answered to a question about a type: whether it is one of the language, what is wrong with its arguments,
+/// Adds the answer to a question about a type: whether it is one of the language, what is wrong with its arguments,
 /// or its number in the type `t` and those of its arguments' names.
 fn add_type(
     scopes: &Scopes<'_>,
@@ -248,7 +248,7 @@ fn add_name(name: &Name, found: &mut String) -> Result<(), AllocError> {
     add_debug(found, &name.number)
 }
 
-/// The same of arguments.
+/// The same for arguments.
 #[cycle(numbers)]
 fn add_all_numbered(arguments: &[Expr], found: &mut String) -> Result<(), AllocError> {
     for argument in arguments {

@@ -1,4 +1,4 @@
-//! A question of a table: a verb, perhaps with a word behind a colon, and the text that is asked about.
+//! A question of a table: a verb, perhaps with a word after a colon, and the text that is asked about.
 
 use crate::bytes::bytes_of;
 use bstr::ByteVec;
@@ -8,7 +8,7 @@ use std::alloc::{AllocError, Global};
 #[derive(Clone, Copy)]
 pub(crate) struct Question<'a> {
     pub(crate) verb: &'a str,
-    /// What stands behind the colon, if there is one.
+    /// The word after the colon, if there is one.
     pub(crate) word: &'a str,
     pub(crate) text: &'a str,
 }
@@ -21,12 +21,12 @@ pub(crate) fn question_of(line: &str) -> Question<'_> {
 }
 
 impl<'a> Question<'a> {
-    /// The number behind the colon.
+    /// The number after the colon.
     pub(crate) fn number(self) -> usize {
         self.word.parse().unwrap_or(0usize)
     }
 
-    /// The bytes of the text, in which `\n`, `\t`, `\x1b` and the like are escapes; behind `hex` those of its words.
+    /// The bytes of the text, in which `\n`, `\t`, `\x1b` and the like are escapes; after `hex` those of its words.
     pub(crate) fn bytes(self, alloc: Global) -> Result<Vec<u8>, AllocError> {
         if self.word == "hex" {
             bytes_of(alloc, self.text)

@@ -2,7 +2,7 @@
 
 use ksv::{Failed, Source};
 
-/// A source of these bytes that gives at most `step` of them at once, and fails after so many reads.
+/// A source of these bytes that gives at most `step` of them at once, and fails after this many reads.
 #[derive(Drop)]
 pub(crate) struct Pieces<'a> {
     pub(crate) left: &'a [u8],

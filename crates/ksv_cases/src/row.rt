@@ -7,7 +7,7 @@ use std::alloc::AllocError;
 pub(crate) struct Row<'a> {
     /// The lines of the description, with the heading in front.
     pub(crate) described: &'a str,
-    /// What stands behind `--`.
+    /// What comes after `--`.
     pub(crate) kind: &'a str,
     /// The lines below: questions and replies.
     exchange: &'a str,
@@ -25,7 +25,7 @@ pub(crate) fn row_of(text: &str) -> Option<Row<'_>> {
 }
 
 impl<'a> Row<'a> {
-    /// Adds the questions and the replies that are wanted, each with a line end.
+    /// Adds the questions and the expected replies, each with a line end.
     pub(crate) fn add_lines(
         self,
         questions: &mut String,

@@ -1,11 +1,12 @@
-//! What a description declares: its types, members and enums, and names that are looked for outwards.
+//! What a description declares: its types, members and enums, and the lookup of names from a type outwards.
 //!
-//! Numbers of types, members, enums and their entries stand behind the colon of a question. `all` tells how much there is,
-//! `type`, `member`, `enum` and `constant` one of these, `within` how many members and parameters a type has, `inherited`
-//! the byte order and the encoding there, `says KEY TEXT` what a member says at a key, `lists KEY` what stands at a key of
-//! a type. `path`, `named`, `id` and `value` look for a type and an enum, a member, the id of a number and the number of an
-//! id, `everywhere` for a type from all types; `misplaced` counts members that aren't found, and `again` entries that are
-//! there again. `plain` (to 255), `signed`, `written` and `order` read a number or a byte order alone.
+//! Numbers of types, members, enums and their entries come after the colon of a question. `all` prints how much
+//! there is, `type`, `member`, `enum` and `constant` one of these, `within` how many members and parameters a type
+//! has, `inherited` the byte order and the encoding there, `says KEY TEXT` the text of a member at a key,
+//! `lists KEY` what a type has at a key. `path`, `named`, `id` and `value` look up a type and an enum, a member,
+//! the id of a number and the number of an id, `everywhere` a type from all types; `misplaced` counts members that
+//! aren't found, and `again` entries that are there twice. `plain` (to 255), `signed`, `written` and `order` read a
+//! number or a byte order alone.
 
 use crate::question::{Question, question_of};
 use crate::shown::{add, add_debug, add_word};
@@ -18,7 +19,7 @@ use ksv_schema_scope::{
 use ksv_yaml::read;
 use std::alloc::{AllocError, Global};
 
-/// Adds what is answered to questions about what a text declares.
+/// Adds the answers to questions about what a text declares.
 pub(crate) fn add_scopes(
     alloc: Global,
     text: &[u8],
@@ -34,7 +35,7 @@ pub(crate) fn add_scopes(
     }
 }
 
-/// Adds what is answered to questions about what is declared.
+/// Adds the answers to questions about what is declared.
 fn add_answers(
     alloc: Global,
     scopes: &Scopes<'_>,
@@ -48,7 +49,7 @@ fn add_answers(
     Ok(())
 }
 
-/// Adds what is answered to a question about one thing that is declared, or about all.
+/// Adds the answer to a question about one thing that is declared, or about all.
 fn add_answer(
     alloc: Global,
     scopes: &Scopes<'_>,
@@ -107,7 +108,7 @@ fn add_all(scopes: &Scopes<'_>, found: &mut String) -> Result<(), AllocError> {
     add(found, &items_in(scopes.tree()).len())
 }
 
-/// Adds a type: its name with its line, how many keys it has, and the line of what it says.
+/// Adds a type: its name with its line, how many keys it has, and the line of its mapping.
 fn add_type(scopes: &Scopes<'_>, number: usize, found: &mut String) -> Result<(), AllocError> {
     add_word(found, scopes.id_of_type(number))?;
     add_debug(found, &scopes.line_of_type(number))?;
@@ -124,7 +125,7 @@ fn add_within(scopes: &Scopes<'_>, number: usize, found: &mut String) -> Result<
     add(found, &scopes.count_of_parameters(number))
 }
 
-/// Adds a member: its type, where it stands, its name and line.
+/// Adds a member: its type, its place there, its name and line.
 fn add_member(scopes: &Scopes<'_>, number: usize, found: &mut String) -> Result<(), AllocError> {
     let Some(member) = scopes.members().get(number) else {
         return found.push_str(" nothing");
@@ -135,7 +136,7 @@ fn add_member(scopes: &Scopes<'_>, number: usize, found: &mut String) -> Result<
     add(found, &member.line)
 }
 
-/// Adds whether a member has a key, the text that stands there, and whether it is this one.
+/// Adds whether a member has a key, the text at it, and whether it is this one.
 fn add_said(
     scopes: &Scopes<'_>,
     number: usize,
@@ -152,7 +153,7 @@ fn add_said(
     add(found, &says(entries, key.as_bytes(), text.as_bytes()))
 }
 
-/// Adds how many items, and how many entries, stand at a key of a type.
+/// Adds how many items, and how many entries, a type has at a key.
 fn add_lists(
     scopes: &Scopes<'_>,
     number: usize,
@@ -164,7 +165,7 @@ fn add_lists(
     add(found, &entries_at(keys, key).len())
 }
 
-/// Adds an enum: its type, its name and line, and twice how many entries it has.
+/// Adds an enum: its type, its name and line, and how many entries it has, found in two ways.
 fn add_enum(scopes: &Scopes<'_>, number: usize, found: &mut String) -> Result<(), AllocError> {
     let Some(it) = scopes.enums().get(number) else {
         return found.push_str(" nothing");
@@ -189,7 +190,8 @@ fn add_constant(
     }
 }
 
-/// Adds an entry of an enum: its enum, its key and id, its lines, and whether its number and its id stand there again.
+/// Adds an entry of an enum: its enum, its key and id, its lines, and whether its number and its id are there
+/// twice.
 fn add_entry(constant: &Constant<'_>, found: &mut String) -> Result<(), AllocError> {
     add(found, &constant.within)?;
     add_word(found, Some(constant.key))?;
@@ -200,7 +202,7 @@ fn add_entry(constant: &Constant<'_>, found: &mut String) -> Result<(), AllocErr
     add(found, &constant.is_id_again)
 }
 
-/// Adds how many entries all enums have, and how many of them are there again.
+/// Adds how many entries all enums have, and how many of them are there twice.
 fn add_again(alloc: Global, scopes: &Scopes<'_>, found: &mut String) -> Result<(), AllocError> {
     let constants = scopes.constants(alloc)?;
     let mut again = 0usize;
@@ -230,7 +232,7 @@ fn add_inherited(scopes: &Scopes<'_>, number: usize, found: &mut String) -> Resu
     add_word(found, scopes.encoding_of(number))
 }
 
-/// Adds the type and the enum that a path `a::b` is where it is used in a type.
+/// Adds the type and the enum that a path `a::b` means where it is used in a type.
 fn add_path(
     alloc: Global,
     scopes: &Scopes<'_>,
@@ -248,7 +250,7 @@ fn add_path(
     }
 }
 
-/// Adds the type that a path is in the first type, and in how many types it is that one.
+/// Adds the type that a path means in the first type, and in how many types it means that one.
 fn add_everywhere(
     alloc: Global,
     scopes: &Scopes<'_>,
@@ -265,7 +267,7 @@ fn add_everywhere(
     }
 }
 
-/// In how many types a path is the type that it is in the first.
+/// In how many types a path means the type that it means in the first.
 fn count_alike(scopes: &Scopes<'_>, path: &[String]) -> usize {
     let mut count = 0usize;
     for number in 0..scopes.count_of_types() {

@@ -11,14 +11,14 @@ use std::fmt::Write;
 /// The most bytes that are written.
 const ROOM: usize = 65_536;
 
-/// A description, and the words that tell the bytes of a file.
+/// A description, and the words for the bytes of a file.
 #[derive(Clone, Copy)]
 pub(crate) struct Given<'a> {
     pub(crate) ksy: &'a [u8],
     pub(crate) file: &'a str,
 }
 
-/// How an input is read: so many bytes at once, and so many times before the reader fails.
+/// How an input is read: this many bytes at once, and this many times before the reader fails.
 #[derive(Clone, Copy)]
 struct Cut {
     step: usize,
@@ -26,14 +26,14 @@ struct Cut {
 }
 
 impl Cut {
-    /// So many bytes at once, and no failure.
+    /// This many bytes at once, and no failure.
     fn every(step: usize) -> Cut {
         let reads = usize::MAX;
         Cut { step, reads }
     }
 }
 
-/// Adds what a session writes, or what the program says of a description that is refused; says how the session ends.
+/// Adds what a session writes, or the message for a description that is refused; returns how the session ends.
 fn add_output(
     alloc: Global,
     given: Given<'_>,
@@ -76,8 +76,8 @@ pub(crate) fn add_session(
     Ok(())
 }
 
-/// Adds what a session writes to these lines and how it ends, and where that is otherwise if the reader gives few bytes at
-/// once.
+/// Adds what a session writes to these lines and how it ends, and where that differs if the reader gives few bytes
+/// at once.
 pub(crate) fn add_cut(
     alloc: Global,
     given: Given<'_>,
@@ -106,7 +106,7 @@ fn add_end(end: Option<End>, found: &mut String) -> Result<(), AllocError> {
     }
 }
 
-/// Adds what each line gives as a whole input of its own session.
+/// Adds what each line gives as the whole input of its own session.
 pub(crate) fn add_inputs(
     alloc: Global,
     given: Given<'_>,
@@ -120,7 +120,8 @@ pub(crate) fn add_inputs(
     Ok(())
 }
 
-/// Adds how many lines of the output a session writes whose reader fails after each number of bytes, and how it ends.
+/// Adds, for a reader that fails after each number of bytes, how many lines of the output its session writes, and
+/// how it ends.
 pub(crate) fn add_broken(
     alloc: Global,
     given: Given<'_>,

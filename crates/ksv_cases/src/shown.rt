@@ -1,4 +1,4 @@
-//! How values are written in a reply: each behind a space.
+//! How values are written in a reply: each after a space.
 
 use bstr::BStr;
 use std::alloc::AllocError;
@@ -9,7 +9,7 @@ pub(crate) fn add<T: Display>(found: &mut String, value: &T) -> Result<(), Alloc
     write!(found, " {value}")
 }
 
-/// Adds a value as it prints for those who look for faults.
+/// Adds a value in its debugging form.
 pub(crate) fn add_debug<T: Debug>(found: &mut String, value: &T) -> Result<(), AllocError> {
     write!(found, " {value:?}")
 }

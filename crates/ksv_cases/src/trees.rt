@@ -1,8 +1,8 @@
 //! Trees of texts.
 //!
-//! `read TEXT` tells the tree of a text, or its refusal, and then where a text that is cut off is answered wrongly; `once
-//! TEXT` tells alone whether there is one. In a tree each node and key has its line in front: `"x"` is a text, `[x, y, ]` a sequence and
-//! `{k: x, }` a mapping.
+//! `read TEXT` prints the tree of a text, or its refusal, and then where the text, cut off, gets a wrong answer;
+//! `once TEXT` prints only whether there is a tree. In a tree each node and key has its line in front: `"x"` is a
+//! text, `[x, y, ]` a sequence and `{k: x, }` a mapping.
 
 use crate::question::{Question, question_of};
 use crate::shown::{add, add_text, add_word};
@@ -10,7 +10,7 @@ use ksv_yaml::{Entry, Yaml, YamlFault, YamlKind, read};
 use std::alloc::{AllocError, Global};
 use std::fmt::Write;
 
-/// Adds what is answered to questions about texts.
+/// Adds the answers to questions about texts.
 pub(crate) fn add_trees(
     alloc: Global,
     questions: &str,
@@ -22,7 +22,7 @@ pub(crate) fn add_trees(
     Ok(())
 }
 
-/// Adds what is answered to a question about a text.
+/// Adds the answer to a question about a text.
 fn add_answer(alloc: Global, question: Question<'_>, found: &mut String) -> Result<(), AllocError> {
     let text = question.bytes(alloc)?;
     if question.verb == "once" {
@@ -40,7 +40,7 @@ fn add_once(alloc: Global, text: &[u8], found: &mut String) -> Result<(), AllocE
     }
 }
 
-/// Adds what is read from a text, and where it isn't answered once it is cut off.
+/// Adds what is read from a text, and where it has a wrong answer once it is cut off.
 pub(crate) fn add_tree(alloc: Global, text: &[u8], found: &mut String) -> Result<(), AllocError> {
     match read(alloc, text) {
         Ok(tree) => {
@@ -99,7 +99,8 @@ fn add_entry(entry: &Entry, found: &mut String) -> Result<(), AllocError> {
     found.push_str(", ")
 }
 
-/// At how many bytes a text can be cut off so that the rest has neither a tree nor a fault on one of its lines.
+/// A number of bytes after which the text can be cut off so that the front has neither a tree nor a fault on one of
+/// its lines.
 fn wrong_cut(alloc: Global, text: &[u8]) -> Option<usize> {
     let mut feeds = 0usize;
     let mut lines = 1usize;
@@ -115,7 +116,7 @@ fn wrong_cut(alloc: Global, text: &[u8]) -> Option<usize> {
     None
 }
 
-/// Whether a text of so many lines has a tree, or a fault on one of them.
+/// Whether a text of this many lines has a tree, or a fault on one of them.
 fn is_answered(alloc: Global, text: &[u8], lines: usize) -> bool {
     match read(alloc, text) {
         Ok(_) => true,

@@ -10,7 +10,7 @@ use std::fs::File;
 use std::io::{self, ErrorKind, Read};
 use std::process::ExitCode;
 
-/// The bytes of a file, no more than the first of them up to a limit.
+/// The bytes of a file, up to a limit.
 fn read_file(rt: &HostRuntime, path: &str, limit: u64) -> io::Result<Vec<u8>> {
     let mut bytes = Vec::new(rt.alloc());
     File::open(rt, path)?.take(limit).read_to_end(&mut bytes)?;
@@ -50,8 +50,8 @@ fn explore(rt: &HostRuntime, args: Args) -> Result<(), Stop> {
     }
 }
 
-/// Says on standard error why the program stops, and gives its status. No bytes are saved yet, so no file is named
-/// for them.
+/// Prints on standard error why the program stops, and gives its status. No bytes are saved yet, so no file is
+/// named for them.
 fn stopped<'a>(
     rt: &HostRuntime,
     stop: Stop,
@@ -73,8 +73,8 @@ fn refused_words(rt: &HostRuntime, error: Error) -> io::Result<ExitCode> {
     Ok(ExitCode::from(error.exit_code() as u8))
 }
 
-/// The words as texts. The first is `ksv`, whatever the file is called that the program was started from, since usage
-/// prints it.
+/// The words as texts. The first is `ksv`, whatever the name of the file that the program was started from, since
+/// usage prints it.
 fn texts<'a>(alloc: Global, words: &'a [String]) -> Result<Vec<&'a str>, AllocError> {
     let mut texts: Vec<&'a str> = Vec::new(alloc);
     texts.push("ksv")?;

@@ -28,7 +28,7 @@ pub data CaseValue : Type 0 where
   Negated : ℕ → CaseValue
   EnumValue : EnumMember → CaseValue
 
--- a case of a switch, in written order; `_` has no value
+-- a case of a switch, in the order of the text; `_` has no value
 pub record Case : Type 0 where
   pub value : Option CaseValue
   pub content : Content
@@ -38,13 +38,14 @@ pub data Choice : Type 0 where
   Always : Content → Choice
   Switch : expressions.Tree → List Case → Choice
 
--- how far it goes: a size, to the end of the stream, or by itself
+-- where it ends: after a size, at the end of the stream, or (without `size` and `size-eos`) where its content or
+-- its terminator ends it
 pub data Extent : Type 0 where
   Sized : expressions.Tree → Extent
   SizeEos : Extent
   ByItself : Extent
 
--- the byte behind it: whether it is passed over, whether it is a part of the value, and whether it must be there
+-- the byte that ends it: whether it is passed over, whether it is a part of the value, and whether it must be there
 pub record Terminator : Type 0 where
   pub byte : ℕ
   pub is_consumed : Bool
@@ -57,7 +58,7 @@ pub data Repeat : Type 0 where
   Expr : expressions.Tree → Repeat
   Until : expressions.Tree → Repeat
 
--- what an attribute of a `seq`, or an instance with a place, reads
+-- what an attribute of a `seq`, or a parse instance, reads
 pub record Field : Type 0 where
   pub condition : Option expressions.Tree
   pub repeat : Repeat
@@ -65,8 +66,8 @@ pub record Field : Type 0 where
   pub extent : Extent
   pub terminator : Option Terminator
 
--- a parameter; an attribute of `seq`; an instance at a place, in a stream of its own or not; an instance with a value, with
--- its condition, and as a member of which enum
+-- a parameter; an attribute of `seq`; a parse instance, with its place and perhaps a stream of its own; a value
+-- instance, with its condition, and as a member of which enum
 pub data MemberKind : Type 0 where
   Parameter : MemberKind
   Attribute : Field → MemberKind
@@ -92,7 +93,8 @@ pub record Enum : Type 0 where
   pub id : List ℕ
   pub members : List Numbered
 
--- A description. Its names are those of members, of which there are `known`, and then those that stand behind a dot alone.
+-- A description. Its names are those of members, of which there are `known`, and then those that are only after
+-- dots.
 pub record Description : Type 0 where
   pub types : List TypeOfObjects
   pub enums : List Enum
@@ -129,6 +131,6 @@ member_id d e number = option_and_then (λ x. option_map (λ m. m.id) (find (λ 
 abbrev pub number_of_name : Description → List ℕ → Option ℕ
 number_of_name d text = position_from (bytes_eq text) 0 (take d.known d.names)
 
--- the bytes of a name or an id, which are a text
+-- the bytes of a name or an id, if they are a text
 unfoldable pub as_text : List ℕ → Option (List ℕ)
 as_text bytes = if is_utf8 bytes then Some bytes else None

@@ -1,4 +1,5 @@
--- Tables of names: each name stands once, and its place is its number; and the names behind the dots of an expression.
+-- Tables of names: each name is there once, and its place is its number; and the names after the dots of an
+-- expression.
 use Rattle.std.specs.Prelude.{◌≡◌, ℕ, if◌then◌else◌, IsTrue, Bool, List, [], ◌∷◌, ◌++◌, Option, Some, is_some, slice_get}
 use Rattle.std.specs.List.{list_all, list_any, position_from}
 use Rattle.std.specs.Str.{bytes_eq}
@@ -6,7 +7,7 @@ use Rattle.ksv_expr_tree.specs.Tree.{Tree, literal, named, special, member, unar
 
 -- ---- tables of names
 
--- each name once, where it first stands, behind names that are there already
+-- adds names to a table: each once, where it first occurs, after the names that are there already
 abbrev pub distinct_behind : List (List ℕ) → List (List ℕ) → List (List ℕ)
 distinct_behind before [] = before
 distinct_behind before (name ∷ names) = distinct_behind (if list_any (bytes_eq name) before then before else before ++ name ∷ []) names
@@ -18,7 +19,7 @@ distinct names = distinct_behind [] names
 unfoldable pub number_in : List (List ℕ) → List ℕ → Option ℕ
 number_in names name = position_from (bytes_eq name) 0 names
 
--- ---- the names behind dots
+-- ---- the names after dots
 
 unfoldable mutual
   pub dotted : Tree → List (List ℕ)

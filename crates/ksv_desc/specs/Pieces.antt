@@ -1,4 +1,4 @@
--- What the pieces of a description in the code are to its definition.
+-- The plain data of the code's pieces of a description.
 use Rattle.std.specs.Prelude.{map, option_map, string_bytes}
 use Rattle.ksv_expr_tree.specs.Tree.{view, literal_of, arguments_of}
 use Rattle.ksv_desc.specs.declared.content.Content.{Content as CodeContent}

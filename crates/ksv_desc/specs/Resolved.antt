@@ -1,4 +1,5 @@
--- Each number in a description leads to something: names, types, enums and their members; and each parameter has its argument.
+-- Each number in a description belongs to a name, a type, an enum or an enum's member in it; and each parameter has
+-- its argument.
 use Rattle.std.specs.Prelude.{◌≡◌, ℕ, ◌<◌, ◌≤◌, suc, Bool, true, false, List, [], ◌∷◌, length, filter, Option, Some, None, slice_get}
 use Rattle.std.specs.Option.{option_map_or}
 use Rattle.ksv_expr_tree.specs.Tree.{Tree, literal, named, special, member, unary, binary, logical, choice, field, special_field, call, index, cast, Arguments, no_arguments, argument, Word}
@@ -7,29 +8,28 @@ use Rattle.ksv_desc.specs.Names.{AreDistinct}
 use Rattle.ksv_desc.specs.Description.{Content, Bytes, Fixed, Number, Characters, Object, CaseValue, Literal, Negated, EnumValue, Case, Choice, Always, Switch, Extent, Sized, SizeEos, ByItself, Repeat, Once, Eos, Expr, Until, Field, MemberKind, Parameter, Attribute, ParseInstance, ValueInstance, MemberOfType, Description, member_id}
 
 -- how many arguments there are
--- how many arguments there are
 abbrev pub count : Arguments → ℕ
 count no_arguments = 0
 count (argument e es) = suc (count es)
 
--- each of a list is so
+-- it holds for each of a list
 abbrev pub Each : {A : Type 0} → (A → Type 0) → List A → Type 0
 Each P [] = Unit {0}
 Each P (x ∷ xs) = P x × Each P xs
 
--- what may be left away is so, where it is there
+-- it holds for something optional, if that is there
 abbrev pub IfAny : {A : Type 0} → (A → Type 0) → Option A → Type 0
 IfAny P None = Unit {0}
 IfAny P (Some x) = P x
 
--- what must be there is so
+-- something is there, and it holds for that
 abbrev pub IsThere : {A : Type 0} → (A → Type 0) → Option A → Type 0
 IsThere P None = ⊥
 IsThere P (Some x) = P x
 
 -- ---- expressions
 
--- a name has the number of its text, a type one of the types, and a member is one of its enum with its id
+-- a name has the number of its text, a type is one of the types, and a member is one of its enum with its id
 abbrev pub IsNamed : Description → Word → Type 0
 IsNamed d w = IsThere (λ n. slice_get d.names n ≡ Some w.text) w.number
 
@@ -71,7 +71,7 @@ is_parameter m = elim m.kind [ Parameter ↦ true | Attribute f ↦ false | Pars
 abbrev pub parameters : Description → ℕ → List MemberOfType
 parameters d t = option_map_or (λ x. filter is_parameter x.members) (slice_get d.types t) []
 
--- an object of a type that there is, with an argument for each of its parameters
+-- an object of an existing type, with an argument for each of its parameters
 pub record IsResolvedObject (d : Description) (t : ℕ) (es : Arguments) : Type 0 where
   pub type : IsType d t
   pub as_many : count es ≡ length (parameters d t)
@@ -125,7 +125,7 @@ IsResolvedMember d m = (m.name < d.known) × IsResolvedKind d m.kind
 
 -- ---- a description
 
--- each name stands once, those of members before the others
+-- each name is there once, those of members before the others
 pub record IsResolved (d : Description) : Type 0 where
   pub distinct : AreDistinct d.names
   pub known : d.known ≤ length d.names

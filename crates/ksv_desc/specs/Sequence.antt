@@ -1,4 +1,4 @@
--- Which members stand in a `seq`.
+-- Which members are in a `seq`.
 use Rattle.std.specs.Prelude.{Bool, true, false}
 use Rattle.ksv_desc.specs.declared.members.MemberKind.{MemberKind}
 use Rattle.ksv_desc.specs.declared.members.MemberKind.TheVariants.{Parameter, Attribute, ParseInstance, ValueInstance}

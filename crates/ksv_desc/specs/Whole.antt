@@ -1,4 +1,4 @@
--- What a whole description in the code is to its definition.
+-- The plain data of a whole description in the code.
 use Rattle.std.specs.Prelude.{map}
 use Rattle.ksv_desc.specs.declared.pieces.Pieces.{Pieces}
 use Rattle.ksv_desc.specs.Description.{Description}

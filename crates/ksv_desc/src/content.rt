@@ -28,7 +28,7 @@ pub enum Content {
     Object {
         /// The type's number.
         type_number: u32,
-        /// What the type's parameters are given.
+        /// The arguments for the type's parameters.
         arguments: Vec<Expr>,
     },
 }
@@ -38,7 +38,7 @@ pub enum Content {
 pub enum CaseValue {
     /// A number, truth value or text.
     Literal(Literal),
-    /// The number below zero that is the opposite of this one, which is at most 2^63.
+    /// The negative of this number, which is at most 2^63.
     Negated(u64),
     /// A member of an enum.
     Member(EnumMember),
@@ -62,7 +62,7 @@ pub enum Choice {
     Switch {
         /// What is compared.
         on: Expr,
-        /// The cases in written order.
+        /// The cases in the order of the text.
         cases: Vec<Case>,
     },
 }

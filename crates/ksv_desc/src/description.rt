@@ -13,7 +13,7 @@ use std::marker::Model;
 
 /// A description: its types with their members, its enums and the names of all members, each known by its number.
 ///
-/// Every reference is resolved: each number in it leads to something.
+/// Every reference is resolved: each number in it belongs to something in the description.
 #[derive(Drop)]
 pub struct Desc {
     pieces: Pieces,
@@ -45,21 +45,21 @@ impl Desc {
         Desc { pieces }
     }
 
-    /// Each reference of the description leads to something. It does nothing: a caller's proof learns its clause.
+    /// Each reference of the description is resolved. It does nothing: a caller's proof learns its clause.
     pub fn references_are_resolved(&self)
         ensures { IsResolved (plain_pieces self.now) }
     {
         let _ = &self.pieces;
     }
 
-    /// A name, and the empty text for a number that no name has.
+    /// A name; the empty text for a number without one.
     pub fn name(&self, number: u32) -> &str
         ensures { result.now ≡ name (plain_pieces self.now) number }
     {
         self.pieces.names.name(number)
     }
 
-    /// The name of a type, of the root its own id, and the empty text for a number that no type has.
+    /// The name of a type (for the root, its own id); the empty text for a number without a type.
     pub fn type_id(&self, number: u32) -> &str
         ensures { result.now ≡ type_id (plain_pieces self.now) number }
     {
@@ -69,7 +69,7 @@ impl Desc {
         }
     }
 
-    /// The numbers of the names of a type's members, in written order.
+    /// The numbers of the names of a type's members, in the order of the text.
     #[tactic(auto, using(crate::proofs::Readers::members_seen))]
     pub fn members(&self, number: u32) -> &[u32]
         ensures { result.now ≡ members (plain_pieces self.now) number }
@@ -80,7 +80,7 @@ impl Desc {
         }
     }
 
-    /// The numbers of the names of those of a type's members that stand in its `seq`.
+    /// The numbers of the names of those of a type's members that are in its `seq`.
     #[tactic(auto, using(crate::proofs::Readers::members_seen))]
     pub fn fields(&self, number: u32) -> &[u32]
         ensures { result.now ≡ fields (plain_pieces self.now) number }
@@ -91,7 +91,7 @@ impl Desc {
         }
     }
 
-    /// The name of an enum, and the empty text for a number that no enum has.
+    /// The name of an enum; the empty text for a number without an enum.
     pub fn enum_id(&self, number: u32) -> &str
         ensures { result.now ≡ enum_id (plain_pieces self.now) number }
     {
@@ -101,7 +101,7 @@ impl Desc {
         }
     }
 
-    /// What a number stands for in an enum.
+    /// The id that a number has in an enum.
     pub fn member_id(&self, enumeration: u32, number: i128) -> Option<&str>
         ensures { option_map (λ s. s.now) result ≡ member_id (plain_pieces self.now) enumeration number }
     {

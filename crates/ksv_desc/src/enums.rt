@@ -1,11 +1,11 @@
 //! Enums.
 
-/// A number of an enum.
+/// An entry of an enum.
 #[derive(Drop)]
 pub struct EnumEntry {
     /// The number.
     pub number: i128,
-    /// What it stands for.
+    /// Its id.
     pub id: String,
 }
 
@@ -14,7 +14,7 @@ pub struct EnumEntry {
 pub struct EnumDesc {
     /// Its name.
     pub id: String,
-    /// Its numbers, in written order.
+    /// Its entries, in the order of the text.
     pub entries: Vec<EnumEntry>,
 }
 
@@ -23,7 +23,7 @@ impl EnumDesc {
     ghost use Rattle.std.specs.Ordering.{int_eq};
     ghost use Rattle.ksv_desc.specs.Pieces.{plain_enum};
 
-    /// What a number stands for in it.
+    /// The id of a number in it.
     pub fn id_of(&self, number: i128) -> Option<&str>
         ensures { option_map (λ s. s.now) result ≡ option_map (λ m. m.id) (find (λ m. int_eq number m.number) (plain_enum self.now).members) }
     {

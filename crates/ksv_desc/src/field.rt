@@ -1,16 +1,16 @@
-//! How an attribute, or an instance with a place, is read.
+//! How an attribute or a parse instance is read.
 
 use crate::content::Choice;
 use ksv_expr_tree::Expr;
 
-/// How far something goes.
+/// Where something ends.
 #[derive(Drop)]
 pub enum Extent {
-    /// So many bytes.
+    /// After this many bytes.
     Sized(Expr),
-    /// To the end of the stream.
+    /// At the end of the stream.
     SizeEos,
-    /// As far as it goes by itself.
+    /// Without `size` or `size-eos`: at its terminator, or where its content ends.
     ByItself,
 }
 
@@ -19,7 +19,7 @@ pub enum Extent {
 pub struct Terminator {
     /// The byte.
     pub byte: u8,
-    /// Whether it is passed over.
+    /// Whether what follows begins after it.
     pub is_consumed: bool,
     /// Whether it is a part of the value.
     pub is_included: bool,
@@ -34,23 +34,23 @@ pub enum Repeat {
     Once,
     /// To the end of the stream.
     Eos,
-    /// So many times.
+    /// This many times.
     Expr(Expr),
-    /// Until this holds of an element.
+    /// Until this is true of an element.
     Until(Expr),
 }
 
-/// What an attribute of a `seq`, or an instance with a place, reads.
+/// What an attribute of a `seq`, or a parse instance, reads.
 #[derive(Drop)]
 pub struct Field {
-    /// It is there only where this holds.
+    /// It is there only if this is true.
     pub condition: Option<Expr>,
     /// How often it is read.
     pub repeat: Repeat,
     /// What is read.
     pub choice: Choice,
-    /// How far it goes.
+    /// Where it ends.
     pub extent: Extent,
-    /// The byte behind it.
+    /// The byte that ends it.
     pub terminator: Option<Terminator>,
 }

@@ -2,7 +2,8 @@
 
 ghost use Rattle.ksv_desc.specs.Names.{NamesAreTabled};
 
-/// A table has the names that were added to it and those that were there before, and the place of each is its number.
+/// A table has the names that were added to it and those that were there before, and the place of each is its
+/// number.
 pub fn names_are_tabled()
     ensures { NamesAreTabled }
 {}

@@ -10,18 +10,18 @@ pub enum MemberKind {
     Parameter,
     /// An attribute of a `seq`.
     Attribute(Field),
-    /// An instance with a place.
+    /// A parse instance.
     ParseInstance {
         /// Its place.
         place: Expr,
-        /// The stream in which it stands, where that isn't the object's own.
+        /// Its stream, if that isn't the object's own.
         stream: Option<Expr>,
         /// What it reads there.
         field: Field,
     },
-    /// An instance with a value.
+    /// A value instance.
     ValueInstance {
-        /// It is there only where this holds.
+        /// It is there only if this is true.
         condition: Option<Expr>,
         /// Its value.
         value: Expr,

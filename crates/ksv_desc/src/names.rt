@@ -10,10 +10,10 @@ use ksv_expr_tree::Expr;
 use std::alloc::{AllocError, Global};
 use std::marker::Model;
 
-/// How many names a table may have.
+/// How many names a table may have at most.
 const MOST: usize = 0x1_0000_0000;
 
-/// A table of names, each of which stands there once and has its place as its number.
+/// A table of names. Each name is there once, and its place is its number.
 #[derive(Drop)]
 pub struct Names {
     names: IndexSet<String>,
@@ -51,7 +51,7 @@ impl Names {
         self.len() == 0
     }
 
-    /// Adds a name, if it isn't there.
+    /// Adds a name, unless it is there.
     pub fn add(&mut self, name: &str) -> Result<(), AllocError>
         ensures added { OnOk result (self.new ≡ distinct_behind self.old (name.now ∷ [])) }
         ensures kept { OnErr result (self.new ≡ self.old) }
@@ -67,7 +67,7 @@ impl Names {
         Ok(())
     }
 
-    /// Adds the names behind the dots of an expression. Where memory is refused, some of them are there.
+    /// Adds the names after the dots of an expression. If memory is refused, some of them are added.
     #[tactic(auto, unfolding(crate::specs::Code::dotted_in))]
     pub fn add_dotted(&mut self, expr: &Expr) -> Result<(), AllocError>
         ensures { OnOk result (self.new ≡ distinct_behind self.old (dotted (view expr.now))) }
@@ -75,7 +75,7 @@ impl Names {
         add_in(self, expr)
     }
 
-    /// Adds the names behind the dots of a type's arguments. Where memory is refused, some of them are there.
+    /// Adds the names after the dots of a type's arguments. If memory is refused, some of them are added.
     pub fn add_all_dotted(&mut self, arguments: &[Expr]) -> Result<(), AllocError>
         ensures { OnOk result (self.new ≡ distinct_behind self.old (all_dotted (arguments_of (map view arguments.now)))) }
     {
@@ -104,7 +104,7 @@ impl Names {
     }
 }
 
-/// Adds the names behind the dots of an expression.
+/// Adds the names after the dots of an expression.
 #[cycle(dots)]
 #[tactic(auto, using(crate::proofs::Dots::steps, crate::proofs::Dots::leaves))]
 fn add_in(names: &mut Names, expr: &Expr) -> Result<(), AllocError>
@@ -136,7 +136,7 @@ fn add_in(names: &mut Names, expr: &Expr) -> Result<(), AllocError>
     }
 }
 
-/// The same of arguments.
+/// The same for arguments.
 #[cycle(dots)]
 fn add_in_each(names: &mut Names, arguments: &[Expr]) -> Result<(), AllocError>
     ensures { OnOk result (names.new ≡ distinct_behind names.old (all_dotted (arguments_of (map view arguments.now)))) }

@@ -6,7 +6,7 @@ ghost use Rattle.ksv_desc.specs.Sequence.{is_attribute};
 use crate::members::MemberDesc;
 use std::alloc::{AllocError, Global};
 
-/// A type: its name (of the root its own id), and its members in written order.
+/// A type: its name (for the root, its own id), and its members in the order of the text.
 #[derive(Drop)]
 pub struct TypeDesc {
     pub(crate) id: String,
@@ -28,7 +28,7 @@ fn names_of(alloc: Global, members: &[MemberDesc]) -> Result<Vec<u32>, AllocErro
     Ok(names)
 }
 
-/// The numbers of the names of those that stand in a `seq`.
+/// The numbers of the names of those in a `seq`.
 fn fields_of(alloc: Global, members: &[MemberDesc]) -> Result<Vec<u32>, AllocError>
     ensures { IfOk result (λ v. v.items ≡ map (λ m. m.name) (filter is_attribute members.now)) }
 {

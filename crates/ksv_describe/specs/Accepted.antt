@@ -1,4 +1,5 @@
--- Which texts describe a file: those that spell a tree which states a description, if that is one of those that are served so far.
+-- Which texts describe files: those that spell a tree which states a description, if that description is served so
+-- far.
 use Rattle.std.specs.Prelude.{◌≡◌, ℕ, true, List}
 use Rattle.ksv_yaml_tree.specs.Tree.{Tree}
 use Rattle.ksv_yaml.specs.Text.{Spells}

@@ -14,7 +14,7 @@ use ksv_schema::{DescFault, DescFaultKind, load};
 use ksv_yaml::{YamlFault, YamlKind, read};
 use std::alloc::Global;
 
-/// What a message tells of a description that isn't served yet.
+/// The message for a description that isn't served yet.
 const NOT_SERVED: Stop = Stop::Line {
     line: 1,
     code: "S8",
@@ -22,7 +22,7 @@ const NOT_SERVED: Stop = Stop::Line {
     at: None,
 };
 
-/// A line or a place as messages tell it.
+/// A line or a place as messages have it.
 fn shown(number: usize) -> u32 {
     u32::try_from(number).unwrap_or(u32::MAX)
 }
@@ -72,7 +72,7 @@ fn description_text(kind: DescFaultKind) -> &'static str {
     }
 }
 
-/// The place in an expression at which it is none.
+/// The place of the fault in an expression.
 fn place(kind: DescFaultKind) -> Option<u32> {
     match kind {
         DescFaultKind::NoExpression(ExprFault { at, .. }) => Some(shown(at)),
@@ -80,7 +80,7 @@ fn place(kind: DescFaultKind) -> Option<u32> {
     }
 }
 
-/// Why the program stops where a text has no tree.
+/// Why the program stops if a text has no tree.
 fn of_yaml(fault: YamlFault) -> Stop
     ensures { fault.kind ≡ yaml_kinds.NoMemory → result ≡ Stop.NoMemory }
 {
@@ -95,7 +95,7 @@ fn of_yaml(fault: YamlFault) -> Stop
     }
 }
 
-/// Why the program stops where a tree states no description.
+/// Why the program stops if a tree states no description.
 fn of_description(fault: DescFault) -> Stop
     ensures { fault.kind ≡ kinds.NoMemory → result ≡ Stop.NoMemory }
 {
@@ -110,8 +110,8 @@ fn of_description(fault: DescFault) -> Stop
     }
 }
 
-/// Reads the text of a description. It is refused where it spells no tree, where its tree states no description, and
-/// where the description has a feature that isn't served yet.
+/// Reads the text of a description. It is refused if it spells no tree, if its tree states no description, or if
+/// the description has a feature that isn't served yet.
 pub fn describe(alloc: Global, ksy: &[u8]) -> Result<Desc, Stop>
     ensures described { IfOk result (λ desc. Describes ksy.now (plain_pieces desc)) }
     ensures refused { IfErr result (λ stop. (stop ≡ Stop.NoMemory) ⊎ ((d : Description) → Describes ksy.now d → ⊥)) }

@@ -120,6 +120,8 @@ refused_texts =
     behind (codes "    type: strz" ∷ codes "    encoding: utf-8" ∷ codes "    terminator: 1" ∷ []) 7 8 ∷
     -- a terminator of an object
     behind (codes "    type: t" ∷ codes "    terminator: 1" ∷ codes "types:" ∷ codes "  t: {}" ∷ []) 6 8 ∷
+    -- a terminator of an unknown type, which is at fault alone
+    behind (codes "    terminator: 1" ∷ codes "    type: t" ∷ []) 6 4 ∷
     -- a terminator with a leading zero
     behind (codes "    terminator: 01" ∷ []) 5 8 ∷
     -- a terminator over a byte
@@ -178,6 +180,8 @@ refused_texts =
     behind (codes "    type: u1" ∷ codes "instances:" ∷ codes "  i:" ∷ codes "    type: u1" ∷ codes "    value: 1" ∷ []) 8 3 ∷
     -- a value with a terminator
     behind (codes "    type: u1" ∷ codes "instances:" ∷ codes "  i:" ∷ codes "    terminator: 1" ∷ codes "    value: 1" ∷ []) 8 1 ∷
+    -- a value with a key that is left out
+    behind (codes "    type: u1" ∷ codes "instances:" ∷ codes "  i:" ∷ codes "    process: zlib" ∷ codes "    value: 1" ∷ []) 8 8 ∷
     -- the place of an instance
     behind (codes "    type: u1" ∷ codes "instances:" ∷ codes "  i:" ∷ codes "    pos: _io.pos" ∷ codes "    type: u1" ∷ []) 8 8 ∷
     -- an id twice

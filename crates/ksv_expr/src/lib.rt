@@ -1,7 +1,7 @@
 //! Values of a described file, and expressions over them: their text, their tree and their evaluation.
 //!
-//! The parser (ksv_expr_syntax) and the evaluation (ksv_expr_eval) don't stand on each other, so that what only evaluates
-//! doesn't wait for the parser's proof.
+//! The parser (ksv_expr_syntax) and the evaluation (ksv_expr_eval) don't depend on each other, so that what only
+//! evaluates doesn't wait for the parser's proof.
 #![tactic(auto)]
 
 pub use ksv_expr_eval::{

@@ -87,7 +87,7 @@ fn paths_have_steps(rt: HostRuntime) -> Result<(), Fail> {
     Ok(())
 }
 
-/// The number of the integer that is made of a number.
+/// The number of the integer that is made from a number.
 fn again(number: i128) -> Option<i128> {
     match Integer::new(number) {
         Some(integer) => Some(integer.get()),
@@ -144,7 +144,7 @@ fn encodings_decode(rt: HostRuntime) -> Result<(), Fail> {
     Ok(())
 }
 
-/// Whether a text is refused so.
+/// Whether a text is refused with this kind at this place.
 fn is_refused(alloc: Global, text: &str, kind: ExprFaultKind, at: usize) -> bool {
     match parse(alloc, text.as_bytes()) {
         Ok(_) => false,

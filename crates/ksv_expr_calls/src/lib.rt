@@ -1,5 +1,5 @@
-//! Tests that call what expressions stand on themselves: paths, integers, bytes in parts, encodings, refused texts, and each
-//! law of expressions once.
+//! Tests that call directly what expressions depend on: paths, integers, bytes in parts, encodings, refused texts,
+//! and each law of expressions once.
 #![tactic(auto)]
 
 #[cfg(test)]

@@ -1,4 +1,4 @@
-//! Expressions, the questions that they put, and their ends.
+//! Expressions, the questions that they ask, and their ends.
 
 use crate::names::number as give_numbers;
 use crate::paths::path;
@@ -7,7 +7,7 @@ use crate::values::show;
 use ksv_expr::{Ctx, Expr, Got, eval, parse};
 use std::alloc::{AllocError, Global};
 
-/// The end of a row's expression where a heading says that it stands.
+/// The end of a row's expression at the place that a heading gives.
 pub(crate) fn end_of(alloc: Global, told: &str, row: &str) -> Result<String, AllocError> {
     let mut words = told.split(' ');
     let home = path(alloc, words.next().unwrap_or(""))?;
@@ -27,8 +27,8 @@ pub(crate) fn end_of(alloc: Global, told: &str, row: &str) -> Result<String, All
     end_in(alloc, &ctx, row)
 }
 
-/// The end of a row's expression, in front of it each question that isn't the row's, and behind it what a further reply
-/// makes of it.
+/// The end of a row's expression. In front of it each question that isn't the row's, and after it what a further
+/// reply changes.
 fn end_in(alloc: Global, ctx: &Ctx, row: &str) -> Result<String, AllocError> {
     let mut found = String::new(alloc);
     let mut parts = row.split("; ");
@@ -57,7 +57,7 @@ fn end_in(alloc: Global, ctx: &Ctx, row: &str) -> Result<String, AllocError> {
     Ok(found)
 }
 
-/// What an expression comes to with so many replies.
+/// The outcome of an expression with these replies.
 fn outcome(alloc: Global, expr: &Expr, ctx: &Ctx, replies: &[Got]) -> Result<String, AllocError> {
     let mut out = String::new(alloc);
     show(alloc, &eval(alloc, expr, ctx, replies)?, &mut out)?;

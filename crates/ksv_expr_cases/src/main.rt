@@ -1,18 +1,18 @@
-//! Takes the rows of tables, and compares what each comes to with what stands beside it: `ksv_expr_cases TABLE..`.
+//! Takes the rows of tables, and compares the result of each with the one beside it: `ksv_expr_cases TABLE..`.
 //!
-//! It prints the rows that come to something else, and for each table how many rows it has. A row is a line
-//! `INPUT => WANTED`, and belongs to the heading above it, `== KIND`, which says what the input is:
+//! It prints the rows that have another result, and for each table how many rows it has. A row is a line
+//! `INPUT => WANTED`, and belongs to the heading above it, `== KIND`, which defines what the input is:
 //!
 //! - `tree`: the text of an expression; wanted is its tree, or its refusal with the place;
 //! - `type`: the text of a type with its arguments, in the same way;
 //! - `path`: a path; wanted are the path, its parent, and the object that holds it;
-//! - `ask HOME FROM TO PLACE HERE INDEX ELEMENT`: an expression of the object at the path HOME, whose stream is from FROM
-//!   to TO, at the present PLACE, with faults at the path HERE, within the element of this INDEX and behind the ELEMENT of
-//!   this path (`-`: none). Behind the expression stand its questions with the reply to each, `; QUESTION -> REPLY`, and
-//!   wanted is the end.
+//! - `ask HOME FROM TO PLACE HERE INDEX ELEMENT`: an expression of the object at the path HOME, whose stream is
+//!   from FROM to TO, at the current PLACE, with faults at the path HERE, within the element of this INDEX and
+//!   after the ELEMENT of this path (`-`: none). After the expression come its questions with the reply to each,
+//!   `; QUESTION -> REPLY`; wanted is the end.
 //!
-//! `{HEX}` stands for these bytes, and `{N*TEXT}` for N times this text: in what is wanted, in inputs of the first two kinds,
-//! and in the paths and texts of the others.
+//! `{HEX}` means these bytes, and `{N*TEXT}` N times this text: in what is wanted, in inputs of the first two
+//! kinds, and in the paths and texts of the others.
 #![tactic(auto)]
 
 mod ask;
@@ -31,7 +31,7 @@ use std::alloc::{AllocError, Global};
 use std::process::ExitCode;
 use std::{env, fs, io};
 
-/// What an input comes to.
+/// The result of an input.
 fn answer(alloc: Global, heading: &str, input: &str) -> Result<String, AllocError> {
     let (kind, told) = heading.split_once(' ').unwrap_or((heading, ""));
     match kind {
@@ -42,7 +42,7 @@ fn answer(alloc: Global, heading: &str, input: &str) -> Result<String, AllocErro
     }
 }
 
-/// Whether an input comes to what is wanted; prints what it comes to where it doesn't.
+/// Whether an input has the wanted result; prints the result if it differs.
 fn is_right(rt: &HostRuntime, heading: &str, row: &str, wanted: &str) -> io::Result<bool> {
     let alloc = rt.alloc();
     let wanted = spelled(alloc, wanted)?;
@@ -54,14 +54,14 @@ fn is_right(rt: &HostRuntime, heading: &str, row: &str, wanted: &str) -> io::Res
     Ok(false)
 }
 
-/// How many rows there are, and how many of them come to something else.
+/// How many rows there are, and how many of them have another result.
 #[derive(Clone, Copy)]
 struct Tally {
     rows: usize,
     wrong: usize,
 }
 
-/// Takes the rows of a heading, which stands in front of them, and counts them.
+/// Takes the rows of a heading, which is in front of them, and counts them.
 fn take(rt: &HostRuntime, part: &str, tally: &mut Tally) -> io::Result<()> {
     let (heading, lines) = part.split_once('\n').unwrap_or((part, ""));
     for line in lines.split('\n') {
@@ -75,7 +75,7 @@ fn take(rt: &HostRuntime, part: &str, tally: &mut Tally) -> io::Result<()> {
     Ok(())
 }
 
-/// Takes the rows of a table; whether all come to what is wanted. What stands above the first heading says nothing.
+/// Takes the rows of a table; whether all have the wanted result. Text above the first heading has no meaning.
 fn is_right_table(rt: &HostRuntime, path: &str) -> io::Result<bool> {
     let table = fs::read_to_string(rt, path)?;
     let mut tally = Tally { rows: 0, wrong: 0 };

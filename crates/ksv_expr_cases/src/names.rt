@@ -29,7 +29,7 @@ pub(crate) fn name_of(number: u32) -> &'static str {
     "?"
 }
 
-/// What a member of an enum stands for: `animal` is the enum 0 and `plant` the enum 1.
+/// The value of an enum's member: `animal` is the enum 0 and `plant` the enum 1.
 fn given(name: &str) -> Option<EnumMember> {
     let (enum_number, number) = match name {
         "cat" => (0, 4),

@@ -5,7 +5,7 @@ use crate::spelled::spelled;
 use ksv_expr::{Path, Step};
 use std::alloc::{AllocError, Global};
 
-/// The path that `/o/items/3` writes; `/` is the root's. What leads nowhere is left out.
+/// The path of `/o/items/3`; `/` is the root's. Parts that lead nowhere are dropped.
 pub(crate) fn path(alloc: Global, text: &str) -> Result<Path, AllocError> {
     let told = spelled(alloc, text)?;
     let mut path = Path::root(alloc);

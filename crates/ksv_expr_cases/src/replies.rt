@@ -1,4 +1,4 @@
-//! The replies that rows write.
+//! The replies of rows.
 
 use crate::paths::path;
 use crate::spelled::spelled;
@@ -49,7 +49,7 @@ fn value(alloc: Global, word: &str, first: &str, second: &str) -> Result<Value, 
     })
 }
 
-/// A stream, which goes on to the file's end where `open` stands in place of its own.
+/// A stream, which goes on to the file's end if `open` is in the place of its own end.
 pub(crate) fn stream(from: &str, to: &str) -> Stream {
     Stream {
         from: number(from),
@@ -73,7 +73,7 @@ fn text(alloc: Global, string: &str) -> Result<Text, AllocError> {
     }
 }
 
-/// Lent bytes: `-` for none, the digits of those that are no text, and else the text's own.
+/// Lent bytes: `-` for none, digits for those that are no text, and otherwise the text's own.
 fn lent(word: &str) -> &[u8] {
     match word {
         "-" => b"",

@@ -2,7 +2,7 @@
 
 use std::alloc::{AllocError, Global};
 
-/// The bytes of a text in which `{HEX}` stands for these bytes, and `{N*TEXT}` for N times this text.
+/// The bytes of a text in which `{HEX}` means these bytes, and `{N*TEXT}` N times this text.
 pub(crate) fn spelled(alloc: Global, text: &str) -> Result<Vec<u8>, AllocError> {
     let mut bytes = Vec::new(alloc);
     for (before, piece) in text.split('{').enumerate() {
@@ -17,7 +17,7 @@ pub(crate) fn spelled(alloc: Global, text: &str) -> Result<Vec<u8>, AllocError> 
     Ok(bytes)
 }
 
-/// Adds the bytes that stand between braces.
+/// Adds the bytes that are between braces.
 fn add_told(alloc: Global, bytes: &mut Vec<u8>, told: &str) -> Result<(), AllocError> {
     match told.split_once('*') {
         Some((count, text)) => {

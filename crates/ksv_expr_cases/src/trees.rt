@@ -29,7 +29,7 @@ pub(crate) fn type_of(alloc: Global, text: &[u8]) -> Result<String, AllocError> 
     }
 }
 
-/// The code of a refusal, what it says, and its place.
+/// The code of a refusal, its text, and its place.
 fn refusal(alloc: Global, fault: ExprFault) -> Result<String, AllocError> {
     format!(in alloc; "{} {fault} at {}", fault.kind.code(), fault.at)
 }
@@ -91,7 +91,7 @@ fn show(alloc: Global, expr: &Expr, out: &mut String) -> Result<(), AllocError> 
     }
 }
 
-/// Adds an expression and what stands behind it.
+/// Adds an expression and what comes after it.
 #[cycle(trees)]
 fn show_before(
     alloc: Global,
@@ -117,7 +117,7 @@ fn show_call(
     out.push_str(")")
 }
 
-/// Adds arguments, with a `;` behind each.
+/// Adds arguments, with a `;` after each.
 #[cycle(trees)]
 fn show_arguments(alloc: Global, arguments: &[Expr], out: &mut String) -> Result<(), AllocError> {
     for argument in arguments {
@@ -139,7 +139,7 @@ fn show_member(member: &Member, out: &mut String) -> Result<(), AllocError> {
     out.push_str(member.name.as_str())
 }
 
-/// Adds names, with `::` behind each.
+/// Adds names, with `::` after each.
 fn show_path(path: &[String], out: &mut String) -> Result<(), AllocError> {
     for name in path {
         out.push_str(name.as_str())?;

@@ -4,7 +4,7 @@ use crate::paths::show_path;
 use ksv_expr::{EvalStep, Fault, Path, Stream, Value, Want};
 use std::alloc::{AllocError, Global};
 
-/// Adds what an evaluation came to: a question behind `? `, or a copy of the end.
+/// Adds the result of an evaluation: a question after `? `, or a copy of the end.
 pub(crate) fn show(alloc: Global, outcome: &EvalStep, out: &mut String) -> Result<(), AllocError> {
     match outcome {
         EvalStep::Need(want) => show_want(alloc, want, out),

@@ -1,15 +1,15 @@
--- What the integers' operators come to in the subject's own words: a floored division by its equation, and the operators on
--- bits bit by bit.
+-- The results of the integers' operators in mathematical terms: a floored division by its equation, and the
+-- operators on bits bit by bit.
 use Rattle.std.specs.Prelude.{◌≡◌, ◌≢◌, ℕ, ◌+◌, ◌-◌, ◌%◌, min, max, ℤ, pos, negsuc, ◌+ℤ◌, ◌*ℤ◌, ◌≤ℤ◌, ◌<ℤ◌}
 use Rattle.std.specs.Int.{bit_at}
 use Rattle.ksv_expr_eval.specs.Integers.{floored_quotient, floored_remainder, complement, bits_and, bits_or, bits_xor}
 
--- a remainder lies between 0 and the divisor, and is not the divisor
+-- a remainder is between 0 and the divisor, and is not the divisor
 abbrev pub IsWithin : ℤ → ℤ → Type 0
 IsWithin r (pos b) = (pos 0 ≤ℤ r) × (r <ℤ pos b)
 IsWithin r (negsuc b) = (negsuc b <ℤ r) × (r ≤ℤ pos 0)
 
--- a is q times b and r, which is what rounding the quotient down leaves
+-- a is q times b plus r, the remainder of the quotient rounded down
 pub record IsFloored (a b q r : ℤ) : Type 0 where
   pub whole : a ≡ q *ℤ b +ℤ r
   pub within : IsWithin r b

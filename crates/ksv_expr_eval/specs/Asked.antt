@@ -11,11 +11,11 @@ use Rattle.ksv_expr_value.specs.declared.value.Value.{Value}
 use Rattle.ksv_expr_eval.specs.declared.want.Want.{Want}
 use Rattle.ksv_expr_eval.specs.declared.replies.Opened.{Opened as Object}
 
--- A plan over wants, that ends in an A or in a kind of fault. All faults of an expression stand at one path.
+-- A plan over wants that ends in an A or in a kind of fault. All faults of an expression have one path.
 abbrev pub Eval : Type 0 → Type 0
 Eval A = Plan Want (λ _. Heard) FaultKind A
 
--- where faults stand, and the replies that are still to come
+-- the path of faults, and the replies that are left
 abbrev pub State : Type 0
 State = Replies Trail Heard Fault
 
@@ -49,7 +49,7 @@ abbrev pub in_bytes : Heard → Eval (List ℕ)
 in_bytes (Read bs) = Answer bs
 in_bytes _ = raise kinds.BadType
 
--- a question, whose answer has the form that is wanted
+-- a question whose answer must have the wanted form
 abbrev pub value_for : Want → Eval Value
 value_for w = Ask w in_value
 
@@ -65,6 +65,6 @@ truth_for w = Ask w in_truth
 abbrev pub bytes_for : Want → Eval (List ℕ)
 bytes_for w = Ask w in_bytes
 
--- what is heard of a want, whatever its form
+-- the answer to a want, whatever its form
 abbrev pub want_for : Want → Eval Heard
 want_for w = Ask w (λ h. Answer h)

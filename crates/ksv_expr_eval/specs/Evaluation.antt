@@ -1,4 +1,4 @@
--- The value of an expression: over any map from wants to answers, and resumed from replies. The first knows no replies.
+-- The value of an expression: over any map from wants to answers, and resumed from replies. The first doesn't use replies.
 use Rattle.std.specs.Prelude.{◌≡◌, ℕ, ◌+◌, ◌≤◌, ◌<◌, List, ◌++◌, length, map, take, slice_get, Some, Result, Ok, Err, if◌then◌else◌}
 use Rattle.ksv_plan.specs.Plan.{Ran, Need, Failed, Done, run}
 use Rattle.ksv_plan.specs.Asking.{and_then, answer_of, asks_of}
@@ -30,28 +30,28 @@ answer met s p = answer_of (fault_at s.here) met p
 abbrev pub Ev : (Want → Result Heard Fault) → Setting → Tree → Result Value Fault
 Ev met s e = answer met s (value_of s e)
 
--- the wants that it makes, in order
+-- the wants of the expression there, in order
 abbrev pub wants_made : (Want → Result Heard Fault) → Setting → Tree → List Want
 wants_made met s e = asks_of met (value_of s e)
 
 -- ---- resumed from replies
 
--- an evaluation that these replies answer
+-- an evaluation with these replies
 abbrev pub resumed : Setting → Tree → List (Result Heard Fault) → Ran Want Fault State Value
 resumed s e replies = run replying (value_of s e) (record { here = s.here; replies = replies })
 
--- what it came to
+-- its result
 abbrev pub outcome_of : Ran Want Fault State Value → EvalStep
 outcome_of (Need w s) = outcomes.Need w
 outcome_of (Failed f s) = outcomes.Done (Err f)
 outcome_of (Done v s) = outcomes.Done (Ok v)
 
--- it puts no further question
+-- it asks no further question
 abbrev pub IsDone : EvalStep → Type 0
 IsDone (outcomes.Need w) = ⊥
 IsDone (outcomes.Done r) = Unit {0}
 
--- How many wants an expression makes at most, whatever the replies are.
+-- How many wants an expression has at most, whatever the replies are.
 unfoldable pub most_wants : Tree → ℕ
 most_wants (literal c) = 0
 most_wants (named n) = 1
@@ -71,8 +71,8 @@ most_wants (cast e t) = most_wants e + 1
 
 -- ---- laws
 
--- Where the replies are the map's answers, the evaluation asks for what the expression wants, one want after the other, and
--- ends with the expression's value. Further replies change nothing.
+-- If the replies are the map's answers, the evaluation asks for what the expression wants, one want after the
+-- other, and ends with the expression's value. Further replies change nothing.
 pub record MeetsTruth (met : Want → Result Heard Fault) (s : Setting) (e : Tree) : Type 0 where
   pub ends : (more : List (Result Heard Fault)) → outcome_of (resumed s e (map met (wants_made met s e) ++ more)) ≡ outcomes.Done (Ev met s e)
   pub goes_on : (i : ℕ) → i < length (wants_made met s e) → (w : Want) × (slice_get (wants_made met s e) i ≡ Some w) × (outcome_of (resumed s e (map met (take i (wants_made met s e)))) ≡ outcomes.Need w)
@@ -84,7 +84,8 @@ TruthIsMet = (met : Want → Result Heard Fault) (s : Setting) (e : Tree) → Me
 abbrev pub IsBounded : Type 0
 IsBounded = (s : Setting) (e : Tree) (replies : List (Result Heard Fault)) → most_wants e ≤ length replies → IsDone (outcome_of (resumed s e replies))
 
--- The value of an expression by direct recursion on its form: the value of each part, and then what the form makes of them.
+-- The value of an expression by direct recursion on its form: first the values of its parts, and then the result of
+-- the form.
 pub record IsDirect (met : Want → Result Heard Fault) (s : Setting) : Type 0 where
   pub of_literal : (c : Constant) → Ev met s (literal c) ≡ Ok (literal_value c)
   pub of_name : (n : Word) → Ev met s (named n) ≡ answer met s (member_value s.home n.number)

@@ -1,4 +1,4 @@
--- What an expression is evaluated in, and what replies say.
+-- The context in which an expression is evaluated, and what replies mean.
 use Rattle.std.specs.Prelude.{ℕ, Bool, List, ◌++◌, Option, Result, Ok, Err}
 use Rattle.ksv_expr_value.specs.Trail.{Trail}
 use Rattle.ksv_expr_value.specs.declared.fault.Fault.{Fault}
@@ -7,8 +7,8 @@ use Rattle.ksv_expr_value.specs.declared.value.Value.{Value}
 use Rattle.ksv_expr_eval.specs.declared.want.Got.{Got}
 use Rattle.ksv_expr_eval.specs.declared.want.Got.TheVariants as gots
 
--- The object in which an expression is evaluated and that object's stream, the present place in the file, the number of the
--- element in which it stands, the path of the element just read, and the path at which faults stand.
+-- The object in which an expression is evaluated and that object's stream, the current place in the file, the
+-- number of the element that the expression belongs to, the path of the element just read, and the path of faults.
 pub record Setting : Type 0 where
   pub home : Trail
   pub stream : Stream
@@ -25,7 +25,7 @@ pub data Heard : Type 0 where
   Decided : Bool → Heard
   Read : List ℕ → Heard
 
--- what a reply says; of bytes it is their content, however they are cut in two
+-- what a reply means; for bytes it is their content, however they are cut in two
 abbrev pub heard : Got → Result Heard Fault
 heard (gots.Value v) = Ok (Valued v)
 heard (gots.Object t w) = Ok (Opened t w)

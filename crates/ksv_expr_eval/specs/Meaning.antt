@@ -1,6 +1,6 @@
--- What an expression means: what it asks, and what it makes of the answers. Operands are evaluated from left to right, and
--- the first fault ends the expression; `and`, `or` and `?:` take only what they need. The language is that of the Kaitai
--- Struct User Guide's expressions.
+-- What an expression means: what it asks, and what it does with the answers. Operands are evaluated from left to
+-- right, and the first fault ends the expression; `and`, `or` and `?:` take only what they need. The language is
+-- that of the Kaitai Struct User Guide's expressions.
 use Rattle.std.specs.Prelude.{ℕ, ◌+◌, ◌-◌, ◌==◌, Bool, true, false, not, nat_lt, ℤ, pos, negsuc, ◌-ℤ◌, List, [], ◌∷◌, Option, Some, None, if◌then◌else◌}
 use Rattle.std.specs.Str.{bytes_eq}
 use Rattle.ksv_plan.specs.Plan.{Answer, ◌>>=◌}
@@ -22,7 +22,7 @@ use Rattle.ksv_expr_value.specs.declared.value.Stream.{Stream}
 use Rattle.ksv_expr_value.specs.declared.value.Value.{Value}
 use Rattle.ksv_expr_value.specs.declared.value.Value.TheVariants as values
 use Rattle.ksv_expr_eval.specs.declared.want.Want.TheVariants as wants
-use Rattle.ksv_expr_value.specs.Trail.{Trail, root, child, holder}
+use Rattle.ksv_expr_value.specs.Trail.{Trail, element_limit, root, child, holder}
 use Rattle.ksv_expr_value.specs.Range.{ranged}
 use Rattle.ksv_expr_eval.specs.Methods.{method_named}
 use Rattle.ksv_expr_value.specs.Encodings.{encoding_named, decoded}
@@ -50,7 +50,7 @@ member_value q x = do
 
 -- the path of an element of a list
 unfoldable pub element_path : Trail → ℤ → Eval Trail
-element_path l (pos i) = if nat_lt i 1048576 then in_path (child l (steps.Index i)) else raise kinds.BadIndex
+element_path l (pos i) = if nat_lt i element_limit then in_path (child l (steps.Index i)) else raise kinds.BadIndex
 element_path l (negsuc i) = raise kinds.BadIndex
 
 -- the value of an element of a list
@@ -78,7 +78,7 @@ stream_of q = do
 
 -- ---- names alone
 
--- the number of the element in which the expression stands
+-- the number of the element that the expression belongs to
 abbrev pub index_value : Option ℕ → Eval Value
 index_value None = raise kinds.BadType
 index_value (Some i) = Answer (values.Int (pos i))
@@ -88,7 +88,7 @@ abbrev pub element_read : Option Trail → Eval Value
 element_read None = raise kinds.BadType
 element_read (Some p) = value_for (wants.Value p)
 
--- a name that the language gives a meaning
+-- a name to which the language gives a meaning
 unfoldable pub special_value : Setting → SpecialName → Eval Value
 special_value s specials.Root = Answer (values.Object root)
 special_value s specials.Parent = holder_of (holder s.home)
@@ -124,12 +124,12 @@ truth_value v = do
   b ← in_truth_value v
   Answer (values.Bool b)
 
--- the left operand decides alone: `and` where it is false, `or` where it is true
+-- the left operand decides alone: for `and` if it is false, for `or` if it is true
 abbrev pub decides : LogicalOperator → Bool → Bool
 decides logicals.And b = not b
 decides logicals.Or b = b
 
--- the same bytes, which are read where there are equally many
+-- the same bytes; they are read if there are equally many
 unfoldable pub same_bytes : ℕ → ℕ → ℕ → ℕ → Eval Bool
 same_bytes f t f' t' = if (t - f) == (t' - f') then (do
   a ← bytes_for (wants.Bytes f t)
@@ -176,13 +176,13 @@ binary_of op (values.Bytes f t) w = bytes_and op f t w
 binary_of op (values.Member e m) w = member_and op e m w
 binary_of op _ w = raise kinds.BadType
 
--- ---- behind a `.`
+-- ---- after a `.`
 
 -- an end minus a start
 abbrev pub distance : ℕ → ℕ → Eval Value
 distance end start = given (exactly (ranged (pos end -ℤ pos start)))
 
--- the size of a stream; where it is open, it goes on to the end of the file
+-- the size of a stream; an open one goes on to the end of the file
 abbrev pub size_to : ℕ → Option ℕ → Eval Value
 size_to from None = do
   n ← number_for wants.Size
@@ -192,13 +192,13 @@ size_to from (Some to) = distance to from
 unfoldable pub stream_size : Stream → Eval Value
 stream_size w = size_to w.from w.to
 
--- whether the present place is the end of the home's stream
+-- whether the current place is the end of the home's stream
 unfoldable pub at_end : Eval Value
 at_end = do
   b ← truth_for wants.Done
   Answer (values.Bool b)
 
--- a stream; the present place is one of the home's own stream
+-- a stream; only the home's own stream has a current place
 unfoldable pub stream_method : Setting → Bool → Stream → Method → Eval Value
 stream_method s own w methods.Size = stream_size w
 stream_method s own w methods.Place = if own then distance s.place w.from else raise kinds.BadType
@@ -223,7 +223,7 @@ list_method l methods.Last = last_element l
 list_method l methods.Size = list_size l
 list_method l _ = raise kinds.BadType
 
--- a method without parentheses, of a value that is no object
+-- a method without parentheses, of a value that isn't an object
 unfoldable pub method_of : Setting → Bool → Value → Method → Eval Value
 method_of s own (values.Int a) m = given (integer_method m a)
 method_of s own (values.Bool b) m = given (truth_method m b)
@@ -239,7 +239,7 @@ abbrev pub method_by : Setting → Bool → Value → Option Method → Eval Val
 method_by s own v None = raise kinds.BadType
 method_by s own v (Some m) = method_of s own v m
 
--- what a name behind a value gives: of an object its member, and of other values a method
+-- what a name after a value gives: for an object its member, for other values a method
 unfoldable pub field_of : Setting → Bool → Value → Word → Eval Value
 field_of s own (values.Object q) n = member_value q n.number
 field_of s own v n = method_by s own v (method_named n.text)
@@ -249,7 +249,7 @@ abbrev pub is_own_stream : Tree → Bool
 is_own_stream (special specials.Io) = true
 is_own_stream _ = false
 
--- a special name behind an object
+-- a special name after an object
 abbrev pub object_special : Trail → SpecialName → Eval Value
 object_special q specials.Root = Answer (values.Object root)
 object_special q specials.Parent = holder_of (holder q)
@@ -260,7 +260,7 @@ unfoldable pub special_of : Value → SpecialName → Eval Value
 special_of (values.Object q) n = object_special q n
 special_of _ n = raise kinds.BadType
 
--- the text that bytes spell; they are read even where the encoding is unknown
+-- the text that bytes spell; they are read even if the encoding is unknown
 abbrev pub decoded_text : Option (List ℕ) → Eval Value
 decoded_text None = raise kinds.BadText
 decoded_text (Some t) = Answer (values.Text t)
@@ -307,7 +307,7 @@ unfoldable pub byte_at : ℕ → ℕ → ℤ → Eval Value
 byte_at f t (pos i) = if nat_lt i (t - f) then byte_from (f + i) else raise kinds.BadIndex
 byte_at f t (negsuc i) = raise kinds.BadIndex
 
--- what stands at a place: of a list an element, of bytes a byte
+-- the item at an index: of a list an element, of bytes a byte
 unfoldable pub list_at : Trail → Value → Eval Value
 list_at l (values.Int i) = element_value l i
 list_at l _ = raise kinds.BadType
@@ -321,7 +321,7 @@ item_at (values.List l) i = list_at l i
 item_at (values.Bytes f t) i = bytes_at f t i
 item_at _ i = raise kinds.BadType
 
--- an object, where it has this type
+-- an object, if it has this type
 unfoldable pub object_of_type : Trail → ℕ → Eval Value
 object_of_type q t = do
   o ← opened_for (wants.Head q)
@@ -337,8 +337,8 @@ cast_to _ t = raise kinds.BadType
 
 -- ---- expressions
 
--- The value of an expression. Names, casts and members whose numbers aren't given are bad-type, and so is a call of other
--- than one or two arguments.
+-- The value of an expression. Names, casts and members without numbers are bad-type, and so is a call without one
+-- or two arguments.
 unfoldable pub value_of : Setting → Tree → Eval Value
 value_of s (literal c) = Answer (literal_value c)
 value_of s (named n) = member_value s.home n.number
@@ -385,6 +385,6 @@ value_of s (cast e t) = do
   v ← value_of s e
   cast_to v t.number
 
--- the same of an expression as the code holds it
+-- the same for an expression as the code holds it
 unfoldable pub meaning : Setting → Expr → Eval Value
 meaning s e = value_of s (view e)

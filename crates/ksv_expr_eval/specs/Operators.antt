@@ -1,5 +1,5 @@
--- What operators and methods make of values, where no question is asked. The operators' kinds, and that a value of another
--- kind is a fault, are this project's own; what each does is that of the Kaitai Struct User Guide.
+-- The results of operators and methods that ask no question. The operators' kinds, and that a value of another kind
+-- is a fault, are this project's own; what each does is that of the Kaitai Struct User Guide.
 use Rattle.std.specs.Prelude.{ℕ, ◌-◌, ◌==◌, Bool, true, false, not, ℤ, pos, neg_ℤ, ◌+ℤ◌, ◌-ℤ◌, ◌*ℤ◌, List, Option, Some, None, Result, Ok, Err, if◌then◌else◌}
 use Rattle.std.specs.Ordering.{nat_cmp, int_cmp, int_eq, is_lt, is_gt}
 use Rattle.std.specs.Cmp.Lexicographic.{slice_cmp}
@@ -24,7 +24,7 @@ use Rattle.ksv_expr_eval.specs.Texts.{joined, char_count, reversed, substring, t
 abbrev pub Answered : Type 0
 Answered = Result Value FaultKind
 
--- an exact integer, which is an overflow where it is outside the range
+-- an exact integer, which is an overflow if it is outside the range
 abbrev pub exactly : Option ℤ → Answered
 exactly None = Err kinds.Overflow
 exactly (Some z) = Ok (values.Int z)
@@ -45,13 +45,13 @@ abbrev pub shifted_right_by : ℤ → Option ℕ → Answered
 shifted_right_by a None = Err kinds.Overflow
 shifted_right_by a (Some n) = exactly (ranged (shifted_right a n))
 
--- what an operator of equality makes of whether two values are the same
+-- the result of an operator of equality, given whether two values are the same
 abbrev pub matched : BinaryOperator → Bool → Answered
 matched binary.Equal same = Ok (values.Bool same)
 matched binary.NotEqual same = Ok (values.Bool (not same))
 matched _ same = Err kinds.BadType
 
--- what an operator of order makes of how two values stand to each other
+-- the result of an operator of order, given the order of two values
 abbrev pub ordered : BinaryOperator → Ordering → Answered
 ordered binary.Less o = Ok (values.Bool (is_lt o))
 ordered binary.LessOrEqual o = Ok (values.Bool (not (is_gt o)))
@@ -85,7 +85,7 @@ abbrev pub joined_text : Option (List ℕ) → Answered
 joined_text None = Err kinds.TooMany
 joined_text (Some t) = Ok (values.Text t)
 
--- two texts: they are the same where their bytes are, and their order is that of their bytes
+-- two texts: they are the same if their bytes are, and their order is that of their bytes
 abbrev pub texts_of : BinaryOperator → List ℕ → List ℕ → Answered
 texts_of binary.Add a b = joined_text (joined a b)
 texts_of binary.Equal a b = matched binary.Equal (bytes_eq a b)
@@ -141,7 +141,7 @@ abbrev pub member_method : Method → ℤ → Answered
 member_method methods.ToInteger n = Ok (values.Int n)
 member_method _ n = Err kinds.BadType
 
--- the characters between two places, which lie in the text
+-- the characters between two places, which must be within the text
 abbrev pub substring_of : Option (List ℕ) → Answered
 substring_of None = Err kinds.BadIndex
 substring_of (Some t) = Ok (values.Text t)

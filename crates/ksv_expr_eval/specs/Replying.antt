@@ -1,4 +1,4 @@
--- What functions of the evaluation promise: they run a plan against the replies.
+-- The clauses of the evaluation's functions: they run a plan on the replies.
 use Rattle.std.specs.Prelude.{◌≡◌, Result, Ok, Err}
 use Rattle.std.specs.Borrow.{Bor}
 use Rattle.ksv_plan.specs.Plan.{Ran, Need, Failed, Done, Handler, run}
@@ -13,7 +13,7 @@ use Rattle.ksv_expr_eval.specs.declared.want.Got.{Got}
 use Rattle.ksv_expr_eval.specs.declared.replies.Halt.{Halt}
 use Rattle.ksv_expr_eval.specs.declared.replies.Halt.TheVariants as halts
 
--- a fault of an expression stands at the path where its faults stand
+-- a fault of an expression, at the path of its faults
 abbrev pub fault_at : Trail → FaultKind → Fault
 fault_at p k = record { kind = k; path = p }
 
@@ -28,7 +28,7 @@ Runs plan view old new (Err halts.Memory) = Unit {0}
 Runs plan view old new (Err (halts.Need w)) = run replying plan old ≡ Need w new
 Runs plan view old new (Err (halts.Fault f)) = run replying plan old ≡ Failed f new
 
--- what one reply comes to
+-- the result of one reply
 abbrev pub come : Result Heard Fault → State → Ran Want Fault State Heard
 come (Ok h) s = Done h s
 come (Err f) s = Failed f s

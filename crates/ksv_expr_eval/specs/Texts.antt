@@ -8,9 +8,13 @@ use Rattle.ksv_expr_value.specs.declared.fault.FaultKind.TheVariants as kinds
 use Rattle.ksv_expr_value.specs.Range.{in_range}
 use Rattle.std.specs.Str.{chars, encode_utf8_all}
 
--- one text behind another, where both together have at most 16,777,216 bytes
+-- the most bytes that a text may have: 16 MiB
+abbrev pub text_limit : ℕ
+text_limit = 16777216
+
+-- one text after another, if both together are within the limit
 abbrev pub joined : List ℕ → List ℕ → Option (List ℕ)
-joined a b = if nat_le (length a + length b) 16777216 then Some (a ++ b) else None
+joined a b = if nat_le (length a + length b) text_limit then Some (a ++ b) else None
 
 -- how many characters the text has
 abbrev pub char_count : List ℕ → ℕ
@@ -20,17 +24,17 @@ char_count t = length (chars t)
 abbrev pub reversed : List ℕ → List ℕ
 reversed t = encode_utf8_all (reverse (chars t))
 
--- the characters from place i on and before place j, which lie in the text
+-- the characters from place i on and before place j, if these are places in the text
 abbrev pub between : List ℕ → ℕ → ℕ → Option (List ℕ)
 between t i j = if nat_le i j && nat_le j (char_count t) then Some (encode_utf8_all (take (j - i) (drop i (chars t)))) else None
 
--- the same by any integers
+-- the same for any integers
 abbrev pub substring : List ℕ → ℤ → ℤ → Option (List ℕ)
 substring t (pos i) (pos j) = between t i j
 substring t (pos i) (negsuc j) = None
 substring t (negsuc i) j = None
 
--- what digits are worth, in a radix, behind a number n that stands in front of them
+-- the number of digits in a radix, after a number n in front of them
 abbrev pub worth : ℕ → ℕ → List ℕ → ℕ
 worth radix n [] = n
 worth radix n (d ∷ ds) = worth radix (n * radix + digit_value d) ds
@@ -48,12 +52,12 @@ is_numeral radix (d ∷ ds) = list_all (is_digit radix) (d ∷ ds)
 abbrev pub numeral : ℕ → List ℕ → Option ℤ
 numeral radix ds = if is_numeral radix ds then Some (pos (worth radix 0 ds)) else None
 
--- the integer with its sign turned
+-- the negative of an integer
 abbrev pub opposite : Option ℤ → Option ℤ
 opposite None = None
 opposite (Some z) = Some (neg_ℤ z)
 
--- the whole number that a text writes: one optional `-`, and then a numeral
+-- the integer that a text is: one optional `-`, and then a numeral
 abbrev pub written : ℕ → List ℕ → Option ℤ
 written radix [] = None
 written radix (c ∷ ds) = if c == 45 then opposite (numeral radix ds) else numeral radix (c ∷ ds)
@@ -62,16 +66,16 @@ written radix (c ∷ ds) = if c == 45 then opposite (numeral radix ds) else nume
 abbrev pub is_radix : ℕ → Bool
 is_radix n = nat_le 2 n && nat_le n 36
 
--- the same by any integer as the radix
+-- the same with any integer as the radix
 abbrev pub written_in : ℤ → List ℕ → Option ℤ
 written_in (pos radix) t = if is_radix radix then written radix t else None
 written_in (negsuc radix) t = None
 
--- an exact number, where it is in the integers' range
+-- an exact number, if it is in the integers' range
 abbrev pub exact : ℤ → Result ℤ FaultKind
 exact z = if in_range z then Ok z else Err kinds.Overflow
 
--- the integer that a text writes in a radix
+-- the integer that a text is in a radix
 abbrev pub number_of : Option ℤ → Result ℤ FaultKind
 number_of None = Err kinds.BadNumber
 number_of (Some z) = exact z

@@ -8,28 +8,28 @@ ghost use Rattle.ksv_expr_eval.specs.Integers.{floored_quotient, floored_remaind
 use ksv_expr_value::Integer;
 use std::cmp::Ordering;
 
-/// `-x`, where it is in the range.
+/// `-x`, if it is in the range.
 pub(crate) fn negate(number: Integer) -> Option<Integer>
     ensures { result ≡ ranged (neg_ℤ number) }
 {
     Integer::new(-number.get())
 }
 
-/// `x + y`, where it is in the range.
+/// `x + y`, if it is in the range.
 pub(crate) fn add(number: Integer, other: Integer) -> Option<Integer>
     ensures { result ≡ ranged (number +ℤ other) }
 {
     Integer::new(number.get() + other.get())
 }
 
-/// `x - y`, where it is in the range.
+/// `x - y`, if it is in the range.
 pub(crate) fn subtract(number: Integer, other: Integer) -> Option<Integer>
     ensures { result ≡ ranged (number -ℤ other) }
 {
     Integer::new(number.get() - other.get())
 }
 
-/// `x * y`, where it is in the range.
+/// `x * y`, if it is in the range.
 pub(crate) fn multiply(number: Integer, other: Integer) -> Option<Integer>
     ensures { result ≡ ranged (number *ℤ other) }
 {
@@ -39,7 +39,7 @@ pub(crate) fn multiply(number: Integer, other: Integer) -> Option<Integer>
     }
 }
 
-/// `x / y` rounded down, where it is in the range.
+/// `x / y` rounded down, if it is in the range.
 pub(crate) fn divide(number: Integer, divisor: Integer) -> Option<Integer>
     requires { divisor ≢ pos 0 }
     ensures { result ≡ ranged (floored_quotient number divisor) }
@@ -53,7 +53,7 @@ pub(crate) fn divide(number: Integer, divisor: Integer) -> Option<Integer>
     }
 }
 
-/// What is left of x behind `x / y` rounded down.
+/// The remainder of `x / y` rounded down.
 pub(crate) fn remainder(number: Integer, divisor: Integer) -> Option<Integer>
     requires { divisor ≢ pos 0 }
     ensures { result ≡ ranged (floored_remainder number divisor) }
@@ -78,7 +78,7 @@ pub(crate) fn places(number: Integer) -> Option<u32>
     }
 }
 
-/// `x << n`, where it is in the range.
+/// `x << n`, if it is in the range.
 pub(crate) fn shift_left(number: Integer, places: u32) -> Option<Integer>
     requires { places < 64 }
     ensures { result ≡ ranged (shifted_left number places) }
@@ -97,14 +97,14 @@ pub(crate) fn shift_right(number: Integer, places: u32) -> Option<Integer>
     Integer::new(number.get() >> places)
 }
 
-/// `~x`, where it is in the range.
+/// `~x`, if it is in the range.
 pub(crate) fn complement(number: Integer) -> Option<Integer>
     ensures { result ≡ ranged (complement number) }
 {
     Integer::new(!number.get())
 }
 
-/// `x & y`, where it is in the range.
+/// `x & y`, if it is in the range.
 #[tactic(auto, using(crate::proofs::Bits::seen_and))]
 pub(crate) fn bit_and(number: Integer, other: Integer) -> Option<Integer>
     ensures { result ≡ ranged (bits_and number other) }
@@ -112,7 +112,7 @@ pub(crate) fn bit_and(number: Integer, other: Integer) -> Option<Integer>
     Integer::new(number.get() & other.get())
 }
 
-/// `x | y`, where it is in the range.
+/// `x | y`, if it is in the range.
 #[tactic(auto, using(crate::proofs::Bits::seen_or))]
 pub(crate) fn bit_or(number: Integer, other: Integer) -> Option<Integer>
     ensures { result ≡ ranged (bits_or number other) }
@@ -120,7 +120,7 @@ pub(crate) fn bit_or(number: Integer, other: Integer) -> Option<Integer>
     Integer::new(number.get() | other.get())
 }
 
-/// `x ^ y`, where it is in the range.
+/// `x ^ y`, if it is in the range.
 #[tactic(auto, using(crate::proofs::Bits::seen_xor))]
 pub(crate) fn bit_xor(number: Integer, other: Integer) -> Option<Integer>
     ensures { result ≡ ranged (bits_xor number other) }
@@ -128,7 +128,7 @@ pub(crate) fn bit_xor(number: Integer, other: Integer) -> Option<Integer>
     Integer::new(number.get() ^ other.get())
 }
 
-/// The integer before it, of one that is not below 0.
+/// The integer before this one, which is not below 0.
 pub(crate) fn before(number: Integer) -> Integer
     requires { pos 0 ≤ℤ number }
     ensures { result ≡ number -ℤ pos 1 }
@@ -151,7 +151,7 @@ pub(crate) fn equals(number: Integer, other: Integer) -> bool
     number.get() == other.get()
 }
 
-/// How the two stand to each other.
+/// The order of the two.
 pub(crate) fn compare(number: Integer, other: Integer) -> Ordering
     ensures { result ≡ int_cmp number other }
 {

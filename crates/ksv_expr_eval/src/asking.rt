@@ -1,4 +1,4 @@
-//! What values of other places are asked for, and what is made of them.
+//! Questions about the values of other places, and what is done with the answers.
 #![tactic(auto, using(ksv_plan::proofs::Running::run_bind))]
 
 ghost use Rattle.std.specs.Prelude.{◌≡◌, ◌+◌, ◌<◌, ◌^◌, pos, Some, option_copied};
@@ -104,7 +104,7 @@ pub(crate) fn last_element(replies: &mut Replies, list: &Path) -> Result<Value, 
     element_value(replies, list, arithmetic::before(Integer::from(count)))
 }
 
-/// The object that holds an attribute, of the path of its own object.
+/// The object that holds the object at this path.
 pub(crate) fn holder_of(replies: &mut Replies, object: &Path) -> Result<Value, Halt>
     ensures { Runs (holder_of (holder object.now)) (λ v. v) replies.old replies.new result }
 {
@@ -146,7 +146,7 @@ fn element_read(replies: &mut Replies, element: Option<&Path>) -> Result<Value, 
     }
 }
 
-/// What a name that the language gives a meaning stands for.
+/// The value of a name to which the language gives a meaning.
 #[tactic(auto, using(ksv_plan::proofs::Running::run_bind), unfolding(crate::specs::Meaning::special_value))]
 pub(crate) fn special_value(
     replies: &mut Replies,
@@ -203,14 +203,14 @@ pub(crate) fn stream_size(replies: &mut Replies, stream: Stream) -> Result<Value
     }
 }
 
-/// The present place, counted from a stream's start.
+/// The current place, counted from a stream's start.
 pub(crate) fn place_in(replies: &mut Replies, place: u32, stream: Stream) -> Result<Value, Halt>
     ensures { Runs (distance place stream.from) (λ v. v) replies.old replies.new result }
 {
     distance(replies, u64::from(place), stream.from)
 }
 
-/// Whether the present place is the end of the home's stream.
+/// Whether the current place is the end of the home's stream.
 #[tactic(auto, using(ksv_plan::proofs::Running::run_bind), unfolding(crate::specs::Meaning::at_end))]
 pub(crate) fn at_end(replies: &mut Replies) -> Result<Value, Halt>
     ensures { Runs at_end (λ v. v) replies.old replies.new result }
@@ -232,7 +232,7 @@ fn object_of_type(replies: &mut Replies, object: &Path, type_number: u32) -> Res
     }
 }
 
-/// An object, where it has this type.
+/// An object, if it has this type.
 pub(crate) fn object_as(
     replies: &mut Replies,
     object: &Path,

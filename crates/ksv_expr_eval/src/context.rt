@@ -1,11 +1,11 @@
-//! What an expression is evaluated in.
+//! The context in which an expression is evaluated.
 ghost use Rattle.std.specs.Prelude.{◌≡◌, None, Some, option_map};
 ghost use Rattle.ksv_expr_eval.specs.Heard.{Setting};
 
 use ksv_expr_value::{Path, Stream};
 use std::marker::Model;
 
-/// What an expression is evaluated in.
+/// The context in which an expression is evaluated.
 #[derive(Drop)]
 pub struct Ctx<'a> {
     home: &'a Path,
@@ -28,8 +28,8 @@ impl<'a> Model for Ctx<'a> {
 impl<'a> Ctx<'a> {
     ghost use Rattle.std.specs.Prelude.{option_copied};
 
-    /// An expression of the object `home`, whose stream is `stream`, at the present place in the file, with faults at the
-    /// path `here`. It stands in no element.
+    /// The context of an expression of the object `home`, whose stream is `stream`, at the current place in the
+    /// file, with faults at the path `here`. It is in no element.
     pub fn new(home: &'a Path, stream: Stream, place: u32, here: &'a Path) -> Ctx<'a>
         ensures { result ≡ record { home = home.now; stream = stream; place = place; index = None; element = None; here = here.now } }
     {
@@ -57,7 +57,7 @@ impl<'a> Ctx<'a> {
         }
     }
 
-    /// The same behind the element of this path, which was just read.
+    /// The same after the element of this path, which was just read.
     pub fn behind(self, element: &'a Path) -> Ctx<'a>
         ensures { result ≡ record self.entry { element = Some element.now } }
     {
@@ -71,7 +71,7 @@ impl<'a> Ctx<'a> {
         }
     }
 
-    /// The object in which the expression stands.
+    /// The object that the expression belongs to.
     pub(crate) fn home(&self) -> &'a Path
         ensures { result.now ≡ self.now.home }
     {
@@ -85,14 +85,14 @@ impl<'a> Ctx<'a> {
         self.stream
     }
 
-    /// The present place in the file.
+    /// The current place in the file.
     pub fn place(&self) -> u32
         ensures { result ≡ self.now.place }
     {
         self.place
     }
 
-    /// The number of the element in which the expression stands.
+    /// The number of the element that the expression belongs to.
     pub(crate) fn index(&self) -> Option<u32>
         ensures { result ≡ self.now.index }
     {
@@ -106,7 +106,7 @@ impl<'a> Ctx<'a> {
         self.element
     }
 
-    /// The path at which faults stand.
+    /// The path of faults.
     pub(crate) fn here(&self) -> &'a Path
         ensures { result.now ≡ self.now.here }
     {

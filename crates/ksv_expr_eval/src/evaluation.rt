@@ -70,7 +70,7 @@ fn binary_with(
     forms::binary(replies, operator, left, &right)
 }
 
-/// What the left operand decides, or the right one.
+/// The result that the left operand decides, or the right operand's.
 #[cycle(value)]
 #[tactic(auto, using(ksv_plan::proofs::Running::run_bind))]
 fn logical_with(
@@ -161,7 +161,7 @@ fn call_with_two(
     forms::call_two(replies, object, Method::named(method), first, &second)
 }
 
-/// The place, and then what stands there.
+/// The index, and then the item there.
 #[cycle(value)]
 #[tactic(auto, using(ksv_plan::proofs::Running::run_bind))]
 fn item_with(replies: &mut Replies, ctx: &Ctx, list: &Value, place: &Expr) -> Result<Value, Halt>
@@ -248,12 +248,13 @@ fn outcome(alloc: Global, expr: &Expr, ctx: &Ctx, replies: &[Got]) -> Result<Eva
     }
 }
 
-/// The value of an expression in its context, by the replies to its questions in their order: the question that has no
-/// reply yet, or the value or fault that it ends with. A reply that is a fault ends the expression with that fault, and
-/// replies behind the end aren't looked at.
+/// The value of an expression in its context, by the replies to its questions in their order. The result is the
+/// question that has no reply yet, or the value or fault that the expression ends with. A reply that is a fault
+/// ends the expression with that fault, and replies after the end are ignored.
 ///
-/// The outcome rests on nothing but the expression, the context and what the replies say; of lent bytes that is their
-/// content. [`crate::truth_is_met`] says what it is for true replies, and no expression asks for ever.
+/// The outcome depends only on the expression, the context and what the replies mean (for lent bytes, their
+/// content). [`crate::truth_is_met`] states the outcome for true replies. Every expression ends after finitely many
+/// replies.
 pub fn eval(alloc: Global, expr: &Expr, ctx: &Ctx, replies: &[Got]) -> Result<EvalStep, AllocError>
     ensures outcome { IfOk result (λ outcome. outcome ≡ outcome_of (resumed ctx.now (view expr.now) (map heard replies.now))) }
     ensures ended { IfOk result (λ outcome. most_wants (view expr.now) ≤ length replies.now → IsDone outcome) }

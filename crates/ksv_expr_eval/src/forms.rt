@@ -1,4 +1,4 @@
-//! What each form of expression makes of the values of its parts.
+//! What each form of expression gives, from the values of its parts.
 #![tactic(auto, using(ksv_plan::proofs::Running::run_bind))]
 
 ghost use Rattle.std.specs.Prelude.{◌≡◌, pos};
@@ -287,7 +287,7 @@ fn method_behind(
     method_by(replies, ctx, own, value, method)
 }
 
-/// What a name behind a value gives. `own` says that the value is the home's own stream, `_io`.
+/// What a name after a value gives. `own` means that the value is the home's own stream, `_io`.
 #[tactic(auto, using(ksv_plan::proofs::Running::run_bind), unfolding(crate::specs::Meaning::field_of))]
 pub(crate) fn field(
     replies: &mut Replies,
@@ -315,7 +315,7 @@ fn object_special(replies: &mut Replies, object: &Path, name: SpecialName) -> Re
     }
 }
 
-/// What a special name behind a value gives.
+/// What a special name after a value gives.
 #[tactic(auto, using(ksv_plan::proofs::Running::run_bind), unfolding(crate::specs::Meaning::special_of))]
 pub(crate) fn special_field(
     replies: &mut Replies,
@@ -418,7 +418,7 @@ fn bytes_at(replies: &mut Replies, from: u32, to: u32, place: &Value) -> Result<
     }
 }
 
-/// What stands at a place of a value.
+/// The item of a value at an index.
 #[tactic(auto, using(ksv_plan::proofs::Running::run_bind), unfolding(crate::specs::Meaning::item_at))]
 pub(crate) fn item_at(replies: &mut Replies, value: &Value, place: &Value) -> Result<Value, Halt>
     ensures { Runs (item_at value.now place.now) (λ v. v) replies.old replies.new result }
@@ -430,7 +430,7 @@ pub(crate) fn item_at(replies: &mut Replies, value: &Value, place: &Value) -> Re
     }
 }
 
-/// An object, where it has this type.
+/// An object, if it has this type.
 #[tactic(auto, using(ksv_plan::proofs::Running::run_bind), unfolding(crate::specs::Meaning::cast_to))]
 pub(crate) fn cast_to(
     replies: &mut Replies,

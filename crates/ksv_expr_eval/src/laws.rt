@@ -3,8 +3,8 @@
 ghost use Rattle.ksv_expr_eval.specs.Arithmetic.{DivisionIsFloored, BitsAreTold};
 ghost use Rattle.ksv_expr_eval.specs.Evaluation.{TruthIsMet, IsBounded, MeaningIsDirect};
 
-/// Where the replies are the answers of a map, an evaluation asks for what its expression wants there, one want after the
-/// other, and ends with the expression's value.
+/// If the replies are the answers of a map, an evaluation asks for what its expression wants there, one want after
+/// the other, and ends with the expression's value.
 pub fn truth_is_met()
     ensures { TruthIsMet }
 {}
@@ -19,7 +19,7 @@ pub fn meaning_is_direct()
     ensures { MeaningIsDirect }
 {}
 
-/// A dividend is its floored quotient times the divisor, and a remainder between 0 and the divisor.
+/// A dividend is its floored quotient times the divisor plus a remainder between 0 and the divisor.
 pub fn division_is_floored()
     ensures { DivisionIsFloored }
 {}

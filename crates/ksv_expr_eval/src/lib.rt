@@ -1,4 +1,4 @@
-//! Evaluation of expressions by replies: an expression asks for what it needs of the file, and is told.
+//! Evaluation of expressions by replies: an expression asks for what it needs of the file, and gets replies.
 #![tactic(auto)]
 
 mod arithmetic;

@@ -1,4 +1,4 @@
-//! What operators and methods make of values, where no question is asked.
+//! The results of operators and methods that ask no question.
 ghost use Rattle.std.specs.Prelude.{◌≡◌, ◌≢◌, ◌==◌, IfOk, pos, int_lt};
 ghost use Rattle.std.specs.Ordering.{nat_cmp, int_cmp, int_eq};
 ghost use Rattle.std.specs.Cmp.Lexicographic.{slice_cmp};
@@ -58,7 +58,7 @@ fn shift_right(number: Integer, count: Integer) -> Result<Value, FaultKind>
     }
 }
 
-/// What an operator of equality makes of whether two values are the same.
+/// The result of an operator of equality, given whether the two values are the same.
 pub(crate) fn matched(operator: BinaryOperator, same: bool) -> Result<Value, FaultKind>
     ensures { result ≡ matched operator same }
 {

@@ -17,7 +17,7 @@ pub(crate) enum Halt {
     Need(Want),
     /// A fault.
     Fault(Fault),
-    /// Memory was wanting.
+    /// Memory was refused.
     Memory,
 }
 
@@ -52,7 +52,7 @@ pub(crate) struct Opened {
     pub(crate) stream: Stream,
 }
 
-/// The replies that are still to come.
+/// The replies that are left.
 #[derive(Drop)]
 pub(crate) struct Replies<'a> {
     alloc: Global,
@@ -74,7 +74,7 @@ impl<'a> Model for Replies<'a> {
 }
 
 impl<'a> Replies<'a> {
-    /// All replies, to an expression whose faults stand at `here`.
+    /// All replies, to an expression whose faults have the path `here`.
     pub(crate) fn new(alloc: Global, here: &'a Path, replies: &'a [Got<'a>]) -> Replies<'a>
         ensures { result ≡ record { here = here.now; replies = map heard replies.now } }
     {
@@ -110,7 +110,7 @@ impl<'a> Replies<'a> {
         Err(Halt::Fault(fault.copy(self.alloc)?))
     }
 
-    /// A fault at the path where faults stand.
+    /// A fault at the path of faults.
     pub(crate) fn raise<X>(&self, kind: FaultKind) -> Result<X, Halt>
         ensures { Runs (raise kind) (λ x. x) self.now self.now result }
     {

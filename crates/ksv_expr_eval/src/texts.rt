@@ -19,7 +19,7 @@ pub(crate) fn decimal(alloc: Global, number: Integer) -> Result<Text, AllocError
     Ok(Text::new(format!(in alloc; "{number}")?))
 }
 
-/// This text and another behind it; none over 16,777,216 bytes.
+/// This text and another after it; None if it has more than 16,777,216 bytes.
 pub(crate) fn join(alloc: Global, text: &Text, other: &Text) -> Result<Option<Text>, AllocError>
     ensures { IfOk result (λ made. made ≡ joined text.now other.now) }
 {
@@ -40,7 +40,7 @@ pub(crate) fn equals(text: &Text, other: &Text) -> bool
     text.as_str() == other.as_str()
 }
 
-/// How the two stand to each other, by their bytes.
+/// The order of the two, by their bytes.
 pub(crate) fn compare(text: &Text, other: &Text) -> Ordering
     ensures { result ≡ slice_cmp nat_cmp text.now other.now }
 {
@@ -82,7 +82,7 @@ pub(crate) fn reverse(alloc: Global, text: &Text) -> Result<Text, AllocError>
     from_characters(alloc, &characters)
 }
 
-/// The characters from one place on and before another, which lie in the text.
+/// The characters from one place on and before another, both within the text.
 pub(crate) fn between(
     alloc: Global,
     text: &Text,
@@ -98,7 +98,7 @@ pub(crate) fn between(
     Ok(Some(from_characters(alloc, &characters[from..to])?))
 }
 
-/// The characters from one place on and before another, where both are places in the text.
+/// The characters from one place on and before another, if both are places in the text.
 pub(crate) fn substring(
     alloc: Global,
     text: &Text,
@@ -115,7 +115,7 @@ pub(crate) fn substring(
     between(alloc, text, from as usize, to as usize)
 }
 
-/// The whole number that the text writes in a radix of 2 to 36: one optional `-`, and digits of either case.
+/// The integer that the text is in a radix of 2 to 36: one optional `-`, and digits of either case.
 pub(crate) fn number(text: &Text, radix: Integer) -> Result<Integer, FaultKind>
     ensures { result ≡ text_number radix text.now }
 {
@@ -129,10 +129,10 @@ pub(crate) fn number(text: &Text, radix: Integer) -> Result<Integer, FaultKind>
     }
 }
 
-/// Past every integer's size.
+/// A bound above every integer's size.
 const LIMIT: u128 = 0x1_0000_0000_0000_0000;
 
-/// What a numeral is worth, or the limit where it is more.
+/// The number of a numeral, at most the limit.
 #[tactic(auto, using(crate::proofs::Numerals::digits_more, crate::proofs::Numerals::number_more))]
 fn numeral(digits: &[u8], radix: u32) -> Option<u128>
     requires lower { 2 ≤ radix }
@@ -150,7 +150,7 @@ fn numeral(digits: &[u8], radix: u32) -> Option<u128>
     Some(number)
 }
 
-/// The number that a numeral writes, or one outside the integers' range where its is too.
+/// The number of a numeral, or one outside the integers' range if the numeral's number is outside it.
 #[tactic(auto, using(crate::proofs::Numerals::seen_number))]
 fn positive(digits: &[u8], radix: u32) -> Option<i128>
     requires lower { 2 ≤ radix }
@@ -163,7 +163,7 @@ fn positive(digits: &[u8], radix: u32) -> Option<i128>
     }
 }
 
-/// The same below 0.
+/// The same for the negative number.
 #[tactic(auto, using(crate::proofs::Numerals::seen_opposite))]
 fn negative(digits: &[u8], radix: u32) -> Option<i128>
     requires lower { 2 ≤ radix }
@@ -176,7 +176,7 @@ fn negative(digits: &[u8], radix: u32) -> Option<i128>
     }
 }
 
-/// The whole number that these bytes write, or one outside the integers' range where theirs is too.
+/// The integer of these bytes, or one outside the integers' range if theirs is outside it.
 fn written(bytes: &[u8], radix: u32) -> Option<i128>
     requires lower { 2 ≤ radix }
     requires upper { radix ≤ 36 }

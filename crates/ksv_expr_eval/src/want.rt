@@ -1,11 +1,11 @@
-//! What an expression wants to know, and what it gets.
+//! What an expression asks for, and what it gets.
 
 use ksv_expr_value::{Fault, Path, Stream, Value};
 
-/// A question that an expression puts.
+/// A question that an expression asks.
 #[derive(Drop)]
 pub enum Want {
-    /// The value of what stands at this path.
+    /// The value at this path.
     Value(Path),
     /// The type and the stream of the object at this path.
     Head(Path),
@@ -13,18 +13,19 @@ pub enum Want {
     Rest(Path),
     /// The size of the file.
     Size,
-    /// Whether the present place is the end of the home's stream.
+    /// Whether the current place is the end of the home's stream.
     Done,
     /// The bytes of a range of the file.
     Bytes {
         /// The place of the first.
         from: u32,
-        /// The place behind the last.
+        /// The place after the last.
         to: u32,
     },
 }
 
-/// The reply to a question. One of another form than its question's is met as a value of a kind that doesn't fit.
+/// The reply to a question. A reply of another form than its question's counts as a value of a kind that doesn't
+/// fit.
 #[derive(Drop)]
 pub enum Got<'a> {
     /// A value.
@@ -46,10 +47,10 @@ pub enum Got<'a> {
     Fault(Fault),
 }
 
-/// What an evaluation came to.
+/// The result of an evaluation.
 #[derive(Drop)]
 pub enum EvalStep {
-    /// It puts this question, to which it has no reply.
+    /// It asks this question, to which it has no reply.
     Need(Want),
     /// It ended with a value or a fault.
     Done(Result<Value, Fault>),

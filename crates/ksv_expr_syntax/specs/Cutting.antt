@@ -1,4 +1,4 @@
--- How the longest token is found: by its first byte, and in each class by what the bytes behind it are. Tokens.antt says
+-- How the longest token is found: by its first byte, and in each class by the bytes after it. Tokens.antt defines
 -- what it is; proofs/ shows that what is found here is exactly that.
 use Rattle.std.specs.Prelude.{ℕ, suc, ◌^◌, Bool, false, ◌==◌, ◌&&◌, ◌||◌, nat_lt, List, [], ◌∷◌, ◌++◌, length, take, drop, take_while, position, slice_index, Option, Some, None, codes, bytes_eq, if◌then◌else◌}
 use Rattle.std.specs.Char.{is_ascii_digit}
@@ -18,7 +18,7 @@ cut_at t bs = Some (record { lexeme = t; rest = bs })
 
 -- ---- names and words
 
--- a name is the longest run of its bytes; `f` directly before `"` is left out
+-- a name is the longest run of its bytes; `f` directly before `"` is unsupported
 abbrev pub cut_name : List ℕ → Option Cut
 cut_name bs =
     let w = take_while is_name_byte bs in
@@ -27,7 +27,7 @@ cut_name bs =
 
 -- ---- numbers
 
--- `0x` and `0b` before a digit of their own
+-- `0x` and `0b` before a digit of that radix
 abbrev pub radix_of : List ℕ → Radix
 radix_of bs = if slice_index bs 0 == 48 && slice_index bs 1 == 120 && is_digit radices.Hexadecimal (slice_index bs 2) then radices.Hexadecimal
     else if slice_index bs 0 == 48 && slice_index bs 1 == 98 && is_digit radices.Binary (slice_index bs 2) then radices.Binary
@@ -38,17 +38,17 @@ prefix_size radices.Decimal = 0
 prefix_size _ = 2
 
 abbrev mutual
-  -- how many bytes the longest run of digits has, in which one `_` may stand between two digits
+  -- how many bytes the longest run of digits has, in which one `_` may come between two digits
   pub run : Radix → List ℕ → ℕ
   run r [] = 0
   run r (c ∷ cs) = if is_digit r c then suc (run r cs) else if c == 95 then run_behind r cs else 0
 
-  -- behind `_`, which counts only before a digit
+  -- after `_`, which counts only before a digit
   pub run_behind : Radix → List ℕ → ℕ
   run_behind r [] = 0
   run_behind r (c ∷ cs) = if is_digit r c then suc (suc (run r cs)) else 0
 
--- what makes a float of a decimal: a digit behind a dot, or an exponent
+-- what makes a decimal a float: a digit after a dot, or an exponent
 abbrev pub goes_on_as_float : List ℕ → Bool
 goes_on_as_float bs = (slice_index bs 0 == 46 && is_ascii_digit (slice_index bs 1))
     || ((slice_index bs 0 == 101 || slice_index bs 0 == 69) && (is_ascii_digit (slice_index bs 1)
@@ -78,11 +78,11 @@ cut_number bs =
 abbrev pub text_of : List ℕ → List ℕ → Option Cut
 text_of bytes rest = if is_utf8 bytes then cut_at (constant (string bytes)) rest else None
 
--- behind `'`, up to the next
+-- after `'`, up to the next
 abbrev pub cut_single : List ℕ → Option Cut
 cut_single bs = position (λ c. c == 39) bs >>= λ n. text_of (take n bs) (drop 1 (drop n bs))
 
--- bytes, and what stands behind the closing quote
+-- bytes, and what comes after the closing quote
 pub record Quoted : Type 0 where
   pub bytes : List ℕ
   pub rest : List ℕ
@@ -92,17 +92,17 @@ put bs None = None
 put bs (Some q) = Some (record { bytes = bs ++ q.bytes; rest = q.rest })
 
 abbrev mutual
-  -- behind `"`, up to the closing quote
+  -- after `"`, up to the closing quote
   pub quoted : List ℕ → Option Quoted
   quoted [] = None
   quoted (c ∷ cs) = if c == 34 then Some (record { bytes = []; rest = cs }) else if c == 92 then escaped cs else put (c ∷ []) (quoted cs)
 
-  -- behind a backslash
+  -- after a backslash
   pub escaped : List ℕ → Option Quoted
   escaped [] = None
   escaped (c ∷ cs) = if c == 117 then unicode cs else (escape_of c >>= λ u. put (encode_utf8 u) (quoted cs))
 
-  -- behind `\u`
+  -- after `\u`
   pub unicode : List ℕ → Option Quoted
   unicode (a ∷ b ∷ c ∷ d ∷ cs) = unicode_of a b c d >>= λ u. put (encode_utf8 u) (quoted cs)
   unicode _ = None
@@ -146,7 +146,7 @@ one_byte c = if c == 43 then Some tok.Plus
     else if c == 46 then Some tok.Dot
     else None
 
--- two bytes where they are a symbol, else one
+-- two bytes if they are a symbol, else one
 abbrev pub cut_symbol : List ℕ → Option Cut
 cut_symbol bs = elim (two_bytes (slice_index bs 0) (slice_index bs 1)) [
   | Some s ↦ cut_at (symbol s) (drop 2 bs)

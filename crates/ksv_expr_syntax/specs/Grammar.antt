@@ -1,5 +1,6 @@
--- The grammar of expressions, one case a rule: these tokens are that tree. A list of tokens is split anywhere.
--- The source is the Kaitai Struct User Guide's expression language, in the form that docs/REFERENCE.md gives.
+-- The grammar of expressions, one case for each rule: these tokens are that tree. A list of tokens may be split
+-- anywhere. The source is the Kaitai Struct User Guide's expression language, in the form that docs/REFERENCE.md
+-- has.
 use Rattle.std.specs.Prelude.{◌≡◌, ℕ, suc, ◌+◌, ◌≤◌, ◌<◌, Bool, false, ◌||◌, List, [], ◌∷◌, ◌++◌, length, Option, Some, None, codes, bytes_eq, if◌then◌else◌}
 use Rattle.ksv_expr_tree.specs.declared.tree.UnaryOperator.{UnaryOperator}
 use Rattle.ksv_expr_tree.specs.declared.tree.UnaryOperator.TheVariants as unaries
@@ -50,19 +51,19 @@ special_of w = if bytes_eq w (codes "_root") then Some specials.Root
     else if bytes_eq w (codes "_") then Some specials.Element
     else None
 
--- a name with which a form of Kaitai begins that is left out
+-- a name that begins an unsupported form of Kaitai
 abbrev pub is_left_out : List ℕ → Bool
 is_left_out w = bytes_eq w (codes "sizeof") || bytes_eq w (codes "bitsizeof")
 
--- a name to which no number is given
+-- a name without a number
 abbrev pub new_word : List ℕ → Word
 new_word w = record { text = w; number = None }
 
--- a name that stands alone
+-- a name alone
 abbrev pub name_tree : List ℕ → Tree
 name_tree w = elim (special_of w) [ None ↦ named (new_word w) | Some n ↦ special n ]
 
--- a name behind a dot
+-- a name after a dot
 abbrev pub select_tree : Tree → List ℕ → Tree
 select_tree e w = elim (special_of w) [ None ↦ field e (new_word w) | Some n ↦ special_field e n ]
 
@@ -95,7 +96,7 @@ tighter tier.Shift = Joined tier.Sum
 tighter tier.Sum = Joined tier.Term
 tighter tier.Term = Prefix
 
--- the tier's operator that a token is
+-- the operator of the tier that a token is
 abbrev pub operator : Precedence → Lexeme → Option Infix
 operator tier.Or (symbol tok.Or) = Some (infixes.Logical logicals.Or)
 operator tier.And (symbol tok.And) = Some (infixes.Logical logicals.And)
@@ -121,7 +122,7 @@ comparison (symbol tok.Equal) = Some binaries.Equal
 comparison (symbol tok.NotEqual) = Some binaries.NotEqual
 comparison t = None
 
--- the operator in front of an operand that a token is, `not` aside
+-- the prefix operator that a token is, except `not`
 abbrev pub prefix : Lexeme → Option UnaryOperator
 prefix (symbol tok.Minus) = Some unaries.Negate
 prefix (symbol tok.Tilde) = Some unaries.Complement
@@ -136,7 +137,8 @@ join_tree (infixes.Binary op) a b = binary op a b
 -- ---- the grammar
 
 mutual
-  -- these tokens are an expression of this level, in which at most so many parentheses, brackets, arms of `?:` and unary operators stand in each other
+  -- these tokens are an expression of this level, with at most d nested parentheses, brackets, arms of `?:` and
+  -- unary operators
   pub data Spells : ℕ → Level → List Lexeme → Tree → Type 0 where
     -- condition ? yes : no
     pick : {d : ℕ} {ts : List Lexeme} {a b c : Tree} (xs ys zs : List Lexeme) → ts ≡ xs ++ symbol tok.Question ∷ (ys ++ symbol tok.Colon ∷ zs) → Spells (suc d) (Joined tier.Or) xs a → Spells d Whole ys b → Spells d Whole zs c → Spells (suc d) Whole ts (choice a b c)
@@ -147,7 +149,7 @@ mutual
     -- not E
     negation : {d : ℕ} {ts : List Lexeme} {e : Tree} → Spells d Negation ts e → Spells (suc d) Negation (symbol tok.Not ∷ ts) (unary unaries.Not e)
     no_negation : {d : ℕ} {ts : List Lexeme} {e : Tree} → Spells d Comparison ts e → Spells d Negation ts e
-    -- one comparison, and no chain of them
+    -- one comparison, not a chain of them
     compare : {d : ℕ} {ts : List Lexeme} {op : BinaryOperator} {a b : Tree} (xs : List Lexeme) (x : Lexeme) (ys : List Lexeme) → comparison x ≡ Some op → ts ≡ xs ++ x ∷ ys → Spells d (Joined tier.BitOr) xs a → Spells d (Joined tier.BitOr) ys b → Spells d Comparison ts (binary op a b)
     no_compare : {d : ℕ} {ts : List Lexeme} {e : Tree} → Spells d (Joined tier.BitOr) ts e → Spells d Comparison ts e
     -- -E, ~E, +E

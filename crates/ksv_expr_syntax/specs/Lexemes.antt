@@ -1,4 +1,4 @@
--- Tokens without where they lie in memory and in the text.
+-- Tokens, independent of memory and of their places in the text.
 use Rattle.std.specs.Prelude.{ℕ, List, map, string_bytes}
 use Rattle.ksv_expr_syntax.specs.declared.token.Symbol.{Symbol}
 use Rattle.ksv_expr_syntax.specs.declared.token.Token.{Token}

@@ -1,5 +1,5 @@
--- Reading tokens from front to back, one token ahead, with a bound on the calls in each other. The grammar is in Grammar.antt;
--- proofs/ shows that what is read here is exactly what is spelled there.
+-- Reading tokens from front to back, one token ahead, with a bound on the nested calls. The grammar is in
+-- Grammar.antt; proofs/ shows that what is read here is exactly what is spelled there.
 use Rattle.std.specs.Prelude.{ℕ, zero, suc, ◌+◌, ◌*◌, List, [], ◌∷◌, length, Option, Some, None, if◌then◌else◌}
 use Rattle.ksv_expr_tree.specs.declared.tree.UnaryOperator.{UnaryOperator}
 use Rattle.ksv_expr_tree.specs.declared.tree.UnaryOperator.TheVariants as unaries
@@ -14,18 +14,18 @@ use Rattle.ksv_expr_tree.specs.Tree.{Tree, literal, member, unary, binary, choic
 use Rattle.ksv_expr_syntax.specs.Lexemes.{Lexeme, constant, word, symbol}
 use Rattle.ksv_expr_syntax.specs.Grammar.{Level, Whole, Joined, Negation, Comparison, Prefix, Postfix, Primary, tighter, operator, comparison, prefix, join_tree, name_tree, select_tree, is_left_out}
 
--- what was read at the front, and the tokens behind it
+-- what was read at the front, and the tokens after it
 pub record Next (A : Type 0) : Type 0 where
   pub what : A
   pub behind : List Lexeme
 
--- a tree, the tokens behind it, and how many parts may still come
+-- a tree, the tokens after it, and how many parts may still come
 pub record Found : Type 0 where
   pub tree : Tree
   pub rest : List Lexeme
   pub left : ℕ
 
--- arguments, likewise
+-- the same for arguments
 pub record FoundList : Type 0 where
   pub arguments : Arguments
   pub rest : List Lexeme
@@ -56,12 +56,12 @@ abbrev pub spend : {A : Type 0} → ℕ → (ℕ → Option A) → Option A
 spend zero f = None
 spend (suc n) f = f n
 
--- the tokens behind this symbol, where it stands first
+-- the tokens after this symbol, if it is first
 abbrev pub after : Symbol → List Lexeme → Option (List Lexeme)
 after s (symbol x ∷ ts) = if symbol_tests.eq x s then Some ts else None
 after s _ = None
 
--- the operator that stands first
+-- the operator that is first
 abbrev pub operator_at : Precedence → List Lexeme → Option (Next Infix)
 operator_at k [] = None
 operator_at k (t ∷ ts) = operator k t >>= λ op. next op ts
@@ -80,12 +80,12 @@ abbrev mutual
   path_at (word w ∷ ts) = path_on w ts
   path_at _ = None
 
-  -- behind a name
+  -- after a name
   pub path_on : List ℕ → List Lexeme → Option (Next (List (List ℕ)))
   path_on w (symbol x ∷ ts) = if symbol_tests.eq x tok.ColonColon then (path_at ts >>= λ x. next (w ∷ x.what) x.behind) else next (w ∷ []) (symbol x ∷ ts)
   path_on w ts = next (w ∷ []) ts
 
--- the names but the last, and the last
+-- the names except the last, and the last
 abbrev pub all_but_last : List (List ℕ) → List (List ℕ)
 all_but_last [] = []
 all_but_last (w ∷ []) = []
@@ -116,47 +116,47 @@ abbrev mutual
   reads (suc n) Primary d (word w ∷ ts) p = if is_left_out w then None else (path_on w ts >>= λ x. spend p (λ p. found (path_tree x.what) x.behind p))
   reads (suc n) Primary d (symbol s ∷ ts) p = after tok.OpenParenthesis (symbol s ∷ ts) >>= λ us. groups n d us p
 
-  -- behind a condition
+  -- after a condition
   pub picks : ℕ → Tree → ℕ → List Lexeme → ℕ → Option Found
   picks zero e d ts p = None
   picks (suc n) e d ts p = choose (after tok.Question ts) (found e ts p) (λ us. arms n e d us p)
 
-  -- behind a question mark
+  -- after a question mark
   pub arms : ℕ → Tree → ℕ → List Lexeme → ℕ → Option Found
   arms zero e d ts p = None
   arms (suc n) e d ts p = spend d (λ d. spend p (λ p. reads n Whole d ts p >>= λ a. after tok.Colon a.rest >>= λ us. reads n Whole d us a.left >>= λ b. found (choice e a.tree b.tree) b.rest b.left))
 
-  -- behind an operand
+  -- after an operand
   pub joins : ℕ → Precedence → Tree → ℕ → List Lexeme → ℕ → Option Found
   joins zero k e d ts p = None
   joins (suc n) k e d ts p = choose (operator_at k ts) (found e ts p) (λ x. spend p (λ p. reads n (tighter k) d x.behind p >>= λ a. joins n k (join_tree x.what e a.tree) d a.rest a.left))
 
-  -- behind `not`
+  -- after `not`
   pub negates : ℕ → ℕ → List Lexeme → ℕ → Option Found
   negates zero d ts p = None
   negates (suc n) d ts p = spend d (λ d. spend p (λ p. reads n Negation d ts p >>= λ a. found (unary unaries.Not a.tree) a.rest a.left))
 
-  -- behind the left side of a comparison
+  -- after the left side of a comparison
   pub compares : ℕ → Tree → ℕ → List Lexeme → ℕ → Option Found
   compares zero e d ts p = None
   compares (suc n) e d ts p = choose (comparison_at ts) (found e ts p) (λ x. spend p (λ p. reads n (Joined tier.BitOr) d x.behind p >>= λ a. found (binary x.what e a.tree) a.rest a.left))
 
-  -- behind a prefix operator
+  -- after a prefix operator
   pub prefixes : ℕ → UnaryOperator → ℕ → List Lexeme → ℕ → Option Found
   prefixes zero op d ts p = None
   prefixes (suc n) op d ts p = spend d (λ d. spend p (λ p. reads n Prefix d ts p >>= λ a. found (unary op a.tree) a.rest a.left))
 
-  -- behind a postfix expression
+  -- after a postfix expression
   pub goes_on : ℕ → Tree → ℕ → List Lexeme → ℕ → Option Found
   goes_on zero e d ts p = None
   goes_on (suc n) e d ts p = choose (after tok.Dot ts) (choose (after tok.OpenBracket ts) (found e ts p) (λ us. places n e d us p >>= λ a. goes_on n a.tree d a.rest a.left)) (λ us. selects n e d us p >>= λ a. goes_on n a.tree d a.rest a.left)
 
-  -- behind a bracket
+  -- after a bracket
   pub places : ℕ → Tree → ℕ → List Lexeme → ℕ → Option Found
   places zero e d ts p = None
   places (suc n) e d ts p = spend d (λ d. spend p (λ p. reads n Whole d ts p >>= λ a. after tok.CloseBracket a.rest >>= λ us. found (index e a.tree) us a.left))
 
-  -- behind a dot
+  -- after a dot
   pub selects : ℕ → Tree → ℕ → List Lexeme → ℕ → Option Found
   selects zero e d ts p = None
   selects (suc n) e d [] p = None
@@ -164,7 +164,7 @@ abbrev mutual
   selects (suc n) e d (word w ∷ ts) p = spend p (λ p. choose (after tok.OpenParenthesis ts) (found (select_tree e w) ts p) (λ us. spend d (λ d. reads_list n d us p >>= λ a. found (call e w a.arguments) a.rest a.left)))
   selects (suc n) e d (symbol s ∷ ts) p = spend p (λ p. after tok.As (symbol s ∷ ts) >>= λ us. after tok.Less us >>= λ vs. path_at vs >>= λ x. after tok.Greater x.behind >>= λ ws. found (cast e (record { path = x.what; number = None })) ws p)
 
-  -- behind a parenthesis
+  -- after a parenthesis
   pub groups : ℕ → ℕ → List Lexeme → ℕ → Option Found
   groups zero d ts p = None
   groups (suc n) d ts p = spend d (λ d. reads n Whole d ts p >>= λ a. after tok.CloseParenthesis a.rest >>= λ us. found a.tree us a.left)
@@ -179,7 +179,7 @@ abbrev mutual
   reads_more zero d ts p = None
   reads_more (suc n) d ts p = reads n Whole d ts p >>= λ a. choose (after tok.Comma a.rest) (after tok.CloseParenthesis a.rest >>= λ us. found_list (argument a.tree no_arguments) us a.left) (λ us. reads_more n d us a.left >>= λ b. found_list (argument a.tree b.arguments) b.rest b.left)
 
--- enough calls in each other to read a level of these tokens
+-- enough nested calls to read a level of these tokens
 abbrev pub room : Level → List Lexeme → ℕ
 room Whole ts = 32 * length ts + 15
 room (Joined tier.Or) ts = 32 * length ts + 14

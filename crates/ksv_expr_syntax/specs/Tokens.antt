@@ -1,7 +1,7 @@
 -- What a token is, apart from how a text is cut; which token is the longest at a place; and the tokens of a text.
--- Left out are floats and format strings: their beginnings have a shape, so that no shorter token is cut out of them,
--- and are no token, so that a text with one has no tokens. A text that isn't closed, and one with an escape that isn't
--- listed, have no shape, and nothing else begins with a quote.
+-- Floats and format strings are unsupported. Their beginnings have a shape, so that no shorter token is cut out of
+-- them; but they are no token, so that a text with one has no tokens. A text without its closing quote, and one
+-- with an escape that isn't listed, have no shape, and nothing else begins with a quote.
 use Rattle.std.specs.Prelude.{◌≡◌, ◌≢◌, ℕ, ◌+◌, ◌*◌, ◌-◌, ◌<◌, ◌^◌, ◌==◌, ◌&&◌, ◌||◌, nat_le, Bool, true, false, List, [], ◌∷◌, ◌++◌, length, drop, take_while, slice_index, All, IsUtf8, codes, bytes_eq, encode_utf8, Option, Some, None, if◌then◌else◌}
 use Rattle.std.specs.Char.{is_ascii_lowercase, is_ascii_digit, is_ascii_hexdigit}
 use Rattle.ksv_expr_syntax.specs.declared.token.Symbol.{Symbol}
@@ -23,17 +23,17 @@ is_name_start c = is_ascii_lowercase c || c == 95
 abbrev pub is_name_byte : ℕ → Bool
 is_name_byte c = is_ascii_lowercase c || is_ascii_digit c || c == 95
 
--- the text behind its white space
+-- the text after its white space
 abbrev pub skip : List ℕ → List ℕ
 skip bs = drop (length (take_while is_space bs)) bs
 
 -- ---- names and words
 
--- a small letter or `_`, and behind it small letters, digits and `_`
+-- a small letter or `_`, and after it small letters, digits and `_`
 pub data IsName : List ℕ → Type 0 where
   begun : {c : ℕ} {cs : List ℕ} → is_name_start c ≡ true → All (λ b. is_name_byte b ≡ true) cs → IsName (c ∷ cs)
 
--- what a name's bytes are as a token
+-- the token of a name's bytes
 abbrev pub word_lexeme : List ℕ → Lexeme
 word_lexeme w = if bytes_eq w (codes "true") then constant (truth true)
     else if bytes_eq w (codes "false") then constant (truth false)
@@ -54,13 +54,13 @@ is_digit radices.Binary c = c == 48 || c == 49
 is_digit radices.Decimal c = is_ascii_digit c
 is_digit radices.Hexadecimal c = is_ascii_hexdigit c
 
--- digits, between two of which one `_` may stand
+-- digits, with at most one `_` between two of them
 pub data IsDigits : Radix → List ℕ → Type 0 where
   last_digit : {r : Radix} {c : ℕ} → is_digit r c ≡ true → IsDigits r (c ∷ [])
   one_digit : {r : Radix} {c : ℕ} {cs : List ℕ} → is_digit r c ≡ true → IsDigits r cs → IsDigits r (c ∷ cs)
   digit_and_line : {r : Radix} {c : ℕ} {cs : List ℕ} → is_digit r c ≡ true → IsDigits r cs → IsDigits r (c ∷ 95 ∷ cs)
 
--- what stands before the digits
+-- what comes before the digits
 abbrev pub number_prefix : Radix → List ℕ
 number_prefix radices.Binary = codes "0b"
 number_prefix radices.Decimal = []
@@ -71,24 +71,24 @@ abbrev pub is_padded : Radix → List ℕ → Bool
 is_padded radices.Decimal (c ∷ d ∷ ds) = c == 48
 is_padded r ds = false
 
--- what makes a float of the decimal before it: a dot and a digit, or `e`, a sign or none, and a digit
+-- what makes the decimal before it a float: a dot and a digit, or `e`, an optional sign, and a digit
 pub data BeginsFloat : List ℕ → Type 0 where
   fraction : {d : ℕ} → is_ascii_digit d ≡ true → BeginsFloat (46 ∷ d ∷ [])
   exponent : {e d : ℕ} → (e == 101 || e == 69) ≡ true → is_ascii_digit d ≡ true → BeginsFloat (e ∷ d ∷ [])
   signed_exponent : {e s d : ℕ} → (e == 101 || e == 69) ≡ true → (s == 43 || s == 45) ≡ true → is_ascii_digit d ≡ true → BeginsFloat (e ∷ s ∷ d ∷ [])
 
--- what a digit counts
+-- the value of a digit
 abbrev pub digit_value : ℕ → ℕ
 digit_value c = if nat_le c 57 then c - 48 else if nat_le 97 c then c - 87 else c - 55
 
--- the number that digits with `_` between them are, behind those that gave this much
+-- the number of digits with `_` between them, after digits of this number
 abbrev pub natural : Radix → ℕ → List ℕ → ℕ
 natural r n [] = n
 natural r n (c ∷ cs) = if c == 95 then natural r n cs else natural r (n * base r + digit_value c) cs
 
 -- ---- texts
 
--- the character that a letter behind a backslash stands for
+-- the character of a letter after a backslash
 abbrev pub escape_of : ℕ → Option ℕ
 escape_of c = if c == 92 then Some 92
     else if c == 34 then Some 34
@@ -107,17 +107,17 @@ escape_of c = if c == 92 then Some 92
 abbrev pub four_digits : ℕ → ℕ → ℕ → ℕ → ℕ
 four_digits a b c d = ((digit_value a * 16 + digit_value b) * 16 + digit_value c) * 16 + digit_value d
 
--- half of a character in another encoding, and no character
+-- a surrogate: half of a character in another encoding, and itself no character
 abbrev pub is_surrogate : ℕ → Bool
 is_surrogate n = nat_le 55296 n && nat_le n 57343
 
--- the character that `\u` and four digits stand for; a surrogate is none
+-- the character of `\u` and four digits; a surrogate is none
 abbrev pub unicode_of : ℕ → ℕ → ℕ → ℕ → Option ℕ
 unicode_of a b c d = if is_ascii_hexdigit a && is_ascii_hexdigit b && is_ascii_hexdigit c && is_ascii_hexdigit d
     then (if is_surrogate (four_digits a b c d) then None else Some (four_digits a b c d))
     else None
 
--- what stands between double quotes, and the bytes that it gives
+-- what is between double quotes, and the bytes that it gives
 pub data IsQuoted : List ℕ → List ℕ → Type 0 where
   nothing : IsQuoted [] []
   plain_byte : {c : ℕ} {cs ds : List ℕ} → c ≢ 34 → c ≢ 92 → IsQuoted cs ds → IsQuoted (c ∷ cs) (c ∷ ds)
@@ -168,7 +168,7 @@ is_word s = false
 
 -- ---- a token
 
--- these bytes look like a token, or like the beginning of one that is left out
+-- these bytes look like a token, or like the beginning of an unsupported one
 pub data HasShape : List ℕ → Type 0 where
   like_name : {w : List ℕ} → IsName w → HasShape w
   like_number : {ts : List ℕ} (r : Radix) (ds : List ℕ) → IsDigits r ds → ts ≡ number_prefix r ++ ds → HasShape ts
@@ -186,12 +186,12 @@ pub data IsToken : List ℕ → Lexeme → Type 0 where
   double : {ts : List ℕ} (bs cs : List ℕ) → IsQuoted bs cs → IsUtf8 cs → ts ≡ 34 ∷ (bs ++ 34 ∷ []) → IsToken ts (constant (string cs))
   sign : (s : Symbol) → is_word s ≡ false → IsToken (spelling s) (symbol s)
 
--- a token at the front of a text, and the bytes behind it
+-- a token at the front of a text, and the bytes after it
 pub record Cut : Type 0 where
   pub lexeme : Lexeme
   pub rest : List ℕ
 
--- this token, with these bytes behind it, is the longest at the front of the text: no longer beginning has a shape
+-- this token, with these bytes after it, is the longest at the front of the text: no longer beginning has a shape
 pub record IsLongest (text : List ℕ) (x : Cut) : Type 0 where
   pub piece : List ℕ
   pub split : text ≡ piece ++ x.rest
@@ -212,11 +212,11 @@ abbrev pub is_as : Lexeme → Bool
 is_as (word w) = bytes_eq w (codes "as")
 is_as _ = false
 
--- `as` between `.` and `<` is a word of its own
+-- `as` between `.` and `<` is a token of its own
 abbrev pub mark : Bool → Cut → Lexeme
 mark dot x = if dot && is_as x.lexeme && less_follows x.rest then symbol tok.As else x.lexeme
 
--- the tokens of a text, behind a dot or not: behind white space each is the longest that the text goes on with
+-- the tokens of a text, after a dot or not: after white space each is the longest at the front of the text
 pub data Tokens : Bool → List ℕ → List Lexeme → Type 0 where
   finished : {dot : Bool} {bs : List ℕ} → skip bs ≡ [] → Tokens dot bs []
   token : {dot : Bool} {bs : List ℕ} {ts : List Lexeme} (x : Cut) → IsLongest (skip bs) x → Tokens (is_dot (mark dot x)) x.rest ts → Tokens dot bs (mark dot x ∷ ts)

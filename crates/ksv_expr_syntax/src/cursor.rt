@@ -1,4 +1,4 @@
-//! A place among tokens, and the steps on from it.
+//! A place among tokens, and the steps forward from it.
 
 ghost use Rattle.std.specs.Prelude.{◌≡◌, ◌≢◌, ℕ, suc, ◌+◌, ◌<◌, List, [], ◌∷◌, length, map, string_bytes, Option, Some, None, IfOk, MatchOption, MatchResult};
 ghost use Rattle.ksv_expr_syntax.specs.Lexemes.{Lexeme, lexemes, lexeme_of};
@@ -16,11 +16,11 @@ pub struct Rest<'a> {
     pub tokens: &'a [Placed],
     /// How many parts may still come.
     pub parts: u32,
-    /// What is wrong where the tokens end too early.
+    /// What is wrong if the tokens end too early.
     pub end: ExprFault,
 }
 
-/// The first token, and those behind it.
+/// The first token, and those after it.
 pub(crate) fn first(tokens: &[Placed]) -> Option<(&Token, &[Placed])>
     ensures is { MatchOption result (lexemes tokens.now ≡ []) (λ x. lexemes tokens.now ≡ lexeme_of x.0.now ∷ lexemes x.1.now) }
     ensures shorter { MatchOption result (Unit {0}) (λ x. length x.1.now + 1 ≡ length tokens.now) }
@@ -31,7 +31,7 @@ pub(crate) fn first(tokens: &[Placed]) -> Option<(&Token, &[Placed])>
     }
 }
 
-/// The tokens behind this symbol, where it stands first.
+/// The tokens after this symbol, if it is first.
 pub(crate) fn behind(tokens: &[Placed], wanted: Symbol) -> Option<&[Placed]>
     ensures is { MatchOption result (after wanted (lexemes tokens.now) ≡ None) (λ rest. after wanted (lexemes tokens.now) ≡ Some (lexemes rest.now)) }
     ensures shorter { MatchOption result (Unit {0}) (λ rest. length rest.now + 1 ≡ length tokens.now) }
@@ -43,7 +43,7 @@ pub(crate) fn behind(tokens: &[Placed], wanted: Symbol) -> Option<&[Placed]>
     }
 }
 
-/// What is wrong where the next token can't stand.
+/// What is wrong if the next token can't come here.
 pub(crate) fn unexpected(at: Rest) -> ExprFault {
     match at.tokens {
         [] => at.end,
@@ -54,7 +54,7 @@ pub(crate) fn unexpected(at: Rest) -> ExprFault {
     }
 }
 
-/// What is wrong where a form begins that is left out.
+/// What is wrong if an unsupported form begins.
 pub(crate) fn left_out(at: Rest) -> ExprFault {
     match at.tokens {
         [] => at.end,
@@ -65,7 +65,7 @@ pub(crate) fn left_out(at: Rest) -> ExprFault {
     }
 }
 
-/// What is wrong where the next token passes a limit.
+/// What is wrong if the next token passes a limit.
 pub(crate) fn too_large(at: Rest) -> ExprFault {
     match at.tokens {
         [] => at.end,
@@ -76,7 +76,7 @@ pub(crate) fn too_large(at: Rest) -> ExprFault {
     }
 }
 
-/// Goes on behind this symbol, which must stand first.
+/// Goes on after this symbol, which must be first.
 pub(crate) fn expect(at: Rest, wanted: Symbol) -> Result<Rest, ExprFault>
     ensures is { MatchResult result (λ r. after wanted (lexemes at.entry.tokens.now) ≡ Some (lexemes r.tokens.now)) (λ _. after wanted (lexemes at.entry.tokens.now) ≡ None) }
     ensures same { IfOk result (λ r. r.parts ≡ at.entry.parts) }
@@ -88,7 +88,8 @@ pub(crate) fn expect(at: Rest, wanted: Symbol) -> Result<Rest, ExprFault>
     }
 }
 
-/// Goes on behind `(`, which must stand first where an expression begins and no literal or name does; `[` is left out there.
+/// Goes on after `(`, which must be first where an expression begins without a literal or name; `[` is unsupported
+/// there.
 pub(crate) fn open_group(at: Rest) -> Result<Rest, ExprFault>
     ensures is { MatchResult result (λ r. after Symbol.OpenParenthesis (lexemes at.entry.tokens.now) ≡ Some (lexemes r.tokens.now)) (λ _. after Symbol.OpenParenthesis (lexemes at.entry.tokens.now) ≡ None) }
     ensures same { IfOk result (λ r. r.parts ≡ at.entry.parts) }
@@ -116,7 +117,7 @@ pub(crate) fn spend<'a>(at: Rest<'a>, tokens: &'a [Placed]) -> Result<Rest<'a>, 
     })
 }
 
-/// How many levels may still stand in the next token's.
+/// How many levels may still be nested in the one that begins with the next token.
 pub(crate) fn deeper(depth: u32, at: Rest) -> Result<u32, ExprFault>
     ensures { MatchResult result (λ d. depth ≡ suc d) (λ _. depth ≡ 0) }
 {
@@ -126,7 +127,7 @@ pub(crate) fn deeper(depth: u32, at: Rest) -> Result<u32, ExprFault>
     Ok(depth - 1)
 }
 
-/// The name that stands first.
+/// The name that is first.
 pub(crate) fn name(tokens: &[Placed]) -> Option<(&str, &[Placed])>
     ensures is { MatchOption result ((w : List ℕ) (rest : List Lexeme) → lexemes tokens.now ≢ Lexeme.word w ∷ rest) (λ x. lexemes tokens.now ≡ Lexeme.word x.0.now ∷ lexemes x.1.now) }
     ensures shorter { MatchOption result (Unit {0}) (λ x. length x.1.now + 1 ≡ length tokens.now) }

@@ -10,22 +10,22 @@ use thiserror::Error;
 /// What is wrong with a text.
 #[derive(Clone, Copy, PartialEq, Eq, Debug, Error)]
 pub enum ExprFaultKind {
-    /// A character that begins no token, or a token that can't stand here.
+    /// A character that begins no token, or a token that can't come here.
     #[error("unexpected character")]
     UnexpectedCharacter,
     /// The text ends in the middle of a token or of an expression.
     #[error("unexpected end")]
     UnexpectedEnd,
-    /// A form of Kaitai's language that is left out, as a float or an array.
+    /// An unsupported form of Kaitai's language, such as a float or an array.
     #[error("left-out form")]
     LeftOutForm,
     /// A number above 2^64 - 1.
     #[error("number outside the range")]
     NumberOutsideRange,
-    /// More than 256 parts, or more than 32 in each other.
+    /// More than 256 parts, or more than 32 nested levels.
     #[error("too large")]
     TooLarge,
-    /// Memory was wanting.
+    /// Memory was refused.
     #[error("no memory")]
     NoMemory,
 }
@@ -52,7 +52,7 @@ impl ExprFaultKind {
 pub struct ExprFault {
     /// What is wrong.
     pub kind: ExprFaultKind,
-    /// The place of the token's first byte in the text; the text's length where the end is unexpected.
+    /// The place of the token's first byte in the text; the text's length if the end is unexpected.
     pub at: usize,
 }
 

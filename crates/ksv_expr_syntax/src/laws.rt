@@ -13,13 +13,13 @@ pub fn one_reading()
     ensures types { (text : List ℕ) (a b : TypeTree) → SpellsTypeText text a → SpellsTypeText text b → a ≡ b }
 {}
 
-/// A text goes on with one longest token at most, and every token that it goes on with has no more bytes.
+/// A text begins with at most one longest token, and no other token that it begins with has more bytes.
 pub fn one_longest_token()
     ensures alone { (text : List ℕ) (x y : Cut) → IsLongest text x → IsLongest text y → x ≡ y }
     ensures longest { (text piece : List ℕ) (x y : Cut) → IsLongest text x → text ≡ piece ++ y.rest → IsToken piece y.lexeme → length x.rest ≤ length y.rest }
 {}
 
-/// The test by which `as` behind a dot begins a cast holds exactly where `<` is the longest token behind white space.
+/// The test by which `as` after a dot begins a cast holds exactly where `<` is the longest token after white space.
 pub fn less_stands_behind()
     ensures { (text : List ℕ) → IsTrue (less_follows text) ↔ ((x : Cut) × IsLongest (skip text) x × (x.lexeme ≡ Lexeme.symbol Less)) }
 {}

@@ -1,4 +1,4 @@
-//! Cuts a text into tokens, each the longest that the text goes on with.
+//! Cuts a text into tokens, each the longest that the rest of the text begins with.
 
 ghost use Rattle.std.specs.Prelude.{◌≡◌, ◌≢◌, ℕ, suc, ◌+◌, ◌<◌, ◌≤◌, List, [], ◌∷◌, ◌++◌, length, take, drop, take_while, position, slice_index, codes, bytes_eq, ◌==◌, ◌&&◌, ◌*◌, ◌^◌, IsUtf8, Some, None, encode_utf8, OnOk, IfOk, MatchOption, MatchResult};
 ghost use Rattle.ksv_expr_syntax.specs.Lexemes.{lexeme_of};
@@ -30,7 +30,7 @@ fn byte_at(text: &[u8], index: usize) -> u8
     if index < text.len() { text[index] } else { 0 }
 }
 
-/// The first byte, and those behind it.
+/// The first byte, and those after it.
 fn first_byte(text: &[u8]) -> Option<(u8, &[u8])>
     ensures { MatchOption result (text.now ≡ []) (λ x. text.now ≡ x.0 ∷ x.1.now) }
 {
@@ -62,14 +62,14 @@ fn behind(text: &[u8], count: usize) -> &[u8]
     }
 }
 
-/// The text behind its white space.
+/// The text after its white space.
 fn skip_spaces(text: &[u8]) -> &[u8]
     ensures { result.now ≡ skip text.now }
 {
     behind(text, space_size(text))
 }
 
-/// How many bytes of white space stand at the front.
+/// How many bytes of white space are at the front.
 fn space_size(text: &[u8]) -> usize
     ensures { result ≡ length (take_while is_space text.now) }
 {
@@ -133,7 +133,7 @@ fn name_size(text: &[u8]) -> usize
         .count()
 }
 
-/// Whether this name begins a format string, which is left out.
+/// Whether this name begins a format string, which is unsupported.
 fn begins_format(word: &str, rest: &[u8]) -> bool
     ensures { result ≡ (bytes_eq word.now (codes "f") && slice_index rest.now 0 == 34) }
 {
@@ -163,7 +163,7 @@ fn is_digit_of(radix: Radix, byte: u8) -> bool
     }
 }
 
-/// How the number at the front is written.
+/// The radix of the number at the front.
 fn radix_at(text: &[u8]) -> Radix
     ensures { result ≡ radix_of text.now }
 {
@@ -182,7 +182,7 @@ fn radix_at(text: &[u8]) -> Radix
     }
 }
 
-/// How many bytes the longest run of digits at the front has, in which one `_` may stand between two.
+/// How many bytes the longest run of digits at the front has; one `_` may come between two digits.
 fn run_size(radix: Radix, text: &[u8]) -> usize
     ensures is { result ≡ run radix text.now }
     ensures within { result ≤ length text.now }
@@ -212,7 +212,7 @@ fn run_size(radix: Radix, text: &[u8]) -> usize
     }
 }
 
-/// How many bytes stand before the digits.
+/// How many bytes come before the digits.
 fn prefix_of(radix: Radix) -> usize
     ensures { result ≡ prefix_size radix }
 {
@@ -222,7 +222,7 @@ fn prefix_of(radix: Radix) -> usize
     }
 }
 
-/// What a digit counts.
+/// The value of a digit.
 fn digit_of(byte: u8) -> u8
     ensures { result ≡ digit_value byte }
 {
@@ -288,7 +288,7 @@ fn continues_float(rest: &[u8]) -> bool
                     && byte_at(rest, 2).is_ascii_digit())))
 }
 
-/// Whether this is a float, or a decimal that begins with a 0 too many.
+/// Whether this is a float, or a decimal with a leading zero.
 fn left_out_number(radix: Radix, digits: &[u8], rest: &[u8]) -> bool
     ensures { result ≡ is_left_out_number radix digits.now rest.now }
 {
@@ -335,14 +335,14 @@ fn text_token<'a>(
     }
 }
 
-/// Where the first `'` stands.
+/// Where the first `'` is.
 fn quote_place(text: &[u8]) -> Option<usize>
     ensures { result ≡ position (λ c. c == 39) text.now }
 {
     text.iter().position(|byte| *byte == b'\'')
 }
 
-/// A text behind its `'`.
+/// A text after its `'`.
 fn single_token<'a>(alloc: Global, text: &'a [u8]) -> Result<(Token, &'a [u8]), ExprFaultKind>
     ensures { GivesCut (cut_single text.now) result }
 {
@@ -352,7 +352,7 @@ fn single_token<'a>(alloc: Global, text: &'a [u8]) -> Result<(Token, &'a [u8]), 
     text_token(alloc, before(text, size), behind(behind(text, size), 1))
 }
 
-/// The character that a letter behind a backslash stands for.
+/// The character of a letter after a backslash.
 fn simple_escape(letter: u8) -> Option<char>
     ensures { result ≡ escape_of letter }
 {
@@ -401,7 +401,7 @@ fn four_digit_number(first: u8, second: u8, third: u8, fourth: u8) -> u32
         + digit_of(fourth) as u32
 }
 
-/// Half of a character in another encoding, and no character.
+/// Whether this is a surrogate: half of a character in another encoding, and itself no character.
 fn is_half(number: u32) -> bool
     ensures { result ≡ is_surrogate number }
 {
@@ -424,7 +424,7 @@ fn unicode_character(first: u8, second: u8, third: u8, fourth: u8) -> Option<cha
     char::from_u32(number)
 }
 
-/// What is wrong with `\u` and too few bytes behind it.
+/// What is wrong with `\u` and too few bytes after it.
 fn short_unicode(text: &[u8]) -> ExprFaultKind {
     if text.iter().all(|byte| byte.is_ascii_hexdigit()) {
         ExprFaultKind::UnexpectedEnd
@@ -433,7 +433,7 @@ fn short_unicode(text: &[u8]) -> ExprFaultKind {
     }
 }
 
-/// The character behind `\u`, and the bytes behind it.
+/// The character of `\u`, and the bytes after it.
 fn unicode_escape(text: &[u8]) -> Result<(char, &[u8]), ExprFaultKind>
     ensures is { MatchResult result (λ x. unicode text.now ≡ put (encode_utf8 x.0) (quoted x.1.now)) (λ _. unicode text.now ≡ None) }
     ensures shorter { IfOk result (λ x. length x.1.now < length text.now) }
@@ -452,7 +452,7 @@ fn unicode_escape(text: &[u8]) -> Result<(char, &[u8]), ExprFaultKind>
     }
 }
 
-/// The character behind a backslash, and the bytes behind it.
+/// The character of an escape, given the text after its backslash, and the bytes after it.
 fn escape(text: &[u8]) -> Result<(char, &[u8]), ExprFaultKind>
     ensures is { MatchResult result (λ x. escaped text.now ≡ put (encode_utf8 x.0) (quoted x.1.now)) (λ _. escaped text.now ≡ None) }
     ensures shorter { IfOk result (λ x. length x.1.now < length text.now) }
@@ -477,7 +477,7 @@ fn push_character(bytes: &mut Vec<u8>, character: char) -> Result<(), AllocError
     bytes.extend_from_slice(character.encode_utf8(&mut room).as_bytes())
 }
 
-/// The bytes of a text behind its `"`, and what stands behind the closing one.
+/// The bytes of a text after its `"`, and what comes after the closing one.
 fn quoted_bytes<'a>(alloc: Global, text: &'a [u8]) -> Result<(Vec<u8>, &'a [u8]), ExprFaultKind>
     ensures { GivesQuoted text.now result }
 {
@@ -501,7 +501,7 @@ fn quoted_bytes<'a>(alloc: Global, text: &'a [u8]) -> Result<(Vec<u8>, &'a [u8])
     }
 }
 
-/// A text behind its `"`.
+/// A text after its `"`.
 fn double_token<'a>(alloc: Global, text: &'a [u8]) -> Result<(Token, &'a [u8]), ExprFaultKind>
     ensures { GivesCut (cut_double text.now) result }
 {
@@ -573,7 +573,7 @@ fn symbol_token(text: &[u8]) -> Result<(Token, &[u8]), ExprFaultKind>
     }
 }
 
-/// The token at the front, and the bytes behind it.
+/// The token at the front, and the bytes after it.
 fn token_at<'a>(alloc: Global, text: &'a [u8]) -> Result<(Token, &'a [u8]), ExprFaultKind>
     ensures { GivesCut (cut text.now) result }
 {
@@ -591,12 +591,12 @@ fn token_at<'a>(alloc: Global, text: &'a [u8]) -> Result<(Token, &'a [u8]), Expr
     }
 }
 
-/// The tokens of a text, and what is wrong where they end too early.
+/// The tokens of a text, and what is wrong if they end too early.
 #[derive(Drop)]
 pub struct Scan {
     /// The tokens, each with its place.
     pub tokens: Vec<Placed>,
-    /// What is wrong with the text behind them; none where they are all.
+    /// What is wrong with the text after them; None if they are all.
     pub fault: Option<ExprFault>,
 }
 
@@ -618,7 +618,7 @@ fn is_named_as(token: &Token) -> bool
     }
 }
 
-/// A token as it counts, behind a dot or not, before this text.
+/// A token with `as` marked as a symbol where it begins a cast: after a dot, before this text.
 fn marked(dot: bool, token: Token, rest: &[u8]) -> Token
     ensures { lexeme_of result ≡ mark dot (record { lexeme = lexeme_of token; rest = rest.now }) }
 {
@@ -638,7 +638,7 @@ fn is_dot_token(token: &Token) -> bool
     }
 }
 
-/// What is wrong with the token here in a text of this length; want of memory is no fault of the text.
+/// What is wrong with the token here in a text of this length; out of memory is no fault of the text.
 fn placed_fault(kind: ExprFaultKind, at: usize, length: usize) -> Result<ExprFault, ExprFault>
     ensures { MatchResult result (λ _. kind ≢ ExprFaultKind.NoMemory) (λ f. f.kind ≡ ExprFaultKind.NoMemory) }
 {

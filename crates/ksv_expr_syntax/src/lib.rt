@@ -1,8 +1,8 @@
 //! The expression language of a description: its tokens, its grammar, and the trees that texts spell.
 //!
-//! `parse` reads an expression and `parse_type` a type with its arguments, both within two limits: 256 parts, and 32
-//! in each other. What a text spells is defined in specs/ apart from the code: specs/Tokens.antt says what a token is
-//! and which one is the longest at a place, specs/Grammar.antt says which tokens are which tree.
+//! `parse` reads an expression and `parse_type` a type with its arguments, both within two limits: 256 parts, and
+//! 32 nested levels. What a text spells is defined in specs/ apart from the code: specs/Tokens.antt defines what a
+//! token is and which one is the longest at a place, specs/Grammar.antt which tokens are which tree.
 #![tactic(auto)]
 
 mod cursor;

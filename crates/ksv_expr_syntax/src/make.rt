@@ -1,4 +1,4 @@
-//! Expressions as the parser makes them, each with the plain tree that it is.
+//! Expressions as the parser makes them, each with its plain tree.
 
 ghost use Rattle.std.specs.Prelude.{◌≡◌, None, map, IfOk, string_bytes, box_value};
 ghost use Rattle.ksv_expr_tree.specs.Tree.{view, arguments_of, literal_of, literal, member, unary, binary, logical, choice, call, index, cast};
@@ -16,7 +16,7 @@ pub(crate) fn literal_expr(value: Literal) -> Expr
     Expr::Literal(value)
 }
 
-/// A name that stands alone, with no number.
+/// A name alone, with no number.
 pub(crate) fn name_expr(text: String) -> Expr
     ensures { view result ≡ name_tree (string_bytes text) }
 {
@@ -89,7 +89,7 @@ pub(crate) fn choice_expr(
     Ok(Expr::Choice(Box::new(alloc, condition)?, yes, no))
 }
 
-/// A name behind a dot, with no number.
+/// A name after a dot, with no number.
 pub(crate) fn select_expr(alloc: Global, object: Expr, text: String) -> Result<Expr, AllocError>
     ensures { IfOk result (λ e. view e ≡ select_tree (view object) (string_bytes text)) }
 {
@@ -143,7 +143,7 @@ fn special_name(text: &str) -> Option<SpecialName>
     }
 }
 
-/// A literal again.
+/// A copy of a literal.
 pub(crate) fn copy_literal(alloc: Global, value: &Literal) -> Result<Literal, AllocError>
     ensures { IfOk result (λ l. literal_of l ≡ literal_of value.now) }
 {

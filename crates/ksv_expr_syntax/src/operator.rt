@@ -9,7 +9,7 @@ use crate::cursor::first;
 use crate::token::{Placed, Symbol, Token};
 use ksv_expr_tree::{BinaryOperator, LogicalOperator, UnaryOperator};
 
-/// A level of operators between operands that go on to the right, from the loosest to the tightest.
+/// A level of operators that associate to the left, from the loosest to the tightest.
 #[derive(Clone, Copy)]
 pub enum Precedence {
     /// `or`
@@ -39,7 +39,7 @@ pub enum Infix {
     Binary(BinaryOperator),
 }
 
-/// The operator of this precedence that stands first.
+/// The operator of this precedence, if it is first.
 pub(crate) fn infix_operator(
     precedence: Precedence,
     tokens: &[Placed],
@@ -76,7 +76,7 @@ fn infix_of(precedence: Precedence, symbol: Symbol) -> Option<Infix>
     }
 }
 
-/// The comparison that stands first.
+/// The comparison that is first.
 pub(crate) fn comparison_operator(tokens: &[Placed]) -> Option<(BinaryOperator, &[Placed])>
     ensures is { MatchOption result (comparison_at (lexemes tokens.now) ≡ None) (λ x. comparison_at (lexemes tokens.now) ≡ next x.0 (lexemes x.1.now)) }
     ensures shorter { MatchOption result (Unit {0}) (λ x. length x.1.now + 1 ≡ length tokens.now) }
@@ -97,7 +97,7 @@ pub(crate) fn comparison_operator(tokens: &[Placed]) -> Option<(BinaryOperator, 
     Some((operator, rest))
 }
 
-/// The operator in front of an operand that stands first, `not` aside.
+/// The prefix operator that is first, except `not`.
 pub(crate) fn prefix_operator(tokens: &[Placed]) -> Option<(UnaryOperator, &[Placed])>
     ensures is { MatchOption result (prefix_at (lexemes tokens.now) ≡ None) (λ x. prefix_at (lexemes tokens.now) ≡ next x.0 (lexemes x.1.now)) }
     ensures shorter { MatchOption result (Unit {0}) (λ x. length x.1.now + 1 ≡ length tokens.now) }

@@ -17,7 +17,7 @@ use crate::token::{Placed, Symbol, Token};
 use ksv_expr_tree::{Expr, UnaryOperator};
 use std::alloc::{AllocError, Global};
 
-/// What goes on with a postfix expression.
+/// What continues a postfix expression.
 #[derive(Clone, Copy)]
 pub enum Opening {
     /// `.`
@@ -26,7 +26,7 @@ pub enum Opening {
     Bracket,
 }
 
-/// What goes on with a postfix expression, where something does.
+/// What continues a postfix expression, if anything does.
 fn opening_at(tokens: &[Placed]) -> Option<(Opening, &[Placed])>
     ensures is { MatchOption result ((after Symbol.Dot (lexemes tokens.now) ≡ None) × (after Symbol.OpenBracket (lexemes tokens.now) ≡ None)) (λ x. OpensWith x.0 (lexemes tokens.now) (lexemes x.1.now)) }
     ensures shorter { MatchOption result (Unit {0}) (λ x. length x.1.now + 1 ≡ length tokens.now) }
@@ -48,7 +48,7 @@ fn infix_expr(alloc: Global, operator: Infix, left: Expr, right: Expr) -> Result
     }
 }
 
-/// A name alone, or the enum's member that names with `::` between them are.
+/// A name alone; of several names with `::` between them, an enum's member.
 fn path_expr(alloc: Global, mut names: Vec<String>) -> Expr
     ensures { view result ≡ path_tree (map string_bytes names.items) }
 {
@@ -62,7 +62,7 @@ fn path_expr(alloc: Global, mut names: Vec<String>) -> Expr
     }
 }
 
-/// Whether a form begins with this name that is left out.
+/// Whether an unsupported form begins with this name.
 fn begins_left_out(text: &str) -> bool
     ensures { result ≡ is_left_out text.now }
 {
@@ -81,7 +81,7 @@ fn cast_type<'a>(alloc: Global, at: Rest<'a>) -> Result<(Vec<String>, Rest<'a>),
     Ok((names, now))
 }
 
-/// `as<a::b>` behind this object and a dot.
+/// `as<a::b>` after this object and a dot.
 fn cast<'a>(alloc: Global, object: Expr, at: Rest<'a>) -> Result<(Expr, Rest<'a>), ExprFault>
     ensures is { GivesCast (view object) (lexemes at.entry.tokens.now) at.entry.parts result }
     ensures shorter { IfOk result (λ x. length x.1.tokens.now < length at.entry.tokens.now) }
@@ -108,7 +108,7 @@ pub(crate) fn whole<'a>(
     Ok((make::choice_expr(alloc, condition, yes, no)?, at))
 }
 
-/// Both arms of a choice; `rest` is what stands behind `?`, which begins `at`.
+/// Both arms of a choice; `rest` is what comes after `?`, which begins `at`.
 #[cycle(parser)]
 fn arms<'a>(
     alloc: Global,
@@ -126,7 +126,7 @@ fn arms<'a>(
     Ok((yes, no, now))
 }
 
-/// An expression, and this symbol behind it.
+/// An expression, and this symbol after it.
 #[cycle(parser)]
 fn before<'a>(
     alloc: Global,
@@ -231,7 +231,7 @@ fn unary<'a>(alloc: Global, depth: u32, at: Rest<'a>) -> Result<(Expr, Rest<'a>)
     Ok((make::unary_expr(alloc, operator, operand)?, at))
 }
 
-/// A primary expression, and what goes on with it.
+/// A primary expression, and what continues it.
 #[cycle(parser)]
 fn postfix<'a>(alloc: Global, depth: u32, at: Rest<'a>) -> Result<(Expr, Rest<'a>), ExprFault>
     ensures is { Gives Postfix depth (lexemes at.entry.tokens.now) at.entry.parts result }
@@ -246,7 +246,7 @@ fn postfix<'a>(alloc: Global, depth: u32, at: Rest<'a>) -> Result<(Expr, Rest<'a
     Ok((object, now))
 }
 
-/// What stands behind a dot or a bracket, which begins `at`; `rest` is what stands behind it.
+/// A dot or a bracket, which begins `at`, and what it selects; `rest` is what comes after it.
 #[cycle(parser)]
 fn suffix<'a>(
     alloc: Global,
@@ -270,7 +270,7 @@ fn suffix<'a>(
     }
 }
 
-/// A member, a call or a cast: what stands behind a dot, whose part is counted.
+/// A member, a call or a cast: what comes after a dot, whose part is counted.
 #[cycle(parser)]
 fn selected<'a>(
     alloc: Global,

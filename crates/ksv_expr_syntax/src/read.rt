@@ -19,13 +19,13 @@ use std::alloc::Global;
 /// How many literals, names, members, operators, calls, indices and casts a text may have.
 pub const PARTS: u32 = 256;
 
-/// How deep parentheses, brackets, arms of `?:` and unary operators may stand in each other.
+/// How deep parentheses, brackets, arms of `?:` and unary operators may be nested.
 pub const DEPTH: u32 = 32;
 
 /// The expression that a text spells, with no numbers given to its names.
 ///
-/// A text is UTF-8; its bytes are cut into the longest tokens, and these are read by the grammar of Kaitai's
-/// expression language as docs/REFERENCE.md gives it. Refused is the first fault in the order of the text.
+/// A text is UTF-8. Its bytes are cut into the longest tokens, which are read by the grammar of Kaitai's expression
+/// language as docs/REFERENCE.md has it. The refusal is the first fault in the order of the text.
 pub fn parse(alloc: Global, text: &[u8]) -> Result<Expr, ExprFault>
     ensures found { IfOk result (λ e. SpellsText text.now (view e)) }
     ensures refused { IfErr result (λ f. f.kind ≢ NoMemory → (e : Tree) → SpellsText text.now e → ⊥) }
@@ -39,7 +39,7 @@ pub fn parse(alloc: Global, text: &[u8]) -> Result<Expr, ExprFault>
     }
 }
 
-/// What is wrong where the tokens end too early.
+/// What is wrong if the tokens end too early.
 fn end_of(text: &[u8], fault: Option<ExprFault>) -> ExprFault {
     match fault {
         Some(fault) => fault,
@@ -69,7 +69,7 @@ fn read_tokens(alloc: Global, tokens: &[Placed], end: ExprFault) -> Result<Expr,
 
 /// The type with its arguments that a text spells, `a::b` or `a::b(E, E)`, with no numbers given to its names.
 ///
-/// All arguments together have at most 256 parts, and stand in the type's parentheses as in others. Refused is the
+/// All arguments together have at most 256 parts; the type's parentheses count as one level. The refusal is the
 /// first fault in the order of the text.
 pub fn parse_type(alloc: Global, text: &[u8]) -> Result<TypeRef, ExprFault>
     ensures found { IfOk result (λ t. SpellsTypeText text.now (view_type t)) }
@@ -105,7 +105,7 @@ fn read_type(alloc: Global, tokens: &[Placed], end: ExprFault) -> Result<TypeRef
     })
 }
 
-/// The arguments behind a type's name, where there are any.
+/// The arguments after a type's name, if there are any.
 fn type_arguments<'a>(alloc: Global, at: Rest<'a>) -> Result<(Vec<Expr>, Rest<'a>), ExprFault>
     ensures { GivesTypeList (lexemes at.entry.tokens.now) at.entry.parts result }
 {

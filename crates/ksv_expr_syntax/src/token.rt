@@ -2,7 +2,7 @@
 
 use ksv_expr_tree::Literal;
 
-/// An operator, a bracket, a mark between parts, or a word that stands for one of these.
+/// An operator, a bracket, a mark between parts, or a word with the role of one of these.
 #[derive(Clone, Copy, PartialEq, Eq, Debug)]
 pub enum Symbol {
     /// `+`

@@ -1,4 +1,4 @@
--- Expressions as plain trees, without where they lie in memory.
+-- Expressions as plain trees, independent of memory.
 use Rattle.std.specs.Prelude.{ℕ, Bool, List, [], ◌∷◌, map, Option, string_bytes, box_value}
 use Rattle.ksv_expr_tree.specs.declared.tree.UnaryOperator.{UnaryOperator}
 use Rattle.ksv_expr_tree.specs.declared.tree.BinaryOperator.{BinaryOperator}
@@ -31,7 +31,7 @@ pub record TypePath : Type 0 where
   pub path : List (List ℕ)
   pub number : Option ℕ
 
--- the names of an enum, outermost first, the member's name, and what it stands for
+-- the names of an enum, outermost first, the member's name, and what it means
 pub record MemberPath : Type 0 where
   pub path : List (List ℕ)
   pub name : List ℕ
@@ -69,7 +69,7 @@ abbrev pub arguments_of : List Tree → Arguments
 arguments_of [] = no_arguments
 arguments_of (e ∷ es) = argument e (arguments_of es)
 
--- what a literal, a name, a type's name and a member are without where they lie in memory
+-- the plain data of a literal, a name, a type's name and a member
 abbrev pub literal_of : Literal → Constant
 literal_of (literals.Number n) = integer n
 literal_of (literals.Truth b) = truth b
@@ -84,7 +84,7 @@ path_of t = record { path = map string_bytes t.path.items; number = t.number }
 abbrev pub member_of : Member → MemberPath
 member_of m = record { path = map string_bytes m.path.items; name = string_bytes m.name; given = m.given }
 
--- one layer of an expression, its parts seen already
+-- one layer of an expression, given the plain trees of its parts
 abbrev pub view_layer : Expr-F Tree → Tree
 view_layer (Expr-F.Literal l) = literal (literal_of l)
 view_layer (Expr-F.Name n) = named (name_of n)

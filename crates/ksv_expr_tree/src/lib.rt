@@ -1,6 +1,6 @@
 //! Expressions and types with arguments as trees.
 //!
-//! A contract sees an expression as a plain tree (`specs/Tree`), by `view`.
+//! Contracts see an expression as a plain tree (`specs/Tree`), by `view`.
 #![tactic(auto)]
 
 pub mod tree;

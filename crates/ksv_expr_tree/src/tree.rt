@@ -1,4 +1,4 @@
-//! Expressions as trees: what a text spells, with room for the numbers that a description gives to its names.
+//! Expressions as trees: what a text spells, with fields for the numbers that a description gives to its names.
 
 /// An operator in front of its operand.
 #[derive(Clone, Copy, PartialEq, Eq, Debug)]
@@ -50,7 +50,7 @@ pub enum BinaryOperator {
     GreaterOrEqual,
 }
 
-/// An operator between two truth values, whose right operand is evaluated only where it decides.
+/// An operator between two truth values, whose right operand is evaluated only if the left one doesn't decide.
 #[derive(Clone, Copy, PartialEq, Eq, Debug)]
 pub enum LogicalOperator {
     /// `and`
@@ -59,7 +59,7 @@ pub enum LogicalOperator {
     Or,
 }
 
-/// A name that the language itself gives a meaning.
+/// A name to which the language itself gives a meaning.
 #[derive(Clone, Copy, PartialEq, Eq, Debug)]
 pub enum SpecialName {
     /// `_root`
@@ -85,12 +85,12 @@ pub enum Literal {
     Text(String),
 }
 
-/// The name of a type's member, alone or behind a `.`.
+/// The name of a type's member, alone or after a `.`.
 #[derive(Drop)]
 pub struct Name {
     /// The name as it is written.
     pub text: String,
-    /// The number that the description gives to this name; none until it is loaded.
+    /// The number that the description gives to this name; None until it is loaded.
     pub number: Option<u32>,
 }
 
@@ -99,11 +99,11 @@ pub struct Name {
 pub struct TypeName {
     /// The names between the `::`, outermost first; at least one.
     pub path: Vec<String>,
-    /// The type's number in the description; none until it is loaded.
+    /// The type's number in the description; None until it is loaded.
     pub number: Option<u32>,
 }
 
-/// What a member `a::b::m` stands for.
+/// What a member `a::b::m` means.
 #[derive(Clone, Copy, PartialEq, Eq, Debug)]
 pub struct EnumMember {
     /// The enum's number in the description.
@@ -117,9 +117,9 @@ pub struct EnumMember {
 pub struct Member {
     /// The names before the last `::`: those of types, and then the enum's; at least one.
     pub path: Vec<String>,
-    /// The name behind the last `::`.
+    /// The name after the last `::`.
     pub name: String,
-    /// What it stands for; none until the description is loaded.
+    /// What it means; None until the description is loaded.
     pub given: Option<EnumMember>,
 }
 
@@ -144,7 +144,7 @@ pub enum Expr {
     Choice(Box<Expr>, Box<Expr>, Box<Expr>),
     /// `object.name`, a member or a method without parentheses.
     Field(Box<Expr>, Name),
-    /// `object._root` and the other special names behind a `.`.
+    /// `object._root` and the other special names after a `.`.
     SpecialField(Box<Expr>, SpecialName),
     /// `object.name(arguments)`
     Call(Box<Expr>, String, Vec<Expr>),
@@ -159,6 +159,6 @@ pub enum Expr {
 pub struct TypeRef {
     /// The type's name.
     pub name: TypeName,
-    /// The expressions in parentheses; none where there are no parentheses.
+    /// The expressions in parentheses; none if there are no parentheses.
     pub arguments: Vec<Expr>,
 }

@@ -6,7 +6,7 @@ use Rattle.std.specs.Str.{bytes_eq, is_utf8}
 use Rattle.ksv_expr_value.specs.declared.encoding.Encoding.{Encoding}
 use Rattle.ksv_expr_value.specs.declared.encoding.Encoding.TheVariants as encodings
 
--- one name is another, but for the case of its letters
+-- one name is another, except for the case of its letters
 abbrev pub is_named : List ℕ → List ℕ → Bool
 is_named name other = bytes_eq (map to_ascii_lowercase name) (map to_ascii_lowercase other)
 
@@ -21,6 +21,6 @@ abbrev pub spells_text : Encoding → List ℕ → Bool
 spells_text encodings.Ascii bs = list_all (λ b. nat_lt b 128) bs
 spells_text encodings.Utf8 bs = is_utf8 bs
 
--- the text that bytes spell in an encoding: in both it is of the same bytes
+-- the text that bytes spell in an encoding; in both encodings it has the same bytes
 abbrev pub decoded : Encoding → List ℕ → Option (List ℕ)
 decoded e bs = if spells_text e bs then Some bs else None

@@ -1,3 +1,4 @@
+-- A lemma, which a reader may skip.
 -- Paths that `==` finds equal are the same path.
 use Rattle.std.specs.Prelude.{◌≡◌, Bool, true, List, [], ◌∷◌, reverse, refl}
 use Rattle.std.proofs.Common.{ap, sym, ◌∙◌}

@@ -1,4 +1,5 @@
--- Each path has a number of its own, which contracts alone see; there are finitely many.
+-- With lemmas, which a reader may skip.
+-- Each path has a number of its own, which only contracts see; there are finitely many.
 use Rattle.std.specs.Prelude.{◌≡◌, ℕ, ◌+◌, ◌*◌, ◌^◌, ◌<◌, ◌≤◌, zero, suc, List, [], ◌∷◌, length, true, refl}
 use Rattle.std.specs.List.{list_all}
 use Rattle.std.specs.Cmp.{first_so, second_so}
@@ -69,7 +70,7 @@ number-below (suc k) (s ∷ p) le h =
 pub path_number : Trail → ℕ
 path_number t = number t.upward
 
--- above every path's number
+-- a bound above every path's number
 pub path_bound : ℕ
 path_bound = (2 ^ 33) ^ 64
 

@@ -1,4 +1,4 @@
--- Integers of expressions: their range, which is this project's own, as is that a result outside of it is a fault.
+-- The range of expressions' integers. The range, and that a result outside it is a fault, are this project's own.
 use Rattle.std.specs.Prelude.{ℕ, ◌^◌, Bool, nat_lt, ℤ, pos, negsuc, Option, Some, None, if◌then◌else◌}
 
 -- An integer is at least -2^63 and below 2^64. (`negsuc n` is -(n + 1).)
@@ -6,6 +6,6 @@ abbrev pub in_range : ℤ → Bool
 in_range (pos n) = nat_lt n (2 ^ 64)
 in_range (negsuc n) = nat_lt n (2 ^ 63)
 
--- an exact result, where it is in the range
+-- an exact result, if it is in the range
 abbrev pub ranged : ℤ → Option ℤ
 ranged z = if in_range z then Some z else None

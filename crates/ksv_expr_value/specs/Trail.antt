@@ -1,5 +1,6 @@
--- What a contract sees of a path: its steps from the last to the first, of which there are at most 64, with indices below
--- 1,048,576. A path leads from the root by names of members and by indices of elements.
+-- How contracts see a path: as its steps from the last to the first, of which there are at most 64, with indices below
+-- 1,048,576. A path leads from the root by names of members and by indices of elements. The names with a `-` are lemmas, which a
+-- reader may skip.
 use Rattle.std.specs.Prelude.{◌≡◌, ℕ, ◌<◌, ◌≤◌, ◌^◌, nat_lt, nat_le, Bool, true, false, ◌&&◌, List, [], ◌∷◌, length, IsTrue, Option, Some, None, IfSome, refl, suc}
 use Rattle.std.specs.List.{list_all}
 use Rattle.std.specs.Cmp.{first_so, second_so}
@@ -11,19 +12,26 @@ use mathlib.Core.Bool.{Bool-set}
 use Rattle.ksv_expr_value.specs.declared.step.Step.{Step}
 use Rattle.ksv_expr_value.specs.declared.step.Step.TheVariants.{Name, Index}
 
--- a name is a `u32`, and an index is below 1,048,576
+-- the most steps of a path, and the number of elements that a list has at most
+abbrev pub step_limit : ℕ
+step_limit = 64
+
+abbrev pub element_limit : ℕ
+element_limit = 1048576
+
+-- a name is a `u32`, and an index is below the number of elements
 abbrev pub step_fits : Step → Bool
 step_fits (Name n) = nat_lt n (2 ^ 32)
-step_fits (Index i) = nat_lt i 1048576
+step_fits (Index i) = nat_lt i element_limit
 
--- a step in its range, as a fact
+-- a step in its range, as a proposition
 abbrev pub InRange : Step → Type 0
 InRange (Name n) = n < 2 ^ 32
-InRange (Index i) = i < 1048576
+InRange (Index i) = i < element_limit
 
--- at most 64 steps, each in its range
+-- at most this many steps, each in its range
 unfoldable pub fits : List Step → Bool
-fits steps = nat_le (length steps) 64 && list_all step_fits steps
+fits steps = nat_le (length steps) step_limit && list_all step_fits steps
 
 -- a path
 pub record Trail : Type 0 where
@@ -34,7 +42,7 @@ pub record Trail : Type 0 where
 pub same_trail : (a b : Trail) → a.upward ≡ b.upward → a ≡ b
 same_trail a b e = λ i. record { upward = e i; valid = is_prop→PathP (λ j. fits (e j) ≡ true) (λ j. Bool-set (fits (e j)) true) a.valid b.valid i }
 
--- no step fits
+-- the empty list of steps fits
 pub fits-none : fits [] ≡ true
 unfolding fits
 fits-none = refl
@@ -54,7 +62,7 @@ more n x y a few b = let le : nat_le (suc n) 64 ≡ true = grind (arith, nat_tes
 over : (n : ℕ) (x : Bool) → n ≡ 64 → (nat_le (suc n) 64 && x) ≡ false
 over n x full = let le : nat_le (suc n) 64 ≡ false = grind (arith, nat_tests) in rw le refl
 
--- what fits still does without its last step
+-- steps that fit still do without the last one
 pub fits-less : (s : Step) (q : List Step) → fits (s ∷ q) ≡ true → fits q ≡ true
 unfolding fits
 fits-less s q h = less (length q) (step_fits s) (list_all step_fits q) h
@@ -63,7 +71,7 @@ fits-less s q h = less (length q) (step_fits s) (list_all step_fits q) h
 abbrev pub root : Trail
 root = record { upward = []; valid = fits-none }
 
--- the steps but the last, where the last stands first
+-- the steps except the last, which is first in the list
 abbrev pub all_but_last : List Step → List Step
 all_but_last [] = []
 all_but_last (s ∷ q) = q
@@ -72,7 +80,7 @@ pub fits-all_but_last : (steps : List Step) → fits steps ≡ true → fits (al
 fits-all_but_last [] h = h
 fits-all_but_last (s ∷ q) h = fits-less s q h
 
--- the path without its last step; of no steps that of no steps
+-- the path without its last step; of no steps, that of no steps
 abbrev pub parent : Trail → Trail
 parent t = record { upward = all_but_last t.upward; valid = fits-all_but_last t.upward t.valid }
 
@@ -100,7 +108,7 @@ pub trail_of-true : (t : Trail) → trail_of t.upward ≡ Some t
 unfolding trail_of
 trail_of-true t = trail_when-true t.upward (fits t.upward) refl t.valid
 
--- steps that do not fit are those of none
+-- steps that do not fit are those of no path
 pub trail_of-false : (steps : List Step) → fits steps ≡ false → trail_of steps ≡ None
 unfolding trail_of
 trail_of-false steps h = trail_when-false steps (fits steps) refl h
@@ -113,12 +121,12 @@ trail_when-steps steps true e t h = some_upward h
     some_upward p = let q : ◌≡◌ {A = Trail} (record { upward = steps; valid = e }) t = cc in ap (λ (u : Trail). u.upward) q
 trail_when-steps steps false e t h = absurd (cc)
 
--- the path that `trail_of` answers has these steps
+-- the path that `trail_of` gives has these steps
 pub trail_of-steps : (steps : List Step) (t : Trail) → trail_of steps ≡ Some t → steps ≡ t.upward
 unfolding trail_of
 trail_of-steps steps t h = trail_when-steps steps (fits steps) refl t h
 
--- a further step that is in its range fits where there are fewer than 64
+-- a further step that is in its range fits if there are fewer than 64
 pub fits-more : (s : Step) (q : List Step) → step_fits s ≡ true → fits q ≡ true → length q < 64 → fits (s ∷ q) ≡ true
 unfolding fits
 fits-more s q a b few = more (length q) (step_fits s) (list_all step_fits q) a few (second_so (nat_le (length q) 64) (list_all step_fits q) b)
@@ -133,7 +141,7 @@ pub length-fits : (steps : List Step) → fits steps ≡ true → length steps �
 unfolding fits
 length-fits steps h = let le : nat_le (length steps) 64 ≡ true = first_so (nat_le (length steps) 64) (list_all step_fits steps) h in grind (arith, nat_tests)
 
--- the path one step on, if it fits
+-- the path one step further, if it fits
 abbrev pub child : Trail → Step → Option Trail
 child t s = trail_of (s ∷ t.upward)
 
@@ -179,13 +187,14 @@ pub fits-wide : (i : ℕ) (q : List Step) → 1048576 ≤ i → fits (Index i �
 unfolding fits
 fits-wide i q h = wide i (suc (length q)) (list_all step_fits q) h
 
--- Of a list, the object that holds it: the path without its last name.
+-- The object that holds a list: the path without its last name.
 abbrev pub list_holder : Trail → Option Step → Option Trail
 list_holder t None = None
 list_holder t (Some (Name x)) = Some (parent t)
 list_holder t (Some (Index i)) = None
 
--- The object that holds an attribute: the path without its last name and the index behind it; the root has none.
+-- The object that holds an attribute: the path without its last name and the index after it, if any; the root has
+-- none.
 abbrev pub holder_at : Trail → Option Step → Option Trail
 holder_at t None = None
 holder_at t (Some (Name x)) = Some (parent t)

@@ -32,7 +32,7 @@ impl Encoding {
         }
     }
 
-    /// The text that these bytes spell; none where they spell none.
+    /// The text that these bytes spell, if they spell one.
     pub fn decode(self, alloc: Global, parts: Parts) -> Result<Option<Text>, AllocError>
         ensures { IfOk result (λ text. text ≡ decoded self (content parts.entry)) }
     {

@@ -1,4 +1,4 @@
-//! Faults: why a value can't be had.
+//! Faults: why something has no value.
 ghost use Rattle.std.specs.Prelude.{◌≡◌, IfOk};
 ghost use Rattle.ksv_expr_value.specs.Faults.{name_of};
 
@@ -17,15 +17,15 @@ pub enum FaultKind {
     EndOfBytes,
     /// F4: a value of a kind that doesn't fit.
     BadType,
-    /// F5: an integer outside -2^63 to 2^64 - 1, or a count of places outside 0 to 63.
+    /// F5: an integer outside -2^63 to 2^64 - 1, or a shift by a count outside 0 to 63.
     Overflow,
     /// F6: a division by 0.
     ZeroDivisor,
-    /// F7: no element, byte or character has this place.
+    /// F7: no element, byte or character has this index.
     BadIndex,
     /// F8: bytes that aren't text in their encoding, or an unknown encoding.
     BadText,
-    /// F9: other bytes than those that must stand there.
+    /// F9: other bytes than `contents` requires.
     Contents,
     /// F10: a size, a count or a position below 0.
     BadSize,
@@ -39,7 +39,7 @@ pub enum FaultKind {
     PathTooLong,
     /// F15: a value that needs itself.
     Circle,
-    /// F16: a text that writes no number.
+    /// F16: a text that is no number.
     BadNumber,
     /// F17: the root has no parent.
     NoParent,
@@ -94,7 +94,7 @@ pub struct Fault {
 }
 
 impl Fault {
-    /// The same fault again.
+    /// A copy of the fault.
     pub fn copy(&self, alloc: Global) -> Result<Fault, AllocError>
         ensures { IfOk result (λ fault. fault ≡ self.now) }
     {

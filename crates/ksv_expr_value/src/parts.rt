@@ -8,12 +8,12 @@ ghost use Rattle.ksv_expr_value.specs.Bytes.{content};
 pub struct Parts<'a> {
     /// The first of them.
     pub front: &'a [u8],
-    /// Those behind.
+    /// Those after it.
     pub back: &'a [u8],
 }
 
 impl<'a> Parts<'a> {
-    /// The first byte, where there is one.
+    /// The first byte, if there is one.
     pub fn first(self) -> Option<u8>
         ensures { result ≡ slice_get (content self.entry) 0 }
     {

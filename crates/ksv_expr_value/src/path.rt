@@ -1,4 +1,4 @@
-//! Where a value stands in a described file: the steps that lead to it from the root.
+//! Where a value is in a described file: the steps that lead to it from the root.
 ghost use Rattle.std.specs.Prelude.{◌≡◌, ℕ, ◌+◌, ◌<◌, ◌≤◌, ◌++◌, [], ◌∷◌, length, reverse, true, IsTrue, IfOk, IfSome, IsSome, ◌↔◌, slice_get};
 ghost use Rattle.ksv_expr_value.specs.Trail.{Trail, fits, root, child, parent, last, holder, list_holder, step_fits, InRange};
 ghost use Rattle.std.specs.Hash as fed;
@@ -16,8 +16,8 @@ use std::marker::Model;
 
 /// The steps from the root to a value: at most 64, and each index below 1,048,576.
 ///
-/// A contract sees a path as its steps from the last to the first, with the proof that they fit. Two paths are equal
-/// where they have the same steps.
+/// Contracts see a path as its steps from the last to the first, with the proof that they fit. Two paths are equal
+/// if they have the same steps.
 #[derive(Drop)]
 pub struct Path {
     steps: Vec<Step>,
@@ -88,7 +88,7 @@ impl Path {
         self.steps.last().copied()
     }
 
-    /// The same path again.
+    /// A copy of the path.
     pub fn copy(&self, alloc: Global) -> Result<Path, AllocError>
         ensures { IfOk result (λ path. path ≡ self.now) }
     {
@@ -96,7 +96,7 @@ impl Path {
         Ok(Path { steps })
     }
 
-    /// The path without its last step; of the root the root again.
+    /// The path without its last step; of the root, the root itself.
     pub fn parent(&self, alloc: Global) -> Result<Path, AllocError>
         ensures { IfOk result (λ path. path ≡ parent self.now) }
     {
@@ -106,7 +106,8 @@ impl Path {
         Ok(Path { steps })
     }
 
-    /// The object that holds this attribute: the path without its last name and the index behind it. The root has none.
+    /// The object that holds this attribute: the path without its last name and the index after it, if any. The
+    /// root has none.
     pub fn holder(&self, alloc: Global) -> Result<Option<Path>, AllocError>
         ensures { IfOk result (λ path. path ≡ holder self.now) }
     {
@@ -142,15 +143,15 @@ impl Path {
         Ok(Some(Path { steps }))
     }
 
-    /// The path to the member of this name; none where it would have more than 64 steps.
+    /// The path to the member of this name; None if it would have more than 64 steps.
     pub fn child_name(&self, alloc: Global, name: u32) -> Result<Option<Path>, AllocError>
         ensures { IfOk result (λ path. path ≡ child self.now (Step.Name name)) }
     {
         self.child(alloc, Step::Name(name))
     }
 
-    /// The path to the element of this index; none where it would have more than 64 steps, or the index is 1,048,576 or
-    /// above.
+    /// The path to the element of this index; None if it would have more than 64 steps, or the index is 1,048,576
+    /// or above.
     pub fn child_index(&self, alloc: Global, index: u32) -> Result<Option<Path>, AllocError>
         ensures { IfOk result (λ path. path ≡ child self.now (Step.Index index)) }
     {

@@ -36,7 +36,7 @@ impl Text {
         self.string.as_str()
     }
 
-    /// The same text again.
+    /// A copy of the text.
     pub fn copy(&self, alloc: Global) -> Result<Text, AllocError>
         ensures { IfOk result (λ text. text ≡ self.now) }
     {

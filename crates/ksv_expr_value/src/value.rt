@@ -6,12 +6,12 @@ use crate::path::Path;
 use crate::text::Text;
 use std::alloc::{AllocError, Global};
 
-/// A range of the file in which an object's places are counted.
+/// A stream: the range of the file in which an object's places are counted.
 #[derive(Clone, Copy, PartialEq, Eq, Debug)]
 pub struct Stream {
     /// Its first byte, as a place in the file.
     pub from: u32,
-    /// The place behind its last byte; none where it goes on to the file's end, whatever that is.
+    /// The place after its last byte; None if it goes on to the file's end, whatever that is.
     pub to: Option<u32>,
 }
 
@@ -24,11 +24,11 @@ pub enum Value {
     Bool(bool),
     /// A text.
     Text(Text),
-    /// Bytes, as the range of the file that holds them: their content is that of the file as it then stands.
+    /// Bytes, as the range of the file that holds them: their content is that of the current file.
     Bytes {
         /// The place of the first.
         from: u32,
-        /// The place behind the last.
+        /// The place after the last.
         to: u32,
     },
     /// A member of an enum.
@@ -42,12 +42,12 @@ pub enum Value {
     Object(Path),
     /// The list of this path.
     List(Path),
-    /// A stream, which only an expression that names one gives.
+    /// A stream, the value only of an expression that names one.
     Stream(Stream),
 }
 
 impl Value {
-    /// The same value again.
+    /// A copy of the value.
     pub fn copy(&self, alloc: Global) -> Result<Value, AllocError>
         ensures { IfOk result (λ value. value ≡ self.now) }
     {

@@ -1,4 +1,4 @@
--- Bytes that a line writes as digits.
+-- The bytes of hexadecimal digits on a line.
 use Rattle.std.specs.Prelude.{ℕ, List, Option}
 use Rattle.std.specs.Result.{result_ok}
 use Rattle.hex.specs.Hex.{decode_of}

@@ -1,9 +1,9 @@
--- What the program says where it stops, and its exit status.
+-- The program's message where it stops, and its exit status.
 use Rattle.std.specs.Prelude.{ℕ, List, [], ◌++◌, codes, decimal, slice_get, unwrap_or, Option, Some, None}
 use Rattle.ksv_lines.specs.declared.stop.Stop.{Stop}
 use Rattle.ksv_lines.specs.declared.stop.Stop.TheVariants as stops
 
--- 1 where no session was had, 3 where a device failed
+-- 1 before a session, 3 where a device failed
 abbrev pub status_of : Stop → ℕ
 status_of stops.FileUnreadable = 1
 status_of stops.FileTooLarge = 1

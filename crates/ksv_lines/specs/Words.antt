@@ -7,7 +7,7 @@ use Rattle.clap.specs.declared.builder.ArgAction.TheVariants.{Set}
 use Rattle.clap.specs.declared.builder.command.Command.{Command}
 use Rattle.clap.specs.declared.parser.matches.ArgMatches.{ArgMatches}
 
--- a word that must be there
+-- a required word
 abbrev pub positional : Text → Rule
 positional id = record (new_rule id) { value_names = 1; required = true; action = Some Set }
 
@@ -19,11 +19,11 @@ explorer = with_rule (with_rule (new_app (codes "ksv")) (positional (codes "file
 abbrev pub found : List Text → Text → Option Text
 found words id = first_of id (matches_of explorer words)
 
--- what a parse by the command gives has a value of this name
+-- each parse by the command has a value of this name
 abbrev pub Demands : Command → Text → Type 0
 Demands cmd id = (m : ArgMatches) → IsParsedFrom cmd m → is_some (first_value (found_of m) id) ≡ true
 
--- an argument that must be there, under this name, and does nothing else
+-- a required argument of this name that does nothing else
 pub record IsDemanded (id : Text) (a : Arg) : Type 0 where
   pub id_is : a.id.now ≡ id
   pub rule : rule_of a ≡ positional id

@@ -15,7 +15,7 @@ pub struct Args<'a> {
     pub ksy: &'a str,
 }
 
-/// A word that must be there, under the name that usage shows.
+/// A required word, with the name that usage shows.
 fn demanded<'a>(alloc: Global, id: &'a str, shown: &'a str) -> Arg<'a>
     ensures { IsDemanded id.now result }
 {
@@ -38,8 +38,8 @@ fn command<'a>(alloc: Global) -> Result<Command<'a>, AllocError>
     Ok(with_both)
 }
 
-/// Reads the words of a command line, the first of which is the program's name. The errors are `clap`'s: they hold
-/// the texts of usage and help, and their exit codes. Words that `clap` takes fail for want of memory alone.
+/// Reads the words of a command line; the first is the program's name. The errors are `clap`'s: they hold the texts
+/// of usage and help, and their exit codes. Valid arguments fail only when memory runs out.
 pub fn arguments<'a>(alloc: Global, words: &'a [&'a str]) -> Result<Args<'a>, Error>
     ensures file { IfOk result (λ args. Some args.file.now ≡ found (map (λ w. w.now) words.entry.now) (codes "file")) }
     ensures ksy { IfOk result (λ args. Some args.ksy.now ≡ found (map (λ w. w.now) words.entry.now) (codes "ksy")) }

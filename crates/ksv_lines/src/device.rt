@@ -1,7 +1,7 @@
 //! What a session reads from and writes to.
 ghost use Rattle.std.specs.Prelude.{◌≡◌, ◌≤◌, ◌<◌, ◌++◌, ◌||◌, List, ℕ, Bool, [], length, take, IfOk, OnErr, OnOk, IsTrue, is_err};
 
-/// A device did not do what it was asked.
+/// A device failed to do what it was asked.
 #[derive(Clone, Copy)]
 pub struct Failed;
 
@@ -14,8 +14,8 @@ pub trait Source {
 
     ghost failed: { Self → Bool };
 
-    /// Fills the front of the buffer and says how many bytes it wrote there: none only at the end, or where the
-    /// buffer has no room. A call that fails takes no bytes.
+    /// Fills the front of the buffer and returns how many bytes it wrote there: 0 only at the end, or if the buffer
+    /// has no room. A call that fails takes no bytes.
     fn read(&mut self, buf: &mut [u8]) -> Result<usize, Failed>
         ensures within { IfOk result (λ n. n ≤ length buf.new) }
         ensures given { IsTrue tells → IfOk result (λ n. bytes self.old ≡ take n buf.new ++ bytes self.new) }
@@ -33,8 +33,8 @@ pub trait Sink {
 
     ghost failed: { Self → Bool };
 
-    /// Takes bytes from the front of the buffer and says how many: none only where the buffer is empty. A call
-    /// that fails takes no bytes.
+    /// Takes bytes from the front of the buffer and returns how many: 0 only if the buffer is empty. A call that
+    /// fails takes no bytes.
     fn write(&mut self, buf: &[u8]) -> Result<usize, Failed>
         ensures within { IfOk result (λ n. n ≤ length buf.now) }
         ensures some { IfOk result (λ n. 0 < length buf.now → 0 < n) }
@@ -42,7 +42,7 @@ pub trait Sink {
         ensures kept { IsTrue tells → OnErr result (bytes self.new ≡ bytes self.old) }
         ensures fault { failed self.new ≡ (failed self.old || is_err result) };
 
-    /// Hands on what it has taken.
+    /// Passes on what it has taken.
     fn flush(&mut self) -> Result<(), Failed>
         ensures kept { IsTrue tells → bytes self.new ≡ bytes self.old }
         ensures fault { failed self.new ≡ (failed self.old || is_err result) };
@@ -61,7 +61,7 @@ pub(crate) fn write_all<W: Sink>(writer: &mut W, text: &[u8]) -> Result<(), Fail
     Ok(())
 }
 
-/// Writes all of a text, and hands it on.
+/// Writes all of a text, and flushes.
 pub fn send<W: Sink>(writer: &mut W, text: &[u8]) -> Result<(), Failed>
     ensures ok { IsTrue W.tells → OnOk result (W.bytes writer.new ≡ W.bytes writer.old ++ text.now) }
     ensures err { IsTrue W.tells → OnErr result ((n : ℕ) × (W.bytes writer.new ≡ W.bytes writer.old ++ take n text.now)) }

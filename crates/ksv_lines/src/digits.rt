@@ -1,13 +1,14 @@
-//! Bytes that a line writes as hexadecimal digits.
+//! The bytes of hexadecimal digits on a line.
 ghost use Rattle.std.specs.Prelude.{◌≡◌, ◌≤◌, length};
 ghost use Rattle.ksv_lines.specs.Digits.{bytes_of};
+ghost use Rattle.ksv_lines.specs.Lines.{line_limit};
 
 use std::marker::Model;
 
 /// The most bytes that one line can carry: half as many as it has bytes.
 const EDIT_LIMIT: usize = 2048;
 
-/// The bytes that an edit carries, in room of their own, so that reading them takes no memory.
+/// The bytes of an edit, in an array, so that reading them takes no memory.
 #[derive(Drop)]
 pub struct EditBytes {
     room: [u8; EDIT_LIMIT],
@@ -35,7 +36,7 @@ impl EditBytes {
 
 /// The bytes of an even number of hexadecimal digits.
 pub fn edit_bytes(digits: &[u8]) -> Option<EditBytes>
-    requires { length digits.now ≤ 4096 }
+    requires { length digits.now ≤ line_limit }
     ensures { result ≡ bytes_of digits.now }
 {
     let mut room = [0; EDIT_LIMIT];

@@ -1,5 +1,5 @@
-//! Lines, the words on them, the devices that they come from and go to, and the program's messages: all that knows
-//! nothing of descriptions.
+//! Lines, the words on them, the devices that they come from and go to, and the program's messages: all that is
+//! independent of descriptions.
 //!
 //! How bytes are cut into lines and words is defined in `specs/Lines.antt`, and a device is a [`Source`] or a [`Sink`].
 #![tactic(auto)]

@@ -3,8 +3,8 @@ ghost use Rattle.std.specs.Prelude.{◌≡◌, ◌≤◌, true, false, length, d
 
 use crate::device::{Failed, Sink, Source};
 
-/// Bytes that are read from the front, or room that is filled from the back. It tells contracts all its bytes, and
-/// takes no memory: a write fails where the vector has no room left.
+/// Bytes that are read from the front, or room that is filled at the end. All its bytes are known to contracts. It
+/// takes no memory: a write fails if the vector has no room left.
 #[derive(Drop)]
 pub struct Memory {
     /// The bytes.

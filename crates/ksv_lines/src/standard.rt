@@ -4,8 +4,8 @@ ghost use Rattle.std.specs.Prelude.{◌≡◌, false, []};
 use crate::device::{Failed, Sink, Source};
 use std::io::{Read, Write};
 
-/// A reader or a writer of std. It tells contracts no bytes, since nobody knows what a file or a terminal gives.
-/// Each error counts as a failure, none is tried again, and so does a write that takes nothing.
+/// A reader or a writer of std. Its bytes are unknown to contracts, since nobody knows what a file or a terminal
+/// gives. Each error counts as a failure and is not tried again; so does a write that takes nothing.
 #[derive(Drop)]
 pub struct Std<T> {
     inner: T,

@@ -1,4 +1,4 @@
-//! Why the program stops before a session, or after it, and what it says.
+//! Why the program stops before a session, or after it, and its message.
 ghost use Rattle.std.specs.Prelude.{◌≡◌, ◌++◌, ◌||◌, IsTrue, OnOk, codes, decimal, is_err, map};
 ghost use Rattle.ksv_lines.specs.Messages.{message, place_text, status_of};
 
@@ -16,16 +16,16 @@ pub enum Stop {
     DescriptionUnreadable,
     /// The description is refused.
     Line {
-        /// The line at fault, from 1.
+        /// The line of the fault, from 1.
         line: u32,
         /// The code of the refusal, as `S8`.
         code: &'static str,
-        /// What the code says.
+        /// The text of the code.
         text: &'static str,
-        /// The place in an expression at fault, in bytes from its start.
+        /// The place of the fault in an expression, in bytes from its start.
         at: Option<u32>,
     },
-    /// No memory was to be had.
+    /// Memory was refused.
     NoMemory,
     /// A read of the commands failed.
     InputFailed,
@@ -47,7 +47,7 @@ impl Stop {
     }
 }
 
-/// Writes three texts one behind the other.
+/// Writes three texts one after the other.
 fn write_three<W: Sink>(first: &str, second: &str, third: &str, sink: &mut W) -> Result<(), Failed>
     ensures ok { IsTrue W.tells → OnOk result (W.bytes sink.new ≡ W.bytes sink.old ++ (first.now ++ second.now ++ third.now)) }
     ensures fault { W.failed sink.new ≡ (W.failed sink.old || is_err result) }
@@ -68,7 +68,7 @@ fn write_place<W: Sink>(place: Option<u32>, sink: &mut W) -> Result<(), Failed>
     }
 }
 
-/// Writes what the program says of a description that is refused at a line.
+/// Writes the message for a description that is refused at a line.
 fn say_line<W: Sink>(
     ksy: &str,
     line: u32,
@@ -87,8 +87,8 @@ fn say_line<W: Sink>(
     write_place(place, sink)
 }
 
-/// Writes what the program says of a stop, one line. The names are those that the words gave to the file, to its
-/// description and to the file for the bytes.
+/// Writes the message for a stop, one line. The names are those that the words gave to the file, to its description
+/// and to the file for the bytes.
 pub fn say<W: Sink>(stop: &Stop, names: [&str; 3], sink: &mut W) -> Result<(), Failed>
     ensures ok { IsTrue W.tells → OnOk result (W.bytes sink.new ≡ W.bytes sink.old ++ message (map (λ name. name.now) names.entry) stop.now) }
     ensures fault { W.failed sink.new ≡ (W.failed sink.old || is_err result) }

@@ -2,7 +2,7 @@
 ghost use Rattle.std.specs.Prelude.{◌≡◌, ◌≤◌, ◌<◌, [], ◌∷◌, length, MatchOption, IfSome, position, not, true};
 ghost use Rattle.ksv_lines.specs.Lines.{BeginsWord, is_blank, is_word_start, without_carriage_return, words_of};
 
-/// Where the first byte stands that is neither a space nor a tab.
+/// Where the first byte is that is neither a space nor a tab.
 fn filled_place(text: &[u8]) -> Option<usize>
     ensures { result ≡ position (λ c. not (is_blank c)) text.now }
 {
@@ -10,14 +10,14 @@ fn filled_place(text: &[u8]) -> Option<usize>
         .position(|byte| !(*byte == b' ' || *byte == b'\t'))
 }
 
-/// Where the first space or tab stands.
+/// Where the first space or tab is.
 fn blank_place(text: &[u8]) -> Option<usize>
     ensures { result ≡ position is_blank text.now }
 {
     text.iter().position(|byte| *byte == b' ' || *byte == b'\t')
 }
 
-/// What stands behind the spaces and tabs in front; None where nothing does.
+/// The text after the spaces and tabs in front; None if nothing is left.
 fn skip_blanks(text: &[u8]) -> Option<&[u8]>
     ensures { MatchOption result (words_of text.now ≡ []) (λ rest. BeginsWord text.now rest.now) }
 {
@@ -25,7 +25,7 @@ fn skip_blanks(text: &[u8]) -> Option<&[u8]>
     Some(&text[start..])
 }
 
-/// The word at the front, and what stands behind it.
+/// The word at the front, and what comes after it.
 fn cut_word(text: &[u8]) -> (&[u8], &[u8])
     requires { is_word_start text.now ≡ true }
     ensures word { words_of text.now ≡ result.0.now ∷ words_of result.1.now }
@@ -38,7 +38,7 @@ fn cut_word(text: &[u8]) -> (&[u8], &[u8])
     }
 }
 
-/// The first word, and what stands behind it; None where there is none.
+/// The first word, and what comes after it; None if there is no word.
 pub fn next_word(text: &[u8]) -> Option<(&[u8], &[u8])>
     ensures words { MatchOption result (words_of text.now ≡ []) (λ found. words_of text.now ≡ found.0.now ∷ words_of found.1.now) }
     ensures filled { IfSome result (λ found. 0 < length found.0.now) }
@@ -48,7 +48,7 @@ pub fn next_word(text: &[u8]) -> Option<(&[u8], &[u8])>
     Some(cut_word(rest))
 }
 
-/// The line without the one carriage return that may stand at its end.
+/// The line without the one carriage return that it may end with.
 pub fn line_text(line: &[u8]) -> &[u8]
     ensures text { result.now ≡ without_carriage_return line.now }
     ensures within { length result.now ≤ length line.now }

@@ -1,5 +1,5 @@
--- Evaluation from nothing: what a node answers by the rules alone, with what it asks and uses on the way. There is no
--- table, no stack and no kept answer in it.
+-- Evaluation from nothing: what a node answers by the rules alone, with what it asks and uses on the way. It has no
+-- table, no stack and no kept answer.
 use Rattle.std.specs.Prelude.{ℕ, zero, suc, Bool, cond, List, [], ◌∷◌, ◌++◌, nat_eq, map}
 use Rattle.std.specs.List.{list_any, flat_map}
 use Rattle.ksv_bytes.specs.declared.uses.Use.{Use}
@@ -13,7 +13,8 @@ use Rattle.ksv_memo.specs.Meaning.{Standing}
 abbrev pub is_among : {N : Type 0} → (N → ℕ) → List N → N → Bool
 is_among number ms n = list_any (nat_eq (number n)) (map number ms)
 
--- what an evaluation tells: its outcome, the nodes that it asked in order, with repeats, and its uses, with repeats
+-- the result of an evaluation: its outcome, the nodes that it asked in order, with repeats, and its uses, with
+-- repeats
 pub record Told (N A : Type 0) : Type 0 where
   pub outcome : Outcome N A
   pub asked : List N
@@ -37,19 +38,20 @@ unfoldable pub with_step : {N A : Type 0} → (N → Outcome N A) → List Use �
 with_step ask us rest (Done a) = record { outcome = Answered a; asked = []; uses = us }
 with_step ask us rest (Need m) = after (m ∷ []) us (with_reply rest (ask m))
 
--- what a node tells from these replies on, where `ask` answers what it asks; a node that asks more often than its rules
--- allow, which the laws rule out, is a circle
+-- the result of a node from these replies on, where `ask` answers what it asks; a node that asks more often than
+-- its rules allow, which the laws exclude, is a circle
 unfoldable pub told : {N A : Type 0} → Standing N A → (N → Outcome N A) → N → ℕ → List A → Told N A
 told w ask n zero replies = only_circle n
 told w ask n (suc j) replies = with_step ask (w.added n replies) (λ a. told w ask n j (replies ++ a ∷ [])) (w.follow n replies)
 
--- what a node tells from nothing while the nodes of a list are open: an open node is a circle, and what another node asks
--- is had in the same way with one node more open. The number bounds the depth
+-- the result of a node from nothing while the nodes of a list are open: an open node is a circle. What another node
+-- asks is evaluated the same way, with that node on the list. The number bounds the depth
 unfoldable pub eval : {N A : Type 0} → Standing N A → ℕ → List N → N → Told N A
 eval w zero opened n = only_circle n
 eval w (suc k) opened n = cond (is_among w.number opened n) (only_circle n) (told w (λ m. (eval w k (n ∷ opened) m).outcome) n (suc w.replies) [])
 
--- what a node tells where a list of nodes is open. Open nodes differ, so as many nodes as there are suffice for the depth
+-- the result of a node while a list of nodes is open. Open nodes differ, so the number of nodes suffices for the
+-- depth
 abbrev pub tells : {N A : Type 0} → Standing N A → List N → N → Told N A
 tells w opened n = eval w w.nodes opened n
 
@@ -69,6 +71,6 @@ unfoldable pub completed : {N A : Type 0} → Standing N A → ℕ → List N �
 completed w zero opened n = []
 completed w (suc k) opened n = cond (is_among w.number opened n) [] (flat_map (completed w k (n ∷ opened)) (eval w (suc k) opened n).asked ++ if_answered n (eval w (suc k) opened n).outcome)
 
--- the same, to whatever depth it goes
+-- the same, to any depth
 abbrev pub done : {N A : Type 0} → Standing N A → List N → N → List N
 done w opened n = completed w w.nodes opened n

@@ -1,4 +1,5 @@
--- What rules mean: what a node does next, by the bytes and by the replies that it had. The engine asks no more of rules.
+-- What rules mean: what a node does next, given the bytes and the replies so far. The engine requires no more of
+-- rules.
 use Rattle.std.specs.Prelude.{◌≡◌, ℕ, ◌<◌, ◌≤◌, List, ◌++◌, length}
 use Rattle.std.specs.List.{AllByRecursion}
 use Rattle.ksv_bytes.specs.declared.uses.Use.{Use}
@@ -15,10 +16,10 @@ pub record Meaning (N A : Type 0) : Type 0 where
   -- a node's own number, and the bound of the numbers
   pub number : N → ℕ
   pub nodes : ℕ
-  -- after so many replies a node is done
+  -- after this many replies a node is done
   pub replies : ℕ
 
--- what rules mean while the bytes stand as they are
+-- what rules mean on the current bytes
 pub record Standing (N A : Type 0) : Type 0 where
   pub follow : N → List A → Next N A
   pub added : N → List A → List Use
@@ -46,20 +47,20 @@ pub record IsLawful {N A : Type 0} (meaning : Meaning N A) : Type 0 where
   -- each node has a number of its own, below the bound
   pub own_number : (a b : N) → meaning.number a ≡ meaning.number b → a ≡ b
   pub bounded : (n : N) → meaning.number n < meaning.nodes
-  -- with as many replies as the second bound says, a node is done
+  -- with as many replies as the second bound, a node is done
   pub settles : (bytes : List ℕ) (n : N) (replies : List A) → meaning.replies ≤ length replies → IsDone (meaning.follow bytes n replies)
-  -- where two lists of bytes agree on the uses, the call is the same on both
+  -- if two lists of bytes agree on the uses, the call is the same on both
   pub same_step : (bytes others : List ℕ) (n : N) (replies : List A) → AllByRecursion (AgreeOn bytes others) (meaning.added bytes n replies) → meaning.follow others n replies ≡ meaning.follow bytes n replies
   pub same_uses : (bytes others : List ℕ) (n : N) (replies : List A) → AllByRecursion (AgreeOn bytes others) (meaning.added bytes n replies) → meaning.added others n replies ≡ meaning.added bytes n replies
-  -- a used range isn't empty, and the bytes reach each used place
+  -- a used range isn't empty, and each used place is within the bytes
   pub can_use : (bytes : List ℕ) (n : N) (replies : List A) → AllByRecursion (CanUse bytes) (meaning.added bytes n replies)
 
--- the laws that speak of one list of bytes
+-- the laws about one list of bytes
 pub record IsSettled {N A : Type 0} (w : Standing N A) : Type 0 where
   pub own_number : (a b : N) → w.number a ≡ w.number b → a ≡ b
   pub bounded : (n : N) → w.number n < w.nodes
   pub settles : (n : N) (replies : List A) → w.replies ≤ length replies → IsDone (w.follow n replies)
 
--- the second list goes on where the first ends
+-- the second list begins with the first
 abbrev pub IsAddedTo : {X : Type 0} → List X → List X → Type 0
 IsAddedTo {X} held now = (more : List X) × (now ≡ held ++ more)

@@ -3,7 +3,7 @@ use Rattle.std.specs.Prelude.{List, map, reverse}
 use Rattle.ksv_bytes.specs.declared.uses.Use.{Use}
 use Rattle.ksv_memo.specs.declared.frame.Frame.{Frame}
 
--- an open node, with the replies that it had, what it asked for them, and the uses of its calls, with repeats
+-- an open node, with the replies so far, what it asked for them, and the uses of its calls, with repeats
 pub record Open (N A : Type 0) : Type 0 where
   pub node : N
   pub replies : List A

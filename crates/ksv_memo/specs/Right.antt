@@ -11,7 +11,7 @@ use Rattle.ksv_memo.specs.Entry.{Entry}
 abbrev pub nodes_of : {N A : Type 0} → List (Entry N A) → List N
 nodes_of es = map (λ e. e.node) es
 
--- no node stands twice in a list
+-- no node is in a list twice
 abbrev pub AreDistinct : {N A : Type 0} → Standing N A → List N → Type 0
 AreDistinct w ns = IsDistinct nat_eq (map w.number ns)
 
@@ -37,7 +37,7 @@ pub record AreExactly {N A : Type 0} (w : Standing N A) (ns ms : List N) : Type 
   pub once : AreDistinct w ns
   pub same : (x : N) → is_among w.number ns x ≡ is_among w.number ms x
 
--- a list of nodes is distinct, has all members of a second list, and none but those of a third
+-- a list of nodes is distinct, has all members of a second list, and only members of a third
 pub record AreBetween {N A : Type 0} (w : Standing N A) (least ns most : List N) : Type 0 where
   pub once : AreDistinct w ns
   pub holds : (x : N) → is_among w.number least x ≡ true → is_among w.number ns x ≡ true
@@ -57,7 +57,7 @@ abbrev pub costs : {N A : Type 0} → Standing N A → List N → ℕ
 costs w [] = 0
 costs w (m ∷ ms) = cost w m + costs w ms
 
--- the count after so many more calls, which stays at the largest number
+-- the count after this many more calls, which stops at the largest number
 abbrev pub counted : ℕ → Option ℕ → Option ℕ
 counted zero turns = turns
 counted (suc k) turns = option_map (λ t. min (t + 1) (2 ^ 64 - 1)) (counted k turns)

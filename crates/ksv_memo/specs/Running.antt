@@ -1,5 +1,5 @@
--- The stack of open nodes while a question is answered: what it says of the answers to come, of the nodes that are still
--- to be kept, and of the calls that are left. The machine's own contracts alone speak of it.
+-- The stack of open nodes while a question is answered: what it determines about the answers to come, the nodes
+-- that are still to be kept, and the calls that are left. Only the machine's own contracts use it.
 use Rattle.std.specs.Prelude.{◌≡◌, ℕ, suc, ◌+◌, ◌-◌, ◌*◌, ◌<◌, ◌≤◌, true, false, List, [], ◌∷◌, ◌++◌, length, Option}
 use Rattle.std.specs.List.{AllByRecursion, flat_map}
 use Rattle.ksv_memo.specs.declared.rules.Outcome.{Outcome}
@@ -18,23 +18,23 @@ use Rattle.ksv_memo.specs.Right.{nodes_of, AreDistinct, IsRight, fresh, costs, c
 abbrev pub answering : {N A : Type 0} → Standing N A → List N → N → Outcome N A
 answering w opened m = (tells w opened m).outcome
 
--- this way of answering says at each kept node what is kept
+-- this function answers each kept node with its kept answer
 abbrev pub Agrees : {N A : Type 0} → List (Entry N A) → (N → Outcome N A) → Type 0
 Agrees es g = AllByRecursion (λ e. g e.node ≡ Answered e.answer) es
 
--- by kept answers alone, the node came to these replies
+-- for all answers that agree with the kept ones, the node gets these replies
 pub record HasCome {N A : Type 0} (w : Standing N A) (es : List (Entry N A)) (o : Open N A) : Type 0 where
   pub came : (g : N → Outcome N A) → Agrees es g → told w g o.node (suc w.replies) [] ≡ after o.asked o.uses (told w g o.node (suc w.replies - length o.replies) o.replies)
   pub closed : AllByRecursion (λ m. is_among w.number (nodes_of es) m ≡ true) o.asked
   pub few : length o.replies ≤ w.replies
 
--- it came to these replies, and waits for that of a node
+-- it gets these replies, and then waits for that of a node
 pub record IsWaiting {N A : Type 0} (w : Standing N A) (es : List (Entry N A)) (o : Open N A) (m : N) : Type 0 where
   pub came : (g : N → Outcome N A) → Agrees es g → told w g o.node (suc w.replies) [] ≡ after (o.asked ++ m ∷ []) o.uses (with_reply (λ a. told w g o.node (w.replies - length o.replies) (o.replies ++ a ∷ [])) (g m))
   pub closed : AllByRecursion (λ m. is_among w.number (nodes_of es) m ≡ true) o.asked
   pub few : length o.replies < w.replies
 
--- it came to its answer
+-- it gets its answer
 pub record HasEnded {N A : Type 0} (w : Standing N A) (es : List (Entry N A)) (o : Open N A) (a : A) : Type 0 where
   pub came : (g : N → Outcome N A) → Agrees es g → told w g o.node (suc w.replies) [] ≡ record { outcome = Answered a; asked = o.asked; uses = o.uses }
   pub closed : AllByRecursion (λ m. is_among w.number (nodes_of es) m ≡ true) o.asked
@@ -65,12 +65,12 @@ climbed w (o ∷ st) out = climbed w st (resumed w o (nodes_in st) out)
 abbrev pub value_of : {N A : Type 0} → Standing N A → Open N A → List (Open N A) → Outcome N A
 value_of w o st = climbed w st (told w (answering w (o.node ∷ nodes_in st)) o.node (suc w.replies - length o.replies) o.replies).outcome
 
--- the same when that call has told the step
+-- the same when that call has given the step
 abbrev pub value_at : {N A : Type 0} → Standing N A → Open N A → List (Open N A) → Next N A → Outcome N A
 value_at w o st (Done a) = climbed w st (Answered a)
 value_at w o st (Need m) = climbed w (o ∷ st) (answering w (o.node ∷ nodes_in st) m)
 
--- it came to its next step
+-- it reached its next step
 abbrev pub HasStepped : {N A : Type 0} → Standing N A → List (Entry N A) → Open N A → Next N A → Type 0
 HasStepped w es o (Done a) = HasEnded w es o a
 HasStepped w es o (Need m) = IsWaiting w es o m
@@ -84,14 +84,14 @@ calls_of w (o ∷ st) = (suc w.replies - length o.replies) + calls_of w st
 abbrev pub calls_left : {N A : Type 0} → Standing N A → List (Entry N A) → Open N A → List (Open N A) → ℕ
 calls_left w es o st = (w.nodes - (length es + length (o ∷ st))) * (w.replies + 2) + calls_of w (o ∷ st)
 
--- the nodes that are completed from where the last open node tells this, up to the lowest open node
+-- the nodes that are completed from this outcome of the last open node on, up to the lowest open node
 abbrev pub climbed_rest : {N A : Type 0} → Standing N A → List (Open N A) → Outcome N A → List N
 climbed_rest w [] out = []
 climbed_rest w (o ∷ st) out =
     let t = with_reply (λ a. told w (answering w (o.node ∷ nodes_in st)) o.node (w.replies - length o.replies) (o.replies ++ a ∷ [])) out in
     flat_map (done w (o.node ∷ nodes_in st)) t.asked ++ (if_answered o.node t.outcome ++ climbed_rest w st t.outcome)
 
--- the same from what the last open node tells
+-- the same from the result of the last open node
 abbrev pub told_rest : {N A : Type 0} → Standing N A → N → List (Open N A) → Told N A → List N
 told_rest w n st t = flat_map (done w (n ∷ nodes_in st)) t.asked ++ (if_answered n t.outcome ++ climbed_rest w st t.outcome)
 
@@ -99,7 +99,7 @@ told_rest w n st t = flat_map (done w (n ∷ nodes_in st)) t.asked ++ (if_answer
 abbrev pub rest_of : {N A : Type 0} → Standing N A → Open N A → List (Open N A) → List N
 rest_of w o st = told_rest w o.node st (told w (answering w (o.node ∷ nodes_in st)) o.node (suc w.replies - length o.replies) o.replies)
 
--- the same when that call has told the step
+-- the same when that call has given the step
 abbrev pub rest_at : {N A : Type 0} → Standing N A → Open N A → List (Open N A) → Next N A → List N
 rest_at w o st (Done a) = o.node ∷ climbed_rest w st (Answered a)
 rest_at w o st (Need m) = done w (o.node ∷ nodes_in st) m ++ climbed_rest w (o ∷ st) (answering w (o.node ∷ nodes_in st) m)
@@ -117,8 +117,9 @@ abbrev pub made : {N A : Type 0} → List (Open N A) → ℕ
 made [] = 0
 made (o ∷ st) = length o.asked + 1 + made st
 
--- what one turn has to keep: what the lowest open node will answer, a bound on the calls that are left, all nodes that are
--- kept in the end, the calls of those among them that aren't kept yet, and the calls that were made for open nodes
+-- what one turn must preserve: what the lowest open node will answer, a bound on the calls that are left, all nodes
+-- that are kept in the end, the calls of those among them that aren't kept yet, and the calls that were made for
+-- open nodes
 pub record Account (N A : Type 0) : Type 0 where
   pub value : Outcome N A
   pub left : ℕ
@@ -136,7 +137,7 @@ account_of w es o st = record {
   made = length o.asked + made st;
 }
 
--- the same when that call has told the step
+-- the same when that call has given the step
 abbrev pub account_at : {N A : Type 0} → Standing N A → List (Entry N A) → Open N A → List (Open N A) → Next N A → Account N A
 account_at w es o st s = record {
   value = value_at w o st s;
@@ -163,18 +164,18 @@ pub record GoesOn {N A : Type 0} (w : Standing N A) (account : Account N A) (bef
   pub all : to_keep w es (rest_of w o st) ≡ account.all
   pub calls : debt w es (rest_of w o st) + account.made + 1 ≡ account.owed + (length o.asked + made st)
 
--- what one turn comes to
+-- the result of one turn
 abbrev pub Advances : {N A : Type 0} → Standing N A → Account N A → List (Entry N A) → List (Entry N A) → List (Open N A) → Progress N A → Type 0
 Advances w account before es st (Ended out) = HasFinished w account es out
 Advances w account before es st (Goes n f) = GoesOn w account before es (open_of n f) st
 
--- what a refused memory leaves: kept answers that are right, the old ones among them, and none but those that would have
--- been kept in the end
+-- what a refused memory leaves: kept answers that are right, with the old ones among them, and only those that
+-- would have been kept in the end
 pub record IsLeft {N A : Type 0} (w : Standing N A) (all : List N) (before es : List (Entry N A)) : Type 0 where
   pub right : IsRight w es
   pub grown : IsAddedTo (nodes_of before) (nodes_of es)
   pub within : IsAddedTo (nodes_of es) all
 
--- some number of calls was counted, and with those that are still owed they are these and what was made for open nodes
+-- some number of calls was counted; with the calls still to be made they are these and those made for open nodes
 abbrev pub Counts : Option ℕ → Option ℕ → ℕ → ℕ → ℕ → Type 0
 Counts before now owed so_far total = (c : ℕ) × (now ≡ counted c before) × (c + owed ≡ total + so_far)

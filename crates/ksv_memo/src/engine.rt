@@ -13,7 +13,7 @@ use ksv_bytes::{Buffer, Change};
 use std::alloc::{AllocError, Global};
 use std::marker::Model;
 
-/// What a question for a node comes to.
+/// The result of a question for a node.
 #[derive(Debug, Drop)]
 pub enum Answer<N, V, F> {
     /// The node has this value.
@@ -36,8 +36,8 @@ fn answer_of<N, V, F>(outcome: Outcome<N, Result<V, F>>) -> Answer<N, V, F>
 
 /// An engine that answers nodes by rules over the bytes of a file, and keeps the answers.
 ///
-/// It is *right* for rules and bytes if each kept node has the answer, the asked nodes and the uses that evaluation from
-/// nothing gives, and all nodes that it asked are kept. Contracts see the kept entries in no stated order.
+/// It is *right* for rules and bytes if each kept node has the answer, the asked nodes and the uses that evaluation
+/// from nothing gives, and all nodes that it asked are kept. In contracts the kept entries have no stated order.
 #[derive(Drop)]
 pub struct Engine<R: Rules> {
     machine: Machine<R>,
@@ -72,9 +72,10 @@ impl<R: Rules> Engine<R> {
         self.machine.turns = Some(0);
     }
 
-    /// What a node answers: what evaluation from nothing gives, the rules run from no replies and each reply had in the same
-    /// way. A node that is asked while it is open is a circle, which ends the question. Kept nodes aren't run, and each
-    /// completed node is kept, also after a circle. It returns whatever the depth.
+    /// The answer of a node, as evaluation from nothing gives it: the rules run first with no replies, and each
+    /// asked node is evaluated the same way. A node that is asked while it is open is a circle, which ends the
+    /// question. Kept nodes aren't run, and each completed node is kept, also after a circle. It returns whatever
+    /// the depth.
     pub fn ask(
         &mut self,
         rules: &R,
@@ -84,10 +85,10 @@ impl<R: Rules> Engine<R> {
         requires { IsRight (on (R.meaning rules.now) bytes.now) self.old.kept }
         ensures answer { IfOk result (λ answer. answer ≡ answer_of (tells (on (R.meaning rules.now) bytes.now) [] node).outcome) }
 
-        // The engine stays right, also after a refused memory; so all that its nodes asked is kept.
+        // The engine is still right, also after a refused memory; so all that its nodes asked is kept.
         ensures right { IsRight (on (R.meaning rules.now) bytes.now) self.new.kept }
 
-        // The nodes that were kept and those that the question completed are kept, and none else.
+        // The nodes that were kept and those that the question completed are kept, and no others.
         ensures kept { OnOk result (AreExactly (on (R.meaning rules.now) bytes.now) (nodes_of self.new.kept) (nodes_of self.old.kept ++ done (on (R.meaning rules.now) bytes.now) [] node)) }
         ensures refused { OnErr result (AreBetween (on (R.meaning rules.now) bytes.now) (nodes_of self.old.kept) (nodes_of self.new.kept) (nodes_of self.old.kept ++ done (on (R.meaning rules.now) bytes.now) [] node)) }
 
@@ -123,8 +124,8 @@ impl<R: Rules> Engine<R> {
         self.machine.table.len()
     }
 
-    /// The calls of the rules since the question began; none after a circle or a refused memory since then. At 2^64 - 1 the
-    /// count stays.
+    /// The calls of the rules since the question began; None after a circle or a refused memory since then. The
+    /// count stops at 2^64 - 1.
     pub fn turns(&self) -> Option<u64>
         ensures { result ≡ self.now.turns }
     {

@@ -4,8 +4,8 @@ ghost use Rattle.std.specs.Prelude.{◌≡◌, ◌++◌, [], ◌∷◌, OnOk};
 use ksv_bytes::Use;
 use std::alloc::{AllocError, Global};
 
-/// What an open node has come to: the replies that it had, the nodes that it asked for them, and what its calls used,
-/// with repeats.
+/// The state of an open node: the replies so far, the nodes that it asked for them, and what its calls used, with
+/// repeats.
 #[derive(Drop)]
 pub struct Frame<N, A> {
     pub replies: Vec<A>,

@@ -1,9 +1,9 @@
 //! An engine that answers the nodes of any rules over the bytes of a file, and keeps what it has answered.
 //!
-//! [`Rules`] say what a node does next once it has had some replies: it needs the answer of another node, or it is done.
-//! An [`Engine`] runs a node by them on an explicit stack, never runs a node twice while its answer is kept, and says of
-//! each answer that it is what evaluation from nothing gives (`specs/Evaluation.antt`). It knows nothing of what nodes and
-//! answers mean.
+//! [`Rules`] define what a node does next after some replies: it needs the answer of another node, or it is done.
+//! An [`Engine`] runs a node by them on an explicit stack and never runs a node twice while its answer is kept.
+//! Each of its answers is what evaluation from nothing gives (`specs/Evaluation.antt`). It doesn't depend on what
+//! nodes and answers mean.
 #![tactic(auto)]
 
 mod engine;

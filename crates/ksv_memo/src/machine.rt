@@ -14,10 +14,10 @@ use crate::uses::each_once;
 use ksv_bytes::Buffer;
 use std::alloc::{AllocError, Global};
 
-/// What a node is replied: a value or a fault.
+/// The reply to a question for a node: a value or a fault.
 pub type Reply<R> = Result<<R as Rules>::Value, <R as Rules>::Fault>;
 
-/// What one turn comes to.
+/// The result of one turn.
 #[derive(Drop)]
 pub enum Progress<N, A> {
     /// The question has this outcome.
@@ -36,7 +36,7 @@ fn one_more(turns: Option<u64>) -> Option<u64>
     }
 }
 
-/// What is kept for a node that came to this answer.
+/// What is kept for a node with this answer.
 fn ended<N: Drop, A: Drop>(
     alloc: Global,
     frame: Frame<N, A>,
@@ -147,7 +147,7 @@ impl<R: Rules> Machine<R> {
         }
     }
 
-    /// Replies to the last open node what is kept for the node that it asks, or opens that node.
+    /// Replies to the last open node with the kept answer of the node that it asks, or opens that node.
     fn need(
         &self,
         rules: &R,
@@ -177,7 +177,7 @@ impl<R: Rules> Machine<R> {
         }
     }
 
-    /// What the node comes to from nothing.
+    /// The outcome of the node from nothing.
     pub(crate) fn ask(
         &mut self,
         rules: &R,

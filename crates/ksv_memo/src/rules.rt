@@ -1,4 +1,4 @@
-//! What rules are, and the laws that they keep.
+//! What rules are, and the laws that they obey.
 ghost use Rattle.std.specs.Prelude.{◌≡◌, ℕ, ◌++◌, List, true, Result, IfOk, OnOk, OnErr};
 
 use ksv_bytes::{Buffer, Use};
@@ -14,7 +14,7 @@ pub enum Next<N, A> {
     Done(A),
 }
 
-/// What comes of asking a node while some nodes are open.
+/// The outcome of asking a node while some nodes are open.
 #[derive(Drop)]
 pub enum Outcome<N, A> {
     /// The node's answer.
@@ -25,9 +25,9 @@ pub enum Outcome<N, A> {
 
 /// Rules by which the answers of nodes follow from the answers of other nodes and from the bytes of a file.
 ///
-/// Their laws, for all replies: a node is equal to itself alone; each node has a number of its own below a bound of the
-/// rules; after as many replies as a second bound of the rules says a node is done; and where two lists of bytes agree on
-/// the uses that a call adds, the call is the same on both.
+/// Their laws, for all replies: a node is equal only to itself; each node has a number of its own below a bound of
+/// the rules; a second bound is the number of replies after which every node is done; and if two lists of bytes
+/// agree on the uses that a call adds, the call is the same on both.
 pub trait Rules {
     ghost use Rattle.ksv_memo.specs.Meaning.{Meaning, IsLawful, IsAddedTo};
 
@@ -37,14 +37,14 @@ pub trait Rules {
     /// What a node answers.
     type Value: Drop;
 
-    /// What a node answers where it has no value.
+    /// What a node answers if it has no value.
     type Fault: Drop;
 
     /// What the rules mean, for all bytes.
     ghost meaning: { Self → Meaning Self.Node (Result Self.Value Self.Fault) };
 
-    /// What a node does next after these replies to what it needed. It adds to `uses` what its readings of the bytes rest
-    /// on. After a refused memory `uses` begins with what it held.
+    /// What a node does next after these replies to what it needed. It adds to `uses` what its readings of the
+    /// bytes depend on. After a refused memory `uses` begins with what it held before.
     fn next(
         &self,
         alloc: Global,
@@ -57,11 +57,11 @@ pub trait Rules {
         ensures uses { OnOk result (uses.new.items ≡ uses.old.items ++ (meaning self.now).added bytes.now node.now replies.now) }
         ensures refused { OnErr result (IsAddedTo uses.old.items uses.new.items) };
 
-    /// The same node again.
+    /// A copy of the node.
     fn copy_node(&self, alloc: Global, node: &Self::Node) -> Result<Self::Node, AllocError>
         ensures { IfOk result (λ copy. copy ≡ node.now) };
 
-    /// The same answer again.
+    /// A copy of the answer.
     fn copy_answer(
         &self,
         alloc: Global,

@@ -9,8 +9,8 @@ use std::alloc::{AllocError, Global};
 use std::hash::Hash;
 use std::marker::Model;
 
-/// The open nodes that wait for the one that is run, in the order in which they were opened. Contracts see the list of
-/// them, the last one first. A look-up takes one hash, however many nodes are open.
+/// The open nodes that wait for the one that is run, in the order in which they were opened. Contracts see the list
+/// of them, the last one first. A lookup takes one hash, however many nodes are open.
 #[derive(Drop)]
 pub struct Stack<N: Eq + Hash + Drop, A: Drop> {
     frames: IndexMap<N, Frame<N, A>>,

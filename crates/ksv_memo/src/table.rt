@@ -81,7 +81,7 @@ impl<N: Eq + Hash + Drop, A: Drop> Table<N, A> {
         }
     }
 
-    /// Puts in what is kept for a node that has none yet.
+    /// Inserts what is kept for a node that has no answer yet.
     fn insert(&mut self, node: N, kept: Kept<N, A>) -> Result<(), AllocError>
         requires { find (λ entry. N.eq node entry.node) self.old ≡ None }
         ensures ok { OnOk result (self.new ≡ self.old ++ entry_of node kept ∷ []) }
@@ -91,7 +91,8 @@ impl<N: Eq + Hash + Drop, A: Drop> Table<N, A> {
         Ok(())
     }
 
-    /// Keeps the answer of a node that has none yet, and what it rests on in no more room than that takes.
+    /// Keeps the answer of a node that has none yet, and what the answer depends on, in no more room than that
+    /// needs.
     pub(crate) fn keep(&mut self, node: N, kept: Kept<N, A>) -> Result<(), AllocError>
         requires { find (λ entry. N.eq node entry.node) self.old ≡ None }
         ensures ok { OnOk result (self.new ≡ self.old ++ entry_of node kept ∷ []) }

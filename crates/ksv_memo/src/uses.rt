@@ -5,7 +5,7 @@ ghost use Rattle.ksv_memo.specs.Right.{HasEachOnce};
 use ksv_bytes::Use;
 use std::alloc::{AllocError, Global};
 
-/// Each of these uses once, in the order in which they first come.
+/// Each of these uses once, in the order of their first occurrences.
 pub(crate) fn each_once(alloc: Global, uses: &[Use]) -> Result<Vec<Use>, AllocError>
     ensures { IfOk result (λ once. HasEachOnce once.items uses.now) }
 {

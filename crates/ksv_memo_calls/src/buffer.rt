@@ -34,7 +34,8 @@ fn holds_no_more_than_the_limit(rt: HostRuntime) -> Result<(), Fail> {
     Ok(())
 }
 
-/// Whether an overwrite of two bytes at 2, an insert and a delete of one there, and an append touch a use as it is said.
+/// Whether an overwrite of two bytes at 2, an insert and a delete of one there, and an append touch a use as
+/// stated.
 fn is_touched(used: Use, by_overwrite: bool, by_shift: bool, by_append: bool) -> bool {
     touches(Change::Overwrite { at: 2, n: 2 }, used) == by_overwrite
         && touches(Change::Insert { at: 2, n: 1 }, used) == by_shift

@@ -44,7 +44,7 @@ fn chain_engine(alloc: Global, _bytes: &Buffer) -> Engine<Chain>
     Engine::new(alloc)
 }
 
-/// Asks a row of an engine that is right for its rules and bytes, and leaves it so.
+/// Asks a row of an engine that is right for its rules and bytes, and still is afterwards.
 fn ask(
     engine: &mut Engine<Rows>,
     rules: &Rows,
@@ -230,7 +230,7 @@ fn overwrite(engine: &mut Engine<Rows>, rules: &Rows, bytes: &mut Buffer, at: us
     }
 }
 
-/// Writes bytes behind the last one, and tells the engine.
+/// Writes bytes after the last one, and tells the engine.
 fn append(engine: &mut Engine<Rows>, rules: &Rows, bytes: &mut Buffer, new: &[u8])
     requires { IsRight (on (rows_meaning rules.now.rows.items) bytes.old) engine.old.kept }
     ensures { IsRight (on (rows_meaning rules.now.rows.items) bytes.new) engine.new.kept }

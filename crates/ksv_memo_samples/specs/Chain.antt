@@ -22,7 +22,7 @@ before_small link = let small : link.number < 2 ^ 32 = link.small in omega arith
 abbrev pub link_before : Link → Link
 link_before link = record { number = link.number - 1; small = before_small link }
 
--- what a link does next: without replies link 0 answers the size, and another asks the one before it
+-- what a link does next: without replies link 0 answers the size, and each other link asks the one before it
 abbrev pub linked : Link → ℕ → List Reply → Next Link Reply
 linked link size [] = if link.number == 0 then Done (Ok size) else Need (link_before link)
 linked link size (Ok n ∷ replies) = Done (Ok (min (n + 1) (2 ^ 32 - 1)))

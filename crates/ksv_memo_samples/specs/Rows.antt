@@ -23,7 +23,7 @@ use Rattle.ksv_memo_samples.specs.declared.row.Missing.{Missing}
 abbrev pub Reply : Type 0
 Reply = Result ℕ Missing
 
--- the row that a byte names; a proof knows of no byte that it is below 256
+-- the row that a byte names; a proof can't use that a byte is below 256
 pub mod_small : (n : ℕ) → n % 256 < 256
 mod_small n = omega arith
 
@@ -36,7 +36,7 @@ total so_far [] = Ok so_far
 total so_far (Ok n ∷ replies) = total (min (so_far + n) (2 ^ 32 - 1)) replies
 total so_far (Err e ∷ replies) = Err e
 
--- what a sum does next when its replies come to this, and this number is the next one
+-- what a sum does next when this is the total of its replies, and this number is the next one
 abbrev pub summed_at : Reply → Option RowNumber → Next RowNumber Reply
 summed_at (Err e) next = Done (Err e)
 summed_at (Ok sum) (Some n) = Need n
@@ -46,7 +46,7 @@ summed_at (Ok sum) None = Done (Ok sum)
 abbrev pub summed : List RowNumber → List Reply → Next RowNumber Reply
 summed numbers replies = summed_at (total 0 replies) (slice_get numbers (length replies))
 
--- what the first call for a byte's row does when the byte is this
+-- what the first call for a byte's row does, given the byte
 abbrev pub named_at : Option ℕ → Next RowNumber Reply
 named_at None = Done (Err (record {}))
 named_at (Some b) = Need (row_number b)
@@ -61,7 +61,7 @@ abbrev pub read_uses : ℕ → Option ℕ → List Use
 read_uses place None = Size ∷ []
 read_uses place (Some b) = Bytes place (place + 1) ∷ []
 
--- the byte is read in the first call alone
+-- the byte is read only in the first call
 abbrev pub named_uses : List ℕ → ℕ → List Reply → List Use
 named_uses bytes place [] = read_uses place (slice_get bytes place)
 named_uses bytes place (reply ∷ replies) = []
@@ -131,7 +131,7 @@ range_get bytes place lt =
     ∙ ap (λ xs. slice_get (take (suc 0) xs) 0) (drop-cons bytes place 0 lt)
     ∙ sym (slice_get-get_or bytes place 0 lt)
 
--- a byte that isn't there lies past the end
+-- a byte that isn't there is past the end
 absent : (bytes : List ℕ) (place : ℕ) → slice_get bytes place ≡ None → length bytes ≤ place
 absent bytes place e = elim (cases_lt place (length bytes)) [ inl lt ↦ (let there : slice_get bytes place ≡ Some (get_or bytes place 0) = slice_get-get_or bytes place 0 lt in absurd (cc)) | inr le ↦ le ]
 

@@ -8,8 +8,8 @@ use ksv_bytes::{Buffer, Use};
 use ksv_memo::{Next, Rules};
 use std::alloc::{AllocError, Global};
 
-/// A chain: link 0 answers the file's size, and each other link one more than the link before it. Each of them looks at the
-/// size.
+/// A chain: link 0 answers the file's size, and each other link one more than the link before it. Each of them
+/// reads the size.
 #[derive(Drop)]
 pub struct Chain;
 

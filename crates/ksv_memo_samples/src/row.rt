@@ -9,7 +9,7 @@ pub struct RowNumber {
     ghost small: { number < 256 },
 }
 
-/// A row that isn't there, or a byte that isn't there to name one.
+/// A row that isn't there, or a missing byte that should name one.
 #[derive(Clone, Copy, Debug, PartialEq, Eq)]
 pub struct Missing;
 

@@ -1,6 +1,7 @@
 //! Rows that depend on rows and on bytes.
 ghost use Rattle.std.specs.Prelude.{◌≡◌, ◌<◌, ◌≤◌, ◌+◌, ◌-◌, ◌^◌, ◌++◌, min, length, slice_get, slice_range, IfOk, OnOk, OnErr, IsSome, Some};
 ghost use Rattle.std.specs.Option.{option_copied};
+ghost use Rattle.ksv_bytes.specs.Edits.{file_limit};
 ghost use Rattle.ksv_memo_samples.specs.Rows as spec;
 
 use crate::row::{Missing, Row, RowNumber};
@@ -44,7 +45,7 @@ fn summed(numbers: &[RowNumber], replies: &[Reply]) -> Next<RowNumber, Reply>
 /// The byte at a place.
 fn byte_at(bytes: &Buffer, place: u32) -> Option<u8>
     ensures value { result ≡ slice_get bytes.now place }
-    ensures within { IsSome result → place < 16777216 }
+    ensures within { IsSome result → place < file_limit }
 {
     let from = place as usize;
     if from >= bytes.len() {
@@ -64,7 +65,7 @@ fn row_number(byte: u8) -> RowNumber
     RowNumber { number: byte }
 }
 
-/// What a row that a byte names does next. The byte is read in its first call alone.
+/// What a row that a byte names does next. The byte is read only in its first call.
 fn named(
     place: u32,
     bytes: &Buffer,

@@ -1,4 +1,5 @@
-//! Tests that call a node's turn themselves: its readings with what they rest on, its replies, and each law of nodes once.
+//! Tests that call a node's turn directly: its readings with what they depend on, its replies, and each law of
+//! nodes once.
 #![tactic(auto)]
 
 #[cfg(test)]

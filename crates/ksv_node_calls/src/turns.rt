@@ -1,4 +1,4 @@
-//! Each call of a turn on its happy path and on its fault, and the readings with what they rest on.
+//! Each call of a turn on its happy path and on its fault, and the readings with what they depend on.
 
 use ksv_bytes::Buffer;
 use ksv_expr_eval::{Fault, FaultKind, Parts, Path, Step, Stream, Value};
@@ -6,8 +6,8 @@ use ksv_nodes::{Ended, Given, Halt, Head, Node, NodeKind, Rested, Turn, first_in
 use std::alloc::{AllocError, Global};
 use std::test::Fail;
 
-/// Readings of the file `ab;cd;`, with what each gives, of bytes the first, and what it rests on. The stream `open` is the
-/// whole file, `short` is `b;c`, and the end of `long` lies behind the file's.
+/// Readings of the file `ab;cd;`, each with what it gives (of bytes, the first) and what it depends on. The stream
+/// `open` is the whole file, `short` is `b;c`, and the end of `long` is past the file's.
 const READINGS: &str = "open reach 6 0 => reached [Reach(6)]
 open reach 7 0 => end-of-bytes [Size]
 short reach 4 0 => reached [Reach(4)]
@@ -74,7 +74,7 @@ fn read(
     })
 }
 
-/// What the reading of a row gives, or the kind of its fault, and what it rests on.
+/// What the reading of a row gives, or the kind of its fault, and what it depends on.
 fn outcome(alloc: Global, bytes: &Buffer, row: &str) -> Result<String, Fail> {
     let mut words = row.split(' ');
     let stream = stream_of(words.next().unwrap_or(""));

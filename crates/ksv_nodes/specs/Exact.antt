@@ -1,3 +1,4 @@
+-- A lemma, which a reader may skip.
 -- Nodes that `==` finds equal are the same node.
 use Rattle.std.specs.Prelude.{◌≡◌, true}
 use Rattle.std.proofs.Common.{rules}

@@ -1,5 +1,5 @@
--- What holds of every rule, whatever it says: run with true replies it meets the truth, it rests on its uses alone, its uses
--- fit the bytes, and it has an end. These laws are this project's own; by them an engine may keep answers.
+-- Laws of every rule: run with true replies it meets the truth, it depends on its uses alone, its uses fit the
+-- bytes, and it has an end. These laws are this project's own; because of them an engine may keep answers.
 use Rattle.std.specs.Prelude.{◌≡◌, ℕ, ◌≤◌, ◌<◌, List, [], ◌++◌, length, map, take, slice_get, Some, Result}
 use Rattle.std.specs.List.{AllByRecursion}
 use Rattle.ksv_plan.specs.Plan.{Ran, Need, Failed, Done, run, behind, IsEnded}
@@ -16,7 +16,7 @@ use Rattle.ksv_nodes.specs.Turning.{State, fresh, turns}
 use Rattle.ksv_nodes.specs.Truth.{answer_of, asks_of, uses_of}
 use Rattle.ksv_nodes.specs.Bounds.{NodesAtMost}
 
--- a state, and what a run came to, with other bytes
+-- a state, and the result of a run, with other bytes
 abbrev pub state_on : List ℕ → State → State
 state_on others s = record s { bytes = others }
 
@@ -35,11 +35,11 @@ used ran = (behind ran).uses
 
 -- ---- readings
 
--- On bytes that agree on all that a reading rests on, it comes to the same.
+-- On bytes that agree on all that a reading depends on, it gives the same.
 abbrev pub ReadingsAreLocal : Type 0
 ReadingsAreLocal = (reading : Reading) (bytes others : List ℕ) → AllByRecursion (AgreeOn bytes others) (look reading bytes).uses → look reading others ≡ look reading bytes
 
--- What a reading rests on fits the bytes: a used range isn't empty, and the bytes reach each used place.
+-- What a reading depends on fits the bytes: a used range isn't empty, and each used place is within the bytes.
 abbrev pub ReadingsFit : Type 0
 ReadingsFit = (reading : Reading) (bytes : List ℕ) → AllByRecursion (CanUse bytes) (look reading bytes).uses
 
@@ -51,11 +51,11 @@ module _ (met : Node → Result Given Fault) (here : Trail) (bytes : List ℕ) (
   abbrev pub asked : List Node
   asked = asks_of met here bytes rule
 
-  -- the state behind these uses, with replies that are left
+  -- the state after these uses, with replies that are left
   abbrev pub left : List (Result Given Fault) → List Use → State
   left replies us = record { here = here; bytes = bytes; replies = replies; uses = us }
 
-  -- With the first i of the replies alone it needs the next node that it asks, and has used a beginning of its uses.
+  -- With only the first i of the replies it needs the next node that it asks, and has used a beginning of its uses.
   pub record NeedsNext (i : ℕ) : Type 0 where
     pub node : Node
     pub is_next : slice_get asked i ≡ Some node
@@ -64,8 +64,8 @@ module _ (met : Node → Result Given Fault) (here : Trail) (bytes : List ℕ) (
     pub ran : resumed rule here bytes (map met (take i asked)) ≡ Need node (left [] before)
     pub begins : uses_of met here bytes rule ≡ before ++ after
 
-  -- With the replies to all nodes that it asks it ends with its answer, and has used just its uses. Further replies change
-  -- nothing.
+  -- With the replies to all nodes that it asks it ends with its answer, and its uses are exactly the rule's.
+  -- Further replies change nothing.
   pub record MeetsTruth : Type 0 where
     pub ends : (more : List (Result Given Fault)) → resumed rule here bytes (map met asked ++ more) ≡ ended (answer_of met here bytes rule) (left more (uses_of met here bytes rule))
     pub goes_on : (i : ℕ) → i < length asked → NeedsNext i
@@ -82,6 +82,6 @@ TurnsAreLocal = (rule : Rule Given) (here : Trail) (bytes others : List ℕ) (re
 abbrev pub TurnsFit : Type 0
 TurnsFit = (rule : Rule Given) (here : Trail) (bytes : List ℕ) (replies : List (Result Given Fault)) → AllByRecursion (CanUse bytes) (used (resumed rule here bytes replies))
 
--- With as many replies as a rule asks nodes at most, its run has no open question, whatever they say.
+-- With as many replies as a rule asks nodes at most, its run has no open question, whatever the replies are.
 abbrev pub TurnsAreBounded : Type 0
 TurnsAreBounded = (n : ℕ) (rule : Rule Given) (here : Trail) (bytes : List ℕ) (replies : List (Result Given Fault)) → NodesAtMost n rule → n ≤ length replies → IsEnded (resumed rule here bytes replies)

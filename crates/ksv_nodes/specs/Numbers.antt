@@ -1,4 +1,5 @@
--- Each node has a number of its own, which contracts alone see; there are finitely many.
+-- With lemmas, which a reader may skip.
+-- Each node has a number of its own, which only contracts see; there are finitely many.
 use Rattle.std.specs.Prelude.{◌≡◌, ℕ, ◌+◌, ◌*◌, ◌<◌, zero, suc, refl}
 use Rattle.std.proofs.Common.{arith, ap}
 use Rattle.ksv_expr_value.specs.Numbers.{path_number, path_bound, path_number-one, path_number-below}
@@ -37,7 +38,7 @@ kind_of-number Rest = refl
 pub node_number : Node → ℕ
 node_number n = 4 * path_number n.path + kind_number n.kind
 
--- above every node's number
+-- a bound above every node's number
 pub node_bound : ℕ
 node_bound = 4 * path_bound
 

@@ -1,6 +1,6 @@
--- Readings: the ways in which rules look at the bytes of a file, with what each rests on. A stream goes from a place to
--- another, or on to the end of the file. Streams are those of the Kaitai Struct User Guide; what a reading rests on is
--- this project's own.
+-- Readings: the ways in which rules read the bytes of a file, with what each depends on. A stream goes from one
+-- place to another, or on to the end of the file. Streams are those of the Kaitai Struct User Guide; what a reading
+-- depends on is this project's own.
 use Rattle.std.specs.Prelude.{ℕ, suc, ◌+◌, List, [], ◌∷◌, ◌++◌, length, slice_range, Bool, true, false, ◌&&◌, nat_lt, nat_le, ◌==◌, Option, Some, None, option_map, if◌then◌else◌}
 use Rattle.ksv_bytes.specs.declared.uses.Use.{Use}
 use Rattle.ksv_bytes.specs.declared.uses.Use.TheVariants as uses
@@ -8,8 +8,8 @@ use Rattle.ksv_expr_value.specs.declared.value.Stream.{Stream}
 use Rattle.ksv_nodes.specs.declared.turn.Found.{Found}
 use Rattle.ksv_nodes.specs.declared.turn.Found.TheVariants as founds
 
--- A reading: that a stream goes on to a place; where a stream ends; whether a place is at the end of a stream; the bytes of a
--- range; the first byte of a value from a place of a stream on.
+-- A reading: that a stream goes on to a place; where a stream ends; whether a place is at the end of a stream;
+-- the bytes of a range; the first byte of a value from a place of a stream on.
 pub data Reading : Type 0 where
   Reach : Stream → ℕ → Reading
   Finish : Stream → Reading
@@ -25,16 +25,16 @@ Seen (Done w t) = Bool
 Seen (Peek f t) = List ℕ
 Seen (Find w s b) = Found
 
--- What a reading comes to: what it gives, or none where the bytes end before; and what this rests on.
+-- The result of a reading: what it gives, or None if the bytes end too early; and what this depends on.
 pub record Look (A : Type 0) : Type 0 where
   pub seen : Option A
   pub uses : List Use
 
--- it gives this, and rests on these uses
+-- it gives this, and depends on these uses
 abbrev pub gives : {A : Type 0} → A → List Use → Look A
 gives a us = record { seen = Some a; uses = us }
 
--- the bytes end before
+-- the bytes end too early
 abbrev pub ends_before : {A : Type 0} → List Use → Look A
 ends_before us = record { seen = None; uses = us }
 
@@ -51,16 +51,16 @@ unfoldable pub finish_of : List ℕ → Option ℕ → Look ℕ
 finish_of bytes None = gives (length bytes) (uses.Size ∷ [])
 finish_of bytes (Some end) = gives end []
 
--- whether a place is at the end of a stream or behind it
+-- whether a place is at the end of a stream or after it
 unfoldable pub done_at : List ℕ → Option ℕ → ℕ → Look Bool
 done_at bytes None t = if nat_lt t (length bytes) then gives false (uses.Reach (t + 1) ∷ []) else gives true (uses.Size ∷ [])
 done_at bytes (Some end) t = gives (nat_le end t) []
 
--- what a range rests on whose bytes aren't all there
+-- what a range depends on if its bytes aren't all there
 unfoldable pub cut_uses : List ℕ → ℕ → List Use
 cut_uses bytes f = if nat_lt f (length bytes) then uses.Size ∷ uses.Bytes f (length bytes) ∷ [] else uses.Size ∷ []
 
--- the bytes of a range; of an empty one none, wherever it lies
+-- the bytes of a range; of an empty one none, wherever it is
 unfoldable pub peek_at : List ℕ → ℕ → ℕ → Look (List ℕ)
 peek_at bytes f t = if f == t then gives [] []
     else if nat_le t (length bytes) && nat_lt f t then gives (slice_range bytes f t) (uses.Bytes f t ∷ [])
@@ -76,7 +76,7 @@ abbrev pub end_in : List ℕ → Option ℕ → ℕ
 end_in bytes None = length bytes
 end_in bytes (Some end) = end
 
--- where no such byte stands, all bytes of the stream from the place on were read
+-- if there is no such byte, all bytes of the stream from the place on were read
 unfoldable pub found_none : List ℕ → Option ℕ → ℕ → Look (List ℕ) → Look Found
 found_none bytes to end look = record { seen = option_map (λ bs. founds.Missing end) look.seen; uses = (finish_of bytes to).uses ++ look.uses }
 
@@ -88,7 +88,7 @@ found_from bytes to s end None = found_none bytes to end (peek_at bytes s end)
 unfoldable pub find_at : List ℕ → Option ℕ → ℕ → ℕ → Look Found
 find_at bytes to s b = found_from bytes to s (end_in bytes to) (first_at b (slice_range bytes s (end_in bytes to)))
 
--- what a reading comes to on these bytes
+-- the result of a reading on these bytes
 abbrev pub look : (r : Reading) → List ℕ → Look (Seen r)
 look (Reach w t) bytes = reach_within bytes w.to t
 look (Finish w) bytes = finish_of bytes w.to

@@ -1,4 +1,4 @@
--- Rules: what a node asks of other nodes, how it looks at the bytes, and what it makes of each answer.
+-- Rules: what a node asks of other nodes, how it reads the bytes, and what it does with each answer.
 use Rattle.std.specs.Prelude.{ℕ, List, Bool, Option, Some, None}
 use Rattle.ksv_plan.specs.Plan.{Plan, Answer, Fail, Ask}
 use Rattle.ksv_expr_value.specs.Trail.{Trail, child}
@@ -56,7 +56,7 @@ abbrev pub in_rest : Given → Rule Rested
 in_rest (givens.Rest count place) = Answer (record { count = count; place = place })
 in_rest _ = raise kinds.BadType
 
--- a node, by what is asked and of which path
+-- a node, given what is asked and of which path
 abbrev pub head_node : Trail → Node
 head_node p = record { kind = nodes.Head; path = p }
 
@@ -90,7 +90,7 @@ in_path (Some p) = Answer p
 abbrev pub part : Trail → Step → Rule Trail
 part p step = in_path (child p step)
 
--- readings; bytes that end before are the fault end-of-bytes
+-- readings; if the bytes end too early, the fault is end-of-bytes
 abbrev pub reach : Stream → ℕ → Rule (Unit {0})
 reach w t = Ask (See (Reach w t)) (λ x. Answer x)
 

@@ -1,5 +1,5 @@
--- What a rule answers, asks and uses where each node that it asks has an answer: by direct recursion on the rule. There is no
--- list of replies in it, and no turn.
+-- What a rule answers, asks and uses where each node that it asks has an answer: by direct recursion on the rule.
+-- It has no list of replies, and no turn.
 use Rattle.std.specs.Prelude.{ℕ, List, [], ◌∷◌, ◌++◌, Option, Some, None, Result, Ok, Err}
 use Rattle.ksv_plan.specs.Plan.{Answer, Fail, Ask}
 use Rattle.ksv_bytes.specs.declared.uses.Use.{Use}
@@ -22,7 +22,7 @@ abbrev pub with_seen : {A B : Type 0} → Trail → Option A → (A → Result B
 with_seen here (Some a) f = f a
 with_seen here None f = Err (fault_at here kinds.EndOfBytes)
 
--- the list behind an answer, and behind what was seen; behind a fault there is nothing
+-- the list after an answer, and after what was seen; after a fault there is nothing
 abbrev pub behind_given : {X : Type 0} → Result Given Fault → (Given → List X) → List X
 behind_given (Ok g) f = f g
 behind_given (Err e) f = []
@@ -47,7 +47,7 @@ module _ (met : Node → Result Given Fault) (here : Trail) (bytes : List ℕ) w
   asks_of (Ask (Of n) k) = n ∷ behind_given (met n) (λ g. asks_of (k g))
   asks_of (Ask (See r) k) = behind_seen (look r bytes).seen (λ x. asks_of (k x))
 
-  -- what its readings rest on, in order
+  -- what its readings depend on, in order
   abbrev pub uses_of : {A : Type 0} → Rule A → List Use
   uses_of (Answer a) = []
   uses_of (Fail e) = []

@@ -1,5 +1,5 @@
--- Turns: a rule runs on the replies that it had, over the bytes. What it asks is answered by the replies in their order, and
--- each reading adds what it rests on to the uses.
+-- Turns: a rule runs on the replies so far, over the bytes. What it asks is answered by the replies in their order,
+-- and each reading adds what it depends on to the uses.
 use Rattle.std.specs.Prelude.{◌≡◌, ℕ, ◌<◌, List, [], ◌∷◌, ◌++◌, Option, Some, None, Result, Ok, Err}
 use Rattle.std.specs.Borrow.{Bor}
 use Rattle.ksv_plan.specs.Plan.{Answer, Ask, Ran, Need, Failed, Done, Handler, run}
@@ -17,7 +17,7 @@ use Rattle.ksv_nodes.specs.declared.turn.Halt.TheVariants as halts
 use Rattle.ksv_nodes.specs.Reading.{Look, look}
 use Rattle.ksv_nodes.specs.Rule.{Query, Of, See, Reply, Raised, Here, There, Rule}
 
--- the path of the node, the file, the replies that are still to come, and the uses so far
+-- the path of the node, the file, the replies that are left, and the uses so far
 pub record State : Type 0 where
   pub here : Trail
   pub bytes : List ℕ
@@ -28,7 +28,7 @@ pub record State : Type 0 where
 abbrev pub fault_at : Trail → FaultKind → Fault
 fault_at p k = record { kind = k; path = p }
 
--- what a reading gives, and the fault end-of-bytes where the bytes end before
+-- what a reading gives; if the bytes end too early, the fault end-of-bytes
 abbrev pub seen_in : {A : Type 0} → Option A → State → Ran Node Fault State A
 seen_in (Some a) s = Done a s
 seen_in None s = Failed (fault_at s.here kinds.EndOfBytes) s
@@ -37,7 +37,7 @@ seen_in None s = Failed (fault_at s.here kinds.EndOfBytes) s
 abbrev pub looked : {A : Type 0} → Look A → State → Ran Node Fault State A
 looked l s = seen_in l.seen (record s { uses = s.uses ++ l.uses })
 
--- the reply to a node: the first of the list, which is then taken; without one the node is needed
+-- the reply to a node is the first of the list, which is removed; if there is none, the node is needed
 abbrev pub replied : Node → List (Result Given Fault) → State → Ran Node Fault State Given
 replied n [] s = Need n s
 replied n (Ok g ∷ replies) s = Done g (record s { replies = replies })
@@ -47,7 +47,7 @@ abbrev pub reply : (q : Query) → State → Ran Node Fault State (Reply q)
 reply (Of n) s = replied n s.replies s
 reply (See r) s = looked (look r s.bytes) s
 
--- a fault stands at the node's own path, unless its rule says another
+-- a fault has the node's own path, unless its rule gives another
 abbrev pub raised : Raised → Trail → Fault
 raised (Here k) p = fault_at p k
 raised (There k q) p = fault_at q k
@@ -66,7 +66,7 @@ Runs rule view old new (Err halts.Memory) = Unit {0}
 Runs rule view old new (Err (halts.Need n)) = run turns rule old ≡ Need n new
 Runs rule view old new (Err (halts.Fault f)) = run turns rule old ≡ Failed f new
 
--- what one reply comes to
+-- the result of one reply
 abbrev pub come : Result Given Fault → State → Ran Node Fault State Given
 come (Ok g) s = Done g s
 come (Err f) s = Failed f s
@@ -88,7 +88,7 @@ IsFault f halts.Memory = Unit {0}
 IsFault f (halts.Need n) = ⊥
 IsFault f (halts.Fault e) = e ≡ f
 
--- a byte that was found stands at a place below n
+-- a byte that was found is at a place below n
 abbrev pub StandsBelow : ℕ → Found → Type 0
 StandsBelow n (founds.At q) = q < n
 StandsBelow n (founds.Missing e) = Unit {0}

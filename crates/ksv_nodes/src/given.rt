@@ -21,9 +21,9 @@ pub struct Leaf {
     pub source: MemberRef,
     /// The place of the first.
     pub from: u32,
-    /// The place behind the last.
+    /// The place after the last.
     pub to: u32,
-    /// Where what follows begins: behind a terminator that isn't a part of the bytes.
+    /// Where what follows begins: after a terminator that isn't a part of the bytes.
     pub end: u32,
 }
 
@@ -56,22 +56,22 @@ pub struct Object {
 pub struct List {
     /// The attribute by which they are read.
     pub source: MemberRef,
-    /// The stream in which they stand.
+    /// The stream in which they are.
     pub stream: Stream,
     /// The stream of the object that holds the attribute.
     pub home: Stream,
     /// Where the first begins.
     pub start: u32,
-    /// How many there are, where that is told beforehand.
+    /// How many there are, if that is known beforehand.
     pub count: Option<u32>,
-    /// Whether there is none.
+    /// Whether there are none.
     pub is_empty: bool,
 }
 
-/// What stands at a path, and where.
+/// What is at a path, and where.
 #[derive(Clone, Copy)]
 pub enum Head {
-    /// Nothing: an attribute that is absent, at its place where it has one.
+    /// Nothing: an attribute that is absent, at its place if it has one.
     Absent(Option<u32>),
     /// Bytes that hold a value.
     Leaf(Leaf),
@@ -84,13 +84,13 @@ pub enum Head {
 /// What a node answers, one form for each kind of node.
 #[derive(Drop)]
 pub enum Given {
-    /// What stands there.
+    /// What is there.
     Head(Head),
     /// Its value.
     Value(Value),
     /// Where it ends.
     End {
-        /// The place behind its last byte.
+        /// The place after its last byte.
         place: u32,
         /// Whether it is the last element of a list.
         last: bool,
@@ -105,7 +105,7 @@ pub enum Given {
 }
 
 impl Given {
-    /// The same answer again.
+    /// A copy of the answer.
     pub fn copy(&self, alloc: Global) -> Result<Given, AllocError>
         ensures { IfOk result (λ copy. copy ≡ self.now) }
     {
@@ -127,7 +127,7 @@ impl Given {
 /// Where something ends.
 #[derive(Clone, Copy)]
 pub struct Ended {
-    /// The place behind its last byte.
+    /// The place after its last byte.
     pub place: u32,
     /// Whether it is the last element of a list.
     pub last: bool,

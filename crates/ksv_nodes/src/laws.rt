@@ -4,18 +4,18 @@ ghost use Rattle.ksv_nodes.specs.Exact.{EqualNodesAreSame};
 ghost use Rattle.ksv_nodes.specs.Laws.{ReadingsAreLocal, ReadingsFit, TurnsMeetTruth, TurnsAreLocal, TurnsFit, TurnsAreBounded};
 ghost use Rattle.ksv_nodes.specs.Numbers.{AreNodesNumbered};
 
-/// On bytes that agree on all that a reading rests on, it comes to the same.
+/// On bytes that agree on all that a reading depends on, it gives the same.
 pub fn readings_are_local()
     ensures { ReadingsAreLocal }
 {}
 
-/// What a reading rests on fits the bytes: a used range isn't empty, and the bytes reach each used place.
+/// What a reading depends on fits the bytes: a used range isn't empty, and each used place is within the bytes.
 pub fn readings_fit()
     ensures { ReadingsFit }
 {}
 
-/// Where the replies are the answers of a map, a rule's run asks for one node after the other, as the rule does there, and
-/// ends with the rule's answer, having used just its uses.
+/// If the replies are the answers of a map, a rule's run asks for one node after the other, as the rule does there.
+/// It ends with the rule's answer, and its uses are exactly the rule's.
 pub fn turns_meet_truth()
     ensures { TurnsMeetTruth }
 {}
@@ -30,7 +30,7 @@ pub fn turns_fit()
     ensures { TurnsFit }
 {}
 
-/// With as many replies as a rule asks nodes at most, its run has no open question, whatever they say.
+/// With as many replies as a rule asks nodes at most, its run has no open question, whatever the replies are.
 pub fn turns_are_bounded()
     ensures { TurnsAreBounded }
 {}

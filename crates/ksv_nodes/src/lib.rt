@@ -1,8 +1,8 @@
-//! Nodes of a described file: what can be asked of one, what is answered, and how a node's rule looks at the bytes and
-//! goes on with the replies to what it asks.
+//! Nodes of a described file: what can be asked of one, what is answered, and how a node's rule reads the bytes and
+//! goes on with the replies to its questions.
 //!
-//! A rule is a plan (`ksv_plan`) of two kinds of question: other nodes, and readings of the bytes. Nothing here knows of
-//! descriptions.
+//! A rule is a plan (`ksv_plan`) of two kinds of question: other nodes, and readings of the bytes. Nothing here
+//! depends on descriptions.
 #![tactic(auto)]
 
 mod given;

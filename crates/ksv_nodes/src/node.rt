@@ -8,11 +8,11 @@ use std::alloc::{AllocError, Global};
 /// What is asked of a path.
 #[derive(Clone, Copy, PartialEq, Eq, Hash)]
 pub enum NodeKind {
-    /// What stands there, and where.
+    /// What is there, and where.
     Head,
     /// Its value.
     Value,
-    /// Where it ends; of an element also whether it is the last one.
+    /// Where it ends; for an element also whether it is the last one.
     End,
     /// From an element on, how many elements its list has, and where the list ends.
     Rest,
@@ -28,7 +28,7 @@ pub struct Node {
 }
 
 impl Node {
-    /// The same node again.
+    /// A copy of the node.
     pub fn copy(&self, alloc: Global) -> Result<Node, AllocError>
         ensures { IfOk result (λ copy. copy ≡ self.now) }
     {

@@ -1,4 +1,4 @@
-//! Where a byte stands first in bytes that are lent.
+//! Where a byte is first in bytes that are lent.
 ghost use Rattle.std.specs.Prelude.{◌≡◌, ◌<◌, length, IfSome};
 ghost use Rattle.ksv_expr_value.specs.Bytes.{content};
 ghost use Rattle.ksv_nodes.specs.Reading.{first_at};
@@ -20,7 +20,7 @@ fn first_in(bytes: &[u8], byte: u8) -> Option<usize>
     None
 }
 
-/// The place of the first such byte in bytes that are cut in two; none where no byte is it.
+/// The place of the first such byte in bytes that are cut in two; None if there is no such byte.
 #[tactic(auto, using(crate::proofs::First::first_at_append))]
 pub fn first_in_parts(parts: Parts, byte: u8) -> Option<usize>
     ensures found { result ≡ first_at byte (content parts.entry) }

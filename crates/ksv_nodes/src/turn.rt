@@ -1,6 +1,7 @@
 //! One turn of a node's rule: what it asks is answered by the replies, in their order.
 
 ghost use Rattle.std.specs.Prelude.{◌≡◌, ◌≤◌, ◌<◌, ◌++◌, length, [], IfErr, IsErr, IfOk};
+ghost use Rattle.ksv_bytes.specs.Edits.{file_limit};
 ghost use Rattle.ksv_expr_value.specs.Bytes.{content};
 ghost use Rattle.std.specs.Prelude.{◌+◌, slice_range, IfSome};
 ghost use Rattle.ksv_nodes.specs.Reading.{first_at, end_in};
@@ -15,7 +16,7 @@ use ksv_expr_eval::{Fault, FaultKind, Parts, Path, Step, Stream, Value};
 use std::alloc::{AllocError, AllocFailed, Global};
 use std::marker::Model;
 
-/// Where the first byte of a value stands in a stream.
+/// Where the first byte of a value is in a stream.
 #[derive(Clone, Copy, Debug)]
 pub enum Found {
     /// At this place.
@@ -57,7 +58,7 @@ impl<T: Drop> From<AllocFailed<T>> for Halt {
     }
 }
 
-/// A node's rule on its way: the replies that it had, and what its readings rest on so far.
+/// A node's rule while it runs: the replies so far, and what its readings depend on so far.
 #[derive(Drop)]
 pub struct Turn<'a> {
     alloc: Global,
@@ -99,7 +100,7 @@ impl<'a> Turn<'a> {
         }
     }
 
-    /// What the rule allocates with.
+    /// The allocator of the rule.
     pub fn alloc(&self) -> Global {
         self.alloc
     }
@@ -111,14 +112,14 @@ impl<'a> Turn<'a> {
         self.here
     }
 
-    /// What its readings rest on.
+    /// What its readings depend on.
     pub fn into_uses(self) -> Vec<Use>
         ensures { result.items ≡ self.entry.uses }
     {
         self.uses
     }
 
-    /// The next reply, which is to this node.
+    /// The next reply, which is for this node.
     fn reply(&mut self, node: Node) -> Result<&'a Result<Given, Fault>, Halt>
         ensures { RepliesWith node self.old self.new result }
     {
@@ -148,7 +149,7 @@ impl<'a> Turn<'a> {
         }))
     }
 
-    /// What stands at a path, and where.
+    /// What is at a path, and where.
     pub fn head(&mut self, path: Path) -> Result<Head, Halt>
         ensures { Runs (ask_head path) (λ head. head) self.old self.new result }
     {
@@ -172,7 +173,7 @@ impl<'a> Turn<'a> {
         }
     }
 
-    /// Where what stands at a path ends.
+    /// Where the thing at a path ends.
     pub fn end(&mut self, path: Path) -> Result<Ended, Halt>
         ensures { Runs (ask_end path) (λ ended. ended) self.old self.new result }
     {
@@ -202,7 +203,7 @@ impl<'a> Turn<'a> {
         }
     }
 
-    /// The path one step on. A path that doesn't fit is a fault of the node.
+    /// The path one step further. A path that doesn't fit is a fault of the node.
     pub fn part(&self, path: &Path, step: Step) -> Result<Path, Halt>
         ensures { Runs (part path.now step) (λ part. part) self.now self.now result }
     {
@@ -216,11 +217,11 @@ impl<'a> Turn<'a> {
         }
     }
 
-    /// Sees to it that a stream and the file go on to a place.
+    /// Requires that a stream and the file go on to a place.
     #[tactic(auto, unfolding(crate::specs::Reading::reach_within, crate::specs::Reading::reach_file))]
     pub fn reach(&mut self, stream: Stream, to: u128) -> Result<(), Halt>
         ensures runs { Runs (reach stream to) (λ unit. unit) self.old self.new result }
-        ensures fits { IfOk result (λ _. to ≤ 16777216) }
+        ensures fits { IfOk result (λ _. to ≤ file_limit) }
     {
         if let Some(end) = stream.to {
             if u128::from(end) < to {
@@ -250,7 +251,7 @@ impl<'a> Turn<'a> {
         }
     }
 
-    /// Whether a place is at the end of a stream or behind it.
+    /// Whether a place is at the end of a stream or after it.
     #[tactic(auto, unfolding(crate::specs::Reading::done_at))]
     pub fn done(&mut self, stream: Stream, place: u32) -> Result<bool, Halt>
         ensures { Runs (done stream place) (λ is_done. is_done) self.old self.new result }
@@ -294,7 +295,7 @@ impl<'a> Turn<'a> {
         self.raise(FaultKind::EndOfBytes)
     }
 
-    /// Where a stream ends in the bytes. This tells nothing of what it rests on.
+    /// Where a stream ends in the bytes. It notes no use.
     fn end_in(&self, stream: Stream) -> u32
         ensures { result ≡ end_in self.now.bytes stream.to }
     {
@@ -304,12 +305,12 @@ impl<'a> Turn<'a> {
         }
     }
 
-    /// How many bytes stand before the first such byte of a range. This tells nothing of what it rests on.
+    /// How many bytes come before the first such byte of a range. It notes no use.
     #[tactic(auto, using(crate::proofs::First::range_cut, crate::proofs::First::range_none))]
     fn first_in(&self, from: u32, to: u32, byte: u8) -> Option<u32>
         ensures found { result ≡ first_at byte (slice_range self.now.bytes from to) }
         ensures inside { IfSome result (λ place. from + place < length self.now.bytes) }
-        ensures small { IfSome result (λ place. from + place < 16777216) }
+        ensures small { IfSome result (λ place. from + place < file_limit) }
     {
         let from = from as usize;
         let to = (to as usize).min(self.bytes.len());
@@ -325,7 +326,7 @@ impl<'a> Turn<'a> {
     #[tactic(auto, unfolding(crate::specs::Reading::find_at, crate::specs::Reading::found_from, crate::specs::Reading::found_none, crate::specs::Reading::finish_of))]
     pub fn find(&mut self, stream: Stream, start: u32, byte: u8) -> Result<Found, Halt>
         ensures runs { Runs (find stream start byte) (λ found. found) self.old self.new result }
-        ensures fits { IfOk result (StandsBelow 16777216) }
+        ensures fits { IfOk result (StandsBelow file_limit) }
     {
         let end = self.end_in(stream);
         match self.first_in(start, end, byte) {

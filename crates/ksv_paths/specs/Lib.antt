@@ -1,4 +1,3 @@
 -- Paths as texts, and which descriptions are served.
 pub mod PathTexts
 pub mod Served
-pub mod ServedCode

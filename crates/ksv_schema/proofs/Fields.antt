@@ -73,7 +73,7 @@ needs_of h line es k =
 
 rules_need : (h : Home) (line : ℕ) (es : List Pair) → field_rules h line es ≡ [] → Needs h line es
 unfolding field_rules
-rules_need h line es k = needs_of h line es (front (field_needs h line es) (field_against es) (front (field_needs h line es ++ field_against es) (field_left_out es) k))
+rules_need h line es k = needs_of h line es (front (field_needs h line es) (field_against es) (front (field_needs h line es ++ field_against es) (field_left_out h es) k))
 
 -- a key that is needed where something else is said
 said : (b : Bool) (name : List ℕ) (es : List Pair) (line : ℕ) → b ≡ true → missing_if (b && not (has name es)) line ≡ [] → Is (entry_at name es)

@@ -1,2 +1,2 @@
--- What a tree is to the loader.
+-- What the loader makes of a tree.
 pub mod Outcome

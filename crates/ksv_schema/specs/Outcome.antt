@@ -1,4 +1,4 @@
--- What a tree is to the loader: a description, or the least of its faults.
+-- What the loader makes of a tree: a description, or the least of its faults.
 use Rattle.std.specs.Prelude.{◌≡◌, [], Some}
 use Rattle.ksv_yaml_tree.specs.Tree.{Tree}
 use Rattle.ksv_schema_faults.specs.Faults.{Fault, IsLeast}

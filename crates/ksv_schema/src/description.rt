@@ -14,7 +14,8 @@ use ksv_schema_scope::Scopes;
 use ksv_yaml_tree::Yaml;
 use std::alloc::{AllocError, Global};
 
-/// The description that a tree states; of a tree that states none, the least fault by line, and on one line the one of the lowest code.
+/// The description that a tree states. For a tree that states none, the fault on the lowest line, and of those on
+/// one line the one with the lowest code.
 pub fn load(alloc: Global, tree: &Yaml) -> Result<Desc, DescFault>
     ensures described { IfOk result (λ d. States (view tree.now) (plain_pieces d)) }
     ensures refused { IfErr result (λ f. f.kind ≢ NoMemory → Refuses (view tree.now) (plain f)) }

@@ -14,14 +14,14 @@ pub fn faultless_trees_state()
     ensures one { (t : Yaml) (d e : Description) → States t d → States t e → d ≡ e }
 {}
 
-/// A tree with a fault is refused, and for one alone.
+/// A tree with a fault is refused, and for one fault alone.
 pub fn faulty_trees_are_refused()
     ensures some { (t : Yaml) → faults t ≢ [] → (f : Fault) × Refuses t f }
     ensures one { (t : Yaml) (f g : Fault) → Refuses t f → Refuses t g → f ≡ g }
 {}
 
-/// In a description that a tree states each number leads to something (names, types, enums and their members), and each
-/// parameter has its argument.
+/// In a description that a tree states each number belongs to a name, a type, an enum or an enum's member in it, and
+/// each parameter has its argument.
 pub fn descriptions_are_resolved()
     ensures { (t : Yaml) (d : Description) → States t d → IsResolved d }
 {}

@@ -1,7 +1,8 @@
-//! Descriptions: what the tree of a description states, all names resolved, or the first of its faults.
+//! Descriptions: what the tree of a description states, with all names resolved, or the least of its faults.
 //!
-//! Which keys a mapping may have and what their values say is defined in ksv_schema_keys, which faults a tree has in
-//! ksv_schema_faults, and which description one without a fault states in ksv_schema_build. `specs/Outcome` puts them together.
+//! Which keys a mapping may have and what their values mean is defined in ksv_schema_keys, which faults a tree has
+//! in ksv_schema_faults, and which description a tree without faults states in ksv_schema_build. `specs/Outcome`
+//! puts them together.
 #![tactic(auto)]
 
 mod description;

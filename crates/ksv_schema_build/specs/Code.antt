@@ -10,7 +10,7 @@ use Rattle.ksv_schema_keys.specs.Values.{case_key, ids_of}
 use Rattle.ksv_schema_build.specs.Stated.{Context, value_of}
 use Rattle.ksv_desc.specs.Description.{CaseValue, EnumValue}
 
--- a part beside another one, where that is there
+-- a part with another one, if that is there
 abbrev pub both : {A B E : Type 0} → A → Result (Option B) E → Result (Option (A × B)) E
 both one (Ok (Some next)) = Ok (Some (one, next))
 both one (Ok None) = Ok None
@@ -23,7 +23,7 @@ enum_of c path = path >>= enum_named c.declared.types c.declared.enums c.within
 abbrev pub enum_at : Context → List Pair → Option ℕ
 enum_at c es = text_at (codes "enum") es >>= ids_of >>= enum_named c.declared.types c.declared.enums c.within
 
--- a key of `cases` that is a member, and one that was read
+-- the value of a key of `cases` that is a member, and of one that was read
 abbrev pub member_value : Context → expressions.MemberPath → Option (Option CaseValue)
 member_value c m = option_map (λ g. Some (EnumValue g)) (given_member c.declared c.within m)
 

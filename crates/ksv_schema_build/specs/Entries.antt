@@ -1,4 +1,4 @@
--- An enum by what it says itself.
+-- An enum, by its own row alone.
 use Rattle.std.specs.Prelude.{map, Option, Some}
 use Rattle.ksv_expr_syntax.specs.Reading.{◌>>=◌}
 use Rattle.ksv_schema_scope.specs.Keys.{entries_in}

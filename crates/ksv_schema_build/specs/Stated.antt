@@ -1,5 +1,5 @@
--- The description that a tree states: its types with their members, its enums, and the names of all members. Types, enums and
--- names are known by their numbers; every name is found already.
+-- The description that a tree states: its types with their members, its enums, and the names of all members. Types,
+-- enums and names are known by their numbers; every name is resolved.
 use Rattle.std.specs.Prelude.{ℕ, ◌+◌, Bool, if◌then◌else◌, ◌==◌, List, [], ◌∷◌, ◌++◌, length, map, filter, flat_map, codes, Option, Some, None, is_some, option_map}
 use Rattle.std.specs.List.{list_all}
 use Rattle.std.specs.Option.{option_map_or}
@@ -31,11 +31,11 @@ use Rattle.ksv_schema_keys.specs.Values.{encoding_named, TypeText, Unspelled, Of
 
 -- ---- the names of a description
 
--- the keys at which expressions stand
+-- the keys that have expressions
 abbrev pub naming_keys : List Key
 naming_keys = key (codes "value") (forms.Expression sites.Value) ∷ parse_instance_keys
 
--- the names behind dots in an expression, and in the arguments of a type
+-- the names after dots in an expression, and in the arguments of a type
 unfoldable pub expression_words : List ℕ → List (List ℕ)
 expression_words text = option_map_or dotted (expression_of text) []
 
@@ -47,7 +47,7 @@ argument_words (OfDescription t es) = all_dotted es
 unfoldable pub type_words : Pair → List (List ℕ)
 type_words p = option_map_or (λ text. argument_words (type_text text)) (text_of p.value) []
 
--- what stands at one key
+-- those of the value at one key
 unfoldable pub form_words : Pair → Form → List (List ℕ)
 form_words p (forms.Expression at) = option_map_or expression_words (text_of p.value) []
 form_words p forms.TypeOrSwitch = type_words p
@@ -74,9 +74,9 @@ names_of d = distinct_behind (member_names d) (flat_map member_words d.members)
 unfoldable pub are_texts : List Member → Bool
 are_texts members = list_all (λ m. is_utf8 m.name) members
 
--- ---- expressions, their names found
+-- ---- expressions, with their names resolved
 
--- where an expression stands: in which type of what is declared, with these names
+-- the place of an expression: what is declared, the names, and the type that it is in
 pub record Context : Type 0 where
   pub declared : Declared
   pub names : List (List ℕ)
@@ -85,7 +85,7 @@ pub record Context : Type 0 where
 unfoldable pub expression : Context → List ℕ → Option expressions.Tree
 expression c text = option_map (numbered c.declared c.names c.within) (expression_of text)
 
--- the expression at a key, and at one that may be left away
+-- the expression at a key, and at an optional one
 unfoldable pub expression_at : Context → List ℕ → List Pair → Option expressions.Tree
 expression_at c name es = text_at name es >>= expression c
 
@@ -122,7 +122,7 @@ language_content c es Str = option_map Characters (encoding_at c es)
 language_content c es Strz = option_map Characters (encoding_at c es)
 language_content c es NotHere = None
 
--- what the text of a type says, in an attribute of these keys
+-- what the text of a type means, in an attribute of these keys
 unfoldable pub content_of : Context → List Pair → TypeText → Option Content
 content_of c es Unspelled = None
 content_of c es (OfLanguage b given) = language_content c es b
@@ -148,7 +148,7 @@ case_of c es p = do
   content ← content_at c es p
   Some (record { value = value; content = content })
 
--- what each of a list is, where each is something
+-- the results for all of a list, if each has one
 abbrev pub each : {A B : Type 0} → (A → Option B) → List A → Option (List B)
 each f [] = Some []
 each f (x ∷ xs) = do
@@ -162,7 +162,7 @@ switch_of c es keys = do
   cases ← each (case_of c es) (entries_at (codes "cases") keys)
   Some (Switch on cases)
 
--- what stands at `type`: a text, or a switch
+-- the choice at `type`: a text, or a switch
 unfoldable pub typed : Context → List Pair → Pair → Option Choice
 typed c es p = option_map_or (switch_of c es) (mapping_of p.value) (option_map Always (content_at c es p))
 
@@ -186,7 +186,7 @@ terminated_by es byte = record {
   is_required = is_not_false (codes "eos-error") es;
 }
 
--- the byte that is written, or the 0 of `strz`
+-- the byte that is written, or 0 for `strz`
 unfoldable pub terminator_of : List Pair → Option Terminator
 terminator_of es = option_map (terminated_by es) (if is_some (type_key is_strz es) then Some 0 else byte_at (codes "terminator") es)
 
@@ -221,7 +221,7 @@ value_instance_of c es = do
   enum ← perhaps_enum c es
   Some (ValueInstance condition value enum)
 
--- what a member is, by where it stands
+-- what a member is, by its role
 unfoldable pub kind_of : Context → Role → List Pair → Option MemberKind
 kind_of c roles.Parameter es = Some Parameter
 kind_of c roles.Attribute es = option_map Attribute (field_of c es)
@@ -255,7 +255,7 @@ enum_of d e x = do
   members ← each numbered_of (filter (λ c. c.within == e) d.constants)
   Some (record { id = id; members = members })
 
--- what each of a list is, the first of which has the number n
+-- the results for all of a list, the first of which has the number n
 abbrev pub each_numbered : {A B : Type 0} → (ℕ → A → Option B) → ℕ → List A → Option (List B)
 each_numbered f n [] = Some []
 each_numbered f n (x ∷ xs) = do
@@ -265,7 +265,7 @@ each_numbered f n (x ∷ xs) = do
 
 -- ---- a description
 
--- with these names, of which the first are those of members
+-- with these names, the first of which are those of members
 unfoldable pub described : Declared → List (List ℕ) → ℕ → Option Description
 described d names known = do
   types ← each_numbered (type_of d names) 0 d.types

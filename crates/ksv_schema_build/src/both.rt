@@ -1,14 +1,15 @@
 //! Parts of a piece, one beside the other.
 //!
-//! A function that holds owned parts while it makes the next one has to drop each of them on every early way out, and each
-//! such way is proved by itself; `both` takes the parts in, so that it alone drops them, for all types at once.
+//! A function that holds owned parts while it makes the next one has to drop each of them on every early return,
+//! and each such return is proved by itself. `both` takes the parts, so that it alone drops them, for all types at
+//! once.
 
 ghost use Rattle.std.specs.Prelude.{◌≡◌};
 ghost use Rattle.ksv_schema_build.specs.Code.{both};
 
 use std::alloc::AllocError;
 
-/// A part and the next one, where that is there.
+/// A part and the next one, if there is a next one.
 pub(crate) fn both<A: Drop, B: Drop>(
     one: A,
     next: Result<Option<B>, AllocError>,

@@ -25,7 +25,7 @@ use ksv_schema_scope::keys::entries_at;
 use ksv_yaml_tree::{Entry, find};
 use std::alloc::{AllocError, Global};
 
-/// A value written in the text again.
+/// A copy of a value written in the text.
 fn copied(alloc: Global, literal: &Literal) -> Result<Literal, AllocError>
     ensures { IfOk result (λ l. literal_of l ≡ literal_of literal.now) }
 {
@@ -54,7 +54,7 @@ fn member_value(context: Context, member: &Member) -> Option<Option<CaseValue>>
     }
 }
 
-/// What a key of `cases` is compared with; none for `_`.
+/// What a key of `cases` is compared with; None for `_`.
 #[tactic(auto, unfolding(crate::specs::Stated::value_of))]
 fn value_of(
     alloc: Global,
@@ -72,7 +72,7 @@ fn value_of(
     }
 }
 
-/// What an expression is compared with, where one was read.
+/// What an expression is compared with, if one was read.
 fn value_read(
     alloc: Global,
     context: Context,
@@ -158,7 +158,7 @@ fn switch_of(
     }
 }
 
-/// What stands at the key `type`: a text, or a switch.
+/// The content or switch at the key `type`: a text, or a switch.
 #[tactic(auto, unfolding(crate::specs::Stated::typed))]
 fn typed(
     alloc: Global,
@@ -177,7 +177,7 @@ fn typed(
     }
 }
 
-/// The bytes that an attribute of `contents` has, and no others.
+/// The bytes of an attribute of `contents`.
 fn fixed(alloc: Global, entry: &Entry) -> Result<Option<Choice>, AllocError>
     ensures { IfOk result (λ o. option_map plain_choice o ≡ option_map (λ bs. Always (Fixed bs)) (contents_of (pair entry.now).value)) }
 {

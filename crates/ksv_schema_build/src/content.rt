@@ -50,7 +50,7 @@ fn enum_at(alloc: Global, context: Context, entries: &[Entry]) -> Result<Option<
     }
 }
 
-/// The number of the enum at the key `enum`, which may be left away.
+/// The number of the enum at the key `enum`, which is optional.
 #[tactic(auto, unfolding(crate::specs::Stated::perhaps_enum))]
 pub(crate) fn perhaps_enum(
     alloc: Global,
@@ -135,7 +135,7 @@ fn characters(context: Context, entries: &[Entry]) -> Option<Content>
     }
 }
 
-/// What a type of the language says.
+/// What a type of the language means.
 #[tactic(auto, unfolding(crate::specs::Stated::language_content))]
 fn language_content(
     alloc: Global,
@@ -182,7 +182,7 @@ fn object(context: Context, name: TypeName, arguments: Vec<Expr>) -> Option<Cont
     }
 }
 
-/// What a type's text says.
+/// What a type's text means.
 #[tactic(auto, unfolding(crate::specs::Stated::content_of))]
 fn content_of(
     alloc: Global,
@@ -199,7 +199,7 @@ fn content_of(
     }
 }
 
-/// What the type at an entry says, in an attribute of these keys.
+/// What the type at an entry means, in an attribute of these keys.
 #[tactic(auto, unfolding(crate::specs::Stated::content_at))]
 pub(crate) fn content_at(
     alloc: Global,

@@ -8,7 +8,7 @@ use ksv_schema_keys::{Piece, looks_like_number, piece_of};
 use ksv_yaml_tree::Yaml;
 use std::alloc::{AllocError, Global};
 
-/// The bytes of all items, where each has its bytes.
+/// The bytes of all items, if each has bytes.
 fn joined(alloc: Global, items: &[Yaml]) -> Result<Option<Vec<u8>>, AllocError>
     ensures { IfOk result (λ o. option_map (λ v. v.items) o ≡ joined (map view items.now)) }
 {

@@ -1,9 +1,9 @@
-//! Where a piece of a description stands.
+//! Where a piece of a description is.
 
 use ksv_schema_names::Names;
 use ksv_schema_scope::Scopes;
 
-/// In which type of what is declared a piece stands, with the description's names.
+/// The type that a piece belongs to, what is declared, and the description's names.
 #[derive(Clone, Copy)]
 pub(crate) struct Context<'a> {
     pub(crate) scopes: &'a Scopes<'a>,

@@ -14,7 +14,7 @@ use ksv_schema_names::Names;
 use ksv_schema_scope::Scopes;
 use std::alloc::{AllocError, Global};
 
-/// The description with these names, of which the first are those of members.
+/// The description with these names, of which the first ones are those of members.
 #[tactic(auto, unfolding(crate::specs::Stated::described))]
 fn described(
     alloc: Global,

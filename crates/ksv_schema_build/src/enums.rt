@@ -15,7 +15,7 @@ use ksv_schema_scope::{Enumeration, Scopes, id_of, number_written};
 use ksv_yaml_tree::Entry;
 use std::alloc::{AllocError, Global};
 
-/// A number of an enum and what it stands for.
+/// A number of an enum and its id.
 #[tactic(auto, unfolding(crate::specs::Stated::numbered_of))]
 fn entry_of(alloc: Global, entry: &Entry) -> Result<Option<EnumEntry>, AllocError>
     ensures { IfOk result (λ o. option_map plain_entry o ≡ numbered_of (constant 0 (pair entry.now))) }

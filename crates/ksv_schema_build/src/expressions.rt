@@ -1,4 +1,4 @@
-//! Expressions, their names found.
+//! Expressions, with their names resolved.
 
 ghost use Rattle.std.specs.Prelude.{◌≡◌, map, IfOk, option_map};
 ghost use Rattle.ksv_yaml_tree.specs.View.{pair};
@@ -48,7 +48,7 @@ pub(crate) fn expression_at(
     }
 }
 
-/// The expression at a key that may be left away.
+/// The expression at an optional key.
 #[tactic(auto, unfolding(crate::specs::Stated::perhaps_expression))]
 pub(crate) fn perhaps_expression(
     alloc: Global,

@@ -1,4 +1,4 @@
-//! How an attribute, or an instance with a place, is read.
+//! How an attribute or a parse instance is read.
 
 ghost use Rattle.std.specs.Prelude.{◌≡◌, map, IfOk, option_map};
 ghost use Rattle.ksv_yaml_tree.specs.View.{pair};
@@ -16,7 +16,7 @@ use ksv_schema_scope::keys::{has, says};
 use ksv_yaml_tree::Entry;
 use std::alloc::{AllocError, Global};
 
-/// How far an attribute of these keys goes.
+/// Where an attribute of these keys ends.
 #[tactic(auto, unfolding(crate::specs::Stated::extent_of))]
 fn extent_of(
     alloc: Global,
@@ -49,7 +49,7 @@ fn terminated_by(entries: &[Entry], byte: u8) -> Terminator
     }
 }
 
-/// The terminator of an attribute of these keys: the byte that is written, or the 0 of `strz`.
+/// The terminator of an attribute of these keys: the byte that is written, or 0 for `strz`.
 #[tactic(auto, unfolding(crate::specs::Stated::terminator_of))]
 fn terminator_of(alloc: Global, entries: &[Entry]) -> Result<Option<Terminator>, AllocError>
     ensures { IfOk result (λ o. option_map plain_terminator o ≡ terminator_of (map pair entries.now)) }
@@ -90,7 +90,7 @@ fn repeat_of(
     Ok(Some(Repeat::Once))
 }
 
-/// What an attribute, or an instance with a place, of these keys reads.
+/// What an attribute or a parse instance of these keys reads.
 #[tactic(auto, unfolding(crate::specs::Stated::field_of))]
 pub(crate) fn field_of(
     alloc: Global,

@@ -1,6 +1,6 @@
-//! The description that a tree states, all names resolved.
+//! The description that a tree states, with all names resolved.
 //!
-//! `specs/Stated` defines it piece by piece; where a tree has a fault it may state none.
+//! `specs/Stated` defines it piece by piece; a tree with a fault may state none.
 #![tactic(auto)]
 
 mod both;

@@ -19,7 +19,7 @@ use ksv_schema_scope::{Member, Role};
 use ksv_yaml_tree::Entry;
 use std::alloc::{AllocError, Global};
 
-/// An instance with a place.
+/// A parse instance.
 #[tactic(auto, unfolding(crate::specs::Stated::parse_instance_of))]
 fn parse_instance_of(
     alloc: Global,
@@ -46,7 +46,7 @@ fn parse_instance_of(
     }))
 }
 
-/// An instance with a value.
+/// A value instance.
 #[tactic(auto, unfolding(crate::specs::Stated::value_instance_of))]
 fn value_instance_of(
     alloc: Global,
@@ -73,7 +73,7 @@ fn value_instance_of(
     }))
 }
 
-/// What a member of these keys is, by where it stands.
+/// What a member of these keys is, by its role.
 #[tactic(auto, unfolding(crate::specs::Stated::kind_of))]
 fn kind_of(
     alloc: Global,

@@ -1,4 +1,4 @@
-//! The names of a description: those of its members, and then those behind dots.
+//! The names of a description: those of its members, and then those after dots.
 
 ghost use Rattle.std.specs.Prelude.{◌≡◌, true, map, IfOk, OnOk, flat_map};
 ghost use Rattle.ksv_yaml_tree.specs.View.{pair};
@@ -16,7 +16,7 @@ use ksv_schema_scope::{Member, Role};
 use ksv_yaml_tree::Entry;
 use std::alloc::{AllocError, Global};
 
-/// Adds the names of members, as far as they are texts, and tells whether all are.
+/// Adds the names of members, as far as they are texts, and returns whether all are.
 pub(crate) fn add_members(names: &mut Names, members: &[Member]) -> Result<bool, AllocError>
     ensures added { IfOk result (λ all. all ≡ true → names.new ≡ distinct_behind names.old (map (λ m. m.name) (map row members.now))) }
     ensures texts { IfOk result (λ all. all ≡ are_texts (map row members.now)) }
@@ -30,7 +30,7 @@ pub(crate) fn add_members(names: &mut Names, members: &[Member]) -> Result<bool,
     Ok(true)
 }
 
-/// Adds the names behind dots of an expression's text.
+/// Adds the names after dots of an expression's text.
 #[tactic(auto, using(ksv_desc::proofs::Dots::steps), unfolding(crate::specs::Stated::expression_words))]
 fn add_expression(alloc: Global, names: &mut Names, text: &[u8]) -> Result<(), AllocError>
     ensures { OnOk result (names.new ≡ distinct_behind names.old (expression_words text.now)) }
@@ -41,7 +41,7 @@ fn add_expression(alloc: Global, names: &mut Names, text: &[u8]) -> Result<(), A
     }
 }
 
-/// Adds the names behind dots in the arguments of a type.
+/// Adds the names after dots in the arguments of a type.
 #[tactic(auto, using(ksv_desc::proofs::Dots::steps))]
 fn add_arguments(names: &mut Names, text: &TypeText) -> Result<(), AllocError>
     ensures { OnOk result (names.new ≡ distinct_behind names.old (argument_words (seen_type_text text.now))) }
@@ -53,7 +53,7 @@ fn add_arguments(names: &mut Names, text: &TypeText) -> Result<(), AllocError>
     }
 }
 
-/// Adds the names behind dots of the type at an entry.
+/// Adds the names after dots of the type at an entry.
 #[tactic(auto, using(ksv_desc::proofs::Dots::steps), unfolding(crate::specs::Stated::type_words))]
 fn add_type(alloc: Global, names: &mut Names, entry: &Entry) -> Result<(), AllocError>
     ensures { OnOk result (names.new ≡ distinct_behind names.old (type_words (pair entry.now))) }
@@ -67,7 +67,7 @@ fn add_type(alloc: Global, names: &mut Names, entry: &Entry) -> Result<(), Alloc
     }
 }
 
-/// Adds the names behind dots of the types at these entries.
+/// Adds the names after dots of the types at these entries.
 fn add_types(alloc: Global, names: &mut Names, entries: &[Entry]) -> Result<(), AllocError>
     ensures { OnOk result (names.new ≡ distinct_behind names.old (flat_map type_words (map pair entries.now))) }
 {
@@ -77,7 +77,7 @@ fn add_types(alloc: Global, names: &mut Names, entries: &[Entry]) -> Result<(), 
     Ok(())
 }
 
-/// Adds the names behind dots of what stands at an entry, by its form.
+/// Adds the names after dots of the value at an entry, by its form.
 #[tactic(auto, using(ksv_desc::proofs::Dots::steps), unfolding(crate::specs::Stated::form_words))]
 fn add_form(alloc: Global, names: &mut Names, entry: &Entry, form: Form) -> Result<(), AllocError>
     ensures { OnOk result (names.new ≡ distinct_behind names.old (form_words (pair entry.now) (form_of form))) }
@@ -107,7 +107,7 @@ fn add_form(alloc: Global, names: &mut Names, entry: &Entry, form: Form) -> Resu
     }
 }
 
-/// Adds the names behind dots at a key of a switch.
+/// Adds the names after dots at a key of a switch.
 #[tactic(auto, using(ksv_desc::proofs::Dots::steps), unfolding(crate::specs::Stated::key_words))]
 fn add_switch_key(alloc: Global, names: &mut Names, entry: &Entry) -> Result<(), AllocError>
     ensures { OnOk result (names.new ≡ distinct_behind names.old (key_words switch_keys (pair entry.now))) }
@@ -118,7 +118,7 @@ fn add_switch_key(alloc: Global, names: &mut Names, entry: &Entry) -> Result<(),
     }
 }
 
-/// Adds the names behind dots at these keys of a switch.
+/// Adds the names after dots at these keys of a switch.
 fn add_switch(alloc: Global, names: &mut Names, keys: &[Entry]) -> Result<(), AllocError>
     ensures { OnOk result (names.new ≡ distinct_behind names.old (flat_map (key_words switch_keys) (map pair keys.now))) }
 {
@@ -128,7 +128,7 @@ fn add_switch(alloc: Global, names: &mut Names, keys: &[Entry]) -> Result<(), Al
     Ok(())
 }
 
-/// Adds the names behind dots at a key at which an expression or a type may stand.
+/// Adds the names after dots at a key that may have an expression or a type.
 #[tactic(auto, using(ksv_desc::proofs::Dots::steps, crate::proofs::Naming::steps), unfolding(crate::specs::Stated::key_words))]
 fn add_key(alloc: Global, names: &mut Names, entry: &Entry) -> Result<(), AllocError>
     ensures { OnOk result (names.new ≡ distinct_behind names.old (key_words naming_keys (pair entry.now))) }
@@ -142,7 +142,7 @@ fn add_key(alloc: Global, names: &mut Names, entry: &Entry) -> Result<(), AllocE
     }
 }
 
-/// Adds the names behind dots at an entry of a member, those of a switch too.
+/// Adds the names after dots at an entry of a member, including those of a switch.
 #[tactic(auto, using(ksv_desc::proofs::Dots::steps), unfolding(crate::specs::Stated::entry_words))]
 fn add_entry(alloc: Global, names: &mut Names, entry: &Entry) -> Result<(), AllocError>
     ensures { OnOk result (names.new ≡ distinct_behind names.old (entry_words (pair entry.now))) }
@@ -154,7 +154,7 @@ fn add_entry(alloc: Global, names: &mut Names, entry: &Entry) -> Result<(), Allo
     Ok(())
 }
 
-/// Adds the names behind dots at these entries of a member.
+/// Adds the names after dots at these entries of a member.
 fn add_entries(alloc: Global, names: &mut Names, entries: &[Entry]) -> Result<(), AllocError>
     ensures { OnOk result (names.new ≡ distinct_behind names.old (flat_map entry_words (map pair entries.now))) }
 {
@@ -164,7 +164,7 @@ fn add_entries(alloc: Global, names: &mut Names, entries: &[Entry]) -> Result<()
     Ok(())
 }
 
-/// Adds the names behind dots of a member.
+/// Adds the names after dots of a member.
 #[tactic(auto, using(ksv_desc::proofs::Dots::steps), unfolding(crate::specs::Stated::member_words))]
 fn add_member(alloc: Global, names: &mut Names, member: &Member) -> Result<(), AllocError>
     ensures { OnOk result (names.new ≡ distinct_behind names.old (member_words (row member.now))) }
@@ -176,7 +176,7 @@ fn add_member(alloc: Global, names: &mut Names, member: &Member) -> Result<(), A
     }
 }
 
-/// Adds the names behind dots of all members.
+/// Adds the names after dots of all members.
 pub(crate) fn add_dotted(
     alloc: Global,
     names: &mut Names,

@@ -5,7 +5,7 @@ ghost use Rattle.ksv_desc.specs.Description.{as_text};
 
 use std::alloc::{AllocError, Global};
 
-/// The text that these bytes are, where they are one.
+/// The text of these bytes, if they are one.
 #[tactic(auto, unfolding(ksv_desc::specs::Description::as_text))]
 pub(crate) fn as_text(bytes: &[u8]) -> Option<&str>
     ensures { option_map (λ s. s.now) result ≡ as_text bytes.now }
@@ -16,7 +16,7 @@ pub(crate) fn as_text(bytes: &[u8]) -> Option<&str>
     }
 }
 
-/// A text of its own, where these bytes are one.
+/// An owned text, if these bytes are one.
 pub(crate) fn owned_text(alloc: Global, bytes: &[u8]) -> Result<Option<String>, AllocError>
     ensures { IfOk result (λ o. option_map string_bytes o ≡ as_text bytes.now) }
 {

@@ -1,4 +1,4 @@
--- What the code's values are to the definitions.
+-- The plain data of the code's values.
 use Rattle.std.specs.Prelude.{◌==◌, ◌||◌, ◌++◌, not, is_some, is_none, true, false, ℕ, Bool, List, [], ◌∷◌, map, Option, option_map, codes}
 use Rattle.std.specs.Option.{option_map_or}
 use Rattle.std.specs.List.{list_any}
@@ -50,21 +50,21 @@ code_of kinds.OverLimit = codes "S9"
 code_of (kinds.NoExpression f) = codes "S10"
 code_of kinds.NoMemory = codes "S11"
 
--- a fault as a line and the number of a code; what is wrong with an expression's text isn't seen
+-- a fault as a line and the number of a code, without what is wrong with an expression's text
 abbrev pub plain : DescFault → Fault
 plain f = record { line = f.line; number = number_of f.kind }
 
 abbrev pub seen_fault : Option DescFault → Option Fault
 seen_fault o = option_map plain o
 
--- ---- where a mapping stands
+-- ---- where a mapping is
 
 abbrev pub seen_home : HomeOfCode → Home
 seen_home h = record { declared = declared h.scopes.now; within = h.within; in_sequence = h.in_sequence; is_repeated = h.is_repeated }
 
 -- ---- one key
 
--- whether a text may stand at a key of a form, as far as the text alone tells
+-- whether a text is allowed at a key of a form, as far as the text alone decides
 abbrev pub fits : Form → List ℕ → Bool
 fits form.Id text = is_id text
 fits form.Flag text = list_any (bytes_eq text) (codes "true" ∷ codes "false" ∷ [])
@@ -75,14 +75,14 @@ fits _ text = true
 
 -- ---- keys together
 
--- a key says how far an attribute goes, and a terminator is another byte than 0
+-- a key bounds an attribute, and a terminator is another byte than 0
 abbrev pub is_bounded : List Pair → Bool
 is_bounded es = has (codes "size") es || is_to_end es || has (codes "terminator") es
 
 abbrev pub has_other_terminator : List Pair → Bool
 has_other_terminator es = option_map_or (λ b. not (b == 0)) (byte_at (codes "terminator") es) false
 
--- the keys against `contents`, and those that lack what they need
+-- the keys that `contents` excludes, and those without what they need
 abbrev pub contents_against : List Pair → List Fault
 contents_against es =
     against (entry_at (codes "contents") es) (entry_at (codes "type") es)
@@ -99,7 +99,7 @@ lonely es =
 
 -- ---- types
 
--- a type, but for the types around it
+-- a type, without the types around it
 abbrev pub scope_row : ℕ → List ℕ → Tree → Scope
 scope_row line id value = record { line = line; id = id; around = []; value = value }
 
@@ -112,7 +112,7 @@ limit_fault line = record { line = line; number = over_limit }
 abbrev pub members_past : Declared → ℕ → List Fault
 members_past d n = past 256 (map (λ m. m.line) (members_within d.members n))
 
--- lines in rising order
+-- lines in ascending order
 pub record AreRising (lines rising : List ℕ) : Type 0 where
   pub moved : IsPermutation lines rising
   pub rises : IsNonDecreasing rising

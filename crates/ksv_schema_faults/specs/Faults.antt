@@ -1,5 +1,5 @@
--- A fault of a description is a line and the number of a code, S1 to S10. The least is the one of the lowest line, and on one
--- line the one of the lowest number.
+-- A fault of a description is a line and the number of a code, S1 to S10. The least is the one on the lowest line;
+-- of those on one line, the one with the lowest number.
 use Rattle.std.specs.Prelude.{◌≡◌, ℕ, Bool, false, if◌then◌else◌, nat_lt, ◌==◌, ◌||◌, ◌&&◌, List, [], ◌∷◌, Option, Some, None, fold, All, Contains}
 
 pub record Fault : Type 0 where
@@ -41,18 +41,18 @@ no_expression = 10
 
 -- ---- faults
 
--- one fault, and one where something is wrong
+-- one fault, and one if something is wrong
 abbrev pub fault : ℕ → ℕ → List Fault
 fault line number = record { line = line; number = number } ∷ []
 
 abbrev pub fault_if : Bool → ℕ → ℕ → List Fault
 fault_if wrong line number = if wrong then fault line number else []
 
--- a lower line, or on one line a lower number
+-- a lower line, or on the same line a lower number
 unfoldable pub is_below : Fault → Fault → Bool
 is_below f g = nat_lt f.line g.line || ((f.line == g.line) && nat_lt f.number g.number)
 
--- one of these faults, below which there is none
+-- one of these faults, with none below it
 pub record IsLeast (f : Fault) (fs : List Fault) : Type 0 where
   pub among : Contains fs f
   pub none_below : All (λ g. is_below g f ≡ false) fs

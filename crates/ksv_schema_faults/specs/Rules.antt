@@ -1,6 +1,6 @@
--- Which faults a tree has: of each key by its form, of the keys of a mapping together, of names that are given twice, and of
--- what is past a limit. The line of a fault is that of the key or list item at fault; of a missing key it is the first line
--- of the mapping; of two keys that don't fit together the lower of their lines.
+-- Which faults a tree has: of each key by its form, of the keys of a mapping together, of names that are given
+-- twice, and of what is past a limit. The line of a fault is that of the key or list item with the fault. For a
+-- missing key it is the first line of the mapping; for two keys that don't fit together, the lower of their lines.
 use Rattle.std.specs.Prelude.{ℕ, ◌+◌, Bool, true, false, not, if◌then◌else◌, ◌&&◌, ◌||◌, ◌==◌, nat_lt, nat_le, min, List, [], ◌∷◌, ◌++◌, length, map, filter, take, flat_map, fold, codes, Option, Some, None, is_some, is_none, option_to_list, slice_get}
 use Rattle.std.specs.List.{list_any}
 use Rattle.std.specs.Option.{option_map_or}
@@ -31,9 +31,9 @@ use Rattle.ksv_schema_faults.specs.Faults.{Fault, fault, fault_if, unknown_key, 
 use Rattle.ksv_schema_keys.specs.Keys as forms
 use Rattle.ksv_schema_keys.specs.Keys.{Form, Key, type_keys, meta_keys, parameter_keys, attribute_keys, parse_instance_keys, value_keys, switch_keys, constant_keys, form_in, is_ignored, is_id}
 use Rattle.ksv_schema_keys.specs.Expressions.{expression_of}
-use Rattle.ksv_schema_keys.specs.Values.{encoding_named, TypeText, Unspelled, OfLanguage, OfDescription, type_text, is_integer, is_str, is_strz, is_of_description, is_type, type_key, cases_of, byte_number, byte_at, looks_like_number, Piece, Bytes, BadPiece, LeftOutPiece, piece_of, CaseKey, Constant as ConstantKey, Negative, Member as MemberKey, Default, NoKey, case_key, ids_of, is_to_end, is_repeated}
+use Rattle.ksv_schema_keys.specs.Values.{encoding_named, TypeText, Unspelled, OfLanguage, OfDescription, type_text, is_integer, is_str, is_strz, is_type, type_key, cases_of, byte_number, byte_at, looks_like_number, Piece, Bytes, BadPiece, LeftOutPiece, piece_of, CaseKey, Constant as ConstantKey, Negative, Member as MemberKey, Default, NoKey, case_key, ids_of, is_to_end, is_repeated}
 
--- where a mapping stands: in which type, whether in its `seq`, and whether it is of something repeated
+-- where a mapping is: in which type, whether in its `seq`, and whether it is of something repeated
 pub record Home : Type 0 where
   pub declared : Declared
   pub within : ℕ
@@ -82,7 +82,7 @@ type_text_faults h line (OfDescription t es) = count_faults h line (count es) (t
 
 -- ---- one key
 
--- a text of which the faults are these; another node is of the wrong kind
+-- a text with these faults; another node is of the wrong kind
 abbrev pub text_faults : (List ℕ → List Fault) → Pair → List Fault
 text_faults faults p = option_map_or faults (text_of p.value) (fault p.line bad_value)
 
@@ -95,7 +95,7 @@ numeral_faults line (Whole n) = []
 numeral_faults line LeadingZero = fault line left_out
 numeral_faults line NoNumeral = fault line bad_value
 
--- `endian`: a text, or a choice by `switch-on`, which is left out
+-- `endian`: a text, or a choice by `switch-on`, which is unsupported
 unfoldable pub endian_faults : ℕ → Tree → List Fault
 endian_faults line (Text _ quoted text) = fault_if (not (bytes_eq text (codes "le") || bytes_eq text (codes "be"))) line bad_value
 endian_faults line (Seq _ ts) = fault line bad_value
@@ -132,14 +132,14 @@ unfoldable pub case_key_faults : Home → ℕ → Option expressions.Tree → Li
 case_key_faults h line None = fault line no_expression
 case_key_faults h line (Some e) = case_value_faults h line (case_key e)
 
--- the type of a case: `str` and `strz` are left out
+-- the type of a case: `str` and `strz` are unsupported
 unfoldable pub case_type_faults : Home → ℕ → TypeText → List Fault
 case_type_faults h line t = type_text_faults h line t ++ fault_if (is_str t || is_strz t) line left_out
 
 unfoldable pub case_faults : Home → Pair → List Fault
 case_faults h p = case_key_faults h p.line (expression_of p.key) ++ text_faults (λ text. case_type_faults h p.line (type_text text)) p
 
--- what stands at a key, by its form; a mapping at `type` has keys of its own
+-- the value at a key, by its form; a mapping at `type` has keys of its own
 unfoldable pub form_faults : Home → Pair → Form → List Fault
 form_faults h p forms.Ignored = []
 form_faults h p forms.NotHere = fault p.line left_out
@@ -161,7 +161,7 @@ form_faults h p forms.Contents = contents_faults p.line p.value
 
 -- ---- all keys of a mapping
 
--- a key that the table doesn't have, or what stands at it
+-- a key that the table doesn't have, or the faults of its value
 unfoldable pub key_faults : (Pair → Form → List Fault) → List Key → Pair → List Fault
 key_faults faults table p = if is_ignored p.key then [] else option_map_or (faults p) (form_in table p.key) (fault p.line unknown_key)
 
@@ -188,13 +188,13 @@ value_faults h p form = if is_type_or_switch form && is_some (mapping_of p.value
 
 -- ---- keys together
 
--- the lower line of two keys, where both are there
+-- the lower line of two keys, if both are there
 unfoldable pub against : Option Pair → Option Pair → List Fault
 against None q = []
 against (Some p) None = []
 against (Some p) (Some q) = fault (min p.line q.line) keys_against
 
--- a key that lacks what it needs
+-- a key without what it needs
 abbrev pub alone_if : Bool → Option Pair → List Fault
 alone_if lacks None = []
 alone_if lacks (Some p) = fault_if lacks p.line keys_against
@@ -203,7 +203,7 @@ abbrev pub left_out_if : Bool → Option Pair → List Fault
 left_out_if is_left_out None = []
 left_out_if is_left_out (Some p) = fault_if is_left_out p.line left_out
 
--- the key `size-eos`, where it says `true`
+-- the key `size-eos`, if it is `true`
 abbrev pub to_end_key : List Pair → Option Pair
 to_end_key es = if is_to_end es then entry_at (codes "size-eos") es else None
 
@@ -211,7 +211,7 @@ to_end_key es = if is_to_end es then entry_at (codes "size-eos") es else None
 abbrev pub has_encoding : Home → List Pair → Bool
 has_encoding h es = is_some (text_at (codes "encoding") es) || is_some (encoding_of h.declared.types h.within)
 
--- what needs another key: what an attribute is, how far a text goes and in which encoding, how often it is repeated
+-- what needs another key: what an attribute is, where a text ends and in which encoding, how often it is repeated
 unfoldable pub field_needs : Home → ℕ → List Pair → List Fault
 field_needs h line es =
     let is_bounded = has (codes "size") es || is_to_end es || has (codes "terminator") es in
@@ -222,14 +222,14 @@ field_needs h line es =
     ++ missing_if (says (codes "repeat") (codes "expr") es && not (has (codes "repeat-expr") es)) line
     ++ missing_if (says (codes "repeat") (codes "until") es && not (has (codes "repeat-until") es)) line
 
--- a key that says how far an integer goes
+-- a key that bounds an integer
 unfoldable pub integer_against : List Pair → Option Pair → List Fault
 integer_against es integer =
     against integer (entry_at (codes "size") es)
     ++ against integer (to_end_key es)
     ++ against integer (entry_at (codes "terminator") es)
 
--- keys that stand against each other
+-- keys that exclude each other
 unfoldable pub field_against : List Pair → List Fault
 field_against es =
     against (entry_at (codes "size") es) (to_end_key es)
@@ -244,16 +244,22 @@ field_against es =
     ++ alone_if (not (says (codes "repeat") (codes "expr") es)) (entry_at (codes "repeat-expr") es)
     ++ alone_if (not (says (codes "repeat") (codes "until") es)) (entry_at (codes "repeat-until") es)
 
+-- a type that the description declares; an unknown type has a fault of its own
+abbrev pub is_declared : Home → TypeText → Bool
+is_declared h Unspelled = false
+is_declared h (OfLanguage b es) = false
+is_declared h (OfDescription t es) = is_some (type_named h.declared.types h.within t.path)
+
 -- a terminator of a type of the description, or of `strz` another one than 0
-unfoldable pub field_left_out : List Pair → List Fault
-field_left_out es =
-    let of_description = is_some (type_key is_of_description es) || list_any (is_type is_of_description) (cases_of es) in
+unfoldable pub field_left_out : Home → List Pair → List Fault
+field_left_out h es =
+    let of_description = is_some (type_key (is_declared h) es) || list_any (is_type (is_declared h)) (cases_of es) in
     let is_other = option_map_or (λ b. not (b == 0)) (byte_at (codes "terminator") es) false in
     left_out_if of_description (entry_at (codes "terminator") es)
     ++ left_out_if (is_some (type_key is_strz es) && is_other) (entry_at (codes "terminator") es)
 
 unfoldable pub field_rules : Home → ℕ → List Pair → List Fault
-field_rules h line es = field_needs h line es ++ field_against es ++ field_left_out es
+field_rules h line es = field_needs h line es ++ field_against es ++ field_left_out h es
 
 -- a value has no place, type, size or repetition
 unfoldable pub value_rules : List Pair → List Fault
@@ -280,14 +286,14 @@ parameter_faults h line es = keys_faults (value_faults h) parameter_keys es ++ m
 unfoldable pub attribute_faults : Home → ℕ → List Pair → List Fault
 attribute_faults h line es = keys_faults (value_faults h) attribute_keys es ++ field_rules h line es
 
--- an instance has a value or a place; one with neither is left out
+-- an instance has a value or a place; one with neither is unsupported
 unfoldable pub instance_faults : Home → ℕ → ℕ → List Pair → List Fault
 instance_faults h name_line line es =
     if has (codes "value") es then keys_faults (value_faults h) value_keys es ++ value_rules es
     else if has (codes "pos") es then keys_faults (value_faults h) parse_instance_keys es ++ field_rules h line es
     else keys_faults (value_faults h) parse_instance_keys es ++ fault name_line left_out
 
--- what a member's mapping says, by where it stands
+-- the faults of a member's mapping, by the member's role
 unfoldable pub role_faults : Role → Home → ℕ → ℕ → List Pair → List Fault
 role_faults Parameter h name_line line es = parameter_faults h line es
 role_faults Attribute h name_line line es = attribute_faults h line es
@@ -310,7 +316,7 @@ name_line m = if is_instance m.role then m.line else option_map_or (λ p. p.line
 abbrev pub is_at : ℕ → Option ℕ → Bool
 is_at i o = option_map_or (λ k. k == i) o false
 
--- a name that a member before it in the same type has; a parameter without an id has no name
+-- a name that an earlier member of the same type has; a parameter without an id has no name
 unfoldable pub member_again : Declared → ℕ → Member → List Fault
 member_again d i m = fault_if (not (length m.name == 0) && not (is_at i (member_named d.members m.within m.name))) (name_line m) keys_against
 
@@ -325,7 +331,7 @@ member_faults d i m =
 unfoldable pub enumeration_faults : Enumeration → List Fault
 enumeration_faults x = fault_if (not (is_id x.id)) x.line bad_value ++ fault_if (is_none (mapping_of x.value)) x.line bad_value
 
--- what a number stands for: an id, or a mapping with an id
+-- the value of an entry: an id, or a mapping with an id
 unfoldable pub constant_value_faults : Declared → ℕ → Tree → List Fault
 constant_value_faults d line (Text _ quoted text) = fault_if (not (is_id text)) line bad_value
 constant_value_faults d line (Seq _ ts) = fault line bad_value
@@ -335,7 +341,7 @@ constant_value_faults d line (Map first es) = keys_faults (form_faults (home_in 
 abbrev pub id_line : Constant → ℕ
 id_line c = option_map_or (λ p. p.line) (entry_at (codes "id") (entries_in c.value)) c.line
 
--- a number, and an id, that an entry before it in the same enum has
+-- a number, and an id, that an earlier entry of the same enum has
 unfoldable pub number_again : Declared → ℕ → Constant → List Fault
 number_again d i c = fault_if (is_number_again (take i d.constants) c) c.line keys_against
 
@@ -347,7 +353,7 @@ constant_faults d i c = numeral_faults c.line (signed_number c.key) ++ constant_
 
 -- ---- types
 
--- what `meta` says; the root needs an id
+-- the faults of `meta`; the root needs an id
 unfoldable pub meta_faults : Declared → ℕ → Option Pair → List Fault
 meta_faults d n None = []
 meta_faults d n (Some p) = option_map_or (λ es. keys_faults (form_faults (home_in d n)) meta_keys es ++ missing_if (n == 0 && not (has (codes "id") es)) (line_of p.value)) (mapping_of p.value) []
@@ -367,13 +373,23 @@ type_faults d n s =
     option_map_or (type_key_faults d n s) (mapping_of s.value) (fault s.line bad_value)
     ++ fault_if (not (n == 0) && not (is_id s.id)) s.line bad_value
 
--- ---- limits: 1,024 types, 256 members of a type, 65,536 entries of enums
+-- ---- limits
+
+-- the most types, members of a type, and entries of all enums
+abbrev pub most_types : ℕ
+most_types = 1024
+
+abbrev pub most_members : ℕ
+most_members = 256
+
+abbrev pub most_entries : ℕ
+most_entries = 65536
 
 -- the first of these past a limit
 abbrev pub past : ℕ → List ℕ → List Fault
 past limit lines = option_map_or (λ line. fault line over_limit) (slice_get lines limit) []
 
--- the lowest line of these by which there are more than a limit of them
+-- the lowest line up to which there are more of these lines than the limit
 abbrev pub lower : Option ℕ → ℕ → Option ℕ
 lower None line = Some line
 lower (Some other) line = Some (min other line)
@@ -382,20 +398,20 @@ unfoldable pub line_past : ℕ → List ℕ → Option ℕ
 line_past limit lines = fold lower None (filter (λ line. nat_lt limit (length (filter (λ other. nat_le other line) lines))) lines)
 
 unfoldable pub member_limit : Declared → ℕ → Scope → List Fault
-member_limit d n s = past 256 (map (λ m. m.line) (members_within d.members n))
+member_limit d n s = past most_members (map (λ m. m.line) (members_within d.members n))
 
 -- ---- a description
 
--- what each of a list has, the first of which has the number n
+-- the faults of each of a list, the first of which has the number n
 abbrev pub each_from : {A : Type 0} → (ℕ → A → List Fault) → ℕ → List A → List Fault
 each_from faults n [] = []
 each_from faults n (x ∷ xs) = faults n x ++ each_from faults (n + 1) xs
 
 unfoldable pub limit_faults : Declared → List Fault
 limit_faults d =
-    past 1024 (map (λ s. s.line) d.types)
+    past most_types (map (λ s. s.line) d.types)
     ++ each_from (member_limit d) 0 d.types
-    ++ map (λ line. record { line = line; number = over_limit }) (option_to_list (line_past 65536 (map (λ c. c.line) d.constants)))
+    ++ map (λ line. record { line = line; number = over_limit }) (option_to_list (line_past most_entries (map (λ c. c.line) d.constants)))
 
 unfoldable pub faults_of : Declared → List Fault
 faults_of d =

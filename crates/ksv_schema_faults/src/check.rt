@@ -1,6 +1,7 @@
 //! The least fault of a description.
 //!
-//! What is wrong is noted in the order of `specs/Rules`, each function noting the faults that one definition lists; only the least of them is kept.
+//! What is wrong is noted in the order of `specs/Rules`. Each function notes the faults that one definition lists;
+//! only the least of them is kept.
 
 ghost use Rattle.std.specs.Prelude.{◌≡◌, OnOk, IfOk, None, map, flat_map};
 ghost use Rattle.ksv_schema_scope.specs.Declarations.{declared};
@@ -42,7 +43,7 @@ fn note_enumerations(least: &mut Option<DescFault>, enumerations: &[Enumeration]
     }
 }
 
-/// The least fault of a description, where it has one.
+/// The least fault of a description, if it has one.
 #[tactic(auto, using(crate::proofs::Noted::steps), unfolding(crate::specs::Rules::faults_of))]
 pub fn least_fault<'a>(
     alloc: Global,

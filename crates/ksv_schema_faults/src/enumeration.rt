@@ -23,7 +23,7 @@ use ksv_schema_scope::{Constant, Enumeration, Scopes, signed_number};
 use ksv_yaml_tree::{Entry, Yaml, find};
 use std::alloc::{AllocError, Global};
 
-/// Notes the faults of an enum: of its name, and that it is no mapping.
+/// Notes the faults of an enum: those of its name, and that it is no mapping.
 #[tactic(auto, using(crate::proofs::Noted::steps), unfolding(crate::specs::Rules::enumeration_faults))]
 pub(crate) fn note_enumeration(least: &mut Option<DescFault>, enumeration: &Enumeration)
     ensures { seen_fault least.new ≡ noted (seen_fault least.old) (enumeration_faults (enumeration_of enumeration.now)) }
@@ -35,7 +35,7 @@ pub(crate) fn note_enumeration(least: &mut Option<DescFault>, enumeration: &Enum
     note_if(least, !has_entries, line, DescFaultKind::BadValue);
 }
 
-/// Notes the faults of a mapping for which a number stands.
+/// Notes the faults of the mapping of an entry.
 #[tactic(auto, using(crate::proofs::Noted::steps))]
 fn note_constant_mapping<'a>(
     alloc: Global,
@@ -58,7 +58,7 @@ fn note_constant_mapping<'a>(
     Ok(())
 }
 
-/// Notes the faults of what a number stands for: an id, or a mapping with an id.
+/// Notes the faults of an entry's value: an id, or a mapping with an id.
 #[tactic(auto, using(crate::proofs::Nodes::constant_text, crate::proofs::Nodes::constant_mapping, crate::proofs::Nodes::constant_list))]
 fn note_constant_value<'a>(
     alloc: Global,

@@ -19,7 +19,7 @@ use ksv_schema_keys::{TypeText, read_expression, type_text};
 use ksv_schema_names::{BuiltIn, NameFault, Position, Site, argument_fault, name_fault};
 use std::alloc::{AllocError, Global};
 
-/// Where an expression of a mapping stands.
+/// Where an expression of a mapping is.
 fn position_at(home: Home, site: Site) -> Position
     ensures { result ≡ position_at (seen_home home.entry) site }
 {
@@ -82,7 +82,7 @@ fn note_arguments(least: &mut Option<DescFault>, home: Home, line: usize, argume
     note_name(least, line, found);
 }
 
-/// Notes a type of the language that is left out, or that needs a byte order.
+/// Notes a type of the language that is unsupported, or that needs a byte order.
 #[tactic(auto, using(crate::proofs::Noted::steps), unfolding(crate::specs::Rules::language_faults))]
 fn note_language(least: &mut Option<DescFault>, home: Home, line: usize, built_in: BuiltIn)
     ensures { seen_fault least.new ≡ noted (seen_fault least.old) (language_faults (seen_home home.entry) line built_in) }

@@ -1,4 +1,4 @@
-//! What is wrong with a description, and the least fault of those that were found so far.
+//! What is wrong with a description, and the least fault found so far.
 
 ghost use Rattle.std.specs.Prelude.{◌≡◌};
 ghost use Rattle.ksv_schema_faults.specs.Faults.{is_below, noted, fault, fault_if};
@@ -13,25 +13,25 @@ pub enum DescFaultKind {
     /// S1: the mapping has no such key.
     #[error("unknown key")]
     UnknownKey,
-    /// S2: a key that is needed isn't there; the line is the first one of the mapping.
+    /// S2: a required key is missing; the line is the first one of the mapping.
     #[error("missing key")]
     MissingKey,
-    /// S3: keys that don't fit together, or a name or number that stands there already.
+    /// S3: keys that don't fit together, or a name or number that is given twice.
     #[error("keys against each other")]
     KeysAgainst,
     /// S4: nothing has this name here.
     #[error("unknown name")]
     UnknownName,
-    /// S5: an integer of several bytes where no byte order is in force.
+    /// S5: an integer of several bytes without a byte order.
     #[error("no byte order")]
     NoByteOrder,
-    /// S6: a name or a value that may not stand here, or a node of the wrong kind.
+    /// S6: a name or a value that isn't allowed here, or a node of the wrong kind.
     #[error("bad name or value")]
     BadValue,
-    /// S7: a type is given another count of arguments than it has parameters.
+    /// S7: a type has another count of arguments than of parameters.
     #[error("wrong count of arguments")]
     WrongCount,
-    /// S8: a feature of Kaitai Struct that is left out.
+    /// S8: an unsupported feature of Kaitai Struct.
     #[error("left-out feature")]
     LeftOut,
     /// S9: more than 1,024 types, 256 members of a type, or 65,536 entries of enums.
@@ -85,7 +85,7 @@ impl DescFaultKind {
     }
 }
 
-/// What is wrong with a description, and the line, from 1, of the key or list item at fault.
+/// What is wrong with a description, and the line, from 1, of the key or list item with the fault.
 #[derive(Clone, Copy, PartialEq, Eq, Debug, Error)]
 #[error("line {line}: {kind}")]
 pub struct DescFault {
@@ -93,7 +93,7 @@ pub struct DescFault {
     pub kind: DescFaultKind,
 }
 
-/// Whether one fault is answered before another.
+/// Whether one fault is reported before another.
 #[tactic(auto, unfolding(crate::specs::Faults::is_below))]
 fn is_below(one: DescFault, other: DescFault) -> bool
     ensures { result ≡ is_below (plain one) (plain other) }
@@ -117,7 +117,7 @@ pub(crate) fn note(least: &mut Option<DescFault>, line: usize, kind: DescFaultKi
     }
 }
 
-/// Notes a fault where something is wrong.
+/// Notes a fault if something is wrong.
 #[tactic(auto, unfolding(crate::specs::Faults::noted))]
 pub(crate) fn note_if(
     least: &mut Option<DescFault>,

@@ -1,4 +1,4 @@
-//! Where a mapping of a description stands.
+//! Where a mapping of a description is.
 
 ghost use Rattle.std.specs.Prelude.{◌≡◌};
 ghost use Rattle.ksv_schema_scope.specs.Declarations.{declared};
@@ -7,7 +7,7 @@ ghost use Rattle.ksv_schema_faults.specs.Code.{seen_home};
 
 use ksv_schema_scope::Scopes;
 
-/// Where a mapping stands: in which type, whether in its `seq`, and whether it is of something repeated.
+/// Where a mapping is: in which type, whether in its `seq`, and whether it is of something repeated.
 #[derive(Clone, Copy)]
 pub(crate) struct Home<'a> {
     pub(crate) scopes: &'a Scopes<'a>,
@@ -16,7 +16,7 @@ pub(crate) struct Home<'a> {
     pub(crate) is_repeated: bool,
 }
 
-/// Where a mapping stands that is no member's.
+/// The place of a mapping that isn't a member's.
 pub(crate) fn home_in<'a>(scopes: &'a Scopes<'a>, within: usize) -> Home<'a>
     ensures { seen_home result ≡ home_in (declared scopes.now) within }
 {

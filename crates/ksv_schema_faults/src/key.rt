@@ -1,4 +1,4 @@
-//! The faults of what stands at one key, by its form.
+//! The faults of the value at one key, by its form.
 
 ghost use Rattle.std.specs.Prelude.{◌≡◌, OnOk, not, true, is_some, is_none, fold, ◌||◌, Some, List, ℕ, [], ◌∷◌, codes, map, flat_map, option_map, string_bytes};
 ghost use Rattle.std.specs.List.{list_any};
@@ -30,7 +30,7 @@ use ksv_schema_scope::keys::has;
 use ksv_yaml_tree::{Entry, Yaml};
 use std::alloc::{AllocError, Global};
 
-/// Whether a text may stand at a key of this form, as far as the text alone tells.
+/// Whether a text is allowed at a key of this form, as far as the text alone decides.
 fn fits(form: Form, text: &[u8]) -> bool
     ensures { result ≡ fits form text.now }
 {
@@ -62,7 +62,7 @@ fn is_order(text: &[u8]) -> bool
     text == b"le".as_slice() || text == b"be".as_slice()
 }
 
-/// Notes a byte order other than `le` and `be`; a choice of one is left out.
+/// Notes a byte order other than `le` and `be`; a choice of one is unsupported.
 #[tactic(auto, using(crate::proofs::Nodes::endian_text, crate::proofs::Nodes::endian_choice, crate::proofs::Nodes::endian_mapping, crate::proofs::Nodes::endian_list))]
 fn note_endian(least: &mut Option<DescFault>, line: usize, value: &Yaml)
     ensures { seen_fault least.new ≡ noted (seen_fault least.old) (endian_faults line (view value.now)) }
@@ -82,7 +82,7 @@ fn note_endian(least: &mut Option<DescFault>, line: usize, value: &Yaml)
     }
 }
 
-/// Notes a bit order other than `be`; `le` is left out.
+/// Notes a bit order other than `be`; `le` is unsupported.
 #[tactic(auto, using(crate::proofs::Noted::steps), unfolding(crate::specs::Rules::bit_endian_faults))]
 fn note_bit_endian(least: &mut Option<DescFault>, entry: &Entry)
     ensures { seen_fault least.new ≡ noted (seen_fault least.old) (bit_endian_faults (pair entry.now)) }
@@ -140,7 +140,7 @@ fn note_pieces(least: &mut Option<DescFault>, items: &[Yaml])
     }
 }
 
-/// Notes bad `contents`; a plain number alone is left out.
+/// Notes bad `contents`; a plain number alone is unsupported.
 #[tactic(auto, using(crate::proofs::Nodes::contents_text, crate::proofs::Nodes::contents_list, crate::proofs::Nodes::contents_mapping))]
 fn note_contents(least: &mut Option<DescFault>, line: usize, value: &Yaml)
     ensures { seen_fault least.new ≡ noted (seen_fault least.old) (contents_faults line (view value.now)) }
@@ -200,7 +200,7 @@ fn note_case_key(
     }
 }
 
-/// Notes the faults of a case's type; `str` and `strz` are left out.
+/// Notes the faults of a case's type; `str` and `strz` are unsupported.
 #[tactic(auto, using(crate::proofs::Noted::steps), unfolding(crate::specs::Rules::case_type_faults))]
 fn note_case_type(least: &mut Option<DescFault>, home: Home, line: usize, text: &TypeText)
     ensures { seen_fault least.new ≡ noted (seen_fault least.old) (case_type_faults (seen_home home.entry) line (seen_type_text text.now)) }
@@ -299,7 +299,7 @@ fn note_type_at(
     Ok(())
 }
 
-/// Notes the path of an enum at a key that isn't there.
+/// Notes at a key the path of an enum that isn't there.
 fn note_enum_at(
     alloc: Global,
     least: &mut Option<DescFault>,
@@ -318,7 +318,7 @@ fn note_enum_at(
     Ok(())
 }
 
-/// Notes what is no number from 0 to 255 at a key.
+/// Notes a value at a key that is no number from 0 to 255.
 fn note_byte_at(least: &mut Option<DescFault>, entry: &Entry)
     ensures { seen_fault least.new ≡ noted (seen_fault least.old) (text_faults (λ text. numeral_faults (pair entry.now).line (byte_number text)) (pair entry.now)) }
 {
@@ -345,7 +345,7 @@ fn note_cases_at(
     Ok(())
 }
 
-/// Notes the faults of what stands at a key, by its form.
+/// Notes the faults of the value at a key, by its form.
 #[tactic(auto, using(crate::proofs::Noted::steps), unfolding(crate::specs::Rules::form_faults))]
 pub(crate) fn note_form(
     alloc: Global,

@@ -1,6 +1,7 @@
-//! The faults of a description: which a tree has, and the least of them, by which it is refused.
+//! The faults of a description: which ones a tree has, and the least of them, by which it is refused.
 //!
-//! `specs/Rules` lists all faults of a tree, with the line of each; `specs/Faults` has their codes and which of two is answered.
+//! `specs/Rules` lists all faults of a tree, with the line of each; `specs/Faults` has their codes and which of two
+//! is reported.
 #![tactic(auto)]
 
 mod check;

@@ -5,7 +5,7 @@ ghost use Rattle.ksv_schema_scope.specs.Declarations.{declared};
 ghost use Rattle.ksv_schema_scope.specs.ConstantRows.{constant_of};
 ghost use Rattle.ksv_schema_scope.specs.MemberRows.{member_of};
 ghost use Rattle.ksv_schema_faults.specs.Faults.{noted, over_limit};
-ghost use Rattle.ksv_schema_faults.specs.Rules.{past, line_past, each_from, member_limit, limit_faults};
+ghost use Rattle.ksv_schema_faults.specs.Rules.{past, line_past, most_entries, each_from, member_limit, limit_faults};
 ghost use Rattle.ksv_schema_faults.specs.Code.{seen_fault, members_past, limit_fault, AreRising};
 
 use crate::fault::{DescFault, DescFaultKind, note};
@@ -79,7 +79,7 @@ fn lines_of(alloc: Global, constants: &[Constant]) -> Result<Vec<usize>, AllocEr
     Ok(lines)
 }
 
-/// The same in rising order.
+/// The same lines in ascending order.
 fn rising_lines(alloc: Global, constants: &[Constant]) -> Result<Vec<usize>, AllocError>
     ensures { IfOk result (λ v. AreRising (map (λ c. c.line) (map constant_of constants.now)) v.items) }
 {
@@ -89,15 +89,15 @@ fn rising_lines(alloc: Global, constants: &[Constant]) -> Result<Vec<usize>, All
 }
 
 fn past_limit(lines: &[usize]) -> Option<usize>
-    ensures { result ≡ slice_get lines.now 65536 }
+    ensures { result ≡ slice_get lines.now most_entries }
 {
     lines.get(CONSTANTS).copied()
 }
 
-/// The lowest line by which there are more entries of enums than the limit.
+/// The lowest line at which there are more entries of enums than the limit.
 #[tactic(auto, using(crate::proofs::Past::line_past_is))]
 fn line_past_constants(alloc: Global, constants: &[Constant]) -> Result<Option<usize>, AllocError>
-    ensures { IfOk result (λ o. o ≡ line_past 65536 (map (λ c. c.line) (map constant_of constants.now))) }
+    ensures { IfOk result (λ o. o ≡ line_past most_entries (map (λ c. c.line) (map constant_of constants.now))) }
 {
     let lines = rising_lines(alloc, constants)?;
     Ok(past_limit(lines.as_slice()))

@@ -17,7 +17,7 @@ use ksv_schema_scope::keys::has;
 use ksv_yaml_tree::{Entry, Yaml};
 use std::alloc::{AllocError, Global};
 
-/// Whether a key says nothing in a mapping of fixed keys.
+/// Whether a key has no meaning in a mapping of fixed keys.
 #[tactic(auto, unfolding(ksv_schema_keys::specs::Keys::is_ignored))]
 fn is_ignored(key: &[u8]) -> bool
     ensures { result ≡ is_ignored key.now }
@@ -28,7 +28,7 @@ fn is_ignored(key: &[u8]) -> bool
     }
 }
 
-/// Notes the faults of one key, at which no switch may stand.
+/// Notes the faults of one key, at which no switch is allowed.
 #[tactic(auto, using(crate::proofs::Noted::steps), unfolding(crate::specs::Rules::key_faults))]
 fn note_plain_key(
     alloc: Global,
@@ -51,7 +51,7 @@ fn note_plain_key(
     }
 }
 
-/// Notes the faults of each key of a mapping in which no switch may stand.
+/// Notes the faults of each key of a mapping in which no switch is allowed.
 pub(crate) fn note_plain_keys(
     alloc: Global,
     least: &mut Option<DescFault>,
@@ -92,7 +92,7 @@ fn is_type_or_switch(form: Form) -> bool
     matches!(form, Form::TypeOrSwitch)
 }
 
-/// The keys of a switch, where one stands at a key.
+/// The keys of a switch, if one is at a key.
 fn switch_at(form: Form, value: &Yaml) -> Option<&[Entry]>
     ensures { seen_entries result ≡ (if is_type_or_switch (form_of form) then mapping_of (view value.now) else None) }
 {
@@ -103,7 +103,7 @@ fn switch_at(form: Form, value: &Yaml) -> Option<&[Entry]>
     }
 }
 
-/// Notes the faults of what stands at a key, which may be a switch.
+/// Notes the faults of the value at a key, which may be a switch.
 #[tactic(auto, using(crate::proofs::Switches::switch_noted, crate::proofs::Switches::form_noted))]
 fn note_value(
     alloc: Global,
@@ -121,7 +121,7 @@ fn note_value(
     }
 }
 
-/// Notes the faults of one key, at which a switch may stand.
+/// Notes the faults of one key, at which a switch is allowed.
 #[tactic(auto, using(crate::proofs::Noted::steps), unfolding(crate::specs::Rules::key_faults))]
 fn note_key(
     alloc: Global,

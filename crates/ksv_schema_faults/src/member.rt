@@ -39,7 +39,7 @@ fn is_repeated(entries: &[Entry]) -> bool
         || says(entries, b"repeat", b"until")
 }
 
-/// Where the mapping of a member stands.
+/// Where the mapping of a member is.
 fn home_of<'a>(scopes: &'a Scopes<'a>, member: &Member, entries: &[Entry]) -> Home<'a>
     ensures { seen_home result ≡ home_of (declared scopes.now) (member_of member.now) (map pair entries.now) }
 {
@@ -83,7 +83,7 @@ fn note_attribute(
     note_field_rules(alloc, least, home, line, entries)
 }
 
-/// Notes the faults of an instance, which has a value or a place; one with neither is left out.
+/// Notes the faults of an instance, which has a value or a place; one with neither is unsupported.
 #[tactic(auto, using(crate::proofs::Noted::steps), unfolding(crate::specs::Rules::instance_faults))]
 fn note_instance(
     alloc: Global,
@@ -109,7 +109,7 @@ fn note_instance(
     Ok(())
 }
 
-/// Notes the faults of a member's mapping, by where the member stands.
+/// Notes the faults of a member's mapping, by the member's role.
 #[tactic(auto, unfolding(crate::specs::Rules::role_faults))]
 fn note_role(
     alloc: Global,
@@ -179,7 +179,7 @@ fn is_at(number: usize, found: Option<usize>) -> bool
     }
 }
 
-/// Notes a name that a member before it in the same type has.
+/// Notes a name that an earlier member of the same type has.
 #[tactic(auto, unfolding(crate::specs::Rules::member_again))]
 fn note_member_again(least: &mut Option<DescFault>, scopes: &Scopes, number: usize, member: &Member)
     ensures { seen_fault least.new ≡ noted (seen_fault least.old) (member_again (declared scopes.now) number (member_of member.now)) }
@@ -194,7 +194,7 @@ fn note_member_again(least: &mut Option<DescFault>, scopes: &Scopes, number: usi
     );
 }
 
-/// Notes the name of an instance that is no id.
+/// Notes the name of an instance if it is no id.
 fn note_name_of_instance(least: &mut Option<DescFault>, member: &Member)
     ensures { seen_fault least.new ≡ noted (seen_fault least.old) (fault_if (is_instance (member_of member.now).role && not (is_id (member_of member.now).name)) (member_of member.now).line bad_value) }
 {

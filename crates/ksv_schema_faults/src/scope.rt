@@ -103,7 +103,7 @@ fn note_type_keys<'a>(
     Ok(())
 }
 
-/// Notes a type's name that is no id.
+/// Notes a type's name if it is no id.
 fn note_type_name(least: &mut Option<DescFault>, number: usize, line: usize, id: &[u8])
     ensures { seen_fault least.new ≡ noted (seen_fault least.old) (fault_if (not (number == 0) && not (is_id id.now)) line bad_value) }
 {

@@ -6,13 +6,14 @@ ghost use Rattle.ksv_yaml_tree.specs.Tree.{entry_at};
 ghost use Rattle.ksv_yaml_tree.specs.View.{pair, seen_entry};
 ghost use Rattle.ksv_schema_scope.specs.Keys.{has, says};
 ghost use Rattle.ksv_schema_faults.specs.Faults.{noted};
-ghost use Rattle.ksv_schema_keys.specs.Values.{cases_of, is_to_end, is_integer, is_str, is_strz, is_of_description, is_type, type_key};
-ghost use Rattle.ksv_schema_faults.specs.Rules.{against, alone_if, left_out_if, missing_if, to_end_key, has_encoding, field_needs, integer_against, field_against, field_left_out, field_rules, value_rules};
+ghost use Rattle.ksv_schema_keys.specs.Code.{seen_type_text};
+ghost use Rattle.ksv_schema_keys.specs.Values.{cases_of, is_to_end, is_integer, is_str, is_strz, is_type, type_key};
+ghost use Rattle.ksv_schema_faults.specs.Rules.{against, alone_if, is_declared, left_out_if, missing_if, to_end_key, has_encoding, field_needs, integer_against, field_against, field_left_out, field_rules, value_rules};
 ghost use Rattle.ksv_schema_faults.specs.Code.{seen_fault, seen_home, is_bounded, contents_against, lonely, has_other_terminator};
 
 use crate::fault::{DescFault, DescFaultKind, note, note_if};
 use crate::home::Home;
-use ksv_schema_keys::{TypeKind, byte_at, is_type, type_key};
+use ksv_schema_keys::{TypeKind, TypeText, byte_at, is_type, type_key, type_text};
 use ksv_schema_scope::keys::{entries_at, has, says, text_at};
 use ksv_yaml_tree::{Entry, find};
 use std::alloc::{AllocError, Global};
@@ -25,7 +26,7 @@ fn cases_of(entries: &[Entry]) -> &[Entry]
     entries_at(entries_at(entries, b"type"), b"cases")
 }
 
-/// Whether `size-eos` says `true`.
+/// Whether `size-eos` is `true`.
 fn is_to_end(entries: &[Entry]) -> bool
     ensures { result ≡ is_to_end (map pair entries.now) }
 {
@@ -52,14 +53,14 @@ fn note_against(least: &mut Option<DescFault>, one: Option<&Entry>, other: Optio
     }
 }
 
-/// Notes two keys of these names, where both are there.
+/// Notes two keys of these names, if both are there.
 fn note_both(least: &mut Option<DescFault>, entries: &[Entry], one: &[u8], other: &[u8])
     ensures { seen_fault least.new ≡ noted (seen_fault least.old) (against (entry_at one.now (map pair entries.now)) (entry_at other.now (map pair entries.now))) }
 {
     note_against(least, find(entries, one), find(entries, other));
 }
 
-/// Notes a key that lacks what it needs.
+/// Notes a key without what it needs.
 #[tactic(auto, using(crate::proofs::Noted::steps))]
 fn note_alone_if(least: &mut Option<DescFault>, lacks: bool, entries: &[Entry], key: &[u8])
     ensures { seen_fault least.new ≡ noted (seen_fault least.old) (alone_if lacks (entry_at key.now (map pair entries.now))) }
@@ -70,7 +71,7 @@ fn note_alone_if(least: &mut Option<DescFault>, lacks: bool, entries: &[Entry], 
     }
 }
 
-/// Notes a key that is left out.
+/// Notes an unsupported key.
 #[tactic(auto, using(crate::proofs::Noted::steps))]
 pub(crate) fn note_left_out_if(
     least: &mut Option<DescFault>,
@@ -93,7 +94,7 @@ pub(crate) fn note_missing_if(least: &mut Option<DescFault>, is_missing: bool, l
     note_if(least, is_missing, line, DescFaultKind::MissingKey);
 }
 
-/// The key `size-eos`, where it says `true`.
+/// The key `size-eos`, if it is `true`.
 fn to_end_key(entries: &[Entry]) -> Option<&Entry>
     ensures { seen_entry result ≡ to_end_key (map pair entries.now) }
 {
@@ -111,7 +112,7 @@ fn has_encoding(home: Home, entries: &[Entry]) -> bool
     text_at(entries, b"encoding").is_some() || home.scopes.encoding_of(home.within).is_some()
 }
 
-/// Whether a key says how far an attribute goes.
+/// Whether a key bounds an attribute.
 fn is_bounded(entries: &[Entry]) -> bool
     ensures { result ≡ is_bounded (map pair entries.now) }
 {
@@ -178,7 +179,7 @@ fn note_repetition(
     note_missing_if(least, is_of_kind & !has(entries, key), line);
 }
 
-/// Notes what an attribute needs and lacks.
+/// Notes what an attribute needs but doesn't have.
 #[tactic(auto, using(crate::proofs::Noted::steps), unfolding(crate::specs::Rules::field_needs))]
 fn note_field_needs(
     alloc: Global,
@@ -197,7 +198,7 @@ fn note_field_needs(
     Ok(())
 }
 
-/// Notes each key that says how far an integer goes.
+/// Notes each key that bounds an integer.
 #[tactic(auto, using(crate::proofs::Noted::steps), unfolding(crate::specs::Rules::integer_against))]
 fn note_integer_against(least: &mut Option<DescFault>, entries: &[Entry], integer: Option<&Entry>)
     ensures { seen_fault least.new ≡ noted (seen_fault least.old) (integer_against (map pair entries.now) (seen_entry integer.entry)) }
@@ -207,7 +208,7 @@ fn note_integer_against(least: &mut Option<DescFault>, entries: &[Entry], intege
     note_against(least, integer, find(entries, b"terminator"));
 }
 
-/// Notes the same of a case, where it is an integer.
+/// Notes the same for a case, if it is an integer.
 #[tactic(auto, using(crate::proofs::Noted::steps))]
 fn note_case_against(
     alloc: Global,
@@ -223,7 +224,7 @@ fn note_case_against(
     Ok(())
 }
 
-/// Notes the same of each case.
+/// Notes the same for each case.
 fn note_cases_against(
     alloc: Global,
     least: &mut Option<DescFault>,
@@ -245,7 +246,7 @@ fn note_two_ends(least: &mut Option<DescFault>, entries: &[Entry])
     note_against(least, find(entries, b"size"), to_end_key(entries));
 }
 
-/// Notes the keys that say how far the integer at `type` goes.
+/// Notes the keys that bound the integer at `type`.
 fn note_type_against(
     alloc: Global,
     least: &mut Option<DescFault>,
@@ -279,7 +280,7 @@ fn note_repeat_alone(least: &mut Option<DescFault>, entries: &[Entry], kind: &[u
     note_alone_if(least, !is_of_kind, entries, key);
 }
 
-/// Notes the keys that say how far an integer of a switch goes.
+/// Notes the keys that bound an integer of a switch.
 fn note_integer_cases(
     alloc: Global,
     least: &mut Option<DescFault>,
@@ -291,7 +292,7 @@ fn note_integer_cases(
     Ok(())
 }
 
-/// Notes the keys that stand against `contents`.
+/// Notes the keys that `contents` excludes.
 #[tactic(auto, using(crate::proofs::Noted::steps))]
 fn note_contents_against(least: &mut Option<DescFault>, entries: &[Entry])
     ensures { seen_fault least.new ≡ noted (seen_fault least.old) (contents_against (map pair entries.now)) }
@@ -303,7 +304,7 @@ fn note_contents_against(least: &mut Option<DescFault>, entries: &[Entry])
     note_both(least, entries, b"contents", b"enum");
 }
 
-/// Notes keys that lack what they need.
+/// Notes keys without what they need.
 #[tactic(auto, using(crate::proofs::Noted::steps))]
 fn note_lonely(
     alloc: Global,
@@ -318,7 +319,7 @@ fn note_lonely(
     Ok(())
 }
 
-/// Notes keys that stand against each other.
+/// Notes keys that exclude each other.
 #[tactic(auto, using(crate::proofs::Noted::steps), unfolding(crate::specs::Rules::field_against))]
 fn note_field_against(
     alloc: Global,
@@ -334,12 +335,50 @@ fn note_field_against(
     note_lonely(alloc, least, entries)
 }
 
-/// Whether a case is of a type of the description.
-fn has_object(alloc: Global, cases: &[Entry]) -> Result<bool, AllocError>
-    ensures { IfOk result (λ b. b ≡ list_any (is_type is_of_description) (map pair cases.now)) }
+/// Whether a type is one that the description declares.
+fn is_declared(home: Home, text: &TypeText) -> bool
+    ensures { result ≡ is_declared (seen_home home.entry) (seen_type_text text.now) }
+{
+    match text {
+        TypeText::OfDescription(name, _) => home
+            .scopes
+            .type_named(home.within, name.path.as_slice())
+            .is_some(),
+        TypeText::OfLanguage(..) | TypeText::Unspelled(_) => false,
+    }
+}
+
+/// Whether the text of such a type is at an entry.
+#[tactic(auto, unfolding(ksv_schema_keys::specs::Values::is_type))]
+fn has_declared(alloc: Global, home: Home, entry: &Entry) -> Result<bool, AllocError>
+    ensures { IfOk result (λ b. b ≡ is_type (is_declared (seen_home home.entry)) (pair entry.now)) }
+{
+    match entry.value().text() {
+        Some(text) => {
+            let text = type_text(alloc, text)?;
+            Ok(is_declared(home, &text))
+        }
+        None => Ok(false),
+    }
+}
+
+/// Whether such a type is at the key `type`.
+#[tactic(auto, unfolding(ksv_schema_keys::specs::Values::type_key))]
+fn is_object(alloc: Global, home: Home, entries: &[Entry]) -> Result<bool, AllocError>
+    ensures { IfOk result (λ b. b ≡ is_some (type_key (is_declared (seen_home home.entry)) (map pair entries.now))) }
+{
+    match find(entries, b"type") {
+        Some(entry) => has_declared(alloc, home, entry),
+        None => Ok(false),
+    }
+}
+
+/// Whether a case is of such a type.
+fn has_object(alloc: Global, home: Home, cases: &[Entry]) -> Result<bool, AllocError>
+    ensures { IfOk result (λ b. b ≡ list_any (is_type (is_declared (seen_home home.entry))) (map pair cases.now)) }
 {
     for case in cases {
-        if is_type(alloc, TypeKind::OfDescription, case)? {
+        if has_declared(alloc, home, case)? {
             return Ok(true);
         }
     }
@@ -356,17 +395,18 @@ fn has_other_terminator(entries: &[Entry]) -> bool
     }
 }
 
-/// Notes a terminator that is left out: of a type of the description, or of `strz` another one than 0.
+/// Notes an unsupported terminator: of a type of the description, or of `strz` another one than 0.
 #[tactic(auto, using(crate::proofs::Noted::steps), unfolding(crate::specs::Rules::field_left_out))]
 fn note_field_left_out(
     alloc: Global,
     least: &mut Option<DescFault>,
+    home: Home,
     entries: &[Entry],
 ) -> Result<(), AllocError>
-    ensures { OnOk result (seen_fault least.new ≡ noted (seen_fault least.old) (field_left_out (map pair entries.now))) }
+    ensures { OnOk result (seen_fault least.new ≡ noted (seen_fault least.old) (field_left_out (seen_home home.entry) (map pair entries.now))) }
 {
-    let is_object = type_key(alloc, TypeKind::OfDescription, entries)?.is_some();
-    let has_object = has_object(alloc, cases_of(entries))?;
+    let is_object = is_object(alloc, home, entries)?;
+    let has_object = has_object(alloc, home, cases_of(entries))?;
     let is_strz = type_key(alloc, TypeKind::Strz, entries)?.is_some();
     let is_other = has_other_terminator(entries);
     note_left_out_if(least, is_object | has_object, entries, b"terminator");
@@ -387,10 +427,10 @@ pub(crate) fn note_field_rules(
 {
     note_field_needs(alloc, least, home, line, entries)?;
     note_field_against(alloc, least, entries)?;
-    note_field_left_out(alloc, least, entries)
+    note_field_left_out(alloc, least, home, entries)
 }
 
-/// Notes the keys of an instance that stand against its value.
+/// Notes the keys of a value instance that its value excludes.
 #[tactic(auto, using(crate::proofs::Noted::steps), unfolding(crate::specs::Rules::value_rules))]
 pub(crate) fn note_value_rules(least: &mut Option<DescFault>, entries: &[Entry])
     ensures { seen_fault least.new ≡ noted (seen_fault least.old) (value_rules (map pair entries.now)) }

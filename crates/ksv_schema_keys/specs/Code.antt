@@ -1,4 +1,4 @@
--- What the code's values are to the definitions.
+-- The plain data of the code's values.
 use Rattle.std.specs.declared.alloc.Global.{Global}
 use Rattle.std.specs.Prelude.{◌≡◌, ◌≢◌, ◌≤◌, ◌+◌, ◌^◌, ◌==◌, ◌&&◌, false, take, drop, length, Vec, String, string_bytes, nat_le, if◌then◌else◌, ℤ, pos, ℕ, Bool, List, [], ◌∷◌, map, Option, Some, None, option_map, Result, Ok, Err, codes}
 use Rattle.ksv_expr_syntax.specs.declared.fault.ExprFault.{ExprFault}
@@ -14,7 +14,7 @@ use Rattle.ksv_schema_keys.specs.declared.values.Piece as pieces
 use Rattle.ksv_schema_keys.specs.declared.values.Piece.TheVariants as piece
 use Rattle.ksv_schema_keys.specs.declared.values.CaseKey as case_keys
 use Rattle.ksv_schema_keys.specs.declared.values.CaseKey.TheVariants as case_key
-use Rattle.ksv_schema_keys.specs.Values.{TypeText, Unspelled, OfLanguage, OfDescription, is_integer, is_str, is_strz, is_of_description, Piece, Bytes, BadPiece, LeftOutPiece, names_in, CaseKey, Constant, Negative, Member, Default, NoKey}
+use Rattle.ksv_schema_keys.specs.Values.{TypeText, Unspelled, OfLanguage, OfDescription, is_integer, is_str, is_strz, Piece, Bytes, BadPiece, LeftOutPiece, names_in, CaseKey, Constant, Negative, Member, Default, NoKey}
 use Rattle.ksv_schema_keys.specs.declared.keys.Form.{Form as FormOfCode}
 use Rattle.ksv_schema_keys.specs.declared.keys.Form.TheVariants as form
 use Rattle.ksv_schema_keys.specs.declared.keys.Key.{Key as KeyOfCode}
@@ -85,7 +85,6 @@ abbrev pub kind_test : TypeKind → TypeText → Bool
 kind_test kind.Integer = is_integer
 kind_test kind.Str = is_str
 kind_test kind.Strz = is_strz
-kind_test kind.OfDescription = is_of_description
 
 -- a number from 0 to a bound
 pub record IsUpTo (most : ℕ) (n : ℤ) : Type 0 where
@@ -99,7 +98,7 @@ seen_piece (piece.Text text) = Bytes text.now
 seen_piece piece.Bad = BadPiece
 seen_piece piece.LeftOut = LeftOutPiece
 
--- what a constant, and an expression, is behind `-`
+-- what a constant, and an expression, means after `-`
 abbrev pub negative_constant : expressions.Constant → CaseKey
 negative_constant (expressions.integer n) = if nat_le n (2 ^ 63) then Negative n else NoKey
 negative_constant (expressions.truth b) = NoKey
@@ -121,13 +120,13 @@ seen_case_key case_key.NoKey = NoKey
 abbrev pub seen_path : Option (Vec (String Global) Global) → Option (List (List ℕ))
 seen_path o = option_map (λ v. map string_bytes v.items) o
 
--- whether `::` stands first
+-- whether `::` is first
 abbrev pub begins_with_colons : List ℕ → Bool
 begins_with_colons [] = false
 begins_with_colons (c ∷ []) = false
 begins_with_colons (c ∷ d ∷ cs) = c == 58 && d == 58
 
--- the first of the names of a text ends at this place, where the text ends or `::` stands
+-- the first of the names of a text ends at this place, where the text ends or `::` is
 pub record IsFirstName (text : List ℕ) (n : ℕ) : Type 0 where
   pub is : names_in [] text ≡ take n text ∷ (if n == length text then [] else names_in [] (drop (n + 2) text))
   pub bound : n ≤ length text

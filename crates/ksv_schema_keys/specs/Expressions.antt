@@ -1,4 +1,4 @@
--- The expression, and the type with its arguments, that a text is, if it is one.
+-- The expression, and the type with its arguments, of a text, if it has one.
 use Rattle.std.specs.Prelude.{ℕ, zero, suc, Bool, false, List, [], ◌∷◌, length, Option, Some, None, option_map}
 use Rattle.ksv_expr_tree.specs.Tree.{Tree, TypeTree}
 use Rattle.ksv_expr_syntax.specs.Lexemes.{Lexeme}
@@ -8,7 +8,7 @@ use Rattle.ksv_expr_syntax.specs.Cutting.{cut}
 use Rattle.ksv_expr_syntax.specs.Reading.{◌>>=◌, read, path_at}
 use Rattle.ksv_expr_syntax.specs.Code.{type_list}
 
--- at most n tokens of a text without white space in front, behind a dot or not
+-- at most n tokens of a text without white space in front, after a dot or not
 abbrev pub tokens_to : ℕ → Bool → List ℕ → Option (List Lexeme)
 tokens_to n dot [] = Some []
 tokens_to zero dot (c ∷ cs) = None
@@ -18,7 +18,7 @@ tokens_to (suc n) dot (c ∷ cs) = cut (c ∷ cs) >>= λ x. option_map (λ ts. m
 unfoldable pub tokens_of : List ℕ → Option (List Lexeme)
 tokens_of text = tokens_to (length text) false (skip text)
 
--- a tree behind which no token is left
+-- a tree after which no token is left
 abbrev pub tree_alone : Tree → List Lexeme → Option Tree
 tree_alone e [] = Some e
 tree_alone e (t ∷ ts) = None

@@ -1,15 +1,15 @@
--- Which keys each mapping of a description may have, and what stands at each of them.
+-- Which keys each mapping of a description may have, and what is at each of them.
 use Rattle.std.specs.Prelude.{ℕ, Bool, false, nat_le, ◌&&◌, ◌||◌, ◌==◌, List, [], ◌∷◌, codes, Option, option_map}
 use Rattle.std.specs.List.{find, list_all}
 use Rattle.std.specs.Str.{bytes_eq}
 use Rattle.ksv_schema_names.specs.declared.position.Site.{Site}
 use Rattle.ksv_schema_names.specs.declared.position.Site.TheVariants as sites
 
--- what stands at a key
+-- what is at a key
 pub data Form : Type 0 where
-  -- whatever it is, it says nothing
+  -- anything; it has no meaning
   Ignored : Form
-  -- the key itself is left out
+  -- the key itself is unsupported
   NotHere : Form
   -- a mapping, or a list
   Mapping : Form
@@ -18,13 +18,13 @@ pub data Form : Type 0 where
   Id : Form
   -- one of these texts
   OneOf : List (List ℕ) → Form
-  -- `le` or `be`; a choice by `switch-on` is left out
+  -- `le` or `be`; a choice by `switch-on` is unsupported
   Endian : Form
-  -- `be`; `le` is left out
+  -- `be`; `le` is unsupported
   BitEndian : Form
-  -- ASCII or UTF-8, in any letter case; others are left out
+  -- ASCII or UTF-8, in any letter case; others are unsupported
   Coding : Form
-  -- a text that says nothing; `io` is left out
+  -- a text without a meaning; `io` is unsupported
   ParameterType : Form
   AnyText : Form
   -- an expression
@@ -83,7 +83,7 @@ parameter_keys =
     key (codes "type") ParameterType ∷
     key (codes "enum") AnyText ∷ []
 
--- an attribute of `seq`, but for its id
+-- an attribute of `seq`, except its id
 abbrev pub field_keys : List Key
 field_keys =
     key (codes "type") TypeOrSwitch ∷
@@ -107,18 +107,20 @@ field_keys =
 abbrev pub attribute_keys : List Key
 attribute_keys = key (codes "id") Id ∷ field_keys
 
--- an instance with a place of its own
+-- a parse instance
 abbrev pub parse_instance_keys : List Key
 parse_instance_keys =
     key (codes "pos") (Expression sites.Place) ∷
     key (codes "io") (Expression sites.Stream) ∷ field_keys
 
--- An instance with a `value`. The keys that are ignored here are those that stand against it.
+-- A value instance. The keys that are ignored here are those that `value` excludes.
 abbrev pub value_keys : List Key
 value_keys =
     key (codes "value") (Expression sites.Value) ∷
     key (codes "if") (Expression sites.Condition) ∷
     key (codes "enum") EnumName ∷
+    key (codes "process") NotHere ∷
+    key (codes "pad-right") NotHere ∷
     key (codes "valid") NotHere ∷
     key (codes "pos") Ignored ∷
     key (codes "io") Ignored ∷
@@ -131,15 +133,15 @@ switch_keys =
     key (codes "switch-on") (Expression sites.Switch) ∷
     key (codes "cases") Cases ∷ []
 
--- what a number of an enum stands for, where that is a mapping
+-- the value of an entry of an enum, if it is a mapping
 abbrev pub constant_keys : List Key
 constant_keys = key (codes "id") Id ∷ []
 
--- the form of a key, where the table has it
+-- the form of a key, if the table has it
 unfoldable pub form_in : List Key → List ℕ → Option Form
 form_in table name = option_map (λ k. k.form) (find (λ k. bytes_eq name k.name) table)
 
--- keys that say nothing in any of these mappings: `doc`, `doc-ref`, and those that begin with `-`
+-- keys without a meaning in any of these mappings: `doc`, `doc-ref`, and those that begin with `-`
 unfoldable pub is_ignored : List ℕ → Bool
 is_ignored [] = false
 is_ignored (c ∷ cs) = c == 45 || bytes_eq (c ∷ cs) (codes "doc") || bytes_eq (c ∷ cs) (codes "doc-ref")

@@ -1,4 +1,4 @@
--- The keys of a description, and what the values at them say.
+-- The keys of a description, and what the values at them mean.
 pub mod Keys
 pub mod Expressions
 pub mod Values

@@ -1,4 +1,4 @@
--- What the values of a description's keys say.
+-- What the values of a description's keys mean.
 use Rattle.std.specs.Prelude.{ℕ, ◌^◌, Bool, true, false, not, nat_le, ◌==◌, ◌&&◌, ◌||◌, if◌then◌else◌, nat_abs, List, [], ◌∷◌, ◌++◌, drop, codes, slice_index, Option, Some, None, option_map, option_and_then}
 use Rattle.std.specs.List.{list_all}
 use Rattle.std.specs.Option.{option_map_or}
@@ -27,7 +27,8 @@ encoding_named name = encodings.encoding_named name
 
 -- ---- types
 
--- what the text of a type is: no type's text, a type of the language, or a type of the description; with its arguments
+-- what the text of a type is: no type's text, a type of the language, or a type of the description; with its
+-- arguments
 pub data TypeText : Type 0 where
   Unspelled : TypeText
   OfLanguage : BuiltIn → Arguments → TypeText
@@ -56,15 +57,11 @@ abbrev pub is_strz : TypeText → Bool
 is_strz (OfLanguage Strz es) = true
 is_strz _ = false
 
-abbrev pub is_of_description : TypeText → Bool
-is_of_description (OfDescription t es) = true
-is_of_description _ = false
-
--- the text of a type at an entry, where it is of this kind
+-- whether the text of a type at an entry is of this kind
 unfoldable pub is_type : (TypeText → Bool) → Pair → Bool
 is_type kind p = option_map_or (λ text. kind (type_text text)) (text_of p.value) false
 
--- the key `type`, where it is a text of this kind
+-- the key `type`, if its text is of this kind
 unfoldable pub type_key : (TypeText → Bool) → List Pair → Option Pair
 type_key kind es = option_and_then (λ p. if is_type kind p then Some p else None) (entry_at (codes "type") es)
 
@@ -77,7 +74,7 @@ cases_of es = entries_at (codes "cases") (entries_at (codes "type") es)
 unfoldable pub byte_number : List ℕ → Numeral
 byte_number text = plain_number 255 text
 
--- the number at a key, where it is one from 0 to 255
+-- the number at a key, if it is one from 0 to 255
 abbrev pub byte_in : Numeral → Option ℕ
 byte_in (Whole n) = Some (nat_abs n)
 byte_in LeadingZero = None
@@ -88,7 +85,7 @@ byte_at key es = option_and_then (λ text. byte_in (byte_number text)) (text_at 
 
 -- ---- contents
 
--- a text that is written as a plain number: digits, or hexadecimal ones behind `0x`
+-- a text in the form of a plain number: digits, or hexadecimal ones after `0x`
 unfoldable pub looks_like_number : List ℕ → Bool
 looks_like_number text = is_numeral 10 text || slice_index text 0 == 48 && slice_index text 1 == 120 && is_numeral 16 (drop 2 text)
 
@@ -114,12 +111,12 @@ bytes_of (Bytes bs) = Some bs
 bytes_of BadPiece = None
 bytes_of LeftOutPiece = None
 
--- the bytes of all items, where each has its bytes
+-- the bytes of all items, if each has bytes
 abbrev pub joined : List Tree → Option (List ℕ)
 joined [] = Some []
 joined (t ∷ ts) = option_and_then (λ bs. option_map (λ cs. bs ++ cs) (joined ts)) (bytes_of (piece_of t))
 
--- the bytes of a text; a plain number alone is left out
+-- the bytes of a text; a plain number alone is unsupported
 abbrev pub text_bytes : Bool → List ℕ → Option (List ℕ)
 text_bytes quoted text = if not quoted && looks_like_number text then None else Some text
 
@@ -131,7 +128,8 @@ contents_of (Map line es) = None
 
 -- ---- keys of `cases`
 
--- the kinds of expression that a key of `cases` may be: a number, truth value or text, a number behind `-`, a member, or `_`
+-- the kinds of expression that a key of `cases` may be: a number, truth value or text, a number after `-`, a
+-- member, or `_`
 pub data CaseKey : Type 0 where
   Constant : expressions.Constant → CaseKey
   Negative : ℕ → CaseKey
@@ -148,7 +146,7 @@ case_key _ = NoKey
 
 -- ---- paths of enums
 
--- the names between the `::` of a text, of which the first begins with these bytes
+-- the names between the `::` of a text; the first of them begins with these bytes
 abbrev pub names_in : List ℕ → List ℕ → List (List ℕ)
 names_in name [] = name ∷ []
 names_in name (c ∷ []) = (name ++ c ∷ []) ∷ []
@@ -160,7 +158,7 @@ ids_of text = let names = names_in [] text in if list_all is_id names then Some 
 
 -- ---- flags
 
--- whether a key says `true`, or is left away and defaults to it
+-- whether a key is `true`, and whether one that defaults to `true` is
 abbrev pub is_true : List ℕ → List Pair → Bool
 is_true key es = says key (codes "true") es
 

@@ -1,4 +1,4 @@
-//! Ids with `::` between them, as the path of an enum.
+//! Ids with `::` between them, such as the path of an enum.
 
 ghost use Rattle.std.specs.Prelude.{◌≡◌, IfOk, Some, None, if◌then◌else◌, drop, option_map, string_bytes};
 ghost use Rattle.ksv_schema_keys.specs.Keys.{is_id};
@@ -8,7 +8,7 @@ ghost use Rattle.ksv_schema_keys.specs.Code.{seen_path, begins_with_colons, IsFi
 use crate::keys::is_id;
 use std::alloc::{AllocError, Global};
 
-/// Whether `::` stands at a place.
+/// Whether `::` is at a place.
 fn has_colons(text: &[u8], at: usize) -> bool
     ensures { result ≡ begins_with_colons (drop at text.now) }
 {
@@ -18,7 +18,7 @@ fn has_colons(text: &[u8], at: usize) -> bool
     }
 }
 
-/// How many bytes stand before the first `::`, or in all.
+/// How many bytes come before the first `::`, or how many there are if there is none.
 fn first_name(text: &[u8]) -> usize
     ensures { IsFirstName text.now result }
 {
@@ -43,7 +43,7 @@ fn id(alloc: Global, text: &[u8]) -> Result<Option<String>, AllocError>
     }
 }
 
-/// The ids that stand in a text with `::` between them.
+/// The ids in a text with `::` between them.
 pub fn ids_of(alloc: Global, text: &[u8]) -> Result<Option<Vec<String>>, AllocError>
     ensures { IfOk result (λ o. seen_path o ≡ ids_of text.now) }
 {

@@ -1,4 +1,4 @@
-//! Which keys each mapping of a description may have, and what stands at each of them.
+//! Which keys each mapping of a description may have, and what is at each of them.
 
 ghost use Rattle.std.specs.Prelude.{◌≡◌, map};
 ghost use Rattle.std.specs.List.{list_all};
@@ -7,12 +7,12 @@ ghost use Rattle.ksv_schema_keys.specs.Code.{seen_form, seen_key, keys_of};
 
 use ksv_schema_names::Site;
 
-/// What stands at a key.
+/// What is at a key.
 #[derive(Clone, Copy)]
 pub enum Form {
-    /// Whatever it is, it says nothing.
+    /// Anything; it has no meaning.
     Ignored,
-    /// The key itself is left out.
+    /// The key itself is unsupported.
     NotHere,
     /// A mapping.
     Mapping,
@@ -59,17 +59,17 @@ pub enum MappingKind {
     Parameter,
     /// An attribute of a `seq`.
     Attribute,
-    /// An instance with a place of its own.
+    /// A parse instance.
     ParseInstance,
-    /// An instance with a value.
+    /// A value instance.
     Value,
-    /// The key `type` of an attribute, where it is a mapping.
+    /// The key `type` of an attribute, if it is a mapping.
     Switch,
-    /// What a number of an enum stands for, where that is a mapping.
+    /// The value of an entry of an enum, if it is a mapping.
     Constant,
 }
 
-/// A key, and what stands at it.
+/// A key, and what is at it.
 struct Key(&'static [u8], Form);
 
 /// The keys of a type.
@@ -106,7 +106,7 @@ static PARAMETER_KEYS: [Key; 3] = [
     Key(b"enum", Form::AnyText),
 ];
 
-/// The keys of an attribute, but for its id.
+/// The keys of an attribute, except its id.
 static FIELD_KEYS: [Key; 17] = [
     Key(b"type", Form::TypeOrSwitch),
     Key(b"size", Form::Expression(Site::Size)),
@@ -127,11 +127,13 @@ static FIELD_KEYS: [Key; 17] = [
     Key(b"valid", Form::NotHere),
 ];
 
-/// The keys of an instance with a value.
-static VALUE_KEYS: [Key; 9] = [
+/// The keys of a value instance.
+static VALUE_KEYS: [Key; 11] = [
     Key(b"value", Form::Expression(Site::Value)),
     Key(b"if", Form::Expression(Site::Condition)),
     Key(b"enum", Form::EnumName),
+    Key(b"process", Form::NotHere),
+    Key(b"pad-right", Form::NotHere),
     Key(b"valid", Form::NotHere),
     Key(b"pos", Form::Ignored),
     Key(b"io", Form::Ignored),
@@ -146,10 +148,10 @@ static SWITCH_KEYS: [Key; 2] = [
     Key(b"cases", Form::Cases),
 ];
 
-/// The keys of what a number of an enum stands for.
+/// The keys of the mapping of an enum's entry.
 static CONSTANT_KEYS: [Key; 1] = [Key(b"id", Form::Id)];
 
-/// What stands at a key, where these have it.
+/// What is at a key, if these have it.
 #[tactic(auto, unfolding(crate::specs::Keys::form_in))]
 fn form_among(keys: &[Key], name: &[u8]) -> Option<Form>
     ensures { seen_form result ≡ form_in (map seen_key keys.now) name.now }
@@ -162,14 +164,14 @@ fn form_among(keys: &[Key], name: &[u8]) -> Option<Form>
     None
 }
 
-/// What stands at a key of an attribute, but for its id.
+/// What is at a key of an attribute, except its id.
 fn field_form(key: &[u8]) -> Option<Form>
     ensures { seen_form result ≡ form_in field_keys key.now }
 {
     form_among(FIELD_KEYS.as_slice(), key)
 }
 
-/// What stands at a key of an attribute.
+/// What is at a key of an attribute.
 #[tactic(auto, unfolding(crate::specs::Keys::form_in))]
 fn attribute_form(key: &[u8]) -> Option<Form>
     ensures { seen_form result ≡ form_in attribute_keys key.now }
@@ -181,7 +183,7 @@ fn attribute_form(key: &[u8]) -> Option<Form>
     }
 }
 
-/// What stands at a key of an instance with a place of its own.
+/// What is at a key of a parse instance.
 #[tactic(auto, unfolding(crate::specs::Keys::form_in))]
 fn parse_instance_form(key: &[u8]) -> Option<Form>
     ensures { seen_form result ≡ form_in parse_instance_keys key.now }
@@ -195,7 +197,7 @@ fn parse_instance_form(key: &[u8]) -> Option<Form>
     }
 }
 
-/// What stands at a key, where the table has it.
+/// What is at a key, if the table has it.
 pub fn form_in(table: MappingKind, key: &[u8]) -> Option<Form>
     ensures { seen_form result ≡ form_in (keys_of table) key.now }
 {

@@ -1,11 +1,12 @@
-//! What a text is taken for is what it spells: a law, the contract of a function that does nothing.
+//! What is read from a text is what it spells: a law, the contract of a function that does nothing.
 
 ghost use Rattle.std.specs.Prelude.{◌≡◌, ℕ, List, Some};
 ghost use Rattle.ksv_expr_tree.specs.Tree.{Tree, TypeTree};
 ghost use Rattle.ksv_expr_syntax.specs.Text.{SpellsText, SpellsTypeText};
 ghost use Rattle.ksv_schema_keys.specs.Expressions.{expression_of, type_of};
 
-/// The expression, and the type with its arguments, that a text of a description is taken for are those that it spells.
+/// The expression, and the type with its arguments, that is read from a text of a description is the one that the
+/// text spells.
 pub fn texts_are_spelled()
     ensures expression_sound { (text : List ℕ) (e : Tree) → expression_of text ≡ Some e → SpellsText text e }
     ensures expression_complete { (text : List ℕ) (e : Tree) → SpellsText text e → expression_of text ≡ Some e }

@@ -1,7 +1,7 @@
-//! The keys of a description: which of them each mapping may have, and what the values at them say.
+//! The keys of a description: which of them each mapping may have, and what the values at them mean.
 //!
-//! The tables of keys are defined in `specs/Keys`, what values say in `specs/Values`, and which expression or type a text is
-//! taken for in `specs/Expressions`.
+//! The tables of keys are defined in `specs/Keys`, what values mean in `specs/Values`, and which expression or type
+//! is read from a text in `specs/Expressions`.
 #![tactic(auto)]
 
 mod ids;

@@ -1,4 +1,4 @@
-//! Expressions and types as a description's texts write them.
+//! Expressions and types, read from a description's texts.
 
 ghost use Rattle.std.specs.Prelude.{◌≡◌, IfOk};
 ghost use Rattle.ksv_schema_keys.specs.Expressions.{expression_of, type_of};
@@ -8,7 +8,7 @@ use ksv_expr_syntax::{ExprFault, ExprFaultKind, parse, parse_type};
 use ksv_expr_tree::{Expr, TypeRef};
 use std::alloc::{AllocError, Global};
 
-/// The expression that a text is, or why it is none.
+/// The expression of a text, or why it has none.
 #[tactic(auto, using(crate::proofs::Spellings::expression_is))]
 pub fn read_expression(alloc: Global, text: &[u8]) -> Result<Result<Expr, ExprFault>, AllocError>
     ensures { IfOk result (λ r. seen_expression r ≡ expression_of text.now) }
@@ -22,7 +22,7 @@ pub fn read_expression(alloc: Global, text: &[u8]) -> Result<Result<Expr, ExprFa
     }
 }
 
-/// The type with its arguments that a text is, or why it is none.
+/// The type with its arguments of a text, or why it has none.
 #[tactic(auto, using(crate::proofs::Spellings::type_is))]
 pub(crate) fn read_type(
     alloc: Global,

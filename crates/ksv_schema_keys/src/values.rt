@@ -1,11 +1,11 @@
-//! What the values of a description's keys say.
+//! What the values of a description's keys mean.
 
 ghost use Rattle.std.specs.Prelude.{◌≡◌, ◌≤◌, nat_abs, IfOk, map, slice_index, drop, ◌==◌, ◌&&◌};
 ghost use Rattle.ksv_yaml_tree.specs.View.{view, pair, seen_entry, seen_text};
 ghost use Rattle.std.specs.List.{list_all};
 ghost use Rattle.ksv_expr_tree.specs.Tree.{view as view_expression, view_type, literal_of, special, unary};
 ghost use Rattle.ksv_schema_scope.specs.Numerals.{is_digit, is_numeral};
-ghost use Rattle.ksv_schema_keys.specs.Values.{encoding_named, of_name, type_text, is_integer, is_str, is_strz, is_of_description, is_type, type_key, byte_number, byte_at, looks_like_number, number_piece, piece_of, case_key};
+ghost use Rattle.ksv_schema_keys.specs.Values.{encoding_named, of_name, type_text, is_integer, is_str, is_strz, is_type, type_key, byte_number, byte_at, looks_like_number, number_piece, piece_of, case_key};
 ghost use Rattle.ksv_schema_keys.specs.Code.{seen_type_text, kind_test, IsUpTo, seen_piece, seen_case_key, negative_constant, negative_key};
 ghost use Rattle.ksv_schema_names.specs.BuiltIn.{built_in_at};
 
@@ -19,7 +19,7 @@ use ksv_schema_scope::{Numeral, plain_number};
 use ksv_yaml_tree::{Entry, Yaml, find};
 use std::alloc::{AllocError, Global};
 
-/// The most that may stand behind `-` in a key of `cases`.
+/// The greatest number that may come after `-` in a key of `cases`.
 const MOST_NEGATIVE: u64 = 0x8000_0000_0000_0000;
 
 /// The encoding of a name, in any letter case.
@@ -77,8 +77,6 @@ pub enum TypeKind {
     Str,
     /// `strz`
     Strz,
-    /// A type of the description.
-    OfDescription,
 }
 
 fn is_integer(text: &TypeText) -> bool
@@ -101,12 +99,6 @@ fn is_strz(text: &TypeText) -> bool
     matches!(text, TypeText::OfLanguage(BuiltIn::Strz, _))
 }
 
-fn is_of_description(text: &TypeText) -> bool
-    ensures { result ≡ is_of_description (seen_type_text text.now) }
-{
-    matches!(text, TypeText::OfDescription(..))
-}
-
 /// Whether a type is of this kind.
 pub fn is_of_kind(kind: TypeKind, text: &TypeText) -> bool
     ensures { result ≡ kind_test kind (seen_type_text text.now) }
@@ -115,11 +107,10 @@ pub fn is_of_kind(kind: TypeKind, text: &TypeText) -> bool
         TypeKind::Integer => is_integer(text),
         TypeKind::Str => is_str(text),
         TypeKind::Strz => is_strz(text),
-        TypeKind::OfDescription => is_of_description(text),
     }
 }
 
-/// Whether the text of a type of this kind stands at an entry.
+/// Whether the text of a type of this kind is at an entry.
 #[tactic(auto, unfolding(crate::specs::Values::is_type))]
 pub fn is_type(alloc: Global, kind: TypeKind, entry: &Entry) -> Result<bool, AllocError>
     ensures { IfOk result (λ b. b ≡ is_type (kind_test kind) (pair entry.now)) }
@@ -133,7 +124,7 @@ pub fn is_type(alloc: Global, kind: TypeKind, entry: &Entry) -> Result<bool, All
     }
 }
 
-/// The key `type`, where a text of this kind stands at it.
+/// The key `type`, if a text of this kind is at it.
 #[tactic(auto, unfolding(crate::specs::Values::type_key))]
 pub fn type_key<'a>(
     alloc: Global,
@@ -154,7 +145,7 @@ pub fn type_key<'a>(
     }
 }
 
-/// The plain number from 0 to 255 that a text writes.
+/// The plain number from 0 to 255 that a text is.
 #[tactic(auto, unfolding(crate::specs::Values::byte_number))]
 pub fn byte_number(text: &[u8]) -> Numeral
     ensures { result ≡ byte_number text.now }
@@ -209,7 +200,7 @@ fn is_numeral(radix: u32, text: &[u8]) -> bool
     }
 }
 
-/// Whether a text is written as a plain number.
+/// Whether a text has the form of a plain number.
 #[tactic(auto, unfolding(crate::specs::Values::looks_like_number))]
 pub fn looks_like_number(text: &[u8]) -> bool
     ensures { result ≡ looks_like_number text.now }
@@ -268,7 +259,7 @@ pub fn piece_of(item: &Yaml) -> Piece<'_>
 pub enum CaseKey<'a> {
     /// A number, truth value or text.
     Constant(&'a Literal),
-    /// A number behind `-`, without it.
+    /// The number after a `-`.
     Negative(u64),
     /// A member of an enum.
     Member(&'a Member),

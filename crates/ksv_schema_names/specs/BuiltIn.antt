@@ -46,14 +46,14 @@ built_ins =
     row (codes "f8le") NotHere ∷
     row (codes "f8be") NotHere ∷ []
 
--- ---- integers of 1 to 64 bits, `b1` to `b64`, which are left out
+-- ---- integers of 1 to 64 bits, `b1` to `b64`, which are unsupported
 
 -- a decimal from 1 to 64 that doesn't begin with 0
 abbrev pub is_width : List ℕ → Bool
 is_width [] = false
 is_width (c ∷ cs) = list_all is_ascii_digit (c ∷ cs) && nat_lt 48 c && nat_le (length cs) 1 && nat_le (digits_value 10 (c ∷ cs)) 64
 
--- what stands before `le` or `be` at the end
+-- what comes before `le` or `be` at the end
 abbrev pub before_order : List ℕ → List ℕ
 before_order cs =
     let suffix = drop (length cs - 2) cs in
@@ -72,7 +72,7 @@ listed name = option_map (λ r. r.is) (find (λ r. bytes_eq name r.name) built_i
 unfoldable pub built_in : List ℕ → Option BuiltIn
 built_in name = if is_bits name then Some NotHere else listed name
 
--- the same of a path: one of a single name
+-- the same for a path, which has one name
 abbrev pub built_in_at : List (List ℕ) → Option BuiltIn
 built_in_at [] = None
 built_in_at (name ∷ []) = built_in name

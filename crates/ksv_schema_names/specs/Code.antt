@@ -1,4 +1,4 @@
--- What the code's values are to the definitions.
+-- The plain data of the code's values.
 use Rattle.std.specs.Prelude.{ℕ, List, [], ◌∷◌, codes, Option, option_map, find}
 use Rattle.std.specs.Str.{bytes_eq}
 use Rattle.ksv_expr_tree.specs.declared.tree.Expr.{Expr}
@@ -24,7 +24,7 @@ faults_at d n p b e = part_faults d n p b (view e)
 
 -- ---- types of the language
 
--- the type of a name, where these rows have it
+-- the type of a name, if these rows have it
 unfoldable pub type_among : List Row → List ℕ → Option BuiltIn
 type_among rows name = option_map (λ r. r.is) (find (λ r. bytes_eq name r.name) rows)
 

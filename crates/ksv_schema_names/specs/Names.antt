@@ -1,7 +1,7 @@
--- What is wrong with the names of an expression where it stands.
+-- What is wrong with the names of an expression at its place.
 --
--- A bare name must be a member of the type in which the expression stands; a name behind a dot needn't be one. A type and an
--- enum's member are looked for outwards from that type. `_root` and `_parent` stand anywhere; of the others each stands
+-- A bare name must be a member of the type that the expression is in; a name after a dot needn't be one. A type and
+-- an enum's member are looked up from that type outwards. `_root` and `_parent` are allowed anywhere; the others
 -- only at the keys that are named here.
 use Rattle.std.specs.Prelude.{ℕ, suc, Bool, true, false, not, if◌then◌else◌, ◌&&◌, ◌||◌, ◌==◌, List, [], ◌∷◌, ◌++◌, codes, Option, Some, None, is_some, is_none, option_and_then, fold}
 use Rattle.std.specs.Str.{bytes_eq}
@@ -23,9 +23,9 @@ use Rattle.ksv_schema_names.specs.BuiltIn.{built_in_at}
 abbrev pub wrong_if : Bool → NameFault → List NameFault
 wrong_if b k = if b then k ∷ [] else []
 
--- ---- which names of the language stand where
+-- ---- which names of the language are allowed where
 
--- `_io.pos` and `_io.eof` stand where an attribute of a `seq` has a present place
+-- `_io.pos` and `_io.eof` are allowed where an attribute of a `seq` has a current place
 abbrev pub has_place : Site → Bool
 has_place sites.Condition = true
 has_place sites.Size = true
@@ -38,7 +38,7 @@ has_place sites.Stream = false
 has_place sites.Value = false
 has_place sites.Case = false
 
--- `_index` stands where each element is read
+-- `_index` is allowed where each element is read
 abbrev pub is_of_element : Site → Bool
 is_of_element sites.Condition = false
 is_of_element sites.Size = true
@@ -51,7 +51,7 @@ is_of_element sites.Stream = false
 is_of_element sites.Value = false
 is_of_element sites.Case = false
 
--- `_` stands in `repeat-until`, and a stream is what `io` is about
+-- `_` is allowed in `repeat-until`, and `io` has a stream
 abbrev pub is_until : Site → Bool
 is_until sites.Until = true
 is_until _ = false
@@ -60,20 +60,20 @@ abbrev pub is_stream : Site → Bool
 is_stream sites.Stream = true
 is_stream _ = false
 
--- What stands behind a part of an expression: a dot and a name; nothing, where the part is the whole expression; or
--- something else, or what it is an operand of.
+-- What follows a part of an expression: a dot and a name; nothing, if the part is the whole expression; or
+-- something else, which includes an operator of which the part is an operand.
 pub data Behind : Type 0 where
   Dot : List ℕ → Behind
   Nothing : Behind
   Other : Behind
 
--- `_io` needs `.size`, `.pos` or `.eof` behind it, or to be the whole of `io`
+-- `_io` must be followed by `.size`, `.pos` or `.eof`, or be the whole of `io`
 abbrev pub is_own_stream_fit : Position → Behind → Bool
 is_own_stream_fit p (Dot name) = bytes_eq name (codes "size") || p.in_sequence && has_place p.site && (bytes_eq name (codes "pos") || bytes_eq name (codes "eof"))
 is_own_stream_fit p Nothing = is_stream p.site
 is_own_stream_fit p Other = false
 
--- the stream of another object needs `.size` behind it, or to end the whole of `io`
+-- the stream of another object must be followed by `.size`, or end the whole of `io`
 abbrev pub is_stream_fit : Position → Behind → Bool
 is_stream_fit p (Dot name) = bytes_eq name (codes "size")
 is_stream_fit p Nothing = is_stream p.site
@@ -87,7 +87,7 @@ special_faults p b specials.Io = wrong_if (not (is_own_stream_fit p b)) LeftOut
 special_faults p b specials.Index = wrong_if (not (p.is_repeated && is_of_element p.site)) Unknown
 special_faults p b specials.Element = wrong_if (not (is_until p.site)) Unknown
 
--- and behind a dot
+-- and after a dot
 unfoldable pub special_field_faults : Position → Behind → SpecialName → List NameFault
 special_field_faults p b specials.Root = []
 special_field_faults p b specials.Parent = []
@@ -97,27 +97,27 @@ special_field_faults p b specials.Element = Unknown ∷ []
 
 -- ---- members of enums, casts, calls
 
--- the number that a path of an enum's member stands for, and its enum's
+-- the number of the enum of a path of an enum's member, and whether there is such a member
 unfoldable pub enum_at : Declared → ℕ → MemberPath → Option ℕ
 enum_at d n m = enum_named d.types d.enums n m.path
 
 unfoldable pub is_member : Declared → ℕ → MemberPath → Bool
 is_member d n m = is_some (option_and_then (λ e. number_of_id d.constants e m.name) (enum_at d n m))
 
--- a cast to a type of the language is left out
+-- a cast to a type of the language is unsupported
 unfoldable pub cast_faults : Declared → ℕ → TypePath → List NameFault
 cast_faults d n t =
     if is_some (built_in_at t.path) then LeftOut ∷ []
     else wrong_if (is_none (type_named d.types n t.path)) Unknown
 
--- the calls that there are: `.substring` of two, `.to_i` and `.to_s` of one argument
+-- the calls that exist: `.substring` with two arguments, `.to_i` and `.to_s` with one
 unfoldable pub is_call : List ℕ → ℕ → Bool
 is_call name n = bytes_eq name (codes "substring") && n == 2 || (bytes_eq name (codes "to_i") || bytes_eq name (codes "to_s")) && n == 1
 
 -- ---- expressions
 
 unfoldable mutual
-  -- the faults of a part in the type n, by what stands behind it
+  -- the faults of a part in the type n, by what follows it
   pub part_faults : Declared → ℕ → Position → Behind → Tree → List NameFault
   part_faults d n p b (literal c) = []
   part_faults d n p b (named w) = wrong_if (is_none (member_named d.members n w.text)) Unknown
@@ -142,7 +142,7 @@ unfoldable mutual
 unfoldable pub name_faults : Declared → ℕ → Position → Tree → List NameFault
 name_faults d n p e = part_faults d n p Nothing e
 
--- ---- the least of them: an unknown name comes before one that may not be used so
+-- ---- the least of them: an unknown name comes before one that may not be used in this way
 
 abbrev pub lesser : Option NameFault → NameFault → Option NameFault
 lesser None k = Some k

@@ -1,7 +1,7 @@
--- The numbers that the names of an expression are given.
+-- The numbers that the names of an expression get.
 --
--- A name's number is its place in the description's table of names, a type's its place among the types, a member's those of
--- its enum and of itself.
+-- A name's number is its place in the description's table of names. A type's number is its place among the types. An
+-- enum's member has the number of its enum and its own.
 use Rattle.std.specs.Prelude.{ℕ, if◌then◌else◌, ℤ, List, [], ◌∷◌, ◌++◌, Option, option_and_then, option_map}
 use Rattle.std.specs.List.{list_any, position_from}
 use Rattle.std.specs.Str.{bytes_eq}
@@ -21,7 +21,7 @@ numbered_word names w = record { text = w.text; number = number_in names w.text 
 abbrev pub numbered_type : Declared → ℕ → TypePath → TypePath
 numbered_type d n t = record { path = t.path; number = type_named d.types n t.path }
 
--- what a path of an enum's member stands for
+-- the numbers of an enum's member
 abbrev pub enum_member : ℕ → ℤ → EnumMember
 enum_member e number = record { enum_number = e; number = number }
 
@@ -32,7 +32,7 @@ abbrev pub numbered_member : Declared → ℕ → MemberPath → MemberPath
 numbered_member d n m = record { path = m.path; name = m.name; given = given_member d n m }
 
 unfoldable mutual
-  -- an expression that stands in the type n, with these names
+  -- an expression in the type n, with these names
   pub numbered : Declared → List (List ℕ) → ℕ → Tree → Tree
   numbered d names n (literal c) = literal c
   numbered d names n (named w) = named (numbered_word names w)

@@ -1,4 +1,4 @@
--- Laws: the least fault, tables of names, and expressions whose names lead somewhere.
+-- Laws: the least fault, tables of names, and expressions whose names are resolved.
 use Rattle.std.specs.Prelude.{◌≡◌, ℕ, ◌<◌, Bool, true, false, if◌then◌else◌, IsTrue, List, [], ◌∷◌, map, length, Option, Some, None, is_some, slice_get}
 use Rattle.std.specs.List.{list_all, list_any}
 use Rattle.ksv_expr_tree.specs.declared.tree.EnumMember.{EnumMember}
@@ -24,14 +24,14 @@ pub record IsTyped (d : Declared) (t : TypePath) : Type 0 where
   pub given : t.number ≡ Some number
   pub there : number < length d.types
 
--- an enum's member has the number that its enum says
+-- an enum's member has the number that its enum gives it
 pub record IsGiven (d : Declared) (m : MemberPath) : Type 0 where
   pub stands_for : EnumMember
   pub given : m.given ≡ Some stands_for
   pub number : number_of_id d.constants stands_for.enum_number m.name ≡ Some stands_for.number
 
 unfoldable mutual
-  -- the names, types and members of enums in an expression are so
+  -- it holds for the names, types and members of enums in an expression
   pub IsResolved : Declared → List (List ℕ) → Tree → Type 0
   IsResolved d names (literal c) = Unit {0}
   IsResolved d names (named w) = IsNamed names w
@@ -61,19 +61,19 @@ abbrev pub left_out_of : List NameFault → Option NameFault
 left_out_of [] = None
 left_out_of (k ∷ ks) = Some LeftOut
 
--- an unknown name where there is one, else one that may not be used so where there is any
+-- an unknown name if there is one; otherwise one that may not be used in this way, if there is one
 abbrev pub LeastIsTold : Type 0
 LeastIsTold = (ks : List NameFault) → least None ks ≡ (if list_any is_unknown ks then Some Unknown else left_out_of ks)
 
 -- ---- laws of expressions
 
--- An expression of which nothing is wrong leads somewhere with each name, once these are numbered by a table that has the
--- names of all members and those behind its dots.
+-- If nothing is wrong with an expression, all its names are resolved once they are numbered by a table that has the
+-- names of all members and those after its dots.
 abbrev pub FaultlessIsResolved : Type 0
 FaultlessIsResolved = (d : Declared) (names : List (List ℕ)) (n : ℕ) (p : Position) (e : Tree) →
     IsTrue (has_names names (map (λ m. m.name) d.members)) → IsTrue (has_names names (dotted e)) → name_faults d n p e ≡ [] → IsResolved d names (numbered d names n e)
 
--- the same of a type's arguments
+-- the same for a type's arguments
 abbrev pub FaultlessAreResolved : Type 0
 FaultlessAreResolved = (d : Declared) (names : List (List ℕ)) (n : ℕ) (p : Position) (es : Arguments) →
     IsTrue (has_names names (map (λ m. m.name) d.members)) → IsTrue (has_names names (all_dotted es)) → list_faults d n p es ≡ [] → AreResolved d names (all_numbered d names n es)

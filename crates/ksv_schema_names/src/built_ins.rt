@@ -15,14 +15,14 @@ pub enum BuiltIn {
         is_signed: bool,
         /// How many bytes it has: 1, 2, 4 or 8.
         size: u8,
-        /// The order of its bytes, where the name says it.
+        /// The order of its bytes, if the name has one.
         order: Option<ByteOrder>,
     },
     /// `str`
     Str,
     /// `strz`
     Strz,
-    /// A type that is left out: floating-point numbers, and integers of 1 to 64 bits.
+    /// An unsupported type: a floating-point number, or an integer of 1 to 64 bits.
     NotHere,
 }
 
@@ -38,7 +38,7 @@ pub fn built_in(name: &[u8]) -> Option<BuiltIn>
     }
 }
 
-/// The name of an integer: whether it has a sign, how many bytes it has, and their order, where the name says it.
+/// The name of an integer: whether it has a sign, how many bytes it has, and their order, if the name has one.
 struct IntegerName(&'static [u8], bool, u8, Option<ByteOrder>);
 
 /// The integers of the language.
@@ -65,7 +65,7 @@ static INTEGERS: [IntegerName; 20] = [
     IntegerName(b"s8be", true, 8, Some(ByteOrder::Big)),
 ];
 
-/// The integer of a name, where these have it.
+/// The integer of a name, if these have it.
 #[tactic(auto, unfolding(crate::specs::Code::type_among))]
 fn integer_among(integers: &[IntegerName], name: &[u8]) -> Option<BuiltIn>
     ensures { result ≡ type_among (map seen_integer integers.now) name.now }
@@ -121,7 +121,7 @@ fn is_bits(name: &[u8]) -> bool
     }
 }
 
-/// What stands before `le` or `be` at the end.
+/// What comes before `le` or `be` at the end.
 fn before_order(text: &[u8]) -> &[u8]
     ensures { result.now ≡ before_order text.now }
 {
@@ -148,7 +148,7 @@ fn is_width(text: &[u8]) -> bool
     }
 }
 
-/// The type of the language that the names of a path are, which is one of a single name.
+/// The type of the language that a path of names means: a path of one name.
 pub fn built_in_at(path: &[String]) -> Option<BuiltIn>
     ensures { result ≡ built_in_at (map string_bytes path.now) }
 {

@@ -11,7 +11,7 @@ use crate::position::{NameFault, Position, Site};
 use ksv_expr_tree::{Expr, Member, SpecialName, TypeName};
 use ksv_schema_scope::Scopes;
 
-/// What stands behind a part of an expression.
+/// What follows a part of an expression.
 #[derive(Clone, Copy)]
 enum Behind<'a> {
     /// A dot and this name.
@@ -74,7 +74,7 @@ fn is_stream(site: Site) -> bool
     matches!(site, Site::Stream)
 }
 
-/// Whether `_io` may stand here.
+/// Whether `_io` is allowed here.
 fn is_own_stream_fit(position: Position, behind: Behind) -> bool
     ensures { result ≡ is_own_stream_fit position (behind_of behind.entry) }
 {
@@ -89,7 +89,7 @@ fn is_own_stream_fit(position: Position, behind: Behind) -> bool
     }
 }
 
-/// Whether the stream of another object may stand here.
+/// Whether the stream of another object is allowed here.
 fn is_stream_fit(position: Position, behind: Behind) -> bool
     ensures { result ≡ is_stream_fit position (behind_of behind.entry) }
 {
@@ -127,7 +127,7 @@ fn note_special(
     }
 }
 
-/// A name of the language behind a dot.
+/// A name of the language after a dot.
 #[tactic(auto, using(crate::proofs::Noted::steps), unfolding(crate::specs::Names::special_field_faults))]
 fn note_special_field(
     found: &mut Option<NameFault>,
@@ -174,7 +174,7 @@ fn note_cast(found: &mut Option<NameFault>, scopes: &Scopes, within: usize, name
     }
 }
 
-/// Whether there is a call of a method with so many arguments.
+/// Whether there is a call of a method with this many arguments.
 #[tactic(auto, unfolding(crate::specs::Names::is_call))]
 fn is_call(method: &str, count: usize) -> bool
     ensures { result ≡ is_call method.now count }
@@ -258,7 +258,7 @@ fn note_list(
     }
 }
 
-/// What is wrong with the names of an expression that stands in a type: the least fault, or none.
+/// What is wrong with the names of an expression in a type: the least fault, or None.
 #[tactic(auto, unfolding(crate::specs::Names::name_faults, crate::specs::Code::faults_at))]
 pub fn name_fault(
     scopes: &Scopes,
@@ -273,7 +273,7 @@ pub fn name_fault(
     found
 }
 
-/// What is wrong with the names of a type's arguments: the least fault, or none.
+/// What is wrong with the names of a type's arguments: the least fault, or None.
 pub fn argument_fault(
     scopes: &Scopes,
     within: usize,

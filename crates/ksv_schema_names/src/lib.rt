@@ -1,7 +1,8 @@
-//! What an expression of a description may name where it stands, and the numbers that its names are given.
+//! What an expression of a description may name at its place, and the numbers that its names get.
 //!
-//! A bare name is a member of the type in which the expression stands; a type or an enum is looked for outwards from it.
-//! Some names of the language stand only at certain keys: [`Position`] says at which key an expression stands.
+//! A bare name is a member of the type that the expression is in; a type or an enum is looked up from that type
+//! outwards. Some names of the language are allowed only at certain keys: [`Position`] has the key of an
+//! expression.
 #![tactic(auto)]
 
 mod built_ins;

@@ -1,4 +1,4 @@
-//! The numbers of the names in an expression, given in place.
+//! The numbers of the names in an expression, set in place.
 
 ghost use Rattle.std.specs.Prelude.{◌≡◌, map, string_bytes};
 ghost use Rattle.ksv_expr_tree.specs.Tree.{view, view_type, name_of, path_of, member_of, arguments_of};
@@ -10,7 +10,7 @@ use ksv_desc::Names;
 use ksv_expr_tree::{EnumMember, Expr, Member, Name, TypeName};
 use ksv_schema_scope::Scopes;
 
-/// What the path of an enum's member stands for, where it is used in the type `within`.
+/// What the path of an enum's member means, where it is used in the type `within`.
 #[tactic(auto, unfolding(crate::specs::Numbered::given_member, crate::specs::Names::enum_at))]
 pub fn given_member(scopes: &Scopes, within: usize, member: &Member) -> Option<EnumMember>
     ensures { result ≡ given_member (declared scopes.now) within (member_of member.now) }
@@ -52,7 +52,7 @@ fn number_member(scopes: &Scopes, within: usize, member: &mut Member)
     member.given = given_member(scopes, within, member);
 }
 
-/// Gives each name of an expression its number, where the expression stands in the type `within`.
+/// Gives each name of an expression its number, for an expression in the type `within`.
 #[cycle(numbers)]
 pub fn number_expr(scopes: &Scopes, names: &Names, within: usize, expr: &mut Expr)
     ensures { view expr.new ≡ numbered (declared scopes.now) names.now within (view expr.old) }

@@ -1,6 +1,6 @@
-//! Where an expression stands, and what is wrong with a name in it.
+//! Where an expression is, and what is wrong with a name in it.
 
-/// The key at which an expression stands.
+/// The key of an expression.
 #[derive(Clone, Copy)]
 pub enum Site {
     /// `if`
@@ -25,7 +25,7 @@ pub enum Site {
     Case,
 }
 
-/// Where an expression stands.
+/// Where an expression is.
 #[derive(Clone, Copy)]
 pub struct Position {
     /// The key.
@@ -41,6 +41,6 @@ pub struct Position {
 pub enum NameFault {
     /// Nothing has this name here.
     Unknown,
-    /// The name may not be used so.
+    /// The name may not be used in this way.
     LeftOut,
 }

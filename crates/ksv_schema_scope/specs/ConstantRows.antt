@@ -1,4 +1,4 @@
--- What the rows of a list of all enums' entries are.
+-- The plain data of the rows of a list of all enums' entries.
 use Rattle.std.specs.Prelude.{◌≡◌, ℕ, Bool, true, cond, false, ◌==◌, ◌&&◌, ◌||◌, ℤ, List, map, take, Option, Some, slice_get}
 use Rattle.std.specs.HashSet.{HashSet}
 use Rattle.std.specs.List.{list_any}
@@ -13,7 +13,7 @@ use Rattle.ksv_schema_scope.specs.Enums.{Constant, is_number_again, is_id_again,
 abbrev pub constant_of : ConstantRow → Constant
 constant_of c = record { within = c.within; line = c.line; key = c.key.now; value = view c.value.now }
 
--- each row says whether its number, and its id, were given before in the same enum
+-- each row has a mark whether its number, and its id, were given before in the same enum
 pub record AreMarked (cs : List ConstantRow) : Type 0 where
   pub numbers : (i : ℕ) (c : ConstantRow) → slice_get cs i ≡ Some c → c.is_number_again ≡ is_number_again (take i (map constant_of cs)) (constant_of c)
   pub ids : (i : ℕ) (c : ConstantRow) → slice_get cs i ≡ Some c → c.is_id_again ≡ is_id_again (take i (map constant_of cs)) (constant_of c)
@@ -27,14 +27,14 @@ has_number set e n = list_any (λ y. (e == y.0) && int_eq n y.1) set.keys
 abbrev pub has_id : {S : Type 0} → HashSet (ℕ × Bor (List ℕ)) S → ℕ → List ℕ → Bool
 has_id set e id = list_any (λ y. (e == y.0) && bytes_eq id y.1.now) set.keys
 
--- a set has one number more, or one id
+-- a set has one number more, or one id more
 pub record GivesNumber {S : Type 0} (old new : HashSet (ℕ × ℤ) S) (within : ℕ) (number : ℤ) : Type 0 where
   pub given : (e : ℕ) (n : ℤ) → has_number new e n ≡ cond ((within == e) && int_eq number n) true (has_number old e n)
 
 pub record GivesId {S : Type 0} (old new : HashSet (ℕ × Bor (List ℕ)) S) (within : ℕ) (id : List ℕ) : Type 0 where
   pub given : (e : ℕ) (name : List ℕ) → has_id new e name ≡ cond ((within == e) && bytes_eq id name) true (has_id old e name)
 
--- the same, where there is a number or an id
+-- the same, if there is a number or an id
 abbrev pub test_number : ℕ → Option ℤ → ℕ → ℤ → Bool
 test_number within number e n = (within == e) && option_map_or (λ m. int_eq m n) number false
 

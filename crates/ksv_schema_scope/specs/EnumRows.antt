@@ -1,4 +1,4 @@
--- What the rows of the code's table of enums are.
+-- The plain data of the rows of the code's table of enums.
 use Rattle.ksv_yaml_tree.specs.View.{view}
 use Rattle.ksv_schema_scope.specs.declared.enumeration.Enumeration.{Enumeration as EnumRow}
 use Rattle.ksv_schema_scope.specs.Enums.{Enumeration}

@@ -1,4 +1,4 @@
--- The enums of all types, and what their numbers stand for.
+-- The enums of all types, and the ids of their numbers.
 use Rattle.std.specs.Prelude.{ℕ, ◌+◌, Bool, false, if◌then◌else◌, ◌&&◌, ◌==◌, ℤ, List, [], ◌∷◌, ◌++◌, map, flat_map, find, codes, Option, Some, None, option_and_then, unwrap_or}
 use Rattle.std.specs.List.{position_from, list_any}
 use Rattle.std.specs.Option.{option_map_or}
@@ -11,14 +11,14 @@ use Rattle.ksv_schema_scope.specs.declared.numeral.Numeral.TheVariants.{Whole, L
 use Rattle.ksv_schema_scope.specs.Numerals.{signed_number}
 use Rattle.ksv_schema_scope.specs.Types.{Scope, keys_of, from, outwards, nearest_type, type_in}
 
--- an enum of the type `within`: the line of its name, the name, and what it says
+-- an enum of the type `within`: the line of its name, the name, and its value
 pub record Enumeration : Type 0 where
   pub within : ℕ
   pub line : ℕ
   pub id : List ℕ
   pub value : Tree
 
--- an entry of the enum `within`: its line, its key and what it says
+-- an entry of the enum `within`: its line, its key and its value
 pub record Constant : Type 0 where
   pub within : ℕ
   pub line : ℕ
@@ -58,13 +58,13 @@ constants_of enums = constants_from 0 enums
 
 -- ---- numbers and names of an enum's entries
 
--- the number of a numeral that is one
+-- the number of a numeral, if it has one
 abbrev pub whole_of : Numeral → Option ℤ
 whole_of (Whole n) = Some n
 whole_of LeadingZero = None
 whole_of NoNumeral = None
 
--- the number that an entry's key writes
+-- the number that an entry's key is
 unfoldable pub number_written : List ℕ → Option ℤ
 number_written key = whole_of (signed_number key)
 
@@ -89,7 +89,7 @@ id_of_number constants e n = option_and_then (λ c. id_of c.value) (find (is_num
 unfoldable pub number_of_id : List Constant → ℕ → List ℕ → Option ℤ
 number_of_id constants e id = option_and_then number_of (find (is_named e id) constants)
 
--- whether one of the entries before it in the same enum has the number of an entry, and its id
+-- whether an earlier entry of the same enum has the number of an entry, and its id
 unfoldable pub is_number_again : List Constant → Constant → Bool
 is_number_again before c = option_map_or (λ n. list_any (is_numbered c.within n) before) (number_of c) false
 
@@ -108,7 +108,7 @@ enum_along types enums n [] = None
 enum_along types enums n (name ∷ []) = enum_in enums name n
 enum_along types enums n (name ∷ next ∷ names) = option_and_then (λ m. enum_along types enums m (next ∷ names)) (type_in types name n)
 
--- the enum that a path of names is where it is used in the type n
+-- the enum that a path of names means where it is used in the type n
 unfoldable pub enum_named : List Scope → List Enumeration → ℕ → List (List ℕ) → Option ℕ
 enum_named types enums n [] = None
 enum_named types enums n (name ∷ []) = outwards (enum_in enums name) (from types n)

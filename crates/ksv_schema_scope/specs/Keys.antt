@@ -1,10 +1,10 @@
--- What a mapping says at its keys.
+-- What a mapping has at its keys.
 use Rattle.std.specs.Prelude.{List, ℕ, Bool, [], Option, option_and_then, unwrap_or, is_some}
 use Rattle.std.specs.Option.{option_map_or}
 use Rattle.std.specs.Str.{bytes_eq}
 use Rattle.ksv_yaml_tree.specs.Tree.{Tree, Pair, text_of, mapping_of, list_of, entry_at}
 
--- the entries of a node; none where it is no mapping
+-- the entries of a node; none if it is no mapping
 abbrev pub entries_in : Tree → List Pair
 entries_in t = unwrap_or (mapping_of t) []
 

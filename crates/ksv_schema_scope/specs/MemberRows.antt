@@ -1,4 +1,4 @@
--- What the rows of the code's table of members are.
+-- The plain data of the rows of the code's table of members.
 use Rattle.std.specs.Prelude.{◌≡◌, ◌<◌, ◌≤◌, List, ℕ, length, slice_index_or, string_bytes}
 use Rattle.ksv_yaml_tree.specs.View.{view}
 use Rattle.ksv_schema_scope.specs.declared.member.Member.{Member as MemberRow}

@@ -8,7 +8,7 @@ use Rattle.ksv_schema_scope.specs.declared.member.Role.TheVariants.{Parameter, A
 use Rattle.ksv_schema_scope.specs.Keys.{entries_in, text_at}
 use Rattle.ksv_schema_scope.specs.Types.{Scope, keys_of}
 
--- a member of the type `within`: its first line (of an instance that of its name), its name and what it says
+-- a member of the type `within`: its first line (for an instance, the line of its name), its name and its value
 pub record Member : Type 0 where
   pub within : ℕ
   pub role : Role
@@ -28,7 +28,7 @@ unnamed k = codes "_unnamed" ++ decimal k
 abbrev pub attribute : ℕ → ℕ → Tree → Member
 attribute n k t = record { within = n; role = Attribute; line = line_of t; name = unwrap_or (text_at (codes "id") (entries_in t)) (unnamed k); value = t }
 
--- the attributes of a `seq`, of which the first has the number k
+-- the attributes of a `seq`, the first of which has the number k
 abbrev pub attributes_from : ℕ → ℕ → List Tree → List Member
 attributes_from n k [] = []
 attributes_from n k (t ∷ ts) = attribute n k t ∷ attributes_from n (k + 1) ts

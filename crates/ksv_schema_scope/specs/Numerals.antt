@@ -1,4 +1,4 @@
--- Plain numbers: decimal, or hexadecimal behind `0x`; where a sign may stand, `-` before a decimal.
+-- Plain numbers: decimal, or hexadecimal after `0x`; where a sign is allowed, `-` before a decimal.
 use Rattle.std.specs.Prelude.{ℕ, ◌^◌, ◌-◌, Bool, false, nat_lt, nat_le, ◌==◌, ◌&&◌, if◌then◌else◌, pos, neg_ℤ, List, [], ◌∷◌, length, drop, slice_index}
 use Rattle.std.specs.List.{list_all}
 use Rattle.std.specs.Char.{digit_value}
@@ -34,7 +34,7 @@ hexadecimal_to most cs = if is_numeral 16 cs then whole_to most (digits_value 16
 unfoldable pub plain_number : ℕ → List ℕ → Numeral
 plain_number most cs = if slice_index cs 0 == 48 && slice_index cs 1 == 120 then hexadecimal_to most (drop 2 cs) else decimal_to most cs
 
--- the opposite of a number
+-- the negative of a number
 abbrev pub opposite : Numeral → Numeral
 opposite (Whole n) = Whole (neg_ℤ n)
 opposite LeadingZero = LeadingZero

@@ -7,7 +7,7 @@ use Rattle.ksv_schema_scope.specs.Rows.{scopes_of, AreOrdered}
 use Rattle.ksv_schema_scope.specs.MemberRows.{member_of}
 use Rattle.ksv_schema_scope.specs.EnumRows.{enumeration_of}
 
--- the table is seen as the tree that it was made of
+-- contracts see the table as the tree that it was made of
 abbrev pub tree_of : Inside → Yaml
 tree_of s = s.tree.now
 

@@ -1,7 +1,8 @@
--- The types of a description in the order of the text, and names that are looked for outwards.
+-- The types of a description in the order of the text, and names that are looked up from a type outwards.
 --
--- A name is looked for in the type where it is used, then in the types around it, from the nearest on; the root is also
--- found by its own id, last. `a::b` is `b` in the type that is found so for `a`. Byte order and encoding are inherited.
+-- A name is looked up in the type where it is used, then in the types around it, the nearest first; the root is
+-- also found by its own id, last. `a::b` is `b` in the type that is found in this way for `a`. Byte order and
+-- encoding are inherited.
 use Rattle.std.specs.Prelude.{ℕ, ◌+◌, Bool, false, if◌then◌else◌, ◌&&◌, ◌==◌, List, [], ◌∷◌, ◌++◌, length, codes, Option, Some, None, option_and_then, unwrap_or, slice_get}
 use Rattle.std.specs.List.{position_from}
 use Rattle.std.specs.Option.{option_map_or}
@@ -11,8 +12,8 @@ use Rattle.ksv_desc.specs.declared.order.ByteOrder.{ByteOrder}
 use Rattle.ksv_desc.specs.declared.order.ByteOrder.TheVariants as orders
 use Rattle.ksv_schema_scope.specs.Keys.{entries_in, entries_at, text_at}
 
--- A type: the line of its name and the name (of the root its first line and its id), the numbers of the types around it,
--- from the nearest on, and what it says.
+-- A type: the line of its name and the name (for the root, its first line and its id), the numbers of the types
+-- around it, the nearest first, and its value.
 pub record Scope : Type 0 where
   pub line : ℕ
   pub id : List ℕ
@@ -21,7 +22,7 @@ pub record Scope : Type 0 where
 
 -- ---- all types, of which the root's number is 0
 
--- the types within a type, of which the first has the number n
+-- the types within a type, the first of which has the number n
 abbrev mutual
   pub types_within : List ℕ → ℕ → Tree → List Scope
   types_within around n (Text _ _ _) = []
@@ -57,7 +58,7 @@ types_of t = root_scope t ∷ types_within (0 ∷ []) 1 t
 
 -- ---- looking outwards
 
--- what a type says at its keys
+-- the keys of a type
 abbrev pub keys_of : Scope → List Pair
 keys_of s = entries_in s.value
 
@@ -69,7 +70,7 @@ keys_of_type types n = option_map_or keys_of (slice_get types n) []
 abbrev pub from : List Scope → ℕ → List ℕ
 from types n = n ∷ option_map_or (λ s. s.around) (slice_get types n) []
 
--- the first thing that is found, at the nearest of these types
+-- the first thing that is found, in the nearest of these types
 abbrev pub outwards : {A : Type 0} → (ℕ → Option A) → List ℕ → Option A
 outwards f [] = None
 outwards f (n ∷ ns) = option_map_or Some (f n) (outwards f ns)
@@ -99,7 +100,7 @@ abbrev pub type_along : List Scope → ℕ → List (List ℕ) → Option ℕ
 type_along types n [] = Some n
 type_along types n (name ∷ names) = option_and_then (λ m. type_along types m names) (type_in types name n)
 
--- the type that a path of names is where it is used in the type n
+-- the type that a path of names means where it is used in the type n
 unfoldable pub type_named : List Scope → ℕ → List (List ℕ) → Option ℕ
 type_named types n [] = None
 type_named types n (name ∷ names) = option_and_then (λ m. type_along types m names) (nearest_type types n name)

@@ -1,4 +1,4 @@
-//! The entries of enums: numbers, and what they stand for.
+//! The entries of enums: numbers with their ids.
 
 ghost use Rattle.std.specs.Prelude.{◌≡◌, map, find, option_and_then, false, [], slice_get};
 ghost use Rattle.ksv_schema_scope.specs.Keys.{entries_in};
@@ -13,7 +13,7 @@ use crate::keys::{entries_in, text_at};
 use crate::numeral::{Numeral, signed_number};
 use ksv_yaml_tree::{Entry, Yaml};
 
-/// The number that a key of an enum writes.
+/// The number that a key of an enum is.
 #[tactic(auto, unfolding(crate::specs::Enums::number_written))]
 pub fn number_written(key: &[u8]) -> Option<i128>
     ensures { result ≡ number_written key.now }
@@ -25,7 +25,7 @@ pub fn number_written(key: &[u8]) -> Option<i128>
     }
 }
 
-/// What an entry of an enum stands for: its text, or the text at `id` of its mapping.
+/// The id of an entry of an enum: its text, or the text at `id` of its mapping.
 #[tactic(auto, unfolding(crate::specs::Enums::id_of))]
 pub fn id_of(value: &Yaml) -> Option<&[u8]>
     ensures { seen_text result ≡ id_of (view value.now) }

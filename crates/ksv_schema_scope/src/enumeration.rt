@@ -8,21 +8,21 @@ ghost use Rattle.ksv_schema_scope.specs.EnumRows.{enumeration_of};
 use crate::keys::entries_in;
 use ksv_yaml_tree::{Entry, Yaml};
 
-/// An enum: the type in which it stands, its name with the name's line, and what it says.
+/// An enum: the type it is in, its name with the name's line, and its value.
 #[derive(Clone, Copy)]
 pub struct Enumeration<'a> {
-    /// The number of the type in which it stands.
+    /// The number of the type it is in.
     pub within: usize,
     /// The line of its name.
     pub line: usize,
     /// Its name.
     pub id: &'a [u8],
-    /// What it says.
+    /// Its value.
     pub value: &'a Yaml,
 }
 
 impl<'a> Enumeration<'a> {
-    /// Its entries, each a number with what it stands for.
+    /// Its entries, each a number with its id.
     pub fn entries(&self) -> &'a [Entry]
         ensures { map pair result.now ≡ entries_in (enumeration_of self.now).value }
     {

@@ -85,14 +85,14 @@ pub(crate) fn collect<'a>(
     Ok(enums)
 }
 
-/// Whether an enum stands directly within the type `n` and has this name.
+/// Whether an enum is directly within the type `n` and has this name.
 fn is_named(enumeration: &Enumeration, n: usize, name: &[u8]) -> bool
     ensures { result ≡ ((enumeration.now.within == n) && bytes_eq enumeration.now.id.now name.now) }
 {
     enumeration.within == n && enumeration.id == name
 }
 
-/// The first of the enums that stand directly within the type `n` and have this name.
+/// The first of the enums that are directly within the type `n` and have this name.
 fn first_named(enums: &[Enumeration], name: &[u8], n: usize) -> Option<usize>
     ensures value { result ≡ position_from (λ x. (x.within == n) && bytes_eq x.id.now name.now) 0 enums.now }
     ensures inside { IfSome result (λ k. k < length enums.now) }

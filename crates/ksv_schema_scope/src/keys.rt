@@ -1,4 +1,4 @@
-//! What a mapping says at its keys.
+//! What a mapping has at its keys.
 
 ghost use Rattle.std.specs.Prelude.{◌≡◌, [], map, unwrap_or};
 ghost use Rattle.ksv_yaml_tree.specs.Tree.{list_of};
@@ -7,7 +7,7 @@ ghost use Rattle.ksv_schema_scope.specs.Keys.{entries_in, entries_at, items_at, 
 
 use ksv_yaml_tree::{Entry, Yaml, find};
 
-/// The entries of a mapping; none of another node.
+/// The entries of a mapping; none for another node.
 pub fn entries_in(node: &Yaml) -> &[Entry]
     ensures { map pair result.now ≡ entries_in (view node.now) }
 {
@@ -17,7 +17,7 @@ pub fn entries_in(node: &Yaml) -> &[Entry]
     }
 }
 
-/// The items of a sequence; none of another node.
+/// The items of a sequence; none for another node.
 pub fn items_in(node: &Yaml) -> &[Yaml]
     ensures { map view result.now ≡ unwrap_or (list_of (view node.now)) [] }
 {

@@ -1,7 +1,8 @@
-//! The types, members and enums of a description's tree, each as a flat list in the order of the text, and names looked for outwards.
+//! The types, members and enums of a description's tree, each as a flat list in the order of the text, and the
+//! lookup of names from a type outwards.
 //!
-//! A name is looked for in the type where it is used and then in the types around it, from the nearest on; the byte order
-//! and the encoding in force are found in the same way.
+//! A name is looked up in the type where it is used and then in the types around it, the nearest first; the byte
+//! order and the encoding in force are found in the same way.
 #![tactic(auto)]
 
 mod constant;

@@ -14,7 +14,7 @@ use ksv_yaml_tree::{Entry, Yaml};
 use std::alloc::{AllocError, Global};
 use std::collections::HashSet;
 
-/// Whether a number was given before in the enum `within`; from now on it is given.
+/// Whether a number was given before in the enum `within`; afterwards it is given.
 fn give_number(
     numbers: &mut HashSet<(usize, i128)>,
     within: usize,
@@ -27,7 +27,7 @@ fn give_number(
     Ok(!is_new)
 }
 
-/// Whether an id was given before in the enum `within`; from now on it is given.
+/// Whether an id was given before in the enum `within`; afterwards it is given.
 fn give_id<'a>(
     ids: &mut HashSet<(usize, &'a [u8])>,
     within: usize,
@@ -93,7 +93,7 @@ impl<'a> Listing<'a> {
         }
     }
 
-    /// One entry more.
+    /// Adds one entry.
     fn add(&mut self, within: usize, entry: &'a Entry) -> Result<(), AllocError>
         ensures more { OnOk result (map constant_of self.new.constants.items ≡ map constant_of self.old.constants.items ++ constant within (pair entry.now) ∷ []) }
         ensures right { OnOk result (IsListing self.old.constants.items self.old.numbers self.old.ids → IsListing self.new.constants.items self.new.numbers self.new.ids) }
@@ -113,7 +113,7 @@ impl<'a> Listing<'a> {
         Ok(())
     }
 
-    /// The entries of the enum `within` more.
+    /// Adds the entries of the enum `within`.
     fn add_all(&mut self, within: usize, entries: &'a [Entry]) -> Result<(), AllocError>
         ensures more { OnOk result (map constant_of self.new.constants.items ≡ map constant_of self.old.constants.items ++ map (constant within) (map pair entries.now)) }
         ensures right { OnOk result (IsListing self.old.constants.items self.old.numbers self.old.ids → IsListing self.new.constants.items self.new.numbers self.new.ids) }

@@ -5,7 +5,7 @@ ghost use Rattle.ksv_schema_scope.specs.MemberRows.{member_of};
 
 use ksv_yaml_tree::Yaml;
 
-/// Where a member stands.
+/// Which key of its type a member is in.
 #[derive(Clone, Copy, Debug)]
 pub enum Role {
     /// In `params`.
@@ -30,12 +30,12 @@ pub(crate) enum MemberName<'a> {
 pub struct Member<'a> {
     /// The number of the type whose member it is.
     pub within: usize,
-    /// Where it stands.
+    /// Which key it is in.
     pub role: Role,
-    /// Its first line; of an instance that of its name.
+    /// Its first line; for an instance, the line of its name.
     pub line: usize,
     pub(crate) name: MemberName<'a>,
-    /// What it says.
+    /// Its value.
     pub value: &'a Yaml,
 }
 

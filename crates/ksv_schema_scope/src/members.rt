@@ -168,7 +168,7 @@ pub(crate) fn collect<'a>(
     Ok(members)
 }
 
-/// The number of the first member that stands in no type before the type `n`.
+/// The number of the first member that isn't in a type before the type `n`.
 fn first_of(members: &[Member], n: usize) -> usize
     requires { IsNonDecreasingBy (λ m. m.within) members.now }
     ensures bound { result ≤ length members.now }
@@ -177,7 +177,7 @@ fn first_of(members: &[Member], n: usize) -> usize
     members.partition_point(|member| member.within < n)
 }
 
-/// The number of the first member that stands in a type past the type `n`.
+/// The number of the first member that is in a type after the type `n`.
 fn past(members: &[Member], n: usize) -> usize
     requires { IsNonDecreasingBy (λ m. m.within) members.now }
     ensures bound { result ≤ length members.now }
@@ -186,7 +186,7 @@ fn past(members: &[Member], n: usize) -> usize
     members.partition_point(|member| member.within <= n)
 }
 
-/// The numbers of the members of the type `n`: the first one, and the one behind the last.
+/// The numbers of the members of the type `n`: the first one, and the one after the last.
 pub(crate) fn range_of(members: &[Member], n: usize) -> (usize, usize)
     requires { IsNonDecreasingBy (λ m. m.within) members.now }
     ensures { IsRange n members.now result.0 result.1 }
@@ -202,7 +202,7 @@ pub(crate) fn first_named(members: &[Member], name: &[u8]) -> Option<usize>
     members.iter().position(|member| member.name() == name)
 }
 
-/// Whether a member stands in `params`.
+/// Whether a member is in `params`.
 fn is_parameter(member: &Member) -> bool
     ensures { result ≡ is_in_params member.now.role }
 {

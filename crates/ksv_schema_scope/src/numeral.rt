@@ -4,24 +4,24 @@ ghost use Rattle.std.specs.Prelude.{◌≡◌, ◌≤◌, ◌^◌, min, IsTrue, 
 ghost use Rattle.std.specs.Str.Parse.{digits_value};
 ghost use Rattle.ksv_schema_scope.specs.Numerals.{is_numeral, decimal_to, hexadecimal_to, opposite, plain_number, signed_number};
 
-/// What a text says where a plain number is wanted.
+/// What a text means where a plain number is wanted.
 #[derive(Clone, Copy, Debug)]
 pub enum Numeral {
     /// A number.
     Whole(i128),
-    /// A decimal with a leading zero, which is left out.
+    /// A decimal with a leading zero, which is unsupported.
     LeadingZero,
     /// No plain number, or one outside the range.
     NoNumeral,
 }
 
-/// Past every number of a description.
+/// A bound above every number of a description.
 const LIMIT: u128 = 0x1_0000_0000_0000_0000;
 
 /// The lowest number of a description, without its sign.
 const LOWEST: u64 = 0x8000_0000_0000_0000;
 
-/// What digits are worth, or the limit where that is more.
+/// The number of some digits, at most the limit.
 fn worth(digits: &[u8], radix: u32) -> Option<u128>
     requires lower { 2 ≤ radix }
     requires upper { radix ≤ 36 }
@@ -38,7 +38,7 @@ fn worth(digits: &[u8], radix: u32) -> Option<u128>
     Some(number)
 }
 
-/// Whether a decimal has a zero in front.
+/// Whether a decimal has a leading zero.
 fn has_leading_zero(digits: &[u8]) -> bool
     ensures { result ≡ (slice_index digits.now 0 == 48 && nat_lt 1 (length digits.now)) }
 {
@@ -63,7 +63,7 @@ fn decimal_to(most: u64, digits: &[u8]) -> Numeral
     }
 }
 
-/// The opposite of a decimal of at most `most`.
+/// The negative of a decimal of at most `most`.
 fn negative_to(most: u64, digits: &[u8]) -> Numeral
     ensures { result ≡ opposite (decimal_to most digits.now) }
 {
@@ -97,7 +97,7 @@ fn hexadecimal_to(most: u64, digits: &[u8]) -> Numeral
     }
 }
 
-/// A plain number of at most `most`: decimal, or hexadecimal behind `0x`.
+/// A plain number of at most `most`: decimal, or hexadecimal after `0x`.
 #[tactic(auto, unfolding(crate::specs::Numerals::plain_number))]
 pub fn plain_number(most: u64, text: &[u8]) -> Numeral
     ensures { result ≡ plain_number most text.now }
@@ -108,7 +108,7 @@ pub fn plain_number(most: u64, text: &[u8]) -> Numeral
     }
 }
 
-/// A number from -2^63 to 2^64 - 1: a plain number, or a decimal behind `-`.
+/// A number from -2^63 to 2^64 - 1: a plain number, or a decimal after `-`.
 #[tactic(auto, unfolding(crate::specs::Numerals::signed_number))]
 pub fn signed_number(text: &[u8]) -> Numeral
     ensures { result ≡ signed_number text.now }

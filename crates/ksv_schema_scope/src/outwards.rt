@@ -1,4 +1,4 @@
-//! Names that are looked for in the table of types, and byte order and encoding in force.
+//! Names that are looked up in the table of types, and byte order and encoding in force.
 
 ghost use Rattle.std.specs.Prelude.{◌≡◌, ◌<◌, map, string_bytes, slice_get, length, IfSome};
 ghost use Rattle.std.specs.List.{position_from};
@@ -25,7 +25,7 @@ pub(crate) fn outer_of(types: &[TypeRow], n: usize) -> Option<usize>
     row(types, n)?.outer
 }
 
-/// Whether a row stands directly within the type `n` and has this name.
+/// Whether a row is directly within the type `n` and has this name.
 fn is_row_named(row: &TypeRow, n: usize, name: &[u8]) -> bool
     ensures { result ≡ is_row_named n name.now row.now }
 {
@@ -35,7 +35,7 @@ fn is_row_named(row: &TypeRow, n: usize, name: &[u8]) -> bool
     }
 }
 
-/// The first of the rows that stand directly within the type `n` and have this name.
+/// The first of the rows that are directly within the type `n` and have this name.
 fn first_named(types: &[TypeRow], name: &[u8], n: usize) -> Option<usize>
     ensures value { result ≡ position_from (is_row_named n name.now) 0 types.now }
     ensures inside { IfSome result (λ k. k < length types.now) }

@@ -2,7 +2,8 @@
 
 use ksv_yaml_tree::Yaml;
 
-/// A type: the line of its name and the name (of the root its first line and its id), the number of the type around it, and what it says.
+/// A type: the line of its name and the name (for the root, its first line and its id), the number of the type
+/// around it, and its value.
 #[derive(Clone, Copy)]
 pub(crate) struct TypeRow<'a> {
     pub(crate) line: usize,

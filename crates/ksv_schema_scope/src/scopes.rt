@@ -25,12 +25,13 @@ use ksv_yaml_tree::{Entry, Yaml};
 use std::alloc::{AllocError, Global};
 use std::marker::Model;
 
-/// The most types, and the most enums, for which there is room.
+/// How many types, and how many enums, there is room for.
 const LIMIT: usize = 0x1_0000_0000;
 
 /// The types, members and enums that a tree declares, each numbered from 0 in the order of the text.
 ///
-/// It is made once and read then; [`Scopes::constants`] aside, that takes no memory. A number that nothing has gives nothing.
+/// It is made once and then only read. Of the readers only [`Scopes::constants`] takes memory. An unused number
+/// gives nothing.
 #[derive(Drop)]
 pub struct Scopes<'a> {
     tree: &'a Yaml,
@@ -89,7 +90,7 @@ impl<'a> Scopes<'a> {
         self.types.len()
     }
 
-    /// The line of a type's name; of the root its first line.
+    /// The line of a type's name; for the root, its first line.
     #[tactic(auto, using(crate::proofs::Around::line_here, crate::proofs::Around::line_past))]
     pub fn line_of_type(&self, n: usize) -> Option<usize>
         ensures { result ≡ option_map (λ s. s.line) (slice_get (declared self.now).types n) }
@@ -97,7 +98,7 @@ impl<'a> Scopes<'a> {
         Some(row(&self.types, n)?.line)
     }
 
-    /// A type's name; of the root its own id.
+    /// A type's name; for the root, its own id.
     #[tactic(auto, using(crate::proofs::Around::id_here, crate::proofs::Around::id_past))]
     pub fn id_of_type(&self, n: usize) -> Option<&'a [u8]>
         ensures { seen_text result ≡ option_map (λ s. s.id) (slice_get (declared self.now).types n) }
@@ -105,7 +106,7 @@ impl<'a> Scopes<'a> {
         Some(row(&self.types, n)?.id)
     }
 
-    /// What a type says.
+    /// The value of a type.
     #[tactic(auto, using(crate::proofs::Around::value_here, crate::proofs::Around::value_past))]
     pub fn value_of_type(&self, n: usize) -> Option<&'a Yaml>
         ensures { seen_node result ≡ option_map (λ s. s.value) (slice_get (declared self.now).types n) }
@@ -120,7 +121,7 @@ impl<'a> Scopes<'a> {
         keys_of_type(&self.types, n)
     }
 
-    /// The type that a path of names is where it is used in the type `n`.
+    /// The type that a path of names means where it is used in the type `n`.
     #[tactic(auto, unfolding(crate::specs::Types::type_named))]
     pub fn type_named(&self, n: usize, path: &[String]) -> Option<usize>
         ensures value { result ≡ type_named (declared self.now).types n (map string_bytes path.now) }
@@ -187,7 +188,7 @@ impl<'a> Scopes<'a> {
         self.enums.as_slice()
     }
 
-    /// The enum that a path of names is where it is used in the type `n`.
+    /// The enum that a path of names means where it is used in the type `n`.
     #[tactic(auto, unfolding(crate::specs::Enums::enum_named))]
     pub fn enum_named(&self, n: usize, path: &[String]) -> Option<usize>
         ensures value { result ≡ enum_named (declared self.now).types (declared self.now).enums n (map string_bytes path.now) }
@@ -203,9 +204,10 @@ impl<'a> Scopes<'a> {
         }
     }
 
-    /// The entries of all enums, with a mark on each whose number, or whose id, an entry before it in the same enum has.
+    /// The entries of all enums, with a mark on each whose number or id an earlier entry of the same enum has.
     ///
-    /// This alone of the readers takes memory: what was given is kept in sets, so that it takes no search.
+    /// This is the only reader that takes memory: the numbers and ids so far are kept in sets, so that no search is
+    /// needed.
     pub fn constants(&self, alloc: Global) -> Result<Vec<Constant<'a>>, AllocError>
         ensures rows { IfOk result (λ v. map constant_of v.items ≡ (declared self.now).constants) }
         ensures marked { IfOk result (λ v. AreMarked v.items) }

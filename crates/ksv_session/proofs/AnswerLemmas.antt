@@ -3,13 +3,13 @@ use Rattle.std.proofs.Common.{◌≡◌, ◌∙◌, ◌+◌, ◌<◌, ℕ, Bool,
 use Rattle.std.specs.Prelude.{IsTrue}
 use Rattle.std.proofs.lemmas.Bool.Decides.{eqb_tells}
 use Rattle.std.proofs.lemmas.List.{append-nil, drop_more, take-append-drop, take_more}
-use Rattle.ksv_session.specs.Answered.{Answered, Wrote}
+use Rattle.ksv_session.specs.Code.{Answered, Fed, Stands, Wrote}
 use Rattle.ksv_session.specs.Commands.{command_of}
 use Rattle.ksv_desc.specs.Description.{Description}
 use Rattle.ksv_session.specs.Explored.{Explored, description_of}
 use Rattle.ksv_lines.specs.Lines.{is_line_end, lines_of}
 use Rattle.ksv_session.specs.Replies.{Answer, Event, answer, is_fair, may_be_refused}
-use Rattle.ksv_session.specs.Runs.{Breaks, Fed, Serves, Stands}
+use Rattle.ksv_session.specs.Runs.{Breaks, Serves}
 use Rattle.ksv_session.specs.Seen.{answer_seen, is_refusal}
 use Rattle.ksv_lines.specs.declared.device.Failed.{Failed}
 use Rattle.ksv_session.specs.declared.reply.Reply.{Reply}

@@ -13,7 +13,7 @@ use Rattle.ksv_rules.specs.Described.{described}
 use Rattle.ksv_rules.specs.Direct.{flattened}
 use Rattle.ksv_rules.proofs.Direct.{answers_are_direct}
 use Rattle.ksv_desc.specs.Description.{Description}
-use Rattle.ksv_session.specs.Asked.{plain_answer}
+use Rattle.ksv_session.specs.Code.{plain_answer}
 use Rattle.ksv_session.specs.Questions.{answered}
 
 plain : (outcome : Outcome Node (Result Given Fault)) → plain_answer (answer_of outcome) ≡ flattened outcome

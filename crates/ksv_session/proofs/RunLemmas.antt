@@ -9,7 +9,8 @@ use Rattle.ksv_session.specs.Commands.{command_of}
 use Rattle.ksv_desc.specs.Description.{Description}
 use Rattle.ksv_lines.specs.Lines.{is_line_end, lines_of}
 use Rattle.ksv_session.specs.Replies.{Answer, Event, answer, answer_to, is_fair, may_be_refused, no_memory_text, said}
-use Rattle.ksv_session.specs.Runs.{Breaks, Serves, Stands, Stops}
+use Rattle.ksv_session.specs.Code.{Stands}
+use Rattle.ksv_session.specs.Runs.{Breaks, Serves, Stops}
 use Rattle.ksv_session.specs.Session.{Standing, after_event, answered, begun, lines_in, session}
 use Rattle.ksv_lines.proofs.CutLemmas.{split_at, split_more}
 

@@ -1,9 +1,9 @@
--- Command lines: each is nothing, one command with its values, or a refusal. Checks stand in their order: the
--- length of the line, the command's name, the number of words, the arguments from left to right.
+-- Command lines: each is nothing, one command with its values, or a refusal. Checks are in their order: the length
+-- of the line, the command's name, the number of words, the arguments from left to right.
 use Rattle.std.specs.Prelude.{ℕ, Bool, true, false, ◌==◌, nat_lt, List, [], ◌∷◌, length, codes, slice_index, Option, Some, None, if◌then◌else◌}
 use Rattle.std.specs.Str.{bytes_eq}
 use Rattle.ksv_lines.specs.Digits.{bytes_of}
-use Rattle.ksv_lines.specs.Lines.{without_carriage_return, words_of}
+use Rattle.ksv_lines.specs.Lines.{line_limit, without_carriage_return, words_of}
 use Rattle.ksv_desc.specs.Description.{Description}
 use Rattle.ksv_session.specs.Numbers.{number_of}
 use Rattle.ksv_expr_value.specs.Trail.{Trail}
@@ -11,10 +11,6 @@ use Rattle.ksv_paths.specs.PathTexts.{path_named}
 use Rattle.ksv_session.specs.declared.command.Command.{Command}
 use Rattle.ksv_session.specs.declared.command.Command.TheVariants.{App, Blank, Get, Quit, Refused, Set, Size}
 use Rattle.ksv_session.specs.declared.refusal.LineRefusal.TheVariants as refusals
-
--- the most bytes of a line, its LF aside
-abbrev pub line_limit : ℕ
-line_limit = 4096
 
 abbrev pub wrong_arguments : Command
 wrong_arguments = Refused refusals.WrongArguments
@@ -24,7 +20,7 @@ abbrev pub is_question : Command → Bool
 is_question (Get path) = true
 is_question _ = false
 
--- the word of a list that has just one
+-- the word of a list that has exactly one
 abbrev pub only : List (List ℕ) → Option (List ℕ)
 only [] = None
 only (word ∷ []) = Some word
@@ -79,12 +75,12 @@ command_named d name arguments =
     else if bytes_eq name (codes "quit") then alone Quit arguments
     else Refused refusals.UnknownCommand
 
--- a line whose first word begins with `#` says nothing
+-- a line whose first word begins with `#` is blank
 abbrev pub command_of_words : Description → List (List ℕ) → Command
 command_of_words d [] = Blank
 command_of_words d (name ∷ arguments) = if slice_index name 0 == 35 then Blank else command_named d name arguments
 
--- what a line says, given without its LF
+-- what a line means, given without its LF
 abbrev pub command_of : Description → List ℕ → Command
 command_of d line =
     if nat_lt line_limit (length line) then Refused refusals.LineTooLong

@@ -1,6 +1,6 @@
--- What a question `get P` is answered: the text of the value at P, or of the fault that stands in its way. Each node that it
--- asks is evaluated from nothing on the bytes that stand: the value at P; of an object also what stands there, and of a list
--- how many elements it has. The texts are those of the commands' reference.
+-- The reply to a question `get P`: the text of the value at P, or of the fault that prevents it. Each node that it
+-- asks is evaluated from nothing on the current bytes: the value at P; for an object also what is there, and for a
+-- list how many elements it has. The texts are those of the commands' reference.
 use Rattle.std.specs.Fmt.{signed_decimal}
 use Rattle.std.specs.Prelude.{ℕ, ℤ, Bool, true, false, List, [], ◌++◌, codes, decimal, slice_range, unwrap_or, Option, Some, None, Result, Ok, Err}
 use Rattle.hex.specs.Hex.{encode_lower}
@@ -25,7 +25,7 @@ use Rattle.ksv_rules.specs.FromNothing.{from_nothing}
 use Rattle.ksv_desc.specs.Description.{Description, enum_id, member_id, type_id}
 use Rattle.ksv_paths.specs.PathTexts.{path_text}
 
--- a text, or a fault that stands in its way
+-- a text, or the fault that prevents it
 abbrev pub Told : Type 0
 Told = Result (List ℕ) Fault
 
@@ -33,7 +33,8 @@ Told = Result (List ℕ) Fault
 abbrev pub answered : Description → List ℕ → Node → Result Given Fault
 answered d b n = from_nothing d b [] n
 
--- An answer of another form than its node's, and a stream as a value, never come. They are the fault bad-type at the asked path.
+-- An answer of another form than its node's, and a stream as a value, never occur. They are the fault bad-type at
+-- the asked path.
 abbrev pub misfit : Trail → Told
 misfit p = Err (fault_at p kinds.BadType)
 
@@ -47,11 +48,11 @@ truth_text false = codes "false"
 unfoldable pub quoted_text : List ℕ → List ℕ
 quoted_text text = compact_text (string text)
 
--- the digits of the bytes of a range, as they stand
+-- the digits of the bytes of a range, as they are now
 unfoldable pub bytes_text : List ℕ → ℕ → ℕ → List ℕ
 bytes_text b from to = codes "hex " ++ encode_lower (slice_range b from to)
 
--- a number by its enum's id and its own, which a number without a member has not
+-- a number by its enum's id and its own id; `?` if it has no id
 unfoldable pub member_text : Description → ℕ → ℤ → List ℕ
 member_text d e n = enum_id d e ++ codes "::" ++ unwrap_or (member_id d e n) (codes "?") ++ codes " (" ++ signed_decimal n ++ codes ")"
 
@@ -69,12 +70,12 @@ abbrev pub of_rest : Trail → Given → Told
 of_rest p (givens.Rest count place) = Ok (codes "[" ++ decimal count ++ codes "]")
 of_rest p _ = misfit p
 
--- the list's first element is asked for them; where its path is too long that is a fault of the list
+-- the list's first element is asked for them; if its path is too long, that is a fault of the list
 unfoldable pub of_list : Description → List ℕ → Trail → Trail → Option Trail → Told
 of_list d b p q None = Err (fault_at q kinds.PathTooLong)
 of_list d b p q (Some first) = with_given (answered d b (rest_node first)) (of_rest p)
 
--- the text of the value that stands at a path
+-- the text of the value at a path
 unfoldable pub of_value : Description → List ℕ → Trail → Value → Told
 of_value d b p (values.Int n) = Ok (signed_decimal n)
 of_value d b p (values.Bool truth) = Ok (truth_text truth)
@@ -91,7 +92,7 @@ abbrev pub of_answer : Description → List ℕ → Trail → Given → Told
 of_answer d b p (givens.Value v) = of_value d b p v
 of_answer d b p _ = misfit p
 
--- the text of the value at a path, if it can be had
+-- the text of the value at a path, if it has one
 unfoldable pub told_at : Description → List ℕ → Trail → Told
 told_at d b p = with_given (answered d b (value_node p)) (of_answer d b p)
 

@@ -1,4 +1,4 @@
--- What a line is answered, and the bytes that stand then.
+-- The reply to a line, and the bytes after it.
 use Rattle.std.specs.Prelude.{ℕ, Bool, true, false, List, [], ◌++◌, length, codes, decimal, Result, Ok, Err, is_ok, if◌then◌else◌}
 use Rattle.ksv_bytes.specs.Edits.{append, overwrite}
 use Rattle.ksv_bytes.specs.declared.edit.EditRefusal.{EditRefusal}
@@ -30,7 +30,7 @@ edit_refusal_text edits.NoMemory = codes "error: no memory\n"
 abbrev pub no_memory_text : List ℕ
 no_memory_text = codes "error: no memory\n"
 
--- The bytes from then on, the text of the reply with its LF, and whether the session ends.
+-- The bytes after the line, the text of the reply with its LF, and whether the session ends.
 pub record Answer : Type 0 where
   pub bytes : List ℕ
   pub text : List ℕ
@@ -69,7 +69,7 @@ pub record Event : Type 0 where
   pub line : List ℕ
   pub refused : Bool
 
--- what a line is answered: where memory was refused that is said, and nothing changes
+-- the reply to a line; if memory was refused it is `error: no memory`, and nothing changes
 abbrev pub answer : Description → List ℕ → Event → Answer
 answer d b event = if event.refused then said b no_memory_text else answer_to d b (command_of d event.line)
 

@@ -1,16 +1,15 @@
--- A run of a session over devices: what stands when it ends.
-use Rattle.std.specs.Prelude.{◌≡◌, ℕ, suc, ◌<◌, ◌≤◌, Bool, true, false, List, [], ◌∷◌, ◌++◌, length, take, IsTrue, Result, Ok, Err}
+-- A run of a session over devices: what holds when it ends.
+use Rattle.std.specs.Prelude.{◌≡◌, ℕ, suc, ◌<◌, ◌≤◌, Bool, true, false, List, [], ◌∷◌, ◌++◌, length, take, IsTrue}
 use Rattle.ksv_desc.specs.Description.{Description}
 use Rattle.ksv_lines.specs.Lines.{lines_of}
 use Rattle.ksv_session.specs.Replies.{Event}
 use Rattle.ksv_session.specs.Session.{lines_in, session}
-use Rattle.ksv_lines.specs.declared.device.Failed.{Failed}
 use Rattle.ksv_session.specs.declared.serve.End.{End}
 use Rattle.ksv_session.specs.declared.serve.End.TheVariants as ends
 
--- The headline. Over the lines of the whole input, each with word of whether memory was refused in it: only lines
--- were refused memory that may be; the bytes are those of the session over these lines, and what was written is
--- its output, behind what the writer held before.
+-- The headline. Each line of the whole input has a mark whether memory was refused in it, and only lines that may
+-- be refused memory were. The bytes are those of the session over these lines. What was written is the session's
+-- output, after what the writer held before.
 pub record Serves (d : Description) (begin input now : List ℕ) (tells : Bool) (before written : List ℕ) (ended : Bool) : Type 0 where
   pub events : List Event
   pub lines : lines_in events ≡ lines_of input
@@ -19,8 +18,8 @@ pub record Serves (d : Description) (begin input now : List ℕ) (tells : Bool) 
   pub output : IsTrue tells → written ≡ before ++ (session d begin events).output
   pub ends : (session d begin events).ended ≡ ended
 
--- A write failed in the reply to one of the lines: all replies before it were taken, and of the session's output
--- a beginning; the bytes are those behind that line.
+-- A write failed in the reply to one of the lines. What was written is a beginning of the session's output, which
+-- has all replies before that line; the bytes are those after that line.
 pub record Breaks (d : Description) (begin input now : List ℕ) (tells : Bool) (before written : List ℕ) : Type 0 where
   pub events : List Event
   pub lines : lines_in events ≡ lines_of input
@@ -33,8 +32,8 @@ pub record Breaks (d : Description) (begin input now : List ℕ) (tells : Bool) 
   pub whole : (told : IsTrue tells) → length (session d begin (take place events)).output ≤ taken told
   pub part : (told : IsTrue tells) → taken told ≤ length (session d begin (take (suc place) events)).output
 
--- A read failed: of what was taken until then the whole lines are answered, and the rest, in which no line ends,
--- has no reply and no effect.
+-- A read failed. Of what was taken until then the whole lines are answered; the rest, in which no line ends, has no
+-- reply and no effect.
 pub record Stops (d : Description) (begin input left now : List ℕ) (tells : Bool) (before written : List ℕ) : Type 0 where
   pub taken : List ℕ
   pub split : input ≡ taken ++ left
@@ -46,27 +45,9 @@ pub record Stops (d : Description) (begin input left now : List ℕ) (tells : Bo
   pub output : IsTrue tells → written ≡ before ++ (session d begin events).output
   pub goes_on : (session d begin events).ended ≡ false
 
--- A line `quit` ended the session, or the end of the input, or a device failed.
+-- The session ended at a line `quit` or at the end of the input, or a device failed.
 abbrev pub Ended : End → Description → List ℕ → List ℕ → List ℕ → List ℕ → Bool → List ℕ → List ℕ → Type 0
 Ended ends.Quit d begin input left now tells before written = Serves d begin input now tells before written true
 Ended ends.Input d begin input left now tells before written = Serves d begin input now tells before written false × (left ≡ [])
 Ended ends.ReadFailed d begin input left now tells before written = Stops d begin input left now tells before written
 Ended ends.WriteFailed d begin input left now tells before written = Breaks d begin input now tells before written
-
--- While the session goes on: of what was taken the whole lines are answered, and of the line behind them the
--- first 4,097 bytes are gathered, which tell whether it is too long.
-pub record Stands (d : Description) (begin taken now line : List ℕ) (tells : Bool) (before written : List ℕ) : Type 0 where
-  pub events : List Event
-  pub rest : List ℕ
-  pub lines : lines_in events ++ rest ∷ [] ≡ lines_of taken
-  pub gathered : line ≡ take 4097 rest
-  pub fair : (session d begin events).fair ≡ true
-  pub bytes : now ≡ (session d begin events).bytes
-  pub output : IsTrue tells → written ≡ before ++ (session d begin events).output
-  pub goes_on : (session d begin events).ended ≡ false
-
--- After a piece of the input: a line in it ended the session, or all of it was taken, or a write failed.
-abbrev pub Fed : Description → List ℕ → List ℕ → List ℕ → List ℕ → List ℕ → Bool → List ℕ → List ℕ → Result Bool Failed → Type 0
-Fed d begin taken input now line tells before written (Ok true) = Serves d begin input now tells before written true
-Fed d begin taken input now line tells before written (Ok false) = Stands d begin taken now line tells before written
-Fed d begin taken input now line tells before written (Err f) = Breaks d begin input now tells before written

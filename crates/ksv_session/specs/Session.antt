@@ -1,10 +1,10 @@
--- A whole session: a fold over its lines, whose state is the bytes that stand.
+-- A whole session: a fold over its lines, whose state is the current bytes.
 use Rattle.std.specs.Prelude.{ℕ, ◌&&◌, Bool, true, false, List, [], ◌++◌, fold, map, if◌then◌else◌}
 use Rattle.ksv_desc.specs.Description.{Description}
 use Rattle.ksv_session.specs.Replies.{Answer, Event, answer, is_fair}
 
--- the bytes that stand, what was written, whether the session has ended, and whether each line that was refused
--- memory is one that may be
+-- the current bytes, what was written, whether the session has ended, and whether each line that was refused memory
+-- is one that may be
 pub record Standing : Type 0 where
   pub bytes : List ℕ
   pub output : List ℕ
@@ -14,7 +14,7 @@ pub record Standing : Type 0 where
 abbrev pub answered : Standing → Answer → Bool → Standing
 answered s a fair = record { bytes = a.bytes; output = s.output ++ a.text; ended = a.ends; fair = s.fair && fair }
 
--- a line behind `quit` has no reply and no effect
+-- a line after `quit` has no reply and no effect
 abbrev pub after_event : Description → Standing → Event → Standing
 after_event d s event = if s.ended then s else answered s (answer d s.bytes event) (is_fair d s.bytes event)
 

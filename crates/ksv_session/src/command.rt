@@ -1,7 +1,7 @@
 //! Reads a line: nothing, a command with its values, or a refusal.
 ghost use Rattle.std.specs.Prelude.{◌≡◌, ◌≤◌, ◌↔◌, [], length, IfOk, IfSome, IsTrue, OnErr, option_copied};
 ghost use Rattle.ksv_desc.specs.Whole.{plain_pieces};
-ghost use Rattle.ksv_lines.specs.Lines.{words_of};
+ghost use Rattle.ksv_lines.specs.Lines.{line_limit, words_of};
 ghost use Rattle.ksv_session.specs.Commands.{alone, app_of, command_named, command_of, get_of, is_question, only, set_of};
 
 use crate::number::number;
@@ -15,12 +15,12 @@ use std::alloc::{AllocError, Global};
 /// The most bytes of a line, its LF aside.
 const LINE_LIMIT: usize = 4096;
 
-/// What a line says.
+/// What a line means.
 #[derive(Drop)]
 pub(crate) enum Command {
     /// Nothing: no word, or a first word that begins with `#`.
     Blank,
-    /// No command.
+    /// A refused line.
     Refused(LineRefusal),
     /// `get PATH`: the value at a path.
     Get(Path),
@@ -41,7 +41,7 @@ fn no_word(text: &[u8]) -> bool
     next_word(text).is_none()
 }
 
-/// The word of a text that has just one.
+/// The word of a text that has exactly one.
 fn only_word(text: &[u8]) -> Option<&[u8]>
     ensures word { option_copied result ≡ only (words_of text.now) }
     ensures within { IfSome result (λ word. length word.now ≤ length text.now) }
@@ -50,7 +50,7 @@ fn only_word(text: &[u8]) -> Option<&[u8]>
     if no_word(rest) { Some(word) } else { None }
 }
 
-/// Reads the arguments of `get`. Only a path takes memory.
+/// Reads the arguments of `get`. Only a valid path takes memory.
 fn get(alloc: Global, desc: &Desc, arguments: &[u8]) -> Result<Command, AllocError>
     ensures command { IfOk result (λ command. command ≡ get_of (plain_pieces desc.now) (only (words_of arguments.now))) }
     ensures refused { OnErr result (IsTrue (is_question (get_of (plain_pieces desc.now) (only (words_of arguments.now))))) }
@@ -66,7 +66,7 @@ fn get(alloc: Global, desc: &Desc, arguments: &[u8]) -> Result<Command, AllocErr
 
 /// Reads the arguments of `set`.
 fn set(arguments: &[u8]) -> Command
-    requires { length arguments.now ≤ 4096 }
+    requires { length arguments.now ≤ line_limit }
     ensures { result ≡ set_of (words_of arguments.now) }
 {
     let Some((place, behind)) = next_word(arguments) else {
@@ -86,7 +86,7 @@ fn set(arguments: &[u8]) -> Command
 
 /// Reads the arguments of `app`.
 fn app(arguments: &[u8]) -> Command
-    requires { length arguments.now ≤ 4096 }
+    requires { length arguments.now ≤ line_limit }
     ensures { result ≡ app_of (only (words_of arguments.now)) }
 {
     let Some(digits) = only_word(arguments) else {
@@ -116,7 +116,7 @@ fn command_with(
     name: &[u8],
     arguments: &[u8],
 ) -> Result<Command, AllocError>
-    requires { length arguments.now ≤ 4096 }
+    requires { length arguments.now ≤ line_limit }
     ensures command { IfOk result (λ command. command ≡ command_named (plain_pieces desc.now) name.now (words_of arguments.now)) }
     ensures refused { OnErr result (IsTrue (is_question (command_named (plain_pieces desc.now) name.now (words_of arguments.now)))) }
 {

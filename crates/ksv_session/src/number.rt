@@ -1,4 +1,4 @@
-//! Numbers that a command line writes.
+//! Numbers on a command line.
 ghost use Rattle.std.specs.Prelude.{◌≡◌};
 ghost use Rattle.ksv_session.specs.Numbers.{number_of};
 

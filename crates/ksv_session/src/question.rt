@@ -2,9 +2,8 @@
 ghost use Rattle.std.specs.Prelude.{◌≡◌};
 ghost use Rattle.ksv_desc.specs.Whole.{plain_pieces};
 ghost use Rattle.ksv_nodes.specs.Turning.{fault_at};
-ghost use Rattle.ksv_session.specs.Asked.{plain_answer};
+ghost use Rattle.ksv_session.specs.Code.{ComesTo, IsFault, IsRightFor, plain_answer};
 ghost use Rattle.ksv_session.specs.Questions.{answered};
-ghost use Rattle.ksv_session.specs.Seen.{ComesTo, IsFault};
 
 use ksv_bytes::Buffer;
 use ksv_expr_value::{Fault, FaultKind, Path};
@@ -12,10 +11,10 @@ use ksv_memo::{Answer, Engine};
 use ksv_rules::{Described, Given, Node};
 use std::alloc::{AllocError, Global};
 
-/// Why there is no text of a value.
+/// Why a value has no text.
 #[derive(Drop)]
 pub(crate) enum Untold {
-    /// A fault stands in its way.
+    /// A fault prevents it.
     Fault(Fault),
     /// Memory was refused.
     NoMemory,
@@ -42,7 +41,7 @@ pub(crate) fn fault_at(alloc: Global, path: &Path, kind: FaultKind) -> Untold
     }
 }
 
-/// What an engine's answer says; of a circle it is the fault at the path of the node that was open.
+/// What an engine's answer means; a circle is the fault at the path of the node that was open.
 fn of_answer(answer: Answer<Node, Given, Fault>) -> Result<Given, Untold>
     ensures { ComesTo (plain_answer answer) (λ given. given) result }
 {
@@ -56,16 +55,17 @@ fn of_answer(answer: Answer<Node, Given, Fault>) -> Result<Given, Untold>
     }
 }
 
-/// What a node answers on the bytes that stand. Nothing is kept of earlier questions.
+/// What a node answers on the current bytes, by an engine that is right for them and still is afterwards.
 pub(crate) fn ask(
-    alloc: Global,
+    engine: &mut Engine<Described>,
     described: &Described,
     buffer: &Buffer,
     node: Node,
 ) -> Result<Given, Untold>
-    ensures { ComesTo (answered (plain_pieces described.now.desc) buffer.now node) (λ given. given) result }
+    requires { IsRightFor (plain_pieces described.now.desc) buffer.now engine.old.kept }
+    ensures answer { ComesTo (answered (plain_pieces described.now.desc) buffer.now node) (λ given. given) result }
+    ensures right { IsRightFor (plain_pieces described.now.desc) buffer.now engine.new.kept }
 {
-    let mut engine = Engine::new(alloc);
     let answer = engine.ask(described, buffer, node)?;
     of_answer(answer)
 }

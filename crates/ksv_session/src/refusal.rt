@@ -1,6 +1,6 @@
 //! Why a line is no command.
 
-/// Why a line is refused before it is looked at what the command does.
+/// Why a line is refused before the command itself is tried.
 #[derive(Clone, Copy)]
 pub(crate) enum LineRefusal {
     /// C1: no command has the first word for its name.

@@ -11,10 +11,10 @@ use ksv_bytes::EditRefusal;
 /// A text of at most 64 bytes, which takes no memory.
 pub type Short = ArrayString<64>;
 
-/// What a line is answered, its LF included.
+/// The reply to a line, its LF included.
 #[derive(Drop)]
 pub enum Reply {
-    /// Nothing: the line says nothing.
+    /// Nothing: the line is blank.
     None,
     /// A short text.
     Short(Short),
@@ -52,7 +52,7 @@ impl Reply {
 }
 
 impl LineRefusal {
-    /// What a line is answered that is refused so.
+    /// The reply to a line that is refused for this reason.
     fn text(self) -> &'static str
         ensures text { result.now ≡ line_refusal_text self }
         ensures short { length result.now ≤ 64 }
@@ -68,7 +68,7 @@ impl LineRefusal {
     }
 }
 
-/// What an edit is answered that is refused so.
+/// The reply to an edit that is refused for this reason.
 fn edit_refusal(refusal: EditRefusal) -> &'static str
     ensures text { result.now ≡ edit_refusal_text refusal }
     ensures short { length result.now ≤ 64 }

@@ -1,10 +1,11 @@
 //! A session over devices.
 ghost use Rattle.std.specs.Prelude.{◌≡◌, ◌≢◌, ◌≤◌, ◌<◌, ◌+◌, ◌-◌, ◌^◌, ◌↔◌, ◌++◌, List, ℕ, false, [], length, IsTrue, is_err, IsErr, IfOk, OnErr};
-ghost use Rattle.ksv_session.specs.Answered.{Answered};
+ghost use Rattle.ksv_bytes.specs.Edits.{file_limit};
+ghost use Rattle.ksv_session.specs.Code.{Answered, Fed, Stands};
 ghost use Rattle.ksv_desc.specs.Description.{Description};
 ghost use Rattle.ksv_desc.specs.Whole.{plain_pieces};
 ghost use Rattle.ksv_session.specs.Explored.{description_of};
-ghost use Rattle.ksv_session.specs.Runs.{Ended, Fed, Stands};
+ghost use Rattle.ksv_session.specs.Runs.{Ended};
 
 use crate::session::{NewFault, Session};
 use ksv_bytes::Buffer;
@@ -28,7 +29,7 @@ pub enum End {
 /// How much is read at once.
 const PIECE_ROOM: usize = 4096;
 
-/// Answers one line, and says whether it was the last.
+/// Answers one line, and returns whether it was the last.
 fn answer_line<W: Sink>(session: &mut Session, line: &[u8], writer: &mut W) -> Result<bool, Failed>
     requires { W.failed writer.old ≡ false }
     ensures answered { Answered session.old line.now session.new W.tells (W.bytes writer.old) (W.bytes writer.new) result }
@@ -41,7 +42,7 @@ fn answer_line<W: Sink>(session: &mut Session, line: &[u8], writer: &mut W) -> R
     }
 }
 
-/// Takes a piece of the input, answers each line that it ends, and says whether the session ended.
+/// Takes a piece of the input, answers each line that it ends, and returns whether the session ended.
 fn feed<W: Sink>(
     session: &mut Session,
     line: &mut LineBuffer,
@@ -69,7 +70,7 @@ fn feed<W: Sink>(
     Ok(false)
 }
 
-/// Answers what stands behind the last LF.
+/// Answers what comes after the last LF.
 fn finish<W: Sink>(session: &mut Session, line: &LineBuffer, writer: &mut W) -> End
     requires { W.failed writer.old ≡ false }
     ensures goes { (d : Description) (begin taken before : List ℕ) → description_of session.old ≡ d
@@ -116,10 +117,10 @@ fn serve<R: Source, W: Sink>(reader: &mut R, writer: &mut W, session: &mut Sessi
 }
 
 /// Runs a session over the bytes of a file: reads command lines from the reader to the end of the input or to a
-/// line `quit`, and writes the reply to each. Hands back the bytes that stand then, and says why it ended.
+/// line `quit`, and writes the reply to each. Returns the current bytes and the reason of the end.
 ///
-/// [`End::ReadFailed`] is answered where a read failed, or where 2^64 - 1 reads gave bytes; [`End::WriteFailed`]
-/// where a write or a flush failed. The one error, of a file that is too large, comes before anything is read.
+/// [`End::ReadFailed`] means that a read failed, or that 2^64 - 1 reads gave bytes; [`End::WriteFailed`] that a
+/// write or a flush failed. The one error, of a file that is too large, comes before anything is read.
 #[tactic(auto, unfolding(crate::specs::Explored::description_of))]
 pub fn run<R: Source, W: Sink>(
     alloc: Global,
@@ -136,7 +137,7 @@ pub fn run<R: Source, W: Sink>(
     ensures read_end { IsTrue R.tells → IfOk result (λ done. done.1 ≡ End.ReadFailed → R.failed reader.new ≡ false
         → 2 ^ 64 - 1 + length (R.bytes reader.new) ≤ length (R.bytes reader.old)) }
     ensures write_fault { IfOk result (λ done. IsTrue (W.failed writer.new) ↔ (done.1 ≡ End.WriteFailed)) }
-    ensures too_large { IsErr result ↔ (16777216 < length bytes.items) }
+    ensures too_large { IsErr result ↔ (file_limit < length bytes.items) }
     ensures untouched { OnErr result ((reader.new ≡ reader.old) × (writer.new ≡ writer.old)) }
 {
     let mut session = Session::new(alloc, desc, bytes)?;

@@ -1,10 +1,12 @@
-//! A session: the bytes that stand, and what each line is answered.
+//! A session: the current bytes, and the reply to each line.
 ghost use Rattle.std.specs.Prelude.{◌≡◌, ◌<◌, ◌↔◌, ◌++◌, true, false, codes, length, if◌then◌else◌, IsTrue, IfOk, IsErr};
+ghost use Rattle.ksv_bytes.specs.Edits.{file_limit};
 ghost use Rattle.ksv_session.specs.Explored.{description_of};
 ghost use Rattle.ksv_session.specs.Commands.{command_of};
 ghost use Rattle.ksv_session.specs.Questions.{question_text};
 ghost use Rattle.ksv_session.specs.Replies.{answer, may_be_refused, no_memory_text};
-ghost use Rattle.ksv_session.specs.Seen.{answer_seen, edit_text, is_last, is_refusal, reply_text, wants_memory};
+ghost use Rattle.ksv_session.specs.Code.{edit_text, wants_memory};
+ghost use Rattle.ksv_session.specs.Seen.{answer_seen, is_last, is_refusal, reply_text};
 
 use crate::command::{Command, read_line};
 use crate::reply::{Reply, edit_reply, refused_edit, refused_line, size_reply};
@@ -25,7 +27,7 @@ pub enum NewFault {
     FileTooLarge,
 }
 
-/// A file that is explored by its description. Contracts see the description and the bytes that stand.
+/// A file that is explored by its description. Contracts see the description and the current bytes.
 #[derive(Drop)]
 pub struct Session {
     alloc: Global,
@@ -49,7 +51,7 @@ impl Session {
     /// A session over the bytes of a file. It takes no memory.
     pub fn new(alloc: Global, desc: Desc, bytes: Vec<u8>) -> Result<Session, NewFault>
         ensures begun { IfOk result (λ session. session ≡ record { pieces = desc; bytes = bytes.items }) }
-        ensures refused { IsErr result ↔ (16777216 < length bytes.items) }
+        ensures refused { IsErr result ↔ (file_limit < length bytes.items) }
     {
         match Buffer::new(bytes) {
             Ok(buffer) => Ok(Session {
@@ -61,7 +63,7 @@ impl Session {
         }
     }
 
-    /// The bytes that stand.
+    /// The current bytes.
     pub fn into_buffer(self) -> Buffer
         ensures { result ≡ self.bytes }
     {
@@ -73,8 +75,8 @@ impl Session {
         buffer
     }
 
-    /// Answers a line, given without its LF; a carriage return may still stand at its end. Where memory is refused
-    /// nothing changes, and only a question and an edit that makes the file longer can be.
+    /// Answers a line, given without its LF; it may still end with a carriage return. If memory is refused nothing
+    /// changes; it can be refused only for a question and for an edit that makes the file longer.
     #[tactic(auto, using(crate::proofs::QuestionLemmas::question_may), unfolding(crate::specs::Explored::description_of))]
     pub fn line(&mut self, line: &[u8]) -> Reply
         ensures answer { answer_seen self.new.bytes result ≡ answer (description_of self.old) self.old.bytes (record { line = line.now; refused = is_refusal result }) }

@@ -7,14 +7,15 @@ ghost use Rattle.ksv_nodes.specs.Rule.{head_node, rest_node};
 ghost use Rattle.ksv_nodes.specs.Truth.{with_given};
 ghost use Rattle.ksv_desc.specs.Whole.{plain_pieces};
 ghost use Rattle.ksv_paths.specs.PathTexts.{path_text, step_text, steps_text};
+ghost use Rattle.ksv_session.specs.Code.{ComesTo, IsRightFor};
 ghost use Rattle.ksv_session.specs.Questions.{answered, bytes_text, fault_text, member_text, of_answer, of_head, of_list, of_object, of_rest, of_value, question_text, quoted_text, told_at, truth_text};
-ghost use Rattle.ksv_session.specs.Seen.{ComesTo};
 
 use crate::question::{Untold, ask, fault_at};
 use itoa::Buffer as Digits;
 use ksv_bytes::{Buffer, Window};
 use ksv_desc::Desc;
 use ksv_expr_value::{Fault, FaultKind, Integer, Path, Step, Text, Value};
+use ksv_memo::Engine;
 use ksv_rules::{Described, Given, Head, Node, NodeKind};
 use serde_json::Value as Json;
 use std::alloc::{AllocError, Global};
@@ -89,7 +90,7 @@ fn quoted_text(alloc: Global, text: &Text) -> Result<String, AllocError>
     Json::String(String::from_str(alloc, text.as_str())?).to_string(alloc)
 }
 
-/// The part of a range that lies in the file.
+/// The part of a range that is in the file.
 fn window(buffer: &Buffer, from: u32, to: u32) -> Window
     ensures ordered { result.from ≤ result.to }
     ensures inside { result.to ≤ length buffer.now }
@@ -100,7 +101,7 @@ fn window(buffer: &Buffer, from: u32, to: u32) -> Window
     Window { from, to }
 }
 
-/// The digits of the bytes of a range, as they stand.
+/// The digits of the bytes of a range, as they are now.
 #[tactic(auto, unfolding(crate::specs::Questions::bytes_text))]
 fn bytes_text(alloc: Global, buffer: &Buffer, from: u32, to: u32) -> Result<String, AllocError>
     ensures { IfOk result (λ text. string_bytes text ≡ bytes_text buffer.now from to) }
@@ -131,7 +132,7 @@ fn member_text(
     Ok(text)
 }
 
-/// An object by its type's id; anything else doesn't fit.
+/// An object by its type's id; any other head doesn't fit.
 fn object_text(alloc: Global, desc: &Desc, path: &Path, head: Head) -> Result<String, Untold>
     ensures { ComesTo (of_object (plain_pieces desc.now) path.now head) (λ text. string_bytes text) result }
 {
@@ -145,7 +146,7 @@ fn object_text(alloc: Global, desc: &Desc, path: &Path, head: Head) -> Result<St
     }
 }
 
-/// The text of an object, by what stands there.
+/// The text of an object, by what is there.
 fn head_text(alloc: Global, desc: &Desc, path: &Path, given: &Given) -> Result<String, Untold>
     ensures { ComesTo (of_head (plain_pieces desc.now) path.now given.now) (λ text. string_bytes text) result }
 {
@@ -173,18 +174,20 @@ fn rest_text(alloc: Global, path: &Path, given: &Given) -> Result<String, Untold
 /// The text of the object of a path.
 fn asked_object_text(
     alloc: Global,
+    engine: &mut Engine<Described>,
     described: &Described,
     buffer: &Buffer,
     path: &Path,
     object: &Path,
 ) -> Result<String, Untold>
+    requires { IsRightFor (plain_pieces described.now.desc) buffer.now engine.old.kept }
     ensures { ComesTo (with_given (answered (plain_pieces described.now.desc) buffer.now (head_node object.now)) (of_head (plain_pieces described.now.desc) path.now)) (λ text. string_bytes text) result }
 {
     let node = Node {
         kind: NodeKind::Head,
         path: object.copy(alloc)?,
     };
-    let given = ask(alloc, described, buffer, node)?;
+    let given = ask(engine, described, buffer, node)?;
     head_text(alloc, described.desc(), path, &given)
 }
 
@@ -192,11 +195,13 @@ fn asked_object_text(
 #[tactic(auto, unfolding(crate::specs::Questions::of_list))]
 fn asked_list_text(
     alloc: Global,
+    engine: &mut Engine<Described>,
     described: &Described,
     buffer: &Buffer,
     path: &Path,
     list: &Path,
 ) -> Result<String, Untold>
+    requires { IsRightFor (plain_pieces described.now.desc) buffer.now engine.old.kept }
     ensures { ComesTo (of_list (plain_pieces described.now.desc) buffer.now path.now list.now (child list.now (IndexStep 0))) (λ text. string_bytes text) result }
 {
     let Some(first) = list.child_index(alloc, 0)? else {
@@ -206,7 +211,7 @@ fn asked_list_text(
         kind: NodeKind::Rest,
         path: first,
     };
-    let given = ask(alloc, described, buffer, node)?;
+    let given = ask(engine, described, buffer, node)?;
     rest_text(alloc, path, &given)
 }
 
@@ -214,11 +219,13 @@ fn asked_list_text(
 #[tactic(auto, unfolding(crate::specs::Questions::of_value))]
 fn value_text(
     alloc: Global,
+    engine: &mut Engine<Described>,
     described: &Described,
     buffer: &Buffer,
     path: &Path,
     value: &Value,
 ) -> Result<String, Untold>
+    requires { IsRightFor (plain_pieces described.now.desc) buffer.now engine.old.kept }
     ensures { ComesTo (of_value (plain_pieces described.now.desc) buffer.now path.now value.now) (λ text. string_bytes text) result }
 {
     match value {
@@ -230,29 +237,31 @@ fn value_text(
             enum_number,
             number,
         } => Ok(member_text(alloc, described.desc(), *enum_number, *number)?),
-        Value::Object(object) => asked_object_text(alloc, described, buffer, path, object),
-        Value::List(list) => asked_list_text(alloc, described, buffer, path, list),
+        Value::Object(object) => asked_object_text(alloc, engine, described, buffer, path, object),
+        Value::List(list) => asked_list_text(alloc, engine, described, buffer, path, list),
         Value::Stream(_) => Err(fault_at(alloc, path, FaultKind::BadType)),
     }
 }
 
-/// The text of what is answered for the value at a path.
+/// The text of the answer for the value at a path.
 fn answer_text(
     alloc: Global,
+    engine: &mut Engine<Described>,
     described: &Described,
     buffer: &Buffer,
     path: &Path,
     given: &Given,
 ) -> Result<String, Untold>
+    requires { IsRightFor (plain_pieces described.now.desc) buffer.now engine.old.kept }
     ensures { ComesTo (of_answer (plain_pieces described.now.desc) buffer.now path.now given.now) (λ text. string_bytes text) result }
 {
     match given {
-        Given::Value(value) => value_text(alloc, described, buffer, path, value),
+        Given::Value(value) => value_text(alloc, engine, described, buffer, path, value),
         _ => Err(fault_at(alloc, path, FaultKind::BadType)),
     }
 }
 
-/// The text of the value at a path, which is asked.
+/// The text of the value at a path, by one engine: no node is evaluated twice.
 #[tactic(auto, unfolding(crate::specs::Questions::told_at))]
 fn told_text(
     alloc: Global,
@@ -266,11 +275,12 @@ fn told_text(
         kind: NodeKind::Value,
         path: path.copy(alloc)?,
     };
-    let given = ask(alloc, described, buffer, node)?;
-    answer_text(alloc, described, buffer, path, &given)
+    let mut engine = Engine::new(alloc);
+    let given = ask(&mut engine, described, buffer, node)?;
+    answer_text(alloc, &mut engine, described, buffer, path, &given)
 }
 
-/// The text of the value at a path, or of the fault that stands in its way.
+/// The text of the value at a path, or of the fault that prevents it.
 #[tactic(auto, unfolding(crate::specs::Questions::question_text))]
 fn question_text(
     alloc: Global,

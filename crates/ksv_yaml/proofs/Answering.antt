@@ -11,7 +11,7 @@ use Rattle.ksv_yaml_tree.specs.declared.tree.Entry.{Entry}
 use Rattle.ksv_yaml_tree.specs.Tree.{Tree, Pair}
 use Rattle.ksv_yaml_tree.specs.View.{view, pair}
 use Rattle.ksv_yaml.specs.Reading.{is_among}
-use Rattle.ksv_yaml.specs.Outcome.{keys_of, Fails, Gives}
+use Rattle.ksv_yaml.specs.Code.{keys_of, Fails, Gives}
 use Rattle.ksv_yaml.specs.Keys.{HoldsKeys}
 use Rattle.ksv_yaml.proofs.Joins.{keys_push}
 use Rattle.ksv_yaml_scan.specs.Got.{Got}

@@ -9,7 +9,7 @@ use Rattle.ksv_yaml_tree.specs.Tree.{Tree, Text, Seq, Map, Items, no_items, item
 use Rattle.ksv_yaml_tree.specs.View.{items_of, entries_of, view}
 use Rattle.ksv_yaml.specs.Grammar.{at_column, from_here}
 use Rattle.ksv_yaml.specs.Reading.{deeper, is_among, inlined, unless_level, value_here, node, node_by, entries, entries_by, more_entries, value, value_below, items, items_by, more_items, item_at, item_below, weight}
-use Rattle.ksv_yaml.specs.Outcome.{keys_of, GivesInline, GivesHere, NodeIs, EntriesIs, ValueIs, ItemsIs, ItemIs}
+use Rattle.ksv_yaml.specs.Code.{keys_of, GivesInline, GivesHere, NodeIs, EntriesIs, ValueIs, ItemsIs, ItemIs}
 use Rattle.ksv_yaml.proofs.Steps.{one_less, two_less, Took}
 use Rattle.ksv_yaml.proofs.Answering.{gives_on}
 use Rattle.ksv_yaml.proofs.InlineSound.{inlined_sound}

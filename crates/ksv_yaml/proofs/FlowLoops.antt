@@ -3,7 +3,7 @@ use Rattle.std.proofs.Common.{◌≡◌, ℕ, zero, suc, ◌+◌, ◌-◌, ◌*�
 use Rattle.ksv_yaml_tree.specs.Tree.{Tree, Text, Seq, Map, Items, no_items, item, Entries, no_entries, entry, Pair}
 use Rattle.ksv_yaml_tree.specs.View.{items_of, entries_of}
 use Rattle.ksv_yaml.specs.Reading.{is_among, flow, flow_items, flow_more, flow_entries, flow_others}
-use Rattle.ksv_yaml.specs.Outcome.{keys_of, behind_close, behind_close_map, behind_comma, key_at, FlowIs, FlowItemsIs, FlowEntriesIs}
+use Rattle.ksv_yaml.specs.Code.{keys_of, behind_close, behind_close_map, behind_comma, key_at, FlowIs, FlowItemsIs, FlowEntriesIs}
 use Rattle.ksv_yaml.proofs.Steps.{one_less}
 use Rattle.ksv_yaml_scan.proofs.Choices.{pick_true, pick_false}
 use Rattle.ksv_yaml.proofs.Joins.{with_items, with_entries, with_no_items, with_no_entries, regroup_items, regroup_entries, last_items, last_entries, end_items, end_entries, keys_push, deeper_one, deeper_none}

@@ -3,7 +3,7 @@ use Rattle.std.proofs.Common.{◌≡◌, ℕ, zero, suc, ◌-◌, List, [], ◌�
 use Rattle.ksv_yaml_tree.specs.Tree.{Tree, Items, no_items, item, Entries, no_entries, entry, Pair}
 use Rattle.ksv_yaml_tree.specs.View.{items_of, entries_of}
 use Rattle.ksv_yaml.specs.Reading.{deeper}
-use Rattle.ksv_yaml.specs.Outcome.{keys_of}
+use Rattle.ksv_yaml.specs.Code.{keys_of}
 use Rattle.ksv_yaml_scan.specs.Got.{Got, got, ◌>>=◌}
 
 -- one list of entries behind another

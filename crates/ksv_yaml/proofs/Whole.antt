@@ -3,7 +3,8 @@ use Rattle.std.proofs.Common.{◌≡◌, ℕ, suc, ◌<◌, ◌≤◌, Bool, tru
 use Rattle.ksv_yaml.specs.declared.fault.YamlKind.{YamlKind}
 use Rattle.ksv_yaml.specs.declared.fault.YamlKind.TheVariants.{NotUtf8, TooLong, Tab, Indentation, KeyTwice, LeftOut, NotClosed, ValueForKey, TooDeep, NoMemory}
 use Rattle.ksv_yaml_tree.specs.Tree.{Tree}
-use Rattle.ksv_yaml.specs.Faults.{names_memory, IsOfLines, IsUnspelled, Refuses}
+use Rattle.ksv_yaml.specs.Code.{names_memory, IsOfLines}
+use Rattle.ksv_yaml.specs.Faults.{IsUnspelled, Refuses}
 use Rattle.ksv_yaml.specs.Reading.{tree_of}
 use Rattle.ksv_yaml.specs.Text.{Spells}
 use Rattle.ksv_yaml.proofs.Theorem.{refused}

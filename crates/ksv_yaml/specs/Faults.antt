@@ -1,17 +1,13 @@
--- What a refusal says.
-use Rattle.std.specs.Prelude.{◌≡◌, ℕ, ◌≤◌, Bool, true, false, List, length, codes, IsUtf8, Result, Ok, Err}
+-- What a refusal means.
+use Rattle.std.specs.Prelude.{◌≡◌, ℕ, ◌≤◌, List, length, codes, IsUtf8, Result, Ok, Err}
 use Rattle.ksv_yaml.specs.declared.fault.YamlKind.{YamlKind}
 use Rattle.ksv_yaml.specs.declared.fault.YamlKind.TheVariants.{NotUtf8, TooLong, Tab, Indentation, KeyTwice, LeftOut, NotClosed, ValueForKey, TooDeep, NoMemory}
 use Rattle.ksv_yaml.specs.declared.fault.YamlFault.{YamlFault}
-use Rattle.ksv_yaml.specs.declared.fault.ReadKind.{ReadKind}
-use Rattle.ksv_yaml.specs.declared.fault.ReadKind.TheVariants as read
 use Rattle.ksv_yaml_tree.specs.declared.tree.Yaml.{Yaml}
 use Rattle.ksv_yaml_tree.specs.Tree.{Tree}
 use Rattle.ksv_yaml_tree.specs.View.{view}
 use Rattle.ksv_yaml.specs.Text.{Spells}
-use Rattle.ksv_yaml_scan.specs.declared.fault.LineError.{LineError}
-use Rattle.ksv_yaml_scan.specs.declared.fault.LineError.TheVariants as on_line
-use Rattle.ksv_yaml_scan.specs.Text.{IsLine, IsTooLong, IsNotUtf8}
+use Rattle.ksv_yaml_scan.specs.Text.{text_limit, IsLine, IsTooLong, IsNotUtf8}
 
 -- the code of a kind
 abbrev pub code_of : YamlKind → List ℕ
@@ -26,67 +22,15 @@ code_of ValueForKey = codes "Y8"
 code_of TooDeep = codes "Y9"
 code_of NoMemory = codes "Y10"
 
--- memory was refused to the reader of lines
-abbrev pub wants_memory : ReadKind → Bool
-wants_memory read.Tab = false
-wants_memory read.Indentation = false
-wants_memory read.KeyTwice = false
-wants_memory read.LeftOut = false
-wants_memory read.NotClosed = false
-wants_memory read.ValueForKey = false
-wants_memory read.TooDeep = false
-wants_memory read.NoMemory = true
-
--- memory was refused to the scanner
-abbrev pub lines_want : LineError → Bool
-lines_want (on_line.Fault fault) = false
-lines_want on_line.NoMemory = true
-
--- a kind as callers see it
-abbrev pub public_kind : ReadKind → YamlKind
-public_kind read.Tab = Tab
-public_kind read.Indentation = Indentation
-public_kind read.KeyTwice = KeyTwice
-public_kind read.LeftOut = LeftOut
-public_kind read.NotClosed = NotClosed
-public_kind read.ValueForKey = ValueForKey
-public_kind read.TooDeep = TooDeep
-public_kind read.NoMemory = NoMemory
-
--- the kind is that of refused memory
-abbrev pub names_memory : YamlKind → Bool
-names_memory NoMemory = true
-names_memory NotUtf8 = false
-names_memory TooLong = false
-names_memory Tab = false
-names_memory Indentation = false
-names_memory KeyTwice = false
-names_memory LeftOut = false
-names_memory NotClosed = false
-names_memory ValueForKey = false
-names_memory TooDeep = false
-
--- the kind isn't one of those for which no line is read
-abbrev pub IsOfLines : YamlKind → Type 0
-IsOfLines NotUtf8 = ⊥
-IsOfLines TooLong = ⊥
-IsOfLines Tab = Unit {0}
-IsOfLines Indentation = Unit {0}
-IsOfLines KeyTwice = Unit {0}
-IsOfLines LeftOut = Unit {0}
-IsOfLines NotClosed = Unit {0}
-IsOfLines ValueForKey = Unit {0}
-IsOfLines TooDeep = Unit {0}
-IsOfLines NoMemory = Unit {0}
-
 -- The text is short enough and UTF-8, the number is that of one of its lines (1 for the empty text), and it spells no tree.
 pub record IsUnspelled (text : List ℕ) (line : ℕ) : Type 0 where
-  pub small : length text ≤ 1048576
+  pub small : length text ≤ text_limit
   pub utf8 : IsUtf8 text
   pub place : IsLine text line
   pub none : (t : Tree) → Spells text t → ⊥
 
--- what the refusal of a text says, by its kind; no two of these, but for want of memory, are true of one text
+-- what the refusal of a text means, by its kind: it is too long, isn't UTF-8, or spells no tree; no text is two of
+-- these
 abbrev pub Refuses : List ℕ → YamlKind → ℕ → Type 0
 Refuses text TooLong line = IsTooLong text × (line ≡ 1)
 Refuses text NotUtf8 line = IsNotUtf8 text line
@@ -99,7 +43,7 @@ Refuses text NotClosed line = IsUnspelled text line
 Refuses text ValueForKey line = IsUnspelled text line
 Refuses text TooDeep line = IsUnspelled text line
 
--- the answer is this tree, or that memory was refused
+-- the result is this tree, or that memory was refused
 abbrev pub IsTreeOrNoMemory : Tree → Result Yaml YamlFault → Type 0
 IsTreeOrNoMemory t (Ok u) = view u ≡ t
 IsTreeOrNoMemory t (Err fault) = fault.kind ≡ NoMemory

@@ -1,7 +1,9 @@
--- The grammar of blocks, by cases on whole blocks of lines (YAML 1.2, chapter 8; where this subset has a rule of its own, the comment says so).
+-- The grammar of blocks, by cases on whole blocks of lines (YAML 1.2, chapter 8; where this subset has a rule of
+-- its own, the comment notes it).
 --
--- The lines of each block begin with one that says something and end with the quiet lines behind it, so that what follows begins with a line that says something too.
--- A list of lines is split in two by an equation (ls ≡ xs ++ ys): the relation says that there is such a split, and not how it is found.
+-- The lines of each block begin with a line that has content and end with the quiet lines after it, so that what
+-- follows begins with a line that has content too. A list of lines is split in two by an equation (ls ≡ xs ++ ys):
+-- the relation states that there is such a split, not how it is found.
 use Rattle.std.specs.Prelude.{◌≡◌, ℕ, suc, ◌+◌, ◌≤◌, ◌++◌, Bool, true, false, List, [], ◌∷◌, Some, ◌&&◌, ◌==◌, codes}
 use Rattle.std.specs.Str.{bytes_eq}
 use Rattle.ksv_yaml_tree.specs.Tree.{Tree, Text, Seq, Map, Items, no_items, item, Entries, no_entries, entry, AreDistinct}
@@ -12,7 +14,7 @@ use Rattle.ksv_yaml_scan.specs.Starts.{InlineKind, Plain, Quoted, Block, Flowing
 use Rattle.ksv_yaml_scan.specs.Tokens.{Token, tokens_of}
 use Rattle.ksv_yaml.specs.Flow.{Flow}
 
--- blank and comment lines (6.6): they say nothing
+-- blank and comment lines (6.6), which have no content
 abbrev pub AreQuiet : List Line → Type 0
 AreQuiet [] = Unit {0}
 AreQuiet (l ∷ ls) = (is_quiet l ≡ true) × AreQuiet ls
@@ -27,28 +29,30 @@ abbrev pub Leaves : ℕ → List Line → Type 0
 Leaves n [] = Unit {0}
 Leaves n (l ∷ ls) = is_inner n l ≡ false
 
--- lines over which a flow node goes on (7.4): quiet, or not before column n
+-- lines over which a flow node continues (7.4): quiet, or not before column n
 abbrev pub AreWithin : ℕ → List Line → Type 0
 AreWithin n [] = Unit {0}
 AreWithin n (l ∷ ls) = (is_within n l ≡ true) × AreWithin n ls
 
--- the lines behind a plain scalar's line (7.3.3): those that go on with it, each joined by one space, and quiet ones; a comment ends the scalar, and so does a quiet line (this subset: it doesn't go on across one)
+-- the lines after a plain scalar's line (7.3.3): those that continue it, each joined by one space, and quiet ones.
+-- A comment ends the scalar, and so does a quiet line (this subset: it doesn't continue across one)
 pub data GoesOn : ℕ → Bool → List Line → List ℕ → Type 0 where
   ends : {n : ℕ} {c : Bool} {ls : List Line} → AreQuiet ls → GoesOn n c ls []
   goes : {n : ℕ} {c : Bool} {l : Line} {ls : List Line} {text rest : List ℕ} → is_quiet l ≡ false → n ≤ l.indent → more_of l.content ≡ Some (text, c) → GoesOn n c ls rest → GoesOn n false (l ∷ ls) (32 ∷ (text ++ rest))
 
--- a scalar or flow node that begins on the line and goes on over others, none of which stands before column n; at most d flow nodes stand in each other
+-- a scalar or flow node that begins on the line and continues over others, none of which is before column n; with
+-- at most d nested flow nodes
 pub data Inlined : ℕ → ℕ → InlineKind → Line → List Line → Tree → Type 0 where
   -- a plain scalar, over one line or several (7.3.3)
   plain : {d n : ℕ} {l : Line} {ls : List Line} {c : Bool} {text rest : List ℕ} → GoesOn n c ls rest → Inlined d n (Plain text c) l ls (Text l.number false (text ++ rest))
-  -- a quoted scalar, on one line (7.3.1, 7.3.2; over several lines it is left out)
+  -- a quoted scalar, on one line (7.3.1, 7.3.2; over several lines it is unsupported)
   quoted : {d n : ℕ} {l : Line} {ls : List Line} {text : List ℕ} → AreQuiet ls → Inlined d n (Quoted text) l ls (Text l.number true text)
   -- a block scalar with all lines that follow while they are blank or deep enough (8.1)
   block : {d n : ℕ} {l : Line} {ls : List Line} {fold keep : Bool} {text : List ℕ} (xs ys : List Line) → ls ≡ xs ++ ys → AreInner n xs → Leaves n ys → AreQuiet ys → block_text fold keep xs ≡ Some text → Inlined d n (Block fold keep) l ls (Text l.number false text)
-  -- a flow sequence or mapping (7.4): the parts of its lines, comments aside, spell it
+  -- a flow sequence or mapping (7.4): the parts of its lines, without comments, spell it
   flow : {d n : ℕ} {l : Line} {ls : List Line} {ts : List Token} {t : Tree} → AreWithin n ls → tokens_of (l ∷ ls) ≡ Some ts → Flow d ts t → Inlined d n Flowing l ls t
 
--- the line as if what stands before these bytes were k columns of spaces
+-- the line as if k columns of spaces were in front of these bytes
 abbrev pub at_column : Line → ℕ → List ℕ → Line
 at_column l k cs = record { number = l.number; indent = l.indent + k; content = cs; ended = l.ended }
 
@@ -56,9 +60,10 @@ at_column l k cs = record { number = l.number; indent = l.indent + k; content = 
 abbrev pub from_here : Line → List ℕ → Line
 from_here l cs = record { number = l.number; indent = l.indent; content = cs; ended = l.ended }
 
--- Lines that spell a tree, with the quiet lines behind it, where at most d mappings, sequences and flow nodes stand in each other.
+-- Lines that spell a tree, with the quiet lines after it, and with at most d nested mappings, sequences and flow
+-- nodes.
 mutual
-  -- a node, none of whose lines stands before column n
+  -- a node, none of whose lines is before column n
   pub data Node : ℕ → ℕ → List Line → Tree → Type 0 where
     -- a block mapping (8.2.2), no two keys the same (3.2.1.3)
     map : {d n : ℕ} {l : Line} {ls : List Line} {es : Entries} → n ≤ l.indent → Mapping d l.indent (l ∷ ls) es → AreDistinct es → Node (suc d) n (l ∷ ls) (Map l.number es)
@@ -72,11 +77,11 @@ mutual
     last : {d m : ℕ} {l : Line} {ls : List Line} {key rest : List ℕ} {t : Tree} → l.indent ≡ m → key_of l.content ≡ Some (key, rest) → Value d l rest ls t → Mapping d m (l ∷ ls) (entry l.number key t no_entries)
     more : {d m : ℕ} {l : Line} {ls : List Line} {key rest : List ℕ} {t : Tree} {es : Entries} (xs ys : List Line) → l.indent ≡ m → ls ≡ xs ++ ys → key_of l.content ≡ Some (key, rest) → Value d l rest xs t → Mapping d m ys es → Mapping d m (l ∷ ls) (entry l.number key t es)
 
-  -- what stands behind a key, on its line and the ones that follow
+  -- what comes after a key, on its line and the ones that follow
   pub data Value : ℕ → Line → List ℕ → List Line → Tree → Type 0 where
     -- nothing: the empty plain text, on the entry's line
     empty : {d : ℕ} {l : Line} {ls : List Line} → AreQuiet ls → Value d l [] ls (Text l.number false [])
-    -- the block node at the next line that says something, if that is deeper than the entry
+    -- the block node at the next line that has content, if that is deeper than the entry
     below : {d : ℕ} {l : Line} {ls : List Line} {t : Tree} (xs ys : List Line) → ls ≡ xs ++ ys → AreQuiet xs → Node d (suc l.indent) ys t → Value d l [] ls t
     -- a sequence at the key's own indentation (8.2.1)
     level : {d : ℕ} {l h : Line} {ls : List Line} {is : Items} (xs ys : List Line) → ls ≡ xs ++ h ∷ ys → AreQuiet xs → h.indent ≡ l.indent → Sequence d l.indent (h ∷ ys) is → Value (suc d) l [] ls (Seq h.number is)
@@ -88,15 +93,15 @@ mutual
     only : {d m : ℕ} {l : Line} {ls : List Line} {k : Dashed} {t : Tree} → l.indent ≡ m → dash_of l.content ≡ Some k → Item d l k.columns k.tab k.behind ls t → Sequence d m (l ∷ ls) (item t no_items)
     then : {d m : ℕ} {l : Line} {ls : List Line} {k : Dashed} {t : Tree} {is : Items} (xs ys : List Line) → l.indent ≡ m → ls ≡ xs ++ ys → dash_of l.content ≡ Some k → Item d l k.columns k.tab k.behind xs t → Sequence d m ys is → Sequence d m (l ∷ ls) (item t is)
 
-  -- what stands behind a dash: as if the dash were a space
+  -- what comes after a dash: as if the dash were a space
   pub data Item : ℕ → Line → ℕ → Bool → List ℕ → List Line → Tree → Type 0 where
     -- nothing
     none : {d k : ℕ} {b : Bool} {l : Line} {ls : List Line} → AreQuiet ls → Item d l k b [] ls (Text l.number false [])
-    -- the block node at the next line that says something, if that is deeper than the dash
+    -- the block node at the next line that has content, if that is deeper than the dash
     under : {d k : ℕ} {b : Bool} {l : Line} {ls : List Line} {t : Tree} (xs ys : List Line) → ls ≡ xs ++ ys → AreQuiet xs → Node d (suc l.indent) ys t → Item d l k b [] ls t
     -- a node on the dash's line (8.2.1, compact forms): the rest of the line, with the dash as a space
     compact : {d k c : ℕ} {l : Line} {cs : List ℕ} {ls : List Line} {t : Tree} → Node d (suc l.indent) (at_column l k (c ∷ cs) ∷ ls) t → Item d l k false (c ∷ cs) ls t
-    -- behind a tab only a scalar or flow node: tabs are no indentation (6.1)
+    -- after a tab only a scalar or flow node: tabs are no indentation (6.1)
     tabbed : {d k c : ℕ} {l : Line} {cs : List ℕ} {ls : List Line} {i : InlineKind} {t : Tree} → kind_of (c ∷ cs) ≡ Some i → Inlined d (suc l.indent) i (from_here l (c ∷ cs)) ls t → Item d l k true (c ∷ cs) ls t
 
 -- ---- the whole text
@@ -105,7 +110,8 @@ mutual
 abbrev pub is_mark : Line → Bool
 is_mark l = (l.indent == 0) && bytes_eq l.content (codes "---")
 
--- lines that spell a tree: one node within 64 levels, at any indentation, and before it the mark --- if that is the first line that says something (9.1.4, this subset: alone on its line, and once)
+-- lines that spell a tree: one node within 64 levels, at any indentation, and before it the mark --- if that is the
+-- first line that has content (9.1.4, this subset: alone on its line, and once)
 pub data Spelled : List Line → Tree → Type 0 where
   bare : {ls : List Line} {t : Tree} (xs : List Line) (l : Line) (ys : List Line) → ls ≡ xs ++ l ∷ ys → AreQuiet xs → is_mark l ≡ false → Node 64 0 (l ∷ ys) t → Spelled ls t
   marked : {ls : List Line} {t : Tree} (xs : List Line) (l : Line) (ys zs : List Line) → ls ≡ xs ++ l ∷ (ys ++ zs) → AreQuiet xs → is_mark l ≡ true → AreQuiet ys → Node 64 0 zs t → Spelled ls t

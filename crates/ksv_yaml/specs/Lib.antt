@@ -3,5 +3,5 @@ pub mod Grammar
 pub mod Reading
 pub mod Text
 pub mod Faults
-pub mod Outcome
+pub mod Code
 pub mod Keys

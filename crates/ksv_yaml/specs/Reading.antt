@@ -1,5 +1,6 @@
--- Reading from front to back: the same language as a function. A number bounds the calls in each other; it is always enough where the reader starts.
--- None is a refusal. Where several lines could show it, it is found at the earliest, so that a reader by this function can name that line.
+-- Reading from front to back: the same language as a function. A number bounds the nested calls; where the reader
+-- starts it is always enough. None is a refusal. If several lines could show the refusal, it is found at the
+-- earliest, so that a reader that follows this function can name that line.
 use Rattle.std.specs.Prelude.{ℕ, zero, suc, ◌+◌, ◌*◌, ◌++◌, Bool, true, false, ◌&&◌, List, [], ◌∷◌, length, Option, Some, None, nat_lt, ◌==◌, if◌then◌else◌}
 use Rattle.std.specs.Str.{bytes_eq}
 use Rattle.ksv_yaml_tree.specs.Tree.{Tree, Text, Seq, Map, Items, no_items, item, Entries, no_entries, entry}
@@ -24,7 +25,7 @@ is_among key (k ∷ ks) = if bytes_eq k key then true else is_among key ks
 
 -- ---- flow nodes
 
--- a flow node, its items and entries, and what stands behind one of these; `seen` are the keys so far
+-- a flow node, its items and entries, and what comes after one of these; `seen` are the keys so far
 abbrev mutual
   pub flow : ℕ → ℕ → List Token → Option (Got Token Tree)
   flow zero d ts = None
@@ -66,7 +67,7 @@ abbrev pub all_of : Tree → List Token → List Line → Option (Got Line Tree)
 all_of t [] ls = got t ls
 all_of t (u ∷ us) ls = None
 
--- the flow node at the front, with calls enough
+-- the flow node at the front, with enough calls
 abbrev pub flow_in : ℕ → List Token → Option (Got Token Tree)
 flow_in d ts = flow (3 * length ts + 1) d ts
 
@@ -79,7 +80,7 @@ inlined d n Flowing l ls = tokens_of (l ∷ front (is_within n) ls) >>= λ ts. f
 
 -- ---- blocks
 
--- nothing, unless the next line stands before column m
+-- nothing, unless the next line is before column m
 abbrev pub unless_level : {A : Type 0} → ℕ → List Line → Option A → Option A
 unless_level m [] o = o
 unless_level m (l ∷ ls) o = elim (nat_lt l.indent m) [ true ↦ o | false ↦ None ]
@@ -183,12 +184,12 @@ abbrev pub whole : Tree → List Line → Option Tree
 whole t [] = Some t
 whole t (l ∷ ls) = None
 
--- the node of lines that begin with it
+-- the node that these lines begin with, if no line is left
 abbrev pub body : List Line → Option Tree
 body [] = None
 body (l ∷ ls) = node (8 * weight (l ∷ ls) + 8) 64 0 l ls >>= λ x. whole x.value x.rest
 
--- behind the line --- where that is the first
+-- after the line --- if that is the first
 abbrev pub behind_mark : List Line → List Line
 behind_mark [] = []
 behind_mark (l ∷ ls) = elim (is_mark l) [ true ↦ loud ls | false ↦ l ∷ ls ]

@@ -14,7 +14,7 @@ pub(crate) struct Open<'o> {
     pub(crate) around: Option<&'o Open<'o>>,
 }
 
-/// The fault of a line that can't stand where it does; that a quote on it isn't closed comes first.
+/// The fault of a line that isn't allowed here; a quote on it that isn't closed is reported first.
 pub(crate) fn misplaced(alloc: Global, line: Line, kind: ReadKind) -> ReadFault {
     let kind = match read_start(alloc, line.content) {
         Err(ScanError::NoMemory) => return no_memory(),
@@ -28,7 +28,7 @@ pub(crate) fn misplaced(alloc: Global, line: Line, kind: ReadKind) -> ReadFault 
     }
 }
 
-/// The fault of a line that isn't deep enough for the flow node in which it stands.
+/// The fault of a line that isn't deep enough for the flow node that it is in.
 pub(crate) fn misplaced_in(alloc: Global, line: Line, open: Option<&Open>) -> ReadFault {
     let mut kind = ReadKind::Indentation;
     let mut at = open;

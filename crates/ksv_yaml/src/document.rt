@@ -3,7 +3,8 @@
 ghost use Rattle.std.specs.Prelude.{◌≡◌, ◌<◌, ◌≤◌, ℕ, List, max, length, true, false, Some, None, IfOk, IfErr};
 ghost use Rattle.ksv_yaml_tree.specs.Tree.{Tree};
 ghost use Rattle.ksv_yaml_tree.specs.View.{view};
-ghost use Rattle.ksv_yaml.specs.Faults.{wants_memory, names_memory, IsOfLines, Refuses, IsTreeOrNoMemory};
+ghost use Rattle.ksv_yaml.specs.Code.{wants_memory, names_memory, IsOfLines};
+ghost use Rattle.ksv_yaml.specs.Faults.{Refuses, IsTreeOrNoMemory};
 ghost use Rattle.ksv_yaml.specs.Grammar.{is_mark as is_mark_line};
 ghost use Rattle.ksv_yaml.specs.Reading.{behind_mark, tree_of};
 ghost use Rattle.ksv_yaml.specs.Text.{Spells};
@@ -20,12 +21,14 @@ use ksv_yaml_scan::quiet::{is_quiet, skip_quiet};
 use ksv_yaml_tree::Yaml;
 use std::alloc::Global;
 
-/// How many mappings, sequences and flow nodes may stand in each other.
+/// How many mappings, sequences and flow nodes may be nested.
 pub const MAX_DEPTH: u32 = 64;
 
 /// The tree that a text spells.
 ///
-/// A text of more than 1,048,576 bytes is Y2, another that isn't UTF-8 is Y1, on the line of its first bad byte. For another text without a tree the line is the first one such that no text which begins with the lines up to it has a tree, or the last line where there is none.
+/// A text of more than 1,048,576 bytes is Y2. A shorter one that isn't UTF-8 is Y1, on the line of its first bad
+/// byte. For any other text without a tree the line is the first at which the text can no longer become valid,
+/// whatever follows; if it only ends too early, its last line.
 pub fn read(alloc: Global, text: &[u8]) -> Result<Yaml, YamlFault>
     ensures ok { IfOk result (λ tree. Spells text.now (view tree)) }
     ensures err { IfErr result (λ fault. Refuses text.now fault.kind fault.line) }
@@ -41,7 +44,7 @@ pub fn read(alloc: Global, text: &[u8]) -> Result<Yaml, YamlFault>
     }
 }
 
-/// The tree that lines spell among which one with a control character may stand, which has none.
+/// The tree that lines spell; lines with a control character have none.
 fn read_allowed(alloc: Global, lines: &[Line], stray: Option<usize>) -> Result<Yaml, ReadFault>
     ensures allowed { IfOk result (λ _. stray ≡ None) }
     ensures ok { IfOk result (λ tree. tree_of (lines_view lines.now) ≡ Some (view tree)) }
@@ -80,7 +83,7 @@ fn of_text(error: TextError) -> YamlFault
     }
 }
 
-/// The earlier of a fault and a control character, which no line may have: on one line the fault.
+/// The earlier of a fault and a control character, which no line may have; on one line, the fault.
 fn earlier(fault: ReadFault, stray: Option<usize>) -> ReadFault
     ensures { wants_memory fault.kind ≡ true → wants_memory result.kind ≡ true }
 {
@@ -99,7 +102,7 @@ fn earlier(fault: ReadFault, stray: Option<usize>) -> ReadFault
     }
 }
 
-/// The fault as callers see it: on one of the lines, and for a tab where one stands in front of that line.
+/// The fault as callers see it: on one of the lines, and a tab's if one is in front of that line.
 fn on_a_line(fault: ReadFault, lines: &[Line]) -> YamlFault
     ensures low { 0 < result.line }
     ensures high { result.line ≤ max 1 (length lines.now) }
@@ -119,7 +122,7 @@ fn on_a_line(fault: ReadFault, lines: &[Line]) -> YamlFault
     }
 }
 
-/// Whether a tab stands in the white space in front of what the line of this number says.
+/// Whether a tab is in the white space in front of the content of the line of this number.
 fn has_tab(lines: &[Line], number: usize) -> bool {
     match lines.get(number.saturating_sub(1)) {
         Some(line) => line.content.first() == Some(&b'\t') && !is_quiet(line),
@@ -145,7 +148,7 @@ fn read_lines(alloc: Global, lines: &[Line]) -> Result<Yaml, ReadFault>
     }
 }
 
-/// The lines behind the mark `---`, and behind the quiet ones that follow it, where it is the first line.
+/// The lines after the mark `---`, if it is the first line, and after the quiet ones that follow it.
 fn skip_mark<'a, 'b>(lines: &'b [Line<'a>]) -> &'b [Line<'a>]
     ensures { lines_view result.now ≡ behind_mark (lines_view lines.now) }
 {

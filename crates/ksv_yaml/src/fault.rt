@@ -1,7 +1,8 @@
 //! Why a text has no tree.
 
 ghost use Rattle.std.specs.Prelude.{◌≡◌, true, false};
-ghost use Rattle.ksv_yaml.specs.Faults.{code_of, public_kind, wants_memory, lines_want};
+ghost use Rattle.ksv_yaml.specs.Code.{public_kind, wants_memory, lines_want};
+ghost use Rattle.ksv_yaml.specs.Faults.{code_of};
 
 use ksv_yaml_scan::fault::{LineError, LineFault, ScanFault};
 use std::alloc::{AllocError, AllocFailed};
@@ -9,7 +10,8 @@ use thiserror::Error;
 
 /// What is wrong with a text.
 ///
-/// Y2 and Y1 are looked for first, in this order; of the others that are true of the line that is named, the first of Y3, Y5, Y9, Y7, Y4, Y8 and Y6 is given.
+/// Y2 and Y1 are checked first, in this order. Of the others that are true of the line that is named, the first of
+/// Y3, Y5, Y9, Y7, Y4, Y8 and Y6 is given.
 #[derive(Debug, Clone, Copy, Error)]
 pub enum YamlKind {
     /// Y1: the text isn't UTF-8; the line is that of the first bad byte.
@@ -18,16 +20,16 @@ pub enum YamlKind {
     /// Y2: the text has more than 1,048,576 bytes; the line is 1.
     #[error("too long")]
     TooLong,
-    /// Y3: a tab stands in the white space at the front of the line, or between a dash and a block.
+    /// Y3: a tab is in the white space at the front of the line, or between a dash and a block.
     #[error("tab in the indentation")]
     Tab,
-    /// Y4: the line's indentation is that of no open block, and nothing deeper may stand there.
+    /// Y4: the line's indentation is that of no open block, and nothing deeper is allowed there.
     #[error("indentation fits no level")]
     Indentation,
     /// Y5: the mapping has this key already.
     #[error("key twice")]
     KeyTwice,
-    /// Y6: a form of YAML that the subset leaves out, or none at all.
+    /// Y6: a form of YAML that the subset doesn't support, or none at all.
     #[error("left-out form")]
     LeftOut,
     /// Y7: a quote isn't closed on its line, or a bracket at the end of the text.
@@ -36,7 +38,7 @@ pub enum YamlKind {
     /// Y8: a plain scalar with a key's colon inside, or a line that is no entry of the block at its indentation.
     #[error("value in a key's place")]
     ValueForKey,
-    /// Y9: a mapping or sequence stands within 64 others.
+    /// Y9: a mapping or sequence is nested in 64 others.
     #[error("nested too deeply")]
     TooDeep,
     /// Y10: memory was refused.
@@ -64,7 +66,8 @@ impl YamlKind {
     }
 }
 
-/// Why a text has no tree, and the line, from 1, that shows it: no text that begins with the lines up to this one has a tree.
+/// Why a text has no tree, and the line, from 1, that shows it: no text that begins with the lines up to this one
+/// has a tree.
 #[derive(Debug, Clone, Copy, Error)]
 #[error("line {line}: {kind}")]
 pub struct YamlFault {

@@ -3,17 +3,19 @@
 ghost use Rattle.std.specs.Prelude.{◌≡◌, ◌<◌, ◌∷◌, [], List, length, map, IfOk, IfSome, MatchOption};
 ghost use Rattle.ksv_yaml.specs.Reading.{is_among};
 ghost use Rattle.ksv_yaml_tree.specs.View.{pair};
-ghost use Rattle.ksv_yaml.specs.Outcome.{keys_of, behind_close as behind_close_of, behind_close_map as behind_close_map_of, behind_comma as behind_comma_of, key_at as key_at_of, seen_behind, seen_key, GivesFlow, GivesFlowItems, GivesFlowEntries};
+ghost use Rattle.ksv_yaml.specs.Code.{keys_of, behind_close as behind_close_of, behind_close_map as behind_close_map_of, behind_comma as behind_comma_of, key_at as key_at_of, seen_behind, seen_key, GivesFlow, GivesFlowItems, GivesFlowEntries};
 ghost use Rattle.ksv_yaml_scan.specs.Views.{tokens_view};
 
+use crate::block::misplaced;
 use crate::fault::{ReadFault, ReadKind};
 use crate::keys::{add_key, no_keys};
 use crate::make::{make_entry, make_list, make_mapping, make_text};
 use ksv_yaml_scan::flow::{Part, Token};
+use ksv_yaml_scan::line::Line;
 use ksv_yaml_tree::{Entry, Yaml};
 use std::alloc::Global;
 
-/// The part at the front, and those behind it.
+/// The part at the front, and those after it.
 fn next(tokens: &[Token]) -> Option<(&Token, &[Token])>
     ensures { MatchOption result (tokens.now ≡ []) (λ x. tokens.now ≡ x.0.now ∷ x.1.now) }
 {
@@ -23,7 +25,7 @@ fn next(tokens: &[Token]) -> Option<(&Token, &[Token])>
     }
 }
 
-/// What stands behind a `]` at the front.
+/// What comes after a `]` at the front.
 fn behind_close(tokens: &[Token]) -> Option<&[Token]>
     ensures value { seen_behind result ≡ behind_close_of (tokens_view tokens.now) }
     ensures shorter { IfSome result (λ rest. length (tokens_view rest.now) < length (tokens_view tokens.now)) }
@@ -37,7 +39,7 @@ fn behind_close(tokens: &[Token]) -> Option<&[Token]>
     }
 }
 
-/// What stands behind a `}` at the front.
+/// What comes after a `}` at the front.
 fn behind_close_map(tokens: &[Token]) -> Option<&[Token]>
     ensures value { seen_behind result ≡ behind_close_map_of (tokens_view tokens.now) }
     ensures shorter { IfSome result (λ rest. length (tokens_view rest.now) < length (tokens_view tokens.now)) }
@@ -51,7 +53,7 @@ fn behind_close_map(tokens: &[Token]) -> Option<&[Token]>
     }
 }
 
-/// What stands behind a comma at the front.
+/// What comes after a comma at the front.
 fn behind_comma(tokens: &[Token]) -> Option<&[Token]>
     ensures value { seen_behind result ≡ behind_comma_of (tokens_view tokens.now) }
     ensures shorter { IfSome result (λ rest. length (tokens_view rest.now) < length (tokens_view tokens.now)) }
@@ -65,7 +67,7 @@ fn behind_comma(tokens: &[Token]) -> Option<&[Token]>
     }
 }
 
-/// The key at the front with its line, and what stands behind it.
+/// The key at the front with its line, and what comes after it.
 fn key_at(tokens: &[Token]) -> Option<(usize, &[u8], &[Token])>
     ensures value { seen_key result ≡ key_at_of (tokens_view tokens.now) }
     ensures shorter { IfSome result (λ x. length (tokens_view x.2.now) < length (tokens_view tokens.now)) }
@@ -74,27 +76,38 @@ fn key_at(tokens: &[Token]) -> Option<(usize, &[u8], &[Token])>
         return None;
     };
     match &token.part {
-        Part::Key { text } => Some((token.line, text.as_slice(), rest)),
+        Part::Key { text, .. } => Some((token.line, text.as_slice(), rest)),
         _ => None,
     }
 }
 
-/// The fault that this part, or the end of the parts, can't stand here.
+/// The fault if this part, or the end of the parts, isn't allowed here.
 fn unexpected(tokens: &[Token], end: ReadFault) -> ReadFault {
     let [token, ..] = tokens else {
         return end;
     };
-    let kind = match token.part {
-        Part::Key { .. } => ReadKind::ValueForKey,
-        _ => ReadKind::LeftOut,
-    };
     ReadFault {
         line: token.line,
-        kind,
+        kind: unexpected_kind(&token.part),
     }
 }
 
-/// The flow node at the front, in which at most `depth` nodes stand in each other, and the parts behind it; `end` is the fault that no part is left.
+/// The kind of a part that isn't allowed here: a plain scalar with a colon inside, or an unsupported form.
+fn unexpected_kind(part: &Part) -> ReadKind {
+    match part {
+        Part::Key { quoted, .. } => {
+            if *quoted {
+                ReadKind::LeftOut
+            } else {
+                ReadKind::ValueForKey
+            }
+        }
+        _ => ReadKind::LeftOut,
+    }
+}
+
+/// The flow node at the front, with at most `depth` nested nodes, and the parts after it; `end` is the fault if no
+/// part is left.
 #[cycle(flow)]
 pub(crate) fn flow_node(
     alloc: Global,
@@ -133,7 +146,7 @@ pub(crate) fn flow_node(
     }
 }
 
-/// The items up to the bracket that closes them, and the parts behind it.
+/// The items up to the bracket that closes them, and the parts after it.
 #[cycle(flow)]
 fn flow_items(
     alloc: Global,
@@ -162,7 +175,7 @@ fn flow_items(
     }
 }
 
-/// The entries up to the brace that closes them, and the parts behind it.
+/// The entries up to the brace that closes them, and the parts after it.
 #[cycle(flow)]
 fn flow_entries(
     alloc: Global,
@@ -203,7 +216,7 @@ fn flow_entries(
     }
 }
 
-/// The fault that a node stands within 64 others.
+/// The fault of a node that is nested in 64 others.
 pub(crate) fn too_deep(line: usize) -> ReadFault {
     ReadFault {
         line,
@@ -211,24 +224,35 @@ pub(crate) fn too_deep(line: usize) -> ReadFault {
     }
 }
 
-/// The fault of what stands behind a flow node: the first part left, or `end` where none is.
-pub(crate) fn left_over(tokens: &[Token], left: &[Token], end: ReadFault) -> ReadFault {
-    let Some((token, _)) = next(left) else {
-        return end;
+/// The fault of what follows a flow node: these parts, or `end` if there are none. On the node's last line it is an
+/// unsupported form; a line below isn't allowed there.
+pub(crate) fn left_over(
+    alloc: Global,
+    tokens: &[Token],
+    left: &[Token],
+    end: ReadFault,
+    lines: &[Line],
+) -> ReadFault {
+    let fault = match next(left) {
+        Some((token, _)) => ReadFault {
+            line: token.line,
+            kind: ReadKind::LeftOut,
+        },
+        None => end,
     };
-    let before = tokens.len().saturating_sub(left.len()).saturating_sub(1);
-    let kind = match tokens.get(before) {
-        Some(last) => {
-            if last.line == token.line {
-                ReadKind::LeftOut
-            } else {
-                ReadKind::Indentation
-            }
+    for line in lines {
+        if line.number == fault.line && line.number > last_line(tokens, left) {
+            return misplaced(alloc, *line, ReadKind::Indentation);
         }
-        None => ReadKind::LeftOut,
-    };
-    ReadFault {
-        line: token.line,
-        kind,
+    }
+    fault
+}
+
+/// The line of the last part of a flow node after which these parts are left.
+fn last_line(tokens: &[Token], left: &[Token]) -> usize {
+    let count = tokens.len().saturating_sub(left.len());
+    match tokens.get(count.saturating_sub(1)) {
+        Some(last) => last.line,
+        None => 0,
     }
 }

@@ -1,7 +1,7 @@
 //! Keys of a mapping that were read already.
 
 ghost use Rattle.std.specs.Prelude.{◌≡◌, ◌++◌, ◌∷◌, [], List, ℕ, true, not, IfOk, IfErr};
-ghost use Rattle.ksv_yaml.specs.Faults.{wants_memory};
+ghost use Rattle.ksv_yaml.specs.Code.{wants_memory};
 ghost use Rattle.ksv_yaml.specs.Reading.{is_among};
 ghost use Rattle.ksv_yaml.specs.Keys.{HoldsKeys};
 
@@ -16,7 +16,7 @@ pub(crate) fn no_keys(alloc: Global) -> HashSet<Vec<u8>>
     HashSet::new(alloc)
 }
 
-/// Adds a key, and tells whether it is new.
+/// Adds a key, and returns whether it is new.
 pub(crate) fn add_key(
     alloc: Global,
     keys: &mut HashSet<Vec<u8>>,

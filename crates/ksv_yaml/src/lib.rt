@@ -1,8 +1,12 @@
 //! Reads a subset of YAML 1.2 to a tree.
 //!
-//! [`read`] answers with a tree exactly where the text spells one, and with that one. What a text spells is a relation by cases on whole blocks of lines (`specs/Grammar`, `specs/Flow`); that no text spells two trees is the law [`one_tree`].
+//! Unless memory is refused, [`read`] returns a tree exactly if the text spells one, and then that one. What a text
+//! spells is a relation by cases on whole blocks of lines (`specs/Grammar`, `specs/Flow`); that no text spells two
+//! trees is the law [`one_tree`].
 //!
-//! The subset has block and flow mappings and sequences, compact items, plain and quoted scalars, block scalars, comments and one mark `---`. Anchors, aliases, tags, complex keys, directives and several documents are left out.
+//! The subset has block and flow mappings and sequences, compact items, plain and quoted scalars, block scalars,
+//! comments and one mark `---`. Anchors, aliases, tags, complex keys, directives and several documents are
+//! unsupported.
 #![tactic(auto)]
 
 mod block;
@@ -17,6 +21,7 @@ mod scalar;
 ghost use Rattle.std.specs.Prelude.{◌≡◌, ◌≤◌, ℕ, List, Option, Some, None, length, IsUtf8};
 ghost use Rattle.ksv_yaml_tree.specs.Tree.{Tree};
 ghost use Rattle.ksv_yaml.specs.Text.{Spells, tree_of_text};
+ghost use Rattle.ksv_yaml_scan.specs.Text.{text_limit};
 
 pub use document::read;
 pub use fault::{YamlFault, YamlKind};
@@ -29,6 +34,6 @@ pub fn one_tree()
 
 /// Reading finds exactly the tree that a text spells.
 pub fn reading_is_spelling()
-    ensures sound { (text : List ℕ) (t : Tree) → length text ≤ 1048576 → IsUtf8 text → tree_of_text text ≡ Some t → Spells text t }
+    ensures sound { (text : List ℕ) (t : Tree) → length text ≤ text_limit → IsUtf8 text → tree_of_text text ≡ Some t → Spells text t }
     ensures complete { (text : List ℕ) (t : Tree) → Spells text t → tree_of_text text ≡ Some t }
 {}

@@ -1,4 +1,4 @@
-//! Nodes and entries as the reader makes them, each with the plain tree that it is.
+//! Nodes and entries as the reader makes them, each with its plain tree.
 
 ghost use Rattle.std.specs.Prelude.{◌≡◌, map};
 ghost use Rattle.ksv_yaml_tree.specs.Tree.{Tree, Seq};

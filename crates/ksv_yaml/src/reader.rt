@@ -1,9 +1,8 @@
 //! Reads blocks from front to back.
 
 ghost use Rattle.std.specs.Prelude.{◌≡◌, ◌+◌, ◌≤◌, ◌<◌, [], ◌∷◌, true, false, length, IfOk, IfErr, MatchOption};
-ghost use Rattle.ksv_yaml.specs.Faults.{wants_memory};
 ghost use Rattle.ksv_yaml.specs.Reading.{weight};
-ghost use Rattle.ksv_yaml.specs.Outcome.{GivesHere, GivesNode, GivesEntries, GivesItems, GivesValue, GivesItem};
+ghost use Rattle.ksv_yaml.specs.Code.{GivesHere, GivesNode, GivesEntries, GivesItems, GivesValue, GivesItem, wants_memory};
 ghost use Rattle.ksv_yaml_scan.specs.Lines.{loud};
 ghost use Rattle.ksv_yaml_scan.specs.Starts.{Dash, Key, start_of, is_dash as is_dash_start, is_key};
 ghost use Rattle.ksv_yaml_scan.specs.Views.{line_view, lines_view};
@@ -20,14 +19,14 @@ use ksv_yaml_scan::start::{Start, is_dash};
 use ksv_yaml_tree::{Entry, Yaml};
 use std::alloc::Global;
 
-/// Where a loop stands: at a line, with those behind it.
+/// The position of a loop: a line, and those after it.
 #[derive(Clone, Copy)]
 struct Place<'a, 'b> {
     line: Line<'a>,
     rest: &'b [Line<'a>],
 }
 
-/// The first line, and those behind it.
+/// The first line, and those after it.
 pub(crate) fn next<'a, 'b>(lines: &'b [Line<'a>]) -> Option<(Line<'a>, &'b [Line<'a>])>
     ensures { MatchOption result (lines.now ≡ []) (λ x. lines.now ≡ x.0 ∷ x.1.now) }
 {
@@ -37,7 +36,7 @@ pub(crate) fn next<'a, 'b>(lines: &'b [Line<'a>]) -> Option<(Line<'a>, &'b [Line
     }
 }
 
-/// The lines behind the quiet ones at the front, and these are no more to read.
+/// The lines after the quiet ones at the front; their weight is not greater.
 fn skip<'a, 'b>(lines: &'b [Line<'a>]) -> &'b [Line<'a>]
     ensures value { lines_view result.now ≡ loud (lines_view lines.now) }
     ensures shorter { weight (lines_view result.now) ≤ weight (lines_view lines.now) }
@@ -45,7 +44,7 @@ fn skip<'a, 'b>(lines: &'b [Line<'a>]) -> &'b [Line<'a>]
     skip_quiet(lines)
 }
 
-/// The key that begins on a line of a mapping, and what stands behind it.
+/// The key that begins on a line of a mapping, and what comes after it.
 fn read_key<'a>(alloc: Global, line: Line<'a>) -> Result<(Vec<u8>, &'a [u8]), ReadFault>
     ensures ok { IfOk result (λ x. start_of line.entry.content.now ≡ Key x.0.items x.1.now) }
     ensures within { IfOk result (λ x. length x.1.now < length line.entry.content.now) }
@@ -71,7 +70,8 @@ fn no_entry(fault: ReadFault) -> ReadFault
     }
 }
 
-/// What stands behind the dash on a line of a sequence: how many columns further, whether a tab stands between, and the bytes.
+/// What comes after the dash on a line of a sequence: how many columns further, whether a tab is between them, and
+/// the bytes.
 fn read_dash<'a>(alloc: Global, line: Line<'a>) -> Result<(usize, bool, &'a [u8]), ReadFault>
     ensures ok { IfOk result (λ x. start_of line.entry.content.now ≡ Dash (record { columns = x.0; tab = x.1; behind = x.2.now })) }
     ensures within { IfOk result (λ x. (0 < x.0) × (x.0 + length x.2.now ≤ length line.entry.content.now)) }
@@ -87,7 +87,7 @@ fn read_dash<'a>(alloc: Global, line: Line<'a>) -> Result<(usize, bool, &'a [u8]
     }
 }
 
-/// The scalar or flow node behind a key, or behind a dash and a tab, on the line of its entry.
+/// The scalar or flow node after a key, or after a dash and a tab, on the line of its entry.
 fn value_here<'a, 'b>(
     alloc: Global,
     depth: u32,
@@ -115,7 +115,8 @@ fn value_here<'a, 'b>(
     }
 }
 
-/// The fault of an entry or item that stands where a value should; a quoted key is no plain scalar with a colon inside, and behind a dash it is the tab that forbids it.
+/// The fault of an entry or item where a value should be. A quoted key is no plain scalar with a colon inside;
+/// after a dash it is the tab that forbids it.
 fn no_value(line: Line, behind: &[u8], kind: ReadKind) -> ReadFault {
     let kind = if is_dash(line.content) {
         ReadKind::Tab
@@ -130,7 +131,8 @@ fn no_value(line: Line, behind: &[u8], kind: ReadKind) -> ReadFault {
     }
 }
 
-/// The node that begins on a line, none of whose lines stands before the column `floor`, and the lines behind it and the quiet ones that follow; at most `depth` nodes stand in each other.
+/// The node that begins on a line, none of whose lines is before the column `floor`, and the lines after it and the
+/// quiet ones that follow; at most `depth` nested nodes.
 #[cycle(reader)]
 pub(crate) fn node<'a, 'b>(
     alloc: Global,
@@ -216,7 +218,7 @@ fn mapping<'a, 'b>(
     }
 }
 
-/// What stands behind a key, on its line and below it.
+/// What comes after a key, on its line and below it.
 #[cycle(reader)]
 fn value<'a, 'b>(
     alloc: Global,
@@ -305,7 +307,7 @@ fn sequence<'a, 'b>(
     }
 }
 
-/// What stands behind a dash, on its line and below it, as if the dash were a space.
+/// What comes after a dash, on its line and below it, as if the dash were a space.
 #[cycle(reader)]
 fn item<'a, 'b>(
     alloc: Global,

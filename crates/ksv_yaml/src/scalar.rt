@@ -1,9 +1,8 @@
 //! Scalars and flow nodes, which begin on a line and may go on over others.
 
 ghost use Rattle.std.specs.Prelude.{◌≡◌, ◌≤◌, ◌∷◌, [], true, false, length, IfOk, IfErr, MatchOption};
-ghost use Rattle.ksv_yaml.specs.Faults.{wants_memory};
 ghost use Rattle.ksv_yaml.specs.Reading.{weight};
-ghost use Rattle.ksv_yaml.specs.Outcome.{GivesInline};
+ghost use Rattle.ksv_yaml.specs.Code.{GivesInline, wants_memory};
 ghost use Rattle.ksv_yaml_scan.specs.Starts.{Refused, Flowing, start_of};
 ghost use Rattle.ksv_yaml_scan.specs.Views.{line_view, lines_view, kind_view, start_view, StartsWithin};
 
@@ -21,7 +20,7 @@ use ksv_yaml_scan::start::{InlineKind, Start, read_start};
 use ksv_yaml_tree::Yaml;
 use std::alloc::Global;
 
-/// What begins on a line, or in the midst of one, with this content.
+/// What begins on a line, or in the middle of one, with this content.
 pub(crate) fn start_at(alloc: Global, line: usize, content: &[u8]) -> Result<Start<'_>, ReadFault>
     ensures ok { IfOk result (λ s. start_of content.now ≡ start_view s) }
     ensures within { IfOk result (λ s. StartsWithin (length content.now) s) }
@@ -37,9 +36,10 @@ pub(crate) fn start_at(alloc: Global, line: usize, content: &[u8]) -> Result<Sta
     }
 }
 
-/// The scalar or flow node of this kind that begins on a line, and the lines behind it and the quiet ones that follow.
+/// The scalar or flow node of this kind that begins on a line, and the lines after it and the quiet ones that
+/// follow.
 ///
-/// It goes on over lines none of which stands before the column `floor`, and at most `depth` flow nodes stand in each other.
+/// It continues on lines none of which is before the column `floor`, with at most `depth` nested flow nodes.
 pub(crate) fn scalar<'a, 'b>(
     alloc: Global,
     depth: u32,
@@ -66,7 +66,7 @@ pub(crate) fn scalar<'a, 'b>(
     }
 }
 
-/// The flow node that begins on a line, and the lines behind it and the quiet ones that follow.
+/// The flow node that begins on a line, and the lines after it and the quiet ones that follow.
 fn flow<'a, 'b>(
     alloc: Global,
     depth: u32,
@@ -88,15 +88,16 @@ fn flow<'a, 'b>(
         Err(fault) => return Err(named(alloc, fault, behind, open)),
     };
     if parts.fault.is_some() {
-        return Err(left_over(&parts.tokens, left, end));
+        return Err(left_over(alloc, &parts.tokens, left, end, lines));
     }
     if !left.is_empty() {
-        return Err(left_over(&parts.tokens, left, end));
+        return Err(left_over(alloc, &parts.tokens, left, end, lines));
     }
     Ok((tree, behind))
 }
 
-/// The fault of a flow node that ends with these lines before it is closed: it stands on the next line, or at the end of the text.
+/// The fault of a flow node that ends with these lines before it is closed: it is on the next line, or at the end
+/// of the text.
 fn not_closed(first: Line, lines: &[Line], behind: &[Line]) -> ReadFault {
     let line = match behind.first() {
         Some(next) => next.number,
@@ -111,7 +112,7 @@ fn not_closed(first: Line, lines: &[Line], behind: &[Line]) -> ReadFault {
     }
 }
 
-/// The fault of a flow node with the kind that it has where the node was cut short by a line that isn't deep enough.
+/// The fault of a flow node, with its kind if the node was cut short by a line that isn't deep enough.
 fn named(alloc: Global, fault: ReadFault, behind: &[Line], open: Option<&Open>) -> ReadFault
     ensures { wants_memory fault.kind ≡ true → wants_memory result.kind ≡ true }
 {

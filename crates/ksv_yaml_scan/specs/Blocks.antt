@@ -1,4 +1,5 @@
--- Block scalars: what their lines say together (YAML 1.2, chapter 8.1, without indentation indicators and `+`, and with a rule of this subset: a blank line that is longer than the indentation is content, also at the end).
+-- Block scalars: the text of their lines together (YAML 1.2, chapter 8.1, without indentation indicators and `+`,
+-- and with a rule of this subset: a blank line that is longer than the indentation is content, also at the end).
 use Rattle.std.specs.Prelude.{ℕ, zero, suc, ◌-◌, ◌++◌, Bool, true, false, not, ◌||◌, ◌&&◌, List, [], ◌∷◌, map, replicate, Option, Some, None, nat_le, if◌then◌else◌}
 use Rattle.ksv_yaml_scan.specs.Lines.{Line, is_white, is_nil}
 
@@ -17,7 +18,7 @@ abbrev pub inner_indent : List Line → Option ℕ
 inner_indent [] = None
 inner_indent (l ∷ ls) = if is_blank l then inner_indent ls else Some l.indent
 
--- no line that isn't blank stands before this column
+-- no line that isn't blank begins before this column
 abbrev pub is_level : ℕ → List Line → Bool
 is_level m [] = true
 is_level m (l ∷ ls) = (is_blank l || nat_le m l.indent) && is_level m ls
@@ -34,7 +35,7 @@ pub record Row : Type 0 where
   pub text : List ℕ
   pub ended : Bool
 
--- so many spaces, and what stands behind them
+-- this many spaces, and what comes after them
 abbrev pub make_row : ℕ → List ℕ → Bool → Row
 make_row k content ended = record { text = replicate k 32 ++ content; ended = ended }
 
@@ -42,7 +43,7 @@ make_row k content ended = record { text = replicate k 32 ++ content; ended = en
 abbrev pub row : ℕ → Line → Row
 row m l = make_row (l.indent - m) l.content l.ended
 
--- one more row at the front, but for an empty one that is the last
+-- one more row at the front, unless it is empty and the last
 abbrev pub add_row : Row → List Row → List Row
 add_row r [] = if is_nil r.text then [] else (r ∷ [])
 add_row r (s ∷ ss) = r ∷ s ∷ ss
@@ -65,13 +66,14 @@ abbrev pub starts_white : List ℕ → Bool
 starts_white [] = false
 starts_white (c ∷ cs) = is_white c
 
--- what `>` puts between two rows that aren't empty, with k empty ones between them; whether one of the two begins with white space
+-- what `>` puts between two rows that aren't empty, with k empty ones between them, given whether one of the two
+-- begins with white space
 abbrev pub between : Bool → ℕ → List ℕ
 between true k = replicate (suc k) 10
 between false zero = 32 ∷ []
 between false (suc k) = replicate (suc k) 10
 
--- what `>` makes of the rows behind one that isn't empty (whether it begins with white space) and k empty ones
+-- what `>` gives for the rows after one that isn't empty (whether it begins with white space) and k empty ones
 abbrev pub folded_on : Bool → ℕ → List Row → List ℕ
 folded_on w k [] = []
 folded_on w k (r ∷ rs) = if is_nil r.text then folded_on w (suc k) rs else between (w || starts_white r.text) k ++ (r.text ++ folded_on (starts_white r.text) 0 rs)
@@ -91,11 +93,11 @@ last_end (r ∷ s ∷ rs) = last_end (s ∷ rs)
 abbrev pub text_of_rows : Bool → Bool → List Row → List ℕ
 text_of_rows fold keep rs = (if fold then folded rs else literal rs) ++ (if keep then last_end rs else [])
 
--- the text of lines, by their indentation; all of them blank, they say nothing
+-- the text of lines, by their indentation; if all are blank, the empty text
 abbrev pub text_at : Bool → Bool → List Line → Option ℕ → Option (List ℕ)
 text_at fold keep ls None = Some []
 text_at fold keep ls (Some m) = if is_level m ls && is_led m ls then Some (text_of_rows fold keep (filled (map (row m) ls))) else None
 
--- the text that a block scalar's lines are
+-- the text of a block scalar's lines
 abbrev pub block_text : Bool → Bool → List Line → Option (List ℕ)
 block_text fold keep ls = text_at fold keep ls (inner_indent ls)

@@ -1,7 +1,7 @@
 -- Quoted scalars on one line (YAML 1.2, sections 7.3.1, 7.3.2 and 5.7, with the escapes of this subset).
 use Rattle.std.specs.Prelude.{ℕ, zero, suc, ◌+◌, ◌*◌, ◌/◌, ◌%◌, ◌-◌, ◌++◌, Bool, ◌||◌, ◌&&◌, List, [], ◌∷◌, Option, Some, None, ◌==◌, nat_lt, nat_le, if◌then◌else◌}
 
--- The text between quotes, and what stands behind the closing one.
+-- The text between quotes, and what comes after the closing one.
 pub record Quote : Type 0 where
   pub text : List ℕ
   pub rest : List ℕ
@@ -11,7 +11,8 @@ abbrev pub with_bytes : List ℕ → Option Quote → Option Quote
 with_bytes bs None = None
 with_bytes bs (Some q) = Some (record { text = bs ++ q.text; rest = q.rest })
 
--- Where the text stands: between characters, behind a single quote that may be the last, behind a backslash, or among hexadecimal digits.
+-- The place in the text: between characters, after a single quote that may be the last, after a backslash, or among
+-- hexadecimal digits.
 pub data Place : Type 0 where
   Between : Place
   AtQuote : Place
@@ -19,18 +20,19 @@ pub data Place : Type 0 where
   -- how many digits are missing, and the number so far
   Digits : ℕ → ℕ → Place
 
--- What a byte does there: it ends the text (what is behind), it can't stand there, or it adds bytes and leads to a place.
+-- What a byte does there: it ends the text (with what comes after it), it isn't allowed there, or it adds bytes and
+-- leads to a place.
 pub data Step : Type 0 where
   Ends : List ℕ → Step
   Fails : Step
   Adds : List ℕ → Place → Step
 
--- between single quotes, where a quote is written twice
+-- between single quotes, where a quote is doubled
 abbrev pub single : Place → ℕ → List ℕ → Step
 single AtQuote c cs = if c == 39 then Adds (39 ∷ []) Between else Ends (c ∷ cs)
 single m c cs = if c == 39 then Adds [] AtQuote else Adds (c ∷ []) Between
 
--- the number that a hexadecimal digit, in either case, stands for
+-- the number of a hexadecimal digit, in either case
 abbrev pub hex_digit : ℕ → Option ℕ
 hex_digit c = if nat_le 48 c && nat_le c 57 then Some (c - 48) else (if nat_le 65 c && nat_le c 70 then Some (c - 55) else (if nat_le 97 c && nat_le c 102 then Some (c - 87) else None))
 
@@ -53,7 +55,7 @@ digit zero n (Some x) = Fails
 digit (suc zero) n (Some x) = character (n * 16 + x)
 digit (suc (suc k)) n (Some x) = Adds [] (Digits (suc k) (n * 16 + x))
 
--- the byte that a letter behind a backslash stands for: \" \\ \/ \0 \a \b \t \n \v \f \r \e
+-- the byte of a letter after a backslash: \" \\ \/ \0 \a \b \t \n \v \f \r \e
 abbrev pub letter_of : ℕ → Option ℕ
 letter_of c =
     if (c == 34) || ((c == 92) || (c == 47)) then Some c
@@ -72,7 +74,7 @@ abbrev pub letter : Option ℕ → Step
 letter None = Fails
 letter (Some b) = Adds (b ∷ []) Between
 
--- what stands behind a backslash: \xHH, \uHHHH or a letter
+-- what may come after a backslash: \xHH, \uHHHH or a letter
 abbrev pub escape : ℕ → Step
 escape c = if c == 120 then Adds [] (Digits 2 0) else (if c == 117 then Adds [] (Digits 4 0) else letter (letter_of c))
 
@@ -82,7 +84,7 @@ double Escaped c cs = escape c
 double (Digits k n) c cs = digit k n (hex_digit c)
 double m c cs = if c == 34 then Ends cs else (if c == 92 then Adds [] Escaped else Adds (c ∷ []) Between)
 
--- a step, and what the rest of the line says from the place to which it leads
+-- a step, and the text of the rest of the line from the place to which it leads
 abbrev pub act : Step → (Place → Option Quote) → Option Quote
 act (Ends rest) f = Some (record { text = []; rest = rest })
 act Fails f = None
@@ -103,7 +105,7 @@ abbrev pub quote_of : List ℕ → Option Quote
 quote_of [] = None
 quote_of (c ∷ cs) = if c == 39 then inside single Between cs else (if c == 34 then inside double Between cs else None)
 
--- the text behind digits of which k are missing, where the number so far is n
+-- the text after digits of which k are missing, where the number so far is n
 abbrev pub digits_from : ℕ → ℕ → List ℕ → Option Quote
 digits_from zero n cs = act (character n) (λ m. inside double m cs)
 digits_from (suc k) n cs = inside double (Digits (suc k) n) cs

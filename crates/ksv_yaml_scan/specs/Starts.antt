@@ -13,7 +13,7 @@ pub data InlineKind : Type 0 where
   Block : Bool → Bool → InlineKind
   Flowing : InlineKind
 
--- A dash: how many columns further what stands behind it begins, whether a tab stands between, and what stands there.
+-- A dash: how many columns after it its content begins, whether a tab is between them, and the content.
 pub record Dashed : Type 0 where
   pub columns : ℕ
   pub tab : Bool
@@ -23,12 +23,12 @@ pub record Dashed : Type 0 where
 pub data Start : Type 0 where
   Nothing : Start
   Dash : Dashed → Start
-  -- the key, and what stands behind its colon
+  -- the key, and what comes after its colon
   Key : List ℕ → List ℕ → Start
   Inline : InlineKind → Start
   Refused : Start
 
--- a quote stands here
+-- a quote is here
 abbrev pub starts_quote : List ℕ → Bool
 starts_quote [] = false
 starts_quote (c ∷ cs) = (c == 39) || (c == 34)
@@ -38,12 +38,12 @@ abbrev pub dash_of : List ℕ → Option Dashed
 dash_of [] = None
 dash_of (c ∷ cs) = if (c == 45) && white_or_end cs then Some (record { columns = suc (columns cs); tab = has_tab cs; behind = shown cs }) else None
 
--- a quoted key, where a colon before white space or the line's end stands here
+-- a quoted key, if a colon before white space or the line's end is here
 abbrev pub key_at_colon : List ℕ → List ℕ → Option (List ℕ × List ℕ)
 key_at_colon key [] = None
 key_at_colon key (c ∷ cs) = if (c == 58) && white_or_end cs then Some (key, shown cs) else None
 
--- a quoted key; white space may stand before its colon
+-- a quoted key; white space may come before its colon
 abbrev pub key_of_quote : Option Quote → Option (List ℕ × List ℕ)
 key_of_quote None = None
 key_of_quote (Some q) = key_at_colon q.text (skip q.rest)
@@ -53,7 +53,7 @@ abbrev pub key_of_run : List ℕ → Ending → Option (List ℕ × List ℕ)
 key_of_run text (Colon rest) = Some (text, shown rest)
 key_of_run text e = None
 
--- a key, and what stands behind its colon
+-- a key, and what comes after its colon
 abbrev pub key_of : List ℕ → Option (List ℕ × List ℕ)
 key_of cs = if starts_plain cs then (let r = run false false cs in key_of_run r.text r.ending) else key_of_quote (quote_of cs)
 
@@ -62,12 +62,12 @@ abbrev pub plain_kind : Option (List ℕ × Bool) → Option InlineKind
 plain_kind None = None
 plain_kind (Some p) = Some (Plain p.0 p.1)
 
--- a quoted scalar, behind which nothing but a comment stands
+-- a quoted scalar with nothing after it but a comment
 abbrev pub quoted_kind : Option Quote → Option InlineKind
 quoted_kind None = None
 quoted_kind (Some q) = if is_clear q.rest then Some (Quoted q.text) else None
 
--- a block scalar, by what stands behind | or >: a dash, and then nothing but a comment
+-- a block scalar, by what comes after | or >: perhaps a dash, and then nothing but a comment
 abbrev pub block_kind : Bool → List ℕ → Option InlineKind
 block_kind folded [] = Some (Block folded true)
 block_kind folded (c ∷ cs) = if c == 45 then (if is_clear cs then Some (Block folded false) else None) else (if is_clear (c ∷ cs) then Some (Block folded true) else None)
@@ -91,7 +91,7 @@ start_by false None (Some k) i = Key k.0 k.1
 start_by false None None (Some i) = Inline i
 start_by false None None None = Refused
 
--- what begins on a line with this content; no two of the cases are true at once, but for Nothing
+-- what begins on a line with this content; except for Nothing, only one of the cases is true
 abbrev pub start_of : List ℕ → Start
 start_of cs = start_by (is_nil (shown cs)) (dash_of cs) (key_of cs) (kind_of cs)
 

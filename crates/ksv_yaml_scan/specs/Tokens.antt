@@ -13,17 +13,17 @@ pub data Token : Type 0 where
   Comma : Token
   -- whether it is quoted, and its text
   Scalar : ℕ → Bool → List ℕ → Token
-  -- a scalar with a colon behind it on its line
+  -- a scalar with a colon after it on its line
   Key : ℕ → List ℕ → Token
 
--- What stands at the front: no part, nothing more on the line, white space, or a part, each with what is behind it.
+-- What is at the front: no part, nothing more on the line, white space, or a part, each with what comes after it.
 pub data Cut : Type 0 where
   Bad : Cut
   Over : Cut
   White : List ℕ → Cut
   Part : Token → List ℕ → Cut
 
--- a quoted scalar, by what stands behind it and the white space: its colon needs none behind it
+-- a quoted scalar, by what comes after it and the white space; its colon needs no white space after it
 abbrev pub quoted_part : ℕ → Quote → List ℕ → Cut
 quoted_part number q [] = Part (Scalar number true q.text) []
 quoted_part number q (c ∷ cs) = if c == 58 then Part (Key number q.text) cs else Part (Scalar number true q.text) q.rest
@@ -44,7 +44,7 @@ plain_cut number text End = Part (Scalar number false text) []
 abbrev pub plain_part : ℕ → Run → Cut
 plain_part number r = plain_cut number r.text r.ending
 
--- what stands at the front; whether white space or the line's start stands before it, as a comment needs
+-- what is at the front; given whether white space or the line's start is before it, as a comment requires
 abbrev pub cut : ℕ → Bool → List ℕ → Cut
 cut number w [] = Over
 cut number w (c ∷ cs) =
@@ -64,7 +64,7 @@ abbrev pub with_token : Token → Option (List Token) → Option (List Token)
 with_token t None = None
 with_token t (Some ts) = Some (t ∷ ts)
 
--- what stands at the front, and the parts behind it
+-- what is at the front, and the parts after it
 abbrev pub line_by : Cut → (Bool → List ℕ → Option (List Token)) → Option (List Token)
 line_by Bad f = None
 line_by Over f = Some []
@@ -82,7 +82,7 @@ both None o = None
 both (Some ts) None = None
 both (Some ts) (Some us) = Some (ts ++ us)
 
--- the parts on lines; each is of one line
+-- the parts on lines; each part is on one line
 abbrev pub tokens_of : List Line → Option (List Token)
 tokens_of [] = Some []
 tokens_of (l ∷ ls) = both (line_tokens (suc (length l.content)) l.number true l.content) (tokens_of ls)

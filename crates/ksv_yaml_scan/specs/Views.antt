@@ -1,4 +1,4 @@
--- What the code's values are to the definitions.
+-- The plain data of the code's values.
 use Rattle.std.specs.Prelude.{◌≡◌, ℕ, suc, true, ◌+◌, ◌<◌, ◌≤◌, Bool, List, length, map, Option, Some, None}
 use Rattle.std.specs.Borrow.{Bor}
 use Rattle.ksv_yaml_scan.specs.declared.line.Line.{Line as CodeLine}
@@ -29,11 +29,11 @@ use Rattle.ksv_yaml_scan.specs.Text.{IsTooLong, IsNotUtf8}
 use Rattle.ksv_yaml_scan.specs.Starts.{InlineKind, Plain, Quoted, Block, Flowing, Start, Nothing, Dash, Key, Inline}
 use Rattle.ksv_yaml_scan.specs.Tokens.{Token, Open, Close, OpenMap, CloseMap, Comma, Scalar, Key as KeyToken, Cut, Bad, Over, White, Part as PartCut, line_tokens, both}
 
--- a line without where it lies in memory
+-- a line as plain data
 abbrev pub line_view : CodeLine → Line
 line_view l = record { number = l.number; indent = l.indent; content = l.content.now; ended = l.ended }
 
--- lines without where they lie in memory
+-- lines as plain data
 abbrev pub lines_view : List CodeLine → List Line
 lines_view ls = map line_view ls
 
@@ -52,13 +52,13 @@ run_view r = record { text = r.text.now; ending = ending_view r.ending }
 abbrev pub more_view : Bor (List ℕ) × Bool → List ℕ × Bool
 more_view x = (x.0.now, x.1)
 
--- what stands behind a plain run has at most this length, and less behind a colon
+-- what comes after a plain run has at most this length, and less after a colon
 abbrev pub EndsWithin : ℕ → CodeEnding → Type 0
 EndsWithin n (endings.Colon rest) = length rest.now < n
 EndsWithin n (endings.Bracket rest) = length rest.now ≤ n
 EndsWithin n e = Unit {0}
 
--- a quoted scalar, and what is behind it
+-- a quoted scalar, and what comes after it
 abbrev pub quote_view : CodeQuote → Quote
 quote_view q = record { text = q.text.items; rest = q.rest.now }
 
@@ -76,7 +76,8 @@ start_view (starts.Dash columns tab behind) = Dash (record { columns = columns; 
 start_view (starts.Key key behind) = Key key.items behind.now
 start_view (starts.Inline kind) = Inline (kind_view kind)
 
--- what stands behind a dash or a key is shorter than the content, and no dash is more columns wide than the rest
+-- what comes after a key is shorter than the content; the columns of a dash, at least one, and what comes after it
+-- are together no longer than the content
 abbrev pub StartsWithin : ℕ → CodeStart → Type 0
 StartsWithin n (starts.Dash columns tab behind) = (0 < columns) × (columns + length behind.now ≤ n)
 StartsWithin n (starts.Key key behind) = length behind.now < n
@@ -90,7 +91,7 @@ part_view n parts.OpenMap = OpenMap n
 part_view n parts.CloseMap = CloseMap
 part_view n parts.Comma = Comma
 part_view n (parts.Scalar quoted text) = Scalar n quoted text.items
-part_view n (parts.Key text) = KeyToken n text.items
+part_view n (parts.Key quoted text) = KeyToken n text.items
 
 -- a part
 abbrev pub token_view : CodeToken → Token
@@ -100,7 +101,7 @@ token_view t = part_view t.line t.part
 abbrev pub tokens_view : List CodeToken → List Token
 tokens_view ts = map token_view ts
 
--- what stands at the front of a line's content, on a line of this number
+-- what is at the front of a line's content, on a line of this number
 abbrev pub cut_view : ℕ → CodeCut → Cut
 cut_view n cuts.Over = Over
 cut_view n (cuts.Bad fault) = Bad
@@ -116,23 +117,23 @@ abbrev pub LineAdds : Line → List CodeToken → List CodeToken → Option Line
 LineAdds l old new None = both (Some (tokens_view old)) (parts_of l) ≡ Some (tokens_view new)
 LineAdds l old new (Some fault) = (parts_of l ≡ None) × (fault.line ≡ l.number)
 
--- a refusal of a line says this, want of memory aside
+-- this follows from a refusal of a line, unless memory ran out
 abbrev pub Unless : ScanError → Type 0 → Type 0
 Unless (scan.Fault fault) P = P
 Unless scan.NoMemory P = Unit {0}
 
--- a refusal of lines says this, and names one of them, want of memory aside
+-- this follows from a refusal of lines, which names one of them, unless memory ran out
 abbrev pub UnlessOn : LineError → List Line → Type 0 → Type 0
 UnlessOn (on_line.Fault fault) ls P = P × HasNumber ls fault.line
 UnlessOn on_line.NoMemory ls P = Unit {0}
 
--- what the refusal of a text says, want of memory aside
+-- what the refusal of a text means, unless memory ran out
 abbrev pub RefusesText : List ℕ → TextError → Type 0
 RefusesText text of_text.TooLong = IsTooLong text
 RefusesText text (of_text.NotUtf8 line) = IsNotUtf8 text line
 RefusesText text of_text.NoMemory = Unit {0}
 
--- the parts that stand on lines, or a fault of one of these
+-- the parts on lines, or a fault of one of these
 abbrev pub PartsAre : List Line → Option (List Token) → List CodeToken → Option LineFault → Type 0
 PartsAre ls o ts None = o ≡ Some (tokens_view ts)
 PartsAre ls o ts (Some fault) = (o ≡ None) × HasNumber ls fault.line

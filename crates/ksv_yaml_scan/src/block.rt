@@ -14,7 +14,7 @@ use std::alloc::{AllocError, Global};
 
 /// The text of a block scalar of these lines.
 ///
-/// `folded` says that it is one of `>`, and `keep` that its last line end is kept, so that no `-` stands behind the sign.
+/// `folded` means that its sign is `>`, and `keep` that its last line end is kept: no `-` follows the sign.
 pub fn block_scalar(
     alloc: Global,
     folded: bool,
@@ -28,10 +28,10 @@ pub fn block_scalar(
         return Ok(Vec::new(alloc));
     };
     if !is_led(lines, first.indent) {
-        return Err(LineError::Fault(misplaced(first.number)));
+        return Err(LineError::Fault(misplaced(first)));
     }
-    if let Some(number) = shallow_line(lines, first.indent) {
-        return Err(LineError::Fault(misplaced(number)));
+    if let Some(line) = shallow_line(lines, first.indent) {
+        return Err(LineError::Fault(misplaced(line)));
     }
     let Joined {
         mut text,
@@ -42,13 +42,17 @@ pub fn block_scalar(
     Ok(text)
 }
 
-/// The indentation of this line is wrong.
-fn misplaced(line: usize) -> LineFault
-    ensures { result.line ≡ line }
+/// The indentation of this line is wrong, or has a tab in it.
+fn misplaced(line: Line) -> LineFault
+    ensures { result.line ≡ line.entry.number }
 {
+    let fault = match line.content.first() {
+        Some(b'\t') => ScanFault::Tab,
+        _ => ScanFault::Indentation,
+    };
     LineFault {
-        line,
-        fault: ScanFault::Indentation,
+        line: line.number,
+        fault,
     }
 }
 
@@ -80,13 +84,13 @@ fn is_led(lines: &[Line], indent: usize) -> bool
     true
 }
 
-/// The number of the first line that isn't blank and has less than this indentation.
-fn shallow_line(lines: &[Line], indent: usize) -> Option<usize>
-    ensures { MatchOption result (is_level_at indent (lines_view lines.now) ≡ true) (λ n. (is_level_at indent (lines_view lines.now) ≡ false) × HasNumber (lines_view lines.now) n) }
+/// The first line that isn't blank and has less than this indentation.
+fn shallow_line<'a>(lines: &[Line<'a>], indent: usize) -> Option<Line<'a>>
+    ensures { MatchOption result (is_level_at indent (lines_view lines.now) ≡ true) (λ l. (is_level_at indent (lines_view lines.now) ≡ false) × HasNumber (lines_view lines.now) l.number) }
 {
     for line in lines {
         if !line.content.is_empty() && line.indent < indent {
-            return Some(line.number);
+            return Some(*line);
         }
     }
     None
@@ -97,9 +101,9 @@ fn shallow_line(lines: &[Line], indent: usize) -> Option<usize>
 struct Joined {
     /// Their text.
     text: Vec<u8>,
-    /// Whether the last row that isn't empty begins with white space; nothing where there is none.
+    /// Whether the last row that isn't empty begins with white space; None if there is no such row.
     before: Option<bool>,
-    /// How many empty rows stand behind that.
+    /// How many empty rows come after it.
     empty: usize,
     /// Whether it has a line end.
     ended: bool,
@@ -128,7 +132,7 @@ fn join_rows(
     Ok(joined)
 }
 
-/// Adds the row of a line that has so many spaces more than the indentation.
+/// Adds the row of a line that has this many spaces more than the indentation.
 fn push_row(joined: &mut Joined, folded: bool, spaces: usize, line: Line) -> Result<(), AllocError>
     requires { joined.old.empty < usize.MAX }
     ensures text { OnOk result ((rs : List Row) → joined.new.text.items ++ rows_on folded joined.new.before joined.new.empty rs ≡ joined.old.text.items ++ rows_on folded joined.old.before joined.old.empty (make_row spaces line.entry.content.now line.entry.ended ∷ rs)) }
@@ -149,7 +153,7 @@ fn push_row(joined: &mut Joined, folded: bool, spaces: usize, line: Line) -> Res
     Ok(())
 }
 
-/// Whether nothing stands in a row.
+/// Whether a row is empty.
 fn is_empty_row(spaces: usize, content: &[u8]) -> bool
     ensures { result ≡ is_nil (replicate spaces 32 ++ content.now) }
 {
@@ -169,7 +173,8 @@ fn starts_white(spaces: usize, content: &[u8]) -> bool
     }
 }
 
-/// Adds what stands between the row before, if there is one, and a row, where so many empty ones stand between; the truth values say whether the two begin with white space.
+/// Adds what is between a row and the one before it, if there is one, with this many empty rows between them. The
+/// truth values are whether the two begin with white space.
 fn push_gap(
     text: &mut Vec<u8>,
     folded: bool,
@@ -199,7 +204,7 @@ fn push_end(text: &mut Vec<u8>, keep: bool, ended: bool) -> Result<(), AllocErro
     Ok(())
 }
 
-/// Adds a byte so many times.
+/// Adds a byte this many times.
 fn push_all(text: &mut Vec<u8>, byte: u8, count: usize) -> Result<(), AllocError>
     ensures { OnOk result (text.new.items ≡ text.old.items ++ replicate count byte) }
 {

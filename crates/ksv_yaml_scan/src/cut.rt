@@ -18,11 +18,12 @@ pub const MAX_LENGTH: usize = 1_048_576;
 pub struct Text<'a> {
     /// The lines, in order.
     pub lines: Vec<Line<'a>>,
-    /// The number of the first line with a control character, tab and line end aside, which no line may have.
+    /// The number of the first line with a control character, which no line may have; a tab and a line end are
+    /// none.
     pub stray: Option<usize>,
 }
 
-/// The bytes up to a line end or the end of the text, whether there is a line end, and what is behind it.
+/// The bytes up to a line end or the end of the text, whether there is a line end, and what comes after it.
 #[derive(Clone, Copy)]
 struct FirstLine<'a> {
     bytes: &'a [u8],
@@ -32,7 +33,7 @@ struct FirstLine<'a> {
 
 /// Cuts a text into lines, each up to LF or CR LF; a byte order mark at the start is skipped.
 ///
-/// A text of more than [`MAX_LENGTH`] bytes is `TooLong`, another that isn't UTF-8 is `NotUtf8`.
+/// A text of more than [`MAX_LENGTH`] bytes is `TooLong`, any other that isn't UTF-8 is `NotUtf8`.
 pub fn cut(alloc: Global, text: &[u8]) -> Result<Text<'_>, TextError>
     ensures ok { IfOk result (λ t. IsCut text.now (lines_view t.lines.items) t.stray) }
     ensures err { IfErr result (λ e. RefusesText text.now e) }
@@ -50,7 +51,7 @@ pub fn cut(alloc: Global, text: &[u8]) -> Result<Text<'_>, TextError>
     }
 }
 
-/// The number of the line on which the byte at a place stands.
+/// The number of the line of the byte at a place.
 fn line_at(text: &[u8], place: usize) -> usize
     requires { place ≤ length text.now }
     ensures { result ≡ number_at text.now place }
@@ -58,7 +59,7 @@ fn line_at(text: &[u8], place: usize) -> usize
     text[..place].iter().filter(|byte| **byte == b'\n').count() + 1
 }
 
-/// What stands behind a byte order mark.
+/// What comes after a byte order mark.
 fn unmarked(text: &[u8]) -> &[u8]
     ensures value { result.now ≡ unmarked_of text.now }
     ensures shorter { length result.now ≤ length text.now }
@@ -111,7 +112,7 @@ fn first_line(text: &[u8]) -> Option<FirstLine<'_>>
     }
 }
 
-/// The number of the first line with a control character, where this line follows.
+/// The number of the first line with a control character, this line included.
 fn first_stray(stray: Option<usize>, number: usize, bytes: &[u8]) -> Option<usize>
     ensures { result ≡ option_or stray (if is_clean_of bytes.now then None else Some number) }
 {
@@ -155,7 +156,7 @@ fn make_line(number: usize, bytes: &[u8], ended: bool) -> Line<'_>
     }
 }
 
-/// How many spaces stand at the front.
+/// How many spaces are at the front.
 fn spaces(bytes: &[u8]) -> usize
     ensures value { result ≡ spaces_of bytes.now }
     ensures within { result ≤ length bytes.now }
@@ -168,7 +169,7 @@ fn spaces(bytes: &[u8]) -> usize
     bytes.len()
 }
 
-/// Whether no control character but a tab stands in these bytes of UTF-8.
+/// Whether these bytes of UTF-8 have no control character except tabs.
 fn is_clean(bytes: &[u8]) -> bool
     ensures { result ≡ is_clean_of bytes.now }
 {
@@ -189,7 +190,7 @@ fn is_wide_control(first: u8, second: u8) -> bool
     first == 194 && second < 160
 }
 
-/// Whether the byte is no control character below 128 but a tab.
+/// Whether the byte is a tab, or no control character below 128.
 fn is_clean_byte(byte: u8) -> bool
     ensures { result ≡ is_clean_byte_of byte }
 {

@@ -1,4 +1,4 @@
-//! What is wrong with a text, or with what stands on a line.
+//! What is wrong with a text, or with what is on a line.
 
 ghost use Rattle.std.specs.Prelude.{◌≡◌};
 ghost use Rattle.ksv_yaml_scan.specs.declared.fault.ScanError.TheVariants as scan;
@@ -6,18 +6,19 @@ ghost use Rattle.ksv_yaml_scan.specs.declared.fault.LineError.TheVariants as on_
 
 use std::alloc::{AllocError, AllocFailed};
 
-/// What is wrong with what stands on a line.
+/// What is wrong with what is on a line.
 #[derive(Debug, Clone, Copy)]
 pub enum ScanFault {
-    /// A tab stands in front of what begins on the line.
+    /// A tab is in front of what begins on the line.
     Tab,
     /// A quote has no end on its line.
     NotClosed,
-    /// A line of a block scalar has less than the scalar's indentation, or its first line that isn't blank stands behind a blank line of more spaces.
+    /// A line of a block scalar has less than the scalar's indentation, or its first line that isn't blank comes
+    /// after a blank line of more spaces.
     Indentation,
-    /// A colon before white space or the line's end stands in a line that goes on with a plain scalar.
+    /// In a line that continues a plain scalar there is a colon before white space or the line's end.
     ValueForKey,
-    /// A form of YAML that the subset leaves out, or none at all.
+    /// A form of YAML that the subset doesn't support, or none at all.
     LeftOut,
 }
 
@@ -53,7 +54,7 @@ pub enum LineError {
 pub enum TextError {
     /// It has more than [`crate::cut::MAX_LENGTH`] bytes.
     TooLong,
-    /// It isn't UTF-8; the first bad byte stands on this line.
+    /// It isn't UTF-8; the first bad byte is on this line.
     NotUtf8 { line: usize },
     /// Memory ran out.
     NoMemory,

@@ -38,33 +38,33 @@ pub enum Part {
     Comma,
     /// A scalar that no colon follows on its line.
     Scalar { quoted: bool, text: Vec<u8> },
-    /// A scalar, and the colon behind it.
-    Key { text: Vec<u8> },
+    /// A scalar, and the colon after it.
+    Key { quoted: bool, text: Vec<u8> },
 }
 
-/// The parts that stand on lines.
+/// The parts that are on lines.
 #[derive(Drop)]
 pub struct FlowParts {
     /// The parts, in order, up to the fault if there is one.
     pub tokens: Vec<Token>,
-    /// What is wrong behind them; nothing where all the lines are parts, white space and comments.
+    /// What is wrong after them; None if all the lines are parts, white space and comments.
     pub fault: Option<LineFault>,
 }
 
-/// What stands at the front of a line's content.
+/// What is at the front of a line's content.
 #[derive(Drop)]
 enum Cut<'a> {
     /// Nothing more, or a comment.
     Over,
     /// No part of a flow node.
     Bad(ScanFault),
-    /// White space, and what is behind it.
+    /// White space, and what comes after it.
     White(&'a [u8]),
-    /// A part, and what is behind it.
+    /// A part, and what comes after it.
     Part(Part, &'a [u8]),
 }
 
-/// The parts of flow nodes that stand on lines: the first one and those behind it.
+/// The parts of flow nodes on lines: on the first one and those after it.
 pub fn flow_parts(alloc: Global, first: Line, lines: &[Line]) -> Result<FlowParts, AllocError>
     ensures parts { IfOk result (λ p. let ls = line_view first.entry ∷ lines_view lines.now in PartsAre ls (tokens_of ls) p.tokens.items p.fault) }
     ensures numbered { IfOk result (λ p. All (λ t. HasNumber (line_view first.entry ∷ lines_view lines.now) t.line) p.tokens.items) }
@@ -86,7 +86,7 @@ pub fn flow_parts(alloc: Global, first: Line, lines: &[Line]) -> Result<FlowPart
     })
 }
 
-/// Adds the parts that stand on a line, up to a fault if there is one.
+/// Adds the parts on a line, up to a fault if there is one.
 fn push_line(
     alloc: Global,
     tokens: &mut Vec<Token>,
@@ -122,7 +122,7 @@ fn push_line(
     }
 }
 
-/// What stands at the front; `white` says that white space or the line's start stands before it.
+/// What is at the front; `white` means that white space or the line's start is before it.
 fn cut_part(alloc: Global, content: &[u8], white: bool) -> Result<Cut<'_>, AllocError>
     ensures { IfOk result (λ k. (n : ℕ) → cut_of n white content.now ≡ cut_view n k) }
 {
@@ -148,7 +148,7 @@ fn cut_part(alloc: Global, content: &[u8], white: bool) -> Result<Cut<'_>, Alloc
     }
 }
 
-/// The quoted scalar at the front, with the colon if one is behind it.
+/// The quoted scalar at the front, with the colon if one follows it.
 fn cut_quoted(alloc: Global, content: &[u8]) -> Result<Cut<'_>, AllocError>
     ensures { IfOk result (λ k. (n : ℕ) → quoted_cut n (quote_of content.now) ≡ cut_view n k) }
 {
@@ -159,14 +159,14 @@ fn cut_quoted(alloc: Global, content: &[u8]) -> Result<Cut<'_>, AllocError>
     };
     if let Some((byte, behind)) = next(skip(rest)) {
         if byte == b':' {
-            return Ok(Cut::Part(Part::Key { text }, behind));
+            return Ok(Cut::Part(Part::Key { quoted: true, text }, behind));
         }
         return Ok(Cut::Part(Part::Scalar { quoted: true, text }, rest));
     }
     Ok(Cut::Part(Part::Scalar { quoted: true, text }, &rest[rest.len()..]))
 }
 
-/// The plain scalar at the front, with the colon if one is behind it.
+/// The plain scalar at the front, with the colon if one follows it.
 fn cut_plain(alloc: Global, content: &[u8]) -> Result<Cut<'_>, AllocError>
     ensures { IfOk result (λ k. (n : ℕ) → (if starts_plain_of content.now then plain_part n (run true false content.now) else Bad) ≡ cut_view n k) }
 {
@@ -177,7 +177,13 @@ fn cut_plain(alloc: Global, content: &[u8]) -> Result<Cut<'_>, AllocError>
     let text = Vec::from_slice(alloc, run.text)?;
     let (_, end) = content.split_at(content.len());
     match run.ending {
-        Ending::Colon(rest) => Ok(Cut::Part(Part::Key { text }, rest)),
+        Ending::Colon(rest) => Ok(Cut::Part(
+            Part::Key {
+                quoted: false,
+                text,
+            },
+            rest,
+        )),
         Ending::Bracket(rest) => Ok(Cut::Part(
             Part::Scalar {
                 quoted: false,

@@ -9,7 +9,8 @@ pub struct Line<'a> {
     pub number: usize,
     /// Its indentation: how many spaces it begins with.
     pub indent: usize,
-    /// The bytes behind these spaces, without the line end. A tab among the white space at the front is the first of them.
+    /// The bytes after these spaces, without the line end. A tab among the white space at the front is the first of
+    /// them.
     pub content: &'a [u8],
     /// Whether it has a line end; the last line of a text may lack it.
     pub ended: bool,

@@ -15,9 +15,9 @@ use std::alloc::Global;
 /// Why a plain run ends.
 #[derive(Clone, Copy)]
 pub(crate) enum Ending<'a> {
-    /// A colon before white space or the end of the line, and what is behind it.
+    /// A colon before white space or the end of the line, and what comes after it.
     Colon(&'a [u8]),
-    /// A bracket or a comma of a flow node: what stands from it on.
+    /// A bracket or a comma of a flow node, and what comes after it.
     Bracket(&'a [u8]),
     /// A comment.
     Comment,
@@ -73,7 +73,8 @@ pub(crate) fn starts_plain(content: &[u8]) -> bool
     }
 }
 
-/// The plain run that begins here. `flow` says that it stands in a flow node, and `white` that white space stands before it.
+/// The plain run that begins here. `flow` means that it is in a flow node, and `white` that white space is before
+/// it.
 pub(crate) fn plain_run(content: &[u8], flow: bool, white: bool) -> Run<'_>
     ensures value { run_view result ≡ run flow white content.now }
     ensures within { EndsWithin (length content.now) result.ending }
@@ -99,7 +100,7 @@ pub(crate) fn plain_run(content: &[u8], flow: bool, white: bool) -> Run<'_>
     }
 }
 
-/// Why a plain run ends at the byte that stands here, if it does.
+/// Why a plain run ends at the byte here, if it does.
 fn ending_at(here: &[u8], flow: bool, white: bool) -> Option<Ending<'_>>
     ensures value { option_map ending_view result ≡ stop flow white here.now }
     ensures within { IfSome result (λ e. EndsWithin (length here.now) e) }
@@ -117,7 +118,7 @@ fn ending_at(here: &[u8], flow: bool, white: bool) -> Option<Ending<'_>>
     None
 }
 
-/// The text of a line that goes on with a plain scalar, and whether a comment ends it.
+/// The text of a line that continues a plain scalar, and whether a comment ends it.
 fn more_text(content: &[u8]) -> Option<(&[u8], bool)>
     ensures { option_map more_view result ≡ more_of content.now }
 {
@@ -129,9 +130,10 @@ fn more_text(content: &[u8]) -> Option<(&[u8], bool)>
     }
 }
 
-/// The text of a plain scalar that the lines go on with, none of them before this column, and the lines behind it and behind the quiet ones that follow.
+/// The text of a plain scalar that continues on these lines, none of them before this column; and the lines after
+/// it and after the quiet ones that follow.
 ///
-/// `text` is what stands on the scalar's first line, and `commented` says whether a comment ended it there.
+/// `text` is the part on the scalar's first line, and `commented` is whether a comment ended it there.
 pub fn continue_plain<'a, 'b>(
     alloc: Global,
     text: Vec<u8>,

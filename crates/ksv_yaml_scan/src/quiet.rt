@@ -1,4 +1,4 @@
-//! Lines that say nothing, and runs of lines.
+//! Lines without content, and runs of lines.
 
 ghost use Rattle.std.specs.Prelude.{◌≡◌};
 ghost use Rattle.ksv_yaml_scan.specs.Lines.{is_quiet as is_quiet_line, loud, front, behind, is_within};
@@ -8,14 +8,14 @@ ghost use Rattle.ksv_yaml_scan.specs.Views.{line_view, lines_view};
 use crate::line::Line;
 use crate::white::shown;
 
-/// Whether the line says nothing: it is white space, or a comment behind it.
+/// Whether the line is quiet: it is white space, perhaps with a comment after it.
 pub fn is_quiet(line: &Line) -> bool
     ensures { result ≡ is_quiet_line (line_view line.now) }
 {
     shown(line.content).is_empty()
 }
 
-/// The lines behind the quiet ones at the front.
+/// The lines after the quiet ones at the front.
 pub fn skip_quiet<'a, 'b>(lines: &'b [Line<'a>]) -> &'b [Line<'a>]
     ensures { lines_view result.now ≡ loud (lines_view lines.now) }
 {
@@ -27,7 +27,7 @@ pub fn skip_quiet<'a, 'b>(lines: &'b [Line<'a>]) -> &'b [Line<'a>]
     &lines[lines.len()..]
 }
 
-/// The lines of a block scalar none of whose lines stands before this column, but for blank ones, and the lines behind them.
+/// The lines of a block scalar, which are blank or not before this column, and the lines after them.
 pub fn block_lines<'a, 'b>(lines: &'b [Line<'a>], column: usize) -> (&'b [Line<'a>], &'b [Line<'a>])
     ensures front { lines_view result.0.now ≡ front (is_inner column) (lines_view lines.now) }
     ensures behind { lines_view result.1.now ≡ behind (is_inner column) (lines_view lines.now) }
@@ -40,7 +40,7 @@ pub fn block_lines<'a, 'b>(lines: &'b [Line<'a>], column: usize) -> (&'b [Line<'
     lines.split_at(lines.len())
 }
 
-/// The lines over which a flow node may go on none of whose lines stands before this column, but for quiet ones, and the lines behind them.
+/// The lines that a flow node may continue on, which are quiet or not before this column, and the lines after them.
 pub fn flow_lines<'a, 'b>(lines: &'b [Line<'a>], column: usize) -> (&'b [Line<'a>], &'b [Line<'a>])
     ensures front { lines_view result.0.now ≡ front (is_within column) (lines_view lines.now) }
     ensures behind { lines_view result.1.now ≡ behind (is_within column) (lines_view lines.now) }

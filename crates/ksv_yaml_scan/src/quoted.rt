@@ -8,7 +8,7 @@ use crate::fault::{ScanError, ScanFault};
 use crate::white::next;
 use std::alloc::{AllocError, Global};
 
-/// A quoted scalar: its text, and what stands behind the closing quote.
+/// A quoted scalar: its text, and what comes after the closing quote.
 #[derive(Drop)]
 pub(crate) struct Quote<'a> {
     pub(crate) text: Vec<u8>,
@@ -31,7 +31,7 @@ pub(crate) fn read_quote(alloc: Global, content: &[u8]) -> Result<Quote<'_>, Sca
     }
 }
 
-/// The text behind a single quote, up to the one that isn't written twice.
+/// The text after a single quote, up to the first one that isn't doubled.
 fn read_single(alloc: Global, content: &[u8]) -> Result<Quote<'_>, ScanError>
     ensures ok { IfOk result (λ q. inside single Between content.now ≡ Some (quote_view q)) }
     ensures within { IfOk result (λ q. length q.rest.now ≤ length content.now) }
@@ -52,7 +52,7 @@ fn read_single(alloc: Global, content: &[u8]) -> Result<Quote<'_>, ScanError>
     Err(ScanError::Fault(ScanFault::NotClosed))
 }
 
-/// The text behind a double quote, up to the next one that no backslash stands before.
+/// The text after a double quote, up to the next one without a backslash before it.
 fn read_double(alloc: Global, content: &[u8]) -> Result<Quote<'_>, ScanError>
     ensures ok { IfOk result (λ q. inside double Between content.now ≡ Some (quote_view q)) }
     ensures within { IfOk result (λ q. length q.rest.now ≤ length content.now) }
@@ -65,9 +65,12 @@ fn read_double(alloc: Global, content: &[u8]) -> Result<Quote<'_>, ScanError>
             return Ok(Quote { text, rest: behind });
         }
         if byte == b'\\' {
-            let (code, behind) = read_escape(behind)?;
+            let (code, after) = match read_escape(behind) {
+                Ok(escape) => escape,
+                Err(fault) => return Err(ScanError::Fault(bad_escape(fault, behind))),
+            };
             push_code(&mut text, code)?;
-            rest = behind;
+            rest = after;
         } else {
             text.push(byte)?;
             rest = behind;
@@ -76,7 +79,23 @@ fn read_double(alloc: Global, content: &[u8]) -> Result<Quote<'_>, ScanError>
     Err(ScanError::Fault(ScanFault::NotClosed))
 }
 
-/// The character that stands behind a backslash, and what is behind it.
+/// The fault of an invalid escape, given what follows the backslash; a quote that isn't closed on its line is
+/// reported first.
+fn bad_escape(fault: ScanFault, content: &[u8]) -> ScanFault {
+    let mut escaped = true;
+    for byte in content {
+        if escaped {
+            escaped = false;
+        } else if *byte == b'\\' {
+            escaped = true;
+        } else if *byte == b'"' {
+            return fault;
+        }
+    }
+    ScanFault::NotClosed
+}
+
+/// The character of an escape, given what follows the backslash, and what comes after it.
 fn read_escape(content: &[u8]) -> Result<(u32, &[u8]), ScanFault>
     ensures ok { IfOk result (λ x. inside double Escaped content.now ≡ with_bytes (utf8 x.0) (inside double Between x.1.now)) }
     ensures within { IfOk result (λ x. (x.0 < 65536) × (length x.1.now < length content.now)) }
@@ -92,7 +111,7 @@ fn read_escape(content: &[u8]) -> Result<(u32, &[u8]), ScanFault>
     Ok((code, rest))
 }
 
-/// The number that stands behind a backslash: of two or four digits, or a letter's.
+/// The number of an escape, given what follows the backslash: of two or four digits, or a letter's.
 fn read_code(byte: u8, content: &[u8]) -> Result<(u32, &[u8]), ScanFault>
     ensures ok { IfOk result (λ x. inside double Escaped (byte ∷ content.now) ≡ digits_from 0 x.0 x.1.now) }
     ensures within { IfOk result (λ x. (x.0 < 65536) × (length x.1.now ≤ length content.now)) }
@@ -108,7 +127,7 @@ fn read_code(byte: u8, content: &[u8]) -> Result<(u32, &[u8]), ScanFault>
     }
 }
 
-/// The byte that a letter behind a backslash stands for.
+/// The byte of a letter after a backslash.
 fn letter(byte: u8) -> Option<u8>
     ensures value { result ≡ letter_of byte }
     ensures small { IfSome result (λ b. b < 128) }
@@ -128,14 +147,14 @@ fn letter(byte: u8) -> Option<u8>
     }
 }
 
-/// Whether the number is that of no character, but of half a pair in UTF-16.
+/// Whether the number is half of a pair in UTF-16, which is no character.
 fn is_surrogate(code: u32) -> bool
     ensures { result ≡ is_surrogate_of code }
 {
     code >= 0xd800 && code < 0xe000
 }
 
-/// The number that four hexadecimal digits are, and what is behind them.
+/// The number of four hexadecimal digits, and what comes after them.
 fn read_pair(content: &[u8]) -> Result<(u32, &[u8]), ScanFault>
     ensures ok { IfOk result (λ x. (k n : ℕ) → digits_from (suc (suc (suc (suc k)))) n content.now ≡ digits_from k (n * 65536 + x.0) x.1.now) }
     ensures within { IfOk result (λ x. (x.0 < 65536) × (length x.1.now < length content.now)) }
@@ -146,7 +165,7 @@ fn read_pair(content: &[u8]) -> Result<(u32, &[u8]), ScanFault>
     Ok((high * 256 + low, rest))
 }
 
-/// The number that two hexadecimal digits are, and what is behind them.
+/// The number of two hexadecimal digits, and what comes after them.
 fn read_byte(content: &[u8]) -> Result<(u32, &[u8]), ScanFault>
     ensures ok { IfOk result (λ x. (k n : ℕ) → digits_from (suc (suc k)) n content.now ≡ digits_from k (n * 256 + x.0) x.1.now) }
     ensures within { IfOk result (λ x. (x.0 < 256) × (length x.1.now < length content.now)) }
@@ -157,7 +176,7 @@ fn read_byte(content: &[u8]) -> Result<(u32, &[u8]), ScanFault>
     Ok((high * 16 + low, rest))
 }
 
-/// The number that a hexadecimal digit is, and what is behind it.
+/// The number of a hexadecimal digit, and what comes after it.
 fn read_digit(content: &[u8]) -> Result<(u32, &[u8]), ScanFault>
     ensures ok { IfOk result (λ x. (k n : ℕ) → digits_from (suc k) n content.now ≡ digits_from k (n * 16 + x.0) x.1.now) }
     ensures within { IfOk result (λ x. (x.0 < 16) × (length x.1.now < length content.now)) }
@@ -172,7 +191,7 @@ fn read_digit(content: &[u8]) -> Result<(u32, &[u8]), ScanFault>
     }
 }
 
-/// The number that a hexadecimal digit stands for.
+/// The number of a hexadecimal digit.
 fn hex_digit(byte: u8) -> Option<u32>
     ensures value { result ≡ hex_digit_of byte }
     ensures small { IfSome result (λ x. x < 16) }

@@ -29,15 +29,16 @@ pub enum InlineKind {
 /// What begins on a line.
 #[derive(Drop)]
 pub enum Start<'a> {
-    /// The line says nothing.
+    /// The line is quiet.
     Nothing,
-    /// An item of a sequence: how many columns further what stands behind the dash begins, whether a tab stands between, and what stands there, empty where there is nothing or a comment.
+    /// An item of a sequence: how many columns after the dash its content begins, whether a tab is between them,
+    /// and the content. It is empty if there is nothing or a comment.
     Dash {
         columns: usize,
         tab: bool,
         behind: &'a [u8],
     },
-    /// An entry of a mapping: the key, and what stands behind its colon, empty where there is nothing or a comment.
+    /// An entry of a mapping: the key, and what comes after its colon, empty if that is nothing or a comment.
     Key {
         key: Vec<u8>,
         behind: &'a [u8],
@@ -48,7 +49,7 @@ pub enum Start<'a> {
 
 /// What begins on a line with this content.
 ///
-/// A `ScanFault` says that nothing of the subset begins there.
+/// A `ScanFault` means that nothing of the subset begins there.
 pub fn read_start(alloc: Global, content: &[u8]) -> Result<Start<'_>, ScanError>
     ensures ok { IfOk result (λ s. start_of content.now ≡ start_view s) }
     ensures within { IfOk result (λ s. StartsWithin (length content.now) s) }
@@ -66,7 +67,7 @@ pub fn read_start(alloc: Global, content: &[u8]) -> Result<Start<'_>, ScanError>
     read_marked(alloc, content)
 }
 
-/// The dash that begins here, and what stands behind it.
+/// The dash that begins here, and what comes after it.
 fn read_dash(content: &[u8]) -> Option<Start<'_>>
     ensures some { IfSome result (λ s. start_of content.now ≡ start_view s) }
     ensures within { IfSome result (λ s. StartsWithin (length content.now) s) }
@@ -155,7 +156,7 @@ fn read_quoted(alloc: Global, content: &[u8]) -> Result<Start<'_>, ScanError>
     Err(ScanError::Fault(ScanFault::LeftOut))
 }
 
-/// What stands behind a colon that ends a key.
+/// What comes after a colon that ends a key.
 fn behind_colon(content: &[u8]) -> Option<&[u8]>
     ensures some { IfSome result (λ rest. (key : List ℕ) → key_at_colon key content.now ≡ Some (key, rest.now)) }
     ensures shorter { IfSome result (λ rest. length rest.now < length content.now) }
@@ -171,7 +172,7 @@ fn behind_colon(content: &[u8]) -> Option<&[u8]>
     Some(shown(rest))
 }
 
-/// The block scalar behind whose sign this stands.
+/// The block scalar whose sign is followed by this.
 fn block_kind(content: &[u8], folded: bool) -> Option<InlineKind>
     ensures { option_map kind_view result ≡ block_kind_of folded content.now }
 {
@@ -186,7 +187,7 @@ fn block_kind(content: &[u8], folded: bool) -> Option<InlineKind>
     }
 }
 
-/// How many columns of white space stand at the front.
+/// How many columns of white space are at the front.
 fn columns(content: &[u8]) -> usize
     ensures value { result ≡ columns_of content.now }
     ensures within { result + length (shown_of content.now) ≤ length content.now }

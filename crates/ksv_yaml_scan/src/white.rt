@@ -3,7 +3,7 @@
 ghost use Rattle.std.specs.Prelude.{◌≡◌, ◌≤◌, [], ◌∷◌, length, MatchOption};
 ghost use Rattle.ksv_yaml_scan.specs.Lines.{is_white as is_white_byte, skip as behind_white, shown as shown_of, is_clear as is_clear_of, white_or_end};
 
-/// The first byte, and those behind it.
+/// The first byte, and those after it.
 pub(crate) fn next(bytes: &[u8]) -> Option<(u8, &[u8])>
     ensures { MatchOption result (bytes.now ≡ []) (λ x. bytes.now ≡ x.0 ∷ x.1.now) }
 {
@@ -13,7 +13,7 @@ pub(crate) fn next(bytes: &[u8]) -> Option<(u8, &[u8])>
     }
 }
 
-/// Whether white space or the line's end stands here.
+/// Whether white space or the line's end is here.
 pub(crate) fn is_white_or_end(content: &[u8]) -> bool
     ensures { result ≡ white_or_end content.now }
 {
@@ -30,7 +30,7 @@ pub(crate) fn is_white(byte: u8) -> bool
     byte == b' ' || byte == b'\t'
 }
 
-/// What stands behind the white space at the front.
+/// What comes after the white space at the front.
 pub(crate) fn skip(content: &[u8]) -> &[u8]
     ensures value { result.now ≡ behind_white content.now }
     ensures shorter { length result.now ≤ length content.now }
@@ -43,7 +43,7 @@ pub(crate) fn skip(content: &[u8]) -> &[u8]
     &content[content.len()..]
 }
 
-/// What stands behind the white space at the front, where a comment is nothing.
+/// What comes after the white space at the front; a comment counts as nothing.
 pub(crate) fn shown(content: &[u8]) -> &[u8]
     ensures value { result.now ≡ shown_of content.now }
     ensures shorter { length result.now ≤ length content.now }
@@ -57,7 +57,7 @@ pub(crate) fn shown(content: &[u8]) -> &[u8]
     rest
 }
 
-/// Whether nothing stands here but white space, and a comment behind it.
+/// Whether nothing is here but white space, perhaps with a comment after it.
 pub(crate) fn is_clear(content: &[u8]) -> bool
     ensures { result ≡ is_clear_of content.now }
 {

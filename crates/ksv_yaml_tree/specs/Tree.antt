@@ -1,4 +1,4 @@
--- Trees as plain values: what a text spells, without where it lies in memory.
+-- Trees as plain values: what a text spells, independent of memory.
 use Rattle.std.specs.Prelude.{◌≡◌, ℕ, List, [], ◌∷◌, Bool, false, Option, Some, None}
 use Rattle.std.specs.List.{find}
 use Rattle.std.specs.Str.{bytes_eq}
@@ -6,7 +6,7 @@ use Rattle.std.specs.Str.{bytes_eq}
 mutual
   -- a node, each with the line on which it begins
   pub data Tree : Type 0 where
-    -- a scalar: whether it stands between quotes, and its bytes
+    -- a scalar: whether it is between quotes, and its bytes
     Text : ℕ → Bool → List ℕ → Tree
     Seq : ℕ → Items → Tree
     Map : ℕ → Entries → Tree
@@ -15,7 +15,7 @@ mutual
     no_items : Items
     item : Tree → Items → Items
 
-  -- a key's line, the key, and what it stands for
+  -- a key's line, the key, and its value
   pub data Entries : Type 0 where
     no_entries : Entries
     entry : ℕ → List ℕ → Tree → Entries → Entries

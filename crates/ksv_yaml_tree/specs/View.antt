@@ -1,4 +1,4 @@
--- The tree that a value of the code is.
+-- The plain trees of the code's values.
 use Rattle.std.specs.Prelude.{ℕ, List, [], ◌∷◌, map, Option, option_map}
 use Rattle.std.specs.Borrow.{Bor}
 use Rattle.ksv_yaml_tree.specs.Tree.{Tree, Text, Seq, Map, Items, no_items, item, Entries, no_entries, entry, Pair}
@@ -17,17 +17,17 @@ abbrev pub entries_of : List Pair → Entries
 entries_of [] = no_entries
 entries_of (p ∷ ps) = entry p.line p.key p.value (entries_of ps)
 
--- the tree of a node whose parts' trees are known
+-- the tree of a node, given the trees of its parts
 abbrev pub yaml_step : Yaml-F Tree Pair → Tree
 yaml_step (Yaml-F.Text line quoted text) = Text line quoted (text.items)
 yaml_step (Yaml-F.List line items) = Seq line (items_of items.items)
 yaml_step (Yaml-F.Map line entries) = Map line (entries_of entries.items)
 
--- an entry whose value's tree is known
+-- an entry, given the tree of its value
 abbrev pub entry_step : Entry-F Tree Pair → Pair
 entry_step e = record { line = e.line; key = e.key.items; value = e.value }
 
--- the tree that a node is
+-- the tree of a node
 abbrev pub view : Yaml → Tree
 view = fold-Yaml Tree Pair yaml_step entry_step
 
@@ -35,7 +35,7 @@ view = fold-Yaml Tree Pair yaml_step entry_step
 abbrev pub pair : Entry → Pair
 pair = fold-Entry Tree Pair yaml_step entry_step
 
--- ---- what lent parts are
+-- ---- lent parts as plain values
 
 -- a lent text, lent items, entries, or one entry
 abbrev pub seen_text : Option (Bor (List ℕ)) → Option (List ℕ)

@@ -1,7 +1,7 @@
 //! The tree that a YAML text spells, and how it is read.
 //!
-//! A node is a text, a sequence or a mapping, each with the line on which it begins. A contract sees it as a plain tree
-//! (`specs/Tree`), by `view` of `specs/View`.
+//! A node is a text, a sequence or a mapping, each with the line on which it begins. Contracts see it as a plain
+//! tree (`specs/Tree`), by `view` of `specs/View`.
 #![tactic(auto)]
 
 pub mod tree;

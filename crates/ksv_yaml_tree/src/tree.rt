@@ -8,8 +8,8 @@ ghost use Rattle.ksv_yaml_tree.specs.View.{items_of, entries_of, view, pair, see
 #[derive(Drop)]
 #[cycle(tree)]
 pub enum Yaml {
-    /// A plain, quoted or block scalar: its text in UTF-8, and whether it was quoted.
-    /// A value that is left out is the empty plain text, on its entry's line.
+    /// A plain, quoted or block scalar: its text in UTF-8, and whether it was quoted. A missing value is the empty
+    /// plain text, on its entry's line.
     Text {
         line: usize,
         quoted: bool,
@@ -20,14 +20,14 @@ pub enum Yaml {
         line: usize,
         items: Vec<Yaml>,
     },
-    /// A mapping of blocks or a flow mapping: its entries in written order, no two with one key.
+    /// A mapping of blocks or a flow mapping: its entries in the order of the text, no two with one key.
     Map {
         line: usize,
         entries: Vec<Entry>,
     },
 }
 
-/// An entry of a mapping: its key with the line on which that stands, and its value.
+/// An entry of a mapping: its key with the key's line, and its value.
 #[derive(Drop)]
 #[cycle(tree)]
 pub struct Entry {
@@ -48,7 +48,7 @@ impl Yaml {
         }
     }
 
-    /// The text, where the node is one.
+    /// The text, if the node is one.
     pub fn text(&self) -> Option<&[u8]>
         ensures { seen_text result ≡ text_of (view self.now) }
     {
@@ -70,7 +70,7 @@ impl Yaml {
         }
     }
 
-    /// The items, where the node is a sequence.
+    /// The items, if the node is a sequence.
     pub fn items(&self) -> Option<&[Yaml]>
         ensures { seen_items result ≡ list_of (view self.now) }
     {
@@ -81,7 +81,7 @@ impl Yaml {
         }
     }
 
-    /// The entries in written order, where the node is a mapping.
+    /// The entries in the order of the text, if the node is a mapping.
     pub fn entries(&self) -> Option<&[Entry]>
         ensures { seen_entries result ≡ mapping_of (view self.now) }
     {
@@ -108,7 +108,7 @@ impl Entry {
         self.key.as_slice()
     }
 
-    /// What stands behind the key.
+    /// The value of the key.
     pub fn value(&self) -> &Yaml
         ensures { view result.now ≡ (pair self.now).value }
     {

@@ -1,7 +1,7 @@
 use Rattle.std.proofs.Common.{◌≡◌, ◌++◌, List, ℕ, false, take}
 use Rattle.ksv_desc.specs.Description.{Description}
 use Rattle.ksv_session.specs.Explored.{description_of}
-use Rattle.ksv_session.specs.Runs.{Stands}
+use Rattle.ksv_session.specs.Code.{Stands}
 use Rattle.ksv_session.proofs.serve.feed.Given as goal
 
 abbrev pub invariant-loop-byte : goal.invariant-loop-byte

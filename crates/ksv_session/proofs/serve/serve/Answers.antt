@@ -2,7 +2,8 @@ use Rattle.std.proofs.Common.{◌≡◌, ◌≤◌, ◌+◌, ◌∙◌, ◌++◌
 use Rattle.std.proofs.lemmas.List.{length-append, length-take-le}
 use Rattle.std.proofs.Math.Bool.{or-false}
 use Rattle.ksv_session.specs.Explored.{description_of}
-use Rattle.ksv_session.specs.Runs.{Serves, Stands}
+use Rattle.ksv_session.specs.Code.{Stands}
+use Rattle.ksv_session.specs.Runs.{Serves}
 use Rattle.ksv_session.proofs.AnswerLemmas.{fed_false, fed_true}
 use Rattle.ksv_session.proofs.RunLemmas.{begun_stands}
 use Rattle.ksv_session.proofs.serve.serve.Goals as goal

@@ -1,6 +1,6 @@
 use Rattle.std.proofs.Common.{◌≡◌, ◌++◌, ◌≤◌, List, ℕ, false, length, IsTrue}
 use Rattle.ksv_session.specs.Explored.{description_of}
-use Rattle.ksv_session.specs.Runs.{Stands}
+use Rattle.ksv_session.specs.Code.{Stands}
 use Rattle.ksv_session.proofs.serve.serve.Given as goal
 
 abbrev pub invariant-loop-turn : goal.invariant-loop-turn

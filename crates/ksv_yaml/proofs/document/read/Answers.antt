@@ -1,7 +1,7 @@
 -- What the text spells is what its lines spell, where no control character stands.
 use Rattle.std.proofs.Common.{◌≤◌, List, length, max, sym, subst, ◌∙◌}
 use Rattle.ksv_yaml_tree.specs.View.{view}
-use Rattle.ksv_yaml.specs.Faults.{wants_memory}
+use Rattle.ksv_yaml.specs.Code.{wants_memory}
 use Rattle.ksv_yaml.proofs.TextTheorem.{one_tree_of_text}
 use Rattle.ksv_yaml.proofs.Whole.{text_read, cut_refused, refuses_memory}
 use Rattle.ksv_yaml_scan.specs.declared.line.Line.{Line}

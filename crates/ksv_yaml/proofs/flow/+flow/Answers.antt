@@ -2,7 +2,7 @@
 use Rattle.std.proofs.Common.{◌-◌, map, None, refl, sym, ap, arith}
 use Rattle.std.proofs.lemmas.Result.{err_from_is_err_and}
 use Rattle.ksv_yaml_tree.specs.View.{view, pair, items_of, entries_of}
-use Rattle.ksv_yaml.specs.Outcome.{keys_of, FlowIs, FlowItemsIs, FlowEntriesIs}
+use Rattle.ksv_yaml.specs.Code.{keys_of, FlowIs, FlowItemsIs, FlowEntriesIs}
 use Rattle.ksv_yaml.proofs.Answering.{fails_on, front_part, key_tells, keys_none, keys_hold, pushed_item, pushed_entry}
 use Rattle.ksv_yaml.proofs.FlowLoops.{node_items, node_entries, items_start, items_close, items_fail, items_end, items_stop, items_on, entries_start, entries_close, entries_no_key, entries_twice, entries_fail, entries_end, entries_stop, entries_on}
 use Rattle.ksv_yaml_scan.specs.Got.{got}

@@ -2,7 +2,7 @@
 use Rattle.std.proofs.Common.{◌≡◌, ◌+◌, ◌*◌, ◌≤◌, length, map}
 use Rattle.ksv_yaml_tree.specs.View.{view, pair}
 use Rattle.ksv_yaml.specs.Reading.{weight}
-use Rattle.ksv_yaml.specs.Outcome.{keys_of}
+use Rattle.ksv_yaml.specs.Code.{keys_of}
 use Rattle.ksv_yaml.specs.Keys.{HoldsKeys}
 use Rattle.ksv_yaml.proofs.BlockLoops.{EntriesNow, ItemsNow}
 use Rattle.ksv_yaml_scan.specs.Views.{line_view, lines_view}

@@ -1,0 +1,97 @@
+-- Words that only private contracts cite: a reader of the public contracts may skip this file.
+use Rattle.std.specs.Prelude.{◌≡◌, ℕ, Bool, true, false, List, [], ◌∷◌, ◌++◌, length, codes, decimal, take, IsTrue, Result, Ok, Err}
+use Rattle.ksv_bytes.specs.declared.edit.EditRefusal.{EditRefusal}
+use Rattle.ksv_bytes.specs.declared.edit.EditRefusal.TheVariants as edits
+use Rattle.ksv_desc.specs.Description.{Description}
+use Rattle.ksv_expr_value.specs.declared.fault.Fault.{Fault}
+use Rattle.ksv_lines.specs.Lines.{line_room, lines_of}
+use Rattle.ksv_lines.specs.declared.device.Failed.{Failed}
+use Rattle.ksv_memo.specs.Entry.{Entry}
+use Rattle.ksv_memo.specs.Meaning.{on}
+use Rattle.ksv_memo.specs.Right.{IsRight}
+use Rattle.ksv_memo.specs.declared.engine.Answer.{Answer as EngineAnswer}
+use Rattle.ksv_memo.specs.declared.engine.Answer.TheVariants as answers
+use Rattle.ksv_nodes.specs.declared.given.Given.{Given}
+use Rattle.ksv_nodes.specs.declared.node.Node.{Node}
+use Rattle.ksv_rules.specs.Described.{described}
+use Rattle.ksv_rules.specs.FromNothing.{circle}
+use Rattle.ksv_session.specs.Explored.{Explored, description_of}
+use Rattle.ksv_session.specs.Replies.{Answer, Event, answer, edit_refusal_text, is_fair}
+use Rattle.ksv_session.specs.Runs.{Breaks, Serves}
+use Rattle.ksv_session.specs.Session.{lines_in, session}
+use Rattle.ksv_session.specs.declared.question.Untold.{Untold}
+use Rattle.ksv_session.specs.declared.question.Untold.TheVariants as untolds
+
+-- ---- questions of an engine
+
+-- a node that was asked while it was open is the fault circle at its path
+abbrev pub plain_answer : EngineAnswer Node Given Fault → Result Given Fault
+plain_answer (answers.Value given) = Ok given
+plain_answer (answers.Fault f) = Err f
+plain_answer (answers.Circle n) = circle n
+
+-- what an engine keeps is right for a description on some bytes
+abbrev pub IsRightFor : Description → List ℕ → List (Entry Node (Result Given Fault)) → Type 0
+IsRightFor d b kept = IsRight (on (described d) b) kept
+
+-- what was returned, seen by view, is the expected value or its fault, unless memory ran out
+abbrev pub ComesTo : {X A : Type 0} → Result A Fault → (X → A) → Result X Untold → Type 0
+ComesTo r view (Ok x) = r ≡ Ok (view x)
+ComesTo r view (Err untolds.NoMemory) = Unit {0}
+ComesTo r view (Err (untolds.Fault f)) = r ≡ Err f
+
+-- the fault that prevents a text is this one, unless memory ran out
+abbrev pub IsFault : Fault → Untold → Type 0
+IsFault f untolds.NoMemory = Unit {0}
+IsFault f (untolds.Fault e) = e ≡ f
+
+-- ---- edits
+
+-- the reply to an edit that was tried, with the bytes after it
+abbrev pub edit_text : {A : Type 0} → List ℕ → Result A EditRefusal → List ℕ
+edit_text b (Ok done) = codes "ok " ++ decimal (length b) ++ codes "\n"
+edit_text b (Err refusal) = edit_refusal_text refusal
+
+-- whether an edit was refused memory
+abbrev pub wants_memory : {A : Type 0} → Result A EditRefusal → Bool
+wants_memory (Ok done) = false
+wants_memory (Err edits.NoMemory) = true
+wants_memory (Err edits.Outside) = false
+wants_memory (Err edits.NothingToDo) = false
+wants_memory (Err edits.TooLarge) = false
+
+-- ---- a line over a device
+
+-- of a reply's text all was written, and it says whether the session ends; or a beginning was
+abbrev pub Wrote : Answer → Bool → List ℕ → List ℕ → Result Bool Failed → Type 0
+Wrote a tells before written (Ok ended) = (ended ≡ a.ends) × (IsTrue tells → written ≡ before ++ a.text)
+Wrote a tells before written (Err failed) = IsTrue tells → (count : ℕ) × (written ≡ before ++ take count a.text)
+
+-- a line was answered as it must be, whether or not memory was refused, and the reply written
+pub record Answered (old : Explored) (line : List ℕ) (new : Explored) (tells : Bool) (before written : List ℕ) (result : Result Bool Failed) : Type 0 where
+  pub event : Event
+  pub line_is : event.line ≡ line
+  pub fair : is_fair (description_of old) old.bytes event ≡ true
+  pub description : description_of new ≡ description_of old
+  pub bytes : new.bytes ≡ (answer (description_of old) old.bytes event).bytes
+  pub wrote : Wrote (answer (description_of old) old.bytes event) tells before written result
+
+-- ---- the lines of an input that is taken in pieces
+
+-- While the session goes on: of what was taken the whole lines are answered, and of the line after them the first
+-- `line_room` bytes are gathered, which show whether it is too long.
+pub record Stands (d : Description) (begin taken now line : List ℕ) (tells : Bool) (before written : List ℕ) : Type 0 where
+  pub events : List Event
+  pub rest : List ℕ
+  pub lines : lines_in events ++ rest ∷ [] ≡ lines_of taken
+  pub gathered : line ≡ take line_room rest
+  pub fair : (session d begin events).fair ≡ true
+  pub bytes : now ≡ (session d begin events).bytes
+  pub output : IsTrue tells → written ≡ before ++ (session d begin events).output
+  pub goes_on : (session d begin events).ended ≡ false
+
+-- After a piece of the input: a line in it ended the session, or all of it was taken, or a write failed.
+abbrev pub Fed : Description → List ℕ → List ℕ → List ℕ → List ℕ → List ℕ → Bool → List ℕ → List ℕ → Result Bool Failed → Type 0
+Fed d begin taken input now line tells before written (Ok true) = Serves d begin input now tells before written true
+Fed d begin taken input now line tells before written (Ok false) = Stands d begin taken now line tells before written
+Fed d begin taken input now line tells before written (Err f) = Breaks d begin input now tells before written
