@@ -137,9 +137,9 @@ module _ (d : Description) (bytes : List ℕ) where
   turn : (k : ℕ) (opened : List Node) (n : Node) (r : Result Given Fault) → AreDistinct (on (described d) bytes) opened → Answers k (n ∷ opened) → (b : Bool) → is_open opened n ≡ b
       → elim b as (λ _. Option (Result Given Fault)) [ true ↦ Some (circle n) | false ↦ rule_answer (answer_at d bytes k (n ∷ opened)) n.path bytes (rule_of d n) ] ≡ Some r → from_nothing d bytes opened n ≡ r
   unfolding from_nothing
-  turn k opened n r distinct below true open e = opened_at d bytes node_bound opened n (sym (open_numbered opened n) ∙ open) ∙ some_is (circle n) r e
-  turn k opened n r distinct below false open e =
-      let out : is_among node_number opened n ≡ false = sym (open_numbered opened n) ∙ open in
+  turn k opened n r distinct below true found e = opened_at d bytes node_bound opened n (sym (open_numbered opened n) ∙ found) ∙ some_is (circle n) r e
+  turn k opened n r distinct below false found e =
+      let out : is_among node_number opened n ≡ false = sym (open_numbered opened n) ∙ found in
       answers_follow_rules d bytes opened n (record { distinct = distinct; apart = out })
       ∙ rule_is (answer_at d bytes k (n ∷ opened)) (from_nothing d bytes (n ∷ opened)) (below (AreDistinct-cons (on (described d) bytes) n opened out distinct)) n.path bytes (rule_of d n) r e
 

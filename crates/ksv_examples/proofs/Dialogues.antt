@@ -10,7 +10,7 @@ use Rattle.ksv_desc.specs.Description.{as_text}
 use Rattle.ksv_expr_eval.specs.Meaning.{at_end, binary_of, byte_at, byte_from, bytes_and, bytes_at, bytes_call, bytes_with, call_one, call_two, cast_to, element_count, element_path, element_value, field_of, integer_and, item_at, last_element, list_at, list_method, list_size, member_and, member_path, member_value, method_of, object_of_type, same_bytes, special_of, special_value, stream_method, stream_of, stream_size, text_and, text_in, truth_and, truth_value, value_of}
 use Rattle.ksv_expr_value.specs.Trail.{fits, trail_of, trail_when}
 use Rattle.ksv_nodes.specs.Reading.{cut_uses, done_at, find_at, finish_of, found_from, found_none, peek_at, reach_file, reach_within}
-use Rattle.ksv_paths.specs.Served.{are_served_trees, is_served, is_served_field, is_served_tree, is_served_type}
+use Rattle.ksv_paths.specs.Served.{is_served, is_served_type}
 use Rattle.ksv_plan.specs.Plan.{bind}
 use Rattle.ksv_rules.specs.Ends.{element_end, end_of, fields_end, is_last, list_end, next_rest, not_empty, object_end, part_rest, place_of, rest_from, rest_of, whole_rest}
 use Rattle.ksv_rules.specs.Fields.{field_of as field_of_of_fields, member_named, members_of, sought}
@@ -37,7 +37,7 @@ over r o = option_and_then (λ d. session_to d depth (begun r.file) (typed r)) o
 
 -- the session of a dialogue, so that it computes: every definition on the way is opened
 unfoldable computed : Dialogue → Option Standing
-unfolding session_to question_told answer_at text_states digits chars is_utf8 decode_pairs encode_with escape_byte encode as_text at_end binary_of byte_at byte_from bytes_and bytes_at bytes_call bytes_with call_one call_two cast_to element_count element_path element_value field_of integer_and item_at last_element list_at list_method list_size member_and member_path member_value method_of object_of_type same_bytes special_of special_value stream_method stream_of stream_size text_and text_in truth_and truth_value value_of fits trail_of trail_when cut_uses done_at find_at finish_of found_from found_none peek_at reach_file reach_within are_served_trees is_served is_served_field is_served_tree is_served_type bind element_end end_of fields_end is_last list_end next_rest not_empty object_end part_rest place_of rest_from rest_of whole_rest field_of_of_fields member_named members_of sought attribute_at attribute_head attribute_start bytes_at_of_heads content_at count_of counted element_head element_start head_of leaf leaf_to_end member_at member_head next_start object_at part_end repeated run_of shape_at sized_leaf sized_object terminated until_eos integer_value meaning_of rule_of served_rule bytes_value choice_value content_value cut_bytes fixed_value kept leaf_value number_value text_value value_at value_of_of_values expression holds integer_of size_of truth_of wanted bytes_text fault_text member_text of_list of_value quoted_text
+unfolding session_to question_told answer_at text_states digits chars is_utf8 decode_pairs encode_with escape_byte encode as_text at_end binary_of byte_at byte_from bytes_and bytes_at bytes_call bytes_with call_one call_two cast_to element_count element_path element_value field_of integer_and item_at last_element list_at list_method list_size member_and member_path member_value method_of object_of_type same_bytes special_of special_value stream_method stream_of stream_size text_and text_in truth_and truth_value value_of fits trail_of trail_when cut_uses done_at find_at finish_of found_from found_none peek_at reach_file reach_within is_served is_served_type bind element_end end_of fields_end is_last list_end next_rest not_empty object_end part_rest place_of rest_from rest_of whole_rest field_of_of_fields member_named members_of sought attribute_at attribute_head attribute_start bytes_at_of_heads content_at count_of counted element_head element_start head_of leaf leaf_to_end member_at member_head next_start object_at part_end repeated run_of shape_at sized_leaf sized_object terminated until_eos integer_value meaning_of rule_of served_rule bytes_value choice_value content_value cut_bytes fixed_value kept leaf_value number_value text_value value_at value_of_of_values expression holds integer_of size_of truth_of wanted bytes_text fault_text member_text of_list of_value quoted_text
 computed r = over r (description r.lines)
 
 goes_so : (r : Dialogue) (o : Option Description) → over r o ≡ Some (left_by r) → GoesSo r o

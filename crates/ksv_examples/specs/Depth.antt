@@ -2,7 +2,8 @@
 -- nodes that are shut outside their module. Here nodes are compared by what they are, and where the depth doesn't suffice
 -- there is no answer. Where there is one, it is that of evaluation from nothing (proofs/Depth), and what a session writes by such
 -- answers is what the session writes (proofs/Sessions).
-use Rattle.std.specs.Prelude.{ℕ, zero, suc, ◌==◌, ◌&&◌, ◌||◌, Bool, true, false, List, [], ◌∷◌, ◌++◌, map, codes, Option, Some, None, option_map, option_and_then, Result, Ok, Err, if◌then◌else◌}
+use Rattle.std.specs.Prelude.{ℕ, zero, suc, ◌==◌, ◌&&◌, ◌||◌, Bool, true, false, List, [], ◌∷◌, ◌++◌, map, codes, length, nat_lt, Option, Some, None, option_map, option_and_then, Result, Ok, Err, if◌then◌else◌}
+use Rattle.std.specs.Str.{bytes_eq}
 use Rattle.ksv_plan.specs.Plan.{Answer, Fail, Ask}
 use Rattle.ksv_desc.specs.Description.{Description}
 use Rattle.ksv_expr_value.specs.Trail.{Trail, child}
@@ -23,12 +24,12 @@ use Rattle.ksv_nodes.specs.declared.node.NodeKind.{NodeKind}
 use Rattle.ksv_nodes.specs.declared.node.NodeKind.TheVariants.{Head, Value as ItsValue, End, Rest}
 use Rattle.ksv_rules.specs.FromNothing.{circle}
 use Rattle.ksv_rules.specs.Meaning.{rule_of}
-use Rattle.ksv_session.specs.Commands.{command_of}
+use Rattle.ksv_lines.specs.Lines.{line_limit, without_carriage_return, words_of}
+use Rattle.ksv_paths.specs.PathTexts.{path_named}
+use Rattle.ksv_session.specs.Commands.{command_of, only}
 use Rattle.ksv_session.specs.Questions.{Told, misfit, of_head, of_rest, of_value, told_text}
 use Rattle.ksv_session.specs.Replies.{Answer as Replied, Event, said, answer_to}
 use Rattle.ksv_session.specs.Session.{Standing, answered}
-use Rattle.ksv_session.specs.declared.command.Command.{Command}
-use Rattle.ksv_session.specs.declared.command.Command.TheVariants.{App, Blank, Get, Quit, Refused, Set, Size}
 
 -- ---- the same node
 
@@ -114,10 +115,21 @@ module _ (d : Description) (depth : ℕ) (bytes : List ℕ) where
   unfoldable pub question_told : Trail → Option Told
   question_told p = option_and_then (result_told p) (node_answer (value_node p))
 
-  -- the answer to a command
-  abbrev pub command_answer : Command → Option Replied
-  command_answer (Get p) = option_map (λ t. said bytes (told_text d t ++ codes "\n")) (question_told p)
-  command_answer command = Some (answer_to d bytes command)
+-- the path that a line asks for, if it is a question
+abbrev pub asked_by : Description → List (List ℕ) → Option Trail
+asked_by d [] = None
+asked_by d (name ∷ arguments) = if bytes_eq name (codes "get") then option_and_then (path_named d) (only arguments) else None
+
+abbrev pub asked_on : Description → List ℕ → Option Trail
+asked_on d line = if nat_lt line_limit (length line) then None else asked_by d (words_of (without_carriage_return line))
+
+-- the answer to a line
+abbrev pub asked_answer : Description → ℕ → List ℕ → List ℕ → Option Trail → Option Replied
+asked_answer d depth bytes line (Some p) = option_map (λ t. said bytes (told_text d t ++ codes "\n")) (question_told d depth bytes p)
+asked_answer d depth bytes line None = Some (answer_to d bytes (command_of d line))
+
+abbrev pub line_answer : Description → ℕ → List ℕ → List ℕ → Option Replied
+line_answer d depth bytes line = asked_answer d depth bytes line (asked_on d line)
 
 -- the lines of a session in which no memory is refused
 abbrev pub spoken : List (List ℕ) → List Event
@@ -128,5 +140,5 @@ unfoldable pub session_to : Description → ℕ → Standing → List (List ℕ)
 session_to d depth s [] = Some s
 session_to d depth s (line ∷ lines) = elim (s.ended) [
   | true ↦ Some s
-  | false ↦ option_and_then (λ a. session_to d depth (answered s a true) lines) (command_answer d depth s.bytes (command_of d line))
+  | false ↦ option_and_then (λ a. session_to d depth (answered s a true) lines) (line_answer d depth s.bytes line)
 ]
