@@ -30,7 +30,7 @@ use Rattle.ksv_examples.proofs.Sessions.{session_is}
 
 -- in none of the dialogues do more nodes wait for one another
 abbrev depth : ℕ
-depth = 40
+depth = 300
 
 abbrev over : Dialogue → Option Description → Option Standing
 over r o = option_and_then (λ d. session_to d depth (begun r.file) (typed r)) o
@@ -51,7 +51,7 @@ all_go (r ∷ rows) each = (goes_so r (description r.lines) each.0, all_go rows 
 -- each of the dialogues goes as it is written
 pub dialogues_go : AllGo dialogues
 unfolding computed
-dialogues_go = all_go dialogues (refl, (refl, (refl, (refl, (refl, (refl, tt))))))
+dialogues_go = all_go dialogues (refl, (refl, (refl, (refl, (refl, (refl, (refl, (refl, (refl, (refl, (refl, (refl, (refl, (refl, tt))))))))))))))
 
 -- ---- lines that are refused memory
 
