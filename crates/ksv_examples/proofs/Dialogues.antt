@@ -1,6 +1,5 @@
 -- The dialogues are those of the definitions.
-use Rattle.std.proofs.Common.{◌≡◌, ℕ, List, [], ◌∷◌, Option, Some, None, option_and_then, refl}
-use Rattle.std.specs.List.{AllByRecursion}
+use Rattle.std.proofs.Common.{◌≡◌, ℕ, Option, Some, None, option_and_then, refl}
 use Rattle.std.specs.Fmt.{digits}
 use Rattle.std.specs.Str.{chars, is_utf8}
 use Rattle.hex.specs.Hex.{decode_pairs, encode_with}
@@ -24,7 +23,7 @@ use Rattle.ksv_desc.specs.Description.{Description}
 use Rattle.ksv_session.specs.Session.{Standing, begun}
 use Rattle.ksv_examples.specs.Descriptions.{description}
 use Rattle.ksv_examples.specs.Depth.{answer_at, question_told, session_to}
-use Rattle.ksv_examples.specs.Dialogues.{Dialogue, left_by, typed, GoesSo, Goes, AllGo, dialogues, FairlyGo, AreUnfair}
+use Rattle.ksv_examples.specs.Dialogues.{Dialogue, left_by, typed, GoesSo, Goes, edited_size, later_bytes, circle, up_to_a_comma, terminators, elements, conditional, streams, parents, faults, too_deep, line_ends, first, bitmap, picture, FairlyGo, AreUnfair}
 use Rattle.ksv_examples.proofs.Stating.{text_states}
 use Rattle.ksv_examples.proofs.Sessions.{session_is}
 
@@ -44,21 +43,77 @@ goes_so : (r : Dialogue) (o : Option Description) → over r o ≡ Some (left_by
 goes_so r None e = absurd (cc)
 goes_so r (Some d) e = session_is d depth (begun r.file) (typed r) (left_by r) e
 
-all_go : (rows : List Dialogue) → AllByRecursion (λ r. over r (description r.lines) ≡ Some (left_by r)) rows → AllGo rows
-all_go [] each = tt
-all_go (r ∷ rows) each = (goes_so r (description r.lines) each.0, all_go rows each.1)
+goes : (r : Dialogue) → over r (description r.lines) ≡ Some (left_by r) → Goes r
+goes r e = goes_so r (description r.lines) e
 
--- each of the dialogues goes as it is written
-pub dialogues_go : AllGo dialogues
+-- ---- each of the dialogues goes as it is written
+
+pub edited_size_goes : Goes edited_size
 unfolding computed
-dialogues_go = all_go dialogues (refl, (refl, (refl, (refl, (refl, (refl, (refl, (refl, (refl, (refl, (refl, (refl, (refl, (refl, tt))))))))))))))
+edited_size_goes = goes edited_size refl
+
+pub later_bytes_goes : Goes later_bytes
+unfolding computed
+later_bytes_goes = goes later_bytes refl
+
+pub circle_goes : Goes circle
+unfolding computed
+circle_goes = goes circle refl
+
+pub up_to_a_comma_goes : Goes up_to_a_comma
+unfolding computed
+up_to_a_comma_goes = goes up_to_a_comma refl
+
+pub terminators_goes : Goes terminators
+unfolding computed
+terminators_goes = goes terminators refl
+
+pub elements_goes : Goes elements
+unfolding computed
+elements_goes = goes elements refl
+
+pub conditional_goes : Goes conditional
+unfolding computed
+conditional_goes = goes conditional refl
+
+pub streams_goes : Goes streams
+unfolding computed
+streams_goes = goes streams refl
+
+pub parents_goes : Goes parents
+unfolding computed
+parents_goes = goes parents refl
+
+pub faults_goes : Goes faults
+unfolding computed
+faults_goes = goes faults refl
+
+pub too_deep_goes : Goes too_deep
+unfolding computed
+too_deep_goes = goes too_deep refl
+
+pub line_ends_goes : Goes line_ends
+unfolding computed
+line_ends_goes = goes line_ends refl
+
+pub first_goes : Goes first
+unfolding computed
+first_goes = goes first refl
+
+pub bitmap_goes : Goes bitmap
+unfolding computed
+bitmap_goes = goes bitmap refl
+
+pub picture_goes : Goes picture
+unfolding computed
+picture_goes = goes picture refl
 
 -- ---- lines that are refused memory
 
-fairly_go : FairlyGo
+pub fairly_go : FairlyGo
 unfolding computed
 fairly_go d = refl
 
-are_unfair : AreUnfair
+pub are_unfair : AreUnfair
 unfolding computed
 are_unfair d = (refl, (refl, (refl, (refl, (refl, (refl, (refl, (refl, tt))))))))

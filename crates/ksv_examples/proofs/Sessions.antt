@@ -1,5 +1,5 @@
 -- What a session writes by answers to a depth is what the session writes.
-use Rattle.std.proofs.Common.{◌≡◌, ℕ, ◌++◌, ◌&&◌, Bool, true, false, List, [], ◌∷◌, codes, length, nat_lt, bytes_eq, if◌then◌else◌, fold, Option, Some, None, option_map, option_and_then, Result, Ok, Err, refl, ap, sym, ◌∙◌}
+use Rattle.std.proofs.Common.{◌≡◌, ℕ, ◌++◌, Bool, true, false, List, [], ◌∷◌, codes, length, nat_lt, bytes_eq, if◌then◌else◌, fold, Option, Some, None, option_map, option_and_then, Result, Ok, Err, refl, ap, ◌∙◌}
 use Rattle.std.proofs.lemmas.Slice.Eq.{bytes_eq-Decides}
 use Rattle.ksv_desc.specs.Description.{Description}
 use Rattle.ksv_expr_value.specs.Trail.{Trail, child}
@@ -19,7 +19,7 @@ use Rattle.ksv_nodes.specs.declared.node.Node.{Node}
 use Rattle.ksv_rules.specs.Described.{described}
 use Rattle.ksv_lines.specs.Lines.{line_limit, without_carriage_return, words_of}
 use Rattle.ksv_paths.specs.PathTexts.{path_named}
-use Rattle.ksv_session.specs.Commands.{command_named, command_of_words, command_of, get_path, get_of, only}
+use Rattle.ksv_session.specs.Commands.{command_of_words, command_of, get_path, get_of, only}
 use Rattle.ksv_session.specs.Questions.{Told, answered as node_answered, of_head, of_rest, of_list, of_value, of_answer, told_at, told_text, question_text}
 use Rattle.ksv_session.specs.Replies.{Answer, Event, said, answer_to, answer, is_fair}
 use Rattle.ksv_session.specs.Session.{Standing, answered, after_event}

@@ -36,9 +36,6 @@ GoesSo r (Some d) = session d r.file (spoken (typed r)) ≡ left_by r
 abbrev pub Goes : Dialogue → Type 0
 Goes r = GoesSo r (description r.lines)
 
-abbrev pub AllGo : List Dialogue → Type 0
-AllGo rows = AllByRecursion Goes rows
-
 -- ---- the dialogues
 
 -- a size that another field tells, and edits of it
@@ -158,8 +155,8 @@ circle = record {
 }
 
 -- bytes up to a comma, and lines of every kind
-abbrev pub terminated : Dialogue
-terminated = record {
+abbrev pub up_to_a_comma : Dialogue
+up_to_a_comma = record {
   lines =
       codes "meta: {id: a}" ∷
       codes "seq: [{id: a, terminator: 0x2c}, {id: b, type: u1}]" ∷
@@ -213,8 +210,8 @@ terminated = record {
 }
 
 -- terminators: a part of the value, left for what follows, before the end of a size, and not required
-abbrev pub cut : Dialogue
-cut = record {
+abbrev pub terminators : Dialogue
+terminators = record {
   lines =
       codes "meta: {id: a}" ∷
       codes "seq:" ∷
@@ -254,8 +251,8 @@ cut = record {
 }
 
 -- elements to a last one and to the end of the file, and a member of an enum
-abbrev pub repeated : Dialogue
-repeated = record {
+abbrev pub elements : Dialogue
+elements = record {
   lines =
       codes "meta: {id: a}" ∷
       codes "seq:" ∷
@@ -511,8 +508,8 @@ too_deep = record {
 }
 
 -- line ends of two bytes, lines of 4,096 and of 4,097 bytes, and a last line without its end
-abbrev pub lines_cut : Dialogue
-lines_cut = record {
+abbrev pub line_ends : Dialogue
+line_ends = record {
   lines =
       codes "meta: {id: a}" ∷
       codes "seq: [{id: e, size: 0}]" ∷
@@ -645,8 +642,91 @@ bitmap = record {
   ended = true;
 }
 
-abbrev pub dialogues : List Dialogue
-dialogues = edited_size ∷ later_bytes ∷ circle ∷ terminated ∷ cut ∷ repeated ∷ conditional ∷ streams ∷ parents ∷ faults ∷ too_deep ∷ lines_cut ∷ first ∷ bitmap ∷ []
+-- a picture of 2 by 3 pixels in PNG, up to its first chunk
+abbrev pub picture : Dialogue
+picture = record {
+  lines =
+      codes "meta:" ∷
+      codes "  id: png" ∷
+      codes "  endian: be" ∷
+      codes "  encoding: ASCII" ∷
+      codes "seq:" ∷
+      codes "  - id: magic" ∷
+      codes "    contents: [137, 80, 78, 71, 13, 10, 26, 10]" ∷
+      codes "  - id: header_len" ∷
+      codes "    type: u4" ∷
+      codes "  - id: header_type" ∷
+      codes "    contents: IHDR" ∷
+      codes "  - id: header" ∷
+      codes "    type: header" ∷
+      codes "  - id: header_crc" ∷
+      codes "    type: u4" ∷
+      codes "  - id: chunks" ∷
+      codes "    type: chunk" ∷
+      codes "    repeat: until" ∷
+      codes "    repeat-until: _.type == \"IEND\"" ∷
+      codes "types:" ∷
+      codes "  header:" ∷
+      codes "    seq:" ∷
+      codes "      - {id: width, type: u4}" ∷
+      codes "      - {id: height, type: u4}" ∷
+      codes "      - {id: bits, type: u1}" ∷
+      codes "      - {id: color, type: u1, enum: color}" ∷
+      codes "      - {id: compression, type: u1}" ∷
+      codes "      - {id: filter, type: u1}" ∷
+      codes "      - {id: interlaced, type: u1}" ∷
+      codes "  chunk:" ∷
+      codes "    seq:" ∷
+      codes "      - id: len" ∷
+      codes "        type: u4" ∷
+      codes "      - id: type" ∷
+      codes "        type: str" ∷
+      codes "        size: 4" ∷
+      codes "      - id: title" ∷
+      codes "        type: strz" ∷
+      codes "        if: type == \"tEXt\"" ∷
+      codes "      - id: text" ∷
+      codes "        type: str" ∷
+      codes "        size: len - 6" ∷
+      codes "        if: type == \"tEXt\"" ∷
+      codes "      - id: body" ∷
+      codes "        size: len" ∷
+      codes "        if: type != \"tEXt\"" ∷
+      codes "      - id: crc" ∷
+      codes "        type: u4" ∷
+      codes "enums:" ∷
+      codes "  color: {0: greyscale, 2: truecolor, 3: indexed}" ∷
+      [];
+  file = 0x89 ∷ 0x50 ∷ 0x4e ∷ 0x47 ∷ 0x0d ∷ 0x0a ∷ 0x1a ∷ 0x0a ∷ 0x00 ∷ 0x00 ∷ 0x00 ∷ 0x0d ∷ 0x49 ∷ 0x48 ∷ 0x44 ∷ 0x52 ∷ 0x00 ∷ 0x00 ∷ 0x00 ∷ 0x02 ∷ 0x00 ∷ 0x00 ∷ 0x00 ∷ 0x03 ∷ 0x08 ∷ 0x02 ∷ 0x00 ∷ 0x00 ∷ 0x00 ∷ 0x36 ∷ 0x88 ∷ 0x49 ∷ 0xd6 ∷ 0x00 ∷ 0x00 ∷ 0x00 ∷ 0x09 ∷ 0x74 ∷ 0x45 ∷ 0x58 ∷ 0x74 ∷ 0x54 ∷ 0x69 ∷ 0x74 ∷ 0x6c ∷ 0x65 ∷ 0x00 ∷ 0x6b ∷ 0x73 ∷ 0x76 ∷ 0xcf ∷ 0x09 ∷ 0x3b ∷ 0xc0 ∷ 0x00 ∷ 0x00 ∷ 0x00 ∷ 0x18 ∷ 0x49 ∷ 0x44 ∷ 0x41 ∷ 0x54 ∷ 0x78 ∷ 0x9c ∷ 0x63 ∷ 0xd0 ∷ 0x60 ∷ 0x62 ∷ 0x07 ∷ 0x22 ∷ 0x86 ∷ 0x0a ∷ 0x16 ∷ 0x76 ∷ 0x20 ∷ 0x62 ∷ 0x38 ∷ 0xc1 ∷ 0xc6 ∷ 0x0e ∷ 0x44 ∷ 0x00 ∷ 0x1a ∷ 0x00 ∷ 0x03 ∷ 0x13 ∷ 0x7b ∷ 0x51 ∷ 0x0d ∷ 0x40 ∷ 0x00 ∷ 0x00 ∷ 0x00 ∷ 0x00 ∷ 0x49 ∷ 0x45 ∷ 0x4e ∷ 0x44 ∷ 0xae ∷ 0x42 ∷ 0x60 ∷ 0x82 ∷ [];
+  input = text_of_lines (
+      codes "get /header" ∷
+      codes "get /header/width" ∷
+      codes "get /header/height" ∷
+      codes "get /header/color" ∷
+      codes "get /header_crc" ∷
+      codes "get /chunks/0/type" ∷
+      codes "get /chunks/0/title" ∷
+      codes "get /chunks/0/text" ∷
+      codes "get /chunks/0/body" ∷
+      codes "set 16 00010000" ∷
+      codes "get /header/width" ∷
+      []);
+  output = text_of_lines (
+      codes "object header" ∷
+      codes "2" ∷
+      codes "3" ∷
+      codes "color::truecolor (2)" ∷
+      codes "914901462" ∷
+      codes "\"tEXt\"" ∷
+      codes "\"Title\"" ∷
+      codes "\"ksv\"" ∷
+      codes "fault absent at /chunks/0/body" ∷
+      codes "ok 102" ∷
+      codes "65536" ∷
+      []);
+  left = 0x89 ∷ 0x50 ∷ 0x4e ∷ 0x47 ∷ 0x0d ∷ 0x0a ∷ 0x1a ∷ 0x0a ∷ 0x00 ∷ 0x00 ∷ 0x00 ∷ 0x0d ∷ 0x49 ∷ 0x48 ∷ 0x44 ∷ 0x52 ∷ 0x00 ∷ 0x01 ∷ 0x00 ∷ 0x00 ∷ 0x00 ∷ 0x00 ∷ 0x00 ∷ 0x03 ∷ 0x08 ∷ 0x02 ∷ 0x00 ∷ 0x00 ∷ 0x00 ∷ 0x36 ∷ 0x88 ∷ 0x49 ∷ 0xd6 ∷ 0x00 ∷ 0x00 ∷ 0x00 ∷ 0x09 ∷ 0x74 ∷ 0x45 ∷ 0x58 ∷ 0x74 ∷ 0x54 ∷ 0x69 ∷ 0x74 ∷ 0x6c ∷ 0x65 ∷ 0x00 ∷ 0x6b ∷ 0x73 ∷ 0x76 ∷ 0xcf ∷ 0x09 ∷ 0x3b ∷ 0xc0 ∷ 0x00 ∷ 0x00 ∷ 0x00 ∷ 0x18 ∷ 0x49 ∷ 0x44 ∷ 0x41 ∷ 0x54 ∷ 0x78 ∷ 0x9c ∷ 0x63 ∷ 0xd0 ∷ 0x60 ∷ 0x62 ∷ 0x07 ∷ 0x22 ∷ 0x86 ∷ 0x0a ∷ 0x16 ∷ 0x76 ∷ 0x20 ∷ 0x62 ∷ 0x38 ∷ 0xc1 ∷ 0xc6 ∷ 0x0e ∷ 0x44 ∷ 0x00 ∷ 0x1a ∷ 0x00 ∷ 0x03 ∷ 0x13 ∷ 0x7b ∷ 0x51 ∷ 0x0d ∷ 0x40 ∷ 0x00 ∷ 0x00 ∷ 0x00 ∷ 0x00 ∷ 0x49 ∷ 0x45 ∷ 0x4e ∷ 0x44 ∷ 0xae ∷ 0x42 ∷ 0x60 ∷ 0x82 ∷ [];
+  ended = false;
+}
 
 -- ---- lines that are refused memory
 

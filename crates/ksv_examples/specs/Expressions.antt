@@ -1,5 +1,5 @@
 -- Expressions worked out: texts with what each is worth, and what expressions of names want.
-use Rattle.std.specs.Prelude.{◌≡◌, ℕ, ◌==◌, ◌&&◌, Bool, true, false, ℤ, pos, List, [], ◌∷◌, ◌++◌, map, codes, bytes_eq, Option, Some, None, option_and_then, Result, Ok, Err, if◌then◌else◌, refl}
+use Rattle.std.specs.Prelude.{◌≡◌, ℕ, ◌==◌, Bool, true, false, pos, List, [], ◌∷◌, ◌++◌, map, codes, bytes_eq, Option, Some, None, option_and_then, Result, Ok, Err, if◌then◌else◌, refl}
 use Rattle.std.specs.List.{list_all}
 use Rattle.std.specs.Fmt.{signed_decimal}
 use Rattle.std.specs.Fmt.{digits}
@@ -18,11 +18,11 @@ use Rattle.ksv_schema_scope.specs.Numerals.{plain_number, signed_number}
 use Rattle.ksv_schema_scope.specs.Types.{nearest_type, type_in, type_named}
 use Rattle.ksv_expr_tree.specs.Tree.{Tree}
 use Rattle.ksv_expr_value.specs.Faults.{name_of}
-use Rattle.ksv_expr_value.specs.Trail.{Trail, root}
+use Rattle.ksv_expr_value.specs.Trail.{root}
 use Rattle.ksv_expr_value.specs.declared.fault.Fault.{Fault}
 use Rattle.ksv_expr_value.specs.declared.fault.FaultKind.TheVariants as kinds
 use Rattle.ksv_expr_value.specs.declared.step.Step.{Step}
-use Rattle.ksv_expr_value.specs.declared.step.Step.TheVariants.{Index, Name}
+use Rattle.ksv_expr_value.specs.declared.step.Step.TheVariants.{Name}
 use Rattle.ksv_expr_value.specs.declared.value.Value.{Value}
 use Rattle.ksv_expr_value.specs.declared.value.Value.TheVariants as values
 use Rattle.ksv_expr_eval.specs.declared.want.Want.{Want}

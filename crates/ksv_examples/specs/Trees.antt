@@ -1,5 +1,5 @@
 -- YAML worked out: texts with the whole tree that each spells, by the YAML specification 1.2.
-use Rattle.std.specs.Prelude.{◌≡◌, ℕ, ◌++◌, true, false, List, [], ◌∷◌, codes, Option, Some, None, refl}
+use Rattle.std.specs.Prelude.{◌≡◌, ℕ, true, false, List, [], ◌∷◌, codes, Option, Some, None, refl}
 use Rattle.std.specs.List.{AllByRecursion}
 use Rattle.ksv_yaml_tree.specs.Tree.{Tree, Text, Seq, Map, no_items, item, no_entries, entry}
 use Rattle.ksv_yaml.specs.Text.{tree_of_text}
