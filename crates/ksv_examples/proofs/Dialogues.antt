@@ -23,7 +23,7 @@ use Rattle.ksv_desc.specs.Description.{Description}
 use Rattle.ksv_session.specs.Session.{Standing, begun}
 use Rattle.ksv_examples.specs.Descriptions.{description}
 use Rattle.ksv_examples.specs.Depth.{answer_at, question_told, session_to}
-use Rattle.ksv_examples.specs.Dialogues.{Dialogue, left_by, typed, GoesSo, Goes, edited_size, later_bytes, circle, up_to_a_comma, terminators, elements, conditional, streams, parents, faults, too_deep, line_ends, first, bitmap, picture, FairlyGo, AreUnfair}
+use Rattle.ksv_examples.specs.Dialogues.{Dialogue, left_by, typed, GoesSo, Goes, edited_size, later_bytes, circle, up_to_a_comma, terminators, elements, conditional, streams, parents, faults, too_deep, line_ends, places, first, bitmap, picture, FairlyGo, AreUnfair}
 use Rattle.ksv_examples.proofs.Stating.{text_states}
 use Rattle.ksv_examples.proofs.Sessions.{session_is}
 
@@ -95,6 +95,10 @@ too_deep_goes = goes too_deep refl
 pub line_ends_goes : Goes line_ends
 unfolding computed
 line_ends_goes = goes line_ends refl
+
+pub places_goes : Goes places
+unfolding computed
+places_goes = goes places refl
 
 pub first_goes : Goes first
 unfolding computed

@@ -521,6 +521,68 @@ line_ends = record {
   ended = false;
 }
 
+-- elements, bytes, members of enums and places in expressions
+abbrev pub places : Dialogue
+places = record {
+  lines =
+      codes "meta: {id: a}" ∷
+      codes "seq:" ∷
+      codes "  - {id: magic, size: 2}" ∷
+      codes "  - {id: xs, type: u1, repeat: expr, repeat-expr: 3}" ∷
+      codes "  - {id: k, type: u1, enum: animal}" ∷
+      codes "  - {id: p0, size: xs.size - 1}" ∷
+      codes "  - {id: p1, size: xs.first}" ∷
+      codes "  - {id: p2, size: 'xs.last - xs[1]'}" ∷
+      codes "  - {id: p3, size: 'magic[1] - 0x40'}" ∷
+      codes "  - {id: p4, size: magic.length - 2}" ∷
+      codes "  - {id: p5, size: k.to_i - 3}" ∷
+      codes "  - {id: p6, size: 1, if: 'k == animal::cat'}" ∷
+      codes "  - {id: p7, size: 1, if: 'k == animal::dog'}" ∷
+      codes "  - {id: p8, size: _io.pos - 13}" ∷
+      codes "  - {id: p9, size: 1, if: not _io.eof}" ∷
+      codes "  - {id: p10, size: 0, if: _io.eof}" ∷
+      codes "  - {id: p11, size: 0, if: not _io.eof}" ∷
+      codes "  - {id: p12, size: 0, if: 'magic.to_s(\"ASCII\") == \"AB\"'}" ∷
+      codes "  - {id: p13, size: 'xs[3]'}" ∷
+      codes "enums: {animal: {4: cat, 5: dog}}" ∷
+      [];
+  file = 0x41 ∷ 0x42 ∷ 0x01 ∷ 0x02 ∷ 0x03 ∷ 0x04 ∷ 0xaa ∷ 0xbb ∷ 0xcc ∷ 0xdd ∷ 0xee ∷ 0xff ∷ 0x11 ∷ 0x12 ∷ 0x13 ∷ 0x14 ∷ [];
+  input = text_of_lines (
+      codes "get /p0" ∷
+      codes "get /p1" ∷
+      codes "get /p2" ∷
+      codes "get /p3" ∷
+      codes "get /p4" ∷
+      codes "get /p5" ∷
+      codes "get /p6" ∷
+      codes "get /p7" ∷
+      codes "get /p8" ∷
+      codes "get /p9" ∷
+      codes "get /p10" ∷
+      codes "get /p11" ∷
+      codes "get /p12" ∷
+      codes "get /p13" ∷
+      []);
+  output = text_of_lines (
+      codes "hex aabb" ∷
+      codes "hex cc" ∷
+      codes "hex dd" ∷
+      codes "hex eeff" ∷
+      codes "hex " ∷
+      codes "hex 11" ∷
+      codes "hex 12" ∷
+      codes "fault absent at /p7" ∷
+      codes "hex 13" ∷
+      codes "hex 14" ∷
+      codes "hex " ∷
+      codes "fault absent at /p11" ∷
+      codes "hex " ∷
+      codes "fault bad-index at /xs/3" ∷
+      []);
+  left = 0x41 ∷ 0x42 ∷ 0x01 ∷ 0x02 ∷ 0x03 ∷ 0x04 ∷ 0xaa ∷ 0xbb ∷ 0xcc ∷ 0xdd ∷ 0xee ∷ 0xff ∷ 0x11 ∷ 0x12 ∷ 0x13 ∷ 0x14 ∷ [];
+  ended = false;
+}
+
 -- the example of the README
 abbrev pub first : Dialogue
 first = record {

@@ -109,6 +109,14 @@ expressions =
     row (codes "'abc'.reverse + 12.to_s") (codes "'cba12'") ∷
     row (codes "\"a\\tb\".length") (codes "3") ∷
     row (codes "'b' > 'abc'") (codes "true") ∷
+    row (codes "'ab' + 'c' == 'abc'") (codes "true") ∷
+    row (codes "'ab' != 'ab'") (codes "false") ∷
+    -- comparisons
+    row (codes "2 < 2 or 2 > 2 or 2 != 2") (codes "false") ∷
+    row (codes "2 <= 2 and 2 >= 2 and -1 < 0 and +5 > 4") (codes "true") ∷
+    row (codes "3 <= 2 or 2 >= 3") (codes "false") ∷
+    row (codes "true.to_i + false.to_i") (codes "1") ∷
+    row (codes "true == (1 < 2)") (codes "true") ∷
     -- what isn't needed isn't taken
     row (codes "false and (1 / 0 == 1)") (codes "false") ∷
     row (codes "(1 / 0 == 1) and false") (codes "fault zero-divisor") ∷
