@@ -68,7 +68,12 @@ edited_size = record {
       codes "get /items/1" ∷
       codes "get /magic" ∷
       codes "get /items/2" ∷
+      codes "get /items/1048575" ∷
+      codes "get /items/1048576" ∷
+      codes "get /items/01" ∷
+      codes "get /items/-1" ∷
       codes "get /n/len" ∷
+      codes "get /n/0" ∷
       codes "set 3 02" ∷
       codes "get /items/1/body" ∷
       codes "set 3 01" ∷
@@ -83,7 +88,12 @@ edited_size = record {
       codes "object item" ∷
       codes "hex 4b53" ∷
       codes "fault bad-index at /items/2" ∷
+      codes "fault bad-index at /items/1048575" ∷
+      codes "error: bad path" ∷
+      codes "error: bad path" ∷
+      codes "error: bad path" ∷
       codes "fault no-such at /n/len" ∷
+      codes "fault no-such at /n/0" ∷
       codes "ok 8" ∷
       codes "fault end-of-bytes at /items/1/body" ∷
       codes "ok 8" ∷
@@ -176,9 +186,15 @@ up_to_a_comma = record {
       codes "size" ∷
       codes "size 4" ∷
       codes "set 2 2" ∷
-      codes "set x 2b" ∷
+      codes "set x 2" ∷
+      codes "set 18446744073709551616 2b" ∷
+      codes "set 18446744073709551615 2b" ∷
+      codes "set 000000000000000000002 2b" ∷
+      codes "GET /a" ∷
       codes "set 4 2b" ∷
-      codes "set 2 2B" ∷
+      codes "set 3 2b2b" ∷
+      codes "set 2" ∷
+      codes "set 00000000000000000002 2B" ∷
       codes "get /a" ∷
       codes "app 2C64" ∷
       codes "get /b" ∷
@@ -198,7 +214,13 @@ up_to_a_comma = record {
       codes "error: wrong arguments" ∷
       codes "error: bad hex" ∷
       codes "error: bad number" ∷
+      codes "error: bad number" ∷
       codes "error: outside" ∷
+      codes "error: bad number" ∷
+      codes "error: unknown command" ∷
+      codes "error: outside" ∷
+      codes "error: outside" ∷
+      codes "error: wrong arguments" ∷
       codes "ok 4" ∷
       codes "fault no-terminator at /a" ∷
       codes "ok 6" ∷
@@ -259,6 +281,7 @@ elements = record {
       codes "  - {id: xs, type: s1, repeat: until, repeat-until: _ < 0 or _index == 3}" ∷
       codes "  - {id: k, type: u1, enum: animal}" ∷
       codes "  - {id: ys, type: u1, repeat: eos}" ∷
+      codes "  - {id: zs, size: 1, repeat: until, repeat-until: _io.eof}" ∷
       codes "enums: {animal: {4: cat}}" ∷
       [];
   file = 0x01 ∷ 0x02 ∷ 0xff ∷ 0x04 ∷ 0x05 ∷ 0x06 ∷ [];
@@ -423,6 +446,7 @@ faults = record {
       codes "  - {id: o12, type: t12, size: 1}" ∷
       codes "  - {id: o13, type: t13, size: 0}" ∷
       codes "  - {id: o14, type: t14, size: 0}" ∷
+      codes "  - {id: o15, type: t15, size: 0}" ∷
       codes "types:" ∷
       codes "  t0: {seq: [{id: x, size: 1 / 0}]}" ∷
       codes "  t1: {seq: [{id: x, size: 1 << 64}]}" ∷
@@ -439,8 +463,9 @@ faults = record {
       codes "  t12: {seq: [{id: x, type: u2le}]}" ∷
       codes "  t13: {seq: [{id: x, size: _parent._parent.n}]}" ∷
       codes "  t14: {seq: [{id: x, size: x}]}" ∷
+      codes "  t15: {seq: [{id: x, type: u1, repeat: expr, repeat-expr: 1048576}]}" ∷
       [];
-  file = 0xff ∷ 0x00 ∷ 0x02 ∷ 0x80 ∷ 0x01 ∷ 0x01 ∷ [];
+  file = 0xff ∷ 0x00 ∷ 0x02 ∷ 0x80 ∷ 0x01 ∷ 0x00 ∷ [];
   input = text_of_lines (
       codes "get /o0/x" ∷
       codes "get /o1/x" ∷
@@ -459,6 +484,7 @@ faults = record {
       codes "get /o14/x" ∷
       codes "get /o0/n" ∷
       codes "get /o5/x/0" ∷
+      codes "get /o15/x/0" ∷
       []);
   output = text_of_lines (
       codes "fault zero-divisor at /o0/x" ∷
@@ -478,8 +504,9 @@ faults = record {
       codes "fault circle at /o14/x" ∷
       codes "fault no-such at /o0/n" ∷
       codes "fault too-many at /o5/x" ∷
+      codes "fault end-of-bytes at /o15/x/0" ∷
       []);
-  left = 0xff ∷ 0x00 ∷ 0x02 ∷ 0x80 ∷ 0x01 ∷ 0x01 ∷ [];
+  left = 0xff ∷ 0x00 ∷ 0x02 ∷ 0x80 ∷ 0x01 ∷ 0x00 ∷ [];
   ended = false;
 }
 
