@@ -317,7 +317,7 @@ elements = record {
   ended = false;
 }
 
--- byte orders and signs, and attributes under a condition
+-- byte orders and signs, attributes under a condition, sizes by the index, and no elements
 abbrev pub conditional : Dialogue
 conditional = record {
   lines =
@@ -329,9 +329,11 @@ conditional = record {
       codes "  - {id: d, type: u1, if: a != 258}" ∷
       codes "  - {id: e, type: s8}" ∷
       codes "  - {id: f, type: u8le}" ∷
+      codes "  - {id: q, size: _index, repeat: expr, repeat-expr: 3}" ∷
       codes "  - {id: rest, size-eos: true}" ∷
+      codes "  - {id: none, type: u1, repeat: eos}" ∷
       [];
-  file = 0x01 ∷ 0x02 ∷ 0xfe ∷ 0xff ∷ 0x07 ∷ 0x80 ∷ 0x00 ∷ 0x00 ∷ 0x00 ∷ 0x00 ∷ 0x00 ∷ 0x00 ∷ 0x00 ∷ 0xff ∷ 0xff ∷ 0xff ∷ 0xff ∷ 0xff ∷ 0xff ∷ 0xff ∷ 0xff ∷ 0x08 ∷ [];
+  file = 0x01 ∷ 0x02 ∷ 0xfe ∷ 0xff ∷ 0x07 ∷ 0x80 ∷ 0x00 ∷ 0x00 ∷ 0x00 ∷ 0x00 ∷ 0x00 ∷ 0x00 ∷ 0x00 ∷ 0xff ∷ 0xff ∷ 0xff ∷ 0xff ∷ 0xff ∷ 0xff ∷ 0xff ∷ 0xff ∷ 0x21 ∷ 0x22 ∷ 0x23 ∷ 0x08 ∷ [];
   input = text_of_lines (
       codes "get /a" ∷
       codes "get /b" ∷
@@ -339,7 +341,12 @@ conditional = record {
       codes "get /d" ∷
       codes "get /e" ∷
       codes "get /f" ∷
+      codes "get /q/0" ∷
+      codes "get /q/1" ∷
+      codes "get /q/2" ∷
       codes "get /rest" ∷
+      codes "get /none" ∷
+      codes "get /none/0" ∷
       codes "get /" ∷
       []);
   output = text_of_lines (
@@ -349,32 +356,45 @@ conditional = record {
       codes "fault absent at /d" ∷
       codes "-9223372036854775808" ∷
       codes "18446744073709551615" ∷
+      codes "hex " ∷
+      codes "hex 21" ∷
+      codes "hex 2223" ∷
       codes "hex 08" ∷
+      codes "[0]" ∷
+      codes "fault bad-index at /none/0" ∷
       codes "object a" ∷
       []);
-  left = 0x01 ∷ 0x02 ∷ 0xfe ∷ 0xff ∷ 0x07 ∷ 0x80 ∷ 0x00 ∷ 0x00 ∷ 0x00 ∷ 0x00 ∷ 0x00 ∷ 0x00 ∷ 0x00 ∷ 0xff ∷ 0xff ∷ 0xff ∷ 0xff ∷ 0xff ∷ 0xff ∷ 0xff ∷ 0xff ∷ 0x08 ∷ [];
+  left = 0x01 ∷ 0x02 ∷ 0xfe ∷ 0xff ∷ 0x07 ∷ 0x80 ∷ 0x00 ∷ 0x00 ∷ 0x00 ∷ 0x00 ∷ 0x00 ∷ 0x00 ∷ 0x00 ∷ 0xff ∷ 0xff ∷ 0xff ∷ 0xff ∷ 0xff ∷ 0xff ∷ 0xff ∷ 0xff ∷ 0x21 ∷ 0x22 ∷ 0x23 ∷ 0x08 ∷ [];
   ended = false;
 }
 
--- streams of objects, and a cast
+-- streams of objects, which begin where they do, and a cast
 abbrev pub streams : Dialogue
 streams = record {
   lines =
       codes "meta: {id: t}" ∷
       codes "seq:" ∷
+      codes "  - {id: lead, type: u1}" ∷
       codes "  - {id: blk, type: body, size: 3}" ∷
       codes "  - {id: z, type: u1}" ∷
       codes "  - {id: n, size: blk._io.size}" ∷
       codes "  - {id: m, size: blk.as<body>.c}" ∷
-      codes "  - {id: none, size: _root._io.size - 8}" ∷
+      codes "  - {id: none, size: _root._io.size - 13}" ∷
+      codes "  - {id: tail, type: tail, size-eos: true}" ∷
       codes "  - {id: wrong, size: blk.as<t>.z}" ∷
       codes "types:" ∷
       codes "  body:" ∷
       codes "    seq:" ∷
       codes "      - {id: c, type: u1}" ∷
-      codes "      - {id: rest, size: _io.size - 1}" ∷
+      codes "      - {id: rest, size: _io.size - _io.pos}" ∷
+      codes "  tail:" ∷
+      codes "    seq:" ∷
+      codes "      - {id: a, type: u1}" ∷
+      codes "      - {id: b, size: _io.pos}" ∷
+      codes "      - {id: c, size: _io.size - 3}" ∷
+      codes "      - {id: d, size-eos: true}" ∷
       [];
-  file = 0x01 ∷ 0x0b ∷ 0x0c ∷ 0x0d ∷ 0x0e ∷ 0x0f ∷ 0x10 ∷ 0x11 ∷ [];
+  file = 0x09 ∷ 0x01 ∷ 0x0b ∷ 0x0c ∷ 0x0d ∷ 0x0e ∷ 0x0f ∷ 0x10 ∷ 0x11 ∷ 0x21 ∷ 0x22 ∷ 0x23 ∷ 0x24 ∷ [];
   input = text_of_lines (
       codes "get /blk" ∷
       codes "get /blk/rest" ∷
@@ -382,6 +402,9 @@ streams = record {
       codes "get /n" ∷
       codes "get /m" ∷
       codes "get /none" ∷
+      codes "get /tail/b" ∷
+      codes "get /tail/c" ∷
+      codes "get /tail/d" ∷
       codes "get /wrong" ∷
       []);
   output = text_of_lines (
@@ -391,9 +414,12 @@ streams = record {
       codes "hex 0e0f10" ∷
       codes "hex 11" ∷
       codes "hex " ∷
+      codes "hex 22" ∷
+      codes "hex 23" ∷
+      codes "hex 24" ∷
       codes "fault bad-type at /wrong" ∷
       []);
-  left = 0x01 ∷ 0x0b ∷ 0x0c ∷ 0x0d ∷ 0x0e ∷ 0x0f ∷ 0x10 ∷ 0x11 ∷ [];
+  left = 0x09 ∷ 0x01 ∷ 0x0b ∷ 0x0c ∷ 0x0d ∷ 0x0e ∷ 0x0f ∷ 0x10 ∷ 0x11 ∷ 0x21 ∷ 0x22 ∷ 0x23 ∷ 0x24 ∷ [];
   ended = false;
 }
 
@@ -446,7 +472,8 @@ faults = record {
       codes "  - {id: o12, type: t12, size: 1}" ∷
       codes "  - {id: o13, type: t13, size: 0}" ∷
       codes "  - {id: o14, type: t14, size: 0}" ∷
-      codes "  - {id: o15, type: t15, size: 0}" ∷
+      codes "  - {id: o15, type: t15, size: 1}" ∷
+      codes "  - {id: o16, type: t16, size: 0}" ∷
       codes "types:" ∷
       codes "  t0: {seq: [{id: x, size: 1 / 0}]}" ∷
       codes "  t1: {seq: [{id: x, size: 1 << 64}]}" ∷
@@ -463,9 +490,10 @@ faults = record {
       codes "  t12: {seq: [{id: x, type: u2le}]}" ∷
       codes "  t13: {seq: [{id: x, size: _parent._parent.n}]}" ∷
       codes "  t14: {seq: [{id: x, size: x}]}" ∷
-      codes "  t15: {seq: [{id: x, type: u1, repeat: expr, repeat-expr: 1048576}]}" ∷
+      codes "  t15: {seq: [{id: x, size: 0, repeat: until, repeat-until: 1 == 2}]}" ∷
+      codes "  t16: {seq: [{id: x, type: u1, repeat: expr, repeat-expr: 1048576}]}" ∷
       [];
-  file = 0xff ∷ 0x00 ∷ 0x02 ∷ 0x80 ∷ 0x01 ∷ 0x00 ∷ [];
+  file = 0xff ∷ 0x00 ∷ 0x02 ∷ 0x80 ∷ 0x01 ∷ 0x00 ∷ 0x00 ∷ [];
   input = text_of_lines (
       codes "get /o0/x" ∷
       codes "get /o1/x" ∷
@@ -482,9 +510,10 @@ faults = record {
       codes "get /o12/x" ∷
       codes "get /o13/x" ∷
       codes "get /o14/x" ∷
+      codes "get /o15/x" ∷
       codes "get /o0/n" ∷
       codes "get /o5/x/0" ∷
-      codes "get /o15/x/0" ∷
+      codes "get /o16/x/0" ∷
       []);
   output = text_of_lines (
       codes "fault zero-divisor at /o0/x" ∷
@@ -502,11 +531,12 @@ faults = record {
       codes "fault end-of-bytes at /o12/x" ∷
       codes "fault no-parent at /o13/x" ∷
       codes "fault circle at /o14/x" ∷
+      codes "fault no-bytes at /o15/x/0" ∷
       codes "fault no-such at /o0/n" ∷
       codes "fault too-many at /o5/x" ∷
-      codes "fault end-of-bytes at /o15/x/0" ∷
+      codes "fault end-of-bytes at /o16/x/0" ∷
       []);
-  left = 0xff ∷ 0x00 ∷ 0x02 ∷ 0x80 ∷ 0x01 ∷ 0x00 ∷ [];
+  left = 0xff ∷ 0x00 ∷ 0x02 ∷ 0x80 ∷ 0x01 ∷ 0x00 ∷ 0x00 ∷ [];
   ended = false;
 }
 
