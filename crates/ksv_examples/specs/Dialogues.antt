@@ -243,9 +243,11 @@ terminators = record {
       codes "  - {id: d, size: 3, terminator: 0x2c}" ∷
       codes "  - {id: e, size: 3, terminator: 0x2c, include: true}" ∷
       codes "  - {id: f, type: strz, encoding: ASCII}" ∷
-      codes "  - {id: g, terminator: 0x2c, eos-error: false}" ∷
+      codes "  - {id: o, type: t, size: 2}" ∷
+      codes "  - {id: h, size-eos: true, terminator: 0x2c}" ∷
+      codes "types: {t: {seq: [{id: g, terminator: 0x2c, eos-error: false}]}}" ∷
       [];
-  file = 0x61 ∷ 0x2c ∷ 0x62 ∷ 0x2c ∷ 0x78 ∷ 0x2c ∷ 0x79 ∷ 0x7a ∷ 0x2c ∷ 0x77 ∷ 0x22 ∷ 0x5c ∷ 0x00 ∷ 0x71 ∷ [];
+  file = 0x61 ∷ 0x2c ∷ 0x62 ∷ 0x2c ∷ 0x78 ∷ 0x2c ∷ 0x79 ∷ 0x7a ∷ 0x2c ∷ 0x77 ∷ 0x22 ∷ 0x5c ∷ 0x00 ∷ 0x71 ∷ 0x72 ∷ 0x73 ∷ 0x74 ∷ 0x2c ∷ 0x75 ∷ [];
   input = text_of_lines (
       codes "get /a" ∷
       codes "get /b" ∷
@@ -253,9 +255,12 @@ terminators = record {
       codes "get /d" ∷
       codes "get /e" ∷
       codes "get /f" ∷
-      codes "get /g" ∷
-      codes "app 2c" ∷
-      codes "get /g" ∷
+      codes "get /o/g" ∷
+      codes "get /h" ∷
+      codes "set 17 2d" ∷
+      codes "get /h" ∷
+      codes "set 13 2c" ∷
+      codes "get /o/g" ∷
       []);
   output = text_of_lines (
       codes "hex 612c" ∷
@@ -264,11 +269,14 @@ terminators = record {
       codes "hex 78" ∷
       codes "hex 7a2c" ∷
       codes "\"\\\"\\\\\"" ∷
-      codes "hex 71" ∷
-      codes "ok 15" ∷
-      codes "hex 71" ∷
+      codes "hex 7172" ∷
+      codes "hex 7374" ∷
+      codes "ok 19" ∷
+      codes "hex 73742d75" ∷
+      codes "ok 19" ∷
+      codes "hex " ∷
       []);
-  left = 0x61 ∷ 0x2c ∷ 0x62 ∷ 0x2c ∷ 0x78 ∷ 0x2c ∷ 0x79 ∷ 0x7a ∷ 0x2c ∷ 0x77 ∷ 0x22 ∷ 0x5c ∷ 0x00 ∷ 0x71 ∷ 0x2c ∷ [];
+  left = 0x61 ∷ 0x2c ∷ 0x62 ∷ 0x2c ∷ 0x78 ∷ 0x2c ∷ 0x79 ∷ 0x7a ∷ 0x2c ∷ 0x77 ∷ 0x22 ∷ 0x5c ∷ 0x00 ∷ 0x2c ∷ 0x72 ∷ 0x73 ∷ 0x74 ∷ 0x2d ∷ 0x75 ∷ [];
   ended = false;
 }
 
@@ -332,6 +340,9 @@ conditional = record {
       codes "  - {id: q, size: _index, repeat: expr, repeat-expr: 3}" ∷
       codes "  - {id: rest, size-eos: true}" ∷
       codes "  - {id: none, type: u1, repeat: eos}" ∷
+      codes "  - {id: o, type: t, if: a != 258}" ∷
+      codes "  - {id: l, type: u1, repeat: eos, if: a != 258}" ∷
+      codes "types: {t: {seq: [{id: x, type: u1}]}}" ∷
       [];
   file = 0x01 ∷ 0x02 ∷ 0xfe ∷ 0xff ∷ 0x07 ∷ 0x80 ∷ 0x00 ∷ 0x00 ∷ 0x00 ∷ 0x00 ∷ 0x00 ∷ 0x00 ∷ 0x00 ∷ 0xff ∷ 0xff ∷ 0xff ∷ 0xff ∷ 0xff ∷ 0xff ∷ 0xff ∷ 0xff ∷ 0x21 ∷ 0x22 ∷ 0x23 ∷ 0x08 ∷ [];
   input = text_of_lines (
@@ -347,6 +358,10 @@ conditional = record {
       codes "get /rest" ∷
       codes "get /none" ∷
       codes "get /none/0" ∷
+      codes "get /o" ∷
+      codes "get /o/x" ∷
+      codes "get /l" ∷
+      codes "get /l/0" ∷
       codes "get /" ∷
       []);
   output = text_of_lines (
@@ -362,6 +377,10 @@ conditional = record {
       codes "hex 08" ∷
       codes "[0]" ∷
       codes "fault bad-index at /none/0" ∷
+      codes "fault absent at /o" ∷
+      codes "fault absent at /o" ∷
+      codes "fault absent at /l" ∷
+      codes "fault absent at /l" ∷
       codes "object a" ∷
       []);
   left = 0x01 ∷ 0x02 ∷ 0xfe ∷ 0xff ∷ 0x07 ∷ 0x80 ∷ 0x00 ∷ 0x00 ∷ 0x00 ∷ 0x00 ∷ 0x00 ∷ 0x00 ∷ 0x00 ∷ 0xff ∷ 0xff ∷ 0xff ∷ 0xff ∷ 0xff ∷ 0xff ∷ 0xff ∷ 0xff ∷ 0x21 ∷ 0x22 ∷ 0x23 ∷ 0x08 ∷ [];
@@ -473,7 +492,8 @@ faults = record {
       codes "  - {id: o13, type: t13, size: 0}" ∷
       codes "  - {id: o14, type: t14, size: 0}" ∷
       codes "  - {id: o15, type: t15, size: 1}" ∷
-      codes "  - {id: o16, type: t16, size: 0}" ∷
+      codes "  - {id: o16, type: t16, size: 1}" ∷
+      codes "  - {id: o17, type: t17, size: 0}" ∷
       codes "types:" ∷
       codes "  t0: {seq: [{id: x, size: 1 / 0}]}" ∷
       codes "  t1: {seq: [{id: x, size: 1 << 64}]}" ∷
@@ -491,9 +511,11 @@ faults = record {
       codes "  t13: {seq: [{id: x, size: _parent._parent.n}]}" ∷
       codes "  t14: {seq: [{id: x, size: x}]}" ∷
       codes "  t15: {seq: [{id: x, size: 0, repeat: until, repeat-until: 1 == 2}]}" ∷
-      codes "  t16: {seq: [{id: x, type: u1, repeat: expr, repeat-expr: 1048576}]}" ∷
+      codes "  t16: {seq: [{id: x, type: e, repeat: eos}]}" ∷
+      codes "  t17: {seq: [{id: x, type: u1, repeat: expr, repeat-expr: 1048576}]}" ∷
+      codes "  e: {}" ∷
       [];
-  file = 0xff ∷ 0x00 ∷ 0x02 ∷ 0x80 ∷ 0x01 ∷ 0x00 ∷ 0x00 ∷ [];
+  file = 0xff ∷ 0x00 ∷ 0x02 ∷ 0x80 ∷ 0x01 ∷ 0x00 ∷ 0x00 ∷ 0x00 ∷ [];
   input = text_of_lines (
       codes "get /o0/x" ∷
       codes "get /o1/x" ∷
@@ -511,9 +533,10 @@ faults = record {
       codes "get /o13/x" ∷
       codes "get /o14/x" ∷
       codes "get /o15/x" ∷
+      codes "get /o16/x" ∷
       codes "get /o0/n" ∷
       codes "get /o5/x/0" ∷
-      codes "get /o16/x/0" ∷
+      codes "get /o17/x/0" ∷
       []);
   output = text_of_lines (
       codes "fault zero-divisor at /o0/x" ∷
@@ -532,11 +555,12 @@ faults = record {
       codes "fault no-parent at /o13/x" ∷
       codes "fault circle at /o14/x" ∷
       codes "fault no-bytes at /o15/x/0" ∷
+      codes "fault no-bytes at /o16/x/0" ∷
       codes "fault no-such at /o0/n" ∷
       codes "fault too-many at /o5/x" ∷
-      codes "fault end-of-bytes at /o16/x/0" ∷
+      codes "fault end-of-bytes at /o17/x/0" ∷
       []);
-  left = 0xff ∷ 0x00 ∷ 0x02 ∷ 0x80 ∷ 0x01 ∷ 0x00 ∷ 0x00 ∷ [];
+  left = 0xff ∷ 0x00 ∷ 0x02 ∷ 0x80 ∷ 0x01 ∷ 0x00 ∷ 0x00 ∷ 0x00 ∷ [];
   ended = false;
 }
 
