@@ -1,3 +1,2 @@
 -- What the loader makes of a tree.
 pub mod Outcome
-pub mod Examples

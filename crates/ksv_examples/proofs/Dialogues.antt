@@ -1,0 +1,123 @@
+-- The dialogues are those of the definitions.
+use Rattle.std.proofs.Common.{◌≡◌, ℕ, Option, Some, None, option_and_then, refl}
+use Rattle.std.specs.Fmt.{digits}
+use Rattle.std.specs.Str.{chars, is_utf8}
+use Rattle.hex.specs.Hex.{decode_pairs, encode_with}
+use Rattle.json.specs.Print.{escape_byte}
+use lib.Utf8.{encode}
+use Rattle.ksv_desc.specs.Description.{as_text}
+use Rattle.ksv_expr_eval.specs.Meaning.{at_end, binary_of, byte_at, byte_from, bytes_and, bytes_at, bytes_call, bytes_with, call_one, call_two, cast_to, element_count, element_path, element_value, field_of, integer_and, item_at, last_element, list_at, list_method, list_size, member_and, member_path, member_value, method_of, object_of_type, same_bytes, special_of, special_value, stream_method, stream_of, stream_size, text_and, text_in, truth_and, truth_value, value_of}
+use Rattle.ksv_expr_value.specs.Trail.{fits, trail_of, trail_when}
+use Rattle.ksv_nodes.specs.Reading.{cut_uses, done_at, find_at, finish_of, found_from, found_none, peek_at, reach_file, reach_within}
+use Rattle.ksv_paths.specs.Served.{is_served, is_served_type}
+use Rattle.ksv_plan.specs.Plan.{bind}
+use Rattle.ksv_rules.specs.Ends.{element_end, end_of, fields_end, is_last, list_end, next_rest, not_empty, object_end, part_rest, place_of, rest_from, rest_of, whole_rest}
+use Rattle.ksv_rules.specs.Fields.{field_of as field_of_of_fields, member_named, members_of, sought}
+use Rattle.ksv_rules.specs.Heads.{attribute_at, attribute_head, attribute_start, bytes_at as bytes_at_of_heads, content_at, count_of, counted, element_head, element_start, head_of, leaf, leaf_to_end, member_at, member_head, next_start, object_at, part_end, repeated, run_of, shape_at, sized_leaf, sized_object, terminated, until_eos}
+use Rattle.ksv_rules.specs.Integers.{integer_value}
+use Rattle.ksv_rules.specs.Meaning.{meaning_of, rule_of, served_rule}
+use Rattle.ksv_rules.specs.Values.{bytes_value, choice_value, content_value, cut_bytes, fixed_value, kept, leaf_value, number_value, text_value, value_at, value_of as value_of_of_values}
+use Rattle.ksv_rules.specs.Wanted.{expression, holds, integer_of, size_of, truth_of, wanted}
+use Rattle.ksv_session.specs.Questions.{bytes_text, fault_text, member_text, of_list, of_value, quoted_text}
+use Rattle.ksv_desc.specs.Description.{Description}
+use Rattle.ksv_session.specs.Session.{Standing, begun}
+use Rattle.ksv_examples.specs.Descriptions.{description}
+use Rattle.ksv_examples.specs.Depth.{answer_at, question_told, session_to}
+use Rattle.ksv_examples.specs.Dialogues.{Dialogue, left_by, typed, GoesSo, Goes, edited_size, later_bytes, circle, up_to_a_comma, terminators, elements, conditional, streams, parents, faults, too_deep, line_ends, places, first, bitmap, picture, FairlyGo, AreUnfair}
+use Rattle.ksv_examples.proofs.Stating.{text_states}
+use Rattle.ksv_examples.proofs.Sessions.{session_is}
+
+-- in none of the dialogues do more nodes wait for one another
+abbrev depth : ℕ
+depth = 300
+
+abbrev over : Dialogue → Option Description → Option Standing
+over r o = option_and_then (λ d. session_to d depth (begun r.file) (typed r)) o
+
+-- the session of a dialogue, so that it computes: every definition on the way is opened
+unfoldable computed : Dialogue → Option Standing
+unfolding session_to question_told answer_at text_states digits chars is_utf8 decode_pairs encode_with escape_byte encode as_text at_end binary_of byte_at byte_from bytes_and bytes_at bytes_call bytes_with call_one call_two cast_to element_count element_path element_value field_of integer_and item_at last_element list_at list_method list_size member_and member_path member_value method_of object_of_type same_bytes special_of special_value stream_method stream_of stream_size text_and text_in truth_and truth_value value_of fits trail_of trail_when cut_uses done_at find_at finish_of found_from found_none peek_at reach_file reach_within is_served is_served_type bind element_end end_of fields_end is_last list_end next_rest not_empty object_end part_rest place_of rest_from rest_of whole_rest field_of_of_fields member_named members_of sought attribute_at attribute_head attribute_start bytes_at_of_heads content_at count_of counted element_head element_start head_of leaf leaf_to_end member_at member_head next_start object_at part_end repeated run_of shape_at sized_leaf sized_object terminated until_eos integer_value meaning_of rule_of served_rule bytes_value choice_value content_value cut_bytes fixed_value kept leaf_value number_value text_value value_at value_of_of_values expression holds integer_of size_of truth_of wanted bytes_text fault_text member_text of_list of_value quoted_text
+computed r = over r (description r.lines)
+
+goes_so : (r : Dialogue) (o : Option Description) → over r o ≡ Some (left_by r) → GoesSo r o
+goes_so r None e = absurd (cc)
+goes_so r (Some d) e = session_is d depth (begun r.file) (typed r) (left_by r) e
+
+goes : (r : Dialogue) → over r (description r.lines) ≡ Some (left_by r) → Goes r
+goes r e = goes_so r (description r.lines) e
+
+-- ---- each of the dialogues goes as it is written
+
+pub edited_size_goes : Goes edited_size
+unfolding computed
+edited_size_goes = goes edited_size refl
+
+pub later_bytes_goes : Goes later_bytes
+unfolding computed
+later_bytes_goes = goes later_bytes refl
+
+pub circle_goes : Goes circle
+unfolding computed
+circle_goes = goes circle refl
+
+pub up_to_a_comma_goes : Goes up_to_a_comma
+unfolding computed
+up_to_a_comma_goes = goes up_to_a_comma refl
+
+pub terminators_goes : Goes terminators
+unfolding computed
+terminators_goes = goes terminators refl
+
+pub elements_goes : Goes elements
+unfolding computed
+elements_goes = goes elements refl
+
+pub conditional_goes : Goes conditional
+unfolding computed
+conditional_goes = goes conditional refl
+
+pub streams_goes : Goes streams
+unfolding computed
+streams_goes = goes streams refl
+
+pub parents_goes : Goes parents
+unfolding computed
+parents_goes = goes parents refl
+
+pub faults_goes : Goes faults
+unfolding computed
+faults_goes = goes faults refl
+
+pub too_deep_goes : Goes too_deep
+unfolding computed
+too_deep_goes = goes too_deep refl
+
+pub line_ends_goes : Goes line_ends
+unfolding computed
+line_ends_goes = goes line_ends refl
+
+pub places_goes : Goes places
+unfolding computed
+places_goes = goes places refl
+
+pub first_goes : Goes first
+unfolding computed
+first_goes = goes first refl
+
+pub bitmap_goes : Goes bitmap
+unfolding computed
+bitmap_goes = goes bitmap refl
+
+pub picture_goes : Goes picture
+unfolding computed
+picture_goes = goes picture refl
+
+-- ---- lines that are refused memory
+
+pub fairly_go : FairlyGo
+unfolding computed
+fairly_go d = refl
+
+pub are_unfair : AreUnfair
+unfolding computed
+are_unfair d = (refl, (refl, (refl, (refl, (refl, (refl, (refl, (refl, tt))))))))

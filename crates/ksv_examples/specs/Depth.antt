@@ -1,0 +1,144 @@
+-- Evaluation from nothing to a given depth, so that it computes. `from_nothing` goes as deep as there are nodes, by numbers of
+-- nodes that are shut outside their module. Here nodes are compared by what they are, and where the depth doesn't suffice
+-- there is no answer. Where there is one, it is that of evaluation from nothing (proofs/Depth), and what a session writes by such
+-- answers is what the session writes (proofs/Sessions).
+use Rattle.std.specs.Prelude.{ℕ, zero, suc, ◌==◌, ◌&&◌, ◌||◌, Bool, true, false, List, [], ◌∷◌, ◌++◌, map, codes, length, nat_lt, Option, Some, None, option_map, option_and_then, Result, Ok, Err, if◌then◌else◌}
+use Rattle.std.specs.Str.{bytes_eq}
+use Rattle.ksv_plan.specs.Plan.{Answer, Fail, Ask}
+use Rattle.ksv_desc.specs.Description.{Description}
+use Rattle.ksv_expr_value.specs.Trail.{Trail, child}
+use Rattle.ksv_expr_value.specs.declared.fault.Fault.{Fault}
+use Rattle.ksv_expr_value.specs.declared.fault.FaultKind.TheVariants as kinds
+use Rattle.ksv_expr_value.specs.declared.step.Step.{Step}
+use Rattle.ksv_expr_value.specs.declared.step.Step.TheVariants.{Index, Name}
+use Rattle.ksv_expr_value.specs.declared.value.Value.{Value}
+use Rattle.ksv_expr_value.specs.declared.value.Value.TheVariants as values
+use Rattle.ksv_nodes.specs.Reading.{look}
+use Rattle.ksv_nodes.specs.Rule.{Rule, Of, See, value_node, head_node, rest_node}
+use Rattle.ksv_nodes.specs.Truth.{with_given}
+use Rattle.ksv_nodes.specs.Turning.{fault_at, raised}
+use Rattle.ksv_nodes.specs.declared.given.Given.{Given}
+use Rattle.ksv_nodes.specs.declared.given.Given.TheVariants as givens
+use Rattle.ksv_nodes.specs.declared.node.Node.{Node}
+use Rattle.ksv_nodes.specs.declared.node.NodeKind.{NodeKind}
+use Rattle.ksv_nodes.specs.declared.node.NodeKind.TheVariants.{Head, Value as ItsValue, End, Rest}
+use Rattle.ksv_rules.specs.FromNothing.{circle}
+use Rattle.ksv_rules.specs.Meaning.{rule_of}
+use Rattle.ksv_lines.specs.Lines.{line_limit, without_carriage_return, words_of}
+use Rattle.ksv_paths.specs.PathTexts.{path_named}
+use Rattle.ksv_session.specs.Commands.{command_of, only}
+use Rattle.ksv_session.specs.Questions.{Told, misfit, of_head, of_rest, of_value, told_text}
+use Rattle.ksv_session.specs.Replies.{Answer as Replied, Event, said, answer_to}
+use Rattle.ksv_session.specs.Session.{Standing, answered}
+
+-- ---- the same node
+
+abbrev pub same_step : Step → Step → Bool
+same_step (Name m) (Name n) = m == n
+same_step (Name m) (Index j) = false
+same_step (Index i) (Name n) = false
+same_step (Index i) (Index j) = i == j
+
+abbrev pub same_steps : List Step → List Step → Bool
+same_steps [] [] = true
+same_steps [] (t ∷ q) = false
+same_steps (s ∷ p) [] = false
+same_steps (s ∷ p) (t ∷ q) = same_step s t && same_steps p q
+
+abbrev pub kind_digit : NodeKind → ℕ
+kind_digit Head = 0
+kind_digit ItsValue = 1
+kind_digit End = 2
+kind_digit Rest = 3
+
+abbrev pub same_node : Node → Node → Bool
+same_node a b = (kind_digit a.kind == kind_digit b.kind) && same_steps a.path.upward b.path.upward
+
+-- one of the open nodes is this one
+abbrev pub is_open : List Node → Node → Bool
+is_open [] n = false
+is_open (m ∷ ms) n = same_node n m || is_open ms n
+
+-- ---- what a node answers
+
+-- goes on with the answer of a node, if there is one
+abbrev pub with_met : {A : Type 0} → Option (Result Given Fault) → (Given → Option (Result A Fault)) → Option (Result A Fault)
+with_met None f = None
+with_met (Some (Ok g)) f = f g
+with_met (Some (Err e)) f = Some (Err e)
+
+-- goes on with what was seen
+abbrev pub with_look : {A B : Type 0} → Trail → Option A → (A → Option (Result B Fault)) → Option (Result B Fault)
+with_look here None f = Some (Err (fault_at here kinds.EndOfBytes))
+with_look here (Some a) f = f a
+
+-- what a rule answers at a path, on these bytes, where `met` answers its nodes as far as it goes
+module _ (met : Node → Option (Result Given Fault)) (here : Trail) (bytes : List ℕ) where
+  abbrev pub rule_answer : {A : Type 0} → Rule A → Option (Result A Fault)
+  rule_answer (Answer a) = Some (Ok a)
+  rule_answer (Fail e) = Some (Err (raised e here))
+  rule_answer (Ask (Of n) k) = with_met (met n) (λ g. rule_answer (k g))
+  rule_answer (Ask (See r) k) = with_look here (look r bytes).seen (λ x. rule_answer (k x))
+
+-- what a node answers while these are open, where no more nodes than this wait for one another
+unfoldable pub answer_at : Description → List ℕ → ℕ → List Node → Node → Option (Result Given Fault)
+answer_at d bytes zero opened n = None
+answer_at d bytes (suc k) opened n = elim (is_open opened n) [ true ↦ Some (circle n) | false ↦ rule_answer (answer_at d bytes k (n ∷ opened)) n.path bytes (rule_of d n) ]
+
+-- ---- what a session says
+
+module _ (d : Description) (depth : ℕ) (bytes : List ℕ) where
+  -- what a node answers with none open
+  abbrev pub node_answer : Node → Option (Result Given Fault)
+  node_answer n = answer_at d bytes depth [] n
+
+  -- the number of elements of a list, by the path of its first
+  abbrev pub list_told : Trail → Trail → Option Trail → Option Told
+  list_told p q None = Some (Err (fault_at q kinds.PathTooLong))
+  list_told p q (Some first) = option_map (λ r. with_given r (of_rest p)) (node_answer (rest_node first))
+
+  -- the text of a value: of an object and of a list another node is asked
+  abbrev pub value_told : Trail → Value → Option Told
+  value_told p (values.Object q) = option_map (λ r. with_given r (of_head d p)) (node_answer (head_node q))
+  value_told p (values.List q) = list_told p q (child q (Index 0))
+  value_told p v = Some (of_value d bytes p v)
+
+  abbrev pub given_told : Trail → Given → Option Told
+  given_told p (givens.Value v) = value_told p v
+  given_told p g = Some (misfit p)
+
+  abbrev pub result_told : Trail → Result Given Fault → Option Told
+  result_told p (Ok g) = given_told p g
+  result_told p (Err f) = Some (Err f)
+
+  -- what a question is told
+  unfoldable pub question_told : Trail → Option Told
+  question_told p = option_and_then (result_told p) (node_answer (value_node p))
+
+-- the path that a line asks for, if it is a question
+abbrev pub asked_by : Description → List (List ℕ) → Option Trail
+asked_by d [] = None
+asked_by d (name ∷ arguments) = if bytes_eq name (codes "get") then option_and_then (path_named d) (only arguments) else None
+
+abbrev pub asked_on : Description → List ℕ → Option Trail
+asked_on d line = if nat_lt line_limit (length line) then None else asked_by d (words_of (without_carriage_return line))
+
+-- the answer to a line
+abbrev pub asked_answer : Description → ℕ → List ℕ → List ℕ → Option Trail → Option Replied
+asked_answer d depth bytes line (Some p) = option_map (λ t. said bytes (told_text d t ++ codes "\n")) (question_told d depth bytes p)
+asked_answer d depth bytes line None = Some (answer_to d bytes (command_of d line))
+
+abbrev pub line_answer : Description → ℕ → List ℕ → List ℕ → Option Replied
+line_answer d depth bytes line = asked_answer d depth bytes line (asked_on d line)
+
+-- the lines of a session in which no memory is refused
+abbrev pub spoken : List (List ℕ) → List Event
+spoken lines = map (λ line. record { line = line; refused = false }) lines
+
+-- the session after lines
+unfoldable pub session_to : Description → ℕ → Standing → List (List ℕ) → Option Standing
+session_to d depth s [] = Some s
+session_to d depth s (line ∷ lines) = elim (s.ended) [
+  | true ↦ Some s
+  | false ↦ option_and_then (λ a. session_to d depth (answered s a true) lines) (line_answer d depth s.bytes line)
+]
