@@ -442,30 +442,38 @@ streams = record {
   ended = false;
 }
 
--- a size from the object around, which is read after it
+-- a size from the object around, which is read after it, and elements to the end of an object
 abbrev pub parents : Dialogue
 parents = record {
   lines =
       codes "meta: {id: t}" ∷
-      codes "seq: [{id: a, type: x, size: 2}, {id: c, type: u1}]" ∷
-      codes "types: {x: {seq: [{id: b, size: _parent.c}]}}" ∷
+      codes "seq: [{id: a, type: x, size: 2}, {id: c, type: u1}, {id: d, type: y, size: 2}, {id: e, type: u1}]" ∷
+      codes "types: {x: {seq: [{id: b, size: _parent.c}]}, y: {seq: [{id: xs, type: u1, repeat: eos}]}}" ∷
       [];
-  file = 0xaa ∷ 0xbb ∷ 0x01 ∷ [];
+  file = 0xaa ∷ 0xbb ∷ 0x01 ∷ 0x05 ∷ 0x06 ∷ 0x07 ∷ [];
   input = text_of_lines (
       codes "get /a/b" ∷
       codes "set 2 02" ∷
       codes "get /a/b" ∷
       codes "set 2 03" ∷
       codes "get /a/b" ∷
+      codes "get /d/xs" ∷
+      codes "get /d/xs/1" ∷
+      codes "get /d/xs/2" ∷
+      codes "get /e" ∷
       []);
   output = text_of_lines (
       codes "hex aa" ∷
-      codes "ok 3" ∷
+      codes "ok 6" ∷
       codes "hex aabb" ∷
-      codes "ok 3" ∷
+      codes "ok 6" ∷
       codes "fault end-of-bytes at /a/b" ∷
+      codes "[2]" ∷
+      codes "6" ∷
+      codes "fault bad-index at /d/xs/2" ∷
+      codes "7" ∷
       []);
-  left = 0xaa ∷ 0xbb ∷ 0x03 ∷ [];
+  left = 0xaa ∷ 0xbb ∷ 0x03 ∷ 0x05 ∷ 0x06 ∷ 0x07 ∷ [];
   ended = false;
 }
 
