@@ -6,6 +6,7 @@ pub mod Forms
 pub mod OwnFaults
 pub mod Circles
 pub mod Touching
+pub mod Following
 pub mod Places
 pub mod Enclosing
 pub mod Integers

@@ -1,15 +1,16 @@
 -- Laws of what nodes answer. They speak of the definitions alone: an error that a rule and its function had in common would break
 -- them. These laws are this project's own.
-use Rattle.std.specs.Prelude.{◌≡◌, ◌↔◌, ℕ, ◌+◌, ◌≤◌, Bool, true, false, List, [], ◌∷◌, Contains, length, Option, Some, None, Result, Ok, Err}
+use Rattle.std.specs.Prelude.{◌≡◌, ◌↔◌, ℕ, ◌+◌, ◌==◌, ◌≤◌, Bool, true, false, List, [], ◌∷◌, ◌++◌, Contains, length, Option, Some, None, Result, Ok, Err}
+use Rattle.std.specs.List.{AllByRecursion}
 use Rattle.ksv_expr_value.specs.Trail.{Trail, child, parent, last}
 use Rattle.ksv_expr_value.specs.declared.step.Step.{Step}
-use Rattle.ksv_expr_value.specs.declared.step.Step.TheVariants.{Index}
+use Rattle.ksv_expr_value.specs.declared.step.Step.TheVariants.{Index, Name}
 use Rattle.ksv_expr_value.specs.declared.value.Stream.{Stream}
 use Rattle.ksv_expr_value.specs.declared.fault.Fault.{Fault}
 use Rattle.ksv_expr_value.specs.declared.fault.FaultKind.TheVariants as kinds
 use Rattle.ksv_expr_value.specs.declared.value.Value.{Value}
 use Rattle.ksv_expr_value.specs.declared.value.Value.TheVariants as values
-use Rattle.ksv_desc.specs.Description.{Description}
+use Rattle.ksv_desc.specs.Description.{Description, MemberOfType}
 use Rattle.ksv_memo.specs.Evaluation.{is_among}
 use Rattle.ksv_memo.specs.Meaning.{on}
 use Rattle.ksv_memo.specs.Right.{AreDistinct}
@@ -21,6 +22,7 @@ use Rattle.ksv_nodes.specs.declared.given.Given.TheVariants as givens
 use Rattle.ksv_nodes.specs.declared.given.Head.{Head}
 use Rattle.ksv_nodes.specs.declared.given.Head.TheVariants as heads
 use Rattle.ksv_nodes.specs.declared.given.Leaf.{Leaf}
+use Rattle.ksv_nodes.specs.declared.given.Object.{Object}
 use Rattle.ksv_nodes.specs.declared.given.ObjectEnd.{ObjectEnd}
 use Rattle.ksv_nodes.specs.declared.given.ObjectEnd.TheVariants as endings
 use Rattle.ksv_nodes.specs.Numbers.{node_number}
@@ -29,6 +31,7 @@ use Rattle.ksv_nodes.specs.Rule.{head_node, value_node, end_node}
 use Rattle.ksv_nodes.specs.Truth.{answer_of, asks_of}
 use Rattle.ksv_nodes.specs.Turning.{fault_at}
 use Rattle.ksv_rules.specs.Ends.{start_of}
+use Rattle.ksv_rules.specs.Fields.{members_of, is_attribute}
 use Rattle.ksv_rules.specs.Meaning.{rule_of}
 use Rattle.ksv_rules.specs.FromNothing.{from_nothing, asks}
 use Rattle.ksv_rules.specs.Described.{described}
@@ -110,6 +113,48 @@ LeadsBack d bytes opened n (m ∷ way) p = (is_among node_number opened n ≡ fa
 -- A node answers the fault circle at a path just where such a way leads from it to a node of this path.
 abbrev pub CirclesLeadBack : Type 0
 CirclesLeadBack = (d : Description) (bytes : List ℕ) (opened : List Node) (n : Node) (p : Trail) → AreDistinct (on (described d) bytes) opened → (from_nothing d bytes opened n ≡ Err (fault_at p kinds.Circle)) ↔ ((way : List Node) × LeadsBack d bytes opened n way p)
+
+-- ---- attributes
+
+-- x names a member with no attribute before it, of the members of a type; none before it has this name
+pub record IsFirst (ms : List MemberOfType) (x : ℕ) : Type 0 where
+  pub front : List MemberOfType
+  pub member : MemberOfType
+  pub rest : List MemberOfType
+  pub is : ms ≡ front ++ member ∷ rest
+  pub named : member.name ≡ x
+  pub apart : AllByRecursion (λ m. (m.name == x) ≡ false) front
+  pub none : AllByRecursion (λ m. is_attribute m.kind ≡ false) front
+
+-- x names a member, y the attribute before it with no other between them; none before it has the name x
+pub record Follows (ms : List MemberOfType) (y x : ℕ) : Type 0 where
+  pub front : List MemberOfType
+  pub first : MemberOfType
+  pub between : List MemberOfType
+  pub second : MemberOfType
+  pub rest : List MemberOfType
+  pub is : ms ≡ (front ++ first ∷ between) ++ second ∷ rest
+  pub first_named : first.name ≡ y
+  pub attribute : is_attribute first.kind ≡ true
+  pub none : AllByRecursion (λ m. is_attribute m.kind ≡ false) between
+  pub named : second.name ≡ x
+  pub apart : AllByRecursion (λ m. (m.name == x) ≡ false) (front ++ first ∷ between)
+
+-- the part of q to which this step leads ends here
+pub record EndsAt (met : Node → Result Given Fault) (q : Trail) (step : Step) (place : ℕ) : Type 0 where
+  pub path : Trail
+  pub is : child q step ≡ Some path
+  pub is_last : Bool
+  pub ended : met (end_node path) ≡ Ok (givens.End place is_last)
+
+-- The first attribute of a type begins where its object does, and each further one where the one before it ends.
+abbrev pub FirstAttributesBegin : Type 0
+FirstAttributesBegin = (d : Description) (bytes : List ℕ) (opened : List Node) (p : Trail) (x : ℕ) (h : Head) (o : Object) → last p ≡ Some (Name x) → from_nothing d bytes opened (head_node p) ≡ Ok (givens.Head h)
+    → from_nothing d bytes opened (head_node (parent p)) ≡ Ok (givens.Head (heads.Object o)) → IsFirst (members_of d o.type_number) x → start_of h ≡ o.start
+
+abbrev pub AttributesTouch : Type 0
+AttributesTouch = (d : Description) (bytes : List ℕ) (opened : List Node) (p : Trail) (x y : ℕ) (h : Head) (o : Object) → last p ≡ Some (Name x) → from_nothing d bytes opened (head_node p) ≡ Ok (givens.Head h)
+    → from_nothing d bytes opened (head_node (parent p)) ≡ Ok (givens.Head (heads.Object o)) → Follows (members_of d o.type_number) y x → EndsAt (from_nothing d bytes opened) (parent p) (Name y) (start_of h)
 
 -- ---- elements
 

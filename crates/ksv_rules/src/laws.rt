@@ -1,7 +1,7 @@
 //! Laws of the rules of a description, each a contract of a function that does nothing.
 
 ghost use Rattle.ksv_rules.specs.Direct.{AnswersAreDirect, AsksAreDirect, AnswersFollowRules, NextMeetsTruth};
-ghost use Rattle.ksv_rules.specs.Laws.{AnswersHaveForms, AnswersStay, ValuesHaveHeads, NoRuleMakesCircles, CirclesLeadBack, ElementsTouch, PlacesAreInFile, HeadsLieInStreams, EndsLieInStreams};
+ghost use Rattle.ksv_rules.specs.Laws.{AnswersHaveForms, AnswersStay, ValuesHaveHeads, NoRuleMakesCircles, CirclesLeadBack, FirstAttributesBegin, AttributesTouch, ElementsTouch, PlacesAreInFile, HeadsLieInStreams, EndsLieInStreams};
 
 /// Evaluation from nothing by replies, as an engine has it, is evaluation from nothing by direct recursion on the rules: what a
 /// node answers, what it asks, and what it uses.
@@ -41,6 +41,12 @@ pub fn no_rule_makes_circles()
 /// path of that one.
 pub fn circles_lead_back()
     ensures { CirclesLeadBack }
+{}
+
+/// The first attribute of a type begins where its object does, and each further one where the one before it ends.
+pub fn attributes_touch()
+    ensures first { FirstAttributesBegin }
+    ensures further { AttributesTouch }
 {}
 
 /// An element after another begins where that one ends, which isn't the last.
