@@ -9,5 +9,6 @@ pub mod Touching
 pub mod Following
 pub mod Places
 pub mod Enclosing
+pub mod Counting
 pub mod Integers
 pub mod Peeked

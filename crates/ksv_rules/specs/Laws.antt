@@ -1,7 +1,8 @@
 -- Laws of what nodes answer. They speak of the definitions alone: an error that a rule and its function had in common would break
 -- them. These laws are this project's own.
-use Rattle.std.specs.Prelude.{◌≡◌, ◌↔◌, ℕ, ◌+◌, ◌==◌, ◌≤◌, Bool, true, false, List, [], ◌∷◌, ◌++◌, Contains, length, Option, Some, None, Result, Ok, Err}
+use Rattle.std.specs.Prelude.{◌≡◌, ◌↔◌, ℕ, ◌+◌, ◌==◌, ◌<◌, ◌≤◌, ◌⊎◌, slice_get, Bool, true, false, List, [], ◌∷◌, ◌++◌, Contains, length, Option, Some, None, Result, Ok, Err}
 use Rattle.std.specs.List.{AllByRecursion}
+use Rattle.ksv_expr_tree.specs.Tree.{Tree}
 use Rattle.ksv_expr_value.specs.Trail.{Trail, child, parent, last}
 use Rattle.ksv_expr_value.specs.declared.step.Step.{Step}
 use Rattle.ksv_expr_value.specs.declared.step.Step.TheVariants.{Index, Name}
@@ -10,7 +11,7 @@ use Rattle.ksv_expr_value.specs.declared.fault.Fault.{Fault}
 use Rattle.ksv_expr_value.specs.declared.fault.FaultKind.TheVariants as kinds
 use Rattle.ksv_expr_value.specs.declared.value.Value.{Value}
 use Rattle.ksv_expr_value.specs.declared.value.Value.TheVariants as values
-use Rattle.ksv_desc.specs.Description.{Description, MemberOfType}
+use Rattle.ksv_desc.specs.Description.{Description, MemberOfType, Attribute, Field, Expr}
 use Rattle.ksv_memo.specs.Evaluation.{is_among}
 use Rattle.ksv_memo.specs.Meaning.{on}
 use Rattle.ksv_memo.specs.Right.{AreDistinct}
@@ -22,12 +23,14 @@ use Rattle.ksv_nodes.specs.declared.given.Given.TheVariants as givens
 use Rattle.ksv_nodes.specs.declared.given.Head.{Head}
 use Rattle.ksv_nodes.specs.declared.given.Head.TheVariants as heads
 use Rattle.ksv_nodes.specs.declared.given.Leaf.{Leaf}
+use Rattle.ksv_nodes.specs.declared.given.List as lists
+use Rattle.ksv_nodes.specs.declared.given.MemberRef.{MemberRef}
 use Rattle.ksv_nodes.specs.declared.given.Object.{Object}
 use Rattle.ksv_nodes.specs.declared.given.ObjectEnd.{ObjectEnd}
 use Rattle.ksv_nodes.specs.declared.given.ObjectEnd.TheVariants as endings
 use Rattle.ksv_nodes.specs.Numbers.{node_number}
 use Rattle.ksv_nodes.specs.Reading.{end_in}
-use Rattle.ksv_nodes.specs.Rule.{head_node, value_node, end_node}
+use Rattle.ksv_nodes.specs.Rule.{head_node, value_node, end_node, rest_node}
 use Rattle.ksv_nodes.specs.Truth.{answer_of, asks_of}
 use Rattle.ksv_nodes.specs.Turning.{fault_at}
 use Rattle.ksv_rules.specs.Ends.{start_of}
@@ -167,6 +170,43 @@ pub record EndsBefore (d : Description) (bytes : List ℕ) (opened : List Node) 
 -- An element after another begins where that one ends.
 abbrev pub ElementsTouch : Type 0
 ElementsTouch = (d : Description) (bytes : List ℕ) (opened : List Node) (p : Trail) (i : ℕ) (h : Head) → last p ≡ Some (Index (i + 1)) → from_nothing d bytes opened (head_node p) ≡ Ok (givens.Head h) → EndsBefore d bytes opened p i h
+
+-- ---- counts
+
+-- the element j of l ends; it is the last just where it is one of c = j + 1, and then it ends at this place
+pub record EndsAsOf (met : Node → Result Given Fault) (l : Trail) (j c place : ℕ) : Type 0 where
+  pub path : Trail
+  pub is : child l (Index j) ≡ Some path
+  pub ends : ℕ
+  pub ended : met (end_node path) ≡ Ok (givens.End ends (j + 1 == c))
+  pub last_ends : j + 1 ≡ c → ends ≡ place
+
+-- l has the elements i to c - 1, the last of which ends at this place
+pub record AreElements (met : Node → Result Given Fault) (l : Trail) (i c place : ℕ) : Type 0 where
+  pub some : i < c
+  pub each : (j : ℕ) → i ≤ j → j < c → EndsAsOf met l j c place
+
+-- l is a list without elements, which ends where it begins
+pub record IsEmptyList (met : Node → Result Given Fault) (l : Trail) (c place : ℕ) : Type 0 where
+  pub list : lists.List
+  pub answered : met (head_node l) ≡ Ok (givens.Head (heads.List list))
+  pub empty : list.is_empty ≡ true
+  pub none : c ≡ 0
+  pub start : list.start ≡ place
+
+-- What is answered of a list from its first element on: it has so many elements, each of which ends, and it ends with the last.
+abbrev pub RestsCount : Type 0
+RestsCount = (d : Description) (bytes : List ℕ) (opened : List Node) (p : Trail) (c place : ℕ) → last p ≡ Some (Index 0) → from_nothing d bytes opened (rest_node p) ≡ Ok (givens.Rest c place)
+    → IsEmptyList (from_nothing d bytes opened) (parent p) c place ⊎ AreElements (from_nothing d bytes opened) (parent p) 0 c place
+
+-- an attribute of this source reads so
+abbrev pub IsFieldOf : Description → MemberRef → Field → Type 0
+IsFieldOf d s f = (m : MemberOfType) × (slice_get (members_of d s.type_number) s.member ≡ Some m) × (m.kind ≡ Attribute f)
+
+-- A list that isn't empty has as many elements as its `repeat-expr` tells.
+abbrev pub ToldCounts : Type 0
+ToldCounts = (d : Description) (bytes : List ℕ) (opened : List Node) (p : Trail) (c place : ℕ) (g : lists.List) (f : Field) (e : Tree) (n : ℕ) → last p ≡ Some (Index 0) → from_nothing d bytes opened (rest_node p) ≡ Ok (givens.Rest c place)
+    → from_nothing d bytes opened (head_node (parent p)) ≡ Ok (givens.Head (heads.List g)) → IsFieldOf d g.source f → f.repeat ≡ Expr e → g.count ≡ Some n → g.is_empty ≡ false → c ≡ n
 
 -- ---- places
 

@@ -1,7 +1,7 @@
 //! Laws of the rules of a description, each a contract of a function that does nothing.
 
 ghost use Rattle.ksv_rules.specs.Direct.{AnswersAreDirect, AsksAreDirect, AnswersFollowRules, NextMeetsTruth};
-ghost use Rattle.ksv_rules.specs.Laws.{AnswersHaveForms, AnswersStay, ValuesHaveHeads, NoRuleMakesCircles, CirclesLeadBack, FirstAttributesBegin, AttributesTouch, ElementsTouch, PlacesAreInFile, HeadsLieInStreams, EndsLieInStreams};
+ghost use Rattle.ksv_rules.specs.Laws.{AnswersHaveForms, AnswersStay, ValuesHaveHeads, NoRuleMakesCircles, CirclesLeadBack, FirstAttributesBegin, AttributesTouch, ElementsTouch, RestsCount, ToldCounts, PlacesAreInFile, HeadsLieInStreams, EndsLieInStreams};
 
 /// Evaluation from nothing by replies, as an engine has it, is evaluation from nothing by direct recursion on the rules: what a
 /// node answers, what it asks, and what it uses.
@@ -52,6 +52,13 @@ pub fn attributes_touch()
 /// An element after another begins where that one ends, which isn't the last.
 pub fn elements_touch()
     ensures { ElementsTouch }
+{}
+
+/// From its first element on, a list has as many elements as end, the last of which alone is the last, and it ends with that one;
+/// where `repeat-expr` tells how many there are, it has so many.
+pub fn rests_count()
+    ensures elements { RestsCount }
+    ensures told { ToldCounts }
 {}
 
 /// Each place in an answer lies in the file.
