@@ -26,9 +26,10 @@ use Rattle.ksv_rules.specs.Heads.{in_list}
 use Rattle.ksv_rules.specs.Ends.{start_of, place_of, is_counted, is_last, not_empty, element_end, end_at, end_of, part_rest, next_rest, rest_behind, rest_from, in_whole_list, first_rest, whole_rest, rest_at, rest_of}
 use Rattle.ksv_rules.specs.Meaning.{meaning_of}
 use Rattle.ksv_rules.specs.FromNothing.{answer_within, from_nothing}
-use Rattle.ksv_rules.specs.Laws.{EndsAsOf, AreElements, IsEmptyList, RestsCount, IsFieldOf, ToldCounts}
+use Rattle.ksv_rules.specs.Laws.{EndsAsOf, AreElements, IsEmptyList, RestsCount, IsFieldOf, IsCountedBy, ToldCounts}
 use Rattle.ksv_rules.proofs.Forms.{ok_is, Before, goes_on, asked_head, refused, meaning_is, ruled, no_depth, stays_within, among_more}
 use Rattle.ksv_rules.proofs.Touching.{asked_end, part_is}
+use Rattle.ksv_rules.proofs.Sources.{heads_are_read}
 
 -- a path is the part of the path above it to which its last step leads
 own_part : (p : Trail) (step : Step) → last p ≡ Some step → child (parent p) step ≡ Some p
@@ -242,23 +243,19 @@ rests_count d bytes opened p c place is e = first_counts d bytes node_bound open
 
 pub told_counts : ToldCounts
 unfolding from_nothing
-told_counts d bytes opened p c place g f e n is answered holder own repeat count some = elim (first_counts d bytes node_bound opened p c place is answered) [
-  | inl empty ↦ absurd (not_empty_list empty)
-  | inr elements ↦ by_last elements c refl
-]
+told_counts d bytes opened p c place g n is answered holder count =
+    let r = heads_are_read d bytes opened (parent p) (heads.List g) holder in
+    by_repeat r.field r.is r.field.repeat refl r.so
   where
     met : Node → Result Given Fault
     met = answer_within d bytes node_bound opened
 
-    not_empty_list : IsEmptyList met (parent p) c place → ⊥
-    not_empty_list empty =
-        let same : empty.list ≡ g = list_of_given d bytes empty.list g (sym empty.answered ∙ holder) in
-        let clash : true ≡ false = sym empty.empty ∙ ap (λ (y : lists.List). y.is_empty) same ∙ some in
-        cc
+    some_is : (a b : ℕ) → Some a ≡ Some b → a ≡ b
+    some_is a b h = cc
 
-    by_last : AreElements met (parent p) 0 c place → (m : ℕ) → m ≡ c → c ≡ n
-    by_last elements zero is_c = absurd (let low = elements.some in omega arith)
-    by_last elements (suc j) is_c =
+    by_last : (f : Field) (e : Tree) → IsFieldOf d g.source f → f.repeat ≡ Expr e → AreElements met (parent p) 0 c place → (m : ℕ) → m ≡ c → c ≡ n
+    by_last f e own repeat elements zero is_c = absurd (let low = elements.some in omega arith)
+    by_last f e own repeat elements (suc j) is_c =
         let one = elements.each j (omega arith) (omega arith) in
         let up = part_of (parent p) one.path (steps.Index j) one.is in
         let told = told_within d bytes node_bound opened one.path j n one.ends (j + 1 == c) g f e up.1 one.ended (ap (λ q. met (head_node q)) up.0 ∙ holder) own repeat count in
@@ -266,3 +263,21 @@ told_counts d bytes opened p c place g f e n is answered holder own repeat count
         let n_so : (n == j + 1) ≡ true = sym told ∙ last_so in
         let n_is : n ≡ j + 1 = grind (arith, nat_tests) in
         omega arith
+
+    by_empty : (m : ℕ) → g.count ≡ Some m → g.is_empty ≡ (m == 0) → IsEmptyList met (parent p) c place → c ≡ n
+    by_empty m told empty_so empty =
+        let same : empty.list ≡ g = list_of_given d bytes empty.list g (sym empty.answered ∙ holder) in
+        let none : (m == 0) ≡ true = sym empty_so ∙ ap (λ (y : lists.List). y.is_empty) (sym same) ∙ empty.empty in
+        let m_is : m ≡ 0 = grind (arith, nat_tests) in
+        let m_n : m ≡ n = some_is m n (sym told ∙ count) in
+        let c_is = empty.none in
+        omega arith
+
+    by_repeat : (f : Field) → IsFieldOf d g.source f → (r : Repeat) → f.repeat ≡ r → IsCountedBy r g → c ≡ n
+    by_repeat f own (Expr e) repeat so = elim (first_counts d bytes node_bound opened p c place is answered) [
+      | inl empty ↦ by_empty so.0 so.1 so.2 empty
+      | inr elements ↦ by_last f e own repeat elements c refl
+    ]
+    by_repeat f own Once repeat so = absurd so
+    by_repeat f own Eos repeat so = absurd (let clash : ◌≡◌ {A = Option ℕ} None (Some n) = sym so ∙ count in cc)
+    by_repeat f own (Until x) repeat so = absurd (let clash : ◌≡◌ {A = Option ℕ} None (Some n) = sym so ∙ count in cc)

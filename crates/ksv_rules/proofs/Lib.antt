@@ -9,6 +9,7 @@ pub mod Touching
 pub mod Following
 pub mod Places
 pub mod Enclosing
+pub mod Sources
 pub mod Counting
 pub mod Integers
 pub mod Peeked

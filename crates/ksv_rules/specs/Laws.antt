@@ -2,7 +2,6 @@
 -- them. These laws are this project's own.
 use Rattle.std.specs.Prelude.{◌≡◌, ◌↔◌, ℕ, ◌+◌, ◌==◌, ◌<◌, ◌≤◌, ◌⊎◌, slice_get, Bool, true, false, List, [], ◌∷◌, ◌++◌, Contains, length, Option, Some, None, Result, Ok, Err}
 use Rattle.std.specs.List.{AllByRecursion}
-use Rattle.ksv_expr_tree.specs.Tree.{Tree}
 use Rattle.ksv_expr_value.specs.Trail.{Trail, child, parent, last}
 use Rattle.ksv_expr_value.specs.declared.step.Step.{Step}
 use Rattle.ksv_expr_value.specs.declared.step.Step.TheVariants.{Index, Name}
@@ -11,7 +10,7 @@ use Rattle.ksv_expr_value.specs.declared.fault.Fault.{Fault}
 use Rattle.ksv_expr_value.specs.declared.fault.FaultKind.TheVariants as kinds
 use Rattle.ksv_expr_value.specs.declared.value.Value.{Value}
 use Rattle.ksv_expr_value.specs.declared.value.Value.TheVariants as values
-use Rattle.ksv_desc.specs.Description.{Description, MemberOfType, Attribute, Field, Expr}
+use Rattle.ksv_desc.specs.Description.{Description, MemberOfType, Attribute, Field, Repeat, Once, Expr}
 use Rattle.ksv_memo.specs.Evaluation.{is_among}
 use Rattle.ksv_memo.specs.Meaning.{on}
 use Rattle.ksv_memo.specs.Right.{AreDistinct}
@@ -117,6 +116,34 @@ LeadsBack d bytes opened n (m ∷ way) p = (is_among node_number opened n ≡ fa
 abbrev pub CirclesLeadBack : Type 0
 CirclesLeadBack = (d : Description) (bytes : List ℕ) (opened : List Node) (n : Node) (p : Trail) → AreDistinct (on (described d) bytes) opened → (from_nothing d bytes opened n ≡ Err (fault_at p kinds.Circle)) ↔ ((way : List Node) × LeadsBack d bytes opened n way p)
 
+-- ---- sources
+
+-- an attribute of this source reads so
+abbrev pub IsFieldOf : Description → MemberRef → Field → Type 0
+IsFieldOf d s f = (m : MemberOfType) × (slice_get (members_of d s.type_number) s.member ≡ Some m) × (m.kind ≡ Attribute f)
+
+-- the attribute of this source is one of which this is true
+pub record IsReadBy (d : Description) (s : MemberRef) (P : Field → Type 0) : Type 0 where
+  pub field : Field
+  pub is : IsFieldOf d s field
+  pub so : P field
+
+-- where `repeat-expr` tells how many elements there are, the list knows it; else it doesn't
+abbrev pub IsCountedBy : Repeat → lists.List → Type 0
+IsCountedBy Once g = ⊥
+IsCountedBy (Expr e) g = (n : ℕ) × (g.count ≡ Some n) × (g.is_empty ≡ (n == 0))
+IsCountedBy _ g = g.count ≡ None
+
+-- bytes and lists are read by an attribute, and a list by one that repeats
+abbrev pub IsRead : Description → Head → Type 0
+IsRead d (heads.Leaf l) = IsReadBy d l.source (λ f. Unit {0})
+IsRead d (heads.List g) = IsReadBy d g.source (λ f. IsCountedBy f.repeat g)
+IsRead d _ = Unit {0}
+
+-- What is at a path is read by an attribute of the description.
+abbrev pub HeadsAreRead : Type 0
+HeadsAreRead = (d : Description) (bytes : List ℕ) (opened : List Node) (p : Trail) (h : Head) → from_nothing d bytes opened (head_node p) ≡ Ok (givens.Head h) → IsRead d h
+
 -- ---- attributes
 
 -- x names a member with no attribute before it, of the members of a type; none before it has this name
@@ -199,14 +226,10 @@ abbrev pub RestsCount : Type 0
 RestsCount = (d : Description) (bytes : List ℕ) (opened : List Node) (p : Trail) (c place : ℕ) → last p ≡ Some (Index 0) → from_nothing d bytes opened (rest_node p) ≡ Ok (givens.Rest c place)
     → IsEmptyList (from_nothing d bytes opened) (parent p) c place ⊎ AreElements (from_nothing d bytes opened) (parent p) 0 c place
 
--- an attribute of this source reads so
-abbrev pub IsFieldOf : Description → MemberRef → Field → Type 0
-IsFieldOf d s f = (m : MemberOfType) × (slice_get (members_of d s.type_number) s.member ≡ Some m) × (m.kind ≡ Attribute f)
-
--- A list that isn't empty has as many elements as its `repeat-expr` tells.
+-- A list has as many elements as it is told to have.
 abbrev pub ToldCounts : Type 0
-ToldCounts = (d : Description) (bytes : List ℕ) (opened : List Node) (p : Trail) (c place : ℕ) (g : lists.List) (f : Field) (e : Tree) (n : ℕ) → last p ≡ Some (Index 0) → from_nothing d bytes opened (rest_node p) ≡ Ok (givens.Rest c place)
-    → from_nothing d bytes opened (head_node (parent p)) ≡ Ok (givens.Head (heads.List g)) → IsFieldOf d g.source f → f.repeat ≡ Expr e → g.count ≡ Some n → g.is_empty ≡ false → c ≡ n
+ToldCounts = (d : Description) (bytes : List ℕ) (opened : List Node) (p : Trail) (c place : ℕ) (g : lists.List) (n : ℕ) → last p ≡ Some (Index 0) → from_nothing d bytes opened (rest_node p) ≡ Ok (givens.Rest c place)
+    → from_nothing d bytes opened (head_node (parent p)) ≡ Ok (givens.Head (heads.List g)) → g.count ≡ Some n → c ≡ n
 
 -- ---- places
 
