@@ -1,15 +1,15 @@
 -- The number of elements that a list is said to have is that of the ends of its elements.
-use Rattle.std.proofs.Common.{◌≡◌, ◌∙◌, ℕ, zero, suc, ◌+◌, ◌-◌, ◌==◌, ◌<◌, ◌≤◌, Bool, true, false, if◌then◌else◌, List, [], ◌∷◌, Option, Some, None, Result, Ok, Err, ◌⊎◌, inl, inr, refl, sym, ap, subst, arith, slice_get}
+use Rattle.std.proofs.Common.{◌≡◌, ◌∙◌, ℕ, zero, suc, ◌+◌, ◌==◌, ◌<◌, Bool, true, false, if◌then◌else◌, List, [], ◌∷◌, Option, Some, None, Result, Ok, Err, ◌⊎◌, inl, inr, refl, sym, ap, subst, arith, slice_get}
 use Rattle.std.proofs.lemmas.Bool.{cases_lt}
 use Rattle.std.proofs.lemmas.Bool.Decides.{nat_tests}
-use Rattle.ksv_plan.specs.Plan.{Answer, Fail, Ask, bind}
+use Rattle.ksv_plan.specs.Plan.{Answer}
 use Rattle.ksv_expr_tree.specs.Tree.{Tree}
 use Rattle.ksv_expr_value.specs.Trail.{Trail, child, parent, last, first_step, all_but_last, same_trail, trail_of, trail_of-steps, trail_of-true}
 use Rattle.ksv_expr_value.specs.declared.fault.Fault.{Fault}
 use Rattle.ksv_expr_value.specs.declared.fault.FaultKind.TheVariants as kinds
 use Rattle.ksv_expr_value.specs.declared.step.Step.{Step}
 use Rattle.ksv_expr_value.specs.declared.step.Step.TheVariants as steps
-use Rattle.ksv_desc.specs.Description.{Description, MemberOfType, MemberKind, Attribute, Field, Repeat, Once, Eos, Expr, Until}
+use Rattle.ksv_desc.specs.Description.{Description, MemberKind, Attribute, Field, Repeat, Once, Eos, Expr, Until}
 use Rattle.ksv_nodes.specs.declared.node.Node.{Node}
 use Rattle.ksv_nodes.specs.declared.given.Given.{Given}
 use Rattle.ksv_nodes.specs.declared.given.Given.TheVariants as givens
@@ -23,11 +23,11 @@ use Rattle.ksv_nodes.specs.Rule.{Rule, part, in_rest, ask_head, ask_end, ask_res
 use Rattle.ksv_nodes.specs.Truth.{answer_of, with_given}
 use Rattle.ksv_rules.specs.Fields.{members_of, read_by, in_field, field_of}
 use Rattle.ksv_rules.specs.Heads.{in_list}
-use Rattle.ksv_rules.specs.Ends.{start_of, place_of, is_counted, is_last, not_empty, element_end, end_at, end_of, part_rest, next_rest, rest_behind, rest_from, in_whole_list, first_rest, whole_rest, rest_at, rest_of}
+use Rattle.ksv_rules.specs.Ends.{place_of, is_counted, is_last, not_empty, element_end, end_at, end_of, part_rest, next_rest, rest_behind, rest_from, in_whole_list, first_rest, whole_rest, rest_at, rest_of}
 use Rattle.ksv_rules.specs.Meaning.{meaning_of}
 use Rattle.ksv_rules.specs.FromNothing.{answer_within, from_nothing}
 use Rattle.ksv_rules.specs.Laws.{EndsAsOf, AreElements, IsEmptyList, RestsCount, IsFieldOf, IsCountedBy, ToldCounts}
-use Rattle.ksv_rules.proofs.Forms.{ok_is, Before, goes_on, asked_head, refused, meaning_is, ruled, no_depth, stays_within, among_more}
+use Rattle.ksv_rules.proofs.Forms.{ok_is, goes_on, asked_head, refused, meaning_is, ruled, no_depth, stays_within, among_more}
 use Rattle.ksv_rules.proofs.Touching.{asked_end, part_is}
 use Rattle.ksv_rules.proofs.Sources.{heads_are_read}
 
@@ -69,10 +69,13 @@ module _ (met : Node → Result Given Fault) (here : Trail) (bytes : List ℕ) w
       one = record { path = p; is = is; ends = place; ended = ended ∙ ap (λ b. Ok (givens.End place b)) (sym (is_same (i + 1))); last_ends = λ e. refl }
 
   one_more : (l p : Trail) (i ends c place : ℕ) → child l (steps.Index i) ≡ Some p → met (end_node p) ≡ Ok (givens.End ends false) → AreElements met l (i + 1) c place → AreElements met l i c place
-  one_more l p i ends c place is ended more = record { some = low_more; each = λ j low high. elim (cases_lt i j) [
-    | inl lt ↦ more.each j (omega arith) high
-    | inr ge ↦ (let same : i ≡ j = omega arith in subst (λ k. EndsAsOf met l k c place) same one)
-  ] }
+  one_more l p i ends c place is ended more = record {
+    some = low_more;
+    each = λ j low high. elim (cases_lt i j) [
+      | inl lt ↦ more.each j (omega arith) high
+      | inr ge ↦ (let same : i ≡ j = omega arith in subst (λ k. EndsAsOf met l k c place) same one)
+    ];
+  }
     where
       low_more : i < c
       low_more = let some = more.some in omega arith
@@ -167,7 +170,7 @@ module _ (d : Description) (bytes : List ℕ) where
       let step : answer_of met p bytes (rest_at p (Some (steps.Index (i + 1)))) ≡ Ok r.rested = ap (λ o. answer_of met p bytes (rest_at p o)) (sym up.1) ∙ r.was in
       let further : (i + 1 == 0) ≡ false = grind (arith, nat_tests) in
       let from : answer_of met p bytes (rest_from p l (i + 1)) ≡ Ok r.rested =
-          ap (λ q. answer_of met p bytes (rest_from p q (i + 1))) (sym up.0) ∙ sym (ap (λ b. answer_of met p bytes (if b then whole_rest p (parent p) else rest_from p (parent p) (i + 1))) further) ∙ step in
+      ap (λ q. answer_of met p bytes (rest_from p q (i + 1))) (sym up.0) ∙ sym (ap (λ b. answer_of met p bytes (if b then whole_rest p (parent p) else rest_from p (parent p) (i + 1))) further) ∙ step in
       let counted = rest_counts met p bytes p l (i + 1) r.rested is (λ q c' place' is' e'. later_counts depth (rest_node p ∷ opened) l q (i + 1) c' place' is' e') from in
       still_elements met (at (suc depth) opened) (lifted depth opened (rest_node p)) l (i + 1) c place (subst (λ n. AreElements met l (i + 1) n place) r.count_is (subst (λ n. AreElements met l (i + 1) r.rested.count n) r.place_is counted))
 

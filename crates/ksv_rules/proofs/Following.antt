@@ -1,8 +1,8 @@
 -- An attribute begins where the one before it in its type ends, and the first where its object does.
-use Rattle.std.proofs.Common.{◌≡◌, ◌∙◌, ℕ, zero, suc, ◌+◌, ◌==◌, Bool, true, false, if◌then◌else◌, List, [], ◌∷◌, ◌++◌, Option, Some, None, Result, Ok, Err, refl, sym, ap, subst, arith}
+use Rattle.std.proofs.Common.{◌≡◌, ◌∙◌, ℕ, zero, suc, ◌+◌, ◌==◌, Bool, true, false, if◌then◌else◌, List, [], ◌∷◌, ◌++◌, Option, Some, None, Result, Ok, refl, sym, ap, subst, arith}
 use Rattle.std.specs.List.{AllByRecursion}
 use Rattle.std.proofs.lemmas.Bool.Decides.{nat_tests}
-use Rattle.ksv_plan.specs.Plan.{Answer, Fail, Ask, bind}
+use Rattle.ksv_plan.specs.Plan.{Answer}
 use Rattle.ksv_expr_eval.specs.Heard.{Setting}
 use Rattle.ksv_expr_value.specs.Trail.{Trail, child, parent, last}
 use Rattle.ksv_expr_value.specs.declared.fault.Fault.{Fault}
@@ -27,7 +27,7 @@ use Rattle.ksv_rules.specs.Ends.{start_of}
 use Rattle.ksv_rules.specs.Meaning.{meaning_of}
 use Rattle.ksv_rules.specs.FromNothing.{answer_within, from_nothing}
 use Rattle.ksv_rules.specs.Laws.{IsFirst, Follows, EndsAt, FirstAttributesBegin, AttributesTouch}
-use Rattle.ksv_rules.proofs.Forms.{ok_is, Before, goes_on, asked_head, meaning_is, ruled, no_depth, stays_within, among_more}
+use Rattle.ksv_rules.proofs.Forms.{ok_is, goes_on, asked_head, meaning_is, ruled, no_depth, stays_within, among_more}
 use Rattle.ksv_rules.proofs.Touching.{asked_end, part_is, is_at, shape_is_at}
 
 -- ---- the attribute before

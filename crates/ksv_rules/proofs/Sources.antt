@@ -1,7 +1,6 @@
 -- Bytes and lists are read by an attribute of the description, and a list has the count of its `repeat`.
-use Rattle.std.proofs.Common.{◌≡◌, ◌∙◌, ℕ, zero, suc, ◌+◌, ◌==◌, Bool, true, false, if◌then◌else◌, ◌||◌, List, [], ◌∷◌, length, slice_get, Option, Some, None, Result, Ok, Err, refl, sym, ap, subst, arith}
-use Rattle.ksv_plan.specs.Plan.{Answer, Fail, Ask, bind}
-use Rattle.ksv_expr_tree.specs.Tree.{Tree}
+use Rattle.std.proofs.Common.{◌≡◌, ◌∙◌, ℕ, zero, suc, ◌+◌, ◌==◌, Bool, true, false, if◌then◌else◌, List, [], ◌∷◌, length, slice_get, Option, Some, None, Result, Ok, refl, sym, ap, subst, arith}
+use Rattle.ksv_plan.specs.Plan.{Answer}
 use Rattle.ksv_expr_eval.specs.Heard.{Setting}
 use Rattle.ksv_expr_value.specs.Trail.{Trail, parent, last}
 use Rattle.ksv_expr_value.specs.declared.fault.Fault.{Fault}
@@ -12,8 +11,6 @@ use Rattle.ksv_expr_value.specs.declared.value.Stream.{Stream}
 use Rattle.ksv_desc.specs.Description.{Description, MemberOfType, MemberKind, Attribute, Field, Content, Choice, Always, Switch, Extent, Sized, SizeEos, ByItself, Repeat, Once, Eos, Expr, Until, Terminator}
 use Rattle.ksv_desc.specs.Description as contents
 use Rattle.ksv_nodes.specs.declared.node.Node.{Node}
-use Rattle.ksv_nodes.specs.declared.node.NodeKind.{NodeKind}
-use Rattle.ksv_nodes.specs.declared.node.NodeKind.TheVariants as nodes
 use Rattle.ksv_nodes.specs.declared.given.Given.{Given}
 use Rattle.ksv_nodes.specs.declared.given.Given.TheVariants as givens
 use Rattle.ksv_nodes.specs.declared.given.MemberRef.{MemberRef}
@@ -32,7 +29,7 @@ use Rattle.ksv_rules.specs.Heads.{leaf, leaf_to_end, terminated_at, terminated, 
 use Rattle.ksv_rules.specs.Meaning.{meaning_of}
 use Rattle.ksv_rules.specs.FromNothing.{answer_within, from_nothing}
 use Rattle.ksv_rules.specs.Laws.{IsFieldOf, IsReadBy, IsCountedBy, IsRead, HeadsAreRead}
-use Rattle.ksv_rules.proofs.Forms.{ok_is, Before, goes_on, asked_head, refused, put_in, meaning_is, ruled, no_depth}
+use Rattle.ksv_rules.proofs.Forms.{ok_is, goes_on, asked_head, refused, meaning_is, ruled, no_depth}
 
 -- ---- the member of a place
 
