@@ -6,7 +6,10 @@ pub mod Forms
 pub mod OwnFaults
 pub mod Circles
 pub mod Touching
+pub mod Following
 pub mod Places
 pub mod Enclosing
+pub mod Sources
+pub mod Counting
 pub mod Integers
 pub mod Peeked

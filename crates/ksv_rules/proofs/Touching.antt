@@ -35,7 +35,7 @@ module _ (met : Node → Result Given Fault) (here : Trail) (bytes : List ℕ) w
   -- ---- where something begins that is read at a place
 
   module _ (s : ℕ) (h : Head) where
-    is_at : (k : Head) → start_of k ≡ s → ◌≡◌ {A = Result Head Fault} (Ok k) (Ok h) → start_of h ≡ s
+    pub is_at : (k : Head) → start_of k ≡ s → ◌≡◌ {A = Result Head Fault} (Ok k) (Ok h) → start_of h ≡ s
     is_at k start e = sym (ap start_of (ok_is k h e)) ∙ start
 
     leaf_at : (source : MemberRef) (w : Stream) (n : ℕ) → answer_of met here bytes (leaf source w s n) ≡ Ok h → start_of h ≡ s
@@ -78,7 +78,7 @@ module _ (met : Node → Result Given Fault) (here : Trail) (bytes : List ℕ) w
     content_is_at at source w f (contents.Characters encoding) e = bytes_are_at at source w f.extent f.terminator e
     content_is_at at source w f (contents.Object t given) e = object_is_at at t w f.extent e
 
-    shape_is_at : (at : Setting) (source : MemberRef) (w : Stream) (f : Field) (c : Choice) → answer_of met here bytes (shape_at at source w s f c) ≡ Ok h → start_of h ≡ s
+    pub shape_is_at : (at : Setting) (source : MemberRef) (w : Stream) (f : Field) (c : Choice) → answer_of met here bytes (shape_at at source w s f c) ≡ Ok h → start_of h ≡ s
     unfolding shape_at
     shape_is_at at source w f (Always c) e = content_is_at at source w f c e
     shape_is_at at source w f (Switch on cases) e = absurd (cc)

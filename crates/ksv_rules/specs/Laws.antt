@@ -1,15 +1,16 @@
 -- Laws of what nodes answer. They speak of the definitions alone: an error that a rule and its function had in common would break
 -- them. These laws are this project's own.
-use Rattle.std.specs.Prelude.{◌≡◌, ◌↔◌, ℕ, ◌+◌, ◌≤◌, Bool, true, false, List, [], ◌∷◌, Contains, length, Option, Some, None, Result, Ok, Err}
+use Rattle.std.specs.Prelude.{◌≡◌, ◌↔◌, ℕ, ◌+◌, ◌==◌, ◌<◌, ◌≤◌, ◌⊎◌, slice_get, Bool, true, false, List, [], ◌∷◌, ◌++◌, Contains, length, Option, Some, None, Result, Ok, Err}
+use Rattle.std.specs.List.{AllByRecursion}
 use Rattle.ksv_expr_value.specs.Trail.{Trail, child, parent, last}
 use Rattle.ksv_expr_value.specs.declared.step.Step.{Step}
-use Rattle.ksv_expr_value.specs.declared.step.Step.TheVariants.{Index}
+use Rattle.ksv_expr_value.specs.declared.step.Step.TheVariants.{Index, Name}
 use Rattle.ksv_expr_value.specs.declared.value.Stream.{Stream}
 use Rattle.ksv_expr_value.specs.declared.fault.Fault.{Fault}
 use Rattle.ksv_expr_value.specs.declared.fault.FaultKind.TheVariants as kinds
 use Rattle.ksv_expr_value.specs.declared.value.Value.{Value}
 use Rattle.ksv_expr_value.specs.declared.value.Value.TheVariants as values
-use Rattle.ksv_desc.specs.Description.{Description}
+use Rattle.ksv_desc.specs.Description.{Description, MemberOfType, Attribute, Field, Repeat, Once, Expr}
 use Rattle.ksv_memo.specs.Evaluation.{is_among}
 use Rattle.ksv_memo.specs.Meaning.{on}
 use Rattle.ksv_memo.specs.Right.{AreDistinct}
@@ -21,14 +22,18 @@ use Rattle.ksv_nodes.specs.declared.given.Given.TheVariants as givens
 use Rattle.ksv_nodes.specs.declared.given.Head.{Head}
 use Rattle.ksv_nodes.specs.declared.given.Head.TheVariants as heads
 use Rattle.ksv_nodes.specs.declared.given.Leaf.{Leaf}
+use Rattle.ksv_nodes.specs.declared.given.List as lists
+use Rattle.ksv_nodes.specs.declared.given.MemberRef.{MemberRef}
+use Rattle.ksv_nodes.specs.declared.given.Object.{Object}
 use Rattle.ksv_nodes.specs.declared.given.ObjectEnd.{ObjectEnd}
 use Rattle.ksv_nodes.specs.declared.given.ObjectEnd.TheVariants as endings
 use Rattle.ksv_nodes.specs.Numbers.{node_number}
 use Rattle.ksv_nodes.specs.Reading.{end_in}
-use Rattle.ksv_nodes.specs.Rule.{head_node, value_node, end_node}
+use Rattle.ksv_nodes.specs.Rule.{head_node, value_node, end_node, rest_node}
 use Rattle.ksv_nodes.specs.Truth.{answer_of, asks_of}
 use Rattle.ksv_nodes.specs.Turning.{fault_at}
 use Rattle.ksv_rules.specs.Ends.{start_of}
+use Rattle.ksv_rules.specs.Fields.{members_of, is_attribute}
 use Rattle.ksv_rules.specs.Meaning.{rule_of}
 use Rattle.ksv_rules.specs.FromNothing.{from_nothing, asks}
 use Rattle.ksv_rules.specs.Described.{described}
@@ -111,6 +116,76 @@ LeadsBack d bytes opened n (m ∷ way) p = (is_among node_number opened n ≡ fa
 abbrev pub CirclesLeadBack : Type 0
 CirclesLeadBack = (d : Description) (bytes : List ℕ) (opened : List Node) (n : Node) (p : Trail) → AreDistinct (on (described d) bytes) opened → (from_nothing d bytes opened n ≡ Err (fault_at p kinds.Circle)) ↔ ((way : List Node) × LeadsBack d bytes opened n way p)
 
+-- ---- sources
+
+-- an attribute of this source reads so
+abbrev pub IsFieldOf : Description → MemberRef → Field → Type 0
+IsFieldOf d s f = (m : MemberOfType) × (slice_get (members_of d s.type_number) s.member ≡ Some m) × (m.kind ≡ Attribute f)
+
+-- the attribute of this source is one of which this is true
+pub record IsReadBy (d : Description) (s : MemberRef) (P : Field → Type 0) : Type 0 where
+  pub field : Field
+  pub is : IsFieldOf d s field
+  pub so : P field
+
+-- where `repeat-expr` tells how many elements there are, the list knows it; else it doesn't
+abbrev pub IsCountedBy : Repeat → lists.List → Type 0
+IsCountedBy Once g = ⊥
+IsCountedBy (Expr e) g = (n : ℕ) × (g.count ≡ Some n) × (g.is_empty ≡ (n == 0))
+IsCountedBy _ g = g.count ≡ None
+
+-- bytes and lists are read by an attribute, and a list by one that repeats
+abbrev pub IsRead : Description → Head → Type 0
+IsRead d (heads.Leaf l) = IsReadBy d l.source (λ f. Unit {0})
+IsRead d (heads.List g) = IsReadBy d g.source (λ f. IsCountedBy f.repeat g)
+IsRead d _ = Unit {0}
+
+-- What is at a path is read by an attribute of the description.
+abbrev pub HeadsAreRead : Type 0
+HeadsAreRead = (d : Description) (bytes : List ℕ) (opened : List Node) (p : Trail) (h : Head) → from_nothing d bytes opened (head_node p) ≡ Ok (givens.Head h) → IsRead d h
+
+-- ---- attributes
+
+-- x names a member with no attribute before it, of the members of a type; none before it has this name
+pub record IsFirst (ms : List MemberOfType) (x : ℕ) : Type 0 where
+  pub front : List MemberOfType
+  pub member : MemberOfType
+  pub rest : List MemberOfType
+  pub is : ms ≡ front ++ member ∷ rest
+  pub named : member.name ≡ x
+  pub apart : AllByRecursion (λ m. (m.name == x) ≡ false) front
+  pub none : AllByRecursion (λ m. is_attribute m.kind ≡ false) front
+
+-- x names a member, y the attribute before it with no other between them; none before it has the name x
+pub record Follows (ms : List MemberOfType) (y x : ℕ) : Type 0 where
+  pub front : List MemberOfType
+  pub first : MemberOfType
+  pub between : List MemberOfType
+  pub second : MemberOfType
+  pub rest : List MemberOfType
+  pub is : ms ≡ (front ++ first ∷ between) ++ second ∷ rest
+  pub first_named : first.name ≡ y
+  pub attribute : is_attribute first.kind ≡ true
+  pub none : AllByRecursion (λ m. is_attribute m.kind ≡ false) between
+  pub named : second.name ≡ x
+  pub apart : AllByRecursion (λ m. (m.name == x) ≡ false) (front ++ first ∷ between)
+
+-- the part of q to which this step leads ends here
+pub record EndsAt (met : Node → Result Given Fault) (q : Trail) (step : Step) (place : ℕ) : Type 0 where
+  pub path : Trail
+  pub is : child q step ≡ Some path
+  pub is_last : Bool
+  pub ended : met (end_node path) ≡ Ok (givens.End place is_last)
+
+-- The first attribute of a type begins where its object does, and each further one where the one before it ends.
+abbrev pub FirstAttributesBegin : Type 0
+FirstAttributesBegin = (d : Description) (bytes : List ℕ) (opened : List Node) (p : Trail) (x : ℕ) (h : Head) (o : Object) → last p ≡ Some (Name x) → from_nothing d bytes opened (head_node p) ≡ Ok (givens.Head h)
+    → from_nothing d bytes opened (head_node (parent p)) ≡ Ok (givens.Head (heads.Object o)) → IsFirst (members_of d o.type_number) x → start_of h ≡ o.start
+
+abbrev pub AttributesTouch : Type 0
+AttributesTouch = (d : Description) (bytes : List ℕ) (opened : List Node) (p : Trail) (x y : ℕ) (h : Head) (o : Object) → last p ≡ Some (Name x) → from_nothing d bytes opened (head_node p) ≡ Ok (givens.Head h)
+    → from_nothing d bytes opened (head_node (parent p)) ≡ Ok (givens.Head (heads.Object o)) → Follows (members_of d o.type_number) y x → EndsAt (from_nothing d bytes opened) (parent p) (Name y) (start_of h)
+
 -- ---- elements
 
 -- the element before, whose number is i, isn't the last, and ends where this head begins
@@ -122,6 +197,39 @@ pub record EndsBefore (d : Description) (bytes : List ℕ) (opened : List Node) 
 -- An element after another begins where that one ends.
 abbrev pub ElementsTouch : Type 0
 ElementsTouch = (d : Description) (bytes : List ℕ) (opened : List Node) (p : Trail) (i : ℕ) (h : Head) → last p ≡ Some (Index (i + 1)) → from_nothing d bytes opened (head_node p) ≡ Ok (givens.Head h) → EndsBefore d bytes opened p i h
+
+-- ---- counts
+
+-- the element j of l ends; it is the last just where it is one of c = j + 1, and then it ends at this place
+pub record EndsAsOf (met : Node → Result Given Fault) (l : Trail) (j c place : ℕ) : Type 0 where
+  pub path : Trail
+  pub is : child l (Index j) ≡ Some path
+  pub ends : ℕ
+  pub ended : met (end_node path) ≡ Ok (givens.End ends (j + 1 == c))
+  pub last_ends : j + 1 ≡ c → ends ≡ place
+
+-- l has the elements i to c - 1, the last of which ends at this place
+pub record AreElements (met : Node → Result Given Fault) (l : Trail) (i c place : ℕ) : Type 0 where
+  pub some : i < c
+  pub each : (j : ℕ) → i ≤ j → j < c → EndsAsOf met l j c place
+
+-- l is a list without elements, which ends where it begins
+pub record IsEmptyList (met : Node → Result Given Fault) (l : Trail) (c place : ℕ) : Type 0 where
+  pub list : lists.List
+  pub answered : met (head_node l) ≡ Ok (givens.Head (heads.List list))
+  pub empty : list.is_empty ≡ true
+  pub none : c ≡ 0
+  pub start : list.start ≡ place
+
+-- What is answered of a list from its first element on: it has so many elements, each of which ends, and it ends with the last.
+abbrev pub RestsCount : Type 0
+RestsCount = (d : Description) (bytes : List ℕ) (opened : List Node) (p : Trail) (c place : ℕ) → last p ≡ Some (Index 0) → from_nothing d bytes opened (rest_node p) ≡ Ok (givens.Rest c place)
+    → IsEmptyList (from_nothing d bytes opened) (parent p) c place ⊎ AreElements (from_nothing d bytes opened) (parent p) 0 c place
+
+-- A list has as many elements as it is told to have.
+abbrev pub ToldCounts : Type 0
+ToldCounts = (d : Description) (bytes : List ℕ) (opened : List Node) (p : Trail) (c place : ℕ) (g : lists.List) (n : ℕ) → last p ≡ Some (Index 0) → from_nothing d bytes opened (rest_node p) ≡ Ok (givens.Rest c place)
+    → from_nothing d bytes opened (head_node (parent p)) ≡ Ok (givens.Head (heads.List g)) → g.count ≡ Some n → c ≡ n
 
 -- ---- places
 

@@ -1,7 +1,7 @@
 //! Laws of the rules of a description, each a contract of a function that does nothing.
 
 ghost use Rattle.ksv_rules.specs.Direct.{AnswersAreDirect, AsksAreDirect, AnswersFollowRules, NextMeetsTruth};
-ghost use Rattle.ksv_rules.specs.Laws.{AnswersHaveForms, AnswersStay, ValuesHaveHeads, NoRuleMakesCircles, CirclesLeadBack, ElementsTouch, PlacesAreInFile, HeadsLieInStreams, EndsLieInStreams};
+ghost use Rattle.ksv_rules.specs.Laws.{AnswersHaveForms, AnswersStay, ValuesHaveHeads, NoRuleMakesCircles, CirclesLeadBack, HeadsAreRead, FirstAttributesBegin, AttributesTouch, ElementsTouch, RestsCount, ToldCounts, PlacesAreInFile, HeadsLieInStreams, EndsLieInStreams};
 
 /// Evaluation from nothing by replies, as an engine has it, is evaluation from nothing by direct recursion on the rules: what a
 /// node answers, what it asks, and what it uses.
@@ -43,9 +43,27 @@ pub fn circles_lead_back()
     ensures { CirclesLeadBack }
 {}
 
+/// Bytes and lists are read by an attribute of the description, and a list by one that repeats.
+pub fn heads_are_read()
+    ensures { HeadsAreRead }
+{}
+
+/// The first attribute of a type begins where its object does, and each further one where the one before it ends.
+pub fn attributes_touch()
+    ensures first { FirstAttributesBegin }
+    ensures further { AttributesTouch }
+{}
+
 /// An element after another begins where that one ends, which isn't the last.
 pub fn elements_touch()
     ensures { ElementsTouch }
+{}
+
+/// From its first element on, a list has as many elements as end, the last of which alone is the last, and it ends with that one;
+/// where it is told how many elements it has, it has so many.
+pub fn rests_count()
+    ensures elements { RestsCount }
+    ensures told { ToldCounts }
 {}
 
 /// Each place in an answer lies in the file.

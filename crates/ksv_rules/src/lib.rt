@@ -23,7 +23,7 @@ pub use expression_laws::{expressions_are_met, rules_are_bounded};
 pub use ksv_nodes::{Given, Head, Leaf, List, MemberRef, Node, NodeKind, Object, ObjectEnd};
 pub use ksv_paths::{decimal, path_of, paths_are_read, served, texts_are_written};
 pub use laws::{
-    answers_have_forms, answers_stay, circles_lead_back, elements_touch, evaluation_is_direct,
-    next_meets_truth, no_rule_makes_circles, parts_lie_in_streams, places_are_in_file,
-    values_have_heads,
+    answers_have_forms, answers_stay, attributes_touch, circles_lead_back, elements_touch,
+    evaluation_is_direct, next_meets_truth, no_rule_makes_circles, parts_lie_in_streams,
+    places_are_in_file, rests_count, values_have_heads,
 };
