@@ -632,8 +632,11 @@ places = record {
       codes "  - {id: p10, size: 0, if: _io.eof}" ∷
       codes "  - {id: p11, size: 0, if: not _io.eof}" ∷
       codes "  - {id: p12, size: 0, if: 'magic.to_s(\"ASCII\") == \"AB\"'}" ∷
-      codes "  - {id: p13, size: 'xs[3]'}" ∷
+      codes "  - {id: p13, size: 'p3[1] - 0xff'}" ∷
+      codes "  - {id: o, type: o, size: 0}" ∷
+      codes "  - {id: p14, size: 'xs[3]'}" ∷
       codes "enums: {animal: {4: cat, 5: dog}}" ∷
+      codes "types: {o: {seq: [{id: p, size: '_root.p3[2]'}]}}" ∷
       [];
   file = 0x41 ∷ 0x42 ∷ 0x01 ∷ 0x02 ∷ 0x03 ∷ 0x04 ∷ 0xaa ∷ 0xbb ∷ 0xcc ∷ 0xdd ∷ 0xee ∷ 0xff ∷ 0x11 ∷ 0x12 ∷ 0x13 ∷ 0x14 ∷ [];
   input = text_of_lines (
@@ -651,6 +654,8 @@ places = record {
       codes "get /p11" ∷
       codes "get /p12" ∷
       codes "get /p13" ∷
+      codes "get /o/p" ∷
+      codes "get /p14" ∷
       []);
   output = text_of_lines (
       codes "hex aabb" ∷
@@ -666,6 +671,8 @@ places = record {
       codes "hex " ∷
       codes "fault absent at /p11" ∷
       codes "hex " ∷
+      codes "hex " ∷
+      codes "fault bad-index at /o/p" ∷
       codes "fault bad-index at /xs/3" ∷
       []);
   left = 0x41 ∷ 0x42 ∷ 0x01 ∷ 0x02 ∷ 0x03 ∷ 0x04 ∷ 0xaa ∷ 0xbb ∷ 0xcc ∷ 0xdd ∷ 0xee ∷ 0xff ∷ 0x11 ∷ 0x12 ∷ 0x13 ∷ 0x14 ∷ [];
