@@ -5,7 +5,7 @@ use Rattle.std.specs.Prelude.{◌≡◌, ℕ, ◌^◌, ◌==◌, ◌&&◌, ◌||
 use Rattle.std.specs.Char.{is_ascii_digit}
 use Rattle.std.specs.List.{list_all, flat_map, slice_split}
 use Rattle.std.specs.Str.Parse.{digits_value}
-use Rattle.ksv_expr_value.specs.Trail.{Trail, trail_of, root}
+use Rattle.ksv_expr_value.specs.Trail.{Trail, element_limit, trail_of, root}
 use Rattle.ksv_expr_value.specs.declared.step.Step.{Step}
 use Rattle.ksv_expr_value.specs.declared.step.Step.TheVariants.{Index, Name}
 use Rattle.ksv_desc.specs.Description.{Description, as_text, name, number_of_name}
@@ -38,9 +38,9 @@ decimal_of text =
     then Some (digits_value 10 text)
     else None
 
--- the elements of a list are fewer than 1,048,576
+-- an index is below the number of elements that a list may have
 abbrev pub below_limit : Option ℕ → Option ℕ
-below_limit (Some index) = if nat_lt index 1048576 then Some index else None
+below_limit (Some index) = if nat_lt index element_limit then Some index else None
 below_limit None = None
 
 -- an index has no leading zero

@@ -2,7 +2,7 @@
 ghost use Rattle.std.specs.Prelude.{◌≡◌, ◌≤◌, ◌<◌, ◌++◌, ◌↔◌, true, IsTrue, List, [], ◌∷◌, length, reverse, option_map, Some, None, MatchOption, IfOk, IfSome, IfNone, OnErr, IsSome, position};
 ghost use Rattle.std.specs.Char.{is_ascii_digit};
 ghost use Rattle.std.specs.List.{list_all, slice_split};
-ghost use Rattle.ksv_expr_value.specs.Trail.{fits, step_fits};
+ghost use Rattle.ksv_expr_value.specs.Trail.{element_limit, fits, step_fits};
 ghost use Rattle.ksv_desc.specs.Description.{as_text};
 ghost use Rattle.ksv_desc.specs.Whole.{plain_pieces};
 ghost use Rattle.ksv_paths.specs.PathTexts.{decimal_of, index_of, name_of, step_of, steps_of, is_slash, path_of_steps, path_behind, path_named};
@@ -88,7 +88,7 @@ pub fn decimal(text: &[u8]) -> Option<u64>
 /// The index of an element: digits without a leading zero, of a number below 1,048,576.
 fn index(text: &[u8]) -> Option<u32>
     ensures index { result ≡ index_of text.now }
-    ensures below { IfSome result (λ index. index < 1048576) }
+    ensures below { IfSome result (λ index. index < element_limit) }
 {
     if text.len() != 1 && !text.is_empty() && text[0] == b'0' {
         return None;

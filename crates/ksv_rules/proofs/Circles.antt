@@ -10,7 +10,7 @@ use Rattle.ksv_expr_eval.specs.Heard.{Setting}
 use Rattle.ksv_expr_eval.specs.Meaning.{value_of as value_in}
 use Rattle.ksv_expr_eval.specs.declared.want.Want.{Want}
 use Rattle.ksv_expr_eval.specs.declared.want.Want.TheVariants as wants
-use Rattle.ksv_expr_value.specs.Trail.{Trail, child, parent, last}
+use Rattle.ksv_expr_value.specs.Trail.{Trail, element_limit, child, parent, last}
 use Rattle.ksv_expr_value.specs.Range.{ranged}
 use Rattle.ksv_expr_value.specs.Encodings.{decoded}
 use Rattle.ksv_expr_value.specs.declared.encoding.Encoding.{Encoding}
@@ -216,7 +216,7 @@ shape_own at source w s f (Always c) = content_own at source w s f c
 shape_own at source w s f (Switch on cases) = tt
 
 in_count_own : (n : ℕ) → Own (in_count n)
-in_count_own n = choose (nat_lt 1048576 n) _ _ tt tt
+in_count_own n = choose (nat_lt element_limit n) _ _ tt tt
 
 count_own : (at : Setting) (e : Tree) → Own (count_of at e)
 unfolding count_of
@@ -395,7 +395,7 @@ end_of_own d p = join _ _ (head_own p) (λ h. join _ _ (place_own d p h) (λ e. 
 
 next_rest_own : (l : Trail) (i : ℕ) → Own (next_rest l i)
 unfolding next_rest
-next_rest_own l i = choose (i + 1 == 1048576) _ _ tt (part_rest_own l (steps.Index (i + 1)))
+next_rest_own l i = choose (i + 1 == element_limit) _ _ tt (part_rest_own l (steps.Index (i + 1)))
 
 rest_from_own : (p l : Trail) (i : ℕ) → Own (rest_from p l i)
 unfolding rest_from

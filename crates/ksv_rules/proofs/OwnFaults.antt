@@ -11,7 +11,7 @@ use Rattle.ksv_expr_tree.specs.declared.tree.BinaryOperator.TheVariants as opera
 use Rattle.ksv_expr_tree.specs.declared.tree.SpecialName.{SpecialName}
 use Rattle.ksv_expr_tree.specs.declared.tree.SpecialName.TheVariants as specials
 use Rattle.ksv_expr_tree.specs.declared.tree.EnumMember.{EnumMember}
-use Rattle.ksv_expr_value.specs.Trail.{Trail, child, holder}
+use Rattle.ksv_expr_value.specs.Trail.{Trail, element_limit, child, holder}
 use Rattle.ksv_expr_value.specs.Range.{ranged, in_range}
 use Rattle.ksv_expr_value.specs.Encodings.{encoding_named, decoded}
 use Rattle.ksv_expr_value.specs.declared.encoding.Encoding.{Encoding}
@@ -207,7 +207,7 @@ member_own q x = join _ _ (member_path_own q x) (λ p. value_for_own (wants.Valu
 
 element_path_own : (l : Trail) (i : ℤ) → Own (element_path l i)
 unfolding element_path
-element_path_own l (pos i) = choose (nat_lt i 1048576) _ _ (in_path_own (child l (steps.Index i))) tt
+element_path_own l (pos i) = choose (nat_lt i element_limit) _ _ (in_path_own (child l (steps.Index i))) tt
 element_path_own l (negsuc i) = tt
 
 element_own : (l : Trail) (i : ℤ) → Own (element_value l i)

@@ -12,7 +12,7 @@ use Rattle.ksv_desc.specs.declared.order.ByteOrder.{ByteOrder}
 use Rattle.ksv_memo.specs.Meaning.{IsDone}
 use Rattle.ksv_expr_eval.proofs.Wants.{value_asks}
 use Rattle.ksv_expr_eval.specs.Evaluation.{most_wants}
-use Rattle.ksv_expr_value.specs.Trail.{Trail, parent, last}
+use Rattle.ksv_expr_value.specs.Trail.{Trail, element_limit, parent, last}
 use Rattle.ksv_expr_eval.specs.Heard.{Setting}
 use Rattle.ksv_expr_eval.specs.Meaning.{value_of as value_in}
 use Rattle.ksv_expr_value.specs.Range.{ranged}
@@ -235,7 +235,7 @@ shape_nodes at source w s f (Always c) = content_nodes at source w s f c
 shape_nodes at source w s f (Switch on cases) = tt
 
 in_count_nodes : (n : ℕ) → NodesAtMost 0 (in_count n)
-in_count_nodes n = nodes_if (nat_lt 1048576 n) 0 _ _ tt tt
+in_count_nodes n = nodes_if (nat_lt element_limit n) 0 _ _ tt tt
 
 count_nodes : (at : Setting) (e : Tree) → NodesAtMost (most_wants e) (count_of at e)
 unfolding count_of
@@ -467,7 +467,7 @@ end_of_nodes d p =
 
 next_rest_nodes : (l : Trail) (i : ℕ) → NodesAtMost 1 (next_rest l i)
 unfolding next_rest
-next_rest_nodes l i = nodes_if (i + 1 == 1048576) 1 _ _ tt (part_rest_nodes l (steps.Index (i + 1)))
+next_rest_nodes l i = nodes_if (i + 1 == element_limit) 1 _ _ tt (part_rest_nodes l (steps.Index (i + 1)))
 
 rest_behind_nodes : (l : Trail) (i : ℕ) (e : Ended) → NodesAtMost 1 (rest_behind l i e)
 rest_behind_nodes l i e = nodes_if e.last 1 _ _ tt (next_rest_nodes l i)

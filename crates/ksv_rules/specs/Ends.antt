@@ -1,7 +1,7 @@
 -- Where something ends, and how a list goes on to its last element.
 use Rattle.std.specs.Prelude.{ℕ, ◌+◌, ◌==◌, Bool, true, false, Option, Some, None, if◌then◌else◌}
 use Rattle.ksv_plan.specs.Plan.{Answer, Fail, ◌>>=◌}
-use Rattle.ksv_expr_value.specs.Trail.{Trail, parent, last}
+use Rattle.ksv_expr_value.specs.Trail.{Trail, element_limit, parent, last}
 use Rattle.ksv_expr_eval.specs.Heard.{Setting}
 use Rattle.ksv_expr_value.specs.declared.fault.FaultKind.TheVariants as kinds
 use Rattle.ksv_expr_value.specs.declared.step.Step.{Step}
@@ -115,7 +115,7 @@ end_of d p = do
 
 -- behind the last element a list ends; it has at most 1,048,576
 unfoldable pub next_rest : Trail → ℕ → Rule Rested
-next_rest l i = if i + 1 == 1048576 then raise kinds.TooMany else part_rest l (steps.Index (i + 1))
+next_rest l i = if i + 1 == element_limit then raise kinds.TooMany else part_rest l (steps.Index (i + 1))
 
 abbrev pub rest_behind : Trail → ℕ → Ended → Rule Rested
 rest_behind l i e = if e.last then Answer (record { count = i + 1; place = e.place }) else next_rest l i

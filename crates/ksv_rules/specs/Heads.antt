@@ -6,7 +6,7 @@
 use Rattle.std.specs.Prelude.{ℕ, ◌+◌, ◌-◌, ◌==◌, nat_lt, nat_le, Bool, false, ◌||◌, length, Option, Some, None, if◌then◌else◌}
 use Rattle.ksv_plan.specs.Plan.{Answer, Fail, ◌>>=◌, ◌>>◌}
 use Rattle.ksv_expr_tree.specs.Tree.{Tree}
-use Rattle.ksv_expr_value.specs.Trail.{Trail, parent, last}
+use Rattle.ksv_expr_value.specs.Trail.{Trail, element_limit, parent, last}
 use Rattle.ksv_expr_eval.specs.Heard.{Setting}
 use Rattle.ksv_expr_value.specs.declared.fault.FaultKind.TheVariants as kinds
 use Rattle.ksv_expr_value.specs.declared.step.Step.{Step}
@@ -97,7 +97,7 @@ shape_at at source w s f (Switch on cases) = raise kinds.NoSuch
 
 -- how many elements there are: at most 1,048,576
 abbrev pub in_count : ℕ → Rule ℕ
-in_count n = if nat_lt 1048576 n then raise kinds.TooMany else Answer n
+in_count n = if nat_lt element_limit n then raise kinds.TooMany else Answer n
 
 unfoldable pub count_of : Setting → Tree → Rule ℕ
 count_of at e = do

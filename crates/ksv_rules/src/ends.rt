@@ -5,7 +5,7 @@ ghost use Rattle.std.specs.Prelude.{◌≡◌, ◌+◌, ◌<◌, Some};
 ghost use Rattle.ksv_desc.specs.Pieces.{plain_repeat};
 ghost use Rattle.ksv_desc.specs.Whole.{plain_pieces};
 ghost use Rattle.ksv_expr_tree.specs.Tree.{view};
-ghost use Rattle.ksv_expr_value.specs.Trail.{parent};
+ghost use Rattle.ksv_expr_value.specs.Trail.{element_limit, parent};
 ghost use Rattle.ksv_nodes.specs.Turning.{Runs};
 ghost use Rattle.ksv_rules.specs.Wanted.{truth_of};
 ghost use Rattle.ksv_rules.specs.Ends.{fields_end, object_end, part_rest, list_end, absent_end, place_of, start_of, is_counted, behind_element, is_last, is_by_bytes, not_empty, element_end, end_at, end_of, next_rest, rest_behind, rest_from, in_whole_list, first_rest, whole_rest, rest_at, rest_of};
@@ -227,7 +227,7 @@ pub(crate) fn end_of(turn: &mut Turn, desc: &Desc, path: &Path) -> Result<Ended,
 /// What a list is behind an element.
 #[tactic(auto, unfolding(crate::specs::Ends::next_rest))]
 fn next_rest(turn: &mut Turn, list: &Path, index: u32) -> Result<Rested, Halt>
-    requires { index < 1048576 }
+    requires { index < element_limit }
     ensures { Runs (next_rest list.now index) (λ rested. rested) turn.old turn.new result }
 {
     if index + 1 == 1_048_576 {
@@ -237,7 +237,7 @@ fn next_rest(turn: &mut Turn, list: &Path, index: u32) -> Result<Rested, Halt>
 }
 
 fn rest_behind(turn: &mut Turn, list: &Path, index: u32, end: Ended) -> Result<Rested, Halt>
-    requires { index < 1048576 }
+    requires { index < element_limit }
     ensures { Runs (rest_behind list.now index end) (λ rested. rested) turn.old turn.new result }
 {
     if !end.last {
@@ -252,7 +252,7 @@ fn rest_behind(turn: &mut Turn, list: &Path, index: u32, end: Ended) -> Result<R
 /// What a list is from an element on.
 #[tactic(auto, using(ksv_plan::proofs::Running::run_bind), unfolding(crate::specs::Ends::rest_from))]
 fn rest_from(turn: &mut Turn, path: &Path, list: &Path, index: u32) -> Result<Rested, Halt>
-    requires { index < 1048576 }
+    requires { index < element_limit }
     ensures { Runs (rest_from path.now list.now index) (λ rested. rested) turn.old turn.new result }
 {
     let end = turn.end(path.copy(turn.alloc())?)?;
@@ -293,7 +293,7 @@ fn whole_rest(turn: &mut Turn, path: &Path, list_path: &Path) -> Result<Rested, 
 
 /// What a list is from the element of this index on.
 fn element_rest(turn: &mut Turn, path: &Path, index: u32) -> Result<Rested, Halt>
-    requires { index < 1048576 }
+    requires { index < element_limit }
     ensures { Runs (rest_at path.now (Some (Step.Index index))) (λ rested. rested) turn.old turn.new result }
 {
     let list_path = path.parent(turn.alloc())?;

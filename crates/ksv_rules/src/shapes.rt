@@ -2,6 +2,7 @@
 #![tactic(auto)]
 
 ghost use Rattle.std.specs.Prelude.{◌≡◌, option_map};
+ghost use Rattle.ksv_bytes.specs.Edits.{file_limit};
 ghost use Rattle.ksv_expr_tree.specs.Tree.{view};
 ghost use Rattle.ksv_desc.specs.Pieces.{plain_content, plain_choice, plain_extent, plain_terminator, plain_field};
 ghost use Rattle.ksv_nodes.specs.Turning.{Runs, StandsBelow};
@@ -56,7 +57,7 @@ fn terminated_at(
     terminator: Terminator,
     found: Found,
 ) -> Result<Head, Halt>
-    requires { StandsBelow 16777216 found }
+    requires { StandsBelow file_limit found }
     ensures { Runs (terminated_at source start (plain_terminator terminator) found) (λ head. head) turn.old turn.new result }
 {
     let (to, end) = match found {
