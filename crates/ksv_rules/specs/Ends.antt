@@ -113,7 +113,7 @@ end_of d p = do
 
 -- ---- rests
 
--- behind the last element a list ends; it has at most 1,048,576
+-- a list ends after its last element; it has at most `element_limit` of them
 unfoldable pub next_rest : Trail → ℕ → Rule Rested
 next_rest l i = if i + 1 == element_limit then raise kinds.TooMany else part_rest l (steps.Index (i + 1))
 

@@ -53,6 +53,6 @@ abbrev pub in_field : Option MemberOfType → Rule Field
 in_field None = raise kinds.NoSuch
 in_field (Some m) = read_by m.kind
 
--- how the attribute of a source reads; the sources of true heads are those of attributes
+-- how the attribute of a source reads; the sources of true heads are those of attributes (`HeadsAreRead` of Laws)
 unfoldable pub field_of : Description → MemberRef → Rule Field
 field_of d s = in_field (slice_get (members_of d s.type_number) s.member)

@@ -95,7 +95,7 @@ shape_at at source w s f (Switch on cases) = raise kinds.NoSuch
 
 -- ---- attributes
 
--- how many elements there are: at most 1,048,576
+-- how many elements there are: at most `element_limit`
 abbrev pub in_count : ℕ → Rule ℕ
 in_count n = if nat_lt element_limit n then raise kinds.TooMany else Answer n
 

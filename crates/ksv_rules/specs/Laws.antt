@@ -106,13 +106,13 @@ pub record HasSource (d : Description) (bytes : List ℕ) (met : Node → Result
 abbrev pub NoRuleMakesCircles : Type 0
 NoRuleMakesCircles = (d : Description) (bytes : List ℕ) (met : Node → Result Given Fault) (n : Node) (f : Fault) → answer_of met n.path bytes (rule_of d n) ≡ Err f → f.kind ≡ kinds.Circle → HasSource d bytes met n f
 
--- A way from a node on: each node of it is asked by the one before, with all before that one open, and the last is open already. It
--- is a node of this path.
+-- A way from a node on: each node of it is asked by the one before, while that one and all before it are open, and the last is open
+-- already; that one is of this path.
 abbrev pub LeadsBack : Description → List ℕ → List Node → Node → List Node → Trail → Type 0
 LeadsBack d bytes opened n [] p = (is_among node_number opened n ≡ true) × (n.path ≡ p)
 LeadsBack d bytes opened n (m ∷ way) p = (is_among node_number opened n ≡ false) × Contains (asks d bytes opened n) m × LeadsBack d bytes (n ∷ opened) m way p
 
--- A node answers the fault circle at a path just where such a way leads from it to a node of this path.
+-- A node answers the fault circle at a path just where such a way leads from it to an open node of this path.
 abbrev pub CirclesLeadBack : Type 0
 CirclesLeadBack = (d : Description) (bytes : List ℕ) (opened : List Node) (n : Node) (p : Trail) → AreDistinct (on (described d) bytes) opened → (from_nothing d bytes opened n ≡ Err (fault_at p kinds.Circle)) ↔ ((way : List Node) × LeadsBack d bytes opened n way p)
 
@@ -128,7 +128,7 @@ pub record IsReadBy (d : Description) (s : MemberRef) (P : Field → Type 0) : T
   pub is : IsFieldOf d s field
   pub so : P field
 
--- where `repeat-expr` tells how many elements there are, the list knows it; else it doesn't
+-- a list knows how many elements it has just where `repeat-expr` tells it, and is then empty just where there are none
 abbrev pub IsCountedBy : Repeat → lists.List → Type 0
 IsCountedBy Once g = ⊥
 IsCountedBy (Expr e) g = (n : ℕ) × (g.count ≡ Some n) × (g.is_empty ≡ (n == 0))
@@ -200,7 +200,7 @@ ElementsTouch = (d : Description) (bytes : List ℕ) (opened : List Node) (p : T
 
 -- ---- counts
 
--- the element j of l ends; it is the last just where it is one of c = j + 1, and then it ends at this place
+-- the element j of l ends; it is the last just where j + 1 is c, and then it ends at this place
 pub record EndsAsOf (met : Node → Result Given Fault) (l : Trail) (j c place : ℕ) : Type 0 where
   pub path : Trail
   pub is : child l (Index j) ≡ Some path
