@@ -1,8 +1,10 @@
 //! Each law of rules and of descriptions once.
 
 use ksv_rules::{
-    evaluation_is_direct, expressions_are_met, next_meets_truth, rules_are_bounded,
-    texts_are_written,
+    answers_have_forms, answers_stay, attributes_touch, circles_lead_back, elements_touch,
+    evaluation_is_direct, expressions_are_met, heads_are_read, next_meets_truth,
+    no_rule_makes_circles, parts_lie_in_streams, paths_are_read, places_are_in_file, rests_count,
+    rules_are_bounded, texts_are_written, values_have_heads,
 };
 use ksv_schema::{
     descriptions_are_resolved, faultless_trees_state, faulty_trees_are_refused, texts_are_spelled,
@@ -17,6 +19,22 @@ fn laws_of_rules_may_be_called(_rt: HostRuntime) {
     next_meets_truth();
     rules_are_bounded();
     texts_are_written();
+}
+
+#[test]
+fn laws_of_answers_may_be_called(_rt: HostRuntime) {
+    answers_have_forms();
+    answers_stay();
+    values_have_heads();
+    no_rule_makes_circles();
+    circles_lead_back();
+    heads_are_read();
+    attributes_touch();
+    elements_touch();
+    rests_count();
+    places_are_in_file();
+    parts_lie_in_streams();
+    paths_are_read();
 }
 
 #[test]
