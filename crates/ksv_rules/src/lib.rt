@@ -24,6 +24,6 @@ pub use ksv_nodes::{Given, Head, Leaf, List, MemberRef, Node, NodeKind, Object, 
 pub use ksv_paths::{decimal, path_of, paths_are_read, served, texts_are_written};
 pub use laws::{
     answers_have_forms, answers_stay, attributes_touch, circles_lead_back, elements_touch,
-    evaluation_is_direct, next_meets_truth, no_rule_makes_circles, parts_lie_in_streams,
-    places_are_in_file, rests_count, values_have_heads,
+    evaluation_is_direct, heads_are_read, next_meets_truth, no_rule_makes_circles,
+    parts_lie_in_streams, places_are_in_file, rests_count, values_have_heads,
 };
