@@ -213,18 +213,27 @@ fn asked(alloc: Global, rules: &Described) -> Result<(Node, Node), Fail> {
     }
 }
 
+/// How many nodes an engine keeps after two questions, and how many turns they took.
+fn kept_and_turns(
+    alloc: Global,
+    rules: &Described,
+    bytes: &Buffer,
+    nodes: (Node, Node),
+) -> Result<(usize, Option<u64>), Fail> {
+    let mut engine = Engine::new(alloc);
+    engine.ask(rules, bytes, nodes.0)?;
+    engine.ask(rules, bytes, nodes.1)?;
+    Ok((engine.kept(), engine.turns()))
+}
+
 #[test]
 fn an_engine_keeps_and_counts(rt: HostRuntime) -> Result<(), Fail> {
     let alloc = rt.alloc();
     let bytes = Buffer::new(b"\x01\x02\x03\x04\x05".to_vec(alloc)?)?;
     let rules = Described::new(described(alloc, BYTES)?);
-    let (list, first) = asked(alloc, &rules)?;
-    let mut engine = Engine::new(alloc);
-    engine.begin();
-    engine.ask(&rules, &bytes, list)?;
-    engine.ask(&rules, &bytes, first)?;
-    assert_eq!(rt; engine.kept(), 18);
-    assert!(rt; engine.turns() == Some(49));
+    let (kept, turns) = kept_and_turns(alloc, &rules, &bytes, asked(alloc, &rules)?)?;
+    assert_eq!(rt; kept, 18);
+    assert!(rt; turns == Some(49));
     Ok(())
 }
 
