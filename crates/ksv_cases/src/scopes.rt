@@ -12,11 +12,10 @@ use crate::question::{Question, question_of};
 use crate::shown::{add, add_debug, add_word};
 use crate::trees::add_refusal;
 use ksv_expr_syntax::parse_type;
-use ksv_schema_scope::keys::{entries_at, entries_in, has, items_at, items_in, says, text_at};
-use ksv_schema_scope::{
-    Constant, Scopes, id_of, number_written, order_named, plain_number, signed_number,
-};
+use ksv_schema_scope::{Constant, Scopes, id_of, number_written, order_named};
 use ksv_yaml::read;
+use ksv_yaml_tree::keys::{entries_at, entries_in, has, items_at, items_in, says, text_at};
+use ksv_yaml_tree::{plain_number, signed_number};
 use std::alloc::{AllocError, Global};
 
 /// Adds the answers to questions about what a text declares.

@@ -7,7 +7,7 @@ use lib.Utf8.{encode}
 use Rattle.ksv_expr_syntax.specs.Reading.{read, read_list, place_on, select_on}
 use Rattle.ksv_schema_scope.specs.Enums.{enums_at_key, enums_of_type, enums_of, constants_of, number_written, id_of, id_of_number, number_of_id, is_number_again, is_id_again, enum_in, enum_named}
 use Rattle.ksv_schema_scope.specs.Members.{members_at_key, members_of_type, members_of, members_within, parameters_within, attributes_within, member_named}
-use Rattle.ksv_schema_scope.specs.Numerals.{plain_number, signed_number}
+use Rattle.ksv_yaml_tree.specs.Numerals.{plain_number, signed_number}
 use Rattle.ksv_schema_scope.specs.Types.{own_id, types_of, keys_of_type, type_in, nearest_type, type_named, order_in, order_of, encoding_in, encoding_of}
 use Rattle.ksv_schema_names.specs.BuiltIn.{is_bits, listed, built_in}
 use Rattle.ksv_schema_names.specs.Names.{enum_at}

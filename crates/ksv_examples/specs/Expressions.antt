@@ -14,7 +14,7 @@ use Rattle.ksv_schema_keys.specs.Expressions.{expression_of, tokens_of}
 use Rattle.ksv_schema_names.specs.Names.{enum_at}
 use Rattle.ksv_schema_names.specs.Numbered.{all_numbered, given_member, numbered}
 use Rattle.ksv_schema_scope.specs.Enums.{enum_in, enum_named, id_of, number_of_id, number_written}
-use Rattle.ksv_schema_scope.specs.Numerals.{plain_number, signed_number}
+use Rattle.ksv_yaml_tree.specs.Numerals.{plain_number, signed_number}
 use Rattle.ksv_schema_scope.specs.Types.{nearest_type, type_in, type_named}
 use Rattle.ksv_expr_tree.specs.Tree.{Tree}
 use Rattle.ksv_expr_value.specs.Faults.{name_of}
@@ -27,7 +27,8 @@ use Rattle.ksv_expr_value.specs.declared.value.Value.{Value}
 use Rattle.ksv_expr_value.specs.declared.value.Value.TheVariants as values
 use Rattle.ksv_expr_eval.specs.declared.want.Want.{Want}
 use Rattle.ksv_expr_eval.specs.declared.want.Want.TheVariants as wants
-use Rattle.ksv_expr_eval.specs.Heard.{Setting, Heard, Valued}
+use Rattle.ksv_expr_eval.specs.Heard.{Heard, Valued}
+use Rattle.ksv_expr_value.specs.Setting.{Setting}
 use Rattle.ksv_expr_eval.specs.Replying.{fault_at}
 use Rattle.ksv_expr_eval.specs.Evaluation.{Ev, wants_made}
 use Rattle.ksv_schema_scope.specs.Declarations.{Declared}

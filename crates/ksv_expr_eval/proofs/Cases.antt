@@ -19,7 +19,7 @@ use Rattle.ksv_expr_tree.specs.declared.tree.SpecialName.{SpecialName}
 use Rattle.ksv_expr_value.specs.declared.fault.FaultKind.TheVariants as kinds
 use Rattle.ksv_expr_value.specs.declared.value.Value.{Value}
 use Rattle.ksv_expr_value.specs.declared.value.Value.TheVariants as values
-use Rattle.ksv_expr_eval.specs.Heard.{Setting}
+use Rattle.ksv_expr_value.specs.Setting.{Setting}
 use Rattle.ksv_expr_eval.specs.Asked.{Eval, given, raise}
 use Rattle.ksv_expr_eval.specs.Operators.{unary_of}
 use Rattle.ksv_expr_eval.specs.Methods.{method_named}

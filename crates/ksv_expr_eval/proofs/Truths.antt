@@ -15,7 +15,8 @@ use Rattle.ksv_expr_eval.specs.declared.want.EvalStep.{EvalStep}
 use Rattle.ksv_expr_eval.specs.declared.want.EvalStep.TheVariants as outcomes
 use Rattle.ksv_expr_eval.specs.Methods.{method_named}
 use Rattle.ksv_expr_eval.specs.Operators.{unary_of}
-use Rattle.ksv_expr_eval.specs.Heard.{Setting, Heard, heard}
+use Rattle.ksv_expr_eval.specs.Heard.{Heard, heard}
+use Rattle.ksv_expr_value.specs.Setting.{Setting}
 use Rattle.ksv_expr_eval.specs.Asked.{Eval, State, given}
 use Rattle.ksv_expr_eval.specs.Replying.{fault_at}
 use Rattle.ksv_expr_eval.specs.Meaning.{value_of, in_truth_value, truth_value, decides, binary_of, field_of, is_own_stream, special_of, call_one, call_two, item_at, cast_to}

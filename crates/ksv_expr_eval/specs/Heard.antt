@@ -1,21 +1,10 @@
--- The context in which an expression is evaluated, and what replies mean.
-use Rattle.std.specs.Prelude.{ℕ, Bool, List, ◌++◌, Option, Result, Ok, Err}
-use Rattle.ksv_expr_value.specs.Trail.{Trail}
+-- What replies mean.
+use Rattle.std.specs.Prelude.{ℕ, Bool, List, ◌++◌, Result, Ok, Err}
 use Rattle.ksv_expr_value.specs.declared.fault.Fault.{Fault}
 use Rattle.ksv_expr_value.specs.declared.value.Stream.{Stream}
 use Rattle.ksv_expr_value.specs.declared.value.Value.{Value}
 use Rattle.ksv_expr_eval.specs.declared.want.Got.{Got}
 use Rattle.ksv_expr_eval.specs.declared.want.Got.TheVariants as gots
-
--- The object in which an expression is evaluated and that object's stream, the current place in the file, the
--- number of the element that the expression belongs to, the path of the element just read, and the path of faults.
-pub record Setting : Type 0 where
-  pub home : Trail
-  pub stream : Stream
-  pub place : ℕ
-  pub index : Option ℕ
-  pub element : Option Trail
-  pub here : Trail
 
 -- the answer to a want: a value; an object's type and stream; a count; a truth value; bytes
 pub data Heard : Type 0 where

@@ -27,7 +27,7 @@ use Rattle.ksv_expr_value.specs.Range.{ranged}
 use Rattle.ksv_expr_eval.specs.Methods.{method_named}
 use Rattle.ksv_expr_value.specs.Encodings.{encoding_named, decoded}
 use Rattle.ksv_expr_eval.specs.Operators.{exactly, matched, integers_of, same_truth, texts_of, members_of, unary_of, integer_method, truth_method, text_method, bytes_method, member_method, text_call_one, text_call_two}
-use Rattle.ksv_expr_eval.specs.Heard.{Setting}
+use Rattle.ksv_expr_value.specs.Setting.{Setting}
 use Rattle.ksv_expr_eval.specs.Asked.{Eval, raise, given, value_for, opened_for, number_for, truth_for, bytes_for}
 
 -- ---- paths

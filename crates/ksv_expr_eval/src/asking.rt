@@ -9,11 +9,10 @@ ghost use Rattle.ksv_expr_eval.specs.Asked.{bytes_for};
 ghost use Rattle.ksv_expr_eval.specs.Meaning.{in_path, member_path, member_value, element_path, element_value, element_count, holder_of, stream_of, index_value, element_read, special_value, ranged_member, enum_member, distance, size_to, stream_size, at_end, list_size, last_element, object_of_type, object_as, text_in, decoded_by, decoded_text, byte_from, byte_at, first_byte};
 
 use crate::arithmetic;
-use crate::context::Ctx;
 use crate::replies::{Halt, Replies};
 use crate::want::Want;
 use ksv_expr_tree::{EnumMember, SpecialName};
-use ksv_expr_value::{Encoding, FaultKind, Integer, Parts, Path, Stream, Text, Value};
+use ksv_expr_value::{Ctx, Encoding, FaultKind, Integer, Parts, Path, Stream, Text, Value};
 
 fn in_path(replies: &mut Replies, path: Option<Path>) -> Result<Path, Halt>
     ensures { Runs (in_path path) (λ p. p) replies.old replies.new result }
@@ -157,10 +156,10 @@ pub(crate) fn special_value(
 {
     match name {
         SpecialName::Root => Ok(Value::Object(Path::root(replies.alloc()))),
-        SpecialName::Parent => holder_of(replies, ctx.home()),
-        SpecialName::Io => Ok(Value::Stream(ctx.stream())),
-        SpecialName::Index => index_value(replies, ctx.index()),
-        SpecialName::Element => element_read(replies, ctx.element()),
+        SpecialName::Parent => holder_of(replies, ctx.home),
+        SpecialName::Io => Ok(Value::Stream(ctx.stream)),
+        SpecialName::Index => index_value(replies, ctx.index),
+        SpecialName::Element => element_read(replies, ctx.element),
     }
 }
 

@@ -12,7 +12,6 @@ ghost use Rattle.ksv_expr_eval.specs.Replying.{Runs};
 ghost use Rattle.ksv_expr_eval.specs.Meaning.{meaning, literal_value, is_own_stream, decides, in_truth_value, truth_value, binary_of, field_of, special_of, call_one, call_two, item_at, cast_to};
 ghost use Rattle.ksv_expr_eval.specs.Methods.{method_named};
 
-use crate::context::Ctx;
 use crate::method::Method;
 use crate::replies::{Halt, Replies};
 use crate::want::{EvalStep, Got};
@@ -20,7 +19,7 @@ use crate::{asking, forms, operators};
 use ksv_expr_tree::{
     BinaryOperator, Expr, Literal, LogicalOperator, Name, SpecialName, TypeName, UnaryOperator,
 };
-use ksv_expr_value::{FaultKind, Integer, Text, Value};
+use ksv_expr_value::{Ctx, FaultKind, Integer, Text, Value};
 use std::alloc::{AllocError, Global};
 
 fn is_own_stream(expr: &Expr) -> bool
@@ -192,7 +191,7 @@ fn value(replies: &mut Replies, ctx: &Ctx, expr: &Expr) -> Result<Value, Halt>
 {
     match expr {
         Expr::Literal(constant) => literal(replies, constant),
-        Expr::Name(name) => asking::member_value(replies, ctx.home(), name.number),
+        Expr::Name(name) => asking::member_value(replies, ctx.home, name.number),
         Expr::Special(name) => asking::special_value(replies, ctx, *name),
         Expr::Member(member) => asking::enum_member(replies, member.given),
         Expr::Unary(operator, operand) => unary_expr(replies, ctx, *operator, operand),
@@ -239,7 +238,7 @@ fn value(replies: &mut Replies, ctx: &Ctx, expr: &Expr) -> Result<Value, Halt>
 fn outcome(alloc: Global, expr: &Expr, ctx: &Ctx, replies: &[Got]) -> Result<EvalStep, AllocError>
     ensures { IfOk result (λ outcome. outcome ≡ outcome_of (resumed ctx.now (view expr.now) (map heard replies.now))) }
 {
-    let mut replies = Replies::new(alloc, ctx.here(), replies);
+    let mut replies = Replies::new(alloc, ctx.here, replies);
     match value(&mut replies, ctx, expr) {
         Ok(value) => Ok(EvalStep::Done(Ok(value))),
         Err(Halt::Need(want)) => Ok(EvalStep::Need(want)),

@@ -7,13 +7,12 @@ ghost use Rattle.ksv_expr_eval.specs.Meaning.{in_truth_value, truth_value, same_
 ghost use Rattle.ksv_expr_eval.specs.Methods.{method_named};
 ghost use Rattle.ksv_expr_tree.specs.Tree.{name_of};
 
-use crate::context::Ctx;
 use crate::method::Method;
 use crate::replies::{Halt, Replies};
 use crate::want::Want;
 use crate::{asking, operators};
 use ksv_expr_tree::{BinaryOperator, Name, SpecialName};
-use ksv_expr_value::{FaultKind, Integer, Path, Stream, Text, Value};
+use ksv_expr_value::{Ctx, FaultKind, Integer, Path, Stream, Text, Value};
 
 /// A truth value; another value is bad-type.
 pub(crate) fn in_truth_value(replies: &mut Replies, value: &Value) -> Result<bool, Halt>
@@ -203,7 +202,7 @@ fn stream_method(
         Method::Size => asking::stream_size(replies, stream),
         Method::Place => {
             if own {
-                asking::place_in(replies, ctx.place(), stream)
+                asking::place_in(replies, ctx.place, stream)
             } else {
                 replies.raise(FaultKind::BadType)
             }

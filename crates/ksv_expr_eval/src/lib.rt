@@ -3,7 +3,6 @@
 
 mod arithmetic;
 mod asking;
-mod context;
 mod evaluation;
 mod forms;
 mod laws;
@@ -13,11 +12,10 @@ mod replies;
 mod texts;
 mod want;
 
-pub use context::Ctx;
 pub use evaluation::eval;
 pub use ksv_expr_tree::Expr;
 pub use ksv_expr_value::{
-    Encoding, Fault, FaultKind, Integer, Parts, Path, Step, Stream, Text, Value,
+    Ctx, Encoding, Fault, FaultKind, Integer, Parts, Path, Step, Stream, Text, Value,
     equal_paths_are_same, paths_are_numbered,
 };
 pub use laws::{bits_are_told, division_is_floored, is_bounded, meaning_is_direct, truth_is_met};

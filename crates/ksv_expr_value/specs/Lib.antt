@@ -1,4 +1,4 @@
--- The definitions of paths and values.
+-- The definitions of paths, values and the context of an expression.
 pub mod Trail
 pub mod Exact
 pub mod Numbers
@@ -6,3 +6,4 @@ pub mod Range
 pub mod Faults
 pub mod Bytes
 pub mod Encodings
+pub mod Setting

@@ -1,6 +1,7 @@
 //! Values of a described file: paths, integers, texts, encodings, values and faults.
 #![tactic(auto)]
 
+mod context;
 mod encoding;
 mod fault;
 mod integer;
@@ -11,6 +12,7 @@ mod step;
 mod text;
 mod value;
 
+pub use context::Ctx;
 pub use encoding::Encoding;
 pub use fault::{Fault, FaultKind};
 pub use integer::Integer;

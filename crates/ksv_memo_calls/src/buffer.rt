@@ -1,6 +1,7 @@
 //! Edits of a buffer, its limit, and what an edit touches.
 
 use ksv_bytes::{Buffer, Change, EditRefusal, FILE_LIMIT, Use, Window, touches};
+use std::alloc::{AllocError, Global};
 use std::test::Fail;
 
 #[test]
@@ -21,16 +22,34 @@ fn edits_or_refuses(rt: HostRuntime) -> Result<(), Fail> {
     Ok(())
 }
 
+/// This many bytes.
+fn sevens(alloc: Global, count: usize) -> Result<Vec<u8>, AllocError> {
+    vec![in alloc; 7u8; count]
+}
+
+/// Whether a buffer of this many bytes is made, and refuses one more.
+fn is_full(alloc: Global, count: usize) -> Result<bool, AllocError> {
+    match Buffer::new(sevens(alloc, count)?) {
+        Ok(mut full) => {
+            Ok(full.append(b"x") == Err(EditRefusal::TooLarge) && full.len() == count)
+        }
+        Err(_) => Ok(false),
+    }
+}
+
+/// Whether this many bytes make no buffer and are handed back.
+fn is_too_large(alloc: Global, count: usize) -> Result<bool, AllocError> {
+    match Buffer::new(sevens(alloc, count)?) {
+        Ok(_) => Ok(false),
+        Err(large) => Ok(large.bytes.len() == count),
+    }
+}
+
 #[test]
 fn holds_no_more_than_the_limit(rt: HostRuntime) -> Result<(), Fail> {
-    let alloc = rt.alloc();
-    let mut full = Buffer::new(vec![in alloc; 7u8; FILE_LIMIT]?)?;
-    let is_full = full.append(b"x") == Err(EditRefusal::TooLarge) && full.len() == FILE_LIMIT;
-    assert!(rt; is_full);
-    let Err(large) = Buffer::new(vec![in alloc; 7u8; FILE_LIMIT + 1]?) else {
-        return Err(Fail::from("a file over the limit was taken"));
-    };
-    assert!(rt; large.bytes.len() == FILE_LIMIT + 1);
+    let is_held = is_full(rt.alloc(), FILE_LIMIT)?;
+    let is_refused = is_too_large(rt.alloc(), FILE_LIMIT + 1)?;
+    assert!(rt; is_held && is_refused);
     Ok(())
 }
 

@@ -19,17 +19,42 @@ fn row(number: u8) -> RowNumber {
     RowNumber { number }
 }
 
-/// Rows with sums over kept rows, a row named by a byte, a circle of two rows, and a sum of a row that isn't there.
+/// Rows with sums over kept rows, a row named by a byte, a circle of two rows, and a sum of a row that isn't there. Each
+/// is a letter, for a number, a sum or the name by a byte, and its numbers.
+static ROWS: [&[u8]; 6] = [
+    b"n\x07",
+    b"s\x00\x02",
+    b"b\x00",
+    b"s\x01\x04",
+    b"s\x00\x03",
+    b"s\x00\x09\x01",
+];
+
 fn rows(alloc: Global) -> Result<Rows, AllocError> {
-    let rows = vec![in alloc;
-        Row::Number(7),
-        Row::Sum(vec![in alloc; row(0), row(2)]?),
-        Row::Named(0),
-        Row::Sum(vec![in alloc; row(1), row(4)]?),
-        Row::Sum(vec![in alloc; row(0), row(3)]?),
-        Row::Sum(vec![in alloc; row(0), row(9), row(1)]?),
-    ]?;
+    let mut rows = Vec::new(alloc);
+    for told in &ROWS {
+        rows.push(told_row(alloc, told)?)?;
+    }
     Ok(Rows { rows })
+}
+
+/// The row that one of [`ROWS`] tells.
+fn told_row(alloc: Global, told: &[u8]) -> Result<Row, AllocError> {
+    match told {
+        [b'n', number] => Ok(Row::Number(u32::from(*number))),
+        [b'b', place] => Ok(Row::Named(u32::from(*place))),
+        [_, numbers @ ..] => told_sum(alloc, numbers),
+        [] => told_sum(alloc, &[]),
+    }
+}
+
+/// The sum of the rows of these numbers.
+fn told_sum(alloc: Global, told: &[u8]) -> Result<Row, AllocError> {
+    let mut numbers = Vec::new(alloc);
+    for number in told {
+        numbers.push(row(*number))?;
+    }
+    Ok(Row::Sum(numbers))
 }
 
 fn rows_engine(alloc: Global, _rules: &Rows, _bytes: &Buffer) -> Engine<Rows>
@@ -44,96 +69,175 @@ fn chain_engine(alloc: Global, _bytes: &Buffer) -> Engine<Chain>
     Engine::new(alloc)
 }
 
-/// Asks a row of an engine that is right for its rules and bytes, and still is afterwards.
-fn ask(
+/// What a row answers by plain recursion: a reply, or the number of a row that depends on itself.
+type Plain = Result<Result<u32, Missing>, u8>;
+
+fn agrees(answer: &RowAnswer, plain: Plain) -> bool {
+    match (answer, plain) {
+        (Answer::Value(value), Ok(Ok(wanted))) => *value == wanted,
+        (Answer::Fault(Missing), Ok(Err(Missing))) => true,
+        (Answer::Circle(node), Err(wanted)) => node.number == wanted,
+        _ => false,
+    }
+}
+
+/// Whether an engine that is right for its rules and bytes answers this to a row. It still is right afterwards.
+fn answers(
     engine: &mut Engine<Rows>,
     rules: &Rows,
     bytes: &Buffer,
     number: u8,
-) -> Result<RowAnswer, AllocError>
+    wanted: Plain,
+) -> Result<bool, AllocError>
     requires { IsRight (on (rows_meaning rules.now.rows.items) bytes.now) engine.old.kept }
     ensures { IsRight (on (rows_meaning rules.now.rows.items) bytes.now) engine.new.kept }
 {
-    engine.ask(rules, bytes, row(number))
+    let answer = engine.ask(rules, bytes, row(number))?;
+    Ok(agrees(&answer, wanted))
 }
 
-/// What an engine has kept and counted.
-fn counts(engine: &Engine<Rows>) -> (usize, Option<u64>) {
-    (engine.kept(), engine.turns())
+/// Whether an engine has kept this many nodes and counted these turns.
+fn counts(engine: &Engine<Rows>, kept: usize, turns: Option<u64>) -> bool {
+    engine.kept() == kept && engine.turns() == turns
+}
+
+/// Begins a question of an engine that is right for its rules and bytes, and still is afterwards.
+fn begin(engine: &mut Engine<Rows>, rules: &Rows, bytes: &Buffer)
+    requires { IsRight (on (rows_meaning rules.now.rows.items) bytes.now) engine.old.kept }
+    ensures { IsRight (on (rows_meaning rules.now.rows.items) bytes.now) engine.new.kept }
+{
+    engine.begin();
+}
+
+/// Asks the same row twice: row 0 takes a call, row 2 two and row 1 three.
+fn keeps_answers(
+    engine: &mut Engine<Rows>,
+    rules: &Rows,
+    bytes: &Buffer,
+) -> Result<bool, AllocError>
+    requires { IsRight (on (rows_meaning rules.now.rows.items) bytes.now) engine.old.kept }
+{
+    let is_new = counts(engine, 0, Some(0));
+    let is_sum = answers(engine, rules, bytes, 1, Ok(Ok(14)))?;
+    let is_counted = counts(engine, 3, Some(6));
+    let is_same = answers(engine, rules, bytes, 1, Ok(Ok(14)))?;
+    Ok(is_new && is_sum && is_counted && is_same && counts(engine, 3, Some(6)))
+}
+
+/// Asks two questions and forgets. Row 9 isn't there and takes a call; row 5 asks row 0, which is kept, and row 9.
+fn counts_and_forgets(
+    engine: &mut Engine<Rows>,
+    rules: &Rows,
+    bytes: &Buffer,
+) -> Result<bool, AllocError>
+    requires { IsRight (on (rows_meaning rules.now.rows.items) bytes.now) engine.old.kept }
+{
+    let is_sum = answers(engine, rules, bytes, 1, Ok(Ok(14)))?;
+    begin(engine, rules, bytes);
+    let is_begun = counts(engine, 3, Some(0));
+    let is_fault = answers(engine, rules, bytes, 5, Ok(Err(Missing)))?;
+    let is_counted = counts(engine, 5, Some(4));
+    engine.forget(Change::Append);
+    untouched_answers_stay_right(rules, Change::Append);
+    Ok(is_sum && is_begun && is_fault && is_counted && counts(engine, 0, Some(4)))
+}
+
+/// Asks two rows that depend on each other, one after the other. The rows that were completed on the way are kept.
+fn ends_around(
+    engine: &mut Engine<Rows>,
+    rules: &Rows,
+    bytes: &Buffer,
+    first: u8,
+    second: u8,
+) -> Result<bool, AllocError>
+    requires { IsRight (on (rows_meaning rules.now.rows.items) bytes.now) engine.old.kept }
+{
+    let is_circle = answers(engine, rules, bytes, first, Err(first))?;
+    let is_other = answers(engine, rules, bytes, second, Err(second))?;
+    let is_uncounted = counts(engine, 3, None);
+    begin(engine, rules, bytes);
+    Ok(is_circle && is_other && is_uncounted && counts(engine, 3, Some(0)))
+}
+
+/// What is tried with the rows and a new engine.
+#[derive(Clone, Copy)]
+enum Trial {
+    /// The same question twice.
+    Twice,
+    /// Two questions, of which the second is counted from 0, and what is then forgotten.
+    Forgets,
+    /// Two rows that depend on each other, in this order.
+    Around(u8, u8),
+}
+
+/// Whether a trial ends as it should, over a file of one zero byte.
+fn ends_well(alloc: Global, trial: Trial) -> Result<bool, Fail> {
+    let rules = rows(alloc)?;
+    let bytes = Buffer::new(b"\0".to_vec(alloc)?)?;
+    let mut engine = rows_engine(alloc, &rules, &bytes);
+    let ended = match trial {
+        Trial::Twice => keeps_answers(&mut engine, &rules, &bytes),
+        Trial::Forgets => counts_and_forgets(&mut engine, &rules, &bytes),
+        Trial::Around(first, second) => ends_around(&mut engine, &rules, &bytes, first, second),
+    };
+    Ok(ended?)
 }
 
 #[test]
 fn answers_rows_and_keeps_them(rt: HostRuntime) -> Result<(), Fail> {
-    let alloc = rt.alloc();
-    let rules = rows(alloc)?;
-    let bytes = Buffer::new(b"\0".to_vec(alloc)?)?;
-    let mut engine = rows_engine(alloc, &rules, &bytes);
-    assert_eq!(rt; counts(&engine), (0, Some(0)));
-
-    // Row 0 takes a call, row 2 two and row 1 three.
-    let sum = ask(&mut engine, &rules, &bytes, 1)?;
-    assert!(rt; matches!(&sum, Answer::Value(14)), "{sum:?}");
-    assert_eq!(rt; counts(&engine), (3, Some(6)));
-    let again = ask(&mut engine, &rules, &bytes, 1)?;
-    assert!(rt; matches!(&again, Answer::Value(14)), "{again:?}");
-    assert_eq!(rt; counts(&engine), (3, Some(6)));
+    let is_right = ends_well(rt.alloc(), Trial::Twice)?;
+    assert!(rt; is_right);
     Ok(())
 }
 
 #[test]
 fn counts_each_question_and_forgets(rt: HostRuntime) -> Result<(), Fail> {
-    let alloc = rt.alloc();
-    let rules = rows(alloc)?;
-    let bytes = Buffer::new(b"\0".to_vec(alloc)?)?;
-    let mut engine = rows_engine(alloc, &rules, &bytes);
-    let sum = ask(&mut engine, &rules, &bytes, 1)?;
-    assert!(rt; matches!(&sum, Answer::Value(14)), "{sum:?}");
-    engine.begin();
-    assert_eq!(rt; counts(&engine), (3, Some(0)));
-
-    // Row 9 isn't there and takes a call; row 5 asks row 0, which is kept, and row 9.
-    let fault = ask(&mut engine, &rules, &bytes, 5)?;
-    assert!(rt; matches!(&fault, Answer::Fault(Missing)), "{fault:?}");
-    assert_eq!(rt; counts(&engine), (5, Some(4)));
-    engine.forget(Change::Append);
-    untouched_answers_stay_right(&rules, Change::Append);
-    assert_eq!(rt; counts(&engine), (0, Some(4)));
-    Ok(())
-}
-
-/// Asks two rows that depend on each other, one after the other. The rows that were completed on the way are kept.
-fn ask_around(rt: &impl Abort, alloc: Global, first: u8, second: u8) -> Result<(), AllocError> {
-    let rules = rows(alloc)?;
-    let mut zero = Vec::new(alloc);
-    zero.push(0u8)?;
-    if let Ok(bytes) = Buffer::new(zero) {
-        let mut engine = rows_engine(alloc, &rules, &bytes);
-        let circle = ask(&mut engine, &rules, &bytes, first)?;
-        assert!(rt; agrees(&circle, Err(first)), "{circle:?}");
-        let other = ask(&mut engine, &rules, &bytes, second)?;
-        assert!(rt; agrees(&other, Err(second)), "{other:?}");
-        assert_eq!(rt; counts(&engine), (3, None));
-        engine.begin();
-        assert_eq!(rt; counts(&engine), (3, Some(0)));
-    }
+    let is_right = ends_well(rt.alloc(), Trial::Forgets)?;
+    assert!(rt; is_right);
     Ok(())
 }
 
 #[test]
 fn ends_at_a_circle_and_keeps_what_was_completed(rt: HostRuntime) -> Result<(), Fail> {
-    ask_around(&rt, rt.alloc(), 3, 4)?;
-    ask_around(&rt, rt.alloc(), 4, 3)?;
+    let is_right = ends_well(rt.alloc(), Trial::Around(3, 4))?;
+    let is_other = ends_well(rt.alloc(), Trial::Around(4, 3))?;
+    assert!(rt; is_right && is_other);
     Ok(())
+}
+
+/// The value of a link of a new engine's chain.
+fn chain_value(
+    engine: &mut Engine<Chain>,
+    bytes: &Buffer,
+    number: u32,
+) -> Result<Option<u32>, AllocError>
+    requires { IsRight (on chain_meaning bytes.now) engine.old.kept }
+{
+    match engine.ask(&Chain, bytes, Link { number })? {
+        Answer::Value(value) => Ok(Some(value)),
+        _ => Ok(None),
+    }
+}
+
+/// Whether a link of a new engine's chain has this value, after which so many links are kept and turns counted.
+fn is_chained(
+    alloc: Global,
+    bytes: &Buffer,
+    number: u32,
+    value: u32,
+    kept: usize,
+    turns: u64,
+) -> Result<bool, AllocError> {
+    let mut engine = chain_engine(alloc, bytes);
+    let last = chain_value(&mut engine, bytes, number)?;
+    Ok(last == Some(value) && engine.kept() == kept && engine.turns() == Some(turns))
 }
 
 #[test]
 fn goes_a_hundred_thousand_nodes_deep(rt: HostRuntime) -> Result<(), Fail> {
-    let alloc = rt.alloc();
-    let bytes = Buffer::new(b"ab".to_vec(alloc)?)?;
-    let mut engine = chain_engine(alloc, &bytes);
-    let last = engine.ask(&Chain, &bytes, Link { number: 99_999 })?;
-    assert!(rt; matches!(&last, Answer::Value(100_001)), "{last:?}");
-    assert_eq!(rt; (engine.kept(), engine.turns()), (100_000, Some(199_999)));
+    let bytes = Buffer::new(b"ab".to_vec(rt.alloc())?)?;
+    let is_right = is_chained(rt.alloc(), &bytes, 99_999, 100_001, 100_000, 199_999)?;
+    assert!(rt; is_right);
     Ok(())
 }
 
@@ -144,14 +248,18 @@ struct Random {
 }
 
 impl Random {
+    fn next(&mut self) -> u64 {
+        self.state ^= self.state << 13;
+        self.state ^= self.state >> 7;
+        self.state ^= self.state << 17;
+        self.state
+    }
+
     fn below(&mut self, bound: u8) -> u8
         requires { 0 < bound }
         ensures { result < bound }
     {
-        self.state ^= self.state << 13;
-        self.state ^= self.state >> 7;
-        self.state ^= self.state << 17;
-        (self.state % u64::from(bound)) as u8
+        (self.next() % u64::from(bound)) as u8
     }
 }
 
@@ -178,45 +286,35 @@ fn random_rows(alloc: Global, random: &mut Random) -> Result<Rows, AllocError> {
     Ok(Rows { rows })
 }
 
-/// What a row answers by plain recursion: a reply, or the number of a row that depends on itself. `open` has a bit for each
-/// open row.
-fn plainly(
-    rows: &[Row],
-    bytes: &[u8],
-    open: u16,
-    number: u8,
-    depth: u8,
-) -> Result<Result<u32, Missing>, u8> {
-    let bit = 1u16 << (number % 16);
+/// The bit of a row among those that are open.
+fn bit_of(number: u8) -> u16 {
+    1u16 << (number % 16)
+}
+
+/// What a row answers by plain recursion. `open` has a bit for each open row.
+fn plainly(rows: &[Row], bytes: &[u8], open: u16, number: u8, depth: u8) -> Plain {
+    let bit = bit_of(number);
     if depth == 0 || open & bit != 0 {
         return Err(number);
     }
+    let (open, depth) = (open | bit, depth - 1);
     match rows.get(number as usize) {
         None => Ok(Err(Missing)),
         Some(Row::Number(value)) => Ok(Ok(*value)),
         Some(Row::Named(place)) => match bytes.get(*place as usize) {
             None => Ok(Err(Missing)),
-            Some(byte) => plainly(rows, bytes, open | bit, *byte, depth - 1),
+            Some(byte) => plainly(rows, bytes, open, *byte, depth),
         },
         Some(Row::Sum(numbers)) => {
             let mut sum = 0u32;
             for part in numbers {
-                match plainly(rows, bytes, open | bit, part.number, depth - 1)? {
+                match plainly(rows, bytes, open, part.number, depth)? {
                     Ok(value) => sum = sum.saturating_add(value),
                     Err(Missing) => return Ok(Err(Missing)),
                 }
             }
             Ok(Ok(sum))
         }
-    }
-}
-
-fn agrees(answer: &RowAnswer, plain: Result<Result<u32, Missing>, u8>) -> bool {
-    match (answer, plain) {
-        (Answer::Value(value), Ok(Ok(wanted))) => *value == wanted,
-        (Answer::Fault(Missing), Ok(Err(Missing))) => true,
-        (Answer::Circle(node), Err(wanted)) => node.number == wanted,
-        _ => false,
     }
 }
 
@@ -252,6 +350,34 @@ fn random_edit(engine: &mut Engine<Rows>, rules: &Rows, bytes: &mut Buffer, rand
     }
 }
 
+/// What a row answers by plain recursion over the bytes of a buffer.
+fn plain_answer(
+    alloc: Global,
+    rules: &Rows,
+    bytes: &Buffer,
+    number: u8,
+) -> Result<Plain, AllocError> {
+    let (front, back) = bytes.parts(Window {
+        from: 0,
+        to: bytes.len(),
+    });
+    let mut all = Vec::from_slice(alloc, front)?;
+    all.extend_from_slice(back)?;
+    Ok(plainly(rules.rows.as_slice(), all.as_slice(), 0, number, 20))
+}
+
+/// Whether a new engine answers this to a row.
+fn answers_anew(
+    alloc: Global,
+    rules: &Rows,
+    bytes: &Buffer,
+    number: u8,
+    wanted: Plain,
+) -> Result<bool, AllocError> {
+    let mut fresh = rows_engine(alloc, rules, bytes);
+    answers(&mut fresh, rules, bytes, number, wanted)
+}
+
 /// Asks a random row of an engine that has answered others before, of a new engine and by plain recursion.
 fn random_question(
     alloc: Global,
@@ -264,36 +390,44 @@ fn random_question(
     ensures { IsRight (on (rows_meaning rules.now.rows.items) bytes.now) engine.new.kept }
 {
     let number = random.below(9);
-    let (front, back) = bytes.parts(Window {
-        from: 0,
-        to: bytes.len(),
-    });
-    let mut all = Vec::from_slice(alloc, front)?;
-    all.extend_from_slice(back)?;
-    let plain = plainly(rules.rows.as_slice(), all.as_slice(), 0, number, 20);
-    let mut fresh = rows_engine(alloc, rules, bytes);
-    let now = ask(engine, rules, bytes, number)?;
-    let anew = ask(&mut fresh, rules, bytes, number)?;
-    Ok(agrees(&now, plain) && agrees(&anew, plain))
+    let plain = plain_answer(alloc, rules, bytes, number)?;
+    let is_same = answers(engine, rules, bytes, number, plain)?;
+    Ok(answers_anew(alloc, rules, bytes, number, plain)? && is_same)
+}
+
+/// Whether an engine answers 20 random questions as a new one and plain recursion do, with random edits between them.
+fn random_questions(
+    alloc: Global,
+    rules: &Rows,
+    bytes: &mut Buffer,
+    random: &mut Random,
+) -> Result<bool, AllocError> {
+    let mut engine = rows_engine(alloc, rules, bytes);
+    let mut are_same = true;
+    for _ in 0..20 {
+        are_same &= random_question(alloc, &mut engine, rules, bytes, random)?;
+        if random.below(3) == 0 {
+            random_edit(&mut engine, rules, bytes, random);
+        }
+    }
+    Ok(are_same)
+}
+
+/// A round of random questions over random rows and a file whose first byte depends on the round.
+fn random_round(alloc: Global, round: u8, random: &mut Random) -> Result<bool, Fail> {
+    let rules = random_rows(alloc, random)?;
+    let mut bytes = Buffer::new(Vec::from_slice(alloc, &[round % 9, 1, 4])?)?;
+    Ok(random_questions(alloc, &rules, &mut bytes, random)?)
 }
 
 #[test]
 fn answers_random_questions_between_edits_as_from_nothing(rt: HostRuntime) -> Result<(), Fail> {
-    let alloc = rt.alloc();
     let mut random = Random {
         state: 88_172_645_463_325_252,
     };
     for round in 0..150 {
-        let rules = random_rows(alloc, &mut random)?;
-        let mut bytes = Buffer::new(vec![in alloc; round % 9, 1, 4]?)?;
-        let mut engine = rows_engine(alloc, &rules, &bytes);
-        for step in 0..20 {
-            let same = random_question(alloc, &mut engine, &rules, &bytes, &mut random)?;
-            assert!(rt; same, "round {round}, step {step}: {rules:?}");
-            if random.below(3) == 0 {
-                random_edit(&mut engine, &rules, &mut bytes, &mut random);
-            }
-        }
+        let is_same = random_round(rt.alloc(), round, &mut random)?;
+        assert!(rt; is_same, "round {round}");
     }
     Ok(())
 }

@@ -2,8 +2,9 @@
 
 use ksv_bytes::Buffer;
 use ksv_expr_eval::{Fault, FaultKind, Parts, Path, Step, Stream, Value};
-use ksv_nodes::{Ended, Given, Halt, Head, Node, NodeKind, Rested, Turn, first_in_parts};
+use ksv_nodes::{Ended, Found, Given, Halt, Head, Node, NodeKind, Rested, Turn, first_in_parts};
 use std::alloc::{AllocError, Global};
+use std::fmt::Write;
 use std::test::Fail;
 
 /// Readings of the file `ab;cd;`, each with what it gives (of bytes, the first) and what it depends on. The stream
@@ -50,55 +51,102 @@ fn number(word: Option<&str>) -> u32 {
     word.unwrap_or("").parse().unwrap_or(0u32)
 }
 
-/// What a reading gives.
-fn read(
-    alloc: Global,
-    turn: &mut Turn,
+/// A reading, its places or the like, and the stream that it is of.
+#[derive(Clone, Copy)]
+struct Reading<'a> {
     stream: Stream,
-    word: &str,
+    word: &'a str,
     first: u32,
     second: u32,
-) -> Result<String, Halt> {
-    Ok(match word {
-        "reach" => {
-            turn.reach(stream, u128::from(first))?;
-            String::from_str(alloc, "reached")?
-        }
-        "finish" => format!(in alloc; "place {}", turn.finish(stream)?)?,
-        "done" => format!(in alloc; "done {}", turn.done(stream, first)?)?,
-        "peek" => format!(in alloc; "first {:?}", turn.peek(first, second)?.first())?,
-        _ => {
-            let byte = u8::try_from(second).unwrap_or(0);
-            format!(in alloc; "{:?}", turn.find(stream, first, byte)?)?
-        }
-    })
 }
 
-/// What the reading of a row gives, or the kind of its fault, and what it depends on.
-fn outcome(alloc: Global, bytes: &Buffer, row: &str) -> Result<String, Fail> {
+fn reading_of<'a>(row: &'a str) -> Reading<'a> {
     let mut words = row.split(' ');
-    let stream = stream_of(words.next().unwrap_or(""));
-    let word = words.next().unwrap_or("");
-    let first = number(words.next());
-    let second = number(words.next());
+    Reading {
+        stream: stream_of(words.next().unwrap_or("")),
+        word: words.next().unwrap_or(""),
+        first: number(words.next()),
+        second: number(words.next()),
+    }
+}
+
+/// What a reading gives.
+#[derive(Clone, Copy)]
+enum Seen {
+    Reached,
+    Place(u32),
+    Done(bool),
+    First(Option<u8>),
+    Found(Found),
+}
+
+fn read(turn: &mut Turn, reading: Reading<'_>) -> Result<Seen, Halt> {
+    let stream = reading.stream;
+    match reading.word {
+        "reach" => {
+            turn.reach(stream, u128::from(reading.first))?;
+            Ok(Seen::Reached)
+        }
+        "finish" => Ok(Seen::Place(turn.finish(stream)?)),
+        "done" => Ok(Seen::Done(turn.done(stream, reading.first)?)),
+        "peek" => Ok(Seen::First(turn.peek(reading.first, reading.second)?.first())),
+        _ => {
+            let byte = u8::try_from(reading.second).unwrap_or(0);
+            Ok(Seen::Found(turn.find(stream, reading.first, byte)?))
+        }
+    }
+}
+
+/// Adds what a reading gave.
+fn add_seen(text: &mut String, seen: Seen) -> Result<(), AllocError> {
+    match seen {
+        Seen::Reached => text.push_str("reached"),
+        Seen::Place(place) => write!(text, "place {place}"),
+        Seen::Done(is_done) => write!(text, "done {is_done}"),
+        Seen::First(byte) => write!(text, "first {byte:?}"),
+        Seen::Found(found) => write!(text, "{found:?}"),
+    }
+}
+
+/// Adds what a reading gives, or the kind of its fault.
+fn add_outcome(turn: &mut Turn, reading: Reading<'_>, text: &mut String) -> Result<(), AllocError> {
+    match read(turn, reading) {
+        Ok(seen) => add_seen(text, seen),
+        Err(Halt::Fault(fault)) => text.push_str(fault.kind.name()),
+        Err(_) => text.push_str("no memory, or a node was needed"),
+    }
+}
+
+/// Whether the reading of a row gives this, or a fault of this kind, and depends on this.
+fn is_seen(alloc: Global, bytes: &Buffer, row: &str, wanted: &str) -> Result<bool, AllocError> {
     let here = Path::root(alloc);
     let mut turn = Turn::new(alloc, &here, bytes, &[]);
-    let seen = match read(alloc, &mut turn, stream, word, first, second) {
-        Ok(seen) => seen,
-        Err(Halt::Fault(fault)) => String::from_str(alloc, fault.kind.name())?,
-        Err(_) => return Err(Fail::from("no memory, or a node was needed")),
-    };
-    Ok(format!(in alloc; "{seen} {:?}", turn.into_uses().as_slice())?)
+    let mut seen = String::new(alloc);
+    add_outcome(&mut turn, reading_of(row), &mut seen)?;
+    add_uses(turn, &mut seen)?;
+    Ok(seen.as_str() == wanted)
+}
+
+/// Adds what the readings of a turn depend on.
+fn add_uses(turn: Turn, seen: &mut String) -> Result<(), AllocError> {
+    write!(seen, " {:?}", turn.into_uses().as_slice())
+}
+
+/// Whether each row of [`READINGS`] tells what is seen.
+fn are_seen(alloc: Global, bytes: &Buffer) -> Result<bool, AllocError> {
+    let mut are_right = true;
+    for row in READINGS.split('\n') {
+        let (reading, wanted) = row.split_once(" => ").unwrap_or((row, ""));
+        are_right &= is_seen(alloc, bytes, reading, wanted)?;
+    }
+    Ok(are_right)
 }
 
 #[test]
 fn readings_give_and_rest(rt: HostRuntime) -> Result<(), Fail> {
     let bytes = Buffer::new(b"ab;cd;".to_vec(rt.alloc())?)?;
-    for row in READINGS.split('\n') {
-        let (reading, wanted) = row.split_once(" => ").unwrap_or((row, ""));
-        let found = outcome(rt.alloc(), &bytes, reading)?;
-        assert_eq!(rt; found.as_str(), wanted, "{reading}");
-    }
+    let are_right = are_seen(rt.alloc(), &bytes)?;
+    assert!(rt; are_right);
     Ok(())
 }
 
@@ -110,15 +158,25 @@ fn add(alloc: Global, replies: &mut Replies, given: &Given) -> Result<(), AllocE
     Ok(())
 }
 
+/// A reply of one of four forms.
+fn given(form: u8) -> Given {
+    match form {
+        0 => Given::Head(Head::Absent(Some(3))),
+        1 => Given::Value(Value::Bool(true)),
+        2 => Given::End {
+            place: 5,
+            last: true,
+        },
+        _ => Given::Rest { count: 2, place: 9 },
+    }
+}
+
 /// One reply of each form.
 fn replies(alloc: Global) -> Result<Replies, AllocError> {
     let mut replies = Vec::new(alloc);
-    add(alloc, &mut replies, &Given::Head(Head::Absent(Some(3))))?;
-    add(alloc, &mut replies, &Given::Value(Value::Bool(true)))?;
-    let (place, last) = (5, true);
-    add(alloc, &mut replies, &Given::End { place, last })?;
-    let (count, place) = (2, 9);
-    add(alloc, &mut replies, &Given::Rest { count, place })?;
+    for form in 0..4u8 {
+        add(alloc, &mut replies, &given(form))?;
+    }
     Ok(replies)
 }
 
@@ -130,125 +188,199 @@ fn kind_of<T: Drop>(ended: Result<T, Halt>) -> Option<FaultKind> {
     }
 }
 
-/// The fault by which a call ended.
-fn fault<T: Drop>(ended: Result<T, Halt>) -> Result<Fault, Fail> {
-    match ended {
-        Err(Halt::Fault(fault)) => Ok(fault),
-        _ => Err(Fail::from("no fault")),
+/// Whether a turn gives the head that was replied.
+fn gives_head(alloc: Global, here: &Path, turn: &mut Turn) -> Result<bool, AllocError> {
+    let given = turn.head(here.copy(alloc)?);
+    Ok(matches!(given, Ok(Head::Absent(Some(3)))))
+}
+
+/// Whether a turn gives the value that was replied.
+fn gives_value(alloc: Global, here: &Path, turn: &mut Turn) -> Result<bool, AllocError> {
+    let given = turn.value(here.copy(alloc)?);
+    Ok(matches!(given, Ok(Value::Bool(true))))
+}
+
+/// Whether a turn gives the end that was replied.
+fn gives_end(alloc: Global, here: &Path, turn: &mut Turn) -> Result<bool, AllocError> {
+    match turn.end(here.copy(alloc)?) {
+        Ok(Ended { place, last }) => Ok(place == 5 && last),
+        Err(_) => Ok(false),
     }
 }
 
-#[test]
-fn nodes_are_answered_in_order(rt: HostRuntime) -> Result<(), Fail> {
-    let alloc = rt.alloc();
+/// Whether a turn gives the rest that was replied.
+fn gives_rest(alloc: Global, here: &Path, turn: &mut Turn) -> Result<bool, AllocError> {
+    match turn.rest(here.copy(alloc)?) {
+        Ok(Rested { count, place }) => Ok(count == 2 && place == 9),
+        Err(_) => Ok(false),
+    }
+}
+
+/// Whether a turn needs the rest at a path, since no reply is left.
+fn needs_rest(alloc: Global, here: &Path, turn: &mut Turn) -> Result<bool, AllocError> {
+    match turn.rest(here.copy(alloc)?) {
+        Err(Halt::Need(node)) => Ok(node.kind == NodeKind::Rest && node.path == *here),
+        _ => Ok(false),
+    }
+}
+
+/// Whether a turn gives its four replies in their order, and needs a fifth.
+fn gives_each(alloc: Global, here: &Path, turn: &mut Turn) -> Result<bool, AllocError> {
+    let is_head = gives_head(alloc, here, turn)?;
+    let is_value = gives_value(alloc, here, turn)?;
+    let is_end = gives_end(alloc, here, turn)?;
+    let is_rest = gives_rest(alloc, here, turn)?;
+    Ok(needs_rest(alloc, here, turn)? && is_head && is_value && is_end && is_rest)
+}
+
+/// Whether replies are of another form than a turn asks for, each of them.
+fn are_bad(alloc: Global, here: &Path, turn: &mut Turn) -> Result<bool, AllocError> {
+    let bad = Some(FaultKind::BadType);
+    let rest = kind_of(turn.rest(here.copy(alloc)?));
+    let end = kind_of(turn.end(here.copy(alloc)?));
+    let value = kind_of(turn.value(here.copy(alloc)?));
+    let head = kind_of(turn.head(here.copy(alloc)?));
+    Ok(rest == bad && end == bad && value == bad && head == bad)
+}
+
+/// Whether a turn raises a fault of a kind.
+fn is_raised(turn: &Turn) -> bool {
+    kind_of(turn.raise::<u32>(FaultKind::BadSize)) == Some(FaultKind::BadSize)
+}
+
+/// Whether a turn over one reply of each form, of a file of no bytes, asks for them in order or for other forms.
+fn ends_well(alloc: Global, is_in_order: bool) -> Result<bool, Fail> {
     let here = Path::root(alloc);
     let bytes = Buffer::new(Vec::new(alloc))?;
     let replies = replies(alloc)?;
     let mut turn = Turn::new(alloc, &here, &bytes, &replies);
-    assert!(rt; matches!(turn.head(here.copy(alloc)?), Ok(Head::Absent(Some(3)))));
-    assert!(rt; matches!(turn.value(here.copy(alloc)?), Ok(Value::Bool(true))));
-    let ended = turn.end(here.copy(alloc)?);
-    assert!(rt;
-        matches!(
-            ended,
-            Ok(Ended {
-                place: 5,
-                last: true
-            })
-        )
-    );
-    let rested = turn.rest(here.copy(alloc)?);
-    assert!(rt; matches!(rested, Ok(Rested { count: 2, place: 9 })));
-    match turn.rest(here.copy(alloc)?) {
-        Err(Halt::Need(node)) => {
-            assert!(rt; node.kind == NodeKind::Rest);
-            assert!(rt; node.path == here);
-        }
-        _ => return Err(Fail::from("a fifth reply")),
-    }
-    assert!(rt; turn.into_uses().is_empty());
+    let ended = if is_in_order {
+        gives_each(alloc, &here, &mut turn)
+    } else {
+        are_bad(alloc, &here, &mut turn)
+    };
+    let is_right = ended? && is_raised(&turn);
+    Ok(is_right && turn.into_uses().is_empty())
+}
+
+#[test]
+fn nodes_are_answered_in_order(rt: HostRuntime) -> Result<(), Fail> {
+    let is_right = ends_well(rt.alloc(), true)?;
+    assert!(rt; is_right);
     Ok(())
 }
 
 #[test]
 fn another_form_is_a_fault(rt: HostRuntime) -> Result<(), Fail> {
-    let alloc = rt.alloc();
-    let here = Path::root(alloc);
-    let bytes = Buffer::new(Vec::new(alloc))?;
-    let replies = replies(alloc)?;
-    let mut turn = Turn::new(alloc, &here, &bytes, &replies);
-    let bad = Some(FaultKind::BadType);
-    let are_bad = kind_of(turn.rest(here.copy(alloc)?)) == bad
-        && kind_of(turn.end(here.copy(alloc)?)) == bad
-        && kind_of(turn.value(here.copy(alloc)?)) == bad
-        && kind_of(turn.head(here.copy(alloc)?)) == bad;
-    let is_raised = kind_of(turn.raise::<u32>(FaultKind::BadSize)) == Some(FaultKind::BadSize);
-    assert!(rt; are_bad && is_raised);
+    let is_right = ends_well(rt.alloc(), false)?;
+    assert!(rt; is_right);
     Ok(())
+}
+
+/// One reply, a fault at a path.
+fn fault_at(alloc: Global, there: &Path) -> Result<Replies, AllocError> {
+    let mut replies: Replies = Vec::new(alloc);
+    let kind = FaultKind::Contents;
+    let path = there.copy(alloc)?;
+    replies.push(Err(Fault { kind, path }))?;
+    Ok(replies)
+}
+
+/// Whether a turn that asks for a node has the fault that the node has.
+fn is_handed_on(alloc: Global, there: &Path, turn: &mut Turn) -> Result<bool, AllocError> {
+    match turn.head(there.copy(alloc)?) {
+        Err(Halt::Fault(fault)) => Ok(fault.kind == FaultKind::Contents && fault.path == *there),
+        _ => Ok(false),
+    }
+}
+
+/// Whether a turn at a root hands on the fault of a node at another path.
+fn hands_on(alloc: Global, bytes: &Buffer, there: &Path) -> Result<bool, AllocError> {
+    let here = Path::root(alloc);
+    let replies = fault_at(alloc, there)?;
+    let mut turn = Turn::new(alloc, &here, bytes, &replies);
+    is_handed_on(alloc, there, &mut turn)
 }
 
 #[test]
 fn a_fault_of_an_asked_node_is_handed_on(rt: HostRuntime) -> Result<(), Fail> {
     let alloc = rt.alloc();
-    let here = Path::root(alloc);
-    let there = part(alloc, &here, Step::Name(1))?;
     let bytes = Buffer::new(Vec::new(alloc))?;
-    let mut replies: Replies = Vec::new(alloc);
-    let kind = FaultKind::Contents;
-    let path = there.copy(alloc)?;
-    replies.push(Err(Fault { kind, path }))?;
-    let mut turn = Turn::new(alloc, &here, &bytes, &replies);
-    let fault = fault(turn.head(there.copy(alloc)?))?;
-    assert!(rt; fault.kind == kind);
-    assert!(rt; fault.path == there);
+    let mut there = Path::root(alloc);
+    let is_part = goes_on(alloc, &bytes, &mut there, Step::Name(1));
+    let is_right = hands_on(alloc, &bytes, &there)?;
+    assert!(rt; is_part && is_right);
     Ok(())
 }
 
 /// The path one step on, by a turn.
-fn part(alloc: Global, path: &Path, step: Step) -> Result<Path, Fail> {
-    let bytes = Buffer::new(Vec::new(alloc))?;
-    let turn = Turn::new(alloc, path, &bytes, &[]);
+fn part(alloc: Global, bytes: &Buffer, path: &Path, step: Step) -> Option<Path> {
+    let turn = Turn::new(alloc, path, bytes, &[]);
     match turn.part(path, step) {
-        Ok(part) => Ok(part),
-        Err(_) => Err(Fail::from("no part")),
+        Ok(part) => Some(part),
+        Err(_) => None,
+    }
+}
+
+/// Goes one step on, and answers whether that was possible.
+fn goes_on(alloc: Global, bytes: &Buffer, path: &mut Path, step: Step) -> bool {
+    match part(alloc, bytes, path, step) {
+        Some(part) => {
+            *path = part;
+            true
+        }
+        None => false,
     }
 }
 
 /// Whether a part is refused, by a fault at the path itself.
-fn is_too_long(alloc: Global, path: &Path, step: Step) -> Result<bool, Fail> {
-    let bytes = Buffer::new(Vec::new(alloc))?;
-    let turn = Turn::new(alloc, path, &bytes, &[]);
+fn is_too_long(alloc: Global, bytes: &Buffer, path: &Path, step: Step) -> bool {
+    let turn = Turn::new(alloc, path, bytes, &[]);
     match turn.part(path, step) {
-        Err(Halt::Fault(fault)) => Ok(fault.kind == FaultKind::PathTooLong && fault.path == *path),
-        _ => Ok(false),
+        Err(Halt::Fault(fault)) => fault.kind == FaultKind::PathTooLong && fault.path == *path,
+        _ => false,
     }
+}
+
+/// Goes 64 steps on from a root. Answers whether each path's last step is the one that was taken.
+fn goes_far(alloc: Global, bytes: &Buffer, path: &mut Path) -> bool {
+    let mut last = None;
+    let mut are_right = true;
+    for name in 0..64u32 {
+        are_right &= path.last() == last;
+        are_right &= goes_on(alloc, bytes, path, Step::Name(name));
+        last = Some(Step::Name(name));
+    }
+    are_right && path.last() == last
 }
 
 #[test]
 fn parts_have_paths_that_fit(rt: HostRuntime) -> Result<(), Fail> {
     let alloc = rt.alloc();
+    let bytes = Buffer::new(Vec::new(alloc))?;
     let mut path = Path::root(alloc);
-    let mut last = None;
-    let mut are_right = true;
-    for name in 0..64u32 {
-        are_right &= path.last() == last;
-        path = part(alloc, &path, Step::Name(name))?;
-        last = Some(Step::Name(name));
-    }
-    assert!(rt; are_right && path.last() == last);
-    assert!(rt; is_too_long(alloc, &path, Step::Index(0))?);
-    let far = Step::Index(1_048_576);
-    assert!(rt; is_too_long(alloc, &Path::root(alloc), far)?);
+    let is_far = is_too_long(alloc, &bytes, &path, Step::Index(1_048_576));
+    let are_right = goes_far(alloc, &bytes, &mut path);
+    let is_full = is_too_long(alloc, &bytes, &path, Step::Index(0));
+    assert!(rt; are_right && is_full && is_far);
     Ok(())
+}
+
+/// Whether a node at a path has an equal copy.
+fn is_copied(alloc: Global, path: Path) -> Result<bool, AllocError> {
+    let kind = NodeKind::Rest;
+    let node = Node { kind, path };
+    Ok(node.copy(alloc)? == node)
 }
 
 #[test]
 fn a_copy_of_a_node_is_the_same(rt: HostRuntime) -> Result<(), Fail> {
     let alloc = rt.alloc();
-    let path = part(alloc, &Path::root(alloc), Step::Index(7))?;
-    let kind = NodeKind::Rest;
-    let node = Node { kind, path };
-    assert!(rt; node.copy(alloc)? == node);
+    let bytes = Buffer::new(Vec::new(alloc))?;
+    let mut path = Path::root(alloc);
+    let is_part = goes_on(alloc, &bytes, &mut path, Step::Index(7));
+    let is_same = is_copied(alloc, path)?;
+    assert!(rt; is_part && is_same);
     Ok(())
 }
 

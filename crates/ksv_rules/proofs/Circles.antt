@@ -6,7 +6,7 @@ use Rattle.std.proofs.lemmas.List.Elements.{Contains-append_left, Contains-appen
 use Rattle.ksv_plan.specs.Plan.{Answer, Fail, Ask, bind}
 use Rattle.ksv_expr_tree.specs.Tree.{Tree}
 use Rattle.ksv_desc.specs.declared.order.ByteOrder.{ByteOrder}
-use Rattle.ksv_expr_eval.specs.Heard.{Setting}
+use Rattle.ksv_expr_value.specs.Setting.{Setting}
 use Rattle.ksv_expr_eval.specs.Meaning.{value_of as value_in}
 use Rattle.ksv_expr_eval.specs.declared.want.Want.{Want}
 use Rattle.ksv_expr_eval.specs.declared.want.Want.TheVariants as wants

@@ -3,7 +3,8 @@ use Rattle.std.proofs.Common.{◌≡◌, List, [], ◌∷◌, ◌++◌, Result, 
 use Rattle.ksv_plan.specs.Plan.{Answer, Fail, Ask, Done, next, run, translate}
 use Rattle.ksv_plan.proofs.Running.{run_bind}
 use Rattle.ksv_expr_tree.specs.Tree.{Tree}
-use Rattle.ksv_expr_eval.specs.Heard.{Setting, Heard}
+use Rattle.ksv_expr_eval.specs.Heard.{Heard}
+use Rattle.ksv_expr_value.specs.Setting.{Setting}
 use Rattle.ksv_expr_eval.specs.Asked.{Eval}
 use Rattle.ksv_expr_eval.specs.Replying.{replying}
 use Rattle.ksv_expr_eval.specs.Meaning.{value_of}

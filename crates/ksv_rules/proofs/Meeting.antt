@@ -5,7 +5,8 @@ use Rattle.ksv_plan.specs.Asking.{and_then, asks_behind}
 use Rattle.ksv_plan.specs.Asking.{answer_of as plan_answer, asks_of as plan_asks}
 use Rattle.ksv_bytes.specs.declared.uses.Use.{Use}
 use Rattle.ksv_expr_value.specs.Trail.{Trail}
-use Rattle.ksv_expr_eval.specs.Heard.{Setting, Heard}
+use Rattle.ksv_expr_eval.specs.Heard.{Heard}
+use Rattle.ksv_expr_value.specs.Setting.{Setting}
 use Rattle.ksv_expr_eval.specs.Asked.{Eval}
 use Rattle.ksv_expr_eval.specs.Replying.{fault_at}
 use Rattle.ksv_expr_eval.specs.Meaning.{value_of}

@@ -13,7 +13,7 @@ use Rattle.ksv_memo.specs.Meaning.{IsDone}
 use Rattle.ksv_expr_eval.proofs.Wants.{value_asks}
 use Rattle.ksv_expr_eval.specs.Evaluation.{most_wants}
 use Rattle.ksv_expr_value.specs.Trail.{Trail, element_limit, parent, last}
-use Rattle.ksv_expr_eval.specs.Heard.{Setting}
+use Rattle.ksv_expr_value.specs.Setting.{Setting}
 use Rattle.ksv_expr_eval.specs.Meaning.{value_of as value_in}
 use Rattle.ksv_expr_value.specs.Range.{ranged}
 use Rattle.ksv_expr_value.specs.Encodings.{decoded}

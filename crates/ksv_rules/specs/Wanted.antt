@@ -4,7 +4,8 @@ use Rattle.std.specs.Prelude.{ℕ, Bool, true, ℤ, pos, negsuc, Option, Some, N
 use Rattle.ksv_plan.specs.Plan.{Answer, Fail, ◌>>=◌, translate}
 use Rattle.ksv_expr_tree.specs.Tree.{Tree}
 use Rattle.ksv_expr_value.specs.Trail.{Trail}
-use Rattle.ksv_expr_eval.specs.Heard.{Setting, Heard, Valued, Opened, Numbered, Decided, Read}
+use Rattle.ksv_expr_eval.specs.Heard.{Heard, Valued, Opened, Numbered, Decided, Read}
+use Rattle.ksv_expr_value.specs.Setting.{Setting}
 use Rattle.ksv_expr_eval.specs.Meaning.{value_of}
 use Rattle.ksv_expr_value.specs.declared.fault.FaultKind.TheVariants as kinds
 use Rattle.ksv_expr_value.specs.declared.value.Stream.{Stream}

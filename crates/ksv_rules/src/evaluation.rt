@@ -54,7 +54,7 @@ fn answer<'a>(turn: &mut Turn<'a>, ctx: &Ctx, want: Want) -> Result<Got<'a>, Hal
             Ok(Got::Number(u64::from(size)))
         }
         Want::Done => {
-            let is_done = turn.done(ctx.stream(), ctx.place())?;
+            let is_done = turn.done(ctx.stream, ctx.place)?;
             Ok(Got::Truth(is_done))
         }
         Want::Bytes { from, to } => {

@@ -52,8 +52,8 @@ fn counted(
     Ok(Head::List(List {
         source,
         stream,
-        home: ctx.stream(),
-        start: ctx.place(),
+        home: ctx.stream,
+        start: ctx.place,
         count: Some(count),
         is_empty: count == 0,
     }))
@@ -64,12 +64,12 @@ fn counted(
 fn until_eos(turn: &mut Turn, ctx: &Ctx, source: MemberRef, stream: Stream) -> Result<Head, Halt>
     ensures { Runs (until_eos ctx.now source stream ctx.now.place) (λ head. head) turn.old turn.new result }
 {
-    let is_empty = turn.done(stream, ctx.place())?;
+    let is_empty = turn.done(stream, ctx.place)?;
     Ok(Head::List(List {
         source,
         stream,
-        home: ctx.stream(),
-        start: ctx.place(),
+        home: ctx.stream,
+        start: ctx.place,
         count: None,
         is_empty,
     }))
@@ -93,8 +93,8 @@ fn repeated(
         Repeat::Until(_) => Ok(Head::List(List {
             source,
             stream,
-            home: ctx.stream(),
-            start: ctx.place(),
+            home: ctx.stream,
+            start: ctx.place,
             count: None,
             is_empty: false,
         })),
@@ -115,7 +115,7 @@ fn attribute_at(
     if holds(turn, ctx, &field.condition)? {
         repeated(turn, ctx, source, stream, field)
     } else {
-        Ok(Head::Absent(Some(ctx.place())))
+        Ok(Head::Absent(Some(ctx.place)))
     }
 }
 

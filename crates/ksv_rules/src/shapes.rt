@@ -130,7 +130,7 @@ fn sized_leaf(
     ensures { Runs (sized_leaf ctx.now source stream ctx.now.place (view size.now)) (λ head. head) turn.old turn.new result }
 {
     let size = size_of(turn, ctx, size)?;
-    leaf(turn, source, stream, ctx.place(), size)
+    leaf(turn, source, stream, ctx.place, size)
 }
 
 /// Bytes or a text.
@@ -146,8 +146,8 @@ fn bytes_at(
 {
     match &field.extent {
         Extent::Sized(size) => sized_leaf(turn, ctx, source, stream, size),
-        Extent::SizeEos => leaf_to_end(turn, source, stream, ctx.place()),
-        Extent::ByItself => run_of(turn, source, stream, ctx.place(), field.terminator),
+        Extent::SizeEos => leaf_to_end(turn, source, stream, ctx.place),
+        Extent::ByItself => run_of(turn, source, stream, ctx.place, field.terminator),
     }
 }
 
@@ -163,7 +163,7 @@ fn sized_object(
     ensures { Runs (sized_object ctx.now type_number stream ctx.now.place (view size.now)) (λ head. head) turn.old turn.new result }
 {
     let size = size_of(turn, ctx, size)?;
-    let start = ctx.place();
+    let start = ctx.place;
     let end = u128::from(start) + u128::from(size);
     turn.reach(stream, end)?;
     let end = end as u32;
@@ -189,7 +189,7 @@ fn object_at(
 ) -> Result<Head, Halt>
     ensures { Runs (object_at ctx.now type_number stream ctx.now.place (plain_extent extent.now)) (λ head. head) turn.old turn.new result }
 {
-    let start = ctx.place();
+    let start = ctx.place;
     match extent {
         Extent::Sized(size) => sized_object(turn, ctx, type_number, stream, size),
         Extent::SizeEos => Ok(Head::Object(Object {
@@ -224,10 +224,8 @@ fn content_at(
 {
     match content {
         Content::Bytes => bytes_at(turn, ctx, source, stream, field),
-        Content::Fixed(bytes) => leaf(turn, source, stream, ctx.place(), bytes.len() as u64),
-        Content::Number { size, .. } => {
-            leaf(turn, source, stream, ctx.place(), u64::from(*size))
-        }
+        Content::Fixed(bytes) => leaf(turn, source, stream, ctx.place, bytes.len() as u64),
+        Content::Number { size, .. } => { leaf(turn, source, stream, ctx.place, u64::from(*size)) }
         Content::Characters(_) => bytes_at(turn, ctx, source, stream, field),
         Content::Object { type_number, .. } => object_at(
             turn,

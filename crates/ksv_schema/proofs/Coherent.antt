@@ -7,7 +7,7 @@ use Rattle.std.proofs.lemmas.Slice.Eq.{bytes_eq-Decides}
 use Rattle.ksv_yaml_tree.specs.Tree.{Pair, text_of, entry_at}
 use Rattle.ksv_expr_tree.specs.Tree as expressions
 use Rattle.ksv_expr_syntax.specs.Reading.{◌>>=◌}
-use Rattle.ksv_schema_scope.specs.Keys.{has, text_at}
+use Rattle.ksv_yaml_tree.specs.Keys.{has, text_at}
 use Rattle.ksv_schema_names.specs.declared.position.Site.{Site}
 use Rattle.ksv_schema_names.specs.Numbered.{numbered}
 use Rattle.ksv_schema_faults.specs.Faults.{Fault, fault, fault_if, no_expression, bad_value, unknown_key}

@@ -7,7 +7,7 @@ use Rattle.ksv_expr_tree.specs.Tree as expressions
 use Rattle.ksv_expr_syntax.specs.Reading.{◌>>=◌}
 use Rattle.ksv_desc.specs.declared.order.ByteOrder.{ByteOrder}
 use Rattle.ksv_desc.specs.declared.order.ByteOrder.TheVariants as orders
-use Rattle.ksv_schema_scope.specs.Keys.{has, text_at}
+use Rattle.ksv_yaml_tree.specs.Keys.{has, text_at}
 use Rattle.ksv_schema_scope.specs.Types.{type_named, order_of, encoding_of}
 use Rattle.ksv_schema_scope.specs.Enums.{enum_named, number_of_id}
 use Rattle.ksv_schema_scope.specs.Declarations.{Declared}

@@ -3,7 +3,7 @@ use Rattle.std.proofs.Common.{◌≡◌, ℕ, Bool, true, false, cond, List, [],
 use Rattle.std.specs.Prelude.{codes, not, ◌&&◌, ◌||◌, is_some, option_map, option_and_then, flat_map, unwrap_or}
 use Rattle.std.specs.Option.{option_map_or}
 use Rattle.ksv_yaml_tree.specs.Tree.{Pair, line_of, text_of, mapping_of, entry_at}
-use Rattle.ksv_schema_scope.specs.Keys.{has, says, entries_at}
+use Rattle.ksv_yaml_tree.specs.Keys.{has, says, entries_at}
 use Rattle.ksv_schema_names.specs.declared.position.Site.TheVariants as sites
 use Rattle.ksv_schema_faults.specs.Faults.{Fault, fault, bad_value}
 use Rattle.ksv_schema_keys.specs.Keys as forms

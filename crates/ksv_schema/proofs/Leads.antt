@@ -10,7 +10,7 @@ use Rattle.std.proofs.lemmas.List.{length-append}
 use Rattle.ksv_expr_syntax.specs.Reading.{◌>>=◌}
 use Rattle.ksv_expr_tree.specs.declared.tree.EnumMember.{EnumMember}
 use Rattle.ksv_expr_tree.specs.Tree.{Tree, literal, named, special, member, unary, binary, logical, choice, field, special_field, call, index, cast, Arguments, no_arguments, argument, MemberPath, TypePath, Word}
-use Rattle.ksv_schema_scope.specs.Keys.{entries_in}
+use Rattle.ksv_yaml_tree.specs.Keys.{entries_in}
 use Rattle.ksv_schema_scope.specs.Types.{Scope, from, type_in, nearest_type}
 use Rattle.ksv_schema_scope.specs.Members.{parameters_within}
 use Rattle.ksv_schema_scope.specs.Enums.{Enumeration, Constant, constant, constants_from, constants_of, number_of, id_of, is_named, number_of_id, enum_in, enum_along, enum_named}

@@ -9,7 +9,7 @@ use Rattle.std.proofs.lemmas.List.Folds.{list_all-append}
 use Rattle.ksv_yaml_tree.specs.Tree.{Pair, text_of, entry_at}
 use Rattle.ksv_expr_syntax.specs.Reading.{◌>>=◌}
 use Rattle.ksv_expr_tree.specs.Tree as expressions
-use Rattle.ksv_schema_scope.specs.Keys.{has, text_at}
+use Rattle.ksv_yaml_tree.specs.Keys.{has, text_at}
 use Rattle.ksv_schema_scope.specs.Types.{type_named}
 use Rattle.ksv_schema_scope.specs.Members.{parameters_within}
 use Rattle.ksv_schema_scope.specs.Enums.{enum_named}

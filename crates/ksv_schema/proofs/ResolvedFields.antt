@@ -9,7 +9,7 @@ use Rattle.ksv_yaml_tree.specs.Tree.{Pair, line_of, text_of, mapping_of, entry_a
 use Rattle.ksv_expr_tree.specs.Tree as expressions
 use Rattle.ksv_schema_scope.specs.declared.member.Role.{Role}
 use Rattle.ksv_schema_scope.specs.declared.member.Role.TheVariants as roles
-use Rattle.ksv_schema_scope.specs.Keys.{entries_in, has, says, entries_at}
+use Rattle.ksv_yaml_tree.specs.Keys.{entries_in, has, says, entries_at}
 use Rattle.ksv_schema_scope.specs.Members.{is_in_params}
 use Rattle.ksv_schema_names.specs.declared.position.Site.{Site}
 use Rattle.ksv_schema_names.specs.declared.position.Site.TheVariants as sites

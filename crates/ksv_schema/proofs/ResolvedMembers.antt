@@ -5,7 +5,7 @@ use Rattle.std.specs.Option.{option_map_or}
 use Rattle.std.specs.Str.{bytes_eq, is_utf8}
 use Rattle.std.proofs.lemmas.Bool.Decides.{Decides-eqb}
 use Rattle.ksv_yaml_tree.specs.Tree.{Tree, Pair, line_of, mapping_of}
-use Rattle.ksv_schema_scope.specs.Keys.{entries_in, has}
+use Rattle.ksv_yaml_tree.specs.Keys.{entries_in, has}
 use Rattle.ksv_schema_scope.specs.Types.{Scope, types_of}
 use Rattle.ksv_schema_scope.specs.Members.{Member, is_parameter, is_in_params, is_within, members_within, parameters_within}
 use Rattle.ksv_schema_scope.specs.declared.member.Role.{Role}

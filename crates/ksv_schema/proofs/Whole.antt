@@ -10,10 +10,10 @@ use Rattle.std.proofs.lemmas.List.Folds.{list_any-append}
 use Rattle.ksv_yaml_tree.specs.Tree.{Tree, Text, Seq, Map, Pair, pairs, line_of, text_of, mapping_of, entry_at}
 use Rattle.ksv_schema_scope.specs.declared.member.Role.{Role}
 use Rattle.ksv_schema_scope.specs.declared.member.Role.TheVariants as roles
-use Rattle.ksv_schema_scope.specs.declared.numeral.Numeral.{Numeral}
-use Rattle.ksv_schema_scope.specs.declared.numeral.Numeral.TheVariants.{Whole, LeadingZero, NoNumeral}
-use Rattle.ksv_schema_scope.specs.Numerals.{signed_number}
-use Rattle.ksv_schema_scope.specs.Keys.{has, text_at, entries_at}
+use Rattle.ksv_yaml_tree.specs.declared.numeral.Numeral.{Numeral}
+use Rattle.ksv_yaml_tree.specs.declared.numeral.Numeral.TheVariants.{Whole, LeadingZero, NoNumeral}
+use Rattle.ksv_yaml_tree.specs.Numerals.{signed_number}
+use Rattle.ksv_yaml_tree.specs.Keys.{has, text_at, entries_at}
 use Rattle.ksv_schema_scope.specs.Types.{Scope, keys_of, keys_of_type, outwards, from, encoding_in, encoding_of}
 use Rattle.ksv_schema_scope.specs.Members.{Member, is_within, members_within}
 use Rattle.ksv_schema_scope.specs.Enums.{Constant, whole_of}

@@ -6,7 +6,7 @@ use Rattle.std.proofs.lemmas.List.Elements.{filter-append}
 use Rattle.ksv_yaml_tree.specs.Tree.{Pair}
 use Rattle.ksv_yaml_tree.specs.declared.tree.Yaml.{Yaml}
 use Rattle.ksv_expr_syntax.specs.Reading.{◌>>=◌}
-use Rattle.ksv_schema_scope.specs.Keys.{entries_in}
+use Rattle.ksv_yaml_tree.specs.Keys.{entries_in}
 use Rattle.ksv_schema_scope.specs.Enums.{Enumeration, Constant, constant, constants_from, constants_of}
 use Rattle.ksv_schema_scope.specs.Declarations.{Declared, declared}
 use Rattle.ksv_schema_build.specs.Stated.{each, each_numbered, numbered_of, enum_of}

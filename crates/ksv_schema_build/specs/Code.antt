@@ -3,7 +3,7 @@ use Rattle.std.specs.Prelude.{ℕ, List, Option, Some, None, Result, Ok, Err, op
 use Rattle.ksv_yaml_tree.specs.Tree.{Pair}
 use Rattle.ksv_expr_syntax.specs.Reading.{◌>>=◌}
 use Rattle.ksv_expr_tree.specs.Tree as expressions
-use Rattle.ksv_schema_scope.specs.Keys.{text_at}
+use Rattle.ksv_yaml_tree.specs.Keys.{text_at}
 use Rattle.ksv_schema_scope.specs.Enums.{enum_named}
 use Rattle.ksv_schema_names.specs.Numbered.{given_member}
 use Rattle.ksv_schema_keys.specs.Values.{case_key, ids_of}

@@ -10,7 +10,7 @@ use Rattle.ksv_expr_tree.specs.Tree.{Arguments}
 use Rattle.ksv_expr_tree.specs.Tree as expressions
 use Rattle.ksv_desc.specs.declared.order.ByteOrder.{ByteOrder}
 use Rattle.ksv_desc.specs.declared.order.ByteOrder.TheVariants as orders
-use Rattle.ksv_schema_scope.specs.Keys.{entries_in, has, says, text_at, entries_at}
+use Rattle.ksv_yaml_tree.specs.Keys.{entries_in, has, says, text_at, entries_at}
 use Rattle.ksv_schema_scope.specs.Types.{Scope, type_named, order_of, encoding_of}
 use Rattle.ksv_schema_scope.specs.declared.member.Role.{Role}
 use Rattle.ksv_schema_scope.specs.declared.member.Role.TheVariants as roles

@@ -21,7 +21,7 @@ use ksv_expr_syntax::ExprFault;
 use ksv_expr_tree::{Expr, Literal, Member};
 use ksv_schema_keys::{CaseKey, case_key, read_expression};
 use ksv_schema_names::given_member;
-use ksv_schema_scope::keys::entries_at;
+use ksv_yaml_tree::keys::entries_at;
 use ksv_yaml_tree::{Entry, find};
 use std::alloc::{AllocError, Global};
 

@@ -20,8 +20,8 @@ use ksv_expr_value::Encoding;
 use ksv_schema_keys::{TypeText, encoding_named, ids_of, type_text};
 use ksv_schema_names::{BuiltIn, number_arguments};
 use ksv_schema_scope::ByteOrder;
-use ksv_schema_scope::keys::{has, text_at};
 use ksv_yaml_tree::Entry;
+use ksv_yaml_tree::keys::{has, text_at};
 use std::alloc::{AllocError, Global};
 
 /// The number of the enum of this path.

@@ -10,8 +10,8 @@ use crate::context::Context;
 use ksv_expr_tree::Expr;
 use ksv_schema_keys::read_expression;
 use ksv_schema_names::number_expr;
-use ksv_schema_scope::keys::{has, text_at};
 use ksv_yaml_tree::Entry;
+use ksv_yaml_tree::keys::{has, text_at};
 use std::alloc::{AllocError, Global};
 
 /// The expression that a text is.

@@ -12,8 +12,8 @@ use crate::context::Context;
 use crate::expressions::{expression_at, perhaps_expression};
 use ksv_desc::{Extent, Field, Repeat, Terminator};
 use ksv_schema_keys::{TypeKind, byte_at, type_key};
-use ksv_schema_scope::keys::{has, says};
 use ksv_yaml_tree::Entry;
+use ksv_yaml_tree::keys::{has, says};
 use std::alloc::{AllocError, Global};
 
 /// Where an attribute of these keys ends.

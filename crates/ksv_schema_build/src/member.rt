@@ -14,9 +14,9 @@ use crate::expressions::{expression_at, perhaps_expression};
 use crate::field::field_of;
 use crate::texts::as_text;
 use ksv_desc::{MemberDesc, MemberKind};
-use ksv_schema_scope::keys::has;
 use ksv_schema_scope::{Member, Role};
 use ksv_yaml_tree::Entry;
+use ksv_yaml_tree::keys::has;
 use std::alloc::{AllocError, Global};
 
 /// A parse instance.

@@ -11,9 +11,9 @@ ghost use Rattle.ksv_schema_build.specs.Stated.{naming_keys, expression_words, a
 use crate::texts::as_text;
 use ksv_schema_keys::{Form, MappingKind, TypeText, form_in, read_expression, type_text};
 use ksv_schema_names::{Names, Site};
-use ksv_schema_scope::keys::entries_in;
 use ksv_schema_scope::{Member, Role};
 use ksv_yaml_tree::Entry;
+use ksv_yaml_tree::keys::entries_in;
 use std::alloc::{AllocError, Global};
 
 /// Adds the names of members, as far as they are texts, and returns whether all are.

@@ -3,7 +3,7 @@ use Rattle.std.proofs.Common.{◌≡◌, ℕ, true, false, not, ◌&&◌, List, 
 use Rattle.std.specs.Prelude.{◌||◌, flat_map, if◌then◌else◌}
 use Rattle.std.specs.Str.{bytes_eq}
 use Rattle.ksv_yaml_tree.specs.Tree.{Tree, Text, Seq, Map, Pair, pairs, trees, line_of, text_of, is_quoted, list_of, mapping_of}
-use Rattle.ksv_schema_scope.specs.Keys.{has}
+use Rattle.ksv_yaml_tree.specs.Keys.{has}
 use Rattle.ksv_schema_scope.specs.Declarations.{Declared}
 use Rattle.ksv_schema_keys.specs.Keys.{is_id, constant_keys}
 use Rattle.ksv_schema_faults.specs.Faults.{fault, fault_if, bad_value, left_out}

@@ -6,7 +6,7 @@ use Rattle.std.specs.Str.{bytes_eq}
 use Rattle.std.specs.List.Sorted.{IsPermutation, IsNonDecreasing}
 use Rattle.ksv_yaml_tree.specs.Tree.{Tree, Pair, entry_at}
 use Rattle.ksv_schema_scope.specs.Types.{Scope}
-use Rattle.ksv_schema_scope.specs.Keys.{has, says}
+use Rattle.ksv_yaml_tree.specs.Keys.{has, says}
 use Rattle.ksv_schema_scope.specs.Members.{members_within}
 use Rattle.ksv_schema_scope.specs.Declarations.{Declared, declared}
 use Rattle.ksv_schema_keys.specs.declared.keys.Form.{Form}

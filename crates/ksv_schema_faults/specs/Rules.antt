@@ -8,10 +8,10 @@ use Rattle.std.specs.Str.{bytes_eq}
 use Rattle.ksv_yaml_tree.specs.Tree.{Tree, Text, Seq, Map, Pair, pairs, trees, line_of, text_of, mapping_of, list_of, entry_at}
 use Rattle.ksv_expr_tree.specs.Tree.{Arguments}
 use Rattle.ksv_expr_tree.specs.Tree as expressions
-use Rattle.ksv_schema_scope.specs.Keys.{entries_in, has, says, text_at}
-use Rattle.ksv_schema_scope.specs.declared.numeral.Numeral.{Numeral}
-use Rattle.ksv_schema_scope.specs.declared.numeral.Numeral.TheVariants.{Whole, LeadingZero, NoNumeral}
-use Rattle.ksv_schema_scope.specs.Numerals.{signed_number}
+use Rattle.ksv_yaml_tree.specs.Keys.{entries_in, has, says, text_at}
+use Rattle.ksv_yaml_tree.specs.declared.numeral.Numeral.{Numeral}
+use Rattle.ksv_yaml_tree.specs.declared.numeral.Numeral.TheVariants.{Whole, LeadingZero, NoNumeral}
+use Rattle.ksv_yaml_tree.specs.Numerals.{signed_number}
 use Rattle.ksv_schema_scope.specs.Types.{Scope, type_named, order_of, encoding_of}
 use Rattle.ksv_schema_scope.specs.declared.member.Role.{Role}
 use Rattle.ksv_schema_scope.specs.declared.member.Role.TheVariants.{Parameter, Attribute, Instance}

@@ -7,7 +7,7 @@ ghost use Rattle.ksv_schema_scope.specs.EnumRows.{enumeration_of};
 ghost use Rattle.ksv_schema_scope.specs.ConstantRows.{constant_of, AreMarked};
 ghost use Rattle.ksv_schema_scope.specs.Enums.{is_number_again, is_id_again};
 ghost use Rattle.ksv_schema_faults.specs.Faults.{noted};
-ghost use Rattle.ksv_schema_scope.specs.Keys.{has};
+ghost use Rattle.ksv_yaml_tree.specs.Keys.{has};
 ghost use Rattle.ksv_schema_keys.specs.Keys.{constant_keys};
 ghost use Rattle.ksv_schema_faults.specs.Rules.{home_in, form_faults, keys_faults, missing_if, enumeration_faults, constant_value_faults, id_line, number_again, id_again, constant_faults, each_from};
 ghost use Rattle.ksv_schema_faults.specs.Code.{seen_fault};
@@ -18,9 +18,9 @@ use crate::key::note_numeral;
 use crate::mapping::note_plain_keys;
 use crate::together::note_missing_if;
 use ksv_schema_keys::{MappingKind, is_id};
-use ksv_schema_scope::keys::{entries_in, has};
-use ksv_schema_scope::{Constant, Enumeration, Scopes, signed_number};
-use ksv_yaml_tree::{Entry, Yaml, find};
+use ksv_schema_scope::{Constant, Enumeration, Scopes};
+use ksv_yaml_tree::keys::{entries_in, has};
+use ksv_yaml_tree::{Entry, Yaml, find, signed_number};
 use std::alloc::{AllocError, Global};
 
 /// Notes the faults of an enum: those of its name, and that it is no mapping.

@@ -25,9 +25,8 @@ use ksv_schema_keys::{
     is_of_kind, looks_like_number, piece_of, read_expression, type_text,
 };
 use ksv_schema_names::Site;
-use ksv_schema_scope::Numeral;
-use ksv_schema_scope::keys::has;
-use ksv_yaml_tree::{Entry, Yaml};
+use ksv_yaml_tree::keys::has;
+use ksv_yaml_tree::{Entry, Numeral, Yaml};
 use std::alloc::{AllocError, Global};
 
 /// Whether a text is allowed at a key of this form, as far as the text alone decides.

@@ -13,7 +13,7 @@ use crate::fault::{DescFault, DescFaultKind, note, note_if};
 use crate::home::Home;
 use crate::key::note_form;
 use ksv_schema_keys::{Form, MappingKind, form_in};
-use ksv_schema_scope::keys::has;
+use ksv_yaml_tree::keys::has;
 use ksv_yaml_tree::{Entry, Yaml};
 use std::alloc::{AllocError, Global};
 

@@ -15,8 +15,8 @@ use crate::home::Home;
 use crate::mapping::note_keys;
 use crate::together::{note_field_rules, note_missing_if, note_value_rules};
 use ksv_schema_keys::{MappingKind, is_id};
-use ksv_schema_scope::keys::{entries_in, has, says};
 use ksv_schema_scope::{Member, Role, Scopes};
+use ksv_yaml_tree::keys::{entries_in, has, says};
 use ksv_yaml_tree::{Entry, find};
 use std::alloc::{AllocError, Global};
 

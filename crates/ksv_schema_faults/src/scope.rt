@@ -5,7 +5,7 @@ ghost use Rattle.std.specs.Option.{option_map_or};
 ghost use Rattle.ksv_yaml_tree.specs.Tree.{entry_at};
 ghost use Rattle.ksv_yaml_tree.specs.View.{view, pair, seen_entry};
 ghost use Rattle.ksv_schema_scope.specs.Declarations.{declared};
-ghost use Rattle.ksv_schema_scope.specs.Keys.{has};
+ghost use Rattle.ksv_yaml_tree.specs.Keys.{has};
 ghost use Rattle.ksv_schema_faults.specs.Faults.{noted, fault_if, bad_value};
 ghost use Rattle.ksv_schema_keys.specs.Keys.{is_id, type_keys, meta_keys};
 ghost use Rattle.ksv_schema_faults.specs.Rules.{home_in, form_faults, keys_faults, missing_if, each_from, meta_faults, root_faults, type_faults};
@@ -17,7 +17,7 @@ use crate::mapping::note_plain_keys;
 use crate::together::{note_left_out_if, note_missing_if};
 use ksv_schema_keys::{MappingKind, is_id};
 use ksv_schema_scope::Scopes;
-use ksv_schema_scope::keys::has;
+use ksv_yaml_tree::keys::has;
 use ksv_yaml_tree::{Entry, Yaml, find};
 use std::alloc::{AllocError, Global};
 

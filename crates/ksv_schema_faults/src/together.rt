@@ -4,7 +4,7 @@ ghost use Rattle.std.specs.Prelude.{◌≡◌, OnOk, IfOk, not, ◌||◌, ◌&&�
 ghost use Rattle.std.specs.List.{list_any};
 ghost use Rattle.ksv_yaml_tree.specs.Tree.{entry_at};
 ghost use Rattle.ksv_yaml_tree.specs.View.{pair, seen_entry};
-ghost use Rattle.ksv_schema_scope.specs.Keys.{has, says};
+ghost use Rattle.ksv_yaml_tree.specs.Keys.{has, says};
 ghost use Rattle.ksv_schema_faults.specs.Faults.{noted};
 ghost use Rattle.ksv_schema_keys.specs.Code.{seen_type_text};
 ghost use Rattle.ksv_schema_keys.specs.Values.{cases_of, is_to_end, is_integer, is_str, is_strz, is_type, type_key};
@@ -14,7 +14,7 @@ ghost use Rattle.ksv_schema_faults.specs.Code.{seen_fault, seen_home, is_bounded
 use crate::fault::{DescFault, DescFaultKind, note, note_if};
 use crate::home::Home;
 use ksv_schema_keys::{TypeKind, TypeText, byte_at, is_type, type_key, type_text};
-use ksv_schema_scope::keys::{entries_at, has, says, text_at};
+use ksv_yaml_tree::keys::{entries_at, has, says, text_at};
 use ksv_yaml_tree::{Entry, find};
 use std::alloc::{AllocError, Global};
 

@@ -4,7 +4,7 @@ ghost use Rattle.std.specs.Prelude.{◌≡◌, ◌≤◌, nat_abs, IfOk, map, sl
 ghost use Rattle.ksv_yaml_tree.specs.View.{view, pair, seen_entry, seen_text};
 ghost use Rattle.std.specs.List.{list_all};
 ghost use Rattle.ksv_expr_tree.specs.Tree.{view as view_expression, view_type, literal_of, special, unary};
-ghost use Rattle.ksv_schema_scope.specs.Numerals.{is_digit, is_numeral};
+ghost use Rattle.ksv_yaml_tree.specs.Numerals.{is_digit, is_numeral};
 ghost use Rattle.ksv_schema_keys.specs.Values.{encoding_named, of_name, type_text, is_integer, is_str, is_strz, is_type, type_key, byte_number, byte_at, looks_like_number, number_piece, piece_of, case_key};
 ghost use Rattle.ksv_schema_keys.specs.Code.{seen_type_text, kind_test, IsUpTo, seen_piece, seen_case_key, negative_constant, negative_key};
 ghost use Rattle.ksv_schema_names.specs.BuiltIn.{built_in_at};
@@ -14,9 +14,8 @@ use ksv_expr_syntax::ExprFault;
 use ksv_expr_tree::{Expr, Literal, Member, SpecialName, TypeName, TypeRef, UnaryOperator};
 use ksv_expr_value::Encoding;
 use ksv_schema_names::{BuiltIn, built_in_at};
-use ksv_schema_scope::keys::text_at;
-use ksv_schema_scope::{Numeral, plain_number};
-use ksv_yaml_tree::{Entry, Yaml, find};
+use ksv_yaml_tree::keys::text_at;
+use ksv_yaml_tree::{Entry, Numeral, Yaml, find, plain_number};
 use std::alloc::{AllocError, Global};
 
 /// The greatest number that may come after `-` in a key of `cases`.

@@ -6,7 +6,7 @@ use Rattle.std.specs.Prelude.{slice_get, option_and_then, option_map, ◌&&◌}
 use Rattle.std.specs.Str.{bytes_eq}
 use Rattle.ksv_yaml_tree.specs.View.{view}
 use Rattle.ksv_schema_scope.specs.declared.row.TypeRow.{TypeRow}
-use Rattle.ksv_schema_scope.specs.Keys.{entries_in}
+use Rattle.ksv_yaml_tree.specs.Keys.{entries_in}
 use Rattle.ksv_schema_scope.specs.Types.{Scope, from, outwards, is_directly_in, type_in, root_named, keys_of, keys_of_type}
 use Rattle.ksv_schema_scope.specs.Rows.{scope_of, scopes_from, scopes_of, AreOrdered, around_by, outer_of, is_row_named}
 use Rattle.ksv_schema_scope.proofs.Growing.{from_outer, from_none, scope_at}

@@ -8,7 +8,7 @@ use Rattle.std.proofs.lemmas.Bool.Decides.{nat_tests}
 use Rattle.ksv_yaml_tree.specs.Tree.{Pair}
 use Rattle.ksv_yaml_tree.specs.View.{view}
 use Rattle.ksv_schema_scope.specs.declared.enumeration.Enumeration.{Enumeration as EnumRow}
-use Rattle.ksv_schema_scope.specs.Keys.{entries_in}
+use Rattle.ksv_yaml_tree.specs.Keys.{entries_in}
 use Rattle.ksv_schema_scope.specs.Enums.{Enumeration, Constant, constant, constants_from, constants_of, number_of, number_written, id_of, id_of_number, number_of_id}
 use Rattle.ksv_schema_scope.specs.EnumRows.{enumeration_of}
 use Rattle.ksv_schema_scope.proofs.EachType.{item_here}

@@ -3,7 +3,6 @@ pub mod Around
 pub mod EachType
 pub mod MembersOf
 pub mod EnumsOf
-pub mod Digits
 pub mod ConstantsOf
 pub mod Ranges
 pub mod Rising

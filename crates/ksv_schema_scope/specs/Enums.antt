@@ -5,10 +5,10 @@ use Rattle.std.specs.Option.{option_map_or}
 use Rattle.std.specs.Ordering.{int_eq}
 use Rattle.std.specs.Str.{bytes_eq}
 use Rattle.ksv_yaml_tree.specs.Tree.{Tree, Pair, text_of, mapping_of}
-use Rattle.ksv_schema_scope.specs.Keys.{entries_in, text_at}
-use Rattle.ksv_schema_scope.specs.declared.numeral.Numeral.{Numeral}
-use Rattle.ksv_schema_scope.specs.declared.numeral.Numeral.TheVariants.{Whole, LeadingZero, NoNumeral}
-use Rattle.ksv_schema_scope.specs.Numerals.{signed_number}
+use Rattle.ksv_yaml_tree.specs.Keys.{entries_in, text_at}
+use Rattle.ksv_yaml_tree.specs.declared.numeral.Numeral.{Numeral}
+use Rattle.ksv_yaml_tree.specs.declared.numeral.Numeral.TheVariants.{Whole, LeadingZero, NoNumeral}
+use Rattle.ksv_yaml_tree.specs.Numerals.{signed_number}
 use Rattle.ksv_schema_scope.specs.Types.{Scope, keys_of, from, outwards, nearest_type, type_in}
 
 -- an enum of the type `within`: the line of its name, the name, and its value

@@ -1,6 +1,4 @@
 -- The types, members and enums of a tree, and the lookup of names from a type outwards.
-pub mod Keys
-pub mod Numerals
 pub mod Types
 pub mod Members
 pub mod Enums

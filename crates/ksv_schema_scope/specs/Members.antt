@@ -5,7 +5,7 @@ use Rattle.std.specs.Str.{bytes_eq}
 use Rattle.ksv_yaml_tree.specs.Tree.{Tree, Pair, line_of, mapping_of, list_of}
 use Rattle.ksv_schema_scope.specs.declared.member.Role.{Role}
 use Rattle.ksv_schema_scope.specs.declared.member.Role.TheVariants.{Parameter, Attribute, Instance}
-use Rattle.ksv_schema_scope.specs.Keys.{entries_in, text_at}
+use Rattle.ksv_yaml_tree.specs.Keys.{entries_in, text_at}
 use Rattle.ksv_schema_scope.specs.Types.{Scope, keys_of}
 
 -- a member of the type `within`: its first line (for an instance, the line of its name), its name and its value

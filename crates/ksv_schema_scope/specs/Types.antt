@@ -10,7 +10,7 @@ use Rattle.std.specs.Str.{bytes_eq}
 use Rattle.ksv_yaml_tree.specs.Tree.{Tree, Text, Seq, Map, Entries, no_entries, entry, Pair, line_of}
 use Rattle.ksv_desc.specs.declared.order.ByteOrder.{ByteOrder}
 use Rattle.ksv_desc.specs.declared.order.ByteOrder.TheVariants as orders
-use Rattle.ksv_schema_scope.specs.Keys.{entries_in, entries_at, text_at}
+use Rattle.ksv_yaml_tree.specs.Keys.{entries_in, entries_at, text_at}
 
 -- A type: the line of its name and the name (for the root, its first line and its id), the numbers of the types
 -- around it, the nearest first, and its value.

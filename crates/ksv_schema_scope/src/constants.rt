@@ -1,7 +1,7 @@
 //! The entries of enums: numbers with their ids.
 
 ghost use Rattle.std.specs.Prelude.{◌≡◌, map, find, option_and_then, false, [], slice_get};
-ghost use Rattle.ksv_schema_scope.specs.Keys.{entries_in};
+ghost use Rattle.ksv_yaml_tree.specs.Keys.{entries_in};
 ghost use Rattle.std.specs.Option.{option_map_or};
 ghost use Rattle.std.specs.Ordering.{int_eq};
 ghost use Rattle.std.specs.Str.{bytes_eq};
@@ -9,9 +9,8 @@ ghost use Rattle.ksv_yaml_tree.specs.View.{view, pair, seen_text};
 ghost use Rattle.ksv_schema_scope.specs.Enums.{number_written, id_of};
 
 use crate::enumeration::Enumeration;
-use crate::keys::{entries_in, text_at};
-use crate::numeral::{Numeral, signed_number};
-use ksv_yaml_tree::{Entry, Yaml};
+use ksv_yaml_tree::keys::{entries_in, text_at};
+use ksv_yaml_tree::{Entry, Numeral, Yaml, signed_number};
 
 /// The number that a key of an enum is.
 #[tactic(auto, unfolding(crate::specs::Enums::number_written))]

@@ -2,10 +2,10 @@
 
 ghost use Rattle.std.specs.Prelude.{◌≡◌, map};
 ghost use Rattle.ksv_yaml_tree.specs.View.{pair};
-ghost use Rattle.ksv_schema_scope.specs.Keys.{entries_in};
+ghost use Rattle.ksv_yaml_tree.specs.Keys.{entries_in};
 ghost use Rattle.ksv_schema_scope.specs.EnumRows.{enumeration_of};
 
-use crate::keys::entries_in;
+use ksv_yaml_tree::keys::entries_in;
 use ksv_yaml_tree::{Entry, Yaml};
 
 /// An enum: the type it is in, its name with the name's line, and its value.

@@ -10,10 +10,10 @@ ghost use Rattle.ksv_schema_scope.specs.Rows.{scopes_of, AreOrdered};
 ghost use Rattle.ksv_schema_scope.specs.Types.{outwards, from};
 
 use crate::enumeration::Enumeration;
-use crate::keys::entries_in;
 use crate::outwards::{keys_of_type, outer_of, type_along};
 use crate::row::TypeRow;
 use ksv_yaml_tree::Entry;
+use ksv_yaml_tree::keys::entries_in;
 use std::alloc::{AllocError, Global};
 
 /// An enum of the type `within`.

@@ -5,15 +5,15 @@ ghost use Rattle.std.specs.List.{position_from};
 ghost use Rattle.std.specs.List.Sorted.{IsNonDecreasingBy, IsPartitionPoint};
 ghost use Rattle.std.specs.Str.{bytes_eq};
 ghost use Rattle.ksv_yaml_tree.specs.View.{view, pair, seen_text};
-ghost use Rattle.ksv_schema_scope.specs.Keys.{text_at, entries_in};
+ghost use Rattle.ksv_yaml_tree.specs.Keys.{text_at, entries_in};
 ghost use Rattle.ksv_schema_scope.specs.Members.{parameter, attribute, attributes_from, instance, members_at_key, members_of, is_in_params};
 ghost use Rattle.ksv_schema_scope.specs.MemberRows.{member_of, IsRange};
 ghost use Rattle.ksv_schema_scope.specs.Rows.{scopes_of};
 
-use crate::keys::{entries_in, items_in, text_at};
 use crate::member::{Member, MemberName, Role};
 use crate::outwards::keys_of_type;
 use crate::row::TypeRow;
+use ksv_yaml_tree::keys::{entries_in, items_in, text_at};
 use ksv_yaml_tree::{Entry, Yaml};
 use std::alloc::{AllocError, Global};
 

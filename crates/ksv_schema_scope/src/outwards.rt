@@ -6,10 +6,10 @@ ghost use Rattle.ksv_yaml_tree.specs.View.{pair, seen_text};
 ghost use Rattle.ksv_schema_scope.specs.Types.{type_in, outwards, from, root_named, nearest_type, type_along, keys_of_type, order_named, order_in, order_of, encoding_in, encoding_of};
 ghost use Rattle.ksv_schema_scope.specs.Rows.{scopes_of, AreOrdered, outer_of, is_row_named};
 
-use crate::keys::{entries_at, entries_in, text_at};
 use crate::row::TypeRow;
 use ksv_desc::ByteOrder;
 use ksv_yaml_tree::Entry;
+use ksv_yaml_tree::keys::{entries_at, entries_in, text_at};
 
 /// The row of the type `n`.
 pub(crate) fn row<'a>(types: &[TypeRow<'a>], n: usize) -> Option<TypeRow<'a>>

@@ -5,9 +5,9 @@ ghost use Rattle.ksv_yaml_tree.specs.View.{view};
 ghost use Rattle.ksv_schema_scope.specs.Types.{types_within, types_named, types_of, root_scope, from};
 ghost use Rattle.ksv_schema_scope.specs.Rows.{scopes_of, scope_of, AreOrdered};
 
-use crate::keys::{entries_at, entries_in, text_at};
 use crate::row::TypeRow;
 use ksv_yaml_tree::Yaml;
+use ksv_yaml_tree::keys::{entries_at, entries_in, text_at};
 use std::alloc::{AllocError, Global};
 
 /// Adds the types within a type.

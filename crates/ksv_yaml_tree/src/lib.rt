@@ -4,6 +4,9 @@
 //! tree (`specs/Tree`), by `view` of `specs/View`.
 #![tactic(auto)]
 
+pub mod keys;
+mod numeral;
 pub mod tree;
 
+pub use numeral::{Numeral, plain_number, signed_number};
 pub use tree::{Entry, Yaml, find};

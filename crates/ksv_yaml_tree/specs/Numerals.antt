@@ -3,8 +3,8 @@ use Rattle.std.specs.Prelude.{ℕ, ◌^◌, ◌-◌, Bool, false, nat_lt, nat_le
 use Rattle.std.specs.List.{list_all}
 use Rattle.std.specs.Char.{digit_value}
 use Rattle.std.specs.Str.Parse.{digits_value}
-use Rattle.ksv_schema_scope.specs.declared.numeral.Numeral.{Numeral}
-use Rattle.ksv_schema_scope.specs.declared.numeral.Numeral.TheVariants.{Whole, LeadingZero, NoNumeral}
+use Rattle.ksv_yaml_tree.specs.declared.numeral.Numeral.{Numeral}
+use Rattle.ksv_yaml_tree.specs.declared.numeral.Numeral.TheVariants.{Whole, LeadingZero, NoNumeral}
 
 -- whether a byte is a digit in a radix
 abbrev pub is_digit : ℕ → ℕ → Bool

@@ -2,7 +2,7 @@
 
 ghost use Rattle.std.specs.Prelude.{◌≡◌, ◌≤◌, ◌^◌, min, IsTrue, IsFalse, MatchOption, slice_index, length, nat_lt, ◌==◌, ◌&&◌};
 ghost use Rattle.std.specs.Str.Parse.{digits_value};
-ghost use Rattle.ksv_schema_scope.specs.Numerals.{is_numeral, decimal_to, hexadecimal_to, opposite, plain_number, signed_number};
+ghost use Rattle.ksv_yaml_tree.specs.Numerals.{is_numeral, decimal_to, hexadecimal_to, opposite, plain_number, signed_number};
 
 /// What a text means where a plain number is wanted.
 #[derive(Clone, Copy, Debug)]

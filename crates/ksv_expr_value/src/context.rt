@@ -1,24 +1,31 @@
 //! The context in which an expression is evaluated.
 ghost use Rattle.std.specs.Prelude.{◌≡◌, None, Some, option_map};
-ghost use Rattle.ksv_expr_eval.specs.Heard.{Setting};
+ghost use Rattle.ksv_expr_value.specs.Setting.{Setting};
 
-use ksv_expr_value::{Path, Stream};
+use crate::path::Path;
+use crate::value::Stream;
 use std::marker::Model;
 
 /// The context in which an expression is evaluated.
 #[derive(Drop)]
 pub struct Ctx<'a> {
-    home: &'a Path,
-    stream: Stream,
-    place: u32,
-    index: Option<u32>,
-    element: Option<&'a Path>,
-    here: &'a Path,
+    /// The object that the expression belongs to.
+    pub home: &'a Path,
+    /// The home's stream.
+    pub stream: Stream,
+    /// The current place in the file.
+    pub place: u32,
+    /// The number of the element that the expression belongs to.
+    pub index: Option<u32>,
+    /// The path of the element just read.
+    pub element: Option<&'a Path>,
+    /// The path of faults.
+    pub here: &'a Path,
 }
 
 impl<'a> Model for Ctx<'a> {
     ghost use Rattle.std.specs.Prelude.{option_copied};
-    ghost use Rattle.ksv_expr_eval.specs.Heard.{Setting};
+    ghost use Rattle.ksv_expr_value.specs.Setting.{Setting};
 
     ghost Value = { Setting };
 
@@ -69,47 +76,5 @@ impl<'a> Ctx<'a> {
             element: Some(element),
             here: self.here,
         }
-    }
-
-    /// The object that the expression belongs to.
-    pub(crate) fn home(&self) -> &'a Path
-        ensures { result.now ≡ self.now.home }
-    {
-        self.home
-    }
-
-    /// The home's stream.
-    pub fn stream(&self) -> Stream
-        ensures { result ≡ self.now.stream }
-    {
-        self.stream
-    }
-
-    /// The current place in the file.
-    pub fn place(&self) -> u32
-        ensures { result ≡ self.now.place }
-    {
-        self.place
-    }
-
-    /// The number of the element that the expression belongs to.
-    pub(crate) fn index(&self) -> Option<u32>
-        ensures { result ≡ self.now.index }
-    {
-        self.index
-    }
-
-    /// The path of the element just read.
-    pub(crate) fn element(&self) -> Option<&'a Path>
-        ensures { option_copied result ≡ self.now.element }
-    {
-        self.element
-    }
-
-    /// The path of faults.
-    pub(crate) fn here(&self) -> &'a Path
-        ensures { result.now ≡ self.now.here }
-    {
-        self.here
     }
 }

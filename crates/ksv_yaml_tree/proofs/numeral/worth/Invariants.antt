@@ -1,8 +1,8 @@
 use Rattle.std.proofs.Common.{◌≡◌, ◌^◌, take, true, min}
 use Rattle.std.specs.List.{list_all}
 use Rattle.std.specs.Str.Parse.{digits_value}
-use Rattle.ksv_schema_scope.specs.Numerals.{is_digit}
-use Rattle.ksv_schema_scope.proofs.numeral.worth.Given as goal
+use Rattle.ksv_yaml_tree.specs.Numerals.{is_digit}
+use Rattle.ksv_yaml_tree.proofs.numeral.worth.Given as goal
 
 abbrev pub invariant-loop-digit : goal.invariant-loop-digit
 invariant-loop-digit l = record {

@@ -3,9 +3,9 @@
 ghost use Rattle.std.specs.Prelude.{◌≡◌, [], map, unwrap_or};
 ghost use Rattle.ksv_yaml_tree.specs.Tree.{list_of};
 ghost use Rattle.ksv_yaml_tree.specs.View.{view, pair, seen_text};
-ghost use Rattle.ksv_schema_scope.specs.Keys.{entries_in, entries_at, items_at, text_at, has, says};
+ghost use Rattle.ksv_yaml_tree.specs.Keys.{entries_in, entries_at, items_at, text_at, has, says};
 
-use ksv_yaml_tree::{Entry, Yaml, find};
+use crate::tree::{Entry, Yaml, find};
 
 /// The entries of a mapping; none for another node.
 pub fn entries_in(node: &Yaml) -> &[Entry]
