@@ -8,11 +8,11 @@ use std::test::Fail;
 
 /// A sink over memory that takes few bytes at once, and fails at a call.
 #[derive(Drop)]
-pub(crate) struct Brittle {
-    pub memory: Memory,
-    pub step: usize,
-    pub calls_left: usize,
-    pub failed: bool,
+struct Brittle {
+    memory: Memory,
+    step: usize,
+    calls_left: usize,
+    failed: bool,
 }
 
 impl Sink for Brittle {
@@ -83,7 +83,7 @@ pub(crate) fn accepted(alloc: Global, ksy: &[u8]) -> Result<Desc, Fail> {
 }
 
 /// The bytes of a buffer, in a vector of their own.
-pub(crate) fn bytes_of(alloc: Global, buffer: &Buffer) -> Result<Vec<u8>, Fail> {
+fn bytes_of(alloc: Global, buffer: &Buffer) -> Result<Vec<u8>, Fail> {
     let window = Window {
         from: 0,
         to: buffer.len(),
@@ -98,61 +98,62 @@ const INPUT: &[u8] = b"get /a\nget /b\nset 1 0080\nsize\nquit\n";
 
 const OUTPUT: &[u8] = b"7\n-2\nok 3\nsize 3\nbye\n";
 
+/// Whether the file is as the input changes it.
+fn is_changed(alloc: Global, buffer: &Buffer) -> Result<bool, Fail> {
+    let bytes = bytes_of(alloc, buffer)?;
+    Ok(bytes.as_slice() == b"\x07\x00\x80".as_slice())
+}
+
+/// Whether a writer that fails after so many calls has the beginning of the output, and is the first to have all
+/// of it after 26 calls; the change comes with the seventh.
+fn is_right_after(alloc: Global, calls: usize) -> Result<bool, Fail> {
+    let mut reader = Memory::new(INPUT.to_vec(alloc)?);
+    let mut writer = Brittle {
+        memory: Memory::new(Vec::with_capacity(alloc, 100)?),
+        step: 1,
+        calls_left: calls,
+        failed: false,
+    };
+    let file = b"\x07\xfe\xff".to_vec(alloc)?;
+    let desc = accepted(alloc, FIRST)?;
+    let (buffer, end) = run(alloc, &mut reader, &mut writer, desc, file)?;
+    let changed = is_changed(alloc, &buffer)?;
+    let written = writer.memory.bytes.as_slice();
+    if calls < 26 {
+        let is_front = OUTPUT.starts_with(written);
+        return Ok(is_front && end == End::WriteFailed && changed == (calls >= 7));
+    }
+    Ok(written == OUTPUT && end == End::Quit)
+}
+
 #[test]
 fn a_failed_write_leaves_a_beginning_of_the_output(rt: HostRuntime) -> Result<(), Fail> {
-    let alloc = rt.alloc();
-    for calls in 0..100usize {
-        let mut reader = Memory::new(INPUT.to_vec(alloc)?);
-        let mut writer = Brittle {
-            memory: Memory::new(Vec::with_capacity(alloc, 100)?),
-            step: 1,
-            calls_left: calls,
-            failed: false,
-        };
-        let desc = accepted(alloc, FIRST)?;
-        let (buffer, end) = run(
-            alloc,
-            &mut reader,
-            &mut writer,
-            desc,
-            b"\x07\xfe\xff".to_vec(alloc)?,
-        )?;
-        let written = writer.memory.bytes.as_slice();
-        assert!(rt; OUTPUT.starts_with(written), "after {calls} calls");
-        if end == End::Quit {
-            assert_eq!(rt; written, OUTPUT);
-            assert_eq!(rt; calls, 26);
-            return Ok(());
-        }
-        assert!(rt; end == End::WriteFailed);
-        let changed = bytes_of(alloc, &buffer)?.as_slice() == b"\x07\x00\x80".as_slice();
-        assert_eq!(rt; changed, calls >= 7, "after {calls} calls");
+    let mut are_right = true;
+    for calls in 0..27usize {
+        are_right &= is_right_after(rt.alloc(), calls)?;
     }
-    Err(Fail::from("the session never ended"))
+    assert!(rt; are_right);
+    Ok(())
+}
+
+/// How a session ends over a writer that takes nothing after so many writes.
+fn end_after(alloc: Global, writes: usize) -> Result<End, Fail> {
+    let mut reader = Std::new(INPUT);
+    let mut writer = Std::new(Stuck {
+        writes_left: writes,
+    });
+    let file = b"\x07\xfe\xff".to_vec(alloc)?;
+    let desc = accepted(alloc, FIRST)?;
+    let (_, end) = run(alloc, &mut reader, &mut writer, desc, file)?;
+    Ok(end)
 }
 
 #[test]
 fn a_writer_that_takes_nothing_fails(rt: HostRuntime) -> Result<(), Fail> {
-    let alloc = rt.alloc();
-    for writes in 0..6usize {
-        let mut reader = Std::new(INPUT);
-        let mut writer = Std::new(Stuck {
-            writes_left: writes,
-        });
-        let desc = accepted(alloc, FIRST)?;
-        let (_, end) = run(
-            alloc,
-            &mut reader,
-            &mut writer,
-            desc,
-            b"\x07\xfe\xff".to_vec(alloc)?,
-        )?;
-        let wanted = if writes < 5 {
-            End::WriteFailed
-        } else {
-            End::Quit
-        };
-        assert!(rt; end == wanted, "after {writes} writes");
+    let mut are_right = end_after(rt.alloc(), 5)? == End::Quit;
+    for writes in 0..5usize {
+        are_right &= end_after(rt.alloc(), writes)? == End::WriteFailed;
     }
+    assert!(rt; are_right);
     Ok(())
 }

@@ -2,6 +2,7 @@
 
 use ksv::{Memory, Stop, arguments, say};
 use std::alloc::{AllocError, Global};
+use std::fmt::Write;
 use std::test::Fail;
 
 static STOPS: [Stop; 9] = [
@@ -61,30 +62,42 @@ ksv f k x => UnknownArgument 2 true
 ksv --fast f k => UnknownArgument 2 true
 ksv --help => DisplayHelp 0 true";
 
-/// How some words are read: the file and its description, or the kind of the error, its exit code, and
+/// Adds how some words are read: the file and its description, or the kind of the error, its exit code, and
 /// whether it prints the usage.
-fn taken(alloc: Global, words: &[&str]) -> Result<String, AllocError> {
+fn add_taken(alloc: Global, words: &[&str], out: &mut String) -> Result<(), AllocError> {
     match arguments(alloc, words) {
-        Ok(args) => format!(in alloc; "{} {}", args.file, args.ksy),
+        Ok(args) => write!(out, "{} {}", args.file, args.ksy),
         Err(error) => {
             let text = format!(in alloc; "{error}")?;
             let has_usage = text.as_str().contains("Usage: ksv <FILE> <KSY>");
-            format!(in alloc; "{:?} {} {has_usage}", error.kind(), error.exit_code())
+            write!(out, "{:?} {} {has_usage}", error.kind(), error.exit_code())
         }
     }
 }
 
+/// Adds how the words of a line are read.
+fn add_line(alloc: Global, line: &str, out: &mut String) -> Result<(), AllocError> {
+    let mut words = Vec::new(alloc);
+    for word in line.split(' ') {
+        words.push(word)?;
+    }
+    add_taken(alloc, words.as_slice(), out)
+}
+
+/// Whether the words of a row are read as it says.
+fn is_taken(alloc: Global, row: &str) -> Result<bool, AllocError> {
+    let (line, wanted) = row.split_once(" => ").unwrap_or((row, ""));
+    let mut found = String::new(alloc);
+    add_line(alloc, line, &mut found)?;
+    Ok(found.as_str() == wanted)
+}
+
 #[test]
 fn words_are_taken_or_refused(rt: HostRuntime) -> Result<(), Fail> {
-    let alloc = rt.alloc();
+    let mut are_right = true;
     for row in WORDS.split('\n') {
-        let (line, wanted) = row.split_once(" => ").unwrap_or((row, ""));
-        let mut words = Vec::new(alloc);
-        for word in line.split(' ') {
-            words.push(word)?;
-        }
-        let found = taken(alloc, words.as_slice())?;
-        assert_eq!(rt; found.as_str(), wanted, "{line}");
+        are_right &= is_taken(rt.alloc(), row)?;
     }
+    assert!(rt; are_right);
     Ok(())
 }

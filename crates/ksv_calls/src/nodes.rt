@@ -7,6 +7,7 @@ use ksv_rules::{Described, Given, Head, Node, NodeKind, decimal, path_of};
 use ksv_schema::{Desc, load};
 use ksv_yaml::read;
 use std::alloc::{AllocError, Global};
+use std::fmt::Write;
 use std::test::Fail;
 
 /// A list of items, each with a size.
@@ -63,36 +64,61 @@ pub(crate) fn described(alloc: Global, text: &str) -> Result<Desc, Fail> {
     }
 }
 
-/// A path as it is written.
-fn written(alloc: Global, desc: &Desc, path: &Path) -> Result<String, AllocError> {
-    let mut text = String::new(alloc);
+/// Adds a path as it is written.
+fn add_path(desc: &Desc, path: &Path, out: &mut String) -> Result<(), AllocError> {
     if path.len() == 0 {
-        text.push_str("/")?;
+        return out.push_str("/");
     }
     for step in path.steps() {
-        text.push_str("/")?;
+        out.push_str("/")?;
         match *step {
-            Step::Name(name) => text.push_str(desc.name(name))?,
-            Step::Index(index) => text.push_str(format!(in alloc; "{index}")?.as_str())?,
+            Step::Name(name) => out.push_str(desc.name(name))?,
+            Step::Index(index) => write!(out, "{index}")?,
         }
     }
-    Ok(text)
+    Ok(())
+}
+
+/// Whether a path is written like this.
+fn is_written(alloc: Global, desc: &Desc, path: &Path, text: &str) -> Result<bool, AllocError> {
+    let mut out = String::new(alloc);
+    add_path(desc, path, &mut out)?;
+    Ok(out.as_str() == text)
+}
+
+/// Whether a text names a path that is written like it.
+fn is_named(alloc: Global, desc: &Desc, text: &str) -> Result<bool, AllocError> {
+    match path_of(alloc, desc, text.as_bytes())? {
+        Some(path) => is_written(alloc, desc, &path, text),
+        None => Ok(false),
+    }
+}
+
+/// Whether a text names no path.
+fn is_no_path(alloc: Global, desc: &Desc, text: &str) -> Result<bool, AllocError> {
+    match path_of(alloc, desc, text.as_bytes())? {
+        Some(_) => Ok(false),
+        None => Ok(true),
+    }
+}
+
+/// Whether each of `PATHS` names a path, and none of `NO_PATHS`.
+fn are_paths_named(alloc: Global, desc: &Desc) -> Result<bool, AllocError> {
+    let mut are_right = true;
+    for text in PATHS.split('|') {
+        are_right &= is_named(alloc, desc, text)?;
+    }
+    for text in NO_PATHS.split('|') {
+        are_right &= is_no_path(alloc, desc, text)?;
+    }
+    Ok(are_right)
 }
 
 #[test]
 fn paths_are_named(rt: HostRuntime) -> Result<(), Fail> {
-    let alloc = rt.alloc();
-    let desc = described(alloc, LIST)?;
-    for text in PATHS.split('|') {
-        match path_of(alloc, &desc, text.as_bytes())? {
-            Some(path) => assert_eq!(rt; written(alloc, &desc, &path)?.as_str(), text),
-            None => return Err(Fail::from("no path")),
-        }
-    }
-    for text in NO_PATHS.split('|') {
-        let is_none = path_of(alloc, &desc, text.as_bytes())?.is_none();
-        assert!(rt; is_none, "{text}");
-    }
+    let desc = described(rt.alloc(), LIST)?;
+    let are_named = are_paths_named(rt.alloc(), &desc)?;
+    assert!(rt; are_named);
     Ok(())
 }
 
@@ -117,50 +143,61 @@ fn paths_of_64_steps_are_named(rt: HostRuntime) -> Result<(), Fail> {
     Ok(())
 }
 
-/// What a node answers, except a value.
-fn given_text(alloc: Global, given: &Given) -> Result<String, AllocError> {
+/// Adds what a node answers, except a value.
+fn add_given(given: &Given, out: &mut String) -> Result<(), AllocError> {
     match given {
         Given::Head(Head::Leaf(leaf)) => {
-            format!(in alloc; "leaf {} to {}, end {}", leaf.from, leaf.to, leaf.end)
+            write!(out, "leaf {} to {}, end {}", leaf.from, leaf.to, leaf.end)
         }
         Given::Head(Head::Object(object)) => {
-            format!(in alloc; "object {} at {}", object.type_number, object.start)
+            write!(out, "object {} at {}", object.type_number, object.start)
         }
-        Given::Head(Head::List(list)) => format!(in alloc; "list at {}", list.start),
-        Given::Head(Head::Absent(_)) => String::from_str(alloc, "gone"),
-        Given::Value(_) => String::from_str(alloc, "a value"),
-        Given::End { place, last } => format!(in alloc; "end {place}, {last}"),
-        Given::Rest { count, place } => format!(in alloc; "{count} elements, end {place}"),
+        Given::Head(Head::List(list)) => write!(out, "list at {}", list.start),
+        Given::Head(Head::Absent(_)) => out.push_str("gone"),
+        Given::Value(_) => out.push_str("a value"),
+        Given::End { place, last } => write!(out, "end {place}, {last}"),
+        Given::Rest { count, place } => write!(out, "{count} elements, end {place}"),
     }
 }
 
-fn fault_text(alloc: Global, desc: &Desc, fault: &Fault) -> Result<String, AllocError> {
-    let path = written(alloc, desc, &fault.path)?;
-    format!(in alloc; "{} at {path}", fault.kind)
+/// Adds a fault and its path.
+fn add_fault(desc: &Desc, fault: &Fault, out: &mut String) -> Result<(), AllocError> {
+    write!(out, "{} at ", fault.kind)?;
+    add_path(desc, &fault.path, out)
 }
 
-/// What a node of a file answers.
+/// Adds a circle and the path where it begins.
+fn add_circle(desc: &Desc, path: &Path, out: &mut String) -> Result<(), AllocError> {
+    out.push_str("circle at ")?;
+    add_path(desc, path, out)
+}
+
+/// Adds what a node of a file answers.
 fn answer(
     alloc: Global,
     rules: &Described,
     bytes: &Buffer,
-    kind: NodeKind,
-    path: &str,
-) -> Result<String, Fail> {
-    let Some(path) = path_of(alloc, rules.desc(), path.as_bytes())? else {
-        return Err(Fail::from("no path"));
-    };
+    node: Node,
+    out: &mut String,
+) -> Result<(), Fail> {
     let mut engine = Engine::new(alloc);
-    match engine.ask(rules, bytes, Node { kind, path })? {
-        Answer::Value(given) => Ok(given_text(alloc, &given)?),
-        Answer::Fault(fault) => Ok(fault_text(alloc, rules.desc(), &fault)?),
-        Answer::Circle(node) => {
-            let path = written(alloc, rules.desc(), &node.path)?;
-            Ok(format!(in alloc; "circle at {path}")?)
-        }
+    match engine.ask(rules, bytes, node)? {
+        Answer::Value(given) => add_given(&given, out)?,
+        Answer::Fault(fault) => add_fault(rules.desc(), &fault, out)?,
+        Answer::Circle(node) => add_circle(rules.desc(), &node.path, out)?,
+    }
+    Ok(())
+}
+
+/// The node of this kind at a path.
+fn node_at(alloc: Global, rules: &Described, kind: NodeKind, path: &str) -> Result<Node, Fail> {
+    match path_of(alloc, rules.desc(), path.as_bytes())? {
+        Some(path) => Ok(Node { kind, path }),
+        None => Err(Fail::from("no path")),
     }
 }
 
+/// The kind of nodes that a word means.
 fn kind_of(word: &str) -> NodeKind {
     match word {
         "head" => NodeKind::Head,
@@ -170,17 +207,37 @@ fn kind_of(word: &str) -> NodeKind {
     }
 }
 
+/// Whether a node answers as a row `KIND PATH => ANSWER` says.
+fn is_answered(alloc: Global, rules: &Described, bytes: &Buffer, row: &str) -> Result<bool, Fail> {
+    let (node, wanted) = row.split_once(" => ").unwrap_or((row, ""));
+    let (kind, path) = node.split_once(' ').unwrap_or((node, ""));
+    let node = node_at(alloc, rules, kind_of(kind), path)?;
+    let mut found = String::new(alloc);
+    answer(alloc, rules, bytes, node, &mut found)?;
+    Ok(found.as_str() == wanted)
+}
+
+/// Whether the nodes of a described file answer as these rows say.
+fn are_answered(
+    alloc: Global,
+    rules: &Described,
+    bytes: &Buffer,
+    rows: &str,
+) -> Result<bool, Fail> {
+    let mut are_right = true;
+    for row in rows.split('\n') {
+        are_right &= is_answered(alloc, rules, bytes, row)?;
+    }
+    Ok(are_right)
+}
+
 #[test]
 fn nodes_answer(rt: HostRuntime) -> Result<(), Fail> {
     let alloc = rt.alloc();
     let bytes = Buffer::new(b"\x02\x01\x61\x00".to_vec(alloc)?)?;
     let rules = Described::new(described(alloc, LIST)?);
-    for row in ANSWERS.split('\n') {
-        let (node, wanted) = row.split_once(" => ").unwrap_or((row, ""));
-        let (kind, path) = node.split_once(' ').unwrap_or((node, ""));
-        let found = answer(alloc, &rules, &bytes, kind_of(kind), path)?;
-        assert_eq!(rt; found.as_str(), wanted, "{node}");
-    }
+    let are_right = are_answered(alloc, &rules, &bytes, ANSWERS)?;
+    assert!(rt; are_right);
     Ok(())
 }
 
@@ -189,41 +246,30 @@ fn a_size_behind_is_a_circle(rt: HostRuntime) -> Result<(), Fail> {
     let alloc = rt.alloc();
     let bytes = Buffer::new(b"\x01\x01".to_vec(alloc)?)?;
     let rules = Described::new(described(alloc, CIRCLE)?);
-    let found = answer(alloc, &rules, &bytes, NodeKind::Value, "/a")?;
-    assert_eq!(rt; found.as_str(), "circle at /a");
+    let is_circle = is_answered(alloc, &rules, &bytes, "value /a => circle at /a")?;
+    assert!(rt; is_circle);
     Ok(())
 }
 
-/// The nodes that `get /xs` asks of an engine.
-fn asked(alloc: Global, rules: &Described) -> Result<(Node, Node), Fail> {
-    let list = path_of(alloc, rules.desc(), b"/xs")?;
-    let first = path_of(alloc, rules.desc(), b"/xs/0")?;
-    match (list, first) {
-        (Some(list), Some(first)) => Ok((
-            Node {
-                kind: NodeKind::Value,
-                path: list,
-            },
-            Node {
-                kind: NodeKind::Rest,
-                path: first,
-            },
-        )),
-        _ => Err(Fail::from("no path")),
-    }
-}
-
-/// How many nodes an engine keeps after two questions, and how many turns they took.
+/// Whether an engine keeps 18 nodes after two questions, which took 49 turns.
 fn kept_and_turns(
     alloc: Global,
     rules: &Described,
     bytes: &Buffer,
-    nodes: (Node, Node),
-) -> Result<(usize, Option<u64>), Fail> {
+    first: Node,
+    second: Node,
+) -> Result<bool, Fail> {
     let mut engine = Engine::new(alloc);
-    engine.ask(rules, bytes, nodes.0)?;
-    engine.ask(rules, bytes, nodes.1)?;
-    Ok((engine.kept(), engine.turns()))
+    engine.ask(rules, bytes, first)?;
+    engine.ask(rules, bytes, second)?;
+    Ok(engine.kept() == 18 && engine.turns() == Some(49))
+}
+
+/// Whether the nodes that `get /xs` asks of an engine are counted.
+fn are_counted(alloc: Global, rules: &Described, bytes: &Buffer) -> Result<bool, Fail> {
+    let list = node_at(alloc, rules, NodeKind::Value, "/xs")?;
+    let rest = node_at(alloc, rules, NodeKind::Rest, "/xs/0")?;
+    kept_and_turns(alloc, rules, bytes, list, rest)
 }
 
 #[test]
@@ -231,9 +277,8 @@ fn an_engine_keeps_and_counts(rt: HostRuntime) -> Result<(), Fail> {
     let alloc = rt.alloc();
     let bytes = Buffer::new(b"\x01\x02\x03\x04\x05".to_vec(alloc)?)?;
     let rules = Described::new(described(alloc, BYTES)?);
-    let (kept, turns) = kept_and_turns(alloc, &rules, &bytes, asked(alloc, &rules)?)?;
-    assert_eq!(rt; kept, 18);
-    assert!(rt; turns == Some(49));
+    let are_right = are_counted(alloc, &rules, &bytes)?;
+    assert!(rt; are_right);
     Ok(())
 }
 

@@ -15,19 +15,33 @@ fn output(alloc: Global, input: Vec<u8>, file: Vec<u8>) -> Result<Vec<u8>, Fail>
     Ok(writer.bytes)
 }
 
-#[test]
-fn a_file_may_have_16_mib_and_no_more(rt: HostRuntime) -> Result<(), Fail> {
-    let alloc = rt.alloc();
+/// Whether a session over a file that grows to 16 MiB, and no further, writes so.
+fn is_limit_told(alloc: Global) -> Result<bool, Fail> {
     let input = b"app 00\nsize\n".to_vec(alloc)?;
     let found = output(alloc, input, vec![in alloc; 7u8; FILE_LIMIT]?)?;
-    assert!(rt; found.as_slice() == b"error: file too large\nsize 16777216\n".as_slice());
-    let desc = accepted(alloc, FIRST)?;
-    let large = vec![in alloc; 7u8; FILE_LIMIT + 1]?;
-    let Err(fault) = Session::new(alloc, desc, large) else {
-        return Err(Fail::from("a file over the limit was taken"));
-    };
+    Ok(found.as_slice() == b"error: file too large\nsize 16777216\n".as_slice())
+}
+
+/// Whether the refusal of a file is this, and is told so.
+fn is_told(alloc: Global, fault: NewFault) -> Result<bool, Fail> {
     let text = format!(in alloc; "{fault}")?;
-    assert!(rt; fault == NewFault::FileTooLarge && text.as_str() == "file too large");
+    Ok(fault == NewFault::FileTooLarge && text.as_str() == "file too large")
+}
+
+/// Whether a file over the limit is refused.
+fn is_refused(alloc: Global) -> Result<bool, Fail> {
+    let large = vec![in alloc; 7u8; FILE_LIMIT + 1]?;
+    let desc = accepted(alloc, FIRST)?;
+    match Session::new(alloc, desc, large) {
+        Ok(_) => Ok(false),
+        Err(fault) => is_told(alloc, fault),
+    }
+}
+
+#[test]
+fn a_file_may_have_16_mib_and_no_more(rt: HostRuntime) -> Result<(), Fail> {
+    let is_limit = is_limit_told(rt.alloc())? && is_refused(rt.alloc())?;
+    assert!(rt; is_limit);
     Ok(())
 }
 

@@ -2,64 +2,156 @@
 
 use crate::names::number as give_numbers;
 use crate::paths::path;
-use crate::replies::{number, reply, stream};
+use crate::replies::{add_reply, number, stream};
 use crate::values::show;
-use ksv_expr::{Ctx, Expr, Got, eval, parse};
+use ksv_expr::{Ctx, Expr, Got, Path, Stream, eval, parse};
 use std::alloc::{AllocError, Global};
 
-/// The end of a row's expression at the place that a heading gives.
-pub(crate) fn end_of(alloc: Global, told: &str, row: &str) -> Result<String, AllocError> {
-    let mut words = told.split(' ');
-    let home = path(alloc, words.next().unwrap_or(""))?;
-    let from = words.next().unwrap_or("");
-    let stream = stream(from, words.next().unwrap_or(""));
-    let place = number(words.next().unwrap_or(""));
-    let here = path(alloc, words.next().unwrap_or(""))?;
-    let mut ctx = Ctx::new(&home, stream, place, &here);
-    if let Ok(index) = words.next().unwrap_or("").parse::<u32>() {
-        ctx = ctx.within(index);
+/// The first word of some, and the others.
+fn first_word(words: &str) -> (&str, &str) {
+    words.split_once(' ').unwrap_or((words, ""))
+}
+
+/// Adds the end of a row's expression at the place that a heading gives.
+pub(crate) fn add_end(
+    alloc: Global,
+    told: &str,
+    row: &str,
+    out: &mut String,
+) -> Result<(), AllocError> {
+    let (home, words) = first_word(told);
+    let home = path(alloc, home)?;
+    let (from, words) = first_word(words);
+    let (to, words) = first_word(words);
+    add_end_at(alloc, &home, stream(from, to), words, row, out)
+}
+
+/// The same with the home's path and its stream.
+fn add_end_at(
+    alloc: Global,
+    home: &Path,
+    stream: Stream,
+    words: &str,
+    row: &str,
+    out: &mut String,
+) -> Result<(), AllocError> {
+    let (place, words) = first_word(words);
+    let (here, words) = first_word(words);
+    let here = path(alloc, here)?;
+    let ctx = Ctx::new(home, stream, number(place), &here);
+    let (index, element) = first_word(words);
+    match index.parse::<u32>() {
+        Ok(index) => add_end_behind(alloc, ctx.within(index), element, row, out),
+        Err(_) => add_end_behind(alloc, ctx, element, row, out),
     }
-    let element = words.next().unwrap_or("-");
+}
+
+/// The same in a context that has all but the element just read.
+fn add_end_behind(
+    alloc: Global,
+    ctx: Ctx<'_>,
+    element: &str,
+    row: &str,
+    out: &mut String,
+) -> Result<(), AllocError> {
+    if element == "-" {
+        return add_end_in(alloc, &ctx, row, out);
+    }
     let behind = path(alloc, element)?;
-    if element != "-" {
-        ctx = ctx.behind(&behind);
-    }
-    end_in(alloc, &ctx, row)
+    add_end_in(alloc, &ctx.behind(&behind), row, out)
 }
 
-/// The end of a row's expression. In front of it each question that isn't the row's, and after it what a further
-/// reply changes.
-fn end_in(alloc: Global, ctx: &Ctx, row: &str) -> Result<String, AllocError> {
-    let mut found = String::new(alloc);
-    let mut parts = row.split("; ");
-    let Ok(mut expr) = parse(alloc, parts.next().unwrap_or("").as_bytes()) else {
-        return String::from_str(alloc, "no expression");
-    };
-    give_numbers(&mut expr);
-    let mut replies: Vec<Got> = Vec::new(alloc);
-    for part in parts {
-        let (question, words) = part.split_once(" -> ").unwrap_or((part, ""));
-        let outcome = outcome(alloc, &expr, ctx, replies.as_slice())?;
-        if outcome.as_str().strip_prefix("? ") != Some(question) {
-            found.push_str(outcome.as_str())?;
-            found.push_str("; ")?;
+/// Adds the end of a row's expression in its context.
+fn add_end_in(alloc: Global, ctx: &Ctx<'_>, row: &str, out: &mut String) -> Result<(), AllocError> {
+    let (text, _) = row.split_once("; ").unwrap_or((row, ""));
+    match parse(alloc, text.as_bytes()) {
+        Ok(expr) => {
+            let mut expr = expr;
+            give_numbers(&mut expr);
+            add_dialogue(alloc, &expr, ctx, row, out)
         }
-        replies.push(reply(alloc, words)?)?;
+        Err(_) => out.push_str("no expression"),
     }
-    let end = outcome(alloc, &expr, ctx, replies.as_slice())?;
-    found.push_str(end.as_str())?;
-    replies.push(Got::Number(77))?;
-    let again = outcome(alloc, &expr, ctx, replies.as_slice())?;
-    if again.as_str() != end.as_str() {
-        found.push_str("; ")?;
-        found.push_str(again.as_str())?;
-    }
-    Ok(found)
 }
 
-/// The outcome of an expression with these replies.
-fn outcome(alloc: Global, expr: &Expr, ctx: &Ctx, replies: &[Got]) -> Result<String, AllocError> {
-    let mut out = String::new(alloc);
-    show(alloc, &eval(alloc, expr, ctx, replies)?, &mut out)?;
-    Ok(out)
+/// Adds the end of an expression. In front of it each question that isn't the row's, and after it what a further
+/// reply changes.
+fn add_dialogue(
+    alloc: Global,
+    expr: &Expr,
+    ctx: &Ctx<'_>,
+    row: &str,
+    out: &mut String,
+) -> Result<(), AllocError> {
+    let mut replies = Vec::new(alloc);
+    for part in row.split("; ").skip(1) {
+        let (question, words) = part.split_once(" -> ").unwrap_or((part, ""));
+        add_other_question(alloc, expr, ctx, replies.as_slice(), question, out)?;
+        add_reply(alloc, words, &mut replies)?;
+    }
+    add_last(alloc, expr, ctx, &mut replies, out)
+}
+
+/// Adds the outcome of an expression with these replies, unless it is this question.
+fn add_other_question(
+    alloc: Global,
+    expr: &Expr,
+    ctx: &Ctx<'_>,
+    replies: &[Got<'_>],
+    question: &str,
+    out: &mut String,
+) -> Result<(), AllocError> {
+    let mut outcome = String::new(alloc);
+    add_outcome(alloc, expr, ctx, replies, &mut outcome)?;
+    if let Some(asked) = outcome.as_str().strip_prefix("? ") {
+        if asked == question {
+            return Ok(());
+        }
+    }
+    out.push_str(outcome.as_str())?;
+    out.push_str("; ")
+}
+
+/// Adds the outcome of an expression with these replies, and what a further reply changes.
+fn add_last<'a>(
+    alloc: Global,
+    expr: &Expr,
+    ctx: &Ctx<'_>,
+    replies: &mut Vec<Got<'a>>,
+    out: &mut String,
+) -> Result<(), AllocError> {
+    let mut end = String::new(alloc);
+    add_outcome(alloc, expr, ctx, replies.as_slice(), &mut end)?;
+    out.push_str(end.as_str())?;
+    replies.push(Got::Number(77))?;
+    add_change(alloc, expr, ctx, replies.as_slice(), end.as_str(), out)
+}
+
+/// Adds the outcome of an expression with these replies, unless it is this end.
+fn add_change(
+    alloc: Global,
+    expr: &Expr,
+    ctx: &Ctx<'_>,
+    replies: &[Got<'_>],
+    end: &str,
+    out: &mut String,
+) -> Result<(), AllocError> {
+    let mut again = String::new(alloc);
+    add_outcome(alloc, expr, ctx, replies, &mut again)?;
+    if again.as_str() == end {
+        return Ok(());
+    }
+    out.push_str("; ")?;
+    out.push_str(again.as_str())
+}
+
+/// Adds the outcome of an expression with these replies.
+fn add_outcome(
+    alloc: Global,
+    expr: &Expr,
+    ctx: &Ctx<'_>,
+    replies: &[Got<'_>],
+    out: &mut String,
+) -> Result<(), AllocError> {
+    show(alloc, &eval(alloc, expr, ctx, replies)?, out)
 }

@@ -19,39 +19,60 @@ mod ask;
 mod names;
 mod paths;
 mod replies;
+mod shown;
 mod spelled;
 mod trees;
 mod values;
 
-use crate::ask::end_of;
-use crate::paths::around;
+use crate::ask::add_end;
+use crate::paths::add_around;
 use crate::spelled::spelled;
-use crate::trees::{tree_of, type_of};
+use crate::trees::{add_tree, add_type};
 use std::alloc::{AllocError, Global};
 use std::process::ExitCode;
 use std::{env, fs, io};
 
-/// The result of an input.
-fn answer(alloc: Global, heading: &str, input: &str) -> Result<String, AllocError> {
+/// Adds the result of an input.
+fn add_answer(
+    alloc: Global,
+    heading: &str,
+    input: &str,
+    found: &mut String,
+) -> Result<(), AllocError> {
     let (kind, told) = heading.split_once(' ').unwrap_or((heading, ""));
     match kind {
-        "tree" => tree_of(alloc, spelled(alloc, input)?.as_slice()),
-        "type" => type_of(alloc, spelled(alloc, input)?.as_slice()),
-        "path" => around(alloc, input),
-        _ => end_of(alloc, told, input),
+        "tree" | "type" => add_syntax(alloc, kind == "type", input, found),
+        "path" => add_around(alloc, input, found),
+        _ => add_end(alloc, told, input, found),
     }
 }
 
-/// Whether an input has the wanted result; prints the result if it differs.
-fn is_right(rt: &HostRuntime, heading: &str, row: &str, wanted: &str) -> io::Result<bool> {
-    let alloc = rt.alloc();
-    let wanted = spelled(alloc, wanted)?;
-    let found = answer(alloc, heading, row)?;
-    if found.as_bytes() == wanted.as_slice() {
-        return Ok(true);
+/// Adds the tree of an expression or of a type.
+fn add_syntax(
+    alloc: Global,
+    is_type: bool,
+    input: &str,
+    found: &mut String,
+) -> Result<(), AllocError> {
+    let text = spelled(alloc, input)?;
+    if is_type {
+        add_type(alloc, text.as_slice(), found)
+    } else {
+        add_tree(alloc, text.as_slice(), found)
     }
-    println!(rt; "{heading}: {row} => {found}")?;
-    Ok(false)
+}
+
+/// Whether an input has the wanted result, which is added.
+fn is_right(
+    alloc: Global,
+    heading: &str,
+    row: &str,
+    wanted: &str,
+    found: &mut String,
+) -> Result<bool, AllocError> {
+    add_answer(alloc, heading, row, found)?;
+    let wanted = spelled(alloc, wanted)?;
+    Ok(found.as_bytes() == wanted.as_slice())
 }
 
 /// How many rows there are, and how many of them have another result.
@@ -61,14 +82,16 @@ struct Tally {
     wrong: usize,
 }
 
-/// Takes the rows of a heading, which is in front of them, and counts them.
+/// Takes the rows of a heading, which is in front of them, and counts them; prints the results that differ.
 fn take(rt: &HostRuntime, part: &str, tally: &mut Tally) -> io::Result<()> {
     let (heading, lines) = part.split_once('\n').unwrap_or((part, ""));
     for line in lines.split('\n') {
         if let Some((row, wanted)) = line.split_once(" => ") {
+            let mut found = String::new(rt.alloc());
             tally.rows = tally.rows.saturating_add(1);
-            if !is_right(rt, heading, row, wanted)? {
+            if !is_right(rt.alloc(), heading, row, wanted, &mut found)? {
                 tally.wrong = tally.wrong.saturating_add(1);
+                println!(rt; "{heading}: {row} => {found}")?;
             }
         }
     }

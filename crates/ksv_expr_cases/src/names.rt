@@ -29,19 +29,22 @@ pub(crate) fn name_of(number: u32) -> &'static str {
     "?"
 }
 
-/// The value of an enum's member: `animal` is the enum 0 and `plant` the enum 1.
+/// The members of enums, each with its enum's number and its own: `animal` is the enum 0 and `plant` the enum 1.
+const MEMBERS: &str = "cat 0 4;dog 0 7;oak 1 4;far 1 18446744073709551616";
+
+/// The value of an enum's member.
 fn given(name: &str) -> Option<EnumMember> {
-    let (enum_number, number) = match name {
-        "cat" => (0, 4),
-        "dog" => (0, 7),
-        "oak" => (1, 4),
-        "far" => (1, 0x1_0000_0000_0000_0000),
-        _ => return None,
-    };
-    Some(EnumMember {
-        enum_number,
-        number,
-    })
+    for row in MEMBERS.split(';') {
+        let (known, value) = row.split_once(' ').unwrap_or((row, ""));
+        if known == name {
+            let (enum_number, number) = value.split_once(' ').unwrap_or((value, ""));
+            return Some(EnumMember {
+                enum_number: enum_number.parse().unwrap_or(0u32),
+                number: number.parse().unwrap_or(0i128),
+            });
+        }
+    }
+    None
 }
 
 /// The type `t` has the number 7, and no other type has one.

@@ -1,6 +1,7 @@
 //! Paths as texts.
 
 use crate::names::{name_of, number_of};
+use crate::shown::add;
 use crate::spelled::spelled;
 use ksv_expr::{Path, Step};
 use std::alloc::{AllocError, Global};
@@ -23,7 +24,7 @@ pub(crate) fn path(alloc: Global, text: &str) -> Result<Path, AllocError> {
 }
 
 /// Adds a path.
-pub(crate) fn show_path(alloc: Global, path: &Path, out: &mut String) -> Result<(), AllocError> {
+pub(crate) fn show_path(path: &Path, out: &mut String) -> Result<(), AllocError> {
     if path.len() == 0 {
         return out.push_str("/");
     }
@@ -31,23 +32,31 @@ pub(crate) fn show_path(alloc: Global, path: &Path, out: &mut String) -> Result<
         out.push_str("/")?;
         match *step {
             Step::Name(name) => out.push_str(name_of(name))?,
-            Step::Index(index) => out.push_str(format!(in alloc; "{index}")?.as_str())?,
+            Step::Index(index) => add(&index, out)?,
         }
     }
     Ok(())
 }
 
-/// A path, its parent, and the object that holds it.
-pub(crate) fn around(alloc: Global, text: &str) -> Result<String, AllocError> {
+/// Adds a path, its parent, and the object that holds it.
+pub(crate) fn add_around(alloc: Global, text: &str, out: &mut String) -> Result<(), AllocError> {
     let whole = path(alloc, text)?;
-    let mut out = String::new(alloc);
-    show_path(alloc, &whole, &mut out)?;
+    show_path(&whole, out)?;
     out.push_str(" ")?;
-    show_path(alloc, &whole.parent(alloc)?, &mut out)?;
+    add_parent(alloc, &whole, out)?;
     out.push_str(" ")?;
-    match whole.holder(alloc)? {
-        Some(holder) => show_path(alloc, &holder, &mut out)?,
-        None => out.push_str("none")?,
+    add_holder(alloc, &whole, out)
+}
+
+/// Adds the parent of a path.
+fn add_parent(alloc: Global, path: &Path, out: &mut String) -> Result<(), AllocError> {
+    show_path(&path.parent(alloc)?, out)
+}
+
+/// Adds the object that holds what has a path.
+fn add_holder(alloc: Global, path: &Path, out: &mut String) -> Result<(), AllocError> {
+    match path.holder(alloc)? {
+        Some(holder) => show_path(&holder, out),
+        None => out.push_str("none"),
     }
-    Ok(out)
 }

@@ -5,8 +5,18 @@ use crate::spelled::spelled;
 use ksv_expr::{Fault, FaultKind, Got, Integer, Stream, Text, Value};
 use std::alloc::{AllocError, Global};
 
+/// Adds the reply of some words.
+pub(crate) fn add_reply<'a>(
+    alloc: Global,
+    words: &'a str,
+    replies: &mut Vec<Got<'a>>,
+) -> Result<(), AllocError> {
+    replies.push(reply(alloc, words)?)?;
+    Ok(())
+}
+
 /// The reply of some words.
-pub(crate) fn reply<'a>(alloc: Global, words: &'a str) -> Result<Got<'a>, AllocError> {
+fn reply<'a>(alloc: Global, words: &'a str) -> Result<Got<'a>, AllocError> {
     let mut words = words.split(' ');
     let word = words.next().unwrap_or("");
     let first = words.next().unwrap_or("");
