@@ -1,10 +1,12 @@
 //! Each law of rules and of descriptions once.
 
-use ksv_rules::{
+use ksv_rule_laws::{
     answers_have_forms, answers_stay, attributes_touch, circles_lead_back, elements_touch,
-    evaluation_is_direct, expressions_are_met, heads_are_read, next_meets_truth,
-    no_rule_makes_circles, parts_lie_in_streams, paths_are_read, places_are_in_file, rests_count,
-    rules_are_bounded, texts_are_written, values_have_heads,
+    expressions_are_met, heads_are_read, no_rule_makes_circles, parts_lie_in_streams,
+    places_are_in_file, rests_count, values_have_heads,
+};
+use ksv_rules::{
+    evaluation_is_direct, next_meets_truth, paths_are_read, rules_are_bounded, texts_are_written,
 };
 use ksv_schema::{
     descriptions_are_resolved, faultless_trees_state, faulty_trees_are_refused, texts_are_spelled,

@@ -154,6 +154,7 @@ fn add_given(given: &Given, out: &mut String) -> Result<(), AllocError> {
         }
         Given::Head(Head::List(list)) => write!(out, "list at {}", list.start),
         Given::Head(Head::Absent(_)) => out.push_str("gone"),
+        Given::Head(Head::Calc(_)) => out.push_str("calculated"),
         Given::Value(_) => out.push_str("a value"),
         Given::End { place, last } => write!(out, "end {place}, {last}"),
         Given::Rest { count, place } => write!(out, "{count} elements, end {place}"),

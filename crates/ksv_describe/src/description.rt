@@ -9,18 +9,9 @@ ghost use Rattle.ksv_describe.specs.Accepted.{Describes};
 use ksv_desc::Desc;
 use ksv_expr_syntax::{ExprFault, ExprFaultKind};
 use ksv_lines::Stop;
-use ksv_paths::served;
 use ksv_schema::{DescFault, DescFaultKind, load};
 use ksv_yaml::{YamlFault, YamlKind, read};
 use std::alloc::Global;
-
-/// The message for a description that isn't served yet.
-const NOT_SERVED: Stop = Stop::Line {
-    line: 1,
-    code: "S8",
-    text: "left-out feature",
-    at: None,
-};
 
 /// A line or a place as messages have it.
 fn shown(number: usize) -> u32 {
@@ -110,8 +101,7 @@ fn of_description(fault: DescFault) -> Stop
     }
 }
 
-/// Reads the text of a description. It is refused if it spells no tree, if its tree states no description, or if
-/// the description has a feature that isn't served yet.
+/// Reads the text of a description. It is refused if it spells no tree, or if its tree states no description.
 pub fn describe(alloc: Global, ksy: &[u8]) -> Result<Desc, Stop>
     ensures described { IfOk result (λ desc. Describes ksy.now (plain_pieces desc)) }
     ensures refused { IfErr result (λ stop. (stop ≡ Stop.NoMemory) ⊎ ((d : Description) → Describes ksy.now d → ⊥)) }
@@ -120,12 +110,8 @@ pub fn describe(alloc: Global, ksy: &[u8]) -> Result<Desc, Stop>
         Ok(tree) => tree,
         Err(fault) => return Err(of_yaml(fault)),
     };
-    let desc = match load(alloc, &tree) {
-        Ok(desc) => desc,
-        Err(fault) => return Err(of_description(fault)),
-    };
-    if !served(&desc) {
-        return Err(NOT_SERVED);
+    match load(alloc, &tree) {
+        Ok(desc) => Ok(desc),
+        Err(fault) => Err(of_description(fault)),
     }
-    Ok(desc)
 }

@@ -1,6 +1,6 @@
 //! From the text of a description to the description, or to the reason why the program stops.
 //!
-//! [`describe`] reads the text, finds the description that its tree states, and refuses one that isn't served yet.
+//! [`describe`] reads the text, and finds the description that its tree states.
 #![tactic(auto)]
 
 mod description;

@@ -9,21 +9,21 @@ use Rattle.ksv_desc.specs.Description.{as_text}
 use Rattle.ksv_expr_eval.specs.Meaning.{at_end, binary_of, byte_at, byte_from, bytes_and, bytes_at, bytes_call, bytes_with, call_one, call_two, cast_to, element_count, element_path, element_value, field_of, integer_and, item_at, last_element, list_at, list_method, list_size, member_and, member_path, member_value, method_of, object_of_type, same_bytes, special_of, special_value, stream_method, stream_of, stream_size, text_and, text_in, truth_and, truth_value, value_of}
 use Rattle.ksv_expr_value.specs.Trail.{fits, trail_of, trail_when}
 use Rattle.ksv_nodes.specs.Reading.{cut_uses, done_at, find_at, finish_of, found_from, found_none, peek_at, reach_file, reach_within}
-use Rattle.ksv_paths.specs.Served.{is_served, is_served_type}
 use Rattle.ksv_plan.specs.Plan.{bind}
+use Rattle.ksv_rules.specs.Choosing.{case_for, choose, content_of, first_case, switched}
 use Rattle.ksv_rules.specs.Ends.{element_end, end_of, fields_end, is_last, list_end, next_rest, not_empty, object_end, part_rest, place_of, rest_from, rest_of, whole_rest}
-use Rattle.ksv_rules.specs.Fields.{field_of as field_of_of_fields, member_named, members_of, sought}
-use Rattle.ksv_rules.specs.Heads.{attribute_at, attribute_head, attribute_start, bytes_at as bytes_at_of_heads, content_at, count_of, counted, element_head, element_start, head_of, leaf, leaf_to_end, member_at, member_head, next_start, object_at, part_end, repeated, run_of, shape_at, sized_leaf, sized_object, terminated, until_eos}
+use Rattle.ksv_rules.specs.Fields.{field_of as field_of_of_fields, kind_of, member_named, members_of, parameters_before, sought}
+use Rattle.ksv_rules.specs.Heads.{attribute_at, attribute_head, attribute_start, bytes_at as bytes_at_of_heads, content_at, count_of, counted, element_head, element_start, head_of, instance_head, leaf, leaf_to_end, member_at, member_head, next_start, object_at, part_end, positioned, positioned_in, repeated, run_of, shape_at, sized_leaf, sized_object, terminated, unchosen_at, until_eos, value_head}
 use Rattle.ksv_rules.specs.Integers.{integer_value}
-use Rattle.ksv_rules.specs.Meaning.{meaning_of, rule_of, served_rule}
-use Rattle.ksv_rules.specs.Values.{bytes_value, choice_value, content_value, cut_bytes, fixed_value, kept, leaf_value, number_value, text_value, value_at, value_of as value_of_of_values}
-use Rattle.ksv_rules.specs.Wanted.{expression, holds, integer_of, size_of, truth_of, wanted}
+use Rattle.ksv_rules.specs.Meaning.{meaning_of, rule_of}
+use Rattle.ksv_rules.specs.Values.{argument_at, argument_value, arguments_for, bytes_value, calc_value, calculated, content_value, cut_bytes, fixed_value, instance_value, kept, leaf_value, number_value, parameter_value, plain_value, text_value, value_at, value_of as value_of_of_values}
+use Rattle.ksv_rules.specs.Wanted.{expression, holds, integer_of, size_of, stream_for, truth_of, wanted}
 use Rattle.ksv_session.specs.Questions.{bytes_text, fault_text, member_text, of_list, of_value, quoted_text}
 use Rattle.ksv_desc.specs.Description.{Description}
 use Rattle.ksv_session.specs.Session.{Standing, begun}
 use Rattle.ksv_examples.specs.Descriptions.{description}
 use Rattle.ksv_examples.specs.Depth.{answer_at, question_told, session_to}
-use Rattle.ksv_examples.specs.Dialogues.{Dialogue, left_by, typed, GoesSo, Goes, edited_size, later_bytes, circle, up_to_a_comma, terminators, elements, conditional, streams, parents, faults, too_deep, line_ends, places, first, bitmap, picture, FairlyGo, AreUnfair}
+use Rattle.ksv_examples.specs.Dialogues.{Dialogue, left_by, typed, GoesSo, Goes, edited_size, later_bytes, circle, up_to_a_comma, terminators, elements, conditional, streams, parents, faults, too_deep, line_ends, places, first, bitmap, picture, instances, windows, parameters, chosen, led_back, FairlyGo, AreUnfair}
 use Rattle.ksv_examples.proofs.Stating.{text_states}
 use Rattle.ksv_examples.proofs.Sessions.{session_is}
 
@@ -36,7 +36,7 @@ over r o = option_and_then (λ d. session_to d depth (begun r.file) (typed r)) o
 
 -- the session of a dialogue, so that it computes: every definition on the way is opened
 unfoldable computed : Dialogue → Option Standing
-unfolding session_to question_told answer_at text_states digits chars is_utf8 decode_pairs encode_with escape_byte encode as_text at_end binary_of byte_at byte_from bytes_and bytes_at bytes_call bytes_with call_one call_two cast_to element_count element_path element_value field_of integer_and item_at last_element list_at list_method list_size member_and member_path member_value method_of object_of_type same_bytes special_of special_value stream_method stream_of stream_size text_and text_in truth_and truth_value value_of fits trail_of trail_when cut_uses done_at find_at finish_of found_from found_none peek_at reach_file reach_within is_served is_served_type bind element_end end_of fields_end is_last list_end next_rest not_empty object_end part_rest place_of rest_from rest_of whole_rest field_of_of_fields member_named members_of sought attribute_at attribute_head attribute_start bytes_at_of_heads content_at count_of counted element_head element_start head_of leaf leaf_to_end member_at member_head next_start object_at part_end repeated run_of shape_at sized_leaf sized_object terminated until_eos integer_value meaning_of rule_of served_rule bytes_value choice_value content_value cut_bytes fixed_value kept leaf_value number_value text_value value_at value_of_of_values expression holds integer_of size_of truth_of wanted bytes_text fault_text member_text of_list of_value quoted_text
+unfolding session_to question_told answer_at text_states digits chars is_utf8 decode_pairs encode_with escape_byte encode as_text at_end binary_of byte_at byte_from bytes_and bytes_at bytes_call bytes_with call_one call_two cast_to element_count element_path element_value field_of integer_and item_at last_element list_at list_method list_size member_and member_path member_value method_of object_of_type same_bytes special_of special_value stream_method stream_of stream_size text_and text_in truth_and truth_value value_of fits trail_of trail_when cut_uses done_at find_at finish_of found_from found_none peek_at reach_file reach_within bind element_end end_of fields_end is_last list_end next_rest not_empty object_end part_rest place_of rest_from rest_of whole_rest field_of_of_fields member_named members_of sought attribute_at attribute_head attribute_start bytes_at_of_heads content_at count_of counted element_head element_start head_of leaf leaf_to_end member_at member_head next_start object_at part_end repeated run_of shape_at sized_leaf sized_object terminated until_eos integer_value meaning_of rule_of bytes_value content_value cut_bytes fixed_value kept leaf_value number_value text_value value_at value_of_of_values expression holds integer_of size_of truth_of wanted bytes_text fault_text member_text of_list of_value quoted_text case_for choose content_of first_case switched kind_of parameters_before instance_head positioned positioned_in unchosen_at value_head argument_at argument_value arguments_for calc_value calculated instance_value parameter_value plain_value stream_for
 computed r = over r (description r.lines)
 
 goes_so : (r : Dialogue) (o : Option Description) → over r o ≡ Some (left_by r) → GoesSo r o
@@ -111,6 +111,26 @@ bitmap_goes = goes bitmap refl
 pub picture_goes : Goes picture
 unfolding computed
 picture_goes = goes picture refl
+
+pub instances_goes : Goes instances
+unfolding computed
+instances_goes = goes instances refl
+
+pub windows_goes : Goes windows
+unfolding computed
+windows_goes = goes windows refl
+
+pub parameters_goes : Goes parameters
+unfolding computed
+parameters_goes = goes parameters refl
+
+pub chosen_goes : Goes chosen
+unfolding computed
+chosen_goes = goes chosen refl
+
+pub led_back_goes : Goes led_back
+unfolding computed
+led_back_goes = goes led_back refl
 
 -- ---- lines that are refused memory
 

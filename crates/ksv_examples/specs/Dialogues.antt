@@ -886,6 +886,255 @@ picture = record {
   ended = false;
 }
 
+-- a value instance, and a parse instance at a position
+abbrev pub instances : Dialogue
+instances = record {
+  lines =
+      codes "meta:" ∷
+      codes "  id: k" ∷
+      codes "seq:" ∷
+      codes "  - id: magic" ∷
+      codes "    contents: [0x4b, 0x53]" ∷
+      codes "  - id: n" ∷
+      codes "    type: u1" ∷
+      codes "  - id: items" ∷
+      codes "    type: item" ∷
+      codes "    repeat: expr" ∷
+      codes "    repeat-expr: n" ∷
+      codes "types:" ∷
+      codes "  item:" ∷
+      codes "    seq:" ∷
+      codes "      - id: len" ∷
+      codes "        type: u1" ∷
+      codes "      - id: body" ∷
+      codes "        size: len" ∷
+      codes "instances:" ∷
+      codes "  first:" ∷
+      codes "    value: items[0].len" ∷
+      codes "  last:" ∷
+      codes "    pos: _io.size - 1" ∷
+      codes "    type: u1" ∷
+      [];
+  file = 0x4b ∷ 0x53 ∷ 0x02 ∷ 0x01 ∷ 0xaa ∷ 0x02 ∷ 0xbb ∷ 0xcc ∷ [];
+  input = text_of_lines (
+      codes "get /items/1/body" ∷
+      codes "get /last" ∷
+      codes "get /first" ∷
+      codes "get /first/0" ∷
+      codes "set 3 02" ∷
+      codes "get /items/1/body" ∷
+      codes "get /first" ∷
+      codes "set 3 01" ∷
+      codes "get /items/1/body" ∷
+      codes "app 07" ∷
+      codes "get /last" ∷
+      []);
+  output = text_of_lines (
+      codes "hex bbcc" ∷
+      codes "204" ∷
+      codes "1" ∷
+      codes "fault no-such at /first/0" ∷
+      codes "ok 8" ∷
+      codes "fault end-of-bytes at /items/1/body" ∷
+      codes "2" ∷
+      codes "ok 8" ∷
+      codes "hex bbcc" ∷
+      codes "ok 9" ∷
+      codes "7" ∷
+      []);
+  left = 0x4b ∷ 0x53 ∷ 0x02 ∷ 0x01 ∷ 0xaa ∷ 0x02 ∷ 0xbb ∷ 0xcc ∷ 0x07 ∷ [];
+  ended = false;
+}
+
+-- instances in the stream of another object, and an object's reach over the one that holds it
+abbrev pub windows : Dialogue
+windows = record {
+  lines =
+      codes "meta:" ∷
+      codes "  id: w" ∷
+      codes "seq:" ∷
+      codes "  - id: blk" ∷
+      codes "    type: body" ∷
+      codes "    size: 3" ∷
+      codes "  - id: z" ∷
+      codes "    type: u1" ∷
+      codes "instances:" ∷
+      codes "  p:" ∷
+      codes "    io: blk._io" ∷
+      codes "    pos: 1" ∷
+      codes "    type: u1" ∷
+      codes "  r:" ∷
+      codes "    io: blk._io" ∷
+      codes "    pos: 3" ∷
+      codes "    type: u1" ∷
+      codes "  f:" ∷
+      codes "    pos: 3" ∷
+      codes "    type: u1" ∷
+      codes "  low:" ∷
+      codes "    pos: 0 - 1" ∷
+      codes "    type: u1" ∷
+      codes "  no:" ∷
+      codes "    if: z == 0" ∷
+      codes "    pos: 0" ∷
+      codes "    type: u1" ∷
+      codes "types:" ∷
+      codes "  body:" ∷
+      codes "    seq:" ∷
+      codes "      - id: c" ∷
+      codes "        type: u1" ∷
+      codes "    instances:" ∷
+      codes "      q:" ∷
+      codes "        value: _parent.z + 1" ∷
+      codes "      t:" ∷
+      codes "        pos: 2" ∷
+      codes "        size-eos: true" ∷
+      [];
+  file = 0x0a ∷ 0x0b ∷ 0x0c ∷ 0x0d ∷ [];
+  input = text_of_lines (
+      codes "get /p" ∷
+      codes "get /r" ∷
+      codes "get /f" ∷
+      codes "get /blk/q" ∷
+      codes "get /blk/t" ∷
+      codes "get /low" ∷
+      codes "get /no" ∷
+      codes "set 3 00" ∷
+      codes "get /no" ∷
+      []);
+  output = text_of_lines (
+      codes "11" ∷
+      codes "fault end-of-bytes at /r" ∷
+      codes "13" ∷
+      codes "14" ∷
+      codes "hex 0c" ∷
+      codes "fault bad-size at /low" ∷
+      codes "fault absent at /no" ∷
+      codes "ok 4" ∷
+      codes "10" ∷
+      []);
+  left = 0x0a ∷ 0x0b ∷ 0x0c ∷ 0x00 ∷ [];
+  ended = false;
+}
+
+-- parameters, whose arguments are evaluated where the elements are read
+abbrev pub parameters : Dialogue
+parameters = record {
+  lines =
+      codes "meta:" ∷
+      codes "  id: a" ∷
+      codes "seq:" ∷
+      codes "  - id: xs" ∷
+      codes "    type: t(_index)" ∷
+      codes "    repeat: expr" ∷
+      codes "    repeat-expr: 3" ∷
+      codes "types:" ∷
+      codes "  t:" ∷
+      codes "    params:" ∷
+      codes "      - id: i" ∷
+      codes "    instances:" ∷
+      codes "      v:" ∷
+      codes "        value: i * 10" ∷
+      [];
+  file = [];
+  input = text_of_lines (
+      codes "get /xs" ∷
+      codes "get /xs/2/v" ∷
+      codes "get /xs/1/i" ∷
+      codes "get /xs/3" ∷
+      []);
+  output = text_of_lines (
+      codes "[3]" ∷
+      codes "20" ∷
+      codes "1" ∷
+      codes "fault bad-index at /xs/3" ∷
+      []);
+  left = [];
+  ended = false;
+}
+
+-- a switch; without a case there is nothing
+abbrev pub chosen : Dialogue
+chosen = record {
+  lines =
+      codes "meta:" ∷
+      codes "  id: a" ∷
+      codes "  endian: be" ∷
+      codes "seq:" ∷
+      codes "  - id: t" ∷
+      codes "    type: u1" ∷
+      codes "  - id: b" ∷
+      codes "    type:" ∷
+      codes "      switch-on: t" ∷
+      codes "      cases:" ∷
+      codes "        1: u1" ∷
+      codes "        2: u2" ∷
+      codes "  - id: c" ∷
+      codes "    size: 0" ∷
+      codes "    type:" ∷
+      codes "      switch-on: t" ∷
+      codes "      cases:" ∷
+      codes "        3: e" ∷
+      codes "types:" ∷
+      codes "  e: {}" ∷
+      [];
+  file = 0x03 ∷ [];
+  input = text_of_lines (
+      codes "get /b" ∷
+      codes "get /c" ∷
+      codes "set 0 01" ∷
+      codes "get /b" ∷
+      codes "app 07" ∷
+      codes "get /b" ∷
+      codes "get /c" ∷
+      codes "set 0 02" ∷
+      codes "get /b" ∷
+      codes "app 01" ∷
+      codes "get /b" ∷
+      []);
+  output = text_of_lines (
+      codes "fault absent at /b" ∷
+      codes "object e" ∷
+      codes "ok 1" ∷
+      codes "fault end-of-bytes at /b" ∷
+      codes "ok 2" ∷
+      codes "7" ∷
+      codes "hex " ∷
+      codes "ok 2" ∷
+      codes "fault end-of-bytes at /b" ∷
+      codes "ok 3" ∷
+      codes "1793" ∷
+      []);
+  left = 0x02 ∷ 0x07 ∷ 0x01 ∷ [];
+  ended = false;
+}
+
+-- instances that need each other
+abbrev pub led_back : Dialogue
+led_back = record {
+  lines =
+      codes "meta:" ∷
+      codes "  id: a" ∷
+      codes "instances:" ∷
+      codes "  a:" ∷
+      codes "    value: b" ∷
+      codes "  b:" ∷
+      codes "    value: a" ∷
+      [];
+  file = [];
+  input = text_of_lines (
+      codes "get /b" ∷
+      codes "get /a" ∷
+      codes "get /b" ∷
+      []);
+  output = text_of_lines (
+      codes "fault circle at /b" ∷
+      codes "fault circle at /a" ∷
+      codes "fault circle at /b" ∷
+      []);
+  left = [];
+  ended = false;
+}
+
 -- ---- lines that are refused memory
 
 abbrev pub refused : List ℕ → Event

@@ -5,7 +5,7 @@ ghost use Rattle.std.specs.Prelude.{◌≡◌, IfOk};
 use ksv_expr_eval::{Stream, Value};
 use std::alloc::{AllocError, Global};
 
-/// The attribute by which something is read: a member of a type of the description.
+/// A member of a type of the description.
 #[derive(Clone, Copy)]
 pub struct MemberRef {
     /// The type's number.
@@ -14,11 +14,23 @@ pub struct MemberRef {
     pub member: usize,
 }
 
+/// How something is read: what a head carries of the description, so that nothing else is asked for it.
+#[derive(Clone, Copy)]
+pub struct Origin {
+    /// The attribute or parse instance by which it is read.
+    pub member: MemberRef,
+    /// The case that its switch chose, by its place among the cases, from 0; none without a switch, where no case was
+    /// chosen, and for a list, each element of which has its own.
+    pub case: Option<usize>,
+    /// The stream of the object that holds it.
+    pub home: Stream,
+}
+
 /// Some bytes.
 #[derive(Clone, Copy)]
 pub struct Leaf {
-    /// The attribute by which they are read.
-    pub source: MemberRef,
+    /// How they are read.
+    pub origin: Origin,
     /// The place of the first.
     pub from: u32,
     /// The place after the last.
@@ -41,6 +53,8 @@ pub enum ObjectEnd {
 /// An object of a type.
 #[derive(Clone, Copy)]
 pub struct Object {
+    /// How it is read; the root is read by nothing.
+    pub origin: Option<Origin>,
     /// The type's number.
     pub type_number: u32,
     /// The stream in which its places are counted.
@@ -51,15 +65,13 @@ pub struct Object {
     pub ending: ObjectEnd,
 }
 
-/// The elements of an attribute.
+/// The elements of an attribute or a parse instance.
 #[derive(Clone, Copy)]
 pub struct List {
-    /// The attribute by which they are read.
-    pub source: MemberRef,
+    /// How they are read.
+    pub origin: Origin,
     /// The stream in which they are.
     pub stream: Stream,
-    /// The stream of the object that holds the attribute.
-    pub home: Stream,
     /// Where the first begins.
     pub start: u32,
     /// How many there are, if that is known beforehand.
@@ -68,11 +80,22 @@ pub struct List {
     pub is_empty: bool,
 }
 
+/// A value that isn't read at a place of its own: a value instance or a parameter.
+#[derive(Clone, Copy)]
+pub struct Calc {
+    /// The place of the member among the members of the object's type, from 0.
+    pub member: usize,
+    /// The object that holds it.
+    pub object: Object,
+}
+
 /// What is at a path, and where.
 #[derive(Clone, Copy)]
 pub enum Head {
-    /// Nothing: an attribute that is absent, at its place if it has one.
+    /// Nothing: an attribute or instance that is absent, at its place if it has one.
     Absent(Option<u32>),
+    /// A value that is calculated.
+    Calc(Calc),
     /// Bytes that hold a value.
     Leaf(Leaf),
     /// An object.

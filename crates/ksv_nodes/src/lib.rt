@@ -11,7 +11,9 @@ mod node;
 mod search;
 mod turn;
 
-pub use given::{Ended, Given, Head, Leaf, List, MemberRef, Object, ObjectEnd, Rested};
+pub use given::{
+    Calc, Ended, Given, Head, Leaf, List, MemberRef, Object, ObjectEnd, Origin, Rested,
+};
 pub use laws::{
     equal_nodes_are_same, nodes_are_numbered, readings_are_local, readings_fit, turns_are_bounded,
     turns_are_local, turns_fit, turns_meet_truth,

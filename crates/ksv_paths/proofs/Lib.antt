@@ -3,5 +3,4 @@ pub mod Cuts
 pub mod Digits
 pub mod PathTexts
 pub mod PathSpelling
-pub mod ServedForms
 pub mod PathReading

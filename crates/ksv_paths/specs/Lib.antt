@@ -1,4 +1,3 @@
--- Paths as texts, and which descriptions are served.
+-- Paths as texts.
 pub mod PathTexts
 pub mod Laws
-pub mod Served

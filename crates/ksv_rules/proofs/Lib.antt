@@ -1,15 +1,7 @@
 -- The lemmas of this crate.
 pub mod Evaluating
 pub mod Direct
-pub mod Meeting
-pub mod Forms
-pub mod OwnFaults
-pub mod Circles
-pub mod Touching
-pub mod Following
-pub mod Places
-pub mod Enclosing
-pub mod Sources
-pub mod Counting
 pub mod Integers
 pub mod Peeked
+pub mod Parameters
+pub mod Arguments

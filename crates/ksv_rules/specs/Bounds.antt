@@ -6,8 +6,8 @@ use Rattle.std.specs.Option.{option_map_or}
 use Rattle.std.specs.Str.{bytes_eq}
 use Rattle.std.proofs.Common.{arith}
 use Rattle.std.proofs.lemmas.List.Sums.{sum_by-cons}
-use Rattle.ksv_plan.specs.Plan.{Ran, Need, Failed, Done, bind, IsEnded}
-use Rattle.ksv_expr_tree.specs.Tree.{Tree}
+use Rattle.ksv_plan.specs.Plan.{Answer, Fail, Ask, Ran, Need, Failed, Done, bind, IsEnded}
+use Rattle.ksv_expr_tree.specs.Tree.{Tree, Arguments, no_arguments, argument}
 use Rattle.ksv_desc.specs.declared.order.ByteOrder.{ByteOrder}
 use Rattle.ksv_memo.specs.Meaning.{IsDone}
 use Rattle.ksv_expr_eval.proofs.Wants.{value_asks}
@@ -26,7 +26,7 @@ use Rattle.ksv_expr_value.specs.declared.value.Value.{Value}
 use Rattle.ksv_expr_value.specs.declared.value.Value.TheVariants as values
 use Rattle.ksv_expr_eval.specs.declared.want.Want.{Want}
 use Rattle.ksv_expr_eval.specs.declared.want.Want.TheVariants as wants
-use Rattle.ksv_desc.specs.Description.{Description, TypeOfObjects, MemberOfType, MemberKind, Parameter, Attribute, ParseInstance, ValueInstance, Field, Content, Choice, Always, Switch, Extent, Sized, SizeEos, ByItself, Repeat, Once, Eos, Expr, Until, Terminator}
+use Rattle.ksv_desc.specs.Description.{Description, TypeOfObjects, MemberOfType, MemberKind, Parameter, Attribute, ParseInstance, ValueInstance, Field, Content, Case, Choice, Always, Switch, Extent, Sized, SizeEos, ByItself, Repeat, Once, Eos, Expr, Until, Terminator}
 use Rattle.ksv_desc.specs.Description as contents
 use Rattle.ksv_nodes.proofs.Bounds.{nodes_more, nodes_join, nodes_if, nodes_translate, enough, head_nodes, value_nodes, end_nodes, rest_nodes, part_nodes}
 use Rattle.ksv_nodes.specs.Bounds.{NodesAtMost}
@@ -36,6 +36,8 @@ use Rattle.ksv_nodes.specs.declared.node.NodeKind.{NodeKind}
 use Rattle.ksv_nodes.specs.declared.node.NodeKind.TheVariants as nodes
 use Rattle.ksv_nodes.specs.declared.given.Given.{Given as Answered}
 use Rattle.ksv_nodes.specs.declared.given.MemberRef.{MemberRef}
+use Rattle.ksv_nodes.specs.declared.given.Origin.{Origin}
+use Rattle.ksv_nodes.specs.declared.given.Calc.{Calc}
 use Rattle.ksv_nodes.specs.declared.given.Leaf.{Leaf}
 use Rattle.ksv_nodes.specs.declared.given.ObjectEnd.{ObjectEnd}
 use Rattle.ksv_nodes.specs.declared.given.ObjectEnd.TheVariants as endings
@@ -47,15 +49,15 @@ use Rattle.ksv_nodes.specs.declared.given.Ended.{Ended}
 use Rattle.ksv_nodes.specs.declared.turn.Found.{Found}
 use Rattle.ksv_nodes.specs.declared.turn.Found.TheVariants as founds
 use Rattle.ksv_nodes.specs.Rule.{Rule, Here, finish, done, reach, peek, find}
-use Rattle.ksv_rules.specs.Described.{condition_wants, repeat_wants, extent_wants, field_wants, kind_wants, type_wants, most_asks, resumed, step_of}
-use Rattle.ksv_rules.specs.Fields.{members_of, behind, Sought, sought, in_sought, member_named, last_attribute, read_by, in_field, field_of}
-use Rattle.ksv_rules.specs.Wanted.{whole, in_object, wanted, expression, in_integer, in_truth, integer_of, truth_of, holds, in_size, size_of}
+use Rattle.ksv_rules.specs.Described.{condition_wants, repeat_wants, extent_wants, arguments_wants, content_wants, choice_wants, field_wants, kind_wants, type_wants, most_asks, resumed, step_of}
+use Rattle.ksv_rules.specs.Fields.{members_of, behind, Sought, sought, in_sought, member_named, last_attribute, read_by, in_kind, kind_of, field_of, parameters_before}
+use Rattle.ksv_rules.specs.Choosing.{Chosen, switched, choose, in_case, content_of}
+use Rattle.ksv_rules.specs.Wanted.{whole, in_object, wanted, expression, in_integer, in_truth, integer_of, truth_of, holds, in_size, size_of, in_stream, stream_for}
 use Rattle.ksv_rules.specs.Integers.{integer_value}
-use Rattle.ksv_rules.specs.Values.{in_number, number_in, number_value, fixed_value, cut_by, cut_bytes, bytes_value, in_text, cut_text, text_value, content_value, choice_value, leaf_value, value_at, value_of}
+use Rattle.ksv_rules.specs.Values.{in_number, number_in, number_value, fixed_value, cut_by, cut_bytes, bytes_value, in_text, cut_text, text_value, content_value, leaf_value, in_no_stream, in_enum, instance_value, given_by, arguments_for, argument_at, argument_setting, plain_value, argument_value, parameter_value, calc_value, calculated, value_at, value_of}
 use Rattle.ksv_rules.specs.Ends.{fields_end, object_end, part_rest, list_end, absent_end, place_of, start_of, behind_element, is_last, is_by_bytes, not_empty, element_end, end_at, end_of, next_rest, rest_behind, rest_from, in_whole_list, first_rest, whole_rest, rest_at, rest_of}
-use Rattle.ksv_paths.specs.Served.{is_served}
-use Rattle.ksv_rules.specs.Meaning.{meaning_of, served_rule, rule_of}
-use Rattle.ksv_rules.specs.Heads.{leaf, leaf_to_end, terminated_at, terminated, run_of, sized_leaf, bytes_at, sized_object, object_at, content_at, shape_at, in_count, count_of, counted, until_eos, repeated, attribute_at, part_end, attribute_start, attribute_head, member_at, member_head, in_list, is_past, in_next, next_start, element_start, element_head, head_at, head_of}
+use Rattle.ksv_rules.specs.Meaning.{meaning_of, rule_of}
+use Rattle.ksv_rules.specs.Heads.{leaf, leaf_to_end, terminated_at, terminated, run_of, sized_leaf, bytes_at, sized_object, object_at, content_at, unchosen_at, chosen_at, shape_at, in_count, count_of, counted, until_eos, repeated, attribute_at, part_end, attribute_start, attribute_head, positioned_in, positioned, instance_head, value_head, member_at, member_head, in_list, is_past, in_next, next_start, element_start, element_head, head_at, head_of}
 
 -- ---- what is found in a description wants no more than all of it
 
@@ -76,6 +78,31 @@ members_wants : (d : Description) (t : ℕ) → sum_by member_wants (members_of 
 unfolding members_of
 members_wants d t = omega (arith, wants_of_type (slice_get d.types t), part_of_sum type_wants d.types t)
 
+-- what all expressions want
+abbrev all_wants : Description → ℕ
+all_wants d = sum_by type_wants d.types
+
+-- ---- what is found without asking
+
+-- a rule asks nothing, and what it answers, if it does, is so
+abbrev Gives : {A : Type 0} → (A → Type 0) → Rule A → Type 0
+Gives P (Answer a) = P a
+Gives P (Fail e) = Unit {0}
+Gives P (Ask q k) = ⊥
+
+gives_on : {A B : Type 0} (P : A → Type 0) (R : B → Type 0) (p : Rule A) (f : A → Rule B) → Gives P p → ((a : A) → P a → Gives R (f a)) → Gives R (bind p f)
+unfolding bind
+gives_on P R (Answer a) f h g = g a h
+gives_on P R (Fail e) f h g = tt
+gives_on P R (Ask q k) f h g = absurd h
+
+-- what goes on from it asks no more than it does for each such answer
+gives_nodes : {A B : Type 0} (t : ℕ) (P : A → Type 0) (p : Rule A) (f : A → Rule B) → Gives P p → ((a : A) → P a → NodesAtMost t (f a)) → NodesAtMost t (bind p f)
+unfolding bind
+gives_nodes t P (Answer a) f h g = g a h
+gives_nodes t P (Fail e) f h g = tt
+gives_nodes t P (Ask q k) f h g = absurd h
+
 -- a member that was looked for
 abbrev sought_wants : Option Sought → ℕ
 sought_wants o = option_map_or (λ s. kind_wants s.kind) o 0
@@ -89,52 +116,82 @@ unfolding sought
 sought_part x i before [] = omega arith
 sought_part x i before (m ∷ ms) = omega (arith, sum_by-cons member_wants m ms, sought_if (m.name == x) m i before (sought x (i + 1) (behind before m) ms) (sum_by member_wants ms) (sought_part x (i + 1) (behind before m) ms))
 
-in_sought_nodes : {A : Type 0} (n w : ℕ) (o : Option Sought) (f : Sought → Rule A) → sought_wants o ≤ w → ((s : Sought) → NodesAtMost (n + kind_wants s.kind) (f s)) → NodesAtMost (n + w) (bind (in_sought o) f)
-unfolding bind
-in_sought_nodes n w None f h each = tt
-in_sought_nodes n w (Some s) f h each = nodes_more (n + kind_wants s.kind) (n + w) (f s) (omega arith) (each s)
+in_sought_gives : (n : ℕ) (o : Option Sought) → sought_wants o ≤ n → Gives (λ s. kind_wants s.kind ≤ n) (in_sought o)
+in_sought_gives n None h = tt
+in_sought_gives n (Some s) h = h
 
--- what a rule does with a member that it finds
-found_nodes : {A : Type 0} (n t : ℕ) (d : Description) (type_number x : ℕ) (f : Sought → Rule A) → n + sum_by type_wants d.types ≤ t → ((s : Sought) → NodesAtMost (n + kind_wants s.kind) (f s)) → NodesAtMost t (bind (member_named d type_number x) f)
+found_gives : (d : Description) (type_number x : ℕ) → Gives (λ s. kind_wants s.kind ≤ all_wants d) (member_named d type_number x)
 unfolding member_named
-found_nodes n t d type_number x f h each =
+found_gives d type_number x =
     let ms = members_of d type_number in
     let part = sought_part x 0 None ms in
     let all = members_wants d type_number in
-    nodes_more (n + sum_by type_wants d.types) t (bind (in_sought (sought x 0 None ms)) f) h
-    (in_sought_nodes n (sum_by type_wants d.types) (sought x 0 None ms) f (omega (arith, part, all)) each)
+    in_sought_gives (all_wants d) (sought x 0 None ms) (omega (arith, part, all))
 
-abbrev maybe_wants : Option MemberOfType → ℕ
-maybe_wants o = option_map_or member_wants o 0
+-- a member of a place, and how it reads
+in_kind_gives : (n : ℕ) (o : Option MemberOfType) → option_map_or member_wants o 0 ≤ n → Gives (λ k. kind_wants k ≤ n) (in_kind o)
+in_kind_gives n None h = tt
+in_kind_gives n (Some m) h = h
 
-read_nodes : {A : Type 0} (n w : ℕ) (k : MemberKind) (f : Field → Rule A) → kind_wants k ≤ w → ((x : Field) → NodesAtMost (n + field_wants x) (f x)) → NodesAtMost (n + w) (bind (read_by k) f)
-unfolding bind
-read_nodes n w (Attribute x) f h each = nodes_more (n + field_wants x) (n + w) (f x) (omega arith) (each x)
-read_nodes n w Parameter f h each = tt
-read_nodes n w (ParseInstance p s x) f h each = tt
-read_nodes n w (ValueInstance c v e) f h each = tt
+kind_gives : (d : Description) (r : MemberRef) → Gives (λ k. kind_wants k ≤ all_wants d) (kind_of d r)
+unfolding kind_of
+kind_gives d r =
+    let ms = members_of d r.type_number in
+    let part = part_of_sum member_wants ms r.member in
+    let all = members_wants d r.type_number in
+    in_kind_gives (all_wants d) (slice_get ms r.member) (omega (arith, part, all))
 
-in_field_nodes : {A : Type 0} (n w : ℕ) (o : Option MemberOfType) (f : Field → Rule A) → maybe_wants o ≤ w → ((x : Field) → NodesAtMost (n + field_wants x) (f x)) → NodesAtMost (n + w) (bind (in_field o) f)
-unfolding bind
-in_field_nodes n w None f h each = tt
-in_field_nodes n w (Some m) f h each = read_nodes n w m.kind f h each
+read_gives : (n : ℕ) (k : MemberKind) → kind_wants k ≤ n → Gives (λ f. field_wants f ≤ n) (read_by k)
+read_gives n (Attribute f) h = h
+read_gives n (ParseInstance e io f) h = omega arith
+read_gives n Parameter h = tt
+read_gives n (ValueInstance c e enum) h = tt
 
--- how an attribute of a source reads
-field_nodes : {A : Type 0} (n t : ℕ) (d : Description) (source : MemberRef) (f : Field → Rule A) → n + sum_by type_wants d.types ≤ t → ((x : Field) → NodesAtMost (n + field_wants x) (f x)) → NodesAtMost t (bind (field_of d source) f)
+field_gives : (d : Description) (r : MemberRef) → Gives (λ f. field_wants f ≤ all_wants d) (field_of d r)
 unfolding field_of
-field_nodes n t d source f h each =
-    let ms = members_of d source.type_number in
-    let o : Option MemberOfType = slice_get ms source.member in
-    let part = part_of_sum member_wants ms source.member in
-    let all = members_wants d source.type_number in
-    nodes_more (n + sum_by type_wants d.types) t (bind (in_field o) f) h
-    (in_field_nodes n (sum_by type_wants d.types) o f (omega (arith, part, all)) each)
+field_gives d r = gives_on (λ k. kind_wants k ≤ all_wants d) (λ f. field_wants f ≤ all_wants d) (kind_of d r) (λ k. read_by k) (kind_gives d r) (λ k h. read_gives (all_wants d) k h)
+
+-- what is read by a case, and the arguments in it
+in_case_gives : (n : ℕ) (o : Option Case) → option_map_or (λ c. content_wants c.content) o 0 ≤ n → Gives (λ k. content_wants k ≤ n) (in_case o)
+in_case_gives n None h = tt
+in_case_gives n (Some c) h = h
+
+content_gives : (c : Choice) (case : Option ℕ) → Gives (λ k. content_wants k ≤ choice_wants c) (content_of c case)
+unfolding content_of
+content_gives (Always k) case = omega arith
+content_gives (Switch on cases) None = omega arith
+content_gives (Switch on cases) (Some i) = in_case_gives (choice_wants (Switch on cases)) (slice_get cases i) (omega (arith, part_of_sum (λ c. content_wants c.content) cases i))
+
+given_gives : (n : ℕ) (k : Content) → content_wants k ≤ n → Gives (λ es. arguments_wants es ≤ n) (given_by k)
+given_gives n (contents.Object t given) h = h
+given_gives n contents.Bytes h = tt
+given_gives n (contents.Fixed bs) h = tt
+given_gives n (contents.Number signed size order enum) h = tt
+given_gives n (contents.Characters encoding) h = tt
+
+arguments_gives : (d : Description) (g : Origin) → Gives (λ es. arguments_wants es ≤ all_wants d) (arguments_for d g)
+unfolding arguments_for
+arguments_gives d g =
+    gives_on (λ f. field_wants f ≤ all_wants d) (λ es. arguments_wants es ≤ all_wants d) (field_of d g.member) _ (field_gives d g.member) (λ f h.
+    gives_on (λ k. content_wants k ≤ choice_wants f.choice) (λ es. arguments_wants es ≤ all_wants d) (content_of f.choice g.case) _ (content_gives f.choice g.case) (λ k h'. given_gives (all_wants d) k (omega arith)))
+
+argument_gives : (es : Arguments) (i : ℕ) → Gives (λ e. most_wants e ≤ arguments_wants es) (argument_at es i)
+unfolding argument_at arguments_wants
+argument_gives no_arguments i = tt
+argument_gives (argument e es) zero = omega arith
+argument_gives (argument e es) (suc i) = more (argument_at es i) (argument_gives es i)
+  where
+    more : (p : Rule Tree) → Gives (λ x. most_wants x ≤ arguments_wants es) p → Gives (λ x. most_wants x ≤ most_wants e + arguments_wants es) p
+    more (Answer x) h = omega arith
+    more (Fail x) h = tt
+    more (Ask q k) h = absurd h
 
 -- ---- expressions
 
 in_object_nodes : (q : Trail) (h : Head) → NodesAtMost 0 (in_object q h)
 in_object_nodes q (heads.Object o) = tt
 in_object_nodes q (heads.Absent at) = tt
+in_object_nodes q (heads.Calc c) = tt
 in_object_nodes q (heads.Leaf l) = tt
 in_object_nodes q (heads.List g) = tt
 
@@ -182,57 +239,83 @@ size_nodes : (s : Setting) (e : Tree) → NodesAtMost (most_wants e) (size_of s 
 unfolding size_of
 size_nodes s e = nodes_join _ _ (most_wants e) (most_wants e) 0 (omega arith) (integer_nodes s e) (λ z. in_size_nodes z)
 
+in_stream_nodes : (v : Value) → NodesAtMost 0 (in_stream v)
+in_stream_nodes (values.Stream w) = tt
+in_stream_nodes _ = tt
+
+stream_nodes : (s : Setting) (io : Option Tree) → NodesAtMost (condition_wants io) (stream_for s io)
+unfolding stream_for
+stream_nodes s None = tt
+stream_nodes s (Some e) = nodes_join _ _ (most_wants e) (most_wants e) 0 (omega arith) (expression_nodes s e) (λ v. in_stream_nodes v)
+
 -- ---- heads
 
-leaf_nodes : (n : ℕ) (source : MemberRef) (w : Stream) (s size : ℕ) → NodesAtMost n (leaf source w s size)
+leaf_nodes : (n : ℕ) (origin : Origin) (w : Stream) (s size : ℕ) → NodesAtMost n (leaf origin w s size)
 unfolding leaf
-leaf_nodes n source w s size = nodes_join (reach w (s + size)) _ n 0 0 (omega arith) (λ x. tt) (λ x. tt)
+leaf_nodes n origin w s size = nodes_join (reach w (s + size)) _ n 0 0 (omega arith) (λ x. tt) (λ x. tt)
 
-leaf_to_end_nodes : (source : MemberRef) (w : Stream) (s : ℕ) → NodesAtMost 0 (leaf_to_end source w s)
+leaf_to_end_nodes : (origin : Origin) (w : Stream) (s : ℕ) → NodesAtMost 0 (leaf_to_end origin w s)
 unfolding leaf_to_end
-leaf_to_end_nodes source w s = nodes_join (finish w) _ 0 0 0 (omega arith) (λ e. tt) (λ e. tt)
+leaf_to_end_nodes origin w s = nodes_join (finish w) _ 0 0 0 (omega arith) (λ e. tt) (λ e. tt)
 
-terminated_at_nodes : (source : MemberRef) (s : ℕ) (t : Terminator) (q : Found) → NodesAtMost 0 (terminated_at source s t q)
-terminated_at_nodes source s t (founds.At q) = tt
-terminated_at_nodes source s t (founds.Missing e) = nodes_if t.is_required 0 _ _ tt tt
+terminated_at_nodes : (origin : Origin) (s : ℕ) (t : Terminator) (q : Found) → NodesAtMost 0 (terminated_at origin s t q)
+terminated_at_nodes origin s t (founds.At q) = tt
+terminated_at_nodes origin s t (founds.Missing e) = nodes_if t.is_required 0 _ _ tt tt
 
-run_nodes : (source : MemberRef) (w : Stream) (s : ℕ) (t : Option Terminator) → NodesAtMost 0 (run_of source w s t)
+run_nodes : (origin : Origin) (w : Stream) (s : ℕ) (t : Option Terminator) → NodesAtMost 0 (run_of origin w s t)
 unfolding run_of terminated
-run_nodes source w s None = tt
-run_nodes source w s (Some t) = nodes_join (find w s t.byte) _ 0 0 0 (omega arith) (λ q. tt) (λ q. terminated_at_nodes source s t q)
+run_nodes origin w s None = tt
+run_nodes origin w s (Some t) = nodes_join (find w s t.byte) _ 0 0 0 (omega arith) (λ q. tt) (λ q. terminated_at_nodes origin s t q)
 
-sized_leaf_nodes : (at : Setting) (source : MemberRef) (w : Stream) (s : ℕ) (e : Tree) → NodesAtMost (most_wants e) (sized_leaf at source w s e)
+sized_leaf_nodes : (at : Setting) (origin : Origin) (w : Stream) (s : ℕ) (e : Tree) → NodesAtMost (most_wants e) (sized_leaf at origin w s e)
 unfolding sized_leaf
-sized_leaf_nodes at source w s e = nodes_join _ _ (most_wants e) (most_wants e) 0 (omega arith) (size_nodes at e) (λ n. leaf_nodes 0 source w s n)
+sized_leaf_nodes at origin w s e = nodes_join _ _ (most_wants e) (most_wants e) 0 (omega arith) (size_nodes at e) (λ n. leaf_nodes 0 origin w s n)
 
-bytes_nodes : (at : Setting) (source : MemberRef) (w : Stream) (s : ℕ) (x : Extent) (t : Option Terminator) → NodesAtMost (extent_wants x) (bytes_at at source w s x t)
+bytes_nodes : (at : Setting) (origin : Origin) (w : Stream) (s : ℕ) (x : Extent) (t : Option Terminator) → NodesAtMost (extent_wants x) (bytes_at at origin w s x t)
 unfolding bytes_at
-bytes_nodes at source w s (Sized e) t = sized_leaf_nodes at source w s e
-bytes_nodes at source w s SizeEos t = leaf_to_end_nodes source w s
-bytes_nodes at source w s ByItself t = run_nodes source w s t
+bytes_nodes at origin w s (Sized e) t = sized_leaf_nodes at origin w s e
+bytes_nodes at origin w s SizeEos t = leaf_to_end_nodes origin w s
+bytes_nodes at origin w s ByItself t = run_nodes origin w s t
 
-sized_object_nodes : (at : Setting) (t : ℕ) (w : Stream) (s : ℕ) (e : Tree) → NodesAtMost (most_wants e) (sized_object at t w s e)
+sized_object_nodes : (at : Setting) (origin : Origin) (t : ℕ) (w : Stream) (s : ℕ) (e : Tree) → NodesAtMost (most_wants e) (sized_object at origin t w s e)
 unfolding sized_object
-sized_object_nodes at t w s e = nodes_join _ _ (most_wants e) (most_wants e) 0 (omega arith) (size_nodes at e) (λ n. nodes_join (reach w (s + n)) _ 0 0 0 (omega arith) (λ x. tt) (λ x. tt))
+sized_object_nodes at origin t w s e = nodes_join _ _ (most_wants e) (most_wants e) 0 (omega arith) (size_nodes at e) (λ n. nodes_join (reach w (s + n)) _ 0 0 0 (omega arith) (λ x. tt) (λ x. tt))
 
-object_nodes : (at : Setting) (t : ℕ) (w : Stream) (s : ℕ) (x : Extent) → NodesAtMost (extent_wants x) (object_at at t w s x)
+object_nodes : (at : Setting) (origin : Origin) (t : ℕ) (w : Stream) (s : ℕ) (x : Extent) → NodesAtMost (extent_wants x) (object_at at origin t w s x)
 unfolding object_at
-object_nodes at t w s (Sized e) = sized_object_nodes at t w s e
-object_nodes at t w s SizeEos = tt
-object_nodes at t w s ByItself = tt
+object_nodes at origin t w s (Sized e) = sized_object_nodes at origin t w s e
+object_nodes at origin t w s SizeEos = tt
+object_nodes at origin t w s ByItself = tt
 
-content_nodes : (at : Setting) (source : MemberRef) (w : Stream) (s : ℕ) (f : Field) (c : Content) → NodesAtMost (extent_wants f.extent) (content_at at source w s f c)
+content_nodes : (at : Setting) (origin : Origin) (w : Stream) (s : ℕ) (f : Field) (c : Content) → NodesAtMost (extent_wants f.extent) (content_at at origin w s f c)
 unfolding content_at
-content_nodes at source w s f contents.Bytes = bytes_nodes at source w s f.extent f.terminator
-content_nodes at source w s f (contents.Fixed bs) = leaf_nodes (extent_wants f.extent) source w s (length bs)
-content_nodes at source w s f (contents.Number signed size order enum) = leaf_nodes (extent_wants f.extent) source w s size
-content_nodes at source w s f (contents.Characters encoding) = bytes_nodes at source w s f.extent f.terminator
-content_nodes at source w s f (contents.Object t given) = object_nodes at t w s f.extent
+content_nodes at origin w s f contents.Bytes = bytes_nodes at origin w s f.extent f.terminator
+content_nodes at origin w s f (contents.Fixed bs) = leaf_nodes (extent_wants f.extent) origin w s (length bs)
+content_nodes at origin w s f (contents.Number signed size order enum) = leaf_nodes (extent_wants f.extent) origin w s size
+content_nodes at origin w s f (contents.Characters encoding) = bytes_nodes at origin w s f.extent f.terminator
+content_nodes at origin w s f (contents.Object t given) = object_nodes at origin t w s f.extent
 
-shape_nodes : (at : Setting) (source : MemberRef) (w : Stream) (s : ℕ) (f : Field) (c : Choice) → NodesAtMost (extent_wants f.extent) (shape_at at source w s f c)
+unchosen_nodes : (at : Setting) (origin : Origin) (w : Stream) (s : ℕ) (x : Extent) → NodesAtMost (extent_wants x) (unchosen_at at origin w s x)
+unfolding unchosen_at
+unchosen_nodes at origin w s (Sized e) = sized_leaf_nodes at origin w s e
+unchosen_nodes at origin w s SizeEos = leaf_to_end_nodes origin w s
+unchosen_nodes at origin w s ByItself = tt
+
+chosen_nodes : (at : Setting) (origin : Origin) (w : Stream) (s : ℕ) (f : Field) (c : Option Chosen) → NodesAtMost (extent_wants f.extent) (chosen_at at origin w s f c)
+chosen_nodes at origin w s f None = unchosen_nodes at origin w s f.extent
+chosen_nodes at origin w s f (Some c) = content_nodes at (record origin { case = c.case }) w s f c.content
+
+choose_nodes : (at : Setting) (c : Choice) → NodesAtMost (choice_wants c) (choose at c)
+unfolding choose switched
+choose_nodes at (Always c) = tt
+choose_nodes at (Switch on cases) = nodes_join _ _ (choice_wants (Switch on cases)) (most_wants on) 0 (omega arith) (expression_nodes at on) (λ v. tt)
+
+abbrev shape_wants : Field → ℕ
+shape_wants f = choice_wants f.choice + extent_wants f.extent
+
+shape_nodes : (at : Setting) (origin : Origin) (w : Stream) (s : ℕ) (f : Field) → NodesAtMost (shape_wants f) (shape_at at origin w s f)
 unfolding shape_at
-shape_nodes at source w s f (Always c) = content_nodes at source w s f c
-shape_nodes at source w s f (Switch on cases) = tt
+shape_nodes at origin w s f = nodes_join _ _ (shape_wants f) (choice_wants f.choice) (extent_wants f.extent) (omega arith) (choose_nodes at f.choice) (λ c. chosen_nodes at origin w s f c)
 
 in_count_nodes : (n : ℕ) → NodesAtMost 0 (in_count n)
 in_count_nodes n = nodes_if (nat_lt element_limit n) 0 _ _ tt tt
@@ -241,26 +324,26 @@ count_nodes : (at : Setting) (e : Tree) → NodesAtMost (most_wants e) (count_of
 unfolding count_of
 count_nodes at e = nodes_join _ _ (most_wants e) (most_wants e) 0 (omega arith) (size_nodes at e) (λ n. in_count_nodes n)
 
-counted_nodes : (at : Setting) (source : MemberRef) (w : Stream) (s : ℕ) (e : Tree) → NodesAtMost (most_wants e) (counted at source w s e)
+counted_nodes : (at : Setting) (origin : Origin) (w : Stream) (s : ℕ) (e : Tree) → NodesAtMost (most_wants e) (counted at origin w s e)
 unfolding counted
-counted_nodes at source w s e = nodes_join _ _ (most_wants e) (most_wants e) 0 (omega arith) (count_nodes at e) (λ n. tt)
+counted_nodes at origin w s e = nodes_join _ _ (most_wants e) (most_wants e) 0 (omega arith) (count_nodes at e) (λ n. tt)
 
-until_eos_nodes : (n : ℕ) (at : Setting) (source : MemberRef) (w : Stream) (s : ℕ) → NodesAtMost n (until_eos at source w s)
+until_eos_nodes : (n : ℕ) (at : Setting) (origin : Origin) (w : Stream) (s : ℕ) → NodesAtMost n (until_eos at origin w s)
 unfolding until_eos
-until_eos_nodes n at source w s = nodes_join (done w s) _ n 0 0 (omega arith) (λ b. tt) (λ b. tt)
+until_eos_nodes n at origin w s = nodes_join (done w s) _ n 0 0 (omega arith) (λ b. tt) (λ b. tt)
 
-repeated_nodes : (at : Setting) (source : MemberRef) (w : Stream) (s : ℕ) (f : Field) (r : Repeat) → NodesAtMost (repeat_wants r + extent_wants f.extent) (repeated at source w s f r)
+repeated_nodes : (at : Setting) (origin : Origin) (w : Stream) (s : ℕ) (f : Field) (r : Repeat) → NodesAtMost (repeat_wants r + shape_wants f) (repeated at origin w s f r)
 unfolding repeated
-repeated_nodes at source w s f Once = nodes_more (extent_wants f.extent) _ _ (omega arith) (shape_nodes at source w s f f.choice)
-repeated_nodes at source w s f (Expr e) = nodes_more (most_wants e) _ _ (omega arith) (counted_nodes at source w s e)
-repeated_nodes at source w s f Eos = until_eos_nodes _ at source w s
-repeated_nodes at source w s f (Until e) = tt
+repeated_nodes at origin w s f Once = nodes_more (shape_wants f) _ _ (omega arith) (shape_nodes at origin w s f)
+repeated_nodes at origin w s f (Expr e) = nodes_more (most_wants e) _ _ (omega arith) (counted_nodes at origin w s e)
+repeated_nodes at origin w s f Eos = until_eos_nodes _ at origin w s
+repeated_nodes at origin w s f (Until e) = tt
 
-attribute_nodes : (at : Setting) (source : MemberRef) (w : Stream) (s : ℕ) (f : Field) → NodesAtMost (field_wants f) (attribute_at at source w s f)
+attribute_nodes : (at : Setting) (origin : Origin) (w : Stream) (s : ℕ) (f : Field) → NodesAtMost (field_wants f) (attribute_at at origin w s f)
 unfolding attribute_at
-attribute_nodes at source w s f =
-    nodes_join _ _ (field_wants f) (condition_wants f.condition) (repeat_wants f.repeat + extent_wants f.extent) (omega arith) (holds_nodes at f.condition) (λ there.
-    nodes_if there (repeat_wants f.repeat + extent_wants f.extent) _ _ (repeated_nodes at source w s f f.repeat) tt)
+attribute_nodes at origin w s f =
+    nodes_join _ _ (field_wants f) (condition_wants f.condition) (repeat_wants f.repeat + shape_wants f) (omega arith) (holds_nodes at f.condition) (λ there.
+    nodes_if there (repeat_wants f.repeat + shape_wants f) _ _ (repeated_nodes at origin w s f f.repeat) tt)
 
 part_end_nodes : (q : Trail) (step : Step) → NodesAtMost 1 (part_end q step)
 unfolding part_end
@@ -275,27 +358,50 @@ attribute_head_nodes : (p q : Trail) (o : Object) (x : Sought) (f : Field) → N
 unfolding attribute_head
 attribute_head_nodes p q o x f = nodes_join _ _ (1 + field_wants f) 1 (field_wants f) (omega arith) (start_nodes q o x.before) (λ s. attribute_nodes _ _ _ s f)
 
+-- the position of a parse instance, and what it reads there
+abbrev positioned_wants : Tree → Field → ℕ
+positioned_wants e f = most_wants e + (repeat_wants f.repeat + shape_wants f)
+
+positioned_in_nodes : (at : Setting) (origin : Origin) (w : Stream) (e : Tree) (f : Field) → NodesAtMost (positioned_wants e f) (positioned_in at origin w e f)
+unfolding positioned_in
+positioned_in_nodes at origin w e f =
+    let more : ℕ = repeat_wants f.repeat + shape_wants f in
+    nodes_join _ _ (positioned_wants e f) (most_wants e) more (omega arith) (size_nodes at e) (λ n.
+    nodes_join (reach w (w.from + n)) _ more 0 more (omega arith) (λ x. tt) (λ x. repeated_nodes (record at { place = w.from + n }) origin w (w.from + n) f f.repeat))
+
+positioned_nodes : (at : Setting) (origin : Origin) (e : Tree) (io : Option Tree) (f : Field) → NodesAtMost (condition_wants io + positioned_wants e f) (positioned at origin e io f)
+unfolding positioned
+positioned_nodes at origin e io f = nodes_join _ _ (condition_wants io + positioned_wants e f) (condition_wants io) (positioned_wants e f) (omega arith) (stream_nodes at io) (λ w. positioned_in_nodes at origin w e f)
+
+instance_head_nodes : (at : Setting) (origin : Origin) (e : Tree) (io : Option Tree) (f : Field) → NodesAtMost (kind_wants (ParseInstance e io f)) (instance_head at origin e io f)
+unfolding instance_head
+instance_head_nodes at origin e io f =
+    nodes_join _ _ (kind_wants (ParseInstance e io f)) (condition_wants f.condition) (condition_wants io + positioned_wants e f) (omega arith) (holds_nodes at f.condition) (λ there.
+    nodes_if there (condition_wants io + positioned_wants e f) _ _ (positioned_nodes at origin e io f) tt)
+
+value_head_nodes : (at : Setting) (o : Object) (x : Sought) (condition : Option Tree) → NodesAtMost (condition_wants condition) (value_head at o x condition)
+unfolding value_head
+value_head_nodes at o x condition =
+    nodes_join _ _ (condition_wants condition) (condition_wants condition) 0 (omega arith) (holds_nodes at condition) (λ there. nodes_if there 0 _ _ tt tt)
+
 member_nodes : (p q : Trail) (o : Object) (x : Sought) (k : MemberKind) → NodesAtMost (1 + kind_wants k) (member_at p q o x k)
 unfolding member_at
-member_nodes p q o x (Attribute f) = attribute_head_nodes p q o x f
 member_nodes p q o x Parameter = tt
-member_nodes p q o x (ParseInstance place stream f) = tt
-member_nodes p q o x (ValueInstance c v e) = tt
-
--- what all expressions want
-abbrev all_wants : Description → ℕ
-all_wants d = sum_by type_wants d.types
+member_nodes p q o x (Attribute f) = attribute_head_nodes p q o x f
+member_nodes p q o x (ParseInstance e io f) = nodes_more (kind_wants (ParseInstance e io f)) _ _ (omega arith) (instance_head_nodes _ _ e io f)
+member_nodes p q o x (ValueInstance condition e enum) = nodes_more (condition_wants condition) _ _ (omega arith) (value_head_nodes _ o x condition)
 
 member_head_nodes : (d : Description) (p q : Trail) (x : ℕ) → NodesAtMost (2 + all_wants d) (member_head d p q x)
 unfolding member_head
 member_head_nodes d p q x =
     nodes_join _ _ (2 + all_wants d) 1 (1 + all_wants d) (omega arith) (head_nodes q) (λ h.
     nodes_join _ _ (1 + all_wants d) 0 (1 + all_wants d) (omega arith) (in_object_nodes q h) (λ o.
-    found_nodes 1 (1 + all_wants d) d o.type_number x _ (omega arith) (λ m. member_nodes p q o m m.kind)))
+    gives_nodes (1 + all_wants d) (λ s. kind_wants s.kind ≤ all_wants d) (member_named d o.type_number x) _ (found_gives d o.type_number x) (λ m le. nodes_more (1 + kind_wants m.kind) _ _ (omega arith) (member_nodes p q o m m.kind))))
 
 in_list_nodes : (l : Trail) (h : Head) → NodesAtMost 0 (in_list l h)
 in_list_nodes l (heads.List g) = tt
 in_list_nodes l (heads.Absent at) = tt
+in_list_nodes l (heads.Calc c) = tt
 in_list_nodes l (heads.Leaf b) = tt
 in_list_nodes l (heads.Object o) = tt
 
@@ -316,7 +422,7 @@ element_head_nodes d p l q i =
     nodes_join _ _ (2 + all_wants d) 1 (1 + all_wants d) (omega arith) (head_nodes l) (λ h.
     nodes_join _ _ (1 + all_wants d) 0 (1 + all_wants d) (omega arith) (in_list_nodes l h) (λ g.
     nodes_join _ _ (1 + all_wants d) 1 (all_wants d) (omega arith) (element_start_nodes l g i) (λ s.
-    field_nodes 0 (all_wants d) d g.source _ (omega arith) (λ f. nodes_more (extent_wants f.extent) _ _ (omega arith) (shape_nodes _ g.source g.stream s f f.choice)))))
+    gives_nodes (all_wants d) (λ f. field_wants f ≤ all_wants d) (field_of d g.origin.member) _ (field_gives d g.origin.member) (λ f le. nodes_more (shape_wants f) _ _ (omega arith) (shape_nodes _ g.origin g.stream s f)))))
 
 head_at_nodes : (d : Description) (p : Trail) (step : Option Step) → NodesAtMost (2 + all_wants d) (head_at d p step)
 head_at_nodes d p None = tt
@@ -369,35 +475,64 @@ content_value_nodes l f (contents.Number signed size order enum) = number_nodes 
 content_value_nodes l f (contents.Characters encoding) = text_nodes l encoding (cut_by f.extent f.terminator)
 content_value_nodes l f (contents.Object t given) = tt
 
-choice_value_nodes : (l : Leaf) (f : Field) (c : Choice) → NodesAtMost 0 (choice_value l f c)
-unfolding choice_value
-choice_value_nodes l f (Always c) = content_value_nodes l f c
-choice_value_nodes l f (Switch on cases) = tt
-
-read_by_nodes : (k : MemberKind) → NodesAtMost 0 (read_by k)
-read_by_nodes (Attribute f) = tt
-read_by_nodes Parameter = tt
-read_by_nodes (ParseInstance place stream f) = tt
-read_by_nodes (ValueInstance c v e) = tt
-
-in_field_asks : (o : Option MemberOfType) → NodesAtMost 0 (in_field o)
-in_field_asks None = tt
-in_field_asks (Some m) = read_by_nodes m.kind
-
+-- what asks nothing goes on
 leaf_value_nodes : (d : Description) (l : Leaf) → NodesAtMost 0 (leaf_value d l)
-unfolding leaf_value field_of
-leaf_value_nodes d l = nodes_join _ _ 0 0 0 (omega arith) (in_field_asks (slice_get (members_of d l.source.type_number) l.source.member)) (λ f. choice_value_nodes l f f.choice)
+unfolding leaf_value
+leaf_value_nodes d l =
+    gives_nodes 0 (λ f. field_wants f ≤ all_wants d) (field_of d l.origin.member) _ (field_gives d l.origin.member) (λ f le.
+    gives_nodes 0 (λ k. content_wants k ≤ choice_wants f.choice) (content_of f.choice l.origin.case) _ (content_gives f.choice l.origin.case) (λ c le'. content_value_nodes l f c))
 
-value_at_nodes : (d : Description) (p : Trail) (h : Head) → NodesAtMost 0 (value_at d p h)
+in_no_stream_nodes : (v : Value) → NodesAtMost 0 (in_no_stream v)
+in_no_stream_nodes (values.Stream w) = tt
+in_no_stream_nodes _ = tt
+
+in_enum_nodes : (enum : Option ℕ) (v : Value) → NodesAtMost 0 (in_enum enum v)
+in_enum_nodes None v = in_no_stream_nodes v
+in_enum_nodes (Some e) (values.Int n) = tt
+in_enum_nodes (Some e) _ = tt
+
+instance_value_nodes : (at : Setting) (e : Tree) (enum : Option ℕ) → NodesAtMost (most_wants e) (instance_value at e enum)
+unfolding instance_value
+instance_value_nodes at e enum = nodes_join _ _ (most_wants e) (most_wants e) 0 (omega arith) (expression_nodes at e) (λ v. in_enum_nodes enum v)
+
+plain_value_nodes : (at : Setting) (e : Tree) → NodesAtMost (most_wants e) (plain_value at e)
+unfolding plain_value
+plain_value_nodes at e = nodes_join _ _ (most_wants e) (most_wants e) 0 (omega arith) (expression_nodes at e) (λ v. in_no_stream_nodes v)
+
+argument_value_nodes : (d : Description) (p q : Trail) (member : ℕ) (o : Object) (g : Origin) → NodesAtMost (all_wants d) (argument_value d p q member o g)
+unfolding argument_value
+argument_value_nodes d p q member o g =
+    gives_nodes (all_wants d) (λ es. arguments_wants es ≤ all_wants d) (arguments_for d g) _ (arguments_gives d g) (λ es le.
+    gives_nodes (all_wants d) (λ e. most_wants e ≤ arguments_wants es) (argument_at es (parameters_before member (members_of d o.type_number))) _ (argument_gives es _) (λ e le'.
+    nodes_more (most_wants e) _ _ (omega arith) (plain_value_nodes (argument_setting p q g o.start) e)))
+
+parameter_value_nodes : (d : Description) (p q : Trail) (member : ℕ) (o : Object) (g : Option Origin) → NodesAtMost (all_wants d) (parameter_value d p q member o g)
+unfolding parameter_value
+parameter_value_nodes d p q member o None = tt
+parameter_value_nodes d p q member o (Some g) = argument_value_nodes d p q member o g
+
+calc_value_nodes : (d : Description) (p q : Trail) (c : Calc) (k : MemberKind) → kind_wants k ≤ all_wants d → NodesAtMost (all_wants d) (calc_value d p q c k)
+unfolding calc_value
+calc_value_nodes d p q c Parameter le = parameter_value_nodes d p q c.member c.object c.object.origin
+calc_value_nodes d p q c (ValueInstance condition e enum) le = nodes_more (most_wants e) _ _ (omega arith) (instance_value_nodes _ e enum)
+calc_value_nodes d p q c (Attribute f) le = tt
+calc_value_nodes d p q c (ParseInstance e io f) le = tt
+
+calculated_nodes : (d : Description) (p q : Trail) (c : Calc) → NodesAtMost (all_wants d) (calculated d p q c)
+unfolding calculated
+calculated_nodes d p q c = gives_nodes (all_wants d) (λ k. kind_wants k ≤ all_wants d) (kind_of d _) _ (kind_gives d _) (λ k le. calc_value_nodes d p q c k le)
+
+value_at_nodes : (d : Description) (p : Trail) (h : Head) → NodesAtMost (all_wants d) (value_at d p h)
 unfolding value_at
 value_at_nodes d p (heads.Absent at) = tt
-value_at_nodes d p (heads.Leaf l) = leaf_value_nodes d l
+value_at_nodes d p (heads.Calc c) = calculated_nodes d p (parent p) c
+value_at_nodes d p (heads.Leaf l) = nodes_more 0 _ _ (omega arith) (leaf_value_nodes d l)
 value_at_nodes d p (heads.Object o) = tt
 value_at_nodes d p (heads.List g) = tt
 
-value_of_nodes : (d : Description) (p : Trail) → NodesAtMost 1 (value_of d p)
+value_of_nodes : (d : Description) (p : Trail) → NodesAtMost (1 + all_wants d) (value_of d p)
 unfolding value_of
-value_of_nodes d p = nodes_join _ _ 1 1 0 (omega arith) (head_nodes p) (λ h. value_at_nodes d p h)
+value_of_nodes d p = nodes_join _ _ (1 + all_wants d) 1 (all_wants d) (omega arith) (head_nodes p) (λ h. value_at_nodes d p h)
 
 -- ---- ends
 
@@ -427,6 +562,7 @@ absent_end_nodes (Some s) = tt
 place_nodes : (d : Description) (p : Trail) (h : Head) → NodesAtMost 1 (place_of d p h)
 unfolding place_of
 place_nodes d p (heads.Absent at) = absent_end_nodes at
+place_nodes d p (heads.Calc c) = tt
 place_nodes d p (heads.Leaf l) = tt
 place_nodes d p (heads.Object o) = object_end_nodes d p o o.ending
 place_nodes d p (heads.List g) = list_end_nodes p
@@ -447,9 +583,9 @@ unfolding element_end
 element_end_nodes d p l q i h e =
     nodes_join _ _ (1 + all_wants d) 1 (all_wants d) (omega arith) (head_nodes l) (λ k.
     nodes_join _ _ (all_wants d) 0 (all_wants d) (omega arith) (in_list_nodes l k) (λ g.
-    field_nodes 0 (all_wants d) d g.source _ (omega arith) (λ f.
-    nodes_join _ _ (0 + field_wants f) 0 (field_wants f) (omega arith) (not_empty_nodes f.repeat (start_of h) e) (λ u.
-    nodes_join _ _ (field_wants f) (repeat_wants f.repeat) 0 (omega arith) (is_last_nodes q g p i e f.repeat) (λ b. tt)))))
+    gives_nodes (all_wants d) (λ f. field_wants f ≤ all_wants d) (field_of d g.origin.member) _ (field_gives d g.origin.member) (λ f le.
+    nodes_join _ _ (all_wants d) 0 (repeat_wants f.repeat) (omega arith) (not_empty_nodes f.repeat (start_of h) e) (λ u.
+    nodes_join _ _ (repeat_wants f.repeat) (repeat_wants f.repeat) 0 (omega arith) (is_last_nodes q g p i e f.repeat) (λ b. tt)))))
 
 end_at_nodes : (d : Description) (p : Trail) (step : Option Step) (h : Head) (e : ℕ) → NodesAtMost (1 + all_wants d) (end_at d p step h e)
 end_at_nodes d p None h e = tt
@@ -479,6 +615,7 @@ rest_from_nodes p l i = nodes_join _ _ 2 1 1 (omega arith) (end_nodes p) (λ e. 
 in_whole_list_nodes : (l : Trail) (h : Head) → NodesAtMost 0 (in_whole_list l h)
 in_whole_list_nodes l (heads.List g) = tt
 in_whole_list_nodes l (heads.Absent at) = tt
+in_whole_list_nodes l (heads.Calc c) = tt
 in_whole_list_nodes l (heads.Leaf b) = tt
 in_whole_list_nodes l (heads.Object o) = tt
 
@@ -505,14 +642,14 @@ rest_of_nodes d p = rest_at_nodes p (last p)
 meaning_nodes : (d : Description) (k : NodeKind) (p : Trail) → NodesAtMost (4 + all_wants d) (meaning_of d k p)
 unfolding meaning_of
 meaning_nodes d nodes.Head p = nodes_join _ _ (4 + all_wants d) (2 + all_wants d) 0 (omega arith) (head_of_nodes d p) (λ h. tt)
-meaning_nodes d nodes.Value p = nodes_join _ _ (4 + all_wants d) 1 0 (omega arith) (value_of_nodes d p) (λ v. tt)
+meaning_nodes d nodes.Value p = nodes_join _ _ (4 + all_wants d) (1 + all_wants d) 0 (omega arith) (value_of_nodes d p) (λ v. tt)
 meaning_nodes d nodes.End p = nodes_join _ _ (4 + all_wants d) (3 + all_wants d) 0 (omega arith) (end_of_nodes d p) (λ e. tt)
 meaning_nodes d nodes.Rest p = nodes_join _ _ (4 + all_wants d) 3 0 (omega arith) (rest_of_nodes d p) (λ r. tt)
 
 -- a rule asks no more nodes than this
 pub rule_nodes : (d : Description) (n : Node) → NodesAtMost (most_asks d) (rule_of d n)
-unfolding rule_of served_rule most_asks
-rule_nodes d n = nodes_if (is_served d) (4 + all_wants d) _ _ (meaning_nodes d n.kind n.path) tt
+unfolding rule_of most_asks
+rule_nodes d n = meaning_nodes d n.kind n.path
 
 done_of : (r : Ran Node Fault State Answered) → IsEnded r → IsDone (step_of r)
 done_of (Need n s) h = h

@@ -2,10 +2,11 @@
 use Rattle.std.specs.Prelude.{ℕ, ◌+◌, List, Option, Some, None, Result, Ok, Err}
 use Rattle.std.specs.List.{sum_by}
 use Rattle.ksv_plan.specs.Plan.{Ran, Need, Failed, Done, run, behind}
-use Rattle.ksv_expr_tree.specs.Tree.{Tree}
+use Rattle.ksv_expr_tree.specs.Tree.{Tree, Arguments, no_arguments, argument}
 use Rattle.ksv_expr_eval.specs.Evaluation.{most_wants}
 use Rattle.ksv_expr_value.specs.declared.fault.Fault.{Fault}
-use Rattle.ksv_desc.specs.Description.{Description, TypeOfObjects, MemberKind, Attribute, Field, Repeat, Once, Eos, Expr, Until, Extent, Sized, SizeEos, ByItself}
+use Rattle.ksv_desc.specs.Description.{Description, TypeOfObjects, MemberKind, Parameter, Attribute, ParseInstance, ValueInstance, Field, Content, Choice, Always, Switch, Repeat, Once, Eos, Expr, Until, Extent, Sized, SizeEos, ByItself}
+use Rattle.ksv_desc.specs.Description as contents
 use Rattle.ksv_memo.specs.Meaning.{Meaning}
 use Rattle.ksv_memo.specs.declared.rules.Next.{Next}
 use Rattle.ksv_memo.specs.declared.rules.Next.TheVariants as steps
@@ -32,13 +33,28 @@ extent_wants (Sized e) = most_wants e
 extent_wants SizeEos = 0
 extent_wants ByItself = 0
 
--- what the expressions of an attribute want at most
+-- what the arguments for an object want at most
+unfoldable pub arguments_wants : Arguments → ℕ
+arguments_wants no_arguments = 0
+arguments_wants (argument e es) = most_wants e + arguments_wants es
+
+abbrev pub content_wants : Content → ℕ
+content_wants (contents.Object t given) = arguments_wants given
+content_wants _ = 0
+
+abbrev pub choice_wants : Choice → ℕ
+choice_wants (Always c) = content_wants c
+choice_wants (Switch on cases) = most_wants on + sum_by (λ c. content_wants c.content) cases
+
+-- what the expressions of an attribute or a parse instance want at most
 abbrev pub field_wants : Field → ℕ
-field_wants f = condition_wants f.condition + (repeat_wants f.repeat + extent_wants f.extent)
+field_wants f = condition_wants f.condition + (repeat_wants f.repeat + (choice_wants f.choice + extent_wants f.extent))
 
 abbrev pub kind_wants : MemberKind → ℕ
+kind_wants Parameter = 0
 kind_wants (Attribute f) = field_wants f
-kind_wants _ = 0
+kind_wants (ParseInstance e io f) = most_wants e + (condition_wants io + field_wants f)
+kind_wants (ValueInstance condition e enum) = condition_wants condition + most_wants e
 
 abbrev pub type_wants : TypeOfObjects → ℕ
 type_wants t = sum_by (λ m. kind_wants m.kind) t.members

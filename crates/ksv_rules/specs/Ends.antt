@@ -45,13 +45,14 @@ list_end p = do
   r ← part_rest p (steps.Index 0)
   Answer r.place
 
--- an attribute that is absent ends at its place; without a place it has no end
+-- what is absent ends at its place; without a place it has no end, and so does what is calculated
 abbrev pub absent_end : Option ℕ → Rule ℕ
 absent_end None = raise kinds.NoSuch
 absent_end (Some s) = Answer s
 
 unfoldable pub place_of : Description → Trail → Head → Rule ℕ
 place_of d p (heads.Absent at) = absent_end at
+place_of d p (heads.Calc c) = raise kinds.NoSuch
 place_of d p (heads.Leaf l) = Answer l.end
 place_of d p (heads.Object o) = object_end d p o o.ending
 place_of d p (heads.List g) = list_end p
@@ -62,6 +63,7 @@ place_of d p (heads.List g) = list_end p
 abbrev pub start_of : Head → ℕ
 start_of (heads.Absent None) = 0
 start_of (heads.Absent (Some s)) = s
+start_of (heads.Calc c) = 0
 start_of (heads.Leaf l) = l.from
 start_of (heads.Object o) = o.start
 start_of (heads.List g) = g.start
@@ -74,7 +76,7 @@ is_counted (Some n) i = n == i + 1
 
 -- where `repeat-until` stands: in the object q at the end of the element i of a list in it, with faults at p
 abbrev pub behind_element : Trail → lists.List → Trail → ℕ → ℕ → Setting
-behind_element q g p i e = record { home = q; stream = g.home; place = e; index = Some i; element = Some p; here = p }
+behind_element q g p i e = record { home = q; stream = g.origin.home; place = e; index = Some i; element = Some p; here = p }
 
 unfoldable pub is_last : Trail → lists.List → Trail → ℕ → ℕ → Repeat → Rule Bool
 is_last q g p i e Once = raise kinds.NoSuch
@@ -96,7 +98,7 @@ unfoldable pub element_end : Description → Trail → Trail → Trail → ℕ �
 element_end d p l q i h e = do
   k ← ask_head l
   g ← in_list l k
-  f ← field_of d g.source
+  f ← field_of d g.origin.member
   u ← not_empty f.repeat (start_of h) e
   b ← is_last q g p i e f.repeat
   Answer (record { place = e; last = b })

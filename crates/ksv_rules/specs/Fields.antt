@@ -1,9 +1,9 @@
 -- What a description says of the members of its types.
-use Rattle.std.specs.Prelude.{ℕ, ◌+◌, ◌==◌, Bool, true, false, List, [], ◌∷◌, Option, Some, None, slice_get, if◌then◌else◌}
+use Rattle.std.specs.Prelude.{ℕ, zero, suc, ◌+◌, ◌==◌, Bool, true, false, List, [], ◌∷◌, Option, Some, None, slice_get, if◌then◌else◌}
 use Rattle.std.specs.Option.{option_map_or}
-use Rattle.ksv_plan.specs.Plan.{Answer}
+use Rattle.ksv_plan.specs.Plan.{Answer, ◌>>=◌}
 use Rattle.ksv_expr_value.specs.declared.fault.FaultKind.TheVariants as kinds
-use Rattle.ksv_desc.specs.Description.{Description, MemberOfType, Field, MemberKind, Attribute}
+use Rattle.ksv_desc.specs.Description.{Description, MemberOfType, Field, MemberKind, Parameter, Attribute, ParseInstance, ValueInstance}
 use Rattle.ksv_nodes.specs.declared.given.MemberRef.{MemberRef}
 use Rattle.ksv_nodes.specs.Rule.{Rule, raise}
 
@@ -47,12 +47,30 @@ last_attribute before (m ∷ ms) = last_attribute (behind before m) ms
 -- how a member reads, where it is one that reads
 abbrev pub read_by : MemberKind → Rule Field
 read_by (Attribute f) = Answer f
+read_by (ParseInstance e io f) = Answer f
 read_by _ = raise kinds.NoSuch
 
-abbrev pub in_field : Option MemberOfType → Rule Field
-in_field None = raise kinds.NoSuch
-in_field (Some m) = read_by m.kind
+abbrev pub in_kind : Option MemberOfType → Rule MemberKind
+in_kind None = raise kinds.NoSuch
+in_kind (Some m) = Answer m.kind
 
--- how the attribute of a source reads; the sources of true heads are those of attributes (`HeadsAreRead` of Laws)
+-- what the member at a place of a type's members is; that of a true head is there (`HeadsAreRead` of Laws)
+unfoldable pub kind_of : Description → MemberRef → Rule MemberKind
+kind_of d r = in_kind (slice_get (members_of d r.type_number) r.member)
+
+-- how it reads; that of a true head does
 unfoldable pub field_of : Description → MemberRef → Rule Field
-field_of d s = in_field (slice_get (members_of d s.type_number) s.member)
+field_of d r = do
+  k ← kind_of d r
+  read_by k
+
+-- ---- parameters
+
+abbrev pub is_parameter : MemberOfType → Bool
+is_parameter m = elim m.kind [ Parameter ↦ true | Attribute f ↦ false | ParseInstance e io f ↦ false | ValueInstance c e enum ↦ false ]
+
+-- how many parameters are among the first of some members: so many arguments are those of others
+unfoldable pub parameters_before : ℕ → List MemberOfType → ℕ
+parameters_before zero ms = 0
+parameters_before (suc i) [] = 0
+parameters_before (suc i) (m ∷ ms) = if is_parameter m then parameters_before i ms + 1 else parameters_before i ms

@@ -1,8 +1,6 @@
--- What stands at a path, and where: attributes of `seq` one behind the other, the elements of repeated ones, and what each
--- reads. The rules are those of the Kaitai Struct User Guide on `seq`, sizes, terminators, `if` and `repeat`; that all of it
--- is looked for only when it is asked is this project's own.
---
--- The cases that aren't served yet (parameters, instances, switches) answer no-such.
+-- What stands at a path, and where: attributes of `seq` one behind the other, instances where they say, the elements of
+-- repeated ones, and what each reads. The rules are those of the Kaitai Struct User Guide on `seq`, `instances`, sizes,
+-- terminators, `if`, `switch-on` and `repeat`; that all of it is looked for only when it is asked is this project's own.
 use Rattle.std.specs.Prelude.{ℕ, ◌+◌, ◌-◌, ◌==◌, nat_lt, nat_le, Bool, false, ◌||◌, length, Option, Some, None, if◌then◌else◌}
 use Rattle.ksv_plan.specs.Plan.{Answer, Fail, ◌>>=◌, ◌>>◌}
 use Rattle.ksv_expr_tree.specs.Tree.{Tree}
@@ -12,9 +10,9 @@ use Rattle.ksv_expr_value.specs.declared.fault.FaultKind.TheVariants as kinds
 use Rattle.ksv_expr_value.specs.declared.step.Step.{Step}
 use Rattle.ksv_expr_value.specs.declared.step.Step.TheVariants as steps
 use Rattle.ksv_expr_value.specs.declared.value.Stream.{Stream}
-use Rattle.ksv_desc.specs.Description.{Description, Field, Content, Choice, Always, Switch, Extent, Sized, SizeEos, ByItself, Repeat, Once, Eos, Expr, Until, Terminator, MemberKind, Attribute}
+use Rattle.ksv_desc.specs.Description.{Description, Field, Content, Extent, Sized, SizeEos, ByItself, Repeat, Once, Eos, Expr, Until, Terminator, MemberKind, Parameter, Attribute, ParseInstance, ValueInstance}
 use Rattle.ksv_desc.specs.Description as contents
-use Rattle.ksv_nodes.specs.declared.given.MemberRef.{MemberRef}
+use Rattle.ksv_nodes.specs.declared.given.Origin.{Origin}
 use Rattle.ksv_nodes.specs.declared.given.ObjectEnd.TheVariants as endings
 use Rattle.ksv_nodes.specs.declared.given.Object.{Object}
 use Rattle.ksv_nodes.specs.declared.given.List as lists
@@ -25,73 +23,85 @@ use Rattle.ksv_nodes.specs.declared.turn.Found.TheVariants as founds
 use Rattle.ksv_nodes.specs.declared.given.Ended.{Ended}
 use Rattle.ksv_nodes.specs.Rule.{Rule, raise, There, part, ask_head, ask_end, reach, finish, done, find}
 use Rattle.ksv_rules.specs.Fields.{Sought, member_named, field_of}
-use Rattle.ksv_rules.specs.Wanted.{whole, in_object, holds, size_of}
+use Rattle.ksv_rules.specs.Choosing.{Chosen, choose}
+use Rattle.ksv_rules.specs.Wanted.{whole, in_object, holds, size_of, stream_for}
 
 -- ---- what is read at a place
 
 -- n bytes from a place on
-unfoldable pub leaf : MemberRef → Stream → ℕ → ℕ → Rule Head
-leaf source w s n = do
+unfoldable pub leaf : Origin → Stream → ℕ → ℕ → Rule Head
+leaf origin w s n = do
   reach w (s + n)
-  Answer (heads.Leaf (record { source = source; from = s; to = s + n; end = s + n }))
+  Answer (heads.Leaf (record { origin = origin; from = s; to = s + n; end = s + n }))
 
 -- all bytes to the stream's end
-unfoldable pub leaf_to_end : MemberRef → Stream → ℕ → Rule Head
-leaf_to_end source w s = do
+unfoldable pub leaf_to_end : Origin → Stream → ℕ → Rule Head
+leaf_to_end origin w s = do
   e ← finish w
-  Answer (heads.Leaf (record { source = source; from = s; to = e; end = e }))
+  Answer (heads.Leaf (record { origin = origin; from = s; to = e; end = e }))
 
 -- Bytes up to a terminator. It is a part of them where it is included, and what follows begins at it where it isn't consumed.
 -- Without one the bytes go on to the stream's end, unless it must be there.
-abbrev pub terminated_at : MemberRef → ℕ → Terminator → Found → Rule Head
-terminated_at source s t (founds.At q) = Answer (heads.Leaf (record { source = source; from = s; to = if t.is_included then q + 1 else q; end = if t.is_consumed then q + 1 else q }))
-terminated_at source s t (founds.Missing e) = if t.is_required then raise kinds.NoTerminator else Answer (heads.Leaf (record { source = source; from = s; to = e; end = e }))
+abbrev pub terminated_at : Origin → ℕ → Terminator → Found → Rule Head
+terminated_at origin s t (founds.At q) = Answer (heads.Leaf (record { origin = origin; from = s; to = if t.is_included then q + 1 else q; end = if t.is_consumed then q + 1 else q }))
+terminated_at origin s t (founds.Missing e) = if t.is_required then raise kinds.NoTerminator else Answer (heads.Leaf (record { origin = origin; from = s; to = e; end = e }))
 
-unfoldable pub terminated : MemberRef → Stream → ℕ → Terminator → Rule Head
-terminated source w s t = do
+unfoldable pub terminated : Origin → Stream → ℕ → Terminator → Rule Head
+terminated origin w s t = do
   q ← find w s t.byte
-  terminated_at source s t q
+  terminated_at origin s t q
 
 -- what goes as far as it goes by itself; where nothing says how far, nothing is there
-unfoldable pub run_of : MemberRef → Stream → ℕ → Option Terminator → Rule Head
-run_of source w s None = Answer (heads.Absent (Some s))
-run_of source w s (Some t) = terminated source w s t
+unfoldable pub run_of : Origin → Stream → ℕ → Option Terminator → Rule Head
+run_of origin w s None = Answer (heads.Absent (Some s))
+run_of origin w s (Some t) = terminated origin w s t
 
 -- bytes or a text
-unfoldable pub sized_leaf : Setting → MemberRef → Stream → ℕ → Tree → Rule Head
-sized_leaf at source w s e = do
+unfoldable pub sized_leaf : Setting → Origin → Stream → ℕ → Tree → Rule Head
+sized_leaf at origin w s e = do
   n ← size_of at e
-  leaf source w s n
+  leaf origin w s n
 
-unfoldable pub bytes_at : Setting → MemberRef → Stream → ℕ → Extent → Option Terminator → Rule Head
-bytes_at at source w s (Sized e) t = sized_leaf at source w s e
-bytes_at at source w s SizeEos t = leaf_to_end source w s
-bytes_at at source w s ByItself t = run_of source w s t
+unfoldable pub bytes_at : Setting → Origin → Stream → ℕ → Extent → Option Terminator → Rule Head
+bytes_at at origin w s (Sized e) t = sized_leaf at origin w s e
+bytes_at at origin w s SizeEos t = leaf_to_end origin w s
+bytes_at at origin w s ByItself t = run_of origin w s t
 
 -- an object with a size has a stream of its own
-unfoldable pub sized_object : Setting → ℕ → Stream → ℕ → Tree → Rule Head
-sized_object at t w s e = do
+unfoldable pub sized_object : Setting → Origin → ℕ → Stream → ℕ → Tree → Rule Head
+sized_object at origin t w s e = do
   n ← size_of at e
   reach w (s + n)
-  Answer (heads.Object (record { type_number = t; stream = record { from = s; to = Some (s + n) }; start = s; ending = endings.At (s + n) }))
+  Answer (heads.Object (record { origin = Some origin; type_number = t; stream = record { from = s; to = Some (s + n) }; start = s; ending = endings.At (s + n) }))
 
 -- an object to the stream's end, and one that ends with its fields
-unfoldable pub object_at : Setting → ℕ → Stream → ℕ → Extent → Rule Head
-object_at at t w s (Sized e) = sized_object at t w s e
-object_at at t w s SizeEos = Answer (heads.Object (record { type_number = t; stream = record { from = s; to = w.to }; start = s; ending = endings.OfStream }))
-object_at at t w s ByItself = Answer (heads.Object (record { type_number = t; stream = w; start = s; ending = endings.ByFields }))
+unfoldable pub object_at : Setting → Origin → ℕ → Stream → ℕ → Extent → Rule Head
+object_at at origin t w s (Sized e) = sized_object at origin t w s e
+object_at at origin t w s SizeEos = Answer (heads.Object (record { origin = Some origin; type_number = t; stream = record { from = s; to = w.to }; start = s; ending = endings.OfStream }))
+object_at at origin t w s ByItself = Answer (heads.Object (record { origin = Some origin; type_number = t; stream = w; start = s; ending = endings.ByFields }))
 
-unfoldable pub content_at : Setting → MemberRef → Stream → ℕ → Field → Content → Rule Head
-content_at at source w s f contents.Bytes = bytes_at at source w s f.extent f.terminator
-content_at at source w s f (contents.Fixed bs) = leaf source w s (length bs)
-content_at at source w s f (contents.Number signed size order enum) = leaf source w s size
-content_at at source w s f (contents.Characters encoding) = bytes_at at source w s f.extent f.terminator
-content_at at source w s f (contents.Object t given) = object_at at t w s f.extent
+unfoldable pub content_at : Setting → Origin → Stream → ℕ → Field → Content → Rule Head
+content_at at origin w s f contents.Bytes = bytes_at at origin w s f.extent f.terminator
+content_at at origin w s f (contents.Fixed bs) = leaf origin w s (length bs)
+content_at at origin w s f (contents.Number signed size order enum) = leaf origin w s size
+content_at at origin w s f (contents.Characters encoding) = bytes_at at origin w s f.extent f.terminator
+content_at at origin w s f (contents.Object t given) = object_at at origin t w s f.extent
 
--- what an attribute, or one of its elements, reads at a place of a stream
-unfoldable pub shape_at : Setting → MemberRef → Stream → ℕ → Field → Choice → Rule Head
-shape_at at source w s f (Always c) = content_at at source w s f c
-shape_at at source w s f (Switch on cases) = raise kinds.NoSuch
+-- what is read where a switch chose no case: bytes of a size, and without one nothing
+unfoldable pub unchosen_at : Setting → Origin → Stream → ℕ → Extent → Rule Head
+unchosen_at at origin w s (Sized e) = sized_leaf at origin w s e
+unchosen_at at origin w s SizeEos = leaf_to_end origin w s
+unchosen_at at origin w s ByItself = Answer (heads.Absent (Some s))
+
+abbrev pub chosen_at : Setting → Origin → Stream → ℕ → Field → Option Chosen → Rule Head
+chosen_at at origin w s f None = unchosen_at at origin w s f.extent
+chosen_at at origin w s f (Some c) = content_at at (record origin { case = c.case }) w s f c.content
+
+-- what an attribute or instance, or one of its elements, reads at a place of a stream: first its case is chosen
+unfoldable pub shape_at : Setting → Origin → Stream → ℕ → Field → Rule Head
+shape_at at origin w s f = do
+  c ← choose at f.choice
+  chosen_at at origin w s f c
 
 -- ---- attributes
 
@@ -105,27 +115,27 @@ count_of at e = do
   in_count n
 
 -- the elements of an attribute
-unfoldable pub counted : Setting → MemberRef → Stream → ℕ → Tree → Rule Head
-counted at source w s e = do
+unfoldable pub counted : Setting → Origin → Stream → ℕ → Tree → Rule Head
+counted at origin w s e = do
   n ← count_of at e
-  Answer (heads.List (record { source = source; stream = w; home = at.stream; start = s; count = Some n; is_empty = n == 0 }))
+  Answer (heads.List (record { origin = origin; stream = w; start = s; count = Some n; is_empty = n == 0 }))
 
-unfoldable pub until_eos : Setting → MemberRef → Stream → ℕ → Rule Head
-until_eos at source w s = do
+unfoldable pub until_eos : Setting → Origin → Stream → ℕ → Rule Head
+until_eos at origin w s = do
   b ← done w s
-  Answer (heads.List (record { source = source; stream = w; home = at.stream; start = s; count = None; is_empty = b }))
+  Answer (heads.List (record { origin = origin; stream = w; start = s; count = None; is_empty = b }))
 
-unfoldable pub repeated : Setting → MemberRef → Stream → ℕ → Field → Repeat → Rule Head
-repeated at source w s f Once = shape_at at source w s f f.choice
-repeated at source w s f (Expr e) = counted at source w s e
-repeated at source w s f Eos = until_eos at source w s
-repeated at source w s f (Until e) = Answer (heads.List (record { source = source; stream = w; home = at.stream; start = s; count = None; is_empty = false }))
+unfoldable pub repeated : Setting → Origin → Stream → ℕ → Field → Repeat → Rule Head
+repeated at origin w s f Once = shape_at at origin w s f
+repeated at origin w s f (Expr e) = counted at origin w s e
+repeated at origin w s f Eos = until_eos at origin w s
+repeated at origin w s f (Until e) = Answer (heads.List (record { origin = origin; stream = w; start = s; count = None; is_empty = false }))
 
 -- an attribute whose condition is false takes no bytes
-unfoldable pub attribute_at : Setting → MemberRef → Stream → ℕ → Field → Rule Head
-attribute_at at source w s f = do
+unfoldable pub attribute_at : Setting → Origin → Stream → ℕ → Field → Rule Head
+attribute_at at origin w s f = do
   there ← holds at f.condition
-  if there then repeated at source w s f f.repeat else Answer (heads.Absent (Some s))
+  if there then repeated at origin w s f f.repeat else Answer (heads.Absent (Some s))
 
 -- an attribute begins where its object does, or where the attribute before it ends
 unfoldable pub part_end : Trail → Step → Rule Ended
@@ -139,19 +149,61 @@ attribute_start q o (Some y) = do
   e ← part_end q (steps.Name y)
   Answer e.place
 
--- where expressions of an attribute stand: in the object q, at the place s, with faults at p
+-- where expressions of a member stand: in the object q, at the place s, with faults at p
 abbrev pub setting : Trail → Stream → ℕ → Trail → Setting
 setting q w s p = record { home = q; stream = w; place = s; index = None; element = None; here = p }
+
+-- how a member of an object is read; its case isn't chosen yet
+abbrev pub origin_of : Object → Sought → Origin
+origin_of o x = record { member = record { type_number = o.type_number; member = x.member }; case = None; home = o.stream }
 
 unfoldable pub attribute_head : Trail → Trail → Object → Sought → Field → Rule Head
 attribute_head p q o x f = do
   s ← attribute_start q o x.before
-  attribute_at (setting q o.stream s p) (record { type_number = o.type_number; member = x.member }) o.stream s f
+  attribute_at (setting q o.stream s p) (origin_of o x) o.stream s f
+
+-- ---- instances
+
+-- Expressions of an instance stand where its object begins.
+abbrev pub instance_setting : Trail → Trail → Object → Setting
+instance_setting p q o = setting q o.stream o.start p
+
+-- A parse instance stands in the stream of its object, or in the one that `io` names, at a position that is counted from that
+-- stream's first byte.
+unfoldable pub positioned_in : Setting → Origin → Stream → Tree → Field → Rule Head
+positioned_in at origin w e f = do
+  n ← size_of at e
+  reach w (w.from + n)
+  repeated (record at { place = w.from + n }) origin w (w.from + n) f f.repeat
+
+unfoldable pub positioned : Setting → Origin → Tree → Option Tree → Field → Rule Head
+positioned at origin e io f = do
+  w ← stream_for at io
+  positioned_in at origin w e f
+
+-- an instance whose condition is false has no place
+unfoldable pub instance_head : Setting → Origin → Tree → Option Tree → Field → Rule Head
+instance_head at origin e io f = do
+  there ← holds at f.condition
+  if there then positioned at origin e io f else Answer (heads.Absent None)
+
+-- a value instance or a parameter
+abbrev pub calc : Object → Sought → Head
+calc o x = heads.Calc (record { member = x.member; object = o })
+
+unfoldable pub value_head : Setting → Object → Sought → Option Tree → Rule Head
+value_head at o x condition = do
+  there ← holds at condition
+  if there then Answer (calc o x) else Answer (heads.Absent None)
+
+-- ---- members
 
 -- a member of an object
 unfoldable pub member_at : Trail → Trail → Object → Sought → MemberKind → Rule Head
+member_at p q o x Parameter = Answer (calc o x)
 member_at p q o x (Attribute f) = attribute_head p q o x f
-member_at p q o x _ = raise kinds.NoSuch
+member_at p q o x (ParseInstance e io f) = instance_head (instance_setting p q o) (origin_of o x) e io f
+member_at p q o x (ValueInstance condition e enum) = value_head (instance_setting p q o) o x condition
 
 -- the member x of q, which is p
 unfoldable pub member_head : Description → Trail → Trail → ℕ → Rule Head
@@ -199,14 +251,14 @@ element_head d p l q i = do
   h ← ask_head l
   g ← in_list l h
   s ← element_start l g i
-  f ← field_of d g.source
-  shape_at (within (setting q g.home s p) i) g.source g.stream s f f.choice
+  f ← field_of d g.origin.member
+  shape_at (within (setting q g.origin.home s p) i) g.origin g.stream s f
 
 -- ---- heads
 
 -- the root is an object of the first type, in the whole file
 abbrev pub root_head : Head
-root_head = heads.Object (record { type_number = 0; stream = whole; start = 0; ending = endings.ByFields })
+root_head = heads.Object (record { origin = None; type_number = 0; stream = whole; start = 0; ending = endings.ByFields })
 
 abbrev pub head_at : Description → Trail → Option Step → Rule Head
 head_at d p None = Answer root_head

@@ -4,15 +4,14 @@ pub mod Fields
 pub mod Members
 pub mod Integers
 pub mod Wanted
+pub mod Choosing
 pub mod Heads
 pub mod Values
 pub mod Ends
 pub mod Meaning
 pub mod FromNothing
-pub mod Expressions
 pub mod Described
 pub mod Bounds
 pub mod Lawful
 pub mod Direct
-pub mod Laws
 pub mod Code

@@ -1,25 +1,35 @@
--- The value of what stands at a path: integers, bytes and texts as the Kaitai Struct User Guide has them, objects and lists by
--- their path.
-use Rattle.std.specs.Prelude.{ℕ, ◌+◌, nat_le, Bool, ℤ, List, length, take, Option, Some, None, if◌then◌else◌}
+-- The value of what stands at a path: integers, bytes and texts, value instances and parameters as the Kaitai Struct User Guide
+-- has them, objects and lists by their path.
+use Rattle.std.specs.Prelude.{ℕ, zero, suc, ◌+◌, nat_le, Bool, ℤ, List, length, take, Option, Some, None, if◌then◌else◌}
 use Rattle.std.specs.Str.{bytes_eq}
 use Rattle.ksv_plan.specs.Plan.{Answer, ◌>>=◌}
 use Rattle.ksv_desc.specs.declared.order.ByteOrder.{ByteOrder}
-use Rattle.ksv_expr_value.specs.Trail.{Trail}
+use Rattle.ksv_expr_tree.specs.Tree.{Tree, Arguments, no_arguments, argument}
+use Rattle.ksv_expr_value.specs.Setting.{Setting}
+use Rattle.ksv_expr_value.specs.Trail.{Trail, parent, last}
 use Rattle.ksv_expr_value.specs.Range.{ranged}
 use Rattle.ksv_expr_value.specs.Encodings.{decoded}
 use Rattle.ksv_expr_value.specs.declared.encoding.Encoding.{Encoding}
 use Rattle.ksv_expr_value.specs.declared.fault.FaultKind.TheVariants as kinds
+use Rattle.ksv_expr_value.specs.declared.step.Step.{Step}
+use Rattle.ksv_expr_value.specs.declared.step.Step.TheVariants as steps
 use Rattle.ksv_expr_value.specs.declared.value.Value.{Value}
 use Rattle.ksv_expr_value.specs.declared.value.Value.TheVariants as values
-use Rattle.ksv_desc.specs.Description.{Description, Field, Content, Choice, Always, Switch, Extent, Sized, SizeEos, ByItself, Terminator}
+use Rattle.ksv_desc.specs.Description.{Description, MemberKind, Parameter, ValueInstance, Field, Content, Extent, Sized, SizeEos, ByItself, Terminator}
 use Rattle.ksv_desc.specs.Description as contents
+use Rattle.ksv_nodes.specs.declared.given.Calc.{Calc}
 use Rattle.ksv_nodes.specs.declared.given.Leaf.{Leaf}
+use Rattle.ksv_nodes.specs.declared.given.Object.{Object}
+use Rattle.ksv_nodes.specs.declared.given.Origin.{Origin}
 use Rattle.ksv_nodes.specs.declared.given.Head.{Head}
 use Rattle.ksv_nodes.specs.declared.given.Head.TheVariants as heads
 use Rattle.ksv_nodes.specs.Reading.{first_at}
 use Rattle.ksv_nodes.specs.Rule.{Rule, raise, ask_head, peek}
-use Rattle.ksv_rules.specs.Fields.{field_of}
+use Rattle.ksv_rules.specs.Choosing.{content_of}
+use Rattle.ksv_rules.specs.Fields.{members_of, kind_of, field_of, parameters_before}
+use Rattle.ksv_rules.specs.Heads.{setting, within, instance_setting}
 use Rattle.ksv_rules.specs.Integers.{integer_value}
+use Rattle.ksv_rules.specs.Wanted.{expression}
 
 -- an integer, and as a member of an enum where it is one
 abbrev pub as_member : Option ℕ → ℤ → Value
@@ -93,17 +103,90 @@ content_value l f (contents.Number signed size order enum) = number_value l sign
 content_value l f (contents.Characters encoding) = text_value l encoding (cut_by f.extent f.terminator)
 content_value l f (contents.Object t given) = raise kinds.NoSuch
 
-unfoldable pub choice_value : Leaf → Field → Choice → Rule Value
-choice_value l f (Always c) = content_value l f c
-choice_value l f (Switch on cases) = raise kinds.NoSuch
-
 unfoldable pub leaf_value : Description → Leaf → Rule Value
 leaf_value d l = do
-  f ← field_of d l.source
-  choice_value l f f.choice
+  f ← field_of d l.origin.member
+  c ← content_of f.choice l.origin.case
+  content_value l f c
+
+-- ---- calculated values
+
+-- No member's value is a stream: `load` lets `_io` stand alone only as the end of an `io`.
+abbrev pub in_no_stream : Value → Rule Value
+in_no_stream (values.Stream w) = raise kinds.BadType
+in_no_stream v = Answer v
+
+-- a value as a member of an enum, where it is one; what is no integer doesn't fit
+abbrev pub in_enum : Option ℕ → Value → Rule Value
+in_enum None v = in_no_stream v
+in_enum (Some e) (values.Int n) = Answer (values.Member e n)
+in_enum (Some e) _ = raise kinds.BadType
+
+-- the expression of a value instance, in its object
+unfoldable pub instance_value : Setting → Tree → Option ℕ → Rule Value
+instance_value at e enum = do
+  v ← expression at e
+  in_enum enum v
+
+-- the arguments that were given to an object of a type
+abbrev pub given_by : Content → Rule Arguments
+given_by (contents.Object t given) = Answer given
+given_by _ = raise kinds.NoSuch
+
+unfoldable pub arguments_for : Description → Origin → Rule Arguments
+arguments_for d g = do
+  f ← field_of d g.member
+  c ← content_of f.choice g.case
+  given_by c
+
+-- the argument of this number; there is one for each parameter
+unfoldable pub argument_at : Arguments → ℕ → Rule Tree
+argument_at no_arguments i = raise kinds.NoSuch
+argument_at (argument e es) zero = Answer e
+argument_at (argument e es) (suc i) = argument_at es i
+
+-- Where the arguments of the object q stand: in the object that holds the attribute by which q is read, with the number of q
+-- where it is an element. Their faults stand at p, the parameter.
+abbrev pub setting_of_holder : Trail → Trail → Option Step → Origin → ℕ → Setting
+setting_of_holder p q (Some (steps.Index i)) g start = within (setting (parent (parent q)) g.home start p) i
+setting_of_holder p q _ g start = setting (parent q) g.home start p
+
+abbrev pub argument_setting : Trail → Trail → Origin → ℕ → Setting
+argument_setting p q g start = setting_of_holder p q (last q) g start
+
+-- the value of an argument isn't converted
+unfoldable pub plain_value : Setting → Tree → Rule Value
+plain_value at e = do
+  v ← expression at e
+  in_no_stream v
+
+unfoldable pub argument_value : Description → Trail → Trail → ℕ → Object → Origin → Rule Value
+argument_value d p q member o g = do
+  given ← arguments_for d g
+  e ← argument_at given (parameters_before member (members_of d o.type_number))
+  plain_value (argument_setting p q g o.start) e
+
+-- nothing is given to the root, which has no parameters
+unfoldable pub parameter_value : Description → Trail → Trail → ℕ → Object → Option Origin → Rule Value
+parameter_value d p q member o None = raise kinds.NoSuch
+parameter_value d p q member o (Some g) = argument_value d p q member o g
+
+unfoldable pub calc_value : Description → Trail → Trail → Calc → MemberKind → Rule Value
+calc_value d p q c Parameter = parameter_value d p q c.member c.object c.object.origin
+calc_value d p q c (ValueInstance condition e enum) = instance_value (instance_setting p q c.object) e enum
+calc_value d p q c _ = raise kinds.NoSuch
+
+-- the value of a member that is calculated, at the path p, of the object q
+unfoldable pub calculated : Description → Trail → Trail → Calc → Rule Value
+calculated d p q c = do
+  k ← kind_of d (record { type_number = c.object.type_number; member = c.member })
+  calc_value d p q c k
+
+-- ---- values
 
 unfoldable pub value_at : Description → Trail → Head → Rule Value
 value_at d p (heads.Absent at) = raise kinds.Absent
+value_at d p (heads.Calc c) = calculated d p (parent p) c
 value_at d p (heads.Leaf l) = leaf_value d l
 value_at d p (heads.Object o) = Answer (values.Object p)
 value_at d p (heads.List g) = Answer (values.List p)

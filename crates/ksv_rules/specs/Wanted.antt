@@ -88,3 +88,15 @@ unfoldable pub size_of : Setting → Tree → Rule ℕ
 size_of s e = do
   z ← integer_of s e
   in_size z
+
+-- a stream
+abbrev pub in_stream : Value → Rule Stream
+in_stream (values.Stream w) = Answer w
+in_stream _ = raise kinds.BadType
+
+-- the stream that an expression names; without one it is the object's own
+unfoldable pub stream_for : Setting → Option Tree → Rule Stream
+stream_for s None = Answer s.stream
+stream_for s (Some e) = do
+  v ← expression s e
+  in_stream v

@@ -4,7 +4,6 @@ ghost use Rattle.std.specs.Prelude.{◌≡◌};
 ghost use Rattle.ksv_desc.specs.Whole.{plain_pieces};
 ghost use Rattle.ksv_memo.specs.Meaning.{IsAddedTo};
 ghost use Rattle.ksv_nodes.specs.Exact.{node_exact};
-ghost use Rattle.ksv_paths.specs.Served.{is_served};
 ghost use Rattle.ksv_rules.specs.Described.{described};
 ghost use Rattle.ksv_rules.specs.Lawful.{described_lawful};
 
@@ -14,7 +13,6 @@ use ksv_desc::Desc;
 use ksv_expr_eval::Fault;
 use ksv_memo::{Next, Rules};
 use ksv_nodes::{Given, Halt, Node, Turn};
-use ksv_paths::served;
 use std::alloc::{AllocError, Global};
 
 type Answer = Result<Given, Fault>;
@@ -23,9 +21,6 @@ type Answer = Result<Given, Fault>;
 #[derive(Drop)]
 pub struct Described {
     desc: Desc,
-    // Whether it is served; the nodes of another answer no-such.
-    has_answers: bool,
-    ghost known: { has_answers ≡ is_served (plain_pieces desc) },
 }
 
 impl Described {
@@ -33,8 +28,7 @@ impl Described {
     pub fn new(desc: Desc) -> Self
         ensures { result.desc ≡ desc }
     {
-        let has_answers = served(&desc);
-        Described { desc, has_answers }
+        Described { desc }
     }
 
     /// The description.
@@ -59,7 +53,6 @@ impl Rules for Described {
 
     ghost meaning = { λ rules. described (plain_pieces rules.desc) };
 
-    #[tactic(auto, unfolding(crate::specs::Meaning::rule_of))]
     fn next(
         &self,
         alloc: Global,
@@ -69,7 +62,7 @@ impl Rules for Described {
         uses: &mut Vec<Use>,
     ) -> Result<Next<Node, Answer>, AllocError> {
         let mut turn = Turn::new(alloc, &node.path, bytes, replies);
-        let next = match rule(&mut turn, self.has_answers, &self.desc, node) {
+        let next = match rule(&mut turn, &self.desc, node) {
             Ok(given) => Next::Done(Ok(given)),
             Err(Halt::Need(needed)) => Next::Need(needed),
             Err(Halt::Fault(fault)) => Next::Done(Err(fault)),

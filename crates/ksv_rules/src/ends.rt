@@ -85,6 +85,7 @@ fn place_of(turn: &mut Turn, desc: &Desc, path: &Path, head: Head) -> Result<u32
 {
     match head {
         Head::Absent(at) => absent_end(turn, at),
+        Head::Calc(_) => turn.raise(FaultKind::NoSuch),
         Head::Leaf(leaf) => Ok(leaf.end),
         Head::Object(object) => object_end(turn, desc, path, object, object.ending),
         Head::List(_) => list_end(turn, path),
@@ -98,6 +99,7 @@ fn start_of(head: Head) -> u32
     match head {
         Head::Absent(None) => 0,
         Head::Absent(Some(place)) => place,
+        Head::Calc(_) => 0,
         Head::Leaf(leaf) => leaf.from,
         Head::Object(object) => object.start,
         Head::List(list) => list.start,
@@ -127,7 +129,7 @@ fn holds_behind(
 {
     let list_path = element.parent(turn.alloc())?;
     let home = list_path.parent(turn.alloc())?;
-    let ctx = Ctx::new(&home, list.home, end, element)
+    let ctx = Ctx::new(&home, list.origin.home, end, element)
         .within(index)
         .behind(element);
     truth_of(turn, &ctx, condition)
@@ -192,7 +194,7 @@ fn element_end(
     let list_path = path.parent(turn.alloc())?;
     let list_head = turn.head(list_path.copy(turn.alloc())?)?;
     let list = in_list(turn, &list_path, list_head)?;
-    let field = field_of(turn, desc, list.source)?;
+    let field = field_of(turn, desc, list.origin.member)?;
     not_empty(turn, &field.repeat, start_of(head), place)?;
     let last = is_last(turn, list, path, index, place, &field.repeat)?;
     Ok(Ended { place, last })

@@ -5,7 +5,7 @@ ghost use Rattle.std.specs.Prelude.{◌≡◌, None, map, option_map};
 ghost use Rattle.ksv_desc.specs.Pieces.{plain_member, plain_field, plain_kind};
 ghost use Rattle.ksv_desc.specs.Whole.{plain_pieces};
 ghost use Rattle.ksv_nodes.specs.Turning.{Runs};
-ghost use Rattle.ksv_rules.specs.Fields.{members_of, behind, sought, member_named, last_attribute, read_by, field_of};
+ghost use Rattle.ksv_rules.specs.Fields.{members_of, behind, sought, member_named, last_attribute, read_by, kind_of, field_of, is_parameter, parameters_before};
 ghost use Rattle.ksv_rules.specs.Members.{plain_sought};
 
 use ksv_desc::{Desc, Field, MemberDesc, MemberKind};
@@ -98,21 +98,66 @@ fn read_by<'d>(turn: &mut Turn, kind: &'d MemberKind) -> Result<&'d Field, Halt>
 {
     match kind {
         MemberKind::Attribute(field) => Ok(field),
+        MemberKind::ParseInstance { field, .. } => Ok(field),
         _ => turn.raise(FaultKind::NoSuch),
     }
 }
 
-/// How the attribute of a source reads.
-#[tactic(auto, unfolding(crate::specs::Fields::field_of))]
+/// What the member at a place of a type's members is.
+#[tactic(auto, unfolding(crate::specs::Fields::kind_of))]
+pub(crate) fn kind_of<'d>(
+    turn: &mut Turn,
+    desc: &'d Desc,
+    member: MemberRef,
+) -> Result<&'d MemberKind, Halt>
+    ensures { Runs (kind_of (plain_pieces desc.now) member) (λ kind. plain_kind kind.now) turn.old turn.new result }
+{
+    match members_of(desc, member.type_number).get(member.member) {
+        Some(found) => Ok(&found.kind),
+        None => turn.raise(FaultKind::NoSuch),
+    }
+}
+
+/// How the attribute or parse instance at a place of a type's members reads.
+#[tactic(auto, using(ksv_plan::proofs::Running::run_bind), unfolding(crate::specs::Fields::field_of))]
 pub(crate) fn field_of<'d>(
     turn: &mut Turn,
     desc: &'d Desc,
-    source: MemberRef,
+    member: MemberRef,
 ) -> Result<&'d Field, Halt>
-    ensures { Runs (field_of (plain_pieces desc.now) source) (λ field. plain_field field.now) turn.old turn.new result }
+    ensures { Runs (field_of (plain_pieces desc.now) member) (λ field. plain_field field.now) turn.old turn.new result }
 {
-    match members_of(desc, source.type_number).get(source.member) {
-        Some(member) => read_by(turn, &member.kind),
-        None => turn.raise(FaultKind::NoSuch),
+    let kind = kind_of(turn, desc, member)?;
+    read_by(turn, kind)
+}
+
+/// Whether it is a parameter.
+fn is_parameter(member: &MemberDesc) -> bool
+    ensures { result ≡ is_parameter (plain_member member.now) }
+{
+    match member.kind {
+        MemberKind::Parameter => true,
+        MemberKind::Attribute(_) => false,
+        MemberKind::ParseInstance { .. } => false,
+        MemberKind::ValueInstance { .. } => false,
     }
+}
+
+/// How many parameters a type has before the member of a place.
+#[tactic(auto, using(crate::proofs::Parameters::no_more, crate::proofs::Parameters::none_left, crate::proofs::Parameters::one_more))]
+pub(crate) fn parameters_before(members: &[MemberDesc], place: usize) -> usize
+    ensures { result ≡ parameters_before place (map plain_member members.now) }
+{
+    let mut count = 0;
+    let mut left = place;
+    for member in members {
+        if left == 0 {
+            return count;
+        }
+        if is_parameter(member) {
+            count += 1;
+        }
+        left -= 1;
+    }
+    count
 }

@@ -1,20 +1,20 @@
 //! What stands at a path, and where.
 #![tactic(auto)]
 
-ghost use Rattle.std.specs.Prelude.{◌≡◌};
+ghost use Rattle.std.specs.Prelude.{◌≡◌, option_map};
 ghost use Rattle.ksv_expr_tree.specs.Tree.{view};
 ghost use Rattle.ksv_desc.specs.Pieces.{plain_repeat, plain_field, plain_kind};
 ghost use Rattle.ksv_desc.specs.Whole.{plain_pieces};
 ghost use Rattle.ksv_nodes.specs.Turning.{Runs};
 ghost use Rattle.ksv_rules.specs.Members.{plain_sought};
-ghost use Rattle.ksv_rules.specs.Heads.{in_count, count_of, counted, until_eos, repeated, attribute_at, part_end, attribute_start, attribute_head, member_at, member_head, in_list, is_past, in_next, next_start, element_start, element_head, root_head, head_of};
+ghost use Rattle.ksv_rules.specs.Heads.{in_count, count_of, counted, until_eos, repeated, attribute_at, part_end, attribute_start, origin_of, attribute_head, positioned_in, positioned, instance_head, calc, value_head, member_at, member_head, in_list, is_past, in_next, next_start, element_start, element_head, root_head, head_of};
 
 use crate::fields::{Sought, field_of, member_named};
 use crate::shapes::shape_at;
-use crate::wanted::{holds, in_object, missing, size_of};
+use crate::wanted::{holds, in_object, missing, size_of, stream_for};
 use ksv_desc::{Desc, Field, MemberKind, Repeat};
 use ksv_expr_eval::{Ctx, Expr, FaultKind, Path, Step, Stream};
-use ksv_nodes::{Ended, Halt, Head, List, MemberRef, Object, ObjectEnd, Turn};
+use ksv_nodes::{Calc, Ended, Halt, Head, List, MemberRef, Object, ObjectEnd, Origin, Turn};
 
 // ---- attributes
 
@@ -42,17 +42,16 @@ fn count_of(turn: &mut Turn, ctx: &Ctx, count: &Expr) -> Result<u32, Halt>
 fn counted(
     turn: &mut Turn,
     ctx: &Ctx,
-    source: MemberRef,
+    origin: Origin,
     stream: Stream,
     count: &Expr,
 ) -> Result<Head, Halt>
-    ensures { Runs (counted ctx.now source stream ctx.now.place (view count.now)) (λ head. head) turn.old turn.new result }
+    ensures { Runs (counted ctx.now origin stream ctx.now.place (view count.now)) (λ head. head) turn.old turn.new result }
 {
     let count = count_of(turn, ctx, count)?;
     Ok(Head::List(List {
-        source,
+        origin,
         stream,
-        home: ctx.stream,
         start: ctx.place,
         count: Some(count),
         is_empty: count == 0,
@@ -61,14 +60,13 @@ fn counted(
 
 /// The elements of an attribute that go on to the stream's end.
 #[tactic(auto, using(ksv_plan::proofs::Running::run_bind), unfolding(crate::specs::Heads::until_eos))]
-fn until_eos(turn: &mut Turn, ctx: &Ctx, source: MemberRef, stream: Stream) -> Result<Head, Halt>
-    ensures { Runs (until_eos ctx.now source stream ctx.now.place) (λ head. head) turn.old turn.new result }
+fn until_eos(turn: &mut Turn, ctx: &Ctx, origin: Origin, stream: Stream) -> Result<Head, Halt>
+    ensures { Runs (until_eos ctx.now origin stream ctx.now.place) (λ head. head) turn.old turn.new result }
 {
     let is_empty = turn.done(stream, ctx.place)?;
     Ok(Head::List(List {
-        source,
+        origin,
         stream,
-        home: ctx.stream,
         start: ctx.place,
         count: None,
         is_empty,
@@ -80,20 +78,19 @@ fn until_eos(turn: &mut Turn, ctx: &Ctx, source: MemberRef, stream: Stream) -> R
 fn repeated(
     turn: &mut Turn,
     ctx: &Ctx,
-    source: MemberRef,
+    origin: Origin,
     stream: Stream,
     field: &Field,
 ) -> Result<Head, Halt>
-    ensures { Runs (repeated ctx.now source stream ctx.now.place (plain_field field.now) (plain_repeat field.now.repeat)) (λ head. head) turn.old turn.new result }
+    ensures { Runs (repeated ctx.now origin stream ctx.now.place (plain_field field.now) (plain_repeat field.now.repeat)) (λ head. head) turn.old turn.new result }
 {
     match &field.repeat {
-        Repeat::Once => shape_at(turn, ctx, source, stream, field),
-        Repeat::Expr(count) => counted(turn, ctx, source, stream, count),
-        Repeat::Eos => until_eos(turn, ctx, source, stream),
+        Repeat::Once => shape_at(turn, ctx, origin, stream, field),
+        Repeat::Expr(count) => counted(turn, ctx, origin, stream, count),
+        Repeat::Eos => until_eos(turn, ctx, origin, stream),
         Repeat::Until(_) => Ok(Head::List(List {
-            source,
+            origin,
             stream,
-            home: ctx.stream,
             start: ctx.place,
             count: None,
             is_empty: false,
@@ -106,14 +103,14 @@ fn repeated(
 fn attribute_at(
     turn: &mut Turn,
     ctx: &Ctx,
-    source: MemberRef,
+    origin: Origin,
     stream: Stream,
     field: &Field,
 ) -> Result<Head, Halt>
-    ensures { Runs (attribute_at ctx.now source stream ctx.now.place (plain_field field.now)) (λ head. head) turn.old turn.new result }
+    ensures { Runs (attribute_at ctx.now origin stream ctx.now.place (plain_field field.now)) (λ head. head) turn.old turn.new result }
 {
     if holds(turn, ctx, &field.condition)? {
-        repeated(turn, ctx, source, stream, field)
+        repeated(turn, ctx, origin, stream, field)
     } else {
         Ok(Head::Absent(Some(ctx.place)))
     }
@@ -147,6 +144,20 @@ fn attribute_start(
     }
 }
 
+/// How a member of an object is read; its case isn't chosen yet.
+fn origin_of(object: Object, sought: Sought) -> Origin
+    ensures { result ≡ origin_of object (plain_sought sought.entry) }
+{
+    Origin {
+        member: MemberRef {
+            type_number: object.type_number,
+            member: sought.member,
+        },
+        case: None,
+        home: object.stream,
+    }
+}
+
 /// An attribute of `seq`.
 #[tactic(auto, using(ksv_plan::proofs::Running::run_bind), unfolding(crate::specs::Heads::attribute_head))]
 fn attribute_head<'p>(
@@ -161,12 +172,102 @@ fn attribute_head<'p>(
 {
     let start = attribute_start(turn, home, object, sought.before)?;
     let ctx = Ctx::new(home, object.stream, start, path);
-    let source = MemberRef {
-        type_number: object.type_number,
-        member: sought.member,
-    };
-    attribute_at(turn, &ctx, source, object.stream, field)
+    let origin = origin_of(object, sought);
+    attribute_at(turn, &ctx, origin, object.stream, field)
 }
+
+// ---- instances
+
+/// A parse instance in a stream, at a position that is counted from the stream's first byte.
+#[tactic(auto, using(ksv_plan::proofs::Running::run_bind), unfolding(crate::specs::Heads::positioned_in))]
+fn positioned_in(
+    turn: &mut Turn,
+    ctx: &Ctx,
+    origin: Origin,
+    stream: Stream,
+    position: &Expr,
+    field: &Field,
+) -> Result<Head, Halt>
+    ensures { Runs (positioned_in ctx.now origin stream (view position.now) (plain_field field.now)) (λ head. head) turn.old turn.new result }
+{
+    let position = size_of(turn, ctx, position)?;
+    let place = u128::from(stream.from) + u128::from(position);
+    turn.reach(stream, place)?;
+    let ctx = Ctx {
+        home: ctx.home,
+        stream: ctx.stream,
+        place: place as u32,
+        index: ctx.index,
+        element: ctx.element,
+        here: ctx.here,
+    };
+    repeated(turn, &ctx, origin, stream, field)
+}
+
+/// A parse instance in the stream of its object, or in the one that its `io` names.
+#[tactic(auto, using(ksv_plan::proofs::Running::run_bind), unfolding(crate::specs::Heads::positioned))]
+fn positioned(
+    turn: &mut Turn,
+    ctx: &Ctx,
+    origin: Origin,
+    position: &Expr,
+    io: &Option<Expr>,
+    field: &Field,
+) -> Result<Head, Halt>
+    ensures { Runs (positioned ctx.now origin (view position.now) (option_map view io.now) (plain_field field.now)) (λ head. head) turn.old turn.new result }
+{
+    let stream = stream_for(turn, ctx, io)?;
+    positioned_in(turn, ctx, origin, stream, position, field)
+}
+
+/// A parse instance. One whose condition is false has no place.
+#[tactic(auto, using(ksv_plan::proofs::Running::run_bind), unfolding(crate::specs::Heads::instance_head))]
+fn instance_head(
+    turn: &mut Turn,
+    ctx: &Ctx,
+    origin: Origin,
+    position: &Expr,
+    io: &Option<Expr>,
+    field: &Field,
+) -> Result<Head, Halt>
+    ensures { Runs (instance_head ctx.now origin (view position.now) (option_map view io.now) (plain_field field.now)) (λ head. head) turn.old turn.new result }
+{
+    if holds(turn, ctx, &field.condition)? {
+        positioned(turn, ctx, origin, position, io, field)
+    } else {
+        Ok(Head::Absent(None))
+    }
+}
+
+/// A value instance or a parameter.
+fn calc(object: Object, sought: Sought) -> Head
+    ensures { result ≡ calc object (plain_sought sought.entry) }
+{
+    Head::Calc(Calc {
+        member: sought.member,
+        object,
+    })
+}
+
+/// A value instance. One whose condition is false has no place.
+#[tactic(auto, using(ksv_plan::proofs::Running::run_bind), unfolding(crate::specs::Heads::value_head))]
+fn value_head(
+    turn: &mut Turn,
+    ctx: &Ctx,
+    object: Object,
+    sought: Sought,
+    condition: &Option<Expr>,
+) -> Result<Head, Halt>
+    ensures { Runs (value_head ctx.now object (plain_sought sought.entry) (option_map view condition.now)) (λ head. head) turn.old turn.new result }
+{
+    if holds(turn, ctx, condition)? {
+        Ok(calc(object, sought))
+    } else {
+        Ok(Head::Absent(None))
+    }
+}
+
+// ---- members
 
 /// A member of an object.
 #[tactic(auto, unfolding(crate::specs::Heads::member_at))]
@@ -179,9 +280,18 @@ fn member_at(
 ) -> Result<Head, Halt>
     ensures { Runs (member_at path.now home.now object (plain_sought sought.entry) (plain_kind sought.entry.kind.now)) (λ head. head) turn.old turn.new result }
 {
+    let ctx = Ctx::new(home, object.stream, object.start, path);
     match sought.kind {
+        MemberKind::Parameter => Ok(calc(object, sought)),
         MemberKind::Attribute(field) => attribute_head(turn, path, home, object, sought, field),
-        _ => turn.raise(FaultKind::NoSuch),
+        MemberKind::ParseInstance {
+            place,
+            stream,
+            field,
+        } => instance_head(turn, &ctx, origin_of(object, sought), place, stream, field),
+        MemberKind::ValueInstance { condition, .. } => {
+            value_head(turn, &ctx, object, sought, condition)
+        }
     }
 }
 
@@ -272,9 +382,9 @@ fn element_head<'p>(
     let head = turn.head(list_path.copy(turn.alloc())?)?;
     let list = in_list(turn, list_path, head)?;
     let start = element_start(turn, list_path, list, index)?;
-    let field = field_of(turn, desc, list.source)?;
-    let ctx = Ctx::new(home, list.home, start, path).within(index);
-    shape_at(turn, &ctx, list.source, list.stream, field)
+    let field = field_of(turn, desc, list.origin.member)?;
+    let ctx = Ctx::new(home, list.origin.home, start, path).within(index);
+    shape_at(turn, &ctx, list.origin, list.stream, field)
 }
 
 // ---- heads
@@ -284,6 +394,7 @@ fn root_head() -> Head
     ensures { result ≡ root_head }
 {
     Head::Object(Object {
+        origin: None,
         type_number: 0,
         stream: Stream { from: 0, to: None },
         start: 0,

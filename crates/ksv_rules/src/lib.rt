@@ -4,10 +4,11 @@
 //! replies that it had. An engine (`ksv_memo`) calls the rules and keeps what they answer.
 #![tactic(auto)]
 
+mod calculated;
+mod choosing;
 mod described;
 mod ends;
 mod evaluation;
-mod expression_laws;
 mod fields;
 mod heads;
 mod integer;
@@ -19,11 +20,8 @@ mod values;
 mod wanted;
 
 pub use described::Described;
-pub use expression_laws::{expressions_are_met, rules_are_bounded};
-pub use ksv_nodes::{Given, Head, Leaf, List, MemberRef, Node, NodeKind, Object, ObjectEnd};
-pub use ksv_paths::{decimal, path_of, paths_are_read, served, texts_are_written};
-pub use laws::{
-    answers_have_forms, answers_stay, attributes_touch, circles_lead_back, elements_touch,
-    evaluation_is_direct, heads_are_read, next_meets_truth, no_rule_makes_circles,
-    parts_lie_in_streams, places_are_in_file, rests_count, values_have_heads,
+pub use ksv_nodes::{
+    Calc, Given, Head, Leaf, List, MemberRef, Node, NodeKind, Object, ObjectEnd, Origin,
 };
+pub use ksv_paths::{decimal, path_of, paths_are_read, texts_are_written};
+pub use laws::{evaluation_is_direct, next_meets_truth, rules_are_bounded};

@@ -4,31 +4,33 @@
 ghost use Rattle.std.specs.Prelude.{◌≡◌, option_map};
 ghost use Rattle.ksv_bytes.specs.Edits.{file_limit};
 ghost use Rattle.ksv_expr_tree.specs.Tree.{view};
-ghost use Rattle.ksv_desc.specs.Pieces.{plain_content, plain_choice, plain_extent, plain_terminator, plain_field};
+ghost use Rattle.ksv_desc.specs.Pieces.{plain_content, plain_extent, plain_terminator, plain_field};
 ghost use Rattle.ksv_nodes.specs.Turning.{Runs, StandsBelow};
-ghost use Rattle.ksv_rules.specs.Heads.{leaf, leaf_to_end, terminated_at, terminated, run_of, sized_leaf, bytes_at, sized_object, object_at, content_at, shape_at};
+ghost use Rattle.ksv_rules.specs.Heads.{leaf, leaf_to_end, terminated_at, terminated, run_of, sized_leaf, bytes_at, sized_object, object_at, content_at, unchosen_at, chosen_at, shape_at};
+ghost use Rattle.ksv_rules.specs.Members.{plain_chosen};
 
+use crate::choosing::{Chosen, choose};
 use crate::wanted::size_of;
-use ksv_desc::{Choice, Content, Extent, Field, Terminator};
+use ksv_desc::{Content, Extent, Field, Terminator};
 use ksv_expr_eval::{Ctx, Expr, FaultKind, Stream};
-use ksv_nodes::{Found, Halt, Head, Leaf, MemberRef, Object, ObjectEnd, Turn};
+use ksv_nodes::{Found, Halt, Head, Leaf, Object, ObjectEnd, Origin, Turn};
 
 /// So many bytes from a place on.
 #[tactic(auto, using(ksv_plan::proofs::Running::run_bind), unfolding(crate::specs::Heads::leaf))]
 fn leaf(
     turn: &mut Turn,
-    source: MemberRef,
+    origin: Origin,
     stream: Stream,
     start: u32,
     size: u64,
 ) -> Result<Head, Halt>
-    ensures { Runs (leaf source stream start size) (λ head. head) turn.old turn.new result }
+    ensures { Runs (leaf origin stream start size) (λ head. head) turn.old turn.new result }
 {
     let to = u128::from(start) + u128::from(size);
     turn.reach(stream, to)?;
     let to = to as u32;
     Ok(Head::Leaf(Leaf {
-        source,
+        origin,
         from: start,
         to,
         end: to,
@@ -37,12 +39,12 @@ fn leaf(
 
 /// All bytes to the stream's end.
 #[tactic(auto, using(ksv_plan::proofs::Running::run_bind), unfolding(crate::specs::Heads::leaf_to_end))]
-fn leaf_to_end(turn: &mut Turn, source: MemberRef, stream: Stream, start: u32) -> Result<Head, Halt>
-    ensures { Runs (leaf_to_end source stream start) (λ head. head) turn.old turn.new result }
+fn leaf_to_end(turn: &mut Turn, origin: Origin, stream: Stream, start: u32) -> Result<Head, Halt>
+    ensures { Runs (leaf_to_end origin stream start) (λ head. head) turn.old turn.new result }
 {
     let end = turn.finish(stream)?;
     Ok(Head::Leaf(Leaf {
-        source,
+        origin,
         from: start,
         to: end,
         end,
@@ -52,13 +54,13 @@ fn leaf_to_end(turn: &mut Turn, source: MemberRef, stream: Stream, start: u32) -
 /// Bytes up to a terminator, of which it is known where it stands.
 fn terminated_at(
     turn: &mut Turn,
-    source: MemberRef,
+    origin: Origin,
     start: u32,
     terminator: Terminator,
     found: Found,
 ) -> Result<Head, Halt>
     requires { StandsBelow file_limit found }
-    ensures { Runs (terminated_at source start (plain_terminator terminator) found) (λ head. head) turn.old turn.new result }
+    ensures { Runs (terminated_at origin start (plain_terminator terminator) found) (λ head. head) turn.old turn.new result }
 {
     let (to, end) = match found {
         Found::At(place) => {
@@ -79,7 +81,7 @@ fn terminated_at(
         Found::Missing(end) => (end, end),
     };
     Ok(Head::Leaf(Leaf {
-        source,
+        origin,
         from: start,
         to,
         end,
@@ -90,31 +92,31 @@ fn terminated_at(
 #[tactic(auto, using(ksv_plan::proofs::Running::run_bind), unfolding(crate::specs::Heads::terminated))]
 fn terminated(
     turn: &mut Turn,
-    source: MemberRef,
+    origin: Origin,
     stream: Stream,
     start: u32,
     terminator: Terminator,
 ) -> Result<Head, Halt>
-    ensures { Runs (terminated source stream start (plain_terminator terminator)) (λ head. head) turn.old turn.new result }
+    ensures { Runs (terminated origin stream start (plain_terminator terminator)) (λ head. head) turn.old turn.new result }
 {
     let found = turn.find(stream, start, terminator.byte)?;
-    terminated_at(turn, source, start, terminator, found)
+    terminated_at(turn, origin, start, terminator, found)
 }
 
 /// What goes as far as it goes by itself; where nothing says how far, nothing is there.
 #[tactic(auto, unfolding(crate::specs::Heads::run_of))]
 fn run_of(
     turn: &mut Turn,
-    source: MemberRef,
+    origin: Origin,
     stream: Stream,
     start: u32,
     terminator: Option<Terminator>,
 ) -> Result<Head, Halt>
-    ensures { Runs (run_of source stream start (option_map plain_terminator terminator)) (λ head. head) turn.old turn.new result }
+    ensures { Runs (run_of origin stream start (option_map plain_terminator terminator)) (λ head. head) turn.old turn.new result }
 {
     match terminator {
         None => Ok(Head::Absent(Some(start))),
-        Some(terminator) => terminated(turn, source, stream, start, terminator),
+        Some(terminator) => terminated(turn, origin, stream, start, terminator),
     }
 }
 
@@ -123,14 +125,14 @@ fn run_of(
 fn sized_leaf(
     turn: &mut Turn,
     ctx: &Ctx,
-    source: MemberRef,
+    origin: Origin,
     stream: Stream,
     size: &Expr,
 ) -> Result<Head, Halt>
-    ensures { Runs (sized_leaf ctx.now source stream ctx.now.place (view size.now)) (λ head. head) turn.old turn.new result }
+    ensures { Runs (sized_leaf ctx.now origin stream ctx.now.place (view size.now)) (λ head. head) turn.old turn.new result }
 {
     let size = size_of(turn, ctx, size)?;
-    leaf(turn, source, stream, ctx.place, size)
+    leaf(turn, origin, stream, ctx.place, size)
 }
 
 /// Bytes or a text.
@@ -138,16 +140,16 @@ fn sized_leaf(
 fn bytes_at(
     turn: &mut Turn,
     ctx: &Ctx,
-    source: MemberRef,
+    origin: Origin,
     stream: Stream,
     field: &Field,
 ) -> Result<Head, Halt>
-    ensures { Runs (bytes_at ctx.now source stream ctx.now.place (plain_extent field.now.extent) (option_map plain_terminator field.now.terminator)) (λ head. head) turn.old turn.new result }
+    ensures { Runs (bytes_at ctx.now origin stream ctx.now.place (plain_extent field.now.extent) (option_map plain_terminator field.now.terminator)) (λ head. head) turn.old turn.new result }
 {
     match &field.extent {
-        Extent::Sized(size) => sized_leaf(turn, ctx, source, stream, size),
-        Extent::SizeEos => leaf_to_end(turn, source, stream, ctx.place),
-        Extent::ByItself => run_of(turn, source, stream, ctx.place, field.terminator),
+        Extent::Sized(size) => sized_leaf(turn, ctx, origin, stream, size),
+        Extent::SizeEos => leaf_to_end(turn, origin, stream, ctx.place),
+        Extent::ByItself => run_of(turn, origin, stream, ctx.place, field.terminator),
     }
 }
 
@@ -156,11 +158,12 @@ fn bytes_at(
 fn sized_object(
     turn: &mut Turn,
     ctx: &Ctx,
+    origin: Origin,
     type_number: u32,
     stream: Stream,
     size: &Expr,
 ) -> Result<Head, Halt>
-    ensures { Runs (sized_object ctx.now type_number stream ctx.now.place (view size.now)) (λ head. head) turn.old turn.new result }
+    ensures { Runs (sized_object ctx.now origin type_number stream ctx.now.place (view size.now)) (λ head. head) turn.old turn.new result }
 {
     let size = size_of(turn, ctx, size)?;
     let start = ctx.place;
@@ -168,6 +171,7 @@ fn sized_object(
     turn.reach(stream, end)?;
     let end = end as u32;
     Ok(Head::Object(Object {
+        origin: Some(origin),
         type_number,
         stream: Stream {
             from: start,
@@ -183,16 +187,18 @@ fn sized_object(
 fn object_at(
     turn: &mut Turn,
     ctx: &Ctx,
+    origin: Origin,
     type_number: u32,
     stream: Stream,
     extent: &Extent,
 ) -> Result<Head, Halt>
-    ensures { Runs (object_at ctx.now type_number stream ctx.now.place (plain_extent extent.now)) (λ head. head) turn.old turn.new result }
+    ensures { Runs (object_at ctx.now origin type_number stream ctx.now.place (plain_extent extent.now)) (λ head. head) turn.old turn.new result }
 {
     let start = ctx.place;
     match extent {
-        Extent::Sized(size) => sized_object(turn, ctx, type_number, stream, size),
+        Extent::Sized(size) => { sized_object(turn, ctx, origin, type_number, stream, size) },
         Extent::SizeEos => Ok(Head::Object(Object {
+            origin: Some(origin),
             type_number,
             stream: Stream {
                 from: start,
@@ -202,6 +208,7 @@ fn object_at(
             ending: ObjectEnd::OfStream,
         })),
         Extent::ByItself => Ok(Head::Object(Object {
+            origin: Some(origin),
             type_number,
             stream,
             start,
@@ -215,21 +222,22 @@ fn object_at(
 fn content_at(
     turn: &mut Turn,
     ctx: &Ctx,
-    source: MemberRef,
+    origin: Origin,
     stream: Stream,
     field: &Field,
     content: &Content,
 ) -> Result<Head, Halt>
-    ensures { Runs (content_at ctx.now source stream ctx.now.place (plain_field field.now) (plain_content content.now)) (λ head. head) turn.old turn.new result }
+    ensures { Runs (content_at ctx.now origin stream ctx.now.place (plain_field field.now) (plain_content content.now)) (λ head. head) turn.old turn.new result }
 {
     match content {
-        Content::Bytes => bytes_at(turn, ctx, source, stream, field),
-        Content::Fixed(bytes) => leaf(turn, source, stream, ctx.place, bytes.len() as u64),
-        Content::Number { size, .. } => { leaf(turn, source, stream, ctx.place, u64::from(*size)) }
-        Content::Characters(_) => bytes_at(turn, ctx, source, stream, field),
+        Content::Bytes => bytes_at(turn, ctx, origin, stream, field),
+        Content::Fixed(bytes) => leaf(turn, origin, stream, ctx.place, bytes.len() as u64),
+        Content::Number { size, .. } => { leaf(turn, origin, stream, ctx.place, u64::from(*size)) }
+        Content::Characters(_) => bytes_at(turn, ctx, origin, stream, field),
         Content::Object { type_number, .. } => object_at(
             turn,
             ctx,
+            origin,
             *type_number,
             stream,
             &field.extent,
@@ -237,19 +245,59 @@ fn content_at(
     }
 }
 
-/// What an attribute, or one of its elements, reads at a place of a stream.
-#[tactic(auto, unfolding(crate::specs::Heads::shape_at))]
+/// What is read where a switch chose no case: bytes of a size, and without one nothing.
+#[tactic(auto, unfolding(crate::specs::Heads::unchosen_at))]
+fn unchosen_at(
+    turn: &mut Turn,
+    ctx: &Ctx,
+    origin: Origin,
+    stream: Stream,
+    extent: &Extent,
+) -> Result<Head, Halt>
+    ensures { Runs (unchosen_at ctx.now origin stream ctx.now.place (plain_extent extent.now)) (λ head. head) turn.old turn.new result }
+{
+    match extent {
+        Extent::Sized(size) => sized_leaf(turn, ctx, origin, stream, size),
+        Extent::SizeEos => leaf_to_end(turn, origin, stream, ctx.place),
+        Extent::ByItself => Ok(Head::Absent(Some(ctx.place))),
+    }
+}
+
+/// What is read by the case that was chosen.
+fn chosen_at(
+    turn: &mut Turn,
+    ctx: &Ctx,
+    origin: Origin,
+    stream: Stream,
+    field: &Field,
+    chosen: Option<Chosen>,
+) -> Result<Head, Halt>
+    ensures { Runs (chosen_at ctx.now origin stream ctx.now.place (plain_field field.now) (option_map plain_chosen chosen.entry)) (λ head. head) turn.old turn.new result }
+{
+    match chosen {
+        None => unchosen_at(turn, ctx, origin, stream, &field.extent),
+        Some(chosen) => {
+            let origin = Origin {
+                member: origin.member,
+                case: chosen.case,
+                home: origin.home,
+            };
+            content_at(turn, ctx, origin, stream, field, chosen.content)
+        }
+    }
+}
+
+/// What an attribute or a parse instance, or one of its elements, reads at a place of a stream: first its case is chosen.
+#[tactic(auto, using(ksv_plan::proofs::Running::run_bind), unfolding(crate::specs::Heads::shape_at))]
 pub(crate) fn shape_at(
     turn: &mut Turn,
     ctx: &Ctx,
-    source: MemberRef,
+    origin: Origin,
     stream: Stream,
     field: &Field,
 ) -> Result<Head, Halt>
-    ensures { Runs (shape_at ctx.now source stream ctx.now.place (plain_field field.now) (plain_choice field.now.choice)) (λ head. head) turn.old turn.new result }
+    ensures { Runs (shape_at ctx.now origin stream ctx.now.place (plain_field field.now)) (λ head. head) turn.old turn.new result }
 {
-    match &field.choice {
-        Choice::Always(content) => content_at(turn, ctx, source, stream, field, content),
-        Choice::Switch { .. } => turn.raise(FaultKind::NoSuch),
-    }
+    let chosen = choose(turn, ctx, &field.choice)?;
+    chosen_at(turn, ctx, origin, stream, field, chosen)
 }

@@ -1,18 +1,22 @@
 //! The value of what stands at a path.
 #![tactic(auto)]
 
+ghost use Rattle.std.specs.Option.{option_map_or};
 ghost use Rattle.std.specs.Prelude.{◌≡◌, ◌≤◌, ◌<◌, ◌+◌, IfOk, length, option_map};
 ghost use Rattle.ksv_expr_value.specs.Bytes.{content};
-ghost use Rattle.ksv_desc.specs.Pieces.{plain_choice, plain_content, plain_extent, plain_field, plain_terminator};
+ghost use Rattle.ksv_desc.specs.Description.{Bytes};
+ghost use Rattle.ksv_desc.specs.Pieces.{plain_content, plain_extent, plain_field, plain_terminator};
 ghost use Rattle.ksv_desc.specs.Whole.{plain_pieces};
 ghost use Rattle.ksv_nodes.specs.Rule.{peek};
 ghost use Rattle.ksv_nodes.specs.Turning.{Runs};
-ghost use Rattle.ksv_rules.specs.Values.{as_member, in_number, number_in, number_value, fixed_value, cut_by, kept, cut_bytes, bytes_value, in_text, cut_text, text_value, content_value, choice_value, leaf_value, value_at, value_of};
+ghost use Rattle.ksv_rules.specs.Values.{as_member, in_number, number_in, number_value, fixed_value, cut_by, kept, cut_bytes, bytes_value, in_text, cut_text, text_value, content_value, leaf_value, value_at, value_of};
 
+use crate::calculated::calculated;
+use crate::choosing::content_of;
 use crate::fields::field_of;
 use crate::integer::integer_value;
 use crate::parts::{are, cut, len_of};
-use ksv_desc::{ByteOrder, Choice, Content, Desc, Extent, Field, Terminator};
+use ksv_desc::{ByteOrder, Content, Desc, Extent, Field, Terminator};
 use ksv_expr_eval::{Encoding, FaultKind, Integer, Parts, Path, Text, Value};
 use ksv_nodes::{Halt, Head, Leaf, Turn, first_in_parts};
 
@@ -220,23 +224,30 @@ fn content_value(
     }
 }
 
-#[tactic(auto, unfolding(crate::specs::Values::choice_value))]
-fn choice_value(turn: &mut Turn, leaf: Leaf, field: &Field, choice: &Choice) -> Result<Value, Halt>
-    ensures { Runs (choice_value leaf (plain_field field.now) (plain_choice choice.now)) (λ value. value) turn.old turn.new result }
+/// The value of what was read by a case; without one it is bytes.
+#[tactic(auto, unfolding(crate::specs::Values::content_value))]
+fn known_value(
+    turn: &mut Turn,
+    leaf: Leaf,
+    field: &Field,
+    content: Option<&Content>,
+) -> Result<Value, Halt>
+    ensures { Runs (content_value leaf (plain_field field.now) (option_map_or (λ c. plain_content c.now) content.entry Bytes)) (λ value. value) turn.old turn.new result }
 {
-    match choice {
-        Choice::Always(content) => content_value(turn, leaf, field, content),
-        Choice::Switch { .. } => turn.raise(FaultKind::NoSuch),
+    match content {
+        None => bytes_value(turn, leaf, cut_by(&field.extent, field.terminator)),
+        Some(content) => content_value(turn, leaf, field, content),
     }
 }
 
-/// The value of a leaf, by the attribute that reads it.
+/// The value of a leaf, by the attribute that reads it and its case.
 #[tactic(auto, using(ksv_plan::proofs::Running::run_bind), unfolding(crate::specs::Values::leaf_value))]
 fn leaf_value(turn: &mut Turn, desc: &Desc, leaf: Leaf) -> Result<Value, Halt>
     ensures { Runs (leaf_value (plain_pieces desc.now) leaf) (λ value. value) turn.old turn.new result }
 {
-    let field = field_of(turn, desc, leaf.source)?;
-    choice_value(turn, leaf, field, &field.choice)
+    let field = field_of(turn, desc, leaf.origin.member)?;
+    let content = content_of(turn, &field.choice, leaf.origin.case)?;
+    known_value(turn, leaf, field, content)
 }
 
 #[tactic(auto, unfolding(crate::specs::Values::value_at))]
@@ -245,6 +256,7 @@ fn value_at(turn: &mut Turn, desc: &Desc, path: &Path, head: Head) -> Result<Val
 {
     match head {
         Head::Absent(_) => turn.raise(FaultKind::Absent),
+        Head::Calc(calc) => calculated(turn, desc, path, calc),
         Head::Leaf(leaf) => leaf_value(turn, desc, leaf),
         Head::Object(_) => Ok(Value::Object(path.copy(turn.alloc())?)),
         Head::List(_) => Ok(Value::List(path.copy(turn.alloc())?)),

@@ -7,10 +7,10 @@ ghost use Rattle.ksv_plan.specs.Plan.{Fail};
 ghost use Rattle.ksv_nodes.specs.Rule.{There};
 ghost use Rattle.ksv_nodes.specs.Turning.{Runs};
 ghost use Rattle.ksv_rules.specs.Code.{missing};
-ghost use Rattle.ksv_rules.specs.Wanted.{in_object, in_integer, in_truth, integer_of, truth_of, holds, in_size, size_of};
+ghost use Rattle.ksv_rules.specs.Wanted.{in_object, in_integer, in_truth, integer_of, truth_of, holds, in_size, size_of, in_stream, stream_for};
 
 use crate::evaluation::value_of_expression;
-use ksv_expr_eval::{Ctx, Expr, Fault, FaultKind, Integer, Path, Value};
+use ksv_expr_eval::{Ctx, Expr, Fault, FaultKind, Integer, Path, Stream, Value};
 use ksv_nodes::{Halt, Head, Object, Turn};
 
 /// A fault of a kind at a path.
@@ -107,4 +107,28 @@ pub(crate) fn size_of(turn: &mut Turn, ctx: &Ctx, expr: &Expr) -> Result<u64, Ha
 {
     let number = integer_of(turn, ctx, expr)?;
     in_size(turn, number)
+}
+
+/// A stream; another kind doesn't fit.
+fn in_stream(turn: &mut Turn, value: Value) -> Result<Stream, Halt>
+    ensures { Runs (in_stream value) (λ stream. stream) turn.old turn.new result }
+{
+    match value {
+        Value::Stream(stream) => Ok(stream),
+        _ => turn.raise(FaultKind::BadType),
+    }
+}
+
+/// The stream that an expression names; without one it is the object's own.
+#[tactic(auto, using(ksv_plan::proofs::Running::run_bind), unfolding(crate::specs::Wanted::stream_for))]
+pub(crate) fn stream_for(turn: &mut Turn, ctx: &Ctx, io: &Option<Expr>) -> Result<Stream, Halt>
+    ensures { Runs (stream_for ctx.now (option_map view io.now)) (λ stream. stream) turn.old turn.new result }
+{
+    match io {
+        None => Ok(ctx.stream),
+        Some(expr) => {
+            let value = value_of_expression(turn, ctx, expr)?;
+            in_stream(turn, value)
+        }
+    }
 }

@@ -1,0 +1,12 @@
+-- The lemmas of this crate.
+pub mod Meeting
+pub mod Forms
+pub mod OwnFaults
+pub mod Ranges
+pub mod Circles
+pub mod Touching
+pub mod Following
+pub mod Places
+pub mod Enclosing
+pub mod Sources
+pub mod Counting

@@ -1,0 +1,5 @@
+use Rattle.ksv_rule_laws.proofs.Forms.{answers_stay}
+use Rattle.ksv_rule_laws.proofs.laws.answers_stay.Goals as goal
+
+pub returns : goal.returns
+returns c = answers_stay

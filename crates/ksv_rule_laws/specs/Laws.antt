@@ -1,0 +1,388 @@
+-- Laws of what nodes answer. They speak of the definitions alone: an error that a rule and its function had in common would break
+-- them. These laws are this project's own.
+use Rattle.std.specs.Prelude.{◌≡◌, ◌↔◌, ℕ, ◌+◌, ◌==◌, ◌<◌, ◌≤◌, ◌⊎◌, slice_get, Bool, true, false, List, [], ◌∷◌, ◌++◌, Contains, length, Option, Some, None, Result, Ok, Err}
+use Rattle.std.specs.List.{AllByRecursion}
+use Rattle.ksv_expr_value.specs.Trail.{Trail, child, parent, last}
+use Rattle.ksv_expr_value.specs.declared.step.Step.{Step}
+use Rattle.ksv_expr_value.specs.declared.step.Step.TheVariants.{Index, Name}
+use Rattle.ksv_expr_value.specs.declared.value.Stream.{Stream}
+use Rattle.ksv_expr_value.specs.declared.fault.Fault.{Fault}
+use Rattle.ksv_expr_value.specs.declared.fault.FaultKind.TheVariants as kinds
+use Rattle.ksv_expr_value.specs.declared.value.Value.{Value}
+use Rattle.ksv_expr_value.specs.declared.value.Value.TheVariants as values
+use Rattle.ksv_expr_tree.specs.Tree.{Arguments}
+use Rattle.ksv_desc.specs.Description.{Description, MemberOfType, MemberKind, Parameter, Attribute, ParseInstance, ValueInstance, Field, Content, Case, Choice, Always, Switch, Repeat, Once, Expr}
+use Rattle.ksv_desc.specs.Description as contents
+use Rattle.ksv_memo.specs.Evaluation.{is_among}
+use Rattle.ksv_memo.specs.Meaning.{on}
+use Rattle.ksv_memo.specs.Right.{AreDistinct}
+use Rattle.ksv_nodes.specs.declared.node.Node.{Node}
+use Rattle.ksv_nodes.specs.declared.node.NodeKind.{NodeKind}
+use Rattle.ksv_nodes.specs.declared.node.NodeKind.TheVariants as nodes
+use Rattle.ksv_nodes.specs.declared.given.Given.{Given}
+use Rattle.ksv_nodes.specs.declared.given.Given.TheVariants as givens
+use Rattle.ksv_nodes.specs.declared.given.Head.{Head}
+use Rattle.ksv_nodes.specs.declared.given.Head.TheVariants as heads
+use Rattle.ksv_nodes.specs.declared.given.Leaf.{Leaf}
+use Rattle.ksv_nodes.specs.declared.given.List as lists
+use Rattle.ksv_nodes.specs.declared.given.MemberRef.{MemberRef}
+use Rattle.ksv_nodes.specs.declared.given.Object.{Object}
+use Rattle.ksv_nodes.specs.declared.given.Origin.{Origin}
+use Rattle.ksv_nodes.specs.declared.given.ObjectEnd.{ObjectEnd}
+use Rattle.ksv_nodes.specs.declared.given.ObjectEnd.TheVariants as endings
+use Rattle.ksv_nodes.specs.Numbers.{node_number}
+use Rattle.ksv_nodes.specs.Reading.{end_in}
+use Rattle.ksv_nodes.specs.Rule.{head_node, value_node, end_node, rest_node}
+use Rattle.ksv_nodes.specs.Truth.{answer_of, asks_of}
+use Rattle.ksv_nodes.specs.Turning.{fault_at}
+use Rattle.ksv_rules.specs.Ends.{start_of}
+use Rattle.ksv_rules.specs.Fields.{members_of, is_attribute, Sought, sought}
+use Rattle.ksv_rules.specs.Meaning.{rule_of}
+use Rattle.ksv_rules.specs.FromNothing.{from_nothing, asks}
+use Rattle.ksv_rules.specs.Described.{described}
+
+-- ---- forms
+
+-- only an expression that names a stream gives one
+abbrev pub IsNoStream : Value → Type 0
+IsNoStream (values.Stream w) = ⊥
+IsNoStream _ = Unit {0}
+
+-- the form of each kind of node; a value is no stream
+abbrev pub HasForm : NodeKind → Given → Type 0
+HasForm nodes.Head (givens.Head h) = Unit {0}
+HasForm nodes.Value (givens.Value v) = IsNoStream v
+HasForm nodes.End (givens.End place last) = Unit {0}
+HasForm nodes.Rest (givens.Rest count place) = Unit {0}
+HasForm _ _ = ⊥
+
+-- An answer that is no fault has its node's form, whatever is open.
+abbrev pub AnswersHaveForms : Type 0
+AnswersHaveForms = (d : Description) (bytes : List ℕ) (opened : List Node) (n : Node) (g : Given) → from_nothing d bytes opened n ≡ Ok g → HasForm n.kind g
+
+-- ---- open nodes
+
+-- all of the first nodes are among the second
+abbrev pub AreAmong : List Node → List Node → Type 0
+AreAmong others opened = (m : Node) → is_among node_number others m ≡ true → is_among node_number opened m ≡ true
+
+-- With fewer nodes open, a node gives the same answer, unless it was a fault: what is open makes faults and nothing else.
+abbrev pub AnswersStay : Type 0
+AnswersStay = (d : Description) (bytes : List ℕ) (opened others : List Node) (n : Node) (g : Given) → AreAmong others opened → from_nothing d bytes opened n ≡ Ok g → from_nothing d bytes others n ≡ Ok g
+
+-- ---- values
+
+-- the value of a leaf: an integer, a member of an enum, a text, or bytes from the leaf's first one on
+abbrev pub IsOfLeaf : Leaf → Value → Type 0
+IsOfLeaf l (values.Int n) = Unit {0}
+IsOfLeaf l (values.Member e n) = Unit {0}
+IsOfLeaf l (values.Text t) = Unit {0}
+IsOfLeaf l (values.Bytes from to) = (from ≡ l.from) × (to ≤ l.to)
+IsOfLeaf l _ = ⊥
+
+-- the value of what is at a path: of an object and of a list it is that path, what is absent has none, and what is calculated is
+-- no stream
+abbrev pub IsOfHead : Trail → Head → Value → Type 0
+IsOfHead p (heads.Absent at) v = ⊥
+IsOfHead p (heads.Calc c) v = IsNoStream v
+IsOfHead p (heads.Leaf l) v = IsOfLeaf l v
+IsOfHead p (heads.Object o) v = v ≡ values.Object p
+IsOfHead p (heads.List g) v = v ≡ values.List p
+
+-- the head at a path is answered too, and the value is one of it
+pub record HasHead (d : Description) (bytes : List ℕ) (opened : List Node) (p : Trail) (v : Value) : Type 0 where
+  pub head : Head
+  pub answered : from_nothing d bytes opened (head_node p) ≡ Ok (givens.Head head)
+  pub fits : IsOfHead p head v
+
+-- A value is one of the head at its path.
+abbrev pub ValuesHaveHeads : Type 0
+ValuesHaveHeads = (d : Description) (bytes : List ℕ) (opened : List Node) (p : Trail) (v : Value) → from_nothing d bytes opened (value_node p) ≡ Ok (givens.Value v) → HasHead d bytes opened p v
+
+-- ---- circles
+
+-- a node that the rule of another asked answered this fault, where each asked node has the answer that `met` gives
+pub record HasSource (d : Description) (bytes : List ℕ) (met : Node → Result Given Fault) (n : Node) (f : Fault) : Type 0 where
+  pub node : Node
+  pub asked : Contains (asks_of met n.path bytes (rule_of d n)) node
+  pub answer : met node ≡ Err f
+
+-- No rule makes a circle: whatever the nodes that it asks answer, a fault of this kind is the answer of one of them.
+abbrev pub NoRuleMakesCircles : Type 0
+NoRuleMakesCircles = (d : Description) (bytes : List ℕ) (met : Node → Result Given Fault) (n : Node) (f : Fault) → answer_of met n.path bytes (rule_of d n) ≡ Err f → f.kind ≡ kinds.Circle → HasSource d bytes met n f
+
+-- A way from a node on: each node of it is asked by the one before, while that one and all before it are open, and the last is open
+-- already; that one is of this path.
+abbrev pub LeadsBack : Description → List ℕ → List Node → Node → List Node → Trail → Type 0
+LeadsBack d bytes opened n [] p = (is_among node_number opened n ≡ true) × (n.path ≡ p)
+LeadsBack d bytes opened n (m ∷ way) p = (is_among node_number opened n ≡ false) × Contains (asks d bytes opened n) m × LeadsBack d bytes (n ∷ opened) m way p
+
+-- A node answers the fault circle at a path just where such a way leads from it to an open node of this path.
+abbrev pub CirclesLeadBack : Type 0
+CirclesLeadBack = (d : Description) (bytes : List ℕ) (opened : List Node) (n : Node) (p : Trail) → AreDistinct (on (described d) bytes) opened → (from_nothing d bytes opened n ≡ Err (fault_at p kinds.Circle)) ↔ ((way : List Node) × LeadsBack d bytes opened n way p)
+
+-- ---- sources
+
+-- a member that is read reads so
+abbrev pub Reads : MemberKind → Field → Type 0
+Reads (Attribute g) f = g ≡ f
+Reads (ParseInstance e io g) f = g ≡ f
+Reads _ f = ⊥
+
+-- the attribute or parse instance of this place reads so
+abbrev pub IsFieldOf : Description → MemberRef → Field → Type 0
+IsFieldOf d r f = (m : MemberOfType) × (slice_get (members_of d r.type_number) r.member ≡ Some m) × Reads m.kind f
+
+-- that of this place is one of which this is true
+pub record IsReadBy (d : Description) (r : MemberRef) (P : Field → Type 0) : Type 0 where
+  pub field : Field
+  pub is : IsFieldOf d r field
+  pub so : P field
+
+-- what is read by a case: where a switch chose none, bytes
+abbrev pub IsContentOf : Choice → Option ℕ → Content → Type 0
+IsContentOf (Always c) None k = c ≡ k
+IsContentOf (Always c) (Some i) k = ⊥
+IsContentOf (Switch on cases) None k = k ≡ contents.Bytes
+IsContentOf (Switch on cases) (Some i) k = (c : Case) × (slice_get cases i ≡ Some c) × (c.content ≡ k)
+
+-- bytes are read by a content that is no object, an object by one of its type
+abbrev pub IsNoObject : Content → Type 0
+IsNoObject (contents.Object t given) = ⊥
+IsNoObject _ = Unit {0}
+
+abbrev pub IsLeafOf : Option ℕ → Field → Type 0
+IsLeafOf case f = (c : Content) × IsContentOf f.choice case c × IsNoObject c
+
+abbrev pub IsObjectOf : ℕ → Option ℕ → Field → Type 0
+IsObjectOf t case f = (given : Arguments) × IsContentOf f.choice case (contents.Object t given)
+
+-- a list knows how many elements it has just where `repeat-expr` tells it, and is then empty just where there are none
+abbrev pub IsCountedBy : Repeat → lists.List → Type 0
+IsCountedBy Once g = ⊥
+IsCountedBy (Expr e) g = (n : ℕ) × (g.count ≡ Some n) × (g.is_empty ≡ (n == 0))
+IsCountedBy _ g = g.count ≡ None
+
+-- an object that isn't the root is read by a content of its type
+abbrev pub IsObjectRead : Description → Option Origin → ℕ → Type 0
+IsObjectRead d None t = Unit {0}
+IsObjectRead d (Some g) t = IsReadBy d g.member (IsObjectOf t g.case)
+
+-- a member whose value isn't read at a place of its own
+abbrev pub IsCalculated : MemberKind → Type 0
+IsCalculated Parameter = Unit {0}
+IsCalculated (ValueInstance condition e enum) = Unit {0}
+IsCalculated _ = ⊥
+
+-- the member of this place of a type is such a one
+abbrev pub IsCalculatedBy : Description → ℕ → ℕ → Type 0
+IsCalculatedBy d t i = (m : MemberOfType) × (slice_get (members_of d t) i ≡ Some m) × IsCalculated m.kind
+
+-- bytes, objects and lists are read by a member of the description, by the case of its switch; a list by one that repeats
+abbrev pub IsRead : Description → Head → Type 0
+IsRead d (heads.Absent at) = Unit {0}
+IsRead d (heads.Calc c) = IsCalculatedBy d c.object.type_number c.member × IsObjectRead d c.object.origin c.object.type_number
+IsRead d (heads.Leaf l) = IsReadBy d l.origin.member (IsLeafOf l.origin.case)
+IsRead d (heads.Object o) = IsObjectRead d o.origin o.type_number
+IsRead d (heads.List g) = IsReadBy d g.origin.member (λ f. IsCountedBy f.repeat g)
+
+-- What is at a path is read, or calculated, by a member of the description.
+abbrev pub HeadsAreRead : Type 0
+HeadsAreRead = (d : Description) (bytes : List ℕ) (opened : List Node) (p : Trail) (h : Head) → from_nothing d bytes opened (head_node p) ≡ Ok (givens.Head h) → IsRead d h
+
+-- ---- attributes
+
+-- x names an attribute with no other before it, of the members of a type; none before it has this name
+pub record IsFirst (ms : List MemberOfType) (x : ℕ) : Type 0 where
+  pub front : List MemberOfType
+  pub member : MemberOfType
+  pub rest : List MemberOfType
+  pub is : ms ≡ front ++ member ∷ rest
+  pub named : member.name ≡ x
+  pub attribute : is_attribute member.kind ≡ true
+  pub apart : AllByRecursion (λ m. (m.name == x) ≡ false) front
+  pub none : AllByRecursion (λ m. is_attribute m.kind ≡ false) front
+
+-- x names an attribute, y the one before it with no other between them; no member before it has the name x
+pub record Follows (ms : List MemberOfType) (y x : ℕ) : Type 0 where
+  pub front : List MemberOfType
+  pub first : MemberOfType
+  pub between : List MemberOfType
+  pub second : MemberOfType
+  pub rest : List MemberOfType
+  pub is : ms ≡ (front ++ first ∷ between) ++ second ∷ rest
+  pub first_named : first.name ≡ y
+  pub attribute : is_attribute first.kind ≡ true
+  pub none : AllByRecursion (λ m. is_attribute m.kind ≡ false) between
+  pub named : second.name ≡ x
+  pub second_attribute : is_attribute second.kind ≡ true
+  pub apart : AllByRecursion (λ m. (m.name == x) ≡ false) (front ++ first ∷ between)
+
+-- the part of q to which this step leads ends here
+pub record EndsAt (met : Node → Result Given Fault) (q : Trail) (step : Step) (place : ℕ) : Type 0 where
+  pub path : Trail
+  pub is : child q step ≡ Some path
+  pub is_last : Bool
+  pub ended : met (end_node path) ≡ Ok (givens.End place is_last)
+
+-- The first attribute of a type begins where its object does, and each further one where the one before it ends.
+abbrev pub FirstAttributesBegin : Type 0
+FirstAttributesBegin = (d : Description) (bytes : List ℕ) (opened : List Node) (p : Trail) (x : ℕ) (h : Head) (o : Object) → last p ≡ Some (Name x) → from_nothing d bytes opened (head_node p) ≡ Ok (givens.Head h)
+    → from_nothing d bytes opened (head_node (parent p)) ≡ Ok (givens.Head (heads.Object o)) → IsFirst (members_of d o.type_number) x → start_of h ≡ o.start
+
+abbrev pub AttributesTouch : Type 0
+AttributesTouch = (d : Description) (bytes : List ℕ) (opened : List Node) (p : Trail) (x y : ℕ) (h : Head) (o : Object) → last p ≡ Some (Name x) → from_nothing d bytes opened (head_node p) ≡ Ok (givens.Head h)
+    → from_nothing d bytes opened (head_node (parent p)) ≡ Ok (givens.Head (heads.Object o)) → Follows (members_of d o.type_number) y x → EndsAt (from_nothing d bytes opened) (parent p) (Name y) (start_of h)
+
+-- ---- elements
+
+-- the element before, whose number is i, isn't the last, and ends where this head begins
+pub record EndsBefore (d : Description) (bytes : List ℕ) (opened : List Node) (p : Trail) (i : ℕ) (h : Head) : Type 0 where
+  pub before : Trail
+  pub path : child (parent p) (Index i) ≡ Some before
+  pub ended : from_nothing d bytes opened (end_node before) ≡ Ok (givens.End (start_of h) false)
+
+-- An element after another begins where that one ends.
+abbrev pub ElementsTouch : Type 0
+ElementsTouch = (d : Description) (bytes : List ℕ) (opened : List Node) (p : Trail) (i : ℕ) (h : Head) → last p ≡ Some (Index (i + 1)) → from_nothing d bytes opened (head_node p) ≡ Ok (givens.Head h) → EndsBefore d bytes opened p i h
+
+-- ---- counts
+
+-- the element j of l ends; it is the last just where j + 1 is c, and then it ends at this place
+pub record EndsAsOf (met : Node → Result Given Fault) (l : Trail) (j c place : ℕ) : Type 0 where
+  pub path : Trail
+  pub is : child l (Index j) ≡ Some path
+  pub ends : ℕ
+  pub ended : met (end_node path) ≡ Ok (givens.End ends (j + 1 == c))
+  pub last_ends : j + 1 ≡ c → ends ≡ place
+
+-- l has the elements i to c - 1, the last of which ends at this place
+pub record AreElements (met : Node → Result Given Fault) (l : Trail) (i c place : ℕ) : Type 0 where
+  pub some : i < c
+  pub each : (j : ℕ) → i ≤ j → j < c → EndsAsOf met l j c place
+
+-- l is a list without elements, which ends where it begins
+pub record IsEmptyList (met : Node → Result Given Fault) (l : Trail) (c place : ℕ) : Type 0 where
+  pub list : lists.List
+  pub answered : met (head_node l) ≡ Ok (givens.Head (heads.List list))
+  pub empty : list.is_empty ≡ true
+  pub none : c ≡ 0
+  pub start : list.start ≡ place
+
+-- What is answered of a list from its first element on: it has so many elements, each of which ends, and it ends with the last.
+abbrev pub RestsCount : Type 0
+RestsCount = (d : Description) (bytes : List ℕ) (opened : List Node) (p : Trail) (c place : ℕ) → last p ≡ Some (Index 0) → from_nothing d bytes opened (rest_node p) ≡ Ok (givens.Rest c place)
+    → IsEmptyList (from_nothing d bytes opened) (parent p) c place ⊎ AreElements (from_nothing d bytes opened) (parent p) 0 c place
+
+-- A list has as many elements as it is told to have.
+abbrev pub ToldCounts : Type 0
+ToldCounts = (d : Description) (bytes : List ℕ) (opened : List Node) (p : Trail) (c place : ℕ) (g : lists.List) (n : ℕ) → last p ≡ Some (Index 0) → from_nothing d bytes opened (rest_node p) ≡ Ok (givens.Rest c place)
+    → from_nothing d bytes opened (head_node (parent p)) ≡ Ok (givens.Head (heads.List g)) → g.count ≡ Some n → c ≡ n
+
+-- ---- places
+
+-- in a file of so many bytes: the end of a stream, where it has one of its own
+abbrev pub IsEndIn : ℕ → Option ℕ → Type 0
+IsEndIn size None = Unit {0}
+IsEndIn size (Some t) = t ≤ size
+
+-- a known end of an object
+abbrev pub IsObjectEndIn : ℕ → ObjectEnd → Type 0
+IsObjectEndIn size (endings.At e) = e ≤ size
+IsObjectEndIn size _ = Unit {0}
+
+-- a stream
+abbrev pub IsStreamIn : ℕ → Stream → Type 0
+IsStreamIn size w = (w.from ≤ size) × IsEndIn size w.to
+
+-- the stream of the object that holds what is read
+abbrev pub IsHomeIn : ℕ → Option Origin → Type 0
+IsHomeIn size None = Unit {0}
+IsHomeIn size (Some g) = IsStreamIn size g.home
+
+-- each place in an object, in a head, in a value and in any answer: it is a place of a byte, or the end of the file
+abbrev pub IsObjectIn : ℕ → Object → Type 0
+IsObjectIn size o = (o.start ≤ size) × IsStreamIn size o.stream × IsObjectEndIn size o.ending × IsHomeIn size o.origin
+
+abbrev pub IsHeadIn : ℕ → Head → Type 0
+IsHeadIn size (heads.Absent at) = IsEndIn size at
+IsHeadIn size (heads.Calc c) = IsObjectIn size c.object
+IsHeadIn size (heads.Leaf l) = (l.from ≤ size) × (l.to ≤ size) × (l.end ≤ size) × IsStreamIn size l.origin.home
+IsHeadIn size (heads.Object o) = IsObjectIn size o
+IsHeadIn size (heads.List g) = (g.start ≤ size) × IsStreamIn size g.stream × IsStreamIn size g.origin.home
+
+abbrev pub IsValueIn : ℕ → Value → Type 0
+IsValueIn size (values.Bytes from to) = (from ≤ size) × (to ≤ size)
+IsValueIn size _ = Unit {0}
+
+abbrev pub IsIn : ℕ → Given → Type 0
+IsIn size (givens.Head h) = IsHeadIn size h
+IsIn size (givens.Value v) = IsValueIn size v
+IsIn size (givens.End place last) = place ≤ size
+IsIn size (givens.Rest count place) = place ≤ size
+
+-- Each place in an answer lies in the file: nothing begins or ends after its last byte.
+abbrev pub PlacesAreInFile : Type 0
+PlacesAreInFile = (d : Description) (bytes : List ℕ) (opened : List Node) (n : Node) (g : Given) → from_nothing d bytes opened n ≡ Ok g → IsIn (length bytes) g
+
+-- ---- streams
+
+-- a place of a stream, or its end
+abbrev pub IsBetween : List ℕ → Stream → ℕ → Type 0
+IsBetween bytes w n = (w.from ≤ n) × (n ≤ end_in bytes w.to)
+
+-- a known end of an object
+abbrev pub IsEndBetween : List ℕ → Stream → ObjectEnd → Type 0
+IsEndBetween bytes w (endings.At e) = IsBetween bytes w e
+IsEndBetween bytes w _ = Unit {0}
+
+-- What is read lies in a stream. Bytes don't end before they begin; an object begins in a stream of its own, which lies in the other;
+-- elements are read in the stream of their list.
+abbrev pub LiesIn : List ℕ → Stream → Head → Type 0
+LiesIn bytes w (heads.Absent None) = Unit {0}
+LiesIn bytes w (heads.Absent (Some s)) = IsBetween bytes w s
+LiesIn bytes w (heads.Calc c) = Unit {0}
+LiesIn bytes w (heads.Leaf l) = IsBetween bytes w l.from × IsBetween bytes w l.to × IsBetween bytes w l.end × (l.from ≤ l.to)
+LiesIn bytes w (heads.Object o) = IsBetween bytes w o.start × IsBetween bytes w o.stream.from × (end_in bytes o.stream.to ≤ end_in bytes w.to) × IsBetween bytes o.stream o.start × IsEndBetween bytes w o.ending
+LiesIn bytes w (heads.List g) = IsBetween bytes w g.start × (g.stream ≡ w)
+
+-- the stream in which the attributes of an object, or the elements of a list, are read
+abbrev pub IsStreamOf : Head → Stream → Type 0
+IsStreamOf (heads.Object o) w = o.stream ≡ w
+IsStreamOf (heads.List g) w = g.stream ≡ w
+IsStreamOf _ w = ⊥
+
+-- a parse instance that is read in the stream that its `io` names
+abbrev pub HasIo : MemberKind → Type 0
+HasIo (ParseInstance e (Some io) f) = Unit {0}
+HasIo _ = ⊥
+
+-- a step leads to such an instance of an object
+abbrev pub IsElsewhere : Description → Head → Option Step → Type 0
+IsElsewhere d (heads.Object o) (Some (Name x)) = (s : Sought) × (sought x 0 None (members_of d o.type_number) ≡ Some s) × HasIo s.kind
+IsElsewhere d _ step = ⊥
+
+-- this is true of the stream of the object or list that holds a path, or, where its `io` names another, of a stream
+pub record IsHeld (d : Description) (met : Node → Result Given Fault) (p : Trail) (P : Stream → Type 0) : Type 0 where
+  pub holder : Head
+  pub answered : met (head_node (parent p)) ≡ Ok (givens.Head holder)
+  pub stream : Stream
+  pub own : IsStreamOf holder stream ⊎ IsElsewhere d holder (last p)
+  pub lies : P stream
+
+-- no two members of a type have one name: `load` accepts no other descriptions
+abbrev pub AreNamesDistinct : List MemberOfType → Type 0
+AreNamesDistinct [] = Unit {0}
+AreNamesDistinct (m ∷ ms) = AllByRecursion (λ n. (n.name == m.name) ≡ false) ms × AreNamesDistinct ms
+
+abbrev pub HasDistinctNames : Description → Type 0
+HasDistinctNames d = (t : ℕ) → AreNamesDistinct (members_of d t)
+
+-- What is at a path, and where it ends, lies in the stream of the object or list that holds it, or in the one of its `io`.
+abbrev pub HeadsLieInStreams : Type 0
+HeadsLieInStreams = (d : Description) (bytes : List ℕ) (opened : List Node) (p : Trail) (step : Step) (h : Head) → HasDistinctNames d → last p ≡ Some step → from_nothing d bytes opened (head_node p) ≡ Ok (givens.Head h)
+    → IsHeld d (from_nothing d bytes opened) p (λ w. LiesIn bytes w h)
+
+abbrev pub EndsLieInStreams : Type 0
+EndsLieInStreams = (d : Description) (bytes : List ℕ) (opened : List Node) (p : Trail) (step : Step) (place : ℕ) (is_last : Bool) → HasDistinctNames d → last p ≡ Some step → from_nothing d bytes opened (end_node p) ≡ Ok (givens.End place is_last)
+    → IsHeld d (from_nothing d bytes opened) p (λ w. IsBetween bytes w place)

@@ -1,0 +1,3 @@
+-- The laws' statements.
+pub mod Expressions
+pub mod Laws

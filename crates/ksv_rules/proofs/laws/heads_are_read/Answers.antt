@@ -1,5 +1,0 @@
-use Rattle.ksv_rules.proofs.Sources.{heads_are_read}
-use Rattle.ksv_rules.proofs.laws.heads_are_read.Goals as goal
-
-pub returns : goal.returns
-returns c = heads_are_read

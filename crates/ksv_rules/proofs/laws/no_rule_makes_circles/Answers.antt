@@ -1,5 +1,0 @@
-use Rattle.ksv_rules.proofs.Circles.{no_rule_makes_circles}
-use Rattle.ksv_rules.proofs.laws.no_rule_makes_circles.Goals as goal
-
-pub returns : goal.returns
-returns c = no_rule_makes_circles

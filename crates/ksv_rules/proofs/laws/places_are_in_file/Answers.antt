@@ -1,5 +1,0 @@
-use Rattle.ksv_rules.proofs.Places.{places_are_in_file}
-use Rattle.ksv_rules.proofs.laws.places_are_in_file.Goals as goal
-
-pub returns : goal.returns
-returns c = places_are_in_file

@@ -1,0 +1,5 @@
+use Rattle.ksv_rules.specs.Bounds.{rule_nodes, settles}
+use Rattle.ksv_rules.proofs.laws.rules_are_bounded.Goals as goal
+
+pub returns : goal.returns
+returns c = λ d n. record { asks = rule_nodes d n; settles = λ bytes replies h. settles d bytes n replies h }

@@ -1,5 +1,0 @@
-use Rattle.ksv_rules.proofs.Forms.{values_have_heads}
-use Rattle.ksv_rules.proofs.laws.values_have_heads.Goals as goal
-
-pub returns : goal.returns
-returns c = values_have_heads
