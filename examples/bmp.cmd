@@ -1,18 +1,24 @@
-# the header of a bitmap of 2 by 2 pixels: "BM" is 19778 in little endian
-get /magic
-get /file_size
-get /pixels_at
-get /width
-# a negative height says that the rows stand from the top down
+# the header
+get /header/width
+get /header/height
+get /header/bits
+get /header/compression
+# the rows stand at a place that the header names; the lowest one comes first
+get /len_row
+get /rows
+get /rows/0/pixels
+get /rows/0/pixels/1/rgb
+get /rows/1/pixels/2/rgb
+get /top_left
+# a height below 0 turns the picture over
+set 22 feffffff
 get /height
-get /bits_per_pixel
-# the file holds as many bytes as its header says
-size
-# turn the rows over
-set 22 02000000
-get /height
-# a path into a number leads nowhere
-get /height/0
-set 70 00
-get /colours
+get /rows
+get /top_left
+# three rows are more than the file has
+set 22 03000000
+get /rows/2
+app 010203010203010203000000
+get /top_left
+get /top_left/red
 quit

@@ -1,19 +1,24 @@
-get /
+# the picture
+get /width
+get /height
 get /header
-get /header/width
-get /header/height
-get /header/color
-get /header_crc
+get /chunks/0/body/color
+# chunks: what they hold is switched on their names
 get /chunks
-get /chunks/0/type
-get /chunks/0/title
-get /chunks/0/text
-get /chunks/0/body
-get /chunks/1/body
-get /chunks/1/crc
-get /chunks/2/len
-get /chunks/2/body
-get /chunks/2/crc
-get /chunks/3
-set 16 00010000
-get /header/width
+get /chunks/1/body/times_100000
+get /chunks/1/is_optional
+get /chunks/2/body/colors
+get /chunks/2/body/colors/2/blue
+get /chunks/3/body/year
+get /chunks/4/body/key
+get /chunks/4/body/text
+get /chunks/5/body
+get /chunks/5/crc
+get /chunks/0/body/len_line
+# the same header with true colours, 16 bits each
+set 24 1002
+get /chunks/0/body/len_line
+# a chunk of another name is bytes
+set 74 78
+get /chunks/3/body
+quit

@@ -1,20 +1,24 @@
-get /files
-get /files/0/name
-get /files/1/name
-get /files/0/crc32
-get /files/1/crc32
-get /files/0/method
-get /files/0/len_open
-get /files/0/body
-get /files/1/body
-get /files/0/date
-get /files/0/time
-get /entries/1/at
-get /entries/0/name
-get /end/all
-get /end/comment
-get /end/at_directory
-set 0 51
-get /files/0/magic
-get /end/comment
+# a section for each file, then one for each entry of the directory, then the end
+get /sections
+get /count
+get /end
+get /sections/6/body/comment
+get /sections/6/body/directory/sections
+# a file that is stored as it is, and one that is deflated
+get /sections/0/body/name
+get /sections/0/body/text
+get /sections/0/body/clock
+get /sections/2/body/method
+get /sections/2/body/text
+get /sections/2/body/body
+# an entry of the directory, and the file that it points to
+get /sections/5/body/name
+get /sections/5/body/comment
+get /sections/5/body/percent
+get /sections/5/body/section/body/crc32
+get /sections/3/body/agrees
+# another name in the file, but not in its entry
+set 30 62
+get /sections/0/body/name
+get /sections/3/body/agrees
 quit

@@ -1,22 +1,33 @@
+# By PKWARE's APPNOTE.TXT, 4.3 and 4.4. Of files whose sizes stand before them (bit 3 of `flags` is 0).
 meta:
   id: zip
+  file-extension: zip
   endian: le
   encoding: UTF-8
 seq:
-  - id: files
-    type: local_file
-    repeat: expr
-    repeat-expr: 2
-  - id: entries
-    type: entry
+  - id: sections
+    type: section
     repeat: until
-    repeat-until: _index == 1
-  - id: end
-    type: end
+    repeat-until: _.kind == kind::end
+instances:
+  end:
+    value: sections.last.body.as<end>
+  count:
+    value: end.count
 types:
-  local_file:
+  section:
     seq:
-      - {id: magic, contents: [80, 75, 3, 4]}
+      - {id: magic, contents: PK}
+      - {id: kind, type: u2, enum: kind}
+      - id: body
+        type:
+          switch-on: kind
+          cases:
+            kind::file: file
+            kind::entry: entry
+            kind::end: end
+  file:
+    seq:
       - {id: version, type: u2}
       - {id: flags, type: u2}
       - {id: method, type: u2, enum: method}
@@ -30,28 +41,70 @@ types:
       - {id: name, type: str, size: len_name}
       - {id: extra, size: len_extra}
       - {id: body, size: len_body}
+    instances:
+      text:
+        if: method == method::stored
+        value: body.to_s("UTF-8")
+      year:
+        value: (date >> 9) + 1980
+      month:
+        value: date >> 5 & 15
+      day:
+        value: date & 31
+      clock:
+        doc: Hours and minutes; seconds are stored by twos.
+        value: (time >> 11).to_s + ":" + (time >> 5 & 63).to_s
   entry:
     seq:
-      - {id: magic, contents: [80, 75, 1, 2]}
       - {id: made_by, type: u2}
-      - {id: local, size: 22}
+      - {id: version, type: u2}
+      - {id: flags, type: u2}
+      - {id: method, type: u2, enum: method}
+      - {id: time, type: u2}
+      - {id: date, type: u2}
+      - {id: crc32, type: u4}
+      - {id: len_body, type: u4}
+      - {id: len_open, type: u4}
       - {id: len_name, type: u2}
       - {id: len_extra, type: u2}
       - {id: len_comment, type: u2}
-      - {id: places, size: 8}
+      - {id: disk, type: u2}
+      - {id: internal, type: u2}
+      - {id: external, type: u4}
       - {id: at, type: u4}
       - {id: name, type: str, size: len_name}
       - {id: extra, size: len_extra}
       - {id: comment, type: str, size: len_comment}
+    instances:
+      section:
+        doc: The file's own section, at the place that the directory names.
+        io: _root._io
+        pos: at
+        type: section
+      agrees:
+        value: section.body.as<file>.name == name and section.body.as<file>.crc32 == crc32
+      percent:
+        if: len_open != 0
+        value: len_body * 100 / len_open
+  directory:
+    seq:
+      - {id: sections, type: section, repeat: eos}
   end:
     seq:
-      - {id: magic, contents: [80, 75, 5, 6]}
-      - {id: disks, size: 4}
-      - {id: here, type: u2}
-      - {id: all, type: u2}
+      - {id: disk, type: u2}
+      - {id: disk_of_directory, type: u2}
+      - {id: count_here, type: u2}
+      - {id: count, type: u2}
       - {id: len_directory, type: u4}
       - {id: at_directory, type: u4}
       - {id: len_comment, type: u2}
       - {id: comment, type: str, size: len_comment}
+    instances:
+      directory:
+        io: _root._io
+        pos: at_directory
+        size: len_directory
+        type: directory
 enums:
+  kind: {0x0403: file, 0x0201: entry, 0x0605: end}
   method: {0: stored, 8: deflated}

@@ -1,0 +1,25 @@
+# the header
+get /page_size
+get /count_pages
+get /user_version
+# the table of tables
+get /schema
+get /pages/0/tree/cells/0/row/record/columns/1/value/text
+get /pages/0/tree/cells/0/row/record/columns/3/value
+# its table begins with a branch; its leaves are other pages
+get /pages/1/tree/kind
+get /pages/1/tree/cells/0/branch/page
+get /pages/1/tree/cells/0/branch/tree
+get /pages/2/tree/cells
+# rows: the kind of each column is in the head of its record; no bytes are a missing value, 0 or 1
+get /pages/2/tree/cells/3/row/id/value
+get /pages/2/tree/cells/0/row/record/columns/1/value/text
+get /pages/2/tree/cells/3/row/record/columns/2/value/number
+get /pages/2/tree/cells/0/row/record/columns/3/value/bits
+get /pages/2/tree/cells/0/row/record/columns/4/value/bytes
+get /pages/2/tree/cells/0/row/record/columns/5/value
+get /pages/2/tree/cells/2/row/record/columns/5/value/number
+# write into the name
+set 1517 4d
+get /pages/2/tree/cells/0/row/record/columns/1/value/text
+quit
