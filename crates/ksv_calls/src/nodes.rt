@@ -147,17 +147,18 @@ fn paths_of_64_steps_are_named(rt: HostRuntime) -> Result<(), Fail> {
 fn add_given(given: &Given, out: &mut String) -> Result<(), AllocError> {
     match given {
         Given::Head(Head::Leaf(leaf)) => {
-            write!(out, "leaf {} to {}, end {}", leaf.from, leaf.to, leaf.end)
+            let (from, to) = (leaf.from.byte(), leaf.to.byte());
+            write!(out, "leaf {from} to {to}, end {}", leaf.end.byte())
         }
         Given::Head(Head::Object(object)) => {
-            write!(out, "object {} at {}", object.type_number, object.start)
+            write!(out, "object {} at {}", object.type_number, object.start.byte())
         }
-        Given::Head(Head::List(list)) => write!(out, "list at {}", list.start),
+        Given::Head(Head::List(list)) => write!(out, "list at {}", list.start.byte()),
         Given::Head(Head::Absent(_)) => out.push_str("gone"),
         Given::Head(Head::Calc(_)) => out.push_str("calculated"),
         Given::Value(_) => out.push_str("a value"),
-        Given::End { place, last } => write!(out, "end {place}, {last}"),
-        Given::Rest { count, place } => write!(out, "{count} elements, end {place}"),
+        Given::End { place, last } => write!(out, "end {}, {last}", place.byte()),
+        Given::Rest { count, place } => write!(out, "{count} elements, end {}", place.byte()),
     }
 }
 

@@ -4,7 +4,7 @@ use crate::names::number as give_numbers;
 use crate::paths::path;
 use crate::replies::{add_reply, number, stream};
 use crate::values::show;
-use ksv_expr::{Ctx, Expr, Got, Path, Stream, eval, parse};
+use ksv_expr::{Ctx, Expr, Got, Path, Place, Stream, eval, parse};
 use std::alloc::{AllocError, Global};
 
 /// The first word of some, and the others.
@@ -38,7 +38,7 @@ fn add_end_at(
     let (place, words) = first_word(words);
     let (here, words) = first_word(words);
     let here = path(alloc, here)?;
-    let ctx = Ctx::new(home, stream, number(place), &here);
+    let ctx = Ctx::new(home, stream, Place::of_byte(number(place)), &here);
     let (index, element) = first_word(words);
     match index.parse::<u32>() {
         Ok(index) => add_end_behind(alloc, ctx.within(index), element, row, out),

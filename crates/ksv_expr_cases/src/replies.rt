@@ -78,8 +78,8 @@ fn integer(word: &str) -> Integer {
 
 fn text(alloc: Global, string: &str) -> Result<Text, AllocError> {
     match String::from_utf8(spelled(alloc, string)?) {
-        Ok(string) => Ok(Text::new(string)),
-        Err(_) => Ok(Text::new(String::new(alloc))),
+        Ok(string) => Text::new(alloc, string),
+        Err(_) => Text::new(alloc, String::new(alloc)),
     }
 }
 

@@ -12,7 +12,7 @@ use crate::arithmetic;
 use crate::replies::{Halt, Replies};
 use crate::want::Want;
 use ksv_expr_tree::{EnumMember, SpecialName};
-use ksv_expr_value::{Ctx, Encoding, FaultKind, Integer, Parts, Path, Stream, Text, Value};
+use ksv_expr_value::{Ctx, Encoding, FaultKind, Integer, Parts, Path, Place, Stream, Text, Value};
 
 fn in_path(replies: &mut Replies, path: Option<Path>) -> Result<Path, Halt>
     ensures { Runs (in_path path) (λ p. p) replies.old replies.new result }
@@ -203,10 +203,10 @@ pub(crate) fn stream_size(replies: &mut Replies, stream: Stream) -> Result<Value
 }
 
 /// The current place, counted from a stream's start.
-pub(crate) fn place_in(replies: &mut Replies, place: u32, stream: Stream) -> Result<Value, Halt>
+pub(crate) fn place_in(replies: &mut Replies, place: Place, stream: Stream) -> Result<Value, Halt>
     ensures { Runs (distance place stream.from) (λ v. v) replies.old replies.new result }
 {
-    distance(replies, u64::from(place), stream.from)
+    distance(replies, u64::from(place.byte()), stream.from)
 }
 
 /// Whether the current place is the end of the home's stream.

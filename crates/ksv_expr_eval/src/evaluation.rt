@@ -38,7 +38,10 @@ fn literal(replies: &Replies, literal: &Literal) -> Result<Value, Halt>
         Literal::Number(number) => Value::Int(Integer::from(*number)),
         Literal::Truth(truth) => Value::Bool(*truth),
         Literal::Text(text) => {
-            Value::Text(Text::new(String::from_str(replies.alloc(), text.as_str())?))
+            Value::Text(Text::new(
+                replies.alloc(),
+                String::from_str(replies.alloc(), text.as_str())?,
+            )?)
         }
     })
 }

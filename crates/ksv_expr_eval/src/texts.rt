@@ -16,7 +16,7 @@ pub(crate) fn decimal(alloc: Global, number: Integer) -> Result<Text, AllocError
     ensures { IfOk result (λ text. text ≡ signed_decimal number) }
 {
     let number = number.get();
-    Ok(Text::new(format!(in alloc; "{number}")?))
+    Text::new(alloc, format!(in alloc; "{number}")?)
 }
 
 /// This text and another after it; None if it has more than 16,777,216 bytes.
@@ -30,7 +30,7 @@ pub(crate) fn join(alloc: Global, text: &Text, other: &Text) -> Result<Option<Te
     }
     let mut string = String::from_str(alloc, text.as_str())?;
     string.push_str(other.as_str())?;
-    Ok(Some(Text::new(string)))
+    Ok(Some(Text::new(alloc, string)?))
 }
 
 /// Whether the two have the same bytes.
@@ -70,7 +70,7 @@ fn from_characters(alloc: Global, characters: &[char]) -> Result<Text, AllocErro
     for character in characters {
         string.push(*character)?;
     }
-    Ok(Text::new(string))
+    Text::new(alloc, string)
 }
 
 /// The text with its characters from the last to the first.

@@ -3,6 +3,7 @@ ghost use Rattle.std.specs.Prelude.{◌≡◌, None, Some, option_map};
 ghost use Rattle.ksv_expr_value.specs.Setting.{Setting};
 
 use crate::path::Path;
+use crate::place::Place;
 use crate::value::Stream;
 use std::marker::Model;
 
@@ -14,7 +15,7 @@ pub struct Ctx<'a> {
     /// The home's stream.
     pub stream: Stream,
     /// The current place in the file.
-    pub place: u32,
+    pub place: Place,
     /// The number of the element that the expression belongs to.
     pub index: Option<u32>,
     /// The path of the element just read.
@@ -37,7 +38,7 @@ impl<'a> Ctx<'a> {
 
     /// The context of an expression of the object `home`, whose stream is `stream`, at the current place in the
     /// file, with faults at the path `here`. It is in no element.
-    pub fn new(home: &'a Path, stream: Stream, place: u32, here: &'a Path) -> Ctx<'a>
+    pub fn new(home: &'a Path, stream: Stream, place: Place, here: &'a Path) -> Ctx<'a>
         ensures { result ≡ record { home = home.now; stream = stream; place = place; index = None; element = None; here = here.now } }
     {
         Ctx {

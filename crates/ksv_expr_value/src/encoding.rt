@@ -40,24 +40,28 @@ impl Encoding {
         bytes.extend_from_slice(parts.front)?;
         bytes.extend_from_slice(parts.back)?;
         match self {
-            Encoding::Ascii => Ok(ascii(bytes)),
-            Encoding::Utf8 => Ok(utf8(bytes)),
+            Encoding::Ascii => ascii(alloc, bytes),
+            Encoding::Utf8 => utf8(alloc, bytes),
         }
     }
 }
 
 #[tactic(auto, using(crate::proofs::Encodings::ascii_is_text, crate::proofs::Encodings::ascii_is_no_text))]
-fn ascii(bytes: Vec<u8>) -> Option<Text>
-    ensures { result ≡ decoded Encoding.Ascii bytes.items }
+fn ascii(alloc: Global, bytes: Vec<u8>) -> Result<Option<Text>, AllocError>
+    ensures { IfOk result (λ text. text ≡ decoded Encoding.Ascii bytes.items) }
 {
-    if bytes.is_ascii() { utf8(bytes) } else { None }
+    if bytes.is_ascii() {
+        utf8(alloc, bytes)
+    } else {
+        Ok(None)
+    }
 }
 
-fn utf8(bytes: Vec<u8>) -> Option<Text>
-    ensures { result ≡ decoded Encoding.Utf8 bytes.items }
+fn utf8(alloc: Global, bytes: Vec<u8>) -> Result<Option<Text>, AllocError>
+    ensures { IfOk result (λ text. text ≡ decoded Encoding.Utf8 bytes.items) }
 {
     match String::from_utf8(bytes) {
-        Ok(string) => Some(Text::new(string)),
-        Err(_) => None,
+        Ok(string) => Ok(Some(Text::new(alloc, string)?)),
+        Err(_) => Ok(None),
     }
 }

@@ -4,23 +4,28 @@ ghost use Rattle.ksv_expr_value.specs.Range.{in_range, ranged};
 
 use std::marker::Model;
 
-/// An integer from -2^63 to 2^64 - 1.
+/// An integer from -2^63 to 2^64 - 1, in nine bytes. Contracts see the integer.
 #[derive(Clone, Copy, Debug)]
 pub struct Integer {
-    value: i128,
+    /// How far it is from 0, or from -1 where it is below 0.
+    distance: u64,
+    /// Whether it is below 0.
+    is_below: bool,
 }
 
 impl Model for Integer {
     ghost use Rattle.std.specs.Prelude.{ℤ, IsTrue};
-    ghost use Rattle.ksv_expr_value.specs.Range.{in_range};
+    ghost use Rattle.ksv_expr_value.specs.Range.{in_range, signed, distance_of, is_below_zero, signed_back};
 
     ghost Value = { ℤ };
 
-    ghost view = { λ n. n.value };
+    ghost view = { λ n. signed n.distance n.is_below };
 
-    ghost invariant = { λ n. IsTrue (in_range n.value) };
+    ghost invariant = { λ n. IsTrue (in_range (signed n.distance n.is_below)) };
 
-    ghost inverse = { λ z. record { value = z } };
+    ghost inverse = { λ z. record { distance = distance_of z; is_below = is_below_zero z } };
+
+    ghost inverse_ok = { λ n h i. record { distance = (signed_back n.distance n.is_below i).0; is_below = (signed_back n.distance n.is_below i).1 } };
 }
 
 impl From<u64> for Integer {
@@ -30,7 +35,8 @@ impl From<u64> for Integer {
 
     fn from(number: u64) -> Integer {
         Integer {
-            value: i128::from(number),
+            distance: number,
+            is_below: false,
         }
     }
 }
@@ -49,7 +55,7 @@ impl Integer {
         if value < Integer::MIN || value > Integer::MAX {
             None
         } else {
-            Some(Integer { value })
+            Some(integer_of(value))
         }
     }
 
@@ -58,6 +64,29 @@ impl Integer {
         ensures value { result ≡ self }
         ensures in_range { IsTrue (in_range result) }
     {
-        self.value
+        let distance = i128::from(self.distance);
+        if self.is_below {
+            -1 - distance
+        } else {
+            distance
+        }
+    }
+}
+
+/// The integer of a value in the range.
+fn integer_of(value: i128) -> Integer
+    requires { IsTrue (in_range value) }
+    ensures { result ≡ value }
+{
+    if value < 0 {
+        Integer {
+            distance: (-1 - value) as u64,
+            is_below: true,
+        }
+    } else {
+        Integer {
+            distance: value as u64,
+            is_below: false,
+        }
     }
 }

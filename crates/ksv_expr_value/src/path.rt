@@ -10,9 +10,13 @@ ghost use Rattle.std.specs.Cmp.{on_per, on_equiv};
 ghost use Rattle.std.specs.Cmp.Lexicographic.{pointwise, lists_per, lists_equiv};
 
 use crate::step::Step;
+use smallvec::SmallVec;
 use std::alloc::{AllocError, Global};
 use std::hash::{Hash, Hasher};
 use std::marker::Model;
+
+/// How many steps a path holds by itself; further ones are on the heap. Most paths of real descriptions are short.
+const INLINE_STEPS: usize = 3;
 
 /// The steps from the root to a value: at most 64, and each index below 1,048,576.
 ///
@@ -20,7 +24,7 @@ use std::marker::Model;
 /// if they have the same steps.
 #[derive(Drop)]
 pub struct Path {
-    steps: Vec<Step>,
+    steps: SmallVec<Step, INLINE_STEPS>,
     ghost valid: { IsTrue (fits (reverse steps.items)) },
 }
 
@@ -45,7 +49,7 @@ impl Path {
         ensures { result ≡ root }
     {
         Path {
-            steps: Vec::new(alloc),
+            steps: SmallVec::new(alloc),
         }
     }
 
@@ -55,7 +59,7 @@ impl Path {
         ensures { IfOk result (λ path. path.upward ≡ reverse steps.now) }
     {
         Ok(Path {
-            steps: Vec::from_slice(alloc, steps)?,
+            steps: SmallVec::from_slice(alloc, steps)?,
         })
     }
 
@@ -85,14 +89,15 @@ impl Path {
     fn last_step(&self) -> Option<Step>
         ensures { result ≡ last self.now }
     {
-        self.steps.last().copied()
+        let steps = self.steps.as_slice();
+        steps.last().copied()
     }
 
     /// A copy of the path.
     pub fn copy(&self, alloc: Global) -> Result<Path, AllocError>
         ensures { IfOk result (λ path. path ≡ self.now) }
     {
-        let steps = Vec::from_slice(alloc, self.steps.as_slice())?;
+        let steps = SmallVec::from_slice(alloc, self.steps.as_slice())?;
         Ok(Path { steps })
     }
 
@@ -100,9 +105,9 @@ impl Path {
     pub fn parent(&self, alloc: Global) -> Result<Path, AllocError>
         ensures { IfOk result (λ path. path ≡ parent self.now) }
     {
-        let len = self.steps.len();
+        let len = self.len();
         let shorter = if len == 0 { 0 } else { len - 1 };
-        let steps = Vec::from_slice(alloc, &self.steps[..shorter])?;
+        let steps = SmallVec::from_slice(alloc, &self.steps()[..shorter])?;
         Ok(Path { steps })
     }
 
@@ -134,10 +139,11 @@ impl Path {
         requires { IsTrue (step_fits step) }
         ensures { IfOk result (λ path. path ≡ child self.now step) }
     {
-        if self.steps.len() == 64 {
+        let len = self.len();
+        if len == Path::MAX_STEPS {
             return Ok(None);
         }
-        let mut steps = Vec::with_capacity(alloc, self.steps.len() + 1)?;
+        let mut steps = SmallVec::with_capacity(alloc, len + 1)?;
         steps.extend_from_slice(self.steps.as_slice())?;
         steps.push(step)?;
         Ok(Some(Path { steps }))

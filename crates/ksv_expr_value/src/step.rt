@@ -1,4 +1,5 @@
 //! One step of a path.
+ghost use Rattle.std.specs.Prelude.{◌≡◌};
 
 /// A step from an object to one of its members, or from a list to one of its elements.
 #[derive(Clone, Copy, PartialEq, Eq, Hash, Debug)]
@@ -7,4 +8,15 @@ pub enum Step {
     Name(u32),
     /// The element of this index, counted from 0.
     Index(u32),
+}
+
+impl Default for Step {
+    ghost use Rattle.ksv_expr_value.specs.declared.step.Step.TheVariants.{Name};
+
+    ghost is_default = { λ step. step ≡ Name 0 };
+
+    /// The member of the first name: what fills room that holds no step.
+    fn default() -> Step {
+        Step::Name(0)
+    }
 }

@@ -3,11 +3,12 @@ ghost use Rattle.std.specs.Prelude.{◌≡◌, IfOk, string_bytes};
 
 use std::alloc::{AllocError, Global};
 use std::marker::Model;
+use std::rc::Rc;
 
-/// A text. A contract sees the bytes of its UTF-8.
+/// A text. A contract sees the bytes of its UTF-8. Copies of a text share its bytes.
 #[derive(Debug, Drop)]
 pub struct Text {
-    string: String,
+    string: Rc<String>,
 }
 
 impl Model for Text {
@@ -15,7 +16,7 @@ impl Model for Text {
 
     ghost Value = { List ℕ };
 
-    ghost view = { λ t. string_bytes t.string };
+    ghost view = { λ t. string_bytes t.string.value };
 }
 
 impl Text {
@@ -23,25 +24,27 @@ impl Text {
     pub const MAX_LEN: usize = 16777216;
 
     /// A text of this string.
-    pub fn new(string: String) -> Text
-        ensures { result ≡ string_bytes string }
+    pub fn new(alloc: Global, string: String) -> Result<Text, AllocError>
+        ensures { IfOk result (λ text. text ≡ string_bytes string) }
     {
-        Text { string }
+        Ok(Text {
+            string: Rc::new(alloc, string)?,
+        })
     }
 
     /// The text as a `str`.
     pub fn as_str(&self) -> &str
         ensures { result.now ≡ self.now }
     {
-        self.string.as_str()
+        self.string.as_ref().as_str()
     }
 
-    /// A copy of the text.
-    pub fn copy(&self, alloc: Global) -> Result<Text, AllocError>
+    /// A copy of the text, which shares its bytes. It fails where the text has too many copies to count them.
+    pub fn copy(&self) -> Result<Text, AllocError>
         ensures { IfOk result (λ text. text ≡ self.now) }
     {
         Ok(Text {
-            string: String::from_str(alloc, self.string.as_str())?,
+            string: self.string.clone()?,
         })
     }
 }

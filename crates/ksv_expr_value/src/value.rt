@@ -54,7 +54,7 @@ impl Value {
         Ok(match self {
             Value::Int(number) => Value::Int(*number),
             Value::Bool(truth) => Value::Bool(*truth),
-            Value::Text(text) => Value::Text(text.copy(alloc)?),
+            Value::Text(text) => Value::Text(text.copy()?),
             Value::Bytes { from, to } => Value::Bytes {
                 from: *from,
                 to: *to,

@@ -1,7 +1,7 @@
 //! Each call of a turn on its happy path and on its fault, and the readings with what they depend on.
 
 use ksv_bytes::Buffer;
-use ksv_expr_eval::{Fault, FaultKind, Parts, Path, Step, Stream, Value};
+use ksv_expr_eval::{Fault, FaultKind, Parts, Path, Place, Step, Stream, Value};
 use ksv_nodes::{Ended, Found, Given, Halt, Head, Node, NodeKind, Rested, Turn, first_in_parts};
 use std::alloc::{AllocError, Global};
 use std::fmt::Write;
@@ -77,22 +77,30 @@ enum Seen {
     Place(u32),
     Done(bool),
     First(Option<u8>),
-    Found(Found),
+    At(u32),
+    Missing(u32),
 }
 
 fn read(turn: &mut Turn, reading: Reading<'_>) -> Result<Seen, Halt> {
     let stream = reading.stream;
     match reading.word {
         "reach" => {
-            turn.reach(stream, u128::from(reading.first))?;
+            turn.reach(stream, Place::of_byte(0), u64::from(reading.first))?;
             Ok(Seen::Reached)
         }
-        "finish" => Ok(Seen::Place(turn.finish(stream)?)),
-        "done" => Ok(Seen::Done(turn.done(stream, reading.first)?)),
-        "peek" => Ok(Seen::First(turn.peek(reading.first, reading.second)?.first())),
+        "finish" => Ok(Seen::Place(turn.finish(stream)?.byte())),
+        "done" => Ok(Seen::Done(turn.done(stream, Place::of_byte(reading.first))?)),
+        "peek" => {
+            let to = Place::of_byte(reading.second);
+            let parts = turn.peek(Place::of_byte(reading.first), to)?;
+            Ok(Seen::First(parts.first()))
+        }
         _ => {
             let byte = u8::try_from(reading.second).unwrap_or(0);
-            Ok(Seen::Found(turn.find(stream, reading.first, byte)?))
+            match turn.find(stream, Place::of_byte(reading.first), byte)? {
+                Found::At(place) => Ok(Seen::At(place.byte())),
+                Found::Missing(end) => Ok(Seen::Missing(end.byte())),
+            }
         }
     }
 }
@@ -104,7 +112,8 @@ fn add_seen(text: &mut String, seen: Seen) -> Result<(), AllocError> {
         Seen::Place(place) => write!(text, "place {place}"),
         Seen::Done(is_done) => write!(text, "done {is_done}"),
         Seen::First(byte) => write!(text, "first {byte:?}"),
-        Seen::Found(found) => write!(text, "{found:?}"),
+        Seen::At(place) => write!(text, "At({place})"),
+        Seen::Missing(end) => write!(text, "Missing({end})"),
     }
 }
 
@@ -161,13 +170,16 @@ fn add(alloc: Global, replies: &mut Replies, given: &Given) -> Result<(), AllocE
 /// A reply of one of four forms.
 fn given(form: u8) -> Given {
     match form {
-        0 => Given::Head(Head::Absent(Some(3))),
+        0 => Given::Head(Head::Absent(Some(Place::of_byte(3)))),
         1 => Given::Value(Value::Bool(true)),
         2 => Given::End {
-            place: 5,
+            place: Place::of_byte(5),
             last: true,
         },
-        _ => Given::Rest { count: 2, place: 9 },
+        _ => Given::Rest {
+            count: 2,
+            place: Place::of_byte(9),
+        },
     }
 }
 
@@ -190,8 +202,10 @@ fn kind_of<T: Drop>(ended: Result<T, Halt>) -> Option<FaultKind> {
 
 /// Whether a turn gives the head that was replied.
 fn gives_head(alloc: Global, here: &Path, turn: &mut Turn) -> Result<bool, AllocError> {
-    let given = turn.head(here.copy(alloc)?);
-    Ok(matches!(given, Ok(Head::Absent(Some(3)))))
+    match turn.head(here.copy(alloc)?) {
+        Ok(Head::Absent(Some(place))) => Ok(place.byte() == 3),
+        _ => Ok(false),
+    }
 }
 
 /// Whether a turn gives the value that was replied.
@@ -203,7 +217,7 @@ fn gives_value(alloc: Global, here: &Path, turn: &mut Turn) -> Result<bool, Allo
 /// Whether a turn gives the end that was replied.
 fn gives_end(alloc: Global, here: &Path, turn: &mut Turn) -> Result<bool, AllocError> {
     match turn.end(here.copy(alloc)?) {
-        Ok(Ended { place, last }) => Ok(place == 5 && last),
+        Ok(Ended { place, last }) => Ok(place.byte() == 5 && last),
         Err(_) => Ok(false),
     }
 }
@@ -211,7 +225,7 @@ fn gives_end(alloc: Global, here: &Path, turn: &mut Turn) -> Result<bool, AllocE
 /// Whether a turn gives the rest that was replied.
 fn gives_rest(alloc: Global, here: &Path, turn: &mut Turn) -> Result<bool, AllocError> {
     match turn.rest(here.copy(alloc)?) {
-        Ok(Rested { count, place }) => Ok(count == 2 && place == 9),
+        Ok(Rested { count, place }) => Ok(count == 2 && place.byte() == 9),
         Err(_) => Ok(false),
     }
 }

@@ -2,7 +2,7 @@
 
 ghost use Rattle.std.specs.Prelude.{◌≡◌, IfOk};
 
-use ksv_expr_eval::{Stream, Value};
+use ksv_expr_eval::{Place, Stream, Value};
 use std::alloc::{AllocError, Global};
 
 /// A member of a type of the description.
@@ -32,18 +32,18 @@ pub struct Leaf {
     /// How they are read.
     pub origin: Origin,
     /// The place of the first.
-    pub from: u32,
+    pub from: Place,
     /// The place after the last.
-    pub to: u32,
+    pub to: Place,
     /// Where what follows begins: after a terminator that isn't a part of the bytes.
-    pub end: u32,
+    pub end: Place,
 }
 
 /// How the end of an object is known.
 #[derive(Clone, Copy)]
 pub enum ObjectEnd {
     /// It ends at this place.
-    At(u32),
+    At(Place),
     /// It ends with its stream.
     OfStream,
     /// It ends with the last attribute of its type's `seq`.
@@ -60,7 +60,7 @@ pub struct Object {
     /// The stream in which its places are counted.
     pub stream: Stream,
     /// Where it begins.
-    pub start: u32,
+    pub start: Place,
     /// How its end is known.
     pub ending: ObjectEnd,
 }
@@ -73,7 +73,7 @@ pub struct List {
     /// The stream in which they are.
     pub stream: Stream,
     /// Where the first begins.
-    pub start: u32,
+    pub start: Place,
     /// How many there are, if that is known beforehand.
     pub count: Option<u32>,
     /// Whether there are none.
@@ -93,7 +93,7 @@ pub struct Calc {
 #[derive(Clone, Copy)]
 pub enum Head {
     /// Nothing: an attribute or instance that is absent, at its place if it has one.
-    Absent(Option<u32>),
+    Absent(Option<Place>),
     /// A value that is calculated.
     Calc(Calc),
     /// Bytes that hold a value.
@@ -114,7 +114,7 @@ pub enum Given {
     /// Where it ends.
     End {
         /// The place after its last byte.
-        place: u32,
+        place: Place,
         /// Whether it is the last element of a list.
         last: bool,
     },
@@ -123,7 +123,7 @@ pub enum Given {
         /// How many elements the list has.
         count: u32,
         /// Where it ends.
-        place: u32,
+        place: Place,
     },
 }
 
@@ -151,7 +151,7 @@ impl Given {
 #[derive(Clone, Copy)]
 pub struct Ended {
     /// The place after its last byte.
-    pub place: u32,
+    pub place: Place,
     /// Whether it is the last element of a list.
     pub last: bool,
 }
@@ -162,5 +162,5 @@ pub struct Rested {
     /// How many elements the list has.
     pub count: u32,
     /// Where it ends.
-    pub place: u32,
+    pub place: Place,
 }

@@ -12,7 +12,7 @@ use crate::given::{Ended, Given, Head, Rested};
 use crate::node::{Node, NodeKind};
 use crate::search::first_in_parts;
 use ksv_bytes::{Buffer, Use, Window};
-use ksv_expr_eval::{Fault, FaultKind, Parts, Path, Step, Stream, Value};
+use ksv_expr_eval::{Fault, FaultKind, Parts, Path, Place, Step, Stream, Value};
 use std::alloc::{AllocError, AllocFailed, Global};
 use std::marker::Model;
 
@@ -20,9 +20,9 @@ use std::marker::Model;
 #[derive(Clone, Copy, Debug)]
 pub enum Found {
     /// At this place.
-    At(u32),
+    At(Place),
     /// Nowhere before the stream's end, which is this place.
-    Missing(u32),
+    Missing(Place),
 }
 
 /// Why a rule halts before its end.
@@ -217,12 +217,14 @@ impl<'a> Turn<'a> {
         }
     }
 
-    /// Requires that a stream and the file go on to a place.
+    /// The place so many bytes after another. It requires that the stream and the file go on to it.
     #[tactic(auto, unfolding(crate::specs::Reading::reach_within, crate::specs::Reading::reach_file))]
-    pub fn reach(&mut self, stream: Stream, to: u128) -> Result<(), Halt>
-        ensures runs { Runs (reach stream to) (λ unit. unit) self.old self.new result }
-        ensures fits { IfOk result (λ _. to ≤ file_limit) }
+    pub fn reach(&mut self, stream: Stream, from: Place, size: u64) -> Result<Place, Halt>
+        ensures runs { Runs (reach stream (from + size)) (λ _. tt) self.old self.new result }
+        ensures place { IfOk result (λ place. place ≡ from + size) }
+        ensures fits { IfOk result (λ place. place ≤ file_limit) }
     {
+        let to = u128::from(from.byte()) + u128::from(size);
         if let Some(end) = stream.to {
             if u128::from(end) < to {
                 return self.raise(FaultKind::EndOfBytes);
@@ -230,7 +232,7 @@ impl<'a> Turn<'a> {
         }
         if to <= self.bytes.len() as u128 {
             self.uses.push(Use::Reach(to as u32))?;
-            Ok(())
+            Ok(Place::of_byte(to as u32))
         } else {
             self.uses.push(Use::Size)?;
             self.raise(FaultKind::EndOfBytes)
@@ -239,23 +241,24 @@ impl<'a> Turn<'a> {
 
     /// Where a stream ends.
     #[tactic(auto, unfolding(crate::specs::Reading::finish_of))]
-    pub fn finish(&mut self, stream: Stream) -> Result<u32, Halt>
+    pub fn finish(&mut self, stream: Stream) -> Result<Place, Halt>
         ensures { Runs (finish stream) (λ place. place) self.old self.new result }
     {
         match stream.to {
-            Some(end) => Ok(end),
+            Some(end) => Ok(Place::of_byte(end)),
             None => {
                 self.uses.push(Use::Size)?;
-                Ok(self.bytes.len() as u32)
+                Ok(Place::of_byte(self.bytes.len() as u32))
             }
         }
     }
 
     /// Whether a place is at the end of a stream or after it.
     #[tactic(auto, unfolding(crate::specs::Reading::done_at))]
-    pub fn done(&mut self, stream: Stream, place: u32) -> Result<bool, Halt>
+    pub fn done(&mut self, stream: Stream, place: Place) -> Result<bool, Halt>
         ensures { Runs (done stream place) (λ is_done. is_done) self.old self.new result }
     {
+        let place = place.byte();
         if let Some(end) = stream.to {
             return Ok(end <= place);
         }
@@ -270,9 +273,10 @@ impl<'a> Turn<'a> {
 
     /// The bytes of a range.
     #[tactic(auto, unfolding(crate::specs::Reading::peek_at, crate::specs::Reading::cut_uses))]
-    pub fn peek(&mut self, from: u32, to: u32) -> Result<Parts<'a>, Halt>
+    pub fn peek(&mut self, from: Place, to: Place) -> Result<Parts<'a>, Halt>
         ensures { Runs (peek from to) content self.old self.new result }
     {
+        let (from, to) = (from.byte(), to.byte());
         if from == to {
             return Ok(Parts {
                 front: &[],
@@ -324,20 +328,21 @@ impl<'a> Turn<'a> {
 
     /// The first byte of a value from a place on, before the stream's end.
     #[tactic(auto, unfolding(crate::specs::Reading::find_at, crate::specs::Reading::found_from, crate::specs::Reading::found_none, crate::specs::Reading::finish_of))]
-    pub fn find(&mut self, stream: Stream, start: u32, byte: u8) -> Result<Found, Halt>
+    pub fn find(&mut self, stream: Stream, start: Place, byte: u8) -> Result<Found, Halt>
         ensures runs { Runs (find stream start byte) (λ found. found) self.old self.new result }
         ensures fits { IfOk result (StandsBelow file_limit) }
     {
+        let start = start.byte();
         let end = self.end_in(stream);
         match self.first_in(start, end, byte) {
             Some(place) => {
                 self.uses.push(Use::Bytes(start, start + place + 1))?;
-                Ok(Found::At(start + place))
+                Ok(Found::At(Place::of_byte(start + place)))
             }
             None => {
                 self.finish(stream)?;
-                self.peek(start, end)?;
-                Ok(Found::Missing(end))
+                self.peek(Place::of_byte(start), Place::of_byte(end))?;
+                Ok(Found::Missing(Place::of_byte(end)))
             }
         }
     }

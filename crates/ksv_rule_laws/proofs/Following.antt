@@ -20,9 +20,9 @@ use Rattle.ksv_nodes.specs.declared.given.Head.TheVariants as heads
 use Rattle.ksv_nodes.specs.Numbers.{node_bound}
 use Rattle.ksv_nodes.specs.Rule.{Rule, part, ask_head, ask_end, head_node, end_node, done}
 use Rattle.ksv_nodes.specs.Truth.{answer_of}
-use Rattle.ksv_rules.specs.Wanted.{in_object, holds}
-use Rattle.ksv_rules.specs.Fields.{members_of, is_attribute, behind, Sought, sought, in_sought, member_named, last_attribute}
-use Rattle.ksv_rules.specs.Heads.{count_of, counted, until_eos, repeated, attribute_at, part_end, attribute_start, attribute_head, member_at, member_head, head_at, head_of}
+use Rattle.ksv_rule_heads.specs.Wanted.{in_object, holds}
+use Rattle.ksv_rule_heads.specs.Fields.{members_of, is_attribute, behind, Sought, sought, in_sought, member_named, last_attribute}
+use Rattle.ksv_rule_heads.specs.Heads.{count_of, counted, until_eos, repeated, attribute_at, part_end, attribute_start, attribute_head, member_at, member_head, head_at, head_of}
 use Rattle.ksv_rules.specs.Ends.{start_of}
 use Rattle.ksv_rules.specs.Meaning.{meaning_of}
 use Rattle.ksv_rules.specs.FromNothing.{answer_within, from_nothing}

@@ -9,15 +9,15 @@ ghost use Rattle.ksv_desc.specs.Description.{Bytes};
 ghost use Rattle.ksv_desc.specs.Pieces.{plain_content, plain_kind};
 ghost use Rattle.ksv_desc.specs.Whole.{plain_pieces};
 ghost use Rattle.ksv_nodes.specs.Turning.{Runs};
-ghost use Rattle.ksv_rules.specs.Heads.{instance_setting};
+ghost use Rattle.ksv_rule_heads.specs.Heads.{instance_setting};
 ghost use Rattle.ksv_rules.specs.Values.{in_no_stream, in_enum, instance_value, given_by, arguments_for, argument_at, argument_setting, plain_value, argument_value, parameter_value, calc_value, calculated};
 
-use crate::choosing::content_of;
-use crate::evaluation::value_of_expression;
-use crate::fields::{field_of, kind_of, members_of, parameters_before};
 use ksv_desc::{Content, Desc, MemberKind};
-use ksv_expr_eval::{Ctx, Expr, FaultKind, Path, Step, Value};
+use ksv_expr_eval::{Ctx, Expr, FaultKind, Path, Place, Step, Value};
 use ksv_nodes::{Calc, Halt, MemberRef, Object, Origin, Turn};
+use ksv_rule_heads::{
+    content_of, field_of, kind_of, members_of, parameters_before, value_of_expression,
+};
 
 /// No member's value is a stream.
 fn in_no_stream(turn: &mut Turn, value: Value) -> Result<Value, Halt>
@@ -104,7 +104,7 @@ fn evaluated(
     path: &Path,
     holder: &Path,
     origin: Origin,
-    start: u32,
+    start: Place,
     argument: &Expr,
 ) -> Result<Value, Halt>
     ensures { Runs (plain_value (argument_setting path.now holder.now origin start) (view argument.now)) (λ value. value) turn.old turn.new result }

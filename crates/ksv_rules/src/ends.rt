@@ -7,19 +7,17 @@ ghost use Rattle.ksv_desc.specs.Whole.{plain_pieces};
 ghost use Rattle.ksv_expr_tree.specs.Tree.{view};
 ghost use Rattle.ksv_expr_value.specs.Trail.{element_limit, parent};
 ghost use Rattle.ksv_nodes.specs.Turning.{Runs};
-ghost use Rattle.ksv_rules.specs.Wanted.{truth_of};
+ghost use Rattle.ksv_rule_heads.specs.Wanted.{truth_of};
 ghost use Rattle.ksv_rules.specs.Ends.{fields_end, object_end, part_rest, list_end, absent_end, place_of, start_of, is_counted, behind_element, is_last, is_by_bytes, not_empty, element_end, end_at, end_of, next_rest, rest_behind, rest_from, in_whole_list, first_rest, whole_rest, rest_at, rest_of};
 
-use crate::fields::{field_of, last_attribute, members_of};
-use crate::heads::{in_list, part_end};
-use crate::wanted::{missing, truth_of};
 use ksv_desc::{Desc, Repeat};
-use ksv_expr_eval::{Ctx, Expr, FaultKind, Path, Step};
+use ksv_expr_eval::{Ctx, Expr, FaultKind, Path, Place, Step};
 use ksv_nodes::{Ended, Halt, Head, List, Object, ObjectEnd, Rested, Turn};
+use ksv_rule_heads::{field_of, in_list, last_attribute, members_of, missing, part_end, truth_of};
 
 /// The end of an object that ends with its last attribute; without one it ends where it begins.
 #[tactic(auto, using(ksv_plan::proofs::Running::run_bind), unfolding(crate::specs::Ends::fields_end))]
-fn fields_end(turn: &mut Turn, path: &Path, start: u32, last: Option<u32>) -> Result<u32, Halt>
+fn fields_end(turn: &mut Turn, path: &Path, start: Place, last: Option<u32>) -> Result<Place, Halt>
     ensures { Runs (fields_end path.now start last) (λ place. place) turn.old turn.new result }
 {
     match last {
@@ -36,10 +34,10 @@ fn object_end(
     turn: &mut Turn,
     desc: &Desc,
     path: &Path,
-    object: Object,
+    object: &Object,
     ending: ObjectEnd,
-) -> Result<u32, Halt>
-    ensures { Runs (object_end (plain_pieces desc.now) path.now object ending) (λ place. place) turn.old turn.new result }
+) -> Result<Place, Halt>
+    ensures { Runs (object_end (plain_pieces desc.now) path.now object.now ending) (λ place. place) turn.old turn.new result }
 {
     match ending {
         ObjectEnd::At(end) => Ok(end),
@@ -61,7 +59,7 @@ fn part_rest(turn: &mut Turn, path: &Path, step: Step) -> Result<Rested, Halt>
 
 /// A list ends where its last element does.
 #[tactic(auto, using(ksv_plan::proofs::Running::run_bind), unfolding(crate::specs::Ends::list_end))]
-fn list_end(turn: &mut Turn, path: &Path) -> Result<u32, Halt>
+fn list_end(turn: &mut Turn, path: &Path) -> Result<Place, Halt>
     ensures { Runs (list_end path.now) (λ place. place) turn.old turn.new result }
 {
     let rest = part_rest(turn, path, Step::Index(0))?;
@@ -69,7 +67,7 @@ fn list_end(turn: &mut Turn, path: &Path) -> Result<u32, Halt>
 }
 
 /// The end of what is absent, where it has a place.
-fn absent_end(turn: &mut Turn, at: Option<u32>) -> Result<u32, Halt>
+fn absent_end(turn: &mut Turn, at: Option<Place>) -> Result<Place, Halt>
     ensures { Runs (absent_end at) (λ place. place) turn.old turn.new result }
 {
     match at {
@@ -80,26 +78,26 @@ fn absent_end(turn: &mut Turn, at: Option<u32>) -> Result<u32, Halt>
 
 /// The place behind what stands at a path.
 #[tactic(auto, unfolding(crate::specs::Ends::place_of))]
-fn place_of(turn: &mut Turn, desc: &Desc, path: &Path, head: Head) -> Result<u32, Halt>
+fn place_of(turn: &mut Turn, desc: &Desc, path: &Path, head: Head) -> Result<Place, Halt>
     ensures { Runs (place_of (plain_pieces desc.now) path.now head) (λ place. place) turn.old turn.new result }
 {
     match head {
         Head::Absent(at) => absent_end(turn, at),
         Head::Calc(_) => turn.raise(FaultKind::NoSuch),
         Head::Leaf(leaf) => Ok(leaf.end),
-        Head::Object(object) => object_end(turn, desc, path, object, object.ending),
+        Head::Object(object) => object_end(turn, desc, path, &object, object.ending),
         Head::List(_) => list_end(turn, path),
     }
 }
 
 /// Where something begins.
-fn start_of(head: Head) -> u32
+fn start_of(head: Head) -> Place
     ensures { result ≡ start_of head }
 {
     match head {
-        Head::Absent(None) => 0,
+        Head::Absent(None) => Place::of_byte(0),
         Head::Absent(Some(place)) => place,
-        Head::Calc(_) => 0,
+        Head::Calc(_) => Place::of_byte(0),
         Head::Leaf(leaf) => leaf.from,
         Head::Object(object) => object.start,
         Head::List(list) => list.start,
@@ -122,7 +120,7 @@ fn holds_behind(
     list: List,
     element: &Path,
     index: u32,
-    end: u32,
+    end: Place,
     condition: &Expr,
 ) -> Result<bool, Halt>
     ensures { Runs (truth_of (behind_element (parent (parent element.now)) list element.now index end) (view condition.now)) (λ truth. truth) turn.old turn.new result }
@@ -142,7 +140,7 @@ fn is_last(
     list: List,
     element: &Path,
     index: u32,
-    end: u32,
+    end: Place,
     repeat: &Repeat,
 ) -> Result<bool, Halt>
     ensures { Runs (is_last (parent (parent element.now)) list element.now index end (plain_repeat repeat.now)) (λ truth. truth) turn.old turn.new result }
@@ -168,7 +166,7 @@ fn is_by_bytes(repeat: &Repeat) -> bool
 
 /// Where bytes end a list, each of its elements has some.
 #[tactic(auto, unfolding(crate::specs::Ends::not_empty))]
-fn not_empty(turn: &mut Turn, repeat: &Repeat, start: u32, end: u32) -> Result<(), Halt>
+fn not_empty(turn: &mut Turn, repeat: &Repeat, start: Place, end: Place) -> Result<(), Halt>
     ensures { Runs (not_empty (plain_repeat repeat.now) start end) (λ unit. unit) turn.old turn.new result }
 {
     if is_by_bytes(repeat) {
@@ -187,7 +185,7 @@ fn element_end(
     path: &Path,
     index: u32,
     head: Head,
-    place: u32,
+    place: Place,
 ) -> Result<Ended, Halt>
     ensures { Runs (element_end (plain_pieces desc.now) path.now (parent path.now) (parent (parent path.now)) index head place) (λ ended. ended) turn.old turn.new result }
 {
@@ -206,7 +204,7 @@ fn end_at(
     path: &Path,
     step: Option<Step>,
     head: Head,
-    place: u32,
+    place: Place,
 ) -> Result<Ended, Halt>
     ensures { Runs (end_at (plain_pieces desc.now) path.now step head place) (λ ended. ended) turn.old turn.new result }
 {

@@ -1,23 +1,17 @@
 //! The rules of a description's nodes: what stands at a path of a file, its value, and where it ends.
 //!
-//! Each rule is a definition in specs/ (`Heads`, `Values`, `Ends`) and a function of the same name here that runs it on the
-//! replies that it had. An engine (`ksv_memo`) calls the rules and keeps what they answer.
+//! Each rule is a definition (`Heads` of `ksv_rule_heads`, `Values` and `Ends` of specs/) and a function of the same name that
+//! runs it on the replies that it had. An engine (`ksv_memo`) calls the rules and keeps what they answer.
 #![tactic(auto)]
 
 mod calculated;
-mod choosing;
 mod described;
 mod ends;
-mod evaluation;
-mod fields;
-mod heads;
 mod integer;
 mod laws;
 mod parts;
 mod rules;
-mod shapes;
 mod values;
-mod wanted;
 
 pub use described::Described;
 pub use ksv_nodes::{

@@ -6,10 +6,10 @@ ghost use Rattle.ksv_nodes.specs.Turning.{Runs};
 ghost use Rattle.ksv_rules.specs.Meaning.{rule_of};
 
 use crate::ends::{end_of, rest_of};
-use crate::heads::head_of;
 use crate::values::value_of;
 use ksv_desc::Desc;
 use ksv_nodes::{Given, Halt, Node, NodeKind, Turn};
+use ksv_rule_heads::head_of;
 
 /// A node's rule.
 pub(crate) fn rule(turn: &mut Turn, desc: &Desc, node: &Node) -> Result<Given, Halt>

@@ -12,19 +12,18 @@ ghost use Rattle.ksv_nodes.specs.Turning.{Runs};
 ghost use Rattle.ksv_rules.specs.Values.{as_member, in_number, number_in, number_value, fixed_value, cut_by, kept, cut_bytes, bytes_value, in_text, cut_text, text_value, content_value, leaf_value, value_at, value_of};
 
 use crate::calculated::calculated;
-use crate::choosing::content_of;
-use crate::fields::field_of;
 use crate::integer::integer_value;
 use crate::parts::{are, cut, len_of};
 use ksv_desc::{ByteOrder, Content, Desc, Extent, Field, Terminator};
 use ksv_expr_eval::{Encoding, FaultKind, Integer, Parts, Path, Text, Value};
 use ksv_nodes::{Halt, Head, Leaf, Turn, first_in_parts};
+use ksv_rule_heads::{content_of, field_of};
 
 /// The bytes of a leaf.
 #[tactic(auto, using(crate::proofs::Peeked::peeked_length))]
-fn bytes_of<'a>(turn: &mut Turn<'a>, leaf: Leaf) -> Result<Parts<'a>, Halt>
-    ensures runs { Runs (peek leaf.from leaf.to) content turn.old turn.new result }
-    ensures fits { IfOk result (λ parts. leaf.from + length (content parts) ≡ leaf.to) }
+fn bytes_of<'a>(turn: &mut Turn<'a>, leaf: &Leaf) -> Result<Parts<'a>, Halt>
+    ensures runs { Runs (peek leaf.now.from leaf.now.to) content turn.old turn.new result }
+    ensures fits { IfOk result (λ parts. leaf.now.from + length (content parts) ≡ leaf.now.to) }
 {
     let parts = turn.peek(leaf.from, leaf.to)?;
     Ok(parts)
@@ -86,7 +85,7 @@ fn number_value(
 ) -> Result<Value, Halt>
     ensures { Runs (number_value leaf is_signed order enumeration) (λ value. value) turn.old turn.new result }
 {
-    let bytes = bytes_of(turn, leaf)?;
+    let bytes = bytes_of(turn, &leaf)?;
     number_in(turn, is_signed, order, enumeration, bytes)
 }
 
@@ -95,13 +94,13 @@ fn number_value(
 fn fixed_value(turn: &mut Turn, leaf: Leaf, wanted: &[u8]) -> Result<Value, Halt>
     ensures { Runs (fixed_value leaf wanted.now) (λ value. value) turn.old turn.new result }
 {
-    let bytes = bytes_of(turn, leaf)?;
+    let bytes = bytes_of(turn, &leaf)?;
     if !are(bytes, wanted) {
         return turn.raise(FaultKind::Contents);
     }
     Ok(Value::Bytes {
-        from: leaf.from,
-        to: leaf.to,
+        from: leaf.from.byte(),
+        to: leaf.to.byte(),
     })
 }
 
@@ -140,11 +139,12 @@ fn kept(terminator: Terminator, parts: Parts) -> usize
 fn cut_bytes(turn: &mut Turn, leaf: Leaf, terminator: Terminator) -> Result<Value, Halt>
     ensures { Runs (cut_bytes leaf (plain_terminator terminator)) (λ value. value) turn.old turn.new result }
 {
-    let bytes = bytes_of(turn, leaf)?;
+    let bytes = bytes_of(turn, &leaf)?;
     let kept = kept(terminator, bytes);
+    let from = leaf.from.byte();
     Ok(Value::Bytes {
-        from: leaf.from,
-        to: leaf.from + kept as u32,
+        from,
+        to: from + kept as u32,
     })
 }
 
@@ -155,8 +155,8 @@ fn bytes_value(turn: &mut Turn, leaf: Leaf, terminator: Option<Terminator>) -> R
 {
     match terminator {
         None => Ok(Value::Bytes {
-            from: leaf.from,
-            to: leaf.to,
+            from: leaf.from.byte(),
+            to: leaf.to.byte(),
         }),
         Some(terminator) => cut_bytes(turn, leaf, terminator),
     }
@@ -193,7 +193,7 @@ fn text_value(
 ) -> Result<Value, Halt>
     ensures { Runs (text_value leaf encoding (option_map plain_terminator terminator)) (λ value. value) turn.old turn.new result }
 {
-    let bytes = bytes_of(turn, leaf)?;
+    let bytes = bytes_of(turn, &leaf)?;
     let text = encoding.decode(turn.alloc(), cut_text(terminator, bytes))?;
     in_text(turn, text)
 }

@@ -1,26 +1,23 @@
 use Rattle.std.proofs.Common.{◌≡◌, ◌++◌, ◌<◌, [], ◌∷◌, length, reverse, arith, ap, sym, refl, ◌∙◌}
-use Rattle.ksv_expr_value.specs.Trail.{Trail, fits-more, length-fits, fits-over, trail_of, trail_of-true, trail_of-false}
-use Rattle.ksv_expr_value.proofs.Paths.{fits-push, reverse-push, length-seen}
+use Rattle.ksv_expr_value.specs.Trail.{Trail, fits-more, fits-over, trail_of, trail_of-true, trail_of-false}
+use Rattle.ksv_expr_value.proofs.Paths.{fits-push, reverse-push}
 use Rattle.ksv_expr_value.proofs.path.Path.child.Goals as goal
 
-pub returns-then-len-eq64 : goal.returns-then-len-eq64
-returns-then-len-eq64 c =
-    let up : reverse c.self.inside.steps.items ≡ c.args.self.now.upward = ap (λ (t : Trail). t.upward) c.self.view_is in
-    let same = length-seen c.self.inside.steps.items c.args.self.now.upward up in
-    let full : length c.args.self.now.upward ≡ 64 = omega (arith, same, c.self.inside.steps.ok) in
+pub returns-then-len-eq-MAX_STEPS : goal.returns-then-len-eq-MAX_STEPS
+returns-then-len-eq-MAX_STEPS c =
+    let full : length c.args.self.now.upward ≡ 64 = omega (arith, c.len-len.ensures.len) in
     sym (trail_of-false (c.args.step ∷ c.args.self.now.upward) (fits-over c.args.step c.args.self.now.upward full))
 
 pub invariant_of-result : goal.invariant_of-result
 invariant_of-result c =
-    let all : c.push.new.self.items ≡ c.self.inside.steps.items ++ c.args.step ∷ [] = rw (c.in_ok-push.ensures.items, c.in_ok-extend_from_slice.ensures.items, c.in_ok-steps.ensures.items, c.as_slice.ensures.value) refl in
-    let le = length-fits (reverse c.self.inside.steps.items) c.self.inside.valid in
-    let same = length-seen c.self.inside.steps.items (reverse c.self.inside.steps.items) refl in
-    let few : length (reverse c.self.inside.steps.items) < 64 = omega (arith, le, same, c.self.inside.steps.ok) in
+    let all : c.push.new.self.items ≡ c.self.inside.steps.items ++ c.args.step ∷ [] = rw (c.in_ok-push.ensures.ok, c.in_ok-extend_from_slice.ensures.ok, c.in_ok-steps.ensures.items, c.as_slice.ensures) refl in
+    let up : reverse c.self.inside.steps.items ≡ c.args.self.now.upward = ap (λ (t : Trail). t.upward) c.self.view_is in
+    let few : length (reverse c.self.inside.steps.items) < 64 = rw up (omega (arith, c.len-len.ensures.len, c.len-len.ensures.small, c.if-len-eq-MAX_STEPS.false)) in
     (fits-push c.self.inside.steps.items c.args.step c.push.new.self.items all (fits-more c.args.step (reverse c.self.inside.steps.items) c.requires c.self.inside.valid few), tt)
 
 pub returns : goal.returns
 returns c =
-    let all : c.push.new.self.items ≡ c.self.inside.steps.items ++ c.args.step ∷ [] = rw (c.in_ok-push.ensures.items, c.in_ok-extend_from_slice.ensures.items, c.in_ok-steps.ensures.items, c.as_slice.ensures.value) refl in
+    let all : c.push.new.self.items ≡ c.self.inside.steps.items ++ c.args.step ∷ [] = rw (c.in_ok-push.ensures.ok, c.in_ok-extend_from_slice.ensures.ok, c.in_ok-steps.ensures.items, c.as_slice.ensures) refl in
     let up : reverse c.self.inside.steps.items ≡ c.args.self.now.upward = ap (λ (t : Trail). t.upward) c.self.view_is in
     let seen : reverse c.push.new.self.items ≡ c.args.step ∷ c.args.self.now.upward = ap reverse all ∙ reverse-push c.self.inside.steps.items c.args.step ∙ ap (λ q. c.args.step ∷ q) up in
     sym (trail_of-true _) ∙ ap trail_of seen

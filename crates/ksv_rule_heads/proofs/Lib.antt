@@ -1,0 +1,3 @@
+-- The lemmas of this crate.
+pub mod Evaluating
+pub mod Parameters

@@ -1,0 +1,421 @@
+//! What stands at a path, and where.
+#![tactic(auto)]
+
+ghost use Rattle.std.specs.Prelude.{◌≡◌, option_map};
+ghost use Rattle.ksv_expr_tree.specs.Tree.{view};
+ghost use Rattle.ksv_desc.specs.Pieces.{plain_repeat, plain_field, plain_kind};
+ghost use Rattle.ksv_desc.specs.Whole.{plain_pieces};
+ghost use Rattle.ksv_nodes.specs.Turning.{Runs};
+ghost use Rattle.ksv_rule_heads.specs.Members.{plain_sought};
+ghost use Rattle.ksv_rule_heads.specs.Heads.{in_count, count_of, counted, until_eos, repeated, attribute_at, part_end, attribute_start, origin_of, attribute_head, positioned_in, positioned, instance_head, calc, value_head, member_at, member_head, in_list, is_past, in_next, next_start, element_start, element_head, root_head, head_of};
+
+use crate::fields::{Sought, field_of, member_named};
+use crate::shapes::shape_at;
+use crate::wanted::{holds, in_object, missing, size_of, stream_for};
+use ksv_desc::{Desc, Field, MemberKind, Repeat};
+use ksv_expr_eval::{Ctx, Expr, FaultKind, Path, Place, Step, Stream};
+use ksv_nodes::{Calc, Ended, Halt, Head, List, MemberRef, Object, ObjectEnd, Origin, Turn};
+
+// ---- attributes
+
+/// How many elements there are: at most 1,048,576.
+fn in_count(turn: &mut Turn, count: u64) -> Result<u32, Halt>
+    ensures { Runs (in_count count) (λ count. count) turn.old turn.new result }
+{
+    if count > 1_048_576 {
+        return turn.raise(FaultKind::TooMany);
+    }
+    Ok(count as u32)
+}
+
+/// How many elements an expression says that there are.
+#[tactic(auto, using(ksv_plan::proofs::Running::run_bind), unfolding(crate::specs::Heads::count_of))]
+fn count_of(turn: &mut Turn, ctx: &Ctx, count: &Expr) -> Result<u32, Halt>
+    ensures { Runs (count_of ctx.now (view count.now)) (λ count. count) turn.old turn.new result }
+{
+    let count = size_of(turn, ctx, count)?;
+    in_count(turn, count)
+}
+
+/// The elements of an attribute whose number is told beforehand.
+#[tactic(auto, using(ksv_plan::proofs::Running::run_bind), unfolding(crate::specs::Heads::counted))]
+fn counted(
+    turn: &mut Turn,
+    ctx: &Ctx,
+    origin: Origin,
+    stream: Stream,
+    count: &Expr,
+) -> Result<Head, Halt>
+    ensures { Runs (counted ctx.now origin stream ctx.now.place (view count.now)) (λ head. head) turn.old turn.new result }
+{
+    let count = count_of(turn, ctx, count)?;
+    Ok(Head::List(List {
+        origin,
+        stream,
+        start: ctx.place,
+        count: Some(count),
+        is_empty: count == 0,
+    }))
+}
+
+/// The elements of an attribute that go on to the stream's end.
+#[tactic(auto, using(ksv_plan::proofs::Running::run_bind), unfolding(crate::specs::Heads::until_eos))]
+fn until_eos(turn: &mut Turn, ctx: &Ctx, origin: Origin, stream: Stream) -> Result<Head, Halt>
+    ensures { Runs (until_eos ctx.now origin stream ctx.now.place) (λ head. head) turn.old turn.new result }
+{
+    let is_empty = turn.done(stream, ctx.place)?;
+    Ok(Head::List(List {
+        origin,
+        stream,
+        start: ctx.place,
+        count: None,
+        is_empty,
+    }))
+}
+
+/// What an attribute reads, once or several times.
+#[tactic(auto, unfolding(crate::specs::Heads::repeated))]
+fn repeated(
+    turn: &mut Turn,
+    ctx: &Ctx,
+    origin: Origin,
+    stream: Stream,
+    field: &Field,
+) -> Result<Head, Halt>
+    ensures { Runs (repeated ctx.now origin stream ctx.now.place (plain_field field.now) (plain_repeat field.now.repeat)) (λ head. head) turn.old turn.new result }
+{
+    match &field.repeat {
+        Repeat::Once => shape_at(turn, ctx, origin, stream, field),
+        Repeat::Expr(count) => counted(turn, ctx, origin, stream, count),
+        Repeat::Eos => until_eos(turn, ctx, origin, stream),
+        Repeat::Until(_) => Ok(Head::List(List {
+            origin,
+            stream,
+            start: ctx.place,
+            count: None,
+            is_empty: false,
+        })),
+    }
+}
+
+/// An attribute at its place. One whose condition is false takes no bytes.
+#[tactic(auto, using(ksv_plan::proofs::Running::run_bind), unfolding(crate::specs::Heads::attribute_at))]
+fn attribute_at(
+    turn: &mut Turn,
+    ctx: &Ctx,
+    origin: Origin,
+    stream: Stream,
+    field: &Field,
+) -> Result<Head, Halt>
+    ensures { Runs (attribute_at ctx.now origin stream ctx.now.place (plain_field field.now)) (λ head. head) turn.old turn.new result }
+{
+    if holds(turn, ctx, &field.condition)? {
+        repeated(turn, ctx, origin, stream, field)
+    } else {
+        Ok(Head::Absent(Some(ctx.place)))
+    }
+}
+
+/// Where a part of what stands at a path ends.
+#[tactic(auto, using(ksv_plan::proofs::Running::run_bind), unfolding(crate::specs::Heads::part_end))]
+pub fn part_end(turn: &mut Turn, path: &Path, step: Step) -> Result<Ended, Halt>
+    ensures { Runs (part_end path.now step) (λ ended. ended) turn.old turn.new result }
+{
+    let part = turn.part(path, step)?;
+    turn.end(part)
+}
+
+/// An attribute begins where its object does, or where the attribute before it ends.
+#[tactic(auto, using(ksv_plan::proofs::Running::run_bind), unfolding(crate::specs::Heads::attribute_start))]
+fn attribute_start(
+    turn: &mut Turn,
+    path: &Path,
+    object: &Object,
+    before: Option<u32>,
+) -> Result<Place, Halt>
+    ensures { Runs (attribute_start path.now object.now before) (λ place. place) turn.old turn.new result }
+{
+    match before {
+        None => Ok(object.start),
+        Some(name) => {
+            let ended = part_end(turn, path, Step::Name(name))?;
+            Ok(ended.place)
+        }
+    }
+}
+
+/// How a member of an object is read; its case isn't chosen yet.
+fn origin_of(object: &Object, sought: Sought) -> Origin
+    ensures { result ≡ origin_of object.now (plain_sought sought.entry) }
+{
+    Origin {
+        member: MemberRef {
+            type_number: object.type_number,
+            member: sought.member,
+        },
+        case: None,
+        home: object.stream,
+    }
+}
+
+/// An attribute of `seq`.
+#[tactic(auto, using(ksv_plan::proofs::Running::run_bind), unfolding(crate::specs::Heads::attribute_head))]
+fn attribute_head<'p>(
+    turn: &mut Turn,
+    path: &'p Path,
+    home: &'p Path,
+    object: &Object,
+    sought: Sought,
+    field: &Field,
+) -> Result<Head, Halt>
+    ensures { Runs (attribute_head path.now home.now object.now (plain_sought sought.entry) (plain_field field.now)) (λ head. head) turn.old turn.new result }
+{
+    let start = attribute_start(turn, home, object, sought.before)?;
+    let ctx = Ctx::new(home, object.stream, start, path);
+    let origin = origin_of(object, sought);
+    attribute_at(turn, &ctx, origin, object.stream, field)
+}
+
+// ---- instances
+
+/// A parse instance in a stream, at a position that is counted from the stream's first byte.
+#[tactic(auto, using(ksv_plan::proofs::Running::run_bind), unfolding(crate::specs::Heads::positioned_in))]
+fn positioned_in(
+    turn: &mut Turn,
+    ctx: &Ctx,
+    origin: Origin,
+    stream: Stream,
+    position: &Expr,
+    field: &Field,
+) -> Result<Head, Halt>
+    ensures { Runs (positioned_in ctx.now origin stream (view position.now) (plain_field field.now)) (λ head. head) turn.old turn.new result }
+{
+    let position = size_of(turn, ctx, position)?;
+    let place = turn.reach(stream, Place::of_byte(stream.from), position)?;
+    let ctx = Ctx {
+        home: ctx.home,
+        stream: ctx.stream,
+        place,
+        index: ctx.index,
+        element: ctx.element,
+        here: ctx.here,
+    };
+    repeated(turn, &ctx, origin, stream, field)
+}
+
+/// A parse instance in the stream of its object, or in the one that its `io` names.
+#[tactic(auto, using(ksv_plan::proofs::Running::run_bind), unfolding(crate::specs::Heads::positioned))]
+fn positioned(
+    turn: &mut Turn,
+    ctx: &Ctx,
+    origin: Origin,
+    position: &Expr,
+    io: &Option<Expr>,
+    field: &Field,
+) -> Result<Head, Halt>
+    ensures { Runs (positioned ctx.now origin (view position.now) (option_map view io.now) (plain_field field.now)) (λ head. head) turn.old turn.new result }
+{
+    let stream = stream_for(turn, ctx, io)?;
+    positioned_in(turn, ctx, origin, stream, position, field)
+}
+
+/// A parse instance. One whose condition is false has no place.
+#[tactic(auto, using(ksv_plan::proofs::Running::run_bind), unfolding(crate::specs::Heads::instance_head))]
+fn instance_head(
+    turn: &mut Turn,
+    ctx: &Ctx,
+    origin: Origin,
+    position: &Expr,
+    io: &Option<Expr>,
+    field: &Field,
+) -> Result<Head, Halt>
+    ensures { Runs (instance_head ctx.now origin (view position.now) (option_map view io.now) (plain_field field.now)) (λ head. head) turn.old turn.new result }
+{
+    if holds(turn, ctx, &field.condition)? {
+        positioned(turn, ctx, origin, position, io, field)
+    } else {
+        Ok(Head::Absent(None))
+    }
+}
+
+/// A value instance or a parameter.
+fn calc(object: Object, sought: Sought) -> Head
+    ensures { result ≡ calc object (plain_sought sought.entry) }
+{
+    Head::Calc(Calc {
+        member: sought.member,
+        object,
+    })
+}
+
+/// A value instance. One whose condition is false has no place.
+#[tactic(auto, using(ksv_plan::proofs::Running::run_bind), unfolding(crate::specs::Heads::value_head))]
+fn value_head(
+    turn: &mut Turn,
+    ctx: &Ctx,
+    object: Object,
+    sought: Sought,
+    condition: &Option<Expr>,
+) -> Result<Head, Halt>
+    ensures { Runs (value_head ctx.now object (plain_sought sought.entry) (option_map view condition.now)) (λ head. head) turn.old turn.new result }
+{
+    if holds(turn, ctx, condition)? {
+        Ok(calc(object, sought))
+    } else {
+        Ok(Head::Absent(None))
+    }
+}
+
+// ---- members
+
+/// A member of an object.
+#[tactic(auto, unfolding(crate::specs::Heads::member_at))]
+fn member_at(
+    turn: &mut Turn,
+    path: &Path,
+    home: &Path,
+    object: &Object,
+    sought: Sought,
+) -> Result<Head, Halt>
+    ensures { Runs (member_at path.now home.now object.now (plain_sought sought.entry) (plain_kind sought.entry.kind.now)) (λ head. head) turn.old turn.new result }
+{
+    let ctx = Ctx::new(home, object.stream, object.start, path);
+    match sought.kind {
+        MemberKind::Parameter => Ok(calc(*object, sought)),
+        MemberKind::Attribute(field) => attribute_head(turn, path, home, object, sought, field),
+        MemberKind::ParseInstance {
+            place,
+            stream,
+            field,
+        } => instance_head(turn, &ctx, origin_of(object, sought), place, stream, field),
+        MemberKind::ValueInstance { condition, .. } => {
+            value_head(turn, &ctx, *object, sought, condition)
+        }
+    }
+}
+
+/// The member of a name, at a path, of what stands at `home`.
+#[tactic(auto, using(ksv_plan::proofs::Running::run_bind), unfolding(crate::specs::Heads::member_head))]
+fn member_head(
+    turn: &mut Turn,
+    desc: &Desc,
+    path: &Path,
+    home: &Path,
+    name: u32,
+) -> Result<Head, Halt>
+    ensures { Runs (member_head (plain_pieces desc.now) path.now home.now name) (λ head. head) turn.old turn.new result }
+{
+    let head = turn.head(home.copy(turn.alloc())?)?;
+    let object = in_object(turn, home, head)?;
+    let sought = member_named(turn, desc, object.type_number, name)?;
+    member_at(turn, path, home, &object, sought)
+}
+
+// ---- elements
+
+/// The list that stands at a path. The elements of an absent attribute are absent; what is no list has none.
+pub fn in_list(turn: &Turn, path: &Path, head: Head) -> Result<List, Halt>
+    ensures { Runs (in_list path.now head) (λ list. list) turn.now turn.now result }
+{
+    match head {
+        Head::List(list) => Ok(list),
+        _ => missing(turn, path, head, turn.here()),
+    }
+}
+
+/// Whether a list is known to have no element of this index.
+fn is_past(count: Option<u32>, index: u32) -> bool
+    ensures { result ≡ is_past count index }
+{
+    match count {
+        None => false,
+        Some(count) => count <= index,
+    }
+}
+
+/// Behind the last element there is none.
+fn in_next(turn: &mut Turn, ended: Ended) -> Result<Place, Halt>
+    ensures { Runs (in_next ended) (λ place. place) turn.old turn.new result }
+{
+    if ended.last {
+        return turn.raise(FaultKind::BadIndex);
+    }
+    Ok(ended.place)
+}
+
+/// Where the element behind the one of this index begins.
+#[tactic(auto, using(ksv_plan::proofs::Running::run_bind), unfolding(crate::specs::Heads::next_start))]
+fn next_start(turn: &mut Turn, list_path: &Path, index: u32) -> Result<Place, Halt>
+    ensures { Runs (next_start list_path.now index) (λ place. place) turn.old turn.new result }
+{
+    let ended = part_end(turn, list_path, Step::Index(index))?;
+    in_next(turn, ended)
+}
+
+/// An element begins where its list does, or where the element before it ends.
+#[tactic(auto, unfolding(crate::specs::Heads::element_start))]
+fn element_start(turn: &mut Turn, list_path: &Path, list: &List, index: u32) -> Result<Place, Halt>
+    ensures { Runs (element_start list_path.now list.now index) (λ place. place) turn.old turn.new result }
+{
+    if list.is_empty || is_past(list.count, index) {
+        return turn.raise(FaultKind::BadIndex);
+    }
+    if index == 0 {
+        return Ok(list.start);
+    }
+    next_start(turn, list_path, index - 1)
+}
+
+/// The element of this index, at a path, of the list at `list_path`, which is an attribute of the object at `home`.
+#[tactic(auto, using(ksv_plan::proofs::Running::run_bind), unfolding(crate::specs::Heads::element_head))]
+fn element_head<'p>(
+    turn: &mut Turn,
+    desc: &Desc,
+    path: &'p Path,
+    list_path: &Path,
+    home: &'p Path,
+    index: u32,
+) -> Result<Head, Halt>
+    ensures { Runs (element_head (plain_pieces desc.now) path.now list_path.now home.now index) (λ head. head) turn.old turn.new result }
+{
+    let head = turn.head(list_path.copy(turn.alloc())?)?;
+    let list = in_list(turn, list_path, head)?;
+    let start = element_start(turn, list_path, &list, index)?;
+    let field = field_of(turn, desc, list.origin.member)?;
+    let ctx = Ctx::new(home, list.origin.home, start, path).within(index);
+    shape_at(turn, &ctx, list.origin, list.stream, field)
+}
+
+// ---- heads
+
+/// The root is an object of the first type, in the whole file.
+fn root_head() -> Head
+    ensures { result ≡ root_head }
+{
+    Head::Object(Object {
+        origin: None,
+        type_number: 0,
+        stream: Stream { from: 0, to: None },
+        start: Place::of_byte(0),
+        ending: ObjectEnd::ByFields,
+    })
+}
+
+/// What stands at a path, and where.
+#[tactic(auto, unfolding(crate::specs::Heads::head_of))]
+pub fn head_of(turn: &mut Turn, desc: &Desc, path: &Path) -> Result<Head, Halt>
+    ensures { Runs (head_of (plain_pieces desc.now) path.now) (λ head. head) turn.old turn.new result }
+{
+    match path.last() {
+        None => Ok(root_head()),
+        Some(Step::Name(name)) => {
+            let home = path.parent(turn.alloc())?;
+            member_head(turn, desc, path, &home, name)
+        }
+        Some(Step::Index(index)) => {
+            let list_path = path.parent(turn.alloc())?;
+            let home = list_path.parent(turn.alloc())?;
+            element_head(turn, desc, path, &list_path, &home, index)
+        }
+    }
+}
