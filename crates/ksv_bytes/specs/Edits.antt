@@ -15,6 +15,21 @@ overwrite b at h =
     else if length h == 0 then Err NothingToDo
     else Ok (take at b ++ h ++ drop (at + length h) b)
 
+-- h put before the byte at a place, or after the last one
+abbrev pub insert : List ℕ → ℕ → List ℕ → Result (List ℕ) EditRefusal
+insert b at h =
+    if nat_lt (length b) at then Err Outside
+    else if length h == 0 then Err NothingToDo
+    else if nat_lt file_limit (length b + length h) then Err TooLarge
+    else Ok (take at b ++ h ++ drop at b)
+
+-- n bytes from a place on, taken out
+abbrev pub delete : List ℕ → ℕ → ℕ → Result (List ℕ) EditRefusal
+delete b at n =
+    if nat_lt (length b) (at + n) then Err Outside
+    else if n == 0 then Err NothingToDo
+    else Ok (take at b ++ drop (at + n) b)
+
 -- h after the last byte
 abbrev pub append : List ℕ → List ℕ → Result (List ℕ) EditRefusal
 append b h =

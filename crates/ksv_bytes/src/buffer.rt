@@ -1,6 +1,6 @@
 //! The bytes of a file.
 ghost use Rattle.std.specs.Prelude.{◌≡◌, ◌≤◌, ◌<◌, ◌↔◌, ◌⊎◌, ◌++◌, List, ℕ, length, IfOk, IfErr, OnOk, IsOk, IsErr, OnErr, IsTrue, MatchResult, slice_range};
-ghost use Rattle.ksv_bytes.specs.Edits.{append, file_limit, overwrite, IsRefusedAs};
+ghost use Rattle.ksv_bytes.specs.Edits.{append, delete, file_limit, insert, overwrite, IsRefusedAs};
 
 use crate::edit::EditRefusal;
 use crate::window::Window;
@@ -85,12 +85,16 @@ impl Buffer {
         Ok(())
     }
 
-    /// Adds bytes at the end. It can be out of memory only where nothing else is wrong with the edit.
-    pub fn append(&mut self, bytes: &[u8]) -> Result<(), EditRefusal>
-        ensures done { OnOk result (append self.old bytes.now ≡ Ok self.new) }
+    /// Puts bytes before the byte at a place, or after the last one. It can be out of memory only where nothing else is
+    /// wrong with the edit.
+    pub fn insert(&mut self, at: usize, bytes: &[u8]) -> Result<(), EditRefusal>
+        ensures done { OnOk result (insert self.old at bytes.now ≡ Ok self.new) }
         ensures unchanged { OnErr result (self.new ≡ self.old) }
-        ensures refused { IfErr result (λ refusal. IsRefusedAs refusal (append self.old bytes.now)) }
+        ensures refused { IfErr result (λ refusal. IsRefusedAs refusal (insert self.old at bytes.now)) }
     {
+        if at > self.bytes.len() {
+            return Err(EditRefusal::Outside);
+        }
         if bytes.is_empty() {
             return Err(EditRefusal::NothingToDo);
         }
@@ -98,8 +102,39 @@ impl Buffer {
             return Err(EditRefusal::TooLarge);
         }
         match self.bytes.extend_from_slice(bytes) {
-            Ok(()) => Ok(()),
+            Ok(()) => {
+                self.bytes[at..].rotate_right(bytes.len());
+                Ok(())
+            }
             Err(_) => Err(EditRefusal::NoMemory),
         }
+    }
+
+    /// Takes out so many bytes from a place on. It takes no memory.
+    pub fn delete(&mut self, at: usize, count: usize) -> Result<(), EditRefusal>
+        ensures { MatchResult result
+            (λ _. delete self.old at count ≡ Ok self.new)
+            (λ refusal. (delete self.old at count ≡ Err refusal) × (self.new ≡ self.old)) }
+    {
+        if at > self.bytes.len() || count > self.bytes.len() - at {
+            return Err(EditRefusal::Outside);
+        }
+        if count == 0 {
+            return Err(EditRefusal::NothingToDo);
+        }
+        let left = self.bytes.len() - count;
+        self.bytes[at..].rotate_left(count);
+        self.bytes.truncate(left);
+        Ok(())
+    }
+
+    /// Adds bytes at the end. It can be out of memory only where nothing else is wrong with the edit.
+    pub fn append(&mut self, bytes: &[u8]) -> Result<(), EditRefusal>
+        ensures done { OnOk result (append self.old bytes.now ≡ Ok self.new) }
+        ensures unchanged { OnErr result (self.new ≡ self.old) }
+        ensures refused { IfErr result (λ refusal. IsRefusedAs refusal (append self.old bytes.now)) }
+    {
+        let end = self.bytes.len();
+        self.insert(end, bytes)
     }
 }

@@ -56,20 +56,33 @@ fn each_stop_has_its_message_and_status(rt: HostRuntime) -> Result<(), Fail> {
 }
 
 /// Words, and how they are read.
-const WORDS: &str = "ksv f k => f k
+const WORDS: &str = "ksv f k => f k -
+ksv --save o f k => f k o
+ksv f --save o k => f k o
+ksv f k --save o => f k o
+ksv --save=o f k => f k o
+ksv --save f k => MissingRequiredArgument 2 true
+ksv --save o f => MissingRequiredArgument 2 true
+ksv f k --save => InvalidValue 2 false
+ksv --save o --save o f k => ArgumentConflict 2 true
+ksv -- --save f => --save f -
 ksv f => MissingRequiredArgument 2 true
 ksv f k x => UnknownArgument 2 true
 ksv --fast f k => UnknownArgument 2 true
 ksv --help => DisplayHelp 0 true";
 
-/// Adds how some words are read: the file and its description, or the kind of the error, its exit code, and
-/// whether it prints the usage.
+/// Adds how some words are read: the file, its description and the file for the bytes, or the kind of the error, its
+/// exit code, and whether it prints the usage.
 fn add_taken(alloc: Global, words: &[&str], out: &mut String) -> Result<(), AllocError> {
     match arguments(alloc, words) {
-        Ok(args) => write!(out, "{} {}", args.file, args.ksy),
+        Ok(args) => {
+            let save = args.save.unwrap_or("-");
+            write!(out, "{} {} {save}", args.file, args.ksy)
+        }
         Err(error) => {
             let text = format!(in alloc; "{error}")?;
-            let has_usage = text.as_str().contains("Usage: ksv <FILE> <KSY>");
+            let has_usage = text.as_str().contains("Usage: ksv ")
+                && text.as_str().contains("<FILE> <KSY>");
             write!(out, "{:?} {} {has_usage}", error.kind(), error.exit_code())
         }
     }

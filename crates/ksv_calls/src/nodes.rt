@@ -151,7 +151,12 @@ fn add_given(given: &Given, out: &mut String) -> Result<(), AllocError> {
             write!(out, "leaf {from} to {to}, end {}", leaf.end.byte())
         }
         Given::Head(Head::Object(object)) => {
-            write!(out, "object {} at {}", object.type_number, object.start.byte())
+            write!(
+                out,
+                "object {} at {}",
+                object.type_number,
+                object.start.byte()
+            )
         }
         Given::Head(Head::List(list)) => write!(out, "list at {}", list.start.byte()),
         Given::Head(Head::Absent(_)) => out.push_str("gone"),

@@ -1,13 +1,13 @@
-//! `ksv FILE KSY`: explores a file by its description, over standard input and output.
+//! `ksv [--save OUT] FILE KSY`: explores a file by its description, over standard input and output.
 #![tactic(auto)]
 
 use clap::Error;
 use clap::error::ErrorKind as WordsKind;
 use ksv::{Args, End, NewFault, Std, Stop, arguments, describe, run, say};
-use ksv_bytes::FILE_LIMIT;
+use ksv_bytes::{Buffer, FILE_LIMIT, Window};
 use std::alloc::{AllocError, Global};
 use std::fs::File;
-use std::io::{self, ErrorKind, Read};
+use std::io::{self, ErrorKind, Read, Write};
 use std::process::ExitCode;
 
 /// The bytes of a file, up to a limit.
@@ -26,7 +26,30 @@ fn unread(error: io::Error, unreadable: Stop) -> Stop {
     }
 }
 
-/// Reads the file and its description, in this order, and serves the session.
+/// Writes the bytes of a buffer to a file, which need not be there.
+fn write_file(rt: &HostRuntime, path: &str, buffer: &Buffer) -> io::Result<()> {
+    let (front, back) = buffer.parts(Window {
+        from: 0,
+        to: buffer.len(),
+    });
+    let mut file = File::create(rt, path)?;
+    file.write_all(front)?;
+    file.write_all(back)?;
+    file.flush()
+}
+
+/// Keeps the bytes at the session's end, if the words name a file for them.
+fn save(rt: &HostRuntime, out: Option<&str>, buffer: &Buffer) -> Result<(), Stop> {
+    match out {
+        Some(path) => match write_file(rt, path, buffer) {
+            Ok(()) => Ok(()),
+            Err(_) => Err(Stop::SaveFailed),
+        },
+        None => Ok(()),
+    }
+}
+
+/// Reads the file and its description, in this order, serves the session, and keeps the bytes if it went well.
 fn explore(rt: &HostRuntime, args: Args) -> Result<(), Stop> {
     let bytes = match read_file(rt, args.file, FILE_LIMIT as u64 + 1) {
         Ok(bytes) => bytes,
@@ -43,15 +66,14 @@ fn explore(rt: &HostRuntime, args: Args) -> Result<(), Stop> {
     let mut reader = Std::new(rt.stdin());
     let mut writer = Std::new(rt.stdout());
     match run(rt.alloc(), &mut reader, &mut writer, desc, bytes) {
-        Ok((_, End::Quit | End::Input)) => Ok(()),
+        Ok((buffer, End::Quit | End::Input)) => save(rt, args.save, &buffer),
         Ok((_, End::ReadFailed)) => Err(Stop::InputFailed),
         Ok((_, End::WriteFailed)) => Err(Stop::OutputFailed),
         Err(NewFault::FileTooLarge) => Err(Stop::FileTooLarge),
     }
 }
 
-/// Prints on standard error why the program stops, and gives its status. No bytes are saved yet, so no file is
-/// named for them.
+/// Prints on standard error why the program stops, and gives its status.
 fn stopped<'a>(
     rt: &HostRuntime,
     stop: Stop,
@@ -90,7 +112,10 @@ fn main(rt: HostRuntime) -> io::Result<ExitCode> {
     match arguments(rt.alloc(), texts.as_slice()) {
         Ok(args) => match explore(&rt, args) {
             Ok(()) => Ok(ExitCode::SUCCESS),
-            Err(stop) => Ok(stopped(&rt, stop, args.file, args.ksy, "")),
+            Err(stop) => {
+                let out = args.save.unwrap_or("");
+                Ok(stopped(&rt, stop, args.file, args.ksy, out))
+            }
         },
         Err(error) => refused_words(&rt, error),
     }

@@ -1,5 +1,5 @@
--- The command that is built up by two arguments, and what its matches are.
-use Rattle.std.proofs.Common.{◌≡◌, ◌∙◌, ◌<◌, ℕ, zero, suc, List, [], ◌∷◌, true, false, true≢false, codes, ap, ap₂, refl, sym, Option, inl, inr, arith, slice_index}
+-- The command that is built up by an option and two arguments, and what its matches are.
+use Rattle.std.proofs.Common.{◌≡◌, ◌∙◌, ◌<◌, ℕ, zero, suc, List, [], ◌∷◌, true, false, true≢false, codes, ap, ap₂, refl, sym, Option, inl, inr, arith, slice_index, slice_index_or}
 use Rattle.std.specs.List.{All}
 use Rattle.std.specs.Str.{bytes_eq}
 use Rattle.clap.specs.Built.{AddsInTurn, FitsChain, HasDistinctIds, IsPlainArg}
@@ -11,12 +11,13 @@ use Rattle.clap.specs.declared.builder.command.Command.TheViews.{out-Command as 
 use Rattle.clap.specs.declared.parser.matches.ArgMatches.{ArgMatches}
 use Rattle.clap.proofs.WalkLemmas.{first_value-rows}
 use Rattle.clap.proofs.OnLiterals.{clap_on_literals}
-use Rattle.ksv_lines.specs.Words.{Demands, IsDemanded, explorer, found}
+use Rattle.ksv_lines.specs.Words.{Demands, IsDemanded, IsOption, explorer, found}
 
-pub is_explorer : (start one cmd : Command) (f k : Arg) → app_of start ≡ new_app (codes "ksv")
-    → AddsArg start f one → AddsArg one k cmd → IsDemanded (codes "file") f → IsDemanded (codes "ksy") k → app_of cmd ≡ explorer
-is_explorer start one cmd f k begins a b file ksy =
-    b.shape ksy.local ∙ ap₂ with_rule (a.shape file.local ∙ ap₂ with_rule begins file.rule) ksy.rule
+pub is_explorer : (start one two cmd : Command) (o f k : Arg) → app_of start ≡ new_app (codes "ksv")
+    → AddsArg start o one → AddsArg one f two → AddsArg two k cmd
+    → IsOption (codes "save") o → IsDemanded (codes "file") f → IsDemanded (codes "ksy") k → app_of cmd ≡ explorer
+is_explorer start one two cmd o f k begins a b c save file ksy =
+    c.shape ksy.local ∙ ap₂ with_rule (b.shape file.local ∙ ap₂ with_rule (a.shape save.local ∙ ap₂ with_rule begins save.rule) file.rule) ksy.rule
 
 explorer_is_simple : is_simple explorer ≡ true
 unfolding clap_on_literals
@@ -51,44 +52,69 @@ fit a t n is first above not_help not_version plain local =
       ]),
     )
 
-both_fit : (a b : Arg) → FitsChain a → FitsChain b → All FitsChain (a ∷ b ∷ [])
-both_fit a b x y zero d lt = x
-both_fit a b x y (suc zero) d lt = y
-both_fit a b x y (suc (suc n)) d lt = absurd (omega arith)
+all_fit : (a b c : Arg) → FitsChain a → FitsChain b → FitsChain c → All FitsChain (a ∷ b ∷ c ∷ [])
+all_fit a b c x y z zero d lt = x
+all_fit a b c x y z (suc zero) d lt = y
+all_fit a b c x y z (suc (suc zero)) d lt = z
+all_fit a b c x y z (suc (suc (suc n))) d lt = absurd (omega arith)
 
-apart : (s t u w : Text) → s ≡ u → t ≡ w → bytes_eq u w ≡ false → bytes_eq s t ≡ true → ⊥
-apart s t u w x y differ same = true≢false (sym (rw (x, y) at same) ∙ differ)
+-- the id at each place of the chain
+id_at : ℕ → Text
+id_at zero = codes "save"
+id_at (suc zero) = codes "file"
+id_at (suc (suc n)) = codes "ksy"
 
-distinct : (a b : Arg) → a.id.now ≡ codes "file" → b.id.now ≡ codes "ksy" → HasDistinctIds (a ∷ b ∷ [])
-distinct a b x y zero zero d w lj lk same = refl
-distinct a b x y zero (suc zero) d w lj lk same = absurd (apart _ _ _ _ x y refl same)
-distinct a b x y zero (suc (suc k)) d w lj lk same = absurd (omega arith)
-distinct a b x y (suc zero) zero d w lj lk same = absurd (apart _ _ _ _ y x refl same)
-distinct a b x y (suc zero) (suc zero) d w lj lk same = refl
-distinct a b x y (suc zero) (suc (suc k)) d w lj lk same = absurd (omega arith)
-distinct a b x y (suc (suc j)) k d w lj lk same = absurd (omega arith)
+at_place : (o f k : Arg) → o.id.now ≡ codes "save" → f.id.now ≡ codes "file" → k.id.now ≡ codes "ksy"
+    → (n : ℕ) (d : Arg) → n < 3 → (slice_index_or (o ∷ f ∷ k ∷ []) n d).id.now ≡ id_at n
+unfolding id_at
+at_place o f k x y z zero d lt = x
+at_place o f k x y z (suc zero) d lt = y
+at_place o f k x y z (suc (suc zero)) d lt = z
+at_place o f k x y z (suc (suc (suc n))) d lt = absurd (omega arith)
 
--- what building up the command by these two brings
-pub record IsBuilt (start cmd : Command) (f k : Arg) : Type 0 where
-  pub chain : AddsInTurn AddsArg start (f ∷ k ∷ []) cmd
+ids_differ : (j k : ℕ) → j < 3 → k < 3 → bytes_eq (id_at j) (id_at k) ≡ true → j ≡ k
+unfolding id_at
+ids_differ zero zero lj lk same = refl
+ids_differ zero (suc zero) lj lk same = absurd (true≢false (sym same))
+ids_differ zero (suc (suc zero)) lj lk same = absurd (true≢false (sym same))
+ids_differ (suc zero) zero lj lk same = absurd (true≢false (sym same))
+ids_differ (suc zero) (suc zero) lj lk same = refl
+ids_differ (suc zero) (suc (suc zero)) lj lk same = absurd (true≢false (sym same))
+ids_differ (suc (suc zero)) zero lj lk same = absurd (true≢false (sym same))
+ids_differ (suc (suc zero)) (suc zero) lj lk same = absurd (true≢false (sym same))
+ids_differ (suc (suc zero)) (suc (suc zero)) lj lk same = refl
+ids_differ (suc (suc (suc n))) k lj lk same = absurd (omega arith)
+ids_differ zero (suc (suc (suc n))) lj lk same = absurd (omega arith)
+ids_differ (suc zero) (suc (suc (suc n))) lj lk same = absurd (omega arith)
+ids_differ (suc (suc zero)) (suc (suc (suc n))) lj lk same = absurd (omega arith)
+
+distinct : (o f k : Arg) → o.id.now ≡ codes "save" → f.id.now ≡ codes "file" → k.id.now ≡ codes "ksy" → HasDistinctIds (o ∷ f ∷ k ∷ [])
+distinct o f k x y z i j d e li lj same =
+    ids_differ i j li lj (rw (at_place o f k x y z i e li, at_place o f k x y z j d lj) at same)
+
+-- what building up the command by these three brings
+pub record IsBuilt (start cmd : Command) (o f k : Arg) : Type 0 where
+  pub chain : AddsInTurn AddsArg start (o ∷ f ∷ k ∷ []) cmd
   pub args : args_of start ≡ []
   pub groups : groups_of start ≡ []
   pub globals : (fields_of start).has_globals ≡ false
   pub negates : (fields_of start).subcommand_negates_reqs ≡ false
+  pub save : IsOption (codes "save") o
   pub file : IsDemanded (codes "file") f
   pub ksy : IsDemanded (codes "ksy") k
 
-fits_of : {start cmd : Command} (f k : Arg) → IsBuilt start cmd f k → All FitsChain (f ∷ k ∷ [])
-fits_of f k b = both_fit f k
+fits_of : {start cmd : Command} (o f k : Arg) → IsBuilt start cmd o f k → All FitsChain (o ∷ f ∷ k ∷ [])
+fits_of o f k b = all_fit o f k
+    (fit o _ 115 b.save.id_is refl (omega arith) (λ e. omega arith) (λ e. omega arith) b.save.plain b.save.local)
     (fit f _ 102 b.file.id_is refl (omega arith) (λ e. omega arith) (λ e. omega arith) b.file.plain b.file.local)
     (fit k _ 107 b.ksy.id_is refl (omega arith) (λ e. omega arith) (λ e. omega arith) b.ksy.plain b.ksy.local)
 
-pub demands_file : (start cmd : Command) (f k : Arg) → IsBuilt start cmd f k → Demands cmd (codes "file")
-demands_file start cmd f k b m p = rw (← b.file.id_is)
-    (required_in_chain start cmd (f ∷ k ∷ []) 0 f m b.chain b.args b.groups b.globals b.negates (fits_of f k b)
-    (distinct f k b.file.id_is b.ksy.id_is) (omega arith) b.file.takes p)
+pub demands_file : (start cmd : Command) (o f k : Arg) → IsBuilt start cmd o f k → Demands cmd (codes "file")
+demands_file start cmd o f k b m p = rw (← b.file.id_is)
+    (required_in_chain start cmd (o ∷ f ∷ k ∷ []) 1 f m b.chain b.args b.groups b.globals b.negates (fits_of o f k b)
+    (distinct o f k b.save.id_is b.file.id_is b.ksy.id_is) (omega arith) b.file.takes p)
 
-pub demands_ksy : (start cmd : Command) (f k : Arg) → IsBuilt start cmd f k → Demands cmd (codes "ksy")
-demands_ksy start cmd f k b m p = rw (← b.ksy.id_is)
-    (required_in_chain start cmd (f ∷ k ∷ []) 1 k m b.chain b.args b.groups b.globals b.negates (fits_of f k b)
-    (distinct f k b.file.id_is b.ksy.id_is) (omega arith) b.ksy.takes p)
+pub demands_ksy : (start cmd : Command) (o f k : Arg) → IsBuilt start cmd o f k → Demands cmd (codes "ksy")
+demands_ksy start cmd o f k b m p = rw (← b.ksy.id_is)
+    (required_in_chain start cmd (o ∷ f ∷ k ∷ []) 2 k m b.chain b.args b.groups b.globals b.negates (fits_of o f k b)
+    (distinct o f k b.save.id_is b.file.id_is b.ksy.id_is) (omega arith) b.ksy.takes p)

@@ -11,9 +11,13 @@ use Rattle.clap.specs.declared.parser.matches.ArgMatches.{ArgMatches}
 abbrev pub positional : Text → Rule
 positional id = record (new_rule id) { value_names = 1; required = true; action = Some Set }
 
--- `ksv FILE KSY`
+-- a word that may be given, as `--ID WORD` or `--ID=WORD`
+abbrev pub option : Text → Rule
+option id = record (new_rule id) { long = Some id; value_names = 1; action = Some Set }
+
+-- `ksv [--save OUT] FILE KSY`
 abbrev pub explorer : App
-explorer = with_rule (with_rule (new_app (codes "ksv")) (positional (codes "file"))) (positional (codes "ksy"))
+explorer = with_rule (with_rule (with_rule (new_app (codes "ksv")) (option (codes "save"))) (positional (codes "file"))) (positional (codes "ksy"))
 
 -- the value that these words give to a name
 abbrev pub found : List Text → Text → Option Text
@@ -30,3 +34,10 @@ pub record IsDemanded (id : Text) (a : Arg) : Type 0 where
   pub plain : IsPlainArg a
   pub local : a.global ≡ false
   pub takes : TakesValue a
+
+-- an argument of this name that may be given by its name, and does nothing else
+pub record IsOption (id : Text) (a : Arg) : Type 0 where
+  pub id_is : a.id.now ≡ id
+  pub rule : rule_of a ≡ option id
+  pub plain : IsPlainArg a
+  pub local : a.global ≡ false

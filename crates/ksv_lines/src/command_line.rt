@@ -1,7 +1,7 @@
 //! The words of the program's command line.
-ghost use Rattle.std.specs.Prelude.{◌≡◌, Some, IfOk, map, codes};
+ghost use Rattle.std.specs.Prelude.{◌≡◌, Some, IfOk, map, codes, option_map};
 ghost use Rattle.clap.specs.Words.{app_of, fault_of, FailsBy};
-ghost use Rattle.ksv_lines.specs.Words.{Demands, IsDemanded, explorer, found};
+ghost use Rattle.ksv_lines.specs.Words.{Demands, IsDemanded, IsOption, explorer, found};
 
 use clap::{Arg, ArgAction, Command, Error};
 use std::alloc::{AllocError, Global};
@@ -9,6 +9,8 @@ use std::alloc::{AllocError, Global};
 /// What a command line names.
 #[derive(Clone, Copy)]
 pub struct Args<'a> {
+    /// The path of the file for the bytes at the session's end, if they are to be kept.
+    pub save: Option<&'a str>,
     /// The path of the file.
     pub file: &'a str,
     /// The path of its description.
@@ -25,15 +27,33 @@ fn demanded<'a>(alloc: Global, id: &'a str, shown: &'a str) -> Arg<'a>
         .action(ArgAction::Set)
 }
 
-/// The command line `ksv FILE KSY`.
+/// A word that may be given after `--ID`, with the name that usage shows and what help says of it.
+fn optional<'a>(alloc: Global, id: &'a str, shown: &'a str, help: &'a str) -> Arg<'a>
+    ensures { IsOption id.now result }
+{
+    Arg::new(alloc, id)
+        .long(id)
+        .value_name(shown)
+        .help(help)
+        .action(ArgAction::Set)
+}
+
+/// The command line `ksv [--save OUT] FILE KSY`.
 fn command<'a>(alloc: Global) -> Result<Command<'a>, AllocError>
     ensures app { IfOk result (λ r. app_of r ≡ explorer) }
     ensures file { IfOk result (λ r. Demands r (codes "file")) }
     ensures ksy { IfOk result (λ r. Demands r (codes "ksy")) }
 {
+    let save = optional(
+        alloc,
+        "save",
+        "OUT",
+        "Writes the bytes to OUT after the session",
+    );
     let file = demanded(alloc, "file", "FILE");
     let ksy = demanded(alloc, "ksy", "KSY");
-    let with_file = Command::new(alloc, "ksv").arg(file)?;
+    let with_save = Command::new(alloc, "ksv").arg(save)?;
+    let with_file = with_save.arg(file)?;
     let with_both = with_file.arg(ksy)?;
     Ok(with_both)
 }
@@ -41,12 +61,14 @@ fn command<'a>(alloc: Global) -> Result<Command<'a>, AllocError>
 /// Reads the words of a command line; the first is the program's name. The errors are `clap`'s: they hold the texts
 /// of usage and help, and their exit codes. Valid arguments fail only when memory runs out.
 pub fn arguments<'a>(alloc: Global, words: &'a [&'a str]) -> Result<Args<'a>, Error>
+    ensures save { IfOk result (λ args. option_map (λ s. s.now) args.save ≡ found (map (λ w. w.now) words.entry.now) (codes "save")) }
     ensures file { IfOk result (λ args. Some args.file.now ≡ found (map (λ w. w.now) words.entry.now) (codes "file")) }
     ensures ksy { IfOk result (λ args. Some args.ksy.now ≡ found (map (λ w. w.now) words.entry.now) (codes "ksy")) }
     ensures kinds { FailsBy (fault_of explorer (map (λ w. w.now) words.entry.now)) result }
 {
     let matches = command(alloc)?.try_get_matches_from(words)?;
     Ok(Args {
+        save: matches.get_str("save"),
         file: matches.get_str("file").unwrap(),
         ksy: matches.get_str("ksy").unwrap(),
     })

@@ -22,6 +22,52 @@ fn edits_or_refuses(rt: HostRuntime) -> Result<(), Fail> {
     Ok(())
 }
 
+/// Whether a buffer has these bytes.
+fn has(buffer: &Buffer, wanted: &[u8]) -> bool {
+    let (front, back) = buffer.parts(Window {
+        from: 0,
+        to: buffer.len(),
+    });
+    front == wanted && back.is_empty()
+}
+
+#[test]
+fn inserts_anywhere(rt: HostRuntime) -> Result<(), Fail> {
+    let mut buffer = Buffer::new(b"bd".to_vec(rt.alloc())?)?;
+    let is_put = buffer.insert(0, b"a") == Ok(())
+        && buffer.insert(2, b"cC") == Ok(())
+        && buffer.insert(5, b"e") == Ok(())
+        && has(&buffer, b"abcCde");
+    assert!(rt; is_put);
+    let is_refused = buffer.insert(7, b"x") == Err(EditRefusal::Outside)
+        && buffer.insert(7, b"") == Err(EditRefusal::Outside)
+        && buffer.insert(usize::MAX, b"x") == Err(EditRefusal::Outside)
+        && buffer.insert(6, b"") == Err(EditRefusal::NothingToDo)
+        && has(&buffer, b"abcCde");
+    assert!(rt; is_refused);
+    Ok(())
+}
+
+#[test]
+fn deletes_anywhere(rt: HostRuntime) -> Result<(), Fail> {
+    let mut buffer = Buffer::new(b"abcdef".to_vec(rt.alloc())?)?;
+    let is_refused = buffer.delete(7, 0) == Err(EditRefusal::Outside)
+        && buffer.delete(3, 4) == Err(EditRefusal::Outside)
+        && buffer.delete(1, usize::MAX) == Err(EditRefusal::Outside)
+        && buffer.delete(6, 0) == Err(EditRefusal::NothingToDo)
+        && has(&buffer, b"abcdef");
+    assert!(rt; is_refused);
+    let is_cut = buffer.delete(0, 1) == Ok(())
+        && buffer.delete(1, 2) == Ok(())
+        && has(&buffer, b"bef")
+        && buffer.delete(2, 1) == Ok(())
+        && has(&buffer, b"be")
+        && buffer.delete(0, 2) == Ok(())
+        && buffer.is_empty();
+    assert!(rt; is_cut);
+    Ok(())
+}
+
 /// This many bytes.
 fn sevens(alloc: Global, count: usize) -> Result<Vec<u8>, AllocError> {
     vec![in alloc; 7u8; count]
@@ -31,7 +77,9 @@ fn sevens(alloc: Global, count: usize) -> Result<Vec<u8>, AllocError> {
 fn is_full(alloc: Global, count: usize) -> Result<bool, AllocError> {
     match Buffer::new(sevens(alloc, count)?) {
         Ok(mut full) => {
-            Ok(full.append(b"x") == Err(EditRefusal::TooLarge) && full.len() == count)
+            let is_refused = full.append(b"x") == Err(EditRefusal::TooLarge)
+                && full.insert(0, b"x") == Err(EditRefusal::TooLarge);
+            Ok(is_refused && full.len() == count)
         }
         Err(_) => Ok(false),
     }

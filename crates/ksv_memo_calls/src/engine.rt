@@ -338,15 +338,37 @@ fn append(engine: &mut Engine<Rows>, rules: &Rows, bytes: &mut Buffer, new: &[u8
     }
 }
 
+/// Puts bytes between others, and tells the engine.
+fn insert(engine: &mut Engine<Rows>, rules: &Rows, bytes: &mut Buffer, at: usize, new: &[u8])
+    requires { IsRight (on (rows_meaning rules.now.rows.items) bytes.old) engine.old.kept }
+    ensures { IsRight (on (rows_meaning rules.now.rows.items) bytes.new) engine.new.kept }
+{
+    if let Ok(()) = bytes.insert(at, new) {
+        engine.forget(Change::Insert { at, n: new.len() });
+    }
+}
+
+/// Takes out bytes, and tells the engine.
+fn delete(engine: &mut Engine<Rows>, rules: &Rows, bytes: &mut Buffer, at: usize, n: usize)
+    requires { IsRight (on (rows_meaning rules.now.rows.items) bytes.old) engine.old.kept }
+    ensures { IsRight (on (rows_meaning rules.now.rows.items) bytes.new) engine.new.kept }
+{
+    if let Ok(()) = bytes.delete(at, n) {
+        engine.forget(Change::Delete { at, n });
+    }
+}
+
 fn random_edit(engine: &mut Engine<Rows>, rules: &Rows, bytes: &mut Buffer, random: &mut Random)
     requires { IsRight (on (rows_meaning rules.now.rows.items) bytes.old) engine.old.kept }
     ensures { IsRight (on (rows_meaning rules.now.rows.items) bytes.new) engine.new.kept }
 {
     let new = [random.below(9)];
-    if random.below(2) == 0 {
-        overwrite(engine, rules, bytes, random.below(8) as usize, &new);
-    } else {
-        append(engine, rules, bytes, &new);
+    let at = random.below(8) as usize;
+    match random.below(4) {
+        0 => overwrite(engine, rules, bytes, at, &new),
+        1 => insert(engine, rules, bytes, at, &new),
+        2 => delete(engine, rules, bytes, at, 1),
+        _ => append(engine, rules, bytes, &new),
     }
 }
 

@@ -217,7 +217,7 @@ impl<'a> Turn<'a> {
         }
     }
 
-    /// The place so many bytes after another. It requires that the stream and the file go on to it.
+    /// The place a number of bytes after another. It requires that the stream and the file go on to it.
     #[tactic(auto, unfolding(crate::specs::Reading::reach_within, crate::specs::Reading::reach_file))]
     pub fn reach(&mut self, stream: Stream, from: Place, size: u64) -> Result<Place, Halt>
         ensures runs { Runs (reach stream (from + size)) (λ _. tt) self.old self.new result }

@@ -16,7 +16,7 @@ abbrev pub is_attribute : MemberKind → Bool
 is_attribute (Attribute f) = true
 is_attribute _ = false
 
--- the attribute of `seq` that stands last, behind a member
+-- the attribute of `seq` that is last, after a member
 abbrev pub behind : Option ℕ → MemberOfType → Option ℕ
 behind before m = if is_attribute m.kind then Some m.name else before
 
@@ -69,7 +69,7 @@ field_of d r = do
 abbrev pub is_parameter : MemberOfType → Bool
 is_parameter m = elim m.kind [ Parameter ↦ true | Attribute f ↦ false | ParseInstance e io f ↦ false | ValueInstance c e enum ↦ false ]
 
--- how many parameters are among the first of some members: so many arguments are those of others
+-- how many parameters are among the first of some members: this many arguments are those of others
 unfoldable pub parameters_before : ℕ → List MemberOfType → ℕ
 parameters_before zero ms = 0
 parameters_before (suc i) [] = 0

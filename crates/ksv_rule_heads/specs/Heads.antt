@@ -1,4 +1,4 @@
--- What stands at a path, and where: attributes of `seq` one behind the other, instances where they say, the elements of
+-- What is at a path, and where: attributes of `seq` one after the other, instances where they say, the elements of
 -- repeated ones, and what each reads. The rules are those of the Kaitai Struct User Guide on `seq`, `instances`, sizes,
 -- terminators, `if`, `switch-on` and `repeat`; that all of it is looked for only when it is asked is this project's own.
 use Rattle.std.specs.Prelude.{ℕ, ◌+◌, ◌-◌, ◌==◌, nat_lt, nat_le, Bool, false, ◌||◌, length, Option, Some, None, if◌then◌else◌}
@@ -149,7 +149,7 @@ attribute_start q o (Some y) = do
   e ← part_end q (steps.Name y)
   Answer e.place
 
--- where expressions of a member stand: in the object q, at the place s, with faults at p
+-- where expressions of a member are evaluated: in the object q, at the place s, with faults at p
 abbrev pub setting : Trail → Stream → ℕ → Trail → Setting
 setting q w s p = record { home = q; stream = w; place = s; index = None; element = None; here = p }
 
@@ -164,11 +164,11 @@ attribute_head p q o x f = do
 
 -- ---- instances
 
--- Expressions of an instance stand where its object begins.
+-- Expressions of an instance are evaluated where its object begins.
 abbrev pub instance_setting : Trail → Trail → Object → Setting
 instance_setting p q o = setting q o.stream o.start p
 
--- A parse instance stands in the stream of its object, or in the one that `io` names, at a position that is counted from that
+-- A parse instance is in the stream of its object, or in the one that `io` names, at a position that is counted from that
 -- stream's first byte.
 unfoldable pub positioned_in : Setting → Origin → Stream → Tree → Field → Rule Head
 positioned_in at origin w e f = do
@@ -215,7 +215,7 @@ member_head d p q x = do
 
 -- ---- elements
 
--- The list that stands at a path. Where an attribute is absent, so are its elements; what is no list has none.
+-- The list that is at a path. Where an attribute is absent, so are its elements; what is no list has none.
 abbrev pub in_list : Trail → Head → Rule lists.List
 in_list l (heads.List g) = Answer g
 in_list l (heads.Absent at) = Fail (There kinds.Absent l)
@@ -226,7 +226,7 @@ abbrev pub is_past : Option ℕ → ℕ → Bool
 is_past None i = false
 is_past (Some n) i = nat_le n i
 
--- behind the last element there is none
+-- after the last element there is none
 abbrev pub in_next : Ended → Rule ℕ
 in_next e = if e.last then raise kinds.BadIndex else Answer e.place
 

@@ -27,7 +27,7 @@ abbrev pub missing : {A : Type 0} → Trail → Head → Trail → Rule A
 missing q (heads.Absent at) p = Fail (There kinds.Absent q)
 missing q _ p = Fail (There kinds.NoSuch p)
 
--- The object that stands at a path. Where an attribute is absent, so is what is asked inside it; what is no object has no
+-- The object that is at a path. Where an attribute is absent, so is what is asked inside it; what is no object has no
 -- members.
 abbrev pub in_object : Trail → Head → Rule Object
 in_object q (heads.Object o) = Answer o
@@ -56,7 +56,7 @@ wanted s (wants.Bytes f t) = do
   bs ← peek f t
   Answer (Read bs)
 
--- the value of an expression; its faults stand at the rule's own path
+-- the value of an expression; its faults are at the rule's own path
 unfoldable pub expression : Setting → Tree → Rule Value
 expression s e = translate (wanted s) Here (value_of s e)
 

@@ -12,7 +12,7 @@ use crate::wanted::in_object;
 use ksv_expr_eval::{Ctx, EvalStep, Expr, Got, Path, Place, Stream, Value, Want, eval};
 use ksv_nodes::{Halt, Turn};
 
-/// The value of what stands at a path.
+/// The value of what is at a path.
 #[tactic(auto, using(ksv_plan::proofs::Running::run_bind))]
 fn valued<'a>(turn: &mut Turn<'a>, path: Path) -> Result<Got<'a>, Halt>
     ensures runs { Runs (ask_valued path) told turn.old turn.new result }
@@ -64,7 +64,7 @@ fn answer<'a>(turn: &mut Turn<'a>, ctx: &Ctx, want: Want) -> Result<Got<'a>, Hal
     }
 }
 
-/// The value of an expression: it is evaluated anew with one answer more, until it wants none. Its own faults stand at the
+/// The value of an expression: it is evaluated anew with one answer more, until it wants none. Its own faults are at the
 /// path of the node.
 pub fn value_of_expression(turn: &mut Turn, ctx: &Ctx, expr: &Expr) -> Result<Value, Halt>
     ensures { Runs (expression ctx.now (view expr.now)) (λ v. v) turn.old turn.new result }

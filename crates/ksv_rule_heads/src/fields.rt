@@ -34,7 +34,7 @@ pub fn members_of(desc: &Desc, type_number: u32) -> &[MemberDesc]
     }
 }
 
-/// The attribute of `seq` that stands last, behind a member.
+/// The attribute of `seq` that is last, after a member.
 fn behind(before: Option<u32>, member: &MemberDesc) -> Option<u32>
     ensures { result ≡ behind before (plain_member member.now) }
 {

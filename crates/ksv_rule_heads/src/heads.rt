@@ -1,4 +1,4 @@
-//! What stands at a path, and where.
+//! What is at a path, and where.
 #![tactic(auto)]
 
 ghost use Rattle.std.specs.Prelude.{◌≡◌, option_map};
@@ -116,7 +116,7 @@ fn attribute_at(
     }
 }
 
-/// Where a part of what stands at a path ends.
+/// Where a part of what is at a path ends.
 #[tactic(auto, using(ksv_plan::proofs::Running::run_bind), unfolding(crate::specs::Heads::part_end))]
 pub fn part_end(turn: &mut Turn, path: &Path, step: Step) -> Result<Ended, Halt>
     ensures { Runs (part_end path.now step) (λ ended. ended) turn.old turn.new result }
@@ -294,7 +294,7 @@ fn member_at(
     }
 }
 
-/// The member of a name, at a path, of what stands at `home`.
+/// The member of a name, at a path, of what is at `home`.
 #[tactic(auto, using(ksv_plan::proofs::Running::run_bind), unfolding(crate::specs::Heads::member_head))]
 fn member_head(
     turn: &mut Turn,
@@ -313,7 +313,7 @@ fn member_head(
 
 // ---- elements
 
-/// The list that stands at a path. The elements of an absent attribute are absent; what is no list has none.
+/// The list that is at a path. The elements of an absent attribute are absent; what is no list has none.
 pub fn in_list(turn: &Turn, path: &Path, head: Head) -> Result<List, Halt>
     ensures { Runs (in_list path.now head) (λ list. list) turn.now turn.now result }
 {
@@ -333,7 +333,7 @@ fn is_past(count: Option<u32>, index: u32) -> bool
     }
 }
 
-/// Behind the last element there is none.
+/// After the last element there is none.
 fn in_next(turn: &mut Turn, ended: Ended) -> Result<Place, Halt>
     ensures { Runs (in_next ended) (λ place. place) turn.old turn.new result }
 {
@@ -343,7 +343,7 @@ fn in_next(turn: &mut Turn, ended: Ended) -> Result<Place, Halt>
     Ok(ended.place)
 }
 
-/// Where the element behind the one of this index begins.
+/// Where the element after the one of this index begins.
 #[tactic(auto, using(ksv_plan::proofs::Running::run_bind), unfolding(crate::specs::Heads::next_start))]
 fn next_start(turn: &mut Turn, list_path: &Path, index: u32) -> Result<Place, Halt>
     ensures { Runs (next_start list_path.now index) (λ place. place) turn.old turn.new result }
@@ -401,7 +401,7 @@ fn root_head() -> Head
     })
 }
 
-/// What stands at a path, and where.
+/// What is at a path, and where.
 #[tactic(auto, unfolding(crate::specs::Heads::head_of))]
 pub fn head_of(turn: &mut Turn, desc: &Desc, path: &Path) -> Result<Head, Halt>
     ensures { Runs (head_of (plain_pieces desc.now) path.now) (λ head. head) turn.old turn.new result }

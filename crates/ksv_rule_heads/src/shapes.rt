@@ -16,7 +16,7 @@ use ksv_desc::{Content, Extent, Field, Terminator};
 use ksv_expr_eval::{Ctx, Expr, FaultKind, Place, Stream};
 use ksv_nodes::{Found, Halt, Head, Leaf, Object, ObjectEnd, Origin, Turn};
 
-/// So many bytes from a place on.
+/// As many bytes as a size says, from a place on.
 #[tactic(auto, using(ksv_plan::proofs::Running::run_bind), unfolding(crate::specs::Heads::leaf))]
 fn leaf(
     turn: &mut Turn,

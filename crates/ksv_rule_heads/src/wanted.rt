@@ -20,7 +20,7 @@ fn fault_at<X>(turn: &Turn, path: &Path, kind: FaultKind) -> Result<X, Halt>
     Err(Halt::Fault(Fault { kind, path }))
 }
 
-/// The fault of a head at a path that isn't what is looked for there: where nothing stands it is absent, at that path;
+/// The fault of a head at a path that isn't what is looked for there: where nothing is it is absent, at that path;
 /// else there is no such thing, which is a fault of the asker.
 pub fn missing<X>(turn: &Turn, path: &Path, head: Head, asker: &Path) -> Result<X, Halt>
     ensures { Runs (missing path.now head asker.now) (λ x. x) turn.now turn.now result }
@@ -31,7 +31,7 @@ pub fn missing<X>(turn: &Turn, path: &Path, head: Head, asker: &Path) -> Result<
     }
 }
 
-/// The object that stands at a path. Inside an absent attribute all is absent; what is no object has no members.
+/// The object that is at a path. Inside an absent attribute all is absent; what is no object has no members.
 pub(crate) fn in_object(turn: &Turn, path: &Path, head: Head) -> Result<Object, Halt>
     ensures { Runs (in_object path.now head) (λ object. object) turn.now turn.now result }
 {

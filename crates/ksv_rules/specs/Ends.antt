@@ -68,13 +68,13 @@ start_of (heads.Leaf l) = l.from
 start_of (heads.Object o) = o.start
 start_of (heads.List g) = g.start
 
--- The element i, which is p and ends at e, is the last: the list has so many; its end is the stream's end; or what must hold of the
+-- The element i, which is p and ends at e, is the last: the list ends there by its count; its end is the stream's end; or what must hold of the
 -- last one holds.
 abbrev pub is_counted : Option ℕ → ℕ → Bool
 is_counted None i = false
 is_counted (Some n) i = n == i + 1
 
--- where `repeat-until` stands: in the object q at the end of the element i of a list in it, with faults at p
+-- where `repeat-until` is evaluated: in the object q at the end of the element i of a list in it, with faults at p
 abbrev pub behind_element : Trail → lists.List → Trail → ℕ → ℕ → Setting
 behind_element q g p i e = record { home = q; stream = g.origin.home; place = e; index = Some i; element = Some p; here = p }
 
@@ -127,7 +127,7 @@ rest_from p l i = do
   e ← ask_end p
   rest_behind l i e
 
--- the list of which an element is the first; faults stand at the list
+-- the list of which an element is the first; faults are at the list
 abbrev pub in_whole_list : Trail → Head → Rule lists.List
 in_whole_list l (heads.List g) = Answer g
 in_whole_list l (heads.Absent at) = Fail (There kinds.Absent l)

@@ -1,5 +1,5 @@
 -- Evaluation from nothing: what a node answers by its rule on some bytes, each node that it asks answered in the same way with
--- one node more open. A node that is asked while it is open is the fault circle, which stands at its path. There is no table,
+-- one node more open. A node that is asked while it is open is the fault circle, which is at its path. There is no table,
 -- no reply, no turn and no stack in it.
 use Rattle.std.specs.Prelude.{ℕ, zero, suc, cond, List, ◌∷◌, Result, Err}
 use Rattle.ksv_bytes.specs.declared.uses.Use.{Use}

@@ -12,7 +12,7 @@ abbrev pub unsigned_value : ByteOrder → List ℕ → ℕ
 unsigned_value Little bytes = sum_of_bytes bytes
 unsigned_value Big bytes = sum_of_bytes (reverse bytes)
 
--- less the number of values of so many bytes where the integer is signed and its highest bit stands
+-- less the number of values of as many bytes where the integer is signed and its highest bit is set
 unfoldable pub integer_value : Bool → ByteOrder → List ℕ → ℤ
 integer_value signed order bytes =
     if signed && nat_le (2 ^ (8 * length bytes) / 2) (unsigned_value order bytes) then pos (unsigned_value order bytes) -ℤ pos (2 ^ (8 * length bytes))

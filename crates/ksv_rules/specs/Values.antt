@@ -1,4 +1,4 @@
--- The value of what stands at a path: integers, bytes and texts, value instances and parameters as the Kaitai Struct User Guide
+-- The value of what is at a path: integers, bytes and texts, value instances and parameters as the Kaitai Struct User Guide
 -- has them, objects and lists by their path.
 use Rattle.std.specs.Prelude.{ℕ, zero, suc, ◌+◌, nat_le, Bool, ℤ, List, length, take, Option, Some, None, if◌then◌else◌}
 use Rattle.std.specs.Str.{bytes_eq}
@@ -57,7 +57,7 @@ fixed_value l wanted = do
   bs ← peek l.from l.to
   if bytes_eq bs wanted then Answer (values.Bytes l.from l.to) else raise kinds.Contents
 
--- Bytes with a size of their own are cut before the first terminator, or behind it where it is included; without one they
+-- Bytes with a size of their own are cut before the first terminator, or after it where it is included; without one they
 -- aren't cut. Without a size the terminator isn't among the bytes, or is their last.
 abbrev pub cut_by : Extent → Option Terminator → Option Terminator
 cut_by (Sized e) t = t
@@ -111,7 +111,7 @@ leaf_value d l = do
 
 -- ---- calculated values
 
--- No member's value is a stream: `load` lets `_io` stand alone only as the end of an `io`.
+-- No member's value is a stream: `load` lets `_io` be alone only as the end of an `io`.
 abbrev pub in_no_stream : Value → Rule Value
 in_no_stream (values.Stream w) = raise kinds.BadType
 in_no_stream v = Answer v
@@ -145,8 +145,8 @@ argument_at no_arguments i = raise kinds.NoSuch
 argument_at (argument e es) zero = Answer e
 argument_at (argument e es) (suc i) = argument_at es i
 
--- Where the arguments of the object q stand: in the object that holds the attribute by which q is read, with the number of q
--- where it is an element. Their faults stand at p, the parameter.
+-- Where the arguments of the object q are evaluated: in the object that holds the attribute by which q is read, with the number of q
+-- where it is an element. Their faults are at p, the parameter.
 abbrev pub setting_of_holder : Trail → Trail → Option Step → Origin → ℕ → Setting
 setting_of_holder p q (Some (steps.Index i)) g start = within (setting (parent (parent q)) g.home start p) i
 setting_of_holder p q _ g start = setting (parent q) g.home start p

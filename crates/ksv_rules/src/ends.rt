@@ -76,7 +76,7 @@ fn absent_end(turn: &mut Turn, at: Option<Place>) -> Result<Place, Halt>
     }
 }
 
-/// The place behind what stands at a path.
+/// The place after what is at a path.
 #[tactic(auto, unfolding(crate::specs::Ends::place_of))]
 fn place_of(turn: &mut Turn, desc: &Desc, path: &Path, head: Head) -> Result<Place, Halt>
     ensures { Runs (place_of (plain_pieces desc.now) path.now head) (λ place. place) turn.old turn.new result }
@@ -104,7 +104,7 @@ fn start_of(head: Head) -> Place
     }
 }
 
-/// Whether a list of so many elements ends with this one.
+/// Whether a list of this count ends with this element.
 fn is_counted(count: Option<u32>, index: u32) -> bool
     ensures { result ≡ is_counted count index }
 {
@@ -214,7 +214,7 @@ fn end_at(
     }
 }
 
-/// The end of what stands at a path.
+/// The end of what is at a path.
 #[tactic(auto, using(ksv_plan::proofs::Running::run_bind), unfolding(crate::specs::Ends::end_of))]
 pub(crate) fn end_of(turn: &mut Turn, desc: &Desc, path: &Path) -> Result<Ended, Halt>
     ensures { Runs (end_of (plain_pieces desc.now) path.now) (λ ended. ended) turn.old turn.new result }
@@ -224,7 +224,7 @@ pub(crate) fn end_of(turn: &mut Turn, desc: &Desc, path: &Path) -> Result<Ended,
     end_at(turn, desc, path, path.last(), head, place)
 }
 
-/// What a list is behind an element.
+/// What a list is after an element.
 #[tactic(auto, unfolding(crate::specs::Ends::next_rest))]
 fn next_rest(turn: &mut Turn, list: &Path, index: u32) -> Result<Rested, Halt>
     requires { index < element_limit }
@@ -259,7 +259,7 @@ fn rest_from(turn: &mut Turn, path: &Path, list: &Path, index: u32) -> Result<Re
     rest_behind(turn, list, index, end)
 }
 
-/// The list of which an element is the first; faults stand at the list.
+/// The list of which an element is the first; faults are at the list.
 fn in_whole_list(turn: &Turn, path: &Path, head: Head) -> Result<List, Halt>
     ensures { Runs (in_whole_list path.now head) (λ list. list) turn.now turn.now result }
 {

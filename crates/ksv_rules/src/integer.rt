@@ -34,7 +34,7 @@ fn little_endian(bytes: &[u8]) -> u64
     value
 }
 
-/// A number of so many bytes, with another above it; both together have at most 8 bytes.
+/// A number of some bytes, with another above it; both together have at most 8 bytes.
 #[tactic(auto, using(crate::proofs::Integers::sum_fits, crate::proofs::Integers::byte_unit, crate::proofs::Integers::power_small))]
 fn with_above(low: u64, count: usize, high: u64) -> u64
     requires count { count ≤ 8 }
@@ -59,7 +59,7 @@ fn unsigned_value(order: ByteOrder, parts: Parts) -> u64
     }
 }
 
-/// How many values an integer of so many bytes can have.
+/// How many values an integer of a number of bytes can have.
 #[tactic(auto, using(crate::proofs::Integers::byte_unit, crate::proofs::Integers::byte_power, crate::proofs::Integers::power_small))]
 fn value_count(count: usize) -> i128
     requires { count ≤ 8 }

@@ -1,4 +1,4 @@
-//! The rules of a description's nodes: what stands at a path of a file, its value, and where it ends.
+//! The rules of a description's nodes: what is at a path of a file, its value, and where it ends.
 //!
 //! Each rule is a definition (`Heads` of `ksv_rule_heads`, `Values` and `Ends` of specs/) and a function of the same name that
 //! runs it on the replies that it had. An engine (`ksv_memo`) calls the rules and keeps what they answer.

@@ -1,4 +1,4 @@
-//! Bytes that are lent in two slices: how many they are, the first so many, and whether they are certain ones.
+//! Bytes that are lent in two slices: how many they are, the first of them, and whether they are certain ones.
 
 ghost use Rattle.std.specs.Prelude.{◌≡◌, ◌<◌, length, take};
 ghost use Rattle.std.specs.Str.{bytes_eq};
@@ -14,7 +14,7 @@ pub(crate) fn len_of(parts: Parts) -> usize
     parts.front.len() + parts.back.len()
 }
 
-/// The first so many bytes.
+/// The first bytes, as many as a count.
 pub(crate) fn cut(parts: Parts, count: usize) -> Parts
     ensures { content result ≡ take count (content parts.entry) }
 {

@@ -1,4 +1,4 @@
-//! The value of what stands at a path.
+//! The value of what is at a path.
 #![tactic(auto)]
 
 ghost use Rattle.std.specs.Option.{option_map_or};
@@ -263,7 +263,7 @@ fn value_at(turn: &mut Turn, desc: &Desc, path: &Path, head: Head) -> Result<Val
     }
 }
 
-/// The value of what stands at a path; objects and lists by their path.
+/// The value of what is at a path; objects and lists by their path.
 #[tactic(auto, using(ksv_plan::proofs::Running::run_bind), unfolding(crate::specs::Values::value_of))]
 pub(crate) fn value_of(turn: &mut Turn, desc: &Desc, path: &Path) -> Result<Value, Halt>
     ensures { Runs (value_of (plain_pieces desc.now) path.now) (λ value. value) turn.old turn.new result }

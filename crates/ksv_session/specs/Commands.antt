@@ -1,6 +1,6 @@
 -- Command lines: each is nothing, one command with its values, or a refusal. Checks are in their order: the length
 -- of the line, the command's name, the number of words, the arguments from left to right.
-use Rattle.std.specs.Prelude.{ℕ, Bool, true, false, ◌==◌, nat_lt, List, [], ◌∷◌, length, codes, slice_index, Option, Some, None, if◌then◌else◌}
+use Rattle.std.specs.Prelude.{ℕ, Bool, true, false, ◌==◌, nat_lt, List, [], ◌∷◌, length, codes, slice_index, Option, Some, None, Result, Ok, Err, if◌then◌else◌}
 use Rattle.std.specs.Str.{bytes_eq}
 use Rattle.ksv_lines.specs.Digits.{bytes_of}
 use Rattle.ksv_lines.specs.Lines.{line_limit, without_carriage_return, words_of}
@@ -9,7 +9,8 @@ use Rattle.ksv_session.specs.Numbers.{number_of}
 use Rattle.ksv_expr_value.specs.Trail.{Trail}
 use Rattle.ksv_paths.specs.PathTexts.{path_named}
 use Rattle.ksv_session.specs.declared.command.Command.{Command}
-use Rattle.ksv_session.specs.declared.command.Command.TheVariants.{App, Blank, Get, Quit, Refused, Set, Size}
+use Rattle.ksv_session.specs.declared.command.Command.TheVariants.{App, Blank, Del, Get, Ins, Quit, Refused, Set, Size}
+use Rattle.ksv_session.specs.declared.refusal.LineRefusal.{LineRefusal}
 use Rattle.ksv_session.specs.declared.refusal.LineRefusal.TheVariants as refusals
 
 abbrev pub wrong_arguments : Command
@@ -35,22 +36,49 @@ abbrev pub get_of : Description → Option (List ℕ) → Command
 get_of d (Some path) = get_path (path_named d path)
 get_of d None = wrong_arguments
 
-abbrev pub set_bytes : ℕ → Option (List ℕ) → Command
-set_bytes at (Some bytes) = Set at bytes
-set_bytes at None = Refused refusals.BadHex
+abbrev pub hex_at : ℕ → Option (List ℕ) → Result (ℕ × List ℕ) LineRefusal
+hex_at at (Some bytes) = Ok (at, bytes)
+hex_at at None = Err refusals.BadHex
 
-abbrev pub set_at : Option ℕ → List ℕ → Command
-set_at (Some at) digits = set_bytes at (bytes_of digits)
-set_at None digits = Refused refusals.BadNumber
+abbrev pub digits_at : Option ℕ → List ℕ → Result (ℕ × List ℕ) LineRefusal
+digits_at (Some at) digits = hex_at at (bytes_of digits)
+digits_at None digits = Err refusals.BadNumber
 
-abbrev pub set_words : List ℕ → Option (List ℕ) → Command
-set_words at (Some digits) = set_at (number_of at) digits
-set_words at None = wrong_arguments
+abbrev pub word_at : List ℕ → Option (List ℕ) → Result (ℕ × List ℕ) LineRefusal
+word_at at (Some digits) = digits_at (number_of at) digits
+word_at at None = Err refusals.WrongArguments
+
+-- the arguments `POS HEX`
+abbrev pub placed : List (List ℕ) → Result (ℕ × List ℕ) LineRefusal
+placed [] = Err refusals.WrongArguments
+placed (at ∷ words) = word_at at (only words)
 
 -- `set POS HEX`
-abbrev pub set_of : List (List ℕ) → Command
-set_of [] = wrong_arguments
-set_of (at ∷ words) = set_words at (only words)
+abbrev pub set_of : Result (ℕ × List ℕ) LineRefusal → Command
+set_of (Ok (at, bytes)) = Set at bytes
+set_of (Err refusal) = Refused refusal
+
+-- `ins POS HEX`
+abbrev pub ins_of : Result (ℕ × List ℕ) LineRefusal → Command
+ins_of (Ok (at, bytes)) = Ins at bytes
+ins_of (Err refusal) = Refused refusal
+
+abbrev pub del_count : ℕ → Option ℕ → Command
+del_count at (Some count) = Del at count
+del_count at None = Refused refusals.BadNumber
+
+abbrev pub del_at : Option ℕ → List ℕ → Command
+del_at (Some at) count = del_count at (number_of count)
+del_at None count = Refused refusals.BadNumber
+
+abbrev pub del_words : List ℕ → Option (List ℕ) → Command
+del_words at (Some count) = del_at (number_of at) count
+del_words at None = wrong_arguments
+
+-- `del POS COUNT`
+abbrev pub del_of : List (List ℕ) → Command
+del_of [] = wrong_arguments
+del_of (at ∷ words) = del_words at (only words)
 
 abbrev pub app_bytes : Option (List ℕ) → Command
 app_bytes (Some bytes) = App bytes
@@ -69,7 +97,9 @@ alone command (word ∷ words) = wrong_arguments
 abbrev pub command_named : Description → List ℕ → List (List ℕ) → Command
 command_named d name arguments =
     if bytes_eq name (codes "get") then get_of d (only arguments)
-    else if bytes_eq name (codes "set") then set_of arguments
+    else if bytes_eq name (codes "set") then set_of (placed arguments)
+    else if bytes_eq name (codes "ins") then ins_of (placed arguments)
+    else if bytes_eq name (codes "del") then del_of arguments
     else if bytes_eq name (codes "app") then app_of (only arguments)
     else if bytes_eq name (codes "size") then alone Size arguments
     else if bytes_eq name (codes "quit") then alone Quit arguments

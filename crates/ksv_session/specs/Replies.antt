@@ -1,11 +1,11 @@
 -- The reply to a line, and the bytes after it.
 use Rattle.std.specs.Prelude.{ℕ, Bool, true, false, List, [], ◌++◌, length, codes, decimal, Result, Ok, Err, is_ok, if◌then◌else◌}
-use Rattle.ksv_bytes.specs.Edits.{append, overwrite}
+use Rattle.ksv_bytes.specs.Edits.{append, delete, insert, overwrite}
 use Rattle.ksv_bytes.specs.declared.edit.EditRefusal.{EditRefusal}
 use Rattle.ksv_bytes.specs.declared.edit.EditRefusal.TheVariants as edits
 use Rattle.ksv_session.specs.Commands.{command_of}
 use Rattle.ksv_session.specs.declared.command.Command.{Command}
-use Rattle.ksv_session.specs.declared.command.Command.TheVariants.{App, Blank, Get, Quit, Refused, Set, Size}
+use Rattle.ksv_session.specs.declared.command.Command.TheVariants.{App, Blank, Del, Get, Ins, Quit, Refused, Set, Size}
 use Rattle.ksv_desc.specs.Description.{Description}
 use Rattle.ksv_session.specs.Questions.{question_text}
 use Rattle.ksv_session.specs.declared.refusal.LineRefusal.{LineRefusal}
@@ -50,6 +50,8 @@ answer_to d b Blank = said b []
 answer_to d b (Refused refusal) = said b (line_refusal_text refusal)
 answer_to d b (Get path) = said b (question_text d b path ++ codes "\n")
 answer_to d b (Set at bytes) = edited b (overwrite b at bytes)
+answer_to d b (Ins at bytes) = edited b (insert b at bytes)
+answer_to d b (Del at count) = edited b (delete b at count)
 answer_to d b (App bytes) = edited b (append b bytes)
 answer_to d b Size = said b (codes "size " ++ decimal (length b) ++ codes "\n")
 answer_to d b Quit = record { bytes = b; text = codes "bye\n"; ends = true }
@@ -60,6 +62,8 @@ may_be_refused b Blank = false
 may_be_refused b (Refused refusal) = false
 may_be_refused b (Get path) = true
 may_be_refused b (Set at bytes) = false
+may_be_refused b (Ins at bytes) = is_ok (insert b at bytes)
+may_be_refused b (Del at count) = false
 may_be_refused b (App bytes) = is_ok (append b bytes)
 may_be_refused b Size = false
 may_be_refused b Quit = false

@@ -2,7 +2,7 @@
 ghost use Rattle.std.specs.Prelude.{◌≡◌, ◌≤◌, ◌↔◌, [], length, IfOk, IfSome, IsTrue, OnErr, option_copied};
 ghost use Rattle.ksv_desc.specs.Whole.{plain_pieces};
 ghost use Rattle.ksv_lines.specs.Lines.{line_limit, words_of};
-ghost use Rattle.ksv_session.specs.Commands.{alone, app_of, command_named, command_of, get_of, is_question, only, set_of};
+ghost use Rattle.ksv_session.specs.Commands.{alone, app_of, command_named, command_of, del_of, get_of, ins_of, is_question, only, placed, set_of};
 
 use crate::number::number;
 use crate::refusal::LineRefusal;
@@ -26,6 +26,10 @@ pub(crate) enum Command {
     Get(Path),
     /// `set POS HEX`: bytes written over those from a place on.
     Set(u64, EditBytes),
+    /// `ins POS HEX`: bytes put before the byte at a place, or after the last one.
+    Ins(u64, EditBytes),
+    /// `del POS COUNT`: so many bytes from a place on, taken out.
+    Del(u64, u64),
     /// `app HEX`: bytes added at the end.
     App(EditBytes),
     /// `size`: the number of bytes.
@@ -64,10 +68,51 @@ fn get(alloc: Global, desc: &Desc, arguments: &[u8]) -> Result<Command, AllocErr
     }
 }
 
+/// Reads the arguments `POS HEX`.
+fn place_and_bytes(arguments: &[u8]) -> Result<(u64, EditBytes), LineRefusal>
+    requires { length arguments.now ≤ line_limit }
+    ensures { result ≡ placed (words_of arguments.now) }
+{
+    let Some((place, behind)) = next_word(arguments) else {
+        return Err(LineRefusal::WrongArguments);
+    };
+    let Some(digits) = only_word(behind) else {
+        return Err(LineRefusal::WrongArguments);
+    };
+    let Some(at) = number(place) else {
+        return Err(LineRefusal::BadNumber);
+    };
+    match edit_bytes(digits) {
+        Some(bytes) => Ok((at, bytes)),
+        None => Err(LineRefusal::BadHex),
+    }
+}
+
 /// Reads the arguments of `set`.
 fn set(arguments: &[u8]) -> Command
     requires { length arguments.now ≤ line_limit }
-    ensures { result ≡ set_of (words_of arguments.now) }
+    ensures { result ≡ set_of (placed (words_of arguments.now)) }
+{
+    match place_and_bytes(arguments) {
+        Ok((at, bytes)) => Command::Set(at, bytes),
+        Err(refusal) => Command::Refused(refusal),
+    }
+}
+
+/// Reads the arguments of `ins`.
+fn ins(arguments: &[u8]) -> Command
+    requires { length arguments.now ≤ line_limit }
+    ensures { result ≡ ins_of (placed (words_of arguments.now)) }
+{
+    match place_and_bytes(arguments) {
+        Ok((at, bytes)) => Command::Ins(at, bytes),
+        Err(refusal) => Command::Refused(refusal),
+    }
+}
+
+/// Reads the arguments of `del`.
+fn del(arguments: &[u8]) -> Command
+    ensures { result ≡ del_of (words_of arguments.now) }
 {
     let Some((place, behind)) = next_word(arguments) else {
         return Command::Refused(LineRefusal::WrongArguments);
@@ -78,9 +123,9 @@ fn set(arguments: &[u8]) -> Command
     let Some(at) = number(place) else {
         return Command::Refused(LineRefusal::BadNumber);
     };
-    match edit_bytes(digits) {
-        Some(bytes) => Command::Set(at, bytes),
-        None => Command::Refused(LineRefusal::BadHex),
+    match number(digits) {
+        Some(count) => Command::Del(at, count),
+        None => Command::Refused(LineRefusal::BadNumber),
     }
 }
 
@@ -124,6 +169,10 @@ fn command_with(
         get(alloc, desc, arguments)
     } else if name == b"set".as_slice() {
         Ok(set(arguments))
+    } else if name == b"ins".as_slice() {
+        Ok(ins(arguments))
+    } else if name == b"del".as_slice() {
+        Ok(del(arguments))
     } else if name == b"app".as_slice() {
         Ok(app(arguments))
     } else if name == b"size".as_slice() {

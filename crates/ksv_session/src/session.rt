@@ -94,6 +94,14 @@ impl Session {
                 let outcome = self.buffer.overwrite(at as usize, bytes.as_slice());
                 self.edited(outcome)
             }
+            Command::Ins(at, bytes) => {
+                let outcome = self.buffer.insert(at as usize, bytes.as_slice());
+                self.edited(outcome)
+            }
+            Command::Del(at, count) => {
+                let outcome = self.buffer.delete(at as usize, count as usize);
+                self.edited(outcome)
+            }
             Command::App(bytes) => {
                 let outcome = self.buffer.append(bytes.as_slice());
                 self.edited(outcome)
