@@ -114,3 +114,38 @@ fn words_are_taken_or_refused(rt: HostRuntime) -> Result<(), Fail> {
     assert!(rt; are_right);
     Ok(())
 }
+
+/// What help says of the words and of the command lines.
+const HELP: &str = "Usage: ksv [OPTIONS] <FILE> <KSY>
+<FILE>  The file to explore
+<KSY>   Its description
+--save <OUT>  Writes the bytes
+get PATH
+set POS HEX
+ins POS HEX
+del POS COUNT
+app HEX
+bytes POS COUNT
+size
+quit
+Example: echo 'get /' | ksv ";
+
+/// Whether help has each line of [`HELP`].
+fn is_helped(alloc: Global) -> Result<bool, AllocError> {
+    let Err(error) = arguments(alloc, &["ksv", "--help"]) else {
+        return Ok(false);
+    };
+    let text = format!(in alloc; "{error}")?;
+    let mut has_all = true;
+    for line in HELP.split('\n') {
+        has_all &= text.as_str().contains(line);
+    }
+    Ok(has_all)
+}
+
+#[test]
+fn help_names_each_word(rt: HostRuntime) -> Result<(), Fail> {
+    let is_helped = is_helped(rt.alloc())?;
+    assert!(rt; is_helped);
+    Ok(())
+}

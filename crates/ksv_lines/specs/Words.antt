@@ -1,9 +1,10 @@
 -- The words of the program's command line, as `clap` reads them by the rules of this command.
-use Rattle.std.specs.Prelude.{◌≡◌, List, Option, Some, true, false, codes, is_some}
+use Rattle.std.specs.Prelude.{◌≡◌, List, [], Option, Some, true, false, codes, is_some}
 use Rattle.clap.specs.Built.{IsPlainArg, TakesValue}
-use Rattle.clap.specs.Words.{App, IsParsedFrom, Rule, Text, first_of, first_value, found_of, matches_of, new_app, new_rule, rule_of, with_rule}
+use Rattle.clap.specs.Words.{App, IsParsedFrom, Rule, Text, app_of, args_of, first_of, first_value, found_of, groups_of, matches_of, new_app, new_rule, rule_of, with_rule}
 use Rattle.clap.specs.declared.builder.arg.Arg.{Arg}
 use Rattle.clap.specs.declared.builder.ArgAction.TheVariants.{Set}
+use Rattle.clap.specs.declared.builder.command.Command.TheViews.{out-Command as fields_of}
 use Rattle.clap.specs.declared.builder.command.Command.{Command}
 use Rattle.clap.specs.declared.parser.matches.ArgMatches.{ArgMatches}
 
@@ -26,6 +27,14 @@ found words id = first_of id (matches_of explorer words)
 -- each parse by the command has a value of this name
 abbrev pub Demands : Command → Text → Type 0
 Demands cmd id = (m : ArgMatches) → IsParsedFrom cmd m → is_some (first_value (found_of m) id) ≡ true
+
+-- the program's name, with no words yet
+pub record IsNamed (cmd : Command) : Type 0 where
+  pub app : app_of cmd ≡ new_app (codes "ksv")
+  pub args : args_of cmd ≡ []
+  pub groups : groups_of cmd ≡ []
+  pub local : (fields_of cmd).has_globals ≡ false
+  pub negates : (fields_of cmd).subcommand_negates_reqs ≡ false
 
 -- a required argument of this name that does nothing else
 pub record IsDemanded (id : Text) (a : Arg) : Type 0 where

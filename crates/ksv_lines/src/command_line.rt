@@ -1,7 +1,7 @@
 //! The words of the program's command line.
 ghost use Rattle.std.specs.Prelude.{◌≡◌, Some, IfOk, map, codes, option_map};
 ghost use Rattle.clap.specs.Words.{app_of, fault_of, FailsBy};
-ghost use Rattle.ksv_lines.specs.Words.{Demands, IsDemanded, IsOption, explorer, found};
+ghost use Rattle.ksv_lines.specs.Words.{Demands, IsDemanded, IsNamed, IsOption, explorer, found};
 
 use clap::{Arg, ArgAction, Command, Error};
 use std::alloc::{AllocError, Global};
@@ -17,12 +17,27 @@ pub struct Args<'a> {
     pub ksy: &'a str,
 }
 
-/// A required word, with the name that usage shows.
-fn demanded<'a>(alloc: Global, id: &'a str, shown: &'a str) -> Arg<'a>
+/// What help says at its end: the command lines, and an example.
+const COMMAND_LINES: &str = "\
+Command lines are read from standard input, and each is answered in one line:
+  get PATH         the value at a path, such as /items/0/name; / is the whole file
+  set POS HEX      writes bytes over those from a place on, as: set 3 02ff
+  ins POS HEX      puts bytes before a place
+  del POS COUNT    takes bytes out
+  app HEX          adds bytes at the end
+  bytes POS COUNT  the bytes from a place on
+  size             the number of bytes
+  quit             ends the session
+
+Example: echo 'get /' | ksv picture.png png.ksy";
+
+/// A required word, with the name that usage shows and what help says of it.
+fn demanded<'a>(alloc: Global, id: &'a str, shown: &'a str, help: &'a str) -> Arg<'a>
     ensures { IsDemanded id.now result }
 {
     Arg::new(alloc, id)
         .value_name(shown)
+        .help(help)
         .required(true)
         .action(ArgAction::Set)
 }
@@ -38,6 +53,15 @@ fn optional<'a>(alloc: Global, id: &'a str, shown: &'a str, help: &'a str) -> Ar
         .action(ArgAction::Set)
 }
 
+/// The program's name and its help, without words yet.
+fn named<'a>(alloc: Global) -> Command<'a>
+    ensures { IsNamed result }
+{
+    Command::new(alloc, "ksv")
+        .about("Explores a binary file by its Kaitai Struct description")
+        .after_help(COMMAND_LINES)
+}
+
 /// The command line `ksv [--save OUT] FILE KSY`.
 fn command<'a>(alloc: Global) -> Result<Command<'a>, AllocError>
     ensures app { IfOk result (λ r. app_of r ≡ explorer) }
@@ -50,9 +74,9 @@ fn command<'a>(alloc: Global) -> Result<Command<'a>, AllocError>
         "OUT",
         "Writes the bytes to OUT after the session",
     );
-    let file = demanded(alloc, "file", "FILE");
-    let ksy = demanded(alloc, "ksy", "KSY");
-    let with_save = Command::new(alloc, "ksv").arg(save)?;
+    let file = demanded(alloc, "file", "FILE", "The file to explore");
+    let ksy = demanded(alloc, "ksy", "KSY", "Its description, a .ksy file");
+    let with_save = named(alloc).arg(save)?;
     let with_file = with_save.arg(file)?;
     let with_both = with_file.arg(ksy)?;
     Ok(with_both)

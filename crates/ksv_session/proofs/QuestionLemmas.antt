@@ -10,7 +10,7 @@ use Rattle.ksv_session.specs.Questions.{bytes_text}
 use Rattle.ksv_session.specs.Commands.{is_question}
 use Rattle.ksv_session.specs.Replies.{may_be_refused}
 use Rattle.ksv_session.specs.declared.command.Command.{Command}
-use Rattle.ksv_session.specs.declared.command.Command.TheVariants.{App, Blank, Del, Get, Ins, Quit, Refused, Set, Size}
+use Rattle.ksv_session.specs.declared.command.Command.TheVariants.{App, Blank, Bytes, Del, Get, Ins, Quit, Refused, Set, Size}
 
 -- a question may be refused memory
 pub question_may : (b : List ℕ) (command : Command) → IsTrue (is_question command) → may_be_refused b command ≡ true
@@ -21,6 +21,7 @@ question_may b (Set at bytes) h = absurd (cc)
 question_may b (Ins at bytes) h = absurd (cc)
 question_may b (Del at count) h = absurd (cc)
 question_may b (App bytes) h = absurd (cc)
+question_may b (Bytes at count) h = absurd (cc)
 question_may b Size h = absurd (cc)
 question_may b Quit h = absurd (cc)
 

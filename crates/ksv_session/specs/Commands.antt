@@ -9,7 +9,7 @@ use Rattle.ksv_session.specs.Numbers.{number_of}
 use Rattle.ksv_expr_value.specs.Trail.{Trail}
 use Rattle.ksv_paths.specs.PathTexts.{path_named}
 use Rattle.ksv_session.specs.declared.command.Command.{Command}
-use Rattle.ksv_session.specs.declared.command.Command.TheVariants.{App, Blank, Del, Get, Ins, Quit, Refused, Set, Size}
+use Rattle.ksv_session.specs.declared.command.Command.TheVariants.{App, Blank, Bytes, Del, Get, Ins, Quit, Refused, Set, Size}
 use Rattle.ksv_session.specs.declared.refusal.LineRefusal.{LineRefusal}
 use Rattle.ksv_session.specs.declared.refusal.LineRefusal.TheVariants as refusals
 
@@ -63,22 +63,39 @@ abbrev pub ins_of : Result (ℕ × List ℕ) LineRefusal → Command
 ins_of (Ok (at, bytes)) = Ins at bytes
 ins_of (Err refusal) = Refused refusal
 
-abbrev pub del_count : ℕ → Option ℕ → Command
-del_count at (Some count) = Del at count
-del_count at None = Refused refusals.BadNumber
+abbrev pub count_from : ℕ → Option ℕ → Result (ℕ × ℕ) LineRefusal
+count_from at (Some count) = Ok (at, count)
+count_from at None = Err refusals.BadNumber
 
-abbrev pub del_at : Option ℕ → List ℕ → Command
-del_at (Some at) count = del_count at (number_of count)
-del_at None count = Refused refusals.BadNumber
+abbrev pub count_at : Option ℕ → List ℕ → Result (ℕ × ℕ) LineRefusal
+count_at (Some at) count = count_from at (number_of count)
+count_at None count = Err refusals.BadNumber
 
-abbrev pub del_words : List ℕ → Option (List ℕ) → Command
-del_words at (Some count) = del_at (number_of at) count
-del_words at None = wrong_arguments
+abbrev pub count_word : List ℕ → Option (List ℕ) → Result (ℕ × ℕ) LineRefusal
+count_word at (Some count) = count_at (number_of at) count
+count_word at None = Err refusals.WrongArguments
+
+-- the arguments `POS COUNT`
+abbrev pub counted : List (List ℕ) → Result (ℕ × ℕ) LineRefusal
+counted [] = Err refusals.WrongArguments
+counted (at ∷ words) = count_word at (only words)
 
 -- `del POS COUNT`
-abbrev pub del_of : List (List ℕ) → Command
-del_of [] = wrong_arguments
-del_of (at ∷ words) = del_words at (only words)
+abbrev pub del_of : Result (ℕ × ℕ) LineRefusal → Command
+del_of (Ok (at, count)) = Del at count
+del_of (Err refusal) = Refused refusal
+
+-- the most bytes that one line shows
+abbrev pub shown_limit : ℕ
+shown_limit = 4096
+
+abbrev pub shown : ℕ → ℕ → Command
+shown at count = if nat_lt shown_limit count then Refused refusals.TooLarge else Bytes at count
+
+-- `bytes POS COUNT`
+abbrev pub shown_of : Result (ℕ × ℕ) LineRefusal → Command
+shown_of (Ok (at, count)) = shown at count
+shown_of (Err refusal) = Refused refusal
 
 abbrev pub app_bytes : Option (List ℕ) → Command
 app_bytes (Some bytes) = App bytes
@@ -99,8 +116,9 @@ command_named d name arguments =
     if bytes_eq name (codes "get") then get_of d (only arguments)
     else if bytes_eq name (codes "set") then set_of (placed arguments)
     else if bytes_eq name (codes "ins") then ins_of (placed arguments)
-    else if bytes_eq name (codes "del") then del_of arguments
+    else if bytes_eq name (codes "del") then del_of (counted arguments)
     else if bytes_eq name (codes "app") then app_of (only arguments)
+    else if bytes_eq name (codes "bytes") then shown_of (counted arguments)
     else if bytes_eq name (codes "size") then alone Size arguments
     else if bytes_eq name (codes "quit") then alone Quit arguments
     else Refused refusals.UnknownCommand

@@ -1,13 +1,13 @@
 -- The reply to a line, and the bytes after it.
-use Rattle.std.specs.Prelude.{ℕ, Bool, true, false, List, [], ◌++◌, length, codes, decimal, Result, Ok, Err, is_ok, if◌then◌else◌}
+use Rattle.std.specs.Prelude.{ℕ, ◌+◌, Bool, true, false, List, [], ◌++◌, length, codes, decimal, nat_le, Result, Ok, Err, is_ok, if◌then◌else◌}
 use Rattle.ksv_bytes.specs.Edits.{append, delete, insert, overwrite}
 use Rattle.ksv_bytes.specs.declared.edit.EditRefusal.{EditRefusal}
 use Rattle.ksv_bytes.specs.declared.edit.EditRefusal.TheVariants as edits
 use Rattle.ksv_session.specs.Commands.{command_of}
 use Rattle.ksv_session.specs.declared.command.Command.{Command}
-use Rattle.ksv_session.specs.declared.command.Command.TheVariants.{App, Blank, Del, Get, Ins, Quit, Refused, Set, Size}
+use Rattle.ksv_session.specs.declared.command.Command.TheVariants.{App, Blank, Bytes, Del, Get, Ins, Quit, Refused, Set, Size}
 use Rattle.ksv_desc.specs.Description.{Description}
-use Rattle.ksv_session.specs.Questions.{question_text}
+use Rattle.ksv_session.specs.Questions.{bytes_text, question_text}
 use Rattle.ksv_session.specs.declared.refusal.LineRefusal.{LineRefusal}
 use Rattle.ksv_session.specs.declared.refusal.LineRefusal.TheVariants as refusals
 
@@ -20,6 +20,7 @@ line_refusal_text refusals.BadNumber = codes "error: bad number\n"
 line_refusal_text refusals.BadHex = codes "error: bad hex\n"
 line_refusal_text refusals.BadPath = codes "error: bad path\n"
 line_refusal_text refusals.LineTooLong = codes "error: line too long\n"
+line_refusal_text refusals.TooLarge = codes "error: too large\n"
 
 abbrev pub edit_refusal_text : EditRefusal → List ℕ
 edit_refusal_text edits.Outside = codes "error: outside\n"
@@ -45,6 +46,14 @@ abbrev pub edited : List ℕ → Result (List ℕ) EditRefusal → Answer
 edited b (Ok after) = said after (codes "ok " ++ decimal (length after) ++ codes "\n")
 edited b (Err refusal) = said b (edit_refusal_text refusal)
 
+-- whether a file has these bytes
+abbrev pub has : List ℕ → ℕ → ℕ → Bool
+has b at count = nat_le (at + count) (length b)
+
+-- the bytes from a place on
+abbrev pub shown_text : List ℕ → ℕ → ℕ → List ℕ
+shown_text b at count = if has b at count then bytes_text b at (at + count) ++ codes "\n" else edit_refusal_text edits.Outside
+
 abbrev pub answer_to : Description → List ℕ → Command → Answer
 answer_to d b Blank = said b []
 answer_to d b (Refused refusal) = said b (line_refusal_text refusal)
@@ -53,10 +62,11 @@ answer_to d b (Set at bytes) = edited b (overwrite b at bytes)
 answer_to d b (Ins at bytes) = edited b (insert b at bytes)
 answer_to d b (Del at count) = edited b (delete b at count)
 answer_to d b (App bytes) = edited b (append b bytes)
+answer_to d b (Bytes at count) = said b (shown_text b at count)
 answer_to d b Size = said b (codes "size " ++ decimal (length b) ++ codes "\n")
 answer_to d b Quit = record { bytes = b; text = codes "bye\n"; ends = true }
 
--- whether a command may be refused memory: a question for its reply, an edit that is accepted for its growth
+-- whether a command may be refused memory: a question and `bytes` for the reply, an edit that is accepted for its growth
 abbrev pub may_be_refused : List ℕ → Command → Bool
 may_be_refused b Blank = false
 may_be_refused b (Refused refusal) = false
@@ -65,6 +75,7 @@ may_be_refused b (Set at bytes) = false
 may_be_refused b (Ins at bytes) = is_ok (insert b at bytes)
 may_be_refused b (Del at count) = false
 may_be_refused b (App bytes) = is_ok (append b bytes)
+may_be_refused b (Bytes at count) = has b at count
 may_be_refused b Size = false
 may_be_refused b Quit = false
 

@@ -2,7 +2,7 @@
 ghost use Rattle.std.specs.Prelude.{◌≡◌, ◌≤◌, ◌↔◌, [], length, IfOk, IfSome, IsTrue, OnErr, option_copied};
 ghost use Rattle.ksv_desc.specs.Whole.{plain_pieces};
 ghost use Rattle.ksv_lines.specs.Lines.{line_limit, words_of};
-ghost use Rattle.ksv_session.specs.Commands.{alone, app_of, command_named, command_of, del_of, get_of, ins_of, is_question, only, placed, set_of};
+ghost use Rattle.ksv_session.specs.Commands.{alone, app_of, command_named, command_of, counted, del_of, get_of, ins_of, is_question, only, placed, set_of, shown_of};
 
 use crate::number::number;
 use crate::refusal::LineRefusal;
@@ -14,6 +14,9 @@ use std::alloc::{AllocError, Global};
 
 /// The most bytes of a line, its LF aside.
 const LINE_LIMIT: usize = 4096;
+
+/// The most bytes that one line shows.
+const SHOWN_LIMIT: u64 = 4096;
 
 /// What a line means.
 #[derive(Drop)]
@@ -30,6 +33,8 @@ pub(crate) enum Command {
     Ins(u64, EditBytes),
     /// `del POS COUNT`: so many bytes from a place on, taken out.
     Del(u64, u64),
+    /// `bytes POS COUNT`: the bytes from a place on, at most 4,096.
+    Bytes(u64, u64),
     /// `app HEX`: bytes added at the end.
     App(EditBytes),
     /// `size`: the number of bytes.
@@ -110,22 +115,43 @@ fn ins(arguments: &[u8]) -> Command
     }
 }
 
-/// Reads the arguments of `del`.
-fn del(arguments: &[u8]) -> Command
-    ensures { result ≡ del_of (words_of arguments.now) }
+/// Reads the arguments `POS COUNT`.
+fn place_and_count(arguments: &[u8]) -> Result<(u64, u64), LineRefusal>
+    ensures { result ≡ counted (words_of arguments.now) }
 {
     let Some((place, behind)) = next_word(arguments) else {
-        return Command::Refused(LineRefusal::WrongArguments);
+        return Err(LineRefusal::WrongArguments);
     };
     let Some(digits) = only_word(behind) else {
-        return Command::Refused(LineRefusal::WrongArguments);
+        return Err(LineRefusal::WrongArguments);
     };
     let Some(at) = number(place) else {
-        return Command::Refused(LineRefusal::BadNumber);
+        return Err(LineRefusal::BadNumber);
     };
     match number(digits) {
-        Some(count) => Command::Del(at, count),
-        None => Command::Refused(LineRefusal::BadNumber),
+        Some(count) => Ok((at, count)),
+        None => Err(LineRefusal::BadNumber),
+    }
+}
+
+/// Reads the arguments of `del`.
+fn del(arguments: &[u8]) -> Command
+    ensures { result ≡ del_of (counted (words_of arguments.now)) }
+{
+    match place_and_count(arguments) {
+        Ok((at, count)) => Command::Del(at, count),
+        Err(refusal) => Command::Refused(refusal),
+    }
+}
+
+/// Reads the arguments of `bytes`.
+fn bytes(arguments: &[u8]) -> Command
+    ensures { result ≡ shown_of (counted (words_of arguments.now)) }
+{
+    match place_and_count(arguments) {
+        Ok((_, count)) if count > SHOWN_LIMIT => Command::Refused(LineRefusal::TooLarge),
+        Ok((at, count)) => Command::Bytes(at, count),
+        Err(refusal) => Command::Refused(refusal),
     }
 }
 
@@ -175,6 +201,8 @@ fn command_with(
         Ok(del(arguments))
     } else if name == b"app".as_slice() {
         Ok(app(arguments))
+    } else if name == b"bytes".as_slice() {
+        Ok(bytes(arguments))
     } else if name == b"size".as_slice() {
         Ok(without_arguments(Command::Size, arguments))
     } else if name == b"quit".as_slice() {

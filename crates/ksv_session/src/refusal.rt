@@ -15,4 +15,6 @@ pub(crate) enum LineRefusal {
     BadPath,
     /// C6: the line has more than 4,096 bytes.
     LineTooLong,
+    /// C9: more bytes are asked for than one line shows.
+    TooLarge,
 }

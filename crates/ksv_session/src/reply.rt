@@ -64,6 +64,7 @@ impl LineRefusal {
             LineRefusal::BadHex => "error: bad hex\n",
             LineRefusal::BadPath => "error: bad path\n",
             LineRefusal::LineTooLong => "error: line too long\n",
+            LineRefusal::TooLarge => "error: too large\n",
         }
     }
 }

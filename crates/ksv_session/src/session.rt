@@ -4,13 +4,13 @@ ghost use Rattle.ksv_bytes.specs.Edits.{file_limit};
 ghost use Rattle.ksv_session.specs.Explored.{description_of};
 ghost use Rattle.ksv_session.specs.Commands.{command_of};
 ghost use Rattle.ksv_session.specs.Questions.{question_text};
-ghost use Rattle.ksv_session.specs.Replies.{answer, may_be_refused, no_memory_text};
+ghost use Rattle.ksv_session.specs.Replies.{answer, has, may_be_refused, no_memory_text, shown_text};
 ghost use Rattle.ksv_session.specs.Code.{edit_text, wants_memory};
 ghost use Rattle.ksv_session.specs.Seen.{answer_seen, is_last, is_refusal, reply_text};
 
 use crate::command::{Command, read_line};
 use crate::reply::{Reply, edit_reply, refused_edit, refused_line, size_reply};
-use crate::text::question_reply;
+use crate::text::{bytes_reply, question_reply};
 use ksv_bytes::{Buffer, EditRefusal};
 use ksv_desc::Desc;
 use ksv_expr_value::Path;
@@ -76,7 +76,7 @@ impl Session {
     }
 
     /// Answers a line, given without its LF; it may still end with a carriage return. If memory is refused nothing
-    /// changes; it can be refused only for a question and for an edit that makes the file longer.
+    /// changes; it can be refused only for a question, for `bytes` and for an edit that makes the file longer.
     #[tactic(auto, using(crate::proofs::QuestionLemmas::question_may), unfolding(crate::specs::Explored::description_of))]
     pub fn line(&mut self, line: &[u8]) -> Reply
         ensures answer { answer_seen self.new.bytes result ≡ answer (description_of self.old) self.old.bytes (record { line = line.now; refused = is_refusal result }) }
@@ -106,6 +106,7 @@ impl Session {
                 let outcome = self.buffer.append(bytes.as_slice());
                 self.edited(outcome)
             }
+            Command::Bytes(at, count) => self.shown(at, count),
             Command::Size => Reply::Short(size_reply(self.buffer.len())),
             Command::Quit => Reply::Bye,
         }
@@ -118,6 +119,22 @@ impl Session {
         ensures last { is_last result ≡ false }
     {
         match question_reply(self.alloc, &self.described, &self.buffer, path) {
+            Ok(text) => Reply::Text(text),
+            Err(_) => Reply::NoMemory,
+        }
+    }
+
+    /// The bytes from a place on, at most 4,096.
+    fn shown(&self, at: u64, count: u64) -> Reply
+        ensures answer { reply_text result ≡ (if is_refusal result then no_memory_text else shown_text self.now.bytes at count) }
+        ensures fair { IsTrue (is_refusal result) → has self.now.bytes at count ≡ true }
+        ensures last { is_last result ≡ false }
+    {
+        let size = self.buffer.len() as u64;
+        if at > size || count > size - at {
+            return Reply::Short(refused_edit(EditRefusal::Outside));
+        }
+        match bytes_reply(self.alloc, &self.buffer, at as u32, (at + count) as u32) {
             Ok(text) => Reply::Text(text),
             Err(_) => Reply::NoMemory,
         }

@@ -113,6 +113,20 @@ fn bytes_text(alloc: Global, buffer: &Buffer, from: u32, to: u32) -> Result<Stri
     Ok(text)
 }
 
+/// The digits of the bytes of a range, with an LF.
+pub(crate) fn bytes_reply(
+    alloc: Global,
+    buffer: &Buffer,
+    from: u32,
+    to: u32,
+) -> Result<String, AllocError>
+    ensures { IfOk result (λ text. string_bytes text ≡ bytes_text buffer.now from to ++ codes "\n") }
+{
+    let mut text = bytes_text(alloc, buffer, from, to)?;
+    text.push_str("\n")?;
+    Ok(text)
+}
+
 /// A number of an enum, by the enum's id and its own.
 #[tactic(auto, unfolding(crate::specs::Questions::member_text))]
 fn member_text(

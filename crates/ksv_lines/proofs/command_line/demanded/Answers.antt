@@ -8,9 +8,9 @@ use Rattle.ksv_lines.proofs.command_line.demanded.Goals as goal
 pub returns : goal.returns
 returns c =
     let done : Arg → Arg = λ x. record x { required = true; action = Some Set } in
-    let is : c.action.result ≡ done c.value_name.result = c.action.ensures ∙ ap (λ (x : Arg). record x { action = Some Set }) c.required.ensures in
-    let named = ap done c.value_name.ensures in
-    let whole = is ∙ named in
+    let helps : Arg → Arg = λ x. record x { help = Some c.args.help; required = true; action = Some Set } in
+    let is : c.action.result ≡ done c.help.result = c.action.ensures ∙ ap (λ (x : Arg). record x { action = Some Set }) c.required.ensures in
+    let whole = is ∙ ap done c.help.ensures ∙ ap helps c.value_name.ensures in
     record {
       id_is = ap (λ (x : Arg). x.id.now) whole ∙ ap (λ s. s.now) c.new.ensures.id;
       rule = ap rule_of whole ∙ ap (λ (r : Rule). record r { value_names = 1; required = true; action = Some Set }) c.new.ensures.rule;
