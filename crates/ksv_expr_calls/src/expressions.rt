@@ -133,7 +133,7 @@ fn encodings_decode(rt: HostRuntime) -> Result<(), Fail> {
         && Encoding::named("utf8").is_none();
     let whole = parts(b"h\xc3", b"\xa9");
     let is_text = match Encoding::Utf8.decode(alloc, whole)? {
-        Some(text) => text.as_str() == "hé" && text.copy(alloc)?.as_str() == "hé",
+        Some(text) => text.as_str() == "hé" && text.copy()?.as_str() == "hé",
         None => false,
     };
     let is_refused = Encoding::Ascii.decode(alloc, whole)?.is_none()

@@ -214,10 +214,22 @@ fn gives_value(alloc: Global, here: &Path, turn: &mut Turn) -> Result<bool, Allo
     Ok(matches!(given, Ok(Value::Bool(true))))
 }
 
+/// Whether it is the end that was replied.
+fn is_ended(ended: &Ended) -> bool {
+    let place = ended.place.byte();
+    place == 5 && ended.last
+}
+
+/// Whether it is the rest that was replied.
+fn is_rested(rested: &Rested) -> bool {
+    let place = rested.place.byte();
+    place == 9 && rested.count == 2
+}
+
 /// Whether a turn gives the end that was replied.
 fn gives_end(alloc: Global, here: &Path, turn: &mut Turn) -> Result<bool, AllocError> {
     match turn.end(here.copy(alloc)?) {
-        Ok(Ended { place, last }) => Ok(place.byte() == 5 && last),
+        Ok(ended) => Ok(is_ended(&ended)),
         Err(_) => Ok(false),
     }
 }
@@ -225,7 +237,7 @@ fn gives_end(alloc: Global, here: &Path, turn: &mut Turn) -> Result<bool, AllocE
 /// Whether a turn gives the rest that was replied.
 fn gives_rest(alloc: Global, here: &Path, turn: &mut Turn) -> Result<bool, AllocError> {
     match turn.rest(here.copy(alloc)?) {
-        Ok(Rested { count, place }) => Ok(count == 2 && place.byte() == 9),
+        Ok(rested) => Ok(is_rested(&rested)),
         Err(_) => Ok(false),
     }
 }
