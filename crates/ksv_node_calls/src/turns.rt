@@ -228,18 +228,18 @@ fn is_rested(rested: &Rested) -> bool {
 
 /// Whether a turn gives the end that was replied.
 fn gives_end(alloc: Global, here: &Path, turn: &mut Turn) -> Result<bool, AllocError> {
-    match turn.end(here.copy(alloc)?) {
-        Ok(ended) => Ok(is_ended(&ended)),
-        Err(_) => Ok(false),
-    }
+    let Ok(ended) = turn.end(here.copy(alloc)?) else {
+        return Ok(false);
+    };
+    Ok(is_ended(&ended))
 }
 
 /// Whether a turn gives the rest that was replied.
 fn gives_rest(alloc: Global, here: &Path, turn: &mut Turn) -> Result<bool, AllocError> {
-    match turn.rest(here.copy(alloc)?) {
-        Ok(rested) => Ok(is_rested(&rested)),
-        Err(_) => Ok(false),
-    }
+    let Ok(rested) = turn.rest(here.copy(alloc)?) else {
+        return Ok(false);
+    };
+    Ok(is_rested(&rested))
 }
 
 /// Whether a turn needs the rest at a path, since no reply is left.
