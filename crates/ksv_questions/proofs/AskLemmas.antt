@@ -1,5 +1,5 @@
 -- An engine answers what evaluation from nothing gives.
-use Rattle.std.proofs.Common.{◌≡◌, ◌∙◌, ◌++◌, ℕ, Bool, true, false, ◌||◌, List, [], ◌∷◌, Option, None, Result, Ok, Err, ap, refl, sym}
+use Rattle.std.proofs.Common.{◌≡◌, ◌∙◌, ◌++◌, ℕ, Bool, true, false, ◌||◌, List, [], ◌∷◌, Option, None, Ok, Err, ap, refl, sym}
 use Rattle.std.specs.Prelude.{if◌then◌else◌}
 use Rattle.ksv_desc.specs.Description.{Description}
 use Rattle.ksv_expr_value.specs.declared.fault.Fault.{Fault}

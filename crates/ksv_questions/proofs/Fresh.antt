@@ -1,10 +1,9 @@
 -- The nodes that two questions one after the other complete, and their costs.
-use Rattle.std.proofs.Common.{◌≡◌, ℕ, zero, suc, ◌+◌, Bool, true, false, List, [], ◌∷◌, ◌++◌, Option, Some, None, refl, sym, ◌∙◌, ap, nat_eq, ◌||◌, append_assoc, map, arith}
+use Rattle.std.proofs.Common.{◌≡◌, ℕ, zero, suc, ◌+◌, Bool, true, false, List, [], ◌∷◌, ◌++◌, Option, None, refl, sym, ◌∙◌, ap, nat_eq, ◌||◌, append_assoc, map, arith}
 use Rattle.std.specs.List.{list_any}
-use Rattle.std.specs.Option.{option_map}
 use Rattle.ksv_memo.specs.Meaning.{Standing}
 use Rattle.ksv_memo.specs.Evaluation.{is_among}
-use Rattle.ksv_memo.specs.Right.{cost, costs, counted, fresh}
+use Rattle.ksv_memo.specs.Right.{costs, counted, fresh}
 use Rattle.ksv_memo.proofs.Evals.{eqb_true}
 use Rattle.ksv_memo.proofs.Keeping.{is_among-append}
 use Rattle.ksv_memo.proofs.Moves.{++-nil, fresh-in, fresh-nil, fresh-out}

@@ -5,3 +5,7 @@ pub mod Steps
 pub mod TextLemmas
 pub mod AskLemmas
 pub mod Cases
+pub mod Json
+pub mod Dumping
+pub mod Exact
+pub mod Digits

@@ -1,7 +1,6 @@
 -- The answers to questions: each node that is asked is evaluated from nothing on the current bytes.
 use Rattle.std.specs.Prelude.{ℕ, List, [], Result, Ok, Err}
 use Rattle.ksv_desc.specs.Description.{Description}
-use Rattle.ksv_expr_value.specs.Trail.{Trail}
 use Rattle.ksv_nodes.specs.declared.node.Node.{Node}
 use Rattle.ksv_rules.specs.FromNothing.{from_nothing}
 use Rattle.ksv_questions.specs.Asking.{Asking, Failure, Heard, asks_of, result_of}

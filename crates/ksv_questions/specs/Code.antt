@@ -11,10 +11,16 @@ use Rattle.ksv_nodes.specs.declared.node.Node.{Node}
 use Rattle.ksv_rules.specs.FromNothing.{circle}
 use Rattle.ksv_questions.specs.Answers.{asks, outcome}
 use Rattle.ksv_questions.specs.Asking.{Asking, Faulty, Heard, Refused}
+use Rattle.ksv_questions.specs.Dumps.{Found, Part}
 use Rattle.ksv_questions.specs.Engines.{HasAsked, HasAskedSome, world}
 use Rattle.ksv_questions.specs.Texts.{failure_text}
 use Rattle.ksv_questions.specs.declared.asking.Untold.{Untold}
 use Rattle.ksv_questions.specs.declared.asking.Untold.TheVariants as untolds
+use Rattle.ksv_questions.specs.declared.dump.Dumped.{Dumped}
+use Rattle.ksv_questions.specs.declared.integer.IntegerType.{IntegerType as CodeType}
+use Rattle.ksv_questions.specs.Writing.{IntegerType}
+use Rattle.serde_json.specs.View.{view}
+use Rattle.serde_json.specs.declared.value.Value.{Value as Json}
 
 -- a node that was asked while it was open is the fault circle at its path
 abbrev pub plain_answer : EngineAnswer Node Given Fault → Heard
@@ -35,6 +41,18 @@ Runs d b q view old new (Ok x) = (outcome d b q ≡ Ok (view x)) × HasAsked (wo
 Runs d b q view old new (Err untolds.NoMemory) = HasAskedSome (world d b) (asks d b q) old new
 Runs d b q view old new (Err (untolds.Fault f)) = (outcome d b q ≡ Err (Faulty f)) × HasAsked (world d b) (asks d b q) old new
 Runs d b q view old new (Err (untolds.Refused r)) = (outcome d b q ≡ Err (Refused r)) × HasAsked (world d b) (asks d b q) old new
+
+-- what was written, and how many parts may still begin
+abbrev pub dumped : Dumped → Part
+dumped x = record { json = view x.json; left = x.left }
+
+-- what is found, or what is written in its place
+abbrev pub found_of : {X : Type 0} → Result X Json → Found X
+found_of (Ok x) = Ok x
+found_of (Err json) = Err (view json)
+
+abbrev pub type_of : CodeType → IntegerType
+type_of t = record { is_signed = t.is_signed; size = t.size; order = t.order }
 
 -- the fault that prevents an answer is this one, unless memory ran out
 abbrev pub IsFault : Fault → Untold → Type 0

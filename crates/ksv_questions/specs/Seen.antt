@@ -1,5 +1,5 @@
 -- What values of the code mean, in the words of the other files.
-use Rattle.std.specs.Prelude.{◌≡◌, ℕ, List, Result, Ok, Err, String, string_bytes}
+use Rattle.std.specs.Prelude.{◌≡◌, Result, Ok, Err, String, string_bytes}
 use Rattle.std.specs.declared.alloc.Global.{Global}
 use Rattle.ksv_desc.specs.Description.{Description}
 use Rattle.ksv_questions.specs.Asking.{Failure}

@@ -1,7 +1,7 @@
 -- What `put P N` asks, and the bytes that it writes: those of an integer of P's width and byte order. Only integers are written.
-use Rattle.std.specs.Prelude.{ℕ, zero, suc, ◌+◌, ◌-◌, ◌*◌, ◌/◌, ◌%◌, ◌^◌, nat_le, Bool, true, false, ◌&&◌, ℤ, pos, negsuc, neg_ℤ, int_le, int_lt, List, [], ◌∷◌, reverse, Option, Some, None, option_map, option_and_then, slice_get, if◌then◌else◌}
+use Rattle.std.specs.Prelude.{ℕ, zero, suc, ◌-◌, ◌*◌, ◌/◌, ◌%◌, ◌^◌, nat_le, Bool, ◌&&◌, ℤ, pos, negsuc, neg_ℤ, int_le, int_lt, List, [], ◌∷◌, reverse, Option, Some, None, option_map, option_and_then, slice_get, if◌then◌else◌}
 use Rattle.ksv_plan.specs.Plan.{Answer, Fail, ◌>>=◌}
-use Rattle.ksv_desc.specs.Description.{Description, MemberKind, Parameter, Attribute, ParseInstance, ValueInstance, Field, Content, Number, Choice, Always, Switch}
+use Rattle.ksv_desc.specs.Description.{Description, MemberKind, Attribute, ParseInstance, Field, Content, Number, Choice, Always, Switch}
 use Rattle.ksv_desc.specs.declared.order.ByteOrder.{ByteOrder}
 use Rattle.ksv_desc.specs.declared.order.ByteOrder.TheVariants.{Big, Little}
 use Rattle.ksv_expr_value.specs.Trail.{Trail}

@@ -70,12 +70,7 @@ fn plain_text(
         Value::Member {
             enum_number,
             number,
-        } => Ok(member_text(
-            alloc,
-            described.desc(),
-            *enum_number,
-            *number,
-        )?),
+        } => Ok(member_text(alloc, described.desc(), *enum_number, *number)?),
         _ => Err(fault_at(alloc, path, FaultKind::BadType)),
     }
 }

@@ -9,7 +9,9 @@
 
 mod asking;
 mod dump;
+mod found;
 mod get;
+mod integer;
 mod list;
 mod members;
 mod parts;
@@ -18,6 +20,7 @@ mod put;
 mod question;
 mod refusal;
 mod text;
+mod written;
 
 pub use put::{Overwrite, overwrite_for};
 pub use question::{Question, answer};

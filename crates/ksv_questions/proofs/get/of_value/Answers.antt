@@ -1,7 +1,7 @@
 use Rattle.std.proofs.Common.{Global, String, string_bytes, subst, sym}
 use Rattle.ksv_desc.specs.Whole.{plain_pieces}
 use Rattle.ksv_questions.specs.Code.{Runs}
-use Rattle.ksv_questions.specs.Questions.{of_value, plain_value}
+use Rattle.ksv_questions.specs.Questions.{plain_value}
 use Rattle.ksv_questions.proofs.Cases.{of_plain}
 use Rattle.ksv_questions.proofs.Steps.{runs_settled}
 use Rattle.ksv_questions.proofs.get.of_value.Goals as goal

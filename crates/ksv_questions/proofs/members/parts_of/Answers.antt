@@ -1,6 +1,6 @@
 use Rattle.std.proofs.Common.{◌∙◌, ◌++◌, Global, Ok, String, ap, codes, string_bytes, sym}
 use Rattle.ksv_plan.specs.Plan.{Answer}
-use Rattle.ksv_desc.specs.Description.{Description, members}
+use Rattle.ksv_desc.specs.Description.{members}
 use Rattle.ksv_desc.specs.Whole.{plain_pieces}
 use Rattle.ksv_questions.specs.Questions.{names_text, parts_of}
 use Rattle.ksv_questions.proofs.Cases.{no_members}

@@ -1,14 +1,12 @@
-use Rattle.std.proofs.Common.{◌∙◌, Err, Ok, Option, Some, None, subst, sym}
+use Rattle.std.proofs.Common.{◌∙◌, Err, None, subst, sym}
 use Rattle.std.proofs.lemmas.Result.{err_from_is_err_and}
 use Rattle.ksv_desc.specs.Whole.{plain_pieces}
-use Rattle.ksv_expr_value.specs.Trail.{Trail}
 use Rattle.ksv_expr_value.specs.declared.fault.FaultKind.TheVariants.{PathTooLong}
 use Rattle.ksv_nodes.specs.Rule.{rest_node}
 use Rattle.ksv_nodes.specs.Turning.{fault_at}
 use Rattle.ksv_questions.specs.Asking.{ask}
 use Rattle.ksv_questions.specs.Code.{Runs}
 use Rattle.ksv_questions.specs.Questions.{first_asked, in_rest}
-use Rattle.ksv_questions.specs.declared.asking.Untold.{Untold}
 use Rattle.ksv_questions.proofs.Steps.{runs_ended, runs_failed, runs_settled, settled_fault}
 use Rattle.ksv_questions.proofs.parts.first_asked.Goals as goal
 
