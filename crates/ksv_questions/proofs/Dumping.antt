@@ -1,0 +1,105 @@
+-- The steps of a dump.
+use Rattle.std.proofs.Common.{◌≡◌, ℕ, zero, suc, ◌+◌, ◌-◌, ◌<◌, ◌≤◌, List, [], ◌∷◌, ◌++◌, drop, get_or, length, map, Result, Ok, Err, refl, sym, ◌∙◌, ap, subst, arith}
+use Rattle.serde_json.specs.Data.{Data, Members, array, object, put}
+use Rattle.serde_json.specs.View.{items_of, view}
+use Rattle.serde_json.specs.declared.value.Value.{Value as Json}
+use Rattle.ksv_plan.specs.Plan.{Answer, bind}
+use Rattle.ksv_desc.specs.Description.{Description, name}
+use Rattle.ksv_expr_value.specs.Trail.{Trail, child}
+use Rattle.ksv_expr_value.specs.declared.step.Step.TheVariants.{Index, Name}
+use Rattle.ksv_expr_value.specs.declared.value.Value.{Value}
+use Rattle.ksv_expr_value.specs.declared.value.Value.TheVariants as values
+use Rattle.ksv_memo.specs.Entry.{Memo}
+use Rattle.ksv_memo.specs.Right.{IsRight}
+use Rattle.ksv_nodes.specs.declared.node.Node.{Node}
+use Rattle.ksv_questions.specs.Asking.{Asking, Heard}
+use Rattle.ksv_questions.specs.Code.{Runs, dumped, found_of}
+use Rattle.ksv_questions.specs.Dumps.{Found, Part, begun_part, elements_part, inner, members_part, or_written, part, plain_part, unasked, value_part, written}
+use Rattle.ksv_questions.specs.Engines.{world}
+use Rattle.ksv_questions.specs.declared.asking.Untold.{Untold}
+use Rattle.ksv_questions.specs.declared.dump.Dumped.{Dumped}
+use Rattle.ksv_questions.proofs.Steps.{Pending, pending_start, runs_ended, runs_on}
+
+module _ (d : Description) (b : List ℕ) where
+  -- what was found is gone into
+  pub found_inside : {X : Type 0} (p : Asking (Found X)) (inside : X → Asking Part) (left : ℕ) (old mid new : Memo Node Heard) (found : Result X Json) (x : X) (r : Result Dumped Untold)
+      → Runs d b p (λ f. found_of f) old mid (Ok found) → found ≡ Ok x → Runs d b (inside x) dumped mid new r → Runs d b (bind p (λ f. or_written inside left f)) dumped old new r
+  found_inside p inside left old mid new found x r h is k =
+      runs_on d b p (λ f. or_written inside left f) (λ f. found_of f) dumped old mid new (Ok x) r (subst (λ f. Runs d b p (λ g. found_of g) old mid (Ok f)) is h) k
+
+  -- or its place is taken
+  pub found_written : {X : Type 0} (p : Asking (Found X)) (inside : X → Asking Part) (left : ℕ) (old mid : Memo Node Heard) (found : Result X Json) (json : Json) (x : Dumped)
+      → Runs d b p (λ f. found_of f) old mid (Ok found) → found ≡ Err json → dumped x ≡ record { json = view json; left = left } → Runs d b (bind p (λ f. or_written inside left f)) dumped old mid (Ok x)
+  found_written p inside left old mid found json x h is same =
+      runs_ended d b p (λ f. or_written inside left f) (λ f. found_of f) dumped old mid (Err json) (Ok x) (subst (λ f. Runs d b p (λ g. found_of g) old mid (Ok f)) is h) (ap Answer (sym same))
+
+  -- ---- levels
+
+  pub is_deeper : (n : ℕ) → (n ≡ 0 → ⊥) → n ≡ suc (n - 1)
+  is_deeper zero h = absurd (h refl)
+  is_deeper (suc n) h = omega arith
+
+  pub at_bottom : (left : ℕ) (p : Trail) → part d b 0 left p ≡ unasked d p left
+  unfolding part
+  at_bottom left p = refl
+
+  pub at_level : (n left : ℕ) (p : Trail) → n ≡ suc (n - 1) → part d b n left p ≡ begun_part d b (part d b (n - 1)) left p
+  unfolding part
+  at_level n left p is = ap (λ k. part d b k left p) is
+
+  -- ---- loops
+
+  pub elements_step : (each : ℕ → Trail → Asking Part) (q : Trail) (left i count : ℕ) (ds : List Data) → i < count
+      → elements_part d each q left i (count - i) ds ≡ bind (inner d each q left (child q (Index i))) (λ x. elements_part d each q x.left (i + 1) (count - (i + 1)) (ds ++ x.json ∷ []))
+  unfolding elements_part
+  elements_step each q left i count ds h = let more : count - i ≡ suc (count - (i + 1)) = omega arith in ap (λ n. elements_part d each q left i n ds) more
+
+  pub elements_begin : (each : ℕ → Trail → Asking Part) (q : Trail) (left count : ℕ) (vs : List Json) → vs ≡ [] → elements_part d each q left 0 count [] ≡ elements_part d each q left 0 (count - 0) (map view vs)
+  elements_begin each q left count vs is =
+      let all : count ≡ count - 0 = omega arith in
+      ap (λ n. elements_part d each q left 0 n []) all ∙ ap (λ ws. elements_part d each q left 0 (count - 0) (map view ws)) (sym is)
+
+  pub members_step : (each : ℕ → Trail → Asking Part) (q : Trail) (left x : ℕ) (names rest : List ℕ) (ms : Members) → names ≡ x ∷ rest
+      → members_part d each q left names ms ≡ bind (inner d each q left (child q (Name x))) (λ y. members_part d each q y.left rest (put (name d x) y.json ms))
+  unfolding members_part
+  members_step each q left x names rest ms is = ap (λ ns. members_part d each q left ns ms) is
+
+  pub pending_same : (whole rest : Asking Part) (old : Memo Node Heard) → whole ≡ rest → IsRight (world d b) old.kept → Pending d b whole old rest old
+  pending_same whole rest old same right = subst (λ q. Pending d b whole old q old) same (pending_start d b whole old right)
+
+  pub pending_as : (whole rest next : Asking Part) (old now : Memo Node Heard) → rest ≡ next → Pending d b whole old rest now → Pending d b whole old next now
+  pending_as whole rest next old now same h = subst (λ q. Pending d b whole old q now) same h
+
+  pub elements_end : (each : ℕ → Trail → Asking Part) (q : Trail) (left i count : ℕ) (ds : List Data) → count ≤ i → elements_part d each q left i (count - i) ds ≡ written (array (items_of ds)) left
+  unfolding elements_part
+  elements_end each q left i count ds h = let none : count - i ≡ 0 = omega arith in ap (λ n. elements_part d each q left i n ds) none
+
+  pub members_end : (each : ℕ → Trail → Asking Part) (q : Trail) (left : ℕ) (names : List ℕ) (ms : Members) → names ≡ [] → members_part d each q left names ms ≡ written (object ms) left
+  unfolding members_part
+  members_end each q left names ms is = ap (λ ns. members_part d each q left ns ms) is
+
+  pub plain_is : (each : ℕ → Trail → Asking Part) (p : Trail) (left : ℕ) (v : Value) → ((q : Trail) → v ≡ values.Object q → ⊥) → ((q : Trail) → v ≡ values.List q → ⊥) → value_part d b each p left v ≡ written (plain_part d b p v) left
+  unfolding value_part
+  plain_is each p left (values.Int n) h k = refl
+  plain_is each p left (values.Bool t) h k = refl
+  plain_is each p left (values.Text t) h k = refl
+  plain_is each p left (values.Bytes from to) h k = refl
+  plain_is each p left (values.Member e n) h k = refl
+  plain_is each p left (values.Stream w) h k = refl
+  plain_is each p left (values.Object q) h k = absurd (h q refl)
+  plain_is each p left (values.List q) h k = absurd (k q refl)
+
+-- ---- a list from a place on
+
+pub drop_step : (xs : List ℕ) (i x : ℕ) → i < length xs → drop i xs ≡ get_or xs i x ∷ drop (i + 1) xs
+drop_step [] i x h = absurd (omega arith)
+drop_step (y ∷ ys) zero x h = refl
+drop_step (y ∷ ys) (suc i) x h =
+    let next : suc (i + 1) ≡ suc i + 1 = omega arith in
+    drop_step ys i x (omega arith) ∙ ap (λ k. get_or ys i x ∷ drop k (y ∷ ys)) next
+
+pub drop_end : (xs : List ℕ) (i : ℕ) → length xs ≤ i → drop i xs ≡ []
+drop_end [] zero h = refl
+drop_end [] (suc i) h = refl
+drop_end (y ∷ ys) zero h = absurd (omega arith)
+drop_end (y ∷ ys) (suc i) h = drop_end ys i (omega arith)

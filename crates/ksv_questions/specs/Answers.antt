@@ -1,0 +1,37 @@
+-- The answers to questions: each node that is asked is evaluated from nothing on the current bytes.
+use Rattle.std.specs.Prelude.{ℕ, List, [], Result, Ok, Err}
+use Rattle.ksv_desc.specs.Description.{Description}
+use Rattle.ksv_nodes.specs.declared.node.Node.{Node}
+use Rattle.ksv_rules.specs.FromNothing.{from_nothing}
+use Rattle.ksv_questions.specs.Asking.{Asking, Failure, Heard, asks_of, result_of}
+use Rattle.ksv_questions.specs.Dumps.{dump_question}
+use Rattle.ksv_questions.specs.Questions.{members_question, place_question, value_question}
+use Rattle.ksv_questions.specs.Texts.{failure_text}
+use Rattle.ksv_questions.specs.declared.question.Question.{Question}
+use Rattle.ksv_questions.specs.declared.question.Question.TheVariants as questions
+
+-- what a node answers on bytes
+abbrev pub answered : Description → List ℕ → Node → Heard
+answered d b n = from_nothing d b [] n
+
+-- what a question ends in, and the nodes that it asks
+abbrev pub outcome : {A : Type 0} → Description → List ℕ → Asking A → Result A Failure
+outcome d b q = result_of (answered d b) q
+
+abbrev pub asks : {A : Type 0} → Description → List ℕ → Asking A → List Node
+asks d b q = asks_of (answered d b) q
+
+-- what each question asks
+abbrev pub asking : Description → List ℕ → Question → Asking (List ℕ)
+asking d b (questions.Value p) = value_question d b p
+asking d b (questions.Place p) = place_question p
+asking d b (questions.Members p) = members_question d p
+asking d b (questions.Dump p) = dump_question d b p
+
+-- the text that it ends in, or of why it fails
+abbrev pub told : Description → Result (List ℕ) Failure → List ℕ
+told d (Ok text) = text
+told d (Err e) = failure_text d e
+
+unfoldable pub question_text : Description → List ℕ → Question → List ℕ
+question_text d b q = told d (outcome d b (asking d b q))

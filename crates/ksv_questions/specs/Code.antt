@@ -1,0 +1,67 @@
+-- Words that only private contracts cite: a reader of the public contracts may skip this file.
+use Rattle.std.specs.Prelude.{◌≡◌, ℕ, List, Result, Ok, Err}
+use Rattle.ksv_plan.specs.Plan.{Answer, Fail}
+use Rattle.ksv_desc.specs.Description.{Description}
+use Rattle.ksv_expr_value.specs.declared.fault.Fault.{Fault}
+use Rattle.ksv_memo.specs.Entry.{Memo}
+use Rattle.ksv_memo.specs.declared.engine.Answer.{Answer as EngineAnswer}
+use Rattle.ksv_memo.specs.declared.engine.Answer.TheVariants as answers
+use Rattle.ksv_nodes.specs.declared.given.Given.{Given}
+use Rattle.ksv_nodes.specs.declared.node.Node.{Node}
+use Rattle.ksv_rules.specs.FromNothing.{circle}
+use Rattle.ksv_questions.specs.Answers.{asks, outcome}
+use Rattle.ksv_questions.specs.Asking.{Asking, Faulty, Heard, Refused}
+use Rattle.ksv_questions.specs.Dumps.{Found, Part}
+use Rattle.ksv_questions.specs.Engines.{HasAsked, HasAskedSome, world}
+use Rattle.ksv_questions.specs.Texts.{failure_text}
+use Rattle.ksv_questions.specs.declared.asking.Untold.{Untold}
+use Rattle.ksv_questions.specs.declared.asking.Untold.TheVariants as untolds
+use Rattle.ksv_questions.specs.declared.dump.Dumped.{Dumped}
+use Rattle.ksv_questions.specs.declared.integer.IntegerType.{IntegerType as CodeType}
+use Rattle.ksv_questions.specs.Writing.{IntegerType}
+use Rattle.serde_json.specs.View.{view}
+use Rattle.serde_json.specs.declared.value.Value.{Value as Json}
+
+-- a node that was asked while it was open is the fault circle at its path
+abbrev pub plain_answer : EngineAnswer Node Given Fault → Heard
+plain_answer (answers.Value given) = Ok given
+plain_answer (answers.Fault f) = Err f
+plain_answer (answers.Circle n) = circle n
+
+-- what was returned, seen by view, is what a question that asks nothing ends in, unless memory ran out
+abbrev pub Settles : {X A : Type 0} → Asking A → (X → A) → Result X Untold → Type 0
+Settles q view (Ok x) = q ≡ Answer (view x)
+Settles q view (Err untolds.NoMemory) = Unit {0}
+Settles q view (Err (untolds.Fault f)) = q ≡ Fail (Faulty f)
+Settles q view (Err (untolds.Refused r)) = q ≡ Fail (Refused r)
+
+-- An engine was asked what a question asks, and what was returned, seen by view, is its result, unless memory ran out.
+abbrev pub Runs : {X A : Type 0} → Description → List ℕ → Asking A → (X → A) → Memo Node Heard → Memo Node Heard → Result X Untold → Type 0
+Runs d b q view old new (Ok x) = (outcome d b q ≡ Ok (view x)) × HasAsked (world d b) (asks d b q) old new
+Runs d b q view old new (Err untolds.NoMemory) = HasAskedSome (world d b) (asks d b q) old new
+Runs d b q view old new (Err (untolds.Fault f)) = (outcome d b q ≡ Err (Faulty f)) × HasAsked (world d b) (asks d b q) old new
+Runs d b q view old new (Err (untolds.Refused r)) = (outcome d b q ≡ Err (Refused r)) × HasAsked (world d b) (asks d b q) old new
+
+-- what was written, and how many parts may still begin
+abbrev pub dumped : Dumped → Part
+dumped x = record { json = view x.json; left = x.left }
+
+-- what is found, or what is written in its place
+abbrev pub found_of : {X : Type 0} → Result X Json → Found X
+found_of (Ok x) = Ok x
+found_of (Err json) = Err (view json)
+
+abbrev pub type_of : CodeType → IntegerType
+type_of t = record { is_signed = t.is_signed; size = t.size; order = t.order }
+
+-- the fault that prevents an answer is this one, unless memory ran out
+abbrev pub IsFault : Fault → Untold → Type 0
+IsFault f untolds.NoMemory = Unit {0}
+IsFault f (untolds.Fault e) = e ≡ f
+IsFault f (untolds.Refused r) = ⊥
+
+-- the text tells why a question fails, unless memory ran out
+abbrev pub Tells : Description → Untold → List ℕ → Type 0
+Tells d untolds.NoMemory text = ⊥
+Tells d (untolds.Fault f) text = text ≡ failure_text d (Faulty f)
+Tells d (untolds.Refused r) text = text ≡ failure_text d (Refused r)

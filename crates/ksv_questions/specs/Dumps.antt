@@ -1,0 +1,197 @@
+-- What `dump P` asks, and the JSON that it writes: a part for P, and in an object or a list a part for each attribute of `seq`
+-- or each element, and so on. A fault is a part's text, and the dump goes on; only a fault of P's own value is the whole reply.
+use Rattle.std.specs.Prelude.{ℕ, zero, suc, ◌+◌, ◌-◌, ℤ, Bool, true, false, ◌&&◌, List, [], ◌∷◌, ◌++◌, codes, slice_range, Option, Some, None, Result, Ok, Err, if◌then◌else◌}
+use Rattle.hex.specs.Hex.{encode_lower}
+use Rattle.serde_json.specs.Data.{Data, null, boolean, number, string, array, object, Members, no_members, member, put}
+use Rattle.serde_json.specs.Find.{of_integer}
+use Rattle.serde_json.specs.View.{items_of}
+use Rattle.serde_json.specs.Written.{compact_text}
+use Rattle.ksv_plan.specs.Plan.{Answer, Fail, ◌>>=◌}
+use Rattle.ksv_desc.specs.Description.{Description, fields, name}
+use Rattle.ksv_expr_value.specs.Trail.{Trail, child}
+use Rattle.ksv_expr_value.specs.contracts.path.PathPartialEq.TheImpl.{ghosts as path_tests}
+use Rattle.ksv_expr_value.specs.declared.fault.Fault.{Fault}
+use Rattle.ksv_expr_value.specs.declared.fault.FaultKind.{FaultKind}
+use Rattle.ksv_expr_value.specs.declared.fault.FaultKind.TheVariants as kinds
+use Rattle.ksv_expr_value.specs.declared.step.Step.TheVariants.{Index, Name}
+use Rattle.ksv_expr_value.specs.declared.value.Value.{Value}
+use Rattle.ksv_expr_value.specs.declared.value.Value.TheVariants as values
+use Rattle.ksv_nodes.specs.Rule.{head_node, rest_node, value_node}
+use Rattle.ksv_nodes.specs.Turning.{fault_at}
+use Rattle.ksv_nodes.specs.declared.given.Given.TheVariants as givens
+use Rattle.ksv_nodes.specs.declared.given.Head.TheVariants as heads
+use Rattle.ksv_questions.specs.Asking.{Asking, Heard, Refused, hear}
+use Rattle.ksv_questions.specs.Questions.{ask_value}
+use Rattle.ksv_questions.specs.Texts.{fault_words, member_name}
+use Rattle.ksv_questions.specs.declared.refusal.Refusal.TheVariants as refusals
+
+-- the most parts of a dump, and how deep parts nest: a path has at most 64 steps
+abbrev pub part_limit : ℕ
+part_limit = 10000
+
+abbrev pub depth_limit : ℕ
+depth_limit = 64
+
+-- ---- parts that ask nothing
+
+-- an object of one member
+abbrev pub one_member : List ℕ → Data → Data
+one_member key d = object (member key d no_members)
+
+-- a fault by its words
+unfoldable pub fault_part : Description → Fault → Data
+fault_part d f = one_member (codes "fault") (string (fault_words d f))
+
+abbrev pub is_absence : FaultKind → Bool
+is_absence kinds.Absent = true
+is_absence _ = false
+
+-- what is absent at the part's own path is null
+unfoldable pub failed_part : Description → Trail → Fault → Data
+failed_part d p f = if is_absence f.kind && path_tests.eq f.path p then null else fault_part d f
+
+-- an answer that doesn't fit its node, which never occurs
+abbrev pub misfit_part : Description → Trail → Data
+misfit_part d p = fault_part d (fault_at p kinds.BadType)
+
+abbrev pub too_long_part : Description → Trail → Data
+too_long_part d p = fault_part d (fault_at p kinds.PathTooLong)
+
+-- a number of an enum, by its enum's id and its own
+unfoldable pub member_part : Description → ℕ → ℤ → Data
+member_part d e n = object (member (codes "enum") (string (member_name d e n)) (member (codes "value") (number (of_integer n)) no_members))
+
+-- a value that is neither an object nor a list
+unfoldable pub plain_part : Description → List ℕ → Trail → Value → Data
+plain_part d b p (values.Int n) = number (of_integer n)
+plain_part d b p (values.Bool truth) = boolean truth
+plain_part d b p (values.Text text) = string text
+plain_part d b p (values.Bytes from to) = one_member (codes "hex") (string (encode_lower (slice_range b from to)))
+plain_part d b p (values.Member e n) = member_part d e n
+plain_part d b p _ = misfit_part d p
+
+-- ---- what is found at a path
+
+-- what is there, or what is written in its place
+abbrev pub Found : Type 0 → Type 0
+Found A = Result A Data
+
+abbrev pub value_in : Description → Trail → Heard → Found Value
+value_in d p (Ok (givens.Value v)) = Ok v
+value_in d p (Ok _) = Err (misfit_part d p)
+value_in d p (Err f) = Err (failed_part d p f)
+
+unfoldable pub find_value : Description → Trail → Asking (Found Value)
+find_value d p = do
+  h ← hear (value_node p)
+  Answer (value_in d p h)
+
+-- an object by the number of its type
+abbrev pub object_in : Description → Trail → Heard → Found ℕ
+object_in d q (Ok (givens.Head (heads.Object o))) = Ok o.type_number
+object_in d q (Ok _) = Err (misfit_part d q)
+object_in d q (Err f) = Err (fault_part d f)
+
+unfoldable pub find_object : Description → Trail → Asking (Found ℕ)
+find_object d q = do
+  h ← hear (head_node q)
+  Answer (object_in d q h)
+
+-- a list by the number of its elements
+abbrev pub count_in : Description → Trail → Heard → Found ℕ
+count_in d q (Ok (givens.Rest count place)) = Ok count
+count_in d q (Ok _) = Err (misfit_part d q)
+count_in d q (Err f) = Err (fault_part d f)
+
+unfoldable pub find_list : Description → Trail → Option Trail → Asking (Found ℕ)
+find_list d q None = Answer (Err (too_long_part d q))
+find_list d q (Some first) = do
+  h ← hear (rest_node first)
+  Answer (count_in d q h)
+
+-- ---- parts that ask
+
+-- What was written, and how many parts may still begin.
+pub record Part : Type 0 where
+  pub json : Data
+  pub left : ℕ
+
+-- a part that asks no more
+abbrev pub written : Data → ℕ → Asking Part
+written json left = Answer (record { json = json; left = left })
+
+-- goes on with what is found, or with what is written in its place
+abbrev pub or_written : {A : Type 0} → (A → Asking Part) → ℕ → Found A → Asking Part
+or_written inside left (Ok a) = inside a
+or_written inside left (Err json) = written json left
+
+-- begins a part; if none is left, the dump is too large
+abbrev pub begin : ℕ → Asking ℕ
+begin zero = Fail (Refused refusals.TooLarge)
+begin (suc left) = Answer left
+
+-- a part whose path would be too long, which isn't asked
+unfoldable pub unasked : Description → Trail → ℕ → Asking Part
+unasked d p left = do
+  left ← begin left
+  written (too_long_part d p) left
+
+-- the part of a member or element of q, `each` being the parts one level deeper
+abbrev pub inner : Description → (ℕ → Trail → Asking Part) → Trail → ℕ → Option Trail → Asking Part
+inner d each q left None = unasked d q left
+inner d each q left (Some p) = each left p
+
+-- the members of q of these names, after those that are written
+unfoldable pub members_part : Description → (ℕ → Trail → Asking Part) → Trail → ℕ → List ℕ → Members → Asking Part
+members_part d each q left [] ms = written (object ms) left
+members_part d each q left (x ∷ xs) ms = do
+  part ← inner d each q left (child q (Name x))
+  members_part d each q part.left xs (put (name d x) part.json ms)
+
+-- the elements of q from this one on, so many, after those that are written
+unfoldable pub elements_part : Description → (ℕ → Trail → Asking Part) → Trail → ℕ → ℕ → ℕ → List Data → Asking Part
+elements_part d each q left i zero ds = written (array (items_of ds)) left
+elements_part d each q left i (suc n) ds = do
+  part ← inner d each q left (child q (Index i))
+  elements_part d each q part.left (i + 1) n (ds ++ part.json ∷ [])
+
+unfoldable pub object_part : Description → (ℕ → Trail → Asking Part) → Trail → ℕ → Asking Part
+object_part d each q left = do
+  found ← find_object d q
+  or_written (λ t. members_part d each q left (fields d t) no_members) left found
+
+unfoldable pub list_part : Description → (ℕ → Trail → Asking Part) → Trail → ℕ → Asking Part
+list_part d each q left = do
+  found ← find_list d q (child q (Index 0))
+  or_written (λ count. elements_part d each q left 0 count []) left found
+
+unfoldable pub value_part : Description → List ℕ → (ℕ → Trail → Asking Part) → Trail → ℕ → Value → Asking Part
+value_part d b each p left (values.Object q) = object_part d each q left
+value_part d b each p left (values.List q) = list_part d each q left
+value_part d b each p left v = written (plain_part d b p v) left
+
+unfoldable pub asked_part : Description → List ℕ → (ℕ → Trail → Asking Part) → Trail → ℕ → Asking Part
+asked_part d b each p left = do
+  found ← find_value d p
+  or_written (λ v. value_part d b each p left v) left found
+
+unfoldable pub begun_part : Description → List ℕ → (ℕ → Trail → Asking Part) → ℕ → Trail → Asking Part
+begun_part d b each left p = do
+  left ← begin left
+  asked_part d b each p left
+
+-- The part of a path; parts nest so deep at most. The parts in it are one level deeper.
+unfoldable pub part : Description → List ℕ → ℕ → ℕ → Trail → Asking Part
+part d b zero left p = unasked d p left
+part d b (suc depth) left p = begun_part d b (part d b depth) left p
+
+-- the text of a value with all that is in it
+unfoldable pub whole_text : Description → List ℕ → Trail → Value → Asking (List ℕ)
+whole_text d b p v = do
+  whole ← value_part d b (part d b depth_limit) p (part_limit - 1) v
+  Answer (compact_text whole.json)
+
+unfoldable pub dump_question : Description → List ℕ → Trail → Asking (List ℕ)
+dump_question d b p = do
+  v ← ask_value p
+  whole_text d b p v

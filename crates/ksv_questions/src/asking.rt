@@ -1,0 +1,107 @@
+//! Asking an engine: what the nodes of a described file answer.
+ghost use Rattle.std.specs.Prelude.{◌≡◌};
+ghost use Rattle.ksv_desc.specs.Whole.{plain_pieces};
+ghost use Rattle.ksv_memo.specs.Right.{IsRight};
+ghost use Rattle.ksv_nodes.specs.Turning.{fault_at};
+ghost use Rattle.ksv_questions.specs.Asking.{ask, hear, passed};
+ghost use Rattle.ksv_questions.specs.Code.{IsFault, Runs, Settles, plain_answer};
+ghost use Rattle.ksv_questions.specs.Engines.{world};
+
+use crate::refusal::Refusal;
+use ksv_bytes::Buffer;
+use ksv_expr_value::{Fault, FaultKind, Path};
+use ksv_memo::{Answer, Engine};
+use ksv_rules::{Described, Given, Node, NodeKind};
+use std::alloc::{AllocError, Global};
+
+/// What is heard of a node.
+pub(crate) type Heard = Result<Given, Fault>;
+
+/// Why a question has no answer.
+#[derive(Drop)]
+pub(crate) enum Untold {
+    /// A fault prevents it.
+    Fault(Fault),
+    /// It is refused.
+    Refused(Refusal),
+    /// Memory was refused.
+    NoMemory,
+}
+
+impl From<AllocError> for Untold {
+    ghost use Rattle.std.specs.Prelude.{◌≡◌};
+    ghost use Rattle.ksv_questions.specs.declared.asking.Untold.TheVariants.{NoMemory};
+
+    ghost from_gives = { λ _ untold. untold ≡ NoMemory };
+
+    fn from(_: AllocError) -> Untold {
+        Untold::NoMemory
+    }
+}
+
+/// A fault of a kind at a path.
+pub(crate) fn fault_at(alloc: Global, path: &Path, kind: FaultKind) -> Untold
+    ensures { IsFault (fault_at path.now kind) result }
+{
+    match path.copy(alloc) {
+        Ok(path) => Untold::Fault(Fault { kind, path }),
+        Err(_) => Untold::NoMemory,
+    }
+}
+
+/// What an engine's answer means; a circle is the fault at the path of the node that was open.
+fn of_answer(answer: Answer<Node, Given, Fault>) -> Heard
+    ensures { result ≡ plain_answer answer }
+{
+    match answer {
+        Answer::Value(given) => Ok(given),
+        Answer::Fault(fault) => Err(fault),
+        Answer::Circle(open) => Err(Fault {
+            kind: FaultKind::Circle,
+            path: open.path,
+        }),
+    }
+}
+
+/// Hears the node of a kind at a path, by an engine that is right for the bytes.
+pub(crate) fn hear(
+    alloc: Global,
+    engine: &mut Engine<Described>,
+    described: &Described,
+    buffer: &Buffer,
+    kind: NodeKind,
+    path: &Path,
+) -> Result<Heard, Untold>
+    requires { IsRight (world (plain_pieces described.now.desc) buffer.now) engine.old.kept }
+    ensures { Runs (plain_pieces described.now.desc) buffer.now (hear (record { kind = kind; path = path.now })) (λ heard. heard) engine.old engine.new result }
+{
+    let path = path.copy(alloc)?;
+    let answer = engine.ask(described, buffer, Node { kind, path })?;
+    Ok(of_answer(answer))
+}
+
+/// An answer; a fault is passed on.
+fn passed(heard: Heard) -> Result<Given, Untold>
+    ensures { Settles (passed heard) (λ given. given) result }
+{
+    match heard {
+        Ok(given) => Ok(given),
+        Err(fault) => Err(Untold::Fault(fault)),
+    }
+}
+
+/// What the node of a kind at a path answers.
+pub(crate) fn ask(
+    alloc: Global,
+    engine: &mut Engine<Described>,
+    described: &Described,
+    buffer: &Buffer,
+    kind: NodeKind,
+    path: &Path,
+) -> Result<Given, Untold>
+    requires { IsRight (world (plain_pieces described.now.desc) buffer.now) engine.old.kept }
+    ensures { Runs (plain_pieces described.now.desc) buffer.now (ask (record { kind = kind; path = path.now })) (λ given. given) engine.old engine.new result }
+{
+    let heard = hear(alloc, engine, described, buffer, kind, path)?;
+    passed(heard)
+}

@@ -1,0 +1,140 @@
+//! What a dump finds at a path, or what it writes in its place.
+ghost use Rattle.std.specs.Prelude.{◌≡◌, None, Some};
+ghost use Rattle.ksv_desc.specs.Whole.{plain_pieces};
+ghost use Rattle.ksv_expr_value.specs.Trail.{child};
+ghost use Rattle.ksv_expr_value.specs.declared.step.Step.TheVariants.{Index};
+ghost use Rattle.ksv_memo.specs.Right.{IsRight};
+ghost use Rattle.ksv_plan.specs.Plan.{Answer};
+ghost use Rattle.ksv_questions.specs.Code.{Runs, Settles, found_of};
+ghost use Rattle.ksv_questions.specs.Dumps.{count_in, find_list, find_object, find_value, object_in, value_in};
+ghost use Rattle.ksv_questions.specs.Engines.{world};
+
+use crate::asking::{Heard, Untold, hear};
+use crate::written::{failed_part, fault_part, kind_part};
+use ksv_bytes::Buffer;
+use ksv_expr_value::{FaultKind, Path, Value};
+use ksv_memo::Engine;
+use ksv_rules::{Described, Given, Head, NodeKind};
+use serde_json::Value as Json;
+use std::alloc::Global;
+
+/// The value that was heard of.
+fn value_in(
+    alloc: Global,
+    described: &Described,
+    path: &Path,
+    heard: Heard,
+) -> Result<Result<Value, Json>, Untold>
+    ensures { Settles (Answer (value_in (plain_pieces described.now.desc) path.now heard)) found_of result }
+{
+    match heard {
+        Ok(Given::Value(value)) => Ok(Ok(value)),
+        Ok(_) => Ok(Err(kind_part(alloc, described, path, FaultKind::BadType)?)),
+        Err(fault) => Ok(Err(failed_part(alloc, described, path, &fault)?)),
+    }
+}
+
+/// The value at a path.
+#[tactic(auto, unfolding(crate::specs::Dumps::find_value))]
+pub(crate) fn find_value(
+    alloc: Global,
+    engine: &mut Engine<Described>,
+    described: &Described,
+    buffer: &Buffer,
+    path: &Path,
+) -> Result<Result<Value, Json>, Untold>
+    requires { IsRight (world (plain_pieces described.now.desc) buffer.now) engine.old.kept }
+    ensures { Runs (plain_pieces described.now.desc) buffer.now (find_value (plain_pieces described.now.desc) path.now) found_of engine.old engine.new result }
+{
+    let heard = hear(alloc, engine, described, buffer, NodeKind::Value, path)?;
+    value_in(alloc, described, path, heard)
+}
+
+/// The type of the object that was heard of.
+fn object_in(
+    alloc: Global,
+    described: &Described,
+    object: &Path,
+    heard: &Heard,
+) -> Result<Result<u32, Json>, Untold>
+    ensures { Settles (Answer (object_in (plain_pieces described.now.desc) object.now heard.now)) found_of result }
+{
+    match heard {
+        Ok(Given::Head(Head::Object(found))) => Ok(Ok(found.type_number)),
+        Ok(_) => Ok(Err(kind_part(alloc, described, object, FaultKind::BadType)?)),
+        Err(fault) => Ok(Err(fault_part(alloc, described, fault)?)),
+    }
+}
+
+/// The type of the object at a path.
+#[tactic(auto, unfolding(crate::specs::Dumps::find_object))]
+pub(crate) fn find_object(
+    alloc: Global,
+    engine: &mut Engine<Described>,
+    described: &Described,
+    buffer: &Buffer,
+    object: &Path,
+) -> Result<Result<u32, Json>, Untold>
+    requires { IsRight (world (plain_pieces described.now.desc) buffer.now) engine.old.kept }
+    ensures { Runs (plain_pieces described.now.desc) buffer.now (find_object (plain_pieces described.now.desc) object.now) found_of engine.old engine.new result }
+{
+    let heard = hear(alloc, engine, described, buffer, NodeKind::Head, object)?;
+    object_in(alloc, described, object, &heard)
+}
+
+/// The number of elements that was heard of.
+fn count_in(
+    alloc: Global,
+    described: &Described,
+    list: &Path,
+    heard: &Heard,
+) -> Result<Result<u32, Json>, Untold>
+    ensures { Settles (Answer (count_in (plain_pieces described.now.desc) list.now heard.now)) found_of result }
+{
+    match heard {
+        Ok(Given::Rest { count, .. }) => Ok(Ok(*count)),
+        Ok(_) => Ok(Err(kind_part(alloc, described, list, FaultKind::BadType)?)),
+        Err(fault) => Ok(Err(fault_part(alloc, described, fault)?)),
+    }
+}
+
+/// The number of elements of the list at a path, whose first element has this one.
+fn counted(
+    alloc: Global,
+    engine: &mut Engine<Described>,
+    described: &Described,
+    buffer: &Buffer,
+    list: &Path,
+    first: &Path,
+) -> Result<Result<u32, Json>, Untold>
+    requires { IsRight (world (plain_pieces described.now.desc) buffer.now) engine.old.kept }
+    ensures { Runs (plain_pieces described.now.desc) buffer.now (find_list (plain_pieces described.now.desc) list.now (Some first.now)) found_of engine.old engine.new result }
+{
+    let heard = hear(alloc, engine, described, buffer, NodeKind::Rest, first)?;
+    count_in(alloc, described, list, &heard)
+}
+
+/// A list whose elements' paths would be too long.
+#[tactic(auto, unfolding(crate::specs::Dumps::find_list))]
+fn uncounted(alloc: Global, described: &Described, list: &Path) -> Result<Result<u32, Json>, Untold>
+    ensures { Settles (find_list (plain_pieces described.now.desc) list.now None) found_of result }
+{
+    Ok(Err(kind_part(alloc, described, list, FaultKind::PathTooLong)?))
+}
+
+/// The number of elements of the list at a path.
+pub(crate) fn find_list(
+    alloc: Global,
+    engine: &mut Engine<Described>,
+    described: &Described,
+    buffer: &Buffer,
+    list: &Path,
+) -> Result<Result<u32, Json>, Untold>
+    requires { IsRight (world (plain_pieces described.now.desc) buffer.now) engine.old.kept }
+    ensures { Runs (plain_pieces described.now.desc) buffer.now (find_list (plain_pieces described.now.desc) list.now (child list.now (Index 0))) found_of engine.old engine.new result }
+{
+    match list.child_index(alloc, 0)? {
+        Some(first) => counted(alloc, engine, described, buffer, list, &first),
+        None => uncounted(alloc, described, list),
+    }
+}

@@ -1,0 +1,28 @@
+//! Questions about a described file: what each asks, and the text that it ends in.
+//!
+//! A question is a plan (`specs/Asking.antt`): nodes that it asks, and what it does with what it hears of each. Its definition in
+//! specs/ (`Questions`, `Dumps`, `Writing`) knows no engine. The function of the same name here asks an engine and comes to the
+//! same result, and the engine keeps what evaluating the asked nodes completes.
+//!
+//! [`answer`] is the text of any question; [`overwrite_for`] is what writing an integer over another means in bytes.
+#![tactic(auto)]
+
+mod asking;
+mod dump;
+mod found;
+mod get;
+mod integer;
+mod list;
+mod members;
+mod parts;
+mod place;
+mod put;
+mod question;
+mod refusal;
+mod text;
+mod written;
+
+pub use put::{Overwrite, overwrite_for};
+pub use question::{Question, answer};
+pub use refusal::Refusal;
+pub use text::bytes_text;

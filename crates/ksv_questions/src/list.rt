@@ -1,0 +1,44 @@
+//! The text of a list.
+ghost use Rattle.std.specs.Prelude.{◌≡◌, string_bytes};
+ghost use Rattle.ksv_desc.specs.Whole.{plain_pieces};
+ghost use Rattle.ksv_plan.specs.Plan.{Answer};
+ghost use Rattle.ksv_memo.specs.Right.{IsRight};
+ghost use Rattle.ksv_questions.specs.Code.{Runs, Settles};
+ghost use Rattle.ksv_questions.specs.Engines.{world};
+ghost use Rattle.ksv_questions.specs.Questions.{list_text, of_list};
+
+use crate::asking::Untold;
+use crate::parts::first_asked;
+use itoa::Buffer as Digits;
+use ksv_bytes::Buffer;
+use ksv_expr_value::Path;
+use ksv_memo::Engine;
+use ksv_rules::Described;
+use std::alloc::Global;
+
+/// A list by the number of its elements.
+fn list_text(alloc: Global, count: u32) -> Result<String, Untold>
+    ensures { Settles (Answer (list_text count)) (λ text. string_bytes text) result }
+{
+    let mut text = String::from_str(alloc, "[")?;
+    text.push_str(Digits::new().format(count))?;
+    text.push_str("]")?;
+    Ok(text)
+}
+
+/// The text of the list of a path; `path` is the one that the question is about.
+#[tactic(auto, unfolding(crate::specs::Questions::of_list))]
+pub(crate) fn of_list(
+    alloc: Global,
+    engine: &mut Engine<Described>,
+    described: &Described,
+    buffer: &Buffer,
+    path: &Path,
+    list: &Path,
+) -> Result<String, Untold>
+    requires { IsRight (world (plain_pieces described.now.desc) buffer.now) engine.old.kept }
+    ensures { Runs (plain_pieces described.now.desc) buffer.now (of_list path.now list.now) (λ text. string_bytes text) engine.old engine.new result }
+{
+    let count = first_asked(alloc, engine, described, buffer, path, list)?;
+    list_text(alloc, count)
+}

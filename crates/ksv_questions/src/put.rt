@@ -1,0 +1,98 @@
+//! `put`: writing an integer over another.
+ghost use Rattle.std.specs.Prelude.{◌≡◌, IfOk, OnErr, OnOk};
+ghost use Rattle.ksv_desc.specs.Whole.{plain_pieces};
+ghost use Rattle.ksv_memo.specs.Right.{IsRight};
+ghost use Rattle.ksv_questions.specs.Answers.{asks, outcome};
+ghost use Rattle.ksv_questions.specs.Code.{Runs, Settles};
+ghost use Rattle.ksv_questions.specs.Engines.{HasAsked, HasAskedSome, world};
+ghost use Rattle.ksv_questions.specs.Seen.{PutTells, overwrite_of};
+ghost use Rattle.ksv_questions.specs.Writing.{integer_type, of_type, over_head, put_question};
+
+use crate::asking::Untold;
+use crate::integer::{holds, integer_bytes, integer_type};
+use crate::parts::ask_head;
+use crate::question::failure_text;
+use crate::refusal::Refusal;
+use arrayvec::ArrayVec;
+use ksv_bytes::Buffer;
+use ksv_expr_value::{Integer, Path};
+use ksv_memo::Engine;
+use ksv_rules::{Described, Head, Leaf};
+use std::alloc::{AllocError, Global};
+
+/// Bytes that are written over others.
+#[derive(Drop)]
+pub struct Overwrite {
+    /// The place of the first, counted from the file's first byte.
+    pub at: u32,
+    /// The bytes.
+    pub bytes: ArrayVec<u8, 8>,
+}
+
+/// What writing an integer over a leaf means.
+#[tactic(auto, unfolding(crate::specs::Writing::of_type))]
+fn over_leaf(described: &Described, leaf: Leaf, number: Integer) -> Result<Overwrite, Untold>
+    ensures { Settles (of_type (integer_type (plain_pieces described.now.desc) leaf) leaf number) overwrite_of result }
+{
+    let at = leaf.from.byte();
+    let Some(kind) = integer_type(described.desc(), leaf) else {
+        return Err(Untold::Refused(Refusal::NotAnInteger));
+    };
+    if !holds(kind, number) {
+        return Err(Untold::Refused(Refusal::OutOfRange));
+    }
+    Ok(Overwrite {
+        at,
+        bytes: integer_bytes(kind, number),
+    })
+}
+
+/// What writing an integer over what is there means.
+fn over_head(described: &Described, head: Head, number: Integer) -> Result<Overwrite, Untold>
+    ensures { Settles (over_head (plain_pieces described.now.desc) head number) overwrite_of result }
+{
+    match head {
+        Head::Leaf(leaf) => over_leaf(described, leaf, number),
+        _ => Err(Untold::Refused(Refusal::NotAnInteger)),
+    }
+}
+
+/// What writing an integer over what is at a path means.
+#[tactic(auto, unfolding(crate::specs::Writing::put_question))]
+fn put_question(
+    alloc: Global,
+    engine: &mut Engine<Described>,
+    described: &Described,
+    buffer: &Buffer,
+    path: &Path,
+    number: Integer,
+) -> Result<Overwrite, Untold>
+    requires { IsRight (world (plain_pieces described.now.desc) buffer.now) engine.old.kept }
+    ensures { Runs (plain_pieces described.now.desc) buffer.now (put_question (plain_pieces described.now.desc) path.now number) overwrite_of engine.old engine.new result }
+{
+    let head = ask_head(alloc, engine, described, buffer, path, path)?;
+    over_head(described, head, number)
+}
+
+/// What writing an integer over the one at a path means: the bytes to write, or the reply to a `put` that isn't done, its LF aside.
+/// The engine, which must be right for the bytes, keeps what was evaluated for it.
+pub fn overwrite_for(
+    alloc: Global,
+    engine: &mut Engine<Described>,
+    described: &Described,
+    buffer: &Buffer,
+    path: &Path,
+    number: Integer,
+) -> Result<Result<Overwrite, String>, AllocError>
+    requires { IsRight (world (plain_pieces described.now.desc) buffer.now) engine.old.kept }
+    ensures told { IfOk result (PutTells (plain_pieces described.now.desc) (outcome (plain_pieces described.now.desc) buffer.now (put_question (plain_pieces described.now.desc) path.now number))) }
+
+    // Which nodes are kept afterwards, and the turns.
+    ensures asked { OnOk result (HasAsked (world (plain_pieces described.now.desc) buffer.now) (asks (plain_pieces described.now.desc) buffer.now (put_question (plain_pieces described.now.desc) path.now number)) engine.old engine.new) }
+    ensures refused { OnErr result (HasAskedSome (world (plain_pieces described.now.desc) buffer.now) (asks (plain_pieces described.now.desc) buffer.now (put_question (plain_pieces described.now.desc) path.now number)) engine.old engine.new) }
+{
+    match put_question(alloc, engine, described, buffer, path, number) {
+        Ok(overwrite) => Ok(Ok(overwrite)),
+        Err(why) => Ok(Err(failure_text(alloc, described.desc(), &why)?)),
+    }
+}

@@ -1,0 +1,86 @@
+//! Any question about a path, on one engine.
+ghost use Rattle.std.specs.Prelude.{◌≡◌, string_bytes, IfOk, OnErr, OnOk};
+ghost use Rattle.ksv_desc.specs.Whole.{plain_pieces};
+ghost use Rattle.ksv_memo.specs.Right.{IsRight};
+ghost use Rattle.ksv_questions.specs.Answers.{asking, asks, question_text};
+ghost use Rattle.ksv_questions.specs.Code.{Runs, Tells};
+ghost use Rattle.ksv_questions.specs.Engines.{HasAsked, HasAskedSome, world};
+
+use crate::asking::Untold;
+use crate::dump::dump_question;
+use crate::get::value_question;
+use crate::members::members_question;
+use crate::place::place_question;
+use crate::text::{fault_text, refusal_text};
+use ksv_bytes::Buffer;
+use ksv_desc::Desc;
+use ksv_expr_value::Path;
+use ksv_memo::Engine;
+use ksv_rules::Described;
+use std::alloc::{AllocError, Global};
+
+/// A question about a path.
+#[derive(Drop)]
+pub enum Question {
+    /// `get`: the value there.
+    Value(Path),
+    /// `at`: where it begins and ends.
+    Place(Path),
+    /// `ls`: what an object has, or how many elements a list.
+    Members(Path),
+    /// `dump`: the value there with all that is in it, as JSON.
+    Dump(Path),
+}
+
+/// What an engine was asked for a question.
+fn asked(
+    alloc: Global,
+    engine: &mut Engine<Described>,
+    described: &Described,
+    buffer: &Buffer,
+    question: &Question,
+) -> Result<String, Untold>
+    requires { IsRight (world (plain_pieces described.now.desc) buffer.now) engine.old.kept }
+    ensures { Runs (plain_pieces described.now.desc) buffer.now (asking (plain_pieces described.now.desc) buffer.now question.now) (λ text. string_bytes text) engine.old engine.new result }
+{
+    match question {
+        Question::Value(path) => value_question(alloc, engine, described, buffer, path),
+        Question::Place(path) => place_question(alloc, engine, described, buffer, path),
+        Question::Members(path) => members_question(alloc, engine, described, buffer, path),
+        Question::Dump(path) => dump_question(alloc, engine, described, buffer, path),
+    }
+}
+
+/// Why a question fails, as its reply tells it.
+pub(crate) fn failure_text(alloc: Global, desc: &Desc, why: &Untold) -> Result<String, AllocError>
+    ensures { IfOk result (λ text. Tells (plain_pieces desc.now) why.now (string_bytes text)) }
+{
+    match why {
+        Untold::Fault(fault) => fault_text(alloc, desc, fault),
+        Untold::Refused(refusal) => String::from_str(alloc, refusal_text(*refusal)),
+        Untold::NoMemory => Err(AllocError),
+    }
+}
+
+/// The reply to a question, its LF aside: the text of what evaluating the description from nothing on the current bytes gives.
+/// The engine, which must be right for these bytes, keeps what was evaluated for it.
+#[tactic(auto, unfolding(crate::specs::Answers::question_text))]
+pub fn answer(
+    alloc: Global,
+    engine: &mut Engine<Described>,
+    described: &Described,
+    buffer: &Buffer,
+    question: &Question,
+) -> Result<String, AllocError>
+    requires { IsRight (world (plain_pieces described.now.desc) buffer.now) engine.old.kept }
+    ensures text { IfOk result (λ text. string_bytes text ≡ question_text (plain_pieces described.now.desc) buffer.now question.now) }
+
+    // Which nodes are kept afterwards, and the turns.
+    ensures asked { OnOk result (HasAsked (world (plain_pieces described.now.desc) buffer.now) (asks (plain_pieces described.now.desc) buffer.now (asking (plain_pieces described.now.desc) buffer.now question.now)) engine.old engine.new) }
+    ensures refused { OnErr result (HasAskedSome (world (plain_pieces described.now.desc) buffer.now) (asks (plain_pieces described.now.desc) buffer.now (asking (plain_pieces described.now.desc) buffer.now question.now)) engine.old engine.new) }
+{
+    match asked(alloc, engine, described, buffer, question) {
+        Ok(text) => Ok(text),
+        Err(why) => failure_text(alloc, described.desc(), &why),
+    }
+}
