@@ -1,8 +1,12 @@
 //! The bytes of a file.
-ghost use Rattle.std.specs.Prelude.{◌≡◌, ◌≤◌, ◌<◌, ◌↔◌, ◌⊎◌, ◌++◌, List, ℕ, length, IfOk, IfErr, OnOk, IsOk, IsErr, OnErr, IsTrue, MatchResult, slice_range};
+ghost use Rattle.std.specs.Prelude.{◌≡◌, ◌+◌, ◌≤◌, ◌<◌, ◌↔◌, ◌⊎◌, ◌++◌, List, ℕ, length, IfOk, IfErr, OnOk, IsOk, IsErr, OnErr, IsTrue, MatchResult, slice_range};
+ghost use Rattle.ksv_bytes.specs.Code.{around};
 ghost use Rattle.ksv_bytes.specs.Edits.{append, delete, file_limit, insert, overwrite, IsRefusedAs};
 
 use crate::edit::EditRefusal;
+use crate::gap::{
+    fill_from_end, fill_from_start, move_gap, overwrite_around, parts_around, room_for,
+};
 use crate::window::Window;
 use std::marker::Model;
 use thiserror::Error;
@@ -11,17 +15,25 @@ use thiserror::Error;
 pub const FILE_LIMIT: usize = 16_777_216;
 
 /// The bytes of a file, at most [`FILE_LIMIT`] of them. Contracts see it as their list.
+///
+/// They are kept in two runs with a gap between them, which edits fill and widen. So an edit moves the bytes between
+/// its place and the gap, and no others.
 #[derive(Drop)]
 pub struct Buffer {
+    /// The bytes in front of the gap, those in it, which mean nothing, and those behind it.
     bytes: Vec<u8>,
+    /// How many bytes are in front of the gap.
+    front: usize,
+    /// How many bytes the gap has.
+    gap: usize,
 }
 
 impl Model for Buffer {
     ghost Value = { List ℕ };
 
-    ghost view = { λ buffer. buffer.bytes.items };
+    ghost view = { λ buffer. around buffer.bytes.items buffer.front buffer.gap };
 
-    ghost invariant = { λ buffer. length buffer.bytes.items ≤ file_limit };
+    ghost invariant = { λ buffer. (buffer.front + buffer.gap ≤ length buffer.bytes.items) × (length buffer.bytes.items ≤ file_limit) };
 }
 
 /// B3: a file of more than [`FILE_LIMIT`] bytes, which are returned.
@@ -42,7 +54,12 @@ impl Buffer {
         if bytes.len() > FILE_LIMIT {
             return Err(TooLarge { bytes });
         }
-        Ok(Buffer { bytes })
+        let front = bytes.len();
+        Ok(Buffer {
+            bytes,
+            front,
+            gap: 0,
+        })
     }
 
     /// The number of bytes.
@@ -50,91 +67,93 @@ impl Buffer {
         ensures len { result ≡ length self.now }
         ensures limit { result ≤ file_limit }
     {
-        self.bytes.len()
+        self.bytes.len() - self.gap
     }
 
     /// Whether there are no bytes.
     pub fn is_empty(&self) -> bool
         ensures { IsTrue result ↔ (length self.now ≡ 0) }
     {
-        self.bytes.is_empty()
+        self.bytes.len() == self.gap
     }
 
-    /// Lends the bytes of a window, in two slices that follow each other. Nothing is copied.
+    /// Lends the bytes of a window, in two slices that follow each other: those in front of the gap, and those behind
+    /// it. Nothing is copied.
     pub fn parts(&self, window: Window) -> (&[u8], &[u8])
         requires ordered { window.from ≤ window.to }
         requires inside { window.to ≤ length self.now }
         ensures { result.0.now ++ result.1.now ≡ slice_range self.now window.from window.to }
     {
-        (&self.bytes[window.from..window.to], &[])
+        parts_around(&self.bytes, self.front, self.gap, window)
     }
 
-    /// Writes bytes over those from a place on. It takes no memory.
+    /// Writes bytes over those from a place on. It takes no memory, and the gap stays where it is.
     pub fn overwrite(&mut self, at: usize, bytes: &[u8]) -> Result<(), EditRefusal>
         ensures { MatchResult result
             (λ _. overwrite self.old at bytes.now ≡ Ok self.new)
             (λ refusal. (overwrite self.old at bytes.now ≡ Err refusal) × (self.new ≡ self.old)) }
     {
-        if at > self.bytes.len() || bytes.len() > self.bytes.len() - at {
+        let len = self.len();
+        if at > len || bytes.len() > len - at {
             return Err(EditRefusal::Outside);
         }
         if bytes.is_empty() {
             return Err(EditRefusal::NothingToDo);
         }
-        self.bytes[at..at + bytes.len()].copy_from_slice(bytes);
+        overwrite_around(&mut self.bytes, self.front, self.gap, at, bytes);
         Ok(())
     }
 
     /// Puts bytes before the byte at a place, or after the last one. It can be out of memory only where nothing else is
-    /// wrong with the edit.
+    /// wrong with the edit. The gap is then in front of what was put, so that a further edit at this place moves no byte.
     pub fn insert(&mut self, at: usize, bytes: &[u8]) -> Result<(), EditRefusal>
         ensures done { OnOk result (insert self.old at bytes.now ≡ Ok self.new) }
         ensures unchanged { OnErr result (self.new ≡ self.old) }
         ensures refused { IfErr result (λ refusal. IsRefusedAs refusal (insert self.old at bytes.now)) }
     {
-        if at > self.bytes.len() {
+        if at > self.len() {
             return Err(EditRefusal::Outside);
         }
-        if bytes.is_empty() {
-            return Err(EditRefusal::NothingToDo);
-        }
-        if bytes.len() > FILE_LIMIT - self.bytes.len() {
-            return Err(EditRefusal::TooLarge);
-        }
-        match self.bytes.extend_from_slice(bytes) {
-            Ok(()) => {
-                self.bytes[at..].rotate_right(bytes.len());
-                Ok(())
-            }
-            Err(_) => Err(EditRefusal::NoMemory),
-        }
+        let gap = room_for(&mut self.bytes, self.front, self.gap, bytes)?;
+        move_gap(&mut self.bytes, self.front, gap, at);
+        fill_from_end(&mut self.bytes, at, gap, bytes);
+        self.front = at;
+        self.gap = gap - bytes.len();
+        Ok(())
     }
 
-    /// Takes out so many bytes from a place on. It takes no memory.
+    /// Takes out so many bytes from a place on. It takes no memory. The gap is then at this place.
     pub fn delete(&mut self, at: usize, count: usize) -> Result<(), EditRefusal>
         ensures { MatchResult result
             (λ _. delete self.old at count ≡ Ok self.new)
             (λ refusal. (delete self.old at count ≡ Err refusal) × (self.new ≡ self.old)) }
     {
-        if at > self.bytes.len() || count > self.bytes.len() - at {
+        let len = self.len();
+        if at > len || count > len - at {
             return Err(EditRefusal::Outside);
         }
         if count == 0 {
             return Err(EditRefusal::NothingToDo);
         }
-        let left = self.bytes.len() - count;
-        self.bytes[at..].rotate_left(count);
-        self.bytes.truncate(left);
+        move_gap(&mut self.bytes, self.front, self.gap, at);
+        self.front = at;
+        self.gap += count;
         Ok(())
     }
 
-    /// Adds bytes at the end. It can be out of memory only where nothing else is wrong with the edit.
+    /// Adds bytes at the end. It can be out of memory only where nothing else is wrong with the edit. The gap is then
+    /// behind them, so that adding more moves no byte.
     pub fn append(&mut self, bytes: &[u8]) -> Result<(), EditRefusal>
         ensures done { OnOk result (append self.old bytes.now ≡ Ok self.new) }
         ensures unchanged { OnErr result (self.new ≡ self.old) }
         ensures refused { IfErr result (λ refusal. IsRefusedAs refusal (append self.old bytes.now)) }
     {
-        let end = self.bytes.len();
-        self.insert(end, bytes)
+        let len = self.len();
+        let gap = room_for(&mut self.bytes, self.front, self.gap, bytes)?;
+        move_gap(&mut self.bytes, self.front, gap, len);
+        fill_from_start(&mut self.bytes, len, gap, bytes);
+        self.front = len + bytes.len();
+        self.gap = gap - bytes.len();
+        Ok(())
     }
 }

@@ -7,6 +7,7 @@
 
 mod buffer;
 mod edit;
+mod gap;
 mod uses;
 mod window;
 
