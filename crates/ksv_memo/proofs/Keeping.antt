@@ -174,9 +174,9 @@ tree-same w (suc j) (suc k) before opened n le h out = by (is_among w.number bef
     by true e f = absurd (subst (λ t. IsAnswered t.outcome) (eval-open w (suc j) before n e) h)
     by false e f = f e
 
--- the tree of a kept node is the trees of what it asked, and itself
-pub kept-tree : {N A : Type 0} (w : Standing N A) → IsSettled w → (es : List (Entry N A)) → IsRight w es → (n : N) → IsIn w (nodes_of es) n → IsAnswered (tells w [] n).outcome → completed w w.nodes [] n ≡ flat_map (completed w w.nodes []) (tells w [] n).asked ++ n ∷ []
-kept-tree {N} {A} w law es right n h answered =
+-- the tree of an answered node is the trees of what it asked, and itself
+pub kept-tree : {N A : Type 0} (w : Standing N A) → IsSettled w → (n : N) → IsAnswered (tells w [] n).outcome → completed w w.nodes [] n ≡ flat_map (completed w w.nodes []) (tells w [] n).asked ++ n ∷ []
+kept-tree {N} {A} w law n answered =
     let t : Told N A = tells w [] n in
     let level : t ≡ told w (answering w (n ∷ [])) n (suc w.replies) [] = tells-free w law [] n (AreDistinct-none w) refl in
     let answers : AllByRecursion (λ m. IsAnswered (answering w (n ∷ []) m)) t.asked = subst (λ (u : Told N A). AllByRecursion (λ m. IsAnswered (answering w (n ∷ []) m)) u.asked) (sym level) (told_answered w (answering w (n ∷ [])) n (suc w.replies) [] (subst (λ (u : Told N A). IsAnswered u.outcome) level answered)) in
