@@ -1,9 +1,9 @@
 -- What an edit takes from the kept nodes is what the pass takes from the table, and what stays is right.
-use Rattle.std.proofs.Common.{◌≡◌, ◌↔◌, ℕ, ◌+◌, Bool, true, false, not, cond, ◌||◌, ◌&&◌, nat_eq, nat_lt, List, [], ◌∷◌, ◌++◌, map, filter, Contains, Any, refl, sym, ◌∙◌, ap, subst}
+use Rattle.std.proofs.Common.{◌≡◌, ℕ, ◌+◌, Bool, true, false, not, cond, ◌||◌, ◌&&◌, nat_eq, nat_lt, List, [], ◌∷◌, ◌++◌, map, filter, Contains, Any, refl, sym, ◌∙◌, ap, subst}
 use Rattle.std.specs.Bool.{Decides}
 use Rattle.std.specs.Cmp.{IsEquivalence}
 use Rattle.std.specs.List.{AllByRecursion, list_any, flat_map}
-use Rattle.std.proofs.lemmas.Bool.Decides.{Decides-and, Decides-ltb}
+use Rattle.std.proofs.lemmas.Bool.Decides.{Decides-and, Decides-not, Decides-ltb, not_from_Decides}
 use Rattle.std.proofs.lemmas.List.Elements.{All-contains_itself, recursion_from_All}
 use Rattle.std.proofs.lemmas.List.Folds.{list_any-append, Any-from_list_any, list_any-from_Any}
 use Rattle.std.proofs.lemmas.Map.Keys.{IsDistinct-head, IsDistinct-tail, IsDistinct-cons}
@@ -18,7 +18,7 @@ use Rattle.ksv_memo.specs.Evaluation.{is_among, IsAnswered, completed, tells}
 use Rattle.ksv_memo.specs.Entry.{Entry}
 use Rattle.ksv_memo.specs.Right.{nodes_of, AreDistinct, AreExactly, HasEachOnce, IsRightEntry, IsRight}
 use Rattle.ksv_memo.specs.Touched.{IsTouched, is_use_touched, is_hit, is_touched, tree, left_after}
-use Rattle.ksv_memo.specs.Sweep.{HasEntry, AsksBefore, Mark, has_gone, AreMarked, entries_in, staying, Sweeps}
+use Rattle.ksv_memo.specs.Sweep.{HasEntry, AsksBefore, Mark, has_gone, AreMarked, entries_in, entries_left, Sweeps}
 use Rattle.ksv_memo.proofs.Standing.{law_on}
 use Rattle.ksv_memo.proofs.Lists.{All-map, All-both, All-++}
 use Rattle.ksv_memo.proofs.Evals.{eqb_true, or_false}
@@ -43,7 +43,7 @@ use_touched Append (Reach to) = (λ e. cc, λ h. absurd h)
 use_touched Append Size = (λ e. tt, λ h. refl)
 
 untouched_use : (change : Change) (used : Use) → is_use_touched change used ≡ false → Touches change used → ⊥
-untouched_use change used e h = let yes : is_use_touched change used ≡ true = (use_touched change used).1 h in cc
+untouched_use change used e = not_from_Decides (is_use_touched change used) (use_touched change used) e
 
 Any-map : {X : Type 0} (P Q : X → Type 0) → ((x : X) → P x → Q x) → (xs : List X) → Any P xs → Any Q xs
 Any-map P Q f xs h = (h.0, h.1, h.2, h.3, f h.1 h.4)
@@ -73,6 +73,10 @@ any-flat_map : {X Y : Type 0} (p : Y → Bool) (f : X → List Y) (xs : List X) 
 any-flat_map p f [] = refl
 any-flat_map p f (x ∷ xs) = list_any-append p (f x) (flat_map f xs) ∙ ap (λ b. list_any p (f x) || b) (any-flat_map p f xs)
 
+and_false : (a : Bool) → (a && false) ≡ false
+and_false true = refl
+and_false false = refl
+
 or_turn : (a b : Bool) → (a || (b || false)) ≡ (b || a)
 or_turn true true = refl
 or_turn true false = refl
@@ -80,39 +84,58 @@ or_turn false true = refl
 or_turn false false = refl
 
 -- what holds of all marked entries holds of those that stay
-All-staying : {N A : Type 0} (P : Entry N A → Type 0) (ks : List (Mark N A)) → AllByRecursion P (entries_in ks) → AllByRecursion P (staying ks)
-All-staying P [] h = tt
-All-staying {N} {A} P (k ∷ ks) h = by k.goes (All-staying P ks h.1)
+All-entries_left : {N A : Type 0} (P : Entry N A → Type 0) (ks : List (Mark N A)) → AllByRecursion P (entries_in ks) → AllByRecursion P (entries_left ks)
+All-entries_left P [] h = tt
+All-entries_left {N} {A} P (k ∷ ks) h = by k.goes (All-entries_left P ks h.1)
   where
-    by : (b : Bool) → AllByRecursion P (staying ks) → AllByRecursion P (entries_in (cond (not b) (k ∷ filter (λ k. not k.goes) ks) (filter (λ k. not k.goes) ks)))
+    by : (b : Bool) → AllByRecursion P (entries_left ks) → AllByRecursion P (entries_in (cond (not b) (k ∷ filter (λ k. not k.goes) ks) (filter (λ k. not k.goes) ks)))
     by true rest = rest
     by false rest = (h.0, rest)
 
 module _ {N A : Type 0} (w : Standing N A) where
-  numbers-staying : (P : ℕ → Type 0) (ks : List (Mark N A)) → AllByRecursion P (map w.number (nodes_of (entries_in ks))) → AllByRecursion P (map w.number (nodes_of (staying ks)))
-  numbers-staying P [] h = tt
-  numbers-staying P (k ∷ ks) h = by k.goes (numbers-staying P ks h.1)
+  numbers-entries_left : (P : ℕ → Type 0) (ks : List (Mark N A)) → AllByRecursion P (map w.number (nodes_of (entries_in ks))) → AllByRecursion P (map w.number (nodes_of (entries_left ks)))
+  numbers-entries_left P [] h = tt
+  numbers-entries_left P (k ∷ ks) h = by k.goes (numbers-entries_left P ks h.1)
     where
-      by : (b : Bool) → AllByRecursion P (map w.number (nodes_of (staying ks))) → AllByRecursion P (map w.number (nodes_of (entries_in (cond (not b) (k ∷ filter (λ k. not k.goes) ks) (filter (λ k. not k.goes) ks)))))
+      by : (b : Bool) → AllByRecursion P (map w.number (nodes_of (entries_left ks))) → AllByRecursion P (map w.number (nodes_of (entries_in (cond (not b) (k ∷ filter (λ k. not k.goes) ks) (filter (λ k. not k.goes) ks)))))
       by true rest = rest
       by false rest = (h.0, rest)
 
-  distinct-staying : (ks : List (Mark N A)) → AreDistinct w (nodes_of (entries_in ks)) → AreDistinct w (nodes_of (staying ks))
-  distinct-staying [] h = AreDistinct-none w
-  distinct-staying (k ∷ ks) h = by k.goes (distinct-staying ks (IsDistinct-tail nat_eq (w.number k.entry.node) (map w.number (nodes_of (entries_in ks))) h))
+  distinct-entries_left : (ks : List (Mark N A)) → AreDistinct w (nodes_of (entries_in ks)) → AreDistinct w (nodes_of (entries_left ks))
+  distinct-entries_left [] h = AreDistinct-none w
+  distinct-entries_left (k ∷ ks) h = by k.goes (distinct-entries_left ks (IsDistinct-tail nat_eq (w.number k.entry.node) (map w.number (nodes_of (entries_in ks))) h))
     where
-      by : (b : Bool) → AreDistinct w (nodes_of (staying ks)) → AreDistinct w (nodes_of (entries_in (cond (not b) (k ∷ filter (λ k. not k.goes) ks) (filter (λ k. not k.goes) ks))))
+      by : (b : Bool) → AreDistinct w (nodes_of (entries_left ks)) → AreDistinct w (nodes_of (entries_in (cond (not b) (k ∷ filter (λ k. not k.goes) ks) (filter (λ k. not k.goes) ks))))
       by true rest = rest
-      by false rest = IsDistinct-cons nat_eq (w.number k.entry.node) (map w.number (nodes_of (staying ks))) (numbers-staying (λ y. nat_eq (w.number k.entry.node) y ≡ false) ks (IsDistinct-head nat_eq (w.number k.entry.node) (map w.number (nodes_of (entries_in ks))) h)) rest
+      by false rest = IsDistinct-cons nat_eq (w.number k.entry.node) (map w.number (nodes_of (entries_left ks))) (numbers-entries_left (λ y. nat_eq (w.number k.entry.node) y ≡ false) ks (IsDistinct-head nat_eq (w.number k.entry.node) (map w.number (nodes_of (entries_in ks))) h)) rest
 
 -- what stays has no touched use
-free-staying : {N A : Type 0} (eq : N → N → Bool) (change : Change) (before ks : List (Mark N A)) → AreMarked eq change before ks → AllByRecursion (λ e. AllByRecursion (λ used. Touches change used → ⊥) e.uses) (staying ks)
-free-staying eq change before [] h = tt
-free-staying {N} {A} eq change before (k ∷ ks) h = by k.goes refl (free-staying eq change (before ++ k ∷ []) ks h.1)
+free-entries_left : {N A : Type 0} (eq : N → N → Bool) (change : Change) (before ks : List (Mark N A)) → AreMarked eq change before ks → AllByRecursion (λ e. AllByRecursion (λ used. Touches change used → ⊥) e.uses) (entries_left ks)
+free-entries_left eq change before [] h = tt
+free-entries_left {N} {A} eq change before (k ∷ ks) h = by k.goes refl (free-entries_left eq change (before ++ k ∷ []) ks h.1)
   where
-    by : (b : Bool) → k.goes ≡ b → AllByRecursion (λ e. AllByRecursion (λ used. Touches change used → ⊥) e.uses) (staying ks) → AllByRecursion (λ e. AllByRecursion (λ used. Touches change used → ⊥) e.uses) (entries_in (cond (not b) (k ∷ filter (λ k. not k.goes) ks) (filter (λ k. not k.goes) ks)))
+    by : (b : Bool) → k.goes ≡ b → AllByRecursion (λ e. AllByRecursion (λ used. Touches change used → ⊥) e.uses) (entries_left ks) → AllByRecursion (λ e. AllByRecursion (λ used. Touches change used → ⊥) e.uses) (entries_in (cond (not b) (k ∷ filter (λ k. not k.goes) ks) (filter (λ k. not k.goes) ks)))
     by true e rest = rest
     by false e rest = (All-map (untouched_use change) k.entry.uses (none_pass (is_use_touched change) k.entry.uses (or_false (list_any (is_use_touched change) k.entry.uses) (list_any (has_gone eq before) k.entry.asked) (sym h.0 ∙ e)).0), rest)
+
+module _ {N A : Type 0} (w : Standing N A) where
+  -- the mark of an entry says whether its node is touched
+  abbrev pub IsTold : Change → Mark N A → Type 0
+  IsTold change k = k.goes ≡ is_touched w change k.entry.node
+
+  left_here : (change : Change) (k : Mark N A) (ks : List (Mark N A)) → IsTold change k → nodes_of (entries_left ks) ≡ left_after w change (nodes_of (entries_in ks)) → nodes_of (entries_left (k ∷ ks)) ≡ left_after w change (nodes_of (entries_in (k ∷ ks)))
+  left_here change k ks told rest = by k.goes (is_touched w change k.entry.node) told
+    where
+      by : (b c : Bool) → b ≡ c → nodes_of (entries_in (cond (not b) (k ∷ filter (λ k. not k.goes) ks) (filter (λ k. not k.goes) ks))) ≡ cond (not c) (k.entry.node ∷ left_after w change (nodes_of (entries_in ks))) (left_after w change (nodes_of (entries_in ks)))
+      by true true e = rest
+      by false false e = ap (λ ns. k.entry.node ∷ ns) rest
+      by true false e = absurd (cc)
+      by false true e = absurd (cc)
+
+  -- where each does, those nodes stay that aren't touched
+  left_nodes : (change : Change) (ks : List (Mark N A)) → AllByRecursion (IsTold change) ks → nodes_of (entries_left ks) ≡ left_after w change (nodes_of (entries_in ks))
+  left_nodes change [] told = refl
+  left_nodes change (k ∷ ks) told = left_here change k ks told.0 (left_nodes change ks told.1)
 
 module _ {N A : Type 0} (w : Standing N A) (law : IsSettled w) where
   -- ---- a kept node is touched if one of its uses is, or a node that it asked
@@ -128,58 +151,28 @@ module _ {N A : Type 0} (w : Standing N A) (law : IsSettled w) where
       parts ∙ or_turn (list_any (is_touched w change) e.asked) (is_hit w change e.node)
       ∙ ap (λ b. b || list_any (is_touched w change) e.asked) (sym (any_once (is_use_touched change) e.uses (tells w [] e.node).uses right.uses))
 
-  -- the mark of an entry says whether its node is touched
-  abbrev pub IsTold : Change → Mark N A → Type 0
-  IsTold change k = k.goes ≡ is_touched w change k.entry.node
+  -- ---- what is left of a list, as a set
+  among_cases : (p : N → Bool) (m n : N) (ns : List N) → is_among w.number (filter p ns) n ≡ (is_among w.number ns n && p n) → (a : Bool) → nat_eq (w.number n) (w.number m) ≡ a → (b : Bool) → p m ≡ b → is_among w.number (cond b (m ∷ filter p ns) (filter p ns)) n ≡ ((a || is_among w.number ns n) && p n)
+  among_cases p m n ns rest true e true f = ap (λ x. x || is_among w.number (filter p ns) n) e ∙ sym (ap p (law.own_number n m (eqb_true (w.number n) (w.number m) e)) ∙ f)
+  among_cases p m n ns rest true e false f = let fails : p n ≡ false = ap p (law.own_number n m (eqb_true (w.number n) (w.number m) e)) ∙ f in rest ∙ ap (λ x. is_among w.number ns n && x) fails ∙ and_false (is_among w.number ns n) ∙ sym fails
+  among_cases p m n ns rest false e true f = ap (λ x. x || is_among w.number (filter p ns) n) e ∙ rest
+  among_cases p m n ns rest false e false f = rest
 
-  left_here : (change : Change) (k : Mark N A) (ks : List (Mark N A)) → IsTold change k → nodes_of (staying ks) ≡ left_after w change (nodes_of (entries_in ks)) → nodes_of (staying (k ∷ ks)) ≡ left_after w change (nodes_of (entries_in (k ∷ ks)))
-  left_here change k ks told rest = by k.goes (is_touched w change k.entry.node) told
-    where
-      by : (b c : Bool) → b ≡ c → nodes_of (entries_in (cond (not b) (k ∷ filter (λ k. not k.goes) ks) (filter (λ k. not k.goes) ks))) ≡ cond (not c) (k.entry.node ∷ left_after w change (nodes_of (entries_in ks))) (left_after w change (nodes_of (entries_in ks)))
-      by true true e = rest
-      by false false e = ap (λ ns. k.entry.node ∷ ns) rest
-      by true false e = absurd (cc)
-      by false true e = absurd (cc)
+  among-filter : (p : N → Bool) (ns : List N) (n : N) → is_among w.number (filter p ns) n ≡ (is_among w.number ns n && p n)
+  among-filter p [] n = refl
+  among-filter p (m ∷ ns) n = among_cases p m n ns (among-filter p ns n) (nat_eq (w.number n) (w.number m)) refl (p m) refl
 
-  -- so those nodes stay that aren't touched
-  left_nodes : (change : Change) (ks : List (Mark N A)) → AllByRecursion (IsTold change) ks → nodes_of (staying ks) ≡ left_after w change (nodes_of (entries_in ks))
-  left_nodes change [] told = refl
-  left_nodes change (k ∷ ks) told = left_here change k ks told.0 (left_nodes change ks told.1)
+  pub left-decides : (change : Change) (ns : List N) (n : N) → Decides (is_among w.number (left_after w change ns) n) ((is_among w.number ns n ≡ true) × (IsTouched w change n → ⊥))
+  left-decides change ns n =
+      let P : Bool → Type 0 = λ b. Decides b ((is_among w.number ns n ≡ true) × (IsTouched w change n → ⊥)) in
+      subst P (sym (among-filter (λ m. not (is_touched w change m)) ns n)) (Decides-and (is_among w.number ns n) (not (is_touched w change n)) (λ e. e, λ e. e) (Decides-not (is_touched w change n) (touched_decides w change n)))
 
-  -- a node of a list that isn't touched is left, and what is left is in the list and isn't touched
-  left_cases : (change : Change) (m n : N) (ns : List N) → (is_among w.number (left_after w change ns) n ≡ (is_among w.number ns n && not (is_touched w change n))) → (a : Bool) → nat_eq (w.number n) (w.number m) ≡ a → (b : Bool) → is_touched w change m ≡ b → is_among w.number (cond (not b) (m ∷ left_after w change ns) (left_after w change ns)) n ≡ ((a || is_among w.number ns n) && not (is_touched w change n))
-  left_cases change m n ns rest true e true f = let same : n ≡ m = law.own_number n m (eqb_true (w.number n) (w.number m) e) in let gone : is_touched w change n ≡ true = ap (is_touched w change) same ∙ f in rest ∙ ap (λ t. is_among w.number ns n && not t) gone ∙ and_false (is_among w.number ns n) ∙ ap not (sym gone)
-    where
-      and_false : (a : Bool) → (a && false) ≡ false
-      and_false true = refl
-      and_false false = refl
-  left_cases change m n ns rest true e false f = let same : n ≡ m = law.own_number n m (eqb_true (w.number n) (w.number m) e) in let stays : is_touched w change n ≡ false = ap (is_touched w change) same ∙ f in ap (λ b. b || is_among w.number (left_after w change ns) n) e ∙ ap not (sym stays)
-  left_cases change m n ns rest false e true f = rest
-  left_cases change m n ns rest false e false f = ap (λ b. b || is_among w.number (left_after w change ns) n) e ∙ rest
-
-  pub among-left : (change : Change) (ns : List N) (n : N) → is_among w.number (left_after w change ns) n ≡ (is_among w.number ns n && not (is_touched w change n))
-  among-left change [] n = refl
-  among-left change (m ∷ ns) n = left_cases change m n ns (among-left change ns n) (nat_eq (w.number n) (w.number m)) refl (is_touched w change m) refl
-
-  -- in the facts' words
-  pub left-decides : (change : Change) (ns : List N) (n : N) → (is_among w.number (left_after w change ns) n ≡ true) ↔ ((is_among w.number ns n ≡ true) × (IsTouched w change n → ⊥))
-  left-decides change ns n = (λ h. by (is_among w.number ns n) refl (is_touched w change n) refl (sym (among-left change ns n) ∙ h), λ h. back h.0 (is_touched w change n) refl h.1)
-    where
-      by : (a : Bool) → is_among w.number ns n ≡ a → (b : Bool) → is_touched w change n ≡ b → (is_among w.number ns n && not (is_touched w change n)) ≡ true → (is_among w.number ns n ≡ true) × (IsTouched w change n → ⊥)
-      by a e true f h = absurd (let no : (a && false) ≡ true = sym (ap (λ x. x && not (is_touched w change n)) e ∙ ap (λ t. a && not t) f) ∙ h in never a no)
-        where
-          never : (a : Bool) → (a && false) ≡ true → ⊥
-          never true h = cc
-          never false h = cc
-      by true e false f h = (e, λ touched. let yes : is_touched w change n ≡ true = (touched_decides w change n).1 touched in cc)
-      by false e false f h = absurd (let no : false ≡ true = sym (ap (λ x. x && not (is_touched w change n)) e) ∙ h in cc)
-
-      back : is_among w.number ns n ≡ true → (b : Bool) → is_touched w change n ≡ b → (IsTouched w change n → ⊥) → is_among w.number (left_after w change ns) n ≡ true
-      back e true f apart = absurd (apart ((touched_decides w change n).0 f))
-      back e false f apart = among-left change ns n ∙ ap (λ x. x && not (is_touched w change n)) e ∙ ap not f
+  -- lists with the same members have the same members left
+  pub left_after-same : (change : Change) (ns ms : List N) → ((x : N) → is_among w.number ns x ≡ is_among w.number ms x) → (x : N) → is_among w.number (left_after w change ns) x ≡ is_among w.number (left_after w change ms) x
+  left_after-same change ns ms same x = among-filter (λ m. not (is_touched w change m)) ns x ∙ ap (λ b. b && not (is_touched w change x)) (same x) ∙ sym (among-filter (λ m. not (is_touched w change m)) ms x)
 
 module _ {N A : Type 0} (w : Standing N A) (law : IsSettled w) (eq : N → N → Bool) (laws : IsEquivalence eq) (exact : (a b : N) → eq a b ≡ true → a ≡ b) where
-  gone_touched : (change : Change) (before : List (Mark N A)) → AllByRecursion (IsTold w law change) before → (m : N) → HasEntry eq (entries_in before) m → has_gone eq before m ≡ is_touched w change m
+  gone_touched : (change : Change) (before : List (Mark N A)) → AllByRecursion (IsTold w change) before → (m : N) → HasEntry eq (entries_in before) m → has_gone eq before m ≡ is_touched w change m
   gone_touched change [] told m h = absurd (cc)
   gone_touched change (k ∷ ks) told m h = by (eq m k.entry.node) refl (gone_touched change ks told.1 m) h
     where
@@ -188,26 +181,26 @@ module _ {N A : Type 0} (w : Standing N A) (law : IsSettled w) (eq : N → N →
       by false e ih h = ih h
 
   -- each mark of the pass says whether the node is touched, from the front on
-  marks-told : (change : Change) (kept : List N) (before ks : List (Mark N A)) → AllByRecursion (IsTold w law change) before → AreMarked eq change before ks → AsksBefore eq (entries_in before) (entries_in ks) → AllByRecursion (IsRightEntry w kept) (entries_in ks) → AllByRecursion (IsTold w law change) ks
+  marks-told : (change : Change) (kept : List N) (before ks : List (Mark N A)) → AllByRecursion (IsTold w change) before → AreMarked eq change before ks → AsksBefore eq (entries_in before) (entries_in ks) → AllByRecursion (IsRightEntry w kept) (entries_in ks) → AllByRecursion (IsTold w change) ks
   marks-told change kept before [] told marked ordered right = tt
   marks-told change kept before (k ∷ ks) told marked ordered right =
-      let here : IsTold w law change k =
+      let here : IsTold w change k =
       marked.0
       ∙ ap (λ b. list_any (is_use_touched change) k.entry.uses || b) (any_same (has_gone eq before) (is_touched w change) k.entry.asked (All-map (gone_touched change before told) k.entry.asked ordered.0))
       ∙ sym (touched-kept w law change kept k.entry right.0) in
       let P : List (Entry N A) → Type 0 = λ es. AsksBefore eq es (entries_in ks) in
-      (here, marks-told change kept (before ++ k ∷ []) ks (All-++ (IsTold w law change) before (k ∷ []) told (here, tt)) marked.1 (subst P (sym (entries_in-append before (k ∷ []))) ordered.1) right.1)
+      (here, marks-told change kept (before ++ k ∷ []) ks (All-++ (IsTold w change) before (k ∷ []) told (here, tt)) marked.1 (subst P (sym (entries_in-append before (k ∷ []))) ordered.1) right.1)
 
   -- ---- what the pass leaves
   -- what stays is right on the same bytes
-  right-staying : (change : Change) (ks : List (Mark N A)) → IsRight w (entries_in ks) → AreMarked eq change [] ks → IsRight w (staying ks)
-  right-staying change ks right marked =
-      let kept : List N = nodes_of (staying ks) in
+  right-entries_left : (change : Change) (ks : List (Mark N A)) → IsRight w (entries_in ks) → AreMarked eq change [] ks → IsRight w (entries_left ks)
+  right-entries_left change ks right marked =
+      let kept : List N = nodes_of (entries_left ks) in
       record {
-        each = All-both (IsRightEntry w (nodes_of (entries_in ks))) (λ (e : Entry N A). AllByRecursion (HasEntry eq (staying ks)) e.asked) (IsRightEntry w kept)
-            (λ e is asked. record { outcome = is.outcome; asked = is.asked; uses = is.uses; closed = All-map (λ m has. sym (any_entry w law eq laws exact (staying ks) m) ∙ has) e.asked asked })
-            (staying ks) (All-staying (IsRightEntry w (nodes_of (entries_in ks))) ks right.each) (asked_kept eq [] (staying ks) (stays-ordered eq change [] ks marked));
-        once = distinct-staying w ks right.once;
+        each = All-both (IsRightEntry w (nodes_of (entries_in ks))) (λ (e : Entry N A). AllByRecursion (HasEntry eq (entries_left ks)) e.asked) (IsRightEntry w kept)
+            (λ e is asked. record { outcome = is.outcome; asked = is.asked; uses = is.uses; closed = All-map (λ m has. sym (any_entry w law eq laws exact (entries_left ks) m) ∙ has) e.asked asked })
+            (entries_left ks) (All-entries_left (IsRightEntry w (nodes_of (entries_in ks))) ks right.each) (asked_kept eq [] (entries_left ks) (stays-ordered eq change [] ks marked));
+        once = distinct-entries_left w ks right.once;
       }
 
   -- those nodes stay that have no touched use in their tree, and no others
@@ -217,9 +210,9 @@ module _ {N A : Type 0} (w : Standing N A) (law : IsSettled w) (eq : N → N →
       let R : List (Entry N A) → Type 0 = λ xs. IsRight w xs in
       let O : List (Entry N A) → Type 0 = λ xs. AsksBefore eq [] xs in
       let right_marks : IsRight w (entries_in ks) = subst R (sym sweeps.entries) right in
-      let told : AllByRecursion (IsTold w law change) ks = marks-told change (nodes_of (entries_in ks)) [] ks tt sweeps.marked (subst O (sym sweeps.entries) sweeps.ordered) right_marks.each in
-      let stays : IsRight w all = subst R (sym sweeps.stays) (right-staying change ks right_marks sweeps.marked) in
-      let same : nodes_of all ≡ left_after w change (nodes_of es) = ap nodes_of sweeps.stays ∙ left_nodes w law change ks told ∙ ap (λ xs. left_after w change (nodes_of xs)) sweeps.entries in
+      let told : AllByRecursion (IsTold w change) ks = marks-told change (nodes_of (entries_in ks)) [] ks tt sweeps.marked (subst O (sym sweeps.entries) sweeps.ordered) right_marks.each in
+      let stays : IsRight w all = subst R (sym sweeps.stays) (right-entries_left change ks right_marks sweeps.marked) in
+      let same : nodes_of all ≡ left_after w change (nodes_of es) = ap nodes_of sweeps.stays ∙ left_nodes w change ks told ∙ ap (λ xs. left_after w change (nodes_of xs)) sweeps.entries in
       (stays, record { once = stays.once; same = λ x. ap (λ ns. is_among w.number ns x) same })
 
 -- and it is right for the bytes after the edit
@@ -227,10 +220,10 @@ pub forgets-right : {N A : Type 0} (meaning : Meaning N A) → IsLawful meaning 
 forgets-right {N} {A} meaning law eq laws exact change before after made es all sweeps right =
     let P : List (Entry N A) → Type 0 = λ xs. AllByRecursion (λ (e : Entry N A). AllByRecursion (λ used. Touches change used → ⊥) e.uses) xs in
     untouched-stays meaning law change before after made all (forgets (on meaning before) (law_on meaning law before) eq laws exact change es all right sweeps).0
-    (subst P (sym sweeps.stays) (free-staying eq change [] sweeps.marks sweeps.marked))
+    (subst P (sym sweeps.stays) (free-entries_left eq change [] sweeps.marks sweeps.marked))
 
 -- it was kept before
 pub forgets-kept : {N A : Type 0} (eq : N → N → Bool) (change : Change) (es all : List (Entry N A)) → Sweeps eq change es all → AllByRecursion (Contains es) all
 forgets-kept {N} {A} eq change es all sweeps =
     let P : List (Entry N A) → Type 0 = λ xs. AllByRecursion (Contains es) xs in
-    subst P (sym sweeps.stays) (All-staying (Contains es) sweeps.marks (subst P (sym sweeps.entries) (recursion_from_All (Contains es) es (All-contains_itself es))))
+    subst P (sym sweeps.stays) (All-entries_left (Contains es) sweeps.marks (subst P (sym sweeps.entries) (recursion_from_All (Contains es) es (All-contains_itself es))))

@@ -86,10 +86,10 @@ kept_anywhere w law es right opened apart n h =
     (All-map (out_of_kept w (nodes_of es) opened apart) (completed w w.nodes [] n) (tree w law (nodes_of es) each w.nodes [] n h (each n h).answered))
 
 -- ---- one more entry
-or_left : (a b : Bool) → a ≡ true → (a || b) ≡ true
+pub or_left : (a b : Bool) → a ≡ true → (a || b) ≡ true
 or_left a b e = ap (λ x. x || b) e
 
-or_right : (a b : Bool) → b ≡ true → (a || b) ≡ true
+pub or_right : (a b : Bool) → b ≡ true → (a || b) ≡ true
 or_right true b e = refl
 or_right false b e = e
 

@@ -5,6 +5,8 @@ use Rattle.std.proofs.lemmas.List.Sorted.{list_any-IsPermutation, IsPermutation-
 use Rattle.std.specs.List.{list_any}
 use Rattle.std.specs.Map.{lookup}
 use Rattle.std.specs.Option.{option_map, option_map_or}
+use Rattle.indexmap.specs.IndexMap.{IndexMap, insert_entry}
+use Rattle.indexmap.proofs.CallerLemmas.{insert_entry-new}
 use Rattle.ksv_memo.specs.declared.table.Kept.{Kept}
 use Rattle.ksv_memo.specs.declared.table.Slot.{Slot}
 use Rattle.ksv_memo.specs.declared.frame.Frame.{Frame}
@@ -22,7 +24,7 @@ answer_found {N} {A} test (p ∷ pairs) = by (test p.0) (answer_found test pairs
     by false ih = ih
 
 -- where no entry passes, the map has no key that does
-pub entry_missed : {N A : Type 0} (test : N → Bool) (pairs : List (N × Slot (Kept N A))) → find (λ e. test e.node) (entries_of pairs) ≡ None → lookup test pairs ≡ None
+entry_missed : {N A : Type 0} (test : N → Bool) (pairs : List (N × Slot (Kept N A))) → find (λ e. test e.node) (entries_of pairs) ≡ None → lookup test pairs ≡ None
 entry_missed test [] h = refl
 entry_missed {N} {A} test (p ∷ pairs) h = by (test p.0) (entry_missed test pairs) h
   where
@@ -35,8 +37,12 @@ abbrev pub new_slot : {N A : Type 0} → Kept N A → Slot (Kept N A)
 new_slot kept = record { kept = kept; touched = false }
 
 -- a new key's entry comes last
-pub entries_of-push : {N A : Type 0} (pairs : List (N × Slot (Kept N A))) (n : N) (s : Slot (Kept N A)) → entries_of (pairs ++ (n, s) ∷ []) ≡ entries_of pairs ++ entry_of n s.kept ∷ []
+entries_of-push : {N A : Type 0} (pairs : List (N × Slot (Kept N A))) (n : N) (s : Slot (Kept N A)) → entries_of (pairs ++ (n, s) ∷ []) ≡ entries_of pairs ++ entry_of n s.kept ∷ []
 entries_of-push pairs n s = map-append (λ p. entry_of p.0 p.1.kept) pairs ((n, s) ∷ [])
+
+-- so the entries once a new key is in the map
+pub entries_of-insert : {N A S : Type 0} (eq : N → N → Bool) (slots : IndexMap N (Slot (Kept N A)) S) (n : N) (kept : Kept N A) (all : List (N × Slot (Kept N A))) → find (λ e. eq n e.node) (entries_of slots.entries) ≡ None → all ≡ insert_entry eq slots.entries n (new_slot kept) → entries_of all ≡ entries_of slots.entries ++ entry_of n kept ∷ []
+entries_of-insert eq slots n kept all none is = ap entries_of (is ∙ insert_entry-new eq slots n (new_slot kept) (entry_missed (eq n) slots.entries none)) ∙ entries_of-push slots.entries n (new_slot kept)
 
 -- a look-up in the map finds the mark of a node
 pub mark_found : {N A : Type 0} (eq : N → N → Bool) (pairs : List (N × Slot (Kept N A))) (m : N) → option_map_or (λ (s : Slot (Kept N A)). s.touched) (lookup (eq m) pairs) true ≡ has_gone eq (marks_of pairs) m

@@ -10,18 +10,12 @@ use Rattle.ksv_bytes.specs.declared.uses.Change.{Change}
 use Rattle.ksv_memo.specs.declared.table.Kept.{Kept}
 use Rattle.ksv_memo.specs.declared.table.Slot.{Slot}
 use Rattle.ksv_memo.specs.Entry.{Entry, entry_of, entries_of}
-use Rattle.ksv_memo.specs.Sweep.{HasEntry, AsksBefore, Mark, has_gone, is_to_go, AreMarked, entries_in, staying, marks_of, Marks}
+use Rattle.ksv_memo.specs.Sweep.{HasEntry, AsksBefore, Mark, has_gone, is_to_go, AreMarked, entries_in, entries_left, marks_of, MarksAt}
 use Rattle.ksv_memo.specs.Touched.{is_use_touched}
 use Rattle.ksv_memo.proofs.Lists.{All-map}
 use Rattle.ksv_memo.proofs.Evals.{or_false}
+use Rattle.ksv_memo.proofs.Keeping.{or_left, or_right}
 use Rattle.ksv_memo.proofs.Moves.{++-nil}
-
-or_true_left : (a b : Bool) → a ≡ true → (a || b) ≡ true
-or_true_left a b e = ap (λ x. x || b) e
-
-or_true_right : (a b : Bool) → b ≡ true → (a || b) ≡ true
-or_true_right true b e = refl
-or_true_right false b e = e
 
 -- what holds if there is a value holds of it
 pub if_some : {X : Type 0} (P : X → Type 0) (o : Option X) (x : X) → o ≡ Some x → IfSome o P → P x
@@ -41,8 +35,8 @@ module _ {N A : Type 0} where
   pub entries_in-append : (ks ls : List (Mark N A)) → entries_in (ks ++ ls) ≡ entries_in ks ++ entries_in ls
   entries_in-append ks ls = map-append (λ k. k.entry) ks ls
 
-  staying-append : (ks ls : List (Mark N A)) → staying (ks ++ ls) ≡ staying ks ++ staying ls
-  staying-append ks ls = ap entries_in (filter-append (λ k. not k.goes) ks ls) ∙ entries_in-append (filter (λ k. not k.goes) ks) (filter (λ k. not k.goes) ls)
+  entries_left-append : (ks ls : List (Mark N A)) → entries_left (ks ++ ls) ≡ entries_left ks ++ entries_left ls
+  entries_left-append ks ls = ap entries_in (filter-append (λ k. not k.goes) ks ls) ∙ entries_in-append (filter (λ k. not k.goes) ks) (filter (λ k. not k.goes) ls)
 
   -- the entries are those of the marks
   pub entries_in-marks_of : (pairs : List (N × Slot (Kept N A))) → entries_in (marks_of pairs) ≡ entries_of pairs
@@ -50,18 +44,18 @@ module _ {N A : Type 0} where
   entries_in-marks_of (p ∷ pairs) = ap (λ es. entry_of p.0 p.1.kept ∷ es) (entries_in-marks_of pairs)
 
   -- the slots that aren't marked are those of the entries that stay
-  pub staying-marks_of : (pairs : List (N × Slot (Kept N A))) → entries_of (filter (λ p. not p.1.touched) pairs) ≡ staying (marks_of pairs)
-  staying-marks_of [] = refl
-  staying-marks_of (p ∷ pairs) = by p.1.touched (staying-marks_of pairs)
+  pub entries_left-marks_of : (pairs : List (N × Slot (Kept N A))) → entries_of (filter (λ p. not p.1.touched) pairs) ≡ entries_left (marks_of pairs)
+  entries_left-marks_of [] = refl
+  entries_left-marks_of (p ∷ pairs) = by p.1.touched (entries_left-marks_of pairs)
     where
-      by : (b : Bool) → entries_of (filter (λ p. not p.1.touched) pairs) ≡ staying (marks_of pairs) → entries_of (cond (not b) (p ∷ filter (λ p. not p.1.touched) pairs) (filter (λ p. not p.1.touched) pairs)) ≡ entries_in (cond (not b) (record { entry = entry_of p.0 p.1.kept; goes = p.1.touched } ∷ filter (λ k. not k.goes) (marks_of pairs)) (filter (λ k. not k.goes) (marks_of pairs)))
+      by : (b : Bool) → entries_of (filter (λ p. not p.1.touched) pairs) ≡ entries_left (marks_of pairs) → entries_of (cond (not b) (p ∷ filter (λ p. not p.1.touched) pairs) (filter (λ p. not p.1.touched) pairs)) ≡ entries_in (cond (not b) (record { entry = entry_of p.0 p.1.kept; goes = p.1.touched } ∷ filter (λ k. not k.goes) (marks_of pairs)) (filter (λ k. not k.goes) (marks_of pairs)))
       by true ih = ih
       by false ih = ap (λ es. entry_of p.0 p.1.kept ∷ es) ih
 
 module _ {N A : Type 0} (eq : N → N → Bool) where
   -- ---- the order
   HasEntry-append : (es fs : List (Entry N A)) (m : N) → HasEntry eq es m → HasEntry eq (es ++ fs) m
-  HasEntry-append es fs m h = list_any-append (λ e. eq m e.node) es fs ∙ or_true_left (list_any (λ e. eq m e.node) es) (list_any (λ e. eq m e.node) fs) h
+  HasEntry-append es fs m h = list_any-append (λ e. eq m e.node) es fs ∙ or_left (list_any (λ e. eq m e.node) es) (list_any (λ e. eq m e.node) fs) h
 
   -- one more entry, whose asked nodes have entries
   pub AsksBefore-push : (before es : List (Entry N A)) (e : Entry N A) → AsksBefore eq before es → AllByRecursion (HasEntry eq (before ++ es)) e.asked → AsksBefore eq before (es ++ e ∷ [])
@@ -79,27 +73,27 @@ module _ {N A : Type 0} (eq : N → N → Bool) where
 
   -- ---- what stays
   -- a node that hasn't gone has an entry that stays
-  stays_kept : (ks : List (Mark N A)) (m : N) → has_gone eq ks m ≡ false → HasEntry eq (staying ks) m
+  stays_kept : (ks : List (Mark N A)) (m : N) → has_gone eq ks m ≡ false → HasEntry eq (entries_left ks) m
   stays_kept [] m h = absurd (cc)
   stays_kept (k ∷ ks) m h = by (eq m k.entry.node) refl k.goes refl h (stays_kept ks m)
     where
-      by : (b : Bool) → eq m k.entry.node ≡ b → (c : Bool) → k.goes ≡ c → cond b k.goes (has_gone eq ks m) ≡ false → (has_gone eq ks m ≡ false → HasEntry eq (staying ks) m) → HasEntry eq (entries_in (cond (not c) (k ∷ filter (λ k. not k.goes) ks) (filter (λ k. not k.goes) ks))) m
+      by : (b : Bool) → eq m k.entry.node ≡ b → (c : Bool) → k.goes ≡ c → cond b k.goes (has_gone eq ks m) ≡ false → (has_gone eq ks m ≡ false → HasEntry eq (entries_left ks) m) → HasEntry eq (entries_in (cond (not c) (k ∷ filter (λ k. not k.goes) ks) (filter (λ k. not k.goes) ks))) m
       by true e true f h ih = absurd (let yes : k.goes ≡ false = h in cc)
-      by true e false f h ih = or_true_left (eq m k.entry.node) (list_any (λ (x : Entry N A). eq m x.node) (staying ks)) e
+      by true e false f h ih = or_left (eq m k.entry.node) (list_any (λ (x : Entry N A). eq m x.node) (entries_left ks)) e
       by false e true f h ih = ih h
-      by false e false f h ih = or_true_right (eq m k.entry.node) (list_any (λ (x : Entry N A). eq m x.node) (staying ks)) (ih h)
+      by false e false f h ih = or_right (eq m k.entry.node) (list_any (λ (x : Entry N A). eq m x.node) (entries_left ks)) (ih h)
 
   -- what stays asked only what stays before it
-  pub stays-ordered : (change : Change) (before ks : List (Mark N A)) → AreMarked eq change before ks → AsksBefore eq (staying before) (staying ks)
+  pub stays-ordered : (change : Change) (before ks : List (Mark N A)) → AreMarked eq change before ks → AsksBefore eq (entries_left before) (entries_left ks)
   stays-ordered change before [] h = tt
   stays-ordered change before (k ∷ ks) h = by k.goes refl (stays-ordered change (before ++ k ∷ []) ks h.1)
     where
-      asked : k.goes ≡ false → AllByRecursion (HasEntry eq (staying before)) k.entry.asked
+      asked : k.goes ≡ false → AllByRecursion (HasEntry eq (entries_left before)) k.entry.asked
       asked f = All-map (λ m gone. stays_kept before m gone) k.entry.asked (none_pass (has_gone eq before) k.entry.asked (or_false (list_any (is_use_touched change) k.entry.uses) (list_any (has_gone eq before) k.entry.asked) (sym h.0 ∙ f)).1)
 
-      by : (b : Bool) → k.goes ≡ b → AsksBefore eq (staying (before ++ k ∷ [])) (staying ks) → AsksBefore eq (staying before) (entries_in (cond (not b) (k ∷ filter (λ k. not k.goes) ks) (filter (λ k. not k.goes) ks)))
-      by true e rest = let P : List (Entry N A) → Type 0 = λ xs. AsksBefore eq xs (staying ks) in subst P (staying-append before (k ∷ []) ∙ ap (λ b. staying before ++ entries_in (cond (not b) (k ∷ []) [])) e ∙ ++-nil (staying before)) rest
-      by false e rest = let P : List (Entry N A) → Type 0 = λ xs. AsksBefore eq xs (staying ks) in (asked e, subst P (staying-append before (k ∷ []) ∙ ap (λ b. staying before ++ entries_in (cond (not b) (k ∷ []) [])) e) rest)
+      by : (b : Bool) → k.goes ≡ b → AsksBefore eq (entries_left (before ++ k ∷ [])) (entries_left ks) → AsksBefore eq (entries_left before) (entries_in (cond (not b) (k ∷ filter (λ k. not k.goes) ks) (filter (λ k. not k.goes) ks)))
+      by true e rest = let P : List (Entry N A) → Type 0 = λ xs. AsksBefore eq xs (entries_left ks) in subst P (entries_left-append before (k ∷ []) ∙ ap (λ b. entries_left before ++ entries_in (cond (not b) (k ∷ []) [])) e ∙ ++-nil (entries_left before)) rest
+      by false e rest = let P : List (Entry N A) → Type 0 = λ xs. AsksBefore eq xs (entries_left ks) in (asked e, subst P (entries_left-append before (k ∷ []) ∙ ap (λ b. entries_left before ++ entries_in (cond (not b) (k ∷ []) [])) e) rest)
 
   -- ---- the pass
   -- whether a node has gone is told by the first entries, where one of them is its own
@@ -133,13 +127,13 @@ module _ {N A : Type 0} (eq : N → N → Bool) where
       (p ∷ front, back, ap suc place, ap (λ xs. p ∷ xs) was, ap (λ xs. p ∷ xs) now)
 
   -- a slot that is read is in its place
-  pub marks_set : (change : Change) (i : ℕ) (pairs : List (N × Slot (Kept N A))) (n : N) (s : Slot (Kept N A)) (goes : Bool) → slice_get pairs i ≡ Some (n, s) → goes ≡ is_to_go eq change (marks_of pairs) (entry_of n s.kept) → Marks eq change i pairs (set_value_at pairs i (record { kept = s.kept; touched = goes }))
+  pub marks_set : (change : Change) (i : ℕ) (pairs : List (N × Slot (Kept N A))) (n : N) (s : Slot (Kept N A)) (goes : Bool) → slice_get pairs i ≡ Some (n, s) → goes ≡ is_to_go eq change (marks_of pairs) (entry_of n s.kept) → MarksAt eq change i pairs (set_value_at pairs i (record { kept = s.kept; touched = goes }))
   marks_set change i pairs n s goes h is =
       let (front, back, place, was, now) = set_split pairs i n s (record { kept = s.kept; touched = goes }) h in
       record { front = front; node = n; slot = s; back = back; place = place; was = was; now = now ∙ ap (λ b. front ++ (n, record { kept = s.kept; touched = b }) ∷ back) is }
 
   -- the entries are the same after it
-  pub marks_same : (change : Change) (i : ℕ) (old new : List (N × Slot (Kept N A))) → Marks eq change i old new → entries_of new ≡ entries_of old
+  pub marks_same : (change : Change) (i : ℕ) (old new : List (N × Slot (Kept N A))) → MarksAt eq change i old new → entries_of new ≡ entries_of old
   marks_same change i old new h =
       ap entries_of h.now
       ∙ map-append (λ (p : N × Slot (Kept N A)). entry_of p.0 p.1.kept) h.front _
@@ -147,7 +141,7 @@ module _ {N A : Type 0} (eq : N → N → Bool) where
       ∙ ap entries_of (sym h.was)
 
   -- and one more of them is marked
-  pub marks_more : (change : Change) (i : ℕ) (old new : List (N × Slot (Kept N A))) → Marks eq change i old new → AsksBefore eq [] (entries_of old) → AreMarked eq change [] (marks_of (take i old)) → AreMarked eq change [] (marks_of (take (i + 1) new))
+  pub marks_more : (change : Change) (i : ℕ) (old new : List (N × Slot (Kept N A))) → MarksAt eq change i old new → AsksBefore eq [] (entries_of old) → AreMarked eq change [] (marks_of (take i old)) → AreMarked eq change [] (marks_of (take (i + 1) new))
   marks_more change i old new h ordered marked =
       let e : Entry N A = entry_of h.node h.slot.kept in
       let q : N × Slot (Kept N A) = (h.node, record { kept = h.slot.kept; touched = is_to_go eq change (marks_of old) e }) in

@@ -35,12 +35,13 @@ abbrev pub AreMarked : {N A : Type 0} → (N → N → Bool) → Change → List
 AreMarked eq change before [] = Unit {0}
 AreMarked eq change before (k ∷ ks) = (k.goes ≡ is_to_go eq change before k.entry) × AreMarked eq change (before ++ k ∷ []) ks
 
--- the marked entries, and those that stay
+-- the entries that have these marks
 abbrev pub entries_in : {N A : Type 0} → List (Mark N A) → List (Entry N A)
 entries_in ks = map (λ k. k.entry) ks
 
-abbrev pub staying : {N A : Type 0} → List (Mark N A) → List (Entry N A)
-staying ks = entries_in (filter (λ k. not k.goes) ks)
+-- those of them that stay
+abbrev pub entries_left : {N A : Type 0} → List (Mark N A) → List (Entry N A)
+entries_left ks = entries_in (filter (λ k. not k.goes) ks)
 
 -- the entries were marked in their order, and those stay that don't go
 pub record Sweeps {N A : Type 0} (eq : N → N → Bool) (change : Change) (before after : List (Entry N A)) : Type 0 where
@@ -48,14 +49,14 @@ pub record Sweeps {N A : Type 0} (eq : N → N → Bool) (change : Change) (befo
   pub entries : entries_in marks ≡ before
   pub ordered : AsksBefore eq [] before
   pub marked : AreMarked eq change [] marks
-  pub stays : after ≡ staying marks
+  pub stays : after ≡ entries_left marks
 
 -- the marks of pairs of a node and its slot
 abbrev pub marks_of : {N A : Type 0} → List (N × Slot (Kept N A)) → List (Mark N A)
 marks_of pairs = map (λ pair. record { entry = entry_of pair.0 pair.1.kept; goes = pair.1.touched }) pairs
 
 -- one pair's mark was set, as it is to be
-pub record Marks {N A : Type 0} (eq : N → N → Bool) (change : Change) (i : ℕ) (before after : List (N × Slot (Kept N A))) : Type 0 where
+pub record MarksAt {N A : Type 0} (eq : N → N → Bool) (change : Change) (i : ℕ) (before after : List (N × Slot (Kept N A))) : Type 0 where
   pub front : List (N × Slot (Kept N A))
   pub node : N
   pub slot : Slot (Kept N A)

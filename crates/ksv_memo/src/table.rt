@@ -5,7 +5,7 @@ ghost use Rattle.std.specs.Option.{option_copied};
 ghost use Rattle.indexmap.specs.IndexMap.{index_map_len};
 ghost use Rattle.ksv_memo.specs.Entry.{entry_of, entries_of};
 ghost use Rattle.ksv_memo.specs.Touched.{is_use_touched};
-ghost use Rattle.ksv_memo.specs.Sweep.{AsksBefore, AreMarked, HasEntry, Marks, Sweeps, has_gone, is_to_go, marks_of};
+ghost use Rattle.ksv_memo.specs.Sweep.{AsksBefore, AreMarked, HasEntry, MarksAt, Sweeps, has_gone, is_to_go, marks_of};
 
 use indexmap::IndexMap;
 use ksv_bytes::{Change, Use, touches};
@@ -100,14 +100,14 @@ fn is_to_go<N: Eq + Hash + Drop, A: Drop>(slots: &Slots<N, A>, change: Change, p
 /// Sets the mark of the entry at a place.
 fn mark_at<N: Eq + Hash + Drop, A: Drop>(slots: &mut Slots<N, A>, change: Change, place: usize)
     requires { place < index_map_len slots.old }
-    ensures { Marks N.eq change place slots.old.entries slots.new.entries }
+    ensures { MarksAt N.eq change place slots.old.entries slots.new.entries }
 {
     let goes = is_to_go(slots, change, place);
     let (_, slot) = slots.pair_mut(place);
     slot.touched = goes;
 }
 
-/// Marks each entry that a change touches, and each that asked a marked one, from the front.
+/// MarksAt each entry that a change touches, and each that asked a marked one, from the front.
 fn mark<N: Eq + Hash + Drop, A: Drop>(slots: &mut Slots<N, A>, change: Change)
     requires { AsksBefore N.eq [] (entries_of slots.old.entries) }
     ensures marked { AreMarked N.eq change [] (marks_of slots.new.entries) }
@@ -137,15 +137,13 @@ pub struct Table<N: Eq + Hash + Drop, A: Drop> {
 }
 
 impl<N: Eq + Hash + Drop, A: Drop> Model for Table<N, A> {
-    ghost use Rattle.std.specs.Prelude.{List};
+    ghost use Rattle.std.specs.Prelude.{List, []};
     ghost use Rattle.ksv_memo.specs.Entry.{Entry, entries_of};
+    ghost use Rattle.ksv_memo.specs.Sweep.{AsksBefore};
 
     ghost Value = { List (Entry N A) };
 
     ghost view = { λ table. entries_of table.entries.entries };
-
-    ghost use Rattle.std.specs.Prelude.{[]};
-    ghost use Rattle.ksv_memo.specs.Sweep.{AsksBefore};
 
     ghost invariant = { λ table. AsksBefore N.eq [] (entries_of table.entries.entries) };
 }
