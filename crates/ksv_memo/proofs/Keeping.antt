@@ -86,10 +86,10 @@ kept_anywhere w law es right opened apart n h =
     (All-map (out_of_kept w (nodes_of es) opened apart) (completed w w.nodes [] n) (tree w law (nodes_of es) each w.nodes [] n h (each n h).answered))
 
 -- ---- one more entry
-or_left : (a b : Bool) → a ≡ true → (a || b) ≡ true
+pub or_left : (a b : Bool) → a ≡ true → (a || b) ≡ true
 or_left a b e = ap (λ x. x || b) e
 
-or_right : (a b : Bool) → b ≡ true → (a || b) ≡ true
+pub or_right : (a b : Bool) → b ≡ true → (a || b) ≡ true
 or_right true b e = refl
 or_right false b e = e
 
@@ -174,9 +174,9 @@ tree-same w (suc j) (suc k) before opened n le h out = by (is_among w.number bef
     by true e f = absurd (subst (λ t. IsAnswered t.outcome) (eval-open w (suc j) before n e) h)
     by false e f = f e
 
--- the tree of a kept node is the trees of what it asked, and itself
-pub kept-tree : {N A : Type 0} (w : Standing N A) → IsSettled w → (es : List (Entry N A)) → IsRight w es → (n : N) → IsIn w (nodes_of es) n → IsAnswered (tells w [] n).outcome → completed w w.nodes [] n ≡ flat_map (completed w w.nodes []) (tells w [] n).asked ++ n ∷ []
-kept-tree {N} {A} w law es right n h answered =
+-- the tree of an answered node is the trees of what it asked, and itself
+pub kept-tree : {N A : Type 0} (w : Standing N A) → IsSettled w → (n : N) → IsAnswered (tells w [] n).outcome → completed w w.nodes [] n ≡ flat_map (completed w w.nodes []) (tells w [] n).asked ++ n ∷ []
+kept-tree {N} {A} w law n answered =
     let t : Told N A = tells w [] n in
     let level : t ≡ told w (answering w (n ∷ [])) n (suc w.replies) [] = tells-free w law [] n (AreDistinct-none w) refl in
     let answers : AllByRecursion (λ m. IsAnswered (answering w (n ∷ []) m)) t.asked = subst (λ (u : Told N A). AllByRecursion (λ m. IsAnswered (answering w (n ∷ []) m)) u.asked) (sym level) (told_answered w (answering w (n ∷ [])) n (suc w.replies) [] (subst (λ (u : Told N A). IsAnswered u.outcome) level answered)) in

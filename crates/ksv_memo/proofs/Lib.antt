@@ -8,3 +8,5 @@ pub mod Maps
 pub mod Once
 pub mod Questions
 pub mod Change
+pub mod Sweeping
+pub mod Forgetting

@@ -19,7 +19,8 @@ use Rattle.ksv_memo.specs.Running.{answering, Agrees, HasCome, IsWaiting, HasEnd
 use Rattle.ksv_memo.specs.declared.frame.Frame.{Frame}
 use Rattle.ksv_memo.specs.declared.table.Kept.{Kept}
 use Rattle.ksv_memo.specs.declared.machine.Progress.{Progress}
-use Rattle.ksv_memo.proofs.Lists.{All-right}
+use Rattle.ksv_memo.specs.Sweep.{HasEntry}
+use Rattle.ksv_memo.proofs.Lists.{All-map, All-right}
 use Rattle.ksv_memo.proofs.Evals.{IsOut, eqb_true, or_false_intro, AreDistinct-cons, tells-free}
 use Rattle.ksv_memo.proofs.Keeping.{IsIn, AreDistinct-none, done-kept, agrees, self_in, nodes_of-append}
 use Rattle.ksv_memo.proofs.Moves.{++-nil, with_answer, with_uses, newly, kept_of, stepped, value-stepped, rest-stepped, rest-replied, rest-starts, rest-circle, covers-keep, covers-drop, to_keep-nil, fresh-nil, debt-keep, debt-drop, replied, value-replied, value-circle, starts, value-starts, room, opens, keeps, closes, IsWaiting-keep}
@@ -92,6 +93,15 @@ module _ {N A : Type 0} (w : Standing N A) (law : IsSettled w) (eq : N → N →
   any_waits : (st : List (Open N A)) (n : N) → list_any (λ o. eq n o.node) st ≡ is_among w.number (nodes_in st) n
   any_waits [] n = refl
   any_waits (o ∷ st) n = ap (λ b. b || list_any (λ o. eq n o.node) st) (eq_number n o.node) ∙ ap (λ b. nat_eq (w.number n) (w.number o.node) || b) (any_waits st n)
+
+  -- a node that is kept has an entry
+  pub any_entry : (es : List (Entry N A)) (n : N) → list_any (λ e. eq n e.node) es ≡ is_among w.number (nodes_of es) n
+  any_entry [] n = refl
+  any_entry (e ∷ es) n = ap (λ b. b || list_any (λ e. eq n e.node) es) (eq_number n e.node) ∙ ap (λ b. nat_eq (w.number n) (w.number e.node) || b) (any_entry es n)
+
+  -- so what a node asked has entries, if all of it is kept
+  pub asked_have : (es : List (Entry N A)) (f : Frame N A) (k : Kept N A) → k.asked ≡ f.asked → AllByRecursion (IsIn w (nodes_of es)) f.asked.items → AllByRecursion (HasEntry eq es) k.asked.items
+  asked_have es f k same h = let P : List N → Type 0 = λ ms. AllByRecursion (HasEntry eq es) ms in subst P (ap (λ v. v.items) (sym same)) (All-map (λ m is_in. any_entry es m ∙ is_in) f.asked.items h)
 
   -- the test of the code says whether a node is open
   pub open_test : (top : N) (st : List (Open N A)) (n : N) → (eq n top || list_any (λ o. eq n o.node) st) ≡ is_among w.number (top ∷ nodes_in st) n

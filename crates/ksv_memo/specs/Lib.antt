@@ -2,6 +2,8 @@ pub mod Meaning
 pub mod Evaluation
 pub mod Entry
 pub mod Right
+pub mod Touched
 pub mod Answers
 pub mod Open
 pub mod Running
+pub mod Sweep

@@ -5,6 +5,7 @@ ghost use Rattle.ksv_bytes.specs.Uses.{Makes};
 ghost use Rattle.ksv_memo.specs.Meaning.{on};
 ghost use Rattle.ksv_memo.specs.Evaluation.{tells, done};
 ghost use Rattle.ksv_memo.specs.Right.{IsRight, AreExactly, AreBetween, nodes_of, fresh, costs};
+ghost use Rattle.ksv_memo.specs.Touched.{left_after};
 ghost use Rattle.ksv_memo.specs.Answers.{answer_of, turns_after};
 
 use crate::machine::{Machine, Reply};
@@ -108,13 +109,17 @@ impl<R: Rules> Engine<R> {
         }
     }
 
-    /// Drops what an edit may have changed, so that the engine is right for the bytes after it. It takes no memory.
-    pub fn forget(&mut self, _change: Change)
-        ensures right { (rules : R) (before after : List ℕ) → IsRight (on (R.meaning rules) before) self.old.kept → Makes _change before after → IsRight (on (R.meaning rules) after) self.new.kept }
+    /// Takes out the kept nodes that an edit touches, so that the engine is right for the bytes after it. It takes no
+    /// memory.
+    pub fn forget(&mut self, change: Change)
+        ensures right { (rules : R) (before after : List ℕ) → IsRight (on (R.meaning rules) before) self.old.kept → Makes change before after → IsRight (on (R.meaning rules) after) self.new.kept }
+
+        // On the bytes before the edit those nodes stay that have no touched use in their tree, and no others.
+        ensures left { (rules : R) (before : List ℕ) → IsRight (on (R.meaning rules) before) self.old.kept → AreExactly (on (R.meaning rules) before) (nodes_of self.new.kept) (left_after (on (R.meaning rules) before) change (nodes_of self.old.kept)) }
         ensures kept { AllByRecursion (Contains self.old.kept) self.new.kept }
         ensures turns { self.new.turns ≡ self.old.turns }
     {
-        self.machine.table.clear();
+        self.machine.table.forget(change);
     }
 
     /// The number of kept nodes.

@@ -6,7 +6,7 @@ ghost use Rattle.ksv_memo_samples.specs.Rows.{rows_meaning};
 ghost use Rattle.ksv_memo_samples.specs.Chain.{chain_meaning};
 
 use ksv_bytes::{Buffer, Change, Window};
-use ksv_memo::laws::untouched_answers_stay_right;
+use ksv_memo::laws::{edits_leave_untouched_nodes, untouched_answers_stay_right};
 use ksv_memo::{Answer, Engine};
 use ksv_memo_samples::{Chain, Link, Missing, Row, RowNumber, Rows};
 use std::alloc::{AllocError, Global};
@@ -30,15 +30,26 @@ static ROWS: [&[u8]; 6] = [
     b"s\x00\x09\x01",
 ];
 
-fn rows(alloc: Global) -> Result<Rows, AllocError> {
+/// Rows of which none depends on itself, in the same letters. Row 1 is named by byte 0; rows 2 and 3 follow from it;
+/// row 4 is named by byte 1; row 5 is the sum of rows 3 and 4.
+static LINKED: [&[u8]; 6] = [
+    b"n\x07",
+    b"b\x00",
+    b"s\x01",
+    b"s\x02",
+    b"b\x01",
+    b"s\x03\x04",
+];
+
+fn rows(alloc: Global, told: &[&[u8]]) -> Result<Rows, AllocError> {
     let mut rows = Vec::new(alloc);
-    for told in &ROWS {
-        rows.push(told_row(alloc, told)?)?;
+    for one in told {
+        rows.push(told_row(alloc, one)?)?;
     }
     Ok(Rows { rows })
 }
 
-/// The row that one of [`ROWS`] tells.
+/// The row that one of [`ROWS`] or [`LINKED`] tells.
 fn told_row(alloc: Global, told: &[u8]) -> Result<Row, AllocError> {
     match told {
         [b'n', number] => Ok(Row::Number(u32::from(*number))),
@@ -124,7 +135,8 @@ fn keeps_answers(
     Ok(is_new && is_sum && is_counted && is_same && counts(engine, 3, Some(6)))
 }
 
-/// Asks two questions and forgets. Row 9 isn't there and takes a call; row 5 asks row 0, which is kept, and row 9.
+/// Asks two questions and forgets what an append touches, which is nothing: no row reads the size. Row 9 isn't there and
+/// takes a call; row 5 asks row 0, which is kept, and row 9.
 fn counts_and_forgets(
     engine: &mut Engine<Rows>,
     rules: &Rows,
@@ -139,7 +151,8 @@ fn counts_and_forgets(
     let is_counted = counts(engine, 5, Some(4));
     engine.forget(Change::Append);
     untouched_answers_stay_right(rules, Change::Append);
-    Ok(is_sum && is_begun && is_fault && is_counted && counts(engine, 0, Some(4)))
+    edits_leave_untouched_nodes(rules, Change::Append);
+    Ok(is_sum && is_begun && is_fault && is_counted && counts(engine, 5, Some(4)))
 }
 
 /// Asks two rows that depend on each other, one after the other. The rows that were completed on the way are kept.
@@ -164,7 +177,7 @@ fn ends_around(
 enum Trial {
     /// The same question twice.
     Twice,
-    /// Two questions, of which the second is counted from 0, and what is then forgotten.
+    /// Two questions, of which the second is counted from 0, and then an edit that touches nothing.
     Forgets,
     /// Two rows that depend on each other, in this order.
     Around(u8, u8),
@@ -172,7 +185,7 @@ enum Trial {
 
 /// Whether a trial ends as it should, over a file of one zero byte.
 fn ends_well(alloc: Global, trial: Trial) -> Result<bool, Fail> {
-    let rules = rows(alloc)?;
+    let rules = rows(alloc, &ROWS)?;
     let bytes = Buffer::new(b"\0".to_vec(alloc)?)?;
     let mut engine = rows_engine(alloc, &rules, &bytes);
     let ended = match trial {
@@ -370,6 +383,67 @@ fn random_edit(engine: &mut Engine<Rows>, rules: &Rows, bytes: &mut Buffer, rand
         2 => delete(engine, rules, bytes, at, 1),
         _ => append(engine, rules, bytes, &new),
     }
+}
+
+/// An edit of two bytes that name row 0.
+#[derive(Clone, Copy)]
+enum Edit {
+    /// Another byte in this place, which names row 0 too.
+    At(usize),
+    /// A byte after the last one.
+    After,
+    /// A byte before the second one.
+    Between,
+}
+
+/// Makes an edit, and tells the engine.
+fn make_edit(engine: &mut Engine<Rows>, rules: &Rows, bytes: &mut Buffer, edit: Edit)
+    requires { IsRight (on (rows_meaning rules.now.rows.items) bytes.old) engine.old.kept }
+    ensures { IsRight (on (rows_meaning rules.now.rows.items) bytes.new) engine.new.kept }
+{
+    match edit {
+        Edit::At(place) => overwrite(engine, rules, bytes, place, b"\0"),
+        Edit::After => append(engine, rules, bytes, b"\0"),
+        Edit::Between => insert(engine, rules, bytes, 1, b"\0"),
+    }
+}
+
+/// Whether, of the 6 rows of [`LINKED`], so many are kept after an edit, and the next question takes so many turns.
+fn leaves(
+    alloc: Global,
+    rules: &Rows,
+    edited: Edit,
+    kept: usize,
+    turns: u64,
+) -> Result<bool, Fail> {
+    let mut bytes = Buffer::new(b"\0\0".to_vec(alloc)?)?;
+    let mut engine = rows_engine(alloc, rules, &bytes);
+    let is_sum = answers(&mut engine, rules, &bytes, 5, Ok(Ok(14)))?;
+    let is_counted = counts(&engine, 6, Some(12));
+    make_edit(&mut engine, rules, &mut bytes, edited);
+    let is_left = counts(&engine, kept, Some(12));
+    begin(&mut engine, rules, &bytes);
+    let is_same = answers(&mut engine, rules, &bytes, 5, Ok(Ok(14)))?;
+    Ok(is_sum && is_counted && is_left && is_same && counts(&engine, 6, Some(turns)))
+}
+
+#[test]
+fn forgets_a_row_and_its_users_alone(rt: HostRuntime) -> Result<(), Fail> {
+    let rules = rows(rt.alloc(), &LINKED)?;
+    // Row 4 and row 5, and then rows 1, 2, 3 and 5.
+    let is_right = leaves(rt.alloc(), &rules, Edit::At(1), 4, 5)?
+        && leaves(rt.alloc(), &rules, Edit::At(0), 2, 9)?
+        && leaves(rt.alloc(), &rules, Edit::Between, 4, 5)?;
+    assert!(rt; is_right);
+    Ok(())
+}
+
+#[test]
+fn forgets_nothing_that_an_edit_leaves_alone(rt: HostRuntime) -> Result<(), Fail> {
+    let rules = rows(rt.alloc(), &LINKED)?;
+    let is_right = leaves(rt.alloc(), &rules, Edit::After, 6, 0)?;
+    assert!(rt; is_right);
+    Ok(())
 }
 
 /// What a row answers by plain recursion over the bytes of a buffer.

@@ -2,15 +2,22 @@ use Rattle.std.proofs.Common.{refl}
 use Rattle.ksv_memo.specs.Meaning.{on}
 use Rattle.ksv_memo.specs.Open.{open_of}
 use Rattle.ksv_memo.proofs.Standing.{law_on}
-use Rattle.ksv_memo.proofs.Turns.{miss_of_out, heard_copy, kept_view, left-same, finish-ends, finish-goes, finish-left, on_err_always}
+use Rattle.ksv_memo.proofs.Turns.{miss_of_out, asked_have, heard_copy, kept_view, left-same, finish-ends, finish-goes, finish-left, on_err_always}
 use Rattle.ksv_memo.proofs.machine.Machine.finish.Goals as goal
 
 -- an open node isn't kept
-pub keep-requires : goal.keep-requires
-keep-requires g c =
+pub keep-requires-clause-new : goal.keep-requires-clause-new
+keep-requires-clause-new g c =
     let w = on (g.R.Rules.meaning c.args.rules.now) c.args.bytes.now in
     let law = law_on (g.R.Rules.meaning c.args.rules.now) (g.met.R.Rules.lawful c.args.rules.now) c.args.bytes.now in
     miss_of_out w law g.R.Node.PartialEq.eq g.met.R.Node.Eq.laws g.met.R.Rules.exact c.args.self.now.table c.args.node c.requires.stack.apart.0
+
+-- what it asked is kept
+pub keep-requires-clause-asked : goal.keep-requires-clause-asked
+keep-requires-clause-asked g c =
+    let w = on (g.R.Rules.meaning c.args.rules.now) c.args.bytes.now in
+    let law = law_on (g.R.Rules.meaning c.args.rules.now) (g.met.R.Rules.lawful c.args.rules.now) c.args.bytes.now in
+    asked_have w law g.R.Node.PartialEq.eq g.met.R.Node.Eq.laws g.met.R.Rules.exact c.args.self.now.table c.args.frame c.in_ok-kept.kept c.in_ok-kept.ensures.asked c.requires.ended.closed
 
 -- the lowest node was kept
 pub returns-in-None-clause-ok : goal.returns-in-None-clause-ok
