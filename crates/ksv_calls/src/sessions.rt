@@ -1,8 +1,8 @@
 //! A file of the greatest size, and a session line by line.
 
 use crate::devices::{FIRST, accepted};
-use ksv::{Memory, NewFault, Session, run};
-use ksv_bytes::FILE_LIMIT;
+use ksv::{End, Memory, NewFault, Session, run};
+use ksv_bytes::{Buffer, FILE_LIMIT, Window};
 use std::alloc::Global;
 use std::test::Fail;
 
@@ -56,5 +56,48 @@ fn a_session_answers_line_by_line(rt: HostRuntime) -> Result<(), Fail> {
         && session.line(b"").as_bytes() == b"".as_slice()
         && session.line(b"quit").as_bytes() == b"bye\n".as_slice();
     assert!(rt; is_answered && session.into_buffer().len() == 4);
+    Ok(())
+}
+
+/// A list of items, each with a size.
+const ITEMS: &[u8] =
+    b"meta: {id: k}\nseq:\n  - {id: magic, contents: [0x4b, 0x53]}\n  - {id: n, type: u1}\n  - {id: items, type: item, repeat: expr, repeat-expr: n}\ntypes:\n  item:\n    seq:\n      - {id: len, type: u1}\n      - {id: body, size: len}\n";
+
+/// Two items.
+const FILE: &[u8] = b"KS\x02\x01\xaa\x02\xbb\xcc";
+
+/// Whether a buffer lends the file in two parts, cut at a place.
+fn is_cut(buffer: &Buffer, place: usize) -> bool {
+    if place > FILE.len() {
+        return false;
+    }
+    let (front, back) = buffer.parts(Window {
+        from: 0,
+        to: buffer.len(),
+    });
+    front == &FILE[..place] && back == &FILE[place..]
+}
+
+/// Whether a session that inserts a byte at a place and deletes it answers as before, and hands the bytes back with
+/// the gap there.
+fn is_answered_around(alloc: Global, place: usize) -> Result<bool, Fail> {
+    let input = format!(in alloc;
+        "ins {place} ff\ndel {place} 1\nget /items/1/body\nget /magic\nquit\n"
+    )?;
+    let mut reader = Memory::new(input.into_bytes());
+    let mut writer = Memory::new(Vec::with_capacity(alloc, 100)?);
+    let desc = accepted(alloc, ITEMS)?;
+    let (buffer, end) = run(alloc, &mut reader, &mut writer, desc, FILE.to_vec(alloc)?)?;
+    let is_written = writer.bytes.as_slice() == b"ok 9\nok 8\nhex bbcc\nhex 4b53\nbye\n".as_slice();
+    Ok(is_written && end == End::Quit && is_cut(&buffer, place))
+}
+
+#[test]
+fn a_session_answers_around_the_gap(rt: HostRuntime) -> Result<(), Fail> {
+    let mut are_right = true;
+    for place in 0..9usize {
+        are_right &= is_answered_around(rt.alloc(), place)?;
+    }
+    assert!(rt; are_right);
     Ok(())
 }

@@ -22,13 +22,25 @@ fn edits_or_refuses(rt: HostRuntime) -> Result<(), Fail> {
     Ok(())
 }
 
+/// Whether a window of a buffer is these bytes in front of the gap, and those behind it.
+fn is_cut(buffer: &Buffer, window: Window, front: &[u8], back: &[u8]) -> bool {
+    if window.from > window.to || window.to > buffer.len() {
+        return false;
+    }
+    let (first, second) = buffer.parts(window);
+    first == front && second == back
+}
+
 /// Whether a buffer has these bytes.
 fn has(buffer: &Buffer, wanted: &[u8]) -> bool {
     let (front, back) = buffer.parts(Window {
         from: 0,
         to: buffer.len(),
     });
-    front == wanted && back.is_empty()
+    match wanted.strip_prefix(front) {
+        Some(rest) => rest == back,
+        None => false,
+    }
 }
 
 #[test]
@@ -65,6 +77,78 @@ fn deletes_anywhere(rt: HostRuntime) -> Result<(), Fail> {
         && buffer.delete(0, 2) == Ok(())
         && buffer.is_empty();
     assert!(rt; is_cut);
+    Ok(())
+}
+
+/// Whether an insert and a delete at a place leave the bytes as they were, in front of the place and behind it.
+fn is_cut_at(alloc: Global, bytes: &[u8], place: usize) -> Result<bool, Fail> {
+    if place > bytes.len() {
+        return Ok(false);
+    }
+    let mut buffer = Buffer::new(bytes.to_vec(alloc)?)?;
+    let is_made = buffer.insert(place, b"xyz") == Ok(()) && buffer.delete(place, 3) == Ok(());
+    let whole = Window {
+        from: 0,
+        to: bytes.len(),
+    };
+    Ok(is_made && is_cut(&buffer, whole, &bytes[..place], &bytes[place..]))
+}
+
+#[test]
+fn lends_a_window_in_two_parts(rt: HostRuntime) -> Result<(), Fail> {
+    let mut are_cut = true;
+    for place in 0..9usize {
+        are_cut &= is_cut_at(rt.alloc(), b"KS\x02\x01\xaa\x02\xbb\xcc", place)?;
+    }
+    assert!(rt; are_cut);
+    let mut buffer = Buffer::new(b"abcdef".to_vec(rt.alloc())?)?;
+    let is_made = buffer.delete(3, 1) == Ok(()) && buffer.insert(3, b"D") == Ok(());
+    assert!(rt; is_made);
+    let is_lent = is_cut(&buffer, Window { from: 1, to: 3 }, b"bc", b"")
+        && is_cut(&buffer, Window { from: 2, to: 5 }, b"c", b"De")
+        && is_cut(&buffer, Window { from: 3, to: 5 }, b"", b"De")
+        && is_cut(&buffer, Window { from: 6, to: 6 }, b"", b"");
+    assert!(rt; is_lent);
+    Ok(())
+}
+
+#[test]
+fn edits_around_the_gap(rt: HostRuntime) -> Result<(), Fail> {
+    let mut buffer = Buffer::new(b"abcdef".to_vec(rt.alloc())?)?;
+    let is_written = buffer.delete(3, 1) == Ok(())
+        && buffer.overwrite(2, b"CE") == Ok(())
+        && has(&buffer, b"abCEf")
+        && buffer.overwrite(0, b"AB") == Ok(())
+        && buffer.overwrite(4, b"F") == Ok(())
+        && has(&buffer, b"ABCEF");
+    assert!(rt; is_written);
+    let is_put = buffer.insert(3, b"D") == Ok(())
+        && buffer.append(b"G") == Ok(())
+        && buffer.insert(0, b"_") == Ok(())
+        && buffer.append(b"H") == Ok(())
+        && has(&buffer, b"_ABCDEFGH");
+    assert!(rt; is_put);
+    Ok(())
+}
+
+#[test]
+fn grows_at_one_place(rt: HostRuntime) -> Result<(), Fail> {
+    let mut buffer = Buffer::new(Vec::new(rt.alloc()))?;
+    let mut is_put = true;
+    for count in 0..2_000usize {
+        is_put &= buffer.insert(0, &[(count % 251) as u8]) == Ok(());
+    }
+    let last = is_cut(&buffer, Window { from: 0, to: 1 }, b"", &[242]);
+    let first = is_cut(
+        &buffer,
+        Window {
+            from: 1_999,
+            to: 2_000,
+        },
+        b"",
+        &[0],
+    );
+    assert!(rt; is_put && last && first);
     Ok(())
 }
 
