@@ -9,3 +9,4 @@ pub mod Json
 pub mod Dumping
 pub mod Exact
 pub mod Digits
+pub mod ReadBack

@@ -1,5 +1,5 @@
 -- What `put P N` asks, and the bytes that it writes: those of an integer of P's width and byte order. Only integers are written.
-use Rattle.std.specs.Prelude.{ℕ, zero, suc, ◌-◌, ◌*◌, ◌/◌, ◌%◌, ◌^◌, nat_le, Bool, ◌&&◌, ℤ, pos, negsuc, neg_ℤ, int_le, int_lt, List, [], ◌∷◌, reverse, Option, Some, None, option_map, option_and_then, slice_get, if◌then◌else◌}
+use Rattle.std.specs.Prelude.{◌≡◌, true, ℕ, zero, suc, ◌-◌, ◌*◌, ◌/◌, ◌%◌, ◌^◌, nat_le, Bool, ◌&&◌, ℤ, pos, negsuc, neg_ℤ, int_le, int_lt, List, [], ◌∷◌, reverse, Option, Some, None, option_map, option_and_then, slice_get, if◌then◌else◌}
 use Rattle.ksv_plan.specs.Plan.{Answer, Fail, ◌>>=◌}
 use Rattle.ksv_desc.specs.Description.{Description, MemberKind, Attribute, ParseInstance, Field, Content, Number, Choice, Always, Switch}
 use Rattle.ksv_desc.specs.declared.order.ByteOrder.{ByteOrder}
@@ -8,6 +8,7 @@ use Rattle.ksv_expr_value.specs.Trail.{Trail}
 use Rattle.ksv_nodes.specs.declared.given.Head.{Head}
 use Rattle.ksv_nodes.specs.declared.given.Head.TheVariants as heads
 use Rattle.ksv_nodes.specs.declared.given.Leaf.{Leaf}
+use Rattle.ksv_rules.specs.Integers.{integer_value}
 use Rattle.ksv_questions.specs.Asking.{Asking, Refused}
 use Rattle.ksv_questions.specs.Questions.{ask_head}
 use Rattle.ksv_questions.specs.declared.refusal.Refusal.TheVariants as refusals
@@ -71,6 +72,10 @@ in_order Big bytes = reverse bytes
 
 unfoldable pub integer_bytes : IntegerType → ℤ → List ℕ
 integer_bytes t n = in_order t.order (little_endian t.size (as_unsigned t n))
+
+-- the bytes of an integer are read as that integer, by the rule of an integer's value
+abbrev pub IntegersAreReadBack : Type 0
+IntegersAreReadBack = (t : IntegerType) (n : ℤ) → holds t n ≡ true → integer_value t.is_signed t.order (integer_bytes t n) ≡ n
 
 -- ---- the question
 

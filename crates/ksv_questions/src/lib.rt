@@ -12,6 +12,7 @@ mod dump;
 mod found;
 mod get;
 mod integer;
+mod laws;
 mod list;
 mod members;
 mod parts;
@@ -22,6 +23,7 @@ mod refusal;
 mod text;
 mod written;
 
+pub use laws::integers_are_read_back;
 pub use put::{Overwrite, overwrite_for};
 pub use question::{Question, answer};
 pub use refusal::Refusal;
