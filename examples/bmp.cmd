@@ -10,6 +10,18 @@ get /rows/0/pixels
 get /rows/0/pixels/1/rgb
 get /rows/1/pixels/2/rgb
 get /top_left
+# what there is, and where
+ls /
+at /header
+at /rows
+at /rows/1/pixels
+at /top
+dump /header
+dump /rows/0/pixels/1
+# more red, and as it was
+put /rows/0/pixels/1/red 255
+bytes 57 3
+put /rows/0/pixels/1/red 128
 # a height below 0 turns the picture over
 set 22 feffffff
 get /height

@@ -19,6 +19,19 @@ get /fields/0/attributes/0/name
 get /fields/0/attributes/0/body/constant
 get /methods/1/name
 get /methods/1/attributes/0/body/max_stack
+# what a method has, where things are, and a field whole
+ls /methods/1
+at /constants/8
+at /constants/9
+dump /constants/8
+dump /constants/9
+at /fields/0
+dump /fields/0
+# a field that is not static, and again as it was
+put /fields/0/access 16
+get /fields/0/is_static
+bytes 286 2
+put /fields/0/access 24
 # rename the method, in its constant
 set 213 66
 get /methods/1/name

@@ -17,6 +17,20 @@ get /blocks/5/body/colors
 get /blocks/5/body/transparent
 get /blocks/3/body/transparent
 get /blocks/5/body/fits
+# what a picture has, and where things are
+ls /blocks/3/body
+at /blocks
+at /blocks/3
+at /blocks/3/body/palette
+at /blocks/6/body
+at /blocks/5/body/palette
+dump /palette
+dump /blocks/4/body/body
+# a picture that is too high, and as it was
+put /blocks/5/body/height 300
+bytes 115 8
+get /blocks/5/body/fits
+put /blocks/5/body/height 4
 # move it to the right
 set 115 0700
 get /blocks/5/body/left

@@ -9,6 +9,18 @@ get /riff/chunks/1/body/frames/13/samples/0
 get /riff/chunks/1/body/frames/13/samples/1
 get /riff/chunks/2/body/kind
 get /riff/chunks/2/body/items/0/text
+# what a chunk has, where, and some of it whole
+ls /riff/chunks/0
+at /riff/chunks/1
+at /riff/chunks/1/body/frames/13
+dump /riff/chunks/0/body
+dump /riff/chunks/1/body/frames/13
+dump /riff/chunks/2/body/items/0
+# another sample, and as it was
+put /riff/chunks/1/body/frames/13/samples/0 32768
+put /riff/chunks/1/body/frames/13/samples/0 -32768
+bytes 96 4
+put /riff/chunks/1/body/frames/13/samples/0 -19518
 # one channel of two bytes: twice as many frames, twice as long
 set 22 0100
 get /riff/chunks/0/body/consistent

@@ -17,6 +17,20 @@ get /sections/5/body/comment
 get /sections/5/body/percent
 get /sections/5/body/section/body/crc32
 get /sections/3/body/agrees
+# what an entry has, where, and some of it whole
+ls /sections/5
+at /sections/0/body/body
+at /sections/6
+at /sections/5/body/section
+at /sections/6/body/directory
+dump /end
+dump /sections/1
+# deflated, which it is not, and as it was
+put /sections/0/body/method 8
+at /sections/0/body/text
+bytes 6 4
+put /sections/0/body/method 0
+get /sections/0/body/text
 # another name in the file, but not in its entry
 set 30 62
 get /sections/0/body/name
