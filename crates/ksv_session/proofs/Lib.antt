@@ -1,4 +1,4 @@
 pub mod RunLemmas
 pub mod AnswerLemmas
 pub mod QuestionLemmas
-pub mod AskLemmas
+pub mod PutLemmas

@@ -3,47 +3,12 @@ use Rattle.std.specs.Prelude.{◌≡◌, ℕ, Bool, true, false, List, [], ◌�
 use Rattle.ksv_bytes.specs.declared.edit.EditRefusal.{EditRefusal}
 use Rattle.ksv_bytes.specs.declared.edit.EditRefusal.TheVariants as edits
 use Rattle.ksv_desc.specs.Description.{Description}
-use Rattle.ksv_expr_value.specs.declared.fault.Fault.{Fault}
 use Rattle.ksv_lines.specs.Lines.{line_room, lines_of}
 use Rattle.ksv_lines.specs.declared.device.Failed.{Failed}
-use Rattle.ksv_memo.specs.Entry.{Entry}
-use Rattle.ksv_memo.specs.Meaning.{on}
-use Rattle.ksv_memo.specs.Right.{IsRight}
-use Rattle.ksv_memo.specs.declared.engine.Answer.{Answer as EngineAnswer}
-use Rattle.ksv_memo.specs.declared.engine.Answer.TheVariants as answers
-use Rattle.ksv_nodes.specs.declared.given.Given.{Given}
-use Rattle.ksv_nodes.specs.declared.node.Node.{Node}
-use Rattle.ksv_rules.specs.Described.{described}
-use Rattle.ksv_rules.specs.FromNothing.{circle}
 use Rattle.ksv_session.specs.Explored.{Explored, description_of}
 use Rattle.ksv_session.specs.Replies.{Answer, Event, answer, edit_refusal_text, is_fair}
 use Rattle.ksv_session.specs.Runs.{Breaks, Serves}
 use Rattle.ksv_session.specs.Session.{lines_in, session}
-use Rattle.ksv_session.specs.declared.question.Untold.{Untold}
-use Rattle.ksv_session.specs.declared.question.Untold.TheVariants as untolds
-
--- ---- questions of an engine
-
--- a node that was asked while it was open is the fault circle at its path
-abbrev pub plain_answer : EngineAnswer Node Given Fault → Result Given Fault
-plain_answer (answers.Value given) = Ok given
-plain_answer (answers.Fault f) = Err f
-plain_answer (answers.Circle n) = circle n
-
--- what an engine keeps is right for a description on some bytes
-abbrev pub IsRightFor : Description → List ℕ → List (Entry Node (Result Given Fault)) → Type 0
-IsRightFor d b kept = IsRight (on (described d) b) kept
-
--- what was returned, seen by view, is the expected value or its fault, unless memory ran out
-abbrev pub ComesTo : {X A : Type 0} → Result A Fault → (X → A) → Result X Untold → Type 0
-ComesTo r view (Ok x) = r ≡ Ok (view x)
-ComesTo r view (Err untolds.NoMemory) = Unit {0}
-ComesTo r view (Err (untolds.Fault f)) = r ≡ Err f
-
--- the fault that prevents a text is this one, unless memory ran out
-abbrev pub IsFault : Fault → Untold → Type 0
-IsFault f untolds.NoMemory = Unit {0}
-IsFault f (untolds.Fault e) = e ≡ f
 
 -- ---- edits
 

@@ -1,15 +1,16 @@
 -- Command lines: each is nothing, one command with its values, or a refusal. Checks are in their order: the length
 -- of the line, the command's name, the number of words, the arguments from left to right.
-use Rattle.std.specs.Prelude.{ℕ, Bool, true, false, ◌==◌, nat_lt, List, [], ◌∷◌, length, codes, slice_index, Option, Some, None, Result, Ok, Err, if◌then◌else◌}
+use Rattle.std.specs.Prelude.{ℕ, ℤ, Bool, true, false, ◌==◌, nat_lt, List, [], ◌∷◌, length, codes, slice_index, Option, Some, None, Result, Ok, Err, if◌then◌else◌}
 use Rattle.std.specs.Str.{bytes_eq}
 use Rattle.ksv_lines.specs.Digits.{bytes_of}
 use Rattle.ksv_lines.specs.Lines.{line_limit, without_carriage_return, words_of}
 use Rattle.ksv_desc.specs.Description.{Description}
-use Rattle.ksv_session.specs.Numbers.{number_of}
 use Rattle.ksv_expr_value.specs.Trail.{Trail}
 use Rattle.ksv_paths.specs.PathTexts.{path_named}
+use Rattle.ksv_questions.specs.declared.question.Question.TheVariants as questions
+use Rattle.ksv_session.specs.Numbers.{integer_of, number_of}
 use Rattle.ksv_session.specs.declared.command.Command.{Command}
-use Rattle.ksv_session.specs.declared.command.Command.TheVariants.{App, Blank, Bytes, Del, Get, Ins, Quit, Refused, Set, Size}
+use Rattle.ksv_session.specs.declared.command.Command.TheVariants.{App, Ask, Blank, Bytes, Del, Ins, Put, Quit, Refused, Set, Size}
 use Rattle.ksv_session.specs.declared.refusal.LineRefusal.{LineRefusal}
 use Rattle.ksv_session.specs.declared.refusal.LineRefusal.TheVariants as refusals
 
@@ -18,7 +19,8 @@ wrong_arguments = Refused refusals.WrongArguments
 
 -- whether a command asks the described file
 abbrev pub is_question : Command → Bool
-is_question (Get path) = true
+is_question (Ask question) = true
+is_question (Put path n) = true
 is_question _ = false
 
 -- the word of a list that has exactly one
@@ -27,14 +29,51 @@ only [] = None
 only (word ∷ []) = Some word
 only (word ∷ next ∷ words) = None
 
-abbrev pub get_path : Option Trail → Command
-get_path (Some path) = Get path
-get_path None = Refused refusals.BadPath
+abbrev pub valid_path : Option Trail → Result Trail LineRefusal
+valid_path (Some path) = Ok path
+valid_path None = Err refusals.BadPath
+
+-- the argument `PATH`
+abbrev pub pathed : Description → Option (List ℕ) → Result Trail LineRefusal
+pathed d (Some path) = valid_path (path_named d path)
+pathed d None = Err refusals.WrongArguments
 
 -- `get PATH`
-abbrev pub get_of : Description → Option (List ℕ) → Command
-get_of d (Some path) = get_path (path_named d path)
-get_of d None = wrong_arguments
+abbrev pub get_of : Result Trail LineRefusal → Command
+get_of (Ok path) = Ask (questions.Value path)
+get_of (Err refusal) = Refused refusal
+
+-- `at PATH`
+abbrev pub at_of : Result Trail LineRefusal → Command
+at_of (Ok path) = Ask (questions.Place path)
+at_of (Err refusal) = Refused refusal
+
+-- `ls PATH`
+abbrev pub ls_of : Result Trail LineRefusal → Command
+ls_of (Ok path) = Ask (questions.Members path)
+ls_of (Err refusal) = Refused refusal
+
+-- `dump PATH`
+abbrev pub dump_of : Result Trail LineRefusal → Command
+dump_of (Ok path) = Ask (questions.Dump path)
+dump_of (Err refusal) = Refused refusal
+
+abbrev pub put_number : Trail → Option ℤ → Command
+put_number path (Some n) = Put path n
+put_number path None = Refused refusals.BadNumber
+
+abbrev pub put_path : Option Trail → List ℕ → Command
+put_path (Some path) number = put_number path (integer_of number)
+put_path None number = Refused refusals.BadPath
+
+abbrev pub put_words : Description → List ℕ → Option (List ℕ) → Command
+put_words d path (Some number) = put_path (path_named d path) number
+put_words d path None = wrong_arguments
+
+-- `put PATH INT`
+abbrev pub put_of : Description → List (List ℕ) → Command
+put_of d [] = wrong_arguments
+put_of d (path ∷ words) = put_words d path (only words)
 
 abbrev pub hex_at : ℕ → Option (List ℕ) → Result (ℕ × List ℕ) LineRefusal
 hex_at at (Some bytes) = Ok (at, bytes)
@@ -113,7 +152,11 @@ alone command (word ∷ words) = wrong_arguments
 
 abbrev pub command_named : Description → List ℕ → List (List ℕ) → Command
 command_named d name arguments =
-    if bytes_eq name (codes "get") then get_of d (only arguments)
+    if bytes_eq name (codes "get") then get_of (pathed d (only arguments))
+    else if bytes_eq name (codes "at") then at_of (pathed d (only arguments))
+    else if bytes_eq name (codes "ls") then ls_of (pathed d (only arguments))
+    else if bytes_eq name (codes "dump") then dump_of (pathed d (only arguments))
+    else if bytes_eq name (codes "put") then put_of d arguments
     else if bytes_eq name (codes "set") then set_of (placed arguments)
     else if bytes_eq name (codes "ins") then ins_of (placed arguments)
     else if bytes_eq name (codes "del") then del_of (counted arguments)

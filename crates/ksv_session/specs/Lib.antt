@@ -1,6 +1,5 @@
 -- The definitions of sessions.
 pub mod Numbers
-pub mod Questions
 pub mod Commands
 pub mod Replies
 pub mod Session

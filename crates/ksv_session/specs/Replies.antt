@@ -5,9 +5,12 @@ use Rattle.ksv_bytes.specs.declared.edit.EditRefusal.{EditRefusal}
 use Rattle.ksv_bytes.specs.declared.edit.EditRefusal.TheVariants as edits
 use Rattle.ksv_session.specs.Commands.{command_of}
 use Rattle.ksv_session.specs.declared.command.Command.{Command}
-use Rattle.ksv_session.specs.declared.command.Command.TheVariants.{App, Blank, Bytes, Del, Get, Ins, Quit, Refused, Set, Size}
+use Rattle.ksv_session.specs.declared.command.Command.TheVariants.{App, Ask, Blank, Bytes, Del, Ins, Put, Quit, Refused, Set, Size}
 use Rattle.ksv_desc.specs.Description.{Description}
-use Rattle.ksv_session.specs.Questions.{bytes_text, question_text}
+use Rattle.ksv_questions.specs.Answers.{outcome, question_text}
+use Rattle.ksv_questions.specs.Asking.{Failure}
+use Rattle.ksv_questions.specs.Texts.{bytes_text, failure_text}
+use Rattle.ksv_questions.specs.Writing.{Overwrite, put_question}
 use Rattle.ksv_session.specs.declared.refusal.LineRefusal.{LineRefusal}
 use Rattle.ksv_session.specs.declared.refusal.LineRefusal.TheVariants as refusals
 
@@ -54,10 +57,16 @@ has b at count = nat_le (at + count) (length b)
 abbrev pub shown_text : List ℕ → ℕ → ℕ → List ℕ
 shown_text b at count = if has b at count then bytes_text b at (at + count) ++ codes "\n" else edit_refusal_text edits.Outside
 
+-- an integer is written over another, or the reply tells why it isn't
+abbrev pub put_answer : Description → List ℕ → Result Overwrite Failure → Answer
+put_answer d b (Ok o) = edited b (overwrite b o.at o.bytes)
+put_answer d b (Err e) = said b (failure_text d e ++ codes "\n")
+
 abbrev pub answer_to : Description → List ℕ → Command → Answer
 answer_to d b Blank = said b []
 answer_to d b (Refused refusal) = said b (line_refusal_text refusal)
-answer_to d b (Get path) = said b (question_text d b path ++ codes "\n")
+answer_to d b (Ask question) = said b (question_text d b question ++ codes "\n")
+answer_to d b (Put path n) = put_answer d b (outcome d b (put_question d path n))
 answer_to d b (Set at bytes) = edited b (overwrite b at bytes)
 answer_to d b (Ins at bytes) = edited b (insert b at bytes)
 answer_to d b (Del at count) = edited b (delete b at count)
@@ -66,11 +75,13 @@ answer_to d b (Bytes at count) = said b (shown_text b at count)
 answer_to d b Size = said b (codes "size " ++ decimal (length b) ++ codes "\n")
 answer_to d b Quit = record { bytes = b; text = codes "bye\n"; ends = true }
 
--- whether a command may be refused memory: a question and `bytes` for the reply, an edit that is accepted for its growth
+-- whether a command may be refused memory: a question, a `put` and `bytes` for what they ask and for the reply, an edit that is
+-- accepted for its growth
 abbrev pub may_be_refused : List ℕ → Command → Bool
 may_be_refused b Blank = false
 may_be_refused b (Refused refusal) = false
-may_be_refused b (Get path) = true
+may_be_refused b (Ask question) = true
+may_be_refused b (Put path n) = true
 may_be_refused b (Set at bytes) = false
 may_be_refused b (Ins at bytes) = is_ok (insert b at bytes)
 may_be_refused b (Del at count) = false

@@ -1,15 +1,16 @@
 //! Reads a line: nothing, a command with its values, or a refusal.
-ghost use Rattle.std.specs.Prelude.{◌≡◌, ◌≤◌, ◌↔◌, [], length, IfOk, IfSome, IsTrue, OnErr, option_copied};
+ghost use Rattle.std.specs.Prelude.{◌≡◌, ◌≤◌, ◌↔◌, [], length, is_ok, IfOk, IfSome, IsTrue, OnErr, option_copied};
 ghost use Rattle.ksv_desc.specs.Whole.{plain_pieces};
 ghost use Rattle.ksv_lines.specs.Lines.{line_limit, words_of};
-ghost use Rattle.ksv_session.specs.Commands.{alone, app_of, command_named, command_of, counted, del_of, get_of, ins_of, is_question, only, placed, set_of, shown_of};
+ghost use Rattle.ksv_session.specs.Commands.{alone, app_of, at_of, command_named, command_of, counted, del_of, dump_of, get_of, ins_of, is_question, ls_of, only, pathed, placed, put_of, set_of, shown_of};
 
-use crate::number::number;
+use crate::number::{integer, number};
 use crate::refusal::LineRefusal;
 use ksv_desc::Desc;
-use ksv_expr_value::Path;
+use ksv_expr_value::{Integer, Path};
 use ksv_lines::{EditBytes, edit_bytes, line_text, next_word};
 use ksv_paths::path_of;
+use ksv_questions::Question;
 use std::alloc::{AllocError, Global};
 
 /// The most bytes of a line, its LF aside.
@@ -25,8 +26,10 @@ pub(crate) enum Command {
     Blank,
     /// A refused line.
     Refused(LineRefusal),
-    /// `get PATH`: the value at a path.
-    Get(Path),
+    /// `get PATH`, `at PATH`, `ls PATH` or `dump PATH`: a question about a path.
+    Ask(Question),
+    /// `put PATH INT`: an integer written over the one at a path.
+    Put(Path, Integer),
     /// `set POS HEX`: bytes written over those from a place on.
     Set(u64, EditBytes),
     /// `ins POS HEX`: bytes put before the byte at a place, or after the last one.
@@ -59,17 +62,84 @@ fn only_word(text: &[u8]) -> Option<&[u8]>
     if no_word(rest) { Some(word) } else { None }
 }
 
-/// Reads the arguments of `get`. Only a valid path takes memory.
-fn get(alloc: Global, desc: &Desc, arguments: &[u8]) -> Result<Command, AllocError>
-    ensures command { IfOk result (λ command. command ≡ get_of (plain_pieces desc.now) (only (words_of arguments.now))) }
-    ensures refused { OnErr result (IsTrue (is_question (get_of (plain_pieces desc.now) (only (words_of arguments.now))))) }
+/// Reads the argument `PATH`. Only a valid path takes memory.
+fn only_path(
+    alloc: Global,
+    desc: &Desc,
+    arguments: &[u8],
+) -> Result<Result<Path, LineRefusal>, AllocError>
+    ensures path { IfOk result (λ path. path ≡ pathed (plain_pieces desc.now) (only (words_of arguments.now))) }
+    ensures refused { OnErr result (IsTrue (is_ok (pathed (plain_pieces desc.now) (only (words_of arguments.now))))) }
 {
     let Some(path) = only_word(arguments) else {
-        return Ok(Command::Refused(LineRefusal::WrongArguments));
+        return Ok(Err(LineRefusal::WrongArguments));
     };
     match path_of(alloc, desc, path)? {
-        Some(path) => Ok(Command::Get(path)),
-        None => Ok(Command::Refused(LineRefusal::BadPath)),
+        Some(path) => Ok(Ok(path)),
+        None => Ok(Err(LineRefusal::BadPath)),
+    }
+}
+
+/// Reads the arguments of `get`.
+fn get(alloc: Global, desc: &Desc, arguments: &[u8]) -> Result<Command, AllocError>
+    ensures command { IfOk result (λ command. command ≡ get_of (pathed (plain_pieces desc.now) (only (words_of arguments.now)))) }
+    ensures refused { OnErr result (IsTrue (is_question (get_of (pathed (plain_pieces desc.now) (only (words_of arguments.now)))))) }
+{
+    match only_path(alloc, desc, arguments)? {
+        Ok(path) => Ok(Command::Ask(Question::Value(path))),
+        Err(refusal) => Ok(Command::Refused(refusal)),
+    }
+}
+
+/// Reads the arguments of `at`.
+fn at(alloc: Global, desc: &Desc, arguments: &[u8]) -> Result<Command, AllocError>
+    ensures command { IfOk result (λ command. command ≡ at_of (pathed (plain_pieces desc.now) (only (words_of arguments.now)))) }
+    ensures refused { OnErr result (IsTrue (is_question (at_of (pathed (plain_pieces desc.now) (only (words_of arguments.now)))))) }
+{
+    match only_path(alloc, desc, arguments)? {
+        Ok(path) => Ok(Command::Ask(Question::Place(path))),
+        Err(refusal) => Ok(Command::Refused(refusal)),
+    }
+}
+
+/// Reads the arguments of `ls`.
+fn ls(alloc: Global, desc: &Desc, arguments: &[u8]) -> Result<Command, AllocError>
+    ensures command { IfOk result (λ command. command ≡ ls_of (pathed (plain_pieces desc.now) (only (words_of arguments.now)))) }
+    ensures refused { OnErr result (IsTrue (is_question (ls_of (pathed (plain_pieces desc.now) (only (words_of arguments.now)))))) }
+{
+    match only_path(alloc, desc, arguments)? {
+        Ok(path) => Ok(Command::Ask(Question::Members(path))),
+        Err(refusal) => Ok(Command::Refused(refusal)),
+    }
+}
+
+/// Reads the arguments of `dump`.
+fn dump(alloc: Global, desc: &Desc, arguments: &[u8]) -> Result<Command, AllocError>
+    ensures command { IfOk result (λ command. command ≡ dump_of (pathed (plain_pieces desc.now) (only (words_of arguments.now)))) }
+    ensures refused { OnErr result (IsTrue (is_question (dump_of (pathed (plain_pieces desc.now) (only (words_of arguments.now)))))) }
+{
+    match only_path(alloc, desc, arguments)? {
+        Ok(path) => Ok(Command::Ask(Question::Dump(path))),
+        Err(refusal) => Ok(Command::Refused(refusal)),
+    }
+}
+
+/// Reads the arguments of `put`. A path that is refused memory is valid, so that the integer is still what is wrong.
+fn put(alloc: Global, desc: &Desc, arguments: &[u8]) -> Result<Command, AllocError>
+    ensures command { IfOk result (λ command. command ≡ put_of (plain_pieces desc.now) (words_of arguments.now)) }
+    ensures refused { OnErr result (IsTrue (is_question (put_of (plain_pieces desc.now) (words_of arguments.now)))) }
+{
+    let Some((path, behind)) = next_word(arguments) else {
+        return Ok(Command::Refused(LineRefusal::WrongArguments));
+    };
+    let Some(digits) = only_word(behind) else {
+        return Ok(Command::Refused(LineRefusal::WrongArguments));
+    };
+    match (path_of(alloc, desc, path), integer(digits)) {
+        (Ok(None), _) => Ok(Command::Refused(LineRefusal::BadPath)),
+        (_, None) => Ok(Command::Refused(LineRefusal::BadNumber)),
+        (Ok(Some(path)), Some(number)) => Ok(Command::Put(path, number)),
+        (Err(refused), Some(_)) => Err(refused),
     }
 }
 
@@ -193,6 +263,14 @@ fn command_with(
 {
     if name == b"get".as_slice() {
         get(alloc, desc, arguments)
+    } else if name == b"at".as_slice() {
+        at(alloc, desc, arguments)
+    } else if name == b"ls".as_slice() {
+        ls(alloc, desc, arguments)
+    } else if name == b"dump".as_slice() {
+        dump(alloc, desc, arguments)
+    } else if name == b"put".as_slice() {
+        put(alloc, desc, arguments)
     } else if name == b"set".as_slice() {
         Ok(set(arguments))
     } else if name == b"ins".as_slice() {
@@ -212,7 +290,7 @@ fn command_with(
     }
 }
 
-/// Reads a line, given without its LF. Only a question takes memory, for its path.
+/// Reads a line, given without its LF. Only the path of a question or of a `put` takes memory.
 pub(crate) fn read_line(alloc: Global, desc: &Desc, line: &[u8]) -> Result<Command, AllocError>
     ensures command { IfOk result (λ command. command ≡ command_of (plain_pieces desc.now) line.now) }
     ensures refused { OnErr result (IsTrue (is_question (command_of (plain_pieces desc.now) line.now))) }

@@ -7,12 +7,10 @@
 
 mod command;
 mod number;
-mod question;
 mod refusal;
 mod reply;
 mod serve;
 mod session;
-mod text;
 
 pub use reply::{Reply, Short};
 pub use serve::{End, run};

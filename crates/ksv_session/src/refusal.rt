@@ -7,7 +7,7 @@ pub(crate) enum LineRefusal {
     UnknownCommand,
     /// C2: the command takes more words, or fewer.
     WrongArguments,
-    /// C3: no decimal number of 1 to 20 digits below 2^64.
+    /// C3: no decimal number of 1 to 20 digits below 2^64, or, where a `-` may stand before them, no integer from -2^63 on.
     BadNumber,
     /// C4: no even number of hexadecimal digits.
     BadHex,

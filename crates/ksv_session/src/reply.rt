@@ -1,7 +1,7 @@
 //! Replies, and those that take no memory.
-ghost use Rattle.std.specs.Prelude.{◌≡◌, ◌<◌, ◌≤◌, ◌++◌, codes, decimal, length};
-ghost use Rattle.ksv_session.specs.Replies.{edit_refusal_text, line_refusal_text};
-ghost use Rattle.ksv_session.specs.Seen.{is_last, reply_text};
+ghost use Rattle.std.specs.Prelude.{◌≡◌, ◌<◌, ◌≤◌, ◌++◌, false, codes, decimal, length, string_bytes, if◌then◌else◌};
+ghost use Rattle.ksv_session.specs.Replies.{edit_refusal_text, line_refusal_text, no_memory_text};
+ghost use Rattle.ksv_session.specs.Seen.{is_last, is_refusal, reply_text};
 
 use crate::refusal::LineRefusal;
 use arrayvec::ArrayString;
@@ -129,4 +129,15 @@ pub(crate) fn refused_edit(refusal: EditRefusal) -> Short
     ensures { result.bytes ≡ edit_refusal_text refusal }
 {
     short(edit_refusal(refusal))
+}
+
+/// A text of any length and its LF, for which memory may be refused.
+pub(crate) fn lined(mut text: String) -> Reply
+    ensures text { reply_text result ≡ (if is_refusal result then no_memory_text else string_bytes text ++ codes "\n") }
+    ensures last { is_last result ≡ false }
+{
+    match text.push_str("\n") {
+        Ok(()) => Reply::Text(text),
+        Err(_) => Reply::NoMemory,
+    }
 }

@@ -3,17 +3,19 @@ ghost use Rattle.std.specs.Prelude.{◌≡◌, ◌<◌, ◌↔◌, ◌++◌, tru
 ghost use Rattle.ksv_bytes.specs.Edits.{file_limit};
 ghost use Rattle.ksv_session.specs.Explored.{description_of};
 ghost use Rattle.ksv_session.specs.Commands.{command_of};
-ghost use Rattle.ksv_session.specs.Questions.{question_text};
-ghost use Rattle.ksv_session.specs.Replies.{answer, has, may_be_refused, no_memory_text, shown_text};
+ghost use Rattle.ksv_questions.specs.Answers.{outcome, question_text};
+ghost use Rattle.ksv_questions.specs.Writing.{put_question};
+ghost use Rattle.ksv_session.specs.Replies.{answer, has, may_be_refused, no_memory_text, put_answer, said, shown_text};
 ghost use Rattle.ksv_session.specs.Code.{edit_text, wants_memory};
 ghost use Rattle.ksv_session.specs.Seen.{answer_seen, is_last, is_refusal, reply_text};
 
 use crate::command::{Command, read_line};
-use crate::reply::{Reply, edit_reply, refused_edit, refused_line, size_reply};
-use crate::text::{bytes_reply, question_reply};
+use crate::reply::{Reply, edit_reply, lined, refused_edit, refused_line, size_reply};
 use ksv_bytes::{Buffer, EditRefusal};
 use ksv_desc::Desc;
-use ksv_expr_value::Path;
+use ksv_expr_value::{Integer, Path};
+use ksv_memo::Engine;
+use ksv_questions::{Question, answer, bytes_text, overwrite_for};
 use ksv_rules::Described;
 use std::alloc::Global;
 use std::marker::Model;
@@ -76,7 +78,7 @@ impl Session {
     }
 
     /// Answers a line, given without its LF; it may still end with a carriage return. If memory is refused nothing
-    /// changes; it can be refused only for a question, for `bytes` and for an edit that makes the file longer.
+    /// changes; it can be refused only for a question, for `put`, for `bytes` and for an edit that makes the file longer.
     #[tactic(auto, using(crate::proofs::QuestionLemmas::question_may), unfolding(crate::specs::Explored::description_of))]
     pub fn line(&mut self, line: &[u8]) -> Reply
         ensures answer { answer_seen self.new.bytes result ≡ answer (description_of self.old) self.old.bytes (record { line = line.now; refused = is_refusal result }) }
@@ -89,7 +91,8 @@ impl Session {
         match command {
             Command::Blank => Reply::None,
             Command::Refused(refusal) => Reply::Short(refused_line(refusal)),
-            Command::Get(path) => self.answered(&path),
+            Command::Ask(question) => self.answered(&question),
+            Command::Put(path, number) => self.put(&path, number),
             Command::Set(at, bytes) => {
                 let outcome = self.buffer.overwrite(at as usize, bytes.as_slice());
                 self.edited(outcome)
@@ -114,13 +117,48 @@ impl Session {
 
     /// The reply to a question.
     #[tactic(auto, unfolding(crate::specs::Explored::description_of))]
-    fn answered(&self, path: &Path) -> Reply
-        ensures answer { reply_text result ≡ (if is_refusal result then no_memory_text else question_text (description_of self.now) self.now.bytes path.now ++ codes "\n") }
+    fn answered(&self, question: &Question) -> Reply
+        ensures answer { reply_text result ≡ (if is_refusal result then no_memory_text else question_text (description_of self.now) self.now.bytes question.now ++ codes "\n") }
         ensures last { is_last result ≡ false }
     {
-        match question_reply(self.alloc, &self.described, &self.buffer, path) {
-            Ok(text) => Reply::Text(text),
+        let mut engine = Engine::new(self.alloc);
+        match answer(
+            self.alloc,
+            &mut engine,
+            &self.described,
+            &self.buffer,
+            question,
+        ) {
+            Ok(text) => lined(text),
             Err(_) => Reply::NoMemory,
+        }
+    }
+
+    /// Writes an integer over the one at a path. The edit comes last, and takes no memory.
+    #[tactic(auto, using(crate::proofs::PutLemmas::put_is), unfolding(crate::specs::Explored::description_of))]
+    fn put(&mut self, path: &Path, number: Integer) -> Reply
+        ensures answer { answer_seen self.new.bytes result ≡ (if is_refusal result then said self.old.bytes no_memory_text else put_answer (description_of self.old) self.old.bytes (outcome (description_of self.old) self.old.bytes (put_question (description_of self.old) path.now number))) }
+        ensures kept { description_of self.new ≡ description_of self.old }
+    {
+        let mut engine = Engine::new(self.alloc);
+        let Ok(meant) = overwrite_for(
+            self.alloc,
+            &mut engine,
+            &self.described,
+            &self.buffer,
+            path,
+            number,
+        ) else {
+            return Reply::NoMemory;
+        };
+        match meant {
+            Ok(overwrite) => {
+                let outcome = self
+                    .buffer
+                    .overwrite(overwrite.at as usize, overwrite.bytes.as_slice());
+                self.edited(outcome)
+            }
+            Err(text) => lined(text),
         }
     }
 
@@ -134,8 +172,8 @@ impl Session {
         if at > size || count > size - at {
             return Reply::Short(refused_edit(EditRefusal::Outside));
         }
-        match bytes_reply(self.alloc, &self.buffer, at as u32, (at + count) as u32) {
-            Ok(text) => Reply::Text(text),
+        match bytes_text(self.alloc, &self.buffer, at as u32, (at + count) as u32) {
+            Ok(text) => lined(text),
             Err(_) => Reply::NoMemory,
         }
     }
