@@ -2,33 +2,29 @@
 -- nodes that are shut outside their module. Here nodes are compared by what they are, and where the depth doesn't suffice
 -- there is no answer. Where there is one, it is that of evaluation from nothing (proofs/Depth), and what a session writes by such
 -- answers is what the session writes (proofs/Sessions).
-use Rattle.std.specs.Prelude.{ℕ, zero, suc, ◌==◌, ◌&&◌, ◌||◌, Bool, true, false, List, [], ◌∷◌, ◌++◌, map, codes, length, nat_lt, Option, Some, None, option_map, option_and_then, Result, Ok, Err, if◌then◌else◌}
-use Rattle.std.specs.Str.{bytes_eq}
+use Rattle.std.specs.Prelude.{ℕ, ℤ, zero, suc, ◌==◌, ◌&&◌, ◌||◌, Bool, true, false, List, [], ◌∷◌, ◌++◌, map, codes, Option, Some, None, option_map, option_and_then, Result, Ok, Err}
 use Rattle.ksv_plan.specs.Plan.{Answer, Fail, Ask}
 use Rattle.ksv_desc.specs.Description.{Description}
-use Rattle.ksv_expr_value.specs.Trail.{Trail, child}
+use Rattle.ksv_expr_value.specs.Trail.{Trail}
 use Rattle.ksv_expr_value.specs.declared.fault.Fault.{Fault}
 use Rattle.ksv_expr_value.specs.declared.fault.FaultKind.TheVariants as kinds
 use Rattle.ksv_expr_value.specs.declared.step.Step.{Step}
 use Rattle.ksv_expr_value.specs.declared.step.Step.TheVariants.{Index, Name}
-use Rattle.ksv_expr_value.specs.declared.value.Value.{Value}
-use Rattle.ksv_expr_value.specs.declared.value.Value.TheVariants as values
 use Rattle.ksv_nodes.specs.Reading.{look}
-use Rattle.ksv_nodes.specs.Rule.{Rule, Of, See, value_node, head_node, rest_node}
-use Rattle.ksv_nodes.specs.Truth.{with_given}
+use Rattle.ksv_nodes.specs.Rule.{Rule, Of, See}
 use Rattle.ksv_nodes.specs.Turning.{fault_at, raised}
 use Rattle.ksv_nodes.specs.declared.given.Given.{Given}
-use Rattle.ksv_nodes.specs.declared.given.Given.TheVariants as givens
 use Rattle.ksv_nodes.specs.declared.node.Node.{Node}
 use Rattle.ksv_nodes.specs.declared.node.NodeKind.{NodeKind}
 use Rattle.ksv_nodes.specs.declared.node.NodeKind.TheVariants.{Head, Value as ItsValue, End, Rest}
 use Rattle.ksv_rules.specs.FromNothing.{circle}
 use Rattle.ksv_rules.specs.Meaning.{rule_of}
-use Rattle.ksv_lines.specs.Lines.{line_limit, without_carriage_return, words_of}
-use Rattle.ksv_paths.specs.PathTexts.{path_named}
-use Rattle.ksv_session.specs.Commands.{command_of, only}
-use Rattle.ksv_session.specs.Questions.{Told, misfit, of_head, of_rest, of_value, told_text}
-use Rattle.ksv_session.specs.Replies.{Answer as Replied, Event, said, answer_to}
+use Rattle.ksv_questions.specs.Answers.{asking, told}
+use Rattle.ksv_questions.specs.Asking.{Asking, Failure, Heard}
+use Rattle.ksv_questions.specs.Writing.{put_question}
+use Rattle.ksv_questions.specs.declared.question.Question.{Question}
+use Rattle.ksv_session.specs.Commands.{by_asking, command_of}
+use Rattle.ksv_session.specs.Replies.{Answer as Replied, Event, said, answer_to, put_answer}
 use Rattle.ksv_session.specs.Session.{Standing, answered}
 
 -- ---- the same node
@@ -87,49 +83,27 @@ answer_at d bytes (suc k) opened n = elim (is_open opened n) [ true ↦ Some (ci
 
 -- ---- what a session says
 
-module _ (d : Description) (depth : ℕ) (bytes : List ℕ) where
-  -- what a node answers with none open
-  abbrev pub node_answer : Node → Option (Result Given Fault)
-  node_answer n = answer_at d bytes depth [] n
+-- what a question ends in, where `met` says what is heard of its nodes as far as it goes
+module _ (met : Node → Option Heard) where
+  abbrev pub ends_in : {A : Type 0} → Asking A → Option (Result A Failure)
+  ends_in (Answer a) = Some (Ok a)
+  ends_in (Fail e) = Some (Err e)
+  ends_in (Ask n k) = option_and_then (λ h. ends_in (k h)) (met n)
 
-  -- the number of elements of a list, by the path of its first
-  abbrev pub list_told : Trail → Trail → Option Trail → Option Told
-  list_told p q None = Some (Err (fault_at q kinds.PathTooLong))
-  list_told p q (Some first) = option_map (λ r. with_given r (of_rest p)) (node_answer (rest_node first))
+-- what a question ends in, where each node is asked with none open
+unfoldable pub outcome_to : {A : Type 0} → Description → ℕ → List ℕ → Asking A → Option (Result A Failure)
+outcome_to d depth bytes q = ends_in (answer_at d bytes depth []) q
 
-  -- the text of a value: of an object and of a list another node is asked
-  abbrev pub value_told : Trail → Value → Option Told
-  value_told p (values.Object q) = option_map (λ r. with_given r (of_head d p)) (node_answer (head_node q))
-  value_told p (values.List q) = list_told p q (child q (Index 0))
-  value_told p v = Some (of_value d bytes p v)
+-- the answer to a question, and to an integer that is to be written
+abbrev pub question_answer : Description → ℕ → List ℕ → Question → Option Replied
+question_answer d depth bytes question = option_map (λ r. said bytes (told d r ++ codes "\n")) (outcome_to d depth bytes (asking d bytes question))
 
-  abbrev pub given_told : Trail → Given → Option Told
-  given_told p (givens.Value v) = value_told p v
-  given_told p g = Some (misfit p)
-
-  abbrev pub result_told : Trail → Result Given Fault → Option Told
-  result_told p (Ok g) = given_told p g
-  result_told p (Err f) = Some (Err f)
-
-  -- what a question is told
-  unfoldable pub question_told : Trail → Option Told
-  question_told p = option_and_then (result_told p) (node_answer (value_node p))
-
--- the path that a line asks for, if it is a question
-abbrev pub asked_by : Description → List (List ℕ) → Option Trail
-asked_by d [] = None
-asked_by d (name ∷ arguments) = if bytes_eq name (codes "get") then option_and_then (path_named d) (only arguments) else None
-
-abbrev pub asked_on : Description → List ℕ → Option Trail
-asked_on d line = if nat_lt line_limit (length line) then None else asked_by d (words_of (without_carriage_return line))
+abbrev pub writing_answer : Description → ℕ → List ℕ → Trail → ℤ → Option Replied
+writing_answer d depth bytes path n = option_map (put_answer d bytes) (outcome_to d depth bytes (put_question d path n))
 
 -- the answer to a line
-abbrev pub asked_answer : Description → ℕ → List ℕ → List ℕ → Option Trail → Option Replied
-asked_answer d depth bytes line (Some p) = option_map (λ t. said bytes (told_text d t ++ codes "\n")) (question_told d depth bytes p)
-asked_answer d depth bytes line None = Some (answer_to d bytes (command_of d line))
-
 abbrev pub line_answer : Description → ℕ → List ℕ → List ℕ → Option Replied
-line_answer d depth bytes line = asked_answer d depth bytes line (asked_on d line)
+line_answer d depth bytes line = by_asking (question_answer d depth bytes) (writing_answer d depth bytes) (Some (answer_to d bytes (command_of d line))) (command_of d line)
 
 -- the lines of a session in which no memory is refused
 abbrev pub spoken : List (List ℕ) → List Event

@@ -1135,21 +1135,104 @@ led_back = record {
   ended = false;
 }
 
+-- where things are and what they have, all of them, and an integer written over another
+abbrev pub around : Dialogue
+around = record {
+  lines =
+      codes "meta:" ∷
+      codes "  id: k" ∷
+      codes "  endian: be" ∷
+      codes "seq:" ∷
+      codes "  - id: n" ∷
+      codes "    type: u1" ∷
+      codes "  - id: items" ∷
+      codes "    type: item" ∷
+      codes "    repeat: expr" ∷
+      codes "    repeat-expr: n" ∷
+      codes "types:" ∷
+      codes "  item:" ∷
+      codes "    seq:" ∷
+      codes "      - id: w" ∷
+      codes "        type: s2" ∷
+      codes "      - id: body" ∷
+      codes "        size: 1" ∷
+      [];
+  file = 0x02 ∷ 0xff ∷ 0xfe ∷ 0xaa ∷ 0x00 ∷ 0x07 ∷ 0xbb ∷ [];
+  input = text_of_lines (
+      codes "at /" ∷
+      codes "at /items" ∷
+      codes "at /items/1/body" ∷
+      codes "at /items/2" ∷
+      codes "ls /" ∷
+      codes "ls /items" ∷
+      codes "ls /items/1" ∷
+      codes "ls /n" ∷
+      codes "dump /" ∷
+      codes "dump /items/0/w" ∷
+      codes "dump /items/2" ∷
+      codes "put /items/0/w 513" ∷
+      codes "put /items/1/w -2" ∷
+      codes "put /items/1/w 32768" ∷
+      codes "put /items/1/body 1" ∷
+      codes "put /items 1" ∷
+      codes "put /items/2/w 1" ∷
+      codes "put /n 001" ∷
+      codes "ls /items" ∷
+      codes "put /n -1" ∷
+      codes "put /n -0" ∷
+      codes "put /n -" ∷
+      codes "put /n 18446744073709551616" ∷
+      codes "put x -" ∷
+      codes "put /n" ∷
+      codes "dump /items" ∷
+      []);
+  output = text_of_lines (
+      codes "at 0 7" ∷
+      codes "at 1 7" ∷
+      codes "at 6 7" ∷
+      codes "fault bad-index at /items/2" ∷
+      codes "members n items" ∷
+      codes "[2]" ∷
+      codes "members w body" ∷
+      codes "no members" ∷
+      codes "{\"items\":[{\"body\":{\"hex\":\"aa\"},\"w\":-2},{\"body\":{\"hex\":\"bb\"},\"w\":7}],\"n\":2}" ∷
+      codes "-2" ∷
+      codes "fault bad-index at /items/2" ∷
+      codes "ok 7" ∷
+      codes "ok 7" ∷
+      codes "error: out of range" ∷
+      codes "error: not an integer" ∷
+      codes "error: not an integer" ∷
+      codes "fault bad-index at /items/2" ∷
+      codes "ok 7" ∷
+      codes "[1]" ∷
+      codes "error: out of range" ∷
+      codes "ok 7" ∷
+      codes "error: bad number" ∷
+      codes "error: bad number" ∷
+      codes "error: bad path" ∷
+      codes "error: wrong arguments" ∷
+      codes "[]" ∷
+      []);
+  left = 0x00 ∷ 0x02 ∷ 0x01 ∷ 0xaa ∷ 0xff ∷ 0xfe ∷ 0xbb ∷ [];
+  ended = false;
+}
+
 -- ---- lines that are refused memory
 
 abbrev pub refused : List ℕ → Event
 refused line = record { line = line; refused = true }
 
--- a question, and an edit that is accepted otherwise, may be refused memory; then nothing changes
+-- a question, a `put`, and an edit that is accepted otherwise may be refused memory; then nothing changes
 abbrev pub refused_fairly : List Event
-refused_fairly = refused (codes "get /") ∷ refused (codes "app 02") ∷ spoken (codes "size" ∷ codes "app 03" ∷ [])
+refused_fairly = refused (codes "get /") ∷ refused (codes "dump /") ∷ refused (codes "put / 1") ∷ refused (codes "app 02") ∷ spoken (codes "size" ∷ codes "app 03" ∷ [])
 
 abbrev pub FairlyGo : Type 0
-FairlyGo = (d : Description) → session d (1 ∷ []) refused_fairly ≡ record { bytes = 1 ∷ 3 ∷ []; output = text_of_lines (codes "error: no memory" ∷ codes "error: no memory" ∷ codes "size 1" ∷ codes "ok 2" ∷ []); ended = false; fair = true }
+FairlyGo = (d : Description) → session d (1 ∷ []) refused_fairly ≡ record { bytes = 1 ∷ 3 ∷ []; output = text_of_lines (codes "error: no memory" ∷ codes "error: no memory" ∷ codes "error: no memory" ∷ codes "error: no memory" ∷ codes "size 1" ∷ codes "ok 2" ∷ []); ended = false; fair = true }
 
 -- no other line may
 abbrev pub refused_unfairly : List (List ℕ)
-refused_unfairly = codes "size" ∷ codes "quit" ∷ codes "set 0 02" ∷ codes "app" ∷ codes "app zz" ∷ codes "get x" ∷ codes "frob" ∷ codes "" ∷ []
+refused_unfairly = codes "size" ∷ codes "quit" ∷ codes "set 0 02" ∷ codes "app" ∷ codes "app zz" ∷ codes "get x" ∷ codes "put / x" ∷ codes "put x 1" ∷ codes "frob" ∷ codes "" ∷ []
 
 abbrev pub AreUnfair : Type 0
 AreUnfair = (d : Description) → AllByRecursion (λ line. (session d (1 ∷ []) (refused line ∷ [])).fair ≡ false) refused_unfairly

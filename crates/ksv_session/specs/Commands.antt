@@ -7,6 +7,7 @@ use Rattle.ksv_lines.specs.Lines.{line_limit, without_carriage_return, words_of}
 use Rattle.ksv_desc.specs.Description.{Description}
 use Rattle.ksv_expr_value.specs.Trail.{Trail}
 use Rattle.ksv_paths.specs.PathTexts.{path_named}
+use Rattle.ksv_questions.specs.declared.question.Question.{Question}
 use Rattle.ksv_questions.specs.declared.question.Question.TheVariants as questions
 use Rattle.ksv_session.specs.Numbers.{integer_of, number_of}
 use Rattle.ksv_session.specs.declared.command.Command.{Command}
@@ -17,11 +18,15 @@ use Rattle.ksv_session.specs.declared.refusal.LineRefusal.TheVariants as refusal
 abbrev pub wrong_arguments : Command
 wrong_arguments = Refused refusals.WrongArguments
 
--- whether a command asks the described file
+-- by what a command asks of the described file: a question, an integer to be written over another, or nothing
+abbrev pub by_asking : {A : Type 0} → (Question → A) → (Trail → ℤ → A) → A → Command → A
+by_asking ask put nothing (Ask question) = ask question
+by_asking ask put nothing (Put path n) = put path n
+by_asking ask put nothing _ = nothing
+
+-- whether it asks the described file
 abbrev pub is_question : Command → Bool
-is_question (Ask question) = true
-is_question (Put path n) = true
-is_question _ = false
+is_question command = by_asking (λ question. true) (λ path n. true) false command
 
 -- the word of a list that has exactly one
 abbrev pub only : List (List ℕ) → Option (List ℕ)
