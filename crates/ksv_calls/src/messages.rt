@@ -121,6 +121,10 @@ const HELP: &str = "Usage: ksv [OPTIONS] <FILE> <KSY>
 <KSY>   Its description
 --save <OUT>  Writes the bytes
 get PATH
+at PATH
+ls PATH
+dump PATH
+put PATH INT
 set POS HEX
 ins POS HEX
 del POS COUNT

@@ -21,6 +21,10 @@ pub struct Args<'a> {
 const COMMAND_LINES: &str = "\
 Command lines are read from standard input, and each is answered in one line:
   get PATH         the value at a path, such as /items/0/name; / is the whole file
+  at PATH          where it begins and ends
+  ls PATH          the members of an object, or how many elements a list has
+  dump PATH        the value with all that is in it, as JSON
+  put PATH INT     writes an integer over one, as: put /items/0/len 3
   set POS HEX      writes bytes over those from a place on, as: set 3 02ff
   ins POS HEX      puts bytes before a place
   del POS COUNT    takes bytes out
