@@ -18,7 +18,7 @@ use Rattle.ksv_rules.specs.Integers.{integer_value}
 use Rattle.ksv_rules.specs.Meaning.{meaning_of, rule_of}
 use Rattle.ksv_rules.specs.Values.{argument_at, argument_value, arguments_for, bytes_value, calc_value, calculated, content_value, cut_bytes, fixed_value, instance_value, kept, leaf_value, number_value, parameter_value, plain_value, text_value, value_at, value_of as value_of_of_values}
 use Rattle.ksv_rule_heads.specs.Wanted.{expression, holds, integer_of, size_of, stream_for, truth_of, wanted}
-use Rattle.ksv_questions.specs.Dumps.{asked_part, dump_question, elements_part, failed_part, fault_part, list_part, member_part, members_part, object_part, part, plain_part, value_part}
+use Rattle.ksv_questions.specs.Dumps.{asked_part, begun_part, dump_question, elements_part, failed_part, fault_part, find_list, find_object, find_value, list_part, member_part, members_part, object_part, part, plain_part, unasked, value_part, whole_text}
 use Rattle.ksv_questions.specs.Questions.{ask_end, ask_head, ask_value, first_asked, from_place, members_question, of_list, of_object, of_value, place_question, value_question}
 use Rattle.ksv_questions.specs.Texts.{bytes_text, fault_text, fault_words, member_name, member_text, quoted_text}
 use Rattle.ksv_questions.specs.Writing.{holds as holds_integer, integer_bytes, integer_type, little_endian, of_type, put_question}
@@ -39,7 +39,7 @@ over r o = option_and_then (λ d. session_to d depth (begun r.file) (typed r)) o
 
 -- the session of a dialogue, so that it computes: every definition on the way is opened
 unfoldable computed : Dialogue → Option Standing
-unfolding session_to outcome_to answer_at text_states digits chars is_utf8 decode_pairs encode_with escape_byte encode as_text at_end binary_of byte_at byte_from bytes_and bytes_at bytes_call bytes_with call_one call_two cast_to element_count element_path element_value field_of integer_and item_at last_element list_at list_method list_size member_and member_path member_value method_of object_of_type same_bytes special_of special_value stream_method stream_of stream_size text_and text_in truth_and truth_value value_of fits trail_of trail_when cut_uses done_at find_at finish_of found_from found_none peek_at reach_file reach_within bind element_end end_of fields_end is_last list_end next_rest not_empty object_end part_rest place_of rest_from rest_of whole_rest field_of_of_fields member_named members_of sought attribute_at attribute_head attribute_start bytes_at_of_heads content_at count_of counted element_head element_start head_of leaf leaf_to_end member_at member_head next_start object_at part_end repeated run_of shape_at sized_leaf sized_object terminated until_eos integer_value meaning_of rule_of bytes_value content_value cut_bytes fixed_value kept leaf_value number_value text_value value_at value_of_of_values expression holds integer_of size_of truth_of wanted ask_end ask_head ask_value first_asked from_place members_question of_list of_object of_value place_question value_question bytes_text fault_text fault_words member_name member_text quoted_text asked_part dump_question elements_part failed_part fault_part list_part member_part members_part object_part part plain_part value_part holds_integer integer_bytes integer_type little_endian of_type put_question case_for choose content_of first_case switched kind_of parameters_before instance_head positioned positioned_in unchosen_at value_head argument_at argument_value arguments_for calc_value calculated instance_value parameter_value plain_value stream_for
+unfolding session_to outcome_to answer_at text_states digits chars is_utf8 decode_pairs encode_with escape_byte encode as_text at_end binary_of byte_at byte_from bytes_and bytes_at bytes_call bytes_with call_one call_two cast_to element_count element_path element_value field_of integer_and item_at last_element list_at list_method list_size member_and member_path member_value method_of object_of_type same_bytes special_of special_value stream_method stream_of stream_size text_and text_in truth_and truth_value value_of fits trail_of trail_when cut_uses done_at find_at finish_of found_from found_none peek_at reach_file reach_within bind element_end end_of fields_end is_last list_end next_rest not_empty object_end part_rest place_of rest_from rest_of whole_rest field_of_of_fields member_named members_of sought attribute_at attribute_head attribute_start bytes_at_of_heads content_at count_of counted element_head element_start head_of leaf leaf_to_end member_at member_head next_start object_at part_end repeated run_of shape_at sized_leaf sized_object terminated until_eos integer_value meaning_of rule_of bytes_value content_value cut_bytes fixed_value kept leaf_value number_value text_value value_at value_of_of_values expression holds integer_of size_of truth_of wanted ask_end ask_head ask_value first_asked from_place members_question of_list of_object of_value place_question value_question bytes_text fault_text fault_words member_name member_text quoted_text asked_part begun_part dump_question elements_part failed_part fault_part find_list find_object find_value list_part member_part members_part object_part part plain_part unasked value_part whole_text holds_integer integer_bytes integer_type little_endian of_type put_question case_for choose content_of first_case switched kind_of parameters_before instance_head positioned positioned_in unchosen_at value_head argument_at argument_value arguments_for calc_value calculated instance_value parameter_value plain_value stream_for
 computed r = over r (description r.lines)
 
 goes_so : (r : Dialogue) (o : Option Description) → over r o ≡ Some (left_by r) → GoesSo r o
