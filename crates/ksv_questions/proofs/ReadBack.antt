@@ -1,5 +1,5 @@
 -- The bytes of an integer read as that integer.
-use Rattle.std.proofs.Common.{◌≡◌, ◌∙◌, ℕ, zero, suc, ◌+◌, ◌-◌, ◌*◌, ◌/◌, ◌%◌, ◌^◌, ◌<◌, ◌≤◌, ℤ, pos, negsuc, Bool, true, false, ◌&&◌, List, [], ◌∷◌, length, reverse, ap, refl, sym, arith}
+use Rattle.std.proofs.Common.{◌≡◌, ◌∙◌, ℕ, zero, suc, ◌+◌, ◌-◌, ◌*◌, ◌/◌, ◌^◌, ◌<◌, ◌≤◌, ℤ, pos, negsuc, Bool, true, false, ◌&&◌, List, length, ap, refl, sym, arith}
 use Rattle.std.specs.Prelude.{nat_le, int_le, int_lt, neg_ℤ, if◌then◌else◌, ◌-ℤ◌}
 use Rattle.std.specs.Cmp.{first_so, second_so}
 use Rattle.std.proofs.lemmas.Bool.Decides.{nat_tests}
@@ -10,7 +10,7 @@ use Rattle.ksv_desc.specs.declared.order.ByteOrder.{ByteOrder}
 use Rattle.ksv_desc.specs.declared.order.ByteOrder.TheVariants.{Big, Little}
 use Rattle.ksv_rules.specs.Integers.{integer_value, sum_of_bytes, unsigned_value}
 use Rattle.ksv_rules.proofs.Integers.{byte_power}
-use Rattle.ksv_questions.specs.Writing.{IntegerType, as_unsigned, holds, in_order, integer_bytes, little_endian, value_count}
+use Rattle.ksv_questions.specs.Writing.{IntegerType, holds, in_order, integer_bytes, little_endian, value_count}
 
 pub digits_length : (k n : ℕ) → length (little_endian k n) ≡ k
 unfolding little_endian
