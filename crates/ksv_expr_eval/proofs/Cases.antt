@@ -1,7 +1,8 @@
 -- What the meaning of an expression is at each form: its definition, clause by clause, over the trees that the code holds. A
 -- proof that cites these needn't unfold the definition, which is long.
 use Rattle.std.proofs.Common.{◌≡◌, ℕ, ◌<◌, ◌≤◌, ◌⊎◌, inl, inr, length, get_or, arith, List, [], ◌∷◌, map, if◌then◌else◌, refl, ap, sym, ◌∙◌, string_bytes, Box, String, Vec, Global, box_value}
-use Rattle.ksv_plan.specs.Plan.{Answer, bind}
+use mathlib.Core.Path.{fun_ext}
+use Rattle.ksv_plan.specs.Plan.{Answer, Fail, Ask, bind}
 use Rattle.ksv_expr_tree.specs.Tree.{Tree, arguments_of, call, view, view_layer, literal_of, name_of}
 use Rattle.ksv_expr_tree.specs.declared.tree.Expr.{Expr, Unary', Binary', Logical', Choice', Field', SpecialField', Index', Cast'}
 use Rattle.ksv_expr_tree.specs.declared.tree.Expr as opened
@@ -24,6 +25,13 @@ use Rattle.ksv_expr_eval.specs.Asked.{Eval, given, raise}
 use Rattle.ksv_expr_eval.specs.Operators.{unary_of}
 use Rattle.ksv_expr_eval.specs.Methods.{method_named}
 use Rattle.ksv_expr_eval.specs.Meaning.{value_of, meaning, literal_value, member_value, special_value, enum_member, binary_of, in_truth_value, truth_value, decides, field_of, is_own_stream, special_of, call_one, call_two, item_at, cast_to}
+
+-- a plan behind two is one behind both
+bind_bind : {A B C : Type 0} (p : Eval A) (f : A → Eval B) (g : B → Eval C) → bind p (λ a. bind (f a) g) ≡ bind (bind p f) g
+unfolding bind
+bind_bind (Answer a) f g = refl
+bind_bind (Fail e) f g = refl
+bind_bind (Ask q k) f g = ap (Ask q) (fun_ext (λ r. bind_bind (k r) f g))
 
 -- a call, by the plans of its object and its arguments
 unfoldable pub calls : Eval Value → List ℕ → List (Eval Value) → Eval Value
@@ -64,13 +72,19 @@ module _ (s : Setting) where
   unfolding meaning value_of opened.out-Expr denote.Hole.Carrier.out
   of_binary op p q l r = ap (value_of s) (fold_out-Expr Tree view_layer (Binary' op p l q r))
 
-  pub of_logical : (op : LogicalOperator) (p q : _) (l r : Expr) → meaning s (Logical' op p l q r) ≡ bind (meaning s l) (λ v. bind (in_truth_value v) (λ b. if decides op b then Answer (values.Bool b) else bind (meaning s r) truth_value))
+  logical_form : (op : LogicalOperator) (p q : _) (l r : Expr) → meaning s (Logical' op p l q r) ≡ bind (meaning s l) (λ v. bind (in_truth_value v) (λ b. if decides op b then Answer (values.Bool b) else bind (meaning s r) truth_value))
   unfolding meaning value_of opened.out-Expr denote.Hole.Carrier.out
-  of_logical op p q l r = ap (value_of s) (fold_out-Expr Tree view_layer (Logical' op p l q r))
+  logical_form op p q l r = ap (value_of s) (fold_out-Expr Tree view_layer (Logical' op p l q r))
 
-  pub of_choice : (p q t : _) (c y n : Expr) → meaning s (Choice' p c q y t n) ≡ bind (meaning s c) (λ v. bind (in_truth_value v) (λ b. if b then meaning s y else meaning s n))
+  pub of_logical : (op : LogicalOperator) (p q : _) (l r : Expr) → meaning s (Logical' op p l q r) ≡ bind (bind (meaning s l) in_truth_value) (λ b. if decides op b then Answer (values.Bool b) else bind (meaning s r) truth_value)
+  of_logical op p q l r = logical_form op p q l r ∙ bind_bind (meaning s l) in_truth_value (λ b. if decides op b then Answer (values.Bool b) else bind (meaning s r) truth_value)
+
+  choice_form : (p q t : _) (c y n : Expr) → meaning s (Choice' p c q y t n) ≡ bind (meaning s c) (λ v. bind (in_truth_value v) (λ b. if b then meaning s y else meaning s n))
   unfolding meaning value_of opened.out-Expr denote.Hole.Carrier.out
-  of_choice p q t c y n = ap (value_of s) (fold_out-Expr Tree view_layer (Choice' p c q y t n))
+  choice_form p q t c y n = ap (value_of s) (fold_out-Expr Tree view_layer (Choice' p c q y t n))
+
+  pub of_choice : (p q t : _) (c y n : Expr) → meaning s (Choice' p c q y t n) ≡ bind (bind (meaning s c) in_truth_value) (λ b. if b then meaning s y else meaning s n)
+  of_choice p q t c y n = choice_form p q t c y n ∙ bind_bind (meaning s c) in_truth_value (λ b. if b then meaning s y else meaning s n)
 
   pub of_field : (p : _) (e : Expr) (n : Name) → meaning s (Field' p e n) ≡ bind (meaning s e) (λ v. field_of s (is_own_stream (view e)) v (name_of n))
   unfolding meaning value_of opened.out-Expr denote.Hole.Carrier.out

@@ -1,10 +1,10 @@
--- A floored remainder by a divisor below 0, as the machine takes it of both numbers with their signs turned.
+-- A floored quotient and remainder by a divisor below 0, as the machine takes them of both numbers with their signs turned.
 use Rattle.std.proofs.Common.{◌≡◌, ℕ, suc, ◌-◌, ◌^◌, ◌<◌, ◌≤◌, ◌%◌, ℤ, pos, negsuc, neg_ℤ, ◌-ℤ◌, true, arith, refl, ap, sym, ◌∙◌}
 use Rattle.std.proofs.lemmas.Bool.{ltb-true}
 use Rattle.std.proofs.lemmas.Int.{ints}
 use Rattle.std.specs.Prelude.{int_lt}
-use Rattle.std.specs.Int.{cast_unsigned, cast_signed, int_rem_euclid, w128}
-use Rattle.ksv_expr_eval.specs.Integers.{remainder_by, floored_remainder}
+use Rattle.std.specs.Int.{cast_unsigned, cast_signed, int_div_euclid, int_rem_euclid, w128}
+use Rattle.ksv_expr_eval.specs.Integers.{quotient_by, remainder_by, floored_quotient, floored_remainder}
 use Rattle.ksv_expr_value.specs.Range.{in_range}
 
 -- a number, as 128 bits hold it
@@ -33,3 +33,11 @@ seen_remainder a (negsuc n) r h k neg e =
     let rest : r ≡ remainder_by (neg_ℤ a) (suc n) = e ∙ ap (λ z. int_rem_euclid z (seen (pos 0 -ℤ seen (negsuc n)))) (turned a h) ∙ ap (int_rem_euclid (neg_ℤ a)) (turned (negsuc n) k) ∙ by_sign (neg_ℤ a) n in
     let few = below (neg_ℤ a) n in
     outer r few.0 (rest ∙ few.1.0) (omega (arith, few.1.1)) ∙ ap neg_ℤ rest
+
+quotient_by_sign : (a : ℤ) (n : ℕ) → int_div_euclid a (pos (suc n)) ≡ quotient_by a (suc n)
+quotient_by_sign (pos a) n = refl
+quotient_by_sign (negsuc a) n = refl
+
+pub seen_quotient : (a d q : ℤ) → in_range a ≡ true → in_range d ≡ true → int_lt (seen d) (pos 0) ≡ true → q ≡ int_div_euclid (seen (pos 0 -ℤ seen a)) (seen (pos 0 -ℤ seen d)) → q ≡ floored_quotient a d
+seen_quotient a (pos n) q h k neg e = let l = ltb-true n (2 ^ 64) k in let same : seen (pos n) ≡ pos n = omega (arith, ints) in let no : int_lt (pos n) (pos 0) ≡ true = ap (λ z. int_lt z (pos 0)) (sym same) ∙ neg in absurd (omega (arith, ltb-true n 0 no))
+seen_quotient a (negsuc n) q h k neg e = e ∙ ap (λ z. int_div_euclid z (seen (pos 0 -ℤ seen (negsuc n)))) (turned a h) ∙ ap (int_div_euclid (neg_ℤ a)) (turned (negsuc n) k) ∙ quotient_by_sign (neg_ℤ a) n

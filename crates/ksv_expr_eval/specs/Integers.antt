@@ -1,6 +1,6 @@
 -- Integers of expressions: what their operators mean, over all integers of the range. The language is that of the Kaitai
 -- Struct User Guide's expressions; their range is that of ksv_expr_value.
-use Rattle.std.specs.Prelude.{ℕ, suc, ◌+◌, ◌-◌, ◌/◌, ◌%◌, ◌^◌, Bool, nat_lt, ℤ, pos, negsuc, neg_ℤ, ◌-ℤ◌, ◌*ℤ◌, bit_and, Option, Some, None, if◌then◌else◌}
+use Rattle.std.specs.Prelude.{ℕ, suc, ◌+◌, ◌-◌, ◌/◌, ◌%◌, ◌^◌, nat_lt, ℤ, pos, negsuc, neg_ℤ, ◌-ℤ◌, ◌*ℤ◌, bit_and, Option, Some, None, if◌then◌else◌}
 
 -- The quotient by a divisor above 0, rounded down, and the remainder, which is below the divisor.
 abbrev pub quotient_by : ℤ → ℕ → ℤ

@@ -56,42 +56,6 @@ fn decides(operator: LogicalOperator, left: bool) -> bool
     }
 }
 
-/// The right operand, and then the operator.
-#[cycle(value)]
-#[tactic(auto, using(ksv_plan::proofs::Running::run_bind))]
-fn binary_with(
-    replies: &mut Replies,
-    ctx: &Ctx,
-    operator: BinaryOperator,
-    left: &Value,
-    right: &Expr,
-) -> Result<Value, Halt>
-    ensures { Runs (bind (meaning ctx.now right.now) (λ w. binary_of operator left.now w)) (λ v. v) replies.old replies.new result }
-{
-    let right = value(replies, ctx, right)?;
-    forms::binary(replies, operator, left, &right)
-}
-
-/// The result that the left operand decides, or the right operand's.
-#[cycle(value)]
-#[tactic(auto, using(ksv_plan::proofs::Running::run_bind))]
-fn logical_with(
-    replies: &mut Replies,
-    ctx: &Ctx,
-    operator: LogicalOperator,
-    left: &Value,
-    right: &Expr,
-) -> Result<Value, Halt>
-    ensures { Runs (bind (in_truth_value left.now) (λ b. if decides operator b then Answer (values.Bool b) else bind (meaning ctx.now right.now) truth_value)) (λ v. v) replies.old replies.new result }
-{
-    let left = forms::in_truth_value(replies, left)?;
-    if decides(operator, left) {
-        return Ok(Value::Bool(left));
-    }
-    let right = value(replies, ctx, right)?;
-    forms::truth_value(replies, &right)
-}
-
 #[cycle(value)]
 #[tactic(auto, using(ksv_plan::proofs::Running::run_bind))]
 fn unary_expr(
@@ -104,6 +68,72 @@ fn unary_expr(
 {
     let operand = value(replies, ctx, operand)?;
     replies.given(operators::unary(operator, &operand))
+}
+
+/// The left operand, the right operand, and then the operator.
+#[cycle(value)]
+#[tactic(auto, using(ksv_plan::proofs::Running::run_bind))]
+fn binary_expr(
+    replies: &mut Replies,
+    ctx: &Ctx,
+    operator: BinaryOperator,
+    left: &Expr,
+    right: &Expr,
+) -> Result<Value, Halt>
+    ensures { Runs (bind (meaning ctx.now left.now) (λ v. bind (meaning ctx.now right.now) (λ w. binary_of operator v w))) (λ v. v) replies.old replies.new result }
+{
+    let left = value(replies, ctx, left)?;
+    let right = value(replies, ctx, right)?;
+    forms::binary(replies, operator, &left, &right)
+}
+
+/// The truth value that an expression gives.
+#[cycle(value)]
+#[tactic(auto, using(ksv_plan::proofs::Running::run_bind))]
+fn truth_of(replies: &mut Replies, ctx: &Ctx, expr: &Expr) -> Result<bool, Halt>
+    ensures { Runs (bind (meaning ctx.now expr.now) in_truth_value) (λ b. b) replies.old replies.new result }
+{
+    let value = value(replies, ctx, expr)?;
+    forms::in_truth_value(replies, &value)
+}
+
+/// The result that the left operand decides, or the right operand's.
+#[cycle(value)]
+#[tactic(auto, using(ksv_plan::proofs::Running::run_bind))]
+fn logical_expr(
+    replies: &mut Replies,
+    ctx: &Ctx,
+    operator: LogicalOperator,
+    left: &Expr,
+    right: &Expr,
+) -> Result<Value, Halt>
+    ensures { Runs (bind (bind (meaning ctx.now left.now) in_truth_value) (λ b. if decides operator b then Answer (values.Bool b) else bind (meaning ctx.now right.now) truth_value)) (λ v. v) replies.old replies.new result }
+{
+    let left = truth_of(replies, ctx, left)?;
+    if decides(operator, left) {
+        return Ok(Value::Bool(left));
+    }
+    let right = value(replies, ctx, right)?;
+    forms::truth_value(replies, &right)
+}
+
+/// The result of one of two expressions, as a truth value says.
+#[cycle(value)]
+#[tactic(auto, using(ksv_plan::proofs::Running::run_bind))]
+fn choice_expr(
+    replies: &mut Replies,
+    ctx: &Ctx,
+    condition: &Expr,
+    yes: &Expr,
+    no: &Expr,
+) -> Result<Value, Halt>
+    ensures { Runs (bind (bind (meaning ctx.now condition.now) in_truth_value) (λ b. if b then meaning ctx.now yes.now else meaning ctx.now no.now)) (λ v. v) replies.old replies.new result }
+{
+    if truth_of(replies, ctx, condition)? {
+        value(replies, ctx, yes)
+    } else {
+        value(replies, ctx, no)
+    }
 }
 
 #[cycle(value)]
@@ -130,47 +160,67 @@ fn special_field_expr(
     forms::special_field(replies, &object, name)
 }
 
-/// The argument, and then the method.
+/// The value before a method, its one argument, and then the method.
 #[cycle(value)]
 #[tactic(auto, using(ksv_plan::proofs::Running::run_bind))]
 fn call_with_one(
     replies: &mut Replies,
     ctx: &Ctx,
-    object: &Value,
+    object: &Expr,
     method: &str,
     argument: &Expr,
 ) -> Result<Value, Halt>
-    ensures { Runs (bind (meaning ctx.now argument.now) (λ w. call_one object.now (method_named method.now) w)) (λ v. v) replies.old replies.new result }
+    ensures { Runs (bind (meaning ctx.now object.now) (λ v. bind (meaning ctx.now argument.now) (λ w. call_one v (method_named method.now) w))) (λ v. v) replies.old replies.new result }
 {
+    let object = value(replies, ctx, object)?;
     let argument = value(replies, ctx, argument)?;
-    forms::call_one(replies, object, Method::named(method), &argument)
+    forms::call_one(replies, &object, Method::named(method), &argument)
 }
 
-/// The second argument, and then the method.
+/// Two arguments, and then the method.
+#[cycle(value)]
+#[tactic(auto, using(ksv_plan::proofs::Running::run_bind))]
+fn call_behind(
+    replies: &mut Replies,
+    ctx: &Ctx,
+    object: &Value,
+    method: &str,
+    first: &Expr,
+    second: &Expr,
+) -> Result<Value, Halt>
+    ensures { Runs (bind (meaning ctx.now first.now) (λ w. bind (meaning ctx.now second.now) (λ u. call_two object.now (method_named method.now) w u))) (λ v. v) replies.old replies.new result }
+{
+    let first = value(replies, ctx, first)?;
+    let second = value(replies, ctx, second)?;
+    forms::call_two(replies, object, Method::named(method), &first, &second)
+}
+
+/// The value before a method, its two arguments, and then the method.
 #[cycle(value)]
 #[tactic(auto, using(ksv_plan::proofs::Running::run_bind))]
 fn call_with_two(
     replies: &mut Replies,
     ctx: &Ctx,
-    object: &Value,
+    object: &Expr,
     method: &str,
-    first: &Value,
+    first: &Expr,
     second: &Expr,
 ) -> Result<Value, Halt>
-    ensures { Runs (bind (meaning ctx.now second.now) (λ u. call_two object.now (method_named method.now) first.now u)) (λ v. v) replies.old replies.new result }
+    ensures { Runs (bind (meaning ctx.now object.now) (λ v. bind (meaning ctx.now first.now) (λ w. bind (meaning ctx.now second.now) (λ u. call_two v (method_named method.now) w u)))) (λ v. v) replies.old replies.new result }
 {
-    let second = value(replies, ctx, second)?;
-    forms::call_two(replies, object, Method::named(method), first, &second)
+    let object = value(replies, ctx, object)?;
+    call_behind(replies, ctx, &object, method, first, second)
 }
 
-/// The index, and then the item there.
+/// The list, the index, and then the item there.
 #[cycle(value)]
 #[tactic(auto, using(ksv_plan::proofs::Running::run_bind))]
-fn item_with(replies: &mut Replies, ctx: &Ctx, list: &Value, place: &Expr) -> Result<Value, Halt>
-    ensures { Runs (bind (meaning ctx.now place.now) (λ w. item_at list.now w)) (λ v. v) replies.old replies.new result }
+fn index_expr(replies: &mut Replies, ctx: &Ctx, list: &Expr, place: &Expr) -> Result<Value, Halt>
+    ensures { Runs (bind (meaning ctx.now list.now) (λ v. bind (meaning ctx.now place.now) (λ w. item_at v w))) (λ v. v) replies.old replies.new result }
 {
+    let list = value(replies, ctx, list)?;
     let place = value(replies, ctx, place)?;
-    forms::item_at(replies, list, &place)
+    forms::item_at(replies, &list, &place)
 }
 
 #[cycle(value)]
@@ -188,7 +238,6 @@ fn cast_expr(
 }
 
 #[cycle(value)]
-#[tactic(auto, using(ksv_plan::proofs::Running::run_bind, crate::proofs::Cases::of_binary, crate::proofs::Cases::of_logical, crate::proofs::Cases::of_choice, crate::proofs::Cases::of_index))]
 fn value(replies: &mut Replies, ctx: &Ctx, expr: &Expr) -> Result<Value, Halt>
     ensures { Runs (meaning ctx.now expr.now) (λ v. v) replies.old replies.new result }
 {
@@ -198,41 +247,18 @@ fn value(replies: &mut Replies, ctx: &Ctx, expr: &Expr) -> Result<Value, Halt>
         Expr::Special(name) => asking::special_value(replies, ctx, *name),
         Expr::Member(member) => asking::enum_member(replies, member.given),
         Expr::Unary(operator, operand) => unary_expr(replies, ctx, *operator, operand),
-        Expr::Binary(operator, left, right) => {
-            let left = value(replies, ctx, left)?;
-            binary_with(replies, ctx, *operator, &left, right)
-        }
-        Expr::Logical(operator, left, right) => {
-            let left = value(replies, ctx, left)?;
-            logical_with(replies, ctx, *operator, &left, right)
-        }
-        Expr::Choice(condition, yes, no) => {
-            let condition = value(replies, ctx, condition)?;
-            if forms::in_truth_value(replies, &condition)? {
-                value(replies, ctx, yes)
-            } else {
-                value(replies, ctx, no)
-            }
-        }
+        Expr::Binary(operator, left, right) => binary_expr(replies, ctx, *operator, left, right),
+        Expr::Logical(operator, left, right) => logical_expr(replies, ctx, *operator, left, right),
+        Expr::Choice(condition, yes, no) => choice_expr(replies, ctx, condition, yes, no),
         Expr::Field(object, name) => field_expr(replies, ctx, object, name),
         Expr::SpecialField(object, name) => special_field_expr(replies, ctx, object, *name),
         Expr::Call(object, method, arguments) => match arguments.as_slice() {
             [] => replies.raise(FaultKind::BadType),
-            [argument] => {
-                let object = value(replies, ctx, object)?;
-                call_with_one(replies, ctx, &object, method.as_str(), argument)
-            }
-            [first, second] => {
-                let object = value(replies, ctx, object)?;
-                let first = value(replies, ctx, first)?;
-                call_with_two(replies, ctx, &object, method.as_str(), &first, second)
-            }
+            [argument] => call_with_one(replies, ctx, object, method.as_str(), argument),
+            [first, second] => call_with_two(replies, ctx, object, method.as_str(), first, second),
             _ => replies.raise(FaultKind::BadType),
         },
-        Expr::Index(list, place) => {
-            let list = value(replies, ctx, list)?;
-            item_with(replies, ctx, &list, place)
-        }
+        Expr::Index(list, place) => index_expr(replies, ctx, list, place),
         Expr::Cast(object, type_name) => cast_expr(replies, ctx, object, type_name),
     }
 }

@@ -3,7 +3,7 @@ ghost use Rattle.std.specs.Prelude.{◌≡◌};
 ghost use Rattle.ksv_expr_eval.specs.Methods.{method_named};
 
 /// What the language itself gives a meaning after a `.`, on values that aren't objects.
-#[derive(Clone, Copy, PartialEq, Eq, Debug)]
+#[derive(Clone, Copy)]
 pub(crate) enum Method {
     /// `first`, of a list
     First,
