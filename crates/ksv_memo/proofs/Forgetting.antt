@@ -25,7 +25,7 @@ use Rattle.ksv_memo.proofs.Evals.{eqb_true, or_false}
 use Rattle.ksv_memo.proofs.Keeping.{AreDistinct-none, kept-tree}
 use Rattle.ksv_memo.proofs.Turns.{any_entry}
 use Rattle.ksv_memo.proofs.Change.{All-once, All-of-once, untouched-stays}
-use Rattle.ksv_memo.proofs.Sweeping.{none_pass, any_same, entries_in-append, asked_kept, stays-ordered}
+use Rattle.ksv_memo.proofs.Sweeping.{none_fails, none_pass, any_same, entries_in-append, asked_kept, stays-ordered}
 
 -- ---- the tests
 pub use_touched : (change : Change) (used : Use) → Decides (is_use_touched change used) (Touches change used)
@@ -56,10 +56,6 @@ pub touched_decides : {N A : Type 0} (w : Standing N A) (change : Change) (n : N
 touched_decides w change n = any_decides (is_hit w change) (λ m. Any (Touches change) (tells w [] m).uses) (λ m. any_decides (is_use_touched change) (Touches change) (use_touched change) (tells w [] m).uses) (tree w n)
 
 -- ---- a test on a list and on its members, each once
-none_fails : {X : Type 0} (p : X → Bool) (xs : List X) → AllByRecursion (λ x. p x ≡ false) xs → list_any p xs ≡ false
-none_fails p [] h = refl
-none_fails p (x ∷ xs) h = ap (λ b. b || list_any p xs) h.0 ∙ none_fails p xs h.1
-
 any_once : {X : Type 0} (p : X → Bool) (once xs : List X) → HasEachOnce once xs → list_any p once ≡ list_any p xs
 any_once {X} p once xs h = by (list_any p once) refl (list_any p xs) refl
   where

@@ -1,5 +1,5 @@
 -- The order of the table's entries, and what the pass over it leaves.
-use Rattle.std.proofs.Common.{◌≡◌, ℕ, zero, suc, ◌+◌, Bool, true, false, not, cond, ◌||◌, List, [], ◌∷◌, ◌++◌, length, filter, take, slice_get, Option, Some, IfSome, refl, sym, ◌∙◌, ap, subst, append_assoc}
+use Rattle.std.proofs.Common.{◌≡◌, ℕ, zero, suc, ◌+◌, Bool, true, false, not, cond, ◌||◌, List, [], ◌∷◌, ◌++◌, ◌<◌, length, filter, map, take, slice_get, Option, Some, IfSome, refl, sym, ◌∙◌, ap, subst, append_assoc, arith}
 use Rattle.std.proofs.Math.Seq.{take-append_seam, take-append-add}
 use Rattle.std.proofs.lemmas.List.{map-append}
 use Rattle.std.proofs.lemmas.List.Elements.{filter-append}
@@ -10,9 +10,9 @@ use Rattle.ksv_bytes.specs.declared.uses.Change.{Change}
 use Rattle.ksv_memo.specs.declared.table.Kept.{Kept}
 use Rattle.ksv_memo.specs.declared.table.Slot.{Slot}
 use Rattle.ksv_memo.specs.Entry.{Entry, entry_of, entries_of}
-use Rattle.ksv_memo.specs.Sweep.{HasEntry, AsksBefore, Mark, has_gone, is_to_go, AreMarked, entries_in, entries_left, marks_of, MarksAt}
+use Rattle.ksv_memo.specs.Sweep.{HasEntry, AsksBefore, Mark, has_gone, is_to_go, AreMarked, Sweeps, entries_in, entries_left, is_slot_touched, marks_of, MarksAt}
 use Rattle.ksv_memo.specs.Touched.{is_use_touched}
-use Rattle.ksv_memo.proofs.Lists.{All-map}
+use Rattle.ksv_memo.proofs.Lists.{All-map, All-++}
 use Rattle.ksv_memo.proofs.Evals.{or_false}
 use Rattle.ksv_memo.proofs.Keeping.{or_left, or_right}
 use Rattle.ksv_memo.proofs.Moves.{++-nil}
@@ -25,6 +25,30 @@ if_some P o x e h = let Q : _ → Type 0 = λ r. IfSome r P in subst Q e h
 pub none_pass : {X : Type 0} (p : X → Bool) (xs : List X) → list_any p xs ≡ false → AllByRecursion (λ x. p x ≡ false) xs
 none_pass p [] h = tt
 none_pass p (x ∷ xs) h = let parts = or_false (p x) (list_any p xs) h in (parts.0, none_pass p xs parts.1)
+
+pub none_fails : {X : Type 0} (p : X → Bool) (xs : List X) → AllByRecursion (λ x. p x ≡ false) xs → list_any p xs ≡ false
+none_fails p [] h = refl
+none_fails p (x ∷ xs) h = ap (λ b. b || list_any p xs) h.0 ∙ none_fails p xs h.1
+
+-- the element at a place
+pub got : {X : Type 0} (xs : List X) (i : ℕ) → i < length xs → (x : X) × (slice_get xs i ≡ Some x)
+got [] i h = absurd (omega arith)
+got (x ∷ xs) zero h = (x, refl)
+got (x ∷ xs) (suc i) h = got xs i (omega arith)
+
+pub passes_at : {X : Type 0} (p : X → Bool) (xs : List X) (i : ℕ) (x : X) → slice_get xs i ≡ Some x → p x ≡ true → list_any p xs ≡ true
+passes_at p [] i x e h = absurd (cc)
+passes_at p (y ∷ xs) zero x e h = let same : y ≡ x = cc in or_left (p y) (list_any p xs) (ap p same ∙ h)
+passes_at p (y ∷ xs) (suc i) x e h = or_right (p y) (list_any p xs) (passes_at p xs i x e h)
+
+-- one element more that fails
+pub fails_more : {X : Type 0} (p : X → Bool) (xs : List X) (i : ℕ) (x : X) → slice_get xs i ≡ Some x → p x ≡ false → list_any p (take i xs) ≡ false → list_any p (take (i + 1) xs) ≡ false
+fails_more p [] i x e h none = absurd (cc)
+fails_more p (y ∷ xs) zero x e h none = let same : y ≡ x = cc in ap (λ b. b || false) (ap p same ∙ h)
+fails_more p (y ∷ xs) (suc i) x e h none =
+    let more : suc i + 1 ≡ suc (i + 1) = omega arith in
+    let parts = or_false (p y) (list_any p (take i xs)) none in
+    ap (λ j. list_any p (take j (y ∷ xs))) more ∙ ap (λ b. b || list_any p (take (i + 1) xs)) parts.0 ∙ fails_more p xs i x e h parts.1
 
 -- two tests that agree on each element
 pub any_same : {X : Type 0} (p q : X → Bool) (xs : List X) → AllByRecursion (λ x. p x ≡ q x) xs → list_any p xs ≡ list_any q xs
@@ -108,6 +132,55 @@ module _ {N A : Type 0} (eq : N → N → Bool) where
   -- so whether an entry is to go
   pub to_go_before : (change : Change) (ks ls : List (Mark N A)) (e : Entry N A) → AllByRecursion (HasEntry eq (entries_in ks)) e.asked → is_to_go eq change (ks ++ ls) e ≡ is_to_go eq change ks e
   to_go_before change ks ls e h = ap (λ b. list_any (is_use_touched change) e.uses || b) (any_same (has_gone eq (ks ++ ls)) (has_gone eq ks) e.asked (All-map (gone_before ks ls) e.asked h))
+
+  -- where no entry goes, none of these has gone
+  none_gone : (ks : List (Mark N A)) → AllByRecursion (λ k. k.goes ≡ false) ks → (m : N) → HasEntry eq (entries_in ks) m → has_gone eq ks m ≡ false
+  none_gone [] all m h = absurd (cc)
+  none_gone (k ∷ ks) all m h = by (eq m k.entry.node) (none_gone ks all.1 m) h
+    where
+      by : (b : Bool) → (HasEntry eq (entries_in ks) m → has_gone eq ks m ≡ false) → (b || list_any (λ e. eq m e.node) (entries_in ks)) ≡ true → cond b k.goes (has_gone eq ks m) ≡ false
+      by true ih h = all.0
+      by false ih h = ih h
+
+  -- entries of which none goes
+  abbrev stays_all : List (Entry N A) → List (Mark N A)
+  stays_all es = map (λ e. record { entry = e; goes = false }) es
+
+  stays_entries : (es : List (Entry N A)) → entries_in (stays_all es) ≡ es
+  stays_entries [] = refl
+  stays_entries (e ∷ es) = ap (λ xs. e ∷ xs) (stays_entries es)
+
+  stays_left : (es : List (Entry N A)) → entries_left (stays_all es) ≡ es
+  stays_left [] = refl
+  stays_left (e ∷ es) = ap (λ xs. e ∷ xs) (stays_left es)
+
+  none_marked : (change : Change) (before : List (Mark N A)) (es : List (Entry N A)) → AllByRecursion (λ k. k.goes ≡ false) before → AsksBefore eq (entries_in before) es
+      → AllByRecursion (λ e. list_any (is_use_touched change) e.uses ≡ false) es → AreMarked eq change before (stays_all es)
+  none_marked change before [] none ordered free = tt
+  none_marked change before (e ∷ es) none ordered free =
+      let asked : list_any (has_gone eq before) e.asked ≡ false = none_fails (has_gone eq before) e.asked (All-map (none_gone before none) e.asked ordered.0) in
+      let O : List (Entry N A) → Type 0 = λ xs. AsksBefore eq xs es in (
+        sym (ap (λ b. b || list_any (has_gone eq before) e.asked) free.0 ∙ asked),
+        none_marked change (before ++ record { entry = e; goes = false } ∷ []) es (All-++ (λ (k : Mark N A). k.goes ≡ false) before _ none (refl, tt))
+            (subst O (sym (entries_in-append before (record { entry = e; goes = false } ∷ []))) ordered.1) free.1,
+      )
+
+  -- a change that touches no entry takes none
+  pub untouched_sweeps : (change : Change) (es : List (Entry N A)) → AsksBefore eq [] es → list_any (λ e. list_any (is_use_touched change) e.uses) es ≡ false → Sweeps eq change es es
+  untouched_sweeps change es ordered free = record {
+    marks = stays_all es;
+    entries = stays_entries es;
+    ordered = ordered;
+    marked = none_marked change [] es tt ordered (none_pass (λ (e : Entry N A). list_any (is_use_touched change) e.uses) es free);
+    stays = sym (stays_left es);
+  }
+
+  slots_entries : (change : Change) (pairs : List (N × Slot (Kept N A))) → list_any (is_slot_touched change) pairs ≡ list_any (λ (e : Entry N A). list_any (is_use_touched change) e.uses) (entries_of pairs)
+  slots_entries change [] = refl
+  slots_entries change (p ∷ pairs) = ap (λ b. is_slot_touched change p || b) (slots_entries change pairs)
+
+  pub untouched_slots : (change : Change) (pairs : List (N × Slot (Kept N A))) → AsksBefore eq [] (entries_of pairs) → list_any (is_slot_touched change) pairs ≡ false → Sweeps eq change (entries_of pairs) (entries_of pairs)
+  untouched_slots change pairs ordered free = untouched_sweeps change (entries_of pairs) ordered (sym (slots_entries change pairs) ∙ free)
 
   AreMarked-push : (change : Change) (before ks : List (Mark N A)) (k : Mark N A) → AreMarked eq change before ks → k.goes ≡ is_to_go eq change (before ++ ks) k.entry → AreMarked eq change before (ks ++ k ∷ [])
   AreMarked-push change before [] k h is = (is ∙ ap (λ xs. is_to_go eq change xs k.entry) (++-nil before), tt)

@@ -55,6 +55,10 @@ pub record Sweeps {N A : Type 0} (eq : N → N → Bool) (change : Change) (befo
 abbrev pub marks_of : {N A : Type 0} → List (N × Slot (Kept N A)) → List (Mark N A)
 marks_of pairs = map (λ pair. record { entry = entry_of pair.0 pair.1.kept; goes = pair.1.touched }) pairs
 
+-- whether a change touches a use of what a slot keeps
+abbrev pub is_slot_touched : {N A : Type 0} → Change → N × Slot (Kept N A) → Bool
+is_slot_touched change pair = list_any (is_use_touched change) pair.1.kept.uses.items
+
 -- one pair's mark was set, as it is to be
 pub record MarksAt {N A : Type 0} (eq : N → N → Bool) (change : Change) (i : ℕ) (before after : List (N × Slot (Kept N A))) : Type 0 where
   pub front : List (N × Slot (Kept N A))

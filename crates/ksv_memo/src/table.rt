@@ -5,7 +5,7 @@ ghost use Rattle.std.specs.Option.{option_copied};
 ghost use Rattle.indexmap.specs.IndexMap.{index_map_len};
 ghost use Rattle.ksv_memo.specs.Entry.{entry_of, entries_of};
 ghost use Rattle.ksv_memo.specs.Touched.{is_use_touched};
-ghost use Rattle.ksv_memo.specs.Sweep.{AsksBefore, AreMarked, HasEntry, MarksAt, Sweeps, has_gone, is_to_go, marks_of};
+ghost use Rattle.ksv_memo.specs.Sweep.{AsksBefore, AreMarked, HasEntry, MarksAt, Sweeps, has_gone, is_slot_touched, is_to_go, marks_of};
 
 use indexmap::IndexMap;
 use ksv_bytes::{Change, Use, touches};
@@ -65,6 +65,32 @@ fn has_touched(change: Change, uses: &[Use]) -> bool
     ensures { result ≡ list_any (is_use_touched change) uses.now }
 {
     uses.iter().any(|used| is_use_touched(change, *used))
+}
+
+/// Whether a change touches a use of what the slot at a place keeps.
+fn is_touched_at<N: Eq + Hash + Drop, A: Drop>(
+    slots: &Slots<N, A>,
+    change: Change,
+    place: usize,
+) -> bool
+    ensures { IfSome (slice_get slots.now.entries place) (λ pair. result ≡ is_slot_touched change pair) }
+{
+    match slots.get_index(place) {
+        Some((_, slot)) => has_touched(change, slot.kept.uses.as_slice()),
+        None => false,
+    }
+}
+
+/// Whether a change touches a use of what some slot keeps.
+fn has_touched_slot<N: Eq + Hash + Drop, A: Drop>(slots: &Slots<N, A>, change: Change) -> bool
+    ensures { result ≡ list_any (is_slot_touched change) slots.now.entries }
+{
+    for place in 0..slots.len() {
+        if is_touched_at(slots, change, place) {
+            return true;
+        }
+    }
+    false
 }
 
 /// Whether a node's slot is marked. A node without a slot counts as marked.
@@ -204,10 +230,13 @@ impl<N: Eq + Hash + Drop, A: Drop> Table<N, A> {
     }
 
     /// Takes out each entry that a change touches or that asked one that goes, in one pass from the front. It takes no
-    /// memory.
+    /// memory. Where the change touches no entry, none goes, and no ask is looked up.
     pub(crate) fn forget(&mut self, change: Change)
         ensures { Sweeps N.eq change self.old self.new }
     {
+        if !has_touched_slot(&self.entries, change) {
+            return;
+        }
         mark(&mut self.entries, change);
         take_marked(&mut self.entries);
     }

@@ -1,8 +1,15 @@
 use Rattle.std.proofs.Common.{◌∙◌, ap, sym, subst, []}
 use Rattle.ksv_memo.specs.Entry.{entries_of}
-use Rattle.ksv_memo.specs.Sweep.{AsksBefore, marks_of}
-use Rattle.ksv_memo.proofs.Sweeping.{entries_in-marks_of, entries_left-marks_of, stays-ordered}
+use Rattle.ksv_memo.specs.Sweep.{AsksBefore, Sweeps, marks_of}
+use Rattle.ksv_memo.proofs.Sweeping.{entries_in-marks_of, entries_left-marks_of, stays-ordered, untouched_slots}
 use Rattle.ksv_memo.proofs.table.Table.forget.Goals as goal
+
+-- nothing is touched
+pub returns-then-not-has_touched_slot : goal.returns-then-not-has_touched_slot
+returns-then-not-has_touched_slot g c =
+    let eq = g.N.PartialEq.eq in
+    subst (λ es. Sweeps eq c.args.change es es) c.self.view_is
+    (untouched_slots eq c.args.change c.self.inside.entries.entries c.self.invariant (sym c.has_touched_slot.ensures ∙ c.if-not-has_touched_slot.true))
 
 -- what stays asked only what stays
 pub invariant_of-self : goal.invariant_of-self
