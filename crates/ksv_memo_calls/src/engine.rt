@@ -41,6 +41,10 @@ static LINKED: [&[u8]; 6] = [
     b"s\x03\x04",
 ];
 
+/// Rows of which one is the sum of another and the same again, in the same letters. Row 1 is named by byte 0; row 2 is
+/// twice row 1.
+static DOUBLED: [&[u8]; 3] = [b"n\x07", b"b\x00", b"s\x01\x01"];
+
 fn rows(alloc: Global, told: &[&[u8]]) -> Result<Rows, AllocError> {
     let mut rows = Vec::new(alloc);
     for one in told {
@@ -49,7 +53,7 @@ fn rows(alloc: Global, told: &[&[u8]]) -> Result<Rows, AllocError> {
     Ok(Rows { rows })
 }
 
-/// The row that one of [`ROWS`] or [`LINKED`] tells.
+/// The row that one of [`ROWS`], [`LINKED`] or [`DOUBLED`] tells.
 fn told_row(alloc: Global, told: &[u8]) -> Result<Row, AllocError> {
     match told {
         [b'n', number] => Ok(Row::Number(u32::from(*number))),
@@ -408,32 +412,56 @@ fn make_edit(engine: &mut Engine<Rows>, rules: &Rows, bytes: &mut Buffer, edit: 
     }
 }
 
-/// Whether, of the 6 rows of [`LINKED`], so many are kept after an edit, and the next question takes so many turns.
+/// A row that answers 14, and how many rows and turns this takes.
+#[derive(Clone, Copy)]
+struct Asked {
+    number: u8,
+    kept: usize,
+    turns: u64,
+}
+
+/// The last row of [`LINKED`].
+const LAST: Asked = Asked {
+    number: 5,
+    kept: 6,
+    turns: 12,
+};
+
+/// The last row of [`DOUBLED`]: three turns for itself, two for row 1 and one for row 0.
+const TWICE: Asked = Asked {
+    number: 2,
+    kept: 3,
+    turns: 6,
+};
+
+/// Whether, of the rows that a question keeps, so many are kept after an edit, and the next question takes so many
+/// turns.
 fn leaves(
     alloc: Global,
     rules: &Rows,
+    asked: Asked,
     edited: Edit,
     kept: usize,
     turns: u64,
 ) -> Result<bool, Fail> {
     let mut bytes = Buffer::new(b"\0\0".to_vec(alloc)?)?;
     let mut engine = rows_engine(alloc, rules, &bytes);
-    let is_sum = answers(&mut engine, rules, &bytes, 5, Ok(Ok(14)))?;
-    let is_counted = counts(&engine, 6, Some(12));
+    let is_sum = answers(&mut engine, rules, &bytes, asked.number, Ok(Ok(14)))?;
+    let is_counted = counts(&engine, asked.kept, Some(asked.turns));
     make_edit(&mut engine, rules, &mut bytes, edited);
-    let is_left = counts(&engine, kept, Some(12));
+    let is_left = counts(&engine, kept, Some(asked.turns));
     begin(&mut engine, rules, &bytes);
-    let is_same = answers(&mut engine, rules, &bytes, 5, Ok(Ok(14)))?;
-    Ok(is_sum && is_counted && is_left && is_same && counts(&engine, 6, Some(turns)))
+    let is_same = answers(&mut engine, rules, &bytes, asked.number, Ok(Ok(14)))?;
+    Ok(is_sum && is_counted && is_left && is_same && counts(&engine, asked.kept, Some(turns)))
 }
 
 #[test]
 fn forgets_a_row_and_its_users_alone(rt: HostRuntime) -> Result<(), Fail> {
     let rules = rows(rt.alloc(), &LINKED)?;
     // Row 4 and row 5, and then rows 1, 2, 3 and 5.
-    let is_right = leaves(rt.alloc(), &rules, Edit::At(1), 4, 5)?
-        && leaves(rt.alloc(), &rules, Edit::At(0), 2, 9)?
-        && leaves(rt.alloc(), &rules, Edit::Between, 4, 5)?;
+    let is_right = leaves(rt.alloc(), &rules, LAST, Edit::At(1), 4, 5)?
+        && leaves(rt.alloc(), &rules, LAST, Edit::At(0), 2, 9)?
+        && leaves(rt.alloc(), &rules, LAST, Edit::Between, 4, 5)?;
     assert!(rt; is_right);
     Ok(())
 }
@@ -441,7 +469,17 @@ fn forgets_a_row_and_its_users_alone(rt: HostRuntime) -> Result<(), Fail> {
 #[test]
 fn forgets_nothing_that_an_edit_leaves_alone(rt: HostRuntime) -> Result<(), Fail> {
     let rules = rows(rt.alloc(), &LINKED)?;
-    let is_right = leaves(rt.alloc(), &rules, Edit::After, 6, 0)?;
+    let is_right = leaves(rt.alloc(), &rules, LAST, Edit::After, 6, 0)?;
+    assert!(rt; is_right);
+    Ok(())
+}
+
+#[test]
+fn forgets_a_row_that_asks_another_twice(rt: HostRuntime) -> Result<(), Fail> {
+    let rules = rows(rt.alloc(), &DOUBLED)?;
+    // Nothing, and then rows 1 and 2.
+    let is_right = leaves(rt.alloc(), &rules, TWICE, Edit::At(1), 3, 0)?
+        && leaves(rt.alloc(), &rules, TWICE, Edit::At(0), 1, 5)?;
     assert!(rt; is_right);
     Ok(())
 }
