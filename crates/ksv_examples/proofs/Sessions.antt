@@ -15,7 +15,7 @@ use Rattle.ksv_session.specs.Commands.{command_of}
 use Rattle.ksv_session.specs.Replies.{Answer, Event, said, answer_to, answer, is_fair, put_answer}
 use Rattle.ksv_session.specs.Session.{Standing, answered, after_event}
 use Rattle.ksv_session.proofs.QuestionLemmas.{answer_by}
-use Rattle.ksv_examples.specs.Depth.{answer_at, ends_in, line_answer, outcome_to, question_answer, spoken, session_to, writing_answer}
+use Rattle.ksv_examples.specs.Depth.{answer_at, ends_in, line_answer, outcome_to, question_answer, session_to, spoken, untold, writing_answer}
 use Rattle.ksv_examples.proofs.Depth.{some_is, answer_is}
 
 -- what is made of something that is there
@@ -40,7 +40,7 @@ module _ (d : Description) (s : Standing) (event : Event) where
 
 -- the event of a line for which no memory is refused
 abbrev said_line : List ℕ → Event
-said_line line = record { line = line; refused = false }
+said_line line = record { line = line; refused = false; tally = untold }
 
 -- after a session's end nothing changes
 stays : (d : Description) (s : Standing) (lines : List (List ℕ)) → s.ended ≡ true → fold (after_event d) s (spoken lines) ≡ s
@@ -77,8 +77,8 @@ written_is d depth b path n a e =
     let m = mapped (put_answer d b) (outcome_to d depth b (put_question d path n)) a e in
     ap (put_answer d b) (outcome_is d depth b (put_question d path n) m.0 m.1) ∙ m.2
 
-line_is : (d : Description) (depth : ℕ) (b line : List ℕ) (a : Answer) → line_answer d depth b line ≡ Some a → answer_to d b (command_of d line) ≡ a
-line_is d depth b line a e = answer_by d b (question_answer d depth b) (writing_answer d depth b) a (λ question. asked_is d depth b question a) (λ path n. written_is d depth b path n a) (command_of d line) e
+line_is : (d : Description) (depth : ℕ) (b line : List ℕ) (a : Answer) → line_answer d depth b line ≡ Some a → answer_to d b untold (command_of d line) ≡ a
+line_is d depth b line a e = answer_by d b untold (question_answer d depth b) (writing_answer d depth b) a (λ question. asked_is d depth b question a) (λ path n. written_is d depth b path n a) (command_of d line) e
 
 -- ---- the session
 

@@ -24,7 +24,7 @@ use Rattle.ksv_questions.specs.Asking.{Asking, Failure, Heard}
 use Rattle.ksv_questions.specs.Writing.{put_question}
 use Rattle.ksv_questions.specs.declared.question.Question.{Question}
 use Rattle.ksv_session.specs.Commands.{by_asking, command_of}
-use Rattle.ksv_session.specs.Replies.{Answer as Replied, Event, said, answer_to, put_answer}
+use Rattle.ksv_session.specs.Replies.{Answer as Replied, Event, Tally, said, answer_to, put_answer}
 use Rattle.ksv_session.specs.Session.{Standing, answered}
 
 -- ---- the same node
@@ -101,13 +101,17 @@ question_answer d depth bytes question = option_map (λ r. said bytes (told d r 
 abbrev pub writing_answer : Description → ℕ → List ℕ → Trail → ℤ → Option Replied
 writing_answer d depth bytes path n = option_map (put_answer d bytes) (outcome_to d depth bytes (put_question d path n))
 
+-- the examples have no line `stats`, so that what it would tell doesn't matter
+abbrev pub untold : Tally
+untold = record { kept = 0; turns = None }
+
 -- the answer to a line
 abbrev pub line_answer : Description → ℕ → List ℕ → List ℕ → Option Replied
-line_answer d depth bytes line = by_asking (question_answer d depth bytes) (writing_answer d depth bytes) (Some (answer_to d bytes (command_of d line))) (command_of d line)
+line_answer d depth bytes line = by_asking (question_answer d depth bytes) (writing_answer d depth bytes) (Some (answer_to d bytes untold (command_of d line))) (command_of d line)
 
 -- the lines of a session in which no memory is refused
 abbrev pub spoken : List (List ℕ) → List Event
-spoken lines = map (λ line. record { line = line; refused = false }) lines
+spoken lines = map (λ line. record { line = line; refused = false; tally = untold }) lines
 
 -- the session after lines
 unfoldable pub session_to : Description → ℕ → Standing → List (List ℕ) → Option Standing

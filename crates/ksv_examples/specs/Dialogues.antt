@@ -7,7 +7,7 @@ use Rattle.ksv_lines.specs.Lines.{lines_of}
 use Rattle.ksv_session.specs.Replies.{Event}
 use Rattle.ksv_session.specs.Session.{Standing, session}
 use Rattle.ksv_examples.specs.Descriptions.{text_of_lines, description}
-use Rattle.ksv_examples.specs.Depth.{spoken}
+use Rattle.ksv_examples.specs.Depth.{spoken, untold}
 
 -- the lines of a description, the bytes of a file, and those of an input; what is written, the bytes in the end, and whether
 -- `quit` ended the session
@@ -1221,7 +1221,7 @@ around = record {
 -- ---- lines that are refused memory
 
 abbrev pub refused : List ℕ → Event
-refused line = record { line = line; refused = true }
+refused line = record { line = line; refused = true; tally = untold }
 
 -- a question, a `put`, and an edit that is accepted otherwise may be refused memory; then nothing changes
 abbrev pub refused_fairly : List Event

@@ -31,6 +31,7 @@ Command lines are read from standard input, and each is answered in one line:
   app HEX          adds bytes at the end
   bytes POS COUNT  the bytes from a place on
   size             the number of bytes
+  stats            how many answers are kept, and the turns of the last question
   quit             ends the session
 
 Example: echo 'get /' | ksv picture.png png.ksy";

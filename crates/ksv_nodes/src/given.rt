@@ -2,7 +2,7 @@
 
 ghost use Rattle.std.specs.Prelude.{◌≡◌, IfOk};
 
-use ksv_expr_eval::{Place, Stream, Value};
+use ksv_expr_value::{Place, Stream, Value};
 use std::alloc::{AllocError, Global};
 
 /// A member of a type of the description.

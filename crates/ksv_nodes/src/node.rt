@@ -2,7 +2,7 @@
 
 ghost use Rattle.std.specs.Prelude.{◌≡◌, IfOk};
 
-use ksv_expr_eval::Path;
+use ksv_expr_value::Path;
 use std::alloc::{AllocError, Global};
 
 /// What is asked of a path.

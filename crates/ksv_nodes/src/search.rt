@@ -3,7 +3,7 @@ ghost use Rattle.std.specs.Prelude.{◌≡◌, ◌<◌, length, IfSome};
 ghost use Rattle.ksv_expr_value.specs.Bytes.{content};
 ghost use Rattle.ksv_nodes.specs.Reading.{first_at};
 
-use ksv_expr_eval::Parts;
+use ksv_expr_value::Parts;
 
 /// The place of the first such byte.
 fn first_in(bytes: &[u8], byte: u8) -> Option<usize>

@@ -12,7 +12,7 @@ use crate::given::{Ended, Given, Head, Rested};
 use crate::node::{Node, NodeKind};
 use crate::search::first_in_parts;
 use ksv_bytes::{Buffer, Use, Window};
-use ksv_expr_eval::{Fault, FaultKind, Parts, Path, Place, Step, Stream, Value};
+use ksv_expr_value::{Fault, FaultKind, Parts, Path, Place, Step, Stream, Value};
 use std::alloc::{AllocError, AllocFailed, Global};
 use std::marker::Model;
 

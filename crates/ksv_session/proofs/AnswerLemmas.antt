@@ -6,7 +6,7 @@ use Rattle.std.proofs.lemmas.List.{append-nil, drop_more, take-append-drop, take
 use Rattle.ksv_session.specs.Code.{Answered, Fed, Stands, Wrote}
 use Rattle.ksv_session.specs.Commands.{command_of}
 use Rattle.ksv_desc.specs.Description.{Description}
-use Rattle.ksv_session.specs.Explored.{Explored, description_of}
+use Rattle.ksv_session.specs.Explored.{Explored, description_of, tally_of}
 use Rattle.ksv_lines.specs.Lines.{is_line_end, lines_of}
 use Rattle.ksv_session.specs.Replies.{Answer, Event, answer, is_fair, may_be_refused}
 use Rattle.ksv_session.specs.Runs.{Breaks, Serves}
@@ -21,12 +21,12 @@ fair_if false fair h = refl
 
 -- What `line` says of its reply.
 pub answers : (old new : Explored) (line : List ℕ) (tells : Bool) (before written : List ℕ) (reply : Reply) (result : Result Bool Failed)
-    → answer_seen new.bytes reply ≡ answer (description_of old) old.bytes (record { line = line; refused = is_refusal reply })
+    → answer_seen new.bytes reply ≡ answer (description_of old) old.bytes (record { line = line; refused = is_refusal reply; tally = tally_of old })
     → (IsTrue (is_refusal reply) → may_be_refused old.bytes (command_of (description_of old) line) ≡ true)
     → description_of new ≡ description_of old → Wrote (answer_seen new.bytes reply) tells before written result
     → Answered old line new tells before written result
 answers old new line tells before written reply result is fair kept wrote = record {
-  event = record { line = line; refused = is_refusal reply };
+  event = record { line = line; refused = is_refusal reply; tally = tally_of old };
   line_is = refl;
   fair = fair_if (is_refusal reply) (may_be_refused old.bytes (command_of (description_of old) line)) fair;
   description = kept;

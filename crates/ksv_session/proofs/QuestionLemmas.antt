@@ -7,9 +7,9 @@ use Rattle.ksv_questions.specs.Answers.{outcome, question_text}
 use Rattle.ksv_questions.specs.Writing.{put_question}
 use Rattle.ksv_questions.specs.declared.question.Question.{Question}
 use Rattle.ksv_session.specs.Commands.{by_asking, is_question}
-use Rattle.ksv_session.specs.Replies.{Answer, answer_to, may_be_refused, put_answer, said}
+use Rattle.ksv_session.specs.Replies.{Answer, Tally, answer_to, may_be_refused, put_answer, said}
 use Rattle.ksv_session.specs.declared.command.Command.{Command}
-use Rattle.ksv_session.specs.declared.command.Command.TheVariants.{App, Ask, Blank, Bytes, Del, Ins, Put, Quit, Refused, Set, Size}
+use Rattle.ksv_session.specs.declared.command.Command.TheVariants.{App, Ask, Blank, Bytes, Del, Ins, Put, Quit, Refused, Set, Size, Stats}
 
 -- a command that asks the described file may be refused memory
 pub question_may : (b : List ℕ) (command : Command) → IsTrue (is_question command) → may_be_refused b command ≡ true
@@ -23,6 +23,7 @@ question_may b (Del at count) h = absurd (cc)
 question_may b (App bytes) h = absurd (cc)
 question_may b (Bytes at count) h = absurd (cc)
 question_may b Size h = absurd (cc)
+question_may b Stats h = absurd (cc)
 question_may b Quit h = absurd (cc)
 
 some_is : {A : Type 0} {x y : A} → Some x ≡ Some y → x ≡ y
@@ -30,18 +31,19 @@ some_is e = cc
 
 -- An answer that is the right one for each question, and for each integer that is written, is the right one for each command. (The
 -- examples of ksv_examples cite it.)
-pub answer_by : (d : Description) (b : List ℕ) (ask : Question → Option Answer) (put : Trail → ℤ → Option Answer) (a : Answer)
+pub answer_by : (d : Description) (b : List ℕ) (t : Tally) (ask : Question → Option Answer) (put : Trail → ℤ → Option Answer) (a : Answer)
     → ((question : Question) → ask question ≡ Some a → said b (question_text d b question ++ codes "\n") ≡ a)
     → ((path : Trail) (n : ℤ) → put path n ≡ Some a → put_answer d b (outcome d b (put_question d path n)) ≡ a)
-    → (command : Command) → by_asking ask put (Some (answer_to d b command)) command ≡ Some a → answer_to d b command ≡ a
-answer_by d b ask put a asked written (Ask question) e = asked question e
-answer_by d b ask put a asked written (Put path n) e = written path n e
-answer_by d b ask put a asked written Blank e = some_is e
-answer_by d b ask put a asked written (Refused refusal) e = some_is e
-answer_by d b ask put a asked written (Set at bytes) e = some_is e
-answer_by d b ask put a asked written (Ins at bytes) e = some_is e
-answer_by d b ask put a asked written (Del at count) e = some_is e
-answer_by d b ask put a asked written (App bytes) e = some_is e
-answer_by d b ask put a asked written (Bytes at count) e = some_is e
-answer_by d b ask put a asked written Size e = some_is e
-answer_by d b ask put a asked written Quit e = some_is e
+    → (command : Command) → by_asking ask put (Some (answer_to d b t command)) command ≡ Some a → answer_to d b t command ≡ a
+answer_by d b t ask put a asked written (Ask question) e = asked question e
+answer_by d b t ask put a asked written (Put path n) e = written path n e
+answer_by d b t ask put a asked written Blank e = some_is e
+answer_by d b t ask put a asked written (Refused refusal) e = some_is e
+answer_by d b t ask put a asked written (Set at bytes) e = some_is e
+answer_by d b t ask put a asked written (Ins at bytes) e = some_is e
+answer_by d b t ask put a asked written (Del at count) e = some_is e
+answer_by d b t ask put a asked written (App bytes) e = some_is e
+answer_by d b t ask put a asked written (Bytes at count) e = some_is e
+answer_by d b t ask put a asked written Size e = some_is e
+answer_by d b t ask put a asked written Stats e = some_is e
+answer_by d b t ask put a asked written Quit e = some_is e

@@ -1,5 +1,5 @@
 -- One step of a run, from what stands before it, and what a whole run comes to.
-use Rattle.std.proofs.Common.{◌≡◌, ◌∙◌, ◌&&◌, ◌+◌, min, ℕ, suc, Bool, true, false, List, [], ◌∷◌, ◌++◌, length, map, fold, take, ap, ap₂, sym, refl, arith, append_assoc, if◌then◌else◌, inl, inr}
+use Rattle.std.proofs.Common.{◌≡◌, ◌∙◌, ◌&&◌, ◌+◌, min, ℕ, suc, Bool, true, false, None, List, [], ◌∷◌, ◌++◌, length, map, fold, take, ap, ap₂, sym, refl, arith, append_assoc, if◌then◌else◌, inl, inr}
 use Rattle.std.specs.Prelude.{IsTrue}
 use Rattle.std.proofs.lemmas.Bool.{cases_lt, lt-ltb}
 use Rattle.std.proofs.lemmas.List.{append-nil, length-append, length-take, length_push, map-append, take-append-le, drop_at, take_all, take_at, take_min}
@@ -24,10 +24,10 @@ cut_reads d line = elim (cases_lt 4096 (length line)) [
 
 -- the event of the same line, gathered as a whole
 abbrev pub whole : List ℕ → Event → Event
-whole line event = record { line = line; refused = event.refused }
+whole line event = record { line = line; refused = event.refused; tally = event.tally }
 
 same_answer : (d : Description) (b line : List ℕ) (event : Event) → event.line ≡ take 4097 line → answer d b event ≡ answer d b (whole line event)
-same_answer d b line event is = ap (λ k. if event.refused then said b no_memory_text else answer_to d b k) (ap (command_of d) is ∙ cut_reads d line)
+same_answer d b line event is = ap (λ k. if event.refused then said b no_memory_text else answer_to d b event.tally k) (ap (command_of d) is ∙ cut_reads d line)
 
 same_fair : (d : Description) (b line : List ℕ) (event : Event) → event.line ≡ take 4097 line → is_fair d b event ≡ is_fair d b (whole line event)
 same_fair d b line event is = ap (λ k. if event.refused then may_be_refused b k else true) (ap (command_of d) is ∙ cut_reads d line)
@@ -52,8 +52,11 @@ lines_push events e = map-append (λ (x : Event). x.line) events (e ∷ [])
 
 -- Lines behind those that were answered, of which none was refused memory.
 
+abbrev pub event_of : List ℕ → Event
+event_of line = record { line = line; refused = false; tally = record { kept = 0; turns = None } }
+
 abbrev pub unrefused : List (List ℕ) → List Event
-unrefused lines = map (λ line. record { line = line; refused = false }) lines
+unrefused lines = map event_of lines
 
 unrefused_lines : (lines : List (List ℕ)) → lines_in (unrefused lines) ≡ lines
 unrefused_lines [] = refl
@@ -69,9 +72,6 @@ goes_back : (d : Description) (s t : Standing) (lines : List (List ℕ)) (text :
     → Goes d t lines → (more : List ℕ) × ((fold (after_event d) t (unrefused lines)).output ≡ s.output ++ more) × (s.fair ≡ true → (fold (after_event d) t (unrefused lines)).fair ≡ true)
 goes_back d s t lines text is fair g =
     (text ++ g.more, g.output ∙ ap (λ o. o ++ g.more) is ∙ append_assoc s.output text g.more, λ h. g.fair (fair h))
-
-abbrev event_of : List ℕ → Event
-event_of line = record { line = line; refused = false }
 
 step_output : (d : Description) (s : Standing) (line : List ℕ) (b : Bool) → s.ended ≡ b
     → (text : List ℕ) × ((after_event d s (event_of line)).output ≡ s.output ++ text) × (s.fair ≡ true → (after_event d s (event_of line)).fair ≡ true)

@@ -1,10 +1,16 @@
 -- Words that only private contracts cite: a reader of the public contracts may skip this file.
-use Rattle.std.specs.Prelude.{◌≡◌, ℕ, Bool, true, false, List, [], ◌∷◌, ◌++◌, length, codes, decimal, take, IsTrue, Result, Ok, Err}
+use Rattle.std.specs.Prelude.{◌≡◌, ℕ, Bool, true, false, List, [], ◌∷◌, ◌++◌, length, codes, decimal, take, IsTrue, Result, Ok, Err, String, string_bytes}
+use Rattle.std.specs.declared.alloc.Global.{Global}
 use Rattle.ksv_bytes.specs.declared.edit.EditRefusal.{EditRefusal}
 use Rattle.ksv_bytes.specs.declared.edit.EditRefusal.TheVariants as edits
 use Rattle.ksv_desc.specs.Description.{Description}
 use Rattle.ksv_lines.specs.Lines.{line_room, lines_of}
 use Rattle.ksv_lines.specs.declared.device.Failed.{Failed}
+use Rattle.ksv_questions.specs.Asking.{Failure}
+use Rattle.ksv_questions.specs.Seen.{overwrite_of}
+use Rattle.ksv_questions.specs.Texts.{failure_text}
+use Rattle.ksv_questions.specs.Writing.{Overwrite}
+use Rattle.ksv_questions.specs.declared.put.Overwrite.{Overwrite as CodeOverwrite}
 use Rattle.ksv_session.specs.Explored.{Explored, description_of}
 use Rattle.ksv_session.specs.Replies.{Answer, Event, answer, edit_refusal_text, is_fair}
 use Rattle.ksv_session.specs.Runs.{Breaks, Serves}
@@ -24,6 +30,15 @@ wants_memory (Err edits.NoMemory) = true
 wants_memory (Err edits.Outside) = false
 wants_memory (Err edits.NothingToDo) = false
 wants_memory (Err edits.TooLarge) = false
+
+-- ---- a `put`
+
+-- what a `put` comes to: the bytes to write, or the text of the reply
+abbrev pub PutSays : Description → Result Overwrite Failure → Result CodeOverwrite (String Global) → Type 0
+PutSays d (Ok o) (Ok x) = o ≡ overwrite_of x
+PutSays d (Err e) (Err text) = string_bytes text ≡ failure_text d e ++ codes "\n"
+PutSays d (Ok o) (Err text) = ⊥
+PutSays d (Err e) (Ok x) = ⊥
 
 -- ---- a line over a device
 

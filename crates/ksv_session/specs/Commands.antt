@@ -11,7 +11,7 @@ use Rattle.ksv_questions.specs.declared.question.Question.{Question}
 use Rattle.ksv_questions.specs.declared.question.Question.TheVariants as questions
 use Rattle.ksv_session.specs.Numbers.{integer_of, number_of}
 use Rattle.ksv_session.specs.declared.command.Command.{Command}
-use Rattle.ksv_session.specs.declared.command.Command.TheVariants.{App, Ask, Blank, Bytes, Del, Ins, Put, Quit, Refused, Set, Size}
+use Rattle.ksv_session.specs.declared.command.Command.TheVariants.{App, Ask, Blank, Bytes, Del, Ins, Put, Quit, Refused, Set, Size, Stats}
 use Rattle.ksv_session.specs.declared.refusal.LineRefusal.{LineRefusal}
 use Rattle.ksv_session.specs.declared.refusal.LineRefusal.TheVariants as refusals
 
@@ -168,6 +168,7 @@ command_named d name arguments =
     else if bytes_eq name (codes "app") then app_of (only arguments)
     else if bytes_eq name (codes "bytes") then shown_of (counted arguments)
     else if bytes_eq name (codes "size") then alone Size arguments
+    else if bytes_eq name (codes "stats") then alone Stats arguments
     else if bytes_eq name (codes "quit") then alone Quit arguments
     else Refused refusals.UnknownCommand
 

@@ -1,11 +1,11 @@
 -- The reply to a line, and the bytes after it.
-use Rattle.std.specs.Prelude.{ℕ, ◌+◌, Bool, true, false, List, [], ◌++◌, length, codes, decimal, nat_le, Result, Ok, Err, is_ok, if◌then◌else◌}
+use Rattle.std.specs.Prelude.{ℕ, ◌+◌, Bool, true, false, List, [], ◌++◌, length, codes, decimal, nat_le, Option, Some, None, Result, Ok, Err, is_ok, if◌then◌else◌}
 use Rattle.ksv_bytes.specs.Edits.{append, delete, insert, overwrite}
 use Rattle.ksv_bytes.specs.declared.edit.EditRefusal.{EditRefusal}
 use Rattle.ksv_bytes.specs.declared.edit.EditRefusal.TheVariants as edits
 use Rattle.ksv_session.specs.Commands.{command_of}
 use Rattle.ksv_session.specs.declared.command.Command.{Command}
-use Rattle.ksv_session.specs.declared.command.Command.TheVariants.{App, Ask, Blank, Bytes, Del, Ins, Put, Quit, Refused, Set, Size}
+use Rattle.ksv_session.specs.declared.command.Command.TheVariants.{App, Ask, Blank, Bytes, Del, Ins, Put, Quit, Refused, Set, Size, Stats}
 use Rattle.ksv_desc.specs.Description.{Description}
 use Rattle.ksv_questions.specs.Answers.{outcome, question_text}
 use Rattle.ksv_questions.specs.Asking.{Failure}
@@ -62,18 +62,32 @@ abbrev pub put_answer : Description → List ℕ → Result Overwrite Failure �
 put_answer d b (Ok o) = edited b (overwrite b o.at o.bytes)
 put_answer d b (Err e) = said b (failure_text d e ++ codes "\n")
 
-abbrev pub answer_to : Description → List ℕ → Command → Answer
-answer_to d b Blank = said b []
-answer_to d b (Refused refusal) = said b (line_refusal_text refusal)
-answer_to d b (Ask question) = said b (question_text d b question ++ codes "\n")
-answer_to d b (Put path n) = put_answer d b (outcome d b (put_question d path n))
-answer_to d b (Set at bytes) = edited b (overwrite b at bytes)
-answer_to d b (Ins at bytes) = edited b (insert b at bytes)
-answer_to d b (Del at count) = edited b (delete b at count)
-answer_to d b (App bytes) = edited b (append b bytes)
-answer_to d b (Bytes at count) = said b (shown_text b at count)
-answer_to d b Size = said b (codes "size " ++ decimal (length b) ++ codes "\n")
-answer_to d b Quit = record { bytes = b; text = codes "bye\n"; ends = true }
+-- What `stats` tells: how many nodes are kept, and the turns of the last question where they are known. Which numbers these are is no
+-- part of a session's replies: `Session::line` says it by `Kept`.
+pub record Tally : Type 0 where
+  pub kept : ℕ
+  pub turns : Option ℕ
+
+abbrev pub turns_text : Option ℕ → List ℕ
+turns_text (Some turns) = decimal turns
+turns_text None = codes "-"
+
+abbrev pub tally_text : Tally → List ℕ
+tally_text t = codes "kept " ++ decimal t.kept ++ codes " turns " ++ turns_text t.turns ++ codes "\n"
+
+abbrev pub answer_to : Description → List ℕ → Tally → Command → Answer
+answer_to d b t Blank = said b []
+answer_to d b t (Refused refusal) = said b (line_refusal_text refusal)
+answer_to d b t (Ask question) = said b (question_text d b question ++ codes "\n")
+answer_to d b t (Put path n) = put_answer d b (outcome d b (put_question d path n))
+answer_to d b t (Set at bytes) = edited b (overwrite b at bytes)
+answer_to d b t (Ins at bytes) = edited b (insert b at bytes)
+answer_to d b t (Del at count) = edited b (delete b at count)
+answer_to d b t (App bytes) = edited b (append b bytes)
+answer_to d b t (Bytes at count) = said b (shown_text b at count)
+answer_to d b t Size = said b (codes "size " ++ decimal (length b) ++ codes "\n")
+answer_to d b t Stats = said b (tally_text t)
+answer_to d b t Quit = record { bytes = b; text = codes "bye\n"; ends = true }
 
 -- whether a command may be refused memory: a question, a `put` and `bytes` for what they ask and for the reply, an edit that is
 -- accepted for its growth
@@ -88,16 +102,18 @@ may_be_refused b (Del at count) = false
 may_be_refused b (App bytes) = is_ok (append b bytes)
 may_be_refused b (Bytes at count) = has b at count
 may_be_refused b Size = false
+may_be_refused b Stats = false
 may_be_refused b Quit = false
 
--- A line as it came, and whether memory was refused while it was answered.
+-- A line as it came, whether memory was refused while it was answered, and what `stats` would tell then.
 pub record Event : Type 0 where
   pub line : List ℕ
   pub refused : Bool
+  pub tally : Tally
 
 -- the reply to a line; if memory was refused it is `error: no memory`, and nothing changes
 abbrev pub answer : Description → List ℕ → Event → Answer
-answer d b event = if event.refused then said b no_memory_text else answer_to d b (command_of d event.line)
+answer d b event = if event.refused then said b no_memory_text else answer_to d b event.tally (command_of d event.line)
 
 -- a line that was refused memory is one that may be
 abbrev pub is_fair : Description → List ℕ → Event → Bool

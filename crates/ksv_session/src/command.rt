@@ -42,6 +42,8 @@ pub(crate) enum Command {
     App(EditBytes),
     /// `size`: the number of bytes.
     Size,
+    /// `stats`: how many nodes are kept, and the turns of the last question.
+    Stats,
     /// `quit`: the end of the session.
     Quit,
 }
@@ -283,6 +285,8 @@ fn command_with(
         Ok(bytes(arguments))
     } else if name == b"size".as_slice() {
         Ok(without_arguments(Command::Size, arguments))
+    } else if name == b"stats".as_slice() {
+        Ok(without_arguments(Command::Stats, arguments))
     } else if name == b"quit".as_slice() {
         Ok(without_arguments(Command::Quit, arguments))
     } else {

@@ -1,6 +1,6 @@
 //! Replies, and those that take no memory.
 ghost use Rattle.std.specs.Prelude.{◌≡◌, ◌<◌, ◌≤◌, ◌++◌, false, codes, decimal, length, string_bytes, if◌then◌else◌};
-ghost use Rattle.ksv_session.specs.Replies.{edit_refusal_text, line_refusal_text, no_memory_text};
+ghost use Rattle.ksv_session.specs.Replies.{edit_refusal_text, line_refusal_text, no_memory_text, tally_text, turns_text};
 ghost use Rattle.ksv_session.specs.Seen.{is_last, is_refusal, reply_text};
 
 use crate::refusal::LineRefusal;
@@ -20,7 +20,7 @@ pub enum Reply {
     Short(Short),
     /// A text of any length.
     Text(String),
-    /// Memory was refused while the line was answered. Nothing has changed.
+    /// Memory was refused while the line was answered. The bytes are as they were.
     NoMemory,
     /// The session ends.
     Bye,
@@ -115,6 +115,30 @@ pub(crate) fn size_reply(size: usize) -> Short
     ensures { result.bytes ≡ codes "size " ++ decimal size ++ codes "\n" }
 {
     numbered("size ", size)
+}
+
+/// The turns of a question, or a `-` where they aren't known, at the end of a text.
+fn push_turns(text: &mut Short, turns: Option<u64>)
+    requires { length text.old.bytes ≤ 40 }
+    ensures text { text.new.bytes ≡ text.old.bytes ++ turns_text turns }
+    ensures short { length text.new.bytes ≤ 60 }
+{
+    match turns {
+        Some(turns) => text.push_str(Digits::new().format(turns)),
+        None => text.push_str("-"),
+    }
+}
+
+/// The reply to `stats`.
+pub(crate) fn stats_reply(kept: usize, turns: Option<u64>) -> Short
+    ensures { result.bytes ≡ tally_text (record { kept = kept; turns = turns }) }
+{
+    let mut text = short("kept ");
+    text.push_str(Digits::new().format(kept));
+    text.push_str(" turns ");
+    push_turns(&mut text, turns);
+    text.push_str("\n");
+    text
 }
 
 /// The reply to an edit that was done.

@@ -1,23 +1,26 @@
-//! A session: the current bytes, and the reply to each line.
-ghost use Rattle.std.specs.Prelude.{◌≡◌, ◌<◌, ◌↔◌, ◌++◌, true, false, codes, length, if◌then◌else◌, IsTrue, IfOk, IsErr};
-ghost use Rattle.ksv_bytes.specs.Edits.{file_limit};
-ghost use Rattle.ksv_session.specs.Explored.{description_of};
+//! A session: the current bytes, what is kept of answers, and the reply to each line.
+ghost use Rattle.std.specs.Prelude.{◌≡◌, ◌<◌, ◌↔◌, ◌++◌, true, false, Some, codes, length, string_bytes, if◌then◌else◌, IsTrue, IfOk, IfErr, IsErr, MatchResult, OnErr, OnOk};
+ghost use Rattle.ksv_bytes.specs.Edits.{IsRefusedAs, append, delete, file_limit, insert, overwrite};
+ghost use Rattle.ksv_bytes.specs.declared.uses.Change.TheVariants as changes;
+ghost use Rattle.ksv_session.specs.Explored.{description_of, tally_of};
 ghost use Rattle.ksv_session.specs.Commands.{command_of};
-ghost use Rattle.ksv_questions.specs.Answers.{outcome, question_text};
+ghost use Rattle.ksv_session.specs.declared.command.Command.TheVariants as commands;
+ghost use Rattle.ksv_session.specs.Kept.{Holds, HoldsSome, Memory, Remembers, after_asking, after_edit, nothing_kept};
+ghost use Rattle.ksv_questions.specs.Answers.{asking, asks, outcome, question_text};
 ghost use Rattle.ksv_questions.specs.Writing.{put_question};
 ghost use Rattle.ksv_session.specs.Replies.{answer, has, may_be_refused, no_memory_text, put_answer, said, shown_text};
-ghost use Rattle.ksv_session.specs.Code.{edit_text, wants_memory};
+ghost use Rattle.ksv_session.specs.Code.{PutSays, edit_text, wants_memory};
 ghost use Rattle.ksv_session.specs.Seen.{answer_seen, is_last, is_refusal, reply_text};
 
 use crate::command::{Command, read_line};
-use crate::reply::{Reply, edit_reply, lined, refused_edit, refused_line, size_reply};
-use ksv_bytes::{Buffer, EditRefusal};
+use crate::reply::{Reply, edit_reply, lined, refused_edit, refused_line, size_reply, stats_reply};
+use ksv_bytes::{Buffer, Change, EditRefusal};
 use ksv_desc::Desc;
 use ksv_expr_value::{Integer, Path};
 use ksv_memo::Engine;
-use ksv_questions::{Question, answer, bytes_text, overwrite_for};
+use ksv_questions::{Overwrite, Question, answer, bytes_text, overwrite_for};
 use ksv_rules::Described;
-use std::alloc::Global;
+use std::alloc::{AllocError, Global};
 use std::marker::Model;
 use thiserror::Error;
 
@@ -29,15 +32,21 @@ pub enum NewFault {
     FileTooLarge,
 }
 
-/// A file that is explored by its description. Contracts see the description and the current bytes.
+/// A file that is explored by its description, with an engine that is right for its bytes. Contracts see the description, the current
+/// bytes, the kept nodes, and the turns of the last question.
 #[derive(Drop)]
 pub struct Session {
     alloc: Global,
     described: Described,
     buffer: Buffer,
+    engine: Engine<Described>,
+    turns: Option<u64>,
 }
 
 impl Model for Session {
+    ghost use Rattle.ksv_desc.specs.Whole.{plain_pieces};
+    ghost use Rattle.ksv_memo.specs.Right.{IsRight, nodes_of};
+    ghost use Rattle.ksv_questions.specs.Engines.{world};
     ghost use Rattle.ksv_session.specs.Explored.{Explored};
     ghost use Rattle.ksv_expr_tree.specs.contracts.tree.Expr as expr;
     ghost use Rattle.std.specs.Coded.{codes};
@@ -46,13 +55,15 @@ impl Model for Session {
 
     ghost coded = { Prim.hlevel (codes, expr.the_row.coded) };
 
-    ghost view = { λ s. record { pieces = s.described.desc; bytes = s.buffer } };
+    ghost view = { λ s. record { pieces = s.described.desc; bytes = s.buffer; kept = nodes_of s.engine.kept; turns = s.turns } };
+
+    ghost invariant = { λ s. IsRight (world (plain_pieces s.described.desc) s.buffer) s.engine.kept };
 }
 
 impl Session {
-    /// A session over the bytes of a file. It takes no memory.
+    /// A session over the bytes of a file, of which nothing is kept yet. It takes no memory.
     pub fn new(alloc: Global, desc: Desc, bytes: Vec<u8>) -> Result<Session, NewFault>
-        ensures begun { IfOk result (λ session. session ≡ record { pieces = desc; bytes = bytes.items }) }
+        ensures begun { IfOk result (λ session. session ≡ record { pieces = desc; bytes = bytes.items; kept = nothing_kept.kept; turns = nothing_kept.turns }) }
         ensures refused { IsErr result ↔ (file_limit < length bytes.items) }
     {
         match Buffer::new(bytes) {
@@ -60,6 +71,8 @@ impl Session {
                 alloc,
                 described: Described::new(desc),
                 buffer,
+                engine: Engine::new(alloc),
+                turns: Some(0),
             }),
             Err(_) => Err(NewFault::FileTooLarge),
         }
@@ -73,19 +86,25 @@ impl Session {
             alloc: _,
             described: _,
             buffer,
+            engine: _,
+            turns: _,
         } = self;
         buffer
     }
 
-    /// Answers a line, given without its LF; it may still end with a carriage return. If memory is refused nothing
-    /// changes; it can be refused only for a question, for `put`, for `bytes` and for an edit that makes the file longer.
+    /// Answers a line, given without its LF; it may still end with a carriage return. If memory is refused the bytes don't change;
+    /// it can be refused only for a question, for `put`, for `bytes` and for an edit that makes the file longer.
     #[tactic(auto, using(crate::proofs::QuestionLemmas::question_may), unfolding(crate::specs::Explored::description_of))]
     pub fn line(&mut self, line: &[u8]) -> Reply
-        ensures answer { answer_seen self.new.bytes result ≡ answer (description_of self.old) self.old.bytes (record { line = line.now; refused = is_refusal result }) }
+        ensures answer { answer_seen self.new.bytes result ≡ answer (description_of self.old) self.old.bytes (record { line = line.now; refused = is_refusal result; tally = tally_of self.old }) }
         ensures fair { IsTrue (is_refusal result) → may_be_refused self.old.bytes (command_of (description_of self.old) line.now) ≡ true }
         ensures kept { description_of self.new ≡ description_of self.old }
+
+        // What is kept across lines: after a list of lines, the fold of `memory_after` over them.
+        ensures memory { (m : Memory) → Holds self.old m → Remembers (description_of self.old) self.old.bytes (command_of (description_of self.old) line.now) (is_refusal result) m self.new }
     {
         let Ok(command) = read_line(self.alloc, self.described.desc(), line) else {
+            self.turns = None;
             return Reply::NoMemory;
         };
         match command {
@@ -94,72 +113,170 @@ impl Session {
             Command::Ask(question) => self.answered(&question),
             Command::Put(path, number) => self.put(&path, number),
             Command::Set(at, bytes) => {
-                let outcome = self.buffer.overwrite(at as usize, bytes.as_slice());
+                let outcome = self.overwrite(at as usize, bytes.as_slice());
                 self.edited(outcome)
             }
             Command::Ins(at, bytes) => {
-                let outcome = self.buffer.insert(at as usize, bytes.as_slice());
+                let outcome = self.insert(at as usize, bytes.as_slice());
                 self.edited(outcome)
             }
             Command::Del(at, count) => {
-                let outcome = self.buffer.delete(at as usize, count as usize);
+                let outcome = self.delete(at as usize, count as usize);
                 self.edited(outcome)
             }
             Command::App(bytes) => {
-                let outcome = self.buffer.append(bytes.as_slice());
+                let outcome = self.append(bytes.as_slice());
                 self.edited(outcome)
             }
             Command::Bytes(at, count) => self.shown(at, count),
             Command::Size => Reply::Short(size_reply(self.buffer.len())),
+            Command::Stats => Reply::Short(stats_reply(self.engine.kept(), self.turns)),
             Command::Quit => Reply::Bye,
         }
     }
 
-    /// The reply to a question.
+    /// The text of a question's reply, LF included. The turns aren't known before it is whole.
     #[tactic(auto, unfolding(crate::specs::Explored::description_of))]
-    fn answered(&self, question: &Question) -> Reply
-        ensures answer { reply_text result ≡ (if is_refusal result then no_memory_text else question_text (description_of self.now) self.now.bytes question.now ++ codes "\n") }
-        ensures last { is_last result ≡ false }
+    fn asked(&mut self, question: &Question) -> Result<String, AllocError>
+        ensures text { IfOk result (λ text. string_bytes text ≡ question_text (description_of self.old) self.old.bytes question.now ++ codes "\n") }
+        ensures kept { (description_of self.new ≡ description_of self.old) × (self.new.bytes ≡ self.old.bytes) }
+        ensures memory { (m : Memory) → Holds self.old m → OnOk result (Holds self.new (after_asking (description_of self.old) self.old.bytes (asks (description_of self.old) self.old.bytes (asking (description_of self.old) self.old.bytes question.now)) m)) }
+        ensures refused { (m : Memory) → Holds self.old m → OnErr result (HoldsSome (description_of self.old) self.old.bytes (asks (description_of self.old) self.old.bytes (asking (description_of self.old) self.old.bytes question.now)) m self.new) }
     {
-        let mut engine = Engine::new(self.alloc);
-        match answer(
+        self.turns = None;
+        self.engine.begin();
+        let mut text = answer(
             self.alloc,
-            &mut engine,
+            &mut self.engine,
             &self.described,
             &self.buffer,
             question,
-        ) {
-            Ok(text) => lined(text),
+        )?;
+        text.push_str("\n")?;
+        self.turns = self.engine.turns();
+        Ok(text)
+    }
+
+    /// The reply to a question.
+    #[tactic(auto, unfolding(crate::specs::Explored::description_of))]
+    fn answered(&mut self, question: &Question) -> Reply
+        ensures answer { answer_seen self.new.bytes result ≡ said self.old.bytes (if is_refusal result then no_memory_text else question_text (description_of self.old) self.old.bytes question.now ++ codes "\n") }
+        ensures kept { description_of self.new ≡ description_of self.old }
+        ensures memory { (m : Memory) → Holds self.old m → Remembers (description_of self.old) self.old.bytes (commands.Ask question.now) (is_refusal result) m self.new }
+    {
+        match self.asked(question) {
+            Ok(text) => Reply::Text(text),
             Err(_) => Reply::NoMemory,
         }
     }
 
-    /// Writes an integer over the one at a path. The edit comes last, and takes no memory.
-    #[tactic(auto, using(crate::proofs::PutLemmas::put_is), unfolding(crate::specs::Explored::description_of))]
-    fn put(&mut self, path: &Path, number: Integer) -> Reply
-        ensures answer { answer_seen self.new.bytes result ≡ (if is_refusal result then said self.old.bytes no_memory_text else put_answer (description_of self.old) self.old.bytes (outcome (description_of self.old) self.old.bytes (put_question (description_of self.old) path.now number))) }
-        ensures kept { description_of self.new ≡ description_of self.old }
+    /// What writing an integer over the one at a path means: an overwrite, or the text of the reply, LF included. The turns aren't
+    /// known before it is whole.
+    #[tactic(auto, unfolding(crate::specs::Explored::description_of))]
+    fn meant(
+        &mut self,
+        path: &Path,
+        number: Integer,
+    ) -> Result<Result<Overwrite, String>, AllocError>
+        ensures says { IfOk result (PutSays (description_of self.old) (outcome (description_of self.old) self.old.bytes (put_question (description_of self.old) path.now number))) }
+        ensures kept { (description_of self.new ≡ description_of self.old) × (self.new.bytes ≡ self.old.bytes) }
+        ensures memory { (m : Memory) → Holds self.old m → OnOk result (Holds self.new (after_asking (description_of self.old) self.old.bytes (asks (description_of self.old) self.old.bytes (put_question (description_of self.old) path.now number)) m)) }
+        ensures refused { (m : Memory) → Holds self.old m → OnErr result (HoldsSome (description_of self.old) self.old.bytes (asks (description_of self.old) self.old.bytes (put_question (description_of self.old) path.now number)) m self.new) }
     {
-        let mut engine = Engine::new(self.alloc);
-        let Ok(meant) = overwrite_for(
+        self.turns = None;
+        self.engine.begin();
+        let told = overwrite_for(
             self.alloc,
-            &mut engine,
+            &mut self.engine,
             &self.described,
             &self.buffer,
             path,
             number,
-        ) else {
+        )?;
+        let meant = match told {
+            Ok(overwrite) => Ok(overwrite),
+            Err(mut text) => {
+                text.push_str("\n")?;
+                Err(text)
+            }
+        };
+        self.turns = self.engine.turns();
+        Ok(meant)
+    }
+
+    /// Writes an integer over the one at a path. The edit comes last, and takes no memory.
+    #[tactic(auto, unfolding(crate::specs::Explored::description_of))]
+    fn put(&mut self, path: &Path, number: Integer) -> Reply
+        ensures answer { answer_seen self.new.bytes result ≡ (if is_refusal result then said self.old.bytes no_memory_text else put_answer (description_of self.old) self.old.bytes (outcome (description_of self.old) self.old.bytes (put_question (description_of self.old) path.now number))) }
+        ensures kept { description_of self.new ≡ description_of self.old }
+        ensures memory { (m : Memory) → Holds self.old m → Remembers (description_of self.old) self.old.bytes (commands.Put path.now number) (is_refusal result) m self.new }
+    {
+        let Ok(meant) = self.meant(path, number) else {
             return Reply::NoMemory;
         };
         match meant {
             Ok(overwrite) => {
-                let outcome = self
-                    .buffer
-                    .overwrite(overwrite.at as usize, overwrite.bytes.as_slice());
+                let outcome = self.overwrite(overwrite.at as usize, overwrite.bytes.as_slice());
                 self.edited(outcome)
             }
-            Err(text) => lined(text),
+            Err(text) => Reply::Text(text),
         }
+    }
+
+    /// Writes bytes over those from a place on, and forgets what that touches.
+    #[tactic(auto, unfolding(crate::specs::Explored::description_of))]
+    fn overwrite(&mut self, at: usize, bytes: &[u8]) -> Result<(), EditRefusal>
+        ensures edit { MatchResult result
+            (λ _. overwrite self.old.bytes at bytes.now ≡ Ok self.new.bytes)
+            (λ refusal. (overwrite self.old.bytes at bytes.now ≡ Err refusal) × (self.new ≡ self.old)) }
+        ensures kept { description_of self.new ≡ description_of self.old }
+        ensures memory { (m : Memory) → Holds self.old m → Holds self.new (after_edit (description_of self.old) self.old.bytes (changes.Overwrite at (length bytes.now)) (overwrite self.old.bytes at bytes.now) m) }
+    {
+        self.buffer.overwrite(at, bytes)?;
+        self.engine.forget(Change::Overwrite { at, n: bytes.len() });
+        Ok(())
+    }
+
+    /// Puts bytes before the byte at a place, or after the last one, and forgets what that touches.
+    #[tactic(auto, unfolding(crate::specs::Explored::description_of))]
+    fn insert(&mut self, at: usize, bytes: &[u8]) -> Result<(), EditRefusal>
+        ensures done { OnOk result (insert self.old.bytes at bytes.now ≡ Ok self.new.bytes) }
+        ensures unchanged { OnErr result (self.new ≡ self.old) }
+        ensures refused { IfErr result (λ refusal. IsRefusedAs refusal (insert self.old.bytes at bytes.now)) }
+        ensures kept { description_of self.new ≡ description_of self.old }
+        ensures memory { (m : Memory) → Holds self.old m → OnOk result (Holds self.new (after_edit (description_of self.old) self.old.bytes (changes.Insert at (length bytes.now)) (insert self.old.bytes at bytes.now) m)) }
+    {
+        self.buffer.insert(at, bytes)?;
+        self.engine.forget(Change::Insert { at, n: bytes.len() });
+        Ok(())
+    }
+
+    /// Takes out so many bytes from a place on, and forgets what that touches.
+    #[tactic(auto, unfolding(crate::specs::Explored::description_of))]
+    fn delete(&mut self, at: usize, count: usize) -> Result<(), EditRefusal>
+        ensures edit { MatchResult result
+            (λ _. delete self.old.bytes at count ≡ Ok self.new.bytes)
+            (λ refusal. (delete self.old.bytes at count ≡ Err refusal) × (self.new ≡ self.old)) }
+        ensures kept { description_of self.new ≡ description_of self.old }
+        ensures memory { (m : Memory) → Holds self.old m → Holds self.new (after_edit (description_of self.old) self.old.bytes (changes.Delete at count) (delete self.old.bytes at count) m) }
+    {
+        self.buffer.delete(at, count)?;
+        self.engine.forget(Change::Delete { at, n: count });
+        Ok(())
+    }
+
+    /// Adds bytes at the end, and forgets what that touches.
+    #[tactic(auto, unfolding(crate::specs::Explored::description_of))]
+    fn append(&mut self, bytes: &[u8]) -> Result<(), EditRefusal>
+        ensures done { OnOk result (append self.old.bytes bytes.now ≡ Ok self.new.bytes) }
+        ensures unchanged { OnErr result (self.new ≡ self.old) }
+        ensures refused { IfErr result (λ refusal. IsRefusedAs refusal (append self.old.bytes bytes.now)) }
+        ensures kept { description_of self.new ≡ description_of self.old }
+        ensures memory { (m : Memory) → Holds self.old m → OnOk result (Holds self.new (after_edit (description_of self.old) self.old.bytes changes.Append (append self.old.bytes bytes.now) m)) }
+    {
+        self.buffer.append(bytes)?;
+        self.engine.forget(Change::Append);
+        Ok(())
     }
 
     /// The bytes from a place on, at most 4,096.

@@ -1,0 +1,31 @@
+-- What evaluation from nothing completes on the way, by direct recursion on the rules of a description. There is no table, no reply, no
+-- turn and no stack in it.
+use Rattle.std.specs.Prelude.{ℕ, zero, suc, Bool, true, ◌||◌, List, [], ◌∷◌, ◌++◌, if◌then◌else◌}
+use Rattle.std.specs.List.{flat_map, list_any}
+use Rattle.ksv_desc.specs.Description.{Description}
+use Rattle.ksv_memo.specs.Evaluation.{is_among}
+use Rattle.ksv_nodes.specs.declared.node.Node.{Node}
+use Rattle.ksv_nodes.specs.Numbers.{node_number, node_bound}
+use Rattle.ksv_rules.specs.FromNothing.{asks}
+
+-- whether evaluating a node while these are open comes upon an open node, at most so many deep: it is open itself, or evaluating
+-- a node that it asks comes upon one
+unfoldable pub circles_within : Description → List ℕ → ℕ → List Node → Node → Bool
+circles_within d bytes zero opened n = true
+circles_within d bytes (suc depth) opened n = is_among node_number opened n || list_any (circles_within d bytes depth (n ∷ opened)) (asks d bytes opened n)
+
+-- the same to any depth: open nodes differ, so as many nodes as there are suffice
+unfoldable pub meets_circle : Description → List ℕ → List Node → Node → Bool
+meets_circle d bytes opened n = circles_within d bytes node_bound opened n
+
+-- the nodes that evaluating a node completes, in order, with repeats, at most so many deep: all that each node that it asks
+-- completes, and then the node itself, unless a circle was met; an open node completes nothing
+unfoldable pub completed_within : Description → List ℕ → ℕ → List Node → Node → List Node
+completed_within d bytes zero opened n = []
+completed_within d bytes (suc depth) opened n =
+    if is_among node_number opened n then []
+    else flat_map (completed_within d bytes depth (n ∷ opened)) (asks d bytes opened n) ++ (if meets_circle d bytes opened n then [] else n ∷ [])
+
+-- the same to any depth
+unfoldable pub completed : Description → List ℕ → List Node → Node → List Node
+completed d bytes opened n = completed_within d bytes node_bound opened n

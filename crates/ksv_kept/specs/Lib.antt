@@ -1,0 +1,4 @@
+-- The definitions of what is kept.
+pub mod Completed
+pub mod Kept
+pub mod Laws
