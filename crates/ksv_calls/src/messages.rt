@@ -131,6 +131,7 @@ del POS COUNT
 app HEX
 bytes POS COUNT
 size
+stats
 quit
 Example: echo 'get /' | ksv ";
 

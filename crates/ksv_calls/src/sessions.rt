@@ -51,8 +51,10 @@ fn a_session_answers_line_by_line(rt: HostRuntime) -> Result<(), Fail> {
     let desc = accepted(alloc, FIRST)?;
     assert!(rt; desc.type_id(0) == "p" && desc.number_of("b") == Some(1));
     let mut session = Session::new(alloc, desc, b"\x07\xfe\xff".to_vec(alloc)?)?;
-    let is_answered = session.line(b"get /b").as_bytes() == b"-2\n".as_slice()
+    let is_answered = session.line(b"stats").as_bytes() == b"kept 0 turns 0\n".as_slice()
+        && session.line(b"get /b").as_bytes() == b"-2\n".as_slice()
         && session.line(b"app 00").as_bytes() == b"ok 4\n".as_slice()
+        && session.line(b"stats").as_bytes() == b"kept 5 turns 10\n".as_slice()
         && session.line(b"").as_bytes() == b"".as_slice()
         && session.line(b"quit").as_bytes() == b"bye\n".as_slice();
     assert!(rt; is_answered && session.into_buffer().len() == 4);
