@@ -42,8 +42,6 @@ pub struct Leaf {
 /// How the end of an object is known.
 #[derive(Clone, Copy)]
 pub enum ObjectEnd {
-    /// It ends at this place.
-    At(Place),
     /// It ends with its stream.
     OfStream,
     /// It ends with the last attribute of its type's `seq`.
