@@ -31,7 +31,7 @@ use Rattle.ksv_schema_faults.specs.Faults.{Fault, fault, fault_if, unknown_key, 
 use Rattle.ksv_schema_keys.specs.Keys as forms
 use Rattle.ksv_schema_keys.specs.Keys.{Form, Key, type_keys, meta_keys, parameter_keys, attribute_keys, parse_instance_keys, value_keys, switch_keys, constant_keys, form_in, is_ignored, is_id}
 use Rattle.ksv_schema_keys.specs.Expressions.{expression_of}
-use Rattle.ksv_schema_keys.specs.Values.{encoding_named, TypeText, Unspelled, OfLanguage, OfDescription, type_text, is_integer, is_str, is_strz, is_type, type_key, cases_of, byte_number, byte_at, looks_like_number, Piece, Bytes, BadPiece, LeftOutPiece, piece_of, CaseKey, Constant as ConstantKey, Negative, Member as MemberKey, Default, NoKey, case_key, ids_of, is_to_end, is_repeated}
+use Rattle.ksv_schema_keys.specs.Values.{encoding_named, TypeText, Unspelled, OfLanguage, OfDescription, type_text, is_integer, is_str, is_strz, is_a, own_type, is_type, type_key, cases_of, byte_number, byte_at, looks_like_number, Piece, Bytes, BadPiece, LeftOutPiece, piece_of, CaseKey, Constant as ConstantKey, Negative, Member as MemberKey, Default, NoKey, case_key, ids_of, is_to_end, is_repeated}
 
 -- where a mapping is: in which type, whether in its `seq`, and whether it is of something repeated
 pub record Home : Type 0 where
@@ -203,46 +203,80 @@ abbrev pub left_out_if : Bool → Option Pair → List Fault
 left_out_if is_left_out None = []
 left_out_if is_left_out (Some p) = fault_if is_left_out p.line left_out
 
--- the key `size-eos`, if it is `true`
-abbrev pub to_end_key : List Pair → Option Pair
-to_end_key es = if is_to_end es then entry_at (codes "size-eos") es else None
+-- what a rule of keys speaks of: a key, a key with this text, or the key `type` with a type of this kind
+pub data Claim : Type 0 where
+  Has : List ℕ → Claim
+  Says : List ℕ → List ℕ → Claim
+  Typed : (TypeText → Bool) → Claim
+
+-- the key by which it is so
+abbrev pub claimed : List Pair → Claim → Option Pair
+claimed es (Has name) = entry_at name es
+claimed es (Says name text) = if says name text es then entry_at name es else None
+claimed es (Typed kind) = type_key kind es
+
+-- two that exclude each other, one that needs another, and one that stands only beside another
+pub data Rule : Type 0 where
+  Excludes : Claim → Claim → Rule
+  Needs : Claim → Claim → Rule
+  Attends : Claim → Claim → Rule
+
+abbrev pub rule_faults : ℕ → List Pair → Rule → List Fault
+rule_faults line es (Excludes one other) = against (claimed es one) (claimed es other)
+rule_faults line es (Needs one other) = missing_if (is_some (claimed es one) && is_none (claimed es other)) line
+rule_faults line es (Attends one other) = alone_if (is_none (claimed es other)) (claimed es one)
+
+abbrev pub rules_faults : List Rule → ℕ → List Pair → List Fault
+rules_faults rules line es = flat_map (rule_faults line es) rules
+
+abbrev pub field_pairs : List Rule
+field_pairs =
+    Needs (Says (codes "repeat") (codes "expr")) (Has (codes "repeat-expr")) ∷
+    Needs (Says (codes "repeat") (codes "until")) (Has (codes "repeat-until")) ∷
+    Attends (Has (codes "repeat-expr")) (Says (codes "repeat") (codes "expr")) ∷
+    Attends (Has (codes "repeat-until")) (Says (codes "repeat") (codes "until")) ∷
+    Attends (Has (codes "enum")) (Typed is_integer) ∷
+    Excludes (Has (codes "size")) (Says (codes "size-eos") (codes "true")) ∷
+    Excludes (Has (codes "contents")) (Has (codes "type")) ∷
+    Excludes (Has (codes "contents")) (Has (codes "size")) ∷
+    Excludes (Has (codes "contents")) (Has (codes "size-eos")) ∷
+    Excludes (Has (codes "contents")) (Has (codes "terminator")) ∷
+    Excludes (Has (codes "contents")) (Has (codes "enum")) ∷
+    Excludes (Typed is_integer) (Has (codes "size")) ∷
+    Excludes (Typed is_integer) (Says (codes "size-eos") (codes "true")) ∷
+    Excludes (Typed is_integer) (Has (codes "terminator")) ∷ []
+
+-- a value has no place, type, size or repetition
+abbrev pub value_pairs : List Rule
+value_pairs =
+    Excludes (Has (codes "value")) (Has (codes "pos")) ∷
+    Excludes (Has (codes "value")) (Has (codes "io")) ∷
+    Excludes (Has (codes "value")) (Has (codes "type")) ∷
+    Excludes (Has (codes "value")) (Has (codes "size")) ∷
+    Excludes (Has (codes "value")) (Has (codes "repeat")) ∷ []
 
 -- the text of an encoding, the attribute's own or the one in force
 abbrev pub has_encoding : Home → List Pair → Bool
 has_encoding h es = is_some (text_at (codes "encoding") es) || is_some (encoding_of h.declared.types h.within)
 
--- what needs another key: what an attribute is, where a text ends and in which encoding, how often it is repeated
+-- what needs another key: what an attribute is, where a text ends, and in which encoding
 unfoldable pub field_needs : Home → ℕ → List Pair → List Fault
 field_needs h line es =
     let is_bounded = has (codes "size") es || is_to_end es || has (codes "terminator") es in
-    let is_text = is_some (type_key is_str es) || is_some (type_key is_strz es) in
+    let is_text = is_a is_str (own_type es) || is_a is_strz (own_type es) in
     missing_if (not (has (codes "type") es || is_bounded || has (codes "contents") es)) line
-    ++ missing_if (is_some (type_key is_str es) && not is_bounded) line
+    ++ missing_if (is_a is_str (own_type es) && not is_bounded) line
     ++ missing_if (is_text && not (has_encoding h es)) line
-    ++ missing_if (says (codes "repeat") (codes "expr") es && not (has (codes "repeat-expr") es)) line
-    ++ missing_if (says (codes "repeat") (codes "until") es && not (has (codes "repeat-until") es)) line
 
--- a key that bounds an integer
-unfoldable pub integer_against : List Pair → Option Pair → List Fault
-integer_against es integer =
-    against integer (entry_at (codes "size") es)
-    ++ against integer (to_end_key es)
-    ++ against integer (entry_at (codes "terminator") es)
+-- a case that is an integer, and a key that bounds it
+unfoldable pub integer_against : List Pair → Pair → List Fault
+integer_against es p =
+    against (Some p) (entry_at (codes "size") es)
+    ++ against (Some p) (claimed es (Says (codes "size-eos") (codes "true")))
+    ++ against (Some p) (entry_at (codes "terminator") es)
 
--- keys that exclude each other
-unfoldable pub field_against : List Pair → List Fault
-field_against es =
-    against (entry_at (codes "size") es) (to_end_key es)
-    ++ against (entry_at (codes "contents") es) (entry_at (codes "type") es)
-    ++ against (entry_at (codes "contents") es) (entry_at (codes "size") es)
-    ++ against (entry_at (codes "contents") es) (entry_at (codes "size-eos") es)
-    ++ against (entry_at (codes "contents") es) (entry_at (codes "terminator") es)
-    ++ against (entry_at (codes "contents") es) (entry_at (codes "enum") es)
-    ++ integer_against es (type_key is_integer es)
-    ++ flat_map (λ p. integer_against es (Some p)) (filter (is_type is_integer) (cases_of es))
-    ++ alone_if (is_none (type_key is_integer es)) (entry_at (codes "enum") es)
-    ++ alone_if (not (says (codes "repeat") (codes "expr") es)) (entry_at (codes "repeat-expr") es)
-    ++ alone_if (not (says (codes "repeat") (codes "until") es)) (entry_at (codes "repeat-until") es)
+abbrev pub case_against : List Pair → Pair → List Fault
+case_against es p = if is_type is_integer p then integer_against es p else []
 
 -- a type that the description declares; an unknown type has a fault of its own
 abbrev pub is_declared : Home → TypeText → Bool
@@ -253,22 +287,19 @@ is_declared h (OfDescription t es) = is_some (type_named h.declared.types h.with
 -- a terminator of a type of the description, or of `strz` another one than 0
 unfoldable pub field_left_out : Home → List Pair → List Fault
 field_left_out h es =
-    let of_description = is_some (type_key (is_declared h) es) || list_any (is_type (is_declared h)) (cases_of es) in
+    let of_description = is_a (is_declared h) (own_type es) || list_any (is_type (is_declared h)) (cases_of es) in
     let is_other = option_map_or (λ b. not (b == 0)) (byte_at (codes "terminator") es) false in
     left_out_if of_description (entry_at (codes "terminator") es)
-    ++ left_out_if (is_some (type_key is_strz es) && is_other) (entry_at (codes "terminator") es)
+    ++ left_out_if (is_a is_strz (own_type es) && is_other) (entry_at (codes "terminator") es)
+
+unfoldable pub field_against : ℕ → List Pair → List Fault
+field_against line es = rules_faults field_pairs line es ++ flat_map (case_against es) (cases_of es)
 
 unfoldable pub field_rules : Home → ℕ → List Pair → List Fault
-field_rules h line es = field_needs h line es ++ field_against es ++ field_left_out h es
+field_rules h line es = field_needs h line es ++ field_against line es ++ field_left_out h es
 
--- a value has no place, type, size or repetition
-unfoldable pub value_rules : List Pair → List Fault
-value_rules es =
-    against (entry_at (codes "value") es) (entry_at (codes "pos") es)
-    ++ against (entry_at (codes "value") es) (entry_at (codes "io") es)
-    ++ against (entry_at (codes "value") es) (entry_at (codes "type") es)
-    ++ against (entry_at (codes "value") es) (entry_at (codes "size") es)
-    ++ against (entry_at (codes "value") es) (entry_at (codes "repeat") es)
+unfoldable pub value_rules : ℕ → List Pair → List Fault
+value_rules line es = rules_faults value_pairs line es
 
 -- ---- members
 
@@ -289,7 +320,7 @@ attribute_faults h line es = keys_faults (value_faults h) attribute_keys es ++ f
 -- an instance has a value or a place; one with neither is unsupported
 unfoldable pub instance_faults : Home → ℕ → ℕ → List Pair → List Fault
 instance_faults h name_line line es =
-    if has (codes "value") es then keys_faults (value_faults h) value_keys es ++ value_rules es
+    if has (codes "value") es then keys_faults (value_faults h) value_keys es ++ value_rules line es
     else if has (codes "pos") es then keys_faults (value_faults h) parse_instance_keys es ++ field_rules h line es
     else keys_faults (value_faults h) parse_instance_keys es ++ fault name_line left_out
 

@@ -97,8 +97,7 @@ fn note_instance(
 {
     if has(entries, b"value") {
         note_keys(alloc, least, home, MappingKind::Value, entries)?;
-        note_value_rules(least, entries);
-        return Ok(());
+        return note_value_rules(alloc, least, line, entries);
     }
     if has(entries, b"pos") {
         note_keys(alloc, least, home, MappingKind::ParseInstance, entries)?;

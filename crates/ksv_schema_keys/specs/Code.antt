@@ -80,6 +80,9 @@ seen_type_text (type_text.Unspelled f) = Unspelled
 seen_type_text (type_text.OfLanguage b es) = OfLanguage b (expressions.arguments_of (map view es.items))
 seen_type_text (type_text.OfDescription t es) = OfDescription (expressions.path_of t) (expressions.arguments_of (map view es.items))
 
+abbrev pub seen_type_at : Option type_texts.TypeText → Option TypeText
+seen_type_at o = option_map seen_type_text o
+
 -- whether a type is of a kind
 abbrev pub kind_test : TypeKind → TypeText → Bool
 kind_test kind.Integer = is_integer
