@@ -1,6 +1,7 @@
 -- Without faults each attribute and instance is stated.
-use Rattle.std.proofs.Common.{◌≡◌, ℕ, Bool, true, false, cond, List, [], ◌++◌, ap, ◌∙◌, refl, Option, Some, None}
-use Rattle.std.specs.Prelude.{codes, not, ◌&&◌, ◌||◌, is_some, option_map, option_and_then, flat_map, unwrap_or}
+use Rattle.std.proofs.Common.{◌≡◌, ℕ, zero, suc, Bool, true, false, cond, List, [], ◌∷◌, ◌++◌, ap, sym, ◌∙◌, refl, Option, Some, None}
+use Rattle.std.specs.Prelude.{codes, not, ◌&&◌, ◌||◌, is_some, is_none, option_map, option_and_then, flat_map, unwrap_or, slice_get}
+use Rattle.std.specs.Str.{bytes_eq}
 use Rattle.std.specs.Option.{option_map_or}
 use Rattle.ksv_yaml_tree.specs.Tree.{Pair, line_of, text_of, mapping_of, entry_at}
 use Rattle.ksv_yaml_tree.specs.Keys.{has, says, entries_at}
@@ -8,11 +9,11 @@ use Rattle.ksv_schema_names.specs.declared.position.Site.TheVariants as sites
 use Rattle.ksv_schema_faults.specs.Faults.{Fault, fault, bad_value}
 use Rattle.ksv_schema_keys.specs.Keys as forms
 use Rattle.ksv_schema_keys.specs.Keys.{Form, Key, form_in, is_ignored, attribute_keys, parse_instance_keys, value_keys, switch_keys}
-use Rattle.ksv_schema_keys.specs.Values.{TypeText, type_text, is_str, is_strz, is_type, type_key, contents_of, is_to_end}
-use Rattle.ksv_schema_faults.specs.Rules.{Home, type_text_faults, case_faults, form_faults, value_faults, keys_faults, missing_if, switch_faults, has_encoding, field_needs, field_against, field_left_out, field_rules}
+use Rattle.ksv_schema_keys.specs.Values.{TypeText, type_text, is_str, is_strz, type_at, own_type, is_a, cases_of, contents_of, is_to_end}
+use Rattle.ksv_schema_faults.specs.Rules.{Home, type_text_faults, case_faults, form_faults, value_faults, keys_faults, missing_if, switch_faults, has_encoding, Has, Says, Rule, Needs, claimed, rule_faults, rules_faults, field_pairs, case_against, field_needs, field_against, field_left_out, field_rules}
 use Rattle.ksv_schema_build.specs.Stated.{expression_at, perhaps_enum, content_at, case_of, switch_of, typed, choice_of, extent_of, repeat_of, field_of, parse_instance_of, value_instance_of, each}
 use Rattle.ksv_desc.specs.Description.{Always, Switch, Bytes, Fixed, Sized, SizeEos, ByItself, Once, Eos, Expr, Until}
-use Rattle.ksv_schema.proofs.Coherent.{Is, front, back, no_fault, is_map, is_bind, at_key, has_text, context, by_value, by_form, is_expression_at, is_perhaps, there, not_missing}
+use Rattle.ksv_schema.proofs.Coherent.{Is, front, back, not_if, no_fault, some_same, is_map, is_bind, at_key, has_text, context, by_value, by_form, is_expression_at, is_perhaps, there, not_missing}
 use Rattle.ksv_schema.proofs.Contents.{contents_is, is_enum, AreEncodings, is_encoding, content_is, cases_are}
 
 -- a table with the keys of an attribute
@@ -36,60 +37,49 @@ places_have = record { type = refl; size = refl; contents = refl; encoding = ref
 
 -- ---- what a field needs
 
-abbrev is_bounded : List Pair → Bool
-is_bounded es = has (codes "size") es || is_to_end es || has (codes "terminator") es
-
-abbrev need_type : ℕ → List Pair → List Fault
-need_type line es = missing_if (not (has (codes "type") es || is_bounded es || has (codes "contents") es)) line
-
-abbrev need_end : ℕ → List Pair → List Fault
-need_end line es = missing_if (is_some (type_key is_str es) && not (is_bounded es)) line
-
+-- a text has an encoding
 abbrev need_encoding : Home → ℕ → List Pair → List Fault
-need_encoding h line es = missing_if ((is_some (type_key is_str es) || is_some (type_key is_strz es)) && not (has_encoding h es)) line
-
-abbrev need_count : ℕ → List Pair → List Fault
-need_count line es = missing_if (says (codes "repeat") (codes "expr") es && not (has (codes "repeat-expr") es)) line
-
-abbrev need_until : ℕ → List Pair → List Fault
-need_until line es = missing_if (says (codes "repeat") (codes "until") es && not (has (codes "repeat-until") es)) line
+need_encoding h line es = missing_if ((is_a is_str (own_type es) || is_a is_strz (own_type es)) && not (has_encoding h es)) line
 
 -- what a field without faults has
-pub record Needs (h : Home) (line : ℕ) (es : List Pair) : Type 0 where
+pub record HasNeeds (h : Home) (line : ℕ) (es : List Pair) : Type 0 where
   pub encoding : need_encoding h line es ≡ []
-  pub count : need_count line es ≡ []
-  pub until : need_until line es ≡ []
+  pub pairs : rules_faults field_pairs line es ≡ []
 
-needs_of : (h : Home) (line : ℕ) (es : List Pair) → field_needs h line es ≡ [] → Needs h line es
-unfolding field_needs
-needs_of h line es k =
-    let k4 = front (need_type line es ++ need_end line es ++ need_encoding h line es ++ need_count line es) (need_until line es) k in
-    let k3 = front (need_type line es ++ need_end line es ++ need_encoding h line es) (need_count line es) k4 in
+rules_need : (h : Home) (line : ℕ) (es : List Pair) → field_rules h line es ≡ [] → HasNeeds h line es
+unfolding field_rules field_needs field_against
+rules_need h line es k =
+    let both = front (field_needs h line es ++ field_against line es) (field_left_out h es) k in
     record {
-      encoding = back (need_type line es ++ need_end line es) (need_encoding h line es) k3;
-      count = back (need_type line es ++ need_end line es ++ need_encoding h line es) (need_count line es) k4;
-      until = back (need_type line es ++ need_end line es ++ need_encoding h line es ++ need_count line es) (need_until line es) k;
+      encoding = back _ (need_encoding h line es) (front (field_needs h line es) (field_against line es) both);
+      pairs = front (rules_faults field_pairs line es) (flat_map (case_against es) (cases_of es)) (back (field_needs h line es) (field_against line es) both);
     }
 
-rules_need : (h : Home) (line : ℕ) (es : List Pair) → field_rules h line es ≡ [] → Needs h line es
-unfolding field_rules
-rules_need h line es k = needs_of h line es (front (field_needs h line es) (field_against es) (front (field_needs h line es ++ field_against es) (field_left_out h es) k))
+-- what a rule without faults needs
+kept : (rules : List Rule) (line : ℕ) (es : List Pair) (i : ℕ) (rule : Rule) → rules_faults rules line es ≡ [] → slice_get rules i ≡ Some rule → rule_faults line es rule ≡ []
+kept [] line es i rule k g = absurd cc
+kept (r ∷ rules) line es zero rule k g = ap (rule_faults line es) (sym (some_same r rule g)) ∙ front (rule_faults line es r) (rules_faults rules line es) k
+kept (r ∷ rules) line es (suc i) rule k g = kept rules line es i rule (back (rule_faults line es r) (rules_faults rules line es) k) g
 
--- a key that is needed where something else is said
-said : (b : Bool) (name : List ℕ) (es : List Pair) (line : ℕ) → b ≡ true → missing_if (b && not (has name es)) line ≡ [] → Is (entry_at name es)
-said true name es line e k = not_missing name es line k
-said false name es line e k = absurd cc
+-- a key that is needed where `repeat` is said to be something
+needed : (text name : List ℕ) (es : List Pair) (line : ℕ) → says (codes "repeat") text es ≡ true → rule_faults line es (Needs (Says (codes "repeat") text) (Has name)) ≡ [] → Is (entry_at name es)
+needed text name es line e k = go (entry_at (codes "repeat") es) (entry_at name es) e (not_if (is_some (claimed es (Says (codes "repeat") text)) && is_none (entry_at name es)) line 2 k)
+  where
+    go : (o p : Option Pair) → option_map_or (bytes_eq text) (option_and_then (λ p. text_of p.value) o) false ≡ true → (is_some (cond (option_map_or (bytes_eq text) (option_and_then (λ p. text_of p.value) o) false) o None) && is_none p) ≡ false → Is p
+    go o (Some p) e k = (p, refl)
+    go None None e k = absurd cc
+    go (Some q) None e k = absurd (let w : true ≡ false = sym (ap (λ (b : Bool). is_some (cond b (Some q) None) && true) e) ∙ k in cc)
 
 -- ---- repetition
 
-is_repeat : (h : Home) (names : List (List ℕ)) (table : List Key) (line : ℕ) (es : List Pair) → HasFieldKeys table → keys_faults (value_faults h) table es ≡ [] → Needs h line es → Is (repeat_of (context h names) es)
+is_repeat : (h : Home) (names : List (List ℕ)) (table : List Key) (line : ℕ) (es : List Pair) → HasFieldKeys table → keys_faults (value_faults h) table es ≡ [] → HasNeeds h line es → Is (repeat_of (context h names) es)
 unfolding repeat_of is_ignored
 is_repeat h names table line es f k n = go (says (codes "repeat") (codes "eos") es) (says (codes "repeat") (codes "expr") es) (says (codes "repeat") (codes "until") es) refl refl
   where
     go : (a b c : Bool) → says (codes "repeat") (codes "expr") es ≡ b → says (codes "repeat") (codes "until") es ≡ c → Is (cond a (Some Eos) (cond b (option_map Expr (expression_at (context h names) (codes "repeat-expr") es)) (cond c (option_map Until (expression_at (context h names) (codes "repeat-until") es)) (Some Once))))
     go true b c x y = (Eos, refl)
-    go false true c x y = is_map Expr _ (is_expression_at h names (value_faults h) table sites.Count (codes "repeat-expr") es (by_value h) refl f.count k (said (says (codes "repeat") (codes "expr") es) (codes "repeat-expr") es line x n.count))
-    go false false true x y = is_map Until _ (is_expression_at h names (value_faults h) table sites.Until (codes "repeat-until") es (by_value h) refl f.until k (said (says (codes "repeat") (codes "until") es) (codes "repeat-until") es line y n.until))
+    go false true c x y = is_map Expr _ (is_expression_at h names (value_faults h) table sites.Count (codes "repeat-expr") es (by_value h) refl f.count k (needed (codes "expr") (codes "repeat-expr") es line x (kept field_pairs line es 0 _ n.pairs refl)))
+    go false false true x y = is_map Until _ (is_expression_at h names (value_faults h) table sites.Until (codes "repeat-until") es (by_value h) refl f.until k (needed (codes "until") (codes "repeat-until") es line y (kept field_pairs line es 1 _ n.pairs refl)))
     go false false false x y = (Once, refl)
 
 -- ---- extent
@@ -106,16 +96,8 @@ is_extent h names table es f k = go (has (codes "size") es) (is_to_end es) refl
 -- ---- what is read
 
 -- the kind of the type that is written
-type_key_is : (kind : TypeText → Bool) (es : List Pair) (p : Pair) (text : List ℕ) → entry_at (codes "type") es ≡ Some p → text_of p.value ≡ Some text → is_some (type_key kind es) ≡ kind (type_text text)
-unfolding type_key is_type
-type_key_is kind es p text e t =
-    ap (λ (o : Option Pair). is_some (option_and_then (λ (p : Pair). cond (option_map_or (λ text. kind (type_text text)) (text_of p.value) false) (Some p) None) o)) e
-    ∙ ap (λ (o : Option (List ℕ)). is_some (cond (option_map_or (λ text. kind (type_text text)) o false) (Some p) None)) t
-    ∙ go (kind (type_text text))
-  where
-    go : (b : Bool) → is_some (cond b (Some p) None) ≡ b
-    go true = refl
-    go false = refl
+kind_is : (kind : TypeText → Bool) (es : List Pair) (p : Pair) (text : List ℕ) → entry_at (codes "type") es ≡ Some p → text_of p.value ≡ Some text → is_a kind (own_type es) ≡ kind (type_text text)
+kind_is kind es p text e t = ap (λ (o : Option Pair). is_a kind (option_and_then type_at o)) e ∙ ap (λ (o : Option (List ℕ)). is_a kind (option_map type_text o)) t
 
 encoded : (a b c : Bool) (x y : Bool) (line : ℕ) → a ≡ x → b ≡ y → missing_if ((a || b) && not c) line ≡ [] → (x || y) ≡ true → c ≡ true
 encoded a b true x y line e f k z = refl
@@ -124,12 +106,12 @@ encoded false true false x y line e f k z = absurd cc
 encoded false false false x y line e f k z = absurd (let w : false ≡ true = f ∙ ap (λ (b : Bool). b || y) e ∙ z in cc)
 
 -- the text of a type
-is_content : (h : Home) (names : List (List ℕ)) (table : List Key) (line : ℕ) (es : List Pair) (p : Pair) → AreEncodings h.declared → HasFieldKeys table → keys_faults (value_faults h) table es ≡ [] → Needs h line es → entry_at (codes "type") es ≡ Some p → form_faults h p forms.TypeOrSwitch ≡ [] → Is (content_at (context h names) es p)
+is_content : (h : Home) (names : List (List ℕ)) (table : List Key) (line : ℕ) (es : List Pair) (p : Pair) → AreEncodings h.declared → HasFieldKeys table → keys_faults (value_faults h) table es ≡ [] → HasNeeds h line es → entry_at (codes "type") es ≡ Some p → form_faults h p forms.TypeOrSwitch ≡ [] → Is (content_at (context h names) es p)
 unfolding form_faults content_at
 is_content h names table line es p a f k n e r =
     let t = has_text (λ text. type_text_faults h p.line (type_text text)) p r in
     is_bind _ _ t.0 t.1 (content_is h names es p.line (type_text t.0) t.2 (is_enum h names table es f.enum k) (λ z.
-    is_encoding h names table es a f.encoding k (encoded (is_some (type_key is_str es)) (is_some (type_key is_strz es)) (has_encoding h es) (is_str (type_text t.0)) (is_strz (type_text t.0)) line (type_key_is is_str es p t.0 e t.1) (type_key_is is_strz es p t.0 e t.1) n.encoding z)))
+    is_encoding h names table es a f.encoding k (encoded (is_a is_str (own_type es)) (is_a is_strz (own_type es)) (has_encoding h es) (is_str (type_text t.0)) (is_strz (type_text t.0)) line (kind_is is_str es p t.0 e t.1) (kind_is is_strz es p t.0 e t.1) n.encoding z)))
 
 -- a switch
 is_switch : (h : Home) (names : List (List ℕ)) (es keys : List Pair) (line : ℕ) → Is (perhaps_enum (context h names) es) → switch_faults h line keys ≡ [] → Is (switch_of (context h names) es keys)
@@ -153,7 +135,7 @@ fixed : (h : Home) (p : Pair) → value_faults h p forms.Contents ≡ [] → Is 
 unfolding value_faults form_faults
 fixed h p r = contents_is p.line p.value r
 
-is_choice : (h : Home) (names : List (List ℕ)) (table : List Key) (line : ℕ) (es : List Pair) → AreEncodings h.declared → HasFieldKeys table → keys_faults (value_faults h) table es ≡ [] → Needs h line es → Is (choice_of (context h names) es)
+is_choice : (h : Home) (names : List (List ℕ)) (table : List Key) (line : ℕ) (es : List Pair) → AreEncodings h.declared → HasFieldKeys table → keys_faults (value_faults h) table es ≡ [] → HasNeeds h line es → Is (choice_of (context h names) es)
 unfolding choice_of typed value_faults is_ignored
 is_choice h names table line es a f k n = contents (entry_at (codes "contents") es) (λ p e. at_key (value_faults h) table (codes "contents") forms.Contents es p refl f.contents k e)
   where

@@ -186,7 +186,7 @@ kind_leads h x fits roles.Attribute name_line line es r k w s =
     subst (IsResolvedKind x) field.2 (field_leads h x fits attribute_keys es field.0 attributes_have (record { faultless = front (keys_faults (value_faults h) attribute_keys es) (field_rules h line es) k; words = w refl }) field.1)
 kind_leads h x fits roles.Instance name_line line es r k w s = go (has (codes "value") es) (has (codes "pos") es) k s
   where
-    go : (v p : Bool) → cond v (keys_faults (value_faults h) value_keys es ++ value_rules es) (cond p (keys_faults (value_faults h) parse_instance_keys es ++ field_rules h line es) (keys_faults (value_faults h) parse_instance_keys es ++ fault name_line left_out)) ≡ [] → cond v (value_instance_of (context h x.names) es) (parse_instance_of (context h x.names) es) ≡ Some r → IsResolvedKind x r
-    go true p k s = value_instance_leads h x fits es r (record { faultless = front (keys_faults (value_faults h) value_keys es) (value_rules es) k; words = w refl }) s
+    go : (v p : Bool) → cond v (keys_faults (value_faults h) value_keys es ++ value_rules line es) (cond p (keys_faults (value_faults h) parse_instance_keys es ++ field_rules h line es) (keys_faults (value_faults h) parse_instance_keys es ++ fault name_line left_out)) ≡ [] → cond v (value_instance_of (context h x.names) es) (parse_instance_of (context h x.names) es) ≡ Some r → IsResolvedKind x r
+    go true p k s = value_instance_leads h x fits es r (record { faultless = front (keys_faults (value_faults h) value_keys es) (value_rules line es) k; words = w refl }) s
     go false true k s = parse_instance_leads h x fits es r (record { faultless = front (keys_faults (value_faults h) parse_instance_keys es) (field_rules h line es) k; words = w refl }) s
     go false false k s = absurd (no_fault name_line left_out (back (keys_faults (value_faults h) parse_instance_keys es) (fault name_line left_out) k))

@@ -161,8 +161,8 @@ kind_is h names roles.Attribute name_line line es a k =
     is_map Attribute _ (is_attribute h names line es a (front (keys_faults (value_faults h) attribute_keys es) (field_rules h line es) k) (back (keys_faults (value_faults h) attribute_keys es) (field_rules h line es) k))
 kind_is h names roles.Instance name_line line es a k = go (has (codes "value") es) (has (codes "pos") es) refl refl k
   where
-    go : (v p : Bool) → has (codes "value") es ≡ v → has (codes "pos") es ≡ p → cond v (keys_faults (value_faults h) value_keys es ++ value_rules es) (cond p (keys_faults (value_faults h) parse_instance_keys es ++ field_rules h line es) (keys_faults (value_faults h) parse_instance_keys es ++ fault name_line left_out)) ≡ [] → Is (cond v (value_instance_of (context h names) es) (parse_instance_of (context h names) es))
-    go true p x y k = is_value_instance h names es x (front (keys_faults (value_faults h) value_keys es) (value_rules es) k)
+    go : (v p : Bool) → has (codes "value") es ≡ v → has (codes "pos") es ≡ p → cond v (keys_faults (value_faults h) value_keys es ++ value_rules line es) (cond p (keys_faults (value_faults h) parse_instance_keys es ++ field_rules h line es) (keys_faults (value_faults h) parse_instance_keys es ++ fault name_line left_out)) ≡ [] → Is (cond v (value_instance_of (context h names) es) (parse_instance_of (context h names) es))
+    go true p x y k = is_value_instance h names es x (front (keys_faults (value_faults h) value_keys es) (value_rules line es) k)
     go false true x y k = is_parse_instance h names line es a y (front (keys_faults (value_faults h) parse_instance_keys es) (field_rules h line es) k) (back (keys_faults (value_faults h) parse_instance_keys es) (field_rules h line es) k)
     go false false x y k = absurd (no_fault name_line left_out (back (keys_faults (value_faults h) parse_instance_keys es) (fault name_line left_out) k))
 

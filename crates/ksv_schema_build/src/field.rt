@@ -11,7 +11,7 @@ use crate::choice::choice_of;
 use crate::context::Context;
 use crate::expressions::{expression_at, perhaps_expression};
 use ksv_desc::{Extent, Field, Repeat, Terminator};
-use ksv_schema_keys::{TypeKind, byte_at, type_key};
+use ksv_schema_keys::{TypeKind, byte_at, is_a, own_type};
 use ksv_yaml_tree::Entry;
 use ksv_yaml_tree::keys::{has, says};
 use std::alloc::{AllocError, Global};
@@ -54,7 +54,8 @@ fn terminated_by(entries: &[Entry], byte: u8) -> Terminator
 fn terminator_of(alloc: Global, entries: &[Entry]) -> Result<Option<Terminator>, AllocError>
     ensures { IfOk result (λ o. option_map plain_terminator o ≡ terminator_of (map pair entries.now)) }
 {
-    if type_key(alloc, TypeKind::Strz, entries)?.is_some() {
+    let typed = own_type(alloc, entries)?;
+    if is_a(TypeKind::Strz, &typed) {
         return Ok(Some(terminated_by(entries, 0)));
     }
     match byte_at(entries, b"terminator") {
