@@ -14,7 +14,7 @@ use Rattle.ksv_schema_faults.specs.Faults.{Fault, fault, fault_if, no_expression
 use Rattle.ksv_schema_keys.specs.Keys as forms
 use Rattle.ksv_schema_keys.specs.Keys.{Form, Key, form_in, is_ignored}
 use Rattle.ksv_schema_keys.specs.Expressions.{expression_of}
-use Rattle.ksv_schema_faults.specs.Rules.{Home, expression_faults, text_faults, form_faults, value_faults, key_faults, keys_faults, missing_if}
+use Rattle.ksv_schema_faults.specs.Rules.{Home, expression_faults, text_faults, form_faults, value_faults, text_unless, key_faults, keys_faults, missing_if}
 use Rattle.ksv_schema_build.specs.Stated.{Context, expression, expression_at, perhaps_expression}
 
 -- there is a value
@@ -80,6 +80,20 @@ has_text faults p h = go (text_of p.value) refl h
     go None e h = absurd (no_fault p.line bad_value h)
     go (Some text) e h = (text, e, h)
 
+-- the text at a key whose form allows certain texts alone
+pub text_fits : (faults : Pair → Form → List Fault) (table : List Key) (name : List ℕ) (form : Form) (fits : List ℕ → Bool) (number : ℕ) (es : List Pair) (text : List ℕ) → ((p : Pair) → faults p form ≡ text_unless fits number p) → is_ignored name ≡ false → form_in table name ≡ Some form → keys_faults faults table es ≡ [] → text_at name es ≡ Some text → fits text ≡ true
+text_fits faults table name form fits number es text a i f k t = go (entry_at name es) refl t
+  where
+    go : (o : Option Pair) → entry_at name es ≡ o → option_and_then (λ p. text_of p.value) o ≡ Some text → fits text ≡ true
+    go None e t = absurd cc
+    go (Some p) e t =
+        let r = has_text (λ text. fault_if (not (fits text)) p.line number) p (sym (a p) ∙ at_key faults table name form es p i f k e) in
+        ap fits (sym (some_same r.0 text (sym r.1 ∙ t))) ∙ not_not (fits r.0) (not_if _ p.line number r.2)
+
+pub some_of : {A : Type 0} (o : Option A) → is_some o ≡ true → Is o
+some_of None h = absurd cc
+some_of (Some x) h = (x, refl)
+
 -- ---- expressions
 
 -- the context of names in which a mapping's expressions are
@@ -112,17 +126,9 @@ is_expression_at h names faults table site name es a i f k p =
     let t = has_text _ p.0 (sym (a p.0 site) ∙ at_key faults table name (forms.Expression site) es p.0 i f k p.1) in
     is_bind (expression (context h names)) (text_at name es) t.0 (ap (option_and_then (λ p. text_of p.value)) p.1 ∙ t.1) (is_expression h names site p.0.line t.0 t.2)
 
--- a key that is there, or isn't
-pub there : (o : Option Pair) → is_some o ≡ true → Is o
-there None h = absurd cc
-there (Some p) h = (p, refl)
-
+-- a key that isn't missing
 pub not_missing : (name : List ℕ) (es : List Pair) (line : ℕ) → missing_if (not (has name es)) line ≡ [] → Is (entry_at name es)
-not_missing name es line h = go (entry_at name es) (not_if _ line 2 h)
-  where
-    go : (o : Option Pair) → not (is_some o) ≡ false → Is o
-    go None h = absurd cc
-    go (Some p) h = (p, refl)
+not_missing name es line h = some_of (entry_at name es) (not_not (has name es) (not_if _ line 2 h))
 
 pub is_perhaps : (h : Home) (names : List (List ℕ)) (faults : Pair → Form → List Fault) (table : List Key) (site : Site) (name : List ℕ) (es : List Pair) → AtExpression h faults → is_ignored name ≡ false → form_in table name ≡ Some (forms.Expression site) → keys_faults faults table es ≡ [] → Is (perhaps_expression (context h names) name es)
 unfolding perhaps_expression
@@ -130,4 +136,4 @@ is_perhaps h names faults table site name es a i f k = go (has name es) refl
   where
     go : (b : Bool) → has name es ≡ b → Is (cond b (option_map (λ (e : expressions.Tree). let o : Option expressions.Tree = Some e in o) (expression_at (context h names) name es)) (Some None))
     go false e = (None, refl)
-    go true e = is_map _ _ (is_expression_at h names faults table site name es a i f k (there (entry_at name es) e))
+    go true e = is_map _ _ (is_expression_at h names faults table site name es a i f k (some_of (entry_at name es) e))

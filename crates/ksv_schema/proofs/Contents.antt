@@ -25,7 +25,7 @@ use Rattle.ksv_schema_keys.specs.Values.{encoding_named, TypeText, Unspelled, Of
 use Rattle.ksv_schema_faults.specs.Rules.{Home, name_fault, expression_faults, argument_faults, language_faults, count_faults, type_text_faults, piece_faults, contents_faults, enum_faults, case_value_faults, case_key_faults, case_type_faults, case_faults, text_faults, form_faults, value_faults, keys_faults, has_encoding}
 use Rattle.ksv_schema_build.specs.Stated.{perhaps_enum, encoding_at, order_at, integer_content, language_content, content_of, content_at, value_of, case_value, case_of, each}
 use Rattle.ksv_desc.specs.Description.{Number, Characters, Object}
-use Rattle.ksv_schema.proofs.Coherent.{Is, front, back, not_if, no_fault, some_same, is_map, is_bind, at_key, has_text, context, there}
+use Rattle.ksv_schema.proofs.Coherent.{Is, front, back, not_if, no_fault, is_map, is_bind, at_key, has_text, text_fits, some_of, context}
 
 -- ---- contents
 
@@ -66,7 +66,7 @@ is_enum h names table es f k = go (has (codes "enum") es) refl
     go : (b : Bool) → has (codes "enum") es ≡ b → Is (cond b (option_map (λ (e : ℕ). let o : Option ℕ = Some e in o) (text_at (codes "enum") es >>= ids_of >>= enum_named h.declared.types h.declared.enums h.within)) (Some None))
     go false e = (None, refl)
     go true e =
-        let p = there (entry_at (codes "enum") es) e in
+        let p = some_of (entry_at (codes "enum") es) e in
         let t = has_text (λ text. enum_faults h p.0.line (ids_of text)) p.0 (at_key (value_faults h) table (codes "enum") forms.EnumName es p.0 refl f k p.1) in
         let r = enum_is h p.0.line (ids_of t.0) t.2 in
         let same : text_at (codes "enum") es ≡ Some t.0 = ap (option_and_then (λ p. text_of p.value)) p.1 ∙ t.1 in
@@ -78,29 +78,18 @@ is_enum h names table es f k = go (has (codes "enum") es) refl
 abbrev pub AreEncodings : Declared → Type 0
 AreEncodings d = (n : ℕ) (text : List ℕ) → encoding_of d.types n ≡ Some text → Is (encoding_named text)
 
-some_of : {A : Type 0} (o : Option A) → not (is_some o) ≡ false → Is o
-some_of None h = absurd cc
-some_of (Some x) h = (x, refl)
-
 -- the encoding of an attribute that has one
 pub is_encoding : (h : Home) (names : List (List ℕ)) (table : List Key) (es : List Pair) → AreEncodings h.declared → form_in table (codes "encoding") ≡ Some forms.Coding → keys_faults (value_faults h) table es ≡ [] → has_encoding h es ≡ true → Is (encoding_at (context h names) es)
 unfolding encoding_at value_faults form_faults is_ignored
-is_encoding h names table es a f k x = own (text_at (codes "encoding") es) refl x
+is_encoding h names table es a f k x = own (text_at (codes "encoding") es) (λ text t. some_of (encoding_named text) (text_fits (value_faults h) table (codes "encoding") forms.Coding (λ text. is_some (encoding_named text)) left_out es text (λ p. refl) refl f k t)) x
   where
     inherited : (o : Option (List ℕ)) → encoding_of h.declared.types h.within ≡ o → is_some o ≡ true → Is (o >>= encoding_named)
     inherited None e x = absurd cc
     inherited (Some text) e x = a h.within text e
 
-    named : (o : Option Pair) (text : List ℕ) → entry_at (codes "encoding") es ≡ o → option_and_then (λ p. text_of p.value) o ≡ Some text → Is (encoding_named text)
-    named None text e t = absurd cc
-    named (Some p) text e t =
-        let r = has_text (λ text. fault_if (not (is_some (encoding_named text))) p.line left_out) p (at_key (value_faults h) table (codes "encoding") forms.Coding es p refl f k e) in
-        let same : r.0 ≡ text = some_same r.0 text (sym r.1 ∙ t) in
-        some_of (encoding_named text) (ap (λ text. not (is_some (encoding_named text))) (sym same) ∙ not_if _ p.line left_out r.2)
-
-    own : (o : Option (List ℕ)) → text_at (codes "encoding") es ≡ o → (is_some o || is_some (encoding_of h.declared.types h.within)) ≡ true → Is (option_map_or (λ (text : List ℕ). let r : Option (List ℕ) = Some text in r) o (encoding_of h.declared.types h.within) >>= encoding_named)
-    own None e x = inherited (encoding_of h.declared.types h.within) refl x
-    own (Some text) e x = named (entry_at (codes "encoding") es) text refl e
+    own : (o : Option (List ℕ)) → ((text : List ℕ) → o ≡ Some text → Is (encoding_named text)) → (is_some o || is_some (encoding_of h.declared.types h.within)) ≡ true → Is (option_map_or (λ (text : List ℕ). let r : Option (List ℕ) = Some text in r) o (encoding_of h.declared.types h.within) >>= encoding_named)
+    own None named x = inherited (encoding_of h.declared.types h.within) refl x
+    own (Some text) named x = named text refl
 
 -- ---- types
 
@@ -150,11 +139,7 @@ member_there h m k = go (enum_at h.declared h.within m) k
   where
     go : (o : Option ℕ) → is_some (option_and_then (λ e. number_of_id h.declared.constants e m.name) o) ≡ true → Is (option_and_then (λ e. option_map (enum_member e) (number_of_id h.declared.constants e m.name)) o)
     go None k = absurd cc
-    go (Some e) k = is_map (enum_member e) _ (there_of (number_of_id h.declared.constants e m.name) k)
-      where
-        there_of : {A : Type 0} (o : Option A) → is_some o ≡ true → Is o
-        there_of None h = absurd cc
-        there_of (Some x) h = (x, refl)
+    go (Some e) k = is_map (enum_member e) _ (some_of (number_of_id h.declared.constants e m.name) k)
 
 known_member : (h : Home) (line : ℕ) (m : expressions.MemberPath) → expression_faults h sites.Case line (Some (expressions.member m)) ≡ [] → is_member h.declared h.within m ≡ true
 unfolding expression_faults name_faults part_faults

@@ -13,7 +13,7 @@ use Rattle.ksv_schema_keys.specs.Values.{TypeText, type_text, is_str, is_strz, t
 use Rattle.ksv_schema_faults.specs.Rules.{Home, type_text_faults, case_faults, form_faults, value_faults, keys_faults, missing_if, switch_faults, has_encoding, Has, Says, Rule, Needs, claimed, rule_faults, rules_faults, field_pairs, case_against, field_needs, field_against, field_left_out, field_rules}
 use Rattle.ksv_schema_build.specs.Stated.{expression_at, perhaps_enum, content_at, case_of, switch_of, typed, choice_of, extent_of, repeat_of, field_of, parse_instance_of, value_instance_of, each}
 use Rattle.ksv_desc.specs.Description.{Always, Switch, Bytes, Fixed, Sized, SizeEos, ByItself, Once, Eos, Expr, Until}
-use Rattle.ksv_schema.proofs.Coherent.{Is, front, back, not_if, no_fault, some_same, is_map, is_bind, at_key, has_text, context, by_value, by_form, is_expression_at, is_perhaps, there, not_missing}
+use Rattle.ksv_schema.proofs.Coherent.{Is, front, back, not_if, no_fault, some_same, is_map, is_bind, at_key, has_text, context, by_value, by_form, is_expression_at, is_perhaps, some_of, not_missing}
 use Rattle.ksv_schema.proofs.Contents.{contents_is, is_enum, AreEncodings, is_encoding, content_is, cases_are}
 
 -- a table with the keys of an attribute
@@ -89,7 +89,7 @@ unfolding extent_of is_ignored
 is_extent h names table es f k = go (has (codes "size") es) (is_to_end es) refl
   where
     go : (a b : Bool) → has (codes "size") es ≡ a → Is (cond a (option_map Sized (expression_at (context h names) (codes "size") es)) (cond b (Some SizeEos) (Some ByItself)))
-    go true b x = is_map Sized _ (is_expression_at h names (value_faults h) table sites.Size (codes "size") es (by_value h) refl f.size k (there (entry_at (codes "size") es) x))
+    go true b x = is_map Sized _ (is_expression_at h names (value_faults h) table sites.Size (codes "size") es (by_value h) refl f.size k (some_of (entry_at (codes "size") es) x))
     go false true x = (SizeEos, refl)
     go false false x = (ByItself, refl)
 
@@ -169,7 +169,7 @@ is_attribute h names line es a k r = is_field h names attribute_keys line es a a
 pub is_parse_instance : (h : Home) (names : List (List ℕ)) (line : ℕ) (es : List Pair) → AreEncodings h.declared → has (codes "pos") es ≡ true → keys_faults (value_faults h) parse_instance_keys es ≡ [] → field_rules h line es ≡ [] → Is (parse_instance_of (context h names) es)
 unfolding parse_instance_of is_ignored form_in
 is_parse_instance h names line es a p k r =
-    let place = is_expression_at h names (value_faults h) parse_instance_keys sites.Place (codes "pos") es (by_value h) refl refl k (there (entry_at (codes "pos") es) p) in
+    let place = is_expression_at h names (value_faults h) parse_instance_keys sites.Place (codes "pos") es (by_value h) refl refl k (some_of (entry_at (codes "pos") es) p) in
     let stream = is_perhaps h names (value_faults h) parse_instance_keys sites.Stream (codes "io") es (by_value h) refl refl k in
     let field = is_field h names parse_instance_keys line es a places_have k r in
     is_bind _ _ place.0 place.1 (is_bind _ _ stream.0 stream.1 (is_bind _ _ field.0 field.1 (_, refl)))
@@ -178,6 +178,6 @@ pub is_value_instance : (h : Home) (names : List (List ℕ)) (es : List Pair) �
 unfolding value_instance_of is_ignored form_in
 is_value_instance h names es v k =
     let condition = is_perhaps h names (value_faults h) value_keys sites.Condition (codes "if") es (by_value h) refl refl k in
-    let value = is_expression_at h names (value_faults h) value_keys sites.Value (codes "value") es (by_value h) refl refl k (there (entry_at (codes "value") es) v) in
+    let value = is_expression_at h names (value_faults h) value_keys sites.Value (codes "value") es (by_value h) refl refl k (some_of (entry_at (codes "value") es) v) in
     let enum = is_enum h names value_keys es refl k in
     is_bind _ _ condition.0 condition.1 (is_bind _ _ value.0 value.1 (is_bind _ _ enum.0 enum.1 (_, refl)))

@@ -223,7 +223,7 @@ unfolding stated_by faults_of
 stated_resolved d x within k s = go (are_texts d.members) s
   where
     members : each_from (member_faults d) 0 d.members ≡ []
-    members = back (limit_faults d ++ each_from (type_faults d) 0 d.types) (each_from (member_faults d) 0 d.members) (front (limit_faults d ++ each_from (type_faults d) 0 d.types ++ each_from (member_faults d) 0 d.members) (flat_map enumeration_faults d.enums) (front (limit_faults d ++ each_from (type_faults d) 0 d.types ++ each_from (member_faults d) 0 d.members ++ flat_map enumeration_faults d.enums) (each_from (constant_faults d) 0 d.constants) k))
+    members = back _ _ (front _ _ (front _ _ k))
 
     go : (b : Bool) → cond b (described d (names_of d) (length (member_names d))) None ≡ Some x → IsResolved x
     go true s = described_resolved d x within members s

@@ -363,10 +363,13 @@ unfoldable pub enumeration_faults : Enumeration → List Fault
 enumeration_faults x = fault_if (not (is_id x.id)) x.line bad_value ++ fault_if (is_none (mapping_of x.value)) x.line bad_value
 
 -- the value of an entry: an id, or a mapping with an id
-unfoldable pub constant_value_faults : Declared → ℕ → Tree → List Fault
-constant_value_faults d line (Text _ quoted text) = fault_if (not (is_id text)) line bad_value
-constant_value_faults d line (Seq _ ts) = fault line bad_value
-constant_value_faults d line (Map first es) = keys_faults (form_faults (home_in d 0)) constant_keys (pairs es) ++ missing_if (not (has (codes "id") (pairs es))) first
+abbrev pub constant_key_faults : Home → ℕ → List Pair → List Fault
+constant_key_faults h line es = keys_faults (form_faults h) constant_keys es ++ missing_if (not (has (codes "id") es)) line
+
+unfoldable pub constant_value_faults : Home → ℕ → Tree → List Fault
+constant_value_faults h line (Text _ quoted text) = fault_if (not (is_id text)) line bad_value
+constant_value_faults h line (Seq _ ts) = fault line bad_value
+constant_value_faults h line (Map first es) = constant_key_faults h first (pairs es)
 
 -- the line of an entry's id
 abbrev pub id_line : Constant → ℕ
@@ -379,30 +382,36 @@ number_again d i c = fault_if (is_number_again (take i d.constants) c) c.line ke
 unfoldable pub id_again : Declared → ℕ → Constant → List Fault
 id_again d i c = fault_if (is_id_again (take i d.constants) c) (id_line c) keys_against
 
-unfoldable pub constant_faults : Declared → ℕ → Constant → List Fault
-constant_faults d i c = numeral_faults c.line (signed_number c.key) ++ constant_value_faults d c.line c.value ++ number_again d i c ++ id_again d i c
+unfoldable pub constant_faults : Home → ℕ → Constant → List Fault
+constant_faults h i c = numeral_faults c.line (signed_number c.key) ++ constant_value_faults h c.line c.value ++ number_again h.declared i c ++ id_again h.declared i c
 
 -- ---- types
 
--- the faults of `meta`; the root needs an id
-unfoldable pub meta_faults : Declared → ℕ → Option Pair → List Fault
-meta_faults d n None = []
-meta_faults d n (Some p) = option_map_or (λ es. keys_faults (form_faults (home_in d n)) meta_keys es ++ missing_if (n == 0 && not (has (codes "id") es)) (line_of p.value)) (mapping_of p.value) []
+-- the faults of `meta`; that of the root needs an id
+abbrev pub meta_key_faults : Home → ℕ → List Pair → List Fault
+meta_key_faults h line es = keys_faults (form_faults h) meta_keys es ++ missing_if (h.within == 0 && not (has (codes "id") es)) line
+
+unfoldable pub meta_faults : Home → Option Pair → List Fault
+meta_faults h None = []
+meta_faults h (Some p) = option_map_or (meta_key_faults h (line_of p.value)) (mapping_of p.value) []
 
 -- the root needs `meta`, and has no parameters
 unfoldable pub root_faults : ℕ → List Pair → List Fault
 root_faults line es = missing_if (not (has (codes "meta") es)) line ++ left_out_if true (entry_at (codes "params") es)
 
-unfoldable pub type_key_faults : Declared → ℕ → Scope → List Pair → List Fault
-type_key_faults d n s es =
-    keys_faults (form_faults (home_in d n)) type_keys es
-    ++ meta_faults d n (entry_at (codes "meta") es)
-    ++ (if n == 0 then root_faults s.line es else [])
+unfoldable pub type_key_faults : Home → ℕ → List Pair → List Fault
+type_key_faults h line es =
+    keys_faults (form_faults h) type_keys es
+    ++ meta_faults h (entry_at (codes "meta") es)
+    ++ (if h.within == 0 then root_faults line es else [])
 
-unfoldable pub type_faults : Declared → ℕ → Scope → List Fault
-type_faults d n s =
-    option_map_or (type_key_faults d n s) (mapping_of s.value) (fault s.line bad_value)
-    ++ fault_if (not (n == 0) && not (is_id s.id)) s.line bad_value
+unfoldable pub type_faults : Home → Scope → List Fault
+type_faults h s =
+    option_map_or (type_key_faults h s.line) (mapping_of s.value) (fault s.line bad_value)
+    ++ fault_if (not (h.within == 0) && not (is_id s.id)) s.line bad_value
+
+abbrev pub numbered_type_faults : Declared → ℕ → Scope → List Fault
+numbered_type_faults d n s = type_faults (home_in d n) s
 
 -- ---- limits
 
@@ -447,10 +456,10 @@ limit_faults d =
 unfoldable pub faults_of : Declared → List Fault
 faults_of d =
     limit_faults d
-    ++ each_from (type_faults d) 0 d.types
+    ++ each_from (numbered_type_faults d) 0 d.types
     ++ each_from (member_faults d) 0 d.members
     ++ flat_map enumeration_faults d.enums
-    ++ each_from (constant_faults d) 0 d.constants
+    ++ each_from (constant_faults (home_in d 0)) 0 d.constants
 
 -- the faults of a tree
 unfoldable pub faults : Tree → List Fault

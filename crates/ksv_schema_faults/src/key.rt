@@ -16,7 +16,7 @@ ghost use Rattle.ksv_schema_keys.specs.Code.{seen_expression, seen_type_text, se
 ghost use Rattle.ksv_schema_faults.specs.Code.{number_of, seen_fault, seen_home, fits};
 
 use crate::expression::{note_expression, note_names, note_type_text};
-use crate::fault::{DescFault, DescFaultKind, note, note_if};
+use crate::fault::{DescFaultKind, Least, note, note_if};
 use crate::home::Home;
 use ksv_expr_syntax::ExprFault;
 use ksv_expr_tree::Expr;
@@ -27,7 +27,7 @@ use ksv_schema_keys::{
 use ksv_schema_names::Site;
 use ksv_yaml_tree::keys::has;
 use ksv_yaml_tree::{Entry, Numeral, Yaml};
-use std::alloc::{AllocError, Global};
+use std::alloc::AllocError;
 
 /// Whether a text is allowed at a key of this form, as far as the text alone decides.
 fn fits(form: Form, text: &[u8]) -> bool
@@ -46,7 +46,7 @@ fn fits(form: Form, text: &[u8]) -> bool
 }
 
 /// Notes a text that doesn't fit at a key of this form, and a node that is no text.
-fn note_text(least: &mut Option<DescFault>, form: Form, entry: &Entry, kind: DescFaultKind)
+fn note_text(least: &mut Least, form: Form, entry: &Entry, kind: DescFaultKind)
     ensures { seen_fault least.new ≡ noted (seen_fault least.old) (text_unless (fits form) (number_of kind) (pair entry.now)) }
 {
     match entry.value().text() {
@@ -63,7 +63,7 @@ fn is_order(text: &[u8]) -> bool
 
 /// Notes a byte order other than `le` and `be`; a choice of one is unsupported.
 #[tactic(auto, using(crate::proofs::Nodes::endian_text, crate::proofs::Nodes::endian_choice, crate::proofs::Nodes::endian_mapping, crate::proofs::Nodes::endian_list))]
-fn note_endian(least: &mut Option<DescFault>, line: usize, value: &Yaml)
+fn note_endian(least: &mut Least, line: usize, value: &Yaml)
     ensures { seen_fault least.new ≡ noted (seen_fault least.old) (endian_faults line (view value.now)) }
 {
     match value.text() {
@@ -83,7 +83,7 @@ fn note_endian(least: &mut Option<DescFault>, line: usize, value: &Yaml)
 
 /// Notes a bit order other than `be`; `le` is unsupported.
 #[tactic(auto, using(crate::proofs::Noted::steps), unfolding(crate::specs::Rules::bit_endian_faults))]
-fn note_bit_endian(least: &mut Option<DescFault>, entry: &Entry)
+fn note_bit_endian(least: &mut Least, entry: &Entry)
     ensures { seen_fault least.new ≡ noted (seen_fault least.old) (bit_endian_faults (pair entry.now)) }
 {
     let line = entry.line();
@@ -101,7 +101,7 @@ fn note_bit_endian(least: &mut Option<DescFault>, entry: &Entry)
 
 /// Notes a text that is no number from 0 to 255.
 #[tactic(auto, using(crate::proofs::Noted::steps))]
-pub(crate) fn note_numeral(least: &mut Option<DescFault>, line: usize, numeral: Numeral)
+pub(crate) fn note_numeral(least: &mut Least, line: usize, numeral: Numeral)
     ensures { seen_fault least.new ≡ noted (seen_fault least.old) (numeral_faults line numeral) }
 {
     match numeral {
@@ -112,7 +112,7 @@ pub(crate) fn note_numeral(least: &mut Option<DescFault>, line: usize, numeral: 
 }
 
 #[tactic(auto, using(crate::proofs::Noted::steps))]
-fn note_piece(least: &mut Option<DescFault>, line: usize, piece: Piece)
+fn note_piece(least: &mut Least, line: usize, piece: Piece)
     ensures { seen_fault least.new ≡ noted (seen_fault least.old) (piece_faults line (seen_piece piece.entry)) }
 {
     match piece {
@@ -124,14 +124,14 @@ fn note_piece(least: &mut Option<DescFault>, line: usize, piece: Piece)
 }
 
 /// Notes a bad item of `contents`.
-fn note_item(least: &mut Option<DescFault>, item: &Yaml)
+fn note_item(least: &mut Least, item: &Yaml)
     ensures { seen_fault least.new ≡ noted (seen_fault least.old) (piece_faults (line_of (view item.now)) (piece_of (view item.now))) }
 {
     note_piece(least, item.line(), piece_of(item));
 }
 
 /// Notes the bad items of `contents`.
-fn note_pieces(least: &mut Option<DescFault>, items: &[Yaml])
+fn note_pieces(least: &mut Least, items: &[Yaml])
     ensures { seen_fault least.new ≡ noted (seen_fault least.old) (flat_map (λ t. piece_faults (line_of t) (piece_of t)) (map view items.now)) }
 {
     for item in items {
@@ -141,7 +141,7 @@ fn note_pieces(least: &mut Option<DescFault>, items: &[Yaml])
 
 /// Notes bad `contents`; a plain number alone is unsupported.
 #[tactic(auto, using(crate::proofs::Nodes::contents_text, crate::proofs::Nodes::contents_list, crate::proofs::Nodes::contents_mapping))]
-fn note_contents(least: &mut Option<DescFault>, line: usize, value: &Yaml)
+fn note_contents(least: &mut Least, line: usize, value: &Yaml)
     ensures { seen_fault least.new ≡ noted (seen_fault least.old) (contents_faults line (view value.now)) }
 {
     match value.text() {
@@ -158,7 +158,7 @@ fn note_contents(least: &mut Option<DescFault>, line: usize, value: &Yaml)
 
 /// Notes the path of an enum that isn't there.
 #[tactic(auto, unfolding(crate::specs::Rules::enum_faults))]
-fn note_enum(least: &mut Option<DescFault>, home: Home, line: usize, path: &Option<Vec<String>>)
+fn note_enum(least: &mut Least, home: Home, line: usize, path: &Option<Vec<String>>)
     ensures { seen_fault least.new ≡ noted (seen_fault least.old) (enum_faults (seen_home home.entry) line (seen_path path.now)) }
 {
     match path {
@@ -171,7 +171,7 @@ fn note_enum(least: &mut Option<DescFault>, home: Home, line: usize, path: &Opti
 }
 
 /// Notes an expression that can't be a key of `cases`.
-fn note_case_value(least: &mut Option<DescFault>, home: Home, line: usize, expr: &Expr)
+fn note_case_value(least: &mut Least, home: Home, line: usize, expr: &Expr)
     ensures { seen_fault least.new ≡ noted (seen_fault least.old) (case_value_faults (seen_home home.entry) line (case_key (view_expression expr.now))) }
 {
     match case_key(expr) {
@@ -185,12 +185,7 @@ fn note_case_value(least: &mut Option<DescFault>, home: Home, line: usize, expr:
 
 /// Notes the faults of a key of `cases`.
 #[tactic(auto, unfolding(crate::specs::Rules::case_key_faults))]
-fn note_case_key(
-    least: &mut Option<DescFault>,
-    home: Home,
-    line: usize,
-    read: &Result<Expr, ExprFault>,
-)
+fn note_case_key(least: &mut Least, home: Home, line: usize, read: &Result<Expr, ExprFault>)
     ensures { seen_fault least.new ≡ noted (seen_fault least.old) (case_key_faults (seen_home home.entry) line (seen_expression read.now)) }
 {
     match read {
@@ -201,7 +196,7 @@ fn note_case_key(
 
 /// Notes the faults of a case's type; `str` and `strz` are unsupported.
 #[tactic(auto, using(crate::proofs::Noted::steps), unfolding(crate::specs::Rules::case_type_faults))]
-fn note_case_type(least: &mut Option<DescFault>, home: Home, line: usize, text: &TypeText)
+fn note_case_type(least: &mut Least, home: Home, line: usize, text: &TypeText)
     ensures { seen_fault least.new ≡ noted (seen_fault least.old) (case_type_faults (seen_home home.entry) line (seen_type_text text.now)) }
 {
     note_type_text(least, home, line, text);
@@ -210,17 +205,12 @@ fn note_case_type(least: &mut Option<DescFault>, home: Home, line: usize, text: 
 }
 
 /// Notes the faults of the type at a case.
-fn note_case_at(
-    alloc: Global,
-    least: &mut Option<DescFault>,
-    home: Home,
-    entry: &Entry,
-) -> Result<(), AllocError>
+fn note_case_at(least: &mut Least, home: Home, entry: &Entry) -> Result<(), AllocError>
     ensures { OnOk result (seen_fault least.new ≡ noted (seen_fault least.old) (text_faults (λ text. case_type_faults (seen_home home.entry) (pair entry.now).line (type_text text)) (pair entry.now))) }
 {
     match entry.value().text() {
         Some(text) => {
-            let text = type_text(alloc, text)?;
+            let text = type_text(home.alloc, text)?;
             note_case_type(least, home, entry.line(), &text);
         }
         None => note(least, entry.line(), DescFaultKind::BadValue),
@@ -230,39 +220,28 @@ fn note_case_at(
 
 /// Notes the faults of a case: of its key, and of its type.
 #[tactic(auto, using(crate::proofs::Noted::steps), unfolding(crate::specs::Rules::case_faults))]
-fn note_case(
-    alloc: Global,
-    least: &mut Option<DescFault>,
-    home: Home,
-    entry: &Entry,
-) -> Result<(), AllocError>
+fn note_case(least: &mut Least, home: Home, entry: &Entry) -> Result<(), AllocError>
     ensures { OnOk result (seen_fault least.new ≡ noted (seen_fault least.old) (case_faults (seen_home home.entry) (pair entry.now))) }
 {
-    let read = read_expression(alloc, entry.key())?;
+    let read = read_expression(home.alloc, entry.key())?;
     note_case_key(least, home, entry.line(), &read);
-    note_case_at(alloc, least, home, entry)?;
+    note_case_at(least, home, entry)?;
     Ok(())
 }
 
 /// Notes the faults of each case.
-fn note_cases(
-    alloc: Global,
-    least: &mut Option<DescFault>,
-    home: Home,
-    entries: &[Entry],
-) -> Result<(), AllocError>
+fn note_cases(least: &mut Least, home: Home, entries: &[Entry]) -> Result<(), AllocError>
     ensures { OnOk result (seen_fault least.new ≡ noted (seen_fault least.old) (flat_map (case_faults (seen_home home.entry)) (map pair entries.now))) }
 {
     for entry in entries {
-        note_case(alloc, least, home, entry)?;
+        note_case(least, home, entry)?;
     }
     Ok(())
 }
 
 /// Notes the faults of an expression at a key.
 fn note_expression_at(
-    alloc: Global,
-    least: &mut Option<DescFault>,
+    least: &mut Least,
     home: Home,
     site: Site,
     entry: &Entry,
@@ -271,7 +250,7 @@ fn note_expression_at(
 {
     match entry.value().text() {
         Some(text) => {
-            let read = read_expression(alloc, text)?;
+            let read = read_expression(home.alloc, text)?;
             note_expression(least, home, site, entry.line(), &read);
         }
         None => note(least, entry.line(), DescFaultKind::BadValue),
@@ -280,17 +259,12 @@ fn note_expression_at(
 }
 
 /// Notes the faults of the text of a type at a key.
-fn note_type_at(
-    alloc: Global,
-    least: &mut Option<DescFault>,
-    home: Home,
-    entry: &Entry,
-) -> Result<(), AllocError>
+fn note_type_at(least: &mut Least, home: Home, entry: &Entry) -> Result<(), AllocError>
     ensures { OnOk result (seen_fault least.new ≡ noted (seen_fault least.old) (text_faults (λ text. type_text_faults (seen_home home.entry) (pair entry.now).line (type_text text)) (pair entry.now))) }
 {
     match entry.value().text() {
         Some(text) => {
-            let text = type_text(alloc, text)?;
+            let text = type_text(home.alloc, text)?;
             note_type_text(least, home, entry.line(), &text);
         }
         None => note(least, entry.line(), DescFaultKind::BadValue),
@@ -299,17 +273,12 @@ fn note_type_at(
 }
 
 /// Notes at a key the path of an enum that isn't there.
-fn note_enum_at(
-    alloc: Global,
-    least: &mut Option<DescFault>,
-    home: Home,
-    entry: &Entry,
-) -> Result<(), AllocError>
+fn note_enum_at(least: &mut Least, home: Home, entry: &Entry) -> Result<(), AllocError>
     ensures { OnOk result (seen_fault least.new ≡ noted (seen_fault least.old) (text_faults (λ text. enum_faults (seen_home home.entry) (pair entry.now).line (ids_of text)) (pair entry.now))) }
 {
     match entry.value().text() {
         Some(text) => {
-            let path = ids_of(alloc, text)?;
+            let path = ids_of(home.alloc, text)?;
             note_enum(least, home, entry.line(), &path);
         }
         None => note(least, entry.line(), DescFaultKind::BadValue),
@@ -318,7 +287,7 @@ fn note_enum_at(
 }
 
 /// Notes a value at a key that is no number from 0 to 255.
-fn note_byte_at(least: &mut Option<DescFault>, entry: &Entry)
+fn note_byte_at(least: &mut Least, entry: &Entry)
     ensures { seen_fault least.new ≡ noted (seen_fault least.old) (text_faults (λ text. numeral_faults (pair entry.now).line (byte_number text)) (pair entry.now)) }
 {
     match entry.value().text() {
@@ -329,16 +298,11 @@ fn note_byte_at(least: &mut Option<DescFault>, entry: &Entry)
 
 /// Notes the faults of the cases at a key.
 #[tactic(auto, unfolding(crate::specs::Rules::form_faults))]
-fn note_cases_at(
-    alloc: Global,
-    least: &mut Option<DescFault>,
-    home: Home,
-    entry: &Entry,
-) -> Result<(), AllocError>
+fn note_cases_at(least: &mut Least, home: Home, entry: &Entry) -> Result<(), AllocError>
     ensures { OnOk result (seen_fault least.new ≡ noted (seen_fault least.old) (form_faults (seen_home home.entry) (pair entry.now) forms.Cases)) }
 {
     match entry.value().entries() {
-        Some(entries) => note_cases(alloc, least, home, entries)?,
+        Some(entries) => note_cases(least, home, entries)?,
         None => note(least, entry.line(), DescFaultKind::BadValue),
     }
     Ok(())
@@ -347,8 +311,7 @@ fn note_cases_at(
 /// Notes the faults of the value at a key, by its form.
 #[tactic(auto, using(crate::proofs::Noted::steps), unfolding(crate::specs::Rules::form_faults))]
 pub(crate) fn note_form(
-    alloc: Global,
-    least: &mut Option<DescFault>,
+    least: &mut Least,
     home: Home,
     entry: &Entry,
     form: Form,
@@ -380,10 +343,10 @@ pub(crate) fn note_form(
         Form::Coding => note_text(least, Form::Coding, entry, DescFaultKind::LeftOut),
         Form::ParameterType => note_text(least, Form::ParameterType, entry, DescFaultKind::LeftOut),
         Form::AnyText => note_text(least, Form::AnyText, entry, DescFaultKind::BadValue),
-        Form::Expression(site) => note_expression_at(alloc, least, home, site, entry)?,
-        Form::TypeOrSwitch => note_type_at(alloc, least, home, entry)?,
-        Form::Cases => note_cases_at(alloc, least, home, entry)?,
-        Form::EnumName => note_enum_at(alloc, least, home, entry)?,
+        Form::Expression(site) => note_expression_at(least, home, site, entry)?,
+        Form::TypeOrSwitch => note_type_at(least, home, entry)?,
+        Form::Cases => note_cases_at(least, home, entry)?,
+        Form::EnumName => note_enum_at(least, home, entry)?,
         Form::Byte => note_byte_at(least, entry),
         Form::Contents => note_contents(least, line, value),
     }

@@ -9,7 +9,7 @@ ghost use Rattle.ksv_schema_keys.specs.Values.{own_type};
 ghost use Rattle.ksv_schema_faults.specs.Rules.{against, alone_if, claimed, rule_faults, rules_faults, field_pairs, value_pairs};
 ghost use Rattle.ksv_schema_faults.specs.Code.{seen_fault, seen_claim, seen_rule};
 
-use crate::fault::{DescFault, DescFaultKind, note, note_if};
+use crate::fault::{DescFaultKind, Least, note, note_if};
 use ksv_schema_keys::{TypeKind, TypeText, is_a};
 use ksv_yaml_tree::keys::says;
 use ksv_yaml_tree::{Entry, find};
@@ -79,11 +79,7 @@ pub(crate) fn key_if<'a>(holds: bool, entries: &'a [Entry], key: &[u8]) -> Optio
 
 /// The key by which a claim is so, among keys with this type at `type`.
 #[tactic(auto, unfolding(ksv_schema_keys::specs::Values::type_key))]
-fn claimed<'a>(
-    claim: &Claim,
-    typed: &Option<TypeText>,
-    entries: &'a [Entry],
-) -> Option<&'a Entry>
+fn claimed<'a>(claim: &Claim, typed: &Option<TypeText>, entries: &'a [Entry]) -> Option<&'a Entry>
     requires { seen_type_at typed.now ≡ own_type (map pair entries.now) }
     ensures { seen_entry result ≡ claimed (map pair entries.now) (seen_claim claim.now) }
 {
@@ -96,11 +92,7 @@ fn claimed<'a>(
 
 /// Notes two keys that are both there.
 #[tactic(auto, using(crate::proofs::Noted::steps), unfolding(crate::specs::Rules::against))]
-pub(crate) fn note_against(
-    least: &mut Option<DescFault>,
-    one: Option<&Entry>,
-    other: Option<&Entry>,
-)
+pub(crate) fn note_against(least: &mut Least, one: Option<&Entry>, other: Option<&Entry>)
     ensures { seen_fault least.new ≡ noted (seen_fault least.old) (against (seen_entry one.entry) (seen_entry other.entry)) }
 {
     match one {
@@ -118,7 +110,7 @@ pub(crate) fn note_against(
 
 /// Notes a key without what it needs.
 #[tactic(auto, using(crate::proofs::Noted::steps))]
-fn note_alone_if(least: &mut Option<DescFault>, lacks: bool, key: Option<&Entry>)
+fn note_alone_if(least: &mut Least, lacks: bool, key: Option<&Entry>)
     ensures { seen_fault least.new ≡ noted (seen_fault least.old) (alone_if lacks (seen_entry key.entry)) }
 {
     match key {
@@ -129,7 +121,7 @@ fn note_alone_if(least: &mut Option<DescFault>, lacks: bool, key: Option<&Entry>
 
 /// Notes what breaks a rule, in a mapping of this line.
 fn note_rule(
-    least: &mut Option<DescFault>,
+    least: &mut Least,
     line: usize,
     typed: &Option<TypeText>,
     entries: &[Entry],
@@ -158,7 +150,7 @@ fn note_rule(
 
 /// Notes what breaks each of these rules.
 fn note_rules(
-    least: &mut Option<DescFault>,
+    least: &mut Least,
     line: usize,
     typed: &Option<TypeText>,
     entries: &[Entry],
@@ -174,7 +166,7 @@ fn note_rules(
 
 /// Notes two keys of an attribute or a parse instance that don't fit together.
 pub(crate) fn note_field_pairs(
-    least: &mut Option<DescFault>,
+    least: &mut Least,
     line: usize,
     typed: &Option<TypeText>,
     entries: &[Entry],
@@ -187,7 +179,7 @@ pub(crate) fn note_field_pairs(
 
 /// Notes the keys of a value instance that its value excludes.
 pub(crate) fn note_value_pairs(
-    least: &mut Option<DescFault>,
+    least: &mut Least,
     line: usize,
     typed: &Option<TypeText>,
     entries: &[Entry],

@@ -10,13 +10,13 @@ ghost use Rattle.ksv_schema_keys.specs.Values.{cases_of, own_type, is_a, is_type
 ghost use Rattle.ksv_schema_faults.specs.Rules.{is_declared, left_out_if, missing_if, has_encoding, field_needs, integer_against, case_against, field_left_out, field_rules, value_rules};
 ghost use Rattle.ksv_schema_faults.specs.Code.{seen_fault, seen_home, is_bounded, has_other_terminator};
 
-use crate::fault::{DescFault, DescFaultKind, note_if};
+use crate::fault::{DescFaultKind, Least, note_if};
 use crate::home::Home;
 use crate::rule::{key_if, note_against, note_field_pairs, note_value_pairs};
 use ksv_schema_keys::{TypeKind, TypeText, byte_at, is_a, own_type, type_at};
 use ksv_yaml_tree::keys::{entries_at, has, says, text_at};
 use ksv_yaml_tree::{Entry, find};
-use std::alloc::{AllocError, Global};
+use std::alloc::AllocError;
 
 /// The cases of a switch at the key `type`.
 #[tactic(auto, unfolding(ksv_schema_keys::specs::Values::cases_of))]
@@ -28,12 +28,7 @@ fn cases_of(entries: &[Entry]) -> &[Entry]
 
 /// Notes an unsupported key.
 #[tactic(auto, using(crate::proofs::Noted::steps))]
-pub(crate) fn note_left_out_if(
-    least: &mut Option<DescFault>,
-    is_left_out: bool,
-    entries: &[Entry],
-    key: &[u8],
-)
+pub(crate) fn note_left_out_if(least: &mut Least, is_left_out: bool, entries: &[Entry], key: &[u8])
     ensures { seen_fault least.new ≡ noted (seen_fault least.old) (left_out_if is_left_out (entry_at key.now (map pair entries.now))) }
 {
     match find(entries, key) {
@@ -43,7 +38,7 @@ pub(crate) fn note_left_out_if(
 }
 
 /// Notes a key that is missing.
-pub(crate) fn note_missing_if(least: &mut Option<DescFault>, is_missing: bool, line: usize)
+pub(crate) fn note_missing_if(least: &mut Least, is_missing: bool, line: usize)
     ensures { seen_fault least.new ≡ noted (seen_fault least.old) (missing_if is_missing line) }
 {
     note_if(least, is_missing, line, DescFaultKind::MissingKey);
@@ -66,7 +61,7 @@ fn is_bounded(entries: &[Entry]) -> bool
 /// Notes what an attribute needs but doesn't have.
 #[tactic(auto, using(crate::proofs::Noted::steps), unfolding(crate::specs::Rules::field_needs))]
 fn note_field_needs(
-    least: &mut Option<DescFault>,
+    least: &mut Least,
     home: Home,
     line: usize,
     typed: &Option<TypeText>,
@@ -87,7 +82,7 @@ fn note_field_needs(
 
 /// Notes each key that bounds a case that is an integer.
 #[tactic(auto, using(crate::proofs::Noted::steps), unfolding(crate::specs::Rules::integer_against))]
-fn note_integer_against(least: &mut Option<DescFault>, entries: &[Entry], case: &Entry)
+fn note_integer_against(least: &mut Least, entries: &[Entry], case: &Entry)
     ensures { seen_fault least.new ≡ noted (seen_fault least.old) (integer_against (map pair entries.now) (pair case.now)) }
 {
     let to_end = key_if(says(entries, b"size-eos", b"true"), entries, b"size-eos");
@@ -99,14 +94,14 @@ fn note_integer_against(least: &mut Option<DescFault>, entries: &[Entry], case: 
 /// Notes the same for a case of any type.
 #[tactic(auto, using(crate::proofs::Noted::steps), unfolding(ksv_schema_keys::specs::Values::is_type))]
 fn note_case_against(
-    alloc: Global,
-    least: &mut Option<DescFault>,
+    least: &mut Least,
+    home: Home,
     entries: &[Entry],
     case: &Entry,
 ) -> Result<(), AllocError>
     ensures { OnOk result (seen_fault least.new ≡ noted (seen_fault least.old) (case_against (map pair entries.now) (pair case.now))) }
 {
-    let typed = type_at(alloc, case)?;
+    let typed = type_at(home.alloc, case)?;
     if is_a(TypeKind::Integer, &typed) {
         note_integer_against(least, entries, case);
     }
@@ -115,15 +110,15 @@ fn note_case_against(
 
 /// Notes the same for each case.
 fn note_cases_against(
-    alloc: Global,
-    least: &mut Option<DescFault>,
+    least: &mut Least,
+    home: Home,
     entries: &[Entry],
     cases: &[Entry],
 ) -> Result<(), AllocError>
     ensures { OnOk result (seen_fault least.new ≡ noted (seen_fault least.old) (flat_map (case_against (map pair entries.now)) (map pair cases.now))) }
 {
     for case in cases {
-        note_case_against(alloc, least, entries, case)?;
+        note_case_against(least, home, entries, case)?;
     }
     Ok(())
 }
@@ -143,11 +138,11 @@ fn is_declared(home: Home, typed: &Option<TypeText>) -> bool
 
 /// Whether a case is of such a type.
 #[tactic(auto, unfolding(ksv_schema_keys::specs::Values::is_type))]
-fn has_declared(alloc: Global, home: Home, cases: &[Entry]) -> Result<bool, AllocError>
+fn has_declared(home: Home, cases: &[Entry]) -> Result<bool, AllocError>
     ensures { IfOk result (λ b. b ≡ list_any (is_type (is_declared (seen_home home.entry))) (map pair cases.now)) }
 {
     for case in cases {
-        let typed = type_at(alloc, case)?;
+        let typed = type_at(home.alloc, case)?;
         if is_declared(home, &typed) {
             return Ok(true);
         }
@@ -168,8 +163,7 @@ fn has_other_terminator(entries: &[Entry]) -> bool
 /// Notes an unsupported terminator: of a type of the description, or of `strz` another one than 0.
 #[tactic(auto, using(crate::proofs::Noted::steps), unfolding(crate::specs::Rules::field_left_out))]
 fn note_field_left_out(
-    alloc: Global,
-    least: &mut Option<DescFault>,
+    least: &mut Least,
     home: Home,
     typed: &Option<TypeText>,
     entries: &[Entry],
@@ -178,7 +172,7 @@ fn note_field_left_out(
     ensures { OnOk result (seen_fault least.new ≡ noted (seen_fault least.old) (field_left_out (seen_home home.entry) (map pair entries.now))) }
 {
     let is_object = is_declared(home, typed);
-    let has_object = has_declared(alloc, home, cases_of(entries))?;
+    let has_object = has_declared(home, cases_of(entries))?;
     let is_strz = is_a(TypeKind::Strz, typed);
     let is_other = has_other_terminator(entries);
     note_left_out_if(least, is_object | has_object, entries, b"terminator");
@@ -189,32 +183,31 @@ fn note_field_left_out(
 /// Notes which keys of an attribute don't fit together.
 #[tactic(auto, using(crate::proofs::Noted::steps), unfolding(crate::specs::Rules::field_rules, crate::specs::Rules::field_against))]
 pub(crate) fn note_field_rules(
-    alloc: Global,
-    least: &mut Option<DescFault>,
+    least: &mut Least,
     home: Home,
     line: usize,
     entries: &[Entry],
 ) -> Result<(), AllocError>
     ensures { OnOk result (seen_fault least.new ≡ noted (seen_fault least.old) (field_rules (seen_home home.entry) line (map pair entries.now))) }
 {
-    let typed = own_type(alloc, entries)?;
+    let typed = own_type(home.alloc, entries)?;
     note_field_needs(least, home, line, &typed, entries);
     note_field_pairs(least, line, &typed, entries);
-    note_cases_against(alloc, least, entries, cases_of(entries))?;
-    note_field_left_out(alloc, least, home, &typed, entries)
+    note_cases_against(least, home, entries, cases_of(entries))?;
+    note_field_left_out(least, home, &typed, entries)
 }
 
 /// Notes which keys of a value instance don't fit together.
 #[tactic(auto, unfolding(crate::specs::Rules::value_rules))]
 pub(crate) fn note_value_rules(
-    alloc: Global,
-    least: &mut Option<DescFault>,
+    least: &mut Least,
+    home: Home,
     line: usize,
     entries: &[Entry],
 ) -> Result<(), AllocError>
     ensures { OnOk result (seen_fault least.new ≡ noted (seen_fault least.old) (value_rules line (map pair entries.now))) }
 {
-    let typed = own_type(alloc, entries)?;
+    let typed = own_type(home.alloc, entries)?;
     note_value_pairs(least, line, &typed, entries);
     Ok(())
 }
