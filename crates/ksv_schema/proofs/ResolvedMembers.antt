@@ -220,14 +220,11 @@ described_resolved d x within k s =
 
 stated_resolved : (d : Declared) (x : Description) → Each (λ c. c.within < length d.enums) d.constants → faults_of d ≡ [] → stated_by d ≡ Some x → IsResolved x
 unfolding stated_by faults_of
-stated_resolved d x within k s = go (are_texts d.members) s
+stated_resolved d x within k s = go (are_texts d.members) (back _ _ (front _ _ (front _ _ k))) s
   where
-    members : each_from (member_faults d) 0 d.members ≡ []
-    members = back _ _ (front _ _ (front _ _ k))
-
-    go : (b : Bool) → cond b (described d (names_of d) (length (member_names d))) None ≡ Some x → IsResolved x
-    go true s = described_resolved d x within members s
-    go false s = absurd cc
+    go : (b : Bool) → each_from (member_faults d) 0 d.members ≡ [] → cond b (described d (names_of d) (length (member_names d))) None ≡ Some x → IsResolved x
+    go true members s = described_resolved d x within members s
+    go false members s = absurd cc
 
 pub tree_resolved : (t : Tree) (x : Description) → States t x → IsResolved x
 unfolding faults stated

@@ -86,8 +86,8 @@ fn note_constant(
     number: usize,
     constant: &Constant,
 ) -> Result<(), AllocError>
-    requires marked_number { constant.now.is_number_again ≡ is_number_again (take number (declared home.entry.scopes.now).constants) (constant_of constant.now) }
-    requires marked_id { constant.now.is_id_again ≡ is_id_again (take number (declared home.entry.scopes.now).constants) (constant_of constant.now) }
+    requires marked_number { constant.now.is_number_again ≡ is_number_again (take number (declared home.scopes.now).constants) (constant_of constant.now) }
+    requires marked_id { constant.now.is_id_again ≡ is_id_again (take number (declared home.scopes.now).constants) (constant_of constant.now) }
     ensures { OnOk result (seen_fault least.new ≡ noted (seen_fault least.old) (constant_faults (seen_home home.entry) number (constant_of constant.now))) }
 {
     let line = constant.line;
@@ -115,7 +115,7 @@ pub(crate) fn note_constants(
     home: Home,
     constants: &[Constant],
 ) -> Result<(), AllocError>
-    requires rows { map constant_of constants.now ≡ (declared home.entry.scopes.now).constants }
+    requires rows { map constant_of constants.now ≡ (declared home.scopes.now).constants }
     requires marked { AreMarked constants.now }
     ensures { OnOk result (seen_fault least.new ≡ noted (seen_fault least.old) (each_from (constant_faults (seen_home home.entry)) 0 (declared home.entry.scopes.now).constants)) }
 {
