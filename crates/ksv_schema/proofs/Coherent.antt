@@ -11,8 +11,9 @@ use Rattle.ksv_yaml_tree.specs.Keys.{has, text_at}
 use Rattle.ksv_schema_names.specs.declared.position.Site.{Site}
 use Rattle.ksv_schema_names.specs.Numbered.{numbered}
 use Rattle.ksv_schema_faults.specs.Faults.{Fault, fault, fault_if, no_expression, bad_value, unknown_key}
-use Rattle.ksv_schema_keys.specs.Keys as forms
-use Rattle.ksv_schema_keys.specs.Keys.{Form, Key, form_in, is_ignored}
+use Rattle.ksv_schema_keys.specs.declared.keys.Form.TheVariants as forms
+use Rattle.ksv_schema_keys.specs.declared.keys.Form.{Form}
+use Rattle.ksv_schema_keys.specs.Keys.{Key, form_in, is_ignored}
 use Rattle.ksv_schema_keys.specs.Expressions.{expression_of}
 use Rattle.ksv_schema_faults.specs.Rules.{Home, expression_faults, text_faults, form_faults, value_faults, text_unless, key_faults, keys_faults, missing_if}
 use Rattle.ksv_schema_build.specs.Stated.{Context, expression, expression_at, perhaps_expression}

@@ -18,8 +18,9 @@ use Rattle.ksv_schema_names.specs.Names.{name_faults, part_faults, is_member, en
 use Rattle.ksv_desc.specs.Resolved.{count}
 use Rattle.ksv_schema_names.specs.Numbered.{given_member, enum_member, all_numbered}
 use Rattle.ksv_schema_faults.specs.Faults.{Fault, fault_if, no_expression, bad_value, unknown_name, left_out, wrong_count}
-use Rattle.ksv_schema_keys.specs.Keys as forms
-use Rattle.ksv_schema_keys.specs.Keys.{Form, Key, form_in, is_ignored}
+use Rattle.ksv_schema_keys.specs.declared.keys.Form.TheVariants as forms
+use Rattle.ksv_schema_keys.specs.declared.keys.Form.{Form}
+use Rattle.ksv_schema_keys.specs.Keys.{Key, form_in, is_ignored}
 use Rattle.ksv_schema_keys.specs.Expressions.{expression_of}
 use Rattle.ksv_schema_keys.specs.Values.{encoding_named, TypeText, Unspelled, OfLanguage, OfDescription, type_text, is_str, is_strz, looks_like_number, Piece, Bytes, BadPiece, LeftOutPiece, piece_of, bytes_of, joined, contents_of, CaseKey, Constant as ConstantKey, Negative, Member as MemberKey, Default, NoKey, case_key, ids_of}
 use Rattle.ksv_schema_faults.specs.Rules.{Home, name_fault, expression_faults, argument_faults, language_faults, count_faults, type_text_faults, piece_faults, contents_faults, enum_faults, case_value_faults, case_key_faults, case_type_faults, case_faults, text_faults, form_faults, value_faults, keys_faults, has_encoding}

@@ -7,8 +7,9 @@ use Rattle.ksv_yaml_tree.specs.Tree.{Pair, line_of, text_of, mapping_of, entry_a
 use Rattle.ksv_yaml_tree.specs.Keys.{has, says, entries_at}
 use Rattle.ksv_schema_names.specs.declared.position.Site.TheVariants as sites
 use Rattle.ksv_schema_faults.specs.Faults.{Fault, fault, bad_value}
-use Rattle.ksv_schema_keys.specs.Keys as forms
-use Rattle.ksv_schema_keys.specs.Keys.{Form, Key, form_in, is_ignored, attribute_keys, parse_instance_keys, value_keys, switch_keys}
+use Rattle.ksv_schema_keys.specs.declared.keys.Form.TheVariants as forms
+use Rattle.ksv_schema_keys.specs.declared.keys.Form.{Form}
+use Rattle.ksv_schema_keys.specs.Keys.{Key, form_in, is_ignored, attribute_keys, parse_instance_keys, value_keys, switch_keys}
 use Rattle.ksv_schema_keys.specs.Values.{TypeText, type_text, is_str, is_strz, type_at, own_type, is_a, cases_of, contents_of, is_to_end}
 use Rattle.ksv_schema_faults.specs.Rules.{Home, type_text_faults, case_faults, form_faults, value_faults, keys_faults, missing_if, switch_faults, has_encoding, Has, Says, Rule, Needs, claimed, rule_faults, rules_faults, field_pairs, case_against, field_needs, field_against, field_left_out, field_rules}
 use Rattle.ksv_schema_build.specs.Stated.{expression_at, perhaps_enum, content_at, case_of, switch_of, typed, choice_of, extent_of, repeat_of, field_of, parse_instance_of, value_instance_of, each}

@@ -25,8 +25,9 @@ use Rattle.ksv_desc.specs.Names.{has_names}
 use Rattle.ksv_schema_names.proofs.Found.{type_within}
 use Rattle.ksv_schema_names.proofs.Resolving.{resolved, all_resolved}
 use Rattle.ksv_schema_faults.specs.Faults.{Fault, no_expression, wrong_count}
-use Rattle.ksv_schema_keys.specs.Keys as forms
-use Rattle.ksv_schema_keys.specs.Keys.{Form, Key, form_in, is_ignored, parse_instance_keys, attribute_keys, value_keys, switch_keys}
+use Rattle.ksv_schema_keys.specs.declared.keys.Form.TheVariants as forms
+use Rattle.ksv_schema_keys.specs.declared.keys.Form.{Form}
+use Rattle.ksv_schema_keys.specs.Keys.{Key, form_in, is_ignored, parse_instance_keys, attribute_keys, value_keys, switch_keys}
 use Rattle.ksv_schema_keys.specs.Expressions.{expression_of}
 use Rattle.ksv_schema_keys.specs.Values.{TypeText, Unspelled, OfLanguage, OfDescription, type_text, CaseKey, Constant as ConstantKey, Negative, Member as MemberKey, Default, NoKey, case_key, ids_of}
 use Rattle.ksv_schema_faults.specs.Rules.{Home, position_at, name_fault, expression_faults, argument_faults, count_faults, type_text_faults, text_faults, case_type_faults, case_key_faults, case_faults, keys_faults}

@@ -16,8 +16,9 @@ use Rattle.ksv_schema_names.specs.declared.position.Site.TheVariants as sites
 use Rattle.ksv_desc.specs.Names.{number_in}
 use Rattle.ksv_desc.specs.Names.{has_names}
 use Rattle.ksv_schema_faults.specs.Faults.{fault, bad_value, left_out}
-use Rattle.ksv_schema_keys.specs.Keys as forms
-use Rattle.ksv_schema_keys.specs.Keys.{Form, Key, form_in, is_ignored, attribute_keys, parse_instance_keys, value_keys, switch_keys}
+use Rattle.ksv_schema_keys.specs.declared.keys.Form.TheVariants as forms
+use Rattle.ksv_schema_keys.specs.declared.keys.Form.{Form}
+use Rattle.ksv_schema_keys.specs.Keys.{Key, form_in, is_ignored, attribute_keys, parse_instance_keys, value_keys, switch_keys}
 use Rattle.ksv_schema_keys.specs.Values.{type_text, contents_of, is_to_end}
 use Rattle.ksv_schema_faults.specs.Rules.{Home, type_text_faults, text_faults, case_faults, form_faults, value_faults, keys_faults, missing_if, switch_faults, field_rules, value_rules, attribute_faults, instance_faults, role_faults}
 use Rattle.ksv_schema_build.specs.Stated.{naming_keys, type_words, form_words, key_words, entry_words, expression_at, perhaps_expression, perhaps_enum, content_at, case_of, each, switch_of, typed, choice_of, extent_of, terminator_of, repeat_of, field_of, parse_instance_of, value_instance_of, kind_of}

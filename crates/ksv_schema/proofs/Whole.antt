@@ -20,8 +20,9 @@ use Rattle.ksv_schema_scope.specs.Enums.{Constant, whole_of}
 use Rattle.ksv_schema_scope.specs.Declarations.{Declared}
 use Rattle.ksv_desc.specs.Names.{distinct, distinct_behind, number_in}
 use Rattle.ksv_schema_faults.specs.Faults.{Fault, fault, fault_if, bad_value, left_out}
-use Rattle.ksv_schema_keys.specs.Keys as forms
-use Rattle.ksv_schema_keys.specs.Keys.{Form, Key, form_in, is_ignored, type_keys, attribute_keys, parse_instance_keys, value_keys, meta_keys, constant_keys, is_id}
+use Rattle.ksv_schema_keys.specs.declared.keys.Form.TheVariants as forms
+use Rattle.ksv_schema_keys.specs.declared.keys.Form.{Form}
+use Rattle.ksv_schema_keys.specs.Keys.{Key, form_in, is_ignored, type_keys, attribute_keys, parse_instance_keys, value_keys, meta_keys, constant_keys, is_id}
 use Rattle.ksv_schema_keys.specs.Values.{encoding_named}
 use Rattle.ksv_schema_faults.specs.Rules.{Home, home_in, home_of, form_faults, value_faults, keys_faults, missing_if, attribute_faults, instance_faults, role_faults, mapping_faults, member_faults, member_again, is_instance, enumeration_faults, numeral_faults, constant_value_faults, constant_faults, meta_key_faults, meta_faults, type_key_faults, type_faults, numbered_type_faults, each_from, limit_faults, faults_of, faults, field_rules, value_rules}
 use Rattle.ksv_schema_build.specs.Stated.{Context, kind_of, member_of, type_of, numbered_of, enum_of, each, each_numbered, member_names, member_words, names_of, stated_by, value_instance_of, parse_instance_of}

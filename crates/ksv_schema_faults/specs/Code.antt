@@ -1,18 +1,13 @@
 -- The plain data of the code's values.
 use Rattle.std.specs.Prelude.{◌==◌, ◌||◌, ◌++◌, not, is_some, true, false, ℕ, Bool, List, [], ◌∷◌, map, Option, option_map, codes}
 use Rattle.std.specs.Option.{option_map_or}
-use Rattle.std.specs.List.{list_any}
-use Rattle.std.specs.Str.{bytes_eq}
 use Rattle.std.specs.List.Sorted.{IsPermutation, IsNonDecreasing}
 use Rattle.ksv_yaml_tree.specs.Tree.{Tree, Pair}
 use Rattle.ksv_schema_scope.specs.Types.{Scope}
 use Rattle.ksv_yaml_tree.specs.Keys.{has}
 use Rattle.ksv_schema_scope.specs.Members.{members_within}
 use Rattle.ksv_schema_scope.specs.Declarations.{Declared, declared}
-use Rattle.ksv_schema_keys.specs.declared.keys.Form.{Form}
-use Rattle.ksv_schema_keys.specs.declared.keys.Form.TheVariants as form
-use Rattle.ksv_schema_keys.specs.Keys.{is_id}
-use Rattle.ksv_schema_keys.specs.Values.{encoding_named, is_to_end, byte_at}
+use Rattle.ksv_schema_keys.specs.Values.{is_to_end, byte_at}
 use Rattle.ksv_schema_keys.specs.Code.{kind_test}
 use Rattle.ksv_schema_faults.specs.declared.home.Home.{Home as HomeOfCode}
 use Rattle.ksv_schema_faults.specs.declared.fault.DescFault.{DescFault}
@@ -66,17 +61,6 @@ seen_fault o = option_map plain o
 
 abbrev pub seen_home : HomeOfCode → Home
 seen_home h = record { declared = declared h.scopes.now; within = h.within; in_sequence = h.in_sequence; is_repeated = h.is_repeated }
-
--- ---- one key
-
--- whether a text is allowed at a key of a form, as far as the text alone decides
-abbrev pub fits : Form → List ℕ → Bool
-fits form.Id text = is_id text
-fits form.Flag text = list_any (bytes_eq text) (codes "true" ∷ codes "false" ∷ [])
-fits form.Repeat text = list_any (bytes_eq text) (codes "eos" ∷ codes "expr" ∷ codes "until" ∷ [])
-fits form.Coding text = is_some (encoding_named text)
-fits form.ParameterType text = not (bytes_eq text (codes "io"))
-fits _ text = true
 
 -- ---- keys together
 

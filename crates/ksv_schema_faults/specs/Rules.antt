@@ -28,8 +28,9 @@ use Rattle.ksv_schema_names.specs.declared.built_ins.BuiltIn.TheVariants.{Intege
 use Rattle.ksv_schema_names.specs.Names.{name_faults, list_faults}
 use Rattle.ksv_desc.specs.Resolved.{count}
 use Rattle.ksv_schema_faults.specs.Faults.{Fault, fault, fault_if, unknown_key, missing_key, keys_against, unknown_name, no_byte_order, bad_value, wrong_count, left_out, over_limit, no_expression}
-use Rattle.ksv_schema_keys.specs.Keys as forms
-use Rattle.ksv_schema_keys.specs.Keys.{Form, Key, type_keys, meta_keys, parameter_keys, attribute_keys, parse_instance_keys, value_keys, switch_keys, constant_keys, form_in, is_ignored, is_id}
+use Rattle.ksv_schema_keys.specs.declared.keys.Form.TheVariants as forms
+use Rattle.ksv_schema_keys.specs.declared.keys.Form.{Form}
+use Rattle.ksv_schema_keys.specs.Keys.{Key, type_keys, meta_keys, parameter_keys, attribute_keys, parse_instance_keys, value_keys, switch_keys, constant_keys, form_in, is_ignored, is_id}
 use Rattle.ksv_schema_keys.specs.Expressions.{expression_of}
 use Rattle.ksv_schema_keys.specs.Values.{encoding_named, TypeText, Unspelled, OfLanguage, OfDescription, type_text, is_integer, is_str, is_strz, is_a, own_type, is_type, type_key, cases_of, byte_number, byte_at, looks_like_number, Piece, Bytes, BadPiece, LeftOutPiece, piece_of, CaseKey, Constant as ConstantKey, Negative, Member as MemberKey, Default, NoKey, case_key, ids_of, is_to_end, is_repeated}
 
@@ -139,19 +140,29 @@ case_type_faults h line t = type_text_faults h line t ++ fault_if (is_str t || i
 unfoldable pub case_faults : Home → Pair → List Fault
 case_faults h p = case_key_faults h p.line (expression_of p.key) ++ text_faults (λ text. case_type_faults h p.line (type_text text)) p
 
+-- whether a text is allowed at a key of this form, as far as the text alone decides
+abbrev pub fits : Form → List ℕ → Bool
+fits forms.Id text = is_id text
+fits forms.Flag text = list_any (bytes_eq text) (codes "true" ∷ codes "false" ∷ [])
+fits forms.Repeat text = list_any (bytes_eq text) (codes "eos" ∷ codes "expr" ∷ codes "until" ∷ [])
+fits forms.Coding text = is_some (encoding_named text)
+fits forms.ParameterType text = not (bytes_eq text (codes "io"))
+fits _ text = true
+
 -- the value at a key, by its form; a mapping at `type` has keys of its own
 unfoldable pub form_faults : Home → Pair → Form → List Fault
 form_faults h p forms.Ignored = []
 form_faults h p forms.NotHere = fault p.line left_out
 form_faults h p forms.Mapping = fault_if (is_none (mapping_of p.value)) p.line bad_value
 form_faults h p forms.Listing = fault_if (is_none (list_of p.value)) p.line bad_value
-form_faults h p forms.Id = text_unless is_id bad_value p
-form_faults h p (forms.OneOf texts) = text_unless (λ text. list_any (bytes_eq text) texts) bad_value p
+form_faults h p forms.Id = text_unless (fits forms.Id) bad_value p
+form_faults h p forms.Flag = text_unless (fits forms.Flag) bad_value p
+form_faults h p forms.Repeat = text_unless (fits forms.Repeat) bad_value p
 form_faults h p forms.Endian = endian_faults p.line p.value
 form_faults h p forms.BitEndian = bit_endian_faults p
-form_faults h p forms.Coding = text_unless (λ text. is_some (encoding_named text)) left_out p
-form_faults h p forms.ParameterType = text_unless (λ text. not (bytes_eq text (codes "io"))) left_out p
-form_faults h p forms.AnyText = text_unless (λ text. true) bad_value p
+form_faults h p forms.Coding = text_unless (fits forms.Coding) left_out p
+form_faults h p forms.ParameterType = text_unless (fits forms.ParameterType) left_out p
+form_faults h p forms.AnyText = text_unless (fits forms.AnyText) bad_value p
 form_faults h p (forms.Expression site) = text_faults (λ text. expression_faults h site p.line (expression_of text)) p
 form_faults h p forms.TypeOrSwitch = text_faults (λ text. type_text_faults h p.line (type_text text)) p
 form_faults h p forms.Cases = option_map_or (flat_map (case_faults h)) (mapping_of p.value) (fault p.line bad_value)

@@ -9,11 +9,11 @@ ghost use Rattle.ksv_yaml_tree.specs.View.{view, pair, seen_text};
 ghost use Rattle.ksv_schema_keys.specs.Expressions.{expression_of};
 ghost use Rattle.ksv_schema_faults.specs.Faults.{noted, fault_if, bad_value, left_out, unknown_name};
 ghost use Rattle.ksv_schema_keys.specs.Keys.{is_id};
-ghost use Rattle.ksv_schema_keys.specs.Keys as forms;
+ghost use Rattle.ksv_schema_keys.specs.declared.keys.Form.TheVariants as forms;
 ghost use Rattle.ksv_schema_keys.specs.Values.{encoding_named, type_text, byte_number, piece_of, case_key, ids_of};
-ghost use Rattle.ksv_schema_faults.specs.Rules.{text_faults, text_unless, expression_faults, type_text_faults, numeral_faults, endian_faults, bit_endian_faults, piece_faults, contents_faults, enum_faults, case_value_faults, case_key_faults, case_type_faults, case_faults, form_faults};
-ghost use Rattle.ksv_schema_keys.specs.Code.{seen_expression, seen_type_text, seen_piece, seen_path, form_of};
-ghost use Rattle.ksv_schema_faults.specs.Code.{number_of, seen_fault, seen_home, fits};
+ghost use Rattle.ksv_schema_faults.specs.Rules.{fits, text_faults, text_unless, expression_faults, type_text_faults, numeral_faults, endian_faults, bit_endian_faults, piece_faults, contents_faults, enum_faults, case_value_faults, case_key_faults, case_type_faults, case_faults, form_faults};
+ghost use Rattle.ksv_schema_keys.specs.Code.{seen_expression, seen_type_text, seen_piece, seen_path};
+ghost use Rattle.ksv_schema_faults.specs.Code.{number_of, seen_fault, seen_home};
 
 use crate::expression::{note_expression, note_names, note_type_text};
 use crate::fault::{DescFaultKind, Least, note, note_if};
@@ -316,7 +316,7 @@ pub(crate) fn note_form(
     entry: &Entry,
     form: Form,
 ) -> Result<(), AllocError>
-    ensures { OnOk result (seen_fault least.new ≡ noted (seen_fault least.old) (form_faults (seen_home home.entry) (pair entry.now) (form_of form))) }
+    ensures { OnOk result (seen_fault least.new ≡ noted (seen_fault least.old) (form_faults (seen_home home.entry) (pair entry.now) form)) }
 {
     let line = entry.line();
     let value = entry.value();

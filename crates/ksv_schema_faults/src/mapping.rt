@@ -6,7 +6,7 @@ ghost use Rattle.ksv_yaml_tree.specs.View.{view, pair, seen_entries};
 ghost use Rattle.ksv_schema_keys.specs.Keys.{is_ignored};
 ghost use Rattle.ksv_schema_faults.specs.Faults.{noted};
 ghost use Rattle.ksv_schema_faults.specs.Rules.{form_faults, key_faults, keys_faults, missing_if, switch_faults, is_type_or_switch, value_faults};
-ghost use Rattle.ksv_schema_keys.specs.Code.{form_of, keys_of};
+ghost use Rattle.ksv_schema_keys.specs.Code.{keys_of};
 ghost use Rattle.ksv_schema_faults.specs.Code.{seen_fault, seen_home};
 
 use crate::fault::{DescFaultKind, Least, note, note_if};
@@ -84,14 +84,14 @@ fn note_switch(
 }
 
 fn is_type_or_switch(form: Form) -> bool
-    ensures { result ≡ is_type_or_switch (form_of form) }
+    ensures { result ≡ is_type_or_switch form }
 {
     matches!(form, Form::TypeOrSwitch)
 }
 
 /// The keys of a switch, if one is at a key.
 fn switch_at(form: Form, value: &Yaml) -> Option<&[Entry]>
-    ensures { seen_entries result ≡ (if is_type_or_switch (form_of form) then mapping_of (view value.now) else None) }
+    ensures { seen_entries result ≡ (if is_type_or_switch form then mapping_of (view value.now) else None) }
 {
     if is_type_or_switch(form) {
         value.entries()
@@ -103,7 +103,7 @@ fn switch_at(form: Form, value: &Yaml) -> Option<&[Entry]>
 /// Notes the faults of the value at a key, which may be a switch.
 #[tactic(auto, using(crate::proofs::Switches::switch_noted, crate::proofs::Switches::form_noted))]
 fn note_value(least: &mut Least, home: Home, entry: &Entry, form: Form) -> Result<(), AllocError>
-    ensures { OnOk result (seen_fault least.new ≡ noted (seen_fault least.old) (value_faults (seen_home home.entry) (pair entry.now) (form_of form))) }
+    ensures { OnOk result (seen_fault least.new ≡ noted (seen_fault least.old) (value_faults (seen_home home.entry) (pair entry.now) form)) }
 {
     let value = entry.value();
     match switch_at(form, value) {
