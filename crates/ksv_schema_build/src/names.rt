@@ -89,21 +89,7 @@ fn add_form(alloc: Global, names: &mut Names, entry: &Entry, form: Form) -> Resu
         },
         Form::TypeOrSwitch => add_type(alloc, names, entry),
         Form::Cases => add_types(alloc, names, entries_in(entry.value())),
-        Form::Ignored => Ok(()),
-        Form::NotHere => Ok(()),
-        Form::Mapping => Ok(()),
-        Form::Listing => Ok(()),
-        Form::Id => Ok(()),
-        Form::Flag => Ok(()),
-        Form::Repeat => Ok(()),
-        Form::Endian => Ok(()),
-        Form::BitEndian => Ok(()),
-        Form::Coding => Ok(()),
-        Form::ParameterType => Ok(()),
-        Form::AnyText => Ok(()),
-        Form::EnumName => Ok(()),
-        Form::Byte => Ok(()),
-        Form::Contents => Ok(()),
+        _ => Ok(()),
     }
 }
 

@@ -284,18 +284,7 @@ fn negative_key(operand: &Expr) -> CaseKey<'_>
 {
     match operand {
         Expr::Literal(literal) => negative_constant(literal),
-        Expr::Name(_) => CaseKey::NoKey,
-        Expr::Special(_) => CaseKey::NoKey,
-        Expr::Member(_) => CaseKey::NoKey,
-        Expr::Unary(..) => CaseKey::NoKey,
-        Expr::Binary(..) => CaseKey::NoKey,
-        Expr::Logical(..) => CaseKey::NoKey,
-        Expr::Choice(..) => CaseKey::NoKey,
-        Expr::Field(..) => CaseKey::NoKey,
-        Expr::SpecialField(..) => CaseKey::NoKey,
-        Expr::Call(..) => CaseKey::NoKey,
-        Expr::Index(..) => CaseKey::NoKey,
-        Expr::Cast(..) => CaseKey::NoKey,
+        _ => CaseKey::NoKey,
     }
 }
 
@@ -305,9 +294,7 @@ fn unary_key(operator: UnaryOperator, operand: &Expr) -> CaseKey<'_>
 {
     match operator {
         UnaryOperator::Negate => negative_key(operand),
-        UnaryOperator::Plus => CaseKey::NoKey,
-        UnaryOperator::Complement => CaseKey::NoKey,
-        UnaryOperator::Not => CaseKey::NoKey,
+        _ => CaseKey::NoKey,
     }
 }
 
@@ -316,11 +303,8 @@ fn special_key(name: SpecialName) -> CaseKey<'static>
     ensures { seen_case_key result ≡ case_key (special name) }
 {
     match name {
-        SpecialName::Root => CaseKey::NoKey,
-        SpecialName::Parent => CaseKey::NoKey,
-        SpecialName::Io => CaseKey::NoKey,
-        SpecialName::Index => CaseKey::NoKey,
         SpecialName::Element => CaseKey::Default,
+        _ => CaseKey::NoKey,
     }
 }
 
@@ -331,17 +315,9 @@ pub fn case_key(expr: &Expr) -> CaseKey<'_>
 {
     match expr {
         Expr::Literal(literal) => CaseKey::Constant(literal),
-        Expr::Name(_) => CaseKey::NoKey,
         Expr::Special(name) => special_key(*name),
         Expr::Member(member) => CaseKey::Member(member),
         Expr::Unary(operator, operand) => unary_key(*operator, operand),
-        Expr::Binary(..) => CaseKey::NoKey,
-        Expr::Logical(..) => CaseKey::NoKey,
-        Expr::Choice(..) => CaseKey::NoKey,
-        Expr::Field(..) => CaseKey::NoKey,
-        Expr::SpecialField(..) => CaseKey::NoKey,
-        Expr::Call(..) => CaseKey::NoKey,
-        Expr::Index(..) => CaseKey::NoKey,
-        Expr::Cast(..) => CaseKey::NoKey,
+        _ => CaseKey::NoKey,
     }
 }
