@@ -15,7 +15,7 @@ use Rattle.ksv_schema_keys.specs.declared.keys.Form.TheVariants as forms
 use Rattle.ksv_schema_keys.specs.declared.keys.Form.{Form}
 use Rattle.ksv_schema_keys.specs.Keys.{Key, form_in, is_ignored}
 use Rattle.ksv_schema_keys.specs.Expressions.{expression_of}
-use Rattle.ksv_schema_faults.specs.Rules.{Home, expression_faults, text_faults, form_faults, value_faults, text_unless, key_faults, keys_faults, missing_if}
+use Rattle.ksv_schema_faults.specs.Rules.{Home, expression_faults, text_faults, form_faults, value_faults, key_faults, keys_faults, missing_if}
 use Rattle.ksv_schema_build.specs.Stated.{Context, expression, expression_at, perhaps_expression}
 
 -- there is a value
@@ -82,6 +82,9 @@ has_text faults p h = go (text_of p.value) refl h
     go (Some text) e h = (text, e, h)
 
 -- the text at a key whose form allows certain texts alone
+abbrev pub text_unless : (List ℕ → Bool) → ℕ → Pair → List Fault
+text_unless fits number p = text_faults (λ text. fault_if (not (fits text)) p.line number) p
+
 pub text_fits : (faults : Pair → Form → List Fault) (table : List Key) (name : List ℕ) (form : Form) (fits : List ℕ → Bool) (number : ℕ) (es : List Pair) (text : List ℕ) → ((p : Pair) → faults p form ≡ text_unless fits number p) → is_ignored name ≡ false → form_in table name ≡ Some form → keys_faults faults table es ≡ [] → text_at name es ≡ Some text → fits text ≡ true
 text_fits faults table name form fits number es text a i f k t = go (entry_at name es) refl t
   where

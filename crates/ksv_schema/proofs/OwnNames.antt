@@ -19,12 +19,12 @@ use Rattle.ksv_schema_faults.specs.Faults.{Fault, fault, fault_if, bad_value}
 use Rattle.ksv_schema_keys.specs.declared.keys.Form.TheVariants as forms
 use Rattle.ksv_schema_keys.specs.declared.keys.Form.{Form}
 use Rattle.ksv_schema_keys.specs.Keys.{Key, form_in, is_ignored, is_id, type_keys, meta_keys, parameter_keys, attribute_keys, parse_instance_keys, value_keys}
-use Rattle.ksv_schema_faults.specs.Rules.{Home, home_in, home_of, form_faults, value_faults, keys_faults, missing_if, parameter_faults, attribute_faults, role_faults, mapping_faults, member_faults, member_again, is_instance, meta_key_faults, meta_faults, type_key_faults, type_faults, numbered_type_faults, each_from, faults_of, faults, text_unless}
+use Rattle.ksv_schema_faults.specs.Rules.{Home, home_in, home_of, form_faults, value_faults, keys_faults, missing_if, parameter_faults, attribute_faults, role_faults, mapping_faults, member_faults, member_again, is_instance, meta_key_faults, meta_faults, type_key_faults, type_faults, numbered_type_faults, each_from, faults_of, faults}
 use Rattle.ksv_schema_build.specs.Stated.{are_texts, stated}
 use Rattle.ksv_desc.specs.Description.{Description}
 use Rattle.ksv_schema.specs.Outcome.{States}
 use Rattle.ksv_desc.specs.Resolved.{Each}
-use Rattle.ksv_schema.proofs.Coherent.{not_not, front, back, not_if, no_fault, some_same, text_fits}
+use Rattle.ksv_schema.proofs.Coherent.{text_unless, not_not, front, back, not_if, no_fault, some_same, text_fits}
 use Rattle.ksv_schema.proofs.Texts.{id_is_text}
 use Rattle.ksv_schema.proofs.Whole.{AreTyped, declared_states}
 

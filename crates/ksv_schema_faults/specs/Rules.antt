@@ -87,9 +87,6 @@ type_text_faults h line (OfDescription t es) = count_faults h line (count es) (t
 abbrev pub text_faults : (List ℕ → List Fault) → Pair → List Fault
 text_faults faults p = option_map_or faults (text_of p.value) (fault p.line bad_value)
 
-abbrev pub text_unless : (List ℕ → Bool) → ℕ → Pair → List Fault
-text_unless fits number p = text_faults (λ text. fault_if (not (fits text)) p.line number) p
-
 -- where a plain number from 0 to 255 is wanted
 abbrev pub numeral_faults : ℕ → Numeral → List Fault
 numeral_faults line (Whole n) = []
@@ -102,8 +99,9 @@ endian_faults line (Text _ quoted text) = fault_if (not (bytes_eq text (codes "l
 endian_faults line (Seq _ ts) = fault line bad_value
 endian_faults line (Map _ es) = fault line (if has (codes "switch-on") (pairs es) then left_out else bad_value)
 
-unfoldable pub bit_endian_faults : Pair → List Fault
-bit_endian_faults p = text_faults (λ text. if bytes_eq text (codes "be") then [] else fault p.line (if bytes_eq text (codes "le") then left_out else bad_value)) p
+-- a text alone: `be`; `le` is unsupported
+unfoldable pub bit_endian_faults : ℕ → List ℕ → List Fault
+bit_endian_faults line text = if bytes_eq text (codes "be") then [] else fault line (if bytes_eq text (codes "le") then left_out else bad_value)
 
 -- an item of `contents`
 abbrev pub piece_faults : ℕ → Piece → List Fault
@@ -149,26 +147,27 @@ fits forms.Coding text = is_some (encoding_named text)
 fits forms.ParameterType text = not (bytes_eq text (codes "io"))
 fits _ text = true
 
+-- the text at a key, by its form
+abbrev pub form_text_faults : Home → ℕ → Form → List ℕ → List Fault
+form_text_faults h line (forms.Expression site) text = expression_faults h site line (expression_of text)
+form_text_faults h line forms.TypeOrSwitch text = type_text_faults h line (type_text text)
+form_text_faults h line forms.EnumName text = enum_faults h line (ids_of text)
+form_text_faults h line forms.Byte text = numeral_faults line (byte_number text)
+form_text_faults h line forms.BitEndian text = bit_endian_faults line text
+form_text_faults h line forms.Coding text = fault_if (not (fits forms.Coding text)) line left_out
+form_text_faults h line forms.ParameterType text = fault_if (not (fits forms.ParameterType text)) line left_out
+form_text_faults h line form text = fault_if (not (fits form text)) line bad_value
+
 -- the value at a key, by its form; a mapping at `type` has keys of its own
 unfoldable pub form_faults : Home → Pair → Form → List Fault
 form_faults h p forms.Ignored = []
 form_faults h p forms.NotHere = fault p.line left_out
 form_faults h p forms.Mapping = fault_if (is_none (mapping_of p.value)) p.line bad_value
 form_faults h p forms.Listing = fault_if (is_none (list_of p.value)) p.line bad_value
-form_faults h p forms.Id = text_unless (fits forms.Id) bad_value p
-form_faults h p forms.Flag = text_unless (fits forms.Flag) bad_value p
-form_faults h p forms.Repeat = text_unless (fits forms.Repeat) bad_value p
 form_faults h p forms.Endian = endian_faults p.line p.value
-form_faults h p forms.BitEndian = bit_endian_faults p
-form_faults h p forms.Coding = text_unless (fits forms.Coding) left_out p
-form_faults h p forms.ParameterType = text_unless (fits forms.ParameterType) left_out p
-form_faults h p forms.AnyText = text_unless (fits forms.AnyText) bad_value p
-form_faults h p (forms.Expression site) = text_faults (λ text. expression_faults h site p.line (expression_of text)) p
-form_faults h p forms.TypeOrSwitch = text_faults (λ text. type_text_faults h p.line (type_text text)) p
 form_faults h p forms.Cases = option_map_or (flat_map (case_faults h)) (mapping_of p.value) (fault p.line bad_value)
-form_faults h p forms.EnumName = text_faults (λ text. enum_faults h p.line (ids_of text)) p
-form_faults h p forms.Byte = text_faults (λ text. numeral_faults p.line (byte_number text)) p
 form_faults h p forms.Contents = contents_faults p.line p.value
+form_faults h p form = text_faults (form_text_faults h p.line form) p
 
 -- ---- all keys of a mapping
 

@@ -11,7 +11,7 @@ ghost use Rattle.ksv_schema_faults.specs.Faults.{noted, fault_if, bad_value, lef
 ghost use Rattle.ksv_schema_keys.specs.Keys.{is_id};
 ghost use Rattle.ksv_schema_keys.specs.declared.keys.Form.TheVariants as forms;
 ghost use Rattle.ksv_schema_keys.specs.Values.{encoding_named, type_text, byte_number, piece_of, case_key, ids_of};
-ghost use Rattle.ksv_schema_faults.specs.Rules.{fits, text_faults, text_unless, expression_faults, type_text_faults, numeral_faults, endian_faults, bit_endian_faults, piece_faults, contents_faults, enum_faults, case_value_faults, case_key_faults, case_type_faults, case_faults, form_faults};
+ghost use Rattle.ksv_schema_faults.specs.Rules.{fits, text_faults, expression_faults, type_text_faults, numeral_faults, endian_faults, bit_endian_faults, piece_faults, contents_faults, enum_faults, case_value_faults, case_key_faults, case_type_faults, case_faults, form_faults, form_text_faults};
 ghost use Rattle.ksv_schema_keys.specs.Code.{seen_expression, seen_type_text, seen_piece, seen_path};
 ghost use Rattle.ksv_schema_faults.specs.Code.{number_of, seen_fault, seen_home};
 
@@ -45,16 +45,6 @@ fn fits(form: Form, text: &[u8]) -> bool
     }
 }
 
-/// Notes a text that doesn't fit at a key of this form, and a node that is no text.
-fn note_text(least: &mut Least, form: Form, entry: &Entry, kind: DescFaultKind)
-    ensures { seen_fault least.new ≡ noted (seen_fault least.old) (text_unless (fits form) (number_of kind) (pair entry.now)) }
-{
-    match entry.value().text() {
-        Some(text) => note_if(least, !fits(form, text), entry.line(), kind),
-        None => note(least, entry.line(), DescFaultKind::BadValue),
-    }
-}
-
 fn is_order(text: &[u8]) -> bool
     ensures { result ≡ (bytes_eq text.now (codes "le") || bytes_eq text.now (codes "be")) }
 {
@@ -78,24 +68,6 @@ fn note_endian(least: &mut Least, line: usize, value: &Yaml)
             }
             None => note(least, line, DescFaultKind::BadValue),
         },
-    }
-}
-
-/// Notes a bit order other than `be`; `le` is unsupported.
-#[tactic(auto, using(crate::proofs::Noted::steps), unfolding(crate::specs::Rules::bit_endian_faults))]
-fn note_bit_endian(least: &mut Least, entry: &Entry)
-    ensures { seen_fault least.new ≡ noted (seen_fault least.old) (bit_endian_faults (pair entry.now)) }
-{
-    let line = entry.line();
-    match entry.value().text() {
-        Some(text) => {
-            if text == b"be".as_slice() {} else if text == b"le".as_slice() {
-                note(least, line, DescFaultKind::LeftOut);
-            } else {
-                note(least, line, DescFaultKind::BadValue);
-            }
-        }
-        None => note(least, line, DescFaultKind::BadValue),
     }
 }
 
@@ -239,61 +211,85 @@ fn note_cases(least: &mut Least, home: Home, entries: &[Entry]) -> Result<(), Al
     Ok(())
 }
 
-/// Notes the faults of an expression at a key.
-fn note_expression_at(
+/// Notes the faults of a text that is to be an expression.
+fn note_expression_text(
     least: &mut Least,
     home: Home,
     site: Site,
-    entry: &Entry,
+    line: usize,
+    text: &[u8],
 ) -> Result<(), AllocError>
-    ensures { OnOk result (seen_fault least.new ≡ noted (seen_fault least.old) (text_faults (λ text. expression_faults (seen_home home.entry) site (pair entry.now).line (expression_of text)) (pair entry.now))) }
+    ensures { OnOk result (seen_fault least.new ≡ noted (seen_fault least.old) (expression_faults (seen_home home.entry) site line (expression_of text.now))) }
 {
-    match entry.value().text() {
-        Some(text) => {
-            let read = read_expression(home.alloc, text)?;
-            note_expression(least, home, site, entry.line(), &read);
+    let read = read_expression(home.alloc, text)?;
+    note_expression(least, home, site, line, &read);
+    Ok(())
+}
+
+/// Notes the faults of a text that is to be a type.
+fn note_type(least: &mut Least, home: Home, line: usize, text: &[u8]) -> Result<(), AllocError>
+    ensures { OnOk result (seen_fault least.new ≡ noted (seen_fault least.old) (type_text_faults (seen_home home.entry) line (type_text text.now))) }
+{
+    let text = type_text(home.alloc, text)?;
+    note_type_text(least, home, line, &text);
+    Ok(())
+}
+
+/// Notes the path of an enum that isn't there.
+fn note_enum_name(least: &mut Least, home: Home, line: usize, text: &[u8]) -> Result<(), AllocError>
+    ensures { OnOk result (seen_fault least.new ≡ noted (seen_fault least.old) (enum_faults (seen_home home.entry) line (ids_of text.now))) }
+{
+    let path = ids_of(home.alloc, text)?;
+    note_enum(least, home, line, &path);
+    Ok(())
+}
+
+/// Notes a bit order other than `be`; `le` is unsupported.
+#[tactic(auto, using(crate::proofs::Noted::steps), unfolding(crate::specs::Rules::bit_endian_faults))]
+fn note_bit_endian(least: &mut Least, line: usize, text: &[u8])
+    ensures { seen_fault least.new ≡ noted (seen_fault least.old) (bit_endian_faults line text.now) }
+{
+    if text == b"be".as_slice() {} else if text == b"le".as_slice() {
+        note(least, line, DescFaultKind::LeftOut);
+    } else {
+        note(least, line, DescFaultKind::BadValue);
+    }
+}
+
+/// Notes the faults of a text at a key of this form.
+#[tactic(auto, using(crate::proofs::Noted::steps))]
+fn note_text(
+    least: &mut Least,
+    home: Home,
+    line: usize,
+    form: Form,
+    text: &[u8],
+) -> Result<(), AllocError>
+    ensures { OnOk result (seen_fault least.new ≡ noted (seen_fault least.old) (form_text_faults (seen_home home.entry) line form text.now)) }
+{
+    match form {
+        Form::Expression(site) => note_expression_text(least, home, site, line, text)?,
+        Form::TypeOrSwitch => note_type(least, home, line, text)?,
+        Form::EnumName => note_enum_name(least, home, line, text)?,
+        Form::Byte => note_numeral(least, line, byte_number(text)),
+        Form::BitEndian => note_bit_endian(least, line, text),
+        Form::Coding | Form::ParameterType => {
+            note_if(least, !fits(form, text), line, DescFaultKind::LeftOut)
         }
-        None => note(least, entry.line(), DescFaultKind::BadValue),
+        _ => note_if(least, !fits(form, text), line, DescFaultKind::BadValue),
     }
     Ok(())
 }
 
-/// Notes the faults of the text of a type at a key.
-fn note_type_at(least: &mut Least, home: Home, entry: &Entry) -> Result<(), AllocError>
-    ensures { OnOk result (seen_fault least.new ≡ noted (seen_fault least.old) (text_faults (λ text. type_text_faults (seen_home home.entry) (pair entry.now).line (type_text text)) (pair entry.now))) }
+/// Notes the faults of the text at a key of this form; another node is of the wrong kind.
+fn note_text_at(least: &mut Least, home: Home, entry: &Entry, form: Form) -> Result<(), AllocError>
+    ensures { OnOk result (seen_fault least.new ≡ noted (seen_fault least.old) (text_faults (form_text_faults (seen_home home.entry) (pair entry.now).line form) (pair entry.now))) }
 {
     match entry.value().text() {
-        Some(text) => {
-            let text = type_text(home.alloc, text)?;
-            note_type_text(least, home, entry.line(), &text);
-        }
+        Some(text) => note_text(least, home, entry.line(), form, text)?,
         None => note(least, entry.line(), DescFaultKind::BadValue),
     }
     Ok(())
-}
-
-/// Notes at a key the path of an enum that isn't there.
-fn note_enum_at(least: &mut Least, home: Home, entry: &Entry) -> Result<(), AllocError>
-    ensures { OnOk result (seen_fault least.new ≡ noted (seen_fault least.old) (text_faults (λ text. enum_faults (seen_home home.entry) (pair entry.now).line (ids_of text)) (pair entry.now))) }
-{
-    match entry.value().text() {
-        Some(text) => {
-            let path = ids_of(home.alloc, text)?;
-            note_enum(least, home, entry.line(), &path);
-        }
-        None => note(least, entry.line(), DescFaultKind::BadValue),
-    }
-    Ok(())
-}
-
-/// Notes a value at a key that is no number from 0 to 255.
-fn note_byte_at(least: &mut Least, entry: &Entry)
-    ensures { seen_fault least.new ≡ noted (seen_fault least.old) (text_faults (λ text. numeral_faults (pair entry.now).line (byte_number text)) (pair entry.now)) }
-{
-    match entry.value().text() {
-        Some(text) => note_numeral(least, entry.line(), byte_number(text)),
-        None => note(least, entry.line(), DescFaultKind::BadValue),
-    }
 }
 
 /// Notes the faults of the cases at a key.
@@ -323,32 +319,18 @@ pub(crate) fn note_form(
     match form {
         Form::Ignored => {}
         Form::NotHere => note(least, line, DescFaultKind::LeftOut),
-        Form::Mapping => note_if(
-            least,
-            value.entries().is_none(),
-            line,
-            DescFaultKind::BadValue,
-        ),
-        Form::Listing => note_if(
-            least,
-            value.items().is_none(),
-            line,
-            DescFaultKind::BadValue,
-        ),
-        Form::Id => note_text(least, Form::Id, entry, DescFaultKind::BadValue),
-        Form::Flag => note_text(least, Form::Flag, entry, DescFaultKind::BadValue),
-        Form::Repeat => note_text(least, Form::Repeat, entry, DescFaultKind::BadValue),
+        Form::Mapping => {
+            let is_mapping = value.entries().is_some();
+            note_if(least, !is_mapping, line, DescFaultKind::BadValue);
+        }
+        Form::Listing => {
+            let is_list = value.items().is_some();
+            note_if(least, !is_list, line, DescFaultKind::BadValue);
+        }
         Form::Endian => note_endian(least, line, value),
-        Form::BitEndian => note_bit_endian(least, entry),
-        Form::Coding => note_text(least, Form::Coding, entry, DescFaultKind::LeftOut),
-        Form::ParameterType => note_text(least, Form::ParameterType, entry, DescFaultKind::LeftOut),
-        Form::AnyText => note_text(least, Form::AnyText, entry, DescFaultKind::BadValue),
-        Form::Expression(site) => note_expression_at(least, home, site, entry)?,
-        Form::TypeOrSwitch => note_type_at(least, home, entry)?,
-        Form::Cases => note_cases_at(least, home, entry)?,
-        Form::EnumName => note_enum_at(least, home, entry)?,
-        Form::Byte => note_byte_at(least, entry),
         Form::Contents => note_contents(least, line, value),
+        Form::Cases => note_cases_at(least, home, entry)?,
+        _ => note_text_at(least, home, entry, form)?,
     }
     Ok(())
 }
