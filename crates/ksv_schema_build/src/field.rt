@@ -37,11 +37,14 @@ fn extent_of(context: Context, entries: &[Entry]) -> Made<Extent>
 fn terminated_by(entries: &[Entry], byte: u8) -> Terminator
     ensures { plain_terminator result ≡ terminated_by (map pair entries.now) byte }
 {
+    let is_unconsumed = says(entries, b"consume", b"false");
+    let is_included = says(entries, b"include", b"true");
+    let is_optional = says(entries, b"eos-error", b"false");
     Terminator {
         byte,
-        is_consumed: !says(entries, b"consume", b"false"),
-        is_included: says(entries, b"include", b"true"),
-        is_required: !says(entries, b"eos-error", b"false"),
+        is_consumed: !is_unconsumed,
+        is_included,
+        is_required: !is_optional,
     }
 }
 
