@@ -24,7 +24,7 @@ use Rattle.ksv_schema_build.specs.Stated.{are_texts, stated}
 use Rattle.ksv_desc.specs.Description.{Description}
 use Rattle.ksv_schema.specs.Outcome.{States}
 use Rattle.ksv_desc.specs.Resolved.{Each}
-use Rattle.ksv_schema.proofs.Coherent.{text_unless, not_not, front, back, not_if, no_fault, some_same, text_fits}
+use Rattle.ksv_schema.proofs.Coherent.{each_and, each_of_all, each_mapped, text_unless, not_not, front, back, not_if, no_fault, some_same, text_fits}
 use Rattle.ksv_schema.proofs.Texts.{id_is_text}
 use Rattle.ksv_schema.proofs.Whole.{AreTyped, declared_states}
 
@@ -98,18 +98,6 @@ IsOwn Instance name t = Unit {0}
 
 abbrev HasOwnName : Member → Type 0
 HasOwnName m = IsOwn m.role m.name m.value
-
-pub each_and : {A : Type 0} (P : A → Type 0) (xs ys : List A) → Each P xs → Each P ys → Each P (xs ++ ys)
-each_and P [] ys h k = k
-each_and P (x ∷ xs) ys h k = (h.0, each_and P xs ys h.1 k)
-
-each_of_all : {A B : Type 0} (P : B → Type 0) (f : A → List B) (xs : List A) → ((x : A) → Each P (f x)) → Each P (flat_map f xs)
-each_of_all P f [] h = tt
-each_of_all P f (x ∷ xs) h = each_and P (f x) (flat_map f xs) (h x) (each_of_all P f xs h)
-
-pub each_mapped : {A B : Type 0} (P : B → Type 0) (f : A → B) (xs : List A) → ((x : A) → P (f x)) → Each P (map f xs)
-each_mapped P f [] h = tt
-each_mapped P f (x ∷ xs) h = (h x, each_mapped P f xs h)
 
 attributes_own : (n k : ℕ) (ts : List Tree) → Each HasOwnName (attributes_from n k ts)
 attributes_own n k [] = tt

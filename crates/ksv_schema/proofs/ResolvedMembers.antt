@@ -23,12 +23,14 @@ use Rattle.ksv_schema_build.specs.Stated.{Context, expression_at, perhaps_expres
 use Rattle.ksv_desc.specs.Description.{MemberKind, Parameter, Attribute, ParseInstance, ValueInstance, MemberOfType, TypeOfObjects, Description, as_text}
 use Rattle.ksv_schema.specs.Outcome.{States}
 use Rattle.ksv_desc.specs.Resolved as resolved
-use Rattle.ksv_desc.specs.Resolved.{Each, IsResolvedMember, IsResolved}
+use Rattle.ksv_desc.specs.Resolved.{Each, IsResolvedKind, IsResolvedMember, IsResolved}
 use Rattle.ksv_schema.proofs.Coherent.{front, back, some_same}
 use Rattle.ksv_schema.proofs.Texts.{both}
 use Rattle.ksv_schema.proofs.Leads.{bound, mapped, get, stated_at, Fits, constants_within, member_stated, as_many, number_kept, no_shorter}
-use Rattle.ksv_schema.proofs.Resolved.{has_both}
-use Rattle.ksv_schema.proofs.ResolvedFields.{kind_leads}
+use Rattle.ksv_schema.proofs.Good.{has_both}
+use Rattle.ksv_schema.proofs.Contents.{AreEncodings}
+use Rattle.ksv_schema.proofs.Fields.{kind_good}
+use Rattle.ksv_schema.proofs.Whole.{are_encodings}
 
 -- ---- names of members
 
@@ -86,28 +88,25 @@ same_text bytes text h = go (is_utf8 bytes) h
     go true h = some_same bytes text h
     go false h = absurd cc
 
-member_leads : (d : Declared) (x : Description) → Fits d x → (i : ℕ) (m : Member) (r : MemberOfType) → IsKnown x m → has_names x.names (member_words m) ≡ true → member_faults d i m ≡ [] → member_of (record { declared = d; names = x.names; within = m.within }) m ≡ Some r → IsResolvedMember x r
+member_leads : (d : Declared) (x : Description) → AreEncodings d → Fits d x → (i : ℕ) (m : Member) (r : MemberOfType) → IsKnown x m → has_names x.names (member_words m) ≡ true → member_faults d i m ≡ [] → member_of (record { declared = d; names = x.names; within = m.within }) m ≡ Some r → IsResolvedMember x r
 unfolding member_faults mapping_faults member_of member_words
-member_leads d x fits i m r known w k s =
+member_leads d x a fits i m r known w k s =
     let text = bound (as_text m.name) _ r s in
     let name = bound (number_in x.names text.0) _ r text.2 in
     let es = bound (mapping_of m.value) _ r name.2 in
     let kind = bound (kind_of (record { declared = d; names = x.names; within = m.within }) m.role es.0) _ r es.2 in
     let below = known name.0 (ap (number_in x.names) (same_text m.name text.0 text.1) ∙ name.1) in
-    let faults : role_faults m.role (home_of d m es.0) m.line (line_of m.value) es.0 ≡ [] = ap (λ (o : Option (List Pair)). option_map_or (mapping_faults d m) o (fault m.line bad_value)) (sym es.1) ∙ mapping in
-    let words : is_in_params m.role ≡ false → has_names x.names (flat_map entry_words es.0) ≡ true = λ (p : is_in_params m.role ≡ false).
-    ap (λ (o : Option (List Pair)). has_names x.names (flat_map entry_words (unwrap_or o []))) (sym es.1) ∙ ap (λ (b : Bool). has_names x.names (cond b [] (flat_map entry_words (entries_in m.value)))) (sym p) ∙ w in
-    subst (IsResolvedMember x) (some_same _ r kind.2) (below, kind_leads (home_of d m es.0) x fits m.role m.line (line_of m.value) es.0 kind.0 faults words kind.1)
-  where
-    mapping : option_map_or (mapping_faults d m) (mapping_of m.value) (fault m.line bad_value) ≡ []
-    mapping = front (option_map_or (mapping_faults d m) (mapping_of m.value) (fault m.line bad_value)) (fault_if (is_instance m.role && not (is_id m.name)) m.line bad_value) (front (option_map_or (mapping_faults d m) (mapping_of m.value) (fault m.line bad_value) ++ fault_if (is_instance m.role && not (is_id m.name)) m.line bad_value) (member_again d i m) k)
+    let good = kind_good (home_of d m es.0) x.names m.role m.line (line_of m.value) es.0 a (ap (λ (o : Option (List Pair)). option_map_or (mapping_faults d m) o (fault m.line bad_value)) (sym es.1) ∙ front _ _ (front _ _ k)) in
+    let words = ap (λ (o : Option (List Pair)). has_names x.names (cond (is_in_params m.role) [] (flat_map entry_words (unwrap_or o [])))) (sym es.1) ∙ w in
+    let leads = subst (IsResolvedKind x) (some_same good.0 kind.0 (sym good.1 ∙ kind.1)) (good.2 x refl fits words) in
+    subst (IsResolvedMember x) (some_same _ r kind.2) (below, leads)
 
-members_lead : (d : Declared) (x : Description) → Fits d x → (n i : ℕ) (ms : List Member) (rs : List MemberOfType) → Each (IsKnown x) ms → has_names x.names (flat_map member_words ms) ≡ true → each_from (member_faults d) i ms ≡ [] → each (member_of (record { declared = d; names = x.names; within = n })) (filter (is_within n) ms) ≡ Some rs → Each (IsResolvedMember x) rs
-members_lead d x fits n i [] rs known w k s = subst (Each (IsResolvedMember x)) (some_same [] rs s) tt
-members_lead d x fits n i (m ∷ ms) rs known w k s = go (is_within n m) refl s (λ rs. members_lead d x fits n (i + 1) ms rs known.1 (has_both x.names (member_words m) (flat_map member_words ms) w).1 (back (member_faults d i m) (each_from (member_faults d) (i + 1) ms) k))
+members_lead : (d : Declared) (x : Description) → AreEncodings d → Fits d x → (n i : ℕ) (ms : List Member) (rs : List MemberOfType) → Each (IsKnown x) ms → has_names x.names (flat_map member_words ms) ≡ true → each_from (member_faults d) i ms ≡ [] → each (member_of (record { declared = d; names = x.names; within = n })) (filter (is_within n) ms) ≡ Some rs → Each (IsResolvedMember x) rs
+members_lead d x a fits n i [] rs known w k s = subst (Each (IsResolvedMember x)) (some_same [] rs s) tt
+members_lead d x a fits n i (m ∷ ms) rs known w k s = go (is_within n m) refl s (λ rs. members_lead d x a fits n (i + 1) ms rs known.1 (has_both x.names (member_words m) (flat_map member_words ms) w).1 (back (member_faults d i m) (each_from (member_faults d) (i + 1) ms) k))
   where
     here : m.within ≡ n → (r : MemberOfType) → member_of (record { declared = d; names = x.names; within = n }) m ≡ Some r → IsResolvedMember x r
-    here e r s = member_leads d x fits i m r known.0 (has_both x.names (member_words m) (flat_map member_words ms) w).0 (front (member_faults d i m) (each_from (member_faults d) (i + 1) ms) k) (ap (λ (n : ℕ). member_of (record { declared = d; names = x.names; within = n }) m) e ∙ s)
+    here e r s = member_leads d x a fits i m r known.0 (has_both x.names (member_words m) (flat_map member_words ms) w).0 (front (member_faults d i m) (each_from (member_faults d) (i + 1) ms) k) (ap (λ (n : ℕ). member_of (record { declared = d; names = x.names; within = n }) m) e ∙ s)
 
     go : (b : Bool) → is_within n m ≡ b → each (member_of (record { declared = d; names = x.names; within = n })) (cond b (m ∷ filter (is_within n) ms) (filter (is_within n) ms)) ≡ Some rs → ((rs : List MemberOfType) → each (member_of (record { declared = d; names = x.names; within = n })) (filter (is_within n) ms) ≡ Some rs → Each (IsResolvedMember x) rs) → Each (IsResolvedMember x) rs
     go true e s later =
@@ -118,17 +117,17 @@ members_lead d x fits n i (m ∷ ms) rs known w k s = go (is_within n m) refl s 
 
 -- ---- types
 
-types_lead : (d : Declared) (x : Description) → Fits d x → Each (IsKnown x) d.members → has_names x.names (flat_map member_words d.members) ≡ true → each_from (member_faults d) 0 d.members ≡ [] → (n : ℕ) (ss : List Scope) (ts : List TypeOfObjects) → each_numbered (type_of d x.names) n ss ≡ Some ts → Each (λ t. Each (IsResolvedMember x) t.members) ts
+types_lead : (d : Declared) (x : Description) → AreEncodings d → Fits d x → Each (IsKnown x) d.members → has_names x.names (flat_map member_words d.members) ≡ true → each_from (member_faults d) 0 d.members ≡ [] → (n : ℕ) (ss : List Scope) (ts : List TypeOfObjects) → each_numbered (type_of d x.names) n ss ≡ Some ts → Each (λ t. Each (IsResolvedMember x) t.members) ts
 unfolding type_of members_within
-types_lead d x fits known w k n [] ts s = subst (Each (λ t. Each (IsResolvedMember x) t.members)) (some_same [] ts s) tt
-types_lead d x fits known w k n (c ∷ cs) ts s =
+types_lead d x a fits known w k n [] ts s = subst (Each (λ t. Each (IsResolvedMember x) t.members)) (some_same [] ts s) tt
+types_lead d x a fits known w k n (c ∷ cs) ts s =
     let t = bound (type_of d x.names n c) _ ts s in
     let rest = bound (each_numbered (type_of d x.names) (n + 1) cs) _ ts t.2 in
     let id = bound (as_text c.id) _ t.0 t.1 in
     let ms = bound (each (member_of (record { declared = d; names = x.names; within = n })) (members_within d.members n)) _ t.0 id.2 in
-    let here = members_lead d x fits n 0 d.members ms.0 known w k ms.1 in
+    let here = members_lead d x a fits n 0 d.members ms.0 known w k ms.1 in
     subst (Each (λ t. Each (IsResolvedMember x) t.members)) (some_same (t.0 ∷ rest.0) ts rest.2)
-    (subst (λ (t : TypeOfObjects). Each (IsResolvedMember x) t.members) (some_same _ t.0 ms.2) here, types_lead d x fits known w k (n + 1) cs rest.0 rest.1)
+    (subst (λ (t : TypeOfObjects). Each (IsResolvedMember x) t.members) (some_same _ t.0 ms.2) here, types_lead d x a fits known w k (n + 1) cs rest.0 rest.1)
 
 -- ---- parameters
 
@@ -192,9 +191,9 @@ all_distinct d = (is_table (member_names d) (flat_map member_words d.members)).s
 
 -- ---- a description
 
-declared_resolved : (d : Declared) (x : Description) → Each (λ c. c.within < length d.enums) d.constants → each_from (member_faults d) 0 d.members ≡ [] → x.names ≡ names_of d → x.known ≡ length (member_names d) → each_numbered (type_of d x.names) 0 d.types ≡ Some x.types → each_numbered (enum_of d) 0 d.enums ≡ Some x.enums → IsResolved x
+declared_resolved : (d : Declared) (x : Description) → AreEncodings d → Each (λ c. c.within < length d.enums) d.constants → each_from (member_faults d) 0 d.members ≡ [] → x.names ≡ names_of d → x.known ≡ length (member_names d) → each_numbered (type_of d x.names) 0 d.types ≡ Some x.types → each_numbered (enum_of d) 0 d.enums ≡ Some x.enums → IsResolved x
 unfolding names_of
-declared_resolved d x within k n l t e =
+declared_resolved d x a within k n l t e =
     let fits : Fits d x = record {
       types = as_many (type_of d x.names) 0 d.types x.types t;
       enums = as_many (enum_of d) 0 d.enums x.enums e;
@@ -208,22 +207,22 @@ declared_resolved d x within k n l t e =
     record {
       distinct = subst AreDistinct (sym n) (all_distinct d);
       known = omega (arith, l, longer, same);
-      members = types_lead d x fits (known_each d x n l d.members (all_known d)) words k 0 d.types x.types t;
+      members = types_lead d x a fits (known_each d x n l d.members (all_known d)) words k 0 d.types x.types t;
     }
 
-described_resolved : (d : Declared) (x : Description) → Each (λ c. c.within < length d.enums) d.constants → each_from (member_faults d) 0 d.members ≡ [] → described d (names_of d) (length (member_names d)) ≡ Some x → IsResolved x
+described_resolved : (d : Declared) (x : Description) → AreEncodings d → Each (λ c. c.within < length d.enums) d.constants → each_from (member_faults d) 0 d.members ≡ [] → described d (names_of d) (length (member_names d)) ≡ Some x → IsResolved x
 unfolding described
-described_resolved d x within k s =
+described_resolved d x a within k s =
     let types = bound (each_numbered (type_of d (names_of d)) 0 d.types) _ x s in
     let enums = bound (each_numbered (enum_of d) 0 d.enums) _ x types.2 in
-    subst IsResolved (some_same _ x enums.2) (declared_resolved d (record { types = types.0; enums = enums.0; names = names_of d; known = length (member_names d) }) within k refl refl types.1 enums.1)
+    subst IsResolved (some_same _ x enums.2) (declared_resolved d (record { types = types.0; enums = enums.0; names = names_of d; known = length (member_names d) }) a within k refl refl types.1 enums.1)
 
 stated_resolved : (d : Declared) (x : Description) → Each (λ c. c.within < length d.enums) d.constants → faults_of d ≡ [] → stated_by d ≡ Some x → IsResolved x
 unfolding stated_by faults_of
 stated_resolved d x within k s = go (are_texts d.members) (back _ _ (front _ _ (front _ _ k))) s
   where
     go : (b : Bool) → each_from (member_faults d) 0 d.members ≡ [] → cond b (described d (names_of d) (length (member_names d))) None ≡ Some x → IsResolved x
-    go true members s = described_resolved d x within members s
+    go true members s = described_resolved d x (are_encodings d (back _ _ (front _ _ (front _ _ (front _ _ k))))) within members s
     go false members s = absurd cc
 
 pub tree_resolved : (t : Tree) (x : Description) → States t x → IsResolved x

@@ -35,7 +35,7 @@ use Rattle.ksv_schema_build.specs.Stated.{are_texts, described}
 use Rattle.ksv_desc.specs.Description.{as_text}
 use Rattle.ksv_schema.proofs.Texts.{both, id_is_text, as_text_is}
 use Rattle.ksv_schema.proofs.Contents.{AreEncodings}
-use Rattle.ksv_schema.proofs.Fields.{is_attribute, is_parse_instance, is_value_instance}
+use Rattle.ksv_schema.proofs.Fields.{kind_good}
 use Rattle.ksv_expr_syntax.specs.Reading.{◌>>=◌}
 use Rattle.std.specs.Prelude.{length, is_none}
 use Rattle.ksv_schema_scope.specs.Enums.{Enumeration, id_of, number_written}
@@ -129,7 +129,7 @@ type_encoding h s text k t = go (mapping_of s.value) (front _ _ k) t
     go None k t = absurd cc
     go (Some es) k t = meta_encoding h es text (back _ _ (front _ _ k)) t
 
-are_encodings : (d : Declared) → each_from (numbered_type_faults d) 0 d.types ≡ [] → AreEncodings d
+pub are_encodings : (d : Declared) → each_from (numbered_type_faults d) 0 d.types ≡ [] → AreEncodings d
 unfolding encoding_of encoding_in keys_of_type
 are_encodings d k n text e =
     let r = outwards_found (encoding_in d.types) (from d.types n) text e in
@@ -140,18 +140,6 @@ are_encodings d k n text e =
     go m (Some s) e t = let f = from_at (numbered_type_faults d) 0 d.types m s k e in type_encoding (home_in d f.0) s text f.1 t
 
 -- ---- members
-
-kind_is : (h : Home) (names : List (List ℕ)) (role : Role) (name_line line : ℕ) (es : List Pair) → AreEncodings h.declared → role_faults role h name_line line es ≡ [] → Is (kind_of (context h names) role es)
-unfolding role_faults kind_of attribute_faults instance_faults
-kind_is h names roles.Parameter name_line line es a k = (Parameter, refl)
-kind_is h names roles.Attribute name_line line es a k =
-    is_map Attribute _ (is_attribute h names line es a (front (keys_faults (value_faults h) attribute_keys es) (field_rules h line es) k) (back (keys_faults (value_faults h) attribute_keys es) (field_rules h line es) k))
-kind_is h names roles.Instance name_line line es a k = go (has (codes "value") es) (has (codes "pos") es) refl refl k
-  where
-    go : (v p : Bool) → has (codes "value") es ≡ v → has (codes "pos") es ≡ p → cond v (keys_faults (value_faults h) value_keys es ++ value_rules line es) (cond p (keys_faults (value_faults h) parse_instance_keys es ++ field_rules h line es) (keys_faults (value_faults h) parse_instance_keys es ++ fault name_line left_out)) ≡ [] → Is (cond v (value_instance_of (context h names) es) (parse_instance_of (context h names) es))
-    go true p x y k = is_value_instance h names es x (front (keys_faults (value_faults h) value_keys es) (value_rules line es) k)
-    go false true x y k = is_parse_instance h names line es a y (front (keys_faults (value_faults h) parse_instance_keys es) (field_rules h line es) k) (back (keys_faults (value_faults h) parse_instance_keys es) (field_rules h line es) k)
-    go false false x y k = absurd (no_fault name_line left_out (back (keys_faults (value_faults h) parse_instance_keys es) (fault name_line left_out) k))
 
 -- where the members of a type stand
 abbrev within : Declared → ℕ → Context
@@ -167,7 +155,7 @@ member_is d i m a u n k = go (mapping_of m.value) refl mapping
     go : (o : Option (List Pair)) → mapping_of m.value ≡ o → option_map_or (mapping_faults d m) o (fault m.line bad_value) ≡ [] → Is (member_of (within d m.within) m)
     go None e k = absurd (no_fault m.line bad_value k)
     go (Some es) e k =
-        let r = kind_is (home_of d m es) (names_of d) m.role m.line (line_of m.value) es a k in
+        let r = kind_good (home_of d m es) (names_of d) m.role m.line (line_of m.value) es a k in
         is_bind _ _ m.name (as_text_is m.name u) (is_bind _ _ n.0 n.1 (is_bind _ _ es e (is_bind _ _ r.0 r.1 (_, refl))))
 
 same_number : (n k : ℕ) → (n == k) ≡ true → n ≡ k
