@@ -20,8 +20,8 @@ use Rattle.ksv_schema_keys.specs.Keys.{Key, form_in, is_ignored, attribute_keys,
 use Rattle.ksv_schema_keys.specs.Values.{TypeText, type_text, is_str, is_strz, type_at, own_type, is_a, cases_of, contents_of, is_to_end}
 use Rattle.ksv_schema_faults.specs.Rules.{Home, type_text_faults, case_faults, form_faults, value_faults, keys_faults, missing_if, switch_faults, has_encoding, Has, Says, Rule, Needs, claimed, rule_faults, rules_faults, field_pairs, case_against, field_needs, field_against, field_left_out, field_rules, value_rules, attribute_faults, instance_faults, role_faults}
 use Rattle.ksv_schema_build.specs.Stated.{naming_keys, argument_words, perhaps_expression, type_words, form_words, key_words, entry_words, expression_at, content_at, content_of, case_of, switch_of, typed, choice_of, extent_of, terminator_of, repeat_of, field_of, parse_instance_of, value_instance_of, kind_of, each}
-use Rattle.ksv_desc.specs.Description.{Description, Choice, Always, Switch, Bytes, Fixed, Sized, SizeEos, ByItself, Once, Eos, Expr, Until, Parameter, Attribute}
-use Rattle.ksv_desc.specs.Resolved.{IfAny, IsResolvedTree, IsResolvedContent, IsResolvedChoice, IsResolvedExtent, IsResolvedRepeat, IsResolvedField, IsResolvedKind}
+use Rattle.ksv_desc.specs.Description.{Description, Choice, Always, Switch, Bytes, Fixed, Sized, SizeEos, ByItself, Once, Eos, Expr, Until, MemberKind, Parameter, Attribute, ParseInstance, ValueInstance}
+use Rattle.ksv_desc.specs.Resolved.{is_parameter, IfAny, IsResolvedTree, IsResolvedContent, IsResolvedChoice, IsResolvedExtent, IsResolvedRepeat, IsResolvedField, IsResolvedKind}
 use Rattle.ksv_schema.proofs.Coherent.{Is, front, back, not_if, no_fault, some_same, is_map, is_bind, at_key, has_text, context, by_value, by_form, some_of, not_missing}
 use Rattle.ksv_schema.proofs.Good.{InAll, Good, good_map, has_both, words_at, form_of_key, expression_at_good, perhaps_good}
 use Rattle.ksv_schema.proofs.Contents.{contents_is, GoodEnum, enum_good, AreEncodings, is_encoding, content_good, cases_good}
@@ -229,32 +229,38 @@ field_good h names table line es a f k r =
     let b = is_bind _ _ condition.0 condition.1 (is_bind _ _ repeat.0 repeat.1 (is_bind _ _ choice.0 choice.1 (is_bind _ _ extent.0 extent.1 (_, refl)))) in
     (b.0, b.1, λ x s fits w. record { condition = condition.2 x s fits w; repeat = repeat.2 x s fits w; choice = choice.2 x s fits w; extent = extent.2 x s fits w })
 
-parse_instance_good : (h : Home) (names : List (List ℕ)) (line : ℕ) (es : List Pair) → AreEncodings h.declared → has (codes "pos") es ≡ true → IsRead h parse_instance_keys es → field_rules h line es ≡ [] → Good h.declared names (all_words es) IsResolvedKind (parse_instance_of (context h names) es)
+-- what a member is, which is a parameter or isn't
+abbrev GoodKind : Home → List (List ℕ) → List (List ℕ) → Bool → Option MemberKind → Type 0
+GoodKind h names words given o = (g : Good h.declared names words IsResolvedKind o) × ((name : ℕ) → is_parameter (record { name = name; kind = g.0 }) ≡ given)
+
+parse_instance_good : (h : Home) (names : List (List ℕ)) (line : ℕ) (es : List Pair) → AreEncodings h.declared → has (codes "pos") es ≡ true → IsRead h parse_instance_keys es → field_rules h line es ≡ [] → GoodKind h names (all_words es) false (parse_instance_of (context h names) es)
 unfolding parse_instance_of is_ignored form_in
 parse_instance_good h names line es a p k r =
     let place = read_good h names parse_instance_keys sites.Place sites.Place (codes "pos") es k refl refl refl (some_of (entry_at (codes "pos") es) p) in
     let stream = optional_good h names parse_instance_keys sites.Stream sites.Stream (codes "io") es k refl refl refl in
     let field = field_good h names parse_instance_keys line es a places_have k r in
-    let b = is_bind _ _ place.0 place.1 (is_bind _ _ stream.0 stream.1 (is_bind _ _ field.0 field.1 (_, refl))) in
-    (b.0, b.1, λ x s fits w. (place.2 x s fits w, stream.2 x s fits w, field.2 x s fits w))
+    let b = is_bind _ _ place.0 place.1 (is_bind _ _ stream.0 stream.1 (is_bind _ _ field.0 field.1 (ParseInstance place.0 stream.0 field.0, refl))) in
+    ((b.0, b.1, λ x s fits w. (place.2 x s fits w, stream.2 x s fits w, field.2 x s fits w)), λ name. refl)
 
-value_instance_good : (h : Home) (names : List (List ℕ)) (es : List Pair) → has (codes "value") es ≡ true → IsRead h value_keys es → Good h.declared names (all_words es) IsResolvedKind (value_instance_of (context h names) es)
+value_instance_good : (h : Home) (names : List (List ℕ)) (es : List Pair) → has (codes "value") es ≡ true → IsRead h value_keys es → GoodKind h names (all_words es) false (value_instance_of (context h names) es)
 unfolding value_instance_of is_ignored form_in
 value_instance_good h names es v k =
     let condition = optional_good h names value_keys sites.Condition sites.Condition (codes "if") es k refl refl refl in
     let value = read_good h names value_keys sites.Value sites.Value (codes "value") es k refl refl refl (some_of (entry_at (codes "value") es) v) in
     let enum = enum_good h names value_keys es refl k in
-    let b = is_bind _ _ condition.0 condition.1 (is_bind _ _ value.0 value.1 (is_bind _ _ enum.0 enum.1 (_, refl))) in
-    (b.0, b.1, λ x s fits w. (condition.2 x s fits w, value.2 x s fits w, enum.2 x s fits refl))
+    let b = is_bind _ _ condition.0 condition.1 (is_bind _ _ value.0 value.1 (is_bind _ _ enum.0 enum.1 (ValueInstance condition.0 value.0 enum.0, refl))) in
+    ((b.0, b.1, λ x s fits w. (condition.2 x s fits w, value.2 x s fits w, enum.2 x s fits refl)), λ name. refl)
 
 -- what a member of a role is; its words are those of its keys, unless it is a parameter
-pub kind_good : (h : Home) (names : List (List ℕ)) (role : Role) (name_line line : ℕ) (es : List Pair) → AreEncodings h.declared → role_faults role h name_line line es ≡ [] → Good h.declared names (cond (is_in_params role) [] (flat_map entry_words es)) IsResolvedKind (kind_of (context h names) role es)
+pub kind_good : (h : Home) (names : List (List ℕ)) (role : Role) (name_line line : ℕ) (es : List Pair) → AreEncodings h.declared → role_faults role h name_line line es ≡ [] → GoodKind h names (cond (is_in_params role) [] (flat_map entry_words es)) (is_in_params role) (kind_of (context h names) role es)
 unfolding role_faults kind_of attribute_faults instance_faults
-kind_good h names roles.Parameter name_line line es a k = (Parameter, refl, λ x s fits w. tt)
-kind_good h names roles.Attribute name_line line es a k = good_map h.declared names (all_words es) IsResolvedField IsResolvedKind Attribute _ (λ x y r. r) (field_good h names attribute_keys line es a attributes_have (front _ _ k) (back _ _ k))
+kind_good h names roles.Parameter name_line line es a k = ((Parameter, refl, λ x s fits w. tt), λ name. refl)
+kind_good h names roles.Attribute name_line line es a k =
+    let field = field_good h names attribute_keys line es a attributes_have (front _ _ k) (back _ _ k) in
+    (good_map h.declared names (all_words es) IsResolvedField IsResolvedKind Attribute _ (λ x y r. r) field, λ name. refl)
 kind_good h names roles.Instance name_line line es a k = go (has (codes "value") es) (has (codes "pos") es) refl refl k
   where
-    go : (v p : Bool) → has (codes "value") es ≡ v → has (codes "pos") es ≡ p → cond v (keys_faults (value_faults h) value_keys es ++ value_rules line es) (cond p (keys_faults (value_faults h) parse_instance_keys es ++ field_rules h line es) (keys_faults (value_faults h) parse_instance_keys es ++ fault name_line left_out)) ≡ [] → Good h.declared names (all_words es) IsResolvedKind (cond v (value_instance_of (context h names) es) (parse_instance_of (context h names) es))
+    go : (v p : Bool) → has (codes "value") es ≡ v → has (codes "pos") es ≡ p → cond v (keys_faults (value_faults h) value_keys es ++ value_rules line es) (cond p (keys_faults (value_faults h) parse_instance_keys es ++ field_rules h line es) (keys_faults (value_faults h) parse_instance_keys es ++ fault name_line left_out)) ≡ [] → GoodKind h names (all_words es) false (cond v (value_instance_of (context h names) es) (parse_instance_of (context h names) es))
     go true p x y k = value_instance_good h names es x (front _ _ k)
     go false true x y k = parse_instance_good h names line es a y (front _ _ k) (back _ _ k)
     go false false x y k = absurd (no_fault name_line left_out (back _ _ k))

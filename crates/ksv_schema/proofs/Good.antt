@@ -36,7 +36,7 @@ InAll d names words P = (x : Description) → x.names ≡ names → Fits d x →
 abbrev pub Good : {A : Type 0} → Declared → List (List ℕ) → List (List ℕ) → (Description → A → Type 0) → Option A → Type 0
 Good {A} d names words P o = (y : A) × (o ≡ Some y) × InAll d names words (λ x. P x y)
 
-pub good_map : {A B : Type 0} (d : Declared) (names words : List (List ℕ)) (P : Description → A → Type 0) (Q : Description → B → Type 0) (f : A → B) (o : Option A) → ((x : Description) (y : A) → P x y → Q x (f y)) → Good d names words P o → Good d names words Q (option_map f o)
+abbrev pub good_map : {A B : Type 0} (d : Declared) (names words : List (List ℕ)) (P : Description → A → Type 0) (Q : Description → B → Type 0) (f : A → B) (o : Option A) → ((x : Description) (y : A) → P x y → Q x (f y)) → Good d names words P o → Good d names words Q (option_map f o)
 good_map d names words P Q f o step g = (f g.0, ap (option_map f) g.1, λ x e fits w. step x g.0 (g.2 x e fits w))
 
 -- ---- words that are in a table

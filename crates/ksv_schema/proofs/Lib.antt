@@ -4,8 +4,8 @@ pub mod Good
 pub mod Contents
 pub mod Fields
 pub mod Texts
-pub mod Whole
-pub mod OwnNames
 pub mod Leads
-pub mod ResolvedMembers
+pub mod Whole
+pub mod Members
+pub mod OwnNames
 pub mod Theorem

@@ -1,6 +1,6 @@
 -- Without faults the names of members and the ids of types are texts.
-use Rattle.std.proofs.Common.{◌≡◌, ℕ, zero, suc, ◌+◌, ◌/◌, ◌%◌, ◌<◌, Bool, true, false, cond, List, [], ◌∷◌, ◌++◌, sym, ap, ◌∙◌, refl, Option, Some, None, arith, rules}
-use Rattle.std.specs.Prelude.{codes, not, ◌==◌, ◌&&◌, option_and_then, map, flat_map, unwrap_or, decimal, slice_get, All}
+use Rattle.std.proofs.Common.{◌≡◌, ℕ, zero, suc, subst, ◌+◌, ◌/◌, ◌%◌, ◌<◌, Bool, true, false, cond, List, [], ◌∷◌, sym, ap, ◌∙◌, refl, Option, Some, None, arith, rules}
+use Rattle.std.specs.Prelude.{codes, not, ◌==◌, ◌&&◌, option_and_then, map, unwrap_or, decimal, slice_get, All}
 use Rattle.std.specs.List.{list_all}
 use Rattle.std.specs.Option.{option_map_or}
 use Rattle.std.specs.Str.{bytes_eq, is_utf8, IsAscii}
@@ -8,25 +8,28 @@ use Rattle.std.specs.Fmt.{digit_glyph, digits_onto, digits}
 use Rattle.std.proofs.lemmas.Bool.Decides.{nat_tests}
 use Rattle.std.proofs.lemmas.Str.{is_utf8-from_IsUtf8, IsUtf8-from_ascii, IsAscii-append}
 use Rattle.std.proofs.lemmas.Str.Ascii.{IsAscii-nil, IsAscii-from_all}
-use Rattle.ksv_yaml_tree.specs.Tree.{Tree, Pair, line_of, text_of, mapping_of, list_of, entry_at}
+use Rattle.ksv_yaml_tree.specs.Tree.{Tree, Pair, line_of, mapping_of, list_of, entry_at}
 use Rattle.ksv_schema_scope.specs.declared.member.Role.{Role}
 use Rattle.ksv_schema_scope.specs.declared.member.Role.TheVariants.{Parameter, Attribute, Instance}
 use Rattle.ksv_yaml_tree.specs.Keys.{entries_in, has, text_at, entries_at}
 use Rattle.ksv_schema_scope.specs.Types.{Scope, keys_of, own_id, root_scope, types_within, types_of}
 use Rattle.ksv_schema_scope.specs.Members.{Member, parameter, unnamed, attributes_from, instance, members_at_key, members_of_type, members_from, members_of}
+use Rattle.ksv_schema_scope.specs.Enums.{enums_of}
 use Rattle.ksv_schema_scope.specs.Declarations.{Declared, declared_in}
-use Rattle.ksv_schema_faults.specs.Faults.{Fault, fault, fault_if, bad_value}
+use Rattle.ksv_schema_faults.specs.Faults.{Fault, fault, bad_value}
 use Rattle.ksv_schema_keys.specs.declared.keys.Form.TheVariants as forms
 use Rattle.ksv_schema_keys.specs.declared.keys.Form.{Form}
-use Rattle.ksv_schema_keys.specs.Keys.{Key, form_in, is_ignored, is_id, type_keys, meta_keys, parameter_keys, attribute_keys, parse_instance_keys, value_keys}
-use Rattle.ksv_schema_faults.specs.Rules.{Home, home_in, home_of, form_faults, value_faults, keys_faults, missing_if, parameter_faults, attribute_faults, role_faults, mapping_faults, member_faults, member_again, is_instance, meta_key_faults, meta_faults, type_key_faults, type_faults, numbered_type_faults, each_from, faults_of, faults}
+use Rattle.ksv_schema_keys.specs.Keys.{Key, form_in, is_ignored, is_id, meta_keys, parameter_keys, attribute_keys}
+use Rattle.ksv_schema_faults.specs.Rules.{Home, home_in, home_of, form_faults, value_faults, keys_faults, parameter_faults, attribute_faults, role_faults, mapping_faults, member_faults, is_instance, meta_key_faults, meta_faults, type_key_faults, type_faults, numbered_type_faults, each_from, faults_of, faults}
 use Rattle.ksv_schema_build.specs.Stated.{are_texts, stated}
 use Rattle.ksv_desc.specs.Description.{Description}
 use Rattle.ksv_schema.specs.Outcome.{States}
-use Rattle.ksv_desc.specs.Resolved.{Each}
+use Rattle.ksv_desc.specs.Resolved.{Each, IsResolved}
 use Rattle.ksv_schema.proofs.Coherent.{each_and, each_of_all, each_mapped, text_unless, not_not, front, back, not_if, no_fault, some_same, text_fits}
 use Rattle.ksv_schema.proofs.Texts.{id_is_text}
-use Rattle.ksv_schema.proofs.Whole.{AreTyped, declared_states}
+use Rattle.ksv_schema.proofs.Leads.{constants_within}
+use Rattle.ksv_schema.proofs.Whole.{AreTyped}
+use Rattle.ksv_schema.proofs.Members.{declared_good}
 
 -- ---- `_unnamedK`
 
@@ -196,10 +199,17 @@ ids_are_texts t k s (suc i) e = later_texts (declared_in t) 0 (types_within (0 �
 
 -- ---- trees
 
-pub tree_states : (t : Tree) → faults t ≡ [] → (d : Description) × States t d
+tree_good : (t : Tree) → faults t ≡ [] → (d : Description) × (stated t ≡ Some d) × IsResolved d
 unfolding faults faults_of stated
-tree_states t k =
+tree_good t k =
     let k2 = front _ _ (front _ _ k) in
-    let u = names_are_texts (declared_in t) (members_own (types_of t)) (back _ _ k2) in
-    let r = declared_states (declared_in t) u (ids_are_texts t (back _ _ (front _ _ k2))) k in
-    (r.0, record { faultless = k; is = r.1 })
+    declared_good (declared_in t) (names_are_texts (declared_in t) (members_own (types_of t)) (back _ _ k2)) (ids_are_texts t (back _ _ (front _ _ k2))) (constants_within (enums_of (types_of t))) k
+
+pub tree_states : (t : Tree) → faults t ≡ [] → (d : Description) × States t d
+tree_states t k = let r = tree_good t k in (r.0, record { faultless = k; is = r.1 })
+
+pub states_one : (t : Tree) (d e : Description) → States t d → States t e → d ≡ e
+states_one t d e x y = some_same d e (sym x.is ∙ y.is)
+
+pub tree_resolved : (t : Tree) (d : Description) → States t d → IsResolved d
+tree_resolved t d s = let r = tree_good t s.faultless in subst IsResolved (some_same r.0 d (sym r.1 ∙ s.is)) r.2

@@ -1,97 +1,29 @@
--- A tree without faults states one description.
-use Rattle.std.proofs.Common.{◌≡◌, ℕ, zero, suc, ◌+◌, Bool, true, false, cond, List, [], ◌∷◌, ◌++◌, sym, ap, subst, ◌∙◌, refl, Option, Some, None}
-use Rattle.std.specs.Prelude.{codes, not, ◌==◌, ◌&&◌, ◌||◌, is_some, option_and_then, map, flat_map, filter, unwrap_or, slice_get}
-use Rattle.std.specs.List.{list_any, position_from}
+-- Without faults each encoding in force is one that there is, and each enum is stated.
+use Rattle.std.proofs.Common.{◌≡◌, ℕ, zero, suc, ◌+◌, Bool, true, false, cond, List, [], ◌∷◌, sym, ap, ◌∙◌, refl, Option, Some, None}
+use Rattle.std.specs.Prelude.{codes, not, ◌==◌, is_some, option_and_then, flat_map, filter, unwrap_or, slice_get}
 use Rattle.std.specs.Option.{option_map_or}
-use Rattle.std.specs.Str.{bytes_eq}
-use Rattle.std.proofs.lemmas.Slice.Eq.{bytes_eq-Decides}
-use Rattle.std.proofs.lemmas.Bool.Decides.{Decides-eqb}
-use Rattle.std.proofs.lemmas.List.Folds.{list_any-append}
+use Rattle.std.specs.Str.{is_utf8}
 use Rattle.ksv_yaml_tree.specs.Tree.{Tree, Text, Seq, Map, Pair, pairs, line_of, text_of, mapping_of, entry_at}
-use Rattle.ksv_schema_scope.specs.declared.member.Role.{Role}
 use Rattle.ksv_schema_scope.specs.declared.member.Role.TheVariants as roles
 use Rattle.ksv_yaml_tree.specs.declared.numeral.Numeral.{Numeral}
 use Rattle.ksv_yaml_tree.specs.declared.numeral.Numeral.TheVariants.{Whole, LeadingZero, NoNumeral}
 use Rattle.ksv_yaml_tree.specs.Numerals.{signed_number}
 use Rattle.ksv_yaml_tree.specs.Keys.{has, text_at, entries_at}
 use Rattle.ksv_schema_scope.specs.Types.{Scope, keys_of, keys_of_type, outwards, from, encoding_in, encoding_of}
-use Rattle.ksv_schema_scope.specs.Members.{Member, is_within, members_within}
 use Rattle.ksv_schema_scope.specs.Enums.{Constant, whole_of}
 use Rattle.ksv_schema_scope.specs.Declarations.{Declared}
-use Rattle.ksv_desc.specs.Names.{distinct, distinct_behind, number_in}
 use Rattle.ksv_schema_faults.specs.Faults.{Fault, fault, fault_if, bad_value, left_out}
 use Rattle.ksv_schema_keys.specs.declared.keys.Form.TheVariants as forms
-use Rattle.ksv_schema_keys.specs.declared.keys.Form.{Form}
-use Rattle.ksv_schema_keys.specs.Keys.{Key, form_in, is_ignored, type_keys, attribute_keys, parse_instance_keys, value_keys, meta_keys, constant_keys, is_id}
+use Rattle.ksv_schema_keys.specs.Keys.{form_in, is_ignored, meta_keys, constant_keys, is_id}
 use Rattle.ksv_schema_keys.specs.Values.{encoding_named}
-use Rattle.ksv_schema_faults.specs.Rules.{Home, home_in, home_of, form_faults, value_faults, keys_faults, missing_if, attribute_faults, instance_faults, role_faults, mapping_faults, member_faults, member_again, is_instance, enumeration_faults, numeral_faults, constant_value_faults, constant_faults, meta_key_faults, meta_faults, type_key_faults, type_faults, numbered_type_faults, each_from, limit_faults, faults_of, faults, field_rules, value_rules}
-use Rattle.ksv_schema_build.specs.Stated.{Context, kind_of, member_of, type_of, numbered_of, enum_of, each, each_numbered, member_names, member_words, names_of, stated_by, value_instance_of, parse_instance_of}
-use Rattle.ksv_desc.specs.Description.{Description, Parameter, Attribute}
-use Rattle.ksv_schema.specs.Outcome.{States}
-use Rattle.ksv_schema.proofs.Coherent.{Is, front, back, not_if, not_not, no_fault, some_same, is_map, is_bind, at_key, has_text, text_fits, some_of, context, not_missing}
-use Rattle.std.specs.List.{list_all}
-use Rattle.std.specs.Str.{is_utf8}
-use Rattle.ksv_schema_build.specs.Stated.{are_texts, described}
+use Rattle.ksv_schema_faults.specs.Rules.{Home, home_in, form_faults, enumeration_faults, numeral_faults, constant_value_faults, constant_faults, meta_key_faults, meta_faults, type_key_faults, type_faults, numbered_type_faults, each_from, faults}
+use Rattle.ksv_schema_build.specs.Stated.{numbered_of, enum_of, each, each_numbered}
+use Rattle.ksv_schema.proofs.Coherent.{Is, front, back, not_if, not_not, no_fault, some_same, is_bind, at_key, has_text, text_fits, some_of, not_missing}
 use Rattle.ksv_desc.specs.Description.{as_text}
-use Rattle.ksv_schema.proofs.Texts.{both, id_is_text, as_text_is}
+use Rattle.ksv_schema.proofs.Texts.{id_is_text, as_text_is}
 use Rattle.ksv_schema.proofs.Contents.{AreEncodings}
-use Rattle.ksv_schema.proofs.Fields.{kind_good}
 use Rattle.ksv_expr_syntax.specs.Reading.{◌>>=◌}
-use Rattle.std.specs.Prelude.{length, is_none}
 use Rattle.ksv_schema_scope.specs.Enums.{Enumeration, id_of, number_written}
-
--- ---- names
-
-equal_itself : (name : List ℕ) → bytes_eq name name ≡ true
-equal_itself name = (bytes_eq-Decides name name).1 refl
-
-or_true : (b : Bool) → (b || true) ≡ true
-or_true true = refl
-or_true false = refl
-
-any_left : (name : List ℕ) (xs ys : List (List ℕ)) → list_any (bytes_eq name) xs ≡ true → list_any (bytes_eq name) (xs ++ ys) ≡ true
-any_left name xs ys h = list_any-append (bytes_eq name) xs ys ∙ ap (λ (b : Bool). b || list_any (bytes_eq name) ys) h
-
-any_right : (name : List ℕ) (xs ys : List (List ℕ)) → list_any (bytes_eq name) ys ≡ true → list_any (bytes_eq name) (xs ++ ys) ≡ true
-any_right name xs ys h = list_any-append (bytes_eq name) xs ys ∙ ap (λ (b : Bool). list_any (bytes_eq name) xs || b) h ∙ or_true _
-
--- what stood before stays
-any_kept : (name : List ℕ) (before names : List (List ℕ)) → list_any (bytes_eq name) before ≡ true → list_any (bytes_eq name) (distinct_behind before names) ≡ true
-any_kept name before [] h = h
-any_kept name before (n ∷ ns) h = any_kept name (cond (list_any (bytes_eq n) before) before (before ++ n ∷ [])) ns (go (list_any (bytes_eq n) before))
-  where
-    go : (b : Bool) → list_any (bytes_eq name) (cond b before (before ++ n ∷ [])) ≡ true
-    go true = h
-    go false = any_left name before (n ∷ []) h
-
--- each name is there
-any_new : (name : List ℕ) (before names : List (List ℕ)) → list_any (bytes_eq name) names ≡ true → list_any (bytes_eq name) (distinct_behind before names) ≡ true
-any_new name before [] h = absurd cc
-any_new name before (n ∷ ns) h = by_head (bytes_eq name n) refl (any_new name (cond (list_any (bytes_eq n) before) before (before ++ n ∷ [])) ns) h
-  where
-    here : (b : Bool) → list_any (bytes_eq n) before ≡ b → name ≡ n → list_any (bytes_eq name) (cond b before (before ++ n ∷ [])) ≡ true
-    here true e s = ap (λ n. list_any (bytes_eq n) before) s ∙ e
-    here false e s = any_right name before (n ∷ []) (ap (λ (b : Bool). b || false) ((bytes_eq-Decides name n).1 s))
-
-    by_head : (b : Bool) → bytes_eq name n ≡ b → (list_any (bytes_eq name) ns ≡ true → list_any (bytes_eq name) (distinct_behind (cond (list_any (bytes_eq n) before) before (before ++ n ∷ [])) ns) ≡ true) → (b || list_any (bytes_eq name) ns) ≡ true → list_any (bytes_eq name) (distinct_behind (cond (list_any (bytes_eq n) before) before (before ++ n ∷ [])) ns) ≡ true
-    by_head true e f h = any_kept name (cond (list_any (bytes_eq n) before) before (before ++ n ∷ [])) ns (here (list_any (bytes_eq n) before) refl ((bytes_eq-Decides name n).0 e))
-    by_head false e f h = f h
-
-any_placed : (name : List ℕ) (i : ℕ) (names : List (List ℕ)) → list_any (bytes_eq name) names ≡ true → Is (position_from (bytes_eq name) i names)
-any_placed name i [] h = absurd cc
-any_placed name i (n ∷ ns) h = go (bytes_eq name n) (any_placed name (i + 1) ns) h
-  where
-    go : (b : Bool) → (list_any (bytes_eq name) ns ≡ true → Is (position_from (bytes_eq name) (i + 1) ns)) → (b || list_any (bytes_eq name) ns) ≡ true → Is (cond b (Some i) (position_from (bytes_eq name) (i + 1) ns))
-    go true f h = (i, refl)
-    go false f h = f h
-
--- the name of a member has a number
-abbrev AreNamed : List (List ℕ) → List Member → Type 0
-AreNamed names ms = (name : List ℕ) → list_any (bytes_eq name) (map (λ m. m.name) ms) ≡ true → Is (number_in names name)
-
-members_named : (d : Declared) → AreNamed (names_of d) d.members
-unfolding names_of member_names distinct number_in
-members_named d name h = any_placed name 0 (names_of d) (any_kept name (member_names d) (flat_map member_words d.members) (any_new name [] (map (λ m. m.name) d.members) h))
 
 -- ---- encodings in force
 
@@ -139,41 +71,6 @@ are_encodings d k n text e =
     go m None e t = absurd cc
     go m (Some s) e t = let f = from_at (numbered_type_faults d) 0 d.types m s k e in type_encoding (home_in d f.0) s text f.1 t
 
--- ---- members
-
--- where the members of a type stand
-abbrev within : Declared → ℕ → Context
-within d n = record { declared = d; names = names_of d; within = n }
-
-member_is : (d : Declared) (i : ℕ) (m : Member) → AreEncodings d → is_utf8 m.name ≡ true → Is (number_in (names_of d) m.name) → member_faults d i m ≡ [] → Is (member_of (within d m.within) m)
-unfolding member_faults mapping_faults member_of
-member_is d i m a u n k = go (mapping_of m.value) refl mapping
-  where
-    mapping : option_map_or (mapping_faults d m) (mapping_of m.value) (fault m.line bad_value) ≡ []
-    mapping = front (option_map_or (mapping_faults d m) (mapping_of m.value) (fault m.line bad_value)) (fault_if (is_instance m.role && not (is_id m.name)) m.line bad_value) (front (option_map_or (mapping_faults d m) (mapping_of m.value) (fault m.line bad_value) ++ fault_if (is_instance m.role && not (is_id m.name)) m.line bad_value) (member_again d i m) k)
-
-    go : (o : Option (List Pair)) → mapping_of m.value ≡ o → option_map_or (mapping_faults d m) o (fault m.line bad_value) ≡ [] → Is (member_of (within d m.within) m)
-    go None e k = absurd (no_fault m.line bad_value k)
-    go (Some es) e k =
-        let r = kind_good (home_of d m es) (names_of d) m.role m.line (line_of m.value) es a k in
-        is_bind _ _ m.name (as_text_is m.name u) (is_bind _ _ n.0 n.1 (is_bind _ _ es e (is_bind _ _ r.0 r.1 (_, refl))))
-
-same_number : (n k : ℕ) → (n == k) ≡ true → n ≡ k
-same_number n k h = (Decides-eqb n k).0 h
-
--- the members of one type among all
-members_are : (d : Declared) (n i : ℕ) (ms : List Member) → AreEncodings d → list_all (λ m. is_utf8 m.name) ms ≡ true → AreNamed (names_of d) ms → each_from (member_faults d) i ms ≡ [] → Is (each (member_of (within d n)) (filter (is_within n) ms))
-members_are d n i [] a u g k = ([], refl)
-members_are d n i (m ∷ ms) a u g k =
-    go (is_within n m) refl (members_are d n (i + 1) ms a (both (is_utf8 m.name) (list_all (λ m. is_utf8 m.name) ms) u).1 (λ name h. g name (ap (λ (b : Bool). bytes_eq name m.name || b) h ∙ or_true _)) (back (member_faults d i m) (each_from (member_faults d) (i + 1) ms) k))
-  where
-    here : is_within n m ≡ true → Is (member_of (within d n) m)
-    here e = subst (λ n. Is (member_of (within d n) m)) (same_number m.within n e) (member_is d i m a (both (is_utf8 m.name) (list_all (λ m. is_utf8 m.name) ms) u).0 (g m.name (ap (λ (b : Bool). b || list_any (bytes_eq m.name) (map (λ m. m.name) ms)) (equal_itself m.name))) (front (member_faults d i m) (each_from (member_faults d) (i + 1) ms) k))
-
-    go : (b : Bool) → is_within n m ≡ b → Is (each (member_of (within d n)) (filter (is_within n) ms)) → Is (each (member_of (within d n)) (cond b (m ∷ filter (is_within n) ms) (filter (is_within n) ms)))
-    go true e r = let x = here e in is_bind _ _ x.0 x.1 (is_bind _ _ r.0 r.1 (x.0 ∷ r.0, refl))
-    go false e r = r
-
 -- ---- enums
 
 whole_is : (line : ℕ) (n : Numeral) → numeral_faults line n ≡ [] → Is (whole_of n)
@@ -209,17 +106,17 @@ constants_are h e i (c ∷ cs) k = go (c.within == e) (constants_are h e (i + 1)
     go true r = is_bind _ _ here.0 here.1 (is_bind _ _ r.0 r.1 (here.0 ∷ r.0, refl))
     go false r = r
 
-enum_is : (d : Declared) (e : ℕ) (x : Enumeration) → enumeration_faults x ≡ [] → each_from (constant_faults (home_in d 0)) 0 d.constants ≡ [] → Is (enum_of d e x)
+pub enum_is : (d : Declared) (e : ℕ) (x : Enumeration) → enumeration_faults x ≡ [] → each_from (constant_faults (home_in d 0)) 0 d.constants ≡ [] → Is (enum_of d e x)
 unfolding enumeration_faults enum_of
 enum_is d e x k c =
     let text = as_text_is x.id (id_is_text x.id (not_not (is_id x.id) (not_if _ x.line bad_value (front _ _ k)))) in
     let r = constants_are (home_in d 0) e 0 d.constants c in
     is_bind _ _ x.id text (is_bind _ _ r.0 r.1 (_, refl))
 
--- ---- a description
+-- ---- lists
 
 -- the results for all of a list, by number
-each_numbered_is : {A B : Type 0} (f : ℕ → A → Option B) (n : ℕ) (xs : List A) → ((k i : ℕ) (x : A) → slice_get xs i ≡ Some x → Is (f k x)) → Is (each_numbered f n xs)
+pub each_numbered_is : {A B : Type 0} (f : ℕ → A → Option B) (n : ℕ) (xs : List A) → ((k i : ℕ) (x : A) → slice_get xs i ≡ Some x → Is (f k x)) → Is (each_numbered f n xs)
 each_numbered_is f n [] g = ([], refl)
 each_numbered_is f n (x ∷ xs) g =
     let y = g n 0 x refl in
@@ -227,29 +124,11 @@ each_numbered_is f n (x ∷ xs) g =
     is_bind _ _ y.0 y.1 (is_bind _ _ ys.0 ys.1 (y.0 ∷ ys.0, refl))
 
 -- what no element has a fault of
-at_place : {A : Type 0} (faults : A → List Fault) (xs : List A) (i : ℕ) (x : A) → flat_map faults xs ≡ [] → slice_get xs i ≡ Some x → faults x ≡ []
+pub at_place : {A : Type 0} (faults : A → List Fault) (xs : List A) (i : ℕ) (x : A) → flat_map faults xs ≡ [] → slice_get xs i ≡ Some x → faults x ≡ []
 at_place faults [] i x k e = absurd cc
 at_place faults (y ∷ ys) zero x k e = ap faults (sym (some_same y x e)) ∙ front _ _ k
 at_place faults (y ∷ ys) (suc i) x k e = at_place faults ys i x (back _ _ k) e
 
-type_is : (d : Declared) (n : ℕ) (s : Scope) → is_utf8 s.id ≡ true → Is (each (member_of (within d n)) (members_within d.members n)) → Is (type_of d (names_of d) n s)
-unfolding type_of
-type_is d n s u m = is_bind _ _ s.id (as_text_is s.id u) (is_bind _ _ m.0 m.1 (_, refl))
-
 -- the ids of types are texts in UTF-8
 abbrev pub AreTyped : List Scope → Type 0
 AreTyped ss = (s : Scope) (i : ℕ) → slice_get ss i ≡ Some s → is_utf8 s.id ≡ true
-
-pub declared_states : (d : Declared) → are_texts d.members ≡ true → AreTyped d.types → faults_of d ≡ [] → Is (stated_by d)
-unfolding faults_of stated_by described members_within are_texts
-declared_states d u v k =
-    let k3 = front _ _ k in
-    let k2 = front _ _ k3 in
-    let a = are_encodings d (back _ _ (front _ _ k2)) in
-    let ts = each_numbered_is (type_of d (names_of d)) 0 d.types (λ n i s e. type_is d n s (v s i e) (members_are d n 0 d.members a u (members_named d) (back _ _ k2))) in
-    let es = each_numbered_is (enum_of d) 0 d.enums (λ n i x e. enum_is d n x (at_place enumeration_faults d.enums i x (back _ _ k3) e) (back _ _ k)) in
-    let r : Is (described d (names_of d) (length (member_names d))) = is_bind _ _ ts.0 ts.1 (is_bind _ _ es.0 es.1 (_, refl)) in
-    (r.0, ap (λ (b : Bool). cond b (described d (names_of d) (length (member_names d))) None) u ∙ r.1)
-
-pub states_one : (t : Tree) (d e : Description) → States t d → States t e → d ≡ e
-states_one t d e x y = some_same d e (sym x.is ∙ y.is)
