@@ -5,12 +5,10 @@ use Rattle.std.specs.Option.{option_map_or}
 use Rattle.std.specs.Str.{bytes_eq}
 use Rattle.std.proofs.lemmas.Slice.Eq.{bytes_eq-Decides}
 use Rattle.ksv_yaml_tree.specs.Tree.{Pair, text_of, entry_at}
-use Rattle.ksv_expr_tree.specs.Tree as expressions
 use Rattle.ksv_expr_syntax.specs.Reading.{◌>>=◌}
 use Rattle.ksv_yaml_tree.specs.Keys.{has, text_at}
 use Rattle.ksv_schema_names.specs.declared.position.Site.{Site}
-use Rattle.ksv_schema_names.specs.Numbered.{numbered}
-use Rattle.ksv_schema_faults.specs.Faults.{Fault, fault, fault_if, no_expression, bad_value, unknown_key}
+use Rattle.ksv_schema_faults.specs.Faults.{Fault, fault, fault_if, bad_value, unknown_key}
 use Rattle.ksv_schema_keys.specs.declared.keys.Form.TheVariants as forms
 use Rattle.ksv_schema_keys.specs.declared.keys.Form.{Form}
 use Rattle.ksv_schema_keys.specs.Keys.{Key, form_in, is_ignored}

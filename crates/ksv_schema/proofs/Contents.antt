@@ -20,7 +20,7 @@ use Rattle.ksv_schema_names.specs.Names.{name_faults, part_faults, list_faults, 
 use Rattle.ksv_schema_names.specs.Numbered.{given_member, enum_member, all_numbered}
 use Rattle.ksv_schema_names.proofs.Found.{type_within}
 use Rattle.ksv_desc.specs.Names.{has_names}
-use Rattle.ksv_schema_faults.specs.Faults.{Fault, fault_if, no_expression, bad_value, unknown_name, left_out, wrong_count}
+use Rattle.ksv_schema_faults.specs.Faults.{fault_if, no_expression, bad_value, unknown_name, left_out, wrong_count}
 use Rattle.ksv_schema_keys.specs.declared.keys.Form.TheVariants as forms
 use Rattle.ksv_schema_keys.specs.Keys.{Key, form_in, is_ignored}
 use Rattle.ksv_schema_keys.specs.Expressions.{expression_of}
@@ -31,7 +31,7 @@ use Rattle.ksv_desc.specs.Description.{Description, Number, Characters, Object, 
 use Rattle.ksv_desc.specs.Resolved.{count, Each, IfAny, IsEnum, IsResolvedContent, IsResolvedValue, IsResolvedCase}
 use Rattle.ksv_schema.proofs.Coherent.{Is, front, back, not_if, not_not, no_fault, is_map, is_bind, at_key, has_text, text_fits, some_of, context}
 use Rattle.ksv_schema.proofs.Leads.{bound, enum_within, given_leads}
-use Rattle.ksv_schema.proofs.Good.{Good, good_map, has_both, unmapped, arguments_lead}
+use Rattle.ksv_schema.proofs.Good.{Good, has_both, unmapped, arguments_lead}
 
 -- ---- contents
 
@@ -143,10 +143,14 @@ content_good h names es line (OfDescription t given) k e c = found (type_named h
   where
     found : (o : Option ℕ) → type_named h.declared.types h.within t.path ≡ o → count_faults h line (count given) o ≡ [] → Good h.declared names (argument_words (OfDescription t given)) IsResolvedContent (option_map (λ n. Object n (all_numbered h.declared names h.within given)) o)
     found None n l = absurd (no_fault line unknown_name l)
-    found (Some n) s l = (Object n (all_numbered h.declared names h.within given), refl, λ x e fits w.
-        let below = type_within h.declared.types h.within t.path n s in
-        let arguments = arguments_lead h names given (unmapped (name_fault line) (list_faults h.declared h.within (position_at h sites.Argument) given) (back _ _ k)) x e fits w in
-        record { type = omega (arith, below, fits.types); as_many = count_kept h.declared names h.within given ∙ sym (count_is h line (count given) n l) ∙ fits.parameters n below; arguments = arguments })
+    found (Some n) s l = (
+      Object n (all_numbered h.declared names h.within given),
+      refl,
+      λ x e fits w.
+          let below = type_within h.declared.types h.within t.path n s in
+          let arguments = arguments_lead h names given (unmapped (name_fault line) (list_faults h.declared h.within (position_at h sites.Argument) given) (back _ _ k)) x e fits w in
+          record { type = omega (arith, below, fits.types); as_many = count_kept h.declared names h.within given ∙ sym (count_is h line (count given) n l) ∙ fits.parameters n below; arguments = arguments },
+    )
 
 -- ---- cases
 

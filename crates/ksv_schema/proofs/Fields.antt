@@ -1,5 +1,5 @@
 -- Without faults each attribute and instance is stated, and leads somewhere.
-use Rattle.std.proofs.Common.{◌≡◌, ℕ, zero, suc, Bool, true, false, cond, List, [], ◌∷◌, ◌++◌, ap, sym, subst, ◌∙◌, refl, Option, Some, None}
+use Rattle.std.proofs.Common.{◌≡◌, ℕ, zero, suc, Bool, true, false, cond, List, [], ◌∷◌, ◌++◌, ap, sym, ◌∙◌, refl, Option, Some, None}
 use Rattle.std.specs.Prelude.{codes, not, ◌&&◌, ◌||◌, is_some, is_none, option_map, option_and_then, flat_map, unwrap_or, slice_get}
 use Rattle.std.specs.Str.{bytes_eq}
 use Rattle.std.specs.Option.{option_map_or}
@@ -7,7 +7,6 @@ use Rattle.std.proofs.lemmas.Slice.Eq.{bytes_eq-Decides}
 use Rattle.std.proofs.lemmas.List.Folds.{list_all-append}
 use Rattle.ksv_yaml_tree.specs.Tree.{Pair, line_of, text_of, mapping_of, entry_at}
 use Rattle.ksv_yaml_tree.specs.Keys.{entries_in, has, says, entries_at}
-use Rattle.ksv_expr_tree.specs.Tree as expressions
 use Rattle.ksv_schema_scope.specs.declared.member.Role.{Role}
 use Rattle.ksv_schema_scope.specs.declared.member.Role.TheVariants as roles
 use Rattle.ksv_schema_scope.specs.Members.{is_in_params}
@@ -19,11 +18,11 @@ use Rattle.ksv_schema_keys.specs.declared.keys.Form.TheVariants as forms
 use Rattle.ksv_schema_keys.specs.Keys.{Key, form_in, is_ignored, attribute_keys, parse_instance_keys, value_keys, switch_keys}
 use Rattle.ksv_schema_keys.specs.Values.{TypeText, type_text, is_str, is_strz, type_at, own_type, is_a, cases_of, contents_of, is_to_end}
 use Rattle.ksv_schema_faults.specs.Rules.{Home, type_text_faults, case_faults, form_faults, value_faults, keys_faults, missing_if, switch_faults, has_encoding, Has, Says, Rule, Needs, claimed, rule_faults, rules_faults, field_pairs, case_against, field_needs, field_against, field_left_out, field_rules, value_rules, attribute_faults, instance_faults, role_faults}
-use Rattle.ksv_schema_build.specs.Stated.{naming_keys, argument_words, perhaps_expression, type_words, form_words, key_words, entry_words, expression_at, content_at, content_of, case_of, switch_of, typed, choice_of, extent_of, terminator_of, repeat_of, field_of, parse_instance_of, value_instance_of, kind_of, each}
-use Rattle.ksv_desc.specs.Description.{Description, Choice, Always, Switch, Bytes, Fixed, Sized, SizeEos, ByItself, Once, Eos, Expr, Until, MemberKind, Parameter, Attribute, ParseInstance, ValueInstance}
+use Rattle.ksv_schema_build.specs.Stated.{naming_keys, argument_words, perhaps_expression, type_words, form_words, key_words, entry_words, expression_at, content_at, content_of, case_of, switch_of, typed, choice_of, extent_of, repeat_of, field_of, parse_instance_of, value_instance_of, kind_of, each}
+use Rattle.ksv_desc.specs.Description.{Always, Switch, Bytes, Fixed, Sized, SizeEos, ByItself, Once, Eos, Expr, Until, MemberKind, Parameter, Attribute, ParseInstance, ValueInstance}
 use Rattle.ksv_desc.specs.Resolved.{is_parameter, IfAny, IsResolvedTree, IsResolvedContent, IsResolvedChoice, IsResolvedExtent, IsResolvedRepeat, IsResolvedField, IsResolvedKind}
 use Rattle.ksv_schema.proofs.Coherent.{Is, front, back, not_if, no_fault, some_same, is_map, is_bind, at_key, has_text, context, by_value, by_form, some_of, not_missing}
-use Rattle.ksv_schema.proofs.Good.{InAll, Good, good_map, has_both, words_at, form_of_key, expression_at_good, perhaps_good}
+use Rattle.ksv_schema.proofs.Good.{Good, good_map, has_both, words_at, form_of_key, expression_at_good, perhaps_good}
 use Rattle.ksv_schema.proofs.Contents.{contents_is, GoodEnum, enum_good, AreEncodings, is_encoding, content_good, cases_good}
 
 -- a table with the keys of an attribute
@@ -176,11 +175,14 @@ switch_good h names es keys line e k =
     let cs = mapped (mapping_of q.0.value) q.0.line (at_key (form_faults h) switch_keys (codes "cases") forms.Cases keys q.0 refl refl all q.1) q.0 refl in
     let same : entries_at (codes "cases") keys ≡ cs.0 = ap (λ (o : Option Pair). unwrap_or (option_and_then (λ (p : Pair). mapping_of p.value) o) []) q.1 ∙ ap (λ (o : Option (List Pair)). unwrap_or o []) cs.1 in
     let r = cases_good h names es cs.0 e cs.2 in
-    let b = is_bind _ _ on.0 on.1 (is_bind _ _ r.0 (ap (each (case_of (context h names) es)) same ∙ r.1) (Switch on.0 r.0, refl)) in
-    (b.0, b.1, λ x s fits w.
-    let v = words_at names (key_words switch_keys) (codes "cases") keys q.0 w q.1 in
-    let cased : has_names names (flat_map type_words (unwrap_or (mapping_of q.0.value) [])) ≡ true = ap (has_names names) (sym (form_of_key switch_keys (codes "cases") forms.Cases q.0 v.1 refl)) ∙ v.0 in
-    (on.2 x s fits w, r.2 x s fits (ap (λ (o : Option (List Pair)). has_names names (flat_map type_words (unwrap_or o []))) (sym cs.1) ∙ cased)))
+    let b = is_bind _ _ on.0 on.1 (is_bind _ _ r.0 (ap (each (case_of (context h names) es)) same ∙ r.1) (Switch on.0 r.0, refl)) in (
+      b.0,
+      b.1,
+      λ x s fits w.
+          let v = words_at names (key_words switch_keys) (codes "cases") keys q.0 w q.1 in
+          let cased : has_names names (flat_map type_words (unwrap_or (mapping_of q.0.value) [])) ≡ true = ap (has_names names) (sym (form_of_key switch_keys (codes "cases") forms.Cases q.0 v.1 refl)) ∙ v.0 in
+          (on.2 x s fits w, r.2 x s fits (ap (λ (o : Option (List Pair)). has_names names (flat_map type_words (unwrap_or o []))) (sym cs.1) ∙ cased)),
+    )
   where
     mapped : (o : Option (List Pair)) (line : ℕ) → option_map_or (flat_map (case_faults h)) o (fault line bad_value) ≡ [] → (p : Pair) → mapping_of p.value ≡ o → (cs : List Pair) × (mapping_of p.value ≡ Some cs) × (flat_map (case_faults h) cs ≡ [])
     mapped None line k p e = absurd (no_fault line bad_value k)

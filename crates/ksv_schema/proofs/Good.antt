@@ -1,6 +1,6 @@
 -- A piece that there is, and that leads somewhere in each description that fits.
 use Rattle.std.proofs.Common.{◌≡◌, ℕ, Bool, true, false, cond, List, [], ◌∷◌, ◌++◌, sym, ap, subst, ◌∙◌, refl, Option, Some, None}
-use Rattle.std.specs.Prelude.{◌&&◌, is_some, option_map, option_and_then, map, flat_map}
+use Rattle.std.specs.Prelude.{is_some, option_map, option_and_then, map, flat_map}
 use Rattle.std.specs.Option.{option_map_or}
 use Rattle.std.specs.Str.{bytes_eq}
 use Rattle.std.proofs.lemmas.Slice.Eq.{bytes_eq-Decides}
@@ -8,7 +8,7 @@ use Rattle.std.proofs.lemmas.List.Folds.{list_all-append}
 use Rattle.ksv_yaml_tree.specs.Tree.{Pair, text_of, entry_at}
 use Rattle.ksv_expr_syntax.specs.Reading.{◌>>=◌}
 use Rattle.ksv_expr_tree.specs.Tree as expressions
-use Rattle.ksv_yaml_tree.specs.Keys.{has, text_at}
+use Rattle.ksv_yaml_tree.specs.Keys.{has}
 use Rattle.ksv_schema_scope.specs.Declarations.{Declared}
 use Rattle.ksv_schema_names.specs.declared.position.Site.{Site}
 use Rattle.ksv_schema_names.specs.declared.position.Site.TheVariants as sites
@@ -90,11 +90,14 @@ pub expression_at_good : (h : Home) (names : List (List ℕ)) (faults : Pair →
 unfolding expression_at form_words
 expression_at_good h names faults table naming site at name es a i f g k p =
     let t = has_text (λ text. expression_faults h site p.0.line (expression_of text)) p.0 (sym (a p.0 site) ∙ at_key faults table name (forms.Expression site) es p.0 i f k p.1) in
-    let r = expression_good h names site p.0.line t.0 t.2 in
-    (r.0, ap (λ (o : Option Pair). option_and_then (λ p. text_of p.value) o >>= expression (context h names)) p.1 ∙ ap (λ (o : Option (List ℕ)). o >>= expression (context h names)) t.1 ∙ r.1, λ x e fits w.
-    let v = words_at names (key_words naming) name es p.0 w p.1 in
-    let same : key_words naming p.0 ≡ expression_words t.0 = form_of_key naming name (forms.Expression at) p.0 v.1 g ∙ ap (λ (o : Option (List ℕ)). option_map_or expression_words o []) t.1 in
-    r.2 x e fits (ap (has_names names) (sym same) ∙ v.0))
+    let r = expression_good h names site p.0.line t.0 t.2 in (
+      r.0,
+      ap (λ (o : Option Pair). option_and_then (λ p. text_of p.value) o >>= expression (context h names)) p.1 ∙ ap (λ (o : Option (List ℕ)). o >>= expression (context h names)) t.1 ∙ r.1,
+      λ x e fits w.
+          let v = words_at names (key_words naming) name es p.0 w p.1 in
+          let same : key_words naming p.0 ≡ expression_words t.0 = form_of_key naming name (forms.Expression at) p.0 v.1 g ∙ ap (λ (o : Option (List ℕ)). option_map_or expression_words o []) t.1 in
+          r.2 x e fits (ap (has_names names) (sym same) ∙ v.0),
+    )
 
 -- and the one at a key that may be absent
 pub perhaps_good : (h : Home) (names : List (List ℕ)) (faults : Pair → Form → List Fault) (table naming : List Key) (site at : Site) (name : List ℕ) (es : List Pair) → AtExpression h faults → is_ignored name ≡ false → form_in table name ≡ Some (forms.Expression site) → form_in naming name ≡ Some (forms.Expression at) → keys_faults faults table es ≡ [] → Good h.declared names (flat_map (key_words naming) es) (λ x. IfAny (IsResolvedTree x)) (perhaps_expression (context h names) name es)

@@ -7,15 +7,14 @@ use Rattle.std.proofs.lemmas.Bool.Decides.{Decides-eqb}
 use Rattle.ksv_yaml_tree.specs.Tree.{Pair, line_of, mapping_of}
 use Rattle.ksv_schema_scope.specs.Types.{Scope}
 use Rattle.ksv_schema_scope.specs.Members.{Member, is_parameter, is_in_params, is_within, members_within, parameters_within}
-use Rattle.ksv_schema_scope.specs.declared.member.Role.TheVariants as roles
 use Rattle.ksv_schema_scope.specs.Declarations.{Declared}
 use Rattle.ksv_desc.specs.Names.{distinct, number_in}
 use Rattle.ksv_desc.specs.Names.{has_names, AreDistinct}
 use Rattle.ksv_schema_names.proofs.Found.{some_is, place_within}
 use Rattle.ksv_desc.proofs.Tabled.{is_table}
 use Rattle.ksv_schema_faults.specs.Faults.{fault, bad_value}
-use Rattle.ksv_schema_faults.specs.Rules.{home_of, mapping_faults, member_faults, enumeration_faults, each_from, faults_of, faults}
-use Rattle.ksv_schema_build.specs.Stated.{Context, entry_words, member_words, member_names, names_of, are_texts, member_of, type_of, enum_of, each, each_numbered, described, stated_by, stated}
+use Rattle.ksv_schema_faults.specs.Rules.{home_of, mapping_faults, member_faults, enumeration_faults, each_from, faults_of}
+use Rattle.ksv_schema_build.specs.Stated.{Context, entry_words, member_words, member_names, names_of, are_texts, member_of, type_of, enum_of, each, each_numbered, described, stated_by}
 use Rattle.ksv_desc.specs.Description.{MemberOfType, TypeOfObjects, Description}
 use Rattle.ksv_desc.specs.Resolved as resolved
 use Rattle.ksv_desc.specs.Resolved.{Each, IsResolvedMember, IsResolved}
@@ -144,9 +143,12 @@ declared_good d u v within k =
       members = has_each d d.members (all_known d);
       entries = member_stated d x within es.1;
     } in
-    let r = is_bind _ _ ts.0 ts.1 (is_bind _ _ es.0 es.1 (x, refl)) in
-    (x, ap (λ (b : Bool). cond b (described d (names_of d) (length (member_names d))) None) u ∙ r.1, record {
-      distinct = all_distinct d;
-      known = no_shorter (member_names d) (flat_map member_words d.members);
-      members = ts.3 x refl fits (all_words d) refl;
-    })
+    let r = is_bind _ _ ts.0 ts.1 (is_bind _ _ es.0 es.1 (x, refl)) in (
+      x,
+      ap (λ (b : Bool). cond b (described d (names_of d) (length (member_names d))) None) u ∙ r.1,
+      record {
+        distinct = all_distinct d;
+        known = no_shorter (member_names d) (flat_map member_words d.members);
+        members = ts.3 x refl fits (all_words d) refl;
+      },
+    )

@@ -11,7 +11,7 @@ use Rattle.std.proofs.lemmas.Str.Ascii.{IsAscii-nil, IsAscii-from_all}
 use Rattle.ksv_yaml_tree.specs.Tree.{Tree, Pair, line_of, mapping_of, list_of, entry_at}
 use Rattle.ksv_schema_scope.specs.declared.member.Role.{Role}
 use Rattle.ksv_schema_scope.specs.declared.member.Role.TheVariants.{Parameter, Attribute, Instance}
-use Rattle.ksv_yaml_tree.specs.Keys.{entries_in, has, text_at, entries_at}
+use Rattle.ksv_yaml_tree.specs.Keys.{entries_in, text_at, entries_at}
 use Rattle.ksv_schema_scope.specs.Types.{Scope, keys_of, own_id, root_scope, types_within, types_of}
 use Rattle.ksv_schema_scope.specs.Members.{Member, parameter, unnamed, attributes_from, instance, members_at_key, members_of_type, members_from, members_of}
 use Rattle.ksv_schema_scope.specs.Enums.{enums_of}

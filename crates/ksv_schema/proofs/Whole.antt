@@ -4,11 +4,10 @@ use Rattle.std.specs.Prelude.{codes, not, ◌==◌, is_some, option_and_then, fl
 use Rattle.std.specs.Option.{option_map_or}
 use Rattle.std.specs.Str.{is_utf8}
 use Rattle.ksv_yaml_tree.specs.Tree.{Tree, Text, Seq, Map, Pair, pairs, line_of, text_of, mapping_of, entry_at}
-use Rattle.ksv_schema_scope.specs.declared.member.Role.TheVariants as roles
 use Rattle.ksv_yaml_tree.specs.declared.numeral.Numeral.{Numeral}
 use Rattle.ksv_yaml_tree.specs.declared.numeral.Numeral.TheVariants.{Whole, LeadingZero, NoNumeral}
 use Rattle.ksv_yaml_tree.specs.Numerals.{signed_number}
-use Rattle.ksv_yaml_tree.specs.Keys.{has, text_at, entries_at}
+use Rattle.ksv_yaml_tree.specs.Keys.{text_at, entries_at}
 use Rattle.ksv_schema_scope.specs.Types.{Scope, keys_of, keys_of_type, outwards, from, encoding_in, encoding_of}
 use Rattle.ksv_schema_scope.specs.Enums.{Constant, whole_of}
 use Rattle.ksv_schema_scope.specs.Declarations.{Declared}

@@ -1,5 +1,5 @@
 -- The faults of a node by what it is: a text, a list or a mapping.
-use Rattle.std.proofs.Common.{◌≡◌, ℕ, true, false, not, ◌&&◌, List, ◌++◌, Some, None, refl, ap, ◌∙◌, codes}
+use Rattle.std.proofs.Common.{◌≡◌, ℕ, true, false, not, ◌&&◌, List, Some, None, refl, ap, ◌∙◌, codes}
 use Rattle.std.specs.Prelude.{◌||◌, flat_map, if◌then◌else◌}
 use Rattle.std.specs.Str.{bytes_eq}
 use Rattle.ksv_yaml_tree.specs.Tree.{Tree, Text, Seq, Map, Pair, pairs, trees, line_of, text_of, is_quoted, list_of, mapping_of}

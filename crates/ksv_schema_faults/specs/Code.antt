@@ -1,5 +1,5 @@
 -- The plain data of the code's values.
-use Rattle.std.specs.Prelude.{◌==◌, ◌||◌, ◌++◌, not, is_some, true, false, ℕ, Bool, List, [], ◌∷◌, map, Option, option_map, codes}
+use Rattle.std.specs.Prelude.{◌==◌, ◌||◌, not, false, ℕ, Bool, List, [], map, Option, option_map, codes}
 use Rattle.std.specs.Option.{option_map_or}
 use Rattle.std.specs.List.Sorted.{IsPermutation, IsNonDecreasing}
 use Rattle.ksv_yaml_tree.specs.Tree.{Tree, Pair}
