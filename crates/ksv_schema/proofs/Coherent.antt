@@ -1,21 +1,21 @@
 -- A tree without faults states a description.
 use Rattle.std.proofs.Common.{◌≡◌, ℕ, Bool, true, false, cond, List, [], ◌∷◌, ◌++◌, sym, ap, ◌∙◌, refl, Option, Some, None}
-use Rattle.std.specs.Prelude.{not, is_some, option_map, option_and_then}
+use Rattle.std.specs.Prelude.{not, is_some, option_map, option_and_then, map, flat_map}
 use Rattle.std.specs.Option.{option_map_or}
 use Rattle.std.specs.Str.{bytes_eq}
 use Rattle.std.proofs.lemmas.Slice.Eq.{bytes_eq-Decides}
 use Rattle.ksv_yaml_tree.specs.Tree.{Pair, text_of, entry_at}
-use Rattle.ksv_expr_tree.specs.Tree as expressions
 use Rattle.ksv_expr_syntax.specs.Reading.{◌>>=◌}
 use Rattle.ksv_yaml_tree.specs.Keys.{has, text_at}
 use Rattle.ksv_schema_names.specs.declared.position.Site.{Site}
-use Rattle.ksv_schema_names.specs.Numbered.{numbered}
-use Rattle.ksv_schema_faults.specs.Faults.{Fault, fault, fault_if, no_expression, bad_value, unknown_key}
-use Rattle.ksv_schema_keys.specs.Keys as forms
-use Rattle.ksv_schema_keys.specs.Keys.{Form, Key, form_in, is_ignored}
+use Rattle.ksv_schema_faults.specs.Faults.{Fault, fault, fault_if, bad_value, unknown_key}
+use Rattle.ksv_schema_keys.specs.declared.keys.Form.TheVariants as forms
+use Rattle.ksv_schema_keys.specs.declared.keys.Form.{Form}
+use Rattle.ksv_schema_keys.specs.Keys.{Key, form_in, is_ignored}
 use Rattle.ksv_schema_keys.specs.Expressions.{expression_of}
 use Rattle.ksv_schema_faults.specs.Rules.{Home, expression_faults, text_faults, form_faults, value_faults, key_faults, keys_faults, missing_if}
-use Rattle.ksv_schema_build.specs.Stated.{Context, expression, expression_at, perhaps_expression}
+use Rattle.ksv_schema_build.specs.Stated.{Context}
+use Rattle.ksv_desc.specs.Resolved.{Each}
 
 -- there is a value
 abbrev pub Is : {A : Type 0} → Option A → Type 0
@@ -44,11 +44,25 @@ pub some_same : {A : Type 0} (x y : A) → Some x ≡ Some y → x ≡ y
 some_same x y h = cc
 
 -- a thing made of one that there is
-pub is_map : {A B : Type 0} (f : A → B) (o : Option A) → Is o → Is (option_map f o)
+abbrev pub is_map : {A B : Type 0} (f : A → B) (o : Option A) → Is o → Is (option_map f o)
 is_map f o x = (f x.0, ap (option_map f) x.1)
 
-pub is_bind : {A B : Type 0} (f : A → Option B) (o : Option A) (x : A) → o ≡ Some x → Is (f x) → Is (o >>= f)
+abbrev pub is_bind : {A B : Type 0} (f : A → Option B) (o : Option A) (x : A) → o ≡ Some x → Is (f x) → Is (o >>= f)
 is_bind f o x e y = (y.0, ap (λ (o : Option _). o >>= f) e ∙ y.1)
+
+-- ---- each of a list
+
+pub each_and : {A : Type 0} (P : A → Type 0) (xs ys : List A) → Each P xs → Each P ys → Each P (xs ++ ys)
+each_and P [] ys h k = k
+each_and P (x ∷ xs) ys h k = (h.0, each_and P xs ys h.1 k)
+
+pub each_of_all : {A B : Type 0} (P : B → Type 0) (f : A → List B) (xs : List A) → ((x : A) → Each P (f x)) → Each P (flat_map f xs)
+each_of_all P f [] h = tt
+each_of_all P f (x ∷ xs) h = each_and P (f x) (flat_map f xs) (h x) (each_of_all P f xs h)
+
+pub each_mapped : {A B : Type 0} (P : B → Type 0) (f : A → B) (xs : List A) → ((x : A) → P (f x)) → Each P (map f xs)
+each_mapped P f [] h = tt
+each_mapped P f (x ∷ xs) h = (h x, each_mapped P f xs h)
 
 -- ---- one key
 
@@ -80,19 +94,28 @@ has_text faults p h = go (text_of p.value) refl h
     go None e h = absurd (no_fault p.line bad_value h)
     go (Some text) e h = (text, e, h)
 
+-- the text at a key whose form allows certain texts alone
+abbrev pub text_unless : (List ℕ → Bool) → ℕ → Pair → List Fault
+text_unless fits number p = text_faults (λ text. fault_if (not (fits text)) p.line number) p
+
+pub text_fits : (faults : Pair → Form → List Fault) (table : List Key) (name : List ℕ) (form : Form) (fits : List ℕ → Bool) (number : ℕ) (es : List Pair) (text : List ℕ) → ((p : Pair) → faults p form ≡ text_unless fits number p) → is_ignored name ≡ false → form_in table name ≡ Some form → keys_faults faults table es ≡ [] → text_at name es ≡ Some text → fits text ≡ true
+text_fits faults table name form fits number es text a i f k t = go (entry_at name es) refl t
+  where
+    go : (o : Option Pair) → entry_at name es ≡ o → option_and_then (λ p. text_of p.value) o ≡ Some text → fits text ≡ true
+    go None e t = absurd cc
+    go (Some p) e t =
+        let r = has_text (λ text. fault_if (not (fits text)) p.line number) p (sym (a p) ∙ at_key faults table name form es p i f k e) in
+        ap fits (sym (some_same r.0 text (sym r.1 ∙ t))) ∙ not_not (fits r.0) (not_if _ p.line number r.2)
+
+pub some_of : {A : Type 0} (o : Option A) → is_some o ≡ true → Is o
+some_of None h = absurd cc
+some_of (Some x) h = (x, refl)
+
 -- ---- expressions
 
 -- the context of names in which a mapping's expressions are
 abbrev pub context : Home → List (List ℕ) → Context
 context h names = record { declared = h.declared; names = names; within = h.within }
-
-pub is_expression : (h : Home) (names : List (List ℕ)) (site : Site) (line : ℕ) (text : List ℕ) → expression_faults h site line (expression_of text) ≡ [] → Is (expression (context h names) text)
-unfolding expression_faults expression
-is_expression h names site line text k = go (expression_of text) k
-  where
-    go : (o : Option expressions.Tree) → expression_faults h site line o ≡ [] → Is (option_map (numbered h.declared names h.within) o)
-    go None k = absurd (no_fault line no_expression k)
-    go (Some e) k = (numbered h.declared names h.within e, refl)
 
 -- what stands at an expression's key
 abbrev pub AtExpression : Home → (Pair → Form → List Fault) → Type 0
@@ -106,28 +129,6 @@ pub by_form : (h : Home) → AtExpression h (form_faults h)
 unfolding form_faults
 by_form h p at = refl
 
-pub is_expression_at : (h : Home) (names : List (List ℕ)) (faults : Pair → Form → List Fault) (table : List Key) (site : Site) (name : List ℕ) (es : List Pair) → AtExpression h faults → is_ignored name ≡ false → form_in table name ≡ Some (forms.Expression site) → keys_faults faults table es ≡ [] → Is (entry_at name es) → Is (expression_at (context h names) name es)
-unfolding expression_at
-is_expression_at h names faults table site name es a i f k p =
-    let t = has_text _ p.0 (sym (a p.0 site) ∙ at_key faults table name (forms.Expression site) es p.0 i f k p.1) in
-    is_bind (expression (context h names)) (text_at name es) t.0 (ap (option_and_then (λ p. text_of p.value)) p.1 ∙ t.1) (is_expression h names site p.0.line t.0 t.2)
-
--- a key that is there, or isn't
-pub there : (o : Option Pair) → is_some o ≡ true → Is o
-there None h = absurd cc
-there (Some p) h = (p, refl)
-
+-- a key that isn't missing
 pub not_missing : (name : List ℕ) (es : List Pair) (line : ℕ) → missing_if (not (has name es)) line ≡ [] → Is (entry_at name es)
-not_missing name es line h = go (entry_at name es) (not_if _ line 2 h)
-  where
-    go : (o : Option Pair) → not (is_some o) ≡ false → Is o
-    go None h = absurd cc
-    go (Some p) h = (p, refl)
-
-pub is_perhaps : (h : Home) (names : List (List ℕ)) (faults : Pair → Form → List Fault) (table : List Key) (site : Site) (name : List ℕ) (es : List Pair) → AtExpression h faults → is_ignored name ≡ false → form_in table name ≡ Some (forms.Expression site) → keys_faults faults table es ≡ [] → Is (perhaps_expression (context h names) name es)
-unfolding perhaps_expression
-is_perhaps h names faults table site name es a i f k = go (has name es) refl
-  where
-    go : (b : Bool) → has name es ≡ b → Is (cond b (option_map (λ (e : expressions.Tree). let o : Option expressions.Tree = Some e in o) (expression_at (context h names) name es)) (Some None))
-    go false e = (None, refl)
-    go true e = is_map _ _ (is_expression_at h names faults table site name es a i f k (there (entry_at name es) e))
+not_missing name es line h = some_of (entry_at name es) (not_not (has name es) (not_if _ line 2 h))

@@ -1,7 +1,8 @@
--- Without faults each type, enum, encoding and contents of a mapping is found.
-use Rattle.std.proofs.Common.{◌≡◌, ℕ, Bool, true, false, cond, List, [], ◌∷◌, ◌++◌, sym, ap, ◌∙◌, refl, Option, Some, None}
+-- Without faults each type, enum, encoding and contents of a mapping is found, and leads somewhere.
+use Rattle.std.proofs.Common.{◌≡◌, ℕ, suc, Bool, true, false, cond, List, [], ◌∷◌, ◌++◌, length, sym, ap, ◌∙◌, refl, Option, Some, None, arith}
 use Rattle.std.specs.Prelude.{codes, not, ◌==◌, ◌&&◌, ◌||◌, is_some, is_none, option_map, option_and_then, map, flat_map}
 use Rattle.std.specs.Option.{option_map_or}
+use Rattle.std.proofs.lemmas.Bool.Decides.{Decides-eqb}
 use Rattle.ksv_yaml_tree.specs.Tree.{Tree, Text, Seq, Map, Pair, trees, line_of, text_of, entry_at}
 use Rattle.ksv_expr_tree.specs.Tree as expressions
 use Rattle.ksv_expr_syntax.specs.Reading.{◌>>=◌}
@@ -9,23 +10,28 @@ use Rattle.ksv_desc.specs.declared.order.ByteOrder.{ByteOrder}
 use Rattle.ksv_desc.specs.declared.order.ByteOrder.TheVariants as orders
 use Rattle.ksv_yaml_tree.specs.Keys.{has, text_at}
 use Rattle.ksv_schema_scope.specs.Types.{type_named, order_of, encoding_of}
+use Rattle.ksv_schema_scope.specs.Members.{parameters_within}
 use Rattle.ksv_schema_scope.specs.Enums.{enum_named, number_of_id}
 use Rattle.ksv_schema_scope.specs.Declarations.{Declared}
 use Rattle.ksv_schema_names.specs.declared.built_ins.BuiltIn.TheVariants.{Integer, Str, Strz, NotHere}
 use Rattle.ksv_schema_names.specs.declared.position.NameFault.TheVariants.{Unknown}
 use Rattle.ksv_schema_names.specs.declared.position.Site.TheVariants as sites
-use Rattle.ksv_schema_names.specs.Names.{name_faults, part_faults, is_member, enum_at, wrong_if}
-use Rattle.ksv_desc.specs.Resolved.{count}
+use Rattle.ksv_schema_names.specs.Names.{name_faults, part_faults, list_faults, is_member, enum_at, wrong_if}
 use Rattle.ksv_schema_names.specs.Numbered.{given_member, enum_member, all_numbered}
-use Rattle.ksv_schema_faults.specs.Faults.{Fault, fault_if, no_expression, bad_value, unknown_name, left_out, wrong_count}
-use Rattle.ksv_schema_keys.specs.Keys as forms
-use Rattle.ksv_schema_keys.specs.Keys.{Form, Key, form_in, is_ignored}
+use Rattle.ksv_schema_names.proofs.Found.{type_within}
+use Rattle.ksv_desc.specs.Names.{has_names}
+use Rattle.ksv_schema_faults.specs.Faults.{fault_if, no_expression, bad_value, unknown_name, left_out, wrong_count}
+use Rattle.ksv_schema_keys.specs.declared.keys.Form.TheVariants as forms
+use Rattle.ksv_schema_keys.specs.Keys.{Key, form_in, is_ignored}
 use Rattle.ksv_schema_keys.specs.Expressions.{expression_of}
 use Rattle.ksv_schema_keys.specs.Values.{encoding_named, TypeText, Unspelled, OfLanguage, OfDescription, type_text, is_str, is_strz, looks_like_number, Piece, Bytes, BadPiece, LeftOutPiece, piece_of, bytes_of, joined, contents_of, CaseKey, Constant as ConstantKey, Negative, Member as MemberKey, Default, NoKey, case_key, ids_of}
-use Rattle.ksv_schema_faults.specs.Rules.{Home, name_fault, expression_faults, argument_faults, language_faults, count_faults, type_text_faults, piece_faults, contents_faults, enum_faults, case_value_faults, case_key_faults, case_type_faults, case_faults, text_faults, form_faults, value_faults, keys_faults, has_encoding}
-use Rattle.ksv_schema_build.specs.Stated.{perhaps_enum, encoding_at, order_at, integer_content, language_content, content_of, content_at, value_of, case_value, case_of, each}
-use Rattle.ksv_desc.specs.Description.{Number, Characters, Object}
-use Rattle.ksv_schema.proofs.Coherent.{Is, front, back, not_if, no_fault, some_same, is_map, is_bind, at_key, has_text, context, there}
+use Rattle.ksv_schema_faults.specs.Rules.{Home, position_at, name_fault, expression_faults, argument_faults, language_faults, count_faults, type_text_faults, piece_faults, contents_faults, enum_faults, case_value_faults, case_key_faults, case_type_faults, case_faults, form_faults, value_faults, keys_faults, has_encoding}
+use Rattle.ksv_schema_build.specs.Stated.{argument_words, type_words, perhaps_enum, encoding_at, order_at, integer_content, language_content, content_of, content_at, value_of, case_value, case_of, each}
+use Rattle.ksv_desc.specs.Description.{Description, Number, Characters, Object, EnumValue}
+use Rattle.ksv_desc.specs.Resolved.{count, Each, IfAny, IsEnum, IsResolvedContent, IsResolvedValue, IsResolvedCase}
+use Rattle.ksv_schema.proofs.Coherent.{Is, front, back, not_if, not_not, no_fault, is_map, is_bind, at_key, has_text, text_fits, some_of, context}
+use Rattle.ksv_schema.proofs.Leads.{bound, enum_within, given_leads}
+use Rattle.ksv_schema.proofs.Good.{Good, has_both, unmapped, arguments_lead}
 
 -- ---- contents
 
@@ -59,18 +65,29 @@ unfolding enum_faults
 enum_is h line None k = absurd (no_fault line bad_value k)
 enum_is h line (Some path) k = is_there _ (not_if _ line unknown_name k)
 
-pub is_enum : (h : Home) (names : List (List ℕ)) (table : List Key) (es : List Pair) → form_in table (codes "enum") ≡ Some forms.EnumName → keys_faults (value_faults h) table es ≡ [] → Is (perhaps_enum (context h names) es)
+-- the enum at a key that may be absent
+abbrev pub GoodEnum : Home → List (List ℕ) → List Pair → Type 0
+GoodEnum h names es = Good h.declared names [] (λ x. IfAny (IsEnum x)) (perhaps_enum (context h names) es)
+
+pub enum_good : (h : Home) (names : List (List ℕ)) (table : List Key) (es : List Pair) → form_in table (codes "enum") ≡ Some forms.EnumName → keys_faults (value_faults h) table es ≡ [] → GoodEnum h names es
 unfolding perhaps_enum value_faults form_faults is_ignored
-is_enum h names table es f k = go (has (codes "enum") es) refl
+enum_good h names table es f k = go (has (codes "enum") es) refl
   where
-    go : (b : Bool) → has (codes "enum") es ≡ b → Is (cond b (option_map (λ (e : ℕ). let o : Option ℕ = Some e in o) (text_at (codes "enum") es >>= ids_of >>= enum_named h.declared.types h.declared.enums h.within)) (Some None))
-    go false e = (None, refl)
+    found : (e : ℕ) (o : Option (List (List ℕ))) → (o >>= enum_named h.declared.types h.declared.enums h.within) ≡ Some e → (x : Description) → length x.enums ≡ length h.declared.enums → IsEnum x e
+    found e o s x same =
+        let path = bound o (enum_named h.declared.types h.declared.enums h.within) e s in
+        let l = enum_within h.declared.types h.declared.enums h.within path.0 e path.2 in
+        omega (arith, l, same)
+
+    go : (b : Bool) → has (codes "enum") es ≡ b → Good h.declared names [] (λ x. IfAny (IsEnum x)) (cond b (option_map (λ (e : ℕ). let o : Option ℕ = Some e in o) (text_at (codes "enum") es >>= ids_of >>= enum_named h.declared.types h.declared.enums h.within)) (Some None))
+    go false e = (None, refl, λ x e fits w. tt)
     go true e =
-        let p = there (entry_at (codes "enum") es) e in
+        let p = some_of (entry_at (codes "enum") es) e in
         let t = has_text (λ text. enum_faults h p.0.line (ids_of text)) p.0 (at_key (value_faults h) table (codes "enum") forms.EnumName es p.0 refl f k p.1) in
         let r = enum_is h p.0.line (ids_of t.0) t.2 in
         let same : text_at (codes "enum") es ≡ Some t.0 = ap (option_and_then (λ p. text_of p.value)) p.1 ∙ t.1 in
-        is_map _ _ (r.0, ap (λ (o : Option (List ℕ)). o >>= ids_of >>= enum_named h.declared.types h.declared.enums h.within) same ∙ r.1)
+        let m = is_map (λ (e : ℕ). let o : Option ℕ = Some e in o) _ (r.0, ap (λ (o : Option (List ℕ)). o >>= ids_of >>= enum_named h.declared.types h.declared.enums h.within) same ∙ r.1) in
+        (m.0, m.1, λ x e fits w. found r.0 (ids_of t.0) r.1 x fits.enums)
 
 -- ---- encodings
 
@@ -78,29 +95,18 @@ is_enum h names table es f k = go (has (codes "enum") es) refl
 abbrev pub AreEncodings : Declared → Type 0
 AreEncodings d = (n : ℕ) (text : List ℕ) → encoding_of d.types n ≡ Some text → Is (encoding_named text)
 
-some_of : {A : Type 0} (o : Option A) → not (is_some o) ≡ false → Is o
-some_of None h = absurd cc
-some_of (Some x) h = (x, refl)
-
 -- the encoding of an attribute that has one
 pub is_encoding : (h : Home) (names : List (List ℕ)) (table : List Key) (es : List Pair) → AreEncodings h.declared → form_in table (codes "encoding") ≡ Some forms.Coding → keys_faults (value_faults h) table es ≡ [] → has_encoding h es ≡ true → Is (encoding_at (context h names) es)
 unfolding encoding_at value_faults form_faults is_ignored
-is_encoding h names table es a f k x = own (text_at (codes "encoding") es) refl x
+is_encoding h names table es a f k x = own (text_at (codes "encoding") es) (λ text t. some_of (encoding_named text) (text_fits (value_faults h) table (codes "encoding") forms.Coding (λ text. is_some (encoding_named text)) left_out es text (λ p. refl) refl f k t)) x
   where
     inherited : (o : Option (List ℕ)) → encoding_of h.declared.types h.within ≡ o → is_some o ≡ true → Is (o >>= encoding_named)
     inherited None e x = absurd cc
     inherited (Some text) e x = a h.within text e
 
-    named : (o : Option Pair) (text : List ℕ) → entry_at (codes "encoding") es ≡ o → option_and_then (λ p. text_of p.value) o ≡ Some text → Is (encoding_named text)
-    named None text e t = absurd cc
-    named (Some p) text e t =
-        let r = has_text (λ text. fault_if (not (is_some (encoding_named text))) p.line left_out) p (at_key (value_faults h) table (codes "encoding") forms.Coding es p refl f k e) in
-        let same : r.0 ≡ text = some_same r.0 text (sym r.1 ∙ t) in
-        some_of (encoding_named text) (ap (λ text. not (is_some (encoding_named text))) (sym same) ∙ not_if _ p.line left_out r.2)
-
-    own : (o : Option (List ℕ)) → text_at (codes "encoding") es ≡ o → (is_some o || is_some (encoding_of h.declared.types h.within)) ≡ true → Is (option_map_or (λ (text : List ℕ). let r : Option (List ℕ) = Some text in r) o (encoding_of h.declared.types h.within) >>= encoding_named)
-    own None e x = inherited (encoding_of h.declared.types h.within) refl x
-    own (Some text) e x = named (entry_at (codes "encoding") es) text refl e
+    own : (o : Option (List ℕ)) → ((text : List ℕ) → o ≡ Some text → Is (encoding_named text)) → (is_some o || is_some (encoding_of h.declared.types h.within)) ≡ true → Is (option_map_or (λ (text : List ℕ). let r : Option (List ℕ) = Some text in r) o (encoding_of h.declared.types h.within) >>= encoding_named)
+    own None named x = inherited (encoding_of h.declared.types h.within) refl x
+    own (Some text) named x = named text refl
 
 -- ---- types
 
@@ -114,21 +120,37 @@ order_is h names bytes line None k = go (bytes == 1) (order_of h.declared.types 
     go false None k = absurd cc
     go false (Some order) k = (order, refl)
 
-pub content_is : (h : Home) (names : List (List ℕ)) (es : List Pair) (line : ℕ) (t : TypeText) → type_text_faults h line t ≡ [] → Is (perhaps_enum (context h names) es) → ((is_str t || is_strz t) ≡ true → Is (encoding_at (context h names) es)) → Is (content_of (context h names) es t)
+count_is : (h : Home) (line n t : ℕ) → count_faults h line n (Some t) ≡ [] → length (parameters_within h.declared.members t) ≡ n
+unfolding count_faults
+count_is h line n t k = (Decides-eqb (length (parameters_within h.declared.members t)) n).0 (not_not (length (parameters_within h.declared.members t) == n) (not_if (not (length (parameters_within h.declared.members t) == n)) line wrong_count k))
+
+count_kept : (d : Declared) (names : List (List ℕ)) (n : ℕ) (es : expressions.Arguments) → count (all_numbered d names n es) ≡ count es
+unfolding all_numbered
+count_kept d names n expressions.no_arguments = refl
+count_kept d names n (expressions.argument e es) = ap suc (count_kept d names n es)
+
+pub content_good : (h : Home) (names : List (List ℕ)) (es : List Pair) (line : ℕ) (t : TypeText) → type_text_faults h line t ≡ [] → GoodEnum h names es → ((is_str t || is_strz t) ≡ true → Is (encoding_at (context h names) es)) → Good h.declared names (argument_words t) IsResolvedContent (content_of (context h names) es t)
 unfolding type_text_faults language_faults count_faults content_of language_content integer_content
-content_is h names es line Unspelled k e c = absurd (no_fault line no_expression k)
-content_is h names es line (OfLanguage (Integer signed bytes o) es') k e c =
-    let l = back (fault_if (not (count es' == 0)) line wrong_count) (language_faults h line (Integer signed bytes o)) (front (fault_if (not (count es' == 0)) line wrong_count ++ language_faults h line (Integer signed bytes o)) (argument_faults h line es') k) in
-    let r = order_is h names bytes line o l in
-    is_bind _ _ r.0 r.1 (is_bind _ _ e.0 e.1 (Number signed bytes r.0 e.0, refl))
-content_is h names es line (OfLanguage Str es') k e c = is_map Characters _ (c refl)
-content_is h names es line (OfLanguage Strz es') k e c = is_map Characters _ (c refl)
-content_is h names es line (OfLanguage NotHere es') k e c = absurd (no_fault line left_out (back (fault_if (not (count es' == 0)) line wrong_count) (language_faults h line NotHere) (front (fault_if (not (count es' == 0)) line wrong_count ++ language_faults h line NotHere) (argument_faults h line es') k)))
-content_is h names es line (OfDescription t es') k e c = found (type_named h.declared.types h.within t.path) (front (count_faults h line (count es') (type_named h.declared.types h.within t.path)) (argument_faults h line es') k)
+content_good h names es line Unspelled k e c = absurd (no_fault line no_expression k)
+content_good h names es line (OfLanguage (Integer signed bytes o) given) k e c =
+    let r = order_is h names bytes line o (back (fault_if (not (count given == 0)) line wrong_count) (language_faults h line (Integer signed bytes o)) (front _ (argument_faults h line given) k)) in
+    let n = is_bind _ _ r.0 r.1 (is_bind _ _ e.0 e.1 (Number signed bytes r.0 e.0, refl)) in
+    (n.0, n.1, λ x s fits w. e.2 x s fits refl)
+content_good h names es line (OfLanguage Str given) k e c = let r = is_map Characters _ (c refl) in (r.0, r.1, λ x s fits w. tt)
+content_good h names es line (OfLanguage Strz given) k e c = let r = is_map Characters _ (c refl) in (r.0, r.1, λ x s fits w. tt)
+content_good h names es line (OfLanguage NotHere given) k e c = absurd (no_fault line left_out (back _ _ (front _ _ k)))
+content_good h names es line (OfDescription t given) k e c = found (type_named h.declared.types h.within t.path) refl (front _ _ k)
   where
-    found : (o : Option ℕ) → count_faults h line (count es') o ≡ [] → Is (option_map (λ n. Object n (all_numbered h.declared names h.within es')) o)
-    found None k = absurd (no_fault line unknown_name k)
-    found (Some n) k = (Object n (all_numbered h.declared names h.within es'), refl)
+    found : (o : Option ℕ) → type_named h.declared.types h.within t.path ≡ o → count_faults h line (count given) o ≡ [] → Good h.declared names (argument_words (OfDescription t given)) IsResolvedContent (option_map (λ n. Object n (all_numbered h.declared names h.within given)) o)
+    found None n l = absurd (no_fault line unknown_name l)
+    found (Some n) s l = (
+      Object n (all_numbered h.declared names h.within given),
+      refl,
+      λ x e fits w.
+          let below = type_within h.declared.types h.within t.path n s in
+          let arguments = arguments_lead h names given (unmapped (name_fault line) (list_faults h.declared h.within (position_at h sites.Argument) given) (back _ _ k)) x e fits w in
+          record { type = omega (arith, below, fits.types); as_many = count_kept h.declared names h.within given ∙ sym (count_is h line (count given) n l) ∙ fits.parameters n below; arguments = arguments },
+    )
 
 -- ---- cases
 
@@ -136,13 +158,13 @@ is_no_string : (t : TypeText) (line : ℕ) → fault_if (is_str t || is_strz t) 
 is_no_string t line k e = absurd (let z : false ≡ true = sym (not_if _ line left_out k) ∙ e in cc)
 
 -- what stands at the type of a case
-pub case_content : (h : Home) (names : List (List ℕ)) (es : List Pair) (p : Pair) → case_faults h p ≡ [] → Is (perhaps_enum (context h names) es) → Is (content_at (context h names) es p)
-unfolding case_faults case_type_faults content_at
+case_content : (h : Home) (names : List (List ℕ)) (es : List Pair) (p : Pair) → case_faults h p ≡ [] → GoodEnum h names es → Good h.declared names (type_words p) IsResolvedContent (content_at (context h names) es p)
+unfolding case_faults case_type_faults content_at type_words
 case_content h names es p k e =
-    let t = has_text (λ text. case_type_faults h p.line (type_text text)) p (back (case_key_faults h p.line (expression_of p.key)) (text_faults (λ text. case_type_faults h p.line (type_text text)) p) k) in
-    let a = front (type_text_faults h p.line (type_text t.0)) (fault_if (is_str (type_text t.0) || is_strz (type_text t.0)) p.line left_out) t.2 in
-    let b = back (type_text_faults h p.line (type_text t.0)) (fault_if (is_str (type_text t.0) || is_strz (type_text t.0)) p.line left_out) t.2 in
-    is_bind _ _ t.0 t.1 (content_is h names es p.line (type_text t.0) a e (λ x. absurd (is_no_string (type_text t.0) p.line b x)))
+    let t = has_text (λ text. case_type_faults h p.line (type_text text)) p (back _ _ k) in
+    let g = content_good h names es p.line (type_text t.0) (front _ _ t.2) e (λ z. absurd (is_no_string (type_text t.0) p.line (back _ _ t.2) z)) in
+    let r = is_bind (λ text. content_of (context h names) es (type_text text)) _ t.0 t.1 (g.0, g.1) in
+    (r.0, r.1, λ x s fits w. g.2 x s fits (ap (λ (o : Option (List ℕ)). has_names names (option_map_or (λ text. argument_words (type_text text)) o [])) (sym t.1) ∙ w))
 
 member_there : (h : Home) (m : expressions.MemberPath) → is_member h.declared h.within m ≡ true → Is (given_member h.declared h.within m)
 unfolding is_member given_member
@@ -150,11 +172,7 @@ member_there h m k = go (enum_at h.declared h.within m) k
   where
     go : (o : Option ℕ) → is_some (option_and_then (λ e. number_of_id h.declared.constants e m.name) o) ≡ true → Is (option_and_then (λ e. option_map (enum_member e) (number_of_id h.declared.constants e m.name)) o)
     go None k = absurd cc
-    go (Some e) k = is_map (enum_member e) _ (there_of (number_of_id h.declared.constants e m.name) k)
-      where
-        there_of : {A : Type 0} (o : Option A) → is_some o ≡ true → Is o
-        there_of None h = absurd cc
-        there_of (Some x) h = (x, refl)
+    go (Some e) k = is_map (enum_member e) _ (some_of (number_of_id h.declared.constants e m.name) k)
 
 known_member : (h : Home) (line : ℕ) (m : expressions.MemberPath) → expression_faults h sites.Case line (Some (expressions.member m)) ≡ [] → is_member h.declared h.within m ≡ true
 unfolding expression_faults name_faults part_faults
@@ -164,36 +182,37 @@ known_member h line m k = go (is_member h.declared h.within m) k
     go true k = refl
     go false k = absurd cc
 
-value_is : (h : Home) (names : List (List ℕ)) (line : ℕ) (v : CaseKey) → case_value_faults h line v ≡ [] → Is (value_of (context h names) v)
+value_good : (h : Home) (names : List (List ℕ)) (line : ℕ) (v : CaseKey) → case_value_faults h line v ≡ [] → Good h.declared names [] (λ x. IfAny (IsResolvedValue x)) (value_of (context h names) v)
 unfolding case_value_faults value_of
-value_is h names line (ConstantKey c) k = (_, refl)
-value_is h names line (Negative n) k = (_, refl)
-value_is h names line (MemberKey m) k = is_map _ _ (member_there h m (known_member h line m k))
-value_is h names line Default k = (None, refl)
-value_is h names line NoKey k = absurd (no_fault line bad_value k)
+value_good h names line (ConstantKey c) k = (_, refl, λ x s fits w. tt)
+value_good h names line (Negative n) k = (_, refl, λ x s fits w. tt)
+value_good h names line (MemberKey m) k =
+    let g = member_there h m (known_member h line m k) in
+    let r = is_map (λ g. Some (EnumValue g)) _ g in
+    (r.0, r.1, λ x s fits w. given_leads h.declared x fits h.within m g.0 g.1)
+value_good h names line Default k = (None, refl, λ x s fits w. tt)
+value_good h names line NoKey k = absurd (no_fault line bad_value k)
 
-key_value : (h : Home) (names : List (List ℕ)) (line : ℕ) (text : List ℕ) → case_key_faults h line (expression_of text) ≡ [] → Is (case_value (context h names) text)
+key_value : (h : Home) (names : List (List ℕ)) (line : ℕ) (text : List ℕ) → case_key_faults h line (expression_of text) ≡ [] → Good h.declared names [] (λ x. IfAny (IsResolvedValue x)) (case_value (context h names) text)
 unfolding case_key_faults case_value
 key_value h names line text k = go (expression_of text) k
   where
-    go : (o : Option expressions.Tree) → case_key_faults h line o ≡ [] → Is (o >>= λ e. value_of (context h names) (case_key e))
+    go : (o : Option expressions.Tree) → case_key_faults h line o ≡ [] → Good h.declared names [] (λ x. IfAny (IsResolvedValue x)) (o >>= λ e. value_of (context h names) (case_key e))
     go None k = absurd (no_fault line no_expression k)
-    go (Some e) k = value_is h names line (case_key e) k
+    go (Some e) k = value_good h names line (case_key e) k
 
-case_is : (h : Home) (names : List (List ℕ)) (es : List Pair) (p : Pair) → case_faults h p ≡ [] → Is (perhaps_enum (context h names) es) → Is (case_of (context h names) es p)
+case_good : (h : Home) (names : List (List ℕ)) (es : List Pair) (p : Pair) → case_faults h p ≡ [] → GoodEnum h names es → Good h.declared names (type_words p) IsResolvedCase (case_of (context h names) es p)
 unfolding case_faults case_of
-case_is h names es p k e =
-    let v = key_value h names p.line p.key (front (case_key_faults h p.line (expression_of p.key)) (text_faults (λ text. case_type_faults h p.line (type_text text)) p) k) in
+case_good h names es p k e =
+    let v = key_value h names p.line p.key (front _ _ k) in
     let c = case_content h names es p k e in
-    is_bind _ _ v.0 v.1 (is_bind _ _ c.0 c.1 (_, refl))
+    let r = is_bind _ _ v.0 v.1 (is_bind _ _ c.0 c.1 (_, refl)) in
+    (r.0, r.1, λ x s fits w. (v.2 x s fits refl, c.2 x s fits w))
 
--- each of a list is something
-pub each_is : {A B : Type 0} (faults : A → List Fault) (f : A → Option B) → ((x : A) → faults x ≡ [] → Is (f x)) → (xs : List A) → flat_map faults xs ≡ [] → Is (each f xs)
-each_is faults f s [] k = ([], refl)
-each_is faults f s (x ∷ xs) k =
-    let y = s x (front (faults x) (flat_map faults xs) k) in
-    let ys = each_is faults f s xs (back (faults x) (flat_map faults xs) k) in
-    is_bind _ _ y.0 y.1 (is_bind _ _ ys.0 ys.1 (y.0 ∷ ys.0, refl))
-
-pub cases_are : (h : Home) (names : List (List ℕ)) (es keys : List Pair) → Is (perhaps_enum (context h names) es) → flat_map (case_faults h) keys ≡ [] → Is (each (case_of (context h names) es) keys)
-cases_are h names es keys e k = each_is (case_faults h) (case_of (context h names) es) (λ p k. case_is h names es p k e) keys k
+pub cases_good : (h : Home) (names : List (List ℕ)) (es keys : List Pair) → GoodEnum h names es → flat_map (case_faults h) keys ≡ [] → Good h.declared names (flat_map type_words keys) (λ x. Each (IsResolvedCase x)) (each (case_of (context h names) es) keys)
+cases_good h names es [] e k = ([], refl, λ x s fits w. tt)
+cases_good h names es (p ∷ ps) e k =
+    let c = case_good h names es p (front _ _ k) e in
+    let cs = cases_good h names es ps e (back _ _ k) in
+    let r = is_bind _ _ c.0 c.1 (is_bind _ _ cs.0 cs.1 (c.0 ∷ cs.0, refl)) in
+    (r.0, r.1, λ x s fits w. let ws = has_both names (type_words p) (flat_map type_words ps) w in (c.2 x s fits ws.0, cs.2 x s fits ws.1))

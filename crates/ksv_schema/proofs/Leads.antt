@@ -25,9 +25,8 @@ use Rattle.ksv_schema_names.proofs.Found.{place_within, outwards_is}
 use Rattle.ksv_schema_build.specs.Stated.{numbered_of, enum_of, each, each_numbered}
 use Rattle.ksv_desc.specs.Description.{Description, Numbered, Enum, as_text, member_id}
 use Rattle.ksv_desc.specs.Resolved.{parameters, Each, IsThere, IsNamed, IsType, IsMemberOf, IsResolvedTree, AreResolvedTrees}
-use Rattle.ksv_schema.proofs.Coherent.{some_same}
+use Rattle.ksv_schema.proofs.Coherent.{some_same, each_and, each_mapped}
 use Rattle.ksv_schema.proofs.Texts.{both}
-use Rattle.ksv_schema.proofs.OwnNames.{each_and, each_mapped}
 
 -- ---- what there is came from something
 

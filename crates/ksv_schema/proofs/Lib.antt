@@ -1,12 +1,11 @@
 -- Lemmas of the crate.
 pub mod Coherent
+pub mod Good
 pub mod Contents
 pub mod Fields
 pub mod Texts
-pub mod Whole
-pub mod OwnNames
 pub mod Leads
-pub mod Resolved
-pub mod ResolvedFields
-pub mod ResolvedMembers
+pub mod Whole
+pub mod Members
+pub mod OwnNames
 pub mod Theorem

@@ -11,7 +11,7 @@ use Rattle.ksv_desc.specs.Description.{Description}
 use Rattle.ksv_schema.specs.Outcome.{States, Refuses}
 use Rattle.ksv_desc.specs.Resolved.{IsResolved}
 use Rattle.ksv_schema_faults.proofs.Least.{nothing_noted, noted_least}
-use Rattle.ksv_schema.proofs.ResolvedMembers.{tree_resolved}
+use Rattle.ksv_schema.proofs.OwnNames.{tree_resolved}
 use Rattle.ksv_schema.proofs.OwnNames.{tree_states}
 
 -- ---- what is declared, and the tree

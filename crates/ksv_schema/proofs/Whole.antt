@@ -1,96 +1,28 @@
--- A tree without faults states one description.
-use Rattle.std.proofs.Common.{◌≡◌, ℕ, zero, suc, ◌+◌, Bool, true, false, cond, List, [], ◌∷◌, ◌++◌, sym, ap, subst, ◌∙◌, refl, Option, Some, None}
-use Rattle.std.specs.Prelude.{codes, not, ◌==◌, ◌&&◌, ◌||◌, is_some, option_and_then, map, flat_map, filter, unwrap_or, slice_get}
-use Rattle.std.specs.List.{list_any, position_from}
+-- Without faults each encoding in force is one that there is, and each enum is stated.
+use Rattle.std.proofs.Common.{◌≡◌, ℕ, zero, suc, ◌+◌, Bool, true, false, cond, List, [], ◌∷◌, sym, ap, ◌∙◌, refl, Option, Some, None}
+use Rattle.std.specs.Prelude.{codes, not, ◌==◌, is_some, option_and_then, flat_map, filter, unwrap_or, slice_get}
 use Rattle.std.specs.Option.{option_map_or}
-use Rattle.std.specs.Str.{bytes_eq}
-use Rattle.std.proofs.lemmas.Slice.Eq.{bytes_eq-Decides}
-use Rattle.std.proofs.lemmas.Bool.Decides.{Decides-eqb}
-use Rattle.std.proofs.lemmas.List.Folds.{list_any-append}
+use Rattle.std.specs.Str.{is_utf8}
 use Rattle.ksv_yaml_tree.specs.Tree.{Tree, Text, Seq, Map, Pair, pairs, line_of, text_of, mapping_of, entry_at}
-use Rattle.ksv_schema_scope.specs.declared.member.Role.{Role}
-use Rattle.ksv_schema_scope.specs.declared.member.Role.TheVariants as roles
 use Rattle.ksv_yaml_tree.specs.declared.numeral.Numeral.{Numeral}
 use Rattle.ksv_yaml_tree.specs.declared.numeral.Numeral.TheVariants.{Whole, LeadingZero, NoNumeral}
 use Rattle.ksv_yaml_tree.specs.Numerals.{signed_number}
-use Rattle.ksv_yaml_tree.specs.Keys.{has, text_at, entries_at}
+use Rattle.ksv_yaml_tree.specs.Keys.{text_at, entries_at}
 use Rattle.ksv_schema_scope.specs.Types.{Scope, keys_of, keys_of_type, outwards, from, encoding_in, encoding_of}
-use Rattle.ksv_schema_scope.specs.Members.{Member, is_within, members_within}
 use Rattle.ksv_schema_scope.specs.Enums.{Constant, whole_of}
 use Rattle.ksv_schema_scope.specs.Declarations.{Declared}
-use Rattle.ksv_desc.specs.Names.{distinct, distinct_behind, number_in}
 use Rattle.ksv_schema_faults.specs.Faults.{Fault, fault, fault_if, bad_value, left_out}
-use Rattle.ksv_schema_keys.specs.Keys as forms
-use Rattle.ksv_schema_keys.specs.Keys.{Form, Key, form_in, is_ignored, type_keys, attribute_keys, parse_instance_keys, value_keys, meta_keys, constant_keys, is_id}
+use Rattle.ksv_schema_keys.specs.declared.keys.Form.TheVariants as forms
+use Rattle.ksv_schema_keys.specs.Keys.{form_in, is_ignored, meta_keys, constant_keys, is_id}
 use Rattle.ksv_schema_keys.specs.Values.{encoding_named}
-use Rattle.ksv_schema_faults.specs.Rules.{Home, home_in, home_of, form_faults, value_faults, keys_faults, missing_if, attribute_faults, instance_faults, role_faults, mapping_faults, member_faults, member_again, is_instance, enumeration_faults, numeral_faults, constant_value_faults, number_again, id_again, constant_faults, meta_faults, root_faults, type_key_faults, type_faults, each_from, limit_faults, faults_of, faults, field_rules, value_rules}
-use Rattle.ksv_schema_build.specs.Stated.{Context, kind_of, member_of, type_of, numbered_of, enum_of, each, each_numbered, member_names, member_words, names_of, stated_by, value_instance_of, parse_instance_of}
-use Rattle.ksv_desc.specs.Description.{Description, Parameter, Attribute}
-use Rattle.ksv_schema.specs.Outcome.{States}
-use Rattle.ksv_schema.proofs.Coherent.{Is, front, back, not_if, not_not, no_fault, some_same, is_map, is_bind, at_key, has_text, context, not_missing}
-use Rattle.std.specs.List.{list_all}
-use Rattle.std.specs.Str.{is_utf8}
-use Rattle.ksv_schema_build.specs.Stated.{are_texts, described}
+use Rattle.ksv_schema_faults.specs.Rules.{Home, home_in, form_faults, enumeration_faults, numeral_faults, constant_value_faults, constant_faults, meta_key_faults, meta_faults, type_key_faults, type_faults, numbered_type_faults, each_from, faults}
+use Rattle.ksv_schema_build.specs.Stated.{numbered_of, enum_of, each, each_numbered}
+use Rattle.ksv_schema.proofs.Coherent.{Is, front, back, not_if, not_not, no_fault, some_same, is_bind, at_key, has_text, text_fits, some_of, not_missing}
 use Rattle.ksv_desc.specs.Description.{as_text}
-use Rattle.ksv_schema.proofs.Texts.{both, id_is_text, as_text_is}
+use Rattle.ksv_schema.proofs.Texts.{id_is_text, as_text_is}
 use Rattle.ksv_schema.proofs.Contents.{AreEncodings}
-use Rattle.ksv_schema.proofs.Fields.{is_attribute, is_parse_instance, is_value_instance}
 use Rattle.ksv_expr_syntax.specs.Reading.{◌>>=◌}
-use Rattle.std.specs.Prelude.{length, is_none}
 use Rattle.ksv_schema_scope.specs.Enums.{Enumeration, id_of, number_written}
-
--- ---- names
-
-equal_itself : (name : List ℕ) → bytes_eq name name ≡ true
-equal_itself name = (bytes_eq-Decides name name).1 refl
-
-or_true : (b : Bool) → (b || true) ≡ true
-or_true true = refl
-or_true false = refl
-
-any_left : (name : List ℕ) (xs ys : List (List ℕ)) → list_any (bytes_eq name) xs ≡ true → list_any (bytes_eq name) (xs ++ ys) ≡ true
-any_left name xs ys h = list_any-append (bytes_eq name) xs ys ∙ ap (λ (b : Bool). b || list_any (bytes_eq name) ys) h
-
-any_right : (name : List ℕ) (xs ys : List (List ℕ)) → list_any (bytes_eq name) ys ≡ true → list_any (bytes_eq name) (xs ++ ys) ≡ true
-any_right name xs ys h = list_any-append (bytes_eq name) xs ys ∙ ap (λ (b : Bool). list_any (bytes_eq name) xs || b) h ∙ or_true _
-
--- what stood before stays
-any_kept : (name : List ℕ) (before names : List (List ℕ)) → list_any (bytes_eq name) before ≡ true → list_any (bytes_eq name) (distinct_behind before names) ≡ true
-any_kept name before [] h = h
-any_kept name before (n ∷ ns) h = any_kept name (cond (list_any (bytes_eq n) before) before (before ++ n ∷ [])) ns (go (list_any (bytes_eq n) before))
-  where
-    go : (b : Bool) → list_any (bytes_eq name) (cond b before (before ++ n ∷ [])) ≡ true
-    go true = h
-    go false = any_left name before (n ∷ []) h
-
--- each name is there
-any_new : (name : List ℕ) (before names : List (List ℕ)) → list_any (bytes_eq name) names ≡ true → list_any (bytes_eq name) (distinct_behind before names) ≡ true
-any_new name before [] h = absurd cc
-any_new name before (n ∷ ns) h = by_head (bytes_eq name n) refl (any_new name (cond (list_any (bytes_eq n) before) before (before ++ n ∷ [])) ns) h
-  where
-    here : (b : Bool) → list_any (bytes_eq n) before ≡ b → name ≡ n → list_any (bytes_eq name) (cond b before (before ++ n ∷ [])) ≡ true
-    here true e s = ap (λ n. list_any (bytes_eq n) before) s ∙ e
-    here false e s = any_right name before (n ∷ []) (ap (λ (b : Bool). b || false) ((bytes_eq-Decides name n).1 s))
-
-    by_head : (b : Bool) → bytes_eq name n ≡ b → (list_any (bytes_eq name) ns ≡ true → list_any (bytes_eq name) (distinct_behind (cond (list_any (bytes_eq n) before) before (before ++ n ∷ [])) ns) ≡ true) → (b || list_any (bytes_eq name) ns) ≡ true → list_any (bytes_eq name) (distinct_behind (cond (list_any (bytes_eq n) before) before (before ++ n ∷ [])) ns) ≡ true
-    by_head true e f h = any_kept name (cond (list_any (bytes_eq n) before) before (before ++ n ∷ [])) ns (here (list_any (bytes_eq n) before) refl ((bytes_eq-Decides name n).0 e))
-    by_head false e f h = f h
-
-any_placed : (name : List ℕ) (i : ℕ) (names : List (List ℕ)) → list_any (bytes_eq name) names ≡ true → Is (position_from (bytes_eq name) i names)
-any_placed name i [] h = absurd cc
-any_placed name i (n ∷ ns) h = go (bytes_eq name n) (any_placed name (i + 1) ns) h
-  where
-    go : (b : Bool) → (list_any (bytes_eq name) ns ≡ true → Is (position_from (bytes_eq name) (i + 1) ns)) → (b || list_any (bytes_eq name) ns) ≡ true → Is (cond b (Some i) (position_from (bytes_eq name) (i + 1) ns))
-    go true f h = (i, refl)
-    go false f h = f h
-
--- the name of a member has a number
-abbrev AreNamed : List (List ℕ) → List Member → Type 0
-AreNamed names ms = (name : List ℕ) → list_any (bytes_eq name) (map (λ m. m.name) ms) ≡ true → Is (number_in names name)
-
-members_named : (d : Declared) → AreNamed (names_of d) d.members
-unfolding names_of member_names distinct number_in
-members_named d name h = any_placed name 0 (names_of d) (any_kept name (member_names d) (flat_map member_words d.members) (any_new name [] (map (λ m. m.name) d.members) h))
 
 -- ---- encodings in force
 
@@ -107,42 +39,28 @@ from_at faults k [] i x h e = absurd cc
 from_at faults k (y ∷ ys) zero x h e = (k, ap (faults k) (sym (some_same y x e)) ∙ front (faults k y) (each_from faults (k + 1) ys) h)
 from_at faults k (y ∷ ys) (suc i) x h e = from_at faults (k + 1) ys i x (back (faults k y) (each_from faults (k + 1) ys) h) e
 
-some_of : {A : Type 0} (o : Option A) → not (is_some o) ≡ false → Is o
-some_of None h = absurd cc
-some_of (Some x) h = (x, refl)
-
 -- the encoding that a type without faults sets
-meta_encoding : (d : Declared) (n : ℕ) (es : List Pair) (text : List ℕ) → meta_faults d n (entry_at (codes "meta") es) ≡ [] → text_at (codes "encoding") (entries_at (codes "meta") es) ≡ Some text → Is (encoding_named text)
+meta_encoding : (h : Home) (es : List Pair) (text : List ℕ) → meta_faults h (entry_at (codes "meta") es) ≡ [] → text_at (codes "encoding") (entries_at (codes "meta") es) ≡ Some text → Is (encoding_named text)
 unfolding meta_faults is_ignored form_in form_faults
-meta_encoding d n es text k t = go (entry_at (codes "meta") es) k t
+meta_encoding h es text k t = go (entry_at (codes "meta") es) k t
   where
-    named : (line : ℕ) (ms : List Pair) (o : Option Pair) → entry_at (codes "encoding") ms ≡ o → keys_faults (form_faults (home_in d n)) meta_keys ms ≡ [] → option_and_then (λ p. text_of p.value) o ≡ Some text → Is (encoding_named text)
-    named line ms None e k t = absurd cc
-    named line ms (Some p) e k t =
-        let r = has_text (λ text. fault_if (not (is_some (encoding_named text))) p.line left_out) p (at_key (form_faults (home_in d n)) meta_keys (codes "encoding") forms.Coding ms p refl refl k e) in
-        let same : r.0 ≡ text = some_same r.0 text (sym r.1 ∙ t) in
-        some_of (encoding_named text) (ap (λ text. not (is_some (encoding_named text))) (sym same) ∙ not_if _ p.line left_out r.2)
-
-    mapped : (p : Pair) (o : Option (List Pair)) → option_map_or (λ ms. keys_faults (form_faults (home_in d n)) meta_keys ms ++ missing_if (n == 0 && not (has (codes "id") ms)) (line_of p.value)) o [] ≡ [] → text_at (codes "encoding") (unwrap_or o []) ≡ Some text → Is (encoding_named text)
+    mapped : (p : Pair) (o : Option (List Pair)) → option_map_or (meta_key_faults h (line_of p.value)) o [] ≡ [] → text_at (codes "encoding") (unwrap_or o []) ≡ Some text → Is (encoding_named text)
     mapped p None k t = absurd cc
-    mapped p (Some ms) k t = named 0 ms (entry_at (codes "encoding") ms) refl (front (keys_faults (form_faults (home_in d n)) meta_keys ms) (missing_if (n == 0 && not (has (codes "id") ms)) (line_of p.value)) k) t
+    mapped p (Some ms) k t = some_of (encoding_named text) (text_fits (form_faults h) meta_keys (codes "encoding") forms.Coding (λ text. is_some (encoding_named text)) left_out ms text (λ p. refl) refl refl (front _ _ k) t)
 
-    go : (o : Option Pair) → meta_faults d n o ≡ [] → text_at (codes "encoding") (unwrap_or (option_and_then (λ p. mapping_of p.value) o) []) ≡ Some text → Is (encoding_named text)
+    go : (o : Option Pair) → meta_faults h o ≡ [] → text_at (codes "encoding") (unwrap_or (option_and_then (λ p. mapping_of p.value) o) []) ≡ Some text → Is (encoding_named text)
     go None k t = absurd cc
     go (Some p) k t = mapped p (mapping_of p.value) k t
 
-type_encoding : (d : Declared) (n : ℕ) (s : Scope) (text : List ℕ) → type_faults d n s ≡ [] → text_at (codes "encoding") (entries_at (codes "meta") (keys_of s)) ≡ Some text → Is (encoding_named text)
+type_encoding : (h : Home) (s : Scope) (text : List ℕ) → type_faults h s ≡ [] → text_at (codes "encoding") (entries_at (codes "meta") (keys_of s)) ≡ Some text → Is (encoding_named text)
 unfolding type_faults type_key_faults
-type_encoding d n s text k t = go (mapping_of s.value) (front (option_map_or (type_key_faults d n s) (mapping_of s.value) (fault s.line bad_value)) (fault_if (not (n == 0) && not (is_id s.id)) s.line bad_value) k) t
+type_encoding h s text k t = go (mapping_of s.value) (front _ _ k) t
   where
-    go : (o : Option (List Pair)) → option_map_or (type_key_faults d n s) o (fault s.line bad_value) ≡ [] → text_at (codes "encoding") (entries_at (codes "meta") (unwrap_or o [])) ≡ Some text → Is (encoding_named text)
+    go : (o : Option (List Pair)) → option_map_or (type_key_faults h s.line) o (fault s.line bad_value) ≡ [] → text_at (codes "encoding") (entries_at (codes "meta") (unwrap_or o [])) ≡ Some text → Is (encoding_named text)
     go None k t = absurd cc
-    go (Some es) k t =
-        let keys = keys_faults (form_faults (home_in d n)) type_keys es in
-        let meta = meta_faults d n (entry_at (codes "meta") es) in
-        meta_encoding d n es text (back keys meta (front (keys ++ meta) (cond (n == 0) (root_faults s.line es) []) k)) t
+    go (Some es) k t = meta_encoding h es text (back _ _ (front _ _ k)) t
 
-are_encodings : (d : Declared) → each_from (type_faults d) 0 d.types ≡ [] → AreEncodings d
+pub are_encodings : (d : Declared) → each_from (numbered_type_faults d) 0 d.types ≡ [] → AreEncodings d
 unfolding encoding_of encoding_in keys_of_type
 are_encodings d k n text e =
     let r = outwards_found (encoding_in d.types) (from d.types n) text e in
@@ -150,54 +68,7 @@ are_encodings d k n text e =
   where
     go : (m : ℕ) (o : Option Scope) → slice_get d.types m ≡ o → text_at (codes "encoding") (entries_at (codes "meta") (option_map_or keys_of o [])) ≡ Some text → Is (encoding_named text)
     go m None e t = absurd cc
-    go m (Some s) e t = let f = from_at (type_faults d) 0 d.types m s k e in type_encoding d f.0 s text f.1 t
-
--- ---- members
-
-kind_is : (h : Home) (names : List (List ℕ)) (role : Role) (name_line line : ℕ) (es : List Pair) → AreEncodings h.declared → role_faults role h name_line line es ≡ [] → Is (kind_of (context h names) role es)
-unfolding role_faults kind_of attribute_faults instance_faults
-kind_is h names roles.Parameter name_line line es a k = (Parameter, refl)
-kind_is h names roles.Attribute name_line line es a k =
-    is_map Attribute _ (is_attribute h names line es a (front (keys_faults (value_faults h) attribute_keys es) (field_rules h line es) k) (back (keys_faults (value_faults h) attribute_keys es) (field_rules h line es) k))
-kind_is h names roles.Instance name_line line es a k = go (has (codes "value") es) (has (codes "pos") es) refl refl k
-  where
-    go : (v p : Bool) → has (codes "value") es ≡ v → has (codes "pos") es ≡ p → cond v (keys_faults (value_faults h) value_keys es ++ value_rules es) (cond p (keys_faults (value_faults h) parse_instance_keys es ++ field_rules h line es) (keys_faults (value_faults h) parse_instance_keys es ++ fault name_line left_out)) ≡ [] → Is (cond v (value_instance_of (context h names) es) (parse_instance_of (context h names) es))
-    go true p x y k = is_value_instance h names es x (front (keys_faults (value_faults h) value_keys es) (value_rules es) k)
-    go false true x y k = is_parse_instance h names line es a y (front (keys_faults (value_faults h) parse_instance_keys es) (field_rules h line es) k) (back (keys_faults (value_faults h) parse_instance_keys es) (field_rules h line es) k)
-    go false false x y k = absurd (no_fault name_line left_out (back (keys_faults (value_faults h) parse_instance_keys es) (fault name_line left_out) k))
-
--- where the members of a type stand
-abbrev within : Declared → ℕ → Context
-within d n = record { declared = d; names = names_of d; within = n }
-
-member_is : (d : Declared) (i : ℕ) (m : Member) → AreEncodings d → is_utf8 m.name ≡ true → Is (number_in (names_of d) m.name) → member_faults d i m ≡ [] → Is (member_of (within d m.within) m)
-unfolding member_faults mapping_faults member_of
-member_is d i m a u n k = go (mapping_of m.value) refl mapping
-  where
-    mapping : option_map_or (mapping_faults d m) (mapping_of m.value) (fault m.line bad_value) ≡ []
-    mapping = front (option_map_or (mapping_faults d m) (mapping_of m.value) (fault m.line bad_value)) (fault_if (is_instance m.role && not (is_id m.name)) m.line bad_value) (front (option_map_or (mapping_faults d m) (mapping_of m.value) (fault m.line bad_value) ++ fault_if (is_instance m.role && not (is_id m.name)) m.line bad_value) (member_again d i m) k)
-
-    go : (o : Option (List Pair)) → mapping_of m.value ≡ o → option_map_or (mapping_faults d m) o (fault m.line bad_value) ≡ [] → Is (member_of (within d m.within) m)
-    go None e k = absurd (no_fault m.line bad_value k)
-    go (Some es) e k =
-        let r = kind_is (home_of d m es) (names_of d) m.role m.line (line_of m.value) es a k in
-        is_bind _ _ m.name (as_text_is m.name u) (is_bind _ _ n.0 n.1 (is_bind _ _ es e (is_bind _ _ r.0 r.1 (_, refl))))
-
-same_number : (n k : ℕ) → (n == k) ≡ true → n ≡ k
-same_number n k h = (Decides-eqb n k).0 h
-
--- the members of one type among all
-members_are : (d : Declared) (n i : ℕ) (ms : List Member) → AreEncodings d → list_all (λ m. is_utf8 m.name) ms ≡ true → AreNamed (names_of d) ms → each_from (member_faults d) i ms ≡ [] → Is (each (member_of (within d n)) (filter (is_within n) ms))
-members_are d n i [] a u g k = ([], refl)
-members_are d n i (m ∷ ms) a u g k =
-    go (is_within n m) refl (members_are d n (i + 1) ms a (both (is_utf8 m.name) (list_all (λ m. is_utf8 m.name) ms) u).1 (λ name h. g name (ap (λ (b : Bool). bytes_eq name m.name || b) h ∙ or_true _)) (back (member_faults d i m) (each_from (member_faults d) (i + 1) ms) k))
-  where
-    here : is_within n m ≡ true → Is (member_of (within d n) m)
-    here e = subst (λ n. Is (member_of (within d n) m)) (same_number m.within n e) (member_is d i m a (both (is_utf8 m.name) (list_all (λ m. is_utf8 m.name) ms) u).0 (g m.name (ap (λ (b : Bool). b || list_any (bytes_eq m.name) (map (λ m. m.name) ms)) (equal_itself m.name))) (front (member_faults d i m) (each_from (member_faults d) (i + 1) ms) k))
-
-    go : (b : Bool) → is_within n m ≡ b → Is (each (member_of (within d n)) (filter (is_within n) ms)) → Is (each (member_of (within d n)) (cond b (m ∷ filter (is_within n) ms) (filter (is_within n) ms)))
-    go true e r = let x = here e in is_bind _ _ x.0 x.1 (is_bind _ _ r.0 r.1 (x.0 ∷ r.0, refl))
-    go false e r = r
+    go m (Some s) e t = let f = from_at (numbered_type_faults d) 0 d.types m s k e in type_encoding (home_in d f.0) s text f.1 t
 
 -- ---- enums
 
@@ -206,83 +77,57 @@ whole_is line (Whole n) k = (n, refl)
 whole_is line LeadingZero k = absurd (no_fault line left_out k)
 whole_is line NoNumeral k = absurd (no_fault line bad_value k)
 
-id_is : (d : Declared) (line : ℕ) (t : Tree) → constant_value_faults d line t ≡ [] → Is (id_of t >>= as_text)
+id_is : (h : Home) (line : ℕ) (t : Tree) → constant_value_faults h line t ≡ [] → Is (id_of t >>= as_text)
 unfolding constant_value_faults id_of form_faults form_in is_ignored
-id_is d line (Text first quoted text) k = (text, as_text_is text (id_is_text text (not_not (is_id text) (not_if (not (is_id text)) line bad_value k))))
-id_is d line (Seq first ts) k = absurd (no_fault line bad_value k)
-id_is d line (Map first es) k =
-    let all = front (keys_faults (form_faults (home_in d 0)) constant_keys (pairs es)) (missing_if (not (has (codes "id") (pairs es))) first) k in
-    let p = not_missing (codes "id") (pairs es) first (back (keys_faults (form_faults (home_in d 0)) constant_keys (pairs es)) (missing_if (not (has (codes "id") (pairs es))) first) k) in
-    let t = has_text (λ text. fault_if (not (is_id text)) p.0.line bad_value) p.0 (at_key (form_faults (home_in d 0)) constant_keys (codes "id") forms.Id (pairs es) p.0 refl refl all p.1) in
-    is_bind as_text (text_at (codes "id") (pairs es)) t.0 (ap (option_and_then (λ p. text_of p.value)) p.1 ∙ t.1) (t.0, as_text_is t.0 (id_is_text t.0 (not_not (is_id t.0) (not_if (not (is_id t.0)) p.0.line bad_value t.2))))
+id_is h line (Text first quoted text) k = (text, as_text_is text (id_is_text text (not_not (is_id text) (not_if _ line bad_value k))))
+id_is h line (Seq first ts) k = absurd (no_fault line bad_value k)
+id_is h line (Map first es) k =
+    let p = not_missing (codes "id") (pairs es) first (back _ _ k) in
+    let t = has_text (λ text. fault_if (not (is_id text)) p.0.line bad_value) p.0 (at_key (form_faults h) constant_keys (codes "id") forms.Id (pairs es) p.0 refl refl (front _ _ k) p.1) in
+    is_bind as_text _ t.0 (ap (option_and_then (λ p. text_of p.value)) p.1 ∙ t.1) (t.0, as_text_is t.0 (id_is_text t.0 (not_not (is_id t.0) (not_if _ p.0.line bad_value t.2))))
 
-constant_is : (d : Declared) (i : ℕ) (c : Constant) → constant_faults d i c ≡ [] → Is (numbered_of c)
+constant_is : (h : Home) (i : ℕ) (c : Constant) → constant_faults h i c ≡ [] → Is (numbered_of c)
 unfolding constant_faults numbered_of number_written
-constant_is d i c k =
-    let a = front (numeral_faults c.line (signed_number c.key) ++ constant_value_faults d c.line c.value) (number_again d i c) (front (numeral_faults c.line (signed_number c.key) ++ constant_value_faults d c.line c.value ++ number_again d i c) (id_again d i c) k) in
-    let n = whole_is c.line (signed_number c.key) (front (numeral_faults c.line (signed_number c.key)) (constant_value_faults d c.line c.value) a) in
-    let x = id_is d c.line c.value (back (numeral_faults c.line (signed_number c.key)) (constant_value_faults d c.line c.value) a) in
+constant_is h i c k =
+    let a = front _ _ (front _ _ k) in
+    let n = whole_is c.line (signed_number c.key) (front _ _ a) in
+    let x = id_is h c.line c.value (back _ _ a) in
     is_bind _ _ n.0 n.1 (is_bind _ _ x.0 x.1 (_, refl))
 
-constants_are : (d : Declared) (e i : ℕ) (cs : List Constant) → each_from (constant_faults d) i cs ≡ [] → Is (each numbered_of (filter (λ c. c.within == e) cs))
-constants_are d e i [] k = ([], refl)
-constants_are d e i (c ∷ cs) k = go (c.within == e) (constants_are d e (i + 1) cs (back (constant_faults d i c) (each_from (constant_faults d) (i + 1) cs) k))
+constants_are : (h : Home) (e i : ℕ) (cs : List Constant) → each_from (constant_faults h) i cs ≡ [] → Is (each numbered_of (filter (λ c. c.within == e) cs))
+constants_are h e i [] k = ([], refl)
+constants_are h e i (c ∷ cs) k = go (c.within == e) (constants_are h e (i + 1) cs (back _ _ k))
   where
     here : Is (numbered_of c)
-    here = constant_is d i c (front (constant_faults d i c) (each_from (constant_faults d) (i + 1) cs) k)
+    here = constant_is h i c (front _ _ k)
 
     go : (b : Bool) → Is (each numbered_of (filter (λ c. c.within == e) cs)) → Is (each numbered_of (cond b (c ∷ filter (λ c. c.within == e) cs) (filter (λ c. c.within == e) cs)))
-    go true r = let x = here in is_bind _ _ x.0 x.1 (is_bind _ _ r.0 r.1 (x.0 ∷ r.0, refl))
+    go true r = is_bind _ _ here.0 here.1 (is_bind _ _ r.0 r.1 (here.0 ∷ r.0, refl))
     go false r = r
 
--- ---- a description
-
-enum_is : (d : Declared) (e : ℕ) (x : Enumeration) → enumeration_faults x ≡ [] → each_from (constant_faults d) 0 d.constants ≡ [] → Is (enum_of d e x)
+pub enum_is : (d : Declared) (e : ℕ) (x : Enumeration) → enumeration_faults x ≡ [] → each_from (constant_faults (home_in d 0)) 0 d.constants ≡ [] → Is (enum_of d e x)
 unfolding enumeration_faults enum_of
 enum_is d e x k c =
-    let text = as_text_is x.id (id_is_text x.id (not_not (is_id x.id) (not_if (not (is_id x.id)) x.line bad_value (front (fault_if (not (is_id x.id)) x.line bad_value) (fault_if (is_none (mapping_of x.value)) x.line bad_value) k)))) in
-    let r = constants_are d e 0 d.constants c in
+    let text = as_text_is x.id (id_is_text x.id (not_not (is_id x.id) (not_if _ x.line bad_value (front _ _ k)))) in
+    let r = constants_are (home_in d 0) e 0 d.constants c in
     is_bind _ _ x.id text (is_bind _ _ r.0 r.1 (_, refl))
 
-enums_are : (d : Declared) (e : ℕ) (xs : List Enumeration) → flat_map enumeration_faults xs ≡ [] → each_from (constant_faults d) 0 d.constants ≡ [] → Is (each_numbered (enum_of d) e xs)
-enums_are d e [] k c = ([], refl)
-enums_are d e (x ∷ xs) k c =
-    let y = enum_is d e x (front (enumeration_faults x) (flat_map enumeration_faults xs) k) c in
-    let ys = enums_are d (e + 1) xs (back (enumeration_faults x) (flat_map enumeration_faults xs) k) c in
+-- ---- lists
+
+-- the results for all of a list, by number
+pub each_numbered_is : {A B : Type 0} (f : ℕ → A → Option B) (n : ℕ) (xs : List A) → ((k i : ℕ) (x : A) → slice_get xs i ≡ Some x → Is (f k x)) → Is (each_numbered f n xs)
+each_numbered_is f n [] g = ([], refl)
+each_numbered_is f n (x ∷ xs) g =
+    let y = g n 0 x refl in
+    let ys = each_numbered_is f (n + 1) xs (λ k i. g k (suc i)) in
     is_bind _ _ y.0 y.1 (is_bind _ _ ys.0 ys.1 (y.0 ∷ ys.0, refl))
 
-type_is : (d : Declared) (n : ℕ) (s : Scope) → is_utf8 s.id ≡ true → Is (each (member_of (within d n)) (members_within d.members n)) → Is (type_of d (names_of d) n s)
-unfolding type_of
-type_is d n s u m = is_bind _ _ s.id (as_text_is s.id u) (is_bind _ _ m.0 m.1 (_, refl))
+-- what no element has a fault of
+pub at_place : {A : Type 0} (faults : A → List Fault) (xs : List A) (i : ℕ) (x : A) → flat_map faults xs ≡ [] → slice_get xs i ≡ Some x → faults x ≡ []
+at_place faults [] i x k e = absurd cc
+at_place faults (y ∷ ys) zero x k e = ap faults (sym (some_same y x e)) ∙ front _ _ k
+at_place faults (y ∷ ys) (suc i) x k e = at_place faults ys i x (back _ _ k) e
 
 -- the ids of types are texts in UTF-8
 abbrev pub AreTyped : List Scope → Type 0
 AreTyped ss = (s : Scope) (i : ℕ) → slice_get ss i ≡ Some s → is_utf8 s.id ≡ true
-
-types_are : (d : Declared) (n : ℕ) (ss : List Scope) → AreTyped ss → ((n : ℕ) → Is (each (member_of (within d n)) (members_within d.members n))) → Is (each_numbered (type_of d (names_of d)) n ss)
-types_are d n [] u m = ([], refl)
-types_are d n (s ∷ ss) u m =
-    let t = type_is d n s (u s zero refl) (m n) in
-    let ts = types_are d (n + 1) ss (λ s i h. u s (suc i) h) m in
-    is_bind _ _ t.0 t.1 (is_bind _ _ ts.0 ts.1 (t.0 ∷ ts.0, refl))
-
-pub declared_states : (d : Declared) → are_texts d.members ≡ true → AreTyped d.types → faults_of d ≡ [] → Is (stated_by d)
-unfolding faults_of stated_by described members_within are_texts
-declared_states d u v k =
-    let types = each_from (type_faults d) 0 d.types in
-    let members = each_from (member_faults d) 0 d.members in
-    let enums = flat_map enumeration_faults d.enums in
-    let constants = each_from (constant_faults d) 0 d.constants in
-    let k3 = front (limit_faults d ++ types ++ members ++ enums) constants k in
-    let k2 = front (limit_faults d ++ types ++ members) enums k3 in
-    let k1 = front (limit_faults d ++ types) members k2 in
-    let a = are_encodings d (back (limit_faults d) types k1) in
-    let m = back (limit_faults d ++ types) members k2 in
-    let c = back (limit_faults d ++ types ++ members ++ enums) constants k in
-    let ts = types_are d 0 d.types v (λ n. members_are d n 0 d.members a u (members_named d) m) in
-    let es = enums_are d 0 d.enums (back (limit_faults d ++ types ++ members) enums k3) c in
-    let r : Is (described d (names_of d) (length (member_names d))) = is_bind _ _ ts.0 ts.1 (is_bind _ _ es.0 es.1 (_, refl)) in
-    (r.0, ap (λ (b : Bool). cond b (described d (names_of d) (length (member_names d))) None) u ∙ r.1)
-
-pub states_one : (t : Tree) (d e : Description) → States t d → States t e → d ≡ e
-states_one t d e x y = some_same d e (sym x.is ∙ y.is)

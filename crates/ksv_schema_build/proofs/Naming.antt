@@ -3,7 +3,8 @@ use Rattle.std.proofs.Common.{◌≡◌, ℕ, List, Bool, true, false, Some, con
 use Rattle.std.specs.Prelude.{codes, option_map, find}
 use Rattle.std.specs.Str.{bytes_eq}
 use Rattle.ksv_schema_names.specs.declared.position.Site.TheVariants as sites
-use Rattle.ksv_schema_keys.specs.Keys.{Key, key, form_in, Expression, parse_instance_keys}
+use Rattle.ksv_schema_keys.specs.declared.keys.Form.TheVariants.{Expression}
+use Rattle.ksv_schema_keys.specs.Keys.{Key, key, form_in, parse_instance_keys}
 use Rattle.ksv_schema_build.specs.Stated.{naming_keys}
 
 pub naming_value : (name : List ℕ) → bytes_eq name (codes "value") ≡ true → form_in naming_keys name ≡ Some (Expression sites.Value)

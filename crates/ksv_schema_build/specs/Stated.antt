@@ -1,6 +1,6 @@
 -- The description that a tree states: its types with their members, its enums, and the names of all members. Types,
 -- enums and names are known by their numbers; every name is resolved.
-use Rattle.std.specs.Prelude.{ℕ, ◌+◌, Bool, if◌then◌else◌, ◌==◌, List, [], ◌∷◌, ◌++◌, length, map, filter, flat_map, codes, Option, Some, None, is_some, option_map}
+use Rattle.std.specs.Prelude.{ℕ, ◌+◌, Bool, if◌then◌else◌, ◌==◌, List, [], ◌∷◌, ◌++◌, length, map, filter, flat_map, codes, Option, Some, None, option_map}
 use Rattle.std.specs.List.{list_all}
 use Rattle.std.specs.Option.{option_map_or}
 use Rattle.std.specs.Str.{bytes_eq, is_utf8}
@@ -24,10 +24,11 @@ use Rattle.ksv_desc.specs.Names.{distinct, distinct_behind, number_in, dotted, a
 use Rattle.ksv_schema_names.specs.declared.position.Site.TheVariants as sites
 use Rattle.ksv_expr_value.specs.declared.encoding.Encoding.{Encoding}
 use Rattle.ksv_desc.specs.Description.{Content, Bytes, Fixed, Number, Characters, Object, CaseValue, Literal, Negated, EnumValue, Case, Choice, Always, Switch, Extent, Sized, SizeEos, ByItself, Terminator, Repeat, Once, Eos, Expr, Until, Field, MemberKind, Parameter, Attribute, ParseInstance, ValueInstance, MemberOfType, TypeOfObjects, Numbered, Enum, Description, as_text}
-use Rattle.ksv_schema_keys.specs.Keys as forms
-use Rattle.ksv_schema_keys.specs.Keys.{Form, Key, key, parse_instance_keys, switch_keys, form_in}
+use Rattle.ksv_schema_keys.specs.declared.keys.Form.TheVariants as forms
+use Rattle.ksv_schema_keys.specs.declared.keys.Form.{Form}
+use Rattle.ksv_schema_keys.specs.Keys.{Key, key, parse_instance_keys, switch_keys, form_in}
 use Rattle.ksv_schema_keys.specs.Expressions.{expression_of}
-use Rattle.ksv_schema_keys.specs.Values.{encoding_named, TypeText, Unspelled, OfLanguage, OfDescription, type_text, is_strz, type_key, byte_at, contents_of, CaseKey, Constant as ConstantKey, Negative, Member as MemberKey, Default, NoKey, case_key, ids_of, is_true, is_not_false, is_to_end}
+use Rattle.ksv_schema_keys.specs.Values.{encoding_named, TypeText, Unspelled, OfLanguage, OfDescription, type_text, is_strz, own_type, is_a, byte_at, contents_of, CaseKey, Constant as ConstantKey, Negative, Member as MemberKey, Default, NoKey, case_key, ids_of, is_true, is_not_false, is_to_end}
 
 -- ---- the names of a description
 
@@ -188,7 +189,7 @@ terminated_by es byte = record {
 
 -- the byte that is written, or 0 for `strz`
 unfoldable pub terminator_of : List Pair → Option Terminator
-terminator_of es = option_map (terminated_by es) (if is_some (type_key is_strz es) then Some 0 else byte_at (codes "terminator") es)
+terminator_of es = option_map (terminated_by es) (if is_a is_strz (own_type es) then Some 0 else byte_at (codes "terminator") es)
 
 unfoldable pub repeat_of : Context → List Pair → Option Repeat
 repeat_of c es =

@@ -9,11 +9,11 @@ ghost use Rattle.ksv_schema_build.specs.Code.{both};
 
 use std::alloc::AllocError;
 
+/// A piece or a part of one, if there is one, unless memory is refused.
+pub(crate) type Made<T> = Result<Option<T>, AllocError>;
+
 /// A part and the next one, if there is a next one.
-pub(crate) fn both<A: Drop, B: Drop>(
-    one: A,
-    next: Result<Option<B>, AllocError>,
-) -> Result<Option<(A, B)>, AllocError>
+pub(crate) fn both<A: Drop, B: Drop>(one: A, next: Made<B>) -> Made<(A, B)>
     ensures { result ≡ both one next }
 {
     match next {

@@ -11,7 +11,7 @@ ghost use Rattle.ksv_schema_keys.specs.Values.{contents_of};
 ghost use Rattle.ksv_desc.specs.Pieces.{plain_value, plain_case, plain_choice};
 ghost use Rattle.ksv_schema_keys.specs.Code.{seen_case_key, seen_expression};
 
-use crate::both::both;
+use crate::both::{Made, both};
 use crate::content::content_at;
 use crate::contents::contents_of;
 use crate::context::Context;
@@ -37,7 +37,7 @@ fn copied(alloc: Global, literal: &Literal) -> Result<Literal, AllocError>
 }
 
 /// A case of a constant.
-fn constant_value(alloc: Global, literal: &Literal) -> Result<Option<CaseValue>, AllocError>
+fn constant_value(alloc: Global, literal: &Literal) -> Made<CaseValue>
     ensures { IfOk result (λ o. option_map plain_value o ≡ Some (LiteralValue (literal_of literal.now))) }
 {
     let literal = copied(alloc, literal)?;
@@ -56,15 +56,11 @@ fn member_value(context: Context, member: &Member) -> Option<Option<CaseValue>>
 
 /// What a key of `cases` is compared with; None for `_`.
 #[tactic(auto, unfolding(crate::specs::Stated::value_of))]
-fn value_of(
-    alloc: Global,
-    context: Context,
-    key: CaseKey,
-) -> Result<Option<Option<CaseValue>>, AllocError>
+fn value_of(context: Context, key: CaseKey) -> Made<Option<CaseValue>>
     ensures { IfOk result (λ o. option_map (option_map plain_value) o ≡ value_of (context_of context.entry) (seen_case_key key.entry)) }
 {
     match key {
-        CaseKey::Constant(literal) => Ok(Some(constant_value(alloc, literal)?)),
+        CaseKey::Constant(literal) => Ok(Some(constant_value(context.alloc, literal)?)),
         CaseKey::Negative(number) => Ok(Some(Some(CaseValue::Negated(number)))),
         CaseKey::Member(member) => Ok(member_value(context, member)),
         CaseKey::Default => Ok(Some(None)),
@@ -73,46 +69,33 @@ fn value_of(
 }
 
 /// What an expression is compared with, if one was read.
-fn value_read(
-    alloc: Global,
-    context: Context,
-    read: &Result<Expr, ExprFault>,
-) -> Result<Option<Option<CaseValue>>, AllocError>
+fn value_read(context: Context, read: &Result<Expr, ExprFault>) -> Made<Option<CaseValue>>
     ensures { IfOk result (λ o. option_map (option_map plain_value) o ≡ value_read (context_of context.entry) (seen_expression read.now)) }
 {
     match read {
-        Ok(expr) => value_of(alloc, context, case_key(expr)),
+        Ok(expr) => value_of(context, case_key(expr)),
         Err(_) => Ok(None),
     }
 }
 
 /// What the text of a key of `cases` is compared with.
 #[tactic(auto, unfolding(crate::specs::Stated::case_value))]
-fn case_value(
-    alloc: Global,
-    context: Context,
-    text: &[u8],
-) -> Result<Option<Option<CaseValue>>, AllocError>
+fn case_value(context: Context, text: &[u8]) -> Made<Option<CaseValue>>
     ensures { IfOk result (λ o. option_map (option_map plain_value) o ≡ case_value (context_of context.entry) text.now) }
 {
-    let read = read_expression(alloc, text)?;
-    value_read(alloc, context, &read)
+    let read = read_expression(context.alloc, text)?;
+    value_read(context, &read)
 }
 
 /// A case.
 #[tactic(auto, unfolding(crate::specs::Stated::case_of))]
-fn case_of(
-    alloc: Global,
-    context: Context,
-    entries: &[Entry],
-    case: &Entry,
-) -> Result<Option<Case>, AllocError>
+fn case_of(context: Context, entries: &[Entry], case: &Entry) -> Made<Case>
     ensures { IfOk result (λ o. option_map plain_case o ≡ case_of (context_of context.entry) (map pair entries.now) (pair case.now)) }
 {
-    let Some(value) = case_value(alloc, context, case.key())? else {
+    let Some(value) = case_value(context, case.key())? else {
         return Ok(None);
     };
-    let content = content_at(alloc, context, entries, case);
+    let content = content_at(context, entries, case);
     match both(value, content)? {
         Some((value, content)) => Ok(Some(Case { value, content })),
         None => Ok(None),
@@ -120,17 +103,12 @@ fn case_of(
 }
 
 /// The cases of a switch.
-fn cases_of(
-    alloc: Global,
-    context: Context,
-    entries: &[Entry],
-    cases: &[Entry],
-) -> Result<Option<Vec<Case>>, AllocError>
+fn cases_of(context: Context, entries: &[Entry], cases: &[Entry]) -> Made<Vec<Case>>
     ensures { IfOk result (λ o. option_map (λ v. map plain_case v.items) o ≡ each (case_of (context_of context.entry) (map pair entries.now)) (map pair cases.now)) }
 {
-    let mut made = Vec::new(alloc);
+    let mut made = Vec::new(context.alloc);
     for case in cases {
-        match case_of(alloc, context, entries, case)? {
+        match case_of(context, entries, case)? {
             Some(case) => made.push(case)?,
             None => return Ok(None),
         }
@@ -140,18 +118,13 @@ fn cases_of(
 
 /// What a switch chooses.
 #[tactic(auto, unfolding(crate::specs::Stated::switch_of))]
-fn switch_of(
-    alloc: Global,
-    context: Context,
-    entries: &[Entry],
-    keys: &[Entry],
-) -> Result<Option<Choice>, AllocError>
+fn switch_of(context: Context, entries: &[Entry], keys: &[Entry]) -> Made<Choice>
     ensures { IfOk result (λ o. option_map plain_choice o ≡ switch_of (context_of context.entry) (map pair entries.now) (map pair keys.now)) }
 {
-    let Some(on) = expression_at(alloc, context, b"switch-on", keys)? else {
+    let Some(on) = expression_at(context, b"switch-on", keys)? else {
         return Ok(None);
     };
-    let cases = cases_of(alloc, context, entries, entries_at(keys, b"cases"));
+    let cases = cases_of(context, entries, entries_at(keys, b"cases"));
     match both(on, cases)? {
         Some((on, cases)) => Ok(Some(Choice::Switch { on, cases })),
         None => Ok(None),
@@ -160,17 +133,12 @@ fn switch_of(
 
 /// The content or switch at the key `type`: a text, or a switch.
 #[tactic(auto, unfolding(crate::specs::Stated::typed))]
-fn typed(
-    alloc: Global,
-    context: Context,
-    entries: &[Entry],
-    entry: &Entry,
-) -> Result<Option<Choice>, AllocError>
+fn typed(context: Context, entries: &[Entry], entry: &Entry) -> Made<Choice>
     ensures { IfOk result (λ o. option_map plain_choice o ≡ typed (context_of context.entry) (map pair entries.now) (pair entry.now)) }
 {
     match entry.value().entries() {
-        Some(keys) => switch_of(alloc, context, entries, keys),
-        None => match content_at(alloc, context, entries, entry)? {
+        Some(keys) => switch_of(context, entries, keys),
+        None => match content_at(context, entries, entry)? {
             Some(content) => Ok(Some(Choice::Always(content))),
             None => Ok(None),
         },
@@ -178,7 +146,7 @@ fn typed(
 }
 
 /// The bytes of an attribute of `contents`.
-fn fixed(alloc: Global, entry: &Entry) -> Result<Option<Choice>, AllocError>
+fn fixed(alloc: Global, entry: &Entry) -> Made<Choice>
     ensures { IfOk result (λ o. option_map plain_choice o ≡ option_map (λ bs. Always (Fixed bs)) (contents_of (pair entry.now).value)) }
 {
     match contents_of(alloc, entry.value())? {
@@ -189,17 +157,13 @@ fn fixed(alloc: Global, entry: &Entry) -> Result<Option<Choice>, AllocError>
 
 /// What an attribute of these keys reads; without a type and contents it is bytes.
 #[tactic(auto, unfolding(crate::specs::Stated::choice_of))]
-pub(crate) fn choice_of(
-    alloc: Global,
-    context: Context,
-    entries: &[Entry],
-) -> Result<Option<Choice>, AllocError>
+pub(crate) fn choice_of(context: Context, entries: &[Entry]) -> Made<Choice>
     ensures { IfOk result (λ o. option_map plain_choice o ≡ choice_of (context_of context.entry) (map pair entries.now)) }
 {
     match find(entries, b"contents") {
-        Some(entry) => fixed(alloc, entry),
+        Some(entry) => fixed(context.alloc, entry),
         None => match find(entries, b"type") {
-            Some(entry) => typed(alloc, context, entries, entry),
+            Some(entry) => typed(context, entries, entry),
             None => Ok(Some(Choice::Always(Content::Bytes))),
         },
     }

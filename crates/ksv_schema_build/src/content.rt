@@ -13,6 +13,7 @@ ghost use Rattle.ksv_desc.specs.Description.{Characters, Object};
 ghost use Rattle.ksv_desc.specs.Pieces.{plain_content};
 ghost use Rattle.ksv_schema_keys.specs.Code.{seen_path, seen_type_text};
 
+use crate::both::Made;
 use crate::context::Context;
 use ksv_desc::Content;
 use ksv_expr_tree::{Expr, TypeName};
@@ -22,7 +23,6 @@ use ksv_schema_names::{BuiltIn, number_arguments};
 use ksv_schema_scope::ByteOrder;
 use ksv_yaml_tree::Entry;
 use ksv_yaml_tree::keys::{has, text_at};
-use std::alloc::{AllocError, Global};
 
 /// The number of the enum of this path.
 fn enum_of(context: Context, path: &Option<Vec<String>>) -> Option<u32>
@@ -38,12 +38,12 @@ fn enum_of(context: Context, path: &Option<Vec<String>>) -> Option<u32>
 }
 
 /// The number of the enum at the key `enum`.
-fn enum_at(alloc: Global, context: Context, entries: &[Entry]) -> Result<Option<u32>, AllocError>
+fn enum_at(context: Context, entries: &[Entry]) -> Made<u32>
     ensures { IfOk result (λ o. o ≡ enum_at (context_of context.entry) (map pair entries.now)) }
 {
     match text_at(entries, b"enum") {
         Some(text) => {
-            let path = ids_of(alloc, text)?;
+            let path = ids_of(context.alloc, text)?;
             Ok(enum_of(context, &path))
         }
         None => Ok(None),
@@ -52,17 +52,13 @@ fn enum_at(alloc: Global, context: Context, entries: &[Entry]) -> Result<Option<
 
 /// The number of the enum at the key `enum`, which is optional.
 #[tactic(auto, unfolding(crate::specs::Stated::perhaps_enum))]
-pub(crate) fn perhaps_enum(
-    alloc: Global,
-    context: Context,
-    entries: &[Entry],
-) -> Result<Option<Option<u32>>, AllocError>
+pub(crate) fn perhaps_enum(context: Context, entries: &[Entry]) -> Made<Option<u32>>
     ensures { IfOk result (λ o. o ≡ perhaps_enum (context_of context.entry) (map pair entries.now)) }
 {
     if !has(entries, b"enum") {
         return Ok(Some(None));
     }
-    match enum_at(alloc, context, entries)? {
+    match enum_at(context, entries)? {
         Some(number) => Ok(Some(Some(number))),
         None => Ok(None),
     }
@@ -102,19 +98,18 @@ fn order_at(context: Context, size: u8, stated: Option<ByteOrder>) -> Option<Byt
 /// An integer.
 #[tactic(auto, unfolding(crate::specs::Stated::integer_content))]
 fn integer_content(
-    alloc: Global,
     context: Context,
     entries: &[Entry],
     is_signed: bool,
     size: u8,
     stated: Option<ByteOrder>,
-) -> Result<Option<Content>, AllocError>
+) -> Made<Content>
     ensures { IfOk result (λ o. option_map plain_content o ≡ integer_content (context_of context.entry) (map pair entries.now) is_signed size stated) }
 {
     let Some(order) = order_at(context, size, stated) else {
         return Ok(None);
     };
-    let Some(enumeration) = perhaps_enum(alloc, context, entries)? else {
+    let Some(enumeration) = perhaps_enum(context, entries)? else {
         return Ok(None);
     };
     Ok(Some(Content::Number {
@@ -137,12 +132,7 @@ fn characters(context: Context, entries: &[Entry]) -> Option<Content>
 
 /// What a type of the language means.
 #[tactic(auto, unfolding(crate::specs::Stated::language_content))]
-fn language_content(
-    alloc: Global,
-    context: Context,
-    entries: &[Entry],
-    built_in: BuiltIn,
-) -> Result<Option<Content>, AllocError>
+fn language_content(context: Context, entries: &[Entry], built_in: BuiltIn) -> Made<Content>
     ensures { IfOk result (λ o. option_map plain_content o ≡ language_content (context_of context.entry) (map pair entries.now) built_in) }
 {
     match built_in {
@@ -150,7 +140,7 @@ fn language_content(
             is_signed,
             size,
             order,
-        } => integer_content(alloc, context, entries, is_signed, size, order),
+        } => integer_content(context, entries, is_signed, size, order),
         BuiltIn::Str => Ok(characters(context, entries)),
         BuiltIn::Strz => Ok(characters(context, entries)),
         BuiltIn::NotHere => Ok(None),
@@ -184,33 +174,23 @@ fn object(context: Context, name: TypeName, arguments: Vec<Expr>) -> Option<Cont
 
 /// What a type's text means.
 #[tactic(auto, unfolding(crate::specs::Stated::content_of))]
-fn content_of(
-    alloc: Global,
-    context: Context,
-    entries: &[Entry],
-    text: TypeText,
-) -> Result<Option<Content>, AllocError>
+fn content_of(context: Context, entries: &[Entry], text: TypeText) -> Made<Content>
     ensures { IfOk result (λ o. option_map plain_content o ≡ content_of (context_of context.entry) (map pair entries.now) (seen_type_text text)) }
 {
     match text {
         TypeText::Unspelled(_) => Ok(None),
-        TypeText::OfLanguage(built_in, _) => language_content(alloc, context, entries, built_in),
+        TypeText::OfLanguage(built_in, _) => language_content(context, entries, built_in),
         TypeText::OfDescription(name, arguments) => Ok(object(context, name, arguments)),
     }
 }
 
 /// What the type at an entry means, in an attribute of these keys.
 #[tactic(auto, unfolding(crate::specs::Stated::content_at))]
-pub(crate) fn content_at(
-    alloc: Global,
-    context: Context,
-    entries: &[Entry],
-    entry: &Entry,
-) -> Result<Option<Content>, AllocError>
+pub(crate) fn content_at(context: Context, entries: &[Entry], entry: &Entry) -> Made<Content>
     ensures { IfOk result (λ o. option_map plain_content o ≡ content_at (context_of context.entry) (map pair entries.now) (pair entry.now)) }
 {
     match entry.value().text() {
-        Some(text) => content_of(alloc, context, entries, type_text(alloc, text)?),
+        Some(text) => content_of(context, entries, type_text(context.alloc, text)?),
         None => Ok(None),
     }
 }

@@ -9,15 +9,16 @@ ghost use Rattle.ksv_schema_build.specs.Stated.{numbered_of, enum_of, each, each
 ghost use Rattle.ksv_schema_build.specs.Entries.{enum_alone};
 ghost use Rattle.ksv_desc.specs.Pieces.{plain_entry, plain_enum};
 
+use crate::both::Made;
 use crate::texts::owned_text;
 use ksv_desc::{EnumDesc, EnumEntry};
 use ksv_schema_scope::{Enumeration, Scopes, id_of, number_written};
 use ksv_yaml_tree::Entry;
-use std::alloc::{AllocError, Global};
+use std::alloc::Global;
 
 /// A number of an enum and its id.
 #[tactic(auto, unfolding(crate::specs::Stated::numbered_of))]
-fn entry_of(alloc: Global, entry: &Entry) -> Result<Option<EnumEntry>, AllocError>
+fn entry_of(alloc: Global, entry: &Entry) -> Made<EnumEntry>
     ensures { IfOk result (λ o. option_map plain_entry o ≡ numbered_of (constant 0 (pair entry.now))) }
 {
     let Some(number) = number_written(entry.key()) else {
@@ -33,7 +34,7 @@ fn entry_of(alloc: Global, entry: &Entry) -> Result<Option<EnumEntry>, AllocErro
 }
 
 /// The numbers of an enum.
-fn entries_of(alloc: Global, entries: &[Entry]) -> Result<Option<Vec<EnumEntry>>, AllocError>
+fn entries_of(alloc: Global, entries: &[Entry]) -> Made<Vec<EnumEntry>>
     ensures { IfOk result (λ o. option_map (λ v. map plain_entry v.items) o ≡ each numbered_of (map (constant 0) (map pair entries.now))) }
 {
     let mut made = Vec::new(alloc);
@@ -48,7 +49,7 @@ fn entries_of(alloc: Global, entries: &[Entry]) -> Result<Option<Vec<EnumEntry>>
 
 /// An enum.
 #[tactic(auto, unfolding(crate::specs::Entries::enum_alone))]
-fn enum_of(alloc: Global, enumeration: &Enumeration) -> Result<Option<EnumDesc>, AllocError>
+fn enum_of(alloc: Global, enumeration: &Enumeration) -> Made<EnumDesc>
     ensures { IfOk result (λ o. option_map plain_enum o ≡ enum_alone (enumeration_of enumeration.now)) }
 {
     let Some(id) = owned_text(alloc, enumeration.id)? else {
@@ -61,7 +62,7 @@ fn enum_of(alloc: Global, enumeration: &Enumeration) -> Result<Option<EnumDesc>,
 }
 
 /// Each of these enums.
-fn each_of(alloc: Global, enums: &[Enumeration]) -> Result<Option<Vec<EnumDesc>>, AllocError>
+fn each_of(alloc: Global, enums: &[Enumeration]) -> Made<Vec<EnumDesc>>
     ensures { IfOk result (λ o. option_map (λ v. map plain_enum v.items) o ≡ each enum_alone (map enumeration_of enums.now)) }
 {
     let mut made = Vec::new(alloc);
@@ -75,7 +76,7 @@ fn each_of(alloc: Global, enums: &[Enumeration]) -> Result<Option<Vec<EnumDesc>>
 }
 
 /// All enums.
-pub(crate) fn enums_of(alloc: Global, scopes: &Scopes) -> Result<Option<Vec<EnumDesc>>, AllocError>
+pub(crate) fn enums_of(alloc: Global, scopes: &Scopes) -> Made<Vec<EnumDesc>>
     ensures { IfOk result (λ o. option_map (λ v. map plain_enum v.items) o ≡ each_numbered (enum_of (declared scopes.now)) 0 (declared scopes.now).enums) }
 {
     let made = each_of(alloc, scopes.enums())?;

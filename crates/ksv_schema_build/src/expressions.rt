@@ -6,24 +6,20 @@ ghost use Rattle.ksv_expr_tree.specs.Tree.{view};
 ghost use Rattle.ksv_schema_build.specs.Contexts.{context_of};
 ghost use Rattle.ksv_schema_build.specs.Stated.{expression, expression_at, perhaps_expression};
 
+use crate::both::Made;
 use crate::context::Context;
 use ksv_expr_tree::Expr;
 use ksv_schema_keys::read_expression;
 use ksv_schema_names::number_expr;
 use ksv_yaml_tree::Entry;
 use ksv_yaml_tree::keys::{has, text_at};
-use std::alloc::{AllocError, Global};
 
 /// The expression that a text is.
 #[tactic(auto, unfolding(crate::specs::Stated::expression))]
-pub(crate) fn expression(
-    alloc: Global,
-    context: Context,
-    text: &[u8],
-) -> Result<Option<Expr>, AllocError>
+pub(crate) fn expression(context: Context, text: &[u8]) -> Made<Expr>
     ensures { IfOk result (λ o. option_map view o ≡ expression (context_of context.entry) text.now) }
 {
-    match read_expression(alloc, text)? {
+    match read_expression(context.alloc, text)? {
         Ok(mut expr) => {
             number_expr(context.scopes, context.names, context.within, &mut expr);
             Ok(Some(expr))
@@ -34,16 +30,11 @@ pub(crate) fn expression(
 
 /// The expression at a key.
 #[tactic(auto, unfolding(crate::specs::Stated::expression_at))]
-pub(crate) fn expression_at(
-    alloc: Global,
-    context: Context,
-    key: &[u8],
-    entries: &[Entry],
-) -> Result<Option<Expr>, AllocError>
+pub(crate) fn expression_at(context: Context, key: &[u8], entries: &[Entry]) -> Made<Expr>
     ensures { IfOk result (λ o. option_map view o ≡ expression_at (context_of context.entry) key.now (map pair entries.now)) }
 {
     match text_at(entries, key) {
-        Some(text) => expression(alloc, context, text),
+        Some(text) => expression(context, text),
         None => Ok(None),
     }
 }
@@ -51,17 +42,16 @@ pub(crate) fn expression_at(
 /// The expression at an optional key.
 #[tactic(auto, unfolding(crate::specs::Stated::perhaps_expression))]
 pub(crate) fn perhaps_expression(
-    alloc: Global,
     context: Context,
     key: &[u8],
     entries: &[Entry],
-) -> Result<Option<Option<Expr>>, AllocError>
+) -> Made<Option<Expr>>
     ensures { IfOk result (λ o. option_map (option_map view) o ≡ perhaps_expression (context_of context.entry) key.now (map pair entries.now)) }
 {
     if !has(entries, key) {
         return Ok(Some(None));
     }
-    match expression_at(alloc, context, key, entries)? {
+    match expression_at(context, key, entries)? {
         Some(expr) => Ok(Some(Some(expr))),
         None => Ok(None),
     }

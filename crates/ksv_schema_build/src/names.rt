@@ -4,7 +4,7 @@ ghost use Rattle.std.specs.Prelude.{◌≡◌, true, map, IfOk, OnOk, flat_map};
 ghost use Rattle.ksv_yaml_tree.specs.View.{pair};
 ghost use Rattle.ksv_schema_scope.specs.MemberRows.{member_of as row};
 ghost use Rattle.ksv_desc.specs.Names.{distinct_behind};
-ghost use Rattle.ksv_schema_keys.specs.Code.{form_of, seen_type_text};
+ghost use Rattle.ksv_schema_keys.specs.Code.{seen_type_text};
 ghost use Rattle.ksv_schema_keys.specs.Keys.{switch_keys};
 ghost use Rattle.ksv_schema_build.specs.Stated.{naming_keys, expression_words, argument_words, type_words, form_words, key_words, entry_words, member_words, are_texts};
 
@@ -80,7 +80,7 @@ fn add_types(alloc: Global, names: &mut Names, entries: &[Entry]) -> Result<(), 
 /// Adds the names after dots of the value at an entry, by its form.
 #[tactic(auto, using(ksv_desc::proofs::Dots::steps), unfolding(crate::specs::Stated::form_words))]
 fn add_form(alloc: Global, names: &mut Names, entry: &Entry, form: Form) -> Result<(), AllocError>
-    ensures { OnOk result (names.new ≡ distinct_behind names.old (form_words (pair entry.now) (form_of form))) }
+    ensures { OnOk result (names.new ≡ distinct_behind names.old (form_words (pair entry.now) form)) }
 {
     match form {
         Form::Expression(_) => match entry.value().text() {
@@ -89,21 +89,7 @@ fn add_form(alloc: Global, names: &mut Names, entry: &Entry, form: Form) -> Resu
         },
         Form::TypeOrSwitch => add_type(alloc, names, entry),
         Form::Cases => add_types(alloc, names, entries_in(entry.value())),
-        Form::Ignored => Ok(()),
-        Form::NotHere => Ok(()),
-        Form::Mapping => Ok(()),
-        Form::Listing => Ok(()),
-        Form::Id => Ok(()),
-        Form::Flag => Ok(()),
-        Form::Repeat => Ok(()),
-        Form::Endian => Ok(()),
-        Form::BitEndian => Ok(()),
-        Form::Coding => Ok(()),
-        Form::ParameterType => Ok(()),
-        Form::AnyText => Ok(()),
-        Form::EnumName => Ok(()),
-        Form::Byte => Ok(()),
-        Form::Contents => Ok(()),
+        _ => Ok(()),
     }
 }
 

@@ -3,7 +3,8 @@
 ghost use Rattle.std.specs.Prelude.{◌≡◌, IfOk, option_map, string_bytes};
 ghost use Rattle.ksv_desc.specs.Description.{as_text};
 
-use std::alloc::{AllocError, Global};
+use crate::both::Made;
+use std::alloc::Global;
 
 /// The text of these bytes, if they are one.
 #[tactic(auto, unfolding(ksv_desc::specs::Description::as_text))]
@@ -17,7 +18,7 @@ pub(crate) fn as_text(bytes: &[u8]) -> Option<&str>
 }
 
 /// An owned text, if these bytes are one.
-pub(crate) fn owned_text(alloc: Global, bytes: &[u8]) -> Result<Option<String>, AllocError>
+pub(crate) fn owned_text(alloc: Global, bytes: &[u8]) -> Made<String>
     ensures { IfOk result (λ o. option_map string_bytes o ≡ as_text bytes.now) }
 {
     match as_text(bytes) {

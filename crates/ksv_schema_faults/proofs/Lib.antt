@@ -4,7 +4,6 @@ pub mod Least
 pub mod NameFaults
 pub mod Nodes
 pub mod Switches
-pub mod Filtered
 pub mod Limits
 pub mod Each
 pub mod TypeRows

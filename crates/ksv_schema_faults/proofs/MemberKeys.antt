@@ -3,7 +3,7 @@ use Rattle.std.proofs.Common.{◌≡◌, ℕ, ◌^◌, Bool, true, false, [], Op
 use Rattle.std.specs.Prelude.{nat_le, if◌then◌else◌}
 use Rattle.ksv_expr_tree.specs.declared.tree.SpecialName.TheVariants as specials
 use Rattle.ksv_expr_tree.specs.declared.tree.UnaryOperator.TheVariants as unaries
-use Rattle.ksv_expr_tree.specs.Tree.{Tree, MemberPath, literal, integer, truth, string, named, special, member, unary, binary, logical, choice, field, special_field, call, index, cast}
+use Rattle.ksv_expr_tree.specs.Tree.{Tree, MemberPath, literal, integer, special, member, unary}
 use Rattle.ksv_schema_names.specs.declared.position.Site.TheVariants as sites
 use Rattle.ksv_schema_keys.specs.Values.{CaseKey, Negative, Member, NoKey, case_key}
 use Rattle.ksv_schema_keys.specs.Code.{negative_key}
@@ -18,43 +18,14 @@ not_negative n m false h = absurd cc
 
 negated_no_member : (e : Tree) (m : MemberPath) → Member m ≡ negative_key e → ⊥
 negated_no_member (literal (integer n)) m h = not_negative n m (nat_le n (2 ^ 63)) h
-negated_no_member (literal (truth b)) m h = absurd cc
-negated_no_member (literal (string text)) m h = absurd cc
-negated_no_member (named w) m h = absurd cc
-negated_no_member (special s) m h = absurd cc
-negated_no_member (member n) m h = absurd cc
-negated_no_member (unary op x) m h = absurd cc
-negated_no_member (binary op x y) m h = absurd cc
-negated_no_member (logical op x y) m h = absurd cc
-negated_no_member (choice x y z) m h = absurd cc
-negated_no_member (field x w) m h = absurd cc
-negated_no_member (special_field x s) m h = absurd cc
-negated_no_member (call x n es) m h = absurd cc
-negated_no_member (index x y) m h = absurd cc
-negated_no_member (cast x t) m h = absurd cc
+negated_no_member _ m h = absurd cc
 
 pub member_noted : (h : Home) (line : ℕ) (e : Tree) (m : MemberPath) → Member m ≡ case_key e → expression_faults h sites.Case line (Some e) ≡ case_value_faults h line (case_key e)
 unfolding case_key case_value_faults
-member_noted h line (literal c) m k = absurd cc
-member_noted h line (named w) m k = absurd cc
-member_noted h line (special specials.Root) m k = absurd cc
-member_noted h line (special specials.Parent) m k = absurd cc
-member_noted h line (special specials.Io) m k = absurd cc
-member_noted h line (special specials.Index) m k = absurd cc
 member_noted h line (special specials.Element) m k = absurd cc
 member_noted h line (member n) m k = refl
 member_noted h line (unary unaries.Negate e) m k = absurd (negated_no_member e m (k ∙ key_negated e))
-member_noted h line (unary unaries.Plus e) m k = absurd cc
-member_noted h line (unary unaries.Complement e) m k = absurd cc
-member_noted h line (unary unaries.Not e) m k = absurd cc
-member_noted h line (binary op x y) m k = absurd cc
-member_noted h line (logical op x y) m k = absurd cc
-member_noted h line (choice x y z) m k = absurd cc
-member_noted h line (field x w) m k = absurd cc
-member_noted h line (special_field x s) m k = absurd cc
-member_noted h line (call x n es) m k = absurd cc
-member_noted h line (index x y) m k = absurd cc
-member_noted h line (cast x t) m k = absurd cc
+member_noted h line _ m k = absurd cc
 
 -- the other keys are noted by what they are
 pub key_noted : (h : Home) (line : ℕ) (o : Option Fault) (e : Tree) (k : CaseKey) → k ≡ case_key e → noted o (case_value_faults h line k) ≡ noted o (case_value_faults h line (case_key e))

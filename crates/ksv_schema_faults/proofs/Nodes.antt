@@ -1,14 +1,13 @@
 -- The faults of a node by what it is: a text, a list or a mapping.
-use Rattle.std.proofs.Common.{◌≡◌, ℕ, true, false, not, ◌&&◌, List, ◌++◌, Some, None, refl, ap, ◌∙◌, codes}
+use Rattle.std.proofs.Common.{◌≡◌, ℕ, true, false, not, ◌&&◌, List, Some, None, refl, ap, ◌∙◌, codes}
 use Rattle.std.specs.Prelude.{◌||◌, flat_map, if◌then◌else◌}
 use Rattle.std.specs.Str.{bytes_eq}
 use Rattle.ksv_yaml_tree.specs.Tree.{Tree, Text, Seq, Map, Pair, pairs, trees, line_of, text_of, is_quoted, list_of, mapping_of}
 use Rattle.ksv_yaml_tree.specs.Keys.{has}
-use Rattle.ksv_schema_scope.specs.Declarations.{Declared}
-use Rattle.ksv_schema_keys.specs.Keys.{is_id, constant_keys}
+use Rattle.ksv_schema_keys.specs.Keys.{is_id}
 use Rattle.ksv_schema_faults.specs.Faults.{fault, fault_if, bad_value, left_out}
 use Rattle.ksv_schema_keys.specs.Values.{looks_like_number, piece_of}
-use Rattle.ksv_schema_faults.specs.Rules.{endian_faults, contents_faults, piece_faults, home_in, form_faults, keys_faults, missing_if, constant_value_faults}
+use Rattle.ksv_schema_faults.specs.Rules.{Home, endian_faults, contents_faults, piece_faults, constant_key_faults, constant_value_faults}
 
 pub endian_text : (line : ℕ) (t : Tree) (text : List ℕ) → Some text ≡ text_of t → endian_faults line t ≡ fault_if (not (bytes_eq text (codes "le") || bytes_eq text (codes "be"))) line bad_value
 unfolding endian_faults
@@ -53,20 +52,20 @@ contents_mapping line (Seq n ts) h k = absurd cc
 contents_mapping line (Map n es) h k = refl
 
 -- what a number of an enum stands for
-pub constant_text : (d : Declared) (line : ℕ) (t : Tree) (text : List ℕ) → Some text ≡ text_of t → constant_value_faults d line t ≡ fault_if (not (is_id text)) line bad_value
+pub constant_text : (h : Home) (line : ℕ) (t : Tree) (text : List ℕ) → Some text ≡ text_of t → constant_value_faults h line t ≡ fault_if (not (is_id text)) line bad_value
 unfolding constant_value_faults
-constant_text d line (Text n quoted bs) text h = let e : bs ≡ text = cc in ap (λ text. fault_if (not (is_id text)) line bad_value) e
-constant_text d line (Seq n ts) text h = absurd cc
-constant_text d line (Map n es) text h = absurd cc
+constant_text h line (Text n quoted bs) text k = let e : bs ≡ text = cc in ap (λ text. fault_if (not (is_id text)) line bad_value) e
+constant_text h line (Seq n ts) text k = absurd cc
+constant_text h line (Map n es) text k = absurd cc
 
-pub constant_mapping : (d : Declared) (line : ℕ) (t : Tree) (es : List Pair) → Some es ≡ mapping_of t → constant_value_faults d line t ≡ keys_faults (form_faults (home_in d 0)) constant_keys es ++ missing_if (not (has (codes "id") es)) (line_of t)
+pub constant_mapping : (h : Home) (line : ℕ) (t : Tree) (es : List Pair) → Some es ≡ mapping_of t → constant_value_faults h line t ≡ constant_key_faults h (line_of t) es
 unfolding constant_value_faults
-constant_mapping d line (Text n quoted bs) es h = absurd cc
-constant_mapping d line (Seq n ts) es h = absurd cc
-constant_mapping d line (Map n fs) es h = let e : pairs fs ≡ es = cc in ap (λ es. keys_faults (form_faults (home_in d 0)) constant_keys es ++ missing_if (not (has (codes "id") es)) n) e
+constant_mapping h line (Text n quoted bs) es k = absurd cc
+constant_mapping h line (Seq n ts) es k = absurd cc
+constant_mapping h line (Map n fs) es k = let e : pairs fs ≡ es = cc in ap (constant_key_faults h n) e
 
-pub constant_list : (d : Declared) (line : ℕ) (t : Tree) → None ≡ text_of t → None ≡ mapping_of t → constant_value_faults d line t ≡ fault line bad_value
+pub constant_list : (h : Home) (line : ℕ) (t : Tree) → None ≡ text_of t → None ≡ mapping_of t → constant_value_faults h line t ≡ fault line bad_value
 unfolding constant_value_faults
-constant_list d line (Text n quoted bs) h k = absurd cc
-constant_list d line (Seq n ts) h k = refl
-constant_list d line (Map n es) h k = absurd cc
+constant_list h line (Text n quoted bs) k l = absurd cc
+constant_list h line (Seq n ts) k l = refl
+constant_list h line (Map n es) k l = absurd cc

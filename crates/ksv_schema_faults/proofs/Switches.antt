@@ -2,7 +2,7 @@
 use Rattle.std.proofs.Common.{◌≡◌, Bool, true, false, List, Option, Some, None, refl, ap}
 use Rattle.std.specs.Prelude.{◌&&◌, is_some, if◌then◌else◌, unwrap_or, []}
 use Rattle.ksv_yaml_tree.specs.Tree.{Pair, line_of, mapping_of}
-use Rattle.ksv_schema_keys.specs.Keys.{Form}
+use Rattle.ksv_schema_keys.specs.declared.keys.Form.{Form}
 use Rattle.ksv_schema_faults.specs.Rules.{Home, is_type_or_switch, switch_faults, form_faults, value_faults}
 
 pub switch_noted : (h : Home) (p : Pair) (form : Form) (es : List Pair) → Some es ≡ (if is_type_or_switch form then mapping_of p.value else None) → value_faults h p form ≡ switch_faults h (line_of p.value) es

@@ -8,36 +8,36 @@ use Rattle.ksv_yaml_tree.specs.Tree.{Tree}
 use Rattle.ksv_schema_scope.specs.Types.{Scope}
 use Rattle.ksv_schema_scope.specs.Declarations.{Declared}
 use Rattle.ksv_schema_faults.specs.Faults.{Fault, noted}
-use Rattle.ksv_schema_faults.specs.Rules.{each_from, type_faults, type_key_faults}
+use Rattle.ksv_schema_faults.specs.Rules.{each_from, type_faults, numbered_type_faults}
 use Rattle.ksv_schema_faults.specs.Code.{scope_row}
 use Rattle.ksv_schema_faults.proofs.Noted.{noted_append, noted_none}
 
 -- what a type is around doesn't matter
-same_faults : (d : Declared) (n : ℕ) (s : Scope) → type_faults d n (scope_row s.line s.id s.value) ≡ type_faults d n s
-unfolding type_faults type_key_faults
+same_faults : (d : Declared) (n : ℕ) (s : Scope) → numbered_type_faults d n (scope_row s.line s.id s.value) ≡ numbered_type_faults d n s
+unfolding type_faults
 same_faults d n s = refl
 
 module _ (d : Declared) (n : ℕ) where
   abbrev here : Option Scope → List Fault
-  here o = option_map_or (type_faults d n) o []
+  here o = option_map_or (numbered_type_faults d n) o []
 
-  row_of : (o : Option Scope) (line : ℕ) (id : List ℕ) (value : Tree) → Some line ≡ option_map (λ s. s.line) o → Some id ≡ option_map (λ s. s.id) o → Some value ≡ option_map (λ s. s.value) o → type_faults d n (scope_row line id value) ≡ here o
+  row_of : (o : Option Scope) (line : ℕ) (id : List ℕ) (value : Tree) → Some line ≡ option_map (λ s. s.line) o → Some id ≡ option_map (λ s. s.id) o → Some value ≡ option_map (λ s. s.value) o → numbered_type_faults d n (scope_row line id value) ≡ here o
   row_of None line id value e f g = absurd (let k : Some line ≡ None = e in cc)
   row_of (Some s) line id value e f g =
       let a : line ≡ s.line = (let k : Some line ≡ Some s.line = e in cc) in
       let b : id ≡ s.id = (let k : Some id ≡ Some s.id = f in cc) in
       let c : value ≡ s.value = (let k : Some value ≡ Some s.value = g in cc) in
-      ap (λ line. type_faults d n (scope_row line id value)) a ∙ ap (λ id. type_faults d n (scope_row s.line id value)) b ∙ ap (λ value. type_faults d n (scope_row s.line s.id value)) c ∙ same_faults d n s
+      ap (λ line. numbered_type_faults d n (scope_row line id value)) a ∙ ap (λ id. numbered_type_faults d n (scope_row s.line id value)) b ∙ ap (λ value. numbered_type_faults d n (scope_row s.line s.id value)) c ∙ same_faults d n s
 
   pub row_noted : (line : ℕ) (id : List ℕ) (value : Tree) → Some line ≡ option_map (λ s. s.line) (slice_get d.types n) → Some id ≡ option_map (λ s. s.id) (slice_get d.types n) → Some value ≡ option_map (λ s. s.value) (slice_get d.types n)
-      → type_faults d n (scope_row line id value) ≡ option_map_or (type_faults d n) (slice_get d.types n) []
+      → numbered_type_faults d n (scope_row line id value) ≡ option_map_or (numbered_type_faults d n) (slice_get d.types n) []
   row_noted line id value e f g = row_of (slice_get d.types n) line id value e f g
 
   none_of : {B : Type 0} (o : Option Scope) (f : Scope → B) → None ≡ option_map f o → here o ≡ []
   none_of None f e = refl
   none_of (Some s) f e = absurd (let k : None ≡ Some (f s) = e in cc)
 
-  pub no_row : {B : Type 0} (f : Scope → B) → None ≡ option_map f (slice_get d.types n) → option_map_or (type_faults d n) (slice_get d.types n) [] ≡ []
+  pub no_row : {B : Type 0} (f : Scope → B) → None ≡ option_map f (slice_get d.types n) → option_map_or (numbered_type_faults d n) (slice_get d.types n) [] ≡ []
   no_row f e = none_of (slice_get d.types n) f e
 
 -- ---- all types

@@ -1,23 +1,23 @@
 -- The plain data of the code's values.
-use Rattle.std.specs.Prelude.{◌==◌, ◌||◌, ◌++◌, not, is_some, is_none, true, false, ℕ, Bool, List, [], ◌∷◌, map, Option, option_map, codes}
+use Rattle.std.specs.Prelude.{◌==◌, ◌||◌, not, false, ℕ, Bool, List, [], map, Option, option_map, codes}
 use Rattle.std.specs.Option.{option_map_or}
-use Rattle.std.specs.List.{list_any}
-use Rattle.std.specs.Str.{bytes_eq}
 use Rattle.std.specs.List.Sorted.{IsPermutation, IsNonDecreasing}
-use Rattle.ksv_yaml_tree.specs.Tree.{Tree, Pair, entry_at}
+use Rattle.ksv_yaml_tree.specs.Tree.{Tree, Pair}
 use Rattle.ksv_schema_scope.specs.Types.{Scope}
-use Rattle.ksv_yaml_tree.specs.Keys.{has, says}
+use Rattle.ksv_yaml_tree.specs.Keys.{has}
 use Rattle.ksv_schema_scope.specs.Members.{members_within}
 use Rattle.ksv_schema_scope.specs.Declarations.{Declared, declared}
-use Rattle.ksv_schema_keys.specs.declared.keys.Form.{Form}
-use Rattle.ksv_schema_keys.specs.declared.keys.Form.TheVariants as form
-use Rattle.ksv_schema_keys.specs.Keys.{is_id}
-use Rattle.ksv_schema_keys.specs.Values.{encoding_named, is_to_end, byte_at, type_key, is_integer}
+use Rattle.ksv_schema_keys.specs.Values.{is_to_end, byte_at}
+use Rattle.ksv_schema_keys.specs.Code.{kind_test}
 use Rattle.ksv_schema_faults.specs.declared.home.Home.{Home as HomeOfCode}
 use Rattle.ksv_schema_faults.specs.declared.fault.DescFault.{DescFault}
 use Rattle.ksv_schema_faults.specs.declared.fault.DescFaultKind.{DescFaultKind}
 use Rattle.ksv_schema_faults.specs.declared.fault.DescFaultKind.TheVariants as kinds
-use Rattle.ksv_schema_faults.specs.Rules.{Home, against, alone_if, past}
+use Rattle.ksv_schema_faults.specs.declared.rule.Claim as claims
+use Rattle.ksv_schema_faults.specs.declared.rule.Claim.TheVariants as claim
+use Rattle.ksv_schema_faults.specs.declared.rule.Rule as rules
+use Rattle.ksv_schema_faults.specs.declared.rule.Rule.TheVariants as rule
+use Rattle.ksv_schema_faults.specs.Rules.{Home, Claim, Has, Says, Typed, Rule, Excludes, Needs, Attends, past}
 use Rattle.ksv_schema_faults.specs.Faults.{Fault, unknown_key, missing_key, keys_against, unknown_name, no_byte_order, bad_value, wrong_count, left_out, over_limit, no_expression}
 
 -- ---- faults
@@ -62,18 +62,17 @@ seen_fault o = option_map plain o
 abbrev pub seen_home : HomeOfCode → Home
 seen_home h = record { declared = declared h.scopes.now; within = h.within; in_sequence = h.in_sequence; is_repeated = h.is_repeated }
 
--- ---- one key
-
--- whether a text is allowed at a key of a form, as far as the text alone decides
-abbrev pub fits : Form → List ℕ → Bool
-fits form.Id text = is_id text
-fits form.Flag text = list_any (bytes_eq text) (codes "true" ∷ codes "false" ∷ [])
-fits form.Repeat text = list_any (bytes_eq text) (codes "eos" ∷ codes "expr" ∷ codes "until" ∷ [])
-fits form.Coding text = is_some (encoding_named text)
-fits form.ParameterType text = not (bytes_eq text (codes "io"))
-fits _ text = true
-
 -- ---- keys together
+
+abbrev pub seen_claim : claims.Claim → Claim
+seen_claim (claim.Has name) = Has name.now
+seen_claim (claim.Says name text) = Says name.now text.now
+seen_claim (claim.Typed kind) = Typed (kind_test kind)
+
+abbrev pub seen_rule : rules.Rule → Rule
+seen_rule (rule.Excludes one other) = Excludes (seen_claim one) (seen_claim other)
+seen_rule (rule.Needs one other) = Needs (seen_claim one) (seen_claim other)
+seen_rule (rule.Attends one other) = Attends (seen_claim one) (seen_claim other)
 
 -- a key bounds an attribute, and a terminator is another byte than 0
 abbrev pub is_bounded : List Pair → Bool
@@ -81,21 +80,6 @@ is_bounded es = has (codes "size") es || is_to_end es || has (codes "terminator"
 
 abbrev pub has_other_terminator : List Pair → Bool
 has_other_terminator es = option_map_or (λ b. not (b == 0)) (byte_at (codes "terminator") es) false
-
--- the keys that `contents` excludes, and those without what they need
-abbrev pub contents_against : List Pair → List Fault
-contents_against es =
-    against (entry_at (codes "contents") es) (entry_at (codes "type") es)
-    ++ against (entry_at (codes "contents") es) (entry_at (codes "size") es)
-    ++ against (entry_at (codes "contents") es) (entry_at (codes "size-eos") es)
-    ++ against (entry_at (codes "contents") es) (entry_at (codes "terminator") es)
-    ++ against (entry_at (codes "contents") es) (entry_at (codes "enum") es)
-
-abbrev pub lonely : List Pair → List Fault
-lonely es =
-    alone_if (is_none (type_key is_integer es)) (entry_at (codes "enum") es)
-    ++ alone_if (not (says (codes "repeat") (codes "expr") es)) (entry_at (codes "repeat-expr") es)
-    ++ alone_if (not (says (codes "repeat") (codes "until") es)) (entry_at (codes "repeat-until") es)
 
 -- ---- types
 

@@ -28,10 +28,11 @@ use Rattle.ksv_schema_names.specs.declared.built_ins.BuiltIn.TheVariants.{Intege
 use Rattle.ksv_schema_names.specs.Names.{name_faults, list_faults}
 use Rattle.ksv_desc.specs.Resolved.{count}
 use Rattle.ksv_schema_faults.specs.Faults.{Fault, fault, fault_if, unknown_key, missing_key, keys_against, unknown_name, no_byte_order, bad_value, wrong_count, left_out, over_limit, no_expression}
-use Rattle.ksv_schema_keys.specs.Keys as forms
-use Rattle.ksv_schema_keys.specs.Keys.{Form, Key, type_keys, meta_keys, parameter_keys, attribute_keys, parse_instance_keys, value_keys, switch_keys, constant_keys, form_in, is_ignored, is_id}
+use Rattle.ksv_schema_keys.specs.declared.keys.Form.TheVariants as forms
+use Rattle.ksv_schema_keys.specs.declared.keys.Form.{Form}
+use Rattle.ksv_schema_keys.specs.Keys.{Key, type_keys, meta_keys, parameter_keys, attribute_keys, parse_instance_keys, value_keys, switch_keys, constant_keys, form_in, is_ignored, is_id}
 use Rattle.ksv_schema_keys.specs.Expressions.{expression_of}
-use Rattle.ksv_schema_keys.specs.Values.{encoding_named, TypeText, Unspelled, OfLanguage, OfDescription, type_text, is_integer, is_str, is_strz, is_type, type_key, cases_of, byte_number, byte_at, looks_like_number, Piece, Bytes, BadPiece, LeftOutPiece, piece_of, CaseKey, Constant as ConstantKey, Negative, Member as MemberKey, Default, NoKey, case_key, ids_of, is_to_end, is_repeated}
+use Rattle.ksv_schema_keys.specs.Values.{encoding_named, TypeText, Unspelled, OfLanguage, OfDescription, type_text, is_integer, is_str, is_strz, is_a, own_type, is_type, type_key, cases_of, byte_number, byte_at, looks_like_number, Piece, Bytes, BadPiece, LeftOutPiece, piece_of, CaseKey, Constant as ConstantKey, Negative, Member as MemberKey, Default, NoKey, case_key, ids_of, is_to_end, is_repeated}
 
 -- where a mapping is: in which type, whether in its `seq`, and whether it is of something repeated
 pub record Home : Type 0 where
@@ -86,9 +87,6 @@ type_text_faults h line (OfDescription t es) = count_faults h line (count es) (t
 abbrev pub text_faults : (List ℕ → List Fault) → Pair → List Fault
 text_faults faults p = option_map_or faults (text_of p.value) (fault p.line bad_value)
 
-abbrev pub text_unless : (List ℕ → Bool) → ℕ → Pair → List Fault
-text_unless fits number p = text_faults (λ text. fault_if (not (fits text)) p.line number) p
-
 -- where a plain number from 0 to 255 is wanted
 abbrev pub numeral_faults : ℕ → Numeral → List Fault
 numeral_faults line (Whole n) = []
@@ -101,8 +99,9 @@ endian_faults line (Text _ quoted text) = fault_if (not (bytes_eq text (codes "l
 endian_faults line (Seq _ ts) = fault line bad_value
 endian_faults line (Map _ es) = fault line (if has (codes "switch-on") (pairs es) then left_out else bad_value)
 
-unfoldable pub bit_endian_faults : Pair → List Fault
-bit_endian_faults p = text_faults (λ text. if bytes_eq text (codes "be") then [] else fault p.line (if bytes_eq text (codes "le") then left_out else bad_value)) p
+-- a text alone: `be`; `le` is unsupported
+unfoldable pub bit_endian_faults : ℕ → List ℕ → List Fault
+bit_endian_faults line text = if bytes_eq text (codes "be") then [] else fault line (if bytes_eq text (codes "le") then left_out else bad_value)
 
 -- an item of `contents`
 abbrev pub piece_faults : ℕ → Piece → List Fault
@@ -139,25 +138,36 @@ case_type_faults h line t = type_text_faults h line t ++ fault_if (is_str t || i
 unfoldable pub case_faults : Home → Pair → List Fault
 case_faults h p = case_key_faults h p.line (expression_of p.key) ++ text_faults (λ text. case_type_faults h p.line (type_text text)) p
 
+-- whether a text is allowed at a key of this form, as far as the text alone decides
+abbrev pub fits : Form → List ℕ → Bool
+fits forms.Id text = is_id text
+fits forms.Flag text = list_any (bytes_eq text) (codes "true" ∷ codes "false" ∷ [])
+fits forms.Repeat text = list_any (bytes_eq text) (codes "eos" ∷ codes "expr" ∷ codes "until" ∷ [])
+fits forms.Coding text = is_some (encoding_named text)
+fits forms.ParameterType text = not (bytes_eq text (codes "io"))
+fits _ text = true
+
+-- the text at a key, by its form
+abbrev pub form_text_faults : Home → ℕ → Form → List ℕ → List Fault
+form_text_faults h line (forms.Expression site) text = expression_faults h site line (expression_of text)
+form_text_faults h line forms.TypeOrSwitch text = type_text_faults h line (type_text text)
+form_text_faults h line forms.EnumName text = enum_faults h line (ids_of text)
+form_text_faults h line forms.Byte text = numeral_faults line (byte_number text)
+form_text_faults h line forms.BitEndian text = bit_endian_faults line text
+form_text_faults h line forms.Coding text = fault_if (not (fits forms.Coding text)) line left_out
+form_text_faults h line forms.ParameterType text = fault_if (not (fits forms.ParameterType text)) line left_out
+form_text_faults h line form text = fault_if (not (fits form text)) line bad_value
+
 -- the value at a key, by its form; a mapping at `type` has keys of its own
 unfoldable pub form_faults : Home → Pair → Form → List Fault
 form_faults h p forms.Ignored = []
 form_faults h p forms.NotHere = fault p.line left_out
 form_faults h p forms.Mapping = fault_if (is_none (mapping_of p.value)) p.line bad_value
 form_faults h p forms.Listing = fault_if (is_none (list_of p.value)) p.line bad_value
-form_faults h p forms.Id = text_unless is_id bad_value p
-form_faults h p (forms.OneOf texts) = text_unless (λ text. list_any (bytes_eq text) texts) bad_value p
 form_faults h p forms.Endian = endian_faults p.line p.value
-form_faults h p forms.BitEndian = bit_endian_faults p
-form_faults h p forms.Coding = text_unless (λ text. is_some (encoding_named text)) left_out p
-form_faults h p forms.ParameterType = text_unless (λ text. not (bytes_eq text (codes "io"))) left_out p
-form_faults h p forms.AnyText = text_unless (λ text. true) bad_value p
-form_faults h p (forms.Expression site) = text_faults (λ text. expression_faults h site p.line (expression_of text)) p
-form_faults h p forms.TypeOrSwitch = text_faults (λ text. type_text_faults h p.line (type_text text)) p
 form_faults h p forms.Cases = option_map_or (flat_map (case_faults h)) (mapping_of p.value) (fault p.line bad_value)
-form_faults h p forms.EnumName = text_faults (λ text. enum_faults h p.line (ids_of text)) p
-form_faults h p forms.Byte = text_faults (λ text. numeral_faults p.line (byte_number text)) p
 form_faults h p forms.Contents = contents_faults p.line p.value
+form_faults h p form = text_faults (form_text_faults h p.line form) p
 
 -- ---- all keys of a mapping
 
@@ -203,46 +213,80 @@ abbrev pub left_out_if : Bool → Option Pair → List Fault
 left_out_if is_left_out None = []
 left_out_if is_left_out (Some p) = fault_if is_left_out p.line left_out
 
--- the key `size-eos`, if it is `true`
-abbrev pub to_end_key : List Pair → Option Pair
-to_end_key es = if is_to_end es then entry_at (codes "size-eos") es else None
+-- what a rule of keys speaks of: a key, a key with this text, or the key `type` with a type of this kind
+pub data Claim : Type 0 where
+  Has : List ℕ → Claim
+  Says : List ℕ → List ℕ → Claim
+  Typed : (TypeText → Bool) → Claim
+
+-- the key by which it is so
+abbrev pub claimed : List Pair → Claim → Option Pair
+claimed es (Has name) = entry_at name es
+claimed es (Says name text) = if says name text es then entry_at name es else None
+claimed es (Typed kind) = type_key kind es
+
+-- two that exclude each other, one that needs another, and one that stands only beside another
+pub data Rule : Type 0 where
+  Excludes : Claim → Claim → Rule
+  Needs : Claim → Claim → Rule
+  Attends : Claim → Claim → Rule
+
+abbrev pub rule_faults : ℕ → List Pair → Rule → List Fault
+rule_faults line es (Excludes one other) = against (claimed es one) (claimed es other)
+rule_faults line es (Needs one other) = missing_if (is_some (claimed es one) && is_none (claimed es other)) line
+rule_faults line es (Attends one other) = alone_if (is_none (claimed es other)) (claimed es one)
+
+abbrev pub rules_faults : List Rule → ℕ → List Pair → List Fault
+rules_faults rules line es = flat_map (rule_faults line es) rules
+
+abbrev pub field_pairs : List Rule
+field_pairs =
+    Needs (Says (codes "repeat") (codes "expr")) (Has (codes "repeat-expr")) ∷
+    Needs (Says (codes "repeat") (codes "until")) (Has (codes "repeat-until")) ∷
+    Attends (Has (codes "repeat-expr")) (Says (codes "repeat") (codes "expr")) ∷
+    Attends (Has (codes "repeat-until")) (Says (codes "repeat") (codes "until")) ∷
+    Attends (Has (codes "enum")) (Typed is_integer) ∷
+    Excludes (Has (codes "size")) (Says (codes "size-eos") (codes "true")) ∷
+    Excludes (Has (codes "contents")) (Has (codes "type")) ∷
+    Excludes (Has (codes "contents")) (Has (codes "size")) ∷
+    Excludes (Has (codes "contents")) (Has (codes "size-eos")) ∷
+    Excludes (Has (codes "contents")) (Has (codes "terminator")) ∷
+    Excludes (Has (codes "contents")) (Has (codes "enum")) ∷
+    Excludes (Typed is_integer) (Has (codes "size")) ∷
+    Excludes (Typed is_integer) (Says (codes "size-eos") (codes "true")) ∷
+    Excludes (Typed is_integer) (Has (codes "terminator")) ∷ []
+
+-- a value has no place, type, size or repetition
+abbrev pub value_pairs : List Rule
+value_pairs =
+    Excludes (Has (codes "value")) (Has (codes "pos")) ∷
+    Excludes (Has (codes "value")) (Has (codes "io")) ∷
+    Excludes (Has (codes "value")) (Has (codes "type")) ∷
+    Excludes (Has (codes "value")) (Has (codes "size")) ∷
+    Excludes (Has (codes "value")) (Has (codes "repeat")) ∷ []
 
 -- the text of an encoding, the attribute's own or the one in force
 abbrev pub has_encoding : Home → List Pair → Bool
 has_encoding h es = is_some (text_at (codes "encoding") es) || is_some (encoding_of h.declared.types h.within)
 
--- what needs another key: what an attribute is, where a text ends and in which encoding, how often it is repeated
+-- what needs another key: what an attribute is, where a text ends, and in which encoding
 unfoldable pub field_needs : Home → ℕ → List Pair → List Fault
 field_needs h line es =
     let is_bounded = has (codes "size") es || is_to_end es || has (codes "terminator") es in
-    let is_text = is_some (type_key is_str es) || is_some (type_key is_strz es) in
+    let is_text = is_a is_str (own_type es) || is_a is_strz (own_type es) in
     missing_if (not (has (codes "type") es || is_bounded || has (codes "contents") es)) line
-    ++ missing_if (is_some (type_key is_str es) && not is_bounded) line
+    ++ missing_if (is_a is_str (own_type es) && not is_bounded) line
     ++ missing_if (is_text && not (has_encoding h es)) line
-    ++ missing_if (says (codes "repeat") (codes "expr") es && not (has (codes "repeat-expr") es)) line
-    ++ missing_if (says (codes "repeat") (codes "until") es && not (has (codes "repeat-until") es)) line
 
--- a key that bounds an integer
-unfoldable pub integer_against : List Pair → Option Pair → List Fault
-integer_against es integer =
-    against integer (entry_at (codes "size") es)
-    ++ against integer (to_end_key es)
-    ++ against integer (entry_at (codes "terminator") es)
+-- a case that is an integer, and a key that bounds it
+unfoldable pub integer_against : List Pair → Pair → List Fault
+integer_against es p =
+    against (Some p) (entry_at (codes "size") es)
+    ++ against (Some p) (claimed es (Says (codes "size-eos") (codes "true")))
+    ++ against (Some p) (entry_at (codes "terminator") es)
 
--- keys that exclude each other
-unfoldable pub field_against : List Pair → List Fault
-field_against es =
-    against (entry_at (codes "size") es) (to_end_key es)
-    ++ against (entry_at (codes "contents") es) (entry_at (codes "type") es)
-    ++ against (entry_at (codes "contents") es) (entry_at (codes "size") es)
-    ++ against (entry_at (codes "contents") es) (entry_at (codes "size-eos") es)
-    ++ against (entry_at (codes "contents") es) (entry_at (codes "terminator") es)
-    ++ against (entry_at (codes "contents") es) (entry_at (codes "enum") es)
-    ++ integer_against es (type_key is_integer es)
-    ++ flat_map (λ p. integer_against es (Some p)) (filter (is_type is_integer) (cases_of es))
-    ++ alone_if (is_none (type_key is_integer es)) (entry_at (codes "enum") es)
-    ++ alone_if (not (says (codes "repeat") (codes "expr") es)) (entry_at (codes "repeat-expr") es)
-    ++ alone_if (not (says (codes "repeat") (codes "until") es)) (entry_at (codes "repeat-until") es)
+abbrev pub case_against : List Pair → Pair → List Fault
+case_against es p = if is_type is_integer p then integer_against es p else []
 
 -- a type that the description declares; an unknown type has a fault of its own
 abbrev pub is_declared : Home → TypeText → Bool
@@ -253,22 +297,19 @@ is_declared h (OfDescription t es) = is_some (type_named h.declared.types h.with
 -- a terminator of a type of the description, or of `strz` another one than 0
 unfoldable pub field_left_out : Home → List Pair → List Fault
 field_left_out h es =
-    let of_description = is_some (type_key (is_declared h) es) || list_any (is_type (is_declared h)) (cases_of es) in
+    let of_description = is_a (is_declared h) (own_type es) || list_any (is_type (is_declared h)) (cases_of es) in
     let is_other = option_map_or (λ b. not (b == 0)) (byte_at (codes "terminator") es) false in
     left_out_if of_description (entry_at (codes "terminator") es)
-    ++ left_out_if (is_some (type_key is_strz es) && is_other) (entry_at (codes "terminator") es)
+    ++ left_out_if (is_a is_strz (own_type es) && is_other) (entry_at (codes "terminator") es)
+
+unfoldable pub field_against : ℕ → List Pair → List Fault
+field_against line es = rules_faults field_pairs line es ++ flat_map (case_against es) (cases_of es)
 
 unfoldable pub field_rules : Home → ℕ → List Pair → List Fault
-field_rules h line es = field_needs h line es ++ field_against es ++ field_left_out h es
+field_rules h line es = field_needs h line es ++ field_against line es ++ field_left_out h es
 
--- a value has no place, type, size or repetition
-unfoldable pub value_rules : List Pair → List Fault
-value_rules es =
-    against (entry_at (codes "value") es) (entry_at (codes "pos") es)
-    ++ against (entry_at (codes "value") es) (entry_at (codes "io") es)
-    ++ against (entry_at (codes "value") es) (entry_at (codes "type") es)
-    ++ against (entry_at (codes "value") es) (entry_at (codes "size") es)
-    ++ against (entry_at (codes "value") es) (entry_at (codes "repeat") es)
+unfoldable pub value_rules : ℕ → List Pair → List Fault
+value_rules line es = rules_faults value_pairs line es
 
 -- ---- members
 
@@ -289,7 +330,7 @@ attribute_faults h line es = keys_faults (value_faults h) attribute_keys es ++ f
 -- an instance has a value or a place; one with neither is unsupported
 unfoldable pub instance_faults : Home → ℕ → ℕ → List Pair → List Fault
 instance_faults h name_line line es =
-    if has (codes "value") es then keys_faults (value_faults h) value_keys es ++ value_rules es
+    if has (codes "value") es then keys_faults (value_faults h) value_keys es ++ value_rules line es
     else if has (codes "pos") es then keys_faults (value_faults h) parse_instance_keys es ++ field_rules h line es
     else keys_faults (value_faults h) parse_instance_keys es ++ fault name_line left_out
 
@@ -332,10 +373,13 @@ unfoldable pub enumeration_faults : Enumeration → List Fault
 enumeration_faults x = fault_if (not (is_id x.id)) x.line bad_value ++ fault_if (is_none (mapping_of x.value)) x.line bad_value
 
 -- the value of an entry: an id, or a mapping with an id
-unfoldable pub constant_value_faults : Declared → ℕ → Tree → List Fault
-constant_value_faults d line (Text _ quoted text) = fault_if (not (is_id text)) line bad_value
-constant_value_faults d line (Seq _ ts) = fault line bad_value
-constant_value_faults d line (Map first es) = keys_faults (form_faults (home_in d 0)) constant_keys (pairs es) ++ missing_if (not (has (codes "id") (pairs es))) first
+abbrev pub constant_key_faults : Home → ℕ → List Pair → List Fault
+constant_key_faults h line es = keys_faults (form_faults h) constant_keys es ++ missing_if (not (has (codes "id") es)) line
+
+unfoldable pub constant_value_faults : Home → ℕ → Tree → List Fault
+constant_value_faults h line (Text _ quoted text) = fault_if (not (is_id text)) line bad_value
+constant_value_faults h line (Seq _ ts) = fault line bad_value
+constant_value_faults h line (Map first es) = constant_key_faults h first (pairs es)
 
 -- the line of an entry's id
 abbrev pub id_line : Constant → ℕ
@@ -348,30 +392,36 @@ number_again d i c = fault_if (is_number_again (take i d.constants) c) c.line ke
 unfoldable pub id_again : Declared → ℕ → Constant → List Fault
 id_again d i c = fault_if (is_id_again (take i d.constants) c) (id_line c) keys_against
 
-unfoldable pub constant_faults : Declared → ℕ → Constant → List Fault
-constant_faults d i c = numeral_faults c.line (signed_number c.key) ++ constant_value_faults d c.line c.value ++ number_again d i c ++ id_again d i c
+unfoldable pub constant_faults : Home → ℕ → Constant → List Fault
+constant_faults h i c = numeral_faults c.line (signed_number c.key) ++ constant_value_faults h c.line c.value ++ number_again h.declared i c ++ id_again h.declared i c
 
 -- ---- types
 
--- the faults of `meta`; the root needs an id
-unfoldable pub meta_faults : Declared → ℕ → Option Pair → List Fault
-meta_faults d n None = []
-meta_faults d n (Some p) = option_map_or (λ es. keys_faults (form_faults (home_in d n)) meta_keys es ++ missing_if (n == 0 && not (has (codes "id") es)) (line_of p.value)) (mapping_of p.value) []
+-- the faults of `meta`; that of the root needs an id
+abbrev pub meta_key_faults : Home → ℕ → List Pair → List Fault
+meta_key_faults h line es = keys_faults (form_faults h) meta_keys es ++ missing_if (h.within == 0 && not (has (codes "id") es)) line
+
+unfoldable pub meta_faults : Home → Option Pair → List Fault
+meta_faults h None = []
+meta_faults h (Some p) = option_map_or (meta_key_faults h (line_of p.value)) (mapping_of p.value) []
 
 -- the root needs `meta`, and has no parameters
 unfoldable pub root_faults : ℕ → List Pair → List Fault
 root_faults line es = missing_if (not (has (codes "meta") es)) line ++ left_out_if true (entry_at (codes "params") es)
 
-unfoldable pub type_key_faults : Declared → ℕ → Scope → List Pair → List Fault
-type_key_faults d n s es =
-    keys_faults (form_faults (home_in d n)) type_keys es
-    ++ meta_faults d n (entry_at (codes "meta") es)
-    ++ (if n == 0 then root_faults s.line es else [])
+unfoldable pub type_key_faults : Home → ℕ → List Pair → List Fault
+type_key_faults h line es =
+    keys_faults (form_faults h) type_keys es
+    ++ meta_faults h (entry_at (codes "meta") es)
+    ++ (if h.within == 0 then root_faults line es else [])
 
-unfoldable pub type_faults : Declared → ℕ → Scope → List Fault
-type_faults d n s =
-    option_map_or (type_key_faults d n s) (mapping_of s.value) (fault s.line bad_value)
-    ++ fault_if (not (n == 0) && not (is_id s.id)) s.line bad_value
+unfoldable pub type_faults : Home → Scope → List Fault
+type_faults h s =
+    option_map_or (type_key_faults h s.line) (mapping_of s.value) (fault s.line bad_value)
+    ++ fault_if (not (h.within == 0) && not (is_id s.id)) s.line bad_value
+
+abbrev pub numbered_type_faults : Declared → ℕ → Scope → List Fault
+numbered_type_faults d n s = type_faults (home_in d n) s
 
 -- ---- limits
 
@@ -416,10 +466,10 @@ limit_faults d =
 unfoldable pub faults_of : Declared → List Fault
 faults_of d =
     limit_faults d
-    ++ each_from (type_faults d) 0 d.types
+    ++ each_from (numbered_type_faults d) 0 d.types
     ++ each_from (member_faults d) 0 d.members
     ++ flat_map enumeration_faults d.enums
-    ++ each_from (constant_faults d) 0 d.constants
+    ++ each_from (constant_faults (home_in d 0)) 0 d.constants
 
 -- the faults of a tree
 unfoldable pub faults : Tree → List Fault

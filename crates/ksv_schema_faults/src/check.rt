@@ -12,7 +12,8 @@ ghost use Rattle.ksv_schema_faults.specs.Rules.{each_from, member_faults, enumer
 ghost use Rattle.ksv_schema_faults.specs.Code.{seen_fault};
 
 use crate::enumeration::{note_constants, note_enumeration};
-use crate::fault::DescFault;
+use crate::fault::{DescFault, Least};
+use crate::home::home_in;
 use crate::limit::note_limits;
 use crate::member::note_member;
 use crate::scope::note_types;
@@ -22,7 +23,7 @@ use std::alloc::{AllocError, Global};
 /// Notes the faults of each of all members.
 fn note_members<'a>(
     alloc: Global,
-    least: &mut Option<DescFault>,
+    least: &mut Least,
     scopes: &'a Scopes<'a>,
     members: &[Member],
 ) -> Result<(), AllocError>
@@ -35,7 +36,7 @@ fn note_members<'a>(
 }
 
 /// Notes the faults of each of all enums.
-fn note_enumerations(least: &mut Option<DescFault>, enumerations: &[Enumeration])
+fn note_enumerations(least: &mut Least, enumerations: &[Enumeration])
     ensures { seen_fault least.new ≡ noted (seen_fault least.old) (flat_map enumeration_faults (map enumeration_of enumerations.now)) }
 {
     for enumeration in enumerations {
@@ -57,6 +58,6 @@ pub fn least_fault<'a>(
     note_types(alloc, &mut least, scopes)?;
     note_members(alloc, &mut least, scopes, scopes.members())?;
     note_enumerations(&mut least, scopes.enums());
-    note_constants(alloc, &mut least, scopes, constants.as_slice())?;
+    note_constants(&mut least, home_in(alloc, scopes, 0), constants.as_slice())?;
     Ok(least)
 }

@@ -11,13 +11,13 @@ ghost use Rattle.ksv_schema_faults.specs.Rules.{name_fault, position_at, express
 ghost use Rattle.ksv_schema_keys.specs.Code.{seen_expression, seen_type_text};
 ghost use Rattle.ksv_schema_faults.specs.Code.{seen_fault, seen_home};
 
-use crate::fault::{DescFault, DescFaultKind, note, note_if};
+use crate::fault::{DescFaultKind, Least, note, note_if};
 use crate::home::Home;
 use ksv_expr_syntax::ExprFault;
 use ksv_expr_tree::Expr;
 use ksv_schema_keys::{TypeText, read_expression, type_text};
 use ksv_schema_names::{BuiltIn, NameFault, Position, Site, argument_fault, name_fault};
-use std::alloc::{AllocError, Global};
+use std::alloc::AllocError;
 
 /// Where an expression of a mapping is.
 fn position_at(home: Home, site: Site) -> Position
@@ -32,7 +32,7 @@ fn position_at(home: Home, site: Site) -> Position
 
 /// Notes what is wrong with a name.
 #[tactic(auto, using(crate::proofs::Noted::steps))]
-fn note_name(least: &mut Option<DescFault>, line: usize, found: Option<NameFault>)
+fn note_name(least: &mut Least, line: usize, found: Option<NameFault>)
     ensures { seen_fault least.new ≡ noted (seen_fault least.old) (option_to_list (option_map (name_fault line) found)) }
 {
     match found {
@@ -43,13 +43,7 @@ fn note_name(least: &mut Option<DescFault>, line: usize, found: Option<NameFault
 }
 
 /// Notes the names of an expression.
-pub(crate) fn note_names(
-    least: &mut Option<DescFault>,
-    home: Home,
-    site: Site,
-    line: usize,
-    expr: &Expr,
-)
+pub(crate) fn note_names(least: &mut Least, home: Home, site: Site, line: usize, expr: &Expr)
     ensures { seen_fault least.new ≡ noted (seen_fault least.old) (expression_faults (seen_home home.entry) site line (Some (view expr.now))) }
 {
     let found = name_fault(home.scopes, home.within, position_at(home, site), expr);
@@ -59,7 +53,7 @@ pub(crate) fn note_names(
 /// Notes the faults of an expression: that it is none, or its names.
 #[tactic(auto, unfolding(crate::specs::Rules::expression_faults))]
 pub(crate) fn note_expression(
-    least: &mut Option<DescFault>,
+    least: &mut Least,
     home: Home,
     site: Site,
     line: usize,
@@ -74,7 +68,7 @@ pub(crate) fn note_expression(
 }
 
 /// Notes the names in the arguments of a type.
-fn note_arguments(least: &mut Option<DescFault>, home: Home, line: usize, arguments: &[Expr])
+fn note_arguments(least: &mut Least, home: Home, line: usize, arguments: &[Expr])
     ensures { seen_fault least.new ≡ noted (seen_fault least.old) (argument_faults (seen_home home.entry) line (arguments_of (map view arguments.now))) }
 {
     let position = position_at(home, Site::Argument);
@@ -84,7 +78,7 @@ fn note_arguments(least: &mut Option<DescFault>, home: Home, line: usize, argume
 
 /// Notes a type of the language that is unsupported, or that needs a byte order.
 #[tactic(auto, using(crate::proofs::Noted::steps), unfolding(crate::specs::Rules::language_faults))]
-fn note_language(least: &mut Option<DescFault>, home: Home, line: usize, built_in: BuiltIn)
+fn note_language(least: &mut Least, home: Home, line: usize, built_in: BuiltIn)
     ensures { seen_fault least.new ≡ noted (seen_fault least.old) (language_faults (seen_home home.entry) line built_in) }
 {
     match built_in {
@@ -105,13 +99,7 @@ fn note_language(least: &mut Option<DescFault>, home: Home, line: usize, built_i
 
 /// Notes a type of the description that isn't there, or that has another count of parameters.
 #[tactic(auto, unfolding(crate::specs::Rules::count_faults))]
-fn note_count(
-    least: &mut Option<DescFault>,
-    home: Home,
-    line: usize,
-    count: usize,
-    found: Option<usize>,
-)
+fn note_count(least: &mut Least, home: Home, line: usize, count: usize, found: Option<usize>)
     ensures { seen_fault least.new ≡ noted (seen_fault least.old) (count_faults (seen_home home.entry) line count found) }
 {
     match found {
@@ -133,12 +121,7 @@ fn count(arguments: &[Expr]) -> usize
 
 /// Notes the faults of a type's text.
 #[tactic(auto, using(crate::proofs::Noted::steps), unfolding(crate::specs::Rules::type_text_faults))]
-pub(crate) fn note_type_text(
-    least: &mut Option<DescFault>,
-    home: Home,
-    line: usize,
-    text: &TypeText,
-)
+pub(crate) fn note_type_text(least: &mut Least, home: Home, line: usize, text: &TypeText)
     ensures { seen_fault least.new ≡ noted (seen_fault least.old) (type_text_faults (seen_home home.entry) line (seen_type_text text.now)) }
 {
     match text {

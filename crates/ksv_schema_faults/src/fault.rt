@@ -101,9 +101,12 @@ fn is_below(one: DescFault, other: DescFault) -> bool
     one.line < other.line || (one.line == other.line && one.kind.number() < other.kind.number())
 }
 
+/// The least fault so far.
+pub(crate) type Least = Option<DescFault>;
+
 /// Notes a fault.
 #[tactic(auto, unfolding(crate::specs::Faults::noted))]
-pub(crate) fn note(least: &mut Option<DescFault>, line: usize, kind: DescFaultKind)
+pub(crate) fn note(least: &mut Least, line: usize, kind: DescFaultKind)
     ensures { seen_fault least.new ≡ noted (seen_fault least.old) (fault line (number_of kind)) }
 {
     let found = DescFault { line, kind };
@@ -119,12 +122,7 @@ pub(crate) fn note(least: &mut Option<DescFault>, line: usize, kind: DescFaultKi
 
 /// Notes a fault if something is wrong.
 #[tactic(auto, unfolding(crate::specs::Faults::noted))]
-pub(crate) fn note_if(
-    least: &mut Option<DescFault>,
-    is_wrong: bool,
-    line: usize,
-    kind: DescFaultKind,
-)
+pub(crate) fn note_if(least: &mut Least, is_wrong: bool, line: usize, kind: DescFaultKind)
     ensures { seen_fault least.new ≡ noted (seen_fault least.old) (fault_if is_wrong line (number_of kind)) }
 {
     if is_wrong {

@@ -6,10 +6,13 @@ ghost use Rattle.ksv_schema_faults.specs.Rules.{home_in};
 ghost use Rattle.ksv_schema_faults.specs.Code.{seen_home};
 
 use ksv_schema_scope::Scopes;
+use std::alloc::Global;
 
-/// Where a mapping is: in which type, whether in its `seq`, and whether it is of something repeated.
+/// Where a mapping is: in which type, whether in its `seq`, and whether it is of something repeated; with the allocator
+/// for what is read there.
 #[derive(Clone, Copy)]
 pub(crate) struct Home<'a> {
+    pub(crate) alloc: Global,
     pub(crate) scopes: &'a Scopes<'a>,
     pub(crate) within: usize,
     pub(crate) in_sequence: bool,
@@ -17,10 +20,11 @@ pub(crate) struct Home<'a> {
 }
 
 /// The place of a mapping that isn't a member's.
-pub(crate) fn home_in<'a>(scopes: &'a Scopes<'a>, within: usize) -> Home<'a>
+pub(crate) fn home_in<'a>(alloc: Global, scopes: &'a Scopes<'a>, within: usize) -> Home<'a>
     ensures { seen_home result ≡ home_in (declared scopes.now) within }
 {
     Home {
+        alloc,
         scopes,
         within,
         in_sequence: false,

@@ -9,14 +9,14 @@ ghost use Rattle.ksv_yaml_tree.specs.View.{view, pair, seen_text};
 ghost use Rattle.ksv_schema_keys.specs.Expressions.{expression_of};
 ghost use Rattle.ksv_schema_faults.specs.Faults.{noted, fault_if, bad_value, left_out, unknown_name};
 ghost use Rattle.ksv_schema_keys.specs.Keys.{is_id};
-ghost use Rattle.ksv_schema_keys.specs.Keys as forms;
+ghost use Rattle.ksv_schema_keys.specs.declared.keys.Form.TheVariants as forms;
 ghost use Rattle.ksv_schema_keys.specs.Values.{encoding_named, type_text, byte_number, piece_of, case_key, ids_of};
-ghost use Rattle.ksv_schema_faults.specs.Rules.{text_faults, text_unless, expression_faults, type_text_faults, numeral_faults, endian_faults, bit_endian_faults, piece_faults, contents_faults, enum_faults, case_value_faults, case_key_faults, case_type_faults, case_faults, form_faults};
-ghost use Rattle.ksv_schema_keys.specs.Code.{seen_expression, seen_type_text, seen_piece, seen_path, form_of};
-ghost use Rattle.ksv_schema_faults.specs.Code.{number_of, seen_fault, seen_home, fits};
+ghost use Rattle.ksv_schema_faults.specs.Rules.{fits, text_faults, expression_faults, type_text_faults, numeral_faults, endian_faults, bit_endian_faults, piece_faults, contents_faults, enum_faults, case_value_faults, case_key_faults, case_type_faults, case_faults, form_faults, form_text_faults};
+ghost use Rattle.ksv_schema_keys.specs.Code.{seen_expression, seen_type_text, seen_piece, seen_path};
+ghost use Rattle.ksv_schema_faults.specs.Code.{number_of, seen_fault, seen_home};
 
 use crate::expression::{note_expression, note_names, note_type_text};
-use crate::fault::{DescFault, DescFaultKind, note, note_if};
+use crate::fault::{DescFaultKind, Least, note, note_if};
 use crate::home::Home;
 use ksv_expr_syntax::ExprFault;
 use ksv_expr_tree::Expr;
@@ -27,7 +27,7 @@ use ksv_schema_keys::{
 use ksv_schema_names::Site;
 use ksv_yaml_tree::keys::has;
 use ksv_yaml_tree::{Entry, Numeral, Yaml};
-use std::alloc::{AllocError, Global};
+use std::alloc::AllocError;
 
 /// Whether a text is allowed at a key of this form, as far as the text alone decides.
 fn fits(form: Form, text: &[u8]) -> bool
@@ -45,16 +45,6 @@ fn fits(form: Form, text: &[u8]) -> bool
     }
 }
 
-/// Notes a text that doesn't fit at a key of this form, and a node that is no text.
-fn note_text(least: &mut Option<DescFault>, form: Form, entry: &Entry, kind: DescFaultKind)
-    ensures { seen_fault least.new ≡ noted (seen_fault least.old) (text_unless (fits form) (number_of kind) (pair entry.now)) }
-{
-    match entry.value().text() {
-        Some(text) => note_if(least, !fits(form, text), entry.line(), kind),
-        None => note(least, entry.line(), DescFaultKind::BadValue),
-    }
-}
-
 fn is_order(text: &[u8]) -> bool
     ensures { result ≡ (bytes_eq text.now (codes "le") || bytes_eq text.now (codes "be")) }
 {
@@ -63,7 +53,7 @@ fn is_order(text: &[u8]) -> bool
 
 /// Notes a byte order other than `le` and `be`; a choice of one is unsupported.
 #[tactic(auto, using(crate::proofs::Nodes::endian_text, crate::proofs::Nodes::endian_choice, crate::proofs::Nodes::endian_mapping, crate::proofs::Nodes::endian_list))]
-fn note_endian(least: &mut Option<DescFault>, line: usize, value: &Yaml)
+fn note_endian(least: &mut Least, line: usize, value: &Yaml)
     ensures { seen_fault least.new ≡ noted (seen_fault least.old) (endian_faults line (view value.now)) }
 {
     match value.text() {
@@ -81,27 +71,9 @@ fn note_endian(least: &mut Option<DescFault>, line: usize, value: &Yaml)
     }
 }
 
-/// Notes a bit order other than `be`; `le` is unsupported.
-#[tactic(auto, using(crate::proofs::Noted::steps), unfolding(crate::specs::Rules::bit_endian_faults))]
-fn note_bit_endian(least: &mut Option<DescFault>, entry: &Entry)
-    ensures { seen_fault least.new ≡ noted (seen_fault least.old) (bit_endian_faults (pair entry.now)) }
-{
-    let line = entry.line();
-    match entry.value().text() {
-        Some(text) => {
-            if text == b"be".as_slice() {} else if text == b"le".as_slice() {
-                note(least, line, DescFaultKind::LeftOut);
-            } else {
-                note(least, line, DescFaultKind::BadValue);
-            }
-        }
-        None => note(least, line, DescFaultKind::BadValue),
-    }
-}
-
 /// Notes a text that is no number from 0 to 255.
 #[tactic(auto, using(crate::proofs::Noted::steps))]
-pub(crate) fn note_numeral(least: &mut Option<DescFault>, line: usize, numeral: Numeral)
+pub(crate) fn note_numeral(least: &mut Least, line: usize, numeral: Numeral)
     ensures { seen_fault least.new ≡ noted (seen_fault least.old) (numeral_faults line numeral) }
 {
     match numeral {
@@ -112,7 +84,7 @@ pub(crate) fn note_numeral(least: &mut Option<DescFault>, line: usize, numeral: 
 }
 
 #[tactic(auto, using(crate::proofs::Noted::steps))]
-fn note_piece(least: &mut Option<DescFault>, line: usize, piece: Piece)
+fn note_piece(least: &mut Least, line: usize, piece: Piece)
     ensures { seen_fault least.new ≡ noted (seen_fault least.old) (piece_faults line (seen_piece piece.entry)) }
 {
     match piece {
@@ -124,14 +96,14 @@ fn note_piece(least: &mut Option<DescFault>, line: usize, piece: Piece)
 }
 
 /// Notes a bad item of `contents`.
-fn note_item(least: &mut Option<DescFault>, item: &Yaml)
+fn note_item(least: &mut Least, item: &Yaml)
     ensures { seen_fault least.new ≡ noted (seen_fault least.old) (piece_faults (line_of (view item.now)) (piece_of (view item.now))) }
 {
     note_piece(least, item.line(), piece_of(item));
 }
 
 /// Notes the bad items of `contents`.
-fn note_pieces(least: &mut Option<DescFault>, items: &[Yaml])
+fn note_pieces(least: &mut Least, items: &[Yaml])
     ensures { seen_fault least.new ≡ noted (seen_fault least.old) (flat_map (λ t. piece_faults (line_of t) (piece_of t)) (map view items.now)) }
 {
     for item in items {
@@ -141,7 +113,7 @@ fn note_pieces(least: &mut Option<DescFault>, items: &[Yaml])
 
 /// Notes bad `contents`; a plain number alone is unsupported.
 #[tactic(auto, using(crate::proofs::Nodes::contents_text, crate::proofs::Nodes::contents_list, crate::proofs::Nodes::contents_mapping))]
-fn note_contents(least: &mut Option<DescFault>, line: usize, value: &Yaml)
+fn note_contents(least: &mut Least, line: usize, value: &Yaml)
     ensures { seen_fault least.new ≡ noted (seen_fault least.old) (contents_faults line (view value.now)) }
 {
     match value.text() {
@@ -158,7 +130,7 @@ fn note_contents(least: &mut Option<DescFault>, line: usize, value: &Yaml)
 
 /// Notes the path of an enum that isn't there.
 #[tactic(auto, unfolding(crate::specs::Rules::enum_faults))]
-fn note_enum(least: &mut Option<DescFault>, home: Home, line: usize, path: &Option<Vec<String>>)
+fn note_enum(least: &mut Least, home: Home, line: usize, path: &Option<Vec<String>>)
     ensures { seen_fault least.new ≡ noted (seen_fault least.old) (enum_faults (seen_home home.entry) line (seen_path path.now)) }
 {
     match path {
@@ -171,7 +143,7 @@ fn note_enum(least: &mut Option<DescFault>, home: Home, line: usize, path: &Opti
 }
 
 /// Notes an expression that can't be a key of `cases`.
-fn note_case_value(least: &mut Option<DescFault>, home: Home, line: usize, expr: &Expr)
+fn note_case_value(least: &mut Least, home: Home, line: usize, expr: &Expr)
     ensures { seen_fault least.new ≡ noted (seen_fault least.old) (case_value_faults (seen_home home.entry) line (case_key (view_expression expr.now))) }
 {
     match case_key(expr) {
@@ -185,12 +157,7 @@ fn note_case_value(least: &mut Option<DescFault>, home: Home, line: usize, expr:
 
 /// Notes the faults of a key of `cases`.
 #[tactic(auto, unfolding(crate::specs::Rules::case_key_faults))]
-fn note_case_key(
-    least: &mut Option<DescFault>,
-    home: Home,
-    line: usize,
-    read: &Result<Expr, ExprFault>,
-)
+fn note_case_key(least: &mut Least, home: Home, line: usize, read: &Result<Expr, ExprFault>)
     ensures { seen_fault least.new ≡ noted (seen_fault least.old) (case_key_faults (seen_home home.entry) line (seen_expression read.now)) }
 {
     match read {
@@ -201,7 +168,7 @@ fn note_case_key(
 
 /// Notes the faults of a case's type; `str` and `strz` are unsupported.
 #[tactic(auto, using(crate::proofs::Noted::steps), unfolding(crate::specs::Rules::case_type_faults))]
-fn note_case_type(least: &mut Option<DescFault>, home: Home, line: usize, text: &TypeText)
+fn note_case_type(least: &mut Least, home: Home, line: usize, text: &TypeText)
     ensures { seen_fault least.new ≡ noted (seen_fault least.old) (case_type_faults (seen_home home.entry) line (seen_type_text text.now)) }
 {
     note_type_text(least, home, line, text);
@@ -210,17 +177,12 @@ fn note_case_type(least: &mut Option<DescFault>, home: Home, line: usize, text: 
 }
 
 /// Notes the faults of the type at a case.
-fn note_case_at(
-    alloc: Global,
-    least: &mut Option<DescFault>,
-    home: Home,
-    entry: &Entry,
-) -> Result<(), AllocError>
+fn note_case_at(least: &mut Least, home: Home, entry: &Entry) -> Result<(), AllocError>
     ensures { OnOk result (seen_fault least.new ≡ noted (seen_fault least.old) (text_faults (λ text. case_type_faults (seen_home home.entry) (pair entry.now).line (type_text text)) (pair entry.now))) }
 {
     match entry.value().text() {
         Some(text) => {
-            let text = type_text(alloc, text)?;
+            let text = type_text(home.alloc, text)?;
             note_case_type(least, home, entry.line(), &text);
         }
         None => note(least, entry.line(), DescFaultKind::BadValue),
@@ -230,115 +192,113 @@ fn note_case_at(
 
 /// Notes the faults of a case: of its key, and of its type.
 #[tactic(auto, using(crate::proofs::Noted::steps), unfolding(crate::specs::Rules::case_faults))]
-fn note_case(
-    alloc: Global,
-    least: &mut Option<DescFault>,
-    home: Home,
-    entry: &Entry,
-) -> Result<(), AllocError>
+fn note_case(least: &mut Least, home: Home, entry: &Entry) -> Result<(), AllocError>
     ensures { OnOk result (seen_fault least.new ≡ noted (seen_fault least.old) (case_faults (seen_home home.entry) (pair entry.now))) }
 {
-    let read = read_expression(alloc, entry.key())?;
+    let read = read_expression(home.alloc, entry.key())?;
     note_case_key(least, home, entry.line(), &read);
-    note_case_at(alloc, least, home, entry)?;
+    note_case_at(least, home, entry)?;
     Ok(())
 }
 
 /// Notes the faults of each case.
-fn note_cases(
-    alloc: Global,
-    least: &mut Option<DescFault>,
-    home: Home,
-    entries: &[Entry],
-) -> Result<(), AllocError>
+fn note_cases(least: &mut Least, home: Home, entries: &[Entry]) -> Result<(), AllocError>
     ensures { OnOk result (seen_fault least.new ≡ noted (seen_fault least.old) (flat_map (case_faults (seen_home home.entry)) (map pair entries.now))) }
 {
     for entry in entries {
-        note_case(alloc, least, home, entry)?;
+        note_case(least, home, entry)?;
     }
     Ok(())
 }
 
-/// Notes the faults of an expression at a key.
-fn note_expression_at(
-    alloc: Global,
-    least: &mut Option<DescFault>,
+/// Notes the faults of a text that is to be an expression.
+fn note_expression_text(
+    least: &mut Least,
     home: Home,
     site: Site,
-    entry: &Entry,
+    line: usize,
+    text: &[u8],
 ) -> Result<(), AllocError>
-    ensures { OnOk result (seen_fault least.new ≡ noted (seen_fault least.old) (text_faults (λ text. expression_faults (seen_home home.entry) site (pair entry.now).line (expression_of text)) (pair entry.now))) }
+    ensures { OnOk result (seen_fault least.new ≡ noted (seen_fault least.old) (expression_faults (seen_home home.entry) site line (expression_of text.now))) }
 {
-    match entry.value().text() {
-        Some(text) => {
-            let read = read_expression(alloc, text)?;
-            note_expression(least, home, site, entry.line(), &read);
-        }
-        None => note(least, entry.line(), DescFaultKind::BadValue),
-    }
+    let read = read_expression(home.alloc, text)?;
+    note_expression(least, home, site, line, &read);
     Ok(())
 }
 
-/// Notes the faults of the text of a type at a key.
-fn note_type_at(
-    alloc: Global,
-    least: &mut Option<DescFault>,
+/// Notes the faults of a text that is to be a type.
+fn note_type(least: &mut Least, home: Home, line: usize, text: &[u8]) -> Result<(), AllocError>
+    ensures { OnOk result (seen_fault least.new ≡ noted (seen_fault least.old) (type_text_faults (seen_home home.entry) line (type_text text.now))) }
+{
+    let text = type_text(home.alloc, text)?;
+    note_type_text(least, home, line, &text);
+    Ok(())
+}
+
+/// Notes the path of an enum that isn't there.
+fn note_enum_name(least: &mut Least, home: Home, line: usize, text: &[u8]) -> Result<(), AllocError>
+    ensures { OnOk result (seen_fault least.new ≡ noted (seen_fault least.old) (enum_faults (seen_home home.entry) line (ids_of text.now))) }
+{
+    let path = ids_of(home.alloc, text)?;
+    note_enum(least, home, line, &path);
+    Ok(())
+}
+
+/// Notes a bit order other than `be`; `le` is unsupported.
+#[tactic(auto, using(crate::proofs::Noted::steps), unfolding(crate::specs::Rules::bit_endian_faults))]
+fn note_bit_endian(least: &mut Least, line: usize, text: &[u8])
+    ensures { seen_fault least.new ≡ noted (seen_fault least.old) (bit_endian_faults line text.now) }
+{
+    if text == b"be".as_slice() {} else if text == b"le".as_slice() {
+        note(least, line, DescFaultKind::LeftOut);
+    } else {
+        note(least, line, DescFaultKind::BadValue);
+    }
+}
+
+/// Notes the faults of a text at a key of this form.
+#[tactic(auto, using(crate::proofs::Noted::steps))]
+fn note_text(
+    least: &mut Least,
     home: Home,
-    entry: &Entry,
+    line: usize,
+    form: Form,
+    text: &[u8],
 ) -> Result<(), AllocError>
-    ensures { OnOk result (seen_fault least.new ≡ noted (seen_fault least.old) (text_faults (λ text. type_text_faults (seen_home home.entry) (pair entry.now).line (type_text text)) (pair entry.now))) }
+    ensures { OnOk result (seen_fault least.new ≡ noted (seen_fault least.old) (form_text_faults (seen_home home.entry) line form text.now)) }
 {
-    match entry.value().text() {
-        Some(text) => {
-            let text = type_text(alloc, text)?;
-            note_type_text(least, home, entry.line(), &text);
+    match form {
+        Form::Expression(site) => note_expression_text(least, home, site, line, text)?,
+        Form::TypeOrSwitch => note_type(least, home, line, text)?,
+        Form::EnumName => note_enum_name(least, home, line, text)?,
+        Form::Byte => note_numeral(least, line, byte_number(text)),
+        Form::BitEndian => note_bit_endian(least, line, text),
+        Form::Coding | Form::ParameterType => {
+            note_if(least, !fits(form, text), line, DescFaultKind::LeftOut)
         }
-        None => note(least, entry.line(), DescFaultKind::BadValue),
+        _ => note_if(least, !fits(form, text), line, DescFaultKind::BadValue),
     }
     Ok(())
 }
 
-/// Notes at a key the path of an enum that isn't there.
-fn note_enum_at(
-    alloc: Global,
-    least: &mut Option<DescFault>,
-    home: Home,
-    entry: &Entry,
-) -> Result<(), AllocError>
-    ensures { OnOk result (seen_fault least.new ≡ noted (seen_fault least.old) (text_faults (λ text. enum_faults (seen_home home.entry) (pair entry.now).line (ids_of text)) (pair entry.now))) }
+/// Notes the faults of the text at a key of this form; another node is of the wrong kind.
+fn note_text_at(least: &mut Least, home: Home, entry: &Entry, form: Form) -> Result<(), AllocError>
+    ensures { OnOk result (seen_fault least.new ≡ noted (seen_fault least.old) (text_faults (form_text_faults (seen_home home.entry) (pair entry.now).line form) (pair entry.now))) }
 {
     match entry.value().text() {
-        Some(text) => {
-            let path = ids_of(alloc, text)?;
-            note_enum(least, home, entry.line(), &path);
-        }
+        Some(text) => note_text(least, home, entry.line(), form, text)?,
         None => note(least, entry.line(), DescFaultKind::BadValue),
     }
     Ok(())
-}
-
-/// Notes a value at a key that is no number from 0 to 255.
-fn note_byte_at(least: &mut Option<DescFault>, entry: &Entry)
-    ensures { seen_fault least.new ≡ noted (seen_fault least.old) (text_faults (λ text. numeral_faults (pair entry.now).line (byte_number text)) (pair entry.now)) }
-{
-    match entry.value().text() {
-        Some(text) => note_numeral(least, entry.line(), byte_number(text)),
-        None => note(least, entry.line(), DescFaultKind::BadValue),
-    }
 }
 
 /// Notes the faults of the cases at a key.
 #[tactic(auto, unfolding(crate::specs::Rules::form_faults))]
-fn note_cases_at(
-    alloc: Global,
-    least: &mut Option<DescFault>,
-    home: Home,
-    entry: &Entry,
-) -> Result<(), AllocError>
+fn note_cases_at(least: &mut Least, home: Home, entry: &Entry) -> Result<(), AllocError>
     ensures { OnOk result (seen_fault least.new ≡ noted (seen_fault least.old) (form_faults (seen_home home.entry) (pair entry.now) forms.Cases)) }
 {
     match entry.value().entries() {
-        Some(entries) => note_cases(alloc, least, home, entries)?,
+        Some(entries) => note_cases(least, home, entries)?,
         None => note(least, entry.line(), DescFaultKind::BadValue),
     }
     Ok(())
@@ -347,45 +307,30 @@ fn note_cases_at(
 /// Notes the faults of the value at a key, by its form.
 #[tactic(auto, using(crate::proofs::Noted::steps), unfolding(crate::specs::Rules::form_faults))]
 pub(crate) fn note_form(
-    alloc: Global,
-    least: &mut Option<DescFault>,
+    least: &mut Least,
     home: Home,
     entry: &Entry,
     form: Form,
 ) -> Result<(), AllocError>
-    ensures { OnOk result (seen_fault least.new ≡ noted (seen_fault least.old) (form_faults (seen_home home.entry) (pair entry.now) (form_of form))) }
+    ensures { OnOk result (seen_fault least.new ≡ noted (seen_fault least.old) (form_faults (seen_home home.entry) (pair entry.now) form)) }
 {
     let line = entry.line();
     let value = entry.value();
     match form {
         Form::Ignored => {}
         Form::NotHere => note(least, line, DescFaultKind::LeftOut),
-        Form::Mapping => note_if(
-            least,
-            value.entries().is_none(),
-            line,
-            DescFaultKind::BadValue,
-        ),
-        Form::Listing => note_if(
-            least,
-            value.items().is_none(),
-            line,
-            DescFaultKind::BadValue,
-        ),
-        Form::Id => note_text(least, Form::Id, entry, DescFaultKind::BadValue),
-        Form::Flag => note_text(least, Form::Flag, entry, DescFaultKind::BadValue),
-        Form::Repeat => note_text(least, Form::Repeat, entry, DescFaultKind::BadValue),
+        Form::Mapping => {
+            let is_mapping = value.entries().is_some();
+            note_if(least, !is_mapping, line, DescFaultKind::BadValue);
+        }
+        Form::Listing => {
+            let is_list = value.items().is_some();
+            note_if(least, !is_list, line, DescFaultKind::BadValue);
+        }
         Form::Endian => note_endian(least, line, value),
-        Form::BitEndian => note_bit_endian(least, entry),
-        Form::Coding => note_text(least, Form::Coding, entry, DescFaultKind::LeftOut),
-        Form::ParameterType => note_text(least, Form::ParameterType, entry, DescFaultKind::LeftOut),
-        Form::AnyText => note_text(least, Form::AnyText, entry, DescFaultKind::BadValue),
-        Form::Expression(site) => note_expression_at(alloc, least, home, site, entry)?,
-        Form::TypeOrSwitch => note_type_at(alloc, least, home, entry)?,
-        Form::Cases => note_cases_at(alloc, least, home, entry)?,
-        Form::EnumName => note_enum_at(alloc, least, home, entry)?,
-        Form::Byte => note_byte_at(least, entry),
         Form::Contents => note_contents(least, line, value),
+        Form::Cases => note_cases_at(least, home, entry)?,
+        _ => note_text_at(least, home, entry, form)?,
     }
     Ok(())
 }

@@ -13,6 +13,7 @@ mod key;
 mod limit;
 mod mapping;
 mod member;
+mod rule;
 mod scope;
 mod together;
 

@@ -8,7 +8,7 @@ ghost use Rattle.ksv_schema_faults.specs.Faults.{noted, over_limit};
 ghost use Rattle.ksv_schema_faults.specs.Rules.{past, line_past, most_entries, each_from, member_limit, limit_faults};
 ghost use Rattle.ksv_schema_faults.specs.Code.{seen_fault, members_past, limit_fault, AreRising};
 
-use crate::fault::{DescFault, DescFaultKind, note};
+use crate::fault::{DescFaultKind, Least, note};
 use ksv_schema_scope::{Constant, Member, Scopes};
 use std::alloc::{AllocError, Global};
 
@@ -23,7 +23,7 @@ const CONSTANTS: usize = 65536;
 
 /// Notes a line at which a limit is passed.
 #[tactic(auto, using(crate::proofs::Noted::steps))]
-fn note_limit(least: &mut Option<DescFault>, line: Option<usize>)
+fn note_limit(least: &mut Least, line: Option<usize>)
     ensures { seen_fault least.new ≡ noted (seen_fault least.old) (map limit_fault (option_to_list line)) }
 {
     match line {
@@ -34,7 +34,7 @@ fn note_limit(least: &mut Option<DescFault>, line: Option<usize>)
 
 /// Notes the first type past the limit.
 #[tactic(auto, using(crate::proofs::Past::past_is))]
-fn note_type_limit(least: &mut Option<DescFault>, scopes: &Scopes)
+fn note_type_limit(least: &mut Least, scopes: &Scopes)
     ensures { seen_fault least.new ≡ noted (seen_fault least.old) (past 1024 (map (λ s. s.line) (declared scopes.now).types)) }
 {
     note_limit(least, scopes.line_of_type(TYPES));
@@ -53,14 +53,14 @@ fn line_past_members(members: &[Member]) -> Option<usize>
 
 /// Notes the first member past the limit of the type of this number.
 #[tactic(auto, using(crate::proofs::Past::past_is))]
-fn note_member_limit(least: &mut Option<DescFault>, scopes: &Scopes, number: usize)
+fn note_member_limit(least: &mut Least, scopes: &Scopes, number: usize)
     ensures { seen_fault least.new ≡ noted (seen_fault least.old) (members_past (declared scopes.now) number) }
 {
     note_limit(least, line_past_members(scopes.members_within(number)));
 }
 
 /// Notes the first member past the limit of each type.
-fn note_member_limits(least: &mut Option<DescFault>, scopes: &Scopes)
+fn note_member_limits(least: &mut Least, scopes: &Scopes)
     ensures { seen_fault least.new ≡ noted (seen_fault least.old) (each_from (member_limit (declared scopes.now)) 0 (declared scopes.now).types) }
 {
     for number in 0..scopes.count_of_types() {
@@ -107,7 +107,7 @@ fn line_past_constants(alloc: Global, constants: &[Constant]) -> Result<Option<u
 #[tactic(auto, using(crate::proofs::Noted::steps), unfolding(crate::specs::Rules::limit_faults))]
 pub(crate) fn note_limits(
     alloc: Global,
-    least: &mut Option<DescFault>,
+    least: &mut Least,
     scopes: &Scopes,
     constants: &[Constant],
 ) -> Result<(), AllocError>

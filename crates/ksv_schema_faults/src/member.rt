@@ -10,7 +10,7 @@ ghost use Rattle.ksv_schema_keys.specs.Values.{is_repeated};
 ghost use Rattle.ksv_schema_faults.specs.Rules.{is_attribute, home_of, parameter_faults, attribute_faults, instance_faults, role_faults, mapping_faults, is_instance, name_line, is_at, member_again, member_faults};
 ghost use Rattle.ksv_schema_faults.specs.Code.{seen_fault, seen_home};
 
-use crate::fault::{DescFault, DescFaultKind, note, note_if};
+use crate::fault::{DescFaultKind, Least, note, note_if};
 use crate::home::Home;
 use crate::mapping::note_keys;
 use crate::together::{note_field_rules, note_missing_if, note_value_rules};
@@ -40,10 +40,16 @@ fn is_repeated(entries: &[Entry]) -> bool
 }
 
 /// Where the mapping of a member is.
-fn home_of<'a>(scopes: &'a Scopes<'a>, member: &Member, entries: &[Entry]) -> Home<'a>
+fn home_of<'a>(
+    alloc: Global,
+    scopes: &'a Scopes<'a>,
+    member: &Member,
+    entries: &[Entry],
+) -> Home<'a>
     ensures { seen_home result ≡ home_of (declared scopes.now) (member_of member.now) (map pair entries.now) }
 {
     Home {
+        alloc,
         scopes,
         within: member.within,
         in_sequence: is_attribute(member.role),
@@ -54,15 +60,14 @@ fn home_of<'a>(scopes: &'a Scopes<'a>, member: &Member, entries: &[Entry]) -> Ho
 /// Notes the faults of a parameter.
 #[tactic(auto, using(crate::proofs::Noted::steps), unfolding(crate::specs::Rules::parameter_faults))]
 fn note_parameter(
-    alloc: Global,
-    least: &mut Option<DescFault>,
+    least: &mut Least,
     home: Home,
     line: usize,
     entries: &[Entry],
 ) -> Result<(), AllocError>
     ensures { OnOk result (seen_fault least.new ≡ noted (seen_fault least.old) (parameter_faults (seen_home home.entry) line (map pair entries.now))) }
 {
-    note_keys(alloc, least, home, MappingKind::Parameter, entries)?;
+    note_keys(least, home, MappingKind::Parameter, entries)?;
     let has_id = has(entries, b"id");
     note_missing_if(least, !has_id, line);
     Ok(())
@@ -71,23 +76,21 @@ fn note_parameter(
 /// Notes the faults of an attribute.
 #[tactic(auto, using(crate::proofs::Noted::steps), unfolding(crate::specs::Rules::attribute_faults))]
 fn note_attribute(
-    alloc: Global,
-    least: &mut Option<DescFault>,
+    least: &mut Least,
     home: Home,
     line: usize,
     entries: &[Entry],
 ) -> Result<(), AllocError>
     ensures { OnOk result (seen_fault least.new ≡ noted (seen_fault least.old) (attribute_faults (seen_home home.entry) line (map pair entries.now))) }
 {
-    note_keys(alloc, least, home, MappingKind::Attribute, entries)?;
-    note_field_rules(alloc, least, home, line, entries)
+    note_keys(least, home, MappingKind::Attribute, entries)?;
+    note_field_rules(least, home, line, entries)
 }
 
 /// Notes the faults of an instance, which has a value or a place; one with neither is unsupported.
 #[tactic(auto, using(crate::proofs::Noted::steps), unfolding(crate::specs::Rules::instance_faults))]
 fn note_instance(
-    alloc: Global,
-    least: &mut Option<DescFault>,
+    least: &mut Least,
     home: Home,
     name_line: usize,
     line: usize,
@@ -96,15 +99,14 @@ fn note_instance(
     ensures { OnOk result (seen_fault least.new ≡ noted (seen_fault least.old) (instance_faults (seen_home home.entry) name_line line (map pair entries.now))) }
 {
     if has(entries, b"value") {
-        note_keys(alloc, least, home, MappingKind::Value, entries)?;
-        note_value_rules(least, entries);
-        return Ok(());
+        note_keys(least, home, MappingKind::Value, entries)?;
+        return note_value_rules(least, home, line, entries);
     }
     if has(entries, b"pos") {
-        note_keys(alloc, least, home, MappingKind::ParseInstance, entries)?;
-        return note_field_rules(alloc, least, home, line, entries);
+        note_keys(least, home, MappingKind::ParseInstance, entries)?;
+        return note_field_rules(least, home, line, entries);
     }
-    note_keys(alloc, least, home, MappingKind::ParseInstance, entries)?;
+    note_keys(least, home, MappingKind::ParseInstance, entries)?;
     note(least, name_line, DescFaultKind::LeftOut);
     Ok(())
 }
@@ -112,8 +114,7 @@ fn note_instance(
 /// Notes the faults of a member's mapping, by the member's role.
 #[tactic(auto, unfolding(crate::specs::Rules::role_faults))]
 fn note_role(
-    alloc: Global,
-    least: &mut Option<DescFault>,
+    least: &mut Least,
     role: Role,
     home: Home,
     name_line: usize,
@@ -123,9 +124,9 @@ fn note_role(
     ensures { OnOk result (seen_fault least.new ≡ noted (seen_fault least.old) (role_faults role (seen_home home.entry) name_line line (map pair entries.now))) }
 {
     match role {
-        Role::Parameter => note_parameter(alloc, least, home, line, entries),
-        Role::Attribute => note_attribute(alloc, least, home, line, entries),
-        Role::Instance => note_instance(alloc, least, home, name_line, line, entries),
+        Role::Parameter => note_parameter(least, home, line, entries),
+        Role::Attribute => note_attribute(least, home, line, entries),
+        Role::Instance => note_instance(least, home, name_line, line, entries),
     }
 }
 
@@ -133,16 +134,16 @@ fn note_role(
 #[tactic(auto, unfolding(crate::specs::Rules::mapping_faults))]
 fn note_mapping<'a>(
     alloc: Global,
-    least: &mut Option<DescFault>,
+    least: &mut Least,
     scopes: &'a Scopes<'a>,
     member: &Member,
     entries: &[Entry],
 ) -> Result<(), AllocError>
     ensures { OnOk result (seen_fault least.new ≡ noted (seen_fault least.old) (mapping_faults (declared scopes.now) (member_of member.now) (map pair entries.now))) }
 {
-    let home = home_of(scopes, member, entries);
+    let home = home_of(alloc, scopes, member, entries);
     let line = member.value.line();
-    note_role(alloc, least, member.role, home, member.line, line, entries)
+    note_role(least, member.role, home, member.line, line, entries)
 }
 
 fn is_instance(role: Role) -> bool
@@ -181,7 +182,7 @@ fn is_at(number: usize, found: Option<usize>) -> bool
 
 /// Notes a name that an earlier member of the same type has.
 #[tactic(auto, unfolding(crate::specs::Rules::member_again))]
-fn note_member_again(least: &mut Option<DescFault>, scopes: &Scopes, number: usize, member: &Member)
+fn note_member_again(least: &mut Least, scopes: &Scopes, number: usize, member: &Member)
     ensures { seen_fault least.new ≡ noted (seen_fault least.old) (member_again (declared scopes.now) number (member_of member.now)) }
 {
     let has_name = !member.name().is_empty();
@@ -195,7 +196,7 @@ fn note_member_again(least: &mut Option<DescFault>, scopes: &Scopes, number: usi
 }
 
 /// Notes the name of an instance if it is no id.
-fn note_name_of_instance(least: &mut Option<DescFault>, member: &Member)
+fn note_name_of_instance(least: &mut Least, member: &Member)
     ensures { seen_fault least.new ≡ noted (seen_fault least.old) (fault_if (is_instance (member_of member.now).role && not (is_id (member_of member.now).name)) (member_of member.now).line bad_value) }
 {
     let is_bad = is_instance(member.role) & !is_id(member.name());
@@ -206,7 +207,7 @@ fn note_name_of_instance(least: &mut Option<DescFault>, member: &Member)
 #[tactic(auto, using(crate::proofs::Noted::steps), unfolding(crate::specs::Rules::member_faults))]
 pub(crate) fn note_member<'a>(
     alloc: Global,
-    least: &mut Option<DescFault>,
+    least: &mut Least,
     scopes: &'a Scopes<'a>,
     number: usize,
     member: &Member,

@@ -1,6 +1,6 @@
 -- The plain data of the code's values.
 use Rattle.std.specs.declared.alloc.Global.{Global}
-use Rattle.std.specs.Prelude.{◌≡◌, ◌≢◌, ◌≤◌, ◌+◌, ◌^◌, ◌==◌, ◌&&◌, false, take, drop, length, Vec, String, string_bytes, nat_le, if◌then◌else◌, ℤ, pos, ℕ, Bool, List, [], ◌∷◌, map, Option, Some, None, option_map, Result, Ok, Err, codes}
+use Rattle.std.specs.Prelude.{◌≡◌, ◌≢◌, ◌≤◌, ◌+◌, ◌^◌, ◌==◌, ◌&&◌, false, take, drop, length, Vec, String, string_bytes, nat_le, if◌then◌else◌, ℤ, pos, ℕ, Bool, List, [], ◌∷◌, map, Option, Some, None, option_map, Result, Ok, Err}
 use Rattle.ksv_expr_syntax.specs.declared.fault.ExprFault.{ExprFault}
 use Rattle.ksv_expr_tree.specs.declared.tree.Expr.{Expr}
 use Rattle.ksv_expr_tree.specs.declared.tree.TypeRef.{TypeRef}
@@ -15,41 +15,15 @@ use Rattle.ksv_schema_keys.specs.declared.values.Piece.TheVariants as piece
 use Rattle.ksv_schema_keys.specs.declared.values.CaseKey as case_keys
 use Rattle.ksv_schema_keys.specs.declared.values.CaseKey.TheVariants as case_key
 use Rattle.ksv_schema_keys.specs.Values.{TypeText, Unspelled, OfLanguage, OfDescription, is_integer, is_str, is_strz, Piece, Bytes, BadPiece, LeftOutPiece, names_in, CaseKey, Constant, Negative, Member, Default, NoKey}
-use Rattle.ksv_schema_keys.specs.declared.keys.Form.{Form as FormOfCode}
-use Rattle.ksv_schema_keys.specs.declared.keys.Form.TheVariants as form
 use Rattle.ksv_schema_keys.specs.declared.keys.Key.{Key as KeyOfCode}
 use Rattle.ksv_schema_keys.specs.declared.keys.MappingKind.{MappingKind}
 use Rattle.ksv_schema_keys.specs.declared.keys.MappingKind.TheVariants as table
-use Rattle.ksv_schema_keys.specs.Keys as forms
-use Rattle.ksv_schema_keys.specs.Keys.{Form, Key, key, flag, type_keys, meta_keys, parameter_keys, attribute_keys, parse_instance_keys, value_keys, switch_keys, constant_keys}
+use Rattle.ksv_schema_keys.specs.Keys.{Key, key, type_keys, meta_keys, parameter_keys, attribute_keys, parse_instance_keys, value_keys, switch_keys, constant_keys}
 
 -- ---- keys
 
-abbrev pub form_of : FormOfCode → Form
-form_of form.Ignored = forms.Ignored
-form_of form.NotHere = forms.NotHere
-form_of form.Mapping = forms.Mapping
-form_of form.Listing = forms.Listing
-form_of form.Id = forms.Id
-form_of form.Flag = flag
-form_of form.Repeat = forms.OneOf (codes "eos" ∷ codes "expr" ∷ codes "until" ∷ [])
-form_of form.Endian = forms.Endian
-form_of form.BitEndian = forms.BitEndian
-form_of form.Coding = forms.Coding
-form_of form.ParameterType = forms.ParameterType
-form_of form.AnyText = forms.AnyText
-form_of (form.Expression site) = forms.Expression site
-form_of form.TypeOrSwitch = forms.TypeOrSwitch
-form_of form.Cases = forms.Cases
-form_of form.EnumName = forms.EnumName
-form_of form.Byte = forms.Byte
-form_of form.Contents = forms.Contents
-
-abbrev pub seen_form : Option FormOfCode → Option Form
-seen_form o = option_map form_of o
-
 abbrev pub seen_key : KeyOfCode → Key
-seen_key k = key k.0.now (form_of k.1)
+seen_key k = key k.0.now k.1
 
 -- the keys of a mapping
 abbrev pub keys_of : MappingKind → List Key
@@ -79,6 +53,9 @@ abbrev pub seen_type_text : type_texts.TypeText → TypeText
 seen_type_text (type_text.Unspelled f) = Unspelled
 seen_type_text (type_text.OfLanguage b es) = OfLanguage b (expressions.arguments_of (map view es.items))
 seen_type_text (type_text.OfDescription t es) = OfDescription (expressions.path_of t) (expressions.arguments_of (map view es.items))
+
+abbrev pub seen_type_at : Option type_texts.TypeText → Option TypeText
+seen_type_at o = option_map seen_type_text o
 
 -- whether a type is of a kind
 abbrev pub kind_test : TypeKind → TypeText → Bool

@@ -2,52 +2,17 @@
 use Rattle.std.specs.Prelude.{ℕ, Bool, false, nat_le, ◌&&◌, ◌||◌, ◌==◌, List, [], ◌∷◌, codes, Option, option_map}
 use Rattle.std.specs.List.{find, list_all}
 use Rattle.std.specs.Str.{bytes_eq}
-use Rattle.ksv_schema_names.specs.declared.position.Site.{Site}
 use Rattle.ksv_schema_names.specs.declared.position.Site.TheVariants as sites
+use Rattle.ksv_schema_keys.specs.declared.keys.Form.{Form}
+use Rattle.ksv_schema_keys.specs.declared.keys.Form.TheVariants.{Ignored, NotHere, Mapping, Listing, Id, Flag, Repeat, Endian, BitEndian, Coding, ParameterType, AnyText, Expression, TypeOrSwitch, Cases, EnumName, Byte, Contents}
 
--- what is at a key
-pub data Form : Type 0 where
-  -- anything; it has no meaning
-  Ignored : Form
-  -- the key itself is unsupported
-  NotHere : Form
-  -- a mapping, or a list
-  Mapping : Form
-  Listing : Form
-  -- `[a-z][a-z0-9_]*`
-  Id : Form
-  -- one of these texts
-  OneOf : List (List ℕ) → Form
-  -- `le` or `be`; a choice by `switch-on` is unsupported
-  Endian : Form
-  -- `be`; `le` is unsupported
-  BitEndian : Form
-  -- ASCII or UTF-8, in any letter case; others are unsupported
-  Coding : Form
-  -- a text without a meaning; `io` is unsupported
-  ParameterType : Form
-  AnyText : Form
-  -- an expression
-  Expression : Site → Form
-  -- the text of a type, or a mapping of `switch-on` and `cases`
-  TypeOrSwitch : Form
-  Cases : Form
-  -- the path of an enum
-  EnumName : Form
-  -- a number from 0 to 255
-  Byte : Form
-  -- a text, or a list of numbers from 0 to 255 and texts
-  Contents : Form
-
+-- a key, and what is at it
 pub record Key : Type 0 where
   pub name : List ℕ
   pub form : Form
 
 abbrev pub key : List ℕ → Form → Key
 key name form = record { name = name; form = form }
-
-abbrev pub flag : Form
-flag = OneOf (codes "true" ∷ codes "false" ∷ [])
 
 -- ---- the tables
 
@@ -88,14 +53,14 @@ abbrev pub field_keys : List Key
 field_keys =
     key (codes "type") TypeOrSwitch ∷
     key (codes "size") (Expression sites.Size) ∷
-    key (codes "size-eos") flag ∷
+    key (codes "size-eos") Flag ∷
     key (codes "contents") Contents ∷
     key (codes "encoding") Coding ∷
     key (codes "terminator") Byte ∷
-    key (codes "consume") flag ∷
-    key (codes "include") flag ∷
-    key (codes "eos-error") flag ∷
-    key (codes "repeat") (OneOf (codes "eos" ∷ codes "expr" ∷ codes "until" ∷ [])) ∷
+    key (codes "consume") Flag ∷
+    key (codes "include") Flag ∷
+    key (codes "eos-error") Flag ∷
+    key (codes "repeat") Repeat ∷
     key (codes "repeat-expr") (Expression sites.Count) ∷
     key (codes "repeat-until") (Expression sites.Until) ∷
     key (codes "if") (Expression sites.Condition) ∷

@@ -57,13 +57,23 @@ abbrev pub is_strz : TypeText → Bool
 is_strz (OfLanguage Strz es) = true
 is_strz _ = false
 
--- whether the text of a type at an entry is of this kind
-unfoldable pub is_type : (TypeText → Bool) → Pair → Bool
-is_type kind p = option_map_or (λ text. kind (type_text text)) (text_of p.value) false
+-- the type whose text is at an entry, and the one at the key `type`
+abbrev pub type_at : Pair → Option TypeText
+type_at p = option_map type_text (text_of p.value)
 
--- the key `type`, if its text is of this kind
+abbrev pub own_type : List Pair → Option TypeText
+own_type es = option_and_then type_at (entry_at (codes "type") es)
+
+-- whether there is a type, and it is of this kind
+abbrev pub is_a : (TypeText → Bool) → Option TypeText → Bool
+is_a kind t = option_map_or kind t false
+
+unfoldable pub is_type : (TypeText → Bool) → Pair → Bool
+is_type kind p = is_a kind (type_at p)
+
+-- the key `type`, if its type is of this kind
 unfoldable pub type_key : (TypeText → Bool) → List Pair → Option Pair
-type_key kind es = option_and_then (λ p. if is_type kind p then Some p else None) (entry_at (codes "type") es)
+type_key kind es = if is_a kind (own_type es) then entry_at (codes "type") es else None
 
 -- the cases of a switch at the key `type`
 unfoldable pub cases_of : List Pair → List Pair

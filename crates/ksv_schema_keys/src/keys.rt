@@ -3,7 +3,7 @@
 ghost use Rattle.std.specs.Prelude.{◌≡◌, map};
 ghost use Rattle.std.specs.List.{list_all};
 ghost use Rattle.ksv_schema_keys.specs.Keys.{field_keys, attribute_keys, parse_instance_keys, form_in, is_letter, is_id_byte, is_id};
-ghost use Rattle.ksv_schema_keys.specs.Code.{seen_form, seen_key, keys_of};
+ghost use Rattle.ksv_schema_keys.specs.Code.{seen_key, keys_of};
 
 use ksv_schema_names::Site;
 
@@ -18,21 +18,21 @@ pub enum Form {
     Mapping,
     /// A sequence.
     Listing,
-    /// An id.
+    /// An id: `[a-z][a-z0-9_]*`.
     Id,
     /// `true` or `false`
     Flag,
     /// `eos`, `expr` or `until`
     Repeat,
-    /// `le` or `be`
+    /// `le` or `be`; a choice by `switch-on` is unsupported.
     Endian,
-    /// `be`
+    /// `be`; `le` is unsupported.
     BitEndian,
-    /// The name of an encoding.
+    /// ASCII or UTF-8, in any letter case; others are unsupported.
     Coding,
-    /// A text other than `io`.
+    /// A text without a meaning; `io` is unsupported.
     ParameterType,
-    /// Any text.
+    /// A text without a meaning.
     AnyText,
     /// An expression.
     Expression(Site),
@@ -44,7 +44,7 @@ pub enum Form {
     EnumName,
     /// A number from 0 to 255.
     Byte,
-    /// A text, or a list of numbers and texts.
+    /// A text, or a list of numbers from 0 to 255 and texts.
     Contents,
 }
 
@@ -154,7 +154,7 @@ static CONSTANT_KEYS: [Key; 1] = [Key(b"id", Form::Id)];
 /// What is at a key, if these have it.
 #[tactic(auto, unfolding(crate::specs::Keys::form_in))]
 fn form_among(keys: &[Key], name: &[u8]) -> Option<Form>
-    ensures { seen_form result ≡ form_in (map seen_key keys.now) name.now }
+    ensures { result ≡ form_in (map seen_key keys.now) name.now }
 {
     for key in keys {
         if name == key.0 {
@@ -166,7 +166,7 @@ fn form_among(keys: &[Key], name: &[u8]) -> Option<Form>
 
 /// What is at a key of an attribute, except its id.
 fn field_form(key: &[u8]) -> Option<Form>
-    ensures { seen_form result ≡ form_in field_keys key.now }
+    ensures { result ≡ form_in field_keys key.now }
 {
     form_among(FIELD_KEYS.as_slice(), key)
 }
@@ -174,7 +174,7 @@ fn field_form(key: &[u8]) -> Option<Form>
 /// What is at a key of an attribute.
 #[tactic(auto, unfolding(crate::specs::Keys::form_in))]
 fn attribute_form(key: &[u8]) -> Option<Form>
-    ensures { seen_form result ≡ form_in attribute_keys key.now }
+    ensures { result ≡ form_in attribute_keys key.now }
 {
     if key == b"id".as_slice() {
         Some(Form::Id)
@@ -186,7 +186,7 @@ fn attribute_form(key: &[u8]) -> Option<Form>
 /// What is at a key of a parse instance.
 #[tactic(auto, unfolding(crate::specs::Keys::form_in))]
 fn parse_instance_form(key: &[u8]) -> Option<Form>
-    ensures { seen_form result ≡ form_in parse_instance_keys key.now }
+    ensures { result ≡ form_in parse_instance_keys key.now }
 {
     if key == b"pos".as_slice() {
         Some(Form::Expression(Site::Place))
@@ -199,7 +199,7 @@ fn parse_instance_form(key: &[u8]) -> Option<Form>
 
 /// What is at a key, if the table has it.
 pub fn form_in(table: MappingKind, key: &[u8]) -> Option<Form>
-    ensures { seen_form result ≡ form_in (keys_of table) key.now }
+    ensures { result ≡ form_in (keys_of table) key.now }
 {
     match table {
         MappingKind::Type => form_among(TYPE_KEYS.as_slice(), key),

@@ -5,8 +5,8 @@ ghost use Rattle.ksv_yaml_tree.specs.View.{view, pair, seen_entry, seen_text};
 ghost use Rattle.std.specs.List.{list_all};
 ghost use Rattle.ksv_expr_tree.specs.Tree.{view as view_expression, view_type, literal_of, special, unary};
 ghost use Rattle.ksv_yaml_tree.specs.Numerals.{is_digit, is_numeral};
-ghost use Rattle.ksv_schema_keys.specs.Values.{encoding_named, of_name, type_text, is_integer, is_str, is_strz, is_type, type_key, byte_number, byte_at, looks_like_number, number_piece, piece_of, case_key};
-ghost use Rattle.ksv_schema_keys.specs.Code.{seen_type_text, kind_test, IsUpTo, seen_piece, seen_case_key, negative_constant, negative_key};
+ghost use Rattle.ksv_schema_keys.specs.Values.{encoding_named, of_name, type_text, is_integer, is_str, is_strz, is_a, type_at, own_type, byte_number, byte_at, looks_like_number, number_piece, piece_of, case_key};
+ghost use Rattle.ksv_schema_keys.specs.Code.{seen_type_text, seen_type_at, kind_test, IsUpTo, seen_piece, seen_case_key, negative_constant, negative_key};
 ghost use Rattle.ksv_schema_names.specs.BuiltIn.{built_in_at};
 
 use crate::read::read_type;
@@ -109,37 +109,32 @@ pub fn is_of_kind(kind: TypeKind, text: &TypeText) -> bool
     }
 }
 
-/// Whether the text of a type of this kind is at an entry.
-#[tactic(auto, unfolding(crate::specs::Values::is_type))]
-pub fn is_type(alloc: Global, kind: TypeKind, entry: &Entry) -> Result<bool, AllocError>
-    ensures { IfOk result (λ b. b ≡ is_type (kind_test kind) (pair entry.now)) }
+/// Whether there is a type, and it is of this kind.
+pub fn is_a(kind: TypeKind, text: &Option<TypeText>) -> bool
+    ensures { result ≡ is_a (kind_test kind) (seen_type_at text.now) }
 {
-    match entry.value().text() {
-        Some(text) => {
-            let text = type_text(alloc, text)?;
-            Ok(is_of_kind(kind, &text))
-        }
-        None => Ok(false),
+    match text {
+        Some(text) => is_of_kind(kind, text),
+        None => false,
     }
 }
 
-/// The key `type`, if a text of this kind is at it.
-#[tactic(auto, unfolding(crate::specs::Values::type_key))]
-pub fn type_key<'a>(
-    alloc: Global,
-    kind: TypeKind,
-    entries: &'a [Entry],
-) -> Result<Option<&'a Entry>, AllocError>
-    ensures { IfOk result (λ o. seen_entry o ≡ type_key (kind_test kind) (map pair entries.now)) }
+/// The type whose text is at an entry.
+pub fn type_at(alloc: Global, entry: &Entry) -> Result<Option<TypeText>, AllocError>
+    ensures { IfOk result (λ t. seen_type_at t ≡ type_at (pair entry.now)) }
+{
+    match entry.value().text() {
+        Some(text) => Ok(Some(type_text(alloc, text)?)),
+        None => Ok(None),
+    }
+}
+
+/// The type whose text is at the key `type`.
+pub fn own_type(alloc: Global, entries: &[Entry]) -> Result<Option<TypeText>, AllocError>
+    ensures { IfOk result (λ t. seen_type_at t ≡ own_type (map pair entries.now)) }
 {
     match find(entries, b"type") {
-        Some(entry) => {
-            if is_type(alloc, kind, entry)? {
-                Ok(Some(entry))
-            } else {
-                Ok(None)
-            }
-        }
+        Some(entry) => type_at(alloc, entry),
         None => Ok(None),
     }
 }
@@ -289,18 +284,7 @@ fn negative_key(operand: &Expr) -> CaseKey<'_>
 {
     match operand {
         Expr::Literal(literal) => negative_constant(literal),
-        Expr::Name(_) => CaseKey::NoKey,
-        Expr::Special(_) => CaseKey::NoKey,
-        Expr::Member(_) => CaseKey::NoKey,
-        Expr::Unary(..) => CaseKey::NoKey,
-        Expr::Binary(..) => CaseKey::NoKey,
-        Expr::Logical(..) => CaseKey::NoKey,
-        Expr::Choice(..) => CaseKey::NoKey,
-        Expr::Field(..) => CaseKey::NoKey,
-        Expr::SpecialField(..) => CaseKey::NoKey,
-        Expr::Call(..) => CaseKey::NoKey,
-        Expr::Index(..) => CaseKey::NoKey,
-        Expr::Cast(..) => CaseKey::NoKey,
+        _ => CaseKey::NoKey,
     }
 }
 
@@ -310,9 +294,7 @@ fn unary_key(operator: UnaryOperator, operand: &Expr) -> CaseKey<'_>
 {
     match operator {
         UnaryOperator::Negate => negative_key(operand),
-        UnaryOperator::Plus => CaseKey::NoKey,
-        UnaryOperator::Complement => CaseKey::NoKey,
-        UnaryOperator::Not => CaseKey::NoKey,
+        _ => CaseKey::NoKey,
     }
 }
 
@@ -321,11 +303,8 @@ fn special_key(name: SpecialName) -> CaseKey<'static>
     ensures { seen_case_key result ≡ case_key (special name) }
 {
     match name {
-        SpecialName::Root => CaseKey::NoKey,
-        SpecialName::Parent => CaseKey::NoKey,
-        SpecialName::Io => CaseKey::NoKey,
-        SpecialName::Index => CaseKey::NoKey,
         SpecialName::Element => CaseKey::Default,
+        _ => CaseKey::NoKey,
     }
 }
 
@@ -336,17 +315,9 @@ pub fn case_key(expr: &Expr) -> CaseKey<'_>
 {
     match expr {
         Expr::Literal(literal) => CaseKey::Constant(literal),
-        Expr::Name(_) => CaseKey::NoKey,
         Expr::Special(name) => special_key(*name),
         Expr::Member(member) => CaseKey::Member(member),
         Expr::Unary(operator, operand) => unary_key(*operator, operand),
-        Expr::Binary(..) => CaseKey::NoKey,
-        Expr::Logical(..) => CaseKey::NoKey,
-        Expr::Choice(..) => CaseKey::NoKey,
-        Expr::Field(..) => CaseKey::NoKey,
-        Expr::SpecialField(..) => CaseKey::NoKey,
-        Expr::Call(..) => CaseKey::NoKey,
-        Expr::Index(..) => CaseKey::NoKey,
-        Expr::Cast(..) => CaseKey::NoKey,
+        _ => CaseKey::NoKey,
     }
 }

@@ -1,9 +1,8 @@
 -- One entry after the other.
 use Rattle.std.proofs.Common.{◌∙◌, ap}
-use Rattle.ksv_schema_scope.specs.Declarations.{declared}
 use Rattle.ksv_schema_faults.specs.Faults.{noted}
 use Rattle.ksv_schema_faults.specs.Rules.{each_from, constant_faults}
-use Rattle.ksv_schema_faults.specs.Code.{seen_fault}
+use Rattle.ksv_schema_faults.specs.Code.{seen_fault, seen_home}
 use Rattle.ksv_schema_faults.proofs.Each.{each_step, each_end}
 use Rattle.ksv_schema_faults.proofs.enumeration.note_constants.Goals as goal
 
@@ -13,4 +12,4 @@ loop-number-preserved c = each_step _ _ _ _ _ _ _ _ c.loop-number-test.true c.in
 pub returns : goal.returns
 returns c =
     each_end _ _ _ _ _ _ c.loop-number-test.false c.loop-number.invariant
-    ∙ ap (λ cs. noted (seen_fault c.args.least.now) (each_from (constant_faults (declared c.args.scopes.now)) 0 cs)) c.requires.rows
+    ∙ ap (λ cs. noted (seen_fault c.args.least.now) (each_from (constant_faults (seen_home c.args.home)) 0 cs)) c.requires.rows
