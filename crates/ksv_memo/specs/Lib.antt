@@ -3,7 +3,9 @@ pub mod Evaluation
 pub mod Entry
 pub mod Right
 pub mod Touched
-pub mod Answers
 pub mod Open
+pub mod Slots
+pub mod Layout
+pub mod Moves
+pub mod Nodes
 pub mod Running
-pub mod Sweep

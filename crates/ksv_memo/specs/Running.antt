@@ -1,17 +1,16 @@
 -- The stack of open nodes while a question is answered: what it determines about the answers to come, the nodes
 -- that are still to be kept, and the calls that are left. Only the machine's own contracts use it.
-use Rattle.std.specs.Prelude.{◌≡◌, ℕ, suc, ◌+◌, ◌-◌, ◌*◌, ◌<◌, ◌≤◌, true, false, List, [], ◌∷◌, ◌++◌, length, Option}
+use Rattle.std.specs.Prelude.{◌≡◌, ℕ, suc, ◌+◌, ◌-◌, ◌*◌, ◌<◌, ◌≤◌, true, false, List, [], ◌∷◌, ◌++◌, length, Option, Some, None}
 use Rattle.std.specs.List.{AllByRecursion, flat_map}
 use Rattle.ksv_memo.specs.declared.rules.Outcome.{Outcome}
 use Rattle.ksv_memo.specs.declared.rules.Outcome.TheVariants.{Answered}
 use Rattle.ksv_memo.specs.declared.rules.Next.{Next}
 use Rattle.ksv_memo.specs.declared.rules.Next.TheVariants.{Need, Done}
-use Rattle.ksv_memo.specs.declared.machine.Progress.{Progress}
-use Rattle.ksv_memo.specs.declared.machine.Progress.TheVariants.{Ended, Goes}
 use Rattle.ksv_memo.specs.Meaning.{Standing, IsAddedTo}
 use Rattle.ksv_memo.specs.Evaluation.{Told, is_among, tells, told, after, with_reply, done, if_answered, IsAnswered}
 use Rattle.ksv_memo.specs.Entry.{Entry}
-use Rattle.ksv_memo.specs.Open.{Open, open_of, nodes_in}
+use Rattle.ksv_memo.specs.Open.{Open, nodes_in}
+use Rattle.ksv_memo.specs.Nodes.{Nodes}
 use Rattle.ksv_memo.specs.Right.{nodes_of, AreDistinct, IsRight, fresh, costs, counted}
 
 -- what nodes answer while these are open
@@ -164,10 +163,15 @@ pub record GoesOn {N A : Type 0} (w : Standing N A) (account : Account N A) (bef
   pub all : to_keep w es (rest_of w o st) ≡ account.all
   pub calls : debt w es (rest_of w o st) + account.made + 1 ≡ account.owed + (length o.asked + made st)
 
--- the result of one turn
-abbrev pub Advances : {N A : Type 0} → Standing N A → Account N A → List (Entry N A) → List (Entry N A) → List (Open N A) → Progress N A → Type 0
-Advances w account before es st (Ended out) = HasFinished w account es out
-Advances w account before es st (Goes n f) = GoesOn w account before es (open_of n f) st
+-- the question goes on with the last of these open nodes
+abbrev pub GoesOnWith : {N A : Type 0} → Standing N A → Account N A → List (Entry N A) → List (Entry N A) → List (Open N A) → Type 0
+GoesOnWith w account before es [] = ⊥
+GoesOnWith w account before es (o ∷ st) = GoesOn w account before es o st
+
+-- the result of one turn: the outcome, if the question has ended
+abbrev pub Advances : {N A : Type 0} → Standing N A → Account N A → List (Entry N A) → Nodes N A → Option (Outcome N A) → Type 0
+Advances w account before now (Some out) = HasFinished w account now.kept out
+Advances w account before now None = GoesOnWith w account before now.kept now.opened
 
 -- what a refused memory leaves: kept answers that are right, with the old ones among them, and only those that
 -- would have been kept in the end

@@ -1,0 +1,12 @@
+pub mod Lists
+pub mod Standing
+pub mod Evals
+pub mod Keeping
+pub mod Moves
+pub mod Turns
+pub mod Maps
+pub mod Once
+pub mod Questions
+pub mod Change
+pub mod Sweeping
+pub mod Forgetting

@@ -1,0 +1,12 @@
+pub mod Slots
+pub mod Layout
+pub mod Moves
+pub mod Meaning
+pub mod Evaluation
+pub mod Entry
+pub mod Right
+pub mod Touched
+pub mod Answers
+pub mod Open
+pub mod Running
+pub mod Sweep
