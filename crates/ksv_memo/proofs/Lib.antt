@@ -10,3 +10,4 @@ pub mod Changing
 pub mod Knowing
 pub mod Tabling
 pub mod Topping
+pub mod Passing

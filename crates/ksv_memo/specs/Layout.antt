@@ -1,11 +1,14 @@
 -- How the table keeps nodes, and the lists of kept and open nodes that this stands for. Only the table's own contracts
 -- use it.
-use Rattle.std.specs.Prelude.{◌≡◌, ◌≢◌, ℕ, ◌+◌, ◌≤◌, List, [], ◌∷◌, ◌++◌, length, map, reverse, take, drop, Option, Some, None, Result, ◌⊎◌, slice_get}
+use Rattle.std.specs.Prelude.{◌≡◌, ◌≢◌, Bool, not, ◌||◌, is_some, if◌then◌else◌, ℕ, ◌+◌, ◌≤◌, List, [], ◌∷◌, ◌++◌, length, map, reverse, take, drop, Option, Some, None, Result, ◌⊎◌, slice_get}
 use Rattle.std.specs.Option.{option_map}
-use Rattle.std.specs.List.{AllByRecursion}
+use Rattle.std.specs.List.{AllByRecursion, list_any}
+use Rattle.indexmap.specs.IndexMap.{set_value_at}
 use Rattle.ksv_bytes.specs.declared.uses.Use.{Use}
+use Rattle.ksv_bytes.specs.declared.uses.Change.{Change}
+use Rattle.ksv_memo.specs.Touched.{is_use_touched}
 use Rattle.ksv_memo.specs.declared.replies.Slot.{Slot}
-use Rattle.ksv_memo.specs.declared.replies.Slot.TheVariants.{Open as opened}
+use Rattle.ksv_memo.specs.declared.replies.Slot.TheVariants.{Empty as emptied, Open as opened}
 use Rattle.ksv_memo.specs.declared.layout.Row.{Row}
 use Rattle.ksv_memo.specs.declared.layout.Rows.{Rows}
 use Rattle.ksv_memo.specs.declared.layout.Frame.{Frame}
@@ -114,3 +117,28 @@ module _ {N V F : Type 0} where
   pub record IsLaidOut (ps : List (N × Slot V F)) (rows : Rows) (frames : Frames) : Type 0 where
     pub kept : AreRows ps rows
     pub waits : AreFrames ps frames
+
+-- ---- what an edit takes
+-- rows, what they asked and used, and the slots
+pub record Sweep (N V F : Type 0) : Type 0 where
+  pub slots : List (N × Slot V F)
+  pub rows : List Row
+  pub asked : List ℕ
+  pub uses : List Use
+
+module _ {N V F : Type 0} where
+  -- rows and their parts before others
+  abbrev pub behind_rows : List Row → List ℕ → List Use → Sweep N V F → Sweep N V F
+  behind_rows rs is us s = record { slots = s.slots; rows = rs ++ s.rows; asked = is ++ s.asked; uses = us ++ s.uses }
+
+  -- whether a row goes: a change touches one of its uses, or the slot of a node that it asked keeps nothing any more
+  abbrev pub is_to_go : Change → List (N × Slot V F) → List ℕ → List Use → Bool
+  is_to_go change ps asked uses = list_any (is_use_touched change) uses || list_any (λ i. not (is_some (answer_at (slots_of ps) i))) asked
+
+  -- the pass from the front: the slot of a row that goes is emptied, and the other rows stay
+  abbrev pub swept : Change → List (N × Slot V F) → List Row → List ℕ → List Use → Sweep N V F
+  swept change ps [] asked uses = record { slots = ps; rows = []; asked = []; uses = [] }
+  swept change ps (r ∷ rs) asked uses =
+      if is_to_go change ps (take r.asked asked) (take r.uses uses)
+      then swept change (set_value_at ps r.slot emptied) rs (drop r.asked asked) (drop r.uses uses)
+      else behind_rows (r ∷ []) (take r.asked asked) (take r.uses uses) (swept change ps rs (drop r.asked asked) (drop r.uses uses))

@@ -7,5 +7,6 @@ pub mod Open
 pub mod Slots
 pub mod Layout
 pub mod Moves
+pub mod Passing
 pub mod Nodes
 pub mod Running

@@ -4,6 +4,7 @@
 mod layout;
 mod replies;
 mod rules;
+mod sweep;
 mod table;
 mod uses;
 

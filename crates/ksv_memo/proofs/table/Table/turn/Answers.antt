@@ -32,6 +32,14 @@ invariant_of-self g c =
       waits = more-uses ps c.self.inside.frames (record { frames = c.self.inside.frames.frames; asked = c.self.inside.frames.asked; uses = c.next.new.uses }) refl refl (added-more ps c.self.inside.frames.uses.items c.next.new.uses.items (next-more c.self.inside.frames.uses.items _ c.next.new.uses.items c.next.result c.next.ensures.uses c.next.ensures.refused)) c.self.invariant.waits;
     }
 
+pub invariant_of-self-2 : goal.invariant_of-self-2
+invariant_of-self-2 g c =
+    let ps = c.self.inside.slots.entries in
+    record {
+      kept = c.self.invariant.kept;
+      waits = more-uses ps c.self.inside.frames (record { frames = c.self.inside.frames.frames; asked = c.self.inside.frames.asked; uses = c.next.new.uses }) refl refl (added-more ps c.self.inside.frames.uses.items c.next.new.uses.items (next-more c.self.inside.frames.uses.items _ c.next.new.uses.items c.next.result c.next.ensures.uses c.next.ensures.refused)) c.self.invariant.waits;
+    }
+
 pub returns-clause-step : goal.returns-clause-step
 returns-clause-step g c =
     let ps = c.self.inside.slots.entries in
