@@ -22,7 +22,7 @@ use Rattle.ksv_memo.proofs.Lists.{All-map, All-both, All-++, All-left, All-right
 use Rattle.ksv_memo.proofs.Finding.{slot_there, node_there, answer_there, kept_there}
 use Rattle.ksv_memo.proofs.Laying.{++-nil, All-take, All-drop, get_append, some-of, one_of-all, one_of-left, one_of-right, one_of-push, AllDiffer-push, same_or, nodes_at-append, answers_at-append, Keeps, HasNode, kept_node, slot_has_node, same_node, same_answer, stays_kept, same_nodes, same_answers, same_entries, same_opens, entries_in-push, asked_kept}
 
-map_all : {X Y : Type 0} (f : X → Y) (P : Y → Type 0) (xs : List X) → AllByRecursion (λ x. P (f x)) xs → AllByRecursion P (map f xs)
+pub map_all : {X Y : Type 0} (f : X → Y) (P : Y → Type 0) (xs : List X) → AllByRecursion (λ x. P (f x)) xs → AllByRecursion P (map f xs)
 map_all f P [] h = tt
 map_all f P (x ∷ xs) h = (h.0, map_all f P xs h.1)
 
@@ -48,7 +48,7 @@ all_uses-push : (rows : List Row) (r : Row) → all_uses (rows ++ r ∷ []) ≡ 
 all_uses-push [] r = omega arith
 all_uses-push (x ∷ rows) r = let rest : all_uses (rows ++ r ∷ []) ≡ all_uses rows + r.uses = all_uses-push rows r in omega arith
 
-all_map : {X Y : Type 0} (f : X → Y) (P : Y → Type 0) (xs : List X) → AllByRecursion P (map f xs) → AllByRecursion (λ x. P (f x)) xs
+pub all_map : {X Y : Type 0} (f : X → Y) (P : Y → Type 0) (xs : List X) → AllByRecursion P (map f xs) → AllByRecursion (λ x. P (f x)) xs
 all_map f P [] h = tt
 all_map f P (x ∷ xs) h = (h.0, all_map f P xs h.1)
 

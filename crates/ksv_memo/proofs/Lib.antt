@@ -11,3 +11,5 @@ pub mod Knowing
 pub mod Tabling
 pub mod Topping
 pub mod Passing
+pub mod Sweeping
+pub mod Marking

@@ -1,6 +1,6 @@
 -- The pass over the rows.
 use Rattle.std.proofs.Common.{◌≡◌, ℕ, zero, suc, ◌+◌, ◌-◌, ◌≤◌, ◌<◌, Bool, true, false, List, [], ◌∷◌, ◌++◌, length, take, drop, refl, sym, ◌∙◌, ap, subst, arith, append_assoc, if◌then◌else◌, slice_range}
-use Rattle.std.specs.List.{AllByRecursion, copy_within, paste}
+use Rattle.std.specs.List.{AllByRecursion, copy_within}
 use Rattle.std.proofs.lemmas.List.{drop-drop, length-drop, length-take-le}
 use Rattle.std.proofs.lemmas.List.Edits.{drop-paste, take-paste}
 use Rattle.indexmap.specs.IndexMap.{set_value_at}
@@ -43,10 +43,10 @@ module _ {N V F : Type 0} where
   behind-more rs qs is js us vs s = λ k. record { slots = s.slots; rows = sym (append_assoc rs qs s.rows) k; asked = sym (append_assoc is js s.asked) k; uses = sym (append_assoc us vs s.uses) k }
 
   -- what a row comes to
-  goes : (change : Change) (ps : List (N × Slot V F)) (r : Row) (rs : List Row) (asked : List ℕ) (uses : List Use) → is_to_go change ps (take r.asked asked) (take r.uses uses) ≡ true → swept change ps (r ∷ rs) asked uses ≡ swept change (set_value_at ps r.slot emptied) rs (drop r.asked asked) (drop r.uses uses)
+  pub goes : (change : Change) (ps : List (N × Slot V F)) (r : Row) (rs : List Row) (asked : List ℕ) (uses : List Use) → is_to_go change ps (take r.asked asked) (take r.uses uses) ≡ true → swept change ps (r ∷ rs) asked uses ≡ swept change (set_value_at ps r.slot emptied) rs (drop r.asked asked) (drop r.uses uses)
   goes change ps r rs asked uses e = ap (λ b. if b then swept change (set_value_at ps r.slot emptied) rs (drop r.asked asked) (drop r.uses uses) else behind_rows (r ∷ []) (take r.asked asked) (take r.uses uses) (swept change ps rs (drop r.asked asked) (drop r.uses uses))) e
 
-  stays : (change : Change) (ps : List (N × Slot V F)) (r : Row) (rs : List Row) (asked : List ℕ) (uses : List Use) → is_to_go change ps (take r.asked asked) (take r.uses uses) ≡ false → swept change ps (r ∷ rs) asked uses ≡ behind_rows (r ∷ []) (take r.asked asked) (take r.uses uses) (swept change ps rs (drop r.asked asked) (drop r.uses uses))
+  pub stays : (change : Change) (ps : List (N × Slot V F)) (r : Row) (rs : List Row) (asked : List ℕ) (uses : List Use) → is_to_go change ps (take r.asked asked) (take r.uses uses) ≡ false → swept change ps (r ∷ rs) asked uses ≡ behind_rows (r ∷ []) (take r.asked asked) (take r.uses uses) (swept change ps rs (drop r.asked asked) (drop r.uses uses))
   stays change ps r rs asked uses e = ap (λ b. if b then swept change (set_value_at ps r.slot emptied) rs (drop r.asked asked) (drop r.uses uses) else behind_rows (r ∷ []) (take r.asked asked) (take r.uses uses) (swept change ps rs (drop r.asked asked) (drop r.uses uses))) e
 
   module _ (change : Change) (ps : List (N × Slot V F)) (rows : Rows) (from to next : Place) (at : IsNextPlace rows from next) where

@@ -8,5 +8,6 @@ pub mod Slots
 pub mod Layout
 pub mod Moves
 pub mod Passing
+pub mod Sweep
 pub mod Nodes
 pub mod Running
