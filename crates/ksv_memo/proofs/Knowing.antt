@@ -87,6 +87,15 @@ module _ {N V F : Type 0} where
     some_open t (f ∷ fs) asked uses i m (inl same) node pass = some_open_here t (node_at ps f.slot) (answers_at (slots_of ps) (drop f.asked asked)) (nodes_at ps (drop f.asked asked)) (drop f.uses uses) (opens_in ps fs (take f.asked asked) (take f.uses uses)) m (ap (node_at ps) same ∙ node) pass
     some_open t (f ∷ fs) asked uses i m (inr h) node pass = some_open_later t (node_at ps f.slot) (answers_at (slots_of ps) (drop f.asked asked)) (nodes_at ps (drop f.asked asked)) (drop f.uses uses) (opens_in ps fs (take f.asked asked) (take f.uses uses)) (some_open t fs (take f.asked asked) (take f.uses uses) i m h node pass)
 
+  -- frames of nodes stand for open nodes
+  pub some-frames : (ps : List (N × Slot V F)) (fs : List Frame) (asked : List ℕ) (uses : List Use) → AllByRecursion (λ f. HasNode ps f.slot) fs → opens_in ps fs asked uses ≡ [] → fs ≡ []
+  some-frames ps [] asked uses h e = refl
+  some-frames ps (f ∷ fs) asked uses h e = absurd (by (node_at ps f.slot) h.0 e)
+    where
+      by : (o : Option N) → is_some o ≡ true → open_before o (answers_at (slots_of ps) (drop f.asked asked)) (nodes_at ps (drop f.asked asked)) (drop f.uses uses) (opens_in ps fs (take f.asked asked) (take f.uses uses)) ≡ [] → ⊥
+      by None n e = cc
+      by (Some m) n e = cc
+
   -- ---- a node that no slot has
   pub none_at : (t : N → Bool) (ps : List (N × Slot V F)) → list_any (λ p. t p.0) ps ≡ false → (j : ℕ) (m : N) → node_at ps j ≡ Some m → t m ≡ false
   none_at t [] h j m e = absurd (cc)

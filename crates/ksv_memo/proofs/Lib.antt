@@ -13,3 +13,4 @@ pub mod Topping
 pub mod Passing
 pub mod Sweeping
 pub mod Marking
+pub mod Forgotten

@@ -2,7 +2,7 @@
 use Rattle.std.proofs.Common.{◌≡◌, ◌≢◌, ℕ, zero, suc, ◌+◌, ◌-◌, ◌≤◌, ◌<◌, Bool, true, false, not, cond, ◌||◌, List, [], ◌∷◌, ◌++◌, length, map, filter, take, drop, Option, Some, None, is_some, refl, sym, ◌∙◌, ap, subst, Result, slice_get, ◌⊎◌, inl, inr, arith, append_assoc, length-append, if◌then◌else◌}
 use Rattle.std.specs.Option.{option_map}
 use Rattle.std.specs.List.{AllByRecursion, list_any}
-use Rattle.std.proofs.lemmas.List.{length-drop, length-take-le, take-append-le, drop-append-le}
+use Rattle.std.proofs.lemmas.List.{length-drop, length-take-le, take-append-le, drop-append-le, take-append-drop}
 use Rattle.std.proofs.Math.Seq.{take-length, drop-length, take-append_seam, drop-append_seam}
 use Rattle.std.proofs.lemmas.Option.{slice_get-map}
 use Rattle.indexmap.specs.IndexMap.{set_value_at}
@@ -14,11 +14,12 @@ use Rattle.ksv_memo.specs.declared.layout.Row.{Row}
 use Rattle.ksv_memo.specs.Slots.{answer_in, answer_of, answer_at, with_first}
 use Rattle.ksv_memo.specs.Entry.{Entry}
 use Rattle.ksv_memo.specs.Touched.{is_use_touched}
-use Rattle.ksv_memo.specs.Layout.{IsOneOf, AllDiffer, slots_of, node_at, nodes_at, IsKept, entry_before, entries_in, AsksBefore, all_asked, all_uses, Sweep, behind_rows, is_to_go, swept}
+use Rattle.ksv_memo.specs.Layout.{IsOneOf, AllDiffer, slots_of, node_at, nodes_at, IsOpen, IsKept, entry_before, entries_in, AsksBefore, all_asked, all_uses, Sweep, behind_rows, is_to_go, swept}
 use Rattle.ksv_memo.proofs.Evals.{or_false}
 use Rattle.ksv_memo.proofs.Lists.{All-map, All-both}
 use Rattle.ksv_memo.proofs.Changing.{all_map, map_all}
-use Rattle.ksv_memo.proofs.Laying.{one_of-all, one_of-left, one_of-right, one_of-push, same_or}
+use Rattle.ksv_memo.proofs.Passing.{stays}
+use Rattle.ksv_memo.proofs.Laying.{All-take, All-drop, one_of-all, one_of-left, one_of-right, one_of-push, same_or}
 
 -- where no element passes, each fails
 pub none_pass : {X : Type 0} (p : X → Bool) (xs : List X) → list_any p xs ≡ false → AllByRecursion (λ x. p x ≡ false) xs
@@ -205,3 +206,34 @@ module _ {N V F : Type 0} (change : Change) where
       by_stays : (i : ℕ) → IsKept ps i → ((i : ℕ) → IsOneOf first i → IsKept ps i → IsOneOf left i) → IsOneOf first i ⊎ (r.slot ≡ i) → IsOneOf (left ++ r.slot ∷ []) i
       by_stays i k stay (inl m) = one_of-left left (r.slot ∷ []) i (stay i m k)
       by_stays i k stay (inr e) = one_of-right left (r.slot ∷ []) i (inl e)
+
+  -- what is open then was open before
+  emptied-open : (ps : List (N × Slot V F)) (i j : ℕ) → IsOpen (set_value_at ps i emptied) j → IsOpen ps j
+  emptied-open [] i j o = o
+  emptied-open (p ∷ ps) zero zero o = absurd (cc)
+  emptied-open (p ∷ ps) zero (suc j) o = o
+  emptied-open (p ∷ ps) (suc i) zero o = o
+  emptied-open (p ∷ ps) (suc i) (suc j) o = emptied-open ps i j o
+
+  pub swept-open : (ps : List (N × Slot V F)) (rows : List Row) (asked : List ℕ) (uses : List Use) (i : ℕ) → IsOpen (swept change ps rows asked uses).slots i → IsOpen ps i
+  swept-open ps [] asked uses i o = o
+  swept-open ps (r ∷ rs) asked uses i o =
+      choose (λ (s : Sweep N V F). IsOpen s.slots i → IsOpen ps i) (is_to_go change ps (take r.asked asked) (take r.uses uses)) (swept change (set_value_at ps r.slot emptied) rs (drop r.asked asked) (drop r.uses uses)) (behind_rows (r ∷ []) (take r.asked asked) (take r.uses uses) (swept change ps rs (drop r.asked asked) (drop r.uses uses)))
+      (λ _ k. emptied-open ps r.slot i (swept-open (set_value_at ps r.slot emptied) rs (drop r.asked asked) (drop r.uses uses) i k))
+      (λ _ k. swept-open ps rs (drop r.asked asked) (drop r.uses uses) i k) o
+
+  -- where no use is touched, all stays
+  pub swept-none : (ps : List (N × Slot V F)) (rows : List Row) (asked : List ℕ) (uses : List Use) → length asked ≡ all_asked rows → length uses ≡ all_uses rows → AllByRecursion (IsKept ps) asked → AllByRecursion (λ u. is_use_touched change u ≡ false) uses
+      → swept change ps rows asked uses ≡ record { slots = ps; rows = rows; asked = asked; uses = uses }
+  swept-none ps [] [] [] e f kept free = refl
+  swept-none ps [] (i ∷ asked) uses e f kept free = absurd (omega arith)
+  swept-none ps [] [] (u ∷ uses) e f kept free = absurd (omega arith)
+  swept-none ps (r ∷ rs) asked uses e f kept free =
+      let rest : length (drop r.asked asked) ≡ all_asked rs = length-drop r.asked asked ∙ (let left_over : length asked - r.asked ≡ all_asked rs = omega arith in left_over) in
+      let rest_uses : length (drop r.uses uses) ≡ all_uses rs = length-drop r.uses uses ∙ (let left_over : length uses - r.uses ≡ all_uses rs = omega arith in left_over) in
+      let here : list_any (is_use_touched change) (take r.uses uses) ≡ false = none_fails (is_use_touched change) (take r.uses uses) (All-take (λ u. is_use_touched change u ≡ false) r.uses uses free) in
+      let asks : list_any (λ i. not (is_some (answer_at (slots_of ps) i))) (take r.asked asked) ≡ false = none_fails (λ i. not (is_some (answer_at (slots_of ps) i))) (take r.asked asked) (All-map (λ i k. ap not k) (take r.asked asked) (All-take (IsKept ps) r.asked asked kept)) in
+      let no : is_to_go change ps (take r.asked asked) (take r.uses uses) ≡ false = ap (λ b. b || list_any (λ i. not (is_some (answer_at (slots_of ps) i))) (take r.asked asked)) here ∙ asks in
+      stays change ps r rs asked uses no
+      ∙ ap (behind_rows (r ∷ []) (take r.asked asked) (take r.uses uses)) (swept-none ps rs (drop r.asked asked) (drop r.uses uses) rest rest_uses (All-drop (IsKept ps) r.asked asked kept) (All-drop (λ u. is_use_touched change u ≡ false) r.uses uses free))
+      ∙ (λ k. record { slots = ps; rows = r ∷ rs; asked = take-append-drop r.asked asked k; uses = take-append-drop r.uses uses k })

@@ -11,3 +11,4 @@ pub mod Passing
 pub mod Sweep
 pub mod Nodes
 pub mod Running
+pub mod Answers

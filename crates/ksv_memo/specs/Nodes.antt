@@ -93,3 +93,10 @@ MayKeep a (o ∷ st) before after = (after ≡ before) ⊎ Keeps o a before afte
 abbrev pub TakesFirst : {X : Type 0} → Bool → List X → List X → Type 0
 TakesFirst {X} true xs ys = (x : X) × (xs ≡ x ∷ ys)
 TakesFirst {X} false xs ys = (xs ≡ []) × (ys ≡ [])
+
+-- the last of these entries has this answer
+pub record EndsWithAnswer {N A : Type 0} (a : A) (es : List (Entry N A)) : Type 0 where
+  pub front : List (Entry N A)
+  pub entry : Entry N A
+  pub entries : es ≡ front ++ entry ∷ []
+  pub answer : entry.answer ≡ a

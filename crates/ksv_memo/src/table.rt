@@ -1,16 +1,18 @@
 //! The table of kept and open nodes.
-ghost use Rattle.std.specs.Prelude.{◌≡◌, ◌≤◌, [], Some, length, true, option_map, IfOk, OnOk, OnErr};
+ghost use Rattle.std.specs.Prelude.{◌≡◌, ◌≤◌, [], Some, length, true, option_map, IfOk, IfSome, IfNone, OnOk, OnErr};
 ghost use Rattle.ksv_memo.specs.Meaning.{on};
 ghost use Rattle.ksv_memo.specs.Moves.{Rowed, SameRows};
-ghost use Rattle.ksv_memo.specs.Nodes.{Asks, Closes, Finds, MayKeep, Steps, TakesFirst, is_there};
+ghost use Rattle.ksv_memo.specs.Nodes.{Asks, Closes, EndsWithAnswer, Finds, MayKeep, Steps, TakesFirst, is_there};
 ghost use Rattle.ksv_memo.specs.Slots.{answer_in, lent};
+ghost use Rattle.ksv_memo.specs.Sweep.{Sweeps};
 
 use crate::layout::{Frame, Frames, Known, Rows, Slots, find, open_new, reopen, set};
 use crate::replies::{Replies, Slot, answer_at};
 use crate::rules::{Next, Reply, Rules};
+use crate::sweep::{has_touched, sweep};
 use crate::uses::each_once;
 use indexmap::IndexMap;
-use ksv_bytes::Buffer;
+use ksv_bytes::{Buffer, Change};
 use std::alloc::{AllocError, Global};
 use std::marker::Model;
 
@@ -181,5 +183,27 @@ impl<R: Rules> Table<R> {
                 true
             }
         }
+    }
+
+    /// Takes out each kept node that a change touches or that asked one that goes, in one pass from the front. No node
+    /// is open. It takes no memory. Where the change touches no use, no row is looked at.
+    pub(crate) fn forget(&mut self, change: Change)
+        requires { self.old.opened ≡ [] }
+        ensures kept { Sweeps change self.old.kept self.new.kept }
+        ensures opened { self.new.opened ≡ [] }
+    {
+        self.frames.asked.clear();
+        if has_touched(change, self.rows.uses.as_slice()) {
+            sweep(&mut self.slots, &mut self.rows, change);
+        }
+    }
+
+    /// The answer that was kept last.
+    pub(crate) fn last(&self) -> Option<Result<&R::Value, &R::Fault>>
+        ensures some { IfSome result (λ answer. EndsWithAnswer (lent answer) self.now.kept) }
+        ensures none { IfNone result (self.now.kept ≡ []) }
+    {
+        let row = self.rows.rows.as_slice().last()?;
+        answer_at(self.slots.values().as_slice(), row.slot as usize)
     }
 }

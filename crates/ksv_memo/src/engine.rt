@@ -1,0 +1,142 @@
+//! The engine's public face.
+ghost use Rattle.std.specs.Prelude.{◌≡◌, ◌++◌, ℕ, List, [], Some, None, length, Contains, IfOk, OnOk, OnErr};
+ghost use Rattle.std.specs.List.{AllByRecursion};
+ghost use Rattle.ksv_bytes.specs.Uses.{Makes};
+ghost use Rattle.ksv_memo.specs.Meaning.{on};
+ghost use Rattle.ksv_memo.specs.Evaluation.{tells, done};
+ghost use Rattle.ksv_memo.specs.Right.{IsRight, AreExactly, AreBetween, nodes_of, fresh, costs};
+ghost use Rattle.ksv_memo.specs.Touched.{left_after};
+ghost use Rattle.ksv_memo.specs.Answers.{answer_of, turns_after};
+
+use crate::machine::Machine;
+use crate::rules::{Outcome, Rules};
+use ksv_bytes::{Buffer, Change};
+use std::alloc::{AllocError, Global};
+use std::marker::Model;
+
+/// The result of a question for a node.
+#[derive(Debug, Drop)]
+pub enum Answer<N, V, F> {
+    /// The node has this value.
+    Value(V),
+    /// The node has this fault.
+    Fault(F),
+    /// This node was asked while it was open: its answer depends on itself.
+    Circle(N),
+}
+
+fn answer_of<N, V, F>(outcome: Outcome<N, Result<V, F>>) -> Answer<N, V, F>
+    ensures { result ≡ answer_of outcome }
+{
+    match outcome {
+        Outcome::Answered(Ok(value)) => Answer::Value(value),
+        Outcome::Answered(Err(fault)) => Answer::Fault(fault),
+        Outcome::Circle(node) => Answer::Circle(node),
+    }
+}
+
+/// An engine that answers nodes by rules over the bytes of a file, and keeps the answers.
+///
+/// It is *right* for rules and bytes if each kept node has the answer, the asked nodes and the uses that evaluation
+/// from nothing gives, and all nodes that it asked are kept. In contracts the kept entries have no stated order.
+#[derive(Drop)]
+pub struct Engine<R: Rules> {
+    machine: Machine<R>,
+}
+
+impl<R: Rules> Model for Engine<R> {
+    ghost use Rattle.std.specs.Prelude.{◌≡◌, [], Result};
+    ghost use Rattle.ksv_memo.specs.Entry.{Memo};
+
+    ghost Value = { Memo R.Node (Result R.Value R.Fault) };
+
+    ghost view = { λ engine. record { kept = engine.machine.table.kept; turns = engine.machine.turns } };
+
+    ghost invariant = { λ engine. engine.machine.table.opened ≡ [] };
+}
+
+impl<R: Rules> Engine<R> {
+    /// An engine that keeps nothing, which is right for all rules and bytes. It takes no memory.
+    pub fn new(alloc: Global) -> Self
+        ensures kept { result.kept ≡ [] }
+        ensures turns { result.turns ≡ Some 0 }
+        ensures right { (rules : R) (bytes : List ℕ) → IsRight (on (R.meaning rules) bytes) result.kept }
+    {
+        Engine {
+            machine: Machine::new(alloc),
+        }
+    }
+
+    /// Begins a question: the turns are counted from 0 again.
+    pub fn begin(&mut self)
+        ensures kept { self.new.kept ≡ self.old.kept }
+        ensures turns { self.new.turns ≡ Some 0 }
+    {
+        self.machine.turns = Some(0);
+    }
+
+    /// The answer of a node, as evaluation from nothing gives it: the rules run first with no replies, and each
+    /// asked node is evaluated the same way. A node that is asked while it is open is a circle, which ends the
+    /// question. Kept nodes aren't run, and each completed node is kept, also after a circle. It returns whatever
+    /// the depth.
+    pub fn ask(
+        &mut self,
+        rules: &R,
+        bytes: &Buffer,
+        node: R::Node,
+    ) -> Result<Answer<R::Node, R::Value, R::Fault>, AllocError>
+        requires { IsRight (on (R.meaning rules.now) bytes.now) self.old.kept }
+        ensures answer { IfOk result (λ answer. answer ≡ answer_of (tells (on (R.meaning rules.now) bytes.now) [] node).outcome) }
+
+        // The engine is still right, also after a refused memory; so all that its nodes asked is kept.
+        ensures right { IsRight (on (R.meaning rules.now) bytes.now) self.new.kept }
+
+        // The nodes that were kept and those that the question completed are kept, and no others.
+        ensures kept { OnOk result (AreExactly (on (R.meaning rules.now) bytes.now) (nodes_of self.new.kept) (nodes_of self.old.kept ++ done (on (R.meaning rules.now) bytes.now) [] node)) }
+        ensures refused { OnErr result (AreBetween (on (R.meaning rules.now) bytes.now) (nodes_of self.old.kept) (nodes_of self.new.kept) (nodes_of self.old.kept ++ done (on (R.meaning rules.now) bytes.now) [] node)) }
+
+        // Each node that wasn't kept took a turn, and one more after each of its asks.
+        ensures turns { self.new.turns ≡ turns_after (costs (on (R.meaning rules.now) bytes.now) (fresh (R.meaning rules.now).number (nodes_of self.old.kept) (done (on (R.meaning rules.now) bytes.now) [] node))) self.old.turns result }
+    {
+        match self.machine.ask(rules, bytes, node) {
+            Ok(Outcome::Answered(answer)) => Ok(answer_of(Outcome::Answered(answer))),
+            Ok(Outcome::Circle(node)) => {
+                self.machine.turns = None;
+                Ok(Answer::Circle(node))
+            }
+            Err(refused) => {
+                self.machine.turns = None;
+                Err(refused)
+            }
+        }
+    }
+
+    /// Takes out the kept nodes that an edit touches, so that the engine is right for the bytes after it. It takes no
+    /// memory.
+    pub fn forget(&mut self, change: Change)
+        ensures right { (rules : R) (before after : List ℕ) → IsRight (on (R.meaning rules) before) self.old.kept → Makes change before after → IsRight (on (R.meaning rules) after) self.new.kept }
+
+        // On the bytes before the edit those nodes stay that have no touched use in their tree, and no others.
+        ensures left { (rules : R) (before : List ℕ) → IsRight (on (R.meaning rules) before) self.old.kept → AreExactly (on (R.meaning rules) before) (nodes_of self.new.kept) (left_after (on (R.meaning rules) before) change (nodes_of self.old.kept)) }
+        ensures kept { AllByRecursion (Contains self.old.kept) self.new.kept }
+        ensures turns { self.new.turns ≡ self.old.turns }
+    {
+        self.machine.table.forget(change);
+    }
+
+    /// The number of kept nodes.
+    pub fn kept(&self) -> usize
+        ensures { result ≡ length self.now.kept }
+    {
+        self.machine.table.len()
+    }
+
+    /// The calls of the rules since the question began; None after a circle or a refused memory since then. The
+    /// count stops at 2^64 - 1.
+    pub fn turns(&self) -> Option<u64>
+        ensures { result ≡ self.now.turns }
+    {
+        let Machine { turns, .. } = &self.machine;
+        *turns
+    }
+}

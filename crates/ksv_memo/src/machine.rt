@@ -1,0 +1,180 @@
+//! The machine that runs nodes on a stack of open nodes, and keeps what they answer.
+ghost use Rattle.std.specs.Prelude.{◌≡◌, [], IfOk, OnOk, OnErr};
+ghost use Rattle.ksv_memo.specs.Meaning.{on};
+ghost use Rattle.ksv_memo.specs.Evaluation.{tells, done, IsAnswered};
+ghost use Rattle.ksv_memo.specs.Nodes.{HasNoEntry, Steps};
+ghost use Rattle.ksv_memo.specs.Right.{IsRight, nodes_of, counted};
+ghost use Rattle.ksv_memo.specs.Running.{AdvancesAt, AdvancesFrom, HasReached, IsLeft, IsRunning, LeftAt, LeftFrom, debt, to_keep};
+
+use crate::rules::{Next, Outcome, Reply, Rules};
+use crate::table::{Asked, Table};
+use ksv_bytes::Buffer;
+use std::alloc::{AllocError, Global};
+
+/// The count after one more call.
+fn one_more(turns: Option<u64>) -> Option<u64>
+    ensures { result ≡ counted 1 turns }
+{
+    match turns {
+        None => None,
+        Some(turns) => Some(turns.saturating_add(1)),
+    }
+}
+
+/// The nodes, and the calls of the rules that were counted.
+#[derive(Drop)]
+pub struct Machine<R: Rules> {
+    alloc: Global,
+    pub table: Table<R>,
+    pub turns: Option<u64>,
+}
+
+impl<R: Rules> Machine<R> {
+    /// A machine that keeps nothing.
+    pub(crate) fn new(alloc: Global) -> Self
+        ensures table { result.table ≡ record { kept = []; opened = [] } }
+        ensures turns { result.turns ≡ Some 0 }
+    {
+        Machine {
+            alloc,
+            table: Table::new(alloc),
+            turns: Some(0),
+        }
+    }
+
+    /// One call of the rules, which is counted.
+    fn turn(
+        &mut self,
+        rules: &R,
+        bytes: &Buffer,
+    ) -> Result<Next<R::Node, Reply<R>>, AllocError>
+        requires { IsRunning (on (R.meaning rules.now) bytes.now) self.old.table.kept self.old.table.opened }
+        ensures step { IfOk result (λ step. Steps (on (R.meaning rules.now) bytes.now) self.old.table.opened self.new.table.opened step) }
+        ensures kept { self.new.table.kept ≡ self.old.table.kept }
+        ensures turns { OnOk result (self.new.turns ≡ counted 1 self.old.turns) }
+    {
+        let step = self.table.turn(self.alloc, rules, bytes)?;
+        self.turns = one_more(self.turns);
+        Ok(step)
+    }
+
+    /// Runs the last open node for one turn. The outcome, if that ends the question.
+    fn advance(
+        &mut self,
+        rules: &R,
+        bytes: &Buffer,
+    ) -> Result<Option<Outcome<R::Node, Reply<R>>>, AllocError>
+        requires { IsRunning (on (R.meaning rules.now) bytes.now) self.old.table.kept self.old.table.opened }
+        ensures ok { IfOk result (λ outcome. AdvancesFrom (on (R.meaning rules.now) bytes.now) self.old.table.kept self.old.table.opened self.new.table outcome) }
+        ensures err { OnErr result (LeftFrom (on (R.meaning rules.now) bytes.now) self.old.table.kept self.old.table.opened self.new.table.kept) }
+        ensures turns { OnOk result (self.new.turns ≡ counted 1 self.old.turns) }
+    {
+        let step = self.turn(rules, bytes)?;
+        match step {
+            Next::Done(answer) => self.finish(rules, bytes, answer),
+            Next::Need(asked) => self.need(rules, bytes, asked),
+        }
+    }
+
+    /// Keeps the answer of the last open node, which the one below gets. Where there is none, it ends the question.
+    fn finish(
+        &mut self,
+        rules: &R,
+        bytes: &Buffer,
+        answer: Reply<R>,
+    ) -> Result<Option<Outcome<R::Node, Reply<R>>>, AllocError>
+        requires { HasReached (on (R.meaning rules.now) bytes.now) self.old.table.kept self.old.table.opened (Next.Done answer) }
+        ensures ok { IfOk result (λ outcome. AdvancesAt (on (R.meaning rules.now) bytes.now) self.old.table.kept self.old.table.opened (Next.Done answer) self.new.table outcome) }
+        ensures err { OnErr result (LeftAt (on (R.meaning rules.now) bytes.now) self.old.table.kept self.old.table.opened (Next.Done answer) self.new.table.kept) }
+        ensures turns { self.new.turns ≡ self.old.turns }
+    {
+        if self.table.close(self.alloc, answer)? {
+            return Ok(None);
+        }
+        match self.table.last() {
+            Some(answer) => {
+                let reply = rules.copy_answer(self.alloc, answer)?;
+                Ok(Some(Outcome::Answered(reply)))
+            }
+            None => unreachable!(),
+        }
+    }
+
+    /// Asks for what the last open node needs. A node that is open ends the question.
+    fn need(
+        &mut self,
+        rules: &R,
+        bytes: &Buffer,
+        asked: R::Node,
+    ) -> Result<Option<Outcome<R::Node, Reply<R>>>, AllocError>
+        requires { HasReached (on (R.meaning rules.now) bytes.now) self.old.table.kept self.old.table.opened (Next.Need asked) }
+        ensures ok { IfOk result (λ outcome. AdvancesAt (on (R.meaning rules.now) bytes.now) self.old.table.kept self.old.table.opened (Next.Need asked) self.new.table outcome) }
+        ensures err { OnErr result (self.new.table.kept ≡ self.old.table.kept) }
+        ensures turns { self.new.turns ≡ self.old.turns }
+    {
+        match self.table.ask(asked)? {
+            Asked::Replied => Ok(None),
+            Asked::Opened => Ok(None),
+            Asked::Circle(node) => Ok(Some(Outcome::Circle(node))),
+        }
+    }
+
+    /// Takes out all open nodes.
+    fn abandon(&mut self)
+        ensures kept { self.new.table.kept ≡ self.old.table.kept }
+        ensures opened { self.new.table.opened ≡ [] }
+        ensures turns { self.new.turns ≡ self.old.turns }
+    {
+        while self.table.abandon() {}
+    }
+
+    /// Runs a node that isn't kept, and what it asks. Where the question ends early, some nodes are open after it.
+    fn run(
+        &mut self,
+        rules: &R,
+        bytes: &Buffer,
+        node: R::Node,
+    ) -> Result<Outcome<R::Node, Reply<R>>, AllocError>
+        requires right { IsRight (on (R.meaning rules.now) bytes.now) self.old.table.kept }
+        requires new { HasNoEntry R.Node.eq self.old.table.kept node }
+        requires opened { self.old.table.opened ≡ [] }
+        ensures outcome { IfOk result (λ outcome. outcome ≡ (tells (on (R.meaning rules.now) bytes.now) [] node).outcome) }
+        ensures right { IsRight (on (R.meaning rules.now) bytes.now) self.new.table.kept }
+        ensures kept { OnOk result (nodes_of self.new.table.kept ≡ to_keep (on (R.meaning rules.now) bytes.now) self.old.table.kept (done (on (R.meaning rules.now) bytes.now) [] node)) }
+        ensures left { OnErr result (IsLeft (on (R.meaning rules.now) bytes.now) (to_keep (on (R.meaning rules.now) bytes.now) self.old.table.kept (done (on (R.meaning rules.now) bytes.now) [] node)) self.old.table.kept self.new.table.kept) }
+        ensures turns { IfOk result (λ outcome. IsAnswered outcome → self.new.turns ≡ counted (debt (on (R.meaning rules.now) bytes.now) self.old.table.kept (done (on (R.meaning rules.now) bytes.now) [] node)) self.old.turns) }
+    {
+        self.table.ask(node)?;
+        loop {
+            if let Some(outcome) = self.advance(rules, bytes)? {
+                return Ok(outcome);
+            }
+        }
+    }
+
+    /// The outcome of the node from nothing. No node is open before and after.
+    pub(crate) fn ask(
+        &mut self,
+        rules: &R,
+        bytes: &Buffer,
+        node: R::Node,
+    ) -> Result<Outcome<R::Node, Reply<R>>, AllocError>
+        requires right { IsRight (on (R.meaning rules.now) bytes.now) self.old.table.kept }
+        requires opened { self.old.table.opened ≡ [] }
+        ensures opened { self.new.table.opened ≡ [] }
+        ensures outcome { IfOk result (λ outcome. outcome ≡ (tells (on (R.meaning rules.now) bytes.now) [] node).outcome) }
+        ensures right { IsRight (on (R.meaning rules.now) bytes.now) self.new.table.kept }
+        ensures kept { OnOk result (nodes_of self.new.table.kept ≡ to_keep (on (R.meaning rules.now) bytes.now) self.old.table.kept (done (on (R.meaning rules.now) bytes.now) [] node)) }
+        ensures left { OnErr result (IsLeft (on (R.meaning rules.now) bytes.now) (to_keep (on (R.meaning rules.now) bytes.now) self.old.table.kept (done (on (R.meaning rules.now) bytes.now) [] node)) self.old.table.kept self.new.table.kept) }
+        ensures turns { IfOk result (λ outcome. IsAnswered outcome → self.new.turns ≡ counted (debt (on (R.meaning rules.now) bytes.now) self.old.table.kept (done (on (R.meaning rules.now) bytes.now) [] node)) self.old.turns) }
+    {
+        match self.table.answer(&node) {
+            Some(answer) => Ok(Outcome::Answered(rules.copy_answer(self.alloc, answer)?)),
+            None => {
+                let outcome = self.run(rules, bytes, node);
+                self.abandon();
+                outcome
+            }
+        }
+    }
+}
