@@ -14,3 +14,8 @@ pub mod Passing
 pub mod Sweeping
 pub mod Marking
 pub mod Forgotten
+pub mod Moves
+pub mod Change
+pub mod Turns
+pub mod Questions
+pub mod Forgetting

@@ -1,0 +1,260 @@
+-- What an edit takes from the kept nodes is what the pass takes from the table, and what stays is right.
+use Rattle.std.proofs.Common.{◌≡◌, ℕ, ◌+◌, Bool, true, false, not, cond, ◌||◌, ◌&&◌, nat_eq, nat_lt, List, [], ◌∷◌, ◌++◌, map, filter, Contains, Any, refl, sym, ◌∙◌, ap, subst, ◌⊎◌, inl, inr, eq-eqb}
+use Rattle.std.specs.Bool.{Decides}
+use Rattle.std.specs.List.{AllByRecursion, list_any, flat_map}
+use Rattle.std.proofs.lemmas.Bool.Decides.{Decides-and, Decides-not, Decides-ltb, not_from_Decides}
+use Rattle.std.proofs.lemmas.List.Elements.{All-contains_itself, recursion_from_All}
+use Rattle.std.proofs.lemmas.List.Folds.{list_any-append, Any-from_list_any, list_any-from_Any}
+use Rattle.std.proofs.lemmas.Map.Keys.{IsDistinct-head, IsDistinct-tail, IsDistinct-cons}
+use Rattle.ksv_bytes.specs.declared.uses.Use.{Use}
+use Rattle.ksv_bytes.specs.declared.uses.Use.TheVariants.{Bytes, Reach, Size}
+use Rattle.ksv_bytes.specs.declared.uses.Change.{Change}
+use Rattle.ksv_bytes.specs.declared.uses.Change.TheVariants.{Overwrite, Insert, Delete, Append}
+use Rattle.ksv_bytes.specs.Uses.{Touches, Makes}
+use Rattle.ksv_memo.specs.declared.rules.Outcome.{Outcome}
+use Rattle.ksv_memo.specs.Meaning.{Meaning, Standing, IsLawful, IsSettled, on}
+use Rattle.ksv_memo.specs.Evaluation.{is_among, IsAnswered, completed, tells}
+use Rattle.ksv_memo.specs.Entry.{Entry}
+use Rattle.ksv_memo.specs.Right.{nodes_of, AreDistinct, AreExactly, HasEachOnce, IsRightEntry, IsRight}
+use Rattle.ksv_memo.specs.Touched.{IsTouched, is_use_touched, is_hit, is_touched, tree, left_after}
+use Rattle.ksv_memo.specs.Layout.{IsOneOf}
+use Rattle.ksv_memo.specs.Sweep.{Mark, Says, AllSay, IsMarked, AreMarked, entries_with as entries_in, entries_left, Sweeps}
+use Rattle.ksv_memo.proofs.Standing.{law_on}
+use Rattle.ksv_memo.proofs.Lists.{All-map, All-both, All-++}
+use Rattle.ksv_memo.proofs.Evals.{eqb_true, or_false}
+use Rattle.ksv_memo.proofs.Keeping.{AreDistinct-none, kept-tree, or_right}
+use Rattle.ksv_memo.proofs.Change.{All-once, All-of-once, untouched-stays}
+use Rattle.ksv_memo.proofs.Laying.{one_of-all, one_of-push}
+use Rattle.ksv_memo.proofs.Sweeping.{none_fails, none_pass, any_same}
+
+-- ---- the tests
+pub use_touched : (change : Change) (used : Use) → Decides (is_use_touched change used) (Touches change used)
+use_touched (Overwrite at n) (Bytes from to) = Decides-and (nat_lt from (at + n)) (nat_lt at to) (Decides-ltb from (at + n)) (Decides-ltb at to)
+use_touched (Overwrite at n) (Reach to) = (λ e. cc, λ h. absurd h)
+use_touched (Overwrite at n) Size = (λ e. cc, λ h. absurd h)
+use_touched (Insert at n) (Bytes from to) = Decides-ltb at to
+use_touched (Insert at n) (Reach to) = Decides-ltb at to
+use_touched (Insert at n) Size = (λ e. tt, λ h. refl)
+use_touched (Delete at n) (Bytes from to) = Decides-ltb at to
+use_touched (Delete at n) (Reach to) = Decides-ltb at to
+use_touched (Delete at n) Size = (λ e. tt, λ h. refl)
+use_touched Append (Bytes from to) = (λ e. cc, λ h. absurd h)
+use_touched Append (Reach to) = (λ e. cc, λ h. absurd h)
+use_touched Append Size = (λ e. tt, λ h. refl)
+
+untouched_use : (change : Change) (used : Use) → is_use_touched change used ≡ false → Touches change used → ⊥
+untouched_use change used e = not_from_Decides (is_use_touched change used) (use_touched change used) e
+
+Any-map : {X : Type 0} (P Q : X → Type 0) → ((x : X) → P x → Q x) → (xs : List X) → Any P xs → Any Q xs
+Any-map P Q f xs h = (h.0, h.1, h.2, h.3, f h.1 h.4)
+
+-- some element passes exactly if the test's fact holds of some element
+any_decides : {X : Type 0} (p : X → Bool) (P : X → Type 0) → ((x : X) → Decides (p x) (P x)) → (xs : List X) → Decides (list_any p xs) (Any P xs)
+any_decides p P each xs = (λ e. Any-map (λ x. p x ≡ true) P (λ x h. (each x).0 h) xs (Any-from_list_any p xs e), λ h. list_any-from_Any p xs (Any-map P (λ x. p x ≡ true) (λ x k. (each x).1 k) xs h))
+
+pub touched_decides : {N A : Type 0} (w : Standing N A) (change : Change) (n : N) → Decides (is_touched w change n) (IsTouched w change n)
+touched_decides w change n = any_decides (is_hit w change) (λ m. Any (Touches change) (tells w [] m).uses) (λ m. any_decides (is_use_touched change) (Touches change) (use_touched change) (tells w [] m).uses) (tree w n)
+
+-- ---- a test on a list and on its members, each once
+any_once : {X : Type 0} (p : X → Bool) (once xs : List X) → HasEachOnce once xs → list_any p once ≡ list_any p xs
+any_once {X} p once xs h = by (list_any p once) refl (list_any p xs) refl
+  where
+    by : (a : Bool) → list_any p once ≡ a → (b : Bool) → list_any p xs ≡ b → a ≡ b
+    by true e true f = refl
+    by false e false f = refl
+    by false e true f = let no : list_any p xs ≡ false = none_fails p xs (All-once (λ x. p x ≡ false) once xs h (none_pass p once e)) in cc
+    by true e false f = let no : list_any p once ≡ false = none_fails p once (All-of-once (λ x. p x ≡ false) once xs h (none_pass p xs f)) in cc
+
+any-flat_map : {X Y : Type 0} (p : Y → Bool) (f : X → List Y) (xs : List X) → list_any p (flat_map f xs) ≡ list_any (λ x. list_any p (f x)) xs
+any-flat_map p f [] = refl
+any-flat_map p f (x ∷ xs) = list_any-append p (f x) (flat_map f xs) ∙ ap (λ b. list_any p (f x) || b) (any-flat_map p f xs)
+
+and_false : (a : Bool) → (a && false) ≡ false
+and_false true = refl
+and_false false = refl
+
+or_turn : (a b : Bool) → (a || (b || false)) ≡ (b || a)
+or_turn true true = refl
+or_turn true false = refl
+or_turn false true = refl
+or_turn false false = refl
+
+-- what holds of all marked entries holds of those that stay
+All-entries_left : {N A : Type 0} (P : Entry N A → Type 0) (ks : List (Mark N A)) → AllByRecursion P (entries_in ks) → AllByRecursion P (entries_left ks)
+All-entries_left P [] h = tt
+All-entries_left {N} {A} P (k ∷ ks) h = by k.goes (All-entries_left P ks h.1)
+  where
+    by : (b : Bool) → AllByRecursion P (entries_left ks) → AllByRecursion P (entries_in (cond (not b) (k ∷ filter (λ k. not k.goes) ks) (filter (λ k. not k.goes) ks)))
+    by true rest = rest
+    by false rest = (h.0, rest)
+
+module _ {N A : Type 0} (w : Standing N A) where
+  numbers-entries_left : (P : ℕ → Type 0) (ks : List (Mark N A)) → AllByRecursion P (map w.number (nodes_of (entries_in ks))) → AllByRecursion P (map w.number (nodes_of (entries_left ks)))
+  numbers-entries_left P [] h = tt
+  numbers-entries_left P (k ∷ ks) h = by k.goes (numbers-entries_left P ks h.1)
+    where
+      by : (b : Bool) → AllByRecursion P (map w.number (nodes_of (entries_left ks))) → AllByRecursion P (map w.number (nodes_of (entries_in (cond (not b) (k ∷ filter (λ k. not k.goes) ks) (filter (λ k. not k.goes) ks)))))
+      by true rest = rest
+      by false rest = (h.0, rest)
+
+  distinct-entries_left : (ks : List (Mark N A)) → AreDistinct w (nodes_of (entries_in ks)) → AreDistinct w (nodes_of (entries_left ks))
+  distinct-entries_left [] h = AreDistinct-none w
+  distinct-entries_left (k ∷ ks) h = by k.goes (distinct-entries_left ks (IsDistinct-tail nat_eq (w.number k.entry.node) (map w.number (nodes_of (entries_in ks))) h))
+    where
+      by : (b : Bool) → AreDistinct w (nodes_of (entries_left ks)) → AreDistinct w (nodes_of (entries_in (cond (not b) (k ∷ filter (λ k. not k.goes) ks) (filter (λ k. not k.goes) ks))))
+      by true rest = rest
+      by false rest = IsDistinct-cons nat_eq (w.number k.entry.node) (map w.number (nodes_of (entries_left ks))) (numbers-entries_left (λ y. nat_eq (w.number k.entry.node) y ≡ false) ks (IsDistinct-head nat_eq (w.number k.entry.node) (map w.number (nodes_of (entries_in ks))) h)) rest
+
+-- what stays has no touched use
+free-entries_left : {N A : Type 0} (change : Change) (before ks : List (Mark N A)) → AreMarked change before ks → AllByRecursion (λ e. AllByRecursion (λ used. Touches change used → ⊥) e.uses) (entries_left ks)
+free-entries_left change before [] h = tt
+free-entries_left {N} {A} change before (k ∷ ks) h = by k.goes refl (free-entries_left change (before ++ k ∷ []) ks h.1)
+  where
+    by : (b : Bool) → k.goes ≡ b → AllByRecursion (λ e. AllByRecursion (λ used. Touches change used → ⊥) e.uses) (entries_left ks) → AllByRecursion (λ e. AllByRecursion (λ used. Touches change used → ⊥) e.uses) (entries_in (cond (not b) (k ∷ filter (λ k. not k.goes) ks) (filter (λ k. not k.goes) ks)))
+    by true e rest = rest
+    by false e rest = (All-map (untouched_use change) k.entry.uses (none_pass (is_use_touched change) k.entry.uses (or_false (list_any (is_use_touched change) k.entry.uses) (list_any (λ b. b) h.0.asked) (sym h.0.goes ∙ e)).0), rest)
+
+module _ {N A : Type 0} (w : Standing N A) where
+  -- the mark of an entry says whether its node is touched
+  abbrev pub IsTold : Change → Mark N A → Type 0
+  IsTold change k = k.goes ≡ is_touched w change k.entry.node
+
+  left_here : (change : Change) (k : Mark N A) (ks : List (Mark N A)) → IsTold change k → nodes_of (entries_left ks) ≡ left_after w change (nodes_of (entries_in ks)) → nodes_of (entries_left (k ∷ ks)) ≡ left_after w change (nodes_of (entries_in (k ∷ ks)))
+  left_here change k ks told rest = by k.goes (is_touched w change k.entry.node) told
+    where
+      by : (b c : Bool) → b ≡ c → nodes_of (entries_in (cond (not b) (k ∷ filter (λ k. not k.goes) ks) (filter (λ k. not k.goes) ks))) ≡ cond (not c) (k.entry.node ∷ left_after w change (nodes_of (entries_in ks))) (left_after w change (nodes_of (entries_in ks)))
+      by true true e = rest
+      by false false e = ap (λ ns. k.entry.node ∷ ns) rest
+      by true false e = absurd (cc)
+      by false true e = absurd (cc)
+
+  -- where each does, those nodes stay that aren't touched
+  left_nodes : (change : Change) (ks : List (Mark N A)) → AllByRecursion (IsTold change) ks → nodes_of (entries_left ks) ≡ left_after w change (nodes_of (entries_in ks))
+  left_nodes change [] told = refl
+  left_nodes change (k ∷ ks) told = left_here change k ks told.0 (left_nodes change ks told.1)
+
+module _ {N A : Type 0} (w : Standing N A) (law : IsSettled w) where
+  -- ---- a kept node is touched if one of its uses is, or a node that it asked
+  touched-kept : (change : Change) (kept : List N) (e : Entry N A) → IsRightEntry w kept e → is_touched w change e.node ≡ (list_any (is_use_touched change) e.uses || list_any (is_touched w change) e.asked)
+  touched-kept change kept e right =
+      let Q : Outcome N A → Type 0 = λ out. IsAnswered out in
+      let answered : IsAnswered (tells w [] e.node).outcome = subst Q (sym right.outcome) tt in
+      let asked : List N = (tells w [] e.node).asked in
+      let parts : list_any (is_hit w change) (tree w e.node) ≡ (list_any (is_touched w change) e.asked || (is_hit w change e.node || false)) =
+      ap (list_any (is_hit w change)) (kept-tree w law e.node answered)
+      ∙ list_any-append (is_hit w change) (flat_map (completed w w.nodes []) asked) (e.node ∷ [])
+      ∙ ap (λ b. b || (is_hit w change e.node || false)) (any-flat_map (is_hit w change) (completed w w.nodes []) asked ∙ ap (list_any (is_touched w change)) right.asked) in
+      parts ∙ or_turn (list_any (is_touched w change) e.asked) (is_hit w change e.node)
+      ∙ ap (λ b. b || list_any (is_touched w change) e.asked) (sym (any_once (is_use_touched change) e.uses (tells w [] e.node).uses right.uses))
+
+  -- ---- what is left of a list, as a set
+  among_cases : (p : N → Bool) (m n : N) (ns : List N) → is_among w.number (filter p ns) n ≡ (is_among w.number ns n && p n) → (a : Bool) → nat_eq (w.number n) (w.number m) ≡ a → (b : Bool) → p m ≡ b → is_among w.number (cond b (m ∷ filter p ns) (filter p ns)) n ≡ ((a || is_among w.number ns n) && p n)
+  among_cases p m n ns rest true e true f = ap (λ x. x || is_among w.number (filter p ns) n) e ∙ sym (ap p (law.own_number n m (eqb_true (w.number n) (w.number m) e)) ∙ f)
+  among_cases p m n ns rest true e false f = let fails : p n ≡ false = ap p (law.own_number n m (eqb_true (w.number n) (w.number m) e)) ∙ f in rest ∙ ap (λ x. is_among w.number ns n && x) fails ∙ and_false (is_among w.number ns n) ∙ sym fails
+  among_cases p m n ns rest false e true f = ap (λ x. x || is_among w.number (filter p ns) n) e ∙ rest
+  among_cases p m n ns rest false e false f = rest
+
+  among-filter : (p : N → Bool) (ns : List N) (n : N) → is_among w.number (filter p ns) n ≡ (is_among w.number ns n && p n)
+  among-filter p [] n = refl
+  among-filter p (m ∷ ns) n = among_cases p m n ns (among-filter p ns n) (nat_eq (w.number n) (w.number m)) refl (p m) refl
+
+  pub left-decides : (change : Change) (ns : List N) (n : N) → Decides (is_among w.number (left_after w change ns) n) ((is_among w.number ns n ≡ true) × (IsTouched w change n → ⊥))
+  left-decides change ns n =
+      let P : Bool → Type 0 = λ b. Decides b ((is_among w.number ns n ≡ true) × (IsTouched w change n → ⊥)) in
+      subst P (sym (among-filter (λ m. not (is_touched w change m)) ns n)) (Decides-and (is_among w.number ns n) (not (is_touched w change n)) (λ e. e, λ e. e) (Decides-not (is_touched w change n) (touched_decides w change n)))
+
+  -- lists with the same members have the same members left
+  pub left_after-same : (change : Change) (ns ms : List N) → ((x : N) → is_among w.number ns x ≡ is_among w.number ms x) → (x : N) → is_among w.number (left_after w change ns) x ≡ is_among w.number (left_after w change ms) x
+  left_after-same change ns ms same x = among-filter (λ m. not (is_touched w change m)) ns x ∙ ap (λ b. b && not (is_touched w change x)) (same x) ∙ sym (among-filter (λ m. not (is_touched w change m)) ms x)
+
+  -- ---- the marks of the pass
+  said : (change : Change) (before : List (Mark N A)) → AllByRecursion (IsTold w change) before → (ms : List N) (bs : List Bool) → AllSay before ms bs → list_any (λ b. b) bs ≡ list_any (is_touched w change) ms
+  said change before told [] [] h = refl
+  said change before told [] (b ∷ bs) h = absurd h
+  said change before told (m ∷ ms) [] h = absurd h
+  said change before told (m ∷ ms) (b ∷ bs) h =
+      let here : b ≡ is_touched w change m = sym h.0.goes ∙ one_of-all (IsTold w change) before told h.0.mark h.0.there ∙ ap (is_touched w change) h.0.node in
+      ap (λ c. c || list_any (λ b. b) bs) here ∙ ap (λ c. is_touched w change m || c) (said change before told ms bs h.1)
+
+  -- each mark of the pass says whether the node is touched, from the front on
+  marks-told : (change : Change) (kept : List N) (before ks : List (Mark N A)) → AllByRecursion (IsTold w change) before → AreMarked change before ks → AllByRecursion (IsRightEntry w kept) (entries_in ks) → AllByRecursion (IsTold w change) ks
+  marks-told change kept before [] told marked right = tt
+  marks-told change kept before (k ∷ ks) told marked right =
+      let here : IsTold w change k =
+      marked.0.goes
+      ∙ ap (λ b. list_any (is_use_touched change) k.entry.uses || b) (said change before told k.entry.asked marked.0.asked marked.0.say)
+      ∙ sym (touched-kept w law change kept k.entry right.0) in
+      (here, marks-told change kept (before ++ k ∷ []) ks (All-++ (IsTold w change) before (k ∷ []) told (here, tt)) marked.1 right.1)
+
+  -- ---- what the pass leaves
+  -- an entry that stays is left
+  stays_in : (ks : List (Mark N A)) (k : Mark N A) → IsOneOf ks k → k.goes ≡ false → is_among w.number (nodes_of (entries_left ks)) k.entry.node ≡ true
+  stays_in [] k h e = absurd h
+  stays_in (x ∷ ks) k (inl same) e = subst (λ (y : Mark N A). is_among w.number (nodes_of (entries_left (x ∷ ks))) y.entry.node ≡ true) same (by x.goes (ap (λ (y : Mark N A). y.goes) same ∙ e))
+    where
+      by : (b : Bool) → b ≡ false → is_among w.number (nodes_of (entries_in (cond (not b) (x ∷ filter (λ k. not k.goes) ks) (filter (λ k. not k.goes) ks)))) x.entry.node ≡ true
+      by true f = absurd (cc)
+      by false f = ap (λ c. c || is_among w.number (nodes_of (entries_left ks)) x.entry.node) (eq-eqb (w.number x.entry.node) (w.number x.entry.node) refl)
+  stays_in (x ∷ ks) k (inr h) e = by x.goes (stays_in ks k h e)
+    where
+      by : (b : Bool) → is_among w.number (nodes_of (entries_left ks)) k.entry.node ≡ true → is_among w.number (nodes_of (entries_in (cond (not b) (x ∷ filter (λ k. not k.goes) ks) (filter (λ k. not k.goes) ks)))) k.entry.node ≡ true
+      by true ih = ih
+      by false ih = or_right (nat_eq (w.number k.entry.node) (w.number x.entry.node)) (is_among w.number (nodes_of (entries_left ks)) k.entry.node) ih
+
+  none_said : (all before : List (Mark N A)) → ((k : Mark N A) → IsOneOf before k → IsOneOf all k) → (ms : List N) (bs : List Bool) → AllSay before ms bs → list_any (λ b. b) bs ≡ false → AllByRecursion (λ m. is_among w.number (nodes_of (entries_left all)) m ≡ true) ms
+  none_said all before inside [] [] h none = tt
+  none_said all before inside [] (b ∷ bs) h none = absurd h
+  none_said all before inside (m ∷ ms) [] h none = absurd h
+  none_said all before inside (m ∷ ms) (b ∷ bs) h none =
+      let parts = or_false b (list_any (λ b. b) bs) none in
+      (subst (λ n. is_among w.number (nodes_of (entries_left all)) n ≡ true) h.0.node (stays_in all h.0.mark (inside h.0.mark h.0.there) (h.0.goes ∙ parts.0)), none_said all before inside ms bs h.1 parts.1)
+
+  -- what an entry that stays asked is left
+  closed_left : (change : Change) (all before ks : List (Mark N A)) → ((k : Mark N A) → IsOneOf before k → IsOneOf all k) → ((k : Mark N A) → IsOneOf ks k → IsOneOf all k) → AreMarked change before ks → AllByRecursion (λ (e : Entry N A). AllByRecursion (λ m. is_among w.number (nodes_of (entries_left all)) m ≡ true) e.asked) (entries_left ks)
+  closed_left change all before [] inside later marked = tt
+  closed_left change all before (k ∷ ks) inside later marked =
+      by k.goes refl (closed_left change all (before ++ k ∷ []) ks (λ x m. cases x (one_of-push before k x m)) (λ x m. later x (inr m)) marked.1)
+    where
+      cases : (x : Mark N A) → IsOneOf before x ⊎ (k ≡ x) → IsOneOf all x
+      cases x (inl m) = inside x m
+      cases x (inr e) = subst (IsOneOf all) e (later k (inl refl))
+
+      by : (b : Bool) → k.goes ≡ b → AllByRecursion (λ (e : Entry N A). AllByRecursion (λ m. is_among w.number (nodes_of (entries_left all)) m ≡ true) e.asked) (entries_left ks)
+          → AllByRecursion (λ (e : Entry N A). AllByRecursion (λ m. is_among w.number (nodes_of (entries_left all)) m ≡ true) e.asked) (entries_in (cond (not b) (k ∷ filter (λ k. not k.goes) ks) (filter (λ k. not k.goes) ks)))
+      by true e rest = rest
+      by false e rest = (none_said all before inside k.entry.asked marked.0.asked marked.0.say (or_false (list_any (is_use_touched change) k.entry.uses) (list_any (λ b. b) marked.0.asked) (sym marked.0.goes ∙ e)).1, rest)
+
+  -- what stays is right on the same bytes
+  right-entries_left : (change : Change) (ks : List (Mark N A)) → IsRight w (entries_in ks) → AreMarked change [] ks → IsRight w (entries_left ks)
+  right-entries_left change ks right marked =
+      let kept : List N = nodes_of (entries_left ks) in
+      record {
+        each = All-both (IsRightEntry w (nodes_of (entries_in ks))) (λ (e : Entry N A). AllByRecursion (λ m. is_among w.number kept m ≡ true) e.asked) (IsRightEntry w kept)
+            (λ e is asked. record { outcome = is.outcome; asked = is.asked; uses = is.uses; closed = asked })
+            (entries_left ks) (All-entries_left (IsRightEntry w (nodes_of (entries_in ks))) ks right.each) (closed_left change ks [] ks (λ k m. absurd m) (λ k m. m) marked);
+        once = distinct-entries_left w ks right.once;
+      }
+
+  -- those nodes stay that have no touched use in their tree, and no others
+  pub forgets : (change : Change) (es all : List (Entry N A)) → IsRight w es → Sweeps change es all → IsRight w all × AreExactly w (nodes_of all) (left_after w change (nodes_of es))
+  forgets change es all right sweeps =
+      let ks : List (Mark N A) = sweeps.marks in
+      let R : List (Entry N A) → Type 0 = λ xs. IsRight w xs in
+      let right_marks : IsRight w (entries_in ks) = subst R (sym sweeps.entries) right in
+      let told : AllByRecursion (IsTold w change) ks = marks-told change (nodes_of (entries_in ks)) [] ks tt sweeps.marked right_marks.each in
+      let stays : IsRight w all = subst R (sym sweeps.stays) (right-entries_left change ks right_marks sweeps.marked) in
+      let same : nodes_of all ≡ left_after w change (nodes_of es) = ap nodes_of sweeps.stays ∙ left_nodes w change ks told ∙ ap (λ xs. left_after w change (nodes_of xs)) sweeps.entries in
+      (stays, record { once = stays.once; same = λ x. ap (λ ns. is_among w.number ns x) same })
+
+-- and it is right for the bytes after the edit
+pub forgets-right : {N A : Type 0} (meaning : Meaning N A) → IsLawful meaning → (change : Change) (before after : List ℕ) → Makes change before after → (es all : List (Entry N A)) → Sweeps change es all → IsRight (on meaning before) es → IsRight (on meaning after) all
+forgets-right {N} {A} meaning law change before after made es all sweeps right =
+    let P : List (Entry N A) → Type 0 = λ xs. AllByRecursion (λ (e : Entry N A). AllByRecursion (λ used. Touches change used → ⊥) e.uses) xs in
+    untouched-stays meaning law change before after made all (forgets (on meaning before) (law_on meaning law before) change es all right sweeps).0
+    (subst P (sym sweeps.stays) (free-entries_left change [] sweeps.marks sweeps.marked))
+
+-- it was kept before
+pub forgets-kept : {N A : Type 0} (change : Change) (es all : List (Entry N A)) → Sweeps change es all → AllByRecursion (Contains es) all
+forgets-kept {N} {A} change es all sweeps =
+    let P : List (Entry N A) → Type 0 = λ xs. AllByRecursion (Contains es) xs in
+    subst P (sym sweeps.stays) (All-entries_left (Contains es) sweeps.marks (subst P (sym sweeps.entries) (recursion_from_All (Contains es) es (All-contains_itself es))))

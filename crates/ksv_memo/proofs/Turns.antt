@@ -1,0 +1,277 @@
+-- What the code's tests and moves say of kept and open nodes.
+use Rattle.std.proofs.Common.{◌≡◌, ℕ, suc, ◌+◌, ◌-◌, ◌*◌, ◌<◌, ◌≤◌, Bool, true, false, cond, List, [], ◌∷◌, ◌++◌, length, map, refl, sym, ◌∙◌, ap, subst, nat_eq, arith, ◌||◌, length-append, append_assoc, eq-eqb, find, Option, Some, None, Result, Ok, Err, OnErr, IfOk}
+use Rattle.std.specs.declared.alloc.AllocError.{AllocError}
+use Rattle.std.specs.Cmp.{IsEquivalence}
+use Rattle.std.specs.List.{AllByRecursion, list_any}
+use Rattle.std.specs.Option.{option_map}
+use Rattle.std.proofs.lemmas.Map.Keys.{IsDistinct-head}
+use Rattle.ksv_bytes.specs.declared.uses.Use.{Use}
+use Rattle.ksv_memo.specs.declared.rules.Next.{Next}
+use Rattle.ksv_memo.specs.declared.rules.Next.TheVariants.{Need, Done}
+use Rattle.ksv_memo.specs.declared.rules.Outcome.{Outcome}
+use Rattle.ksv_memo.specs.declared.rules.Outcome.TheVariants.{Answered, Circle}
+use Rattle.ksv_memo.specs.Meaning.{Standing, IsSettled, IsAddedTo}
+use Rattle.ksv_memo.specs.Evaluation.{is_among, Told, after, told, tells, done}
+use Rattle.ksv_memo.specs.Entry.{Entry}
+use Rattle.ksv_memo.specs.Open.{Open, nodes_in, newly, with_uses, with_answer}
+use Rattle.ksv_memo.specs.Nodes.{kept_of}
+use Rattle.ksv_memo.specs.Right.{nodes_of, HasEachOnce, IsRight, fresh, costs, counted}
+use Rattle.ksv_memo.specs.Running.{answering, Agrees, HasCome, IsWaiting, HasEnded, HasStepped, IsStack, climbed, value_of, calls_of, calls_left, climbed_rest, rest_of, rest_at, to_keep, debt, made, Counts, Account, account_of, account_at, HasFinished, GoesOn, Advances, IsLeft}
+use Rattle.ksv_memo.proofs.Lists.{All-map, All-right}
+use Rattle.ksv_memo.proofs.Evals.{IsOut, eqb_true, or_false_intro, AreDistinct-cons, tells-free}
+use Rattle.ksv_memo.proofs.Keeping.{IsIn, AreDistinct-none, done-kept, agrees, self_in, nodes_of-append}
+use Rattle.ksv_memo.proofs.Moves.{++-nil, stepped, value-stepped, rest-stepped, rest-replied, rest-starts, rest-circle, covers-keep, covers-drop, to_keep-nil, fresh-nil, debt-keep, debt-drop, replied, value-replied, value-circle, starts, value-starts, room, opens, keeps, closes, IsWaiting-keep}
+
+-- ---- `==` on nodes is that of their numbers
+module _ {N A : Type 0} (w : Standing N A) (law : IsSettled w) (eq : N → N → Bool) (laws : IsEquivalence eq) (exact : (a b : N) → eq a b ≡ true → a ≡ b) where
+  eq_number : (a b : N) → eq a b ≡ nat_eq (w.number a) (w.number b)
+  eq_number a b = by (eq a b) refl (nat_eq (w.number a) (w.number b)) refl
+    where
+      by : (x : Bool) → eq a b ≡ x → (y : Bool) → nat_eq (w.number a) (w.number b) ≡ y → x ≡ y
+      by true e true f = refl
+      by false e false f = refl
+      by true e false f = let same : w.number a ≡ w.number b = ap (λ z. w.number z) (exact a b e) in let yes : nat_eq (w.number a) (w.number b) ≡ true = eq-eqb (w.number a) (w.number b) same in cc
+      by false e true f = let same : a ≡ b = law.own_number a b (eqb_true (w.number a) (w.number b) f) in let yes : eq a a ≡ true = laws.refl a in let moved : eq a b ≡ eq a a = ap (eq a) (sym same) in cc
+
+  any_waits : (st : List (Open N A)) (n : N) → list_any (λ o. eq n o.node) st ≡ is_among w.number (nodes_in st) n
+  any_waits [] n = refl
+  any_waits (o ∷ st) n = ap (λ b. b || list_any (λ o. eq n o.node) st) (eq_number n o.node) ∙ ap (λ b. nat_eq (w.number n) (w.number o.node) || b) (any_waits st n)
+
+  -- a node that is kept has an entry
+  pub any_entry : (es : List (Entry N A)) (n : N) → list_any (λ e. eq n e.node) es ≡ is_among w.number (nodes_of es) n
+  any_entry [] n = refl
+  any_entry (e ∷ es) n = ap (λ b. b || list_any (λ e. eq n e.node) es) (eq_number n e.node) ∙ ap (λ b. nat_eq (w.number n) (w.number e.node) || b) (any_entry es n)
+
+  -- the test of the table says whether a node is open
+  pub waits_among : (st : List (Open N A)) (n : N) → list_any (λ o. eq n o.node) st ≡ is_among w.number (nodes_in st) n
+  waits_among st n = any_waits st n
+
+-- ---- the measure
+same_product : (p q x y : ℕ) → p ≡ q → x < y → p + x < q + y
+same_product p q x y e h = omega arith
+
+fewer : (k b x y : ℕ) → x < y + (b + 2) → k * (b + 2) + x < suc k * (b + 2) + y
+fewer k b x y h = grind arith
+
+calls-replied : {N A : Type 0} (w : Standing N A) (es : List (Entry N A)) (o : Open N A) (m : N) (a : A) (st : List (Open N A)) → length o.replies < w.replies → calls_left w es (with_answer o m a) st < calls_left w es o st
+calls-replied w es o m a st few = same_product _ _ (calls_of w (with_answer o m a ∷ st)) (calls_of w (o ∷ st)) refl (simp length-append (omega arith))
+
+calls-kept : {N A : Type 0} (w : Standing N A) (es : List (Entry N A)) (e : Entry N A) (o p : Open N A) (m : N) (a : A) (st : List (Open N A)) → length o.replies ≤ w.replies → length p.replies < w.replies → calls_left w (es ++ e ∷ []) (with_answer p m a) st < calls_left w es o (p ∷ st)
+calls-kept w es e o p m a st le few =
+    same_product ((w.nodes - (length (es ++ e ∷ []) + length (with_answer p m a ∷ st))) * (w.replies + 2)) ((w.nodes - (length es + length (o ∷ p ∷ st))) * (w.replies + 2))
+    (calls_of w (with_answer p m a ∷ st)) (calls_of w (o ∷ p ∷ st))
+    (ap (λ k. (w.nodes - k) * (w.replies + 2)) (simp length-append (omega arith)))
+    (simp length-append (omega arith))
+
+calls-opened : {N A : Type 0} (w : Standing N A) (es : List (Entry N A)) (o : Open N A) (m : N) (st : List (Open N A)) → length es + suc (suc (length st)) ≤ w.nodes → calls_left w es (newly m) (o ∷ st) < calls_left w es o st
+calls-opened w es o m st le =
+    let k : ℕ = w.nodes - (length es + length (newly m ∷ o ∷ st)) in
+    let eq : w.nodes - (length es + length (o ∷ st)) ≡ suc k = omega arith in
+    let x : ℕ = calls_of w (newly m ∷ o ∷ st) in
+    let y : ℕ = calls_of w (o ∷ st) in
+    let more : x < y + (w.replies + 2) = omega arith in
+    subst (λ z. k * (w.replies + 2) + x < z * (w.replies + 2) + y) (sym eq) (fewer k w.replies x y more)
+
+kept_last : {N A : Type 0} (w : Standing N A) (es : List (Entry N A)) (e : Entry N A) → IsIn w (nodes_of (es ++ e ∷ [])) e.node
+kept_last {N} {A} w es e = (All-right (λ (x : Entry N A). IsIn w (nodes_of (es ++ e ∷ [])) x.node) es (e ∷ []) (self_in w (es ++ e ∷ []))).0
+
+-- ---- the calls that were made and are owed
+counts-last : (c owed so_far total : ℕ) → c + owed ≡ total + so_far → so_far + 1 ≡ owed → suc c ≡ total
+counts-last c owed so_far total e f = omega arith
+
+counts-next : (c owed owed' so_far so_far' total : ℕ) → c + owed ≡ total + so_far → owed' + so_far + 1 ≡ owed + so_far' → suc c + owed' ≡ total + so_far'
+counts-next c owed owed' so_far so_far' total e f = omega arith
+
+calls-paid : (d d' r oa pa ma pn : ℕ) → d' ≡ r → d ≡ oa + 1 + r → pn ≡ pa + 1 → d' + (oa + (pa + 1 + ma)) + 1 ≡ d + (pn + ma)
+calls-paid d d' r oa pa ma pn e f g = omega arith
+
+calls-more : (d d' oa ma on : ℕ) → d' ≡ d → on ≡ oa + 1 → d' + (oa + ma) + 1 ≡ d + (on + ma)
+calls-more d d' oa ma on e f = omega arith
+
+calls-open : (d d' oa ma : ℕ) → d' ≡ d → d' + (oa + ma) + 1 ≡ d + (0 + (oa + 1 + ma))
+calls-open d d' oa ma e = omega arith
+
+-- ---- what a turn comes to
+module _ {N A : Type 0} (w : Standing N A) (law : IsSettled w) where
+  -- a node is kept and the one below goes on
+  goes-kept : (es : List (Entry N A)) (o p : Open N A) (st : List (Open N A)) (a : A) (once : List Use)
+      → IsStack w es o.node (p ∷ st) → HasEnded w es o a → HasEachOnce once o.uses
+      → GoesOn w (account_at w es o (p ∷ st) (Done a)) es (es ++ kept_of o a once ∷ []) (with_answer p o.node a) st
+  goes-kept es o p st a once h ended each =
+      let e : Entry N A = kept_of o a once in
+      let right : IsRight w (es ++ e ∷ []) = keeps w law es o (p ∷ st) a once h ended each in
+      let waits : IsWaiting w (es ++ e ∷ []) p o.node = IsWaiting-keep w es e p o.node h.chain.0 in
+      let says : (g : N → Outcome N A) → Agrees (es ++ e ∷ []) g → g o.node ≡ Answered a = λ g agree. (All-right (λ (x : Entry N A). g x.node ≡ Answered x.answer) es (e ∷ []) agree).0 in
+      let left_over : debt w (es ++ e ∷ []) (rest_of w (with_answer p o.node a) st) ≡ debt w (es ++ e ∷ []) (climbed_rest w (p ∷ st) (Answered a)) = ap (debt w (es ++ e ∷ [])) (rest-replied w p o.node a st) in
+      let paid : debt w es (rest_at w o (p ∷ st) (Done a)) ≡ length o.asked + 1 + debt w (es ++ e ∷ []) (climbed_rest w (p ∷ st) (Answered a)) = debt-keep w law es e o (p ∷ st) a (climbed_rest w (p ∷ st) (Answered a)) h ended refl in
+      record {
+        stack = closes w es o p st e h refl right;
+        came = replied w (es ++ e ∷ []) p o.node a waits (kept_last w es e) says;
+        grown = (o.node ∷ [], nodes_of-append es (e ∷ []));
+        value = value-replied w p o.node a st;
+        fewer = calls-kept w es e o p o.node a st ended.few h.chain.0.few;
+        all = ap (to_keep w (es ++ e ∷ [])) (rest-replied w p o.node a st) ∙ covers-keep w es e o.node (climbed_rest w (p ∷ st) (Answered a)) refl h.apart.0;
+        calls = calls-paid _ _ (debt w (es ++ e ∷ []) (climbed_rest w (p ∷ st) (Answered a))) (length o.asked) (length p.asked) (made st) _ left_over paid (length-append p.asked (o.node ∷ []));
+      }
+
+  pub finish-goes : (es all : List (Entry N A)) (o p q : Open N A) (st rest : List (Open N A)) (a : A) (once : List Use)
+      → IsStack w es o.node st → HasEnded w es o a → HasEachOnce once o.uses → all ≡ es ++ kept_of o a once ∷ [] → st ≡ p ∷ rest → q ≡ with_answer p o.node a
+      → GoesOn w (account_at w es o st (Done a)) es all q rest
+  finish-goes es all o p q st rest a once h ended each more popped is =
+      let stack : IsStack w es o.node (p ∷ rest) = subst (λ below. IsStack w es o.node below) popped h in
+      let P : List (Open N A) → List (Entry N A) → Open N A → Type 0 = λ below xs r. GoesOn w (account_at w es o below (Done a)) es xs r rest in
+      subst (λ below. P below all q) (sym popped) (subst (λ xs. P (p ∷ rest) xs q) (sym more) (subst (P (p ∷ rest) (es ++ kept_of o a once ∷ [])) (sym is) (goes-kept es o p rest a once stack ended each)))
+
+  -- the lowest node is kept
+  ends-kept : (es : List (Entry N A)) (o : Open N A) (a : A) (once : List Use) → IsStack w es o.node [] → HasEnded w es o a → HasEachOnce once o.uses → HasFinished w (account_at w es o [] (Done a)) (es ++ kept_of o a once ∷ []) (Answered a)
+  ends-kept es o a once h ended each =
+      let e : Entry N A = kept_of o a once in
+      let paid : debt w es (o.node ∷ []) ≡ length o.asked + 1 + debt w (es ++ e ∷ []) [] = debt-keep w law es e o [] a [] h ended refl in
+      let nothing : debt w (es ++ e ∷ []) [] ≡ 0 = ap (costs w) (fresh-nil w.number (nodes_of (es ++ e ∷ []))) in
+      let now : length o.asked + 0 + 1 ≡ debt w es (o.node ∷ []) = omega arith in
+      record {
+        value = refl;
+        right = keeps w law es o [] a once h ended each;
+        all = to_keep-nil w (es ++ e ∷ []) ∙ covers-keep w es e o.node [] refl h.apart.0;
+        calls = λ _. now;
+      }
+
+  pub finish-ends : (es all : List (Entry N A)) (o : Open N A) (st : List (Open N A)) (a b : A) (once : List Use)
+      → IsStack w es o.node st → HasEnded w es o a → HasEachOnce once o.uses → all ≡ es ++ kept_of o a once ∷ [] → st ≡ [] → b ≡ a
+      → HasFinished w (account_at w es o st (Done a)) all (Answered b)
+  finish-ends es all o st a b once h ended each more none copy =
+      let stack : IsStack w es o.node [] = subst (λ below. IsStack w es o.node below) none h in
+      let P : List (Open N A) → List (Entry N A) → A → Type 0 = λ below xs x. HasFinished w (account_at w es o below (Done a)) xs (Answered x) in
+      subst (λ below. P below all b) (sym none) (subst (λ xs. P [] xs b) (sym more) (subst (P [] (es ++ kept_of o a once ∷ [])) (sym copy) (ends-kept es o a once stack ended each)))
+
+  -- memory is refused once a node is kept, or before
+  pub finish-left : (es all : List (Entry N A)) (o : Open N A) (st : List (Open N A)) (a : A) (once : List Use)
+      → IsStack w es o.node st → HasEnded w es o a → HasEachOnce once o.uses → all ≡ es ++ kept_of o a once ∷ []
+      → IsLeft w (account_at w es o st (Done a)).all es all
+  finish-left es all o st a once h ended each more =
+      let e : Entry N A = kept_of o a once in
+      let rest : List N = climbed_rest w st (Answered a) in
+      let P : List (Entry N A) → Type 0 = λ xs. IsLeft w (to_keep w es (o.node ∷ rest)) es xs in
+      subst P (sym more) (record {
+        right = keeps w law es o st a once h ended each;
+        grown = (o.node ∷ [], nodes_of-append es (e ∷ []));
+        within = (fresh w.number (nodes_of (es ++ e ∷ [])) rest, sym (covers-keep w es e o.node rest refl h.apart.0));
+      })
+
+  pub left-same : (es all : List (Entry N A)) (rest : List N) → IsRight w es → all ≡ es → IsLeft w (to_keep w es rest) es all
+  left-same es all rest right same =
+      let P : List (Entry N A) → Type 0 = λ xs. IsLeft w (to_keep w es rest) es xs in
+      subst P (sym same) (record { right = right; grown = ([], sym (++-nil (nodes_of es))); within = (fresh w.number (nodes_of es) rest, refl) })
+
+  -- a kept answer is replied
+  pub need-replies : (es : List (Entry N A)) (o q : Open N A) (st : List (Open N A)) (m : N) (a : A)
+      → IsStack w es o.node st → IsWaiting w es o m → IsIn w (nodes_of es) m → ((g : N → Outcome N A) → Agrees es g → g m ≡ Answered a) → q ≡ with_answer o m a
+      → GoesOn w (account_at w es o st (Need m)) es es q st
+  need-replies es o q st m a h waits is_in says is =
+      let P : Open N A → Type 0 = λ r. GoesOn w (account_at w es o st (Need m)) es es r st in
+      let told_so : Answered a ≡ answering w (o.node ∷ nodes_in st) m = sym (says (answering w (o.node ∷ nodes_in st)) (agrees w law es h.right (o.node ∷ nodes_in st) h.apart)) in
+      let inside : AllByRecursion (IsIn w (nodes_of es)) (done w (o.node ∷ nodes_in st) m) = done-kept w law es h.right (o.node ∷ nodes_in st) h.apart m is_in in
+      let same_debt : debt w es (rest_of w (with_answer o m a) st) ≡ debt w es (rest_at w o st (Need m)) = ap (debt w es) (rest-replied w o m a st ∙ ap (climbed_rest w (o ∷ st)) told_so) ∙ debt-drop w es (done w (o.node ∷ nodes_in st) m) (climbed_rest w (o ∷ st) (answering w (o.node ∷ nodes_in st) m)) inside in
+      subst P (sym is) (record {
+        stack = h;
+        came = replied w es o m a waits is_in says;
+        grown = ([], sym (++-nil (nodes_of es)));
+        value = value-replied w o m a st ∙ ap (climbed w (o ∷ st)) told_so;
+        fewer = calls-replied w es o m a st waits.few;
+        all = ap (to_keep w es) (rest-replied w o m a st ∙ ap (climbed_rest w (o ∷ st)) told_so) ∙ covers-drop w es (done w (o.node ∷ nodes_in st) m) (climbed_rest w (o ∷ st) (answering w (o.node ∷ nodes_in st) m)) inside;
+        calls = calls-more _ _ (length o.asked) (made st) _ same_debt (length-append o.asked (m ∷ []));
+      })
+
+  -- a node is opened
+  pub need-opens : (es : List (Entry N A)) (o q : Open N A) (st above : List (Open N A)) (m : N)
+      → IsStack w es o.node st → IsWaiting w es o m → IsOut w (nodes_of es) m → IsOut w (o.node ∷ nodes_in st) m → q ≡ newly m → above ≡ o ∷ st
+      → GoesOn w (account_at w es o st (Need m)) es es q above
+  need-opens es o q st above m h waits out free is over =
+      let stack : IsStack w es m (o ∷ st) = opens w es o st m h waits out free in
+      let P : List (Open N A) → Open N A → Type 0 = λ up r. GoesOn w (account_at w es o st (Need m)) es es r up in
+      let same_debt : debt w es (rest_of w (newly m) (o ∷ st)) ≡ debt w es (rest_at w o st (Need m)) = ap (debt w es) (rest-starts w law (o ∷ st) m h.distinct free) in
+      subst (λ up. P up q) (sym over) (subst (P (o ∷ st)) (sym is) (record {
+        stack = stack;
+        came = starts w es m;
+        grown = ([], sym (++-nil (nodes_of es)));
+        value = value-starts w law o st m h.distinct free;
+        fewer = calls-opened w es o m st (room w law es m (o ∷ st) stack);
+        all = ap (to_keep w es) (rest-starts w law (o ∷ st) m h.distinct free);
+        calls = calls-open _ _ (length o.asked) (made st) same_debt;
+      }))
+
+  -- an open node is asked
+  pub need-ends : (es : List (Entry N A)) (o : Open N A) (st : List (Open N A)) (m : N) → IsStack w es o.node st → is_among w.number (o.node ∷ nodes_in st) m ≡ true → HasFinished w (account_at w es o st (Need m)) es (Circle m)
+  need-ends es o st m h is_open = record {
+    value = sym (value-circle w o st m is_open);
+    right = h.right;
+    all = to_keep-nil w es ∙ ap (to_keep w es) (sym (rest-circle w o st m is_open));
+    calls = λ never. absurd never;
+  }
+
+  -- ---- the call of a turn
+  pub turn-account : (es : List (Entry N A)) (o : Open N A) (st : List (Open N A)) (s : Next N A) → s ≡ w.follow o.node o.replies → HasCome w es o → account_at w es (with_uses o (w.added o.node o.replies)) st s ≡ account_of w es o st
+  turn-account es o st s is h = λ i. record {
+    value = value-stepped w es o st s is h i;
+    left = calls_left w es o st;
+    all = to_keep w es (rest-stepped w es o st s is h i);
+    owed = debt w es (rest-stepped w es o st s is h i);
+    made = length o.asked + made st;
+  }
+
+  pub turn-steps : (es now : List (Entry N A)) (o p : Open N A) (s : Next N A) → now ≡ es → p ≡ with_uses o (w.added o.node o.replies) → s ≡ w.follow o.node o.replies → HasCome w es o → HasStepped w now p s
+  turn-steps es now o p s same view is h = let P : List (Entry N A) → Open N A → Type 0 = λ xs q. HasStepped w xs q s in subst (λ xs. P xs p) (sym same) (subst (P es) (sym view) (stepped w law es o s is h))
+
+  -- ---- a question begins
+  pub begins : (es : List (Entry N A)) (n : N) (o : Open N A) (st : List (Open N A)) → o ≡ newly n → st ≡ [] → IsRight w es → IsOut w (nodes_of es) n → IsStack w es o.node st
+  begins es n o st e f right out = let P : N → List (Open N A) → Type 0 = λ m below. IsStack w es m below in subst (λ below. P o.node below) (sym f) (subst (λ (q : Open N A). P q.node []) (sym e) (record { right = right; chain = tt; distinct = AreDistinct-cons w n [] refl (AreDistinct-none w); apart = (out, tt) }))
+
+  pub comes : (es : List (Entry N A)) (n : N) (o : Open N A) → o ≡ newly n → HasCome w es o
+  comes es n o e = let P : Open N A → Type 0 = λ q. HasCome w es q in subst P (sym e) (starts w es n)
+
+  pub value-begins : (n : N) (o : Open N A) (st : List (Open N A)) → o ≡ newly n → st ≡ [] → value_of w o st ≡ (tells w [] n).outcome
+  value-begins n o st e f =
+      let eq : suc w.replies - 0 ≡ suc w.replies = omega arith in
+      ap (λ q. value_of w q st) e ∙ ap (λ below. value_of w (newly n) below) f ∙ ap (λ (u : Told N A). u.outcome) (ap (λ j. told w (answering w (n ∷ [])) n j []) eq ∙ sym (tells-free w law [] n (AreDistinct-none w) refl))
+
+  rest-begins : (n : N) (o : Open N A) (st : List (Open N A)) → o ≡ newly n → st ≡ [] → rest_of w o st ≡ done w [] n
+  rest-begins n o st e f = ap (λ q. rest_of w q st) e ∙ ap (λ below. rest_of w (newly n) below) f ∙ rest-starts w law [] n (AreDistinct-none w) refl ∙ ++-nil (done w [] n)
+
+  pub covers-begins : (es : List (Entry N A)) (n : N) (o : Open N A) (st : List (Open N A)) → o ≡ newly n → st ≡ [] → to_keep w es (rest_of w o st) ≡ to_keep w es (done w [] n)
+  covers-begins es n o st e f = ap (to_keep w es) (rest-begins n o st e f)
+
+  pub turns-begin : (es : List (Entry N A)) (n : N) (o : Open N A) (st : List (Open N A)) → o ≡ newly n → st ≡ [] → 0 + debt w es (rest_of w o st) ≡ debt w es (done w [] n) + (length o.asked + made st)
+  turns-begin es n o st e f =
+      let owed : debt w es (rest_of w o st) ≡ debt w es (done w [] n) = ap (debt w es) (rest-begins n o st e f) in
+      let none : length o.asked ≡ 0 = ap (λ (q : Open N A). length q.asked) e in
+      let below : made st ≡ 0 = ap made f in
+      omega arith
+
+  -- ---- a kept node is asked
+  pub covers-kept : (es : List (Entry N A)) (n : N) → IsRight w es → IsIn w (nodes_of es) n → nodes_of es ≡ to_keep w es (done w [] n)
+  covers-kept es n right is_in = to_keep-nil w es ∙ covers-drop w es (done w [] n) [] (done-kept w law es right [] tt n is_in) ∙ ap (to_keep w es) (++-nil (done w [] n))
+
+  pub none-owed : (es : List (Entry N A)) (n : N) → IsRight w es → IsIn w (nodes_of es) n → (turns : Option ℕ) → turns ≡ counted (debt w es (done w [] n)) turns
+  none-owed es n right is_in turns =
+      let none : 0 ≡ debt w es (done w [] n) = sym (ap (costs w) (fresh-nil w.number (nodes_of es))) ∙ debt-drop w es (done w [] n) [] (done-kept w law es right [] tt n is_in) ∙ ap (debt w es) (++-nil (done w [] n)) in
+      ap (λ k. counted k turns) none
+
+pub counts-end : (before now new : Option ℕ) (owed so_far total : ℕ) → Counts before now owed so_far total → so_far + 1 ≡ owed → new ≡ counted 1 now → new ≡ counted total before
+counts-end before now new owed so_far total h e f = let last : suc h.0 ≡ total = counts-last h.0 owed so_far total h.2 e in f ∙ ap (counted 1) h.1 ∙ ap (λ k. counted k before) last
+
+pub counts-step : (before now new : Option ℕ) (owed owed' so_far so_far' total : ℕ) → Counts before now owed so_far total → owed' + so_far + 1 ≡ owed + so_far' → new ≡ counted 1 now → Counts before new owed' so_far' total
+counts-step before now new owed owed' so_far so_far' total h e f = (suc h.0, f ∙ ap (counted 1) h.1, counts-next h.0 owed owed' so_far so_far' total h.2 e)
+
+pub on_err_always : {T E P : Type 0} (r : Result T E) → P → OnErr r P
+on_err_always (Ok x) h = tt
+on_err_always (Err e) h = h
+
+-- growth upon growth
+pub grown-more : {X : Type 0} (first middle last : List X) → IsAddedTo first middle → IsAddedTo middle last → IsAddedTo first last
+grown-more first middle last (a, e) (b, f) = (a ++ b, f ∙ ap (λ xs. xs ++ b) e ∙ append_assoc first a b)
+
+-- what is left of a later state is left of an earlier one
+pub left-more : {N A : Type 0} (w : Standing N A) (all all' : List N) (first middle last : List (Entry N A)) → all ≡ all' → IsAddedTo (nodes_of first) (nodes_of middle) → IsLeft w all middle last → IsLeft w all' first last
+left-more {N} {A} w all all' first middle last same grown h =
+    let P : List N → Type 0 = λ ns. IsLeft w ns first last in
+    subst P same (record { right = h.right; grown = grown-more (nodes_of first) (nodes_of middle) (nodes_of last) grown h.grown; within = h.within })
