@@ -11,7 +11,7 @@ pub struct MemberRef {
     /// The type's number.
     pub type_number: u32,
     /// The member's place among the type's members, from 0.
-    pub member: usize,
+    pub member: u32,
 }
 
 /// How something is read: what a head carries of the description, so that nothing else is asked for it.
@@ -21,7 +21,7 @@ pub struct Origin {
     pub member: MemberRef,
     /// The case that its switch chose, by its place among the cases, from 0; none without a switch, where no case was
     /// chosen, and for a list, each element of which has its own.
-    pub case: Option<usize>,
+    pub case: Option<u32>,
     /// The stream of the object that holds it.
     pub home: Stream,
 }
@@ -42,8 +42,6 @@ pub struct Leaf {
 /// How the end of an object is known.
 #[derive(Clone, Copy)]
 pub enum ObjectEnd {
-    /// It ends at this place.
-    At(Place),
     /// It ends with its stream.
     OfStream,
     /// It ends with the last attribute of its type's `seq`.
@@ -84,7 +82,7 @@ pub struct List {
 #[derive(Clone, Copy)]
 pub struct Calc {
     /// The place of the member among the members of the object's type, from 0.
-    pub member: usize,
+    pub member: u32,
     /// The object that holds it.
     pub object: Object,
 }

@@ -50,13 +50,13 @@ fn type_in(content: &Content) -> Option<IntegerType>
 }
 
 /// What was read, by the case that a switch chose.
-fn content_in(choice: &Choice, case: Option<usize>) -> Option<&Content>
+fn content_in(choice: &Choice, case: Option<u32>) -> Option<&Content>
     ensures { option_map (λ content. plain_content content.now) result ≡ content_in (plain_choice choice.now) case }
 {
     match choice {
         Choice::Always(content) => Some(content),
         Choice::Switch { cases, .. } => {
-            let found = cases.get(case?)?;
+            let found = cases.get(case? as usize)?;
             Some(&found.content)
         }
     }
@@ -79,7 +79,7 @@ fn field_at(desc: &Desc, leaf: Leaf) -> Option<&Field>
 {
     let member = leaf.origin.member;
     let holder = desc.type_desc(member.type_number)?;
-    let found = holder.members().get(member.member)?;
+    let found = holder.members().get(member.member as usize)?;
     field_in(&found.kind)
 }
 

@@ -67,12 +67,12 @@ bytes_at at origin w s (Sized e) t = sized_leaf at origin w s e
 bytes_at at origin w s SizeEos t = leaf_to_end origin w s
 bytes_at at origin w s ByItself t = run_of origin w s t
 
--- an object with a size has a stream of its own
+-- an object with a size has a stream of its own, with which it ends
 unfoldable pub sized_object : Setting → Origin → ℕ → Stream → ℕ → Tree → Rule Head
 sized_object at origin t w s e = do
   n ← size_of at e
   reach w (s + n)
-  Answer (heads.Object (record { origin = Some origin; type_number = t; stream = record { from = s; to = Some (s + n) }; start = s; ending = endings.At (s + n) }))
+  Answer (heads.Object (record { origin = Some origin; type_number = t; stream = record { from = s; to = Some (s + n) }; start = s; ending = endings.OfStream }))
 
 -- an object to the stream's end, and one that ends with its fields
 unfoldable pub object_at : Setting → Origin → ℕ → Stream → ℕ → Extent → Rule Head

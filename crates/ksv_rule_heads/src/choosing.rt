@@ -2,7 +2,7 @@
 #![tactic(auto)]
 
 ghost use Rattle.std.specs.Option.{option_map_or};
-ghost use Rattle.std.specs.Prelude.{◌≡◌, map, option_map};
+ghost use Rattle.std.specs.Prelude.{◌≡◌, IfOk, map, option_map};
 ghost use Rattle.ksv_expr_tree.specs.Tree.{view, literal_of};
 ghost use Rattle.ksv_desc.specs.Description.{Bytes};
 ghost use Rattle.ksv_desc.specs.Pieces.{plain_case, plain_choice, plain_content, plain_value};
@@ -11,16 +11,18 @@ ghost use Rattle.ksv_rule_heads.specs.Choosing.{is_constant, is_negative, is_enu
 ghost use Rattle.ksv_rule_heads.specs.Members.{plain_chosen};
 
 use crate::evaluation::value_of_expression;
+use crate::fields::number_of;
 use ksv_desc::{Case, CaseValue, Choice, Content};
 use ksv_expr_eval::{Ctx, Expr, FaultKind, Value};
 use ksv_expr_tree::{EnumMember, Literal};
 use ksv_nodes::{Halt, Turn};
+use std::alloc::AllocError;
 
 /// What is read, and by which case.
 #[derive(Clone, Copy)]
 pub(crate) struct Chosen<'d> {
     /// The place of the case among those of its switch, from 0, if a switch chose it.
-    pub(crate) case: Option<usize>,
+    pub(crate) case: Option<u32>,
     /// What is read.
     pub(crate) content: &'d Content,
 }
@@ -82,47 +84,47 @@ fn is_case_of(value: &Value, case: &Case) -> bool
 
 /// The first case of this value.
 #[tactic(auto, unfolding(crate::specs::Choosing::first_case))]
-fn matching_case<'d>(value: &Value, cases: &'d [Case]) -> Option<Chosen<'d>>
-    ensures { option_map plain_chosen result ≡ first_case (is_case_of value.now) 0 (map plain_case cases.now) }
+fn matching_case<'d>(value: &Value, cases: &'d [Case]) -> Result<Option<Chosen<'d>>, AllocError>
+    ensures { IfOk result (λ chosen. option_map plain_chosen chosen ≡ first_case (is_case_of value.now) 0 (map plain_case cases.now)) }
 {
     let mut place = 0;
     for case in cases {
         if is_case_of(value, case) {
-            return Some(Chosen {
-                case: Some(place),
+            return Ok(Some(Chosen {
+                case: Some(number_of(place)?),
                 content: &case.content,
-            });
+            }));
         }
         place += 1;
     }
-    None
+    Ok(None)
 }
 
 /// The case `_`.
 #[tactic(auto, unfolding(crate::specs::Choosing::first_case))]
-fn default_case(cases: &[Case]) -> Option<Chosen<'_>>
-    ensures { option_map plain_chosen result ≡ first_case is_default 0 (map plain_case cases.now) }
+fn default_case(cases: &[Case]) -> Result<Option<Chosen<'_>>, AllocError>
+    ensures { IfOk result (λ chosen. option_map plain_chosen chosen ≡ first_case is_default 0 (map plain_case cases.now)) }
 {
     let mut place = 0;
     for case in cases {
         if case.value.is_none() {
-            return Some(Chosen {
-                case: Some(place),
+            return Ok(Some(Chosen {
+                case: Some(number_of(place)?),
                 content: &case.content,
-            });
+            }));
         }
         place += 1;
     }
-    None
+    Ok(None)
 }
 
 /// The case of a value, if there is one.
 #[tactic(auto, unfolding(crate::specs::Choosing::case_for))]
-fn case_for<'d>(value: &Value, cases: &'d [Case]) -> Option<Chosen<'d>>
-    ensures { option_map plain_chosen result ≡ case_for value.now (map plain_case cases.now) }
+fn case_for<'d>(value: &Value, cases: &'d [Case]) -> Result<Option<Chosen<'d>>, AllocError>
+    ensures { IfOk result (λ chosen. option_map plain_chosen chosen ≡ case_for value.now (map plain_case cases.now)) }
 {
-    match matching_case(value, cases) {
-        Some(chosen) => Some(chosen),
+    match matching_case(value, cases)? {
+        Some(chosen) => Ok(Some(chosen)),
         None => default_case(cases),
     }
 }
@@ -137,7 +139,7 @@ fn switched<'d>(
     ensures { Runs (switched ctx.now (view on.now) (map plain_case cases.now)) (λ chosen. option_map plain_chosen chosen) turn.old turn.new result }
 {
     let value = value_of_expression(turn, ctx, on)?;
-    Ok(case_for(&value, cases))
+    Ok(case_for(&value, cases)?)
 }
 
 /// What is read, and by which case; none where a switch has no case for its value.
@@ -162,13 +164,13 @@ pub(crate) fn choose<'d>(
 fn in_cases<'d>(
     turn: &mut Turn,
     cases: &'d [Case],
-    case: Option<usize>,
+    case: Option<u32>,
 ) -> Result<Option<&'d Content>, Halt>
     ensures { Runs (in_cases (map plain_case cases.now) case) (λ content. option_map_or (λ c. plain_content c.now) content Bytes) turn.old turn.new result }
 {
     match case {
         None => Ok(None),
-        Some(place) => match cases.get(place) {
+        Some(place) => match cases.get(place as usize) {
             None => turn.raise(FaultKind::NoSuch),
             Some(case) => Ok(Some(&case.content)),
         },
@@ -180,7 +182,7 @@ fn in_cases<'d>(
 pub fn content_of<'d>(
     turn: &mut Turn,
     choice: &'d Choice,
-    case: Option<usize>,
+    case: Option<u32>,
 ) -> Result<Option<&'d Content>, Halt>
     ensures { Runs (content_of (plain_choice choice.now) case) (λ content. option_map_or (λ c. plain_content c.now) content Bytes) turn.old turn.new result }
 {

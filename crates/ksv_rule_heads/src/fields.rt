@@ -1,7 +1,7 @@
 //! What a description says of the members of its types.
 #![tactic(auto)]
 
-ghost use Rattle.std.specs.Prelude.{◌≡◌, None, map, option_map};
+ghost use Rattle.std.specs.Prelude.{◌≡◌, ◌≤◌, IfOk, None, OnErr, map, option_map};
 ghost use Rattle.ksv_desc.specs.Pieces.{plain_member, plain_field, plain_kind};
 ghost use Rattle.ksv_desc.specs.Whole.{plain_pieces};
 ghost use Rattle.ksv_nodes.specs.Turning.{Runs};
@@ -11,12 +11,13 @@ ghost use Rattle.ksv_rule_heads.specs.Members.{plain_sought};
 use ksv_desc::{Desc, Field, MemberDesc, MemberKind};
 use ksv_expr_eval::FaultKind;
 use ksv_nodes::{Halt, MemberRef, Turn};
+use std::alloc::AllocError;
 
 /// A member that was looked for.
 #[derive(Clone, Copy)]
 pub(crate) struct Sought<'d> {
     /// Its place among the members of its type, from 0.
-    pub(crate) member: usize,
+    pub(crate) member: u32,
     /// The name of the attribute of `seq` before it.
     pub(crate) before: Option<u32>,
     /// What it is.
@@ -44,25 +45,37 @@ fn behind(before: Option<u32>, member: &MemberDesc) -> Option<u32>
     }
 }
 
+/// A place in a list of members or cases, as a head has it. No contract bounds these lists, so a place past 32 bits, which takes
+/// a list of hundreds of gigabytes, is refused as memory is.
+pub(crate) fn number_of(place: usize) -> Result<u32, AllocError>
+    ensures same { IfOk result (λ number. number ≡ place) }
+    ensures far { OnErr result (4294967296 ≤ place) }
+{
+    if place > 0xffff_ffff {
+        return Err(AllocError);
+    }
+    Ok(place as u32)
+}
+
 /// The member of a name.
 #[tactic(auto, unfolding(crate::specs::Fields::sought))]
-fn find_member(members: &[MemberDesc], name: u32) -> Option<Sought<'_>>
-    ensures { option_map plain_sought result ≡ sought name 0 None (map plain_member members.now) }
+fn find_member(members: &[MemberDesc], name: u32) -> Result<Option<Sought<'_>>, AllocError>
+    ensures { IfOk result (λ found. option_map plain_sought found ≡ sought name 0 None (map plain_member members.now)) }
 {
     let mut before = None;
     let mut place = 0;
     for member in members {
         if member.name == name {
-            return Some(Sought {
-                member: place,
+            return Ok(Some(Sought {
+                member: number_of(place)?,
                 before,
                 kind: &member.kind,
-            });
+            }));
         }
         before = behind(before, member);
         place += 1;
     }
-    None
+    Ok(None)
 }
 
 /// The member of a name of a type.
@@ -75,7 +88,7 @@ pub(crate) fn member_named<'d>(
 ) -> Result<Sought<'d>, Halt>
     ensures { Runs (member_named (plain_pieces desc.now) type_number name) plain_sought turn.old turn.new result }
 {
-    match find_member(members_of(desc, type_number), name) {
+    match find_member(members_of(desc, type_number), name)? {
         Some(sought) => Ok(sought),
         None => turn.raise(FaultKind::NoSuch),
     }
@@ -112,7 +125,7 @@ pub fn kind_of<'d>(
 ) -> Result<&'d MemberKind, Halt>
     ensures { Runs (kind_of (plain_pieces desc.now) member) (λ kind. plain_kind kind.now) turn.old turn.new result }
 {
-    match members_of(desc, member.type_number).get(member.member) {
+    match members_of(desc, member.type_number).get(member.member as usize) {
         Some(found) => Ok(&found.kind),
         None => turn.raise(FaultKind::NoSuch),
     }
@@ -141,7 +154,7 @@ fn is_parameter(member: &MemberDesc) -> bool
 
 /// How many parameters a type has before the member of a place.
 #[tactic(auto, using(crate::proofs::Parameters::no_more, crate::proofs::Parameters::none_left, crate::proofs::Parameters::one_more))]
-pub fn parameters_before(members: &[MemberDesc], place: usize) -> usize
+pub fn parameters_before(members: &[MemberDesc], place: u32) -> usize
     ensures { result ≡ parameters_before place (map plain_member members.now) }
 {
     let mut count = 0;

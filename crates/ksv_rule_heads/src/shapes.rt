@@ -186,7 +186,7 @@ fn sized_object(
             to: Some(end.byte()),
         },
         start,
-        ending: ObjectEnd::At(end),
+        ending: ObjectEnd::OfStream,
     }))
 }
 

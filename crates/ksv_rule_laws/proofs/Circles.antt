@@ -453,7 +453,6 @@ fields_end_own p start (Some z) = join _ _ (part_end_own p (steps.Name z)) (λ e
 
 object_end_own : (d : Description) (p : Trail) (o : Object) (e : ObjectEnd) → Own (object_end d p o e)
 unfolding object_end
-object_end_own d p o (endings.At e) = tt
 object_end_own d p o endings.OfStream = λ n. tt
 object_end_own d p o endings.ByFields = fields_end_own p o.start (last_attribute None (members_of d o.type_number))
 

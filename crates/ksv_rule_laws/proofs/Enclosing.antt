@@ -44,7 +44,7 @@ use Rattle.ksv_rule_heads.specs.Heads.{leaf, leaf_to_end, terminated_at, termina
 use Rattle.ksv_rules.specs.Ends.{fields_end, object_end, part_rest, list_end, place_of, is_last, not_empty, element_end, end_at, end_of, next_rest, rest_behind, rest_from, in_whole_list, first_rest, whole_rest, rest_at, rest_of}
 use Rattle.ksv_rules.specs.Meaning.{meaning_of}
 use Rattle.ksv_rules.specs.FromNothing.{answer_within, from_nothing}
-use Rattle.ksv_rule_laws.specs.Laws.{IsBetween, IsEndBetween, LiesIn, IsStreamOf, HasIo, IsElsewhere, IsHeld, AreNamesDistinct, HasDistinctNames, HeadsLieInStreams, EndsLieInStreams}
+use Rattle.ksv_rule_laws.specs.Laws.{IsBetween, LiesIn, IsStreamOf, HasIo, IsElsewhere, IsHeld, AreNamesDistinct, HasDistinctNames, HeadsLieInStreams, EndsLieInStreams}
 use Rattle.ksv_rule_laws.proofs.Forms.{ok_is, goes_on, asked_head, refused, put_in, meaning_is, ruled, no_depth, stays_within, among_more}
 use Rattle.ksv_rule_laws.proofs.Touching.{asked_end, part_is}
 
@@ -330,9 +330,9 @@ module _ (d : Description) (distinct : HasDistinctNames d) (met : Node → Resul
         let b = goes_on met here bytes (size_of at e) _ h z in
         let c = goes_on met here bytes (reach w (s + b.first)) _ h b.gave in
         let low = reached w (s + b.first) c.first c.was in
-        is_in _ (begins, begins, low, (omega arith, omega arith), after (s + b.first) (omega arith) low) c.gave
-    object_in at origin t SizeEos z = let low = begins.1 in is_in _ (begins, begins, omega arith, (omega arith, low), tt) z
-    object_in at origin t ByItself z = let a = begins.0 in let low = begins.1 in is_in _ (begins, (omega arith, omega arith), omega arith, begins, tt) z
+        is_in _ (begins, begins, low, (omega arith, omega arith)) c.gave
+    object_in at origin t SizeEos z = let low = begins.1 in is_in _ (begins, begins, omega arith, (omega arith, low)) z
+    object_in at origin t ByItself z = let a = begins.0 in let low = begins.1 in is_in _ (begins, (omega arith, omega arith), omega arith, begins) z
 
     content_in : (at : Setting) (origin : Origin) (f : Field) (c : Content) → answer (content_at at origin w s f c) ≡ Ok h → LiesIn bytes w h
     unfolding content_at
@@ -506,14 +506,13 @@ module _ (d : Description) (distinct : HasDistinctNames d) (met : Node → Resul
   place_is : (w : Stream) (n e : ℕ) → Between w n → ◌≡◌ {A = Result ℕ Fault} (Ok n) (Ok e) → Between w e
   place_is w n e is h = subst (Between w) (ok_is n e h) is
 
-  object_end_in : (p : Trail) (o : Object) (x : ObjectEnd) (w : Stream) (e : ℕ) → met (head_node p) ≡ Ok (givens.Head (heads.Object o)) → LiesIn bytes w (heads.Object o) → IsEndBetween bytes w x → answer (object_end d p o x) ≡ Ok e → Between w e
+  object_end_in : (p : Trail) (o : Object) (x : ObjectEnd) (w : Stream) (e : ℕ) → met (head_node p) ≡ Ok (givens.Head (heads.Object o)) → LiesIn bytes w (heads.Object o) → answer (object_end d p o x) ≡ Ok e → Between w e
   unfolding object_end fields_end
-  object_end_in p o (endings.At n) w e asked is le h = place_is w n e le h
-  object_end_in p o endings.OfStream w e asked is le h =
+  object_end_in p o endings.OfStream w e asked is h =
       let end = finished o.stream e h in
       let a = is.1.0 in let b = is.2 in let c = is.3.0 in let f = is.3.1 in
       (omega arith, omega arith)
-  object_end_in p o endings.ByFields w e asked is le h = by_last (last_attribute None (members_of d o.type_number)) (last_here d distinct o _ refl) h
+  object_end_in p o endings.ByFields w e asked is h = by_last (last_attribute None (members_of d o.type_number)) (last_here d distinct o _ refl) h
     where
       by_last : (z : Option ℕ) → IsHere d o z → answer_of met here bytes (fields_end p o.start z) ≡ Ok e → IsBetween bytes w e
       by_last None apart h' = place_is w o.start e is.0 h'
@@ -529,7 +528,7 @@ module _ (d : Description) (distinct : HasDistinctNames d) (met : Node → Resul
   place_in p (heads.Absent (Some s)) w e asked is z = place_is w s e is z
   place_in p (heads.Calc c) w e asked is z = absurd (cc)
   place_in p (heads.Leaf l) w e asked is z = place_is w l.end e is.2 z
-  place_in p (heads.Object o) w e asked is z = object_end_in p o o.ending w e asked is is.4 z
+  place_in p (heads.Object o) w e asked is z = object_end_in p o o.ending w e asked is z
   place_in p (heads.List g) w e asked is z =
       let b = goes_on met here bytes (part_rest p (steps.Index 0)) (λ r. Answer r.place) e z in
       let r = part_rest_held p (steps.Index 0) b.first b.was in

@@ -48,7 +48,7 @@ use Rattle.ksv_rules.specs.Values.{in_no_stream, in_enum, instance_value, argume
 use Rattle.ksv_rules.specs.Ends.{fields_end, object_end, part_rest, list_end, place_of, is_last, not_empty, element_end, end_at, end_of, next_rest, rest_behind, rest_from, in_whole_list, whole_rest, rest_at, rest_of}
 use Rattle.ksv_rules.specs.Meaning.{meaning_of}
 use Rattle.ksv_rules.specs.FromNothing.{answer_within, from_nothing}
-use Rattle.ksv_rule_laws.specs.Laws.{IsOfLeaf, IsOfHead, IsEndIn, IsObjectEndIn, IsStreamIn, IsHomeIn, IsHeadIn, IsValueIn, IsIn, PlacesAreInFile}
+use Rattle.ksv_rule_laws.specs.Laws.{IsOfLeaf, IsOfHead, IsEndIn, IsStreamIn, IsHomeIn, IsHeadIn, IsValueIn, IsIn, PlacesAreInFile}
 use Rattle.ksv_rule_laws.proofs.Forms.{ok_is, goes_on, asked_head, refused, value_is, put_in, meaning_is, ruled, no_depth}
 use Rattle.ksv_rule_laws.proofs.Ranges.{IsRanged, IsKnown, object_told, expression_in, stream_in}
 
@@ -199,9 +199,9 @@ module _ (met : Node → Result Given Fault) (here : Trail) (bytes : List ℕ) (
           let b = goes_on met here bytes (size_of at e) _ h z in
           let c = goes_on met here bytes (reach w (s + b.first)) _ h b.gave in
           let end = reached w (s + b.first) c.first c.was in
-          is_in _ (begins, (begins, end), end, home) c.gave
-      object_in at t SizeEos z = is_in _ (begins, (begins, within.1), tt, home) z
-      object_in at t ByItself z = is_in _ (begins, within, tt, home) z
+          is_in _ (begins, (begins, end), home) c.gave
+      object_in at t SizeEos z = is_in _ (begins, (begins, within.1), home) z
+      object_in at t ByItself z = is_in _ (begins, within, home) z
 
       content_in : (at : Setting) (f : Field) (c : Content) → answer (content_at at origin w s f c) ≡ Ok h → IsHeadIn size h
       unfolding content_at
@@ -328,7 +328,7 @@ module _ (met : Node → Result Given Fault) (here : Trail) (bytes : List ℕ) (
       shape_in g.first.stream s.first within.1 (element_start_in l g.first i s.first within s.was) h g.first.origin within.2 at f.first f.gave
 
   head_in : (d : Description) (p : Trail) (step : Option Step) (h : Head) → answer (head_at d p step) ≡ Ok h → IsHeadIn size h
-  head_in d p None h e = subst (IsHeadIn size) (ok_is root_head h e) (omega arith, (omega arith, tt), tt, tt)
+  head_in d p None h e = subst (IsHeadIn size) (ok_is root_head h e) (omega arith, (omega arith, tt), tt)
   head_in d p (Some (steps.Name x)) h e = member_head_in d p (parent p) x h e
   head_in d p (Some (steps.Index i)) h e = element_in d p (parent p) (parent (parent p)) i h e
 
@@ -337,11 +337,10 @@ module _ (met : Node → Result Given Fault) (here : Trail) (bytes : List ℕ) (
   place_is : (n e : ℕ) → n ≤ size → ◌≡◌ {A = Result ℕ Fault} (Ok n) (Ok e) → e ≤ size
   place_is n e le h = subst (λ (k : ℕ). k ≤ size) (ok_is n e h) le
 
-  object_end_in : (d : Description) (p : Trail) (o : Object) (x : ObjectEnd) (e : ℕ) → IsObjectIn o → IsObjectEndIn size x → answer (object_end d p o x) ≡ Ok e → e ≤ size
+  object_end_in : (d : Description) (p : Trail) (o : Object) (x : ObjectEnd) (e : ℕ) → IsObjectIn o → answer (object_end d p o x) ≡ Ok e → e ≤ size
   unfolding object_end fields_end
-  object_end_in d p o (endings.At n) e within le h = place_is n e le h
-  object_end_in d p o endings.OfStream e within le h = finished o.stream e within.1.1 h
-  object_end_in d p o endings.ByFields e within le h = by_last (last_attribute None (members_of d o.type_number)) h
+  object_end_in d p o endings.OfStream e within h = finished o.stream e within.1.1 h
+  object_end_in d p o endings.ByFields e within h = by_last (last_attribute None (members_of d o.type_number)) h
     where
       by_last : (z : Option ℕ) → answer_of met here bytes (fields_end p o.start z) ≡ Ok e → e ≤ length bytes
       by_last None h' = place_is o.start e within.0 h'
@@ -355,7 +354,7 @@ module _ (met : Node → Result Given Fault) (here : Trail) (bytes : List ℕ) (
   place_in d p (heads.Absent (Some s)) e within z = place_is s e within z
   place_in d p (heads.Calc c) e within z = absurd (cc)
   place_in d p (heads.Leaf l) e within z = place_is l.end e within.2 z
-  place_in d p (heads.Object o) e within z = object_end_in d p o o.ending e within within.2 z
+  place_in d p (heads.Object o) e within z = object_end_in d p o o.ending e within z
   place_in d p (heads.List g) e within z =
       let b = goes_on met here bytes (part_rest p (steps.Index 0)) (λ r. Answer r.place) e z in
       place_is b.first.place e (part_rest_lies p (steps.Index 0) b.first b.was) b.gave
@@ -447,7 +446,7 @@ module _ (met : Node → Result Given Fault) (here : Trail) (bytes : List ℕ) (
 
   calc_value_in : (d : Description) (p q : Trail) (c : Calc) (k : MemberKind) (v : Value) → IsObjectIn c.object → answer (calc_value d p q c k) ≡ Ok v → IsValueIn size v
   unfolding calc_value
-  calc_value_in d p q c Parameter v within h = parameter_in d p q c.member c.object c.object.origin v within.3 h
+  calc_value_in d p q c Parameter v within h = parameter_in d p q c.member c.object c.object.origin v within.2 h
   calc_value_in d p q c (ValueInstance condition e enum) v within h = instance_value_in (instance_setting p q c.object) e enum v within.1 h
   calc_value_in d p q c _ v within h = absurd (cc)
 

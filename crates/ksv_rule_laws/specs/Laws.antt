@@ -28,8 +28,6 @@ use Rattle.ksv_nodes.specs.declared.given.List as lists
 use Rattle.ksv_nodes.specs.declared.given.MemberRef.{MemberRef}
 use Rattle.ksv_nodes.specs.declared.given.Object.{Object}
 use Rattle.ksv_nodes.specs.declared.given.Origin.{Origin}
-use Rattle.ksv_nodes.specs.declared.given.ObjectEnd.{ObjectEnd}
-use Rattle.ksv_nodes.specs.declared.given.ObjectEnd.TheVariants as endings
 use Rattle.ksv_nodes.specs.Numbers.{node_number}
 use Rattle.ksv_nodes.specs.Reading.{end_in}
 use Rattle.ksv_nodes.specs.Rule.{head_node, value_node, end_node, rest_node}
@@ -286,11 +284,6 @@ abbrev pub IsEndIn : ℕ → Option ℕ → Type 0
 IsEndIn size None = Unit {0}
 IsEndIn size (Some t) = t ≤ size
 
--- a known end of an object
-abbrev pub IsObjectEndIn : ℕ → ObjectEnd → Type 0
-IsObjectEndIn size (endings.At e) = e ≤ size
-IsObjectEndIn size _ = Unit {0}
-
 -- a stream
 abbrev pub IsStreamIn : ℕ → Stream → Type 0
 IsStreamIn size w = (w.from ≤ size) × IsEndIn size w.to
@@ -302,7 +295,7 @@ IsHomeIn size (Some g) = IsStreamIn size g.home
 
 -- each place in an object, in a head, in a value and in any answer: it is a place of a byte, or the end of the file
 abbrev pub IsObjectIn : ℕ → Object → Type 0
-IsObjectIn size o = (o.start ≤ size) × IsStreamIn size o.stream × IsObjectEndIn size o.ending × IsHomeIn size o.origin
+IsObjectIn size o = (o.start ≤ size) × IsStreamIn size o.stream × IsHomeIn size o.origin
 
 abbrev pub IsHeadIn : ℕ → Head → Type 0
 IsHeadIn size (heads.Absent at) = IsEndIn size at
@@ -331,11 +324,6 @@ PlacesAreInFile = (d : Description) (bytes : List ℕ) (opened : List Node) (n :
 abbrev pub IsBetween : List ℕ → Stream → ℕ → Type 0
 IsBetween bytes w n = (w.from ≤ n) × (n ≤ end_in bytes w.to)
 
--- a known end of an object
-abbrev pub IsEndBetween : List ℕ → Stream → ObjectEnd → Type 0
-IsEndBetween bytes w (endings.At e) = IsBetween bytes w e
-IsEndBetween bytes w _ = Unit {0}
-
 -- What is read lies in a stream. Bytes don't end before they begin; an object begins in a stream of its own, which lies in the other;
 -- elements are read in the stream of their list.
 abbrev pub LiesIn : List ℕ → Stream → Head → Type 0
@@ -343,7 +331,7 @@ LiesIn bytes w (heads.Absent None) = Unit {0}
 LiesIn bytes w (heads.Absent (Some s)) = IsBetween bytes w s
 LiesIn bytes w (heads.Calc c) = Unit {0}
 LiesIn bytes w (heads.Leaf l) = IsBetween bytes w l.from × IsBetween bytes w l.to × IsBetween bytes w l.end × (l.from ≤ l.to)
-LiesIn bytes w (heads.Object o) = IsBetween bytes w o.start × IsBetween bytes w o.stream.from × (end_in bytes o.stream.to ≤ end_in bytes w.to) × IsBetween bytes o.stream o.start × IsEndBetween bytes w o.ending
+LiesIn bytes w (heads.Object o) = IsBetween bytes w o.start × IsBetween bytes w o.stream.from × (end_in bytes o.stream.to ≤ end_in bytes w.to) × IsBetween bytes o.stream o.start
 LiesIn bytes w (heads.List g) = IsBetween bytes w g.start × (g.stream ≡ w)
 
 -- the stream in which the attributes of an object, or the elements of a list, are read

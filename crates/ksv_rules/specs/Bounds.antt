@@ -543,7 +543,6 @@ fields_end_nodes p start (Some z) = nodes_join _ _ 1 1 0 (omega arith) (part_end
 
 object_end_nodes : (d : Description) (p : Trail) (o : Object) (e : ObjectEnd) → NodesAtMost 1 (object_end d p o e)
 unfolding object_end
-object_end_nodes d p o (endings.At e) = tt
 object_end_nodes d p o endings.OfStream = λ n. tt
 object_end_nodes d p o endings.ByFields = fields_end_nodes p o.start (last_attribute None (members_of d o.type_number))
 

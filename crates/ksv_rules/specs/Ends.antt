@@ -30,7 +30,6 @@ fields_end p start (Some z) = do
   Answer e.place
 
 unfoldable pub object_end : Description → Trail → Object → ObjectEnd → Rule ℕ
-object_end d p o (endings.At e) = Answer e
 object_end d p o endings.OfStream = finish o.stream
 object_end d p o endings.ByFields = fields_end p o.start (last_attribute None (members_of d o.type_number))
 

@@ -40,7 +40,6 @@ fn object_end(
     ensures { Runs (object_end (plain_pieces desc.now) path.now object.now ending) (λ place. place) turn.old turn.new result }
 {
     match ending {
-        ObjectEnd::At(end) => Ok(end),
         ObjectEnd::OfStream => turn.finish(object.stream),
         ObjectEnd::ByFields => {
             let last = last_attribute(members_of(desc, object.type_number));
