@@ -1,5 +1,6 @@
 //! The replies that an engine lends to rules.
-ghost use Rattle.std.specs.Prelude.{◌≡◌, length};
+ghost use Rattle.std.specs.Prelude.{◌≡◌, ◌↔◌, IfSome, IsSome, length};
+ghost use Rattle.std.specs.Bool.{Decides};
 ghost use Rattle.std.specs.List.{AllByRecursion, slice_get};
 ghost use Rattle.std.specs.Option.{option_map};
 ghost use Rattle.ksv_memo.specs.Slots.{HasAnswer, answer_at, answer_in, answers_at, lent};
@@ -37,6 +38,18 @@ pub(crate) fn answer_at<V, F>(slots: &[Slot<V, F>], place: usize) -> Option<Resu
     answer_in(slots.get(place)?)
 }
 
+/// Whether each of the slots of these numbers keeps an answer.
+fn has_answers<V, F>(slots: &[Slot<V, F>], asked: &[u32]) -> bool
+    ensures { Decides result (AllByRecursion (HasAnswer slots.now) asked.now) }
+{
+    for slot in asked {
+        if answer_at(slots, *slot as usize).is_none() {
+            return false;
+        }
+    }
+    true
+}
+
 /// The slot that was asked at a place.
 fn slot_at(asked: &[u32], place: usize) -> Option<u32>
     ensures { result ≡ slice_get asked.now place }
@@ -71,6 +84,18 @@ impl<'a, V, F> Replies<'a, V, F> {
         ensures { result ≡ answers_at slots.now asked.now }
     {
         Replies { slots, asked }
+    }
+
+    /// The same, if each of these slots keeps an answer.
+    pub fn checked(slots: &'a [Slot<V, F>], asked: &'a [u32]) -> Option<Self>
+        ensures some { IfSome result (λ replies. replies ≡ answers_at slots.now asked.now) }
+        ensures kept { IsSome result ↔ AllByRecursion (HasAnswer slots.now) asked.now }
+    {
+        if has_answers(slots, asked) {
+            Some(Replies { slots, asked })
+        } else {
+            None
+        }
     }
 
     /// How many there are.
