@@ -183,7 +183,7 @@ module _ {N A : Type 0} (w : Standing N A) (law : IsSettled w) where
       let here : IsTold w change k =
       marked.0.goes
       ∙ ap (λ b. list_any (is_use_touched change) k.entry.uses || b) (said change before told k.entry.asked marked.0.asked marked.0.say)
-      ∙ sym (touched-kept w law change kept k.entry right.0) in
+      ∙ sym (touched-kept change kept k.entry right.0) in
       (here, marks-told change kept (before ++ k ∷ []) ks (All-++ (IsTold w change) before (k ∷ []) told (here, tt)) marked.1 right.1)
 
   -- ---- what the pass leaves

@@ -1,5 +1,5 @@
 -- What the slots have of a node is what is kept and open.
-use Rattle.std.proofs.Common.{◌≡◌, ◌≢◌, ℕ, zero, suc, Bool, true, false, List, [], ◌∷◌, length, map, take, drop, Option, Some, None, is_some, refl, sym, ◌∙◌, ap, subst, Result, slice_get, ◌⊎◌, inl, inr, ◌||◌}
+use Rattle.std.proofs.Common.{◌≡◌, ◌≢◌, ℕ, zero, suc, Bool, true, false, List, [], ◌∷◌, ◌++◌, length, map, take, drop, Option, Some, None, is_some, refl, sym, ◌∙◌, ap, subst, Result, slice_get, ◌⊎◌, inl, inr, ◌||◌}
 use Rattle.std.specs.Option.{option_map}
 use Rattle.std.specs.Cmp.{IsEquivalence}
 use Rattle.std.specs.List.{AllByRecursion, list_any, IsDistinct}
@@ -12,9 +12,10 @@ use Rattle.ksv_memo.specs.declared.layout.Frame.{Frame}
 use Rattle.ksv_memo.specs.Slots.{answer_at, answers_at}
 use Rattle.ksv_memo.specs.Entry.{Entry}
 use Rattle.ksv_memo.specs.Open.{Open}
+use Rattle.ksv_memo.specs.Nodes.{EndsWithAnswer}
 use Rattle.ksv_memo.specs.Layout.{IsOneOf, slots_of, node_at, nodes_at, IsOpen, IsKept, entry_before, entries_in, open_before, opens_in}
 use Rattle.ksv_memo.proofs.Evals.{or_false}
-use Rattle.ksv_memo.proofs.Laying.{some-of, HasNode, kept_node}
+use Rattle.ksv_memo.proofs.Laying.{some-of, HasNode, kept_node, before-append}
 
 or_left : (a b : Bool) → a ≡ true → (a || b) ≡ true
 or_left true b e = refl
@@ -53,6 +54,20 @@ module _ {N V F : Type 0} where
     pub entries_length : (rows : List Row) (asked : List ℕ) (uses : List Use) → AllByRecursion (λ r. IsKept ps r.slot) rows → length (entries_in ps rows asked uses) ≡ length rows
     entries_length [] asked uses h = refl
     entries_length (r ∷ rs) asked uses h = here_length (node_at ps r.slot) (answer_at (slots_of ps) r.slot) (nodes_at ps (take r.asked asked)) (take r.uses uses) (entries_in ps rs (drop r.asked asked) (drop r.uses uses)) (kept_node ps r.slot h.0) h.0 ∙ ap suc (entries_length rs (drop r.asked asked) (drop r.uses uses) h.1)
+
+    -- the last entry is that of the last row
+    pub last_entry : (rows : List Row) (r : Row) (asked : List ℕ) (uses : List Use) (a : Result V F) → IsKept ps r.slot → answer_at (slots_of ps) r.slot ≡ Some a → EndsWithAnswer a (entries_in ps (rows ++ r ∷ []) asked uses)
+    last_entry [] r asked uses a kept answer =
+        let node : (n : N) × (node_at ps r.slot ≡ Some n) = some-of (node_at ps r.slot) (kept_node ps r.slot kept) in
+        record { front = []; entry = record { node = node.0; answer = a; asked = nodes_at ps (take r.asked asked); uses = take r.uses uses }; entries = λ i. entry_before (node.1 i) (answer i) (nodes_at ps (take r.asked asked)) (take r.uses uses) []; answer = refl }
+    last_entry (x ∷ rows) r asked uses a kept answer =
+        let rest : EndsWithAnswer a (entries_in ps (rows ++ r ∷ []) (drop x.asked asked) (drop x.uses uses)) = last_entry rows r (drop x.asked asked) (drop x.uses uses) a kept answer in
+        record {
+          front = entry_before (node_at ps x.slot) (answer_at (slots_of ps) x.slot) (nodes_at ps (take x.asked asked)) (take x.uses uses) rest.front;
+          entry = rest.entry;
+          entries = ap (entry_before (node_at ps x.slot) (answer_at (slots_of ps) x.slot) (nodes_at ps (take x.asked asked)) (take x.uses uses)) rest.entries ∙ before-append (node_at ps x.slot) (answer_at (slots_of ps) x.slot) (nodes_at ps (take x.asked asked)) (take x.uses uses) rest.front (rest.entry ∷ []);
+          answer = rest.answer;
+        }
 
     -- no kept node passes a test
     no_entry_here : (t : N → Bool) (o : Option N) (b : Option (Result V F)) (asked : List N) (uses : List Use) (rest : List (Entry N (Result V F))) → ((m : N) → o ≡ Some m → t m ≡ false) → list_any (λ e. t e.node) rest ≡ false → list_any (λ e. t e.node) (entry_before o b asked uses rest) ≡ false

@@ -153,7 +153,7 @@ module _ {N V F : Type 0} where
       first-append (Some x) xs ys = refl
 
   -- ---- a row more
-  before-append : (o : Option N) (a : Option (Result V F)) (asked : List N) (uses : List Use) (es fs : List (Entry N (Result V F))) → entry_before o a asked uses (es ++ fs) ≡ entry_before o a asked uses es ++ fs
+  pub before-append : (o : Option N) (a : Option (Result V F)) (asked : List N) (uses : List Use) (es fs : List (Entry N (Result V F))) → entry_before o a asked uses (es ++ fs) ≡ entry_before o a asked uses es ++ fs
   before-append None a asked uses es fs = refl
   before-append (Some n) None asked uses es fs = refl
   before-append (Some n) (Some a) asked uses es fs = refl

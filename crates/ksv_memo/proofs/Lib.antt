@@ -19,3 +19,4 @@ pub mod Change
 pub mod Turns
 pub mod Questions
 pub mod Forgetting
+pub mod Taking

@@ -1,7 +1,7 @@
 -- The replies that are lent are the answers in the slots that were asked.
-use Rattle.std.proofs.Common.{◌≡◌, ℕ, zero, suc, Bool, true, false, List, [], ◌∷◌, length, Option, Some, None, is_some, refl, sym, ◌∙◌, ap, Result, slice_get}
+use Rattle.std.proofs.Common.{◌≡◌, ℕ, zero, suc, Bool, true, false, List, [], ◌∷◌, length, Option, Some, None, is_some, refl, sym, ◌∙◌, ap, Result, slice_get, ◌&&◌}
 use Rattle.std.specs.Option.{option_map}
-use Rattle.std.specs.List.{AllByRecursion}
+use Rattle.std.specs.List.{AllByRecursion, list_all}
 use Rattle.ksv_memo.specs.declared.replies.Slot.{Slot}
 use Rattle.ksv_memo.specs.Slots.{HasAnswer, answer_at, answers_at, with_first}
 
@@ -32,3 +32,11 @@ module _ {V F : Type 0} (slots : List (Slot V F)) where
   lent_past [] k h e = refl
   lent_past (j ∷ is) zero h e = absurd (cc)
   lent_past (j ∷ is) (suc k) h e = rest_get (answer_at slots j) (answers_at slots is) k h.0 ∙ lent_past is k h.1 e
+
+  pub all_kept : (is : List ℕ) → list_all (λ i. is_some (answer_at slots i)) is ≡ true → AllByRecursion (HasAnswer slots) is
+  all_kept [] e = tt
+  all_kept (i ∷ is) e = by (is_some (answer_at slots i)) refl (all_kept is) e
+    where
+      by : (b : Bool) → is_some (answer_at slots i) ≡ b → (list_all (λ i. is_some (answer_at slots i)) is ≡ true → AllByRecursion (HasAnswer slots) is) → (b && list_all (λ i. is_some (answer_at slots i)) is) ≡ true → HasAnswer slots i × AllByRecursion (HasAnswer slots) is
+      by true q ih h = (q, ih h)
+      by false q ih h = absurd (cc)

@@ -1,5 +1,5 @@
 -- What a look-up says of the kept and the open nodes.
-use Rattle.std.proofs.Common.{◌≡◌, ◌≢◌, ℕ, Bool, true, false, List, [], ◌∷◌, map, reverse, length, Option, Some, None, is_some, refl, sym, ◌∙◌, ap, subst, Result, slice_get}
+use Rattle.std.proofs.Common.{◌≡◌, ◌≢◌, ℕ, Bool, true, false, List, [], ◌∷◌, ◌++◌, IfSome, IfNone, map, reverse, length, Option, Some, None, is_some, refl, sym, ◌∙◌, ap, subst, Result, slice_get}
 use Rattle.std.specs.Option.{option_map}
 use Rattle.std.proofs.lemmas.Option.{slice_get-map}
 use Rattle.std.specs.Cmp.{IsEquivalence}
@@ -7,18 +7,21 @@ use Rattle.std.specs.List.{AllByRecursion, list_any, IsDistinct}
 use Rattle.std.specs.Map.{keys_of}
 use Rattle.ksv_memo.specs.declared.replies.Slot.{Slot}
 use Rattle.ksv_memo.specs.declared.replies.Slot.TheVariants.{Empty as emptied, Open as opened}
+use Rattle.std.specs.Borrow.{Bor}
+use Rattle.ksv_memo.specs.declared.layout.Row.{Row}
 use Rattle.ksv_memo.specs.declared.layout.Rows.{Rows}
 use Rattle.ksv_memo.specs.declared.layout.Frames.{Frames}
 use Rattle.ksv_memo.specs.declared.layout.Known.TheVariants.{New, Empty, Open, Kept}
-use Rattle.ksv_memo.specs.Slots.{answer_in, answer_of, answer_at}
+use Rattle.ksv_memo.specs.Slots.{answer_in, answer_of, answer_at, lent}
 use Rattle.ksv_memo.specs.Entry.{Entry}
-use Rattle.ksv_memo.specs.Layout.{IsOneOf, slots_of, node_at, IsOpen, IsKept, entries_of, opens_of, AreRows, AreFrames, IsLaidOut}
-use Rattle.ksv_memo.specs.Moves.{Knows, IsTheSlot, Heard, Framed}
-use Rattle.ksv_memo.specs.Nodes.{Nodes, IsEntry, HasNoEntry, Replies, Opens}
+use Rattle.ksv_memo.specs.Layout.{IsOneOf, slots_of, node_at, IsOpen, IsKept, entries_in, entries_of, opens_of, AreRows, AreFrames, IsLaidOut}
+use Rattle.ksv_memo.specs.Moves.{Knows, IsTheSlot, Heard, Framed, EndsWith}
+use Rattle.ksv_memo.specs.Nodes.{Nodes, IsEntry, HasNoEntry, Replies, Opens, EndsWithAnswer}
+use Rattle.ksv_memo.proofs.Lists.{All-right}
 use Rattle.ksv_memo.proofs.Finding.{slot_there, node_there, answer_there}
 use Rattle.ksv_memo.proofs.Laying.{some-of, asked_kept, same_entries}
 use Rattle.ksv_memo.proofs.Changing.{ChangesAt, none_past, keeps, rows-stay, frames-push, frames-hear, opens-push, opens-hear}
-use Rattle.ksv_memo.proofs.Knowing.{find_entry, no_entry, no_open, some_open, none_at, not_other}
+use Rattle.ksv_memo.proofs.Knowing.{last_entry, find_entry, no_entry, no_open, some_open, none_at, not_other}
 
 module _ {N V F : Type 0} (eq : N → N → Bool) (ps : List (N × Slot V F)) (rows : Rows) (frames : Frames) (kept : AreRows ps rows) (waits : AreFrames ps frames) (n : N) where
   -- what is known of a kept node
@@ -115,3 +118,16 @@ module _ {N V F : Type 0} (eq : N → N → Bool) (ps : List (N × Slot V F)) (r
 
   pub past_closed : IsOpen ps (length ps) → ⊥
   past_closed o = let now : None ≡ Some opened = sym (slice_get-map (λ p. p.1) ps (length ps) ∙ ap (option_map (λ p. p.1)) (none_past ps)) ∙ o in cc
+
+-- ---- the answer that was kept last
+module _ {N V F : Type 0} (ps : List (N × Slot V F)) (rows : Rows) (kept : AreRows ps rows) (r : Row) (ends : EndsWith r rows.rows.items) where
+  row_kept : IsKept ps r.slot
+  row_kept = (All-right (λ (q : Row). IsKept ps q.slot) ends.0 (r ∷ []) (subst (AllByRecursion (λ q. IsKept ps q.slot)) ends.1 kept.kept)).0
+
+  pub last_some : (o : Option (Result (Bor V) (Bor F))) → option_map lent o ≡ answer_at (slots_of ps) r.slot → IfSome o (λ a. EndsWithAnswer (lent a) (entries_of ps rows))
+  last_some None e = tt
+  last_some (Some a) e = subst (λ rs. EndsWithAnswer (lent a) (entries_in ps rs rows.asked.items rows.uses.items)) (sym ends.1) (last_entry ps ends.0 r rows.asked.items rows.uses.items (lent a) row_kept (sym e))
+
+  pub last_none : (P : Type 0) (o : Option (Result (Bor V) (Bor F))) → option_map lent o ≡ answer_at (slots_of ps) r.slot → IfNone o P
+  last_none P None e = let none : is_some (answer_at (slots_of ps) r.slot) ≡ false = ap is_some (sym e) in absurd (let yes : is_some (answer_at (slots_of ps) r.slot) ≡ true = row_kept in cc)
+  last_none P (Some a) e = tt

@@ -190,6 +190,14 @@ pub(crate) fn open_new<N: Eq + Hash + Drop, V: Drop, F: Drop>(
 }
 
 impl Rows {
+    /// The row that was added last.
+    pub(crate) fn last(&self) -> Option<Row>
+        ensures some { IfSome result (λ row. EndsWith row self.now.rows.items) }
+        ensures none { IfNone result (self.now.rows.items ≡ []) }
+    {
+        self.rows.as_slice().last().copied()
+    }
+
     /// Adds what was asked and used, but no row.
     fn add_parts(&mut self, asked: &[u32], uses: &[Use]) -> Result<(), AllocError>
         ensures rows { self.new.rows ≡ self.old.rows }

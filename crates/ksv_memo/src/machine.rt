@@ -1,8 +1,9 @@
 //! The machine that runs nodes on a stack of open nodes, and keeps what they answer.
-ghost use Rattle.std.specs.Prelude.{◌≡◌, [], IfOk, OnOk, OnErr};
+ghost use Rattle.std.specs.Prelude.{◌≡◌, [], ◌∷◌, IfOk, OnOk, OnErr};
 ghost use Rattle.ksv_memo.specs.Meaning.{on};
 ghost use Rattle.ksv_memo.specs.Evaluation.{tells, done, IsAnswered};
 ghost use Rattle.ksv_memo.specs.Nodes.{HasNoEntry, Steps};
+ghost use Rattle.ksv_memo.specs.Open.{newly};
 ghost use Rattle.ksv_memo.specs.Right.{IsRight, nodes_of, counted};
 ghost use Rattle.ksv_memo.specs.Running.{AdvancesAt, AdvancesFrom, HasReached, IsLeft, IsRunning, LeftAt, LeftFrom, debt, to_keep};
 
@@ -88,7 +89,8 @@ impl<R: Rules> Machine<R> {
         ensures err { OnErr result (LeftAt (on (R.meaning rules.now) bytes.now) self.old.table.kept self.old.table.opened (Next.Done answer) self.new.table.kept) }
         ensures turns { self.new.turns ≡ self.old.turns }
     {
-        if self.table.close(self.alloc, answer)? {
+        let waits = self.table.close(self.alloc, answer)?;
+        if waits {
             return Ok(None);
         }
         match self.table.last() {
@@ -112,7 +114,8 @@ impl<R: Rules> Machine<R> {
         ensures err { OnErr result (self.new.table.kept ≡ self.old.table.kept) }
         ensures turns { self.new.turns ≡ self.old.turns }
     {
-        match self.table.ask(asked)? {
+        let came = self.table.ask(asked)?;
+        match came {
             Asked::Replied => Ok(None),
             Asked::Opened => Ok(None),
             Asked::Circle(node) => Ok(Some(Outcome::Circle(node))),
@@ -126,6 +129,22 @@ impl<R: Rules> Machine<R> {
         ensures turns { self.new.turns ≡ self.old.turns }
     {
         while self.table.abandon() {}
+    }
+
+    /// Opens the node of a question, which isn't kept.
+    fn start(&mut self, node: R::Node) -> Result<(), AllocError>
+        requires new { HasNoEntry R.Node.eq self.old.table.kept node }
+        requires opened { self.old.table.opened ≡ [] }
+        ensures kept { self.new.table.kept ≡ self.old.table.kept }
+        ensures opened { OnOk result (self.new.table.opened ≡ newly node ∷ []) }
+        ensures turns { self.new.turns ≡ self.old.turns }
+    {
+        let asked = self.table.ask(node)?;
+        match asked {
+            Asked::Opened => Ok(()),
+            Asked::Replied => unreachable!(),
+            Asked::Circle(_) => unreachable!(),
+        }
     }
 
     /// Runs a node that isn't kept, and what it asks. Where the question ends early, some nodes are open after it.
@@ -144,9 +163,10 @@ impl<R: Rules> Machine<R> {
         ensures left { OnErr result (IsLeft (on (R.meaning rules.now) bytes.now) (to_keep (on (R.meaning rules.now) bytes.now) self.old.table.kept (done (on (R.meaning rules.now) bytes.now) [] node)) self.old.table.kept self.new.table.kept) }
         ensures turns { IfOk result (λ outcome. IsAnswered outcome → self.new.turns ≡ counted (debt (on (R.meaning rules.now) bytes.now) self.old.table.kept (done (on (R.meaning rules.now) bytes.now) [] node)) self.old.turns) }
     {
-        self.table.ask(node)?;
+        self.start(node)?;
         loop {
-            if let Some(outcome) = self.advance(rules, bytes)? {
+            let ended = self.advance(rules, bytes)?;
+            if let Some(outcome) = ended {
                 return Ok(outcome);
             }
         }

@@ -1,7 +1,6 @@
 //! The replies that an engine lends to rules.
-ghost use Rattle.std.specs.Prelude.{◌≡◌, ◌↔◌, IfSome, IsSome, length};
-ghost use Rattle.std.specs.Bool.{Decides};
-ghost use Rattle.std.specs.List.{AllByRecursion, slice_get};
+ghost use Rattle.std.specs.Prelude.{◌≡◌, IfSome, is_some, length};
+ghost use Rattle.std.specs.List.{AllByRecursion, list_all, slice_get};
 ghost use Rattle.std.specs.Option.{option_map};
 ghost use Rattle.ksv_memo.specs.Slots.{HasAnswer, answer_at, answer_in, answers_at, lent};
 
@@ -38,16 +37,18 @@ pub(crate) fn answer_at<V, F>(slots: &[Slot<V, F>], place: usize) -> Option<Resu
     answer_in(slots.get(place)?)
 }
 
-/// Whether each of the slots of these numbers keeps an answer.
-fn has_answers<V, F>(slots: &[Slot<V, F>], asked: &[u32]) -> bool
-    ensures { Decides result (AllByRecursion (HasAnswer slots.now) asked.now) }
+/// Whether the slot of a number keeps an answer.
+fn is_kept<V, F>(slots: &[Slot<V, F>], slot: u32) -> bool
+    ensures { result ≡ is_some (answer_at slots.now slot) }
 {
-    for slot in asked {
-        if answer_at(slots, *slot as usize).is_none() {
-            return false;
-        }
-    }
-    true
+    answer_at(slots, slot as usize).is_some()
+}
+
+/// Whether each of the slots of these numbers keeps an answer.
+fn are_kept<V, F>(slots: &[Slot<V, F>], asked: &[u32]) -> bool
+    ensures { result ≡ list_all (λ i. is_some (answer_at slots.now i)) asked.now }
+{
+    asked.iter().all(|slot| is_kept(slots, *slot))
 }
 
 /// The slot that was asked at a place.
@@ -89,9 +90,9 @@ impl<'a, V, F> Replies<'a, V, F> {
     /// The same, if each of these slots keeps an answer.
     pub fn checked(slots: &'a [Slot<V, F>], asked: &'a [u32]) -> Option<Self>
         ensures some { IfSome result (λ replies. replies ≡ answers_at slots.now asked.now) }
-        ensures kept { IsSome result ↔ AllByRecursion (HasAnswer slots.now) asked.now }
+        ensures kept { is_some result ≡ list_all (λ i. is_some (answer_at slots.now i)) asked.now }
     {
-        if has_answers(slots, asked) {
+        if are_kept(slots, asked) {
             Some(Replies { slots, asked })
         } else {
             None

@@ -203,7 +203,7 @@ impl<R: Rules> Table<R> {
         ensures some { IfSome result (λ answer. EndsWithAnswer (lent answer) self.now.kept) }
         ensures none { IfNone result (self.now.kept ≡ []) }
     {
-        let row = self.rows.rows.as_slice().last()?;
+        let row = self.rows.last()?;
         answer_at(self.slots.values().as_slice(), row.slot as usize)
     }
 }
