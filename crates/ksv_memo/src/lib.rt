@@ -8,15 +8,13 @@
 #![tactic(auto)]
 
 mod engine;
-mod layout;
+mod frame;
 pub mod laws;
 mod machine;
-mod replies;
 mod rules;
-mod sweep;
+mod stack;
 mod table;
 mod uses;
 
 pub use engine::{Answer, Engine};
-pub use replies::{Replies, Slot};
 pub use rules::{Next, Rules};

@@ -9,4 +9,3 @@ pub mod Bounds
 pub mod Resuming
 pub mod Left
 pub mod Direct
-pub mod Replied
