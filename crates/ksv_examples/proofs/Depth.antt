@@ -21,10 +21,10 @@ use Rattle.ksv_nodes.specs.declared.given.Given.{Given}
 use Rattle.ksv_nodes.specs.declared.node.Node.{Node}
 use Rattle.ksv_nodes.specs.declared.node.NodeKind.{NodeKind}
 use Rattle.ksv_nodes.specs.declared.node.NodeKind.TheVariants.{Head, Value, End, Rest}
-use Rattle.ksv_rules.specs.Described.{described}
-use Rattle.ksv_rules.specs.FromNothing.{circle, answer_within, from_nothing}
-use Rattle.ksv_rules.specs.Meaning.{rule_of}
-use Rattle.ksv_rules.proofs.Direct.{answers_follow_rules}
+use Rattle.ksv_rule_meaning.specs.Described.{described}
+use Rattle.ksv_rule_meaning.specs.FromNothing.{circle, answer_within, from_nothing}
+use Rattle.ksv_rule_meaning.specs.Meaning.{rule_of}
+use Rattle.ksv_rule_meaning.proofs.Direct.{answers_follow_rules}
 use Rattle.ksv_examples.specs.Depth.{same_step, same_steps, kind_digit, same_node, is_open, with_met, with_look, rule_answer, answer_at}
 
 -- ---- the same node

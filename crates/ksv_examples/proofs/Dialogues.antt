@@ -10,14 +10,14 @@ use Rattle.ksv_expr_eval.specs.Meaning.{at_end, binary_of, byte_at, byte_from, b
 use Rattle.ksv_expr_value.specs.Trail.{fits, trail_of, trail_when}
 use Rattle.ksv_nodes.specs.Reading.{cut_uses, done_at, find_at, finish_of, found_from, found_none, peek_at, reach_file, reach_within}
 use Rattle.ksv_plan.specs.Plan.{bind}
-use Rattle.ksv_rule_heads.specs.Choosing.{case_for, choose, content_of, first_case, switched}
-use Rattle.ksv_rules.specs.Ends.{element_end, end_of, fields_end, is_last, list_end, next_rest, not_empty, object_end, part_rest, place_of, rest_from, rest_of, whole_rest}
-use Rattle.ksv_rule_heads.specs.Fields.{field_of as field_of_of_fields, kind_of, member_named, members_of, parameters_before, sought}
-use Rattle.ksv_rule_heads.specs.Heads.{attribute_at, attribute_head, attribute_start, bytes_at as bytes_at_of_heads, content_at, count_of, counted, element_head, element_start, head_of, instance_head, leaf, leaf_to_end, member_at, member_head, next_start, object_at, part_end, positioned, positioned_in, repeated, run_of, shape_at, sized_leaf, sized_object, terminated, unchosen_at, until_eos, value_head}
-use Rattle.ksv_rules.specs.Integers.{integer_value}
-use Rattle.ksv_rules.specs.Meaning.{meaning_of, rule_of}
-use Rattle.ksv_rules.specs.Values.{argument_at, argument_value, arguments_for, bytes_value, calc_value, calculated, content_value, cut_bytes, fixed_value, instance_value, kept, leaf_value, number_value, parameter_value, plain_value, text_value, value_at, value_of as value_of_of_values}
-use Rattle.ksv_rule_heads.specs.Wanted.{expression, holds, integer_of, size_of, stream_for, truth_of, wanted}
+use Rattle.ksv_rule_meaning.specs.Choosing.{case_for, choose, content_of, first_case, switched}
+use Rattle.ksv_rule_meaning.specs.Ends.{element_end, end_of, fields_end, is_last, list_end, next_rest, not_empty, object_end, part_rest, place_of, rest_from, rest_of, whole_rest}
+use Rattle.ksv_rule_meaning.specs.Fields.{field_of as field_of_of_fields, kind_of, member_named, members_of, parameters_before, sought}
+use Rattle.ksv_rule_meaning.specs.Heads.{attribute_at, attribute_head, attribute_start, bytes_at as bytes_at_of_heads, content_at, count_of, counted, element_head, element_start, head_of, instance_head, leaf, leaf_to_end, member_at, member_head, next_start, object_at, part_end, positioned, positioned_in, repeated, run_of, shape_at, sized_leaf, sized_object, terminated, unchosen_at, until_eos, value_head}
+use Rattle.ksv_rule_meaning.specs.Integers.{integer_value}
+use Rattle.ksv_rule_meaning.specs.Meaning.{meaning_of, rule_of}
+use Rattle.ksv_rule_meaning.specs.Values.{argument_at, argument_value, arguments_for, bytes_value, calc_value, calculated, content_value, cut_bytes, fixed_value, instance_value, kept, leaf_value, number_value, parameter_value, plain_value, text_value, value_at, value_of as value_of_of_values}
+use Rattle.ksv_rule_meaning.specs.Wanted.{expression, holds, integer_of, size_of, stream_for, truth_of, wanted}
 use Rattle.ksv_questions.specs.Dumps.{asked_part, begun_part, dump_question, elements_part, failed_part, fault_part, find_list, find_object, find_value, list_part, member_part, members_part, object_part, part, plain_part, unasked, value_part, whole_text}
 use Rattle.ksv_questions.specs.Questions.{ask_end, ask_head, ask_value, first_asked, from_place, members_question, of_list, of_object, of_value, place_question, value_question}
 use Rattle.ksv_questions.specs.Texts.{bytes_text, fault_text, fault_words, member_name, member_text, quoted_text}

@@ -10,7 +10,7 @@ use Rattle.ksv_questions.specs.Answers.{answered as node_answered, asking, outco
 use Rattle.ksv_questions.specs.Asking.{Asking, Failure, Heard}
 use Rattle.ksv_questions.specs.Writing.{put_question}
 use Rattle.ksv_questions.specs.declared.question.Question.{Question}
-use Rattle.ksv_rules.specs.Described.{described}
+use Rattle.ksv_rule_meaning.specs.Described.{described}
 use Rattle.ksv_session.specs.Commands.{command_of}
 use Rattle.ksv_session.specs.Replies.{Answer, Event, said, answer_to, answer, is_fair, put_answer}
 use Rattle.ksv_session.specs.Session.{Standing, answered, after_event}

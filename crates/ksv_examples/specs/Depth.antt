@@ -17,8 +17,8 @@ use Rattle.ksv_nodes.specs.declared.given.Given.{Given}
 use Rattle.ksv_nodes.specs.declared.node.Node.{Node}
 use Rattle.ksv_nodes.specs.declared.node.NodeKind.{NodeKind}
 use Rattle.ksv_nodes.specs.declared.node.NodeKind.TheVariants.{Head, Value as ItsValue, End, Rest}
-use Rattle.ksv_rules.specs.FromNothing.{circle}
-use Rattle.ksv_rules.specs.Meaning.{rule_of}
+use Rattle.ksv_rule_meaning.specs.FromNothing.{circle}
+use Rattle.ksv_rule_meaning.specs.Meaning.{rule_of}
 use Rattle.ksv_questions.specs.Answers.{asking, told}
 use Rattle.ksv_questions.specs.Asking.{Asking, Failure, Heard}
 use Rattle.ksv_questions.specs.Writing.{put_question}

@@ -22,11 +22,11 @@ use Rattle.ksv_memo.proofs.Sweeping.{none_pass}
 use Rattle.ksv_nodes.specs.declared.given.Given.{Given}
 use Rattle.ksv_nodes.specs.declared.node.Node.{Node}
 use Rattle.ksv_nodes.specs.Numbers.{node_number, node_bound}
-use Rattle.ksv_rules.specs.Described.{described}
-use Rattle.ksv_rules.specs.Direct.{IsDirect}
-use Rattle.ksv_rules.specs.FromNothing.{asks, uses}
-use Rattle.ksv_rules.specs.Lawful.{described_lawful}
-use Rattle.ksv_rules.proofs.Direct.{asks_are_direct}
+use Rattle.ksv_rule_meaning.specs.Described.{described}
+use Rattle.ksv_rule_meaning.specs.Direct.{IsDirect}
+use Rattle.ksv_rule_meaning.specs.FromNothing.{asks, uses}
+use Rattle.ksv_rule_meaning.specs.Lawful.{described_lawful}
+use Rattle.ksv_rule_meaning.proofs.Direct.{asks_are_direct}
 use Rattle.ksv_kept.specs.Completed.{circles_within, completed, completed_within, meets_circle}
 use Rattle.ksv_kept.specs.Kept.{is_hit, is_touched}
 use Rattle.ksv_kept.specs.Laws.{CompletionIsDirect, CostIsDirect, TouchIsDirect}

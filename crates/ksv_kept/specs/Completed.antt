@@ -6,7 +6,7 @@ use Rattle.ksv_desc.specs.Description.{Description}
 use Rattle.ksv_memo.specs.Evaluation.{is_among}
 use Rattle.ksv_nodes.specs.declared.node.Node.{Node}
 use Rattle.ksv_nodes.specs.Numbers.{node_number, node_bound}
-use Rattle.ksv_rules.specs.FromNothing.{asks}
+use Rattle.ksv_rule_meaning.specs.FromNothing.{asks}
 
 -- whether evaluating a node while these are open comes upon an open node, at most so many deep: it is open itself, or evaluating
 -- a node that it asks comes upon one

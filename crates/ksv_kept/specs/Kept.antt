@@ -8,7 +8,7 @@ use Rattle.ksv_memo.specs.Right.{fresh}
 use Rattle.ksv_memo.specs.Touched.{is_use_touched}
 use Rattle.ksv_nodes.specs.declared.node.Node.{Node}
 use Rattle.ksv_nodes.specs.Numbers.{node_number}
-use Rattle.ksv_rules.specs.FromNothing.{asks, uses}
+use Rattle.ksv_rule_meaning.specs.FromNothing.{asks, uses}
 use Rattle.ksv_kept.specs.Completed.{completed, meets_circle}
 
 -- ---- questions

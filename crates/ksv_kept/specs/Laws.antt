@@ -7,7 +7,7 @@ use Rattle.ksv_memo.specs.Meaning.{on}
 use Rattle.ksv_memo.specs.Right.{AreDistinct, cost}
 use Rattle.ksv_memo.specs.Touched as engines
 use Rattle.ksv_nodes.specs.declared.node.Node.{Node}
-use Rattle.ksv_rules.specs.Described.{described}
+use Rattle.ksv_rule_meaning.specs.Described.{described}
 use Rattle.ksv_kept.specs.Completed.{completed, meets_circle}
 use Rattle.ksv_kept.specs.Kept.{calls, is_touched}
 

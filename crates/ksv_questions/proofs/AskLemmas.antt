@@ -15,9 +15,9 @@ use Rattle.ksv_memo.proofs.Moves.{++-nil}
 use Rattle.ksv_nodes.specs.Numbers.{node_number}
 use Rattle.ksv_nodes.specs.declared.given.Given.{Given}
 use Rattle.ksv_nodes.specs.declared.node.Node.{Node}
-use Rattle.ksv_rules.specs.Described.{described}
-use Rattle.ksv_rules.specs.Direct.{flattened}
-use Rattle.ksv_rules.proofs.Direct.{answers_are_direct}
+use Rattle.ksv_rule_meaning.specs.Described.{described}
+use Rattle.ksv_rule_meaning.specs.Direct.{flattened}
+use Rattle.ksv_rule_meaning.proofs.Direct.{answers_are_direct}
 use Rattle.ksv_questions.specs.Answers.{answered}
 use Rattle.ksv_questions.specs.Asking.{Heard}
 use Rattle.ksv_questions.specs.Code.{plain_answer}

@@ -8,8 +8,8 @@ use Rattle.std.proofs.lemmas.List.{length-reverse, reverse-reverse}
 use Rattle.std.proofs.lemmas.Grind.{pow_more}
 use Rattle.ksv_desc.specs.declared.order.ByteOrder.{ByteOrder}
 use Rattle.ksv_desc.specs.declared.order.ByteOrder.TheVariants.{Big, Little}
-use Rattle.ksv_rules.specs.Integers.{integer_value, sum_of_bytes, unsigned_value}
-use Rattle.ksv_rules.proofs.Integers.{byte_power}
+use Rattle.ksv_rule_meaning.specs.Integers.{integer_value, sum_of_bytes, unsigned_value}
+use Rattle.ksv_rule_meaning.proofs.Integers.{byte_power}
 use Rattle.ksv_questions.specs.Writing.{IntegerType, holds, in_order, integer_bytes, little_endian, value_count}
 
 pub digits_length : (k n : ℕ) → length (little_endian k n) ≡ k

@@ -2,7 +2,7 @@
 use Rattle.std.specs.Prelude.{ℕ, List, [], Result, Ok, Err}
 use Rattle.ksv_desc.specs.Description.{Description}
 use Rattle.ksv_nodes.specs.declared.node.Node.{Node}
-use Rattle.ksv_rules.specs.FromNothing.{from_nothing}
+use Rattle.ksv_rule_meaning.specs.FromNothing.{from_nothing}
 use Rattle.ksv_questions.specs.Asking.{Asking, Failure, Heard, asks_of, result_of}
 use Rattle.ksv_questions.specs.Dumps.{dump_question}
 use Rattle.ksv_questions.specs.Questions.{members_question, place_question, value_question}

@@ -8,7 +8,7 @@ use Rattle.ksv_memo.specs.declared.engine.Answer.{Answer as EngineAnswer}
 use Rattle.ksv_memo.specs.declared.engine.Answer.TheVariants as answers
 use Rattle.ksv_nodes.specs.declared.given.Given.{Given}
 use Rattle.ksv_nodes.specs.declared.node.Node.{Node}
-use Rattle.ksv_rules.specs.FromNothing.{circle}
+use Rattle.ksv_rule_meaning.specs.FromNothing.{circle}
 use Rattle.ksv_questions.specs.Answers.{asks, outcome}
 use Rattle.ksv_questions.specs.Asking.{Asking, Faulty, Heard, Refused}
 use Rattle.ksv_questions.specs.Dumps.{Found, Part}

@@ -9,7 +9,7 @@ use Rattle.ksv_memo.specs.Right.{AreBetween, AreExactly, IsRight, costs, counted
 use Rattle.ksv_memo.specs.declared.rules.Outcome.{Outcome}
 use Rattle.ksv_memo.specs.declared.rules.Outcome.TheVariants.{Answered, Circle}
 use Rattle.ksv_nodes.specs.declared.node.Node.{Node}
-use Rattle.ksv_rules.specs.Described.{described}
+use Rattle.ksv_rule_meaning.specs.Described.{described}
 use Rattle.ksv_questions.specs.Asking.{Heard}
 
 -- a description on some bytes, as an engine sees it

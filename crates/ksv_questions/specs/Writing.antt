@@ -8,7 +8,7 @@ use Rattle.ksv_expr_value.specs.Trail.{Trail}
 use Rattle.ksv_nodes.specs.declared.given.Head.{Head}
 use Rattle.ksv_nodes.specs.declared.given.Head.TheVariants as heads
 use Rattle.ksv_nodes.specs.declared.given.Leaf.{Leaf}
-use Rattle.ksv_rules.specs.Integers.{integer_value}
+use Rattle.ksv_rule_meaning.specs.Integers.{integer_value}
 use Rattle.ksv_questions.specs.Asking.{Asking, Refused}
 use Rattle.ksv_questions.specs.Questions.{ask_head}
 use Rattle.ksv_questions.specs.declared.refusal.Refusal.TheVariants as refusals

@@ -11,7 +11,8 @@ use crate::refusal::Refusal;
 use ksv_bytes::Buffer;
 use ksv_expr_value::{Fault, FaultKind, Path};
 use ksv_memo::{Answer, Engine};
-use ksv_rules::{Described, Given, Node, NodeKind};
+use ksv_nodes::{Given, Node, NodeKind};
+use ksv_rule_meaning::{Described, NodeRules};
 use std::alloc::{AllocError, Global};
 
 /// What is heard of a node.
@@ -64,10 +65,10 @@ fn of_answer(answer: Answer<Node, Given, Fault>) -> Heard
 }
 
 /// Hears the node of a kind at a path, by an engine that is right for the bytes.
-pub(crate) fn hear(
+pub(crate) fn hear<R: NodeRules>(
     alloc: Global,
-    engine: &mut Engine<Described>,
-    described: &Described,
+    engine: &mut Engine<Described<R>>,
+    described: &Described<R>,
     buffer: &Buffer,
     kind: NodeKind,
     path: &Path,
@@ -91,10 +92,10 @@ fn passed(heard: Heard) -> Result<Given, Untold>
 }
 
 /// What the node of a kind at a path answers.
-pub(crate) fn ask(
+pub(crate) fn ask<R: NodeRules>(
     alloc: Global,
-    engine: &mut Engine<Described>,
-    described: &Described,
+    engine: &mut Engine<Described<R>>,
+    described: &Described<R>,
     buffer: &Buffer,
     kind: NodeKind,
     path: &Path,

@@ -15,9 +15,10 @@ use crate::parts::ask_value;
 use crate::refusal::Refusal;
 use crate::written::{kind_part, plain_part, push_element, put_member};
 use ksv_bytes::Buffer;
+use ksv_desc::Desc;
 use ksv_expr_value::{FaultKind, Path, Value};
 use ksv_memo::Engine;
-use ksv_rules::Described;
+use ksv_rule_meaning::{Described, NodeRules};
 use serde_json::{Map, Value as Json};
 use std::alloc::Global;
 
@@ -48,20 +49,20 @@ fn begin(left: u32) -> Result<u32, Untold>
 
 /// A part whose path would be too long.
 #[tactic(auto, unfolding(crate::specs::Dumps::unasked))]
-fn unasked(alloc: Global, described: &Described, path: &Path, left: u32) -> Result<Dumped, Untold>
-    ensures { Settles (unasked (plain_pieces described.now.desc) path.now left) dumped result }
+fn unasked(alloc: Global, desc: &Desc, path: &Path, left: u32) -> Result<Dumped, Untold>
+    ensures { Settles (unasked (plain_pieces desc.now) path.now left) dumped result }
 {
     let left = begin(left)?;
-    let json = kind_part(alloc, described, path, FaultKind::PathTooLong)?;
+    let json = kind_part(alloc, desc, path, FaultKind::PathTooLong)?;
     Ok(Dumped { json, left })
 }
 
 /// The part of a path, so many deep at most.
 #[cycle(dump)]
-fn dump_part(
+fn dump_part<R: NodeRules>(
     alloc: Global,
-    engine: &mut Engine<Described>,
-    described: &Described,
+    engine: &mut Engine<Described<R>>,
+    described: &Described<R>,
     buffer: &Buffer,
     depth: u32,
     left: u32,
@@ -71,7 +72,7 @@ fn dump_part(
     ensures { Runs (plain_pieces described.now.desc) buffer.now (part (plain_pieces described.now.desc) buffer.now depth left path.now) dumped engine.old engine.new result }
 {
     if depth == 0 {
-        return unasked(alloc, described, path, left);
+        return unasked(alloc, &described.desc, path, left);
     }
     let left = begin(left)?;
     asked_part(alloc, engine, described, buffer, depth - 1, left, path)
@@ -79,10 +80,10 @@ fn dump_part(
 
 /// The part of a path that was begun.
 #[cycle(dump)]
-fn asked_part(
+fn asked_part<R: NodeRules>(
     alloc: Global,
-    engine: &mut Engine<Described>,
-    described: &Described,
+    engine: &mut Engine<Described<R>>,
+    described: &Described<R>,
     buffer: &Buffer,
     depth: u32,
     left: u32,
@@ -99,10 +100,10 @@ fn asked_part(
 
 /// The part of a value.
 #[cycle(dump)]
-fn value_part(
+fn value_part<R: NodeRules>(
     alloc: Global,
-    engine: &mut Engine<Described>,
-    described: &Described,
+    engine: &mut Engine<Described<R>>,
+    described: &Described<R>,
     buffer: &Buffer,
     depth: u32,
     left: u32,
@@ -116,7 +117,7 @@ fn value_part(
         Value::Object(object) => object_part(alloc, engine, described, buffer, depth, left, object),
         Value::List(list) => list_part(alloc, engine, described, buffer, depth, left, list),
         _ => {
-            let json = plain_part(alloc, described, buffer, path, value)?;
+            let json = plain_part(alloc, &described.desc, buffer, path, value)?;
             Ok(Dumped { json, left })
         }
     }
@@ -124,10 +125,10 @@ fn value_part(
 
 /// The part of an object.
 #[cycle(dump)]
-fn object_part(
+fn object_part<R: NodeRules>(
     alloc: Global,
-    engine: &mut Engine<Described>,
-    described: &Described,
+    engine: &mut Engine<Described<R>>,
+    described: &Described<R>,
     buffer: &Buffer,
     depth: u32,
     left: u32,
@@ -147,10 +148,10 @@ fn object_part(
 
 /// The members of an object.
 #[cycle(dump)]
-fn members_part(
+fn members_part<R: NodeRules>(
     alloc: Global,
-    engine: &mut Engine<Described>,
-    described: &Described,
+    engine: &mut Engine<Described<R>>,
+    described: &Described<R>,
     buffer: &Buffer,
     depth: u32,
     left: u32,
@@ -181,10 +182,10 @@ fn members_part(
 
 /// The part of a list.
 #[cycle(dump)]
-fn list_part(
+fn list_part<R: NodeRules>(
     alloc: Global,
-    engine: &mut Engine<Described>,
-    described: &Described,
+    engine: &mut Engine<Described<R>>,
+    described: &Described<R>,
     buffer: &Buffer,
     depth: u32,
     left: u32,
@@ -201,10 +202,10 @@ fn list_part(
 
 /// The elements of a list.
 #[cycle(dump)]
-fn elements_part(
+fn elements_part<R: NodeRules>(
     alloc: Global,
-    engine: &mut Engine<Described>,
-    described: &Described,
+    engine: &mut Engine<Described<R>>,
+    described: &Described<R>,
     buffer: &Buffer,
     depth: u32,
     left: u32,
@@ -230,10 +231,10 @@ fn elements_part(
 
 /// The part of a member or element; without a path, one that would be too long.
 #[cycle(dump)]
-fn inner_part(
+fn inner_part<R: NodeRules>(
     alloc: Global,
-    engine: &mut Engine<Described>,
-    described: &Described,
+    engine: &mut Engine<Described<R>>,
+    described: &Described<R>,
     buffer: &Buffer,
     depth: u32,
     left: u32,
@@ -244,7 +245,7 @@ fn inner_part(
     ensures { Runs (plain_pieces described.now.desc) buffer.now (inner (plain_pieces described.now.desc) (part (plain_pieces described.now.desc) buffer.now depth) outer.now left path) dumped engine.old engine.new result }
 {
     match path {
-        None => unasked(alloc, described, outer, left),
+        None => unasked(alloc, &described.desc, outer, left),
         Some(path) => dump_part(alloc, engine, described, buffer, depth, left, &path),
     }
 }
@@ -259,10 +260,10 @@ fn written_text(alloc: Global, whole: &Dumped) -> Result<String, Untold>
 
 /// The text of a value with all that is in it.
 #[tactic(auto, unfolding(crate::specs::Dumps::whole_text))]
-fn whole_text(
+fn whole_text<R: NodeRules>(
     alloc: Global,
-    engine: &mut Engine<Described>,
-    described: &Described,
+    engine: &mut Engine<Described<R>>,
+    described: &Described<R>,
     buffer: &Buffer,
     path: &Path,
     value: &Value,
@@ -286,10 +287,10 @@ fn whole_text(
 
 /// The value at a path with all that is in it.
 #[tactic(auto, unfolding(crate::specs::Dumps::dump_question))]
-pub(crate) fn dump_question(
+pub(crate) fn dump_question<R: NodeRules>(
     alloc: Global,
-    engine: &mut Engine<Described>,
-    described: &Described,
+    engine: &mut Engine<Described<R>>,
+    described: &Described<R>,
     buffer: &Buffer,
     path: &Path,
 ) -> Result<String, Untold>

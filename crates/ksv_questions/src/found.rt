@@ -12,34 +12,36 @@ ghost use Rattle.ksv_questions.specs.Engines.{world};
 use crate::asking::{Heard, Untold, hear};
 use crate::written::{failed_part, fault_part, kind_part};
 use ksv_bytes::Buffer;
+use ksv_desc::Desc;
 use ksv_expr_value::{FaultKind, Path, Value};
 use ksv_memo::Engine;
-use ksv_rules::{Described, Given, Head, NodeKind};
+use ksv_nodes::{Given, Head, NodeKind};
+use ksv_rule_meaning::{Described, NodeRules};
 use serde_json::Value as Json;
 use std::alloc::Global;
 
 /// The value that was heard of.
 fn value_in(
     alloc: Global,
-    described: &Described,
+    desc: &Desc,
     path: &Path,
     heard: Heard,
 ) -> Result<Result<Value, Json>, Untold>
-    ensures { Settles (Answer (value_in (plain_pieces described.now.desc) path.now heard)) found_of result }
+    ensures { Settles (Answer (value_in (plain_pieces desc.now) path.now heard)) found_of result }
 {
     match heard {
         Ok(Given::Value(value)) => Ok(Ok(value)),
-        Ok(_) => Ok(Err(kind_part(alloc, described, path, FaultKind::BadType)?)),
-        Err(fault) => Ok(Err(failed_part(alloc, described, path, &fault)?)),
+        Ok(_) => Ok(Err(kind_part(alloc, desc, path, FaultKind::BadType)?)),
+        Err(fault) => Ok(Err(failed_part(alloc, desc, path, &fault)?)),
     }
 }
 
 /// The value at a path.
 #[tactic(auto, unfolding(crate::specs::Dumps::find_value))]
-pub(crate) fn find_value(
+pub(crate) fn find_value<R: NodeRules>(
     alloc: Global,
-    engine: &mut Engine<Described>,
-    described: &Described,
+    engine: &mut Engine<Described<R>>,
+    described: &Described<R>,
     buffer: &Buffer,
     path: &Path,
 ) -> Result<Result<Value, Json>, Untold>
@@ -47,31 +49,31 @@ pub(crate) fn find_value(
     ensures { Runs (plain_pieces described.now.desc) buffer.now (find_value (plain_pieces described.now.desc) path.now) found_of engine.old engine.new result }
 {
     let heard = hear(alloc, engine, described, buffer, NodeKind::Value, path)?;
-    value_in(alloc, described, path, heard)
+    value_in(alloc, &described.desc, path, heard)
 }
 
 /// The type of the object that was heard of.
 fn object_in(
     alloc: Global,
-    described: &Described,
+    desc: &Desc,
     object: &Path,
     heard: &Heard,
 ) -> Result<Result<u32, Json>, Untold>
-    ensures { Settles (Answer (object_in (plain_pieces described.now.desc) object.now heard.now)) found_of result }
+    ensures { Settles (Answer (object_in (plain_pieces desc.now) object.now heard.now)) found_of result }
 {
     match heard {
         Ok(Given::Head(Head::Object(found))) => Ok(Ok(found.type_number)),
-        Ok(_) => Ok(Err(kind_part(alloc, described, object, FaultKind::BadType)?)),
-        Err(fault) => Ok(Err(fault_part(alloc, described, fault)?)),
+        Ok(_) => Ok(Err(kind_part(alloc, desc, object, FaultKind::BadType)?)),
+        Err(fault) => Ok(Err(fault_part(alloc, desc, fault)?)),
     }
 }
 
 /// The type of the object at a path.
 #[tactic(auto, unfolding(crate::specs::Dumps::find_object))]
-pub(crate) fn find_object(
+pub(crate) fn find_object<R: NodeRules>(
     alloc: Global,
-    engine: &mut Engine<Described>,
-    described: &Described,
+    engine: &mut Engine<Described<R>>,
+    described: &Described<R>,
     buffer: &Buffer,
     object: &Path,
 ) -> Result<Result<u32, Json>, Untold>
@@ -79,30 +81,30 @@ pub(crate) fn find_object(
     ensures { Runs (plain_pieces described.now.desc) buffer.now (find_object (plain_pieces described.now.desc) object.now) found_of engine.old engine.new result }
 {
     let heard = hear(alloc, engine, described, buffer, NodeKind::Head, object)?;
-    object_in(alloc, described, object, &heard)
+    object_in(alloc, &described.desc, object, &heard)
 }
 
 /// The number of elements that was heard of.
 fn count_in(
     alloc: Global,
-    described: &Described,
+    desc: &Desc,
     list: &Path,
     heard: &Heard,
 ) -> Result<Result<u32, Json>, Untold>
-    ensures { Settles (Answer (count_in (plain_pieces described.now.desc) list.now heard.now)) found_of result }
+    ensures { Settles (Answer (count_in (plain_pieces desc.now) list.now heard.now)) found_of result }
 {
     match heard {
         Ok(Given::Rest { count, .. }) => Ok(Ok(*count)),
-        Ok(_) => Ok(Err(kind_part(alloc, described, list, FaultKind::BadType)?)),
-        Err(fault) => Ok(Err(fault_part(alloc, described, fault)?)),
+        Ok(_) => Ok(Err(kind_part(alloc, desc, list, FaultKind::BadType)?)),
+        Err(fault) => Ok(Err(fault_part(alloc, desc, fault)?)),
     }
 }
 
 /// The number of elements of the list at a path, whose first element has this one.
-fn counted(
+fn counted<R: NodeRules>(
     alloc: Global,
-    engine: &mut Engine<Described>,
-    described: &Described,
+    engine: &mut Engine<Described<R>>,
+    described: &Described<R>,
     buffer: &Buffer,
     list: &Path,
     first: &Path,
@@ -111,22 +113,22 @@ fn counted(
     ensures { Runs (plain_pieces described.now.desc) buffer.now (find_list (plain_pieces described.now.desc) list.now (Some first.now)) found_of engine.old engine.new result }
 {
     let heard = hear(alloc, engine, described, buffer, NodeKind::Rest, first)?;
-    count_in(alloc, described, list, &heard)
+    count_in(alloc, &described.desc, list, &heard)
 }
 
 /// A list whose elements' paths would be too long.
 #[tactic(auto, unfolding(crate::specs::Dumps::find_list))]
-fn uncounted(alloc: Global, described: &Described, list: &Path) -> Result<Result<u32, Json>, Untold>
-    ensures { Settles (find_list (plain_pieces described.now.desc) list.now None) found_of result }
+fn uncounted(alloc: Global, desc: &Desc, list: &Path) -> Result<Result<u32, Json>, Untold>
+    ensures { Settles (find_list (plain_pieces desc.now) list.now None) found_of result }
 {
-    Ok(Err(kind_part(alloc, described, list, FaultKind::PathTooLong)?))
+    Ok(Err(kind_part(alloc, desc, list, FaultKind::PathTooLong)?))
 }
 
 /// The number of elements of the list at a path.
-pub(crate) fn find_list(
+pub(crate) fn find_list<R: NodeRules>(
     alloc: Global,
-    engine: &mut Engine<Described>,
-    described: &Described,
+    engine: &mut Engine<Described<R>>,
+    described: &Described<R>,
     buffer: &Buffer,
     list: &Path,
 ) -> Result<Result<u32, Json>, Untold>
@@ -135,6 +137,6 @@ pub(crate) fn find_list(
 {
     match list.child_index(alloc, 0)? {
         Some(first) => counted(alloc, engine, described, buffer, list, &first),
-        None => uncounted(alloc, described, list),
+        None => uncounted(alloc, &described.desc, list),
     }
 }

@@ -11,24 +11,21 @@ use crate::list::of_list;
 use crate::parts::{ask_head, ask_value};
 use crate::text::{bytes_text, integer_text, member_text, quoted_text, truth_text};
 use ksv_bytes::Buffer;
+use ksv_desc::Desc;
 use ksv_expr_value::{FaultKind, Path, Value};
 use ksv_memo::Engine;
-use ksv_rules::{Described, Head};
+use ksv_nodes::Head;
+use ksv_rule_meaning::{Described, NodeRules};
 use std::alloc::Global;
 
 /// An object by its type's id; any other head doesn't fit.
-fn object_text(
-    alloc: Global,
-    described: &Described,
-    path: &Path,
-    head: Head,
-) -> Result<String, Untold>
-    ensures { Settles (object_text (plain_pieces described.now.desc) path.now head) (λ text. string_bytes text) result }
+fn object_text(alloc: Global, desc: &Desc, path: &Path, head: Head) -> Result<String, Untold>
+    ensures { Settles (object_text (plain_pieces desc.now) path.now head) (λ text. string_bytes text) result }
 {
     match head {
         Head::Object(object) => {
             let mut text = String::from_str(alloc, "object ")?;
-            text.push_str(described.desc().type_id(object.type_number))?;
+            text.push_str(desc.type_id(object.type_number))?;
             Ok(text)
         }
         _ => Err(fault_at(alloc, path, FaultKind::BadType)),
@@ -37,10 +34,10 @@ fn object_text(
 
 /// The text of the object of a path.
 #[tactic(auto, unfolding(crate::specs::Questions::of_object))]
-fn of_object(
+fn of_object<R: NodeRules>(
     alloc: Global,
-    engine: &mut Engine<Described>,
-    described: &Described,
+    engine: &mut Engine<Described<R>>,
+    described: &Described<R>,
     buffer: &Buffer,
     path: &Path,
     object: &Path,
@@ -49,18 +46,18 @@ fn of_object(
     ensures { Runs (plain_pieces described.now.desc) buffer.now (of_object (plain_pieces described.now.desc) path.now object.now) (λ text. string_bytes text) engine.old engine.new result }
 {
     let head = ask_head(alloc, engine, described, buffer, path, object)?;
-    object_text(alloc, described, path, head)
+    object_text(alloc, &described.desc, path, head)
 }
 
 /// The text of a value that asks nothing; an object, a list and a stream don't fit.
 fn plain_text(
     alloc: Global,
-    described: &Described,
+    desc: &Desc,
     buffer: &Buffer,
     path: &Path,
     value: &Value,
 ) -> Result<String, Untold>
-    ensures { Settles (plain_value (plain_pieces described.now.desc) buffer.now path.now value.now) (λ text. string_bytes text) result }
+    ensures { Settles (plain_value (plain_pieces desc.now) buffer.now path.now value.now) (λ text. string_bytes text) result }
 {
     match value {
         Value::Int(number) => Ok(integer_text(alloc, *number)?),
@@ -70,17 +67,17 @@ fn plain_text(
         Value::Member {
             enum_number,
             number,
-        } => Ok(member_text(alloc, described.desc(), *enum_number, *number)?),
+        } => Ok(member_text(alloc, desc, *enum_number, *number)?),
         _ => Err(fault_at(alloc, path, FaultKind::BadType)),
     }
 }
 
 /// The text of a value.
 #[tactic(auto, unfolding(crate::specs::Questions::of_value))]
-fn of_value(
+fn of_value<R: NodeRules>(
     alloc: Global,
-    engine: &mut Engine<Described>,
-    described: &Described,
+    engine: &mut Engine<Described<R>>,
+    described: &Described<R>,
     buffer: &Buffer,
     path: &Path,
     value: &Value,
@@ -91,16 +88,16 @@ fn of_value(
     match value {
         Value::Object(object) => of_object(alloc, engine, described, buffer, path, object),
         Value::List(list) => of_list(alloc, engine, described, buffer, path, list),
-        _ => plain_text(alloc, described, buffer, path, value),
+        _ => plain_text(alloc, &described.desc, buffer, path, value),
     }
 }
 
 /// The text of the value at a path.
 #[tactic(auto, unfolding(crate::specs::Questions::value_question))]
-pub(crate) fn value_question(
+pub(crate) fn value_question<R: NodeRules>(
     alloc: Global,
-    engine: &mut Engine<Described>,
-    described: &Described,
+    engine: &mut Engine<Described<R>>,
+    described: &Described<R>,
     buffer: &Buffer,
     path: &Path,
 ) -> Result<String, Untold>

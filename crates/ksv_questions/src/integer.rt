@@ -8,7 +8,7 @@ ghost use Rattle.ksv_questions.specs.Writing.{as_unsigned, content_in, field_at,
 use arrayvec::ArrayVec;
 use ksv_desc::{ByteOrder, Choice, Content, Desc, Field, MemberKind};
 use ksv_expr_value::Integer;
-use ksv_rules::Leaf;
+use ksv_nodes::Leaf;
 
 /// The type of an integer.
 #[derive(Clone, Copy)]
@@ -96,7 +96,7 @@ pub(crate) fn integer_type(desc: &Desc, leaf: Leaf) -> Option<IntegerType>
 // ---- the bytes of an integer
 
 /// How many values an integer of a type has.
-#[tactic(auto, using(ksv_rules::proofs::Integers::byte_unit, ksv_rules::proofs::Integers::byte_power, ksv_rules::proofs::Integers::power_small))]
+#[tactic(auto, using(ksv_rule_meaning::proofs::Integers::byte_unit, ksv_rule_meaning::proofs::Integers::byte_power, ksv_rule_meaning::proofs::Integers::power_small))]
 fn value_count(kind: IntegerType) -> i128
     requires { kind.size ≤ 8 }
     ensures value { result ≡ pos (value_count (type_of kind)) }

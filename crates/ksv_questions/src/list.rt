@@ -13,7 +13,7 @@ use itoa::Buffer as Digits;
 use ksv_bytes::Buffer;
 use ksv_expr_value::Path;
 use ksv_memo::Engine;
-use ksv_rules::Described;
+use ksv_rule_meaning::{Described, NodeRules};
 use std::alloc::Global;
 
 /// A list by the number of its elements.
@@ -28,10 +28,10 @@ fn list_text(alloc: Global, count: u32) -> Result<String, Untold>
 
 /// The text of the list of a path; `path` is the one that the question is about.
 #[tactic(auto, unfolding(crate::specs::Questions::of_list))]
-pub(crate) fn of_list(
+pub(crate) fn of_list<R: NodeRules>(
     alloc: Global,
-    engine: &mut Engine<Described>,
-    described: &Described,
+    engine: &mut Engine<Described<R>>,
+    described: &Described<R>,
     buffer: &Buffer,
     path: &Path,
     list: &Path,

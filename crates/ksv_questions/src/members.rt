@@ -14,7 +14,8 @@ use ksv_bytes::Buffer;
 use ksv_desc::Desc;
 use ksv_expr_value::Path;
 use ksv_memo::Engine;
-use ksv_rules::{Described, Head};
+use ksv_nodes::Head;
+use ksv_rule_meaning::{Described, NodeRules};
 use std::alloc::{AllocError, Global};
 
 /// Appends a name, with a space before it.
@@ -37,10 +38,10 @@ fn names_text(alloc: Global, desc: &Desc, names: &[u32]) -> Result<String, Alloc
 }
 
 /// What the thing there has.
-fn parts_of(
+fn parts_of<R: NodeRules>(
     alloc: Global,
-    engine: &mut Engine<Described>,
-    described: &Described,
+    engine: &mut Engine<Described<R>>,
+    described: &Described<R>,
     buffer: &Buffer,
     path: &Path,
     head: Head,
@@ -61,10 +62,10 @@ fn parts_of(
 
 /// What is in the thing at a path.
 #[tactic(auto, unfolding(crate::specs::Questions::members_question))]
-pub(crate) fn members_question(
+pub(crate) fn members_question<R: NodeRules>(
     alloc: Global,
-    engine: &mut Engine<Described>,
-    described: &Described,
+    engine: &mut Engine<Described<R>>,
+    described: &Described<R>,
     buffer: &Buffer,
     path: &Path,
 ) -> Result<String, Untold>

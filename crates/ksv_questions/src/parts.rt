@@ -12,7 +12,8 @@ use crate::asking::{Untold, ask, fault_at};
 use ksv_bytes::Buffer;
 use ksv_expr_value::{FaultKind, Path, Value};
 use ksv_memo::Engine;
-use ksv_rules::{Described, Given, Head, NodeKind};
+use ksv_nodes::{Given, Head, NodeKind};
+use ksv_rule_meaning::{Described, NodeRules};
 use std::alloc::Global;
 
 /// What is at a path; another form doesn't fit.
@@ -57,10 +58,10 @@ fn in_end(alloc: Global, path: &Path, given: &Given) -> Result<u32, Untold>
 
 /// What is at a path; `path` is the one that the question is about.
 #[tactic(auto, unfolding(crate::specs::Questions::ask_head))]
-pub(crate) fn ask_head(
+pub(crate) fn ask_head<R: NodeRules>(
     alloc: Global,
-    engine: &mut Engine<Described>,
-    described: &Described,
+    engine: &mut Engine<Described<R>>,
+    described: &Described<R>,
     buffer: &Buffer,
     path: &Path,
     asked: &Path,
@@ -74,10 +75,10 @@ pub(crate) fn ask_head(
 
 /// The number of elements of a list.
 #[tactic(auto, unfolding(crate::specs::Questions::first_asked))]
-pub(crate) fn first_asked(
+pub(crate) fn first_asked<R: NodeRules>(
     alloc: Global,
-    engine: &mut Engine<Described>,
-    described: &Described,
+    engine: &mut Engine<Described<R>>,
+    described: &Described<R>,
     buffer: &Buffer,
     path: &Path,
     list: &Path,
@@ -94,10 +95,10 @@ pub(crate) fn first_asked(
 
 /// The value at a path.
 #[tactic(auto, unfolding(crate::specs::Questions::ask_value))]
-pub(crate) fn ask_value(
+pub(crate) fn ask_value<R: NodeRules>(
     alloc: Global,
-    engine: &mut Engine<Described>,
-    described: &Described,
+    engine: &mut Engine<Described<R>>,
+    described: &Described<R>,
     buffer: &Buffer,
     path: &Path,
 ) -> Result<Value, Untold>
@@ -110,10 +111,10 @@ pub(crate) fn ask_value(
 
 /// The place where what is at a path ends.
 #[tactic(auto, unfolding(crate::specs::Questions::ask_end))]
-pub(crate) fn ask_end(
+pub(crate) fn ask_end<R: NodeRules>(
     alloc: Global,
-    engine: &mut Engine<Described>,
-    described: &Described,
+    engine: &mut Engine<Described<R>>,
+    described: &Described<R>,
     buffer: &Buffer,
     path: &Path,
 ) -> Result<u32, Untold>

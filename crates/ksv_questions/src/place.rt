@@ -13,7 +13,8 @@ use itoa::Buffer as Digits;
 use ksv_bytes::Buffer;
 use ksv_expr_value::Path;
 use ksv_memo::Engine;
-use ksv_rules::{Described, Head};
+use ksv_nodes::Head;
+use ksv_rule_meaning::{Described, NodeRules};
 use std::alloc::Global;
 
 /// Where something begins and ends.
@@ -29,10 +30,10 @@ fn places_text(alloc: Global, from: u32, to: u32) -> Result<String, Untold>
 
 /// What begins at a place: it is asked where it ends.
 #[tactic(auto, unfolding(crate::specs::Questions::from_place))]
-fn from_place(
+fn from_place<R: NodeRules>(
     alloc: Global,
-    engine: &mut Engine<Described>,
-    described: &Described,
+    engine: &mut Engine<Described<R>>,
+    described: &Described<R>,
     buffer: &Buffer,
     path: &Path,
     from: u32,
@@ -45,10 +46,10 @@ fn from_place(
 }
 
 /// Where what is there is.
-fn of_head(
+fn of_head<R: NodeRules>(
     alloc: Global,
-    engine: &mut Engine<Described>,
-    described: &Described,
+    engine: &mut Engine<Described<R>>,
+    described: &Described<R>,
     buffer: &Buffer,
     path: &Path,
     head: Head,
@@ -76,10 +77,10 @@ fn of_head(
 
 /// Where what is at a path is.
 #[tactic(auto, unfolding(crate::specs::Questions::place_question))]
-pub(crate) fn place_question(
+pub(crate) fn place_question<R: NodeRules>(
     alloc: Global,
-    engine: &mut Engine<Described>,
-    described: &Described,
+    engine: &mut Engine<Described<R>>,
+    described: &Described<R>,
     buffer: &Buffer,
     path: &Path,
 ) -> Result<String, Untold>

@@ -15,9 +15,11 @@ use crate::question::failure_text;
 use crate::refusal::Refusal;
 use arrayvec::ArrayVec;
 use ksv_bytes::Buffer;
+use ksv_desc::Desc;
 use ksv_expr_value::{Integer, Path};
 use ksv_memo::Engine;
-use ksv_rules::{Described, Head, Leaf};
+use ksv_nodes::{Head, Leaf};
+use ksv_rule_meaning::{Described, NodeRules};
 use std::alloc::{AllocError, Global};
 
 /// Bytes that are written over others.
@@ -31,11 +33,11 @@ pub struct Overwrite {
 
 /// What writing an integer over a leaf means.
 #[tactic(auto, unfolding(crate::specs::Writing::of_type))]
-fn over_leaf(described: &Described, leaf: Leaf, number: Integer) -> Result<Overwrite, Untold>
-    ensures { Settles (of_type (integer_type (plain_pieces described.now.desc) leaf) leaf number) overwrite_of result }
+fn over_leaf(desc: &Desc, leaf: Leaf, number: Integer) -> Result<Overwrite, Untold>
+    ensures { Settles (of_type (integer_type (plain_pieces desc.now) leaf) leaf number) overwrite_of result }
 {
     let at = leaf.from.byte();
-    let Some(kind) = integer_type(described.desc(), leaf) else {
+    let Some(kind) = integer_type(desc, leaf) else {
         return Err(Untold::Refused(Refusal::NotAnInteger));
     };
     if !holds(kind, number) {
@@ -48,21 +50,21 @@ fn over_leaf(described: &Described, leaf: Leaf, number: Integer) -> Result<Overw
 }
 
 /// What writing an integer over what is there means.
-fn over_head(described: &Described, head: Head, number: Integer) -> Result<Overwrite, Untold>
-    ensures { Settles (over_head (plain_pieces described.now.desc) head number) overwrite_of result }
+fn over_head(desc: &Desc, head: Head, number: Integer) -> Result<Overwrite, Untold>
+    ensures { Settles (over_head (plain_pieces desc.now) head number) overwrite_of result }
 {
     match head {
-        Head::Leaf(leaf) => over_leaf(described, leaf, number),
+        Head::Leaf(leaf) => over_leaf(desc, leaf, number),
         _ => Err(Untold::Refused(Refusal::NotAnInteger)),
     }
 }
 
 /// What writing an integer over what is at a path means.
 #[tactic(auto, unfolding(crate::specs::Writing::put_question))]
-fn put_question(
+fn put_question<R: NodeRules>(
     alloc: Global,
-    engine: &mut Engine<Described>,
-    described: &Described,
+    engine: &mut Engine<Described<R>>,
+    described: &Described<R>,
     buffer: &Buffer,
     path: &Path,
     number: Integer,
@@ -71,15 +73,15 @@ fn put_question(
     ensures { Runs (plain_pieces described.now.desc) buffer.now (put_question (plain_pieces described.now.desc) path.now number) overwrite_of engine.old engine.new result }
 {
     let head = ask_head(alloc, engine, described, buffer, path, path)?;
-    over_head(described, head, number)
+    over_head(&described.desc, head, number)
 }
 
 /// What writing an integer over the one at a path means: the bytes to write, or the reply to a `put` that isn't done, its LF aside.
 /// The engine, which must be right for the bytes, keeps what was evaluated for it.
-pub fn overwrite_for(
+pub fn overwrite_for<R: NodeRules>(
     alloc: Global,
-    engine: &mut Engine<Described>,
-    described: &Described,
+    engine: &mut Engine<Described<R>>,
+    described: &Described<R>,
     buffer: &Buffer,
     path: &Path,
     number: Integer,

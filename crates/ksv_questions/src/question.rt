@@ -16,7 +16,7 @@ use ksv_bytes::Buffer;
 use ksv_desc::Desc;
 use ksv_expr_value::Path;
 use ksv_memo::Engine;
-use ksv_rules::Described;
+use ksv_rule_meaning::{Described, NodeRules};
 use std::alloc::{AllocError, Global};
 
 /// A question about a path.
@@ -33,10 +33,10 @@ pub enum Question {
 }
 
 /// What an engine was asked for a question.
-fn asked(
+fn asked<R: NodeRules>(
     alloc: Global,
-    engine: &mut Engine<Described>,
-    described: &Described,
+    engine: &mut Engine<Described<R>>,
+    described: &Described<R>,
     buffer: &Buffer,
     question: &Question,
 ) -> Result<String, Untold>
@@ -65,10 +65,10 @@ pub(crate) fn failure_text(alloc: Global, desc: &Desc, why: &Untold) -> Result<S
 /// The reply to a question, its LF aside: the text of what evaluating the description from nothing on the current bytes gives.
 /// The engine, which must be right for these bytes, keeps what was evaluated for it.
 #[tactic(auto, unfolding(crate::specs::Answers::question_text))]
-pub fn answer(
+pub fn answer<R: NodeRules>(
     alloc: Global,
-    engine: &mut Engine<Described>,
-    described: &Described,
+    engine: &mut Engine<Described<R>>,
+    described: &Described<R>,
     buffer: &Buffer,
     question: &Question,
 ) -> Result<String, AllocError>

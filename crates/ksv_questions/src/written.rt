@@ -10,8 +10,8 @@ ghost use Rattle.ksv_questions.specs.Dumps.{failed_part, fault_part, is_absence,
 
 use crate::text::{fault_words, member_name, window};
 use ksv_bytes::Buffer;
+use ksv_desc::Desc;
 use ksv_expr_value::{Fault, FaultKind, Integer, Path, Value};
-use ksv_rules::Described;
 use serde_json::{Map, Number, Value as Json};
 use std::alloc::{AllocError, Global};
 
@@ -49,28 +49,24 @@ fn one_member(alloc: Global, key: &str, json: Json) -> Result<Json, AllocError>
 
 /// A fault by its words.
 #[tactic(auto, unfolding(crate::specs::Dumps::fault_part))]
-pub(crate) fn fault_part(
-    alloc: Global,
-    described: &Described,
-    fault: &Fault,
-) -> Result<Json, AllocError>
-    ensures { IfOk result (λ json. view json ≡ fault_part (plain_pieces described.now.desc) fault.now) }
+pub(crate) fn fault_part(alloc: Global, desc: &Desc, fault: &Fault) -> Result<Json, AllocError>
+    ensures { IfOk result (λ json. view json ≡ fault_part (plain_pieces desc.now) fault.now) }
 {
-    let words = fault_words(alloc, described.desc(), fault)?;
+    let words = fault_words(alloc, desc, fault)?;
     one_member(alloc, "fault", Json::String(words))
 }
 
 /// The fault of a kind at a path.
 pub(crate) fn kind_part(
     alloc: Global,
-    described: &Described,
+    desc: &Desc,
     path: &Path,
     kind: FaultKind,
 ) -> Result<Json, AllocError>
-    ensures { IfOk result (λ json. view json ≡ fault_part (plain_pieces described.now.desc) (fault_at path.now kind)) }
+    ensures { IfOk result (λ json. view json ≡ fault_part (plain_pieces desc.now) (fault_at path.now kind)) }
 {
     let path = path.copy(alloc)?;
-    fault_part(alloc, described, &Fault { kind, path })
+    fault_part(alloc, desc, &Fault { kind, path })
 }
 
 /// Whether something is absent.
@@ -87,16 +83,16 @@ fn is_absence(kind: FaultKind) -> bool
 #[tactic(auto, unfolding(crate::specs::Dumps::failed_part))]
 pub(crate) fn failed_part(
     alloc: Global,
-    described: &Described,
+    desc: &Desc,
     path: &Path,
     fault: &Fault,
 ) -> Result<Json, AllocError>
-    ensures { IfOk result (λ json. view json ≡ failed_part (plain_pieces described.now.desc) path.now fault.now) }
+    ensures { IfOk result (λ json. view json ≡ failed_part (plain_pieces desc.now) path.now fault.now) }
 {
     if is_absence(fault.kind) && fault.path == *path {
         return Ok(Json::Null);
     }
-    fault_part(alloc, described, fault)
+    fault_part(alloc, desc, fault)
 }
 
 /// An integer.
@@ -113,13 +109,13 @@ fn integer_part(number: Integer) -> Json
 #[tactic(auto, using(crate::proofs::Json::object_view), unfolding(crate::specs::Dumps::member_part))]
 fn member_part(
     alloc: Global,
-    described: &Described,
+    desc: &Desc,
     enumeration: u32,
     number: Integer,
 ) -> Result<Json, AllocError>
-    ensures { IfOk result (λ json. view json ≡ member_part (plain_pieces described.now.desc) enumeration number) }
+    ensures { IfOk result (λ json. view json ≡ member_part (plain_pieces desc.now) enumeration number) }
 {
-    let name = member_name(alloc, described.desc(), enumeration, number)?;
+    let name = member_name(alloc, desc, enumeration, number)?;
     let mut members = Map::new(alloc);
     put_member(alloc, &mut members, "enum", Json::String(name))?;
     put_member(alloc, &mut members, "value", integer_part(number))?;
@@ -140,12 +136,12 @@ fn digits(alloc: Global, buffer: &Buffer, from: u32, to: u32) -> Result<String, 
 #[tactic(auto, unfolding(crate::specs::Dumps::plain_part))]
 pub(crate) fn plain_part(
     alloc: Global,
-    described: &Described,
+    desc: &Desc,
     buffer: &Buffer,
     path: &Path,
     value: &Value,
 ) -> Result<Json, AllocError>
-    ensures { IfOk result (λ json. view json ≡ plain_part (plain_pieces described.now.desc) buffer.now path.now value.now) }
+    ensures { IfOk result (λ json. view json ≡ plain_part (plain_pieces desc.now) buffer.now path.now value.now) }
 {
     match value {
         Value::Int(number) => Ok(integer_part(*number)),
@@ -158,7 +154,7 @@ pub(crate) fn plain_part(
         Value::Member {
             enum_number,
             number,
-        } => member_part(alloc, described, *enum_number, *number),
-        _ => kind_part(alloc, described, path, FaultKind::BadType),
+        } => member_part(alloc, desc, *enum_number, *number),
+        _ => kind_part(alloc, desc, path, FaultKind::BadType),
     }
 }

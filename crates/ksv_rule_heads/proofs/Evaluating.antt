@@ -18,7 +18,7 @@ use Rattle.ksv_nodes.specs.Rule.{Here, raise}
 use Rattle.ksv_nodes.specs.Turning.{State, turns, Runs}
 use Rattle.ksv_nodes.specs.declared.turn.Halt.{Halt}
 use Rattle.ksv_nodes.specs.declared.turn.Halt.TheVariants as halts
-use Rattle.ksv_rule_heads.specs.Wanted.{wanted, expression}
+use Rattle.ksv_rule_meaning.specs.Wanted.{wanted, expression}
 
 -- behind these answers another plan is left: it goes on as the expression does
 pub record Left (s : Setting) (e : Tree) (got : List (Result Heard Fault)) (begun now : State) : Type 0 where

@@ -1,7 +1,7 @@
 -- How many parameters are among the first members, one member after the other.
 use Rattle.std.proofs.Common.{◌≡◌, ℕ, zero, suc, ◌+◌, ◌-◌, ◌==◌, false, if◌then◌else◌, List, [], ◌∷◌, refl, ap, arith}
 use Rattle.ksv_desc.specs.Description.{MemberOfType}
-use Rattle.ksv_rule_heads.specs.Fields.{is_parameter, parameters_before}
+use Rattle.ksv_rule_meaning.specs.Fields.{is_parameter, parameters_before}
 
 pub no_more : (ms : List MemberOfType) → parameters_before 0 ms ≡ 0
 unfolding parameters_before

@@ -3,7 +3,7 @@ use Rattle.ksv_plan.specs.Plan.{Answer, ◌>>=◌}
 use Rattle.ksv_expr_eval.specs.Heard.{Heard, Valued, Opened}
 use Rattle.ksv_expr_value.specs.Trail.{Trail}
 use Rattle.ksv_nodes.specs.Rule.{Rule, ask_head, ask_value}
-use Rattle.ksv_rule_heads.specs.Wanted.{in_object}
+use Rattle.ksv_rule_meaning.specs.Wanted.{in_object}
 
 -- how the wants of a value and of a head are met
 abbrev pub ask_valued : Trail → Rule Heard

@@ -1,8 +1,4 @@
--- The definitions of what is at a path.
+-- What the code keeps and how it meets what an expression wants.
 pub mod Told
-pub mod Fields
 pub mod Members
-pub mod Wanted
-pub mod Choosing
-pub mod Heads
 pub mod Code

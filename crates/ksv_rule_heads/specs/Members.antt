@@ -2,8 +2,8 @@
 use Rattle.ksv_desc.specs.Pieces.{plain_kind, plain_content}
 use Rattle.ksv_rule_heads.specs.declared.choosing.Chosen.{Chosen as CodeChosen}
 use Rattle.ksv_rule_heads.specs.declared.fields.Sought.{Sought as CodeSought}
-use Rattle.ksv_rule_heads.specs.Choosing.{Chosen}
-use Rattle.ksv_rule_heads.specs.Fields.{Sought}
+use Rattle.ksv_rule_meaning.specs.Choosing.{Chosen}
+use Rattle.ksv_rule_meaning.specs.Fields.{Sought}
 
 abbrev pub plain_sought : CodeSought → Sought
 plain_sought s = record { member = s.member; before = s.before; kind = plain_kind s.kind.now }

@@ -7,7 +7,7 @@ ghost use Rattle.ksv_expr_tree.specs.Tree.{view, literal_of};
 ghost use Rattle.ksv_desc.specs.Description.{Bytes};
 ghost use Rattle.ksv_desc.specs.Pieces.{plain_case, plain_choice, plain_content, plain_value};
 ghost use Rattle.ksv_nodes.specs.Turning.{Runs};
-ghost use Rattle.ksv_rule_heads.specs.Choosing.{is_constant, is_negative, is_enum_member, is_equal, is_case_of, is_default, first_case, case_for, switched, choose, in_cases, content_of};
+ghost use Rattle.ksv_rule_meaning.specs.Choosing.{is_constant, is_negative, is_enum_member, is_equal, is_case_of, is_default, first_case, case_for, switched, choose, in_cases, content_of};
 ghost use Rattle.ksv_rule_heads.specs.Members.{plain_chosen};
 
 use crate::evaluation::value_of_expression;
@@ -83,7 +83,7 @@ fn is_case_of(value: &Value, case: &Case) -> bool
 }
 
 /// The first case of this value.
-#[tactic(auto, unfolding(crate::specs::Choosing::first_case))]
+#[tactic(auto, unfolding(ksv_rule_meaning::specs::Choosing::first_case))]
 fn matching_case<'d>(value: &Value, cases: &'d [Case]) -> Result<Option<Chosen<'d>>, AllocError>
     ensures { IfOk result (λ chosen. option_map plain_chosen chosen ≡ first_case (is_case_of value.now) 0 (map plain_case cases.now)) }
 {
@@ -101,7 +101,7 @@ fn matching_case<'d>(value: &Value, cases: &'d [Case]) -> Result<Option<Chosen<'
 }
 
 /// The case `_`.
-#[tactic(auto, unfolding(crate::specs::Choosing::first_case))]
+#[tactic(auto, unfolding(ksv_rule_meaning::specs::Choosing::first_case))]
 fn default_case(cases: &[Case]) -> Result<Option<Chosen<'_>>, AllocError>
     ensures { IfOk result (λ chosen. option_map plain_chosen chosen ≡ first_case is_default 0 (map plain_case cases.now)) }
 {
@@ -119,7 +119,7 @@ fn default_case(cases: &[Case]) -> Result<Option<Chosen<'_>>, AllocError>
 }
 
 /// The case of a value, if there is one.
-#[tactic(auto, unfolding(crate::specs::Choosing::case_for))]
+#[tactic(auto, unfolding(ksv_rule_meaning::specs::Choosing::case_for))]
 fn case_for<'d>(value: &Value, cases: &'d [Case]) -> Result<Option<Chosen<'d>>, AllocError>
     ensures { IfOk result (λ chosen. option_map plain_chosen chosen ≡ case_for value.now (map plain_case cases.now)) }
 {
@@ -129,7 +129,7 @@ fn case_for<'d>(value: &Value, cases: &'d [Case]) -> Result<Option<Chosen<'d>>, 
     }
 }
 
-#[tactic(auto, using(ksv_plan::proofs::Running::run_bind), unfolding(crate::specs::Choosing::switched))]
+#[tactic(auto, using(ksv_plan::proofs::Running::run_bind), unfolding(ksv_rule_meaning::specs::Choosing::switched))]
 fn switched<'d>(
     turn: &mut Turn,
     ctx: &Ctx,
@@ -143,7 +143,7 @@ fn switched<'d>(
 }
 
 /// What is read, and by which case; none where a switch has no case for its value.
-#[tactic(auto, unfolding(crate::specs::Choosing::choose))]
+#[tactic(auto, unfolding(ksv_rule_meaning::specs::Choosing::choose))]
 pub(crate) fn choose<'d>(
     turn: &mut Turn,
     ctx: &Ctx,
@@ -178,7 +178,7 @@ fn in_cases<'d>(
 }
 
 /// What was read by a choice; none is bytes, which a switch without a case for its value reads.
-#[tactic(auto, unfolding(crate::specs::Choosing::content_of))]
+#[tactic(auto, unfolding(ksv_rule_meaning::specs::Choosing::content_of))]
 pub fn content_of<'d>(
     turn: &mut Turn,
     choice: &'d Choice,

@@ -6,7 +6,7 @@ ghost use Rattle.ksv_expr_eval.specs.Heard.{heard};
 ghost use Rattle.ksv_nodes.specs.Turning.{Runs};
 ghost use Rattle.ksv_rule_heads.specs.Code.{ask_opened, ask_valued};
 ghost use Rattle.ksv_rule_heads.specs.Told.{told};
-ghost use Rattle.ksv_rule_heads.specs.Wanted.{wanted, expression};
+ghost use Rattle.ksv_rule_meaning.specs.Wanted.{wanted, expression};
 
 use crate::wanted::in_object;
 use ksv_expr_eval::{Ctx, EvalStep, Expr, Got, Path, Place, Stream, Value, Want, eval};
@@ -37,7 +37,7 @@ fn opened<'a>(turn: &mut Turn<'a>, path: &Path) -> Result<Got<'a>, Halt>
 }
 
 /// The answer to a want. A fault of a node that it asks ends the rule.
-#[tactic(auto, using(ksv_plan::proofs::Running::run_bind), unfolding(crate::specs::Wanted::wanted))]
+#[tactic(auto, using(ksv_plan::proofs::Running::run_bind), unfolding(ksv_rule_meaning::specs::Wanted::wanted))]
 fn answer<'a>(turn: &mut Turn<'a>, ctx: &Ctx, want: Want) -> Result<Got<'a>, Halt>
     ensures runs { Runs (wanted ctx.now want) told turn.old turn.new result }
     ensures told { IfOk result (λ got. heard got ≡ Ok (told got)) }

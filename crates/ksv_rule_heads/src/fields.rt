@@ -5,7 +5,7 @@ ghost use Rattle.std.specs.Prelude.{◌≡◌, ◌≤◌, IfOk, None, OnErr, map
 ghost use Rattle.ksv_desc.specs.Pieces.{plain_member, plain_field, plain_kind};
 ghost use Rattle.ksv_desc.specs.Whole.{plain_pieces};
 ghost use Rattle.ksv_nodes.specs.Turning.{Runs};
-ghost use Rattle.ksv_rule_heads.specs.Fields.{members_of, behind, sought, member_named, last_attribute, read_by, kind_of, field_of, is_parameter, parameters_before};
+ghost use Rattle.ksv_rule_meaning.specs.Fields.{members_of, behind, sought, member_named, last_attribute, read_by, kind_of, field_of, is_parameter, parameters_before};
 ghost use Rattle.ksv_rule_heads.specs.Members.{plain_sought};
 
 use ksv_desc::{Desc, Field, MemberDesc, MemberKind};
@@ -25,7 +25,7 @@ pub(crate) struct Sought<'d> {
 }
 
 /// The members of a type, in written order; a number that no type has is that of none.
-#[tactic(auto, unfolding(crate::specs::Fields::members_of))]
+#[tactic(auto, unfolding(ksv_rule_meaning::specs::Fields::members_of))]
 pub fn members_of(desc: &Desc, type_number: u32) -> &[MemberDesc]
     ensures { map plain_member result.now ≡ members_of (plain_pieces desc.now) type_number }
 {
@@ -58,7 +58,7 @@ pub(crate) fn number_of(place: usize) -> Result<u32, AllocError>
 }
 
 /// The member of a name.
-#[tactic(auto, unfolding(crate::specs::Fields::sought))]
+#[tactic(auto, unfolding(ksv_rule_meaning::specs::Fields::sought))]
 fn find_member(members: &[MemberDesc], name: u32) -> Result<Option<Sought<'_>>, AllocError>
     ensures { IfOk result (λ found. option_map plain_sought found ≡ sought name 0 None (map plain_member members.now)) }
 {
@@ -79,7 +79,7 @@ fn find_member(members: &[MemberDesc], name: u32) -> Result<Option<Sought<'_>>, 
 }
 
 /// The member of a name of a type.
-#[tactic(auto, unfolding(crate::specs::Fields::member_named))]
+#[tactic(auto, unfolding(ksv_rule_meaning::specs::Fields::member_named))]
 pub(crate) fn member_named<'d>(
     turn: &mut Turn,
     desc: &'d Desc,
@@ -117,7 +117,7 @@ fn read_by<'d>(turn: &mut Turn, kind: &'d MemberKind) -> Result<&'d Field, Halt>
 }
 
 /// What the member at a place of a type's members is.
-#[tactic(auto, unfolding(crate::specs::Fields::kind_of))]
+#[tactic(auto, unfolding(ksv_rule_meaning::specs::Fields::kind_of))]
 pub fn kind_of<'d>(
     turn: &mut Turn,
     desc: &'d Desc,
@@ -132,7 +132,7 @@ pub fn kind_of<'d>(
 }
 
 /// How the attribute or parse instance at a place of a type's members reads.
-#[tactic(auto, using(ksv_plan::proofs::Running::run_bind), unfolding(crate::specs::Fields::field_of))]
+#[tactic(auto, using(ksv_plan::proofs::Running::run_bind), unfolding(ksv_rule_meaning::specs::Fields::field_of))]
 pub fn field_of<'d>(turn: &mut Turn, desc: &'d Desc, member: MemberRef) -> Result<&'d Field, Halt>
     ensures { Runs (field_of (plain_pieces desc.now) member) (λ field. plain_field field.now) turn.old turn.new result }
 {

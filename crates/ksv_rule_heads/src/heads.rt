@@ -7,7 +7,7 @@ ghost use Rattle.ksv_desc.specs.Pieces.{plain_repeat, plain_field, plain_kind};
 ghost use Rattle.ksv_desc.specs.Whole.{plain_pieces};
 ghost use Rattle.ksv_nodes.specs.Turning.{Runs};
 ghost use Rattle.ksv_rule_heads.specs.Members.{plain_sought};
-ghost use Rattle.ksv_rule_heads.specs.Heads.{in_count, count_of, counted, until_eos, repeated, attribute_at, part_end, attribute_start, origin_of, attribute_head, positioned_in, positioned, instance_head, calc, value_head, member_at, member_head, in_list, is_past, in_next, next_start, element_start, element_head, root_head, head_of};
+ghost use Rattle.ksv_rule_meaning.specs.Heads.{in_count, count_of, counted, until_eos, repeated, attribute_at, part_end, attribute_start, origin_of, attribute_head, positioned_in, positioned, instance_head, calc, value_head, member_at, member_head, in_list, is_past, in_next, next_start, element_start, element_head, root_head, head_of};
 
 use crate::fields::{Sought, field_of, member_named};
 use crate::shapes::shape_at;
@@ -29,7 +29,7 @@ fn in_count(turn: &mut Turn, count: u64) -> Result<u32, Halt>
 }
 
 /// How many elements an expression says that there are.
-#[tactic(auto, using(ksv_plan::proofs::Running::run_bind), unfolding(crate::specs::Heads::count_of))]
+#[tactic(auto, using(ksv_plan::proofs::Running::run_bind), unfolding(ksv_rule_meaning::specs::Heads::count_of))]
 fn count_of(turn: &mut Turn, ctx: &Ctx, count: &Expr) -> Result<u32, Halt>
     ensures { Runs (count_of ctx.now (view count.now)) (λ count. count) turn.old turn.new result }
 {
@@ -38,7 +38,7 @@ fn count_of(turn: &mut Turn, ctx: &Ctx, count: &Expr) -> Result<u32, Halt>
 }
 
 /// The elements of an attribute whose number is told beforehand.
-#[tactic(auto, using(ksv_plan::proofs::Running::run_bind), unfolding(crate::specs::Heads::counted))]
+#[tactic(auto, using(ksv_plan::proofs::Running::run_bind), unfolding(ksv_rule_meaning::specs::Heads::counted))]
 fn counted(
     turn: &mut Turn,
     ctx: &Ctx,
@@ -59,7 +59,7 @@ fn counted(
 }
 
 /// The elements of an attribute that go on to the stream's end.
-#[tactic(auto, using(ksv_plan::proofs::Running::run_bind), unfolding(crate::specs::Heads::until_eos))]
+#[tactic(auto, using(ksv_plan::proofs::Running::run_bind), unfolding(ksv_rule_meaning::specs::Heads::until_eos))]
 fn until_eos(turn: &mut Turn, ctx: &Ctx, origin: Origin, stream: Stream) -> Result<Head, Halt>
     ensures { Runs (until_eos ctx.now origin stream ctx.now.place) (λ head. head) turn.old turn.new result }
 {
@@ -74,7 +74,7 @@ fn until_eos(turn: &mut Turn, ctx: &Ctx, origin: Origin, stream: Stream) -> Resu
 }
 
 /// What an attribute reads, once or several times.
-#[tactic(auto, unfolding(crate::specs::Heads::repeated))]
+#[tactic(auto, unfolding(ksv_rule_meaning::specs::Heads::repeated))]
 fn repeated(
     turn: &mut Turn,
     ctx: &Ctx,
@@ -99,7 +99,7 @@ fn repeated(
 }
 
 /// An attribute at its place. One whose condition is false takes no bytes.
-#[tactic(auto, using(ksv_plan::proofs::Running::run_bind), unfolding(crate::specs::Heads::attribute_at))]
+#[tactic(auto, using(ksv_plan::proofs::Running::run_bind), unfolding(ksv_rule_meaning::specs::Heads::attribute_at))]
 fn attribute_at(
     turn: &mut Turn,
     ctx: &Ctx,
@@ -117,7 +117,7 @@ fn attribute_at(
 }
 
 /// Where a part of what is at a path ends.
-#[tactic(auto, using(ksv_plan::proofs::Running::run_bind), unfolding(crate::specs::Heads::part_end))]
+#[tactic(auto, using(ksv_plan::proofs::Running::run_bind), unfolding(ksv_rule_meaning::specs::Heads::part_end))]
 pub fn part_end(turn: &mut Turn, path: &Path, step: Step) -> Result<Ended, Halt>
     ensures { Runs (part_end path.now step) (λ ended. ended) turn.old turn.new result }
 {
@@ -126,7 +126,7 @@ pub fn part_end(turn: &mut Turn, path: &Path, step: Step) -> Result<Ended, Halt>
 }
 
 /// An attribute begins where its object does, or where the attribute before it ends.
-#[tactic(auto, using(ksv_plan::proofs::Running::run_bind), unfolding(crate::specs::Heads::attribute_start))]
+#[tactic(auto, using(ksv_plan::proofs::Running::run_bind), unfolding(ksv_rule_meaning::specs::Heads::attribute_start))]
 fn attribute_start(
     turn: &mut Turn,
     path: &Path,
@@ -159,7 +159,7 @@ fn origin_of(object: &Object, sought: Sought) -> Origin
 }
 
 /// An attribute of `seq`.
-#[tactic(auto, using(ksv_plan::proofs::Running::run_bind), unfolding(crate::specs::Heads::attribute_head))]
+#[tactic(auto, using(ksv_plan::proofs::Running::run_bind), unfolding(ksv_rule_meaning::specs::Heads::attribute_head))]
 fn attribute_head<'p>(
     turn: &mut Turn,
     path: &'p Path,
@@ -179,7 +179,7 @@ fn attribute_head<'p>(
 // ---- instances
 
 /// A parse instance in a stream, at a position that is counted from the stream's first byte.
-#[tactic(auto, using(ksv_plan::proofs::Running::run_bind), unfolding(crate::specs::Heads::positioned_in))]
+#[tactic(auto, using(ksv_plan::proofs::Running::run_bind), unfolding(ksv_rule_meaning::specs::Heads::positioned_in))]
 fn positioned_in(
     turn: &mut Turn,
     ctx: &Ctx,
@@ -204,7 +204,7 @@ fn positioned_in(
 }
 
 /// A parse instance in the stream of its object, or in the one that its `io` names.
-#[tactic(auto, using(ksv_plan::proofs::Running::run_bind), unfolding(crate::specs::Heads::positioned))]
+#[tactic(auto, using(ksv_plan::proofs::Running::run_bind), unfolding(ksv_rule_meaning::specs::Heads::positioned))]
 fn positioned(
     turn: &mut Turn,
     ctx: &Ctx,
@@ -220,7 +220,7 @@ fn positioned(
 }
 
 /// A parse instance. One whose condition is false has no place.
-#[tactic(auto, using(ksv_plan::proofs::Running::run_bind), unfolding(crate::specs::Heads::instance_head))]
+#[tactic(auto, using(ksv_plan::proofs::Running::run_bind), unfolding(ksv_rule_meaning::specs::Heads::instance_head))]
 fn instance_head(
     turn: &mut Turn,
     ctx: &Ctx,
@@ -249,7 +249,7 @@ fn calc(object: Object, sought: Sought) -> Head
 }
 
 /// A value instance. One whose condition is false has no place.
-#[tactic(auto, using(ksv_plan::proofs::Running::run_bind), unfolding(crate::specs::Heads::value_head))]
+#[tactic(auto, using(ksv_plan::proofs::Running::run_bind), unfolding(ksv_rule_meaning::specs::Heads::value_head))]
 fn value_head(
     turn: &mut Turn,
     ctx: &Ctx,
@@ -269,7 +269,7 @@ fn value_head(
 // ---- members
 
 /// A member of an object.
-#[tactic(auto, unfolding(crate::specs::Heads::member_at))]
+#[tactic(auto, unfolding(ksv_rule_meaning::specs::Heads::member_at))]
 fn member_at(
     turn: &mut Turn,
     path: &Path,
@@ -295,7 +295,7 @@ fn member_at(
 }
 
 /// The member of a name, at a path, of what is at `home`.
-#[tactic(auto, using(ksv_plan::proofs::Running::run_bind), unfolding(crate::specs::Heads::member_head))]
+#[tactic(auto, using(ksv_plan::proofs::Running::run_bind), unfolding(ksv_rule_meaning::specs::Heads::member_head))]
 fn member_head(
     turn: &mut Turn,
     desc: &Desc,
@@ -344,7 +344,7 @@ fn in_next(turn: &mut Turn, ended: Ended) -> Result<Place, Halt>
 }
 
 /// Where the element after the one of this index begins.
-#[tactic(auto, using(ksv_plan::proofs::Running::run_bind), unfolding(crate::specs::Heads::next_start))]
+#[tactic(auto, using(ksv_plan::proofs::Running::run_bind), unfolding(ksv_rule_meaning::specs::Heads::next_start))]
 fn next_start(turn: &mut Turn, list_path: &Path, index: u32) -> Result<Place, Halt>
     ensures { Runs (next_start list_path.now index) (λ place. place) turn.old turn.new result }
 {
@@ -353,7 +353,7 @@ fn next_start(turn: &mut Turn, list_path: &Path, index: u32) -> Result<Place, Ha
 }
 
 /// An element begins where its list does, or where the element before it ends.
-#[tactic(auto, unfolding(crate::specs::Heads::element_start))]
+#[tactic(auto, unfolding(ksv_rule_meaning::specs::Heads::element_start))]
 fn element_start(turn: &mut Turn, list_path: &Path, list: &List, index: u32) -> Result<Place, Halt>
     ensures { Runs (element_start list_path.now list.now index) (λ place. place) turn.old turn.new result }
 {
@@ -367,7 +367,7 @@ fn element_start(turn: &mut Turn, list_path: &Path, list: &List, index: u32) -> 
 }
 
 /// The element of this index, at a path, of the list at `list_path`, which is an attribute of the object at `home`.
-#[tactic(auto, using(ksv_plan::proofs::Running::run_bind), unfolding(crate::specs::Heads::element_head))]
+#[tactic(auto, using(ksv_plan::proofs::Running::run_bind), unfolding(ksv_rule_meaning::specs::Heads::element_head))]
 fn element_head<'p>(
     turn: &mut Turn,
     desc: &Desc,
@@ -402,7 +402,7 @@ fn root_head() -> Head
 }
 
 /// What is at a path, and where.
-#[tactic(auto, unfolding(crate::specs::Heads::head_of))]
+#[tactic(auto, unfolding(ksv_rule_meaning::specs::Heads::head_of))]
 pub fn head_of(turn: &mut Turn, desc: &Desc, path: &Path) -> Result<Head, Halt>
     ensures { Runs (head_of (plain_pieces desc.now) path.now) (λ head. head) turn.old turn.new result }
 {

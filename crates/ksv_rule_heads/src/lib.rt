@@ -1,7 +1,7 @@
 //! What is at a path of a file, and where: the heads of a description's nodes.
 //!
-//! Each rule is a definition in specs/ (`Heads`, `Choosing`, `Wanted`, `Fields`) and a function of the same name here that runs
-//! it on the replies that it had. `ksv_rules` adds the rules of values and ends, and calls these.
+//! Each rule is a definition of `ksv_rule_meaning` (`Heads`, `Choosing`, `Wanted`, `Fields`) and a function of the same name here
+//! that runs it on the replies that it had. `ksv_rules` adds the rules of values and ends, and calls these.
 #![tactic(auto)]
 
 mod choosing;

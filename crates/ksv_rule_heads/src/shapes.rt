@@ -7,7 +7,7 @@ ghost use Rattle.ksv_expr_tree.specs.Tree.{view};
 ghost use Rattle.ksv_desc.specs.Pieces.{plain_content, plain_extent, plain_terminator, plain_field};
 ghost use Rattle.ksv_nodes.specs.Turning.{Runs, StandsBelow};
 ghost use Rattle.ksv_nodes.specs.declared.turn.Found.TheVariants.{Missing};
-ghost use Rattle.ksv_rule_heads.specs.Heads.{leaf, leaf_to_end, terminated_at, terminated, run_of, sized_leaf, bytes_at, sized_object, object_at, content_at, unchosen_at, chosen_at, shape_at};
+ghost use Rattle.ksv_rule_meaning.specs.Heads.{leaf, leaf_to_end, terminated_at, terminated, run_of, sized_leaf, bytes_at, sized_object, object_at, content_at, unchosen_at, chosen_at, shape_at};
 ghost use Rattle.ksv_rule_heads.specs.Members.{plain_chosen};
 
 use crate::choosing::{Chosen, choose};
@@ -17,7 +17,7 @@ use ksv_expr_eval::{Ctx, Expr, FaultKind, Place, Stream};
 use ksv_nodes::{Found, Halt, Head, Leaf, Object, ObjectEnd, Origin, Turn};
 
 /// As many bytes as a size says, from a place on.
-#[tactic(auto, using(ksv_plan::proofs::Running::run_bind), unfolding(crate::specs::Heads::leaf))]
+#[tactic(auto, using(ksv_plan::proofs::Running::run_bind), unfolding(ksv_rule_meaning::specs::Heads::leaf))]
 fn leaf(
     turn: &mut Turn,
     origin: Origin,
@@ -37,7 +37,7 @@ fn leaf(
 }
 
 /// All bytes to the stream's end.
-#[tactic(auto, using(ksv_plan::proofs::Running::run_bind), unfolding(crate::specs::Heads::leaf_to_end))]
+#[tactic(auto, using(ksv_plan::proofs::Running::run_bind), unfolding(ksv_rule_meaning::specs::Heads::leaf_to_end))]
 fn leaf_to_end(turn: &mut Turn, origin: Origin, stream: Stream, start: Place) -> Result<Head, Halt>
     ensures { Runs (leaf_to_end origin stream start) (λ head. head) turn.old turn.new result }
 {
@@ -99,7 +99,7 @@ fn terminated_at(
 }
 
 /// Bytes up to a terminator.
-#[tactic(auto, using(ksv_plan::proofs::Running::run_bind), unfolding(crate::specs::Heads::terminated))]
+#[tactic(auto, using(ksv_plan::proofs::Running::run_bind), unfolding(ksv_rule_meaning::specs::Heads::terminated))]
 fn terminated(
     turn: &mut Turn,
     origin: Origin,
@@ -114,7 +114,7 @@ fn terminated(
 }
 
 /// What goes as far as it goes by itself; where nothing says how far, nothing is there.
-#[tactic(auto, unfolding(crate::specs::Heads::run_of))]
+#[tactic(auto, unfolding(ksv_rule_meaning::specs::Heads::run_of))]
 fn run_of(
     turn: &mut Turn,
     origin: Origin,
@@ -131,7 +131,7 @@ fn run_of(
 }
 
 /// Bytes or a text of a size that is evaluated.
-#[tactic(auto, using(ksv_plan::proofs::Running::run_bind), unfolding(crate::specs::Heads::sized_leaf))]
+#[tactic(auto, using(ksv_plan::proofs::Running::run_bind), unfolding(ksv_rule_meaning::specs::Heads::sized_leaf))]
 fn sized_leaf(
     turn: &mut Turn,
     ctx: &Ctx,
@@ -146,7 +146,7 @@ fn sized_leaf(
 }
 
 /// Bytes or a text.
-#[tactic(auto, unfolding(crate::specs::Heads::bytes_at))]
+#[tactic(auto, unfolding(ksv_rule_meaning::specs::Heads::bytes_at))]
 fn bytes_at(
     turn: &mut Turn,
     ctx: &Ctx,
@@ -164,7 +164,7 @@ fn bytes_at(
 }
 
 /// An object with a size has a stream of its own.
-#[tactic(auto, using(ksv_plan::proofs::Running::run_bind), unfolding(crate::specs::Heads::sized_object))]
+#[tactic(auto, using(ksv_plan::proofs::Running::run_bind), unfolding(ksv_rule_meaning::specs::Heads::sized_object))]
 fn sized_object(
     turn: &mut Turn,
     ctx: &Ctx,
@@ -191,7 +191,7 @@ fn sized_object(
 }
 
 /// An object of a type: one to the stream's end has a stream of its own too, another ends with its fields.
-#[tactic(auto, unfolding(crate::specs::Heads::object_at))]
+#[tactic(auto, unfolding(ksv_rule_meaning::specs::Heads::object_at))]
 fn object_at(
     turn: &mut Turn,
     ctx: &Ctx,
@@ -226,7 +226,7 @@ fn object_at(
 }
 
 /// What an attribute of this content reads at a place of a stream.
-#[tactic(auto, unfolding(crate::specs::Heads::content_at))]
+#[tactic(auto, unfolding(ksv_rule_meaning::specs::Heads::content_at))]
 fn content_at(
     turn: &mut Turn,
     ctx: &Ctx,
@@ -254,7 +254,7 @@ fn content_at(
 }
 
 /// What is read where a switch chose no case: bytes of a size, and without one nothing.
-#[tactic(auto, unfolding(crate::specs::Heads::unchosen_at))]
+#[tactic(auto, unfolding(ksv_rule_meaning::specs::Heads::unchosen_at))]
 fn unchosen_at(
     turn: &mut Turn,
     ctx: &Ctx,
@@ -296,7 +296,7 @@ fn chosen_at(
 }
 
 /// What an attribute or a parse instance, or one of its elements, reads at a place of a stream: first its case is chosen.
-#[tactic(auto, using(ksv_plan::proofs::Running::run_bind), unfolding(crate::specs::Heads::shape_at))]
+#[tactic(auto, using(ksv_plan::proofs::Running::run_bind), unfolding(ksv_rule_meaning::specs::Heads::shape_at))]
 pub(crate) fn shape_at(
     turn: &mut Turn,
     ctx: &Ctx,

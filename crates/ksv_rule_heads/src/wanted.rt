@@ -6,7 +6,7 @@ ghost use Rattle.ksv_expr_tree.specs.Tree.{view};
 ghost use Rattle.ksv_plan.specs.Plan.{Fail};
 ghost use Rattle.ksv_nodes.specs.Rule.{There};
 ghost use Rattle.ksv_nodes.specs.Turning.{Runs};
-ghost use Rattle.ksv_rule_heads.specs.Wanted.{missing, in_object, in_integer, in_truth, integer_of, truth_of, holds, in_size, size_of, in_stream, stream_for};
+ghost use Rattle.ksv_rule_meaning.specs.Wanted.{missing, in_object, in_integer, in_truth, integer_of, truth_of, holds, in_size, size_of, in_stream, stream_for};
 
 use crate::evaluation::value_of_expression;
 use ksv_expr_eval::{Ctx, Expr, Fault, FaultKind, Integer, Path, Stream, Value};
@@ -60,7 +60,7 @@ fn in_truth(turn: &mut Turn, value: Value) -> Result<bool, Halt>
 }
 
 /// The integer that an expression gives; another kind doesn't fit.
-#[tactic(auto, using(ksv_plan::proofs::Running::run_bind), unfolding(crate::specs::Wanted::integer_of))]
+#[tactic(auto, using(ksv_plan::proofs::Running::run_bind), unfolding(ksv_rule_meaning::specs::Wanted::integer_of))]
 pub(crate) fn integer_of(turn: &mut Turn, ctx: &Ctx, expr: &Expr) -> Result<Integer, Halt>
     ensures { Runs (integer_of ctx.now (view expr.now)) (λ number. number) turn.old turn.new result }
 {
@@ -69,7 +69,7 @@ pub(crate) fn integer_of(turn: &mut Turn, ctx: &Ctx, expr: &Expr) -> Result<Inte
 }
 
 /// The truth value that an expression gives; another kind doesn't fit.
-#[tactic(auto, using(ksv_plan::proofs::Running::run_bind), unfolding(crate::specs::Wanted::truth_of))]
+#[tactic(auto, using(ksv_plan::proofs::Running::run_bind), unfolding(ksv_rule_meaning::specs::Wanted::truth_of))]
 pub fn truth_of(turn: &mut Turn, ctx: &Ctx, expr: &Expr) -> Result<bool, Halt>
     ensures { Runs (truth_of ctx.now (view expr.now)) (λ truth. truth) turn.old turn.new result }
 {
@@ -78,7 +78,7 @@ pub fn truth_of(turn: &mut Turn, ctx: &Ctx, expr: &Expr) -> Result<bool, Halt>
 }
 
 /// Whether a condition holds; without one it does.
-#[tactic(auto, unfolding(crate::specs::Wanted::holds))]
+#[tactic(auto, unfolding(ksv_rule_meaning::specs::Wanted::holds))]
 pub(crate) fn holds(turn: &mut Turn, ctx: &Ctx, condition: &Option<Expr>) -> Result<bool, Halt>
     ensures { Runs (holds ctx.now (option_map view condition.now)) (λ truth. truth) turn.old turn.new result }
 {
@@ -100,7 +100,7 @@ fn in_size(turn: &mut Turn, number: Integer) -> Result<u64, Halt>
 }
 
 /// The size that an expression gives.
-#[tactic(auto, using(ksv_plan::proofs::Running::run_bind), unfolding(crate::specs::Wanted::size_of))]
+#[tactic(auto, using(ksv_plan::proofs::Running::run_bind), unfolding(ksv_rule_meaning::specs::Wanted::size_of))]
 pub(crate) fn size_of(turn: &mut Turn, ctx: &Ctx, expr: &Expr) -> Result<u64, Halt>
     ensures { Runs (size_of ctx.now (view expr.now)) (λ size. size) turn.old turn.new result }
 {
@@ -119,7 +119,7 @@ fn in_stream(turn: &mut Turn, value: Value) -> Result<Stream, Halt>
 }
 
 /// The stream that an expression names; without one it is the object's own.
-#[tactic(auto, using(ksv_plan::proofs::Running::run_bind), unfolding(crate::specs::Wanted::stream_for))]
+#[tactic(auto, using(ksv_plan::proofs::Running::run_bind), unfolding(ksv_rule_meaning::specs::Wanted::stream_for))]
 pub(crate) fn stream_for(turn: &mut Turn, ctx: &Ctx, io: &Option<Expr>) -> Result<Stream, Halt>
     ensures { Runs (stream_for ctx.now (option_map view io.now)) (λ stream. stream) turn.old turn.new result }
 {

@@ -49,19 +49,19 @@ use Rattle.ksv_memo.specs.Evaluation.{is_among}
 use Rattle.ksv_memo.specs.Meaning.{Standing, IsSettled, on}
 use Rattle.ksv_memo.specs.Right.{AreDistinct}
 use Rattle.ksv_memo.proofs.Evals.{few, AreDistinct-cons}
-use Rattle.ksv_rule_heads.specs.Fields.{members_of, Sought, sought, in_sought, member_named, last_attribute, read_by, in_kind, kind_of, field_of}
-use Rattle.ksv_rule_heads.specs.Wanted.{whole, in_object, wanted, expression, in_integer, in_truth, integer_of, truth_of, holds, in_size, size_of, in_stream, stream_for}
-use Rattle.ksv_rule_heads.specs.Choosing.{Chosen, switched, choose, in_case, content_of}
-use Rattle.ksv_rules.specs.Integers.{integer_value}
-use Rattle.ksv_rules.specs.Values.{in_number, number_value, fixed_value, cut_by, cut_bytes, bytes_value, in_text, cut_text, text_value, content_value, leaf_value, in_no_stream, in_enum, instance_value, given_by, arguments_for, argument_at, plain_value, argument_value, parameter_value, calc_value, calculated, value_at, value_of}
-use Rattle.ksv_rules.specs.Ends.{fields_end, object_end, part_rest, list_end, absent_end, place_of, start_of, behind_element, is_last, is_by_bytes, not_empty, element_end, end_at, end_of, next_rest, rest_from, in_whole_list, whole_rest, rest_at, rest_of}
-use Rattle.ksv_rule_heads.specs.Heads.{leaf, leaf_to_end, terminated_at, terminated, run_of, sized_leaf, bytes_at, sized_object, object_at, content_at, unchosen_at, chosen_at, shape_at, in_count, count_of, counted, until_eos, repeated, attribute_at, part_end, attribute_start, origin_of, attribute_head, instance_setting, positioned_in, positioned, instance_head, value_head, member_at, member_head, in_list, is_past, next_start, element_start, element_head, head_at, head_of}
-use Rattle.ksv_rules.specs.Meaning.{meaning_of, rule_of}
-use Rattle.ksv_rules.specs.FromNothing.{circle, answer_within, from_nothing}
-use Rattle.ksv_rules.specs.Described.{described}
-use Rattle.ksv_rules.specs.Bounds.{settles}
+use Rattle.ksv_rule_meaning.specs.Fields.{members_of, Sought, sought, in_sought, member_named, last_attribute, read_by, in_kind, kind_of, field_of}
+use Rattle.ksv_rule_meaning.specs.Wanted.{whole, in_object, wanted, expression, in_integer, in_truth, integer_of, truth_of, holds, in_size, size_of, in_stream, stream_for}
+use Rattle.ksv_rule_meaning.specs.Choosing.{Chosen, switched, choose, in_case, content_of}
+use Rattle.ksv_rule_meaning.specs.Integers.{integer_value}
+use Rattle.ksv_rule_meaning.specs.Values.{in_number, number_value, fixed_value, cut_by, cut_bytes, bytes_value, in_text, cut_text, text_value, content_value, leaf_value, in_no_stream, in_enum, instance_value, given_by, arguments_for, argument_at, plain_value, argument_value, parameter_value, calc_value, calculated, value_at, value_of}
+use Rattle.ksv_rule_meaning.specs.Ends.{fields_end, object_end, part_rest, list_end, absent_end, place_of, start_of, behind_element, is_last, is_by_bytes, not_empty, element_end, end_at, end_of, next_rest, rest_from, in_whole_list, whole_rest, rest_at, rest_of}
+use Rattle.ksv_rule_meaning.specs.Heads.{leaf, leaf_to_end, terminated_at, terminated, run_of, sized_leaf, bytes_at, sized_object, object_at, content_at, unchosen_at, chosen_at, shape_at, in_count, count_of, counted, until_eos, repeated, attribute_at, part_end, attribute_start, origin_of, attribute_head, instance_setting, positioned_in, positioned, instance_head, value_head, member_at, member_head, in_list, is_past, next_start, element_start, element_head, head_at, head_of}
+use Rattle.ksv_rule_meaning.specs.Meaning.{meaning_of, rule_of}
+use Rattle.ksv_rule_meaning.specs.FromNothing.{circle, answer_within, from_nothing}
+use Rattle.ksv_rule_meaning.specs.Described.{described}
+use Rattle.ksv_rule_meaning.specs.Bounds.{settles}
 use Rattle.ksv_rule_laws.specs.Laws.{NoRuleMakesCircles, LeadsBack, CirclesLeadBack}
-use Rattle.ksv_rules.proofs.Direct.{answers_follow_rules}
+use Rattle.ksv_rule_meaning.proofs.Direct.{answers_follow_rules}
 use Rattle.ksv_rule_laws.proofs.OwnFaults.{FailsAs, fails_bind, fails_if, fails_translate, IsOwn, value_own}
 
 -- ---- no rule fails as a circle

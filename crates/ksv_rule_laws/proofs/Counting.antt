@@ -21,11 +21,11 @@ use Rattle.ksv_nodes.specs.declared.given.Rested.{Rested}
 use Rattle.ksv_nodes.specs.Numbers.{node_bound}
 use Rattle.ksv_nodes.specs.Rule.{Rule, part, in_rest, ask_head, ask_end, ask_rest, head_node, end_node, rest_node}
 use Rattle.ksv_nodes.specs.Truth.{answer_of, with_given}
-use Rattle.ksv_rule_heads.specs.Fields.{read_by, in_kind, kind_of, field_of}
-use Rattle.ksv_rule_heads.specs.Heads.{in_list}
-use Rattle.ksv_rules.specs.Ends.{place_of, is_counted, is_last, not_empty, element_end, end_at, end_of, part_rest, next_rest, rest_behind, rest_from, in_whole_list, first_rest, whole_rest, rest_at, rest_of}
-use Rattle.ksv_rules.specs.Meaning.{meaning_of}
-use Rattle.ksv_rules.specs.FromNothing.{answer_within, from_nothing}
+use Rattle.ksv_rule_meaning.specs.Fields.{read_by, in_kind, kind_of, field_of}
+use Rattle.ksv_rule_meaning.specs.Heads.{in_list}
+use Rattle.ksv_rule_meaning.specs.Ends.{place_of, is_counted, is_last, not_empty, element_end, end_at, end_of, part_rest, next_rest, rest_behind, rest_from, in_whole_list, first_rest, whole_rest, rest_at, rest_of}
+use Rattle.ksv_rule_meaning.specs.Meaning.{meaning_of}
+use Rattle.ksv_rule_meaning.specs.FromNothing.{answer_within, from_nothing}
 use Rattle.ksv_rule_laws.specs.Laws.{EndsAsOf, AreElements, IsEmptyList, RestsCount, Reads, IsFieldOf, IsCountedBy, ToldCounts}
 use Rattle.ksv_rule_laws.proofs.Forms.{ok_is, goes_on, asked_head, refused, meaning_is, ruled, no_depth, stays_within, among_more}
 use Rattle.ksv_rule_laws.proofs.Touching.{asked_end, part_is}

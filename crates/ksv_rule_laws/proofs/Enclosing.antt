@@ -37,13 +37,13 @@ use Rattle.ksv_nodes.specs.Reading.{reach_file, reach_within, finish_of, peek_at
 use Rattle.ksv_nodes.specs.Rule.{Rule, part, in_rest, ask_head, ask_end, ask_rest, head_node, end_node, rest_node, reach, finish, done, find}
 use Rattle.ksv_nodes.specs.Truth.{answer_of, with_given, with_seen}
 use Rattle.ksv_nodes.proofs.First.{first_at_below}
-use Rattle.ksv_rule_heads.specs.Wanted.{in_object, holds, size_of, stream_for}
-use Rattle.ksv_rule_heads.specs.Choosing.{Chosen, choose}
-use Rattle.ksv_rule_heads.specs.Fields.{members_of, is_attribute, behind, Sought, sought, in_sought, member_named, last_attribute, field_of}
-use Rattle.ksv_rule_heads.specs.Heads.{leaf, leaf_to_end, terminated_at, terminated, run_of, sized_leaf, bytes_at, sized_object, object_at, content_at, unchosen_at, chosen_at, shape_at, count_of, counted, until_eos, repeated, attribute_at, part_end, attribute_start, setting, origin_of, attribute_head, instance_setting, positioned_in, positioned, instance_head, calc, value_head, member_at, member_head, in_list, is_past, in_next, next_start, element_start, within, element_head, root_head, head_at, head_of}
-use Rattle.ksv_rules.specs.Ends.{fields_end, object_end, part_rest, list_end, place_of, is_last, not_empty, element_end, end_at, end_of, next_rest, rest_behind, rest_from, in_whole_list, first_rest, whole_rest, rest_at, rest_of}
-use Rattle.ksv_rules.specs.Meaning.{meaning_of}
-use Rattle.ksv_rules.specs.FromNothing.{answer_within, from_nothing}
+use Rattle.ksv_rule_meaning.specs.Wanted.{in_object, holds, size_of, stream_for}
+use Rattle.ksv_rule_meaning.specs.Choosing.{Chosen, choose}
+use Rattle.ksv_rule_meaning.specs.Fields.{members_of, is_attribute, behind, Sought, sought, in_sought, member_named, last_attribute, field_of}
+use Rattle.ksv_rule_meaning.specs.Heads.{leaf, leaf_to_end, terminated_at, terminated, run_of, sized_leaf, bytes_at, sized_object, object_at, content_at, unchosen_at, chosen_at, shape_at, count_of, counted, until_eos, repeated, attribute_at, part_end, attribute_start, setting, origin_of, attribute_head, instance_setting, positioned_in, positioned, instance_head, calc, value_head, member_at, member_head, in_list, is_past, in_next, next_start, element_start, within, element_head, root_head, head_at, head_of}
+use Rattle.ksv_rule_meaning.specs.Ends.{fields_end, object_end, part_rest, list_end, place_of, is_last, not_empty, element_end, end_at, end_of, next_rest, rest_behind, rest_from, in_whole_list, first_rest, whole_rest, rest_at, rest_of}
+use Rattle.ksv_rule_meaning.specs.Meaning.{meaning_of}
+use Rattle.ksv_rule_meaning.specs.FromNothing.{answer_within, from_nothing}
 use Rattle.ksv_rule_laws.specs.Laws.{IsBetween, LiesIn, IsStreamOf, HasIo, IsElsewhere, IsHeld, AreNamesDistinct, HasDistinctNames, HeadsLieInStreams, EndsLieInStreams}
 use Rattle.ksv_rule_laws.proofs.Forms.{ok_is, goes_on, asked_head, refused, put_in, meaning_is, ruled, no_depth, stays_within, among_more}
 use Rattle.ksv_rule_laws.proofs.Touching.{asked_end, part_is}

@@ -20,12 +20,12 @@ use Rattle.ksv_nodes.specs.declared.given.Head.TheVariants as heads
 use Rattle.ksv_nodes.specs.Numbers.{node_bound}
 use Rattle.ksv_nodes.specs.Rule.{Rule, part, ask_head, ask_end, head_node, end_node, done}
 use Rattle.ksv_nodes.specs.Truth.{answer_of}
-use Rattle.ksv_rule_heads.specs.Wanted.{in_object, holds}
-use Rattle.ksv_rule_heads.specs.Fields.{members_of, is_attribute, behind, Sought, sought, in_sought, member_named, last_attribute}
-use Rattle.ksv_rule_heads.specs.Heads.{count_of, counted, until_eos, repeated, attribute_at, part_end, attribute_start, attribute_head, member_at, member_head, head_at, head_of}
-use Rattle.ksv_rules.specs.Ends.{start_of}
-use Rattle.ksv_rules.specs.Meaning.{meaning_of}
-use Rattle.ksv_rules.specs.FromNothing.{answer_within, from_nothing}
+use Rattle.ksv_rule_meaning.specs.Wanted.{in_object, holds}
+use Rattle.ksv_rule_meaning.specs.Fields.{members_of, is_attribute, behind, Sought, sought, in_sought, member_named, last_attribute}
+use Rattle.ksv_rule_meaning.specs.Heads.{count_of, counted, until_eos, repeated, attribute_at, part_end, attribute_start, attribute_head, member_at, member_head, head_at, head_of}
+use Rattle.ksv_rule_meaning.specs.Ends.{start_of}
+use Rattle.ksv_rule_meaning.specs.Meaning.{meaning_of}
+use Rattle.ksv_rule_meaning.specs.FromNothing.{answer_within, from_nothing}
 use Rattle.ksv_rule_laws.specs.Laws.{IsFirst, Follows, EndsAt, FirstAttributesBegin, AttributesTouch}
 use Rattle.ksv_rule_laws.proofs.Forms.{ok_is, goes_on, asked_head, meaning_is, ruled, no_depth, stays_within, among_more}
 use Rattle.ksv_rule_laws.proofs.Touching.{asked_end, part_is, is_at, shape_is_at}

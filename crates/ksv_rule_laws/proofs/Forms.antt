@@ -37,15 +37,15 @@ use Rattle.ksv_nodes.specs.Reading.{Seen, look, peek_at, first_at}
 use Rattle.ksv_nodes.specs.Rule.{Rule, Of, See, raise, in_head, ask_head, head_node, value_node, peek}
 use Rattle.ksv_nodes.specs.Truth.{answer_of, with_given, with_seen}
 use Rattle.ksv_nodes.proofs.First.{first_at_below}
-use Rattle.ksv_rule_heads.specs.Choosing.{content_of}
-use Rattle.ksv_rule_heads.specs.Fields.{kind_of, field_of}
-use Rattle.ksv_rule_heads.specs.Heads.{instance_setting, head_of}
-use Rattle.ksv_rules.specs.Integers.{integer_value}
-use Rattle.ksv_rules.specs.Values.{in_number, number_in, number_value, fixed_value, cut_by, kept_of, kept, cut_bytes, bytes_value, in_text, cut_text, text_value, content_value, leaf_value, in_no_stream, in_enum, instance_value, arguments_for, argument_at, argument_setting, plain_value, argument_value, parameter_value, calc_value, calculated, value_at, value_of}
-use Rattle.ksv_rule_heads.specs.Wanted.{expression}
-use Rattle.ksv_rules.specs.Ends.{end_of, rest_of}
-use Rattle.ksv_rules.specs.Meaning.{meaning_of, rule_of}
-use Rattle.ksv_rules.specs.FromNothing.{circle, answer_within, from_nothing}
+use Rattle.ksv_rule_meaning.specs.Choosing.{content_of}
+use Rattle.ksv_rule_meaning.specs.Fields.{kind_of, field_of}
+use Rattle.ksv_rule_meaning.specs.Heads.{instance_setting, head_of}
+use Rattle.ksv_rule_meaning.specs.Integers.{integer_value}
+use Rattle.ksv_rule_meaning.specs.Values.{in_number, number_in, number_value, fixed_value, cut_by, kept_of, kept, cut_bytes, bytes_value, in_text, cut_text, text_value, content_value, leaf_value, in_no_stream, in_enum, instance_value, arguments_for, argument_at, argument_setting, plain_value, argument_value, parameter_value, calc_value, calculated, value_at, value_of}
+use Rattle.ksv_rule_meaning.specs.Wanted.{expression}
+use Rattle.ksv_rule_meaning.specs.Ends.{end_of, rest_of}
+use Rattle.ksv_rule_meaning.specs.Meaning.{meaning_of, rule_of}
+use Rattle.ksv_rule_meaning.specs.FromNothing.{circle, answer_within, from_nothing}
 use Rattle.ksv_rule_laws.specs.Laws.{IsNoStream, HasForm, AnswersHaveForms, AreAmong, AnswersStay, IsOfLeaf, IsOfHead, ValuesHaveHeads}
 use Rattle.ksv_rule_laws.proofs.Meeting.{answer_bind}
 

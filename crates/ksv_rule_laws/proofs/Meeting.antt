@@ -18,7 +18,7 @@ use Rattle.ksv_nodes.specs.Truth.{answer_of, asks_of, uses_of, with_given, with_
 use Rattle.ksv_nodes.specs.Truth.{behind_given as given_list, behind_seen as seen_list}
 use Rattle.ksv_nodes.specs.declared.node.Node.{Node}
 use Rattle.ksv_nodes.specs.declared.given.Given.{Given}
-use Rattle.ksv_rule_heads.specs.Wanted.{wanted, expression}
+use Rattle.ksv_rule_meaning.specs.Wanted.{wanted, expression}
 use Rattle.ksv_rule_laws.specs.Expressions.{ExpressionsAreMet}
 
 -- going on behind an answer by two functions that agree

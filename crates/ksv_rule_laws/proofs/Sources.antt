@@ -26,12 +26,12 @@ use Rattle.ksv_nodes.specs.declared.turn.Found.TheVariants as founds
 use Rattle.ksv_nodes.specs.Numbers.{node_bound}
 use Rattle.ksv_nodes.specs.Rule.{Rule, ask_head, head_node, reach, finish, done, find}
 use Rattle.ksv_nodes.specs.Truth.{answer_of}
-use Rattle.ksv_rule_heads.specs.Wanted.{expression, in_object, holds, size_of, stream_for}
-use Rattle.ksv_rule_heads.specs.Choosing.{Chosen, is_case_of, is_default, first_case, or_default, case_for, switched, choose}
-use Rattle.ksv_rule_heads.specs.Fields.{members_of, behind, Sought, sought, in_sought, member_named, read_by, in_kind, kind_of, field_of}
-use Rattle.ksv_rule_heads.specs.Heads.{leaf, leaf_to_end, terminated_at, terminated, run_of, sized_leaf, bytes_at, sized_object, object_at, content_at, unchosen_at, chosen_at, shape_at, count_of, counted, until_eos, repeated, attribute_at, origin_of, attribute_start, attribute_head, positioned_in, positioned, instance_head, calc, value_head, member_at, member_head, setting, in_list, element_start, within, element_head, root_head, head_at, head_of}
-use Rattle.ksv_rules.specs.Meaning.{meaning_of}
-use Rattle.ksv_rules.specs.FromNothing.{answer_within, from_nothing}
+use Rattle.ksv_rule_meaning.specs.Wanted.{expression, in_object, holds, size_of, stream_for}
+use Rattle.ksv_rule_meaning.specs.Choosing.{Chosen, is_case_of, is_default, first_case, or_default, case_for, switched, choose}
+use Rattle.ksv_rule_meaning.specs.Fields.{members_of, behind, Sought, sought, in_sought, member_named, read_by, in_kind, kind_of, field_of}
+use Rattle.ksv_rule_meaning.specs.Heads.{leaf, leaf_to_end, terminated_at, terminated, run_of, sized_leaf, bytes_at, sized_object, object_at, content_at, unchosen_at, chosen_at, shape_at, count_of, counted, until_eos, repeated, attribute_at, origin_of, attribute_start, attribute_head, positioned_in, positioned, instance_head, calc, value_head, member_at, member_head, setting, in_list, element_start, within, element_head, root_head, head_at, head_of}
+use Rattle.ksv_rule_meaning.specs.Meaning.{meaning_of}
+use Rattle.ksv_rule_meaning.specs.FromNothing.{answer_within, from_nothing}
 use Rattle.ksv_rule_laws.specs.Laws.{Reads, IsFieldOf, IsReadBy, IsContentOf, IsLeafOf, IsObjectOf, IsCountedBy, IsObjectRead, IsCalculated, IsCalculatedBy, IsRead, HeadsAreRead}
 use Rattle.ksv_rule_laws.proofs.Forms.{ok_is, goes_on, asked_head, refused, meaning_is, ruled, no_depth}
 

@@ -22,13 +22,13 @@ use Rattle.ksv_nodes.specs.declared.turn.Found.TheVariants as founds
 use Rattle.ksv_nodes.specs.Numbers.{node_bound}
 use Rattle.ksv_nodes.specs.Rule.{in_path, part, in_end, ask_head, ask_end, head_node, end_node, reach, finish, find}
 use Rattle.ksv_nodes.specs.Truth.{answer_of, with_given}
-use Rattle.ksv_rule_heads.specs.Wanted.{size_of}
-use Rattle.ksv_rule_heads.specs.Choosing.{Chosen, choose}
-use Rattle.ksv_rule_heads.specs.Fields.{field_of}
-use Rattle.ksv_rule_heads.specs.Heads.{leaf, leaf_to_end, terminated_at, terminated, run_of, sized_leaf, bytes_at, sized_object, object_at, content_at, unchosen_at, chosen_at, shape_at, part_end, in_list, is_past, in_next, next_start, element_start, element_head, head_at, head_of}
-use Rattle.ksv_rules.specs.Ends.{start_of}
-use Rattle.ksv_rules.specs.Meaning.{meaning_of}
-use Rattle.ksv_rules.specs.FromNothing.{answer_within, from_nothing}
+use Rattle.ksv_rule_meaning.specs.Wanted.{size_of}
+use Rattle.ksv_rule_meaning.specs.Choosing.{Chosen, choose}
+use Rattle.ksv_rule_meaning.specs.Fields.{field_of}
+use Rattle.ksv_rule_meaning.specs.Heads.{leaf, leaf_to_end, terminated_at, terminated, run_of, sized_leaf, bytes_at, sized_object, object_at, content_at, unchosen_at, chosen_at, shape_at, part_end, in_list, is_past, in_next, next_start, element_start, element_head, head_at, head_of}
+use Rattle.ksv_rule_meaning.specs.Ends.{start_of}
+use Rattle.ksv_rule_meaning.specs.Meaning.{meaning_of}
+use Rattle.ksv_rule_meaning.specs.FromNothing.{answer_within, from_nothing}
 use Rattle.ksv_rule_laws.specs.Laws.{ElementsTouch}
 use Rattle.ksv_rule_laws.proofs.Forms.{ok_is, goes_on, refused, meaning_is, ruled, no_depth, stays_within, among_more}
 

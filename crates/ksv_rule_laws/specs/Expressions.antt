@@ -10,7 +10,7 @@ use Rattle.ksv_expr_eval.specs.declared.want.Want.{Want}
 use Rattle.ksv_nodes.specs.Truth.{answer_of, asks_of, uses_of}
 use Rattle.ksv_nodes.specs.declared.node.Node.{Node}
 use Rattle.ksv_nodes.specs.declared.given.Given.{Given}
-use Rattle.ksv_rule_heads.specs.Wanted.{wanted, expression}
+use Rattle.ksv_rule_meaning.specs.Wanted.{wanted, expression}
 
 -- what the rules answer a want, over a map of nodes to answers
 abbrev pub wants_met : (Node → Result Given Fault) → List ℕ → Setting → Want → Result Heard Fault

@@ -33,11 +33,11 @@ use Rattle.ksv_nodes.specs.Reading.{end_in}
 use Rattle.ksv_nodes.specs.Rule.{head_node, value_node, end_node, rest_node}
 use Rattle.ksv_nodes.specs.Truth.{answer_of, asks_of}
 use Rattle.ksv_nodes.specs.Turning.{fault_at}
-use Rattle.ksv_rules.specs.Ends.{start_of}
-use Rattle.ksv_rule_heads.specs.Fields.{members_of, is_attribute, Sought, sought}
-use Rattle.ksv_rules.specs.Meaning.{rule_of}
-use Rattle.ksv_rules.specs.FromNothing.{from_nothing, asks}
-use Rattle.ksv_rules.specs.Described.{described}
+use Rattle.ksv_rule_meaning.specs.Ends.{start_of}
+use Rattle.ksv_rule_meaning.specs.Fields.{members_of, is_attribute, Sought, sought}
+use Rattle.ksv_rule_meaning.specs.Meaning.{rule_of}
+use Rattle.ksv_rule_meaning.specs.FromNothing.{from_nothing, asks}
+use Rattle.ksv_rule_meaning.specs.Described.{described}
 
 -- ---- forms
 

@@ -5,7 +5,7 @@ use Rattle.ksv_expr_tree.specs.Tree.{arguments_of, view}
 use Rattle.ksv_expr_tree.specs.declared.tree.Expr.{Expr}
 use Rattle.ksv_expr_value.specs.declared.fault.FaultKind.TheVariants as kinds
 use Rattle.ksv_nodes.specs.Rule.{raise}
-use Rattle.ksv_rules.specs.Values.{argument_at}
+use Rattle.ksv_rule_meaning.specs.Values.{argument_at}
 
 pub is_there : (es : List Expr) (i : ℕ) (e : Expr) → i < length es → e ≡ get_or es i e → argument_at (arguments_of (map view es)) i ≡ Answer (view e)
 unfolding argument_at

@@ -1,5 +1,3 @@
 -- The lemmas of this crate.
-pub mod Direct
-pub mod Integers
 pub mod Peeked
 pub mod Arguments

@@ -9,8 +9,8 @@ ghost use Rattle.ksv_desc.specs.Description.{Bytes};
 ghost use Rattle.ksv_desc.specs.Pieces.{plain_content, plain_kind};
 ghost use Rattle.ksv_desc.specs.Whole.{plain_pieces};
 ghost use Rattle.ksv_nodes.specs.Turning.{Runs};
-ghost use Rattle.ksv_rule_heads.specs.Heads.{instance_setting};
-ghost use Rattle.ksv_rules.specs.Values.{in_no_stream, in_enum, instance_value, given_by, arguments_for, argument_at, argument_setting, plain_value, argument_value, parameter_value, calc_value, calculated};
+ghost use Rattle.ksv_rule_meaning.specs.Heads.{instance_setting};
+ghost use Rattle.ksv_rule_meaning.specs.Values.{in_no_stream, in_enum, instance_value, given_by, arguments_for, argument_at, argument_setting, plain_value, argument_value, parameter_value, calc_value, calculated};
 
 use ksv_desc::{Content, Desc, MemberKind};
 use ksv_expr_eval::{Ctx, Expr, FaultKind, Path, Place, Step, Value};
@@ -46,7 +46,7 @@ fn in_enum(turn: &mut Turn, enumeration: Option<u32>, value: Value) -> Result<Va
 }
 
 /// The value of a value instance, whose expression is evaluated in its object.
-#[tactic(auto, using(ksv_plan::proofs::Running::run_bind), unfolding(crate::specs::Values::instance_value))]
+#[tactic(auto, using(ksv_plan::proofs::Running::run_bind), unfolding(ksv_rule_meaning::specs::Values::instance_value))]
 fn instance_value(
     turn: &mut Turn,
     ctx: &Ctx,
@@ -70,7 +70,7 @@ fn given_by<'d>(turn: &mut Turn, content: Option<&'d Content>) -> Result<&'d [Ex
 }
 
 /// The arguments that were given to the object that is read so.
-#[tactic(auto, using(ksv_plan::proofs::Running::run_bind), unfolding(crate::specs::Values::arguments_for))]
+#[tactic(auto, using(ksv_plan::proofs::Running::run_bind), unfolding(ksv_rule_meaning::specs::Values::arguments_for))]
 fn arguments_for<'d>(turn: &mut Turn, desc: &'d Desc, origin: Origin) -> Result<&'d [Expr], Halt>
     ensures { Runs (arguments_for (plain_pieces desc.now) origin) (λ given. arguments_of (map view given.now)) turn.old turn.new result }
 {
@@ -90,7 +90,7 @@ fn argument_at<'d>(turn: &mut Turn, given: &'d [Expr], number: usize) -> Result<
 }
 
 /// The value of an expression, which is no stream.
-#[tactic(auto, using(ksv_plan::proofs::Running::run_bind), unfolding(crate::specs::Values::plain_value))]
+#[tactic(auto, using(ksv_plan::proofs::Running::run_bind), unfolding(ksv_rule_meaning::specs::Values::plain_value))]
 fn plain_value(turn: &mut Turn, ctx: &Ctx, expr: &Expr) -> Result<Value, Halt>
     ensures { Runs (plain_value ctx.now (view expr.now)) (λ value. value) turn.old turn.new result }
 {
@@ -124,7 +124,7 @@ fn evaluated(
 }
 
 /// The value of a parameter of the object at `holder`: its argument's.
-#[tactic(auto, using(ksv_plan::proofs::Running::run_bind), unfolding(crate::specs::Values::argument_value))]
+#[tactic(auto, using(ksv_plan::proofs::Running::run_bind), unfolding(ksv_rule_meaning::specs::Values::argument_value))]
 fn argument_value(
     turn: &mut Turn,
     desc: &Desc,
@@ -142,7 +142,7 @@ fn argument_value(
 }
 
 /// The value of a parameter; nothing is given to the root.
-#[tactic(auto, unfolding(crate::specs::Values::parameter_value))]
+#[tactic(auto, unfolding(ksv_rule_meaning::specs::Values::parameter_value))]
 fn parameter_value(
     turn: &mut Turn,
     desc: &Desc,
@@ -158,7 +158,7 @@ fn parameter_value(
     }
 }
 
-#[tactic(auto, unfolding(crate::specs::Values::calc_value))]
+#[tactic(auto, unfolding(ksv_rule_meaning::specs::Values::calc_value))]
 fn calc_value(
     turn: &mut Turn,
     desc: &Desc,
@@ -184,7 +184,7 @@ fn calc_value(
 }
 
 /// The value of what is calculated at a path.
-#[tactic(auto, using(ksv_plan::proofs::Running::run_bind), unfolding(crate::specs::Values::calculated))]
+#[tactic(auto, using(ksv_plan::proofs::Running::run_bind), unfolding(ksv_rule_meaning::specs::Values::calculated))]
 pub(crate) fn calculated(
     turn: &mut Turn,
     desc: &Desc,

@@ -7,8 +7,8 @@ ghost use Rattle.ksv_desc.specs.Whole.{plain_pieces};
 ghost use Rattle.ksv_expr_tree.specs.Tree.{view};
 ghost use Rattle.ksv_expr_value.specs.Trail.{element_limit, parent};
 ghost use Rattle.ksv_nodes.specs.Turning.{Runs};
-ghost use Rattle.ksv_rule_heads.specs.Wanted.{truth_of};
-ghost use Rattle.ksv_rules.specs.Ends.{fields_end, object_end, part_rest, list_end, absent_end, place_of, start_of, is_counted, behind_element, is_last, is_by_bytes, not_empty, element_end, end_at, end_of, next_rest, rest_behind, rest_from, in_whole_list, first_rest, whole_rest, rest_at, rest_of};
+ghost use Rattle.ksv_rule_meaning.specs.Wanted.{truth_of};
+ghost use Rattle.ksv_rule_meaning.specs.Ends.{fields_end, object_end, part_rest, list_end, absent_end, place_of, start_of, is_counted, behind_element, is_last, is_by_bytes, not_empty, element_end, end_at, end_of, next_rest, rest_behind, rest_from, in_whole_list, first_rest, whole_rest, rest_at, rest_of};
 
 use ksv_desc::{Desc, Repeat};
 use ksv_expr_eval::{Ctx, Expr, FaultKind, Path, Place, Step};
@@ -16,7 +16,7 @@ use ksv_nodes::{Ended, Halt, Head, List, Object, ObjectEnd, Rested, Turn};
 use ksv_rule_heads::{field_of, in_list, last_attribute, members_of, missing, part_end, truth_of};
 
 /// The end of an object that ends with its last attribute; without one it ends where it begins.
-#[tactic(auto, using(ksv_plan::proofs::Running::run_bind), unfolding(crate::specs::Ends::fields_end))]
+#[tactic(auto, using(ksv_plan::proofs::Running::run_bind), unfolding(ksv_rule_meaning::specs::Ends::fields_end))]
 fn fields_end(turn: &mut Turn, path: &Path, start: Place, last: Option<u32>) -> Result<Place, Halt>
     ensures { Runs (fields_end path.now start last) (λ place. place) turn.old turn.new result }
 {
@@ -29,7 +29,7 @@ fn fields_end(turn: &mut Turn, path: &Path, start: Place, last: Option<u32>) -> 
     }
 }
 
-#[tactic(auto, unfolding(crate::specs::Ends::object_end))]
+#[tactic(auto, unfolding(ksv_rule_meaning::specs::Ends::object_end))]
 fn object_end(
     turn: &mut Turn,
     desc: &Desc,
@@ -48,7 +48,7 @@ fn object_end(
     }
 }
 
-#[tactic(auto, using(ksv_plan::proofs::Running::run_bind), unfolding(crate::specs::Ends::part_rest))]
+#[tactic(auto, using(ksv_plan::proofs::Running::run_bind), unfolding(ksv_rule_meaning::specs::Ends::part_rest))]
 fn part_rest(turn: &mut Turn, path: &Path, step: Step) -> Result<Rested, Halt>
     ensures { Runs (part_rest path.now step) (λ rested. rested) turn.old turn.new result }
 {
@@ -57,7 +57,7 @@ fn part_rest(turn: &mut Turn, path: &Path, step: Step) -> Result<Rested, Halt>
 }
 
 /// A list ends where its last element does.
-#[tactic(auto, using(ksv_plan::proofs::Running::run_bind), unfolding(crate::specs::Ends::list_end))]
+#[tactic(auto, using(ksv_plan::proofs::Running::run_bind), unfolding(ksv_rule_meaning::specs::Ends::list_end))]
 fn list_end(turn: &mut Turn, path: &Path) -> Result<Place, Halt>
     ensures { Runs (list_end path.now) (λ place. place) turn.old turn.new result }
 {
@@ -76,7 +76,7 @@ fn absent_end(turn: &mut Turn, at: Option<Place>) -> Result<Place, Halt>
 }
 
 /// The place after what is at a path.
-#[tactic(auto, unfolding(crate::specs::Ends::place_of))]
+#[tactic(auto, unfolding(ksv_rule_meaning::specs::Ends::place_of))]
 fn place_of(turn: &mut Turn, desc: &Desc, path: &Path, head: Head) -> Result<Place, Halt>
     ensures { Runs (place_of (plain_pieces desc.now) path.now head) (λ place. place) turn.old turn.new result }
 {
@@ -133,7 +133,7 @@ fn holds_behind(
 }
 
 /// Whether an element, which ends at a place, is the last one of its list.
-#[tactic(auto, unfolding(crate::specs::Ends::is_last))]
+#[tactic(auto, unfolding(ksv_rule_meaning::specs::Ends::is_last))]
 fn is_last(
     turn: &mut Turn,
     list: List,
@@ -164,7 +164,7 @@ fn is_by_bytes(repeat: &Repeat) -> bool
 }
 
 /// Where bytes end a list, each of its elements has some.
-#[tactic(auto, unfolding(crate::specs::Ends::not_empty))]
+#[tactic(auto, unfolding(ksv_rule_meaning::specs::Ends::not_empty))]
 fn not_empty(turn: &mut Turn, repeat: &Repeat, start: Place, end: Place) -> Result<(), Halt>
     ensures { Runs (not_empty (plain_repeat repeat.now) start end) (λ unit. unit) turn.old turn.new result }
 {
@@ -177,7 +177,7 @@ fn not_empty(turn: &mut Turn, repeat: &Repeat, start: Place, end: Place) -> Resu
 }
 
 /// The end of an element, and whether it is the last one of its list.
-#[tactic(auto, using(ksv_plan::proofs::Running::run_bind), unfolding(crate::specs::Ends::element_end))]
+#[tactic(auto, using(ksv_plan::proofs::Running::run_bind), unfolding(ksv_rule_meaning::specs::Ends::element_end))]
 fn element_end(
     turn: &mut Turn,
     desc: &Desc,
@@ -214,7 +214,7 @@ fn end_at(
 }
 
 /// The end of what is at a path.
-#[tactic(auto, using(ksv_plan::proofs::Running::run_bind), unfolding(crate::specs::Ends::end_of))]
+#[tactic(auto, using(ksv_plan::proofs::Running::run_bind), unfolding(ksv_rule_meaning::specs::Ends::end_of))]
 pub(crate) fn end_of(turn: &mut Turn, desc: &Desc, path: &Path) -> Result<Ended, Halt>
     ensures { Runs (end_of (plain_pieces desc.now) path.now) (λ ended. ended) turn.old turn.new result }
 {
@@ -224,7 +224,7 @@ pub(crate) fn end_of(turn: &mut Turn, desc: &Desc, path: &Path) -> Result<Ended,
 }
 
 /// What a list is after an element.
-#[tactic(auto, unfolding(crate::specs::Ends::next_rest))]
+#[tactic(auto, unfolding(ksv_rule_meaning::specs::Ends::next_rest))]
 fn next_rest(turn: &mut Turn, list: &Path, index: u32) -> Result<Rested, Halt>
     requires { index < element_limit }
     ensures { Runs (next_rest list.now index) (λ rested. rested) turn.old turn.new result }
@@ -249,7 +249,7 @@ fn rest_behind(turn: &mut Turn, list: &Path, index: u32, end: Ended) -> Result<R
 }
 
 /// What a list is from an element on.
-#[tactic(auto, using(ksv_plan::proofs::Running::run_bind), unfolding(crate::specs::Ends::rest_from))]
+#[tactic(auto, using(ksv_plan::proofs::Running::run_bind), unfolding(ksv_rule_meaning::specs::Ends::rest_from))]
 fn rest_from(turn: &mut Turn, path: &Path, list: &Path, index: u32) -> Result<Rested, Halt>
     requires { index < element_limit }
     ensures { Runs (rest_from path.now list.now index) (λ rested. rested) turn.old turn.new result }
@@ -281,7 +281,7 @@ fn first_rest(turn: &mut Turn, path: &Path, list_path: &Path, list: List) -> Res
 }
 
 /// What a list is as a whole.
-#[tactic(auto, using(ksv_plan::proofs::Running::run_bind), unfolding(crate::specs::Ends::whole_rest))]
+#[tactic(auto, using(ksv_plan::proofs::Running::run_bind), unfolding(ksv_rule_meaning::specs::Ends::whole_rest))]
 fn whole_rest(turn: &mut Turn, path: &Path, list_path: &Path) -> Result<Rested, Halt>
     ensures { Runs (whole_rest path.now list_path.now) (λ rested. rested) turn.old turn.new result }
 {
@@ -303,7 +303,7 @@ fn element_rest(turn: &mut Turn, path: &Path, index: u32) -> Result<Rested, Halt
 }
 
 /// What a list is from the element at a path on.
-#[tactic(auto, unfolding(crate::specs::Ends::rest_of))]
+#[tactic(auto, unfolding(ksv_rule_meaning::specs::Ends::rest_of))]
 pub(crate) fn rest_of(turn: &mut Turn, desc: &Desc, path: &Path) -> Result<Rested, Halt>
     ensures { Runs (rest_of (plain_pieces desc.now) path.now) (λ rested. rested) turn.old turn.new result }
 {

@@ -2,7 +2,7 @@
 
 ghost use Rattle.std.specs.Prelude.{◌≡◌, ◌<◌, ◌≤◌, ◌+◌, ◌-◌, ◌*◌, ◌^◌, length, pos, reverse};
 ghost use Rattle.ksv_expr_value.specs.Bytes.{content};
-ghost use Rattle.ksv_rules.specs.Integers.{integer_value, unsigned_value, sum_of_bytes};
+ghost use Rattle.ksv_rule_meaning.specs.Integers.{integer_value, unsigned_value, sum_of_bytes};
 
 use crate::parts::len_of;
 use ksv_desc::ByteOrder;
@@ -35,7 +35,7 @@ fn little_endian(bytes: &[u8]) -> u64
 }
 
 /// A number of some bytes, with another above it; both together have at most 8 bytes.
-#[tactic(auto, using(crate::proofs::Integers::sum_fits, crate::proofs::Integers::byte_unit, crate::proofs::Integers::power_small))]
+#[tactic(auto, using(ksv_rule_meaning::proofs::Integers::sum_fits, ksv_rule_meaning::proofs::Integers::byte_unit, ksv_rule_meaning::proofs::Integers::power_small))]
 fn with_above(low: u64, count: usize, high: u64) -> u64
     requires count { count ≤ 8 }
     requires low { low < 256 ^ count }
@@ -47,7 +47,7 @@ fn with_above(low: u64, count: usize, high: u64) -> u64
 }
 
 /// The number that at most 8 bytes write.
-#[tactic(auto, using(crate::proofs::Integers::sum_append, crate::proofs::Integers::reverse_sum, crate::proofs::Integers::fits_above))]
+#[tactic(auto, using(ksv_rule_meaning::proofs::Integers::sum_append, ksv_rule_meaning::proofs::Integers::reverse_sum, ksv_rule_meaning::proofs::Integers::fits_above))]
 fn unsigned_value(order: ByteOrder, parts: Parts) -> u64
     requires { length (content parts) ≤ 8 }
     ensures { result ≡ unsigned_value order (content parts.entry) }
@@ -60,7 +60,7 @@ fn unsigned_value(order: ByteOrder, parts: Parts) -> u64
 }
 
 /// How many values an integer of a number of bytes can have.
-#[tactic(auto, using(crate::proofs::Integers::byte_unit, crate::proofs::Integers::byte_power, crate::proofs::Integers::power_small))]
+#[tactic(auto, using(ksv_rule_meaning::proofs::Integers::byte_unit, ksv_rule_meaning::proofs::Integers::byte_power, ksv_rule_meaning::proofs::Integers::power_small))]
 fn value_count(count: usize) -> i128
     requires { count ≤ 8 }
     ensures value { result ≡ pos (2 ^ (8 * count)) }
@@ -71,7 +71,7 @@ fn value_count(count: usize) -> i128
 }
 
 /// The integer that at most 8 bytes say.
-#[tactic(auto, unfolding(crate::specs::Integers::integer_value))]
+#[tactic(auto, unfolding(ksv_rule_meaning::specs::Integers::integer_value))]
 pub(crate) fn integer_value(is_signed: bool, order: ByteOrder, parts: Parts) -> i128
     requires { length (content parts) ≤ 8 }
     ensures { result ≡ integer_value is_signed order (content parts.entry) }

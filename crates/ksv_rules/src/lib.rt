@@ -1,21 +1,22 @@
 //! The rules of a description's nodes: what is at a path of a file, its value, and where it ends.
 //!
-//! Each rule is a definition (`Heads` of `ksv_rule_heads`, `Values` and `Ends` of specs/) and a function of the same name that
-//! runs it on the replies that it had. An engine (`ksv_memo`) calls the rules and keeps what they answer.
+//! Each rule is a definition of `ksv_rule_meaning` (`Heads`, `Values`, `Ends`) and a function of the same name that runs it on the
+//! replies that it had. An engine (`ksv_memo`) calls the rules and keeps what they answer.
 #![tactic(auto)]
 
 mod calculated;
-mod described;
 mod ends;
 mod integer;
-mod laws;
 mod parts;
 mod rules;
 mod values;
 
-pub use described::Described;
 pub use ksv_nodes::{
     Calc, Given, Head, Leaf, List, MemberRef, Node, NodeKind, Object, ObjectEnd, Origin,
 };
 pub use ksv_paths::{decimal, path_of, paths_are_read, texts_are_written};
-pub use laws::{evaluation_is_direct, next_meets_truth, rules_are_bounded};
+pub use ksv_rule_meaning::{evaluation_is_direct, next_meets_truth, rules_are_bounded};
+pub use rules::DescriptionRules;
+
+/// The rules of a description, run by the code of this crate.
+pub type Described = ksv_rule_meaning::Described<DescriptionRules>;

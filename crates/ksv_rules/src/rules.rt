@@ -1,18 +1,19 @@
-//! A node's rule.
-#![tactic(auto, using(ksv_plan::proofs::Running::run_bind), unfolding(crate::specs::Meaning::meaning_of, crate::specs::Meaning::rule_of))]
+//! A node's rule, as code that an engine's rules run.
+#![tactic(auto, using(ksv_plan::proofs::Running::run_bind), unfolding(ksv_rule_meaning::specs::Meaning::meaning_of, ksv_rule_meaning::specs::Meaning::rule_of))]
 
 ghost use Rattle.ksv_desc.specs.Whole.{plain_pieces};
 ghost use Rattle.ksv_nodes.specs.Turning.{Runs};
-ghost use Rattle.ksv_rules.specs.Meaning.{rule_of};
+ghost use Rattle.ksv_rule_meaning.specs.Meaning.{rule_of};
 
 use crate::ends::{end_of, rest_of};
 use crate::values::value_of;
 use ksv_desc::Desc;
 use ksv_nodes::{Given, Halt, Node, NodeKind, Turn};
 use ksv_rule_heads::head_of;
+use ksv_rule_meaning::NodeRules;
 
 /// A node's rule.
-pub(crate) fn rule(turn: &mut Turn, desc: &Desc, node: &Node) -> Result<Given, Halt>
+fn rule(turn: &mut Turn, desc: &Desc, node: &Node) -> Result<Given, Halt>
     ensures { Runs (rule_of (plain_pieces desc.now) node.now) (λ given. given) turn.old turn.new result }
 {
     let path = &node.path;
@@ -33,5 +34,15 @@ pub(crate) fn rule(turn: &mut Turn, desc: &Desc, node: &Node) -> Result<Given, H
                 place: rest.place,
             })
         }
+    }
+}
+
+/// The code of the rules in this crate and in `ksv_rule_heads`.
+#[derive(Drop)]
+pub struct DescriptionRules;
+
+impl NodeRules for DescriptionRules {
+    fn rule(turn: &mut Turn, desc: &Desc, node: &Node) -> Result<Given, Halt> {
+        rule(turn, desc, node)
     }
 }

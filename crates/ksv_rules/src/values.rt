@@ -9,7 +9,7 @@ ghost use Rattle.ksv_desc.specs.Pieces.{plain_content, plain_extent, plain_field
 ghost use Rattle.ksv_desc.specs.Whole.{plain_pieces};
 ghost use Rattle.ksv_nodes.specs.Rule.{peek};
 ghost use Rattle.ksv_nodes.specs.Turning.{Runs};
-ghost use Rattle.ksv_rules.specs.Values.{as_member, in_number, number_in, number_value, fixed_value, cut_by, kept, cut_bytes, bytes_value, in_text, cut_text, text_value, content_value, leaf_value, value_at, value_of};
+ghost use Rattle.ksv_rule_meaning.specs.Values.{as_member, in_number, number_in, number_value, fixed_value, cut_by, kept, cut_bytes, bytes_value, in_text, cut_text, text_value, content_value, leaf_value, value_at, value_of};
 
 use crate::calculated::calculated;
 use crate::integer::integer_value;
@@ -75,7 +75,7 @@ fn number_in(
 }
 
 /// The integer of a leaf.
-#[tactic(auto, using(ksv_plan::proofs::Running::run_bind), unfolding(crate::specs::Values::number_value))]
+#[tactic(auto, using(ksv_plan::proofs::Running::run_bind), unfolding(ksv_rule_meaning::specs::Values::number_value))]
 fn number_value(
     turn: &mut Turn,
     leaf: Leaf,
@@ -90,7 +90,7 @@ fn number_value(
 }
 
 /// Certain bytes and no others.
-#[tactic(auto, using(ksv_plan::proofs::Running::run_bind), unfolding(crate::specs::Values::fixed_value))]
+#[tactic(auto, using(ksv_plan::proofs::Running::run_bind), unfolding(ksv_rule_meaning::specs::Values::fixed_value))]
 fn fixed_value(turn: &mut Turn, leaf: Leaf, wanted: &[u8]) -> Result<Value, Halt>
     ensures { Runs (fixed_value leaf wanted.now) (λ value. value) turn.old turn.new result }
 {
@@ -116,7 +116,7 @@ fn cut_by(extent: &Extent, terminator: Option<Terminator>) -> Option<Terminator>
 }
 
 /// How many of the bytes are kept.
-#[tactic(auto, unfolding(crate::specs::Values::kept))]
+#[tactic(auto, unfolding(ksv_rule_meaning::specs::Values::kept))]
 fn kept(terminator: Terminator, parts: Parts) -> usize
     requires { length (content parts) < 4294967296 }
     ensures kept { result ≡ kept (plain_terminator terminator) (content parts.entry) }
@@ -135,7 +135,7 @@ fn kept(terminator: Terminator, parts: Parts) -> usize
 }
 
 /// The range of bytes, up to a terminator.
-#[tactic(auto, using(ksv_plan::proofs::Running::run_bind), unfolding(crate::specs::Values::cut_bytes))]
+#[tactic(auto, using(ksv_plan::proofs::Running::run_bind), unfolding(ksv_rule_meaning::specs::Values::cut_bytes))]
 fn cut_bytes(turn: &mut Turn, leaf: Leaf, terminator: Terminator) -> Result<Value, Halt>
     ensures { Runs (cut_bytes leaf (plain_terminator terminator)) (λ value. value) turn.old turn.new result }
 {
@@ -149,7 +149,7 @@ fn cut_bytes(turn: &mut Turn, leaf: Leaf, terminator: Terminator) -> Result<Valu
 }
 
 /// The range of bytes; where they may be cut they are read.
-#[tactic(auto, unfolding(crate::specs::Values::bytes_value))]
+#[tactic(auto, unfolding(ksv_rule_meaning::specs::Values::bytes_value))]
 fn bytes_value(turn: &mut Turn, leaf: Leaf, terminator: Option<Terminator>) -> Result<Value, Halt>
     ensures { Runs (bytes_value leaf (option_map plain_terminator terminator)) (λ value. value) turn.old turn.new result }
 {
@@ -184,7 +184,7 @@ fn cut_text(terminator: Option<Terminator>, parts: Parts) -> Parts
 }
 
 /// The text of a leaf.
-#[tactic(auto, using(ksv_plan::proofs::Running::run_bind), unfolding(crate::specs::Values::text_value))]
+#[tactic(auto, using(ksv_plan::proofs::Running::run_bind), unfolding(ksv_rule_meaning::specs::Values::text_value))]
 fn text_value(
     turn: &mut Turn,
     leaf: Leaf,
@@ -198,7 +198,7 @@ fn text_value(
     in_text(turn, text)
 }
 
-#[tactic(auto, unfolding(crate::specs::Values::content_value))]
+#[tactic(auto, unfolding(ksv_rule_meaning::specs::Values::content_value))]
 fn content_value(
     turn: &mut Turn,
     leaf: Leaf,
@@ -225,7 +225,7 @@ fn content_value(
 }
 
 /// The value of what was read by a case; without one it is bytes.
-#[tactic(auto, unfolding(crate::specs::Values::content_value))]
+#[tactic(auto, unfolding(ksv_rule_meaning::specs::Values::content_value))]
 fn known_value(
     turn: &mut Turn,
     leaf: Leaf,
@@ -241,7 +241,7 @@ fn known_value(
 }
 
 /// The value of a leaf, by the attribute that reads it and its case.
-#[tactic(auto, using(ksv_plan::proofs::Running::run_bind), unfolding(crate::specs::Values::leaf_value))]
+#[tactic(auto, using(ksv_plan::proofs::Running::run_bind), unfolding(ksv_rule_meaning::specs::Values::leaf_value))]
 fn leaf_value(turn: &mut Turn, desc: &Desc, leaf: Leaf) -> Result<Value, Halt>
     ensures { Runs (leaf_value (plain_pieces desc.now) leaf) (λ value. value) turn.old turn.new result }
 {
@@ -250,7 +250,7 @@ fn leaf_value(turn: &mut Turn, desc: &Desc, leaf: Leaf) -> Result<Value, Halt>
     known_value(turn, leaf, field, content)
 }
 
-#[tactic(auto, unfolding(crate::specs::Values::value_at))]
+#[tactic(auto, unfolding(ksv_rule_meaning::specs::Values::value_at))]
 fn value_at(turn: &mut Turn, desc: &Desc, path: &Path, head: Head) -> Result<Value, Halt>
     ensures { Runs (value_at (plain_pieces desc.now) path.now head) (λ value. value) turn.old turn.new result }
 {
@@ -264,7 +264,7 @@ fn value_at(turn: &mut Turn, desc: &Desc, path: &Path, head: Head) -> Result<Val
 }
 
 /// The value of what is at a path; objects and lists by their path.
-#[tactic(auto, using(ksv_plan::proofs::Running::run_bind), unfolding(crate::specs::Values::value_of))]
+#[tactic(auto, using(ksv_plan::proofs::Running::run_bind), unfolding(ksv_rule_meaning::specs::Values::value_of))]
 pub(crate) fn value_of(turn: &mut Turn, desc: &Desc, path: &Path) -> Result<Value, Halt>
     ensures { Runs (value_of (plain_pieces desc.now) path.now) (λ value. value) turn.old turn.new result }
 {

@@ -14,7 +14,7 @@ use Rattle.ksv_nodes.specs.declared.node.Node.{Node}
 use Rattle.ksv_questions.specs.Answers.{asking, asks, outcome}
 use Rattle.ksv_questions.specs.Asking.{Failure}
 use Rattle.ksv_questions.specs.Writing.{Overwrite, put_question}
-use Rattle.ksv_rules.specs.FromNothing.{asks as asks_of_node}
+use Rattle.ksv_rule_meaning.specs.FromNothing.{asks as asks_of_node}
 use Rattle.ksv_session.specs.Explored.{Explored}
 use Rattle.ksv_session.specs.declared.command.Command.{Command}
 use Rattle.ksv_session.specs.declared.command.Command.TheVariants.{App, Ask, Blank, Bytes, Del, Ins, Put, Quit, Refused, Set, Size, Stats}

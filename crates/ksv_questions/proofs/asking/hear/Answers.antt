@@ -8,7 +8,7 @@ use Rattle.ksv_questions.proofs.AskLemmas.{asked_is, heard_one}
 use Rattle.ksv_questions.proofs.asking.hear.Goals as goal
 
 pub returns : goal.returns
-returns c =
+returns g c =
     let d = plain_pieces c.args.described.now.desc in
     let b = c.args.buffer.now in
     subst (λ (p : Trail). Runs d b (hear (record { kind = c.args.kind; path = p })) (λ h. h) c.args.engine.now c.ask.new.self (Ok c.of_answer.result)) c.in_ok-path.ensures (

@@ -8,37 +8,37 @@ use Rattle.ksv_questions.proofs.dump.+dump.Given as goal
 
 -- each function calls those with a lower number; the part of a path goes one level down
 abbrev pub decreases-inner_part : goal.decreases-inner_part
-decreases-inner_part l = 8 * l.depth + 3
+decreases-inner_part g l = 8 * l.depth + 3
 
 abbrev pub decreases-dump_part : goal.decreases-dump_part
-decreases-dump_part l = 8 * l.depth + 2
+decreases-dump_part g l = 8 * l.depth + 2
 
 abbrev pub decreases-members_part : goal.decreases-members_part
-decreases-members_part l = 8 * l.depth + 4
+decreases-members_part g l = 8 * l.depth + 4
 
 abbrev pub decreases-elements_part : goal.decreases-elements_part
-decreases-elements_part l = 8 * l.depth + 4
+decreases-elements_part g l = 8 * l.depth + 4
 
 abbrev pub decreases-object_part : goal.decreases-object_part
-decreases-object_part l = 8 * l.depth + 5
+decreases-object_part g l = 8 * l.depth + 5
 
 abbrev pub decreases-list_part : goal.decreases-list_part
-decreases-list_part l = 8 * l.depth + 5
+decreases-list_part g l = 8 * l.depth + 5
 
 abbrev pub decreases-value_part : goal.decreases-value_part
-decreases-value_part l = 8 * l.depth + 6
+decreases-value_part g l = 8 * l.depth + 6
 
 abbrev pub decreases-asked_part : goal.decreases-asked_part
-decreases-asked_part l = 8 * l.depth + 7
+decreases-asked_part g l = 8 * l.depth + 7
 
 abbrev pub invariant-members_part-loop-name : goal.invariant-members_part-loop-name
-invariant-members_part-loop-name l =
+invariant-members_part-loop-name g l =
     Pending (plain_pieces l.described.desc) l.buffer
     (members_part (plain_pieces l.described.desc) (part (plain_pieces l.described.desc) l.buffer l.depth) l.object l.initial.left l.names no_members) l.initial.engine
     (members_part (plain_pieces l.described.desc) (part (plain_pieces l.described.desc) l.buffer l.depth) l.object l.left (drop l.name-index l.names) (members_view l.members.entries)) l.engine
 
 abbrev pub invariant-elements_part-loop-index : goal.invariant-elements_part-loop-index
-invariant-elements_part-loop-index l =
+invariant-elements_part-loop-index g l =
     Pending (plain_pieces l.described.desc) l.buffer
     (elements_part (plain_pieces l.described.desc) (part (plain_pieces l.described.desc) l.buffer l.depth) l.list l.initial.left 0 l.count []) l.initial.engine
     (elements_part (plain_pieces l.described.desc) (part (plain_pieces l.described.desc) l.buffer l.depth) l.list l.left l.index (l.count - l.index) (map view l.elements.items)) l.engine

@@ -11,18 +11,18 @@ use Rattle.ksv_questions.proofs.dump.whole_text.Goals as goal
 
 pub returns-in_err-whole : goal.returns-in_err-whole
 unfolding whole_text
-returns-in_err-whole c =
+returns-in_err-whole g c =
     let e = err_from_is_err_and c.from_residual.result c.from_residual.ensures.1 in
     rw (e.1, e.2) (runs_failed (plain_pieces c.args.described.now.desc) c.args.buffer.now (value_part (plain_pieces c.args.described.now.desc) c.args.buffer.now (part (plain_pieces c.args.described.now.desc) c.args.buffer.now depth_limit) c.args.path.now (part_limit - 1) c.args.value.now) (λ (x : Part). Answer (compact_text x.json)) dumped (λ (text : String Global). string_bytes text)
     c.args.engine.now c.value_part.new.engine c.in_err-whole.field-0.0 c.in_err-whole.ensures)
 
 pub returns : goal.returns
 unfolding whole_text
-returns c =
+returns g c =
     runs_ended (plain_pieces c.args.described.now.desc) c.args.buffer.now (value_part (plain_pieces c.args.described.now.desc) c.args.buffer.now (part (plain_pieces c.args.described.now.desc) c.args.buffer.now depth_limit) c.args.path.now (part_limit - 1) c.args.value.now) (λ (x : Part). Answer (compact_text x.json)) dumped (λ (text : String Global). string_bytes text)
     c.args.engine.now c.value_part.new.engine c.in_ok-whole.whole c.written_text.result c.in_ok-whole.ensures c.written_text.ensures
 
 -- what was written has no float
 pub written_text-requires : goal.written_text-requires
-written_text-requires c =
+written_text-requires g c =
     whole_exact (plain_pieces c.args.described.now.desc) c.args.buffer.now depth_limit c.args.path.now (part_limit - 1) c.args.value.now (dumped c.in_ok-whole.whole) c.in_ok-whole.ensures.0

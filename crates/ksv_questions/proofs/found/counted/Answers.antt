@@ -10,13 +10,13 @@ use Rattle.ksv_questions.proofs.found.counted.Goals as goal
 
 pub returns-in_err-heard : goal.returns-in_err-heard
 unfolding find_list
-returns-in_err-heard c =
+returns-in_err-heard g c =
     let e = err_from_is_err_and c.from_residual.result c.from_residual.ensures.1 in
     rw (e.1, e.2) (runs_failed (plain_pieces c.args.described.now.desc) c.args.buffer.now (hear (rest_node c.args.first.now)) (λ h. Answer (count_in (plain_pieces c.args.described.now.desc) c.args.list.now h)) (λ h. h) (λ r. found_of r)
     c.args.engine.now c.hear.new.engine c.in_err-heard.field-0.0 c.in_err-heard.ensures)
 
 pub returns : goal.returns
 unfolding find_list
-returns c =
+returns g c =
     runs_ended (plain_pieces c.args.described.now.desc) c.args.buffer.now (hear (rest_node c.args.first.now)) (λ h. Answer (count_in (plain_pieces c.args.described.now.desc) c.args.list.now h)) (λ h. h) (λ r. found_of r)
     c.args.engine.now c.hear.new.engine c.in_ok-heard.heard c.count_in.result c.in_ok-heard.ensures c.count_in.ensures

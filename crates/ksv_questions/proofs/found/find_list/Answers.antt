@@ -6,12 +6,12 @@ use Rattle.ksv_questions.proofs.Steps.{runs_settled}
 use Rattle.ksv_questions.proofs.found.find_list.Goals as goal
 
 pub returns-in-Some : goal.returns-in-Some
-returns-in-Some c =
+returns-in-Some g c =
     subst (λ o. Runs (plain_pieces c.args.described.now.desc) c.args.buffer.now (find_list (plain_pieces c.args.described.now.desc) c.args.list.now o) (λ r. found_of r) c.args.engine.now c.counted.new.engine c.counted.result)
     (sym c.in-Some.is ∙ c.in_ok-first.ensures) c.counted.ensures
 
 pub returns-in-None : goal.returns-in-None
-returns-in-None c =
+returns-in-None g c =
     let d = plain_pieces c.args.described.now.desc in
     subst (λ o. Runs d c.args.buffer.now (find_list d c.args.list.now o) (λ r. found_of r) c.args.engine.now c.args.engine.now c.uncounted.result)
     (sym c.in-None.is ∙ c.in_ok-first.ensures)

@@ -10,13 +10,13 @@ use Rattle.ksv_questions.proofs.found.find_value.Goals as goal
 
 pub returns-in_err-heard : goal.returns-in_err-heard
 unfolding find_value
-returns-in_err-heard c =
+returns-in_err-heard g c =
     let e = err_from_is_err_and c.from_residual.result c.from_residual.ensures.1 in
     rw (e.1, e.2) (runs_failed (plain_pieces c.args.described.now.desc) c.args.buffer.now (hear (value_node c.args.path.now)) (λ h. Answer (value_in (plain_pieces c.args.described.now.desc) c.args.path.now h)) (λ h. h) (λ r. found_of r)
     c.args.engine.now c.hear.new.engine c.in_err-heard.field-0.0 c.in_err-heard.ensures)
 
 pub returns : goal.returns
 unfolding find_value
-returns c =
+returns g c =
     runs_ended (plain_pieces c.args.described.now.desc) c.args.buffer.now (hear (value_node c.args.path.now)) (λ h. Answer (value_in (plain_pieces c.args.described.now.desc) c.args.path.now h)) (λ h. h) (λ r. found_of r)
     c.args.engine.now c.hear.new.engine c.in_ok-heard.heard c.value_in.result c.in_ok-heard.ensures c.value_in.ensures

@@ -7,13 +7,13 @@ use Rattle.ksv_questions.proofs.get.of_object.Goals as goal
 
 pub returns-in_err-head : goal.returns-in_err-head
 unfolding of_object
-returns-in_err-head c =
+returns-in_err-head g c =
     let e = err_from_is_err_and c.from_residual.result c.from_residual.ensures.1 in
     rw (e.1, e.2) (runs_failed (plain_pieces c.args.described.now.desc) c.args.buffer.now (ask_head c.args.path.now c.args.object.now) (λ h. object_text (plain_pieces c.args.described.now.desc) c.args.path.now h) (λ h. h) (λ (text : String Global). string_bytes text)
     c.args.engine.now c.ask_head.new.engine c.in_err-head.field-0.0 c.in_err-head.ensures)
 
 pub returns : goal.returns
 unfolding of_object
-returns c =
+returns g c =
     runs_ended (plain_pieces c.args.described.now.desc) c.args.buffer.now (ask_head c.args.path.now c.args.object.now) (λ h. object_text (plain_pieces c.args.described.now.desc) c.args.path.now h) (λ h. h) (λ (text : String Global). string_bytes text)
     c.args.engine.now c.ask_head.new.engine c.in_ok-head.head c.object_text.result c.in_ok-head.ensures c.object_text.ensures

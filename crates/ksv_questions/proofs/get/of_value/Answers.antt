@@ -7,7 +7,7 @@ use Rattle.ksv_questions.proofs.Steps.{runs_settled}
 use Rattle.ksv_questions.proofs.get.of_value.Goals as goal
 
 pub returns-in_default : goal.returns-in_default
-returns-in_default c =
+returns-in_default g c =
     let d = plain_pieces c.args.described.now.desc in
     let b = c.args.buffer.now in
     subst (λ q. Runs d b q (λ (text : String Global). string_bytes text) c.args.engine.now c.args.engine.now c.plain_text.result) (sym (of_plain d b c.args.path.now c.args.value.now c.in_default.not-Object c.in_default.not-List))

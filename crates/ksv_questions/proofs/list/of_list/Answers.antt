@@ -10,13 +10,13 @@ use Rattle.ksv_questions.proofs.list.of_list.Goals as goal
 
 pub returns-in_err-count : goal.returns-in_err-count
 unfolding of_list
-returns-in_err-count c =
+returns-in_err-count g c =
     let e = err_from_is_err_and c.from_residual.result c.from_residual.ensures.1 in
     rw (e.1, e.2) (runs_failed (plain_pieces c.args.described.now.desc) c.args.buffer.now (first_asked c.args.path.now c.args.list.now (child c.args.list.now (Index 0))) (λ count. Answer (list_text count)) (λ n. n) (λ (text : String Global). string_bytes text)
     c.args.engine.now c.first_asked.new.engine c.in_err-count.field-0.0 c.in_err-count.ensures)
 
 pub returns : goal.returns
 unfolding of_list
-returns c =
+returns g c =
     runs_ended (plain_pieces c.args.described.now.desc) c.args.buffer.now (first_asked c.args.path.now c.args.list.now (child c.args.list.now (Index 0))) (λ count. Answer (list_text count)) (λ n. n) (λ (text : String Global). string_bytes text)
     c.args.engine.now c.first_asked.new.engine c.in_ok-count.count c.list_text.result c.in_ok-count.ensures c.list_text.ensures

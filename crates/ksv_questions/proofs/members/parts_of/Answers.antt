@@ -8,13 +8,13 @@ use Rattle.ksv_questions.proofs.Steps.{runs_settled}
 use Rattle.ksv_questions.proofs.members.parts_of.Goals as goal
 
 pub returns-in_ok-from_str-in-Absent : goal.returns-in_ok-from_str-in-Absent
-returns-in_ok-from_str-in-Absent c =
+returns-in_ok-from_str-in-Absent g c =
     runs_settled (plain_pieces c.args.described.now.desc) c.args.buffer.now (parts_of (plain_pieces c.args.described.now.desc) c.args.path.now c.args.head) (λ (text : String Global). string_bytes text)
     c.args.engine.now (Ok c.in_ok-from_str-in-Absent.field-0) c.requires
     (ap (λ h. parts_of (plain_pieces c.args.described.now.desc) c.args.path.now h) c.in-Absent.is ∙ ap Answer (sym c.in_ok-from_str-in-Absent.ensures.ok))
 
 pub returns-in_ok-names_text-in-Object : goal.returns-in_ok-names_text-in-Object
-returns-in_ok-names_text-in-Object c =
+returns-in_ok-names_text-in-Object g c =
     let d = plain_pieces c.args.described.now.desc in
     runs_settled d c.args.buffer.now (parts_of d c.args.path.now c.args.head) (λ (text : String Global). string_bytes text)
     c.args.engine.now (Ok c.in_ok-names_text-in-Object.field-0) c.requires
@@ -23,7 +23,7 @@ returns-in_ok-names_text-in-Object c =
     ∙ ap (λ pieces. codes "members" ++ names_text (plain_pieces pieces) (members (plain_pieces pieces) c.in-Object.object.type_number)) c.desc-desc.ensures)))
 
 pub returns-in_ok-from_str-in_default : goal.returns-in_ok-from_str-in_default
-returns-in_ok-from_str-in_default c =
+returns-in_ok-from_str-in_default g c =
     let d = plain_pieces c.args.described.now.desc in
     runs_settled d c.args.buffer.now (parts_of d c.args.path.now c.args.head) (λ (text : String Global). string_bytes text)
     c.args.engine.now (Ok c.in_ok-from_str-in_default.field-0) c.requires

@@ -8,13 +8,13 @@ use Rattle.ksv_questions.proofs.parts.ask_head.Goals as goal
 
 pub returns-in_err-given : goal.returns-in_err-given
 unfolding ask_head
-returns-in_err-given c =
+returns-in_err-given g c =
     let e = err_from_is_err_and c.from_residual.result c.from_residual.ensures.1 in
     rw (e.1, e.2) (runs_failed (plain_pieces c.args.described.now.desc) c.args.buffer.now (ask (head_node c.args.asked.now)) (λ g. in_head c.args.path.now g) (λ g. g) (λ h. h)
     c.args.engine.now c.ask.new.engine c.in_err-given.field-0.0 c.in_err-given.ensures)
 
 pub returns : goal.returns
 unfolding ask_head
-returns c =
+returns g c =
     runs_ended (plain_pieces c.args.described.now.desc) c.args.buffer.now (ask (head_node c.args.asked.now)) (λ g. in_head c.args.path.now g) (λ g. g) (λ h. h)
     c.args.engine.now c.ask.new.engine c.in_ok-given.given c.in_head.result c.in_ok-given.ensures c.in_head.ensures

@@ -12,7 +12,7 @@ use Rattle.ksv_questions.proofs.parts.first_asked.Goals as goal
 
 pub returns-in_default : goal.returns-in_default
 unfolding first_asked
-returns-in_default c =
+returns-in_default g c =
     let d = plain_pieces c.args.described.now.desc in
     let b = c.args.buffer.now in
     subst (λ o. Runs d b (first_asked c.args.path.now c.args.list.now o) (λ n. n) c.args.engine.now c.args.engine.now (Err c.fault_at.result)) (sym c.in_default.is ∙ c.in_ok-first.ensures)
@@ -21,7 +21,7 @@ returns-in_default c =
 
 pub returns-in_err-given : goal.returns-in_err-given
 unfolding first_asked
-returns-in_err-given c =
+returns-in_err-given g c =
     let d = plain_pieces c.args.described.now.desc in
     let b = c.args.buffer.now in
     let e = err_from_is_err_and c.from_residual-in_err-given.result c.from_residual-in_err-given.ensures.1 in
@@ -31,7 +31,7 @@ returns-in_err-given c =
 
 pub returns : goal.returns
 unfolding first_asked
-returns c =
+returns g c =
     let d = plain_pieces c.args.described.now.desc in
     let b = c.args.buffer.now in
     subst (λ o. Runs d b (first_asked c.args.path.now c.args.list.now o) (λ n. n) c.args.engine.now c.ask.new.engine c.in_rest.result) (sym c.in-Some.is ∙ c.in_ok-first.ensures)

@@ -8,13 +8,13 @@ use Rattle.ksv_questions.proofs.place.from_place.Goals as goal
 
 pub returns-in_err-to : goal.returns-in_err-to
 unfolding from_place
-returns-in_err-to c =
+returns-in_err-to g c =
     let e = err_from_is_err_and c.from_residual.result c.from_residual.ensures.1 in
     rw (e.1, e.2) (runs_failed (plain_pieces c.args.described.now.desc) c.args.buffer.now (ask_end c.args.path.now) (λ to. Answer (codes "at " ++ decimal c.args.from ++ codes " " ++ decimal to)) (λ n. n) (λ (text : String Global). string_bytes text)
     c.args.engine.now c.ask_end.new.engine c.in_err-to.field-0.0 c.in_err-to.ensures)
 
 pub returns : goal.returns
 unfolding from_place
-returns c =
+returns g c =
     runs_ended (plain_pieces c.args.described.now.desc) c.args.buffer.now (ask_end c.args.path.now) (λ to. Answer (codes "at " ++ decimal c.args.from ++ codes " " ++ decimal to)) (λ n. n) (λ (text : String Global). string_bytes text)
     c.args.engine.now c.ask_end.new.engine c.in_ok-to.to c.places_text.result c.in_ok-to.ensures c.places_text.ensures

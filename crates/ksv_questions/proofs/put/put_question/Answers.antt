@@ -8,13 +8,13 @@ use Rattle.ksv_questions.proofs.put.put_question.Goals as goal
 
 pub returns-in_err-head : goal.returns-in_err-head
 unfolding put_question
-returns-in_err-head c =
+returns-in_err-head g c =
     let e = err_from_is_err_and c.from_residual.result c.from_residual.ensures.1 in
     rw (e.1, e.2) (runs_failed (plain_pieces c.args.described.now.desc) c.args.buffer.now (ask_head c.args.path.now c.args.path.now) (λ h. over_head (plain_pieces c.args.described.now.desc) h c.args.number) (λ h. h) (λ o. overwrite_of o)
     c.args.engine.now c.ask_head.new.engine c.in_err-head.field-0.0 c.in_err-head.ensures)
 
 pub returns : goal.returns
 unfolding put_question
-returns c =
+returns g c =
     runs_ended (plain_pieces c.args.described.now.desc) c.args.buffer.now (ask_head c.args.path.now c.args.path.now) (λ h. over_head (plain_pieces c.args.described.now.desc) h c.args.number) (λ h. h) (λ o. overwrite_of o)
     c.args.engine.now c.ask_head.new.engine c.in_ok-head.head c.over_head.result c.in_ok-head.ensures c.over_head.ensures

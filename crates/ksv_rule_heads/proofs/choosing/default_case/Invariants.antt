@@ -1,6 +1,6 @@
 use Rattle.std.proofs.Common.{◌≡◌, map, drop}
 use Rattle.ksv_desc.specs.Pieces.{plain_case}
-use Rattle.ksv_rule_heads.specs.Choosing.{is_default, first_case}
+use Rattle.ksv_rule_meaning.specs.Choosing.{is_default, first_case}
 use Rattle.ksv_rule_heads.proofs.choosing.default_case.Given as goal
 
 abbrev pub invariant-loop-case : goal.invariant-loop-case

@@ -1,6 +1,6 @@
 use Rattle.std.proofs.Common.{◌≡◌, None, map, drop}
 use Rattle.ksv_desc.specs.Pieces.{plain_member}
-use Rattle.ksv_rule_heads.specs.Fields.{last_attribute}
+use Rattle.ksv_rule_meaning.specs.Fields.{last_attribute}
 use Rattle.ksv_rule_heads.proofs.fields.last_attribute.Given as goal
 
 abbrev pub invariant-loop-member : goal.invariant-loop-member

@@ -1,6 +1,6 @@
 use Rattle.std.proofs.Common.{◌≡◌, ◌+◌, ◌≤◌, map, drop}
 use Rattle.ksv_desc.specs.Pieces.{plain_member}
-use Rattle.ksv_rule_heads.specs.Fields.{parameters_before}
+use Rattle.ksv_rule_meaning.specs.Fields.{parameters_before}
 use Rattle.ksv_rule_heads.proofs.fields.parameters_before.Given as goal
 
 abbrev pub invariant-loop-member : goal.invariant-loop-member

@@ -1,5 +1,5 @@
 use Rattle.std.proofs.Common.{◌<◌, arith}
-use Rattle.ksv_rules.proofs.Integers.{front_more, room_for_byte, small_more}
+use Rattle.ksv_rule_meaning.proofs.Integers.{front_more, room_for_byte, small_more}
 use Rattle.ksv_rules.proofs.integer.big_endian.Goals as goal
 
 pub overflow_mul-value : goal.overflow_mul-value

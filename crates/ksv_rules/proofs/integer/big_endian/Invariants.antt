@@ -1,5 +1,5 @@
 use Rattle.std.proofs.Common.{◌≡◌, ◌<◌, ◌^◌, reverse, take}
-use Rattle.ksv_rules.specs.Integers.{sum_of_bytes}
+use Rattle.ksv_rule_meaning.specs.Integers.{sum_of_bytes}
 use Rattle.ksv_rules.proofs.integer.big_endian.Given as goal
 
 abbrev pub invariant-loop-byte : goal.invariant-loop-byte

@@ -1,5 +1,5 @@
 use Rattle.std.proofs.Common.{length, arith, length-append}
-use Rattle.ksv_rules.proofs.Integers.{fits_above}
+use Rattle.ksv_rule_meaning.proofs.Integers.{fits_above}
 use Rattle.ksv_rules.proofs.integer.unsigned_value.Goals as goal
 
 pub with_above-requires-clause-high : goal.with_above-requires-clause-high

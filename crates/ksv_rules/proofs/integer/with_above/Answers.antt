@@ -1,5 +1,5 @@
 use Rattle.std.proofs.Common.{◌<◌, ◌+◌, ◌*◌, ◌%◌, ◌^◌}
-use Rattle.ksv_rules.proofs.Integers.{sum_fits, byte_unit}
+use Rattle.ksv_rule_meaning.proofs.Integers.{sum_fits, byte_unit}
 use Rattle.ksv_rules.proofs.integer.with_above.Goals as goal
 
 pub overflow_cast-result : goal.overflow_cast-result

@@ -49,15 +49,15 @@ use Rattle.ksv_nodes.specs.declared.given.Ended.{Ended}
 use Rattle.ksv_nodes.specs.declared.turn.Found.{Found}
 use Rattle.ksv_nodes.specs.declared.turn.Found.TheVariants as founds
 use Rattle.ksv_nodes.specs.Rule.{Rule, Here, finish, done, reach, peek, find}
-use Rattle.ksv_rules.specs.Described.{condition_wants, repeat_wants, extent_wants, arguments_wants, content_wants, choice_wants, field_wants, kind_wants, type_wants, most_asks, resumed, step_of}
-use Rattle.ksv_rule_heads.specs.Fields.{members_of, behind, Sought, sought, in_sought, member_named, last_attribute, read_by, in_kind, kind_of, field_of, parameters_before}
-use Rattle.ksv_rule_heads.specs.Choosing.{Chosen, switched, choose, in_case, content_of}
-use Rattle.ksv_rule_heads.specs.Wanted.{whole, in_object, wanted, expression, in_integer, in_truth, integer_of, truth_of, holds, in_size, size_of, in_stream, stream_for}
-use Rattle.ksv_rules.specs.Integers.{integer_value}
-use Rattle.ksv_rules.specs.Values.{in_number, number_in, number_value, fixed_value, cut_by, cut_bytes, bytes_value, in_text, cut_text, text_value, content_value, leaf_value, in_no_stream, in_enum, instance_value, given_by, arguments_for, argument_at, argument_setting, plain_value, argument_value, parameter_value, calc_value, calculated, value_at, value_of}
-use Rattle.ksv_rules.specs.Ends.{fields_end, object_end, part_rest, list_end, absent_end, place_of, start_of, behind_element, is_last, is_by_bytes, not_empty, element_end, end_at, end_of, next_rest, rest_behind, rest_from, in_whole_list, first_rest, whole_rest, rest_at, rest_of}
-use Rattle.ksv_rules.specs.Meaning.{meaning_of, rule_of}
-use Rattle.ksv_rule_heads.specs.Heads.{leaf, leaf_to_end, terminated_at, terminated, run_of, sized_leaf, bytes_at, sized_object, object_at, content_at, unchosen_at, chosen_at, shape_at, in_count, count_of, counted, until_eos, repeated, attribute_at, part_end, attribute_start, attribute_head, positioned_in, positioned, instance_head, value_head, member_at, member_head, in_list, is_past, in_next, next_start, element_start, element_head, head_at, head_of}
+use Rattle.ksv_rule_meaning.specs.Described.{condition_wants, repeat_wants, extent_wants, arguments_wants, content_wants, choice_wants, field_wants, kind_wants, type_wants, most_asks, resumed, step_of}
+use Rattle.ksv_rule_meaning.specs.Fields.{members_of, behind, Sought, sought, in_sought, member_named, last_attribute, read_by, in_kind, kind_of, field_of, parameters_before}
+use Rattle.ksv_rule_meaning.specs.Choosing.{Chosen, switched, choose, in_case, content_of}
+use Rattle.ksv_rule_meaning.specs.Wanted.{whole, in_object, wanted, expression, in_integer, in_truth, integer_of, truth_of, holds, in_size, size_of, in_stream, stream_for}
+use Rattle.ksv_rule_meaning.specs.Integers.{integer_value}
+use Rattle.ksv_rule_meaning.specs.Values.{in_number, number_in, number_value, fixed_value, cut_by, cut_bytes, bytes_value, in_text, cut_text, text_value, content_value, leaf_value, in_no_stream, in_enum, instance_value, given_by, arguments_for, argument_at, argument_setting, plain_value, argument_value, parameter_value, calc_value, calculated, value_at, value_of}
+use Rattle.ksv_rule_meaning.specs.Ends.{fields_end, object_end, part_rest, list_end, absent_end, place_of, start_of, behind_element, is_last, is_by_bytes, not_empty, element_end, end_at, end_of, next_rest, rest_behind, rest_from, in_whole_list, first_rest, whole_rest, rest_at, rest_of}
+use Rattle.ksv_rule_meaning.specs.Meaning.{meaning_of, rule_of}
+use Rattle.ksv_rule_meaning.specs.Heads.{leaf, leaf_to_end, terminated_at, terminated, run_of, sized_leaf, bytes_at, sized_object, object_at, content_at, unchosen_at, chosen_at, shape_at, in_count, count_of, counted, until_eos, repeated, attribute_at, part_end, attribute_start, attribute_head, positioned_in, positioned, instance_head, value_head, member_at, member_head, in_list, is_past, in_next, next_start, element_start, element_head, head_at, head_of}
 
 -- ---- what is found in a description wants no more than all of it
 

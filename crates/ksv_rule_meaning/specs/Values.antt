@@ -25,11 +25,11 @@ use Rattle.ksv_nodes.specs.declared.given.Head.{Head}
 use Rattle.ksv_nodes.specs.declared.given.Head.TheVariants as heads
 use Rattle.ksv_nodes.specs.Reading.{first_at}
 use Rattle.ksv_nodes.specs.Rule.{Rule, raise, ask_head, peek}
-use Rattle.ksv_rule_heads.specs.Choosing.{content_of}
-use Rattle.ksv_rule_heads.specs.Fields.{members_of, kind_of, field_of, parameters_before}
-use Rattle.ksv_rule_heads.specs.Heads.{setting, within, instance_setting}
-use Rattle.ksv_rules.specs.Integers.{integer_value}
-use Rattle.ksv_rule_heads.specs.Wanted.{expression}
+use Rattle.ksv_rule_meaning.specs.Choosing.{content_of}
+use Rattle.ksv_rule_meaning.specs.Fields.{members_of, kind_of, field_of, parameters_before}
+use Rattle.ksv_rule_meaning.specs.Heads.{setting, within, instance_setting}
+use Rattle.ksv_rule_meaning.specs.Integers.{integer_value}
+use Rattle.ksv_rule_meaning.specs.Wanted.{expression}
 
 -- an integer, and as a member of an enum where it is one
 abbrev pub as_member : Option ℕ → ℤ → Value

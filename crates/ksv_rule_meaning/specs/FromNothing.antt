@@ -12,7 +12,7 @@ use Rattle.ksv_nodes.specs.declared.given.Given.{Given}
 use Rattle.ksv_nodes.specs.Numbers.{node_number, node_bound}
 use Rattle.ksv_nodes.specs.Turning.{fault_at}
 use Rattle.ksv_nodes.specs.Truth.{answer_of, asks_of, uses_of}
-use Rattle.ksv_rules.specs.Meaning.{rule_of}
+use Rattle.ksv_rule_meaning.specs.Meaning.{rule_of}
 
 -- a node was asked while it was open
 abbrev pub circle : Node → Result Given Fault

@@ -14,7 +14,7 @@ use Rattle.ksv_nodes.specs.declared.node.Node.{Node}
 use Rattle.ksv_nodes.specs.declared.given.Given.{Given}
 use Rattle.ksv_nodes.specs.Numbers.{node_number, node_bound}
 use Rattle.ksv_nodes.specs.Turning.{State, turns, fresh}
-use Rattle.ksv_rules.specs.Meaning.{rule_of}
+use Rattle.ksv_rule_meaning.specs.Meaning.{rule_of}
 
 -- ---- how many nodes a rule asks at most
 

@@ -1,8 +1,8 @@
 //! Laws of the rules of a description, each a contract of a function that does nothing. Those of what nodes answer are in
 //! ksv_rule_laws.
 
-ghost use Rattle.ksv_rules.specs.Bounds.{RulesAreBounded};
-ghost use Rattle.ksv_rules.specs.Direct.{AnswersAreDirect, AsksAreDirect, AnswersFollowRules, NextMeetsTruth};
+ghost use Rattle.ksv_rule_meaning.specs.Bounds.{RulesAreBounded};
+ghost use Rattle.ksv_rule_meaning.specs.Direct.{AnswersAreDirect, AsksAreDirect, AnswersFollowRules, NextMeetsTruth};
 
 /// Evaluation from nothing by replies, as an engine has it, is evaluation from nothing by direct recursion on the rules: what a
 /// node answers, what it asks, and what it uses.

@@ -15,7 +15,7 @@ use Rattle.ksv_expr_eval.specs.Operators.{same_truth}
 use Rattle.ksv_desc.specs.Description.{Content, CaseValue, Literal, Negated, EnumValue, Case, Choice, Always, Switch}
 use Rattle.ksv_desc.specs.Description as contents
 use Rattle.ksv_nodes.specs.Rule.{Rule, raise}
-use Rattle.ksv_rule_heads.specs.Wanted.{expression}
+use Rattle.ksv_rule_meaning.specs.Wanted.{expression}
 
 -- ---- what a value equals
 

@@ -1,4 +1,8 @@
 -- The definitions of node rules.
+pub mod Fields
+pub mod Wanted
+pub mod Choosing
+pub mod Heads
 pub mod Integers
 pub mod Values
 pub mod Ends

@@ -4,31 +4,45 @@ ghost use Rattle.std.specs.Prelude.{◌≡◌};
 ghost use Rattle.ksv_desc.specs.Whole.{plain_pieces};
 ghost use Rattle.ksv_memo.specs.Meaning.{IsAddedTo};
 ghost use Rattle.ksv_nodes.specs.Exact.{node_exact};
-ghost use Rattle.ksv_rules.specs.Described.{described};
-ghost use Rattle.ksv_rules.specs.Lawful.{described_lawful};
+ghost use Rattle.ksv_nodes.specs.Turning.{Runs};
+ghost use Rattle.ksv_rule_meaning.specs.Described.{described};
+ghost use Rattle.ksv_rule_meaning.specs.Lawful.{described_lawful};
+ghost use Rattle.ksv_rule_meaning.specs.Meaning.{rule_of};
 
-use crate::rules::rule;
 use ksv_bytes::{Buffer, Use};
 use ksv_desc::Desc;
-use ksv_expr_eval::Fault;
+use ksv_expr_value::Fault;
 use ksv_memo::{Next, Rules};
 use ksv_nodes::{Given, Halt, Node, Turn};
 use std::alloc::{AllocError, Global};
+use std::marker::PhantomData;
 
 type Answer = Result<Given, Fault>;
 
-/// The rules of a description: what each node of a file that it describes asks and answers.
-#[derive(Drop)]
-pub struct Described {
-    desc: Desc,
+/// Code that runs the rule of each node of a file that a description describes.
+pub trait NodeRules {
+    /// Runs a node's rule.
+    fn rule(turn: &mut Turn, desc: &Desc, node: &Node) -> Result<Given, Halt>
+        ensures { Runs (rule_of (plain_pieces desc.now) node.now) (λ given. given) turn.old turn.new result };
 }
 
-impl Described {
+/// The rules of a description: what each node of a file that it describes asks and answers, run by the code of `R`.
+#[derive(Drop)]
+pub struct Described<R> {
+    /// The description.
+    pub desc: Desc,
+    rules: PhantomData<R>,
+}
+
+impl<R> Described<R> {
     /// The rules of this description. It takes no memory.
     pub fn new(desc: Desc) -> Self
         ensures { result.desc ≡ desc }
     {
-        Described { desc }
+        Described {
+            desc,
+            rules: PhantomData,
+        }
     }
 
     /// The description.
@@ -39,11 +53,11 @@ impl Described {
     }
 }
 
-impl Rules for Described {
+impl<R: NodeRules> Rules for Described<R> {
     ghost use Rattle.ksv_desc.specs.Whole.{plain_pieces};
     ghost use Rattle.ksv_nodes.specs.Exact.{node_exact};
-    ghost use Rattle.ksv_rules.specs.Described.{described};
-    ghost use Rattle.ksv_rules.specs.Lawful.{described_lawful};
+    ghost use Rattle.ksv_rule_meaning.specs.Described.{described};
+    ghost use Rattle.ksv_rule_meaning.specs.Lawful.{described_lawful};
 
     type Node = Node;
 
@@ -62,7 +76,7 @@ impl Rules for Described {
         uses: &mut Vec<Use>,
     ) -> Result<Next<Node, Answer>, AllocError> {
         let mut turn = Turn::new(alloc, &node.path, bytes, replies);
-        let next = match rule(&mut turn, &self.desc, node) {
+        let next = match R::rule(&mut turn, &self.desc, node) {
             Ok(given) => Next::Done(Ok(given)),
             Err(Halt::Need(needed)) => Next::Need(needed),
             Err(Halt::Fault(fault)) => Next::Done(Err(fault)),

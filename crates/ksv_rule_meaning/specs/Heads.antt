@@ -22,9 +22,9 @@ use Rattle.ksv_nodes.specs.declared.turn.Found.{Found}
 use Rattle.ksv_nodes.specs.declared.turn.Found.TheVariants as founds
 use Rattle.ksv_nodes.specs.declared.given.Ended.{Ended}
 use Rattle.ksv_nodes.specs.Rule.{Rule, raise, There, part, ask_head, ask_end, reach, finish, done, find}
-use Rattle.ksv_rule_heads.specs.Fields.{Sought, member_named, field_of}
-use Rattle.ksv_rule_heads.specs.Choosing.{Chosen, choose}
-use Rattle.ksv_rule_heads.specs.Wanted.{whole, in_object, holds, size_of, stream_for}
+use Rattle.ksv_rule_meaning.specs.Fields.{Sought, member_named, field_of}
+use Rattle.ksv_rule_meaning.specs.Choosing.{Chosen, choose}
+use Rattle.ksv_rule_meaning.specs.Wanted.{whole, in_object, holds, size_of, stream_for}
 
 -- ---- what is read at a place
 

@@ -24,11 +24,11 @@ use Rattle.ksv_nodes.specs.Rule.{Rule, Of, See, There}
 use Rattle.ksv_nodes.specs.Turning.{State, fault_at, raised, seen_in, turns}
 use Rattle.ksv_nodes.specs.Truth.{answer_of, asks_of, uses_of, with_given, with_seen, behind_given, behind_seen}
 use Rattle.ksv_nodes.proofs.Truth.{ends, needs}
-use Rattle.ksv_rules.specs.Meaning.{rule_of}
-use Rattle.ksv_rules.specs.FromNothing.{circle, answer_within, from_nothing}
-use Rattle.ksv_rules.specs.Described.{most_asks, resumed, step_of, described}
-use Rattle.ksv_rules.specs.Bounds.{settles}
-use Rattle.ksv_rules.specs.Direct.{flattened, AreSameUses, IsFree, IsDirect, AnswersAreDirect, AsksAreDirect, AnswersFollowRules, NeedsNext, MeetsTruth, NextMeetsTruth}
+use Rattle.ksv_rule_meaning.specs.Meaning.{rule_of}
+use Rattle.ksv_rule_meaning.specs.FromNothing.{circle, answer_within, from_nothing}
+use Rattle.ksv_rule_meaning.specs.Described.{most_asks, resumed, step_of, described}
+use Rattle.ksv_rule_meaning.specs.Bounds.{settles}
+use Rattle.ksv_rule_meaning.specs.Direct.{flattened, AreSameUses, IsFree, IsDirect, AnswersAreDirect, AsksAreDirect, AnswersFollowRules, NeedsNext, MeetsTruth, NextMeetsTruth}
 
 -- ---- the same uses
 

@@ -1,5 +1,5 @@
-use Rattle.ksv_rules.proofs.Direct.{answers_are_direct, asks_are_direct, answers_follow_rules}
-use Rattle.ksv_rules.proofs.laws.evaluation_is_direct.Goals as goal
+use Rattle.ksv_rule_meaning.proofs.Direct.{answers_are_direct, asks_are_direct, answers_follow_rules}
+use Rattle.ksv_rule_meaning.proofs.laws.evaluation_is_direct.Goals as goal
 
 pub returns-clause-answers : goal.returns-clause-answers
 returns-clause-answers c = answers_are_direct

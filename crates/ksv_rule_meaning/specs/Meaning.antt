@@ -8,9 +8,9 @@ use Rattle.ksv_nodes.specs.declared.node.NodeKind.TheVariants as nodes
 use Rattle.ksv_nodes.specs.declared.given.Given.{Given}
 use Rattle.ksv_nodes.specs.declared.given.Given.TheVariants as givens
 use Rattle.ksv_nodes.specs.Rule.{Rule}
-use Rattle.ksv_rule_heads.specs.Heads.{head_of}
-use Rattle.ksv_rules.specs.Values.{value_of}
-use Rattle.ksv_rules.specs.Ends.{end_of, rest_of}
+use Rattle.ksv_rule_meaning.specs.Heads.{head_of}
+use Rattle.ksv_rule_meaning.specs.Values.{value_of}
+use Rattle.ksv_rule_meaning.specs.Ends.{end_of, rest_of}
 
 unfoldable pub meaning_of : Description → NodeKind → Trail → Rule Given
 meaning_of d nodes.Head p = do

@@ -4,7 +4,7 @@ use Rattle.std.proofs.lemmas.List.{drop_more, reverse-append, take_more, length-
 use Rattle.std.proofs.lemmas.Grind.{pow_more}
 use Rattle.std.proofs.lemmas.Nat.{pow-add, one_shl}
 use Rattle.std.proofs.Math.Nat.{pow-le-pow_right, mul-le-mul_left, mul_assoc, mul_comm, mul-one}
-use Rattle.ksv_rules.specs.Integers.{sum_of_bytes}
+use Rattle.ksv_rule_meaning.specs.Integers.{sum_of_bytes}
 
 -- one more byte behind those that were read from the front
 pub front_more : (bytes : List ℕ) (i value byte : ℕ) → i < length bytes → value ≡ sum_of_bytes (reverse (take i bytes)) → byte ≡ get_or bytes i 0

@@ -16,9 +16,9 @@ use Rattle.ksv_nodes.specs.declared.given.Head.TheVariants as heads
 use Rattle.ksv_nodes.specs.declared.given.Ended.{Ended}
 use Rattle.ksv_nodes.specs.declared.given.Rested.{Rested}
 use Rattle.ksv_nodes.specs.Rule.{Rule, There, raise, part, ask_head, ask_end, ask_rest, finish, done}
-use Rattle.ksv_rule_heads.specs.Fields.{members_of, last_attribute, field_of}
-use Rattle.ksv_rule_heads.specs.Wanted.{truth_of}
-use Rattle.ksv_rule_heads.specs.Heads.{part_end, in_list}
+use Rattle.ksv_rule_meaning.specs.Fields.{members_of, last_attribute, field_of}
+use Rattle.ksv_rule_meaning.specs.Wanted.{truth_of}
+use Rattle.ksv_rule_meaning.specs.Heads.{part_end, in_list}
 
 -- ---- ends
 

@@ -14,9 +14,9 @@ use Rattle.ksv_nodes.specs.declared.node.Node.{Node}
 use Rattle.ksv_nodes.specs.declared.given.Given.{Given}
 use Rattle.ksv_nodes.specs.Numbers.{node_number}
 use Rattle.ksv_nodes.specs.Truth.{answer_of, asks_of, uses_of}
-use Rattle.ksv_rules.specs.Meaning.{rule_of}
-use Rattle.ksv_rules.specs.FromNothing.{circle, from_nothing, asks, uses}
-use Rattle.ksv_rules.specs.Described.{described}
+use Rattle.ksv_rule_meaning.specs.Meaning.{rule_of}
+use Rattle.ksv_rule_meaning.specs.FromNothing.{circle, from_nothing, asks, uses}
+use Rattle.ksv_rule_meaning.specs.Described.{described}
 
 -- an outcome as an answer: a node that was asked while it was open is the fault circle at its path
 abbrev pub flattened : Outcome Node (Result Given Fault) → Result Given Fault

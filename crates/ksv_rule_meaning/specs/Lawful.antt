@@ -12,9 +12,9 @@ use Rattle.ksv_nodes.specs.Numbers.{node_number-one, node_number-below}
 use Rattle.ksv_nodes.specs.Turning.{State}
 use Rattle.ksv_nodes.specs.Laws.{ran_on}
 use Rattle.ksv_nodes.proofs.Resuming.{is_local, fits}
-use Rattle.ksv_rules.specs.Meaning.{rule_of}
-use Rattle.ksv_rules.specs.Described.{described, resumed, step_of}
-use Rattle.ksv_rules.specs.Bounds.{settles}
+use Rattle.ksv_rule_meaning.specs.Meaning.{rule_of}
+use Rattle.ksv_rule_meaning.specs.Described.{described, resumed, step_of}
+use Rattle.ksv_rule_meaning.specs.Bounds.{settles}
 
 -- on other bytes a run comes to the same step, with the same uses
 step_on : (others : List ℕ) (r : Ran Node Fault State Given) → step_of (ran_on others r) ≡ step_of r

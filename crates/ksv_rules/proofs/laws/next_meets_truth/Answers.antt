@@ -1,5 +1,0 @@
-use Rattle.ksv_rules.proofs.Direct.{next_meets_truth}
-use Rattle.ksv_rules.proofs.laws.next_meets_truth.Goals as goal
-
-pub returns : goal.returns
-returns c = next_meets_truth
