@@ -65,10 +65,10 @@ fn of_answer(answer: Answer<Node, Given, Fault>) -> Heard
 }
 
 /// Hears the node of a kind at a path, by an engine that is right for the bytes.
-pub(crate) fn hear<R: NodeRules>(
+pub(crate) fn hear<N: NodeRules>(
     alloc: Global,
-    engine: &mut Engine<Described<R>>,
-    described: &Described<R>,
+    engine: &mut Engine<Described<N>>,
+    described: &Described<N>,
     buffer: &Buffer,
     kind: NodeKind,
     path: &Path,
@@ -92,10 +92,10 @@ fn passed(heard: Heard) -> Result<Given, Untold>
 }
 
 /// What the node of a kind at a path answers.
-pub(crate) fn ask<R: NodeRules>(
+pub(crate) fn ask<N: NodeRules>(
     alloc: Global,
-    engine: &mut Engine<Described<R>>,
-    described: &Described<R>,
+    engine: &mut Engine<Described<N>>,
+    described: &Described<N>,
     buffer: &Buffer,
     kind: NodeKind,
     path: &Path,

@@ -59,10 +59,10 @@ fn unasked(alloc: Global, desc: &Desc, path: &Path, left: u32) -> Result<Dumped,
 
 /// The part of a path, so many deep at most.
 #[cycle(dump)]
-fn dump_part<R: NodeRules>(
+fn dump_part<N: NodeRules>(
     alloc: Global,
-    engine: &mut Engine<Described<R>>,
-    described: &Described<R>,
+    engine: &mut Engine<Described<N>>,
+    described: &Described<N>,
     buffer: &Buffer,
     depth: u32,
     left: u32,
@@ -80,10 +80,10 @@ fn dump_part<R: NodeRules>(
 
 /// The part of a path that was begun.
 #[cycle(dump)]
-fn asked_part<R: NodeRules>(
+fn asked_part<N: NodeRules>(
     alloc: Global,
-    engine: &mut Engine<Described<R>>,
-    described: &Described<R>,
+    engine: &mut Engine<Described<N>>,
+    described: &Described<N>,
     buffer: &Buffer,
     depth: u32,
     left: u32,
@@ -100,10 +100,10 @@ fn asked_part<R: NodeRules>(
 
 /// The part of a value.
 #[cycle(dump)]
-fn value_part<R: NodeRules>(
+fn value_part<N: NodeRules>(
     alloc: Global,
-    engine: &mut Engine<Described<R>>,
-    described: &Described<R>,
+    engine: &mut Engine<Described<N>>,
+    described: &Described<N>,
     buffer: &Buffer,
     depth: u32,
     left: u32,
@@ -125,10 +125,10 @@ fn value_part<R: NodeRules>(
 
 /// The part of an object.
 #[cycle(dump)]
-fn object_part<R: NodeRules>(
+fn object_part<N: NodeRules>(
     alloc: Global,
-    engine: &mut Engine<Described<R>>,
-    described: &Described<R>,
+    engine: &mut Engine<Described<N>>,
+    described: &Described<N>,
     buffer: &Buffer,
     depth: u32,
     left: u32,
@@ -148,10 +148,10 @@ fn object_part<R: NodeRules>(
 
 /// The members of an object.
 #[cycle(dump)]
-fn members_part<R: NodeRules>(
+fn members_part<N: NodeRules>(
     alloc: Global,
-    engine: &mut Engine<Described<R>>,
-    described: &Described<R>,
+    engine: &mut Engine<Described<N>>,
+    described: &Described<N>,
     buffer: &Buffer,
     depth: u32,
     left: u32,
@@ -182,10 +182,10 @@ fn members_part<R: NodeRules>(
 
 /// The part of a list.
 #[cycle(dump)]
-fn list_part<R: NodeRules>(
+fn list_part<N: NodeRules>(
     alloc: Global,
-    engine: &mut Engine<Described<R>>,
-    described: &Described<R>,
+    engine: &mut Engine<Described<N>>,
+    described: &Described<N>,
     buffer: &Buffer,
     depth: u32,
     left: u32,
@@ -202,10 +202,10 @@ fn list_part<R: NodeRules>(
 
 /// The elements of a list.
 #[cycle(dump)]
-fn elements_part<R: NodeRules>(
+fn elements_part<N: NodeRules>(
     alloc: Global,
-    engine: &mut Engine<Described<R>>,
-    described: &Described<R>,
+    engine: &mut Engine<Described<N>>,
+    described: &Described<N>,
     buffer: &Buffer,
     depth: u32,
     left: u32,
@@ -231,10 +231,10 @@ fn elements_part<R: NodeRules>(
 
 /// The part of a member or element; without a path, one that would be too long.
 #[cycle(dump)]
-fn inner_part<R: NodeRules>(
+fn inner_part<N: NodeRules>(
     alloc: Global,
-    engine: &mut Engine<Described<R>>,
-    described: &Described<R>,
+    engine: &mut Engine<Described<N>>,
+    described: &Described<N>,
     buffer: &Buffer,
     depth: u32,
     left: u32,
@@ -260,10 +260,10 @@ fn written_text(alloc: Global, whole: &Dumped) -> Result<String, Untold>
 
 /// The text of a value with all that is in it.
 #[tactic(auto, unfolding(crate::specs::Dumps::whole_text))]
-fn whole_text<R: NodeRules>(
+fn whole_text<N: NodeRules>(
     alloc: Global,
-    engine: &mut Engine<Described<R>>,
-    described: &Described<R>,
+    engine: &mut Engine<Described<N>>,
+    described: &Described<N>,
     buffer: &Buffer,
     path: &Path,
     value: &Value,
@@ -287,10 +287,10 @@ fn whole_text<R: NodeRules>(
 
 /// The value at a path with all that is in it.
 #[tactic(auto, unfolding(crate::specs::Dumps::dump_question))]
-pub(crate) fn dump_question<R: NodeRules>(
+pub(crate) fn dump_question<N: NodeRules>(
     alloc: Global,
-    engine: &mut Engine<Described<R>>,
-    described: &Described<R>,
+    engine: &mut Engine<Described<N>>,
+    described: &Described<N>,
     buffer: &Buffer,
     path: &Path,
 ) -> Result<String, Untold>

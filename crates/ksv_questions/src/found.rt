@@ -38,10 +38,10 @@ fn value_in(
 
 /// The value at a path.
 #[tactic(auto, unfolding(crate::specs::Dumps::find_value))]
-pub(crate) fn find_value<R: NodeRules>(
+pub(crate) fn find_value<N: NodeRules>(
     alloc: Global,
-    engine: &mut Engine<Described<R>>,
-    described: &Described<R>,
+    engine: &mut Engine<Described<N>>,
+    described: &Described<N>,
     buffer: &Buffer,
     path: &Path,
 ) -> Result<Result<Value, Json>, Untold>
@@ -70,10 +70,10 @@ fn object_in(
 
 /// The type of the object at a path.
 #[tactic(auto, unfolding(crate::specs::Dumps::find_object))]
-pub(crate) fn find_object<R: NodeRules>(
+pub(crate) fn find_object<N: NodeRules>(
     alloc: Global,
-    engine: &mut Engine<Described<R>>,
-    described: &Described<R>,
+    engine: &mut Engine<Described<N>>,
+    described: &Described<N>,
     buffer: &Buffer,
     object: &Path,
 ) -> Result<Result<u32, Json>, Untold>
@@ -101,10 +101,10 @@ fn count_in(
 }
 
 /// The number of elements of the list at a path, whose first element has this one.
-fn counted<R: NodeRules>(
+fn counted<N: NodeRules>(
     alloc: Global,
-    engine: &mut Engine<Described<R>>,
-    described: &Described<R>,
+    engine: &mut Engine<Described<N>>,
+    described: &Described<N>,
     buffer: &Buffer,
     list: &Path,
     first: &Path,
@@ -125,10 +125,10 @@ fn uncounted(alloc: Global, desc: &Desc, list: &Path) -> Result<Result<u32, Json
 }
 
 /// The number of elements of the list at a path.
-pub(crate) fn find_list<R: NodeRules>(
+pub(crate) fn find_list<N: NodeRules>(
     alloc: Global,
-    engine: &mut Engine<Described<R>>,
-    described: &Described<R>,
+    engine: &mut Engine<Described<N>>,
+    described: &Described<N>,
     buffer: &Buffer,
     list: &Path,
 ) -> Result<Result<u32, Json>, Untold>

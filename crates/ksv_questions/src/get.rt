@@ -34,10 +34,10 @@ fn object_text(alloc: Global, desc: &Desc, path: &Path, head: Head) -> Result<St
 
 /// The text of the object of a path.
 #[tactic(auto, unfolding(crate::specs::Questions::of_object))]
-fn of_object<R: NodeRules>(
+fn of_object<N: NodeRules>(
     alloc: Global,
-    engine: &mut Engine<Described<R>>,
-    described: &Described<R>,
+    engine: &mut Engine<Described<N>>,
+    described: &Described<N>,
     buffer: &Buffer,
     path: &Path,
     object: &Path,
@@ -74,10 +74,10 @@ fn plain_text(
 
 /// The text of a value.
 #[tactic(auto, unfolding(crate::specs::Questions::of_value))]
-fn of_value<R: NodeRules>(
+fn of_value<N: NodeRules>(
     alloc: Global,
-    engine: &mut Engine<Described<R>>,
-    described: &Described<R>,
+    engine: &mut Engine<Described<N>>,
+    described: &Described<N>,
     buffer: &Buffer,
     path: &Path,
     value: &Value,
@@ -94,10 +94,10 @@ fn of_value<R: NodeRules>(
 
 /// The text of the value at a path.
 #[tactic(auto, unfolding(crate::specs::Questions::value_question))]
-pub(crate) fn value_question<R: NodeRules>(
+pub(crate) fn value_question<N: NodeRules>(
     alloc: Global,
-    engine: &mut Engine<Described<R>>,
-    described: &Described<R>,
+    engine: &mut Engine<Described<N>>,
+    described: &Described<N>,
     buffer: &Buffer,
     path: &Path,
 ) -> Result<String, Untold>

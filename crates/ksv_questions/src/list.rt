@@ -28,10 +28,10 @@ fn list_text(alloc: Global, count: u32) -> Result<String, Untold>
 
 /// The text of the list of a path; `path` is the one that the question is about.
 #[tactic(auto, unfolding(crate::specs::Questions::of_list))]
-pub(crate) fn of_list<R: NodeRules>(
+pub(crate) fn of_list<N: NodeRules>(
     alloc: Global,
-    engine: &mut Engine<Described<R>>,
-    described: &Described<R>,
+    engine: &mut Engine<Described<N>>,
+    described: &Described<N>,
     buffer: &Buffer,
     path: &Path,
     list: &Path,

@@ -38,10 +38,10 @@ fn names_text(alloc: Global, desc: &Desc, names: &[u32]) -> Result<String, Alloc
 }
 
 /// What the thing there has.
-fn parts_of<R: NodeRules>(
+fn parts_of<N: NodeRules>(
     alloc: Global,
-    engine: &mut Engine<Described<R>>,
-    described: &Described<R>,
+    engine: &mut Engine<Described<N>>,
+    described: &Described<N>,
     buffer: &Buffer,
     path: &Path,
     head: Head,
@@ -62,10 +62,10 @@ fn parts_of<R: NodeRules>(
 
 /// What is in the thing at a path.
 #[tactic(auto, unfolding(crate::specs::Questions::members_question))]
-pub(crate) fn members_question<R: NodeRules>(
+pub(crate) fn members_question<N: NodeRules>(
     alloc: Global,
-    engine: &mut Engine<Described<R>>,
-    described: &Described<R>,
+    engine: &mut Engine<Described<N>>,
+    described: &Described<N>,
     buffer: &Buffer,
     path: &Path,
 ) -> Result<String, Untold>

@@ -58,10 +58,10 @@ fn in_end(alloc: Global, path: &Path, given: &Given) -> Result<u32, Untold>
 
 /// What is at a path; `path` is the one that the question is about.
 #[tactic(auto, unfolding(crate::specs::Questions::ask_head))]
-pub(crate) fn ask_head<R: NodeRules>(
+pub(crate) fn ask_head<N: NodeRules>(
     alloc: Global,
-    engine: &mut Engine<Described<R>>,
-    described: &Described<R>,
+    engine: &mut Engine<Described<N>>,
+    described: &Described<N>,
     buffer: &Buffer,
     path: &Path,
     asked: &Path,
@@ -75,10 +75,10 @@ pub(crate) fn ask_head<R: NodeRules>(
 
 /// The number of elements of a list.
 #[tactic(auto, unfolding(crate::specs::Questions::first_asked))]
-pub(crate) fn first_asked<R: NodeRules>(
+pub(crate) fn first_asked<N: NodeRules>(
     alloc: Global,
-    engine: &mut Engine<Described<R>>,
-    described: &Described<R>,
+    engine: &mut Engine<Described<N>>,
+    described: &Described<N>,
     buffer: &Buffer,
     path: &Path,
     list: &Path,
@@ -95,10 +95,10 @@ pub(crate) fn first_asked<R: NodeRules>(
 
 /// The value at a path.
 #[tactic(auto, unfolding(crate::specs::Questions::ask_value))]
-pub(crate) fn ask_value<R: NodeRules>(
+pub(crate) fn ask_value<N: NodeRules>(
     alloc: Global,
-    engine: &mut Engine<Described<R>>,
-    described: &Described<R>,
+    engine: &mut Engine<Described<N>>,
+    described: &Described<N>,
     buffer: &Buffer,
     path: &Path,
 ) -> Result<Value, Untold>
@@ -111,10 +111,10 @@ pub(crate) fn ask_value<R: NodeRules>(
 
 /// The place where what is at a path ends.
 #[tactic(auto, unfolding(crate::specs::Questions::ask_end))]
-pub(crate) fn ask_end<R: NodeRules>(
+pub(crate) fn ask_end<N: NodeRules>(
     alloc: Global,
-    engine: &mut Engine<Described<R>>,
-    described: &Described<R>,
+    engine: &mut Engine<Described<N>>,
+    described: &Described<N>,
     buffer: &Buffer,
     path: &Path,
 ) -> Result<u32, Untold>

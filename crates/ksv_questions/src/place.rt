@@ -30,10 +30,10 @@ fn places_text(alloc: Global, from: u32, to: u32) -> Result<String, Untold>
 
 /// What begins at a place: it is asked where it ends.
 #[tactic(auto, unfolding(crate::specs::Questions::from_place))]
-fn from_place<R: NodeRules>(
+fn from_place<N: NodeRules>(
     alloc: Global,
-    engine: &mut Engine<Described<R>>,
-    described: &Described<R>,
+    engine: &mut Engine<Described<N>>,
+    described: &Described<N>,
     buffer: &Buffer,
     path: &Path,
     from: u32,
@@ -46,10 +46,10 @@ fn from_place<R: NodeRules>(
 }
 
 /// Where what is there is.
-fn of_head<R: NodeRules>(
+fn of_head<N: NodeRules>(
     alloc: Global,
-    engine: &mut Engine<Described<R>>,
-    described: &Described<R>,
+    engine: &mut Engine<Described<N>>,
+    described: &Described<N>,
     buffer: &Buffer,
     path: &Path,
     head: Head,
@@ -77,10 +77,10 @@ fn of_head<R: NodeRules>(
 
 /// Where what is at a path is.
 #[tactic(auto, unfolding(crate::specs::Questions::place_question))]
-pub(crate) fn place_question<R: NodeRules>(
+pub(crate) fn place_question<N: NodeRules>(
     alloc: Global,
-    engine: &mut Engine<Described<R>>,
-    described: &Described<R>,
+    engine: &mut Engine<Described<N>>,
+    described: &Described<N>,
     buffer: &Buffer,
     path: &Path,
 ) -> Result<String, Untold>

@@ -61,10 +61,10 @@ fn over_head(desc: &Desc, head: Head, number: Integer) -> Result<Overwrite, Unto
 
 /// What writing an integer over what is at a path means.
 #[tactic(auto, unfolding(crate::specs::Writing::put_question))]
-fn put_question<R: NodeRules>(
+fn put_question<N: NodeRules>(
     alloc: Global,
-    engine: &mut Engine<Described<R>>,
-    described: &Described<R>,
+    engine: &mut Engine<Described<N>>,
+    described: &Described<N>,
     buffer: &Buffer,
     path: &Path,
     number: Integer,
@@ -78,10 +78,10 @@ fn put_question<R: NodeRules>(
 
 /// What writing an integer over the one at a path means: the bytes to write, or the reply to a `put` that isn't done, its LF aside.
 /// The engine, which must be right for the bytes, keeps what was evaluated for it.
-pub fn overwrite_for<R: NodeRules>(
+pub fn overwrite_for<N: NodeRules>(
     alloc: Global,
-    engine: &mut Engine<Described<R>>,
-    described: &Described<R>,
+    engine: &mut Engine<Described<N>>,
+    described: &Described<N>,
     buffer: &Buffer,
     path: &Path,
     number: Integer,

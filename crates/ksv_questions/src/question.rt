@@ -33,10 +33,10 @@ pub enum Question {
 }
 
 /// What an engine was asked for a question.
-fn asked<R: NodeRules>(
+fn asked<N: NodeRules>(
     alloc: Global,
-    engine: &mut Engine<Described<R>>,
-    described: &Described<R>,
+    engine: &mut Engine<Described<N>>,
+    described: &Described<N>,
     buffer: &Buffer,
     question: &Question,
 ) -> Result<String, Untold>
@@ -65,10 +65,10 @@ pub(crate) fn failure_text(alloc: Global, desc: &Desc, why: &Untold) -> Result<S
 /// The reply to a question, its LF aside: the text of what evaluating the description from nothing on the current bytes gives.
 /// The engine, which must be right for these bytes, keeps what was evaluated for it.
 #[tactic(auto, unfolding(crate::specs::Answers::question_text))]
-pub fn answer<R: NodeRules>(
+pub fn answer<N: NodeRules>(
     alloc: Global,
-    engine: &mut Engine<Described<R>>,
-    described: &Described<R>,
+    engine: &mut Engine<Described<N>>,
+    described: &Described<N>,
     buffer: &Buffer,
     question: &Question,
 ) -> Result<String, AllocError>

@@ -1,6 +1,6 @@
 //! Laws of what the nodes of a file answer.
 //!
-//! They speak of the definitions of ksv_rule_heads and ksv_rules alone: an error that a rule and its function had in common would
+//! They speak of the definitions of ksv_rule_meaning alone: an error that a rule and its function had in common would
 //! break them. No program stands on this crate.
 #![tactic(auto)]
 

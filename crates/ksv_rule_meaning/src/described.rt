@@ -26,15 +26,15 @@ pub trait NodeRules {
         ensures { Runs (rule_of (plain_pieces desc.now) node.now) (λ given. given) turn.old turn.new result };
 }
 
-/// The rules of a description: what each node of a file that it describes asks and answers, run by the code of `R`.
+/// The rules of a description: what each node of a file that it describes asks and answers, run by the code of `N`.
 #[derive(Drop)]
-pub struct Described<R> {
+pub struct Described<N> {
     /// The description.
     pub desc: Desc,
-    rules: PhantomData<R>,
+    rules: PhantomData<N>,
 }
 
-impl<R> Described<R> {
+impl<N> Described<N> {
     /// The rules of this description. It takes no memory.
     pub fn new(desc: Desc) -> Self
         ensures { result.desc ≡ desc }
@@ -53,7 +53,7 @@ impl<R> Described<R> {
     }
 }
 
-impl<R: NodeRules> Rules for Described<R> {
+impl<N: NodeRules> Rules for Described<N> {
     ghost use Rattle.ksv_desc.specs.Whole.{plain_pieces};
     ghost use Rattle.ksv_nodes.specs.Exact.{node_exact};
     ghost use Rattle.ksv_rule_meaning.specs.Described.{described};
@@ -76,7 +76,7 @@ impl<R: NodeRules> Rules for Described<R> {
         uses: &mut Vec<Use>,
     ) -> Result<Next<Node, Answer>, AllocError> {
         let mut turn = Turn::new(alloc, &node.path, bytes, replies);
-        let next = match R::rule(&mut turn, &self.desc, node) {
+        let next = match N::rule(&mut turn, &self.desc, node) {
             Ok(given) => Next::Done(Ok(given)),
             Err(Halt::Need(needed)) => Next::Need(needed),
             Err(Halt::Fault(fault)) => Next::Done(Err(fault)),

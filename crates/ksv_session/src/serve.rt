@@ -11,6 +11,7 @@ use crate::session::{NewFault, Session};
 use ksv_bytes::Buffer;
 use ksv_desc::Desc;
 use ksv_lines::{Failed, LineBuffer, Sink, Source, send};
+use ksv_rule_meaning::NodeRules;
 use std::alloc::Global;
 
 /// Why a session ended.
@@ -30,7 +31,11 @@ pub enum End {
 const PIECE_ROOM: usize = 4096;
 
 /// Answers one line, and returns whether it was the last.
-fn answer_line<W: Sink>(session: &mut Session, line: &[u8], writer: &mut W) -> Result<bool, Failed>
+fn answer_line<N: NodeRules, W: Sink>(
+    session: &mut Session<N>,
+    line: &[u8],
+    writer: &mut W,
+) -> Result<bool, Failed>
     requires { W.failed writer.old ≡ false }
     ensures answered { Answered session.old line.now session.new W.tells (W.bytes writer.old) (W.bytes writer.new) result }
     ensures fault { W.failed writer.new ≡ is_err result }
@@ -43,8 +48,8 @@ fn answer_line<W: Sink>(session: &mut Session, line: &[u8], writer: &mut W) -> R
 }
 
 /// Takes a piece of the input, answers each line that it ends, and returns whether the session ended.
-fn feed<W: Sink>(
-    session: &mut Session,
+fn feed<N: NodeRules, W: Sink>(
+    session: &mut Session<N>,
     line: &mut LineBuffer,
     piece: &[u8],
     writer: &mut W,
@@ -71,7 +76,7 @@ fn feed<W: Sink>(
 }
 
 /// Answers what comes after the last LF.
-fn finish<W: Sink>(session: &mut Session, line: &LineBuffer, writer: &mut W) -> End
+fn finish<N: NodeRules, W: Sink>(session: &mut Session<N>, line: &LineBuffer, writer: &mut W) -> End
     requires { W.failed writer.old ≡ false }
     ensures goes { (d : Description) (begin taken before : List ℕ) → description_of session.old ≡ d
         → Stands d begin taken session.old.bytes line.now W.tells before (W.bytes writer.old)
@@ -87,7 +92,11 @@ fn finish<W: Sink>(session: &mut Session, line: &LineBuffer, writer: &mut W) -> 
 }
 
 /// Serves a session that has begun: reads lines to the end of the input or to `quit`, and answers each.
-fn serve<R: Source, W: Sink>(reader: &mut R, writer: &mut W, session: &mut Session) -> End
+fn serve<N: NodeRules, R: Source, W: Sink>(
+    reader: &mut R,
+    writer: &mut W,
+    session: &mut Session<N>,
+) -> End
     requires reads { R.failed reader.old ≡ false }
     requires writes { W.failed writer.old ≡ false }
     ensures served { IsTrue R.tells →
@@ -122,7 +131,7 @@ fn serve<R: Source, W: Sink>(reader: &mut R, writer: &mut W, session: &mut Sessi
 /// [`End::ReadFailed`] means that a read failed, or that 2^64 - 1 reads gave bytes; [`End::WriteFailed`] that a
 /// write or a flush failed. The one error, of a file that is too large, comes before anything is read.
 #[tactic(auto, unfolding(crate::specs::Explored::description_of))]
-pub fn run<R: Source, W: Sink>(
+pub fn run<N: NodeRules, R: Source, W: Sink>(
     alloc: Global,
     reader: &mut R,
     writer: &mut W,
@@ -140,7 +149,7 @@ pub fn run<R: Source, W: Sink>(
     ensures too_large { IsErr result ↔ (file_limit < length bytes.items) }
     ensures untouched { OnErr result ((reader.new ≡ reader.old) × (writer.new ≡ writer.old)) }
 {
-    let mut session = Session::new(alloc, desc, bytes)?;
+    let mut session: Session<N> = Session::new(alloc, desc, bytes)?;
     let end = serve(reader, writer, &mut session);
     Ok((session.into_buffer(), end))
 }

@@ -19,7 +19,7 @@ use ksv_desc::Desc;
 use ksv_expr_value::{Integer, Path};
 use ksv_memo::Engine;
 use ksv_questions::{Overwrite, Question, answer, bytes_text, overwrite_for};
-use ksv_rules::Described;
+use ksv_rule_meaning::{Described, NodeRules};
 use std::alloc::{AllocError, Global};
 use std::marker::Model;
 use thiserror::Error;
@@ -33,17 +33,17 @@ pub enum NewFault {
 }
 
 /// A file that is explored by its description, with an engine that is right for its bytes. Contracts see the description, the current
-/// bytes, the kept nodes, and the turns of the last question.
+/// bytes, the kept nodes, and the turns of the last question. The code of `N` runs the rules of nodes.
 #[derive(Drop)]
-pub struct Session {
+pub struct Session<N: NodeRules> {
     alloc: Global,
-    described: Described,
+    described: Described<N>,
     buffer: Buffer,
-    engine: Engine<Described>,
+    engine: Engine<Described<N>>,
     turns: Option<u64>,
 }
 
-impl Model for Session {
+impl<N: NodeRules> Model for Session<N> {
     ghost use Rattle.ksv_desc.specs.Whole.{plain_pieces};
     ghost use Rattle.ksv_memo.specs.Right.{IsRight, nodes_of};
     ghost use Rattle.ksv_questions.specs.Engines.{world};
@@ -60,9 +60,9 @@ impl Model for Session {
     ghost invariant = { λ s. IsRight (world (plain_pieces s.described.desc) s.buffer) s.engine.kept };
 }
 
-impl Session {
+impl<N: NodeRules> Session<N> {
     /// A session over the bytes of a file, of which nothing is kept yet. It takes no memory.
-    pub fn new(alloc: Global, desc: Desc, bytes: Vec<u8>) -> Result<Session, NewFault>
+    pub fn new(alloc: Global, desc: Desc, bytes: Vec<u8>) -> Result<Session<N>, NewFault>
         ensures begun { IfOk result (λ session. session ≡ record { pieces = desc; bytes = bytes.items; kept = nothing_kept.kept; turns = nothing_kept.turns }) }
         ensures refused { IsErr result ↔ (file_limit < length bytes.items) }
     {

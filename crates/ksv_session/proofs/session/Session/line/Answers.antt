@@ -9,7 +9,7 @@ use Rattle.ksv_session.proofs.session.Session.line.Goals as goal
 -- only the path of a question is refused memory when a line is read
 pub returns-in_default-clause-memory : goal.returns-in_default-clause-memory
 unfolding description_of
-returns-in_default-clause-memory c m h =
+returns-in_default-clause-memory g c m h =
     unread_holds c.self.inside.described.desc c.self.inside.buffer c.self.inside.engine c.self.inside.turns c.args.self.now c.self.view_is m h
     c.self.invariant (command_of (description_of c.args.self.now) c.args.line.now)
     (subst (λ (x : Explored). IsTrue (is_question (command_of (description_of x) c.args.line.now))) c.self.view_is
