@@ -4,6 +4,4 @@ pub mod Characters
 pub mod Division
 pub mod Cases
 pub mod Numerals
-pub mod Wants
-pub mod Truths
 pub mod Whole

@@ -1,56 +1,14 @@
 //! The replies to an expression's questions, in order.
 ghost use Rattle.std.specs.Prelude.{◌≡◌, map, IfErr, IsErr, ◌++◌};
 ghost use Rattle.ksv_expr_value.specs.Bytes.{content};
-ghost use Rattle.ksv_expr_eval.specs.Heard.{heard};
-ghost use Rattle.ksv_expr_eval.specs.Replying.{RepliesWith, IsFault, Runs};
-ghost use Rattle.ksv_expr_eval.specs.Asked.{raise, given, value_for, opened_for, number_for, truth_for, bytes_for};
+ghost use Rattle.ksv_expr_meaning.specs.Heard.{heard};
+ghost use Rattle.ksv_expr_meaning.specs.Replying.{RepliesWith, IsFault, Runs};
+ghost use Rattle.ksv_expr_meaning.specs.Asked.{raise, given, value_for, opened_for, number_for, truth_for, bytes_for};
 
-use crate::want::{Got, Want};
-use ksv_expr_value::{Fault, FaultKind, Parts, Path, Stream, Value};
-use std::alloc::{AllocError, AllocFailed, Global};
+use ksv_expr_meaning::{Got, Halt, Opened, Want};
+use ksv_expr_value::{Fault, FaultKind, Parts, Path, Value};
+use std::alloc::Global;
 use std::marker::Model;
-
-/// Why an evaluation stops before its end.
-#[derive(Drop)]
-pub(crate) enum Halt {
-    /// A question has no reply.
-    Need(Want),
-    /// A fault.
-    Fault(Fault),
-    /// Memory was refused.
-    Memory,
-}
-
-impl From<AllocError> for Halt {
-    ghost use Rattle.std.specs.Prelude.{◌≡◌};
-    ghost use Rattle.ksv_expr_eval.specs.declared.replies.Halt.TheVariants.{Memory};
-
-    ghost from_gives = { λ _ e. e ≡ Memory };
-
-    fn from(_e: AllocError) -> Halt {
-        Halt::Memory
-    }
-}
-
-impl<T: Drop> From<AllocFailed<T>> for Halt {
-    ghost use Rattle.std.specs.Prelude.{◌≡◌};
-    ghost use Rattle.ksv_expr_eval.specs.declared.replies.Halt.TheVariants.{Memory};
-
-    ghost from_gives = { λ _ e. e ≡ Memory };
-
-    fn from(_e: AllocFailed<T>) -> Halt {
-        Halt::Memory
-    }
-}
-
-/// An object's type and stream.
-#[derive(Clone, Copy)]
-pub(crate) struct Opened {
-    /// The type's number.
-    pub(crate) type_number: u32,
-    /// The object's stream.
-    pub(crate) stream: Stream,
-}
 
 /// The replies that are left.
 #[derive(Drop)]
@@ -63,8 +21,8 @@ pub(crate) struct Replies<'a> {
 
 impl<'a> Model for Replies<'a> {
     ghost use Rattle.std.specs.Prelude.{◌≤◌, length, drop, map};
-    ghost use Rattle.ksv_expr_eval.specs.Heard.{heard};
-    ghost use Rattle.ksv_expr_eval.specs.Asked.{State};
+    ghost use Rattle.ksv_expr_meaning.specs.Heard.{heard};
+    ghost use Rattle.ksv_expr_meaning.specs.Asked.{State};
 
     ghost Value = { State };
 

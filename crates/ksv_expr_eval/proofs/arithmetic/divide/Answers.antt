@@ -1,5 +1,5 @@
 use Rattle.std.proofs.Common.{◌≡◌, ap, ◌∙◌, rules}
-use Rattle.ksv_expr_eval.specs.Integers.{floored_quotient}
+use Rattle.ksv_expr_meaning.specs.Integers.{floored_quotient}
 use Rattle.ksv_expr_value.specs.Range.{ranged}
 use Rattle.ksv_expr_eval.proofs.Division.{seen, seen_quotient}
 use Rattle.ksv_expr_eval.proofs.arithmetic.divide.Goals as goal

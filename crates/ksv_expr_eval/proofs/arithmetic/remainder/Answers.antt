@@ -1,5 +1,5 @@
 use Rattle.std.proofs.Common.{ap, ◌∙◌}
-use Rattle.ksv_expr_eval.specs.Integers.{floored_remainder}
+use Rattle.ksv_expr_meaning.specs.Integers.{floored_remainder}
 use Rattle.ksv_expr_value.specs.Range.{ranged}
 use Rattle.ksv_expr_eval.proofs.Division.{seen_remainder}
 use Rattle.ksv_expr_eval.proofs.arithmetic.remainder.Goals as goal

@@ -47,6 +47,15 @@ pub enum Got<'a> {
     Fault(Fault),
 }
 
+/// An object's type and stream, as a reply has them.
+#[derive(Clone, Copy)]
+pub struct Opened {
+    /// The type's number.
+    pub type_number: u32,
+    /// The object's stream.
+    pub stream: Stream,
+}
+
 /// The result of an evaluation.
 #[derive(Drop)]
 pub enum EvalStep {

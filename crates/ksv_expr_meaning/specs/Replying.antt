@@ -4,14 +4,14 @@ use Rattle.std.specs.Borrow.{Bor}
 use Rattle.ksv_plan.specs.Plan.{Ran, Need, Failed, Done, Handler, run}
 use Rattle.ksv_plan.specs.Asking.{by_replies}
 use Rattle.ksv_expr_value.specs.Trail.{Trail}
-use Rattle.ksv_expr_eval.specs.Heard.{Heard, heard}
-use Rattle.ksv_expr_eval.specs.Asked.{Eval, State, want_for}
+use Rattle.ksv_expr_meaning.specs.Heard.{Heard, heard}
+use Rattle.ksv_expr_meaning.specs.Asked.{Eval, State, want_for}
 use Rattle.ksv_expr_value.specs.declared.fault.Fault.{Fault}
 use Rattle.ksv_expr_value.specs.declared.fault.FaultKind.{FaultKind}
-use Rattle.ksv_expr_eval.specs.declared.want.Want.{Want}
-use Rattle.ksv_expr_eval.specs.declared.want.Got.{Got}
-use Rattle.ksv_expr_eval.specs.declared.replies.Halt.{Halt}
-use Rattle.ksv_expr_eval.specs.declared.replies.Halt.TheVariants as halts
+use Rattle.ksv_expr_meaning.specs.declared.want.Want.{Want}
+use Rattle.ksv_expr_meaning.specs.declared.want.Got.{Got}
+use Rattle.ksv_expr_meaning.specs.declared.halt.Halt.{Halt}
+use Rattle.ksv_expr_meaning.specs.declared.halt.Halt.TheVariants as halts
 
 -- a fault of an expression, at the path of its faults
 abbrev pub fault_at : Trail → FaultKind → Fault
