@@ -105,7 +105,7 @@ pub(crate) fn complement(number: Integer) -> Option<Integer>
 }
 
 /// `x & y`, if it is in the range.
-#[tactic(auto, using(crate::proofs::Bits::seen_and))]
+#[tactic(auto, using(ksv_expr_meaning::proofs::Bits::seen_and))]
 pub(crate) fn bit_and(number: Integer, other: Integer) -> Option<Integer>
     ensures { result ≡ ranged (bits_and number other) }
 {
@@ -113,7 +113,7 @@ pub(crate) fn bit_and(number: Integer, other: Integer) -> Option<Integer>
 }
 
 /// `x | y`, if it is in the range.
-#[tactic(auto, using(crate::proofs::Bits::seen_or))]
+#[tactic(auto, using(ksv_expr_meaning::proofs::Bits::seen_or))]
 pub(crate) fn bit_or(number: Integer, other: Integer) -> Option<Integer>
     ensures { result ≡ ranged (bits_or number other) }
 {
@@ -121,7 +121,7 @@ pub(crate) fn bit_or(number: Integer, other: Integer) -> Option<Integer>
 }
 
 /// `x ^ y`, if it is in the range.
-#[tactic(auto, using(crate::proofs::Bits::seen_xor))]
+#[tactic(auto, using(ksv_expr_meaning::proofs::Bits::seen_xor))]
 pub(crate) fn bit_xor(number: Integer, other: Integer) -> Option<Integer>
     ensures { result ≡ ranged (bits_xor number other) }
 {

@@ -4,13 +4,13 @@
 ghost use Rattle.std.specs.Prelude.{◌≡◌, ◌+◌, ◌<◌, ◌^◌, pos, Some, option_copied};
 ghost use Rattle.ksv_expr_value.specs.Bytes.{content};
 ghost use Rattle.ksv_expr_value.specs.Trail.{holder};
-ghost use Rattle.ksv_expr_meaning.specs.Replying.{Runs};
+ghost use Rattle.ksv_expr_eval.specs.Runs.{Runs};
 ghost use Rattle.ksv_expr_meaning.specs.Asked.{bytes_for};
 ghost use Rattle.ksv_expr_meaning.specs.Meaning.{in_path, member_path, member_value, element_path, element_value, element_count, holder_of, stream_of, index_value, element_read, special_value, ranged_member, enum_member, distance, size_to, stream_size, at_end, list_size, last_element, object_of_type, object_as, text_in, decoded_by, decoded_text, byte_from, byte_at, first_byte};
 
 use crate::arithmetic;
-use crate::replies::Replies;
-use ksv_expr_meaning::{Halt, Want};
+use crate::replies::{Halt, Replies};
+use ksv_expr_meaning::Want;
 use ksv_expr_tree::{EnumMember, SpecialName};
 use ksv_expr_value::{Ctx, Encoding, FaultKind, Integer, Parts, Path, Place, Stream, Text, Value};
 

@@ -2,15 +2,15 @@
 #![tactic(auto, using(ksv_plan::proofs::Running::run_bind))]
 
 ghost use Rattle.std.specs.Prelude.{◌≡◌, pos};
-ghost use Rattle.ksv_expr_meaning.specs.Replying.{Runs};
+ghost use Rattle.ksv_expr_eval.specs.Runs.{Runs};
 ghost use Rattle.ksv_expr_meaning.specs.Meaning.{in_truth_value, truth_value, same_bytes, bytes_with, integer_and, truth_and, text_and, bytes_and, member_and, binary_of, stream_method, list_method, method_of, method_by, field_of, object_special, special_of, bytes_call, call_one, call_two, list_at, bytes_at, item_at, cast_to};
 ghost use Rattle.ksv_expr_meaning.specs.Methods.{method_named};
 ghost use Rattle.ksv_expr_tree.specs.Tree.{name_of};
 
-use crate::method::method_named;
-use crate::replies::Replies;
+use crate::method::method_of_name;
+use crate::replies::{Halt, Replies};
 use crate::{asking, operators};
-use ksv_expr_meaning::{Halt, Method, Want};
+use ksv_expr_meaning::{Method, Want};
 use ksv_expr_tree::{BinaryOperator, Name, SpecialName};
 use ksv_expr_value::{Ctx, FaultKind, Integer, Path, Stream, Text, Value};
 
@@ -282,7 +282,7 @@ fn method_behind(
 ) -> Result<Value, Halt>
     ensures { Runs (method_by ctx.now own value.now (method_named (name_of name.now).text)) (λ v. v) replies.old replies.new result }
 {
-    let method = method_named(name.text.as_str());
+    let method = method_of_name(name.text.as_str());
     method_by(replies, ctx, own, value, method)
 }
 

@@ -1,11 +1,11 @@
-//! The names of methods.
+//! Methods by their names.
 ghost use Rattle.std.specs.Prelude.{◌≡◌};
 ghost use Rattle.ksv_expr_meaning.specs.Methods.{method_named};
 
 use ksv_expr_meaning::Method;
 
 /// The method of this name.
-pub(crate) fn method_named(name: &str) -> Option<Method>
+pub(crate) fn method_of_name(name: &str) -> Option<Method>
     ensures { result ≡ method_named name.now }
 {
     match name {

@@ -2,13 +2,46 @@
 ghost use Rattle.std.specs.Prelude.{◌≡◌, map, IfErr, IsErr, ◌++◌};
 ghost use Rattle.ksv_expr_value.specs.Bytes.{content};
 ghost use Rattle.ksv_expr_meaning.specs.Heard.{heard};
-ghost use Rattle.ksv_expr_meaning.specs.Replying.{RepliesWith, IsFault, Runs};
+ghost use Rattle.ksv_expr_eval.specs.Runs.{RepliesWith, IsFault, Runs};
 ghost use Rattle.ksv_expr_meaning.specs.Asked.{raise, given, value_for, opened_for, number_for, truth_for, bytes_for};
 
-use ksv_expr_meaning::{Got, Halt, Opened, Want};
-use ksv_expr_value::{Fault, FaultKind, Parts, Path, Value};
-use std::alloc::Global;
+use ksv_expr_meaning::{Got, Opened, Want};
+use ksv_expr_value::{Fault, FaultKind, Parts, Path, Stream, Value};
+use std::alloc::{AllocError, AllocFailed, Global};
 use std::marker::Model;
+
+/// Why an evaluation stops before its end.
+#[derive(Drop)]
+pub(crate) enum Halt {
+    /// A question has no reply.
+    Need(Want),
+    /// A fault.
+    Fault(Fault),
+    /// Memory was refused.
+    Memory,
+}
+
+impl From<AllocError> for Halt {
+    ghost use Rattle.std.specs.Prelude.{◌≡◌};
+    ghost use Rattle.ksv_expr_eval.specs.declared.replies.Halt.TheVariants.{Memory};
+
+    ghost from_gives = { λ _ e. e ≡ Memory };
+
+    fn from(_e: AllocError) -> Halt {
+        Halt::Memory
+    }
+}
+
+impl<T: Drop> From<AllocFailed<T>> for Halt {
+    ghost use Rattle.std.specs.Prelude.{◌≡◌};
+    ghost use Rattle.ksv_expr_eval.specs.declared.replies.Halt.TheVariants.{Memory};
+
+    ghost from_gives = { λ _ e. e ≡ Memory };
+
+    fn from(_e: AllocFailed<T>) -> Halt {
+        Halt::Memory
+    }
+}
 
 /// The replies that are left.
 #[derive(Drop)]

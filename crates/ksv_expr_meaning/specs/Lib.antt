@@ -1,4 +1,4 @@
--- The definitions of paths, values and the meaning of expressions.
+-- The meaning of expressions: what they ask, and their values over any answers.
 pub mod Integers
 pub mod Texts
 pub mod Methods

@@ -1,13 +1,10 @@
-//! What expressions mean: the definitions, and the types that they speak of.
-//!
-//! An expression is a plan (`specs/Meaning.antt`): what it asks of the file, and what it does with each answer. What stands on these
-//! definitions waits for no code that evaluates them.
+//! The meaning of expressions: what they ask for, what they get, and their values over any answers.
 #![tactic(auto)]
 
-mod halt;
+mod laws;
 mod method;
 mod want;
 
-pub use halt::Halt;
+pub use laws::{bits_are_told, division_is_floored, is_bounded, meaning_is_direct, truth_is_met};
 pub use method::Method;
 pub use want::{EvalStep, Got, Opened, Want};

@@ -47,15 +47,6 @@ pub enum Got<'a> {
     Fault(Fault),
 }
 
-/// An object's type and stream, as a reply has them.
-#[derive(Clone, Copy)]
-pub struct Opened {
-    /// The type's number.
-    pub type_number: u32,
-    /// The object's stream.
-    pub stream: Stream,
-}
-
 /// The result of an evaluation.
 #[derive(Drop)]
 pub enum EvalStep {
@@ -63,4 +54,13 @@ pub enum EvalStep {
     Need(Want),
     /// It ended with a value or a fault.
     Done(Result<Value, Fault>),
+}
+
+/// An object's type and stream.
+#[derive(Clone, Copy)]
+pub struct Opened {
+    /// The type's number in the description.
+    pub type_number: u32,
+    /// The stream in which the object's places are counted.
+    pub stream: Stream,
 }

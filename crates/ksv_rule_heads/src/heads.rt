@@ -6,15 +6,16 @@ ghost use Rattle.ksv_expr_tree.specs.Tree.{view};
 ghost use Rattle.ksv_desc.specs.Pieces.{plain_repeat, plain_field, plain_kind};
 ghost use Rattle.ksv_desc.specs.Whole.{plain_pieces};
 ghost use Rattle.ksv_nodes.specs.Turning.{Runs};
-ghost use Rattle.ksv_rule_heads.specs.Members.{plain_sought};
-ghost use Rattle.ksv_rule_meaning.specs.Heads.{in_count, count_of, counted, until_eos, repeated, attribute_at, part_end, attribute_start, origin_of, attribute_head, positioned_in, positioned, instance_head, calc, value_head, member_at, member_head, in_list, is_past, in_next, next_start, element_start, element_head, root_head, head_of};
+ghost use Rattle.ksv_rule_base.specs.Members.{plain_sought};
+ghost use Rattle.ksv_rule_meaning.specs.Heads.{in_count, count_of, counted, until_eos, repeated, attribute_at, attribute_start, origin_of, attribute_head, positioned_in, positioned, instance_head, calc, value_head, member_at, member_head, is_past, in_next, next_start, element_start, element_head, root_head, head_of};
 
-use crate::fields::{Sought, field_of, member_named};
 use crate::shapes::shape_at;
-use crate::wanted::{holds, in_object, missing, size_of, stream_for};
 use ksv_desc::{Desc, Field, MemberKind, Repeat};
 use ksv_expr_eval::{Ctx, Expr, FaultKind, Path, Place, Step, Stream};
 use ksv_nodes::{Calc, Ended, Halt, Head, List, MemberRef, Object, ObjectEnd, Origin, Turn};
+use ksv_rule_base::{
+    Sought, field_of, holds, in_list, in_object, member_named, part_end, size_of, stream_for,
+};
 
 // ---- attributes
 
@@ -114,15 +115,6 @@ fn attribute_at(
     } else {
         Ok(Head::Absent(Some(ctx.place)))
     }
-}
-
-/// Where a part of what is at a path ends.
-#[tactic(auto, using(ksv_plan::proofs::Running::run_bind), unfolding(ksv_rule_meaning::specs::Heads::part_end))]
-pub fn part_end(turn: &mut Turn, path: &Path, step: Step) -> Result<Ended, Halt>
-    ensures { Runs (part_end path.now step) (λ ended. ended) turn.old turn.new result }
-{
-    let part = turn.part(path, step)?;
-    turn.end(part)
 }
 
 /// An attribute begins where its object does, or where the attribute before it ends.
@@ -312,16 +304,6 @@ fn member_head(
 }
 
 // ---- elements
-
-/// The list that is at a path. The elements of an absent attribute are absent; what is no list has none.
-pub fn in_list(turn: &Turn, path: &Path, head: Head) -> Result<List, Halt>
-    ensures { Runs (in_list path.now head) (λ list. list) turn.now turn.now result }
-{
-    match head {
-        Head::List(list) => Ok(list),
-        _ => missing(turn, path, head, turn.here()),
-    }
-}
 
 /// Whether a list is known to have no element of this index.
 fn is_past(count: Option<u32>, index: u32) -> bool

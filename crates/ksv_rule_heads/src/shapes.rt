@@ -8,13 +8,12 @@ ghost use Rattle.ksv_desc.specs.Pieces.{plain_content, plain_extent, plain_termi
 ghost use Rattle.ksv_nodes.specs.Turning.{Runs, StandsBelow};
 ghost use Rattle.ksv_nodes.specs.declared.turn.Found.TheVariants.{Missing};
 ghost use Rattle.ksv_rule_meaning.specs.Heads.{leaf, leaf_to_end, terminated_at, terminated, run_of, sized_leaf, bytes_at, sized_object, object_at, content_at, unchosen_at, chosen_at, shape_at};
-ghost use Rattle.ksv_rule_heads.specs.Members.{plain_chosen};
+ghost use Rattle.ksv_rule_base.specs.Members.{plain_chosen};
 
-use crate::choosing::{Chosen, choose};
-use crate::wanted::size_of;
 use ksv_desc::{Content, Extent, Field, Terminator};
 use ksv_expr_eval::{Ctx, Expr, FaultKind, Place, Stream};
 use ksv_nodes::{Found, Halt, Head, Leaf, Object, ObjectEnd, Origin, Turn};
+use ksv_rule_base::{Chosen, choose, size_of};
 
 /// As many bytes as a size says, from a place on.
 #[tactic(auto, using(ksv_plan::proofs::Running::run_bind), unfolding(ksv_rule_meaning::specs::Heads::leaf))]

@@ -5,12 +5,11 @@ ghost use Rattle.ksv_desc.specs.Whole.{plain_pieces};
 ghost use Rattle.ksv_nodes.specs.Turning.{Runs};
 ghost use Rattle.ksv_rule_meaning.specs.Meaning.{rule_of};
 
-use crate::ends::{end_of, rest_of};
-use crate::values::value_of;
 use ksv_desc::Desc;
 use ksv_nodes::{Given, Halt, Node, NodeKind, Turn};
 use ksv_rule_heads::head_of;
 use ksv_rule_meaning::NodeRules;
+use ksv_rule_values::{end_of, rest_of, value_of};
 
 /// A node's rule.
 fn rule(turn: &mut Turn, desc: &Desc, node: &Node) -> Result<Given, Halt>
@@ -37,7 +36,7 @@ fn rule(turn: &mut Turn, desc: &Desc, node: &Node) -> Result<Given, Halt>
     }
 }
 
-/// The code of the rules in this crate and in `ksv_rule_heads`.
+/// The code of the rules of heads, values and ends.
 #[derive(Drop)]
 pub struct DescriptionRules;
 

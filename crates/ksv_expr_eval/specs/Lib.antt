@@ -1,0 +1,2 @@
+-- The clauses of the evaluation's functions.
+pub mod Runs
