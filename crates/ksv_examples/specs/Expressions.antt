@@ -6,7 +6,7 @@ use Rattle.std.specs.Fmt.{digits}
 use Rattle.std.specs.Str.{chars, is_utf8}
 use lib.Utf8.{encode}
 use Rattle.ksv_desc.specs.Names.{number_in}
-use Rattle.ksv_expr_eval.specs.Meaning.{at_end, binary_of, byte_at, byte_from, bytes_and, bytes_at, bytes_call, bytes_with, call_one, call_two, cast_to, element_count, element_path, element_value, field_of, integer_and, item_at, last_element, list_at, list_method, list_size, member_and, member_path, member_value, method_of, object_of_type, same_bytes, special_of, special_value, stream_method, stream_of, stream_size, text_and, text_in, truth_and, truth_value, value_of}
+use Rattle.ksv_expr_meaning.specs.Meaning.{at_end, binary_of, byte_at, byte_from, bytes_and, bytes_at, bytes_call, bytes_with, call_one, call_two, cast_to, element_count, element_path, element_value, field_of, integer_and, item_at, last_element, list_at, list_method, list_size, member_and, member_path, member_value, method_of, object_of_type, same_bytes, special_of, special_value, stream_method, stream_of, stream_size, text_and, text_in, truth_and, truth_value, value_of}
 use Rattle.ksv_expr_syntax.specs.Reading.{read, read_list, place_on, select_on}
 use Rattle.ksv_expr_value.specs.Trail.{fits, trail_of, trail_when}
 use Rattle.ksv_plan.specs.Plan.{bind}
@@ -25,12 +25,12 @@ use Rattle.ksv_expr_value.specs.declared.step.Step.{Step}
 use Rattle.ksv_expr_value.specs.declared.step.Step.TheVariants.{Name}
 use Rattle.ksv_expr_value.specs.declared.value.Value.{Value}
 use Rattle.ksv_expr_value.specs.declared.value.Value.TheVariants as values
-use Rattle.ksv_expr_eval.specs.declared.want.Want.{Want}
-use Rattle.ksv_expr_eval.specs.declared.want.Want.TheVariants as wants
-use Rattle.ksv_expr_eval.specs.Heard.{Heard, Valued}
+use Rattle.ksv_expr_meaning.specs.declared.want.Want.{Want}
+use Rattle.ksv_expr_meaning.specs.declared.want.Want.TheVariants as wants
+use Rattle.ksv_expr_meaning.specs.Heard.{Heard, Valued}
 use Rattle.ksv_expr_value.specs.Setting.{Setting}
-use Rattle.ksv_expr_eval.specs.Replying.{fault_at}
-use Rattle.ksv_expr_eval.specs.Evaluation.{Ev, wants_made}
+use Rattle.ksv_expr_meaning.specs.Replying.{fault_at}
+use Rattle.ksv_expr_meaning.specs.Evaluation.{Ev, wants_made}
 use Rattle.ksv_schema_scope.specs.Declarations.{Declared}
 
 -- an expression of the root, which is no element of a list

@@ -21,10 +21,10 @@ use Rattle.ksv_expr_value.specs.declared.fault.FaultKind.TheVariants as kinds
 use Rattle.ksv_expr_value.specs.declared.value.Value.{Value}
 use Rattle.ksv_expr_value.specs.declared.value.Value.TheVariants as values
 use Rattle.ksv_expr_value.specs.Setting.{Setting}
-use Rattle.ksv_expr_eval.specs.Asked.{Eval, given, raise}
-use Rattle.ksv_expr_eval.specs.Operators.{unary_of}
-use Rattle.ksv_expr_eval.specs.Methods.{method_named}
-use Rattle.ksv_expr_eval.specs.Meaning.{value_of, meaning, literal_value, member_value, special_value, enum_member, binary_of, in_truth_value, truth_value, decides, field_of, is_own_stream, special_of, call_one, call_two, item_at, cast_to}
+use Rattle.ksv_expr_meaning.specs.Asked.{Eval, given, raise}
+use Rattle.ksv_expr_meaning.specs.Operators.{unary_of}
+use Rattle.ksv_expr_meaning.specs.Methods.{method_named}
+use Rattle.ksv_expr_meaning.specs.Meaning.{value_of, meaning, literal_value, member_value, special_value, enum_member, binary_of, in_truth_value, truth_value, decides, field_of, is_own_stream, special_of, call_one, call_two, item_at, cast_to}
 
 -- a plan behind two is one behind both
 bind_bind : {A B C : Type 0} (p : Eval A) (f : A → Eval B) (g : B → Eval C) → bind p (λ a. bind (f a) g) ≡ bind (bind p f) g

@@ -1,9 +1,4 @@
 -- The lemmas of this crate.
-pub mod Bits
 pub mod Characters
-pub mod Division
 pub mod Cases
 pub mod Numerals
-pub mod Wants
-pub mod Truths
-pub mod Whole

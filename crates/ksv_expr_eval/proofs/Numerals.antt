@@ -6,7 +6,7 @@ use Rattle.std.proofs.lemmas.List.{take_more}
 use Rattle.std.proofs.lemmas.List.Folds.{list_all_more}
 use Rattle.std.proofs.lemmas.Bool.Decides.{nat_tests}
 use Rattle.std.proofs.Math.Nat.{mul-le-mul_left}
-use Rattle.ksv_expr_eval.specs.Texts.{is_digit, is_numeral, worth, numeral, opposite, number_of, exact}
+use Rattle.ksv_expr_meaning.specs.Texts.{is_digit, is_numeral, worth, numeral, opposite, number_of, exact}
 use Rattle.ksv_expr_value.specs.Range.{in_range}
 use Rattle.ksv_expr_value.specs.declared.fault.FaultKind.TheVariants as kinds
 

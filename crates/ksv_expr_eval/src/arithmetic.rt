@@ -3,7 +3,7 @@
 ghost use Rattle.std.specs.Prelude.{◌≡◌, ◌≢◌, ◌<◌, ◌^◌, ℤ, pos, negsuc, neg_ℤ, ◌+ℤ◌, ◌-ℤ◌, ◌*ℤ◌, ◌≤ℤ◌, IsTrue, IsFalse, true, Some, None, option_map};
 ghost use Rattle.std.specs.Ordering.{int_cmp, int_eq};
 ghost use Rattle.ksv_expr_value.specs.Range.{in_range, ranged};
-ghost use Rattle.ksv_expr_eval.specs.Integers.{floored_quotient, floored_remainder, shifted_left, shifted_right, places, complement, bits_and, bits_or, bits_xor};
+ghost use Rattle.ksv_expr_meaning.specs.Integers.{floored_quotient, floored_remainder, shifted_left, shifted_right, places, complement, bits_and, bits_or, bits_xor};
 
 use ksv_expr_value::Integer;
 use std::cmp::Ordering;
@@ -105,7 +105,7 @@ pub(crate) fn complement(number: Integer) -> Option<Integer>
 }
 
 /// `x & y`, if it is in the range.
-#[tactic(auto, using(crate::proofs::Bits::seen_and))]
+#[tactic(auto, using(ksv_expr_meaning::proofs::Bits::seen_and))]
 pub(crate) fn bit_and(number: Integer, other: Integer) -> Option<Integer>
     ensures { result ≡ ranged (bits_and number other) }
 {
@@ -113,7 +113,7 @@ pub(crate) fn bit_and(number: Integer, other: Integer) -> Option<Integer>
 }
 
 /// `x | y`, if it is in the range.
-#[tactic(auto, using(crate::proofs::Bits::seen_or))]
+#[tactic(auto, using(ksv_expr_meaning::proofs::Bits::seen_or))]
 pub(crate) fn bit_or(number: Integer, other: Integer) -> Option<Integer>
     ensures { result ≡ ranged (bits_or number other) }
 {
@@ -121,7 +121,7 @@ pub(crate) fn bit_or(number: Integer, other: Integer) -> Option<Integer>
 }
 
 /// `x ^ y`, if it is in the range.
-#[tactic(auto, using(crate::proofs::Bits::seen_xor))]
+#[tactic(auto, using(ksv_expr_meaning::proofs::Bits::seen_xor))]
 pub(crate) fn bit_xor(number: Integer, other: Integer) -> Option<Integer>
     ensures { result ≡ ranged (bits_xor number other) }
 {

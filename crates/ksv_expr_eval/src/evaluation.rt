@@ -4,18 +4,18 @@ ghost use Rattle.std.specs.Prelude.{◌≡◌, ◌≤◌, pos, IfOk, map, length
 ghost use Rattle.ksv_plan.specs.Plan.{Answer, bind};
 ghost use Rattle.ksv_expr_tree.specs.Tree.{view, literal_of, name_of};
 ghost use Rattle.ksv_expr_value.specs.declared.value.Value.TheVariants as values;
-ghost use Rattle.ksv_expr_eval.specs.Heard.{heard};
-ghost use Rattle.ksv_expr_eval.specs.Asked.{given};
-ghost use Rattle.ksv_expr_eval.specs.Operators.{unary_of};
-ghost use Rattle.ksv_expr_eval.specs.Evaluation.{outcome_of, resumed, most_wants, IsDone};
-ghost use Rattle.ksv_expr_eval.specs.Replying.{Runs};
-ghost use Rattle.ksv_expr_eval.specs.Meaning.{meaning, literal_value, is_own_stream, decides, in_truth_value, truth_value, binary_of, field_of, special_of, call_one, call_two, item_at, cast_to};
-ghost use Rattle.ksv_expr_eval.specs.Methods.{method_named};
+ghost use Rattle.ksv_expr_meaning.specs.Heard.{heard};
+ghost use Rattle.ksv_expr_meaning.specs.Asked.{given};
+ghost use Rattle.ksv_expr_meaning.specs.Operators.{unary_of};
+ghost use Rattle.ksv_expr_meaning.specs.Evaluation.{outcome_of, resumed, most_wants, IsDone};
+ghost use Rattle.ksv_expr_eval.specs.Runs.{Runs};
+ghost use Rattle.ksv_expr_meaning.specs.Meaning.{meaning, literal_value, is_own_stream, decides, in_truth_value, truth_value, binary_of, field_of, special_of, call_one, call_two, item_at, cast_to};
+ghost use Rattle.ksv_expr_meaning.specs.Methods.{method_named};
 
-use crate::method::Method;
+use crate::method::method_of_name;
 use crate::replies::{Halt, Replies};
-use crate::want::{EvalStep, Got};
 use crate::{asking, forms, operators};
+use ksv_expr_meaning::{EvalStep, Got, Method};
 use ksv_expr_tree::{
     BinaryOperator, Expr, Literal, LogicalOperator, Name, SpecialName, TypeName, UnaryOperator,
 };
@@ -174,7 +174,7 @@ fn call_with_one(
 {
     let object = value(replies, ctx, object)?;
     let argument = value(replies, ctx, argument)?;
-    forms::call_one(replies, &object, Method::named(method), &argument)
+    forms::call_one(replies, &object, method_of_name(method), &argument)
 }
 
 /// Two arguments, and then the method.
@@ -192,7 +192,7 @@ fn call_behind(
 {
     let first = value(replies, ctx, first)?;
     let second = value(replies, ctx, second)?;
-    forms::call_two(replies, object, Method::named(method), &first, &second)
+    forms::call_two(replies, object, method_of_name(method), &first, &second)
 }
 
 /// The value before a method, its two arguments, and then the method.
@@ -263,7 +263,7 @@ fn value(replies: &mut Replies, ctx: &Ctx, expr: &Expr) -> Result<Value, Halt>
     }
 }
 
-#[tactic(auto, unfolding(crate::specs::Meaning::meaning))]
+#[tactic(auto, unfolding(ksv_expr_meaning::specs::Meaning::meaning))]
 fn outcome(alloc: Global, expr: &Expr, ctx: &Ctx, replies: &[Got]) -> Result<EvalStep, AllocError>
     ensures { IfOk result (λ outcome. outcome ≡ outcome_of (resumed ctx.now (view expr.now) (map heard replies.now))) }
 {

@@ -5,18 +5,18 @@ mod arithmetic;
 mod asking;
 mod evaluation;
 mod forms;
-mod laws;
 mod method;
 mod operators;
 mod replies;
 mod texts;
-mod want;
 
 pub use evaluation::eval;
+pub use ksv_expr_meaning::{
+    EvalStep, Got, Want, bits_are_told, division_is_floored, is_bounded, meaning_is_direct,
+    truth_is_met,
+};
 pub use ksv_expr_tree::Expr;
 pub use ksv_expr_value::{
     Ctx, Encoding, Fault, FaultKind, Integer, Parts, Path, Place, Step, Stream, Text, Value,
     equal_paths_are_same, paths_are_numbered,
 };
-pub use laws::{bits_are_told, division_is_floored, is_bounded, meaning_is_direct, truth_is_met};
-pub use want::{EvalStep, Got, Want};

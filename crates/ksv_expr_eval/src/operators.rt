@@ -3,11 +3,11 @@ ghost use Rattle.std.specs.Prelude.{◌≡◌, ◌≢◌, ◌==◌, IfOk, pos, i
 ghost use Rattle.std.specs.Ordering.{nat_cmp, int_cmp, int_eq};
 ghost use Rattle.std.specs.Cmp.Lexicographic.{slice_cmp};
 ghost use Rattle.std.specs.Str.{bytes_eq};
-ghost use Rattle.ksv_expr_eval.specs.Operators.{exactly, quotient_of, remainder_of, shifted_left_by, shifted_right_by, matched, ordered, integers_of, same_truth, texts_of, members_of, unary_of, integer_with, truth_with, integer_method, truth_method, text_method, bytes_method, member_method, text_call_one, text_call_two, as_value, substring_of, joined_text};
-ghost use Rattle.ksv_expr_eval.specs.Integers.{places};
+ghost use Rattle.ksv_expr_meaning.specs.Operators.{exactly, quotient_of, remainder_of, shifted_left_by, shifted_right_by, matched, ordered, integers_of, same_truth, texts_of, members_of, unary_of, integer_with, truth_with, integer_method, truth_method, text_method, bytes_method, member_method, text_call_one, text_call_two, as_value, substring_of, joined_text};
+ghost use Rattle.ksv_expr_meaning.specs.Integers.{places};
 
-use crate::method::Method;
 use crate::{arithmetic, texts};
+use ksv_expr_meaning::Method;
 use ksv_expr_tree::{BinaryOperator, UnaryOperator};
 use ksv_expr_value::{FaultKind, Integer, Text, Value};
 use std::alloc::{AllocError, Global};

@@ -1,11 +1,11 @@
 //! The replies to an expression's questions, in order.
 ghost use Rattle.std.specs.Prelude.{◌≡◌, map, IfErr, IsErr, ◌++◌};
 ghost use Rattle.ksv_expr_value.specs.Bytes.{content};
-ghost use Rattle.ksv_expr_eval.specs.Heard.{heard};
-ghost use Rattle.ksv_expr_eval.specs.Replying.{RepliesWith, IsFault, Runs};
-ghost use Rattle.ksv_expr_eval.specs.Asked.{raise, given, value_for, opened_for, number_for, truth_for, bytes_for};
+ghost use Rattle.ksv_expr_meaning.specs.Heard.{heard};
+ghost use Rattle.ksv_expr_eval.specs.Runs.{RepliesWith, IsFault, Runs};
+ghost use Rattle.ksv_expr_meaning.specs.Asked.{raise, given, value_for, opened_for, number_for, truth_for, bytes_for};
 
-use crate::want::{Got, Want};
+use ksv_expr_meaning::{Got, Opened, Want};
 use ksv_expr_value::{Fault, FaultKind, Parts, Path, Stream, Value};
 use std::alloc::{AllocError, AllocFailed, Global};
 use std::marker::Model;
@@ -43,15 +43,6 @@ impl<T: Drop> From<AllocFailed<T>> for Halt {
     }
 }
 
-/// An object's type and stream.
-#[derive(Clone, Copy)]
-pub(crate) struct Opened {
-    /// The type's number.
-    pub(crate) type_number: u32,
-    /// The object's stream.
-    pub(crate) stream: Stream,
-}
-
 /// The replies that are left.
 #[derive(Drop)]
 pub(crate) struct Replies<'a> {
@@ -63,8 +54,8 @@ pub(crate) struct Replies<'a> {
 
 impl<'a> Model for Replies<'a> {
     ghost use Rattle.std.specs.Prelude.{◌≤◌, length, drop, map};
-    ghost use Rattle.ksv_expr_eval.specs.Heard.{heard};
-    ghost use Rattle.ksv_expr_eval.specs.Asked.{State};
+    ghost use Rattle.ksv_expr_meaning.specs.Heard.{heard};
+    ghost use Rattle.ksv_expr_meaning.specs.Asked.{State};
 
     ghost Value = { State };
 

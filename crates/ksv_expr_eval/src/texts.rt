@@ -5,7 +5,7 @@ ghost use Rattle.std.specs.Str.{chars, encode_utf8_all, bytes_eq};
 ghost use Rattle.std.specs.Cmp.Lexicographic.{slice_cmp};
 ghost use Rattle.std.specs.Ordering.{nat_cmp};
 ghost use Rattle.std.specs.Fmt.{signed_decimal};
-ghost use Rattle.ksv_expr_eval.specs.Texts.{joined, char_count, reversed, between, substring, text_number, number_of, written, numeral, opposite, is_numeral, worth};
+ghost use Rattle.ksv_expr_meaning.specs.Texts.{joined, char_count, reversed, between, substring, text_number, number_of, written, numeral, opposite, is_numeral, worth};
 
 use ksv_expr_value::{FaultKind, Integer, Text};
 use std::alloc::{AllocError, Global};

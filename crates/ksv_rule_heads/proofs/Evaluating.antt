@@ -3,17 +3,17 @@ use Rattle.std.proofs.Common.{◌≡◌, List, [], ◌∷◌, ◌++◌, Result, 
 use Rattle.ksv_plan.specs.Plan.{Answer, Fail, Ask, Done, next, run, translate}
 use Rattle.ksv_plan.proofs.Running.{run_bind}
 use Rattle.ksv_expr_tree.specs.Tree.{Tree}
-use Rattle.ksv_expr_eval.specs.Heard.{Heard}
+use Rattle.ksv_expr_meaning.specs.Heard.{Heard}
 use Rattle.ksv_expr_value.specs.Setting.{Setting}
-use Rattle.ksv_expr_eval.specs.Asked.{Eval}
-use Rattle.ksv_expr_eval.specs.Replying.{replying}
-use Rattle.ksv_expr_eval.specs.Meaning.{value_of}
-use Rattle.ksv_expr_eval.specs.Evaluation.{resumed, outcome_of}
+use Rattle.ksv_expr_meaning.specs.Asked.{Eval}
+use Rattle.ksv_expr_meaning.specs.Replying.{replying}
+use Rattle.ksv_expr_meaning.specs.Meaning.{value_of}
+use Rattle.ksv_expr_meaning.specs.Evaluation.{resumed, outcome_of}
 use Rattle.ksv_expr_value.specs.declared.fault.Fault.{Fault}
 use Rattle.ksv_expr_value.specs.declared.value.Value.{Value}
-use Rattle.ksv_expr_eval.specs.declared.want.Want.{Want}
-use Rattle.ksv_expr_eval.specs.declared.want.EvalStep.{EvalStep}
-use Rattle.ksv_expr_eval.specs.declared.want.EvalStep.TheVariants as outcomes
+use Rattle.ksv_expr_meaning.specs.declared.want.Want.{Want}
+use Rattle.ksv_expr_meaning.specs.declared.want.EvalStep.{EvalStep}
+use Rattle.ksv_expr_meaning.specs.declared.want.EvalStep.TheVariants as outcomes
 use Rattle.ksv_nodes.specs.Rule.{Here, raise}
 use Rattle.ksv_nodes.specs.Turning.{State, turns, Runs}
 use Rattle.ksv_nodes.specs.declared.turn.Halt.{Halt}

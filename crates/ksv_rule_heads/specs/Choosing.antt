@@ -11,7 +11,7 @@ use Rattle.ksv_expr_value.specs.Setting.{Setting}
 use Rattle.ksv_expr_value.specs.declared.fault.FaultKind.TheVariants as kinds
 use Rattle.ksv_expr_value.specs.declared.value.Value.{Value}
 use Rattle.ksv_expr_value.specs.declared.value.Value.TheVariants as values
-use Rattle.ksv_expr_eval.specs.Operators.{same_truth}
+use Rattle.ksv_expr_meaning.specs.Operators.{same_truth}
 use Rattle.ksv_desc.specs.Description.{Content, CaseValue, Literal, Negated, EnumValue, Case, Choice, Always, Switch}
 use Rattle.ksv_desc.specs.Description as contents
 use Rattle.ksv_nodes.specs.Rule.{Rule, raise}

@@ -1,6 +1,6 @@
 -- Words that only contracts of this crate's own functions cite.
 use Rattle.ksv_plan.specs.Plan.{Answer, ◌>>=◌}
-use Rattle.ksv_expr_eval.specs.Heard.{Heard, Valued, Opened}
+use Rattle.ksv_expr_meaning.specs.Heard.{Heard, Valued, Opened}
 use Rattle.ksv_expr_value.specs.Trail.{Trail}
 use Rattle.ksv_nodes.specs.Rule.{Rule, ask_head, ask_value}
 use Rattle.ksv_rule_heads.specs.Wanted.{in_object}

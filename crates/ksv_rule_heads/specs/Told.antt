@@ -1,8 +1,8 @@
 -- What an answer to a want says.
 use Rattle.std.specs.Prelude.{◌++◌, false}
-use Rattle.ksv_expr_eval.specs.Heard.{Heard, Valued, Opened, Numbered, Decided, Read}
-use Rattle.ksv_expr_eval.specs.declared.want.Got.{Got}
-use Rattle.ksv_expr_eval.specs.declared.want.Got.TheVariants as gots
+use Rattle.ksv_expr_meaning.specs.Heard.{Heard, Valued, Opened, Numbered, Decided, Read}
+use Rattle.ksv_expr_meaning.specs.declared.want.Got.{Got}
+use Rattle.ksv_expr_meaning.specs.declared.want.Got.TheVariants as gots
 
 -- what is heard of it; a fault, which is never pushed among the answers, says nothing
 abbrev pub told : Got → Heard

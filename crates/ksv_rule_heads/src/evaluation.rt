@@ -2,7 +2,7 @@
 
 ghost use Rattle.std.specs.Prelude.{◌≡◌, IfOk, Ok};
 ghost use Rattle.ksv_expr_tree.specs.Tree.{view};
-ghost use Rattle.ksv_expr_eval.specs.Heard.{heard};
+ghost use Rattle.ksv_expr_meaning.specs.Heard.{heard};
 ghost use Rattle.ksv_nodes.specs.Turning.{Runs};
 ghost use Rattle.ksv_rule_heads.specs.Code.{ask_opened, ask_valued};
 ghost use Rattle.ksv_rule_heads.specs.Told.{told};

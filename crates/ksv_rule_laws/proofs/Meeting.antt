@@ -5,13 +5,13 @@ use Rattle.ksv_plan.specs.Asking.{and_then, asks_behind}
 use Rattle.ksv_plan.specs.Asking.{answer_of as plan_answer, asks_of as plan_asks}
 use Rattle.ksv_bytes.specs.declared.uses.Use.{Use}
 use Rattle.ksv_expr_value.specs.Trail.{Trail}
-use Rattle.ksv_expr_eval.specs.Heard.{Heard}
+use Rattle.ksv_expr_meaning.specs.Heard.{Heard}
 use Rattle.ksv_expr_value.specs.Setting.{Setting}
-use Rattle.ksv_expr_eval.specs.Asked.{Eval}
-use Rattle.ksv_expr_eval.specs.Replying.{fault_at}
-use Rattle.ksv_expr_eval.specs.Meaning.{value_of}
+use Rattle.ksv_expr_meaning.specs.Asked.{Eval}
+use Rattle.ksv_expr_meaning.specs.Replying.{fault_at}
+use Rattle.ksv_expr_meaning.specs.Meaning.{value_of}
 use Rattle.ksv_expr_value.specs.declared.fault.Fault.{Fault}
-use Rattle.ksv_expr_eval.specs.declared.want.Want.{Want}
+use Rattle.ksv_expr_meaning.specs.declared.want.Want.{Want}
 use Rattle.ksv_nodes.specs.Reading.{look}
 use Rattle.ksv_nodes.specs.Rule.{Rule, Of, See, Here}
 use Rattle.ksv_nodes.specs.Truth.{answer_of, asks_of, uses_of, with_given, with_seen}

@@ -2,11 +2,11 @@
 -- it. The language of expressions is that of the Kaitai Struct User Guide; what they ask and use is this project's own.
 use Rattle.std.specs.Prelude.{◌≡◌, ℕ, List, flat_map, Result}
 use Rattle.ksv_expr_tree.specs.Tree.{Tree}
-use Rattle.ksv_expr_eval.specs.Heard.{Heard}
+use Rattle.ksv_expr_meaning.specs.Heard.{Heard}
 use Rattle.ksv_expr_value.specs.Setting.{Setting}
-use Rattle.ksv_expr_eval.specs.Evaluation.{Ev, wants_made}
+use Rattle.ksv_expr_meaning.specs.Evaluation.{Ev, wants_made}
 use Rattle.ksv_expr_value.specs.declared.fault.Fault.{Fault}
-use Rattle.ksv_expr_eval.specs.declared.want.Want.{Want}
+use Rattle.ksv_expr_meaning.specs.declared.want.Want.{Want}
 use Rattle.ksv_nodes.specs.Truth.{answer_of, asks_of, uses_of}
 use Rattle.ksv_nodes.specs.declared.node.Node.{Node}
 use Rattle.ksv_nodes.specs.declared.given.Given.{Given}

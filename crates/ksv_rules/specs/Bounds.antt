@@ -10,11 +10,11 @@ use Rattle.ksv_plan.specs.Plan.{Answer, Fail, Ask, Ran, Need, Failed, Done, bind
 use Rattle.ksv_expr_tree.specs.Tree.{Tree, Arguments, no_arguments, argument}
 use Rattle.ksv_desc.specs.declared.order.ByteOrder.{ByteOrder}
 use Rattle.ksv_memo.specs.Meaning.{IsDone}
-use Rattle.ksv_expr_eval.proofs.Wants.{value_asks}
-use Rattle.ksv_expr_eval.specs.Evaluation.{most_wants}
+use Rattle.ksv_expr_meaning.proofs.Wants.{value_asks}
+use Rattle.ksv_expr_meaning.specs.Evaluation.{most_wants}
 use Rattle.ksv_expr_value.specs.Trail.{Trail, element_limit, parent, last}
 use Rattle.ksv_expr_value.specs.Setting.{Setting}
-use Rattle.ksv_expr_eval.specs.Meaning.{value_of as value_in}
+use Rattle.ksv_expr_meaning.specs.Meaning.{value_of as value_in}
 use Rattle.ksv_expr_value.specs.Range.{ranged}
 use Rattle.ksv_expr_value.specs.Encodings.{decoded}
 use Rattle.ksv_expr_value.specs.declared.encoding.Encoding.{Encoding}
@@ -24,8 +24,8 @@ use Rattle.ksv_expr_value.specs.declared.step.Step.TheVariants as steps
 use Rattle.ksv_expr_value.specs.declared.value.Stream.{Stream}
 use Rattle.ksv_expr_value.specs.declared.value.Value.{Value}
 use Rattle.ksv_expr_value.specs.declared.value.Value.TheVariants as values
-use Rattle.ksv_expr_eval.specs.declared.want.Want.{Want}
-use Rattle.ksv_expr_eval.specs.declared.want.Want.TheVariants as wants
+use Rattle.ksv_expr_meaning.specs.declared.want.Want.{Want}
+use Rattle.ksv_expr_meaning.specs.declared.want.Want.TheVariants as wants
 use Rattle.ksv_desc.specs.Description.{Description, TypeOfObjects, MemberOfType, MemberKind, Parameter, Attribute, ParseInstance, ValueInstance, Field, Content, Case, Choice, Always, Switch, Extent, Sized, SizeEos, ByItself, Repeat, Once, Eos, Expr, Until, Terminator}
 use Rattle.ksv_desc.specs.Description as contents
 use Rattle.ksv_nodes.proofs.Bounds.{nodes_more, nodes_join, nodes_if, nodes_translate, enough, head_nodes, value_nodes, end_nodes, rest_nodes, part_nodes}

@@ -3,7 +3,7 @@ use Rattle.std.specs.Prelude.{ℕ, ◌+◌, List, Option, Some, None, Result, Ok
 use Rattle.std.specs.List.{sum_by}
 use Rattle.ksv_plan.specs.Plan.{Ran, Need, Failed, Done, run, behind}
 use Rattle.ksv_expr_tree.specs.Tree.{Tree, Arguments, no_arguments, argument}
-use Rattle.ksv_expr_eval.specs.Evaluation.{most_wants}
+use Rattle.ksv_expr_meaning.specs.Evaluation.{most_wants}
 use Rattle.ksv_expr_value.specs.declared.fault.Fault.{Fault}
 use Rattle.ksv_desc.specs.Description.{Description, TypeOfObjects, MemberKind, Parameter, Attribute, ParseInstance, ValueInstance, Field, Content, Choice, Always, Switch, Repeat, Once, Eos, Expr, Until, Extent, Sized, SizeEos, ByItself}
 use Rattle.ksv_desc.specs.Description as contents

@@ -1,7 +1,7 @@
 use Rattle.std.proofs.Common.{◌≡◌, ap, ◌∙◌, rules}
-use Rattle.ksv_expr_eval.specs.Integers.{floored_quotient}
+use Rattle.ksv_expr_meaning.specs.Integers.{floored_quotient}
 use Rattle.ksv_expr_value.specs.Range.{ranged}
-use Rattle.ksv_expr_eval.proofs.Division.{seen, seen_quotient}
+use Rattle.ksv_expr_meaning.proofs.Division.{seen, seen_quotient}
 use Rattle.ksv_expr_eval.proofs.arithmetic.divide.Goals as goal
 
 pub returns-then-by-lt0 : goal.returns-then-by-lt0

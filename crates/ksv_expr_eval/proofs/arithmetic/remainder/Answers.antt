@@ -1,7 +1,7 @@
 use Rattle.std.proofs.Common.{ap, ◌∙◌}
-use Rattle.ksv_expr_eval.specs.Integers.{floored_remainder}
+use Rattle.ksv_expr_meaning.specs.Integers.{floored_remainder}
 use Rattle.ksv_expr_value.specs.Range.{ranged}
-use Rattle.ksv_expr_eval.proofs.Division.{seen_remainder}
+use Rattle.ksv_expr_meaning.proofs.Division.{seen_remainder}
 use Rattle.ksv_expr_eval.proofs.arithmetic.remainder.Goals as goal
 
 pub returns-then-by-lt0 : goal.returns-then-by-lt0

@@ -1,5 +1,5 @@
 use Rattle.ksv_expr_tree.specs.Tree.{view}
-use Rattle.ksv_expr_eval.proofs.Truths.{bounded_outcome}
+use Rattle.ksv_expr_meaning.proofs.Truths.{bounded_outcome}
 use Rattle.ksv_expr_eval.proofs.evaluation.eval.Goals as goal
 
 pub returns-clause-ended : goal.returns-clause-ended

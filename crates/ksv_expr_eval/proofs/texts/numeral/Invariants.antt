@@ -1,6 +1,6 @@
 use Rattle.std.proofs.Common.{◌≡◌, ◌^◌, take, true, min}
 use Rattle.std.specs.List.{list_all}
-use Rattle.ksv_expr_eval.specs.Texts.{is_digit, worth}
+use Rattle.ksv_expr_meaning.specs.Texts.{is_digit, worth}
 use Rattle.ksv_expr_eval.proofs.texts.numeral.Given as goal
 
 abbrev pub invariant-loop-digit : goal.invariant-loop-digit

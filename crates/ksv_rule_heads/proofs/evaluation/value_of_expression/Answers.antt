@@ -2,8 +2,8 @@ use Rattle.std.proofs.Common.{◌≡◌, Ok, Err, [], ◌∷◌, map}
 use Rattle.std.proofs.lemmas.List.{map-append}
 use Rattle.std.proofs.lemmas.Result.{err_from_is_err_and}
 use Rattle.ksv_expr_tree.specs.Tree.{view}
-use Rattle.ksv_expr_eval.specs.Heard.{heard}
-use Rattle.ksv_expr_eval.specs.declared.want.EvalStep.TheVariants as outcomes
+use Rattle.ksv_expr_meaning.specs.Heard.{heard}
+use Rattle.ksv_expr_meaning.specs.declared.want.EvalStep.TheVariants as outcomes
 use Rattle.ksv_rule_heads.specs.Told.{told}
 use Rattle.ksv_rule_heads.proofs.Evaluating.{outcome, left_begins, left_done, left_raised, left_halts, left_goes}
 use Rattle.ksv_rule_heads.proofs.evaluation.value_of_expression.Goals as goal

@@ -1,7 +1,7 @@
 use Rattle.std.proofs.Common.{◌-◌, length, map}
 use Rattle.ksv_expr_tree.specs.Tree.{view}
-use Rattle.ksv_expr_eval.specs.Heard.{heard}
-use Rattle.ksv_expr_eval.specs.Evaluation.{most_wants}
+use Rattle.ksv_expr_meaning.specs.Heard.{heard}
+use Rattle.ksv_expr_meaning.specs.Evaluation.{most_wants}
 use Rattle.ksv_rule_heads.proofs.Evaluating.{Left}
 use Rattle.ksv_rule_heads.proofs.evaluation.value_of_expression.Given as goal
 

@@ -15,20 +15,20 @@ use Rattle.ksv_expr_tree.specs.declared.tree.SpecialName.TheVariants as specials
 use Rattle.ksv_expr_tree.specs.declared.tree.EnumMember.{EnumMember}
 use Rattle.ksv_expr_value.specs.declared.fault.FaultKind.TheVariants as kinds
 use Rattle.ksv_expr_value.specs.declared.encoding.Encoding.{Encoding}
-use Rattle.ksv_expr_eval.specs.declared.method.Method.{Method}
-use Rattle.ksv_expr_eval.specs.declared.method.Method.TheVariants as methods
+use Rattle.ksv_expr_meaning.specs.declared.method.Method.{Method}
+use Rattle.ksv_expr_meaning.specs.declared.method.Method.TheVariants as methods
 use Rattle.ksv_expr_value.specs.declared.step.Step.TheVariants as steps
 use Rattle.ksv_expr_value.specs.declared.value.Stream.{Stream}
 use Rattle.ksv_expr_value.specs.declared.value.Value.{Value}
 use Rattle.ksv_expr_value.specs.declared.value.Value.TheVariants as values
-use Rattle.ksv_expr_eval.specs.declared.want.Want.TheVariants as wants
+use Rattle.ksv_expr_meaning.specs.declared.want.Want.TheVariants as wants
 use Rattle.ksv_expr_value.specs.Trail.{Trail, element_limit, root, child, holder}
 use Rattle.ksv_expr_value.specs.Range.{ranged}
-use Rattle.ksv_expr_eval.specs.Methods.{method_named}
+use Rattle.ksv_expr_meaning.specs.Methods.{method_named}
 use Rattle.ksv_expr_value.specs.Encodings.{encoding_named, decoded}
-use Rattle.ksv_expr_eval.specs.Operators.{exactly, matched, integers_of, same_truth, texts_of, members_of, unary_of, integer_method, truth_method, text_method, bytes_method, member_method, text_call_one, text_call_two}
+use Rattle.ksv_expr_meaning.specs.Operators.{exactly, matched, integers_of, same_truth, texts_of, members_of, unary_of, integer_method, truth_method, text_method, bytes_method, member_method, text_call_one, text_call_two}
 use Rattle.ksv_expr_value.specs.Setting.{Setting}
-use Rattle.ksv_expr_eval.specs.Asked.{Eval, raise, given, value_for, opened_for, number_for, truth_for, bytes_for}
+use Rattle.ksv_expr_meaning.specs.Asked.{Eval, raise, given, value_for, opened_for, number_for, truth_for, bytes_for}
 
 -- ---- paths
 

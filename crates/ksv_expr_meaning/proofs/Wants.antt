@@ -11,24 +11,24 @@ use Rattle.ksv_expr_tree.specs.declared.tree.EnumMember.{EnumMember}
 use Rattle.ksv_expr_value.specs.declared.fault.FaultKind.{FaultKind}
 use Rattle.ksv_expr_value.specs.declared.fault.FaultKind.TheVariants as kinds
 use Rattle.ksv_expr_value.specs.declared.encoding.Encoding.{Encoding}
-use Rattle.ksv_expr_eval.specs.declared.method.Method.{Method}
-use Rattle.ksv_expr_eval.specs.declared.method.Method.TheVariants as methods
+use Rattle.ksv_expr_meaning.specs.declared.method.Method.{Method}
+use Rattle.ksv_expr_meaning.specs.declared.method.Method.TheVariants as methods
 use Rattle.ksv_expr_value.specs.declared.step.Step.TheVariants as steps
 use Rattle.ksv_expr_value.specs.declared.value.Stream.{Stream}
 use Rattle.ksv_expr_value.specs.declared.value.Value.{Value}
 use Rattle.ksv_expr_value.specs.declared.value.Value.TheVariants as values
-use Rattle.ksv_expr_eval.specs.declared.want.Want.{Want}
-use Rattle.ksv_expr_eval.specs.declared.want.Want.TheVariants as wants
+use Rattle.ksv_expr_meaning.specs.declared.want.Want.{Want}
+use Rattle.ksv_expr_meaning.specs.declared.want.Want.TheVariants as wants
 use Rattle.ksv_expr_value.specs.Trail.{Trail, child, holder}
 use Rattle.ksv_expr_value.specs.Range.{ranged}
-use Rattle.ksv_expr_eval.specs.Methods.{method_named}
+use Rattle.ksv_expr_meaning.specs.Methods.{method_named}
 use Rattle.ksv_expr_value.specs.Encodings.{encoding_named, decoded}
-use Rattle.ksv_expr_eval.specs.Operators.{matched, unary_of}
-use Rattle.ksv_expr_eval.specs.Heard.{Valued, Opened, Numbered, Decided, Read}
+use Rattle.ksv_expr_meaning.specs.Operators.{matched, unary_of}
+use Rattle.ksv_expr_meaning.specs.Heard.{Valued, Opened, Numbered, Decided, Read}
 use Rattle.ksv_expr_value.specs.Setting.{Setting}
-use Rattle.ksv_expr_eval.specs.Asked.{Eval, raise, given, value_for, opened_for, number_for, truth_for, bytes_for}
-use Rattle.ksv_expr_eval.specs.Meaning.{in_path, member_path, member_value, element_path, element_value, element_count, holder_of, stream_of, index_value, element_read, special_value, ranged_member, enum_member, in_truth_value, truth_value, decides, same_bytes, bytes_with, integer_and, truth_and, text_and, bytes_and, member_and, binary_of, distance, size_to, stream_size, at_end, stream_method, list_size, last_element, list_method, method_of, method_by, field_of, is_own_stream, object_special, special_of, decoded_text, decoded_by, text_in, bytes_call, call_one, call_two, first_byte, byte_from, byte_at, list_at, bytes_at, item_at, object_of_type, object_as, cast_to, value_of}
-use Rattle.ksv_expr_eval.specs.Evaluation.{most_wants}
+use Rattle.ksv_expr_meaning.specs.Asked.{Eval, raise, given, value_for, opened_for, number_for, truth_for, bytes_for}
+use Rattle.ksv_expr_meaning.specs.Meaning.{in_path, member_path, member_value, element_path, element_value, element_count, holder_of, stream_of, index_value, element_read, special_value, ranged_member, enum_member, in_truth_value, truth_value, decides, same_bytes, bytes_with, integer_and, truth_and, text_and, bytes_and, member_and, binary_of, distance, size_to, stream_size, at_end, stream_method, list_size, last_element, list_method, method_of, method_by, field_of, is_own_stream, object_special, special_of, decoded_text, decoded_by, text_in, bytes_call, call_one, call_two, first_byte, byte_from, byte_at, list_at, bytes_at, item_at, object_of_type, object_as, cast_to, value_of}
+use Rattle.ksv_expr_meaning.specs.Evaluation.{most_wants}
 
 -- single questions
 value_for_asks : (w : Want) → AsksAtMost 1 (value_for w)

@@ -1,8 +1,8 @@
 -- The names of methods, which are those of the Kaitai Struct User Guide.
 use Rattle.std.specs.Prelude.{ℕ, List, Option, Some, None, if◌then◌else◌, codes}
 use Rattle.std.specs.Str.{bytes_eq}
-use Rattle.ksv_expr_eval.specs.declared.method.Method.{Method}
-use Rattle.ksv_expr_eval.specs.declared.method.Method.TheVariants as methods
+use Rattle.ksv_expr_meaning.specs.declared.method.Method.{Method}
+use Rattle.ksv_expr_meaning.specs.declared.method.Method.TheVariants as methods
 
 -- the method of a name
 abbrev pub method_named : List ℕ → Option Method

@@ -1,25 +1,15 @@
 -- The clauses of the evaluation's functions: they run a plan on the replies.
 use Rattle.std.specs.Prelude.{◌≡◌, Result, Ok, Err}
 use Rattle.std.specs.Borrow.{Bor}
-use Rattle.ksv_plan.specs.Plan.{Ran, Need, Failed, Done, Handler, run}
-use Rattle.ksv_plan.specs.Asking.{by_replies}
-use Rattle.ksv_expr_value.specs.Trail.{Trail}
-use Rattle.ksv_expr_eval.specs.Heard.{Heard, heard}
-use Rattle.ksv_expr_eval.specs.Asked.{Eval, State, want_for}
+use Rattle.ksv_plan.specs.Plan.{Ran, Need, Failed, Done, run}
+use Rattle.ksv_expr_meaning.specs.Heard.{Heard, heard}
+use Rattle.ksv_expr_meaning.specs.Asked.{Eval, State, want_for}
+use Rattle.ksv_expr_meaning.specs.Replying.{replying}
 use Rattle.ksv_expr_value.specs.declared.fault.Fault.{Fault}
-use Rattle.ksv_expr_value.specs.declared.fault.FaultKind.{FaultKind}
-use Rattle.ksv_expr_eval.specs.declared.want.Want.{Want}
-use Rattle.ksv_expr_eval.specs.declared.want.Got.{Got}
+use Rattle.ksv_expr_meaning.specs.declared.want.Want.{Want}
+use Rattle.ksv_expr_meaning.specs.declared.want.Got.{Got}
 use Rattle.ksv_expr_eval.specs.declared.replies.Halt.{Halt}
 use Rattle.ksv_expr_eval.specs.declared.replies.Halt.TheVariants as halts
-
--- a fault of an expression, at the path of its faults
-abbrev pub fault_at : Trail → FaultKind → Fault
-fault_at p k = record { kind = k; path = p }
-
--- replies answer the questions of an expression
-abbrev pub replying : Handler Want (λ _. Heard) FaultKind State Want Fault
-replying = by_replies fault_at
 
 -- What a function returned, seen by view, is what running a plan gives, unless memory ran out.
 abbrev pub Runs : {X A : Type 0} → Eval A → (X → A) → State → State → Result X Halt → Type 0

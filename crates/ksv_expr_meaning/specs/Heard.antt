@@ -3,8 +3,8 @@ use Rattle.std.specs.Prelude.{ℕ, Bool, List, ◌++◌, Result, Ok, Err}
 use Rattle.ksv_expr_value.specs.declared.fault.Fault.{Fault}
 use Rattle.ksv_expr_value.specs.declared.value.Stream.{Stream}
 use Rattle.ksv_expr_value.specs.declared.value.Value.{Value}
-use Rattle.ksv_expr_eval.specs.declared.want.Got.{Got}
-use Rattle.ksv_expr_eval.specs.declared.want.Got.TheVariants as gots
+use Rattle.ksv_expr_meaning.specs.declared.want.Got.{Got}
+use Rattle.ksv_expr_meaning.specs.declared.want.Got.TheVariants as gots
 
 -- the answer to a want: a value; an object's type and stream; a count; a truth value; bytes
 pub data Heard : Type 0 where

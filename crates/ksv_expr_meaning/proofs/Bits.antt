@@ -7,7 +7,7 @@ use Rattle.std.proofs.lemmas.Bool.Decides.{nat_tests}
 use mir.Val.{sel}
 use Rattle.std.proofs.lemmas.Int.{ints}
 use Rattle.std.specs.Int.{cast_unsigned, cast_signed, w128}
-use Rattle.ksv_expr_eval.specs.Integers.{bits_and, bits_or, bits_xor}
+use Rattle.ksv_expr_meaning.specs.Integers.{bits_and, bits_or, bits_xor}
 use Rattle.ksv_expr_value.specs.Range.{in_range}
 
 -- the numbers that 128 bits hold below 2^127, and those from there on

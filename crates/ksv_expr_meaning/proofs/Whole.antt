@@ -7,8 +7,8 @@ use Rattle.std.specs.Int.{bit_at}
 use Rattle.std.specs.Int.Bits.{bit_and, bit_or, bit_xor, or_add_and, xor_add_and, and_self}
 use Rattle.std.proofs.lemmas.Nat.{and_comm, and_le_l, and_le_r, and_assoc}
 use Rattle.std.proofs.lemmas.Nat.Bits.{bit_at_and, bit_at_or, bit_at_xor}
-use Rattle.ksv_expr_eval.specs.Integers.{quotient_by, remainder_by, complement, bits_and, bits_or, bits_xor}
-use Rattle.ksv_expr_eval.specs.Arithmetic.{DivisionIsFloored, bit, BitsAreTold}
+use Rattle.ksv_expr_meaning.specs.Integers.{quotient_by, remainder_by, complement, bits_and, bits_or, bits_xor}
+use Rattle.ksv_expr_meaning.specs.Arithmetic.{DivisionIsFloored, bit, BitsAreTold}
 
 -- ---- division
 

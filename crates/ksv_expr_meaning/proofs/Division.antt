@@ -4,7 +4,7 @@ use Rattle.std.proofs.lemmas.Bool.{ltb-true}
 use Rattle.std.proofs.lemmas.Int.{ints}
 use Rattle.std.specs.Prelude.{int_lt}
 use Rattle.std.specs.Int.{cast_unsigned, cast_signed, int_div_euclid, int_rem_euclid, w128}
-use Rattle.ksv_expr_eval.specs.Integers.{quotient_by, remainder_by, floored_quotient, floored_remainder}
+use Rattle.ksv_expr_meaning.specs.Integers.{quotient_by, remainder_by, floored_quotient, floored_remainder}
 use Rattle.ksv_expr_value.specs.Range.{in_range}
 
 -- a number, as 128 bits hold it

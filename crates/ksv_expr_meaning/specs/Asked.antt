@@ -3,13 +3,13 @@ use Rattle.std.specs.Prelude.{ℕ, Bool, List, Result, Ok, Err}
 use Rattle.ksv_plan.specs.Plan.{Plan, Answer, Fail, Ask}
 use Rattle.ksv_plan.specs.Asking.{Replies}
 use Rattle.ksv_expr_value.specs.Trail.{Trail}
-use Rattle.ksv_expr_eval.specs.Heard.{Heard, Valued, Opened, Numbered, Decided, Read}
+use Rattle.ksv_expr_meaning.specs.Heard.{Heard, Valued, Opened, Numbered, Decided, Read}
 use Rattle.ksv_expr_value.specs.declared.fault.Fault.{Fault}
 use Rattle.ksv_expr_value.specs.declared.fault.FaultKind.{FaultKind}
 use Rattle.ksv_expr_value.specs.declared.fault.FaultKind.TheVariants as kinds
 use Rattle.ksv_expr_value.specs.declared.value.Value.{Value}
-use Rattle.ksv_expr_eval.specs.declared.want.Want.{Want}
-use Rattle.ksv_expr_eval.specs.declared.replies.Opened.{Opened as Object}
+use Rattle.ksv_expr_meaning.specs.declared.want.Want.{Want}
+use Rattle.ksv_expr_meaning.specs.declared.want.Opened.{Opened as Object}
 
 -- A plan over wants that ends in an A or in a kind of fault. All faults of an expression have one path.
 abbrev pub Eval : Type 0 → Type 0

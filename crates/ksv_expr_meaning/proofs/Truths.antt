@@ -9,19 +9,19 @@ use Rattle.ksv_expr_tree.specs.Tree.{Tree}
 use Rattle.ksv_expr_value.specs.declared.fault.Fault.{Fault}
 use Rattle.ksv_expr_value.specs.declared.value.Value.{Value}
 use Rattle.ksv_expr_value.specs.declared.value.Value.TheVariants as values
-use Rattle.ksv_expr_eval.specs.declared.want.Want.{Want}
-use Rattle.ksv_expr_eval.specs.declared.want.Got.{Got}
-use Rattle.ksv_expr_eval.specs.declared.want.EvalStep.{EvalStep}
-use Rattle.ksv_expr_eval.specs.declared.want.EvalStep.TheVariants as outcomes
-use Rattle.ksv_expr_eval.specs.Methods.{method_named}
-use Rattle.ksv_expr_eval.specs.Operators.{unary_of}
-use Rattle.ksv_expr_eval.specs.Heard.{Heard, heard}
+use Rattle.ksv_expr_meaning.specs.declared.want.Want.{Want}
+use Rattle.ksv_expr_meaning.specs.declared.want.Got.{Got}
+use Rattle.ksv_expr_meaning.specs.declared.want.EvalStep.{EvalStep}
+use Rattle.ksv_expr_meaning.specs.declared.want.EvalStep.TheVariants as outcomes
+use Rattle.ksv_expr_meaning.specs.Methods.{method_named}
+use Rattle.ksv_expr_meaning.specs.Operators.{unary_of}
+use Rattle.ksv_expr_meaning.specs.Heard.{Heard, heard}
 use Rattle.ksv_expr_value.specs.Setting.{Setting}
-use Rattle.ksv_expr_eval.specs.Asked.{Eval, State, given}
-use Rattle.ksv_expr_eval.specs.Replying.{fault_at}
-use Rattle.ksv_expr_eval.specs.Meaning.{value_of, in_truth_value, truth_value, decides, binary_of, field_of, is_own_stream, special_of, call_one, call_two, item_at, cast_to}
-use Rattle.ksv_expr_eval.specs.Evaluation.{answer, Ev, resumed, outcome_of, IsDone, most_wants, TruthIsMet, IsBounded, IsDirect, MeaningIsDirect}
-use Rattle.ksv_expr_eval.proofs.Wants.{value_asks}
+use Rattle.ksv_expr_meaning.specs.Asked.{Eval, State, given}
+use Rattle.ksv_expr_meaning.specs.Replying.{fault_at}
+use Rattle.ksv_expr_meaning.specs.Meaning.{value_of, in_truth_value, truth_value, decides, binary_of, field_of, is_own_stream, special_of, call_one, call_two, item_at, cast_to}
+use Rattle.ksv_expr_meaning.specs.Evaluation.{answer, Ev, resumed, outcome_of, IsDone, most_wants, TruthIsMet, IsBounded, IsDirect, MeaningIsDirect}
+use Rattle.ksv_expr_meaning.proofs.Wants.{value_asks}
 
 -- ---- truth
 

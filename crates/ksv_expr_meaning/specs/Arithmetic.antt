@@ -2,7 +2,7 @@
 -- operators on bits bit by bit.
 use Rattle.std.specs.Prelude.{◌≡◌, ◌≢◌, ℕ, ◌+◌, ◌-◌, ◌%◌, min, max, ℤ, pos, negsuc, ◌+ℤ◌, ◌*ℤ◌, ◌≤ℤ◌, ◌<ℤ◌}
 use Rattle.std.specs.Int.{bit_at}
-use Rattle.ksv_expr_eval.specs.Integers.{floored_quotient, floored_remainder, complement, bits_and, bits_or, bits_xor}
+use Rattle.ksv_expr_meaning.specs.Integers.{floored_quotient, floored_remainder, complement, bits_and, bits_or, bits_xor}
 
 -- a remainder is between 0 and the divisor, and is not the divisor
 abbrev pub IsWithin : ℤ → ℤ → Type 0

@@ -55,3 +55,12 @@ pub enum EvalStep {
     /// It ended with a value or a fault.
     Done(Result<Value, Fault>),
 }
+
+/// An object's type and stream.
+#[derive(Clone, Copy)]
+pub struct Opened {
+    /// The type's number in the description.
+    pub type_number: u32,
+    /// The stream in which the object's places are counted.
+    pub stream: Stream,
+}

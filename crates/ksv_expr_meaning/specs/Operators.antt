@@ -12,13 +12,13 @@ use Rattle.ksv_expr_tree.specs.declared.tree.BinaryOperator.{BinaryOperator}
 use Rattle.ksv_expr_tree.specs.declared.tree.BinaryOperator.TheVariants as binary
 use Rattle.ksv_expr_value.specs.declared.fault.FaultKind.{FaultKind}
 use Rattle.ksv_expr_value.specs.declared.fault.FaultKind.TheVariants as kinds
-use Rattle.ksv_expr_eval.specs.declared.method.Method.{Method}
-use Rattle.ksv_expr_eval.specs.declared.method.Method.TheVariants as methods
+use Rattle.ksv_expr_meaning.specs.declared.method.Method.{Method}
+use Rattle.ksv_expr_meaning.specs.declared.method.Method.TheVariants as methods
 use Rattle.ksv_expr_value.specs.declared.value.Value.{Value}
 use Rattle.ksv_expr_value.specs.declared.value.Value.TheVariants as values
-use Rattle.ksv_expr_eval.specs.Integers.{floored_quotient, floored_remainder, shifted_left, shifted_right, places, complement, bits_and, bits_or, bits_xor}
+use Rattle.ksv_expr_meaning.specs.Integers.{floored_quotient, floored_remainder, shifted_left, shifted_right, places, complement, bits_and, bits_or, bits_xor}
 use Rattle.ksv_expr_value.specs.Range.{ranged}
-use Rattle.ksv_expr_eval.specs.Texts.{joined, char_count, reversed, substring, text_number}
+use Rattle.ksv_expr_meaning.specs.Texts.{joined, char_count, reversed, substring, text_number}
 
 -- a result without memory or questions
 abbrev pub Answered : Type 0

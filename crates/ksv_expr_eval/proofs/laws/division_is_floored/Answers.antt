@@ -1,5 +1,0 @@
-use Rattle.ksv_expr_eval.proofs.Whole.{division_is_floored as law}
-use Rattle.ksv_expr_eval.proofs.laws.division_is_floored.Goals as goal
-
-pub returns : goal.returns
-returns c = law

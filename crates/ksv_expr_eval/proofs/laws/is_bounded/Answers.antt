@@ -1,5 +1,0 @@
-use Rattle.ksv_expr_eval.proofs.Truths.{is_bounded as law}
-use Rattle.ksv_expr_eval.proofs.laws.is_bounded.Goals as goal
-
-pub returns : goal.returns
-returns c = law

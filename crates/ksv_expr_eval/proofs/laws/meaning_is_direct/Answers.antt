@@ -1,5 +1,0 @@
-use Rattle.ksv_expr_eval.proofs.Truths.{meaning_is_direct as law}
-use Rattle.ksv_expr_eval.proofs.laws.meaning_is_direct.Goals as goal
-
-pub returns : goal.returns
-returns c = law

@@ -1,5 +1,0 @@
-use Rattle.ksv_expr_eval.proofs.Truths.{truth_is_met as law}
-use Rattle.ksv_expr_eval.proofs.laws.truth_is_met.Goals as goal
-
-pub returns : goal.returns
-returns c = law

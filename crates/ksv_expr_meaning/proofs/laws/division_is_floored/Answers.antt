@@ -1,0 +1,5 @@
+use Rattle.ksv_expr_meaning.proofs.Whole.{division_is_floored as law}
+use Rattle.ksv_expr_meaning.proofs.laws.division_is_floored.Goals as goal
+
+pub returns : goal.returns
+returns c = law
