@@ -10,3 +10,4 @@ pub mod Resuming
 pub mod Left
 pub mod Direct
 pub mod Replied
+pub mod Parts

@@ -68,8 +68,7 @@ impl Rules for Described {
             Err(Halt::Fault(fault)) => Next::Done(Err(fault)),
             Err(Halt::Memory) => return Err(AllocError),
         };
-        let added = turn.into_uses();
-        uses.extend_from_slice(&added)?;
+        uses.extend_from_slice(turn.uses())?;
         Ok(next)
     }
 
