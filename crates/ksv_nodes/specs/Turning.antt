@@ -2,7 +2,7 @@
 -- and each reading adds what it depends on to the uses.
 use Rattle.std.specs.Prelude.{◌≡◌, ℕ, ◌<◌, List, [], ◌∷◌, ◌++◌, Option, Some, None, Result, Ok, Err}
 use Rattle.std.specs.Borrow.{Bor}
-use Rattle.ksv_plan.specs.Plan.{Answer, Ask, Ran, Need, Failed, Done, Handler, run}
+use Rattle.ksv_plan.specs.Plan.{Answer, Fail, Ask, Ran, Need, Failed, Done, Handler, run}
 use Rattle.ksv_bytes.specs.declared.uses.Use.{Use}
 use Rattle.ksv_expr_value.specs.Trail.{Trail}
 use Rattle.ksv_expr_value.specs.declared.fault.Fault.{Fault}
@@ -16,7 +16,8 @@ use Rattle.ksv_nodes.specs.declared.turn.Found.TheVariants as founds
 use Rattle.ksv_nodes.specs.declared.turn.Halt.{Halt}
 use Rattle.ksv_nodes.specs.declared.turn.Halt.TheVariants as halts
 use Rattle.ksv_nodes.specs.Reading.{Look, look}
-use Rattle.ksv_nodes.specs.Rule.{Query, Of, See, Reply, Raised, Here, There, Rule}
+use Rattle.ksv_nodes.specs.declared.given.Ended.{Ended}
+use Rattle.ksv_nodes.specs.Rule.{Query, Of, See, Reply, Raised, Here, There, Rule, in_end}
 
 -- the path of the node, the file, the replies that are left, and the uses so far
 pub record State : Type 0 where
@@ -71,6 +72,11 @@ Runs rule view old new (Err (halts.Fault f)) = run turns rule old ≡ Failed f n
 abbrev pub come : Result Given Fault → State → Ran Node Fault State Given
 come (Ok g) s = Done g s
 come (Err f) s = Failed f s
+
+-- a reply as an end
+abbrev pub ended : Result Given Fault → Rule Ended
+ended (Ok g) = in_end g
+ended (Err f) = Fail (There f.kind f.path)
 
 -- what a node answers, whatever its form
 abbrev pub ask : Node → Rule Given

@@ -7,7 +7,8 @@ ghost use Rattle.std.specs.Prelude.{◌+◌, slice_range, IfSome};
 ghost use Rattle.ksv_nodes.specs.Reading.{first_at, end_in};
 ghost use Rattle.ksv_expr_value.specs.Trail.{child};
 ghost use Rattle.ksv_nodes.specs.Rule.{raise, in_end, ask_head, ask_value, ask_end, ask_rest, part, end_of_part, reach, finish, done, peek, find};
-ghost use Rattle.ksv_nodes.specs.Turning.{Runs, TakesReply, RepliesWith, IsFault, StandsBelow};
+ghost use Rattle.ksv_memo.specs.Slots.{lent};
+ghost use Rattle.ksv_nodes.specs.Turning.{Runs, ended, TakesReply, RepliesWith, IsFault, StandsBelow};
 
 use crate::given::{Ended, Given, Head, Rested};
 use crate::node::{Node, NodeKind};
@@ -64,14 +65,27 @@ impl<T: Drop> From<AllocFailed<T>> for Halt {
     }
 }
 
+/// Whether the path to a member fits.
+fn has_member(path: &Path, _name: u32) -> bool
+    ensures { result ≡ is_some (child path.now (Step.Name _name)) }
+{
+    path.len() < Path::MAX_STEPS
+}
+
+/// Whether the path to an element fits.
+fn has_element(path: &Path, index: u32) -> bool
+    ensures { result ≡ is_some (child path.now (Step.Index index)) }
+{
+    index < Path::MAX_INDEX && path.len() < Path::MAX_STEPS
+}
+
 /// Whether the path one step further fits.
 fn has_part(path: &Path, step: Step) -> bool
     ensures { result ≡ is_some (child path.now step) }
 {
-    let has_room = path.len() < Path::MAX_STEPS;
     match step {
-        Step::Name(_) => has_room,
-        Step::Index(index) => has_room && index < Path::MAX_INDEX,
+        Step::Name(name) => has_member(path, name),
+        Step::Index(index) => has_element(path, index),
     }
 }
 
@@ -148,11 +162,7 @@ impl<'a> Turn<'a> {
     }
 
     /// The next reply, which is for the node of this kind and path. The path is copied only where none is left.
-    fn reply(
-        &mut self,
-        kind: NodeKind,
-        path: &Path,
-    ) -> Result<Result<&'a Given, &'a Fault>, Halt>
+    fn reply(&mut self, kind: NodeKind, path: &Path) -> Result<Result<&'a Given, &'a Fault>, Halt>
         ensures { RepliesWith (record { kind = kind; path = path.now }) self.old self.new result }
     {
         match self.next_reply() {
@@ -207,7 +217,15 @@ impl<'a> Turn<'a> {
     pub fn end(&mut self, path: &Path) -> Result<Ended, Halt>
         ensures { Runs (ask_end path.now) (λ ended. ended) self.old self.new result }
     {
-        match self.reply(NodeKind::End, path)? {
+        let reply = self.reply(NodeKind::End, path)?;
+        self.ended(reply)
+    }
+
+    /// A reply as an end.
+    fn ended(&self, reply: Result<&Given, &Fault>) -> Result<Ended, Halt>
+        ensures { Runs (ended (lent reply.entry)) (λ ended. ended) self.now self.now result }
+    {
+        match reply {
             Ok(given) => self.in_end(given),
             Err(fault) => self.fault(fault),
         }
@@ -269,8 +287,7 @@ impl<'a> Turn<'a> {
                     path,
                 }))
             }
-            Some(Ok(given)) => self.in_end(given),
-            Some(Err(fault)) => self.fault(fault),
+            Some(reply) => self.ended(reply),
         }
     }
 
