@@ -2,6 +2,7 @@
 
 use ksv_bytes::Buffer;
 use ksv_expr_eval::{Fault, FaultKind, Parts, Path, Place, Step, Stream, Value};
+use ksv_memo::{Replies, Slot};
 use ksv_nodes::{Ended, Found, Given, Halt, Head, Node, NodeKind, Rested, Turn, first_in_parts};
 use std::alloc::{AllocError, Global};
 use std::fmt::Write;
@@ -129,7 +130,8 @@ fn add_outcome(turn: &mut Turn, reading: Reading<'_>, text: &mut String) -> Resu
 /// Whether the reading of a row gives this, or a fault of this kind, and depends on this.
 fn is_seen(alloc: Global, bytes: &Buffer, row: &str, wanted: &str) -> Result<bool, AllocError> {
     let here = Path::root(alloc);
-    let mut turn = Turn::new(alloc, &here, bytes, &[]);
+    let none = Replies::new(&[], &[]);
+    let mut turn = Turn::new(alloc, &here, bytes, &none);
     let mut seen = String::new(alloc);
     add_outcome(&mut turn, reading_of(row), &mut seen)?;
     add_uses(turn, &mut seen)?;
@@ -138,7 +140,7 @@ fn is_seen(alloc: Global, bytes: &Buffer, row: &str, wanted: &str) -> Result<boo
 
 /// Adds what the readings of a turn depend on.
 fn add_uses(turn: Turn, seen: &mut String) -> Result<(), AllocError> {
-    write!(seen, " {:?}", turn.into_uses().as_slice())
+    write!(seen, " {:?}", turn.uses())
 }
 
 /// Whether each row of [`READINGS`] tells what is seen.
@@ -159,11 +161,11 @@ fn readings_give_and_rest(rt: HostRuntime) -> Result<(), Fail> {
     Ok(())
 }
 
-type Replies = Vec<Result<Given, Fault>>;
+type Slots = Vec<Slot<Given, Fault>>;
 
-/// Adds a copy of a reply.
-fn add(alloc: Global, replies: &mut Replies, given: &Given) -> Result<(), AllocError> {
-    replies.push(Ok(given.copy(alloc)?))?;
+/// Adds a slot with a copy of a reply.
+fn add(alloc: Global, slots: &mut Slots, given: &Given) -> Result<(), AllocError> {
+    slots.push(Slot::Value(given.copy(alloc)?))?;
     Ok(())
 }
 
@@ -183,13 +185,13 @@ fn given(form: u8) -> Given {
     }
 }
 
-/// One reply of each form.
-fn replies(alloc: Global) -> Result<Replies, AllocError> {
-    let mut replies = Vec::new(alloc);
+/// Slots with one reply of each form.
+fn each_form(alloc: Global) -> Result<Slots, AllocError> {
+    let mut slots = Vec::new(alloc);
     for form in 0..4u8 {
-        add(alloc, &mut replies, &given(form))?;
+        add(alloc, &mut slots, &given(form))?;
     }
-    Ok(replies)
+    Ok(slots)
 }
 
 /// The kind of the fault by which a call ended.
@@ -201,17 +203,17 @@ fn kind_of<T: Drop>(ended: Result<T, Halt>) -> Option<FaultKind> {
 }
 
 /// Whether a turn gives the head that was replied.
-fn gives_head(alloc: Global, here: &Path, turn: &mut Turn) -> Result<bool, AllocError> {
-    match turn.head(here.copy(alloc)?) {
-        Ok(Head::Absent(Some(place))) => Ok(place.byte() == 3),
-        _ => Ok(false),
+fn gives_head(here: &Path, turn: &mut Turn) -> bool {
+    match turn.head(here) {
+        Ok(Head::Absent(Some(place))) => place.byte() == 3,
+        _ => false,
     }
 }
 
 /// Whether a turn gives the value that was replied.
-fn gives_value(alloc: Global, here: &Path, turn: &mut Turn) -> Result<bool, AllocError> {
-    let given = turn.value(here.copy(alloc)?);
-    Ok(matches!(given, Ok(Value::Bool(true))))
+fn gives_value(here: &Path, turn: &mut Turn) -> bool {
+    let given = turn.value(here);
+    matches!(given, Ok(Value::Bool(true)))
 }
 
 /// Whether it is the end that was replied.
@@ -227,46 +229,84 @@ fn is_rested(rested: &Rested) -> bool {
 }
 
 /// Whether a turn gives the end that was replied.
-fn gives_end(alloc: Global, here: &Path, turn: &mut Turn) -> Result<bool, AllocError> {
-    let Ok(ended) = turn.end(here.copy(alloc)?) else {
-        return Ok(false);
-    };
-    Ok(is_ended(&ended))
+fn gives_end(here: &Path, turn: &mut Turn) -> bool {
+    match turn.end(here) {
+        Ok(ended) => is_ended(&ended),
+        _ => false,
+    }
 }
 
 /// Whether a turn gives the rest that was replied.
-fn gives_rest(alloc: Global, here: &Path, turn: &mut Turn) -> Result<bool, AllocError> {
-    let Ok(rested) = turn.rest(here.copy(alloc)?) else {
-        return Ok(false);
-    };
-    Ok(is_rested(&rested))
+fn gives_rest(here: &Path, turn: &mut Turn) -> bool {
+    match turn.rest(here) {
+        Ok(rested) => is_rested(&rested),
+        _ => false,
+    }
 }
 
 /// Whether a turn needs the rest at a path, since no reply is left.
-fn needs_rest(alloc: Global, here: &Path, turn: &mut Turn) -> Result<bool, AllocError> {
-    match turn.rest(here.copy(alloc)?) {
-        Err(Halt::Need(node)) => Ok(node.kind == NodeKind::Rest && node.path == *here),
-        _ => Ok(false),
+fn needs_rest(here: &Path, turn: &mut Turn) -> bool {
+    match turn.rest(here) {
+        Err(Halt::Need(node)) => node.kind == NodeKind::Rest && node.path == *here,
+        _ => false,
     }
 }
 
 /// Whether a turn gives its four replies in their order, and needs a fifth.
-fn gives_each(alloc: Global, here: &Path, turn: &mut Turn) -> Result<bool, AllocError> {
-    let is_head = gives_head(alloc, here, turn)?;
-    let is_value = gives_value(alloc, here, turn)?;
-    let is_end = gives_end(alloc, here, turn)?;
-    let is_rest = gives_rest(alloc, here, turn)?;
-    Ok(needs_rest(alloc, here, turn)? && is_head && is_value && is_end && is_rest)
+fn gives_each(here: &Path, turn: &mut Turn) -> bool {
+    let is_head = gives_head(here, turn);
+    let is_value = gives_value(here, turn);
+    let is_end = gives_end(here, turn);
+    let is_rest = gives_rest(here, turn);
+    needs_rest(here, turn) && is_head && is_value && is_end && is_rest
 }
 
 /// Whether replies are of another form than a turn asks for, each of them.
-fn are_bad(alloc: Global, here: &Path, turn: &mut Turn) -> Result<bool, AllocError> {
+fn are_bad(here: &Path, turn: &mut Turn) -> bool {
     let bad = Some(FaultKind::BadType);
-    let rest = kind_of(turn.rest(here.copy(alloc)?));
-    let end = kind_of(turn.end(here.copy(alloc)?));
-    let value = kind_of(turn.value(here.copy(alloc)?));
-    let head = kind_of(turn.head(here.copy(alloc)?));
-    Ok(rest == bad && end == bad && value == bad && head == bad)
+    let rest = kind_of(turn.rest(here));
+    let end = kind_of(turn.end(here));
+    let value = kind_of(turn.value(here));
+    let head = kind_of(turn.head(here));
+    rest == bad && end == bad && value == bad && head == bad
+}
+
+/// Whether a turn whose next reply is an end takes it for the end of a part, and then needs that of another.
+fn gives_end_of_part(path: &Path, turn: &mut Turn) -> bool {
+    let is_end = match turn.end_of_part(path, Step::Index(7)) {
+        Ok(ended) => is_ended(&ended),
+        _ => false,
+    };
+    is_end && needs_end_of_part(path, turn)
+}
+
+/// Whether a turn needs the end of a part, since no reply is left.
+fn needs_end_of_part(path: &Path, turn: &mut Turn) -> bool {
+    match turn.end_of_part(path, Step::Name(4)) {
+        Err(Halt::Need(node)) => {
+            node.kind == NodeKind::End && node.path.last() == Some(Step::Name(4))
+        }
+        _ => false,
+    }
+}
+
+/// Whether a turn over one reply, an end, asks well for the ends of parts.
+fn ends_parts(alloc: Global) -> Result<bool, Fail> {
+    let here = Path::root(alloc);
+    let bytes = Buffer::new(Vec::new(alloc))?;
+    let slots = each_form(alloc)?;
+    let Some(replies) = Replies::checked(&slots, &[2]) else {
+        return Ok(false);
+    };
+    let mut turn = Turn::new(alloc, &here, &bytes, &replies);
+    Ok(gives_end_of_part(&here, &mut turn))
+}
+
+#[test]
+fn ends_of_parts_are_asked_by_their_place(rt: HostRuntime) -> Result<(), Fail> {
+    let is_right = ends_parts(rt.alloc())?;
+    assert!(rt; is_right);
+    Ok(())
 }
 
 /// Whether a turn raises a fault of a kind.
@@ -278,15 +318,17 @@ fn is_raised(turn: &Turn) -> bool {
 fn ends_well(alloc: Global, is_in_order: bool) -> Result<bool, Fail> {
     let here = Path::root(alloc);
     let bytes = Buffer::new(Vec::new(alloc))?;
-    let replies = replies(alloc)?;
-    let mut turn = Turn::new(alloc, &here, &bytes, &replies);
-    let ended = if is_in_order {
-        gives_each(alloc, &here, &mut turn)
-    } else {
-        are_bad(alloc, &here, &mut turn)
+    let slots = each_form(alloc)?;
+    let Some(replies) = Replies::checked(&slots, &[0, 1, 2, 3]) else {
+        return Ok(false);
     };
-    let is_right = ended? && is_raised(&turn);
-    Ok(is_right && turn.into_uses().is_empty())
+    let mut turn = Turn::new(alloc, &here, &bytes, &replies);
+    let is_right = if is_in_order {
+        gives_each(&here, &mut turn)
+    } else {
+        are_bad(&here, &mut turn)
+    };
+    Ok(is_right && is_raised(&turn) && turn.uses().is_empty())
 }
 
 #[test]
@@ -303,29 +345,32 @@ fn another_form_is_a_fault(rt: HostRuntime) -> Result<(), Fail> {
     Ok(())
 }
 
-/// One reply, a fault at a path.
-fn fault_at(alloc: Global, there: &Path) -> Result<Replies, AllocError> {
-    let mut replies: Replies = Vec::new(alloc);
+/// A slot with one reply, a fault at a path.
+fn fault_at(alloc: Global, there: &Path) -> Result<Slots, AllocError> {
+    let mut slots: Slots = Vec::new(alloc);
     let kind = FaultKind::Contents;
     let path = there.copy(alloc)?;
-    replies.push(Err(Fault { kind, path }))?;
-    Ok(replies)
+    slots.push(Slot::Fault(Fault { kind, path }))?;
+    Ok(slots)
 }
 
 /// Whether a turn that asks for a node has the fault that the node has.
-fn is_handed_on(alloc: Global, there: &Path, turn: &mut Turn) -> Result<bool, AllocError> {
-    match turn.head(there.copy(alloc)?) {
-        Err(Halt::Fault(fault)) => Ok(fault.kind == FaultKind::Contents && fault.path == *there),
-        _ => Ok(false),
+fn is_handed_on(there: &Path, turn: &mut Turn) -> bool {
+    match turn.head(there) {
+        Err(Halt::Fault(fault)) => fault.kind == FaultKind::Contents && fault.path == *there,
+        _ => false,
     }
 }
 
 /// Whether a turn at a root hands on the fault of a node at another path.
 fn hands_on(alloc: Global, bytes: &Buffer, there: &Path) -> Result<bool, AllocError> {
     let here = Path::root(alloc);
-    let replies = fault_at(alloc, there)?;
+    let slots = fault_at(alloc, there)?;
+    let Some(replies) = Replies::checked(&slots, &[0]) else {
+        return Ok(false);
+    };
     let mut turn = Turn::new(alloc, &here, bytes, &replies);
-    is_handed_on(alloc, there, &mut turn)
+    Ok(is_handed_on(there, &mut turn))
 }
 
 #[test]
@@ -341,7 +386,8 @@ fn a_fault_of_an_asked_node_is_handed_on(rt: HostRuntime) -> Result<(), Fail> {
 
 /// The path one step on, by a turn.
 fn part(alloc: Global, bytes: &Buffer, path: &Path, step: Step) -> Option<Path> {
-    let turn = Turn::new(alloc, path, bytes, &[]);
+    let none = Replies::new(&[], &[]);
+    let turn = Turn::new(alloc, path, bytes, &none);
     match turn.part(path, step) {
         Ok(part) => Some(part),
         Err(_) => None,
@@ -361,7 +407,8 @@ fn goes_on(alloc: Global, bytes: &Buffer, path: &mut Path, step: Step) -> bool {
 
 /// Whether a part is refused, by a fault at the path itself.
 fn is_too_long(alloc: Global, bytes: &Buffer, path: &Path, step: Step) -> bool {
-    let turn = Turn::new(alloc, path, bytes, &[]);
+    let none = Replies::new(&[], &[]);
+    let turn = Turn::new(alloc, path, bytes, &none);
     match turn.part(path, step) {
         Err(Halt::Fault(fault)) => fault.kind == FaultKind::PathTooLong && fault.path == *path,
         _ => false,

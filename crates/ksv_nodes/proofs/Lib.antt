@@ -9,3 +9,5 @@ pub mod Bounds
 pub mod Resuming
 pub mod Left
 pub mod Direct
+pub mod Replied
+pub mod Parts

@@ -1,6 +1,6 @@
 -- Rules: what a node asks of other nodes, how it reads the bytes, and what it does with each answer.
 use Rattle.std.specs.Prelude.{ℕ, List, Bool, Option, Some, None}
-use Rattle.ksv_plan.specs.Plan.{Plan, Answer, Fail, Ask}
+use Rattle.ksv_plan.specs.Plan.{Plan, Answer, Fail, Ask, ◌>>=◌}
 use Rattle.ksv_expr_value.specs.Trail.{Trail, child}
 use Rattle.ksv_expr_value.specs.declared.fault.FaultKind.{FaultKind}
 use Rattle.ksv_expr_value.specs.declared.fault.FaultKind.TheVariants as kinds
@@ -89,6 +89,10 @@ in_path (Some p) = Answer p
 
 abbrev pub part : Trail → Step → Rule Trail
 part p step = in_path (child p step)
+
+-- where a part ends
+abbrev pub end_of_part : Trail → Step → Rule Ended
+end_of_part p step = part p step >>= ask_end
 
 -- readings; if the bytes end too early, the fault is end-of-bytes
 abbrev pub reach : Stream → ℕ → Rule (Unit {0})

@@ -2,12 +2,13 @@
 -- and each reading adds what it depends on to the uses.
 use Rattle.std.specs.Prelude.{◌≡◌, ℕ, ◌<◌, List, [], ◌∷◌, ◌++◌, Option, Some, None, Result, Ok, Err}
 use Rattle.std.specs.Borrow.{Bor}
-use Rattle.ksv_plan.specs.Plan.{Answer, Ask, Ran, Need, Failed, Done, Handler, run}
+use Rattle.ksv_plan.specs.Plan.{Answer, Fail, Ask, Ran, Need, Failed, Done, Handler, run}
 use Rattle.ksv_bytes.specs.declared.uses.Use.{Use}
 use Rattle.ksv_expr_value.specs.Trail.{Trail}
 use Rattle.ksv_expr_value.specs.declared.fault.Fault.{Fault}
 use Rattle.ksv_expr_value.specs.declared.fault.FaultKind.{FaultKind}
 use Rattle.ksv_expr_value.specs.declared.fault.FaultKind.TheVariants as kinds
+use Rattle.ksv_memo.specs.Slots.{lent}
 use Rattle.ksv_nodes.specs.declared.node.Node.{Node}
 use Rattle.ksv_nodes.specs.declared.given.Given.{Given}
 use Rattle.ksv_nodes.specs.declared.turn.Found.{Found}
@@ -15,7 +16,8 @@ use Rattle.ksv_nodes.specs.declared.turn.Found.TheVariants as founds
 use Rattle.ksv_nodes.specs.declared.turn.Halt.{Halt}
 use Rattle.ksv_nodes.specs.declared.turn.Halt.TheVariants as halts
 use Rattle.ksv_nodes.specs.Reading.{Look, look}
-use Rattle.ksv_nodes.specs.Rule.{Query, Of, See, Reply, Raised, Here, There, Rule}
+use Rattle.ksv_nodes.specs.declared.given.Ended.{Ended}
+use Rattle.ksv_nodes.specs.Rule.{Query, Of, See, Reply, Raised, Here, There, Rule, in_end}
 
 -- the path of the node, the file, the replies that are left, and the uses so far
 pub record State : Type 0 where
@@ -71,13 +73,23 @@ abbrev pub come : Result Given Fault → State → Ran Node Fault State Given
 come (Ok g) s = Done g s
 come (Err f) s = Failed f s
 
+-- a reply as an end
+abbrev pub ended : Result Given Fault → Rule Ended
+ended (Ok g) = in_end g
+ended (Err f) = Fail (There f.kind f.path)
+
 -- what a node answers, whatever its form
 abbrev pub ask : Node → Rule Given
 ask n = Ask (Of n) (λ g. Answer g)
 
+-- the function took the next reply, to whatever node it is, or found none
+abbrev pub TakesReply : State → State → Option (Result (Bor Given) (Bor Fault)) → Type 0
+TakesReply old new (Some reply) = (n : Node) → run turns (ask n) old ≡ come (lent reply) new
+TakesReply old new None = (n : Node) → run turns (ask n) old ≡ Need n new
+
 -- the function took the reply to this node, or found none
-abbrev pub RepliesWith : Node → State → State → Result (Bor (Result Given Fault)) Halt → Type 0
-RepliesWith n old new (Ok g) = run turns (ask n) old ≡ come g.now new
+abbrev pub RepliesWith : Node → State → State → Result (Result (Bor Given) (Bor Fault)) Halt → Type 0
+RepliesWith n old new (Ok reply) = run turns (ask n) old ≡ come (lent reply) new
 RepliesWith n old new (Err halts.Memory) = Unit {0}
 RepliesWith n old new (Err (halts.Need m)) = run turns (ask n) old ≡ Need m new
 RepliesWith n old new (Err (halts.Fault f)) = run turns (ask n) old ≡ Failed f new

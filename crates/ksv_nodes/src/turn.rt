@@ -1,20 +1,27 @@
 //! One turn of a node's rule: what it asks is answered by the replies, in their order.
 
-ghost use Rattle.std.specs.Prelude.{◌≡◌, ◌≤◌, ◌<◌, ◌++◌, length, [], IfErr, IsErr, IfOk};
+ghost use Rattle.std.specs.Prelude.{◌≡◌, ◌≤◌, ◌<◌, ◌++◌, length, [], IfErr, IsErr, IfOk, is_some};
 ghost use Rattle.ksv_bytes.specs.Edits.{file_limit};
 ghost use Rattle.ksv_expr_value.specs.Bytes.{content};
 ghost use Rattle.std.specs.Prelude.{◌+◌, slice_range, IfSome};
 ghost use Rattle.ksv_nodes.specs.Reading.{first_at, end_in};
-ghost use Rattle.ksv_nodes.specs.Rule.{raise, ask_head, ask_value, ask_end, ask_rest, part, reach, finish, done, peek, find};
-ghost use Rattle.ksv_nodes.specs.Turning.{Runs, RepliesWith, IsFault, StandsBelow};
+ghost use Rattle.ksv_expr_value.specs.Trail.{child};
+ghost use Rattle.ksv_nodes.specs.Rule.{raise, in_end, ask_head, ask_value, ask_end, ask_rest, part, end_of_part, reach, finish, done, peek, find};
+ghost use Rattle.ksv_memo.specs.Slots.{lent};
+ghost use Rattle.ksv_nodes.specs.Turning.{Runs, ended, TakesReply, RepliesWith, IsFault, StandsBelow};
 
 use crate::given::{Ended, Given, Head, Rested};
 use crate::node::{Node, NodeKind};
 use crate::search::first_in_parts;
 use ksv_bytes::{Buffer, Use, Window};
 use ksv_expr_value::{Fault, FaultKind, Parts, Path, Place, Step, Stream, Value};
+use ksv_memo::Replies;
+use smallvec::SmallVec;
 use std::alloc::{AllocError, AllocFailed, Global};
 use std::marker::Model;
+
+/// How many uses a turn holds by itself; further ones are on the heap. Most calls of a rule have one or none.
+const INLINE_USES: usize = 2;
 
 /// Where the first byte of a value is in a stream.
 #[derive(Clone, Copy, Debug)]
@@ -58,15 +65,39 @@ impl<T: Drop> From<AllocFailed<T>> for Halt {
     }
 }
 
+/// Whether the path to a member fits.
+fn has_member(path: &Path, _name: u32) -> bool
+    ensures { result ≡ is_some (child path.now (Step.Name _name)) }
+{
+    path.len() < Path::MAX_STEPS
+}
+
+/// Whether the path to an element fits.
+fn has_element(path: &Path, index: u32) -> bool
+    ensures { result ≡ is_some (child path.now (Step.Index index)) }
+{
+    index < Path::MAX_INDEX && path.len() < Path::MAX_STEPS
+}
+
+/// Whether the path one step further fits.
+fn has_part(path: &Path, step: Step) -> bool
+    ensures { result ≡ is_some (child path.now step) }
+{
+    match step {
+        Step::Name(name) => has_member(path, name),
+        Step::Index(index) => has_element(path, index),
+    }
+}
+
 /// A node's rule while it runs: the replies so far, and what its readings depend on so far.
 #[derive(Drop)]
 pub struct Turn<'a> {
     alloc: Global,
     here: &'a Path,
     bytes: &'a Buffer,
-    replies: &'a [Result<Given, Fault>],
+    replies: &'a Replies<'a, Given, Fault>,
     at: usize,
-    uses: Vec<Use>,
+    uses: SmallVec<Use, INLINE_USES>,
 }
 
 impl<'a> Model for Turn<'a> {
@@ -86,7 +117,7 @@ impl<'a> Turn<'a> {
         alloc: Global,
         here: &'a Path,
         bytes: &'a Buffer,
-        replies: &'a [Result<Given, Fault>],
+        replies: &'a Replies<'a, Given, Fault>,
     ) -> Turn<'a>
         ensures { result ≡ record { here = here.now; bytes = bytes.now; replies = replies.now; uses = [] } }
     {
@@ -96,7 +127,7 @@ impl<'a> Turn<'a> {
             bytes,
             replies,
             at: 0,
-            uses: Vec::new(alloc),
+            uses: SmallVec::new(alloc),
         }
     }
 
@@ -113,22 +144,33 @@ impl<'a> Turn<'a> {
     }
 
     /// What its readings depend on.
-    pub fn into_uses(self) -> Vec<Use>
-        ensures { result.items ≡ self.entry.uses }
+    pub fn uses(&self) -> &[Use]
+        ensures { result.now ≡ self.now.uses }
     {
-        self.uses
+        self.uses.as_slice()
     }
 
-    /// The next reply, which is for this node.
-    fn reply(&mut self, node: Node) -> Result<&'a Result<Given, Fault>, Halt>
-        ensures { RepliesWith node self.old self.new result }
+    /// The next reply, if one is left.
+    fn next_reply(&mut self) -> Option<Result<&'a Given, &'a Fault>>
+        ensures { TakesReply self.old self.new result }
     {
-        match self.replies.get(self.at) {
-            None => Err(Halt::Need(node)),
-            Some(reply) => {
-                self.at += 1;
-                Ok(reply)
-            }
+        let reply = self.replies.get(self.at)?;
+        let count = self.replies.len();
+        prove!(self.at < count);
+        self.at += 1;
+        Some(reply)
+    }
+
+    /// The next reply, which is for the node of this kind and path. The path is copied only where none is left.
+    fn reply(&mut self, kind: NodeKind, path: &Path) -> Result<Result<&'a Given, &'a Fault>, Halt>
+        ensures { RepliesWith (record { kind = kind; path = path.now }) self.old self.new result }
+    {
+        match self.next_reply() {
+            None => Err(Halt::Need(Node {
+                kind,
+                path: path.copy(self.alloc)?,
+            })),
+            Some(reply) => Ok(reply),
         }
     }
 
@@ -150,11 +192,10 @@ impl<'a> Turn<'a> {
     }
 
     /// What is at a path, and where.
-    pub fn head(&mut self, path: Path) -> Result<Head, Halt>
-        ensures { Runs (ask_head path) (λ head. head) self.old self.new result }
+    pub fn head(&mut self, path: &Path) -> Result<Head, Halt>
+        ensures { Runs (ask_head path.now) (λ head. head) self.old self.new result }
     {
-        let kind = NodeKind::Head;
-        match self.reply(Node { kind, path })? {
+        match self.reply(NodeKind::Head, path)? {
             Ok(Given::Head(head)) => Ok(*head),
             Ok(_) => self.raise(FaultKind::BadType),
             Err(fault) => self.fault(fault),
@@ -162,11 +203,10 @@ impl<'a> Turn<'a> {
     }
 
     /// The value at a path.
-    pub fn value(&mut self, path: Path) -> Result<&'a Value, Halt>
-        ensures { Runs (ask_value path) (λ value. value.now) self.old self.new result }
+    pub fn value(&mut self, path: &Path) -> Result<&'a Value, Halt>
+        ensures { Runs (ask_value path.now) (λ value. value.now) self.old self.new result }
     {
-        let kind = NodeKind::Value;
-        match self.reply(Node { kind, path })? {
+        match self.reply(NodeKind::Value, path)? {
             Ok(Given::Value(value)) => Ok(value),
             Ok(_) => self.raise(FaultKind::BadType),
             Err(fault) => self.fault(fault),
@@ -174,26 +214,41 @@ impl<'a> Turn<'a> {
     }
 
     /// Where the thing at a path ends.
-    pub fn end(&mut self, path: Path) -> Result<Ended, Halt>
-        ensures { Runs (ask_end path) (λ ended. ended) self.old self.new result }
+    pub fn end(&mut self, path: &Path) -> Result<Ended, Halt>
+        ensures { Runs (ask_end path.now) (λ ended. ended) self.old self.new result }
     {
-        let kind = NodeKind::End;
-        match self.reply(Node { kind, path })? {
-            Ok(Given::End { place, last }) => Ok(Ended {
-                place: *place,
-                last: *last,
-            }),
-            Ok(_) => self.raise(FaultKind::BadType),
+        let reply = self.reply(NodeKind::End, path)?;
+        self.ended(reply)
+    }
+
+    /// A reply as an end.
+    fn ended(&self, reply: Result<&Given, &Fault>) -> Result<Ended, Halt>
+        ensures { Runs (ended (lent reply.entry)) (λ ended. ended) self.now self.now result }
+    {
+        match reply {
+            Ok(given) => self.in_end(given),
             Err(fault) => self.fault(fault),
         }
     }
 
-    /// What a list is from the element at a path on.
-    pub fn rest(&mut self, path: Path) -> Result<Rested, Halt>
-        ensures { Runs (ask_rest path) (λ rested. rested) self.old self.new result }
+    /// An answer as an end.
+    fn in_end(&self, given: &Given) -> Result<Ended, Halt>
+        ensures { Runs (in_end given.now) (λ ended. ended) self.now self.now result }
     {
-        let kind = NodeKind::Rest;
-        match self.reply(Node { kind, path })? {
+        match given {
+            Given::End { place, last } => Ok(Ended {
+                place: *place,
+                last: *last,
+            }),
+            _ => self.raise(FaultKind::BadType),
+        }
+    }
+
+    /// What a list is from the element at a path on.
+    pub fn rest(&mut self, path: &Path) -> Result<Rested, Halt>
+        ensures { Runs (ask_rest path.now) (λ rested. rested) self.old self.new result }
+    {
+        match self.reply(NodeKind::Rest, path)? {
             Ok(Given::Rest { count, place }) => Ok(Rested {
                 count: *count,
                 place: *place,
@@ -214,6 +269,25 @@ impl<'a> Turn<'a> {
         match part {
             Some(part) => Ok(part),
             None => self.raise(FaultKind::PathTooLong),
+        }
+    }
+
+    /// Where a part of what is at a path ends. Its path is made only where no reply is left.
+    pub fn end_of_part(&mut self, path: &Path, step: Step) -> Result<Ended, Halt>
+        ensures { Runs (end_of_part path.now step) (λ ended. ended) self.old self.new result }
+    {
+        if !has_part(path, step) {
+            return self.raise(FaultKind::PathTooLong);
+        }
+        match self.next_reply() {
+            None => {
+                let path = self.part(path, step)?;
+                Err(Halt::Need(Node {
+                    kind: NodeKind::End,
+                    path,
+                }))
+            }
+            Some(reply) => self.ended(reply),
         }
     }
 

@@ -14,8 +14,8 @@ use ksv_nodes::{Halt, Turn};
 
 /// The value of what is at a path.
 #[tactic(auto, using(ksv_plan::proofs::Running::run_bind))]
-fn valued<'a>(turn: &mut Turn<'a>, path: Path) -> Result<Got<'a>, Halt>
-    ensures runs { Runs (ask_valued path) told turn.old turn.new result }
+fn valued<'a>(turn: &mut Turn<'a>, path: &Path) -> Result<Got<'a>, Halt>
+    ensures runs { Runs (ask_valued path.now) told turn.old turn.new result }
     ensures told { IfOk result (λ got. heard got ≡ Ok (told got)) }
 {
     let value = turn.value(path)?;
@@ -28,7 +28,7 @@ fn opened<'a>(turn: &mut Turn<'a>, path: &Path) -> Result<Got<'a>, Halt>
     ensures runs { Runs (ask_opened path.now) told turn.old turn.new result }
     ensures told { IfOk result (λ got. heard got ≡ Ok (told got)) }
 {
-    let head = turn.head(path.copy(turn.alloc())?)?;
+    let head = turn.head(path)?;
     let object = in_object(turn, path, head)?;
     Ok(Got::Object {
         type_number: object.type_number,
@@ -43,10 +43,10 @@ fn answer<'a>(turn: &mut Turn<'a>, ctx: &Ctx, want: Want) -> Result<Got<'a>, Hal
     ensures told { IfOk result (λ got. heard got ≡ Ok (told got)) }
 {
     match want {
-        Want::Value(path) => valued(turn, path),
+        Want::Value(path) => valued(turn, &path),
         Want::Head(path) => opened(turn, &path),
         Want::Rest(path) => {
-            let rested = turn.rest(path)?;
+            let rested = turn.rest(&path)?;
             Ok(Got::Number(u64::from(rested.count)))
         }
         Want::Size => {

@@ -13,8 +13,7 @@ use ksv_nodes::{Ended, Halt, Head, List, Turn};
 pub fn part_end(turn: &mut Turn, path: &Path, step: Step) -> Result<Ended, Halt>
     ensures { Runs (part_end path.now step) (λ ended. ended) turn.old turn.new result }
 {
-    let part = turn.part(path, step)?;
-    turn.end(part)
+    turn.end_of_part(path, step)
 }
 
 /// The list that is at a path. The elements of an absent attribute are absent; what is no list has none.

@@ -297,7 +297,7 @@ fn member_head(
 ) -> Result<Head, Halt>
     ensures { Runs (member_head (plain_pieces desc.now) path.now home.now name) (λ head. head) turn.old turn.new result }
 {
-    let head = turn.head(home.copy(turn.alloc())?)?;
+    let head = turn.head(home)?;
     let object = in_object(turn, home, head)?;
     let sought = member_named(turn, desc, object.type_number, name)?;
     member_at(turn, path, home, &object, sought)
@@ -360,7 +360,7 @@ fn element_head<'p>(
 ) -> Result<Head, Halt>
     ensures { Runs (element_head (plain_pieces desc.now) path.now list_path.now home.now index) (λ head. head) turn.old turn.new result }
 {
-    let head = turn.head(list_path.copy(turn.alloc())?)?;
+    let head = turn.head(list_path)?;
     let list = in_list(turn, list_path, head)?;
     let start = element_start(turn, list_path, &list, index)?;
     let field = field_of(turn, desc, list.origin.member)?;

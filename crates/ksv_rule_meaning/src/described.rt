@@ -12,7 +12,7 @@ ghost use Rattle.ksv_rule_meaning.specs.Meaning.{rule_of};
 use ksv_bytes::{Buffer, Use};
 use ksv_desc::Desc;
 use ksv_expr_value::Fault;
-use ksv_memo::{Next, Rules};
+use ksv_memo::{Next, Replies, Rules};
 use ksv_nodes::{Given, Halt, Node, Turn};
 use std::alloc::{AllocError, Global};
 use std::marker::PhantomData;
@@ -72,7 +72,7 @@ impl<N: NodeRules> Rules for Described<N> {
         alloc: Global,
         node: &Node,
         bytes: &Buffer,
-        replies: &[Answer],
+        replies: &Replies<Given, Fault>,
         uses: &mut Vec<Use>,
     ) -> Result<Next<Node, Answer>, AllocError> {
         let mut turn = Turn::new(alloc, &node.path, bytes, replies);
@@ -82,16 +82,15 @@ impl<N: NodeRules> Rules for Described<N> {
             Err(Halt::Fault(fault)) => Next::Done(Err(fault)),
             Err(Halt::Memory) => return Err(AllocError),
         };
-        let added = turn.into_uses();
-        uses.extend_from_slice(&added)?;
+        uses.extend_from_slice(turn.uses())?;
         Ok(next)
     }
 
-    fn copy_node(&self, alloc: Global, node: &Node) -> Result<Node, AllocError> {
-        node.copy(alloc)
-    }
-
-    fn copy_answer(&self, alloc: Global, answer: &Answer) -> Result<Answer, AllocError> {
+    fn copy_answer(
+        &self,
+        alloc: Global,
+        answer: Result<&Given, &Fault>,
+    ) -> Result<Answer, AllocError> {
         Ok(match answer {
             Ok(given) => Ok(given.copy(alloc)?),
             Err(fault) => Err(fault.copy(alloc)?),

@@ -53,7 +53,7 @@ fn part_rest(turn: &mut Turn, path: &Path, step: Step) -> Result<Rested, Halt>
     ensures { Runs (part_rest path.now step) (λ rested. rested) turn.old turn.new result }
 {
     let part = turn.part(path, step)?;
-    turn.rest(part)
+    turn.rest(&part)
 }
 
 /// A list ends where its last element does.
@@ -77,14 +77,14 @@ fn absent_end(turn: &mut Turn, at: Option<Place>) -> Result<Place, Halt>
 
 /// The place after what is at a path.
 #[tactic(auto, unfolding(ksv_rule_meaning::specs::Ends::place_of))]
-fn place_of(turn: &mut Turn, desc: &Desc, path: &Path, head: Head) -> Result<Place, Halt>
-    ensures { Runs (place_of (plain_pieces desc.now) path.now head) (λ place. place) turn.old turn.new result }
+fn place_of(turn: &mut Turn, desc: &Desc, path: &Path, head: &Head) -> Result<Place, Halt>
+    ensures { Runs (place_of (plain_pieces desc.now) path.now head.now) (λ place. place) turn.old turn.new result }
 {
     match head {
-        Head::Absent(at) => absent_end(turn, at),
+        Head::Absent(at) => absent_end(turn, *at),
         Head::Calc(_) => turn.raise(FaultKind::NoSuch),
         Head::Leaf(leaf) => Ok(leaf.end),
-        Head::Object(object) => object_end(turn, desc, path, &object, object.ending),
+        Head::Object(object) => object_end(turn, desc, path, object, object.ending),
         Head::List(_) => list_end(turn, path),
     }
 }
@@ -189,7 +189,7 @@ fn element_end(
     ensures { Runs (element_end (plain_pieces desc.now) path.now (parent path.now) (parent (parent path.now)) index head place) (λ ended. ended) turn.old turn.new result }
 {
     let list_path = path.parent(turn.alloc())?;
-    let list_head = turn.head(list_path.copy(turn.alloc())?)?;
+    let list_head = turn.head(&list_path)?;
     let list = in_list(turn, &list_path, list_head)?;
     let field = field_of(turn, desc, list.origin.member)?;
     not_empty(turn, &field.repeat, start_of(head), place)?;
@@ -218,8 +218,8 @@ fn end_at(
 pub fn end_of(turn: &mut Turn, desc: &Desc, path: &Path) -> Result<Ended, Halt>
     ensures { Runs (end_of (plain_pieces desc.now) path.now) (λ ended. ended) turn.old turn.new result }
 {
-    let head = turn.head(path.copy(turn.alloc())?)?;
-    let place = place_of(turn, desc, path, head)?;
+    let head = turn.head(path)?;
+    let place = place_of(turn, desc, path, &head)?;
     end_at(turn, desc, path, path.last(), head, place)
 }
 
@@ -254,7 +254,7 @@ fn rest_from(turn: &mut Turn, path: &Path, list: &Path, index: u32) -> Result<Re
     requires { index < element_limit }
     ensures { Runs (rest_from path.now list.now index) (λ rested. rested) turn.old turn.new result }
 {
-    let end = turn.end(path.copy(turn.alloc())?)?;
+    let end = turn.end(path)?;
     rest_behind(turn, list, index, end)
 }
 
@@ -285,7 +285,7 @@ fn first_rest(turn: &mut Turn, path: &Path, list_path: &Path, list: List) -> Res
 fn whole_rest(turn: &mut Turn, path: &Path, list_path: &Path) -> Result<Rested, Halt>
     ensures { Runs (whole_rest path.now list_path.now) (λ rested. rested) turn.old turn.new result }
 {
-    let head = turn.head(list_path.copy(turn.alloc())?)?;
+    let head = turn.head(list_path)?;
     let list = in_whole_list(turn, list_path, head)?;
     first_rest(turn, path, list_path, list)
 }

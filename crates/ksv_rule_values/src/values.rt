@@ -268,6 +268,6 @@ fn value_at(turn: &mut Turn, desc: &Desc, path: &Path, head: Head) -> Result<Val
 pub fn value_of(turn: &mut Turn, desc: &Desc, path: &Path) -> Result<Value, Halt>
     ensures { Runs (value_of (plain_pieces desc.now) path.now) (λ value. value) turn.old turn.new result }
 {
-    let head = turn.head(path.copy(turn.alloc())?)?;
+    let head = turn.head(path)?;
     value_at(turn, desc, path, head)
 }
