@@ -1,7 +1,7 @@
 //! Which path a text names, what nodes of a described file answer, and numbers in decimal.
 
 use ksv_bytes::Buffer;
-use ksv_expr_eval::{Fault, Path, Step};
+use ksv_expr_value::{Fault, Path, Step};
 use ksv_memo::{Answer, Engine};
 use ksv_rules::{Described, Given, Head, Node, NodeKind, decimal, path_of};
 use ksv_schema::{Desc, load};

@@ -1,7 +1,7 @@
 //! What a session should keep, by a slow program that evaluates each node from nothing.
 
 use ksv_bytes::{Buffer, Change, Use, touches};
-use ksv_expr_eval::{Fault, Value};
+use ksv_expr_value::{Fault, Value};
 use ksv_memo::{Next, Replies, Rules, Slot};
 use ksv_rules::{Described, Given, Node, NodeKind};
 use std::alloc::{AllocError, Global};
@@ -55,7 +55,9 @@ impl Evaluation {
             return Ok(None);
         };
         let uses = &mut self.uses;
-        let next = file.rules.next(file.alloc, node, file.bytes, &replies, uses)?;
+        let next = file
+            .rules
+            .next(file.alloc, node, file.bytes, &replies, uses)?;
         Ok(Some(next))
     }
 

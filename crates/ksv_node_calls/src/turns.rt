@@ -1,7 +1,7 @@
 //! Each call of a turn on its happy path and on its fault, and the readings with what they depend on.
 
 use ksv_bytes::Buffer;
-use ksv_expr_eval::{Fault, FaultKind, Parts, Path, Place, Step, Stream, Value};
+use ksv_expr_value::{Fault, FaultKind, Parts, Path, Place, Step, Stream, Value};
 use ksv_memo::{Replies, Slot};
 use ksv_nodes::{Ended, Found, Given, Halt, Head, Node, NodeKind, Rested, Turn, first_in_parts};
 use std::alloc::{AllocError, Global};
