@@ -112,6 +112,12 @@ pub elements_part-loop-index-init : goal.elements_part-loop-index-init
 elements_part-loop-index-init g t c =
     pending_same (plain_pieces c.args.described.now.desc) c.args.buffer.now (elements_part (plain_pieces c.args.described.now.desc) (part (plain_pieces c.args.described.now.desc) c.args.buffer.now c.args.depth) c.args.list.now c.args.left 0 c.args.count []) (elements_part (plain_pieces c.args.described.now.desc) (part (plain_pieces c.args.described.now.desc) c.args.buffer.now c.args.depth) c.args.list.now c.args.left 0 (c.args.count - 0) (map view c.new-elements.result.items)) c.args.engine.now (elements_begin (plain_pieces c.args.described.now.desc) c.args.buffer.now (part (plain_pieces c.args.described.now.desc) c.args.buffer.now c.args.depth) c.args.list.now c.args.left c.args.count c.new-elements.result.items c.new-elements.ensures.items) c.requires
 
+pub elements_part-returns-in_err-path : goal.elements_part-returns-in_err-path
+elements_part-returns-in_err-path g t c =
+    let e = err_from_is_err_and c.from_residual.result c.from_residual.ensures.1 in
+    rw (e.1, e.2) (
+    pending_short (plain_pieces c.args.described.now.desc) c.args.buffer.now (elements_part (plain_pieces c.args.described.now.desc) (part (plain_pieces c.args.described.now.desc) c.args.buffer.now c.args.depth) c.args.list.now c.args.left 0 c.args.count []) (elements_part (plain_pieces c.args.described.now.desc) (part (plain_pieces c.args.described.now.desc) c.args.buffer.now c.args.depth) c.args.list.now c.loop-index.left c.loop-index.index (c.args.count - c.loop-index.index) (map view c.loop-index.elements.items)) c.args.engine.now c.loop-index.engine c.loop-index.invariant)
+
 pub elements_part-returns-in_err-written : goal.elements_part-returns-in_err-written
 elements_part-returns-in_err-written g t c =
     let e = err_from_is_err_and c.from_residual-in_err-written.result c.from_residual-in_err-written.ensures.1 in
