@@ -1,7 +1,7 @@
 -- The pass over the rows.
 use Rattle.std.proofs.Common.{◌≡◌, ℕ, zero, suc, ◌+◌, ◌-◌, ◌≤◌, ◌<◌, Bool, true, false, List, [], ◌∷◌, ◌++◌, length, take, drop, refl, sym, ◌∙◌, ap, subst, arith, append_assoc, if◌then◌else◌, slice_range}
 use Rattle.std.specs.List.{AllByRecursion, copy_within}
-use Rattle.std.proofs.lemmas.List.{drop-drop, length-drop, length-take-le}
+use Rattle.std.proofs.lemmas.List.{drop-drop, length-drop}
 use Rattle.std.proofs.lemmas.List.Edits.{drop-paste, take-paste}
 use Rattle.indexmap.specs.IndexMap.{set_value_at}
 use Rattle.ksv_bytes.specs.declared.uses.Use.{Use}
@@ -12,7 +12,7 @@ use Rattle.ksv_memo.specs.declared.layout.Row.{Row}
 use Rattle.ksv_memo.specs.declared.layout.Rows.{Rows}
 use Rattle.ksv_memo.specs.declared.sweep.Place.{Place}
 use Rattle.ksv_memo.specs.Layout.{Sweep, behind_rows, swept, is_to_go}
-use Rattle.ksv_memo.specs.Passing.{IsPlace, IsUpTo, IsNextPlace, Moved, RowMoved, left_of, HaveSlots}
+use Rattle.ksv_memo.specs.Passing.{IsNextPlace, Moved, RowMoved, left_of, HaveSlots}
 
 pub moves : {X : Type 0} (from end to : ℕ) (old new : List X) → from ≤ end → end ≤ length old → to ≤ from → new ≡ copy_within old from end to → length new ≡ length old → Moved from end to old new
 moves {X} from end to old new a b c is same =
@@ -61,9 +61,9 @@ module _ {N V F : Type 0} where
     goes-left qs e is =
         ap (behind_rows (take to.rows rows.rows.items) (take to.asked rows.asked.items) (take to.uses rows.uses.items))
         (sym (ap (λ rs. swept change ps rs (drop from.asked rows.asked.items) (drop from.uses rows.uses.items)) at.there
-                ∙ goes change ps at.row (drop next.rows rows.rows.items) (drop from.asked rows.asked.items) (drop from.uses rows.uses.items) (told true e)
-                ∙ ap (λ xs. swept change xs (drop next.rows rows.rows.items) (drop at.row.asked (drop from.asked rows.asked.items)) (drop at.row.uses (drop from.uses rows.uses.items))) (sym is)
-                ∙ (λ i. swept change qs (drop next.rows rows.rows.items) (rest_part rows.asked.items from.asked next.asked at.row.asked at.asked i) (rest_part rows.uses.items from.uses next.uses at.row.uses at.uses i))))
+        ∙ goes change ps at.row (drop next.rows rows.rows.items) (drop from.asked rows.asked.items) (drop from.uses rows.uses.items) (told true e)
+        ∙ ap (λ xs. swept change xs (drop next.rows rows.rows.items) (drop at.row.asked (drop from.asked rows.asked.items)) (drop at.row.uses (drop from.uses rows.uses.items))) (sym is)
+        ∙ (λ i. swept change qs (drop next.rows rows.rows.items) (rest_part rows.asked.items from.asked next.asked at.row.asked at.asked i) (rest_part rows.uses.items from.uses next.uses at.row.uses at.uses i))))
 
     -- the row stays
     pub stays-left : (new : Rows) (now : Place) → to.rows ≤ from.rows → false ≡ is_to_go change ps (slice_range rows.asked.items from.asked next.asked) (slice_range rows.uses.items from.uses next.uses) → RowMoved from next to now rows new → left_of change ps new next now ≡ left_of change ps rows from to
@@ -81,7 +81,7 @@ module _ {N V F : Type 0} where
         ∙ sym (behind-more (take to.rows rows.rows.items) (at.row ∷ []) (take to.asked rows.asked.items) (take at.row.asked (drop from.asked rows.asked.items)) (take to.uses rows.uses.items) (take at.row.uses (drop from.uses rows.uses.items)) (swept change ps (drop next.rows rows.rows.items) (drop at.row.asked (drop from.asked rows.asked.items)) (drop at.row.uses (drop from.uses rows.uses.items))))
         ∙ ap (behind_rows (take to.rows rows.rows.items) (take to.asked rows.asked.items) (take to.uses rows.uses.items))
         (sym (ap (λ xs. swept change ps xs (drop from.asked rows.asked.items) (drop from.uses rows.uses.items)) at.there
-                ∙ stays change ps at.row (drop next.rows rows.rows.items) (drop from.asked rows.asked.items) (drop from.uses rows.uses.items) (told false e)))
+        ∙ stays change ps at.row (drop next.rows rows.rows.items) (drop from.asked rows.asked.items) (drop from.uses rows.uses.items) (told false e)))
 
     -- the rows that are left have slots
     pub slots-left : (i : ℕ) (s : Slot V F) (qs : List (N × Slot V F)) → qs ≡ set_value_at ps i s → HaveSlots ps rows from → HaveSlots qs rows next
