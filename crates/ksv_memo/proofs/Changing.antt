@@ -36,9 +36,10 @@ AsksBefore-push before (x ∷ rows) asked slots r h e f all =
     let rest : length (drop x.asked asked) ≡ all_asked rows = length-drop x.asked asked ∙ (let left : length asked - x.asked ≡ all_asked rows = omega arith in left) in
     let P : List ℕ → Type 0 = λ xs. AllByRecursion (IsOneOf before) xs in
     let Q : List ℕ → Type 0 = λ xs. AsksBefore (before ++ x.slot ∷ []) (rows ++ r ∷ []) xs in
-    let O : List ℕ → Type 0 = λ xs. AllByRecursion (IsOneOf xs) slots in
-    (subst P (sym (take-append-le x.asked asked slots asks)) h.0,
-     subst Q (sym (drop-append-le x.asked asked slots asks)) (AsksBefore-push (before ++ x.slot ∷ []) rows (drop x.asked asked) slots r h.1 rest f (subst O (sym (append_assoc before (x.slot ∷ []) (map (λ r. r.slot) rows))) all)))
+    let O : List ℕ → Type 0 = λ xs. AllByRecursion (IsOneOf xs) slots in (
+      subst P (sym (take-append-le x.asked asked slots asks)) h.0,
+      subst Q (sym (drop-append-le x.asked asked slots asks)) (AsksBefore-push (before ++ x.slot ∷ []) rows (drop x.asked asked) slots r h.1 rest f (subst O (sym (append_assoc before (x.slot ∷ []) (map (λ r. r.slot) rows))) all)),
+    )
 
 all_asked-push : (rows : List Row) (r : Row) → all_asked (rows ++ r ∷ []) ≡ all_asked rows + r.asked
 all_asked-push [] r = omega arith
@@ -225,8 +226,8 @@ module _ {N V F : Type 0} where
           asked = subst (AllByRecursion (IsKept qs)) (sym framed.asked) (All-map (stays_kept ps qs (keeps ps qs i n s changes none)) old.asked.items h.asked);
           nested = subst (λ xs. AreNested xs (length new.asked.items) (length new.uses.items)) (sym now)
               (let a : f.asked ≤ length new.asked.items = (let e : f.asked ≡ length new.asked.items = framed.is_new.asked ∙ ap length (sym framed.asked) in omega arith) in
-               let u : f.uses ≤ length new.uses.items = (let e : f.uses ≡ length new.uses.items = framed.is_new.uses ∙ ap length (sym framed.uses) in omega arith) in
-               (a, u, subst (λ k. AreNested fs k f.uses) (sym framed.is_new.asked) (subst (AreNested fs (length old.asked.items)) (sym framed.is_new.uses) h.nested)));
+              let u : f.uses ≤ length new.uses.items = (let e : f.uses ≡ length new.uses.items = framed.is_new.uses ∙ ap length (sym framed.uses) in omega arith) in
+              (a, u, subst (λ k. AreNested fs k f.uses) (sym framed.is_new.asked) (subst (AreNested fs (length old.asked.items)) (sym framed.is_new.uses) h.nested)));
         }
       where
         by_one : (fs : List Frame) (f : Frame) → f.slot ≡ i → ((j : ℕ) → IsOpen ps j → IsOneOf (map (λ f. f.slot) fs) j) → (j : ℕ) → (j ≡ i) ⊎ IsOpen ps j → IsOneOf (map (λ f. f.slot) (f ∷ fs)) j

@@ -180,7 +180,7 @@ module _ {N V F : Type 0} where
       let rest : length (drop r.asked asked) ≡ all_asked rs = length-drop r.asked asked ∙ (let left : length asked - r.asked ≡ all_asked rs = omega arith in left) in
       subst (AllByRecursion (IsKept ps)) (take_drop r.asked asked)
       (All-++ (IsKept ps) (take r.asked asked) (drop r.asked asked) (All-map kept (take r.asked asked) h.0)
-          (asked_kept ps (before ++ r.slot ∷ []) rs (drop r.asked asked) h.1 rest all.1 (λ i in_it. cases i (one_of-push before r.slot i in_it))))
+      (asked_kept ps (before ++ r.slot ∷ []) rs (drop r.asked asked) h.1 rest all.1 (λ i in_it. cases i (one_of-push before r.slot i in_it))))
     where
       cases : (i : ℕ) → IsOneOf before i ⊎ (r.slot ≡ i) → IsKept ps i
       cases i (inl h) = kept i h

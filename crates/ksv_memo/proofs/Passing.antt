@@ -61,9 +61,9 @@ module _ {N V F : Type 0} where
     goes-left qs e is =
         ap (behind_rows (take to.rows rows.rows.items) (take to.asked rows.asked.items) (take to.uses rows.uses.items))
         (sym (ap (λ rs. swept change ps rs (drop from.asked rows.asked.items) (drop from.uses rows.uses.items)) at.there
-                ∙ goes change ps at.row (drop next.rows rows.rows.items) (drop from.asked rows.asked.items) (drop from.uses rows.uses.items) (told true e)
-                ∙ ap (λ xs. swept change xs (drop next.rows rows.rows.items) (drop at.row.asked (drop from.asked rows.asked.items)) (drop at.row.uses (drop from.uses rows.uses.items))) (sym is)
-                ∙ (λ i. swept change qs (drop next.rows rows.rows.items) (rest_part rows.asked.items from.asked next.asked at.row.asked at.asked i) (rest_part rows.uses.items from.uses next.uses at.row.uses at.uses i))))
+        ∙ goes change ps at.row (drop next.rows rows.rows.items) (drop from.asked rows.asked.items) (drop from.uses rows.uses.items) (told true e)
+        ∙ ap (λ xs. swept change xs (drop next.rows rows.rows.items) (drop at.row.asked (drop from.asked rows.asked.items)) (drop at.row.uses (drop from.uses rows.uses.items))) (sym is)
+        ∙ (λ i. swept change qs (drop next.rows rows.rows.items) (rest_part rows.asked.items from.asked next.asked at.row.asked at.asked i) (rest_part rows.uses.items from.uses next.uses at.row.uses at.uses i))))
 
     -- the row stays
     pub stays-left : (new : Rows) (now : Place) → to.rows ≤ from.rows → false ≡ is_to_go change ps (slice_range rows.asked.items from.asked next.asked) (slice_range rows.uses.items from.uses next.uses) → RowMoved from next to now rows new → left_of change ps new next now ≡ left_of change ps rows from to
@@ -81,7 +81,7 @@ module _ {N V F : Type 0} where
         ∙ sym (behind-more (take to.rows rows.rows.items) (at.row ∷ []) (take to.asked rows.asked.items) (take at.row.asked (drop from.asked rows.asked.items)) (take to.uses rows.uses.items) (take at.row.uses (drop from.uses rows.uses.items)) (swept change ps (drop next.rows rows.rows.items) (drop at.row.asked (drop from.asked rows.asked.items)) (drop at.row.uses (drop from.uses rows.uses.items))))
         ∙ ap (behind_rows (take to.rows rows.rows.items) (take to.asked rows.asked.items) (take to.uses rows.uses.items))
         (sym (ap (λ xs. swept change ps xs (drop from.asked rows.asked.items) (drop from.uses rows.uses.items)) at.there
-                ∙ stays change ps at.row (drop next.rows rows.rows.items) (drop from.asked rows.asked.items) (drop from.uses rows.uses.items) (told false e)))
+        ∙ stays change ps at.row (drop next.rows rows.rows.items) (drop from.asked rows.asked.items) (drop from.uses rows.uses.items) (told false e)))
 
     -- the rows that are left have slots
     pub slots-left : (i : ℕ) (s : Slot V F) (qs : List (N × Slot V F)) → qs ≡ set_value_at ps i s → HaveSlots ps rows from → HaveSlots qs rows next

@@ -195,9 +195,9 @@ module _ {N V F : Type 0} (change : Change) where
       choose (λ (s : Sweep N V F). AsksBefore left s.rows s.asked) (is_to_go change ps (take r.asked asked) (take r.uses uses)) (swept change gone rs (drop r.asked asked) (drop r.uses uses)) (behind_rows (r ∷ []) (take r.asked asked) (take r.uses uses) stays)
       (λ e. swept-ordered gone (first ++ r.slot ∷ []) left rs (drop r.asked asked) (drop r.uses uses) differ.1 rest h.1 (λ i m k. by_gone i (emptied-kept ps r.slot i k) stay (one_of-push first r.slot i m)))
       (λ e. (
-          subst (AllByRecursion (IsOneOf left)) (sym front) (All-both (IsOneOf first) (IsKept ps) (IsOneOf left) stay (take r.asked asked) h.0 (unmarked ps (take r.asked asked) (take r.uses uses) e)),
-          subst (AsksBefore (left ++ r.slot ∷ []) stays.rows) (sym back) (swept-ordered ps (first ++ r.slot ∷ []) (left ++ r.slot ∷ []) rs (drop r.asked asked) (drop r.uses uses) differ.1 rest h.1 (λ i m k. by_stays i k stay (one_of-push first r.slot i m))),
-        ))
+        subst (AllByRecursion (IsOneOf left)) (sym front) (All-both (IsOneOf first) (IsKept ps) (IsOneOf left) stay (take r.asked asked) h.0 (unmarked ps (take r.asked asked) (take r.uses uses) e)),
+        subst (AsksBefore (left ++ r.slot ∷ []) stays.rows) (sym back) (swept-ordered ps (first ++ r.slot ∷ []) (left ++ r.slot ∷ []) rs (drop r.asked asked) (drop r.uses uses) differ.1 rest h.1 (λ i m k. by_stays i k stay (one_of-push first r.slot i m))),
+      ))
     where
       by_gone : (i : ℕ) → (i ≢ r.slot) × IsKept ps i → ((i : ℕ) → IsOneOf first i → IsKept ps i → IsOneOf left i) → IsOneOf first i ⊎ (r.slot ≡ i) → IsOneOf left i
       by_gone i k stay (inl m) = stay i m k.1

@@ -44,7 +44,11 @@ fn keep(alloc: Global, rows: &mut Rows, frames: &Frames, frame: Frame) -> Result
     ensures err { OnErr result (SameRows rows.old rows.new) }
 {
     let uses = each_once(alloc, &frames.uses[frame.uses as usize..])?;
-    rows.add(frame.slot, &frames.asked[frame.asked as usize..], uses.as_slice())
+    rows.add(
+        frame.slot,
+        &frames.asked[frame.asked as usize..],
+        uses.as_slice(),
+    )
 }
 
 /// The nodes that are kept and those that are open. A look-up takes one hash, however many there are.

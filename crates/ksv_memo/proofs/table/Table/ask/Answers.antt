@@ -51,9 +51,9 @@ returns-in_ok-reopen-in-Empty-clause-ok g c =
     let changes = set_at t.slots.entries c.reopen.new.slots.entries c.in-Empty.place at.node Empty Open at.there c.in_ok-reopen-in-Empty.ensures.slots in
     subst (λ v. Opens eq c.args.node v (record { kept = entries_of c.reopen.new.slots.entries t.rows; opened = opens_of c.reopen.new.slots.entries c.reopen.new.frames })) c.self.view_is
     (opens-more eq t.slots.entries t.rows t.frames c.self.invariant c.args.node c.reopen.new.slots.entries c.in-Empty.place at.node changes
-        (empty_none eq t.slots.entries t.rows t.frames c.self.invariant c.args.node c.in-Empty.place at) (empty_closed eq t.slots.entries t.rows t.frames c.self.invariant c.args.node c.in-Empty.place at) c.reopen.new.frames c.in_ok-reopen-in-Empty.ensures.frames at.passes
-        (empty_out eq t.slots.entries t.rows t.frames c.self.invariant.kept c.self.invariant.waits c.args.node laws c.in-Empty.ensures.unique c.in-Empty.place at)
-        (empty_free eq t.slots.entries t.rows t.frames c.self.invariant.kept c.self.invariant.waits c.args.node laws c.in-Empty.ensures.unique c.in-Empty.place at))
+    (empty_none eq t.slots.entries t.rows t.frames c.self.invariant c.args.node c.in-Empty.place at) (empty_closed eq t.slots.entries t.rows t.frames c.self.invariant c.args.node c.in-Empty.place at) c.reopen.new.frames c.in_ok-reopen-in-Empty.ensures.frames at.passes
+    (empty_out eq t.slots.entries t.rows t.frames c.self.invariant.kept c.self.invariant.waits c.args.node laws c.in-Empty.ensures.unique c.in-Empty.place at)
+    (empty_free eq t.slots.entries t.rows t.frames c.self.invariant.kept c.self.invariant.waits c.args.node laws c.in-Empty.ensures.unique c.in-Empty.place at))
 
 -- there is no slot
 pub open_new-requires : goal.open_new-requires
@@ -74,7 +74,7 @@ returns-in_ok-open_new-in-New-clause-ok g c =
     let changes = appended t.slots.entries c.open_new.new.slots.entries c.args.node Open c.in_ok-open_new-in-New.ensures.slots in
     subst (λ v. Opens eq c.args.node v (record { kept = entries_of c.open_new.new.slots.entries t.rows; opened = opens_of c.open_new.new.slots.entries c.open_new.new.frames })) c.self.view_is
     (opens-more eq t.slots.entries t.rows t.frames c.self.invariant c.args.node c.open_new.new.slots.entries (length t.slots.entries) c.args.node changes
-        (past_none eq t.slots.entries t.rows t.frames c.self.invariant c.args.node) (past_closed eq t.slots.entries t.rows t.frames c.self.invariant c.args.node) c.open_new.new.frames c.in_ok-open_new-in-New.ensures.frames
-        (g.met.R.Node.Eq.laws.refl c.args.node)
-        (new_out eq t.slots.entries t.rows t.frames c.self.invariant.kept c.self.invariant.waits c.args.node c.in-New.ensures.knows)
-        (new_free eq t.slots.entries t.rows t.frames c.self.invariant.kept c.self.invariant.waits c.args.node c.in-New.ensures.knows))
+    (past_none eq t.slots.entries t.rows t.frames c.self.invariant c.args.node) (past_closed eq t.slots.entries t.rows t.frames c.self.invariant c.args.node) c.open_new.new.frames c.in_ok-open_new-in-New.ensures.frames
+    (g.met.R.Node.Eq.laws.refl c.args.node)
+    (new_out eq t.slots.entries t.rows t.frames c.self.invariant.kept c.self.invariant.waits c.args.node c.in-New.ensures.knows)
+    (new_free eq t.slots.entries t.rows t.frames c.self.invariant.kept c.self.invariant.waits c.args.node c.in-New.ensures.knows))

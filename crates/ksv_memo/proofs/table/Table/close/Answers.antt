@@ -29,7 +29,7 @@ returns-then-is_empty-clause-ok g c =
     let none = no-items c.take_last.new.self.frames.items (ap (λ xs. length xs == 0) (sym c.as_slice.ensures.value) ∙ sym c.if-is_empty.ensures) in
     subst (λ v. Closes c.args.answer v.opened v (record { kept = entries_of c.set.new.slots.entries c.keep.new.rows; opened = opens_of c.set.new.slots.entries c.take_last.new.self }) false) c.self.view_is
     (closes-last ps c.self.inside.rows c.self.inside.frames c.take_last.new.self f c.self.invariant c.take_last.ensures t c.set.new.slots.entries c.slot_of.result c.args.answer c.slot_of.ensures
-        (set_at ps c.set.new.slots.entries f.slot t.node Open c.slot_of.result t.there c.set.ensures) c.keep.new.rows c.in_ok-keep.ensures.ok none)
+    (set_at ps c.set.new.slots.entries f.slot t.node Open c.slot_of.result t.there c.set.ensures) c.keep.new.rows c.in_ok-keep.ensures.ok none)
 
 -- the one below gets its answer
 pub invariant_of-self-2 : goal.invariant_of-self-2
@@ -48,7 +48,7 @@ returns-clause-ok g c =
     let there = some-items c.take_last.new.self.frames.items (ap (λ xs. length xs == 0) (sym c.as_slice.ensures.value) ∙ sym c.if-is_empty.ensures) in
     subst (λ v. Closes c.args.answer v.opened v (record { kept = entries_of c.set.new.slots.entries c.keep.new.rows; opened = opens_of c.set.new.slots.entries c.hear.new.self }) true) c.self.view_is
     (closes-more ps c.self.inside.rows c.self.inside.frames c.take_last.new.self f c.self.invariant c.take_last.ensures t c.set.new.slots.entries c.slot_of.result c.args.answer c.slot_of.ensures
-        (set_at ps c.set.new.slots.entries f.slot t.node Open c.slot_of.result t.there c.set.ensures) c.keep.new.rows c.in_ok-keep.ensures.ok c.hear.new.self c.in_ok-hear.ensures.ok there)
+    (set_at ps c.set.new.slots.entries f.slot t.node Open c.slot_of.result t.there c.set.ensures) c.keep.new.rows c.in_ok-keep.ensures.ok c.hear.new.self c.in_ok-hear.ensures.ok there)
 
 -- memory is refused once it is kept
 pub invariant_of-self-in_err-hear : goal.invariant_of-self-in_err-hear
@@ -67,5 +67,5 @@ returns-in_err-hear-clause-err g c =
     let t = top ps c.self.inside.frames f c.self.invariant.waits c.in-Some.ensures.some in
     on_err_always c.from_residual-in_err-hear.result
     (subst (λ v. MayKeep c.args.answer v.opened v.kept (entries_of c.set.new.slots.entries c.keep.new.rows)) c.self.view_is
-        (may-keep ps c.self.inside.rows c.self.inside.frames c.take_last.new.self f c.self.invariant c.take_last.ensures t c.set.new.slots.entries c.slot_of.result c.args.answer c.slot_of.ensures
-            (set_at ps c.set.new.slots.entries f.slot t.node Open c.slot_of.result t.there c.set.ensures) c.keep.new.rows c.in_ok-keep.ensures.ok))
+    (may-keep ps c.self.inside.rows c.self.inside.frames c.take_last.new.self f c.self.invariant c.take_last.ensures t c.set.new.slots.entries c.slot_of.result c.args.answer c.slot_of.ensures
+    (set_at ps c.set.new.slots.entries f.slot t.node Open c.slot_of.result t.there c.set.ensures) c.keep.new.rows c.in_ok-keep.ensures.ok))
