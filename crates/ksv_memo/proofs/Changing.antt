@@ -1,7 +1,7 @@
 -- What rows and frames are once one slot changed.
-use Rattle.std.proofs.Common.{◌≡◌, ◌≢◌, ℕ, zero, suc, ◌+◌, ◌-◌, ◌<◌, ◌≤◌, Bool, true, false, List, [], ◌∷◌, ◌++◌, length, map, take, drop, reverse, Option, Some, None, is_some, refl, sym, ◌∙◌, ap, subst, Result, Ok, Err, slice_get, ◌⊎◌, inl, inr, append_assoc, arith, length-append, ◌||◌}
+use Rattle.std.proofs.Common.{◌≡◌, ◌≢◌, ℕ, zero, suc, ◌+◌, ◌-◌, ◌≤◌, true, false, List, [], ◌∷◌, ◌++◌, length, map, take, drop, reverse, Option, Some, None, is_some, refl, sym, ◌∙◌, ap, subst, Result, slice_get, ◌⊎◌, inl, inr, append_assoc, arith, length-append}
 use Rattle.std.specs.Option.{option_map}
-use Rattle.std.specs.List.{AllByRecursion, list_any}
+use Rattle.std.specs.List.{AllByRecursion}
 use Rattle.std.proofs.lemmas.List.{map-append, take-append-le, drop-append-le, length-drop, length-take-le, reverse-append}
 use Rattle.std.proofs.Math.Seq.{take-length, drop-length}
 use Rattle.std.proofs.lemmas.Option.{slice_get-map}
@@ -13,14 +13,13 @@ use Rattle.ksv_memo.specs.declared.layout.Row.{Row}
 use Rattle.ksv_memo.specs.declared.layout.Rows.{Rows}
 use Rattle.ksv_memo.specs.declared.layout.Frame.{Frame}
 use Rattle.ksv_memo.specs.declared.layout.Frames.{Frames}
-use Rattle.ksv_memo.specs.Slots.{HasAnswer, answer_in, answer_of, answer_at, answers_at, with_first}
-use Rattle.ksv_memo.specs.Entry.{Entry}
-use Rattle.ksv_memo.specs.Open.{Open, newly, with_uses, with_answer, heard}
+use Rattle.ksv_memo.specs.Slots.{answer_in, answer_of, answer_at, answers_at, with_first}
+use Rattle.ksv_memo.specs.Open.{Open, newly, heard}
 use Rattle.ksv_memo.specs.Layout.{IsOneOf, AllDiffer, slots_of, node_at, nodes_at, IsOpen, IsKept, entry_before, entries_in, entries_of, open_before, opens_in, opens_of, AsksBefore, all_asked, all_uses, AreNested, AreRows, AreFrames}
-use Rattle.ksv_memo.specs.Moves.{Heard, IsNewFrame, Popped, Framed, Added}
-use Rattle.ksv_memo.proofs.Lists.{All-map, All-both, All-++, All-left, All-right}
+use Rattle.ksv_memo.specs.Moves.{Heard, Popped, Framed, Added}
+use Rattle.ksv_memo.proofs.Lists.{All-map, All-both, All-++}
 use Rattle.ksv_memo.proofs.Finding.{slot_there, node_there, answer_there, kept_there}
-use Rattle.ksv_memo.proofs.Laying.{++-nil, All-take, All-drop, get_append, some-of, one_of-all, one_of-left, one_of-right, one_of-push, AllDiffer-push, same_or, nodes_at-append, answers_at-append, Keeps, HasNode, kept_node, slot_has_node, same_node, same_answer, stays_kept, same_nodes, same_answers, same_entries, same_opens, entries_in-push, asked_kept}
+use Rattle.ksv_memo.proofs.Laying.{++-nil, All-take, one_of-left, one_of-right, AllDiffer-push, same_or, nodes_at-append, answers_at-append, Keeps, HasNode, slot_has_node, stays_kept, same_nodes, same_entries, same_opens, entries_in-push, asked_kept}
 
 pub map_all : {X Y : Type 0} (f : X → Y) (P : Y → Type 0) (xs : List X) → AllByRecursion (λ x. P (f x)) xs → AllByRecursion P (map f xs)
 map_all f P [] h = tt

@@ -1,20 +1,18 @@
 -- What the slots, rows and frames stand for, when one slot changes.
-use Rattle.std.proofs.Common.{◌≡◌, ◌≢◌, ℕ, zero, suc, ◌+◌, ◌-◌, ◌<◌, ◌≤◌, Bool, true, false, List, [], ◌∷◌, ◌++◌, length, map, take, drop, reverse, Option, Some, None, is_some, refl, sym, ◌∙◌, ap, subst, Result, Ok, Err, slice_get, ◌⊎◌, inl, inr, append_assoc, nat_eq, eq-eqb, arith, length-append}
+use Rattle.std.proofs.Common.{◌≡◌, ◌≢◌, ℕ, zero, suc, ◌-◌, ◌≤◌, Bool, true, false, List, [], ◌∷◌, ◌++◌, length, take, drop, Option, Some, None, is_some, refl, sym, ◌∙◌, ap, subst, Result, slice_get, ◌⊎◌, inl, inr, nat_eq, eq-eqb, arith}
 use Rattle.std.specs.Option.{option_map}
 use Rattle.std.specs.List.{AllByRecursion}
-use Rattle.std.proofs.lemmas.Bool.{cases_lt}
-use Rattle.std.proofs.lemmas.List.{map-append, take-append-le, drop-append-le, length-drop, take-append-drop as take_drop}
+use Rattle.std.proofs.lemmas.List.{take-append-le, drop-append-le, length-drop, take-append-drop as take_drop}
 use Rattle.std.proofs.lemmas.Option.{slice_get-map}
 use Rattle.ksv_bytes.specs.declared.uses.Use.{Use}
 use Rattle.ksv_memo.specs.declared.replies.Slot.{Slot}
 use Rattle.ksv_memo.specs.declared.layout.Row.{Row}
 use Rattle.ksv_memo.specs.declared.layout.Frame.{Frame}
-use Rattle.ksv_memo.specs.Slots.{HasAnswer, answer_in, answer_of, answer_at, answers_at, with_first}
+use Rattle.ksv_memo.specs.Slots.{answer_of, answer_at, answers_at, with_first}
 use Rattle.ksv_memo.specs.Entry.{Entry}
-use Rattle.ksv_memo.specs.Open.{Open}
-use Rattle.ksv_memo.specs.Layout.{IsOneOf, AllDiffer, slots_of, node_at, nodes_at, IsOpen, IsKept, entry_before, entries_in, open_before, opens_in, AsksBefore, all_asked, all_uses, AreNested}
+use Rattle.ksv_memo.specs.Layout.{IsOneOf, AllDiffer, slots_of, node_at, nodes_at, IsKept, entry_before, entries_in, open_before, opens_in, AsksBefore, all_asked, all_uses}
 use Rattle.ksv_memo.proofs.Evals.{eqb_true}
-use Rattle.ksv_memo.proofs.Lists.{All-map, All-++, All-left, All-right}
+use Rattle.ksv_memo.proofs.Lists.{All-map, All-++}
 
 pub ++-nil : {X : Type 0} (xs : List X) → xs ++ [] ≡ xs
 ++-nil [] = refl

@@ -1,5 +1,5 @@
 -- The pass over the rows takes the entries that an edit touches.
-use Rattle.std.proofs.Common.{◌≡◌, ◌≢◌, ℕ, ◌+◌, ◌-◌, ◌≤◌, Bool, true, false, not, cond, ◌||◌, List, [], ◌∷◌, ◌++◌, length, map, filter, take, drop, Option, Some, None, is_some, refl, sym, ◌∙◌, ap, subst, Result, ◌⊎◌, inl, inr, arith, append_assoc}
+use Rattle.std.proofs.Common.{◌≡◌, ◌≢◌, ℕ, ◌-◌, Bool, true, false, not, ◌||◌, List, [], ◌∷◌, ◌++◌, length, map, take, drop, Option, Some, is_some, refl, sym, ◌∙◌, ap, subst, Result, ◌⊎◌, inl, inr, arith}
 use Rattle.std.specs.List.{AllByRecursion, list_any}
 use Rattle.std.proofs.lemmas.List.{length-drop, length-take-le}
 use Rattle.std.proofs.Math.Seq.{take-append_seam, drop-append_seam}
@@ -12,11 +12,11 @@ use Rattle.ksv_memo.specs.declared.layout.Row.{Row}
 use Rattle.ksv_memo.specs.Slots.{answer_at, with_first}
 use Rattle.ksv_memo.specs.Entry.{Entry}
 use Rattle.ksv_memo.specs.Touched.{is_use_touched}
-use Rattle.ksv_memo.specs.Layout.{IsOneOf, AllDiffer, slots_of, node_at, nodes_at, IsKept, entry_before, entries_in, AsksBefore, all_asked, all_uses, Sweep as Swept, behind_rows, is_to_go, swept}
-use Rattle.ksv_memo.specs.Sweep.{Mark, Says, AllSay, IsMarked, AreMarked, entries_with, entries_left, Sweeps}
+use Rattle.ksv_memo.specs.Layout.{IsOneOf, AllDiffer, slots_of, node_at, nodes_at, IsKept, entry_before, entries_in, AsksBefore, all_asked, all_uses, Sweep as Swept, is_to_go, swept}
+use Rattle.ksv_memo.specs.Sweep.{Mark, Says, AllSay, IsMarked, AreMarked, entries_with, entries_left}
 use Rattle.ksv_memo.proofs.Lists.{All-map, All-both}
 use Rattle.ksv_memo.proofs.Laying.{some-of, one_of-left, one_of-right, one_of-push, kept_node}
-use Rattle.ksv_memo.proofs.Changing.{all_map, map_all}
+use Rattle.ksv_memo.proofs.Changing.{all_map}
 use Rattle.ksv_memo.proofs.Passing.{goes, stays}
 use Rattle.ksv_memo.proofs.Sweeping.{numbers, set-node, set-answer, emptied-answer, swept-node, swept-answer}
 

@@ -1,7 +1,7 @@
 -- The pass over the rows.
 use Rattle.std.proofs.Common.{◌≡◌, ℕ, zero, suc, ◌+◌, ◌-◌, ◌≤◌, ◌<◌, Bool, true, false, List, [], ◌∷◌, ◌++◌, length, take, drop, refl, sym, ◌∙◌, ap, subst, arith, append_assoc, if◌then◌else◌, slice_range}
 use Rattle.std.specs.List.{AllByRecursion, copy_within}
-use Rattle.std.proofs.lemmas.List.{drop-drop, length-drop, length-take-le}
+use Rattle.std.proofs.lemmas.List.{drop-drop, length-drop}
 use Rattle.std.proofs.lemmas.List.Edits.{drop-paste, take-paste}
 use Rattle.indexmap.specs.IndexMap.{set_value_at}
 use Rattle.ksv_bytes.specs.declared.uses.Use.{Use}
@@ -12,7 +12,7 @@ use Rattle.ksv_memo.specs.declared.layout.Row.{Row}
 use Rattle.ksv_memo.specs.declared.layout.Rows.{Rows}
 use Rattle.ksv_memo.specs.declared.sweep.Place.{Place}
 use Rattle.ksv_memo.specs.Layout.{Sweep, behind_rows, swept, is_to_go}
-use Rattle.ksv_memo.specs.Passing.{IsPlace, IsUpTo, IsNextPlace, Moved, RowMoved, left_of, HaveSlots}
+use Rattle.ksv_memo.specs.Passing.{IsNextPlace, Moved, RowMoved, left_of, HaveSlots}
 
 pub moves : {X : Type 0} (from end to : ℕ) (old new : List X) → from ≤ end → end ≤ length old → to ≤ from → new ≡ copy_within old from end to → length new ≡ length old → Moved from end to old new
 moves {X} from end to old new a b c is same =

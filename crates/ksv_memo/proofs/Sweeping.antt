@@ -1,25 +1,22 @@
 -- What the pass over the rows leaves.
-use Rattle.std.proofs.Common.{◌≡◌, ◌≢◌, ℕ, zero, suc, ◌+◌, ◌-◌, ◌≤◌, ◌<◌, Bool, true, false, not, cond, ◌||◌, List, [], ◌∷◌, ◌++◌, length, map, filter, take, drop, Option, Some, None, is_some, refl, sym, ◌∙◌, ap, subst, Result, slice_get, ◌⊎◌, inl, inr, arith, append_assoc, length-append, if◌then◌else◌}
-use Rattle.std.specs.Option.{option_map}
+use Rattle.std.proofs.Common.{◌≡◌, ◌≢◌, ℕ, zero, suc, ◌+◌, ◌-◌, ◌≤◌, Bool, true, false, not, ◌||◌, List, [], ◌∷◌, ◌++◌, length, map, take, drop, None, is_some, refl, sym, ◌∙◌, ap, subst, slice_get, ◌⊎◌, inl, inr, arith, length-append, if◌then◌else◌}
 use Rattle.std.specs.List.{AllByRecursion, list_any}
-use Rattle.std.proofs.lemmas.List.{length-drop, length-take-le, take-append-le, drop-append-le, take-append-drop}
-use Rattle.std.proofs.Math.Seq.{take-length, drop-length, take-append_seam, drop-append_seam}
-use Rattle.std.proofs.lemmas.Option.{slice_get-map}
+use Rattle.std.proofs.lemmas.List.{length-drop, length-take-le, take-append-drop}
+use Rattle.std.proofs.Math.Seq.{take-append_seam, drop-append_seam}
 use Rattle.indexmap.specs.IndexMap.{set_value_at}
 use Rattle.ksv_bytes.specs.declared.uses.Use.{Use}
 use Rattle.ksv_bytes.specs.declared.uses.Change.{Change}
 use Rattle.ksv_memo.specs.declared.replies.Slot.{Slot}
 use Rattle.ksv_memo.specs.declared.replies.Slot.TheVariants.{Empty as emptied}
 use Rattle.ksv_memo.specs.declared.layout.Row.{Row}
-use Rattle.ksv_memo.specs.Slots.{answer_in, answer_of, answer_at, with_first}
-use Rattle.ksv_memo.specs.Entry.{Entry}
+use Rattle.ksv_memo.specs.Slots.{answer_of, answer_at}
 use Rattle.ksv_memo.specs.Touched.{is_use_touched}
-use Rattle.ksv_memo.specs.Layout.{IsOneOf, AllDiffer, slots_of, node_at, nodes_at, IsOpen, IsKept, entry_before, entries_in, AsksBefore, all_asked, all_uses, Sweep, behind_rows, is_to_go, swept}
+use Rattle.ksv_memo.specs.Layout.{IsOneOf, AllDiffer, slots_of, node_at, IsOpen, IsKept, AsksBefore, all_asked, all_uses, Sweep, behind_rows, is_to_go, swept}
 use Rattle.ksv_memo.proofs.Evals.{or_false}
 use Rattle.ksv_memo.proofs.Lists.{All-map, All-both}
 use Rattle.ksv_memo.proofs.Changing.{all_map, map_all}
 use Rattle.ksv_memo.proofs.Passing.{stays}
-use Rattle.ksv_memo.proofs.Laying.{All-take, All-drop, one_of-all, one_of-left, one_of-right, one_of-push, same_or}
+use Rattle.ksv_memo.proofs.Laying.{All-take, All-drop, one_of-left, one_of-right, one_of-push}
 
 -- where no element passes, each fails
 pub none_pass : {X : Type 0} (p : X → Bool) (xs : List X) → list_any p xs ≡ false → AllByRecursion (λ x. p x ≡ false) xs

@@ -1,5 +1,5 @@
 -- What a look-up says of the kept and the open nodes.
-use Rattle.std.proofs.Common.{◌≡◌, ◌≢◌, ℕ, Bool, true, false, List, [], ◌∷◌, ◌++◌, IfSome, IfNone, map, reverse, length, Option, Some, None, is_some, refl, sym, ◌∙◌, ap, subst, Result, slice_get}
+use Rattle.std.proofs.Common.{◌≡◌, ◌≢◌, ℕ, Bool, true, false, List, [], ◌∷◌, IfSome, IfNone, reverse, length, Option, Some, None, is_some, refl, sym, ◌∙◌, ap, subst, Result, slice_get}
 use Rattle.std.specs.Option.{option_map}
 use Rattle.std.proofs.lemmas.Option.{slice_get-map}
 use Rattle.std.specs.Cmp.{IsEquivalence}
@@ -14,9 +14,9 @@ use Rattle.ksv_memo.specs.declared.layout.Frames.{Frames}
 use Rattle.ksv_memo.specs.declared.layout.Known.TheVariants.{New, Empty, Open, Kept}
 use Rattle.ksv_memo.specs.Slots.{answer_in, answer_of, answer_at, lent}
 use Rattle.ksv_memo.specs.Entry.{Entry}
-use Rattle.ksv_memo.specs.Layout.{IsOneOf, slots_of, node_at, IsOpen, IsKept, entries_in, entries_of, opens_of, AreRows, AreFrames, IsLaidOut}
+use Rattle.ksv_memo.specs.Layout.{slots_of, node_at, IsOpen, IsKept, entries_in, entries_of, opens_of, AreRows, AreFrames, IsLaidOut}
 use Rattle.ksv_memo.specs.Moves.{Knows, IsTheSlot, Heard, Framed, EndsWith}
-use Rattle.ksv_memo.specs.Nodes.{Nodes, IsEntry, HasNoEntry, Replies, Opens, EndsWithAnswer}
+use Rattle.ksv_memo.specs.Nodes.{IsEntry, HasNoEntry, Replies, Opens, EndsWithAnswer}
 use Rattle.ksv_memo.proofs.Lists.{All-right}
 use Rattle.ksv_memo.proofs.Finding.{slot_there, node_there, answer_there}
 use Rattle.ksv_memo.proofs.Laying.{some-of, asked_kept, same_entries}

@@ -1,29 +1,24 @@
 -- What the moves of the table come to for a question.
-use Rattle.std.proofs.Common.{◌≡◌, ℕ, ◌+◌, ◌<◌, Bool, true, false, List, [], ◌∷◌, ◌++◌, length, Option, Some, None, refl, sym, ◌∙◌, ap, subst, ◌⊎◌, inl, inr, Result, Ok, Err, IfOk, OnErr}
-use Rattle.std.proofs.lemmas.List.{reverse-append, reverse-reverse}
+use Rattle.std.proofs.Common.{◌≡◌, ℕ, ◌+◌, ◌<◌, Bool, true, false, List, [], ◌∷◌, ◌++◌, Option, Some, None, refl, sym, ◌∙◌, ap, subst, inl, inr, Result, Ok, Err, IfOk, OnErr}
+use Rattle.std.proofs.lemmas.List.{reverse-append}
 use Rattle.std.proofs.Common.{reverse}
 use Rattle.std.specs.Cmp.{IsEquivalence}
-use Rattle.std.specs.List.{AllByRecursion, list_any}
-use Rattle.ksv_bytes.specs.declared.uses.Use.{Use}
 use Rattle.ksv_memo.specs.declared.rules.Next.{Next}
 use Rattle.ksv_memo.specs.declared.rules.Next.TheVariants.{Need, Done}
 use Rattle.ksv_memo.specs.declared.rules.Outcome.{Outcome}
 use Rattle.ksv_memo.specs.declared.rules.Outcome.TheVariants.{Answered, Circle}
-use Rattle.ksv_memo.specs.declared.table.Asked.{Asked}
-use Rattle.ksv_memo.specs.declared.table.Asked.TheVariants.{Replied, Opened, Circle as CircleOf}
-use Rattle.ksv_memo.specs.Meaning.{Standing, IsSettled, IsAddedTo}
-use Rattle.ksv_memo.specs.Evaluation.{is_among, tells, done, IsAnswered}
+use Rattle.ksv_memo.specs.Meaning.{Standing, IsSettled}
+use Rattle.ksv_memo.specs.Evaluation.{tells, done, IsAnswered}
 use Rattle.ksv_memo.specs.Entry.{Entry}
-use Rattle.ksv_memo.specs.Open.{Open, nodes_in, newly, with_uses, with_answer, heard}
-use Rattle.ksv_memo.specs.Layout.{IsOneOf}
-use Rattle.ksv_memo.specs.Nodes.{Nodes, IsEntry, HasNoEntry, Finds, Replies, Opens, Circles, Asks, kept_of, Keeps, Steps, Closes, MayKeep, EndsWithAnswer, is_there}
+use Rattle.ksv_memo.specs.Open.{Open, newly, with_uses, with_answer}
+use Rattle.ksv_memo.specs.Nodes.{Nodes, IsEntry, HasNoEntry, Replies, Opens, Circles, kept_of, Steps, Closes, MayKeep, EndsWithAnswer}
 use Rattle.ksv_memo.specs.Right.{nodes_of, IsRight, counted}
-use Rattle.ksv_memo.specs.Running.{Agrees, HasCome, HasStepped, IsStack, account_of, account_at, GoesOn, GoesOnWith, HasFinished, Advances, IsLeft, IsRunning, HasReached, AdvancesFrom, AdvancesAt, LeftFrom, LeftAt, Holds, HoldsWith, Counts, CountsWith, turns_left, value_of, rest_of, to_keep, debt, made, answering}
+use Rattle.ksv_memo.specs.Running.{Agrees, account_of, account_at, GoesOn, GoesOnWith, HasFinished, Advances, IsLeft, IsRunning, HasReached, AdvancesFrom, AdvancesAt, LeftFrom, LeftAt, Holds, HoldsWith, Counts, CountsWith, turns_left, rest_of, to_keep, debt}
 use Rattle.ksv_memo.proofs.Evals.{IsOut}
-use Rattle.ksv_memo.proofs.Keeping.{IsIn, self_in, agrees}
+use Rattle.ksv_memo.proofs.Keeping.{IsIn, self_in}
 use Rattle.ksv_memo.proofs.Laying.{one_of-all, ++-nil}
 use Rattle.ksv_memo.proofs.Sweeping.{none_pass}
-use Rattle.ksv_memo.proofs.Turns.{any_entry, waits_among, need-replies, need-opens, need-ends, finish-goes, finish-ends, finish-left, left-same, turn-account, turn-steps, begins, comes, covers-begins, turns-begin, value-begins, covers-kept, none-owed, counts-end, counts-step, grown-more, left-more}
+use Rattle.ksv_memo.proofs.Turns.{any_entry, waits_among, need-replies, need-opens, need-ends, finish-goes, finish-ends, finish-left, left-same, turn-account, turn-steps, begins, comes, covers-begins, turns-begin, value-begins, counts-end, counts-step, grown-more, left-more}
 
 -- a list has one last element
 pub one-last : {X : Type 0} (xs ys : List X) (x y : X) → xs ++ x ∷ [] ≡ ys ++ y ∷ [] → x ≡ y

@@ -1,5 +1,5 @@
 -- The last open node: how it is run, kept and taken out.
-use Rattle.std.proofs.Common.{◌≡◌, ◌≢◌, ℕ, suc, ◌+◌, ◌-◌, ◌≤◌, ◌<◌, Bool, true, false, List, [], ◌∷◌, ◌++◌, length, map, take, drop, reverse, Option, Some, None, is_some, refl, sym, ◌∙◌, ap, subst, Result, Ok, Err, OnOk, OnErr, slice_get, ◌⊎◌, inl, inr, arith, length-append, ◌==◌}
+use Rattle.std.proofs.Common.{◌≡◌, ℕ, suc, ◌+◌, ◌-◌, ◌≤◌, true, false, List, [], ◌∷◌, ◌++◌, length, map, take, drop, reverse, Option, Some, None, is_some, refl, sym, ◌∙◌, ap, subst, Result, Ok, Err, OnOk, OnErr, slice_get, inl, inr, arith, length-append, ◌==◌}
 use Rattle.std.specs.Option.{option_map}
 use Rattle.std.specs.List.{AllByRecursion}
 use Rattle.std.proofs.lemmas.List.{take-append-le, drop-append-le, reverse-append, reverse-reverse, take_rest}
@@ -8,7 +8,6 @@ use Rattle.ksv_bytes.specs.declared.uses.Use.{Use}
 use Rattle.ksv_memo.specs.declared.rules.Next.{Next}
 use Rattle.ksv_memo.specs.declared.replies.Slot.{Slot}
 use Rattle.ksv_memo.specs.declared.replies.Slot.TheVariants.{Empty as emptied, Open as opened}
-use Rattle.ksv_memo.specs.declared.layout.Row.{Row}
 use Rattle.ksv_memo.specs.declared.layout.Rows.{Rows}
 use Rattle.ksv_memo.specs.declared.layout.Frame.{Frame}
 use Rattle.ksv_memo.specs.declared.layout.Frames.{Frames}
@@ -16,13 +15,13 @@ use Rattle.ksv_memo.specs.Slots.{answer_in, answer_at, answers_at}
 use Rattle.ksv_memo.specs.Meaning.{Standing, IsAddedTo}
 use Rattle.ksv_memo.specs.Entry.{Entry}
 use Rattle.ksv_memo.specs.Open.{Open, with_uses, heard}
-use Rattle.ksv_memo.specs.Layout.{IsOneOf, AllDiffer, slots_of, node_at, nodes_at, IsOpen, IsKept, entries_of, open_before, opens_in, opens_of, AreNested, AreRows, AreFrames, IsLaidOut}
+use Rattle.ksv_memo.specs.Layout.{IsOneOf, AllDiffer, slots_of, node_at, nodes_at, IsOpen, IsKept, entries_of, open_before, opens_in, opens_of, AreNested, AreFrames, IsLaidOut}
 use Rattle.ksv_memo.specs.Moves.{EndsWith, SameFrames, Popped, Heard, Rowed}
-use Rattle.ksv_memo.specs.Nodes.{Nodes, kept_of, Keeps, Steps, Closes, MayKeep, TakesFirst, is_there}
+use Rattle.ksv_memo.specs.Nodes.{Keeps, Steps, Closes, MayKeep, TakesFirst, is_there}
 use Rattle.ksv_memo.proofs.Evals.{eqb_true}
-use Rattle.ksv_memo.proofs.Finding.{slot_there, node_there, answer_there}
-use Rattle.ksv_memo.proofs.Laying.{All-drop, All-take, some-of, asked_kept, same_entries, stays_kept}
-use Rattle.ksv_memo.proofs.Changing.{ChangesAt, grown, set_at, keeps, rows-stay, rows-add, entries-add, frames-pop, frames-hear, opens-pop, opens-hear, frames_nodes}
+use Rattle.ksv_memo.proofs.Finding.{node_there, answer_there}
+use Rattle.ksv_memo.proofs.Laying.{All-drop, asked_kept, same_entries}
+use Rattle.ksv_memo.proofs.Changing.{ChangesAt, grown, keeps, rows-stay, rows-add, entries-add, frames-pop, frames-hear, opens-pop, opens-hear, frames_nodes}
 
 -- the last of a list that isn't empty
 pub last-front : {X : Type 0} (xs : List X) (x : X) → slice_get xs (length xs - 1) ≡ Some x → EndsWith x xs

@@ -1,5 +1,5 @@
 -- What each move of the table does to slots, rows and frames. Only the table's own contracts use it.
-use Rattle.std.specs.Prelude.{◌≡◌, ℕ, Option, Some, Bool, true, false, List, [], ◌∷◌, ◌++◌, length, map, take, drop, slice_get}
+use Rattle.std.specs.Prelude.{◌≡◌, ℕ, Some, Bool, true, false, List, [], ◌∷◌, ◌++◌, length, take, drop, slice_get}
 use Rattle.std.specs.List.{list_any}
 use Rattle.ksv_bytes.specs.declared.uses.Use.{Use}
 use Rattle.ksv_memo.specs.declared.replies.Slot.{Slot}

@@ -1,8 +1,6 @@
 -- The slots of nodes, as the engine and the replies that it lends read them.
-use Rattle.std.specs.Prelude.{◌≡◌, ℕ, Bool, true, List, [], ◌∷◌, ◌++◌, length, Option, Some, None, Result, Ok, Err, is_some, slice_get}
+use Rattle.std.specs.Prelude.{◌≡◌, ℕ, true, List, [], ◌∷◌, Option, Some, None, Result, Ok, Err, is_some, slice_get}
 use Rattle.std.specs.Borrow.{Bor}
-use Rattle.std.specs.Option.{option_map}
-use Rattle.std.specs.List.{AllByRecursion}
 use Rattle.ksv_memo.specs.declared.replies.Slot.{Slot}
 use Rattle.ksv_memo.specs.declared.replies.Slot.TheVariants.{Empty, Open, Value, Fault}
 

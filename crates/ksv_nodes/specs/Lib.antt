@@ -7,3 +7,4 @@ pub mod Bounds
 pub mod Numbers
 pub mod Exact
 pub mod Laws
+pub mod Digest

@@ -1,6 +1,6 @@
-use Rattle.std.proofs.Common.{◌∙◌, ap, sym}
+use Rattle.std.proofs.Common.{◌∙◌, sym}
 use Rattle.ksv_memo.specs.declared.replies.Slot.TheVariants.{Empty}
-use Rattle.ksv_memo.proofs.Passing.{goes-left, stays-left, slots-left}
+use Rattle.ksv_memo.proofs.Passing.{stays-left, slots-left}
 use Rattle.ksv_memo.proofs.sweep.step.Goals as goal
 
 pub returns-then-is_to_go-clause-slots : goal.returns-then-is_to_go-clause-slots

@@ -1,9 +1,8 @@
-use Rattle.std.proofs.Common.{sym}
 use Rattle.ksv_memo.specs.Meaning.{on}
 use Rattle.ksv_memo.proofs.Standing.{law_on}
 use Rattle.ksv_memo.specs.Slots.{lent}
 use Rattle.ksv_memo.proofs.Topping.{on_err_always}
-use Rattle.ksv_memo.proofs.Taking.{on_err-map, closes_on, closes_last, closes_left, closed_keeps}
+use Rattle.ksv_memo.proofs.Taking.{closes_on, closes_last, closes_left, closed_keeps}
 use Rattle.ksv_memo.proofs.machine.Machine.finish.Goals as goal
 
 pub returns-in_err-waits-clause-err : goal.returns-in_err-waits-clause-err

@@ -1,8 +1,8 @@
-use Rattle.std.proofs.Common.{◌∙◌, ap, sym, subst, refl, length, ◌<◌}
+use Rattle.std.proofs.Common.{subst, refl, length}
 use Rattle.std.proofs.lemmas.Option.{slice_get_within}
 use Rattle.ksv_memo.specs.declared.replies.Slot.TheVariants.{Empty, Open}
 use Rattle.ksv_memo.specs.Layout.{entries_of, opens_of}
-use Rattle.ksv_memo.specs.Nodes.{Nodes, Replies, Opens, Circles}
+use Rattle.ksv_memo.specs.Nodes.{Replies, Opens, Circles}
 use Rattle.ksv_memo.proofs.Changing.{set_at, appended}
 use Rattle.ksv_memo.proofs.Finding.{no_lookup}
 use Rattle.ksv_memo.proofs.Tabling.{new_out, new_free, empty_out, empty_free, open_waits, hears, replies, opens-laid, opens-more, empty_none, empty_closed, past_none, past_closed}
