@@ -230,18 +230,18 @@ fn is_rested(rested: &Rested) -> bool {
 
 /// Whether a turn gives the end that was replied.
 fn gives_end(here: &Path, turn: &mut Turn) -> bool {
-    match turn.end(here) {
-        Ok(ended) => is_ended(&ended),
-        _ => false,
-    }
+    let Ok(ended) = turn.end(here) else {
+        return false;
+    };
+    is_ended(&ended)
 }
 
 /// Whether a turn gives the rest that was replied.
 fn gives_rest(here: &Path, turn: &mut Turn) -> bool {
-    match turn.rest(here) {
-        Ok(rested) => is_rested(&rested),
-        _ => false,
-    }
+    let Ok(rested) = turn.rest(here) else {
+        return false;
+    };
+    is_rested(&rested)
 }
 
 /// Whether a turn needs the rest at a path, since no reply is left.
@@ -273,11 +273,11 @@ fn are_bad(here: &Path, turn: &mut Turn) -> bool {
 
 /// Whether a turn whose next reply is an end takes it for the end of a part, and then needs that of another.
 fn gives_end_of_part(path: &Path, turn: &mut Turn) -> bool {
-    let is_end = match turn.end_of_part(path, Step::Index(7)) {
-        Ok(ended) => is_ended(&ended),
-        _ => false,
+    let Ok(ended) = turn.end_of_part(path, Step::Index(7)) else {
+        return false;
     };
-    is_end && needs_end_of_part(path, turn)
+    let is_end = is_ended(&ended);
+    needs_end_of_part(path, turn) && is_end
 }
 
 /// Whether a turn needs the end of a part, since no reply is left.
