@@ -2,7 +2,7 @@
 
 use ksv_bytes::{Buffer, Change, Use, touches};
 use ksv_expr_eval::{Fault, Value};
-use ksv_memo::{Next, Rules};
+use ksv_memo::{Next, Replies, Rules, Slot};
 use ksv_rules::{Described, Given, Node, NodeKind};
 use std::alloc::{AllocError, Global};
 
@@ -28,6 +28,48 @@ struct Completed {
     uses: Vec<Use>,
 }
 
+/// A node that is evaluated: the replies that it had, each in the slot of its place, and what its own readings rest on.
+#[derive(Drop)]
+struct Evaluation {
+    slots: Vec<Slot<Given, Fault>>,
+    asked: Vec<u32>,
+    uses: Vec<Use>,
+}
+
+impl Evaluation {
+    fn new(alloc: Global) -> Self {
+        Evaluation {
+            slots: Vec::new(alloc),
+            asked: Vec::new(alloc),
+            uses: Vec::new(alloc),
+        }
+    }
+
+    /// What the node does next; None if a slot has no reply.
+    fn next(
+        &mut self,
+        file: File<'_>,
+        node: &Node,
+    ) -> Result<Option<Next<Node, Reply>>, AllocError> {
+        let Some(replies) = Replies::checked(&self.slots, &self.asked) else {
+            return Ok(None);
+        };
+        let uses = &mut self.uses;
+        let next = file.rules.next(file.alloc, node, file.bytes, &replies, uses)?;
+        Ok(Some(next))
+    }
+
+    /// Adds the reply at a place.
+    fn hear(&mut self, place: u32, reply: Reply) -> Result<(), AllocError> {
+        self.slots.push(match reply {
+            Ok(given) => Slot::Value(given),
+            Err(fault) => Slot::Fault(fault),
+        })?;
+        self.asked.push(place)?;
+        Ok(())
+    }
+}
+
 /// The answer of a node while others are open, each node that it asks being answered in the same way; None if that
 /// comes upon an open node. All nodes that are completed on the way are added, a node as often as it is asked.
 fn evaluate(
@@ -40,22 +82,22 @@ fn evaluate(
     if depth == 0 || open.as_slice().contains(&node) {
         return Ok(None);
     }
-    let mut replies = Vec::new(file.alloc);
-    let mut uses = Vec::new(file.alloc);
-    for _ in 0..DEPTH {
-        let next = file.rules.next(file.alloc, &node, file.bytes, replies.as_slice(), &mut uses)?;
-        match next {
-            Next::Done(reply) => {
-                let asks = replies.len();
+    let mut evaluation = Evaluation::new(file.alloc);
+    for place in 0..DEPTH {
+        match evaluation.next(file, &node)? {
+            None => return Ok(None),
+            Some(Next::Done(reply)) => {
+                let asks = place as usize;
+                let uses = evaluation.uses;
                 completed.push(Completed { node, asks, uses })?;
                 return Ok(Some(reply));
             }
-            Next::Need(needed) => {
+            Some(Next::Need(needed)) => {
                 open.push(node.copy(file.alloc)?)?;
                 let reply = evaluate(file, open, needed, depth - 1, completed)?;
                 open.pop();
                 match reply {
-                    Some(reply) => replies.push(reply)?,
+                    Some(reply) => evaluation.hear(place, reply)?,
                     None => return Ok(None),
                 }
             }

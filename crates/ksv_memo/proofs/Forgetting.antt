@@ -1,7 +1,6 @@
 -- What an edit takes from the kept nodes is what the pass takes from the table, and what stays is right.
-use Rattle.std.proofs.Common.{◌≡◌, ℕ, ◌+◌, Bool, true, false, not, cond, ◌||◌, ◌&&◌, nat_eq, nat_lt, List, [], ◌∷◌, ◌++◌, map, filter, Contains, Any, refl, sym, ◌∙◌, ap, subst}
+use Rattle.std.proofs.Common.{◌≡◌, ℕ, ◌+◌, Bool, true, false, not, cond, ◌||◌, ◌&&◌, nat_eq, nat_lt, List, [], ◌∷◌, ◌++◌, map, filter, Contains, Any, refl, sym, ◌∙◌, ap, subst, ◌⊎◌, inl, inr, eq-eqb}
 use Rattle.std.specs.Bool.{Decides}
-use Rattle.std.specs.Cmp.{IsEquivalence}
 use Rattle.std.specs.List.{AllByRecursion, list_any, flat_map}
 use Rattle.std.proofs.lemmas.Bool.Decides.{Decides-and, Decides-not, Decides-ltb, not_from_Decides}
 use Rattle.std.proofs.lemmas.List.Elements.{All-contains_itself, recursion_from_All}
@@ -18,14 +17,15 @@ use Rattle.ksv_memo.specs.Evaluation.{is_among, IsAnswered, completed, tells}
 use Rattle.ksv_memo.specs.Entry.{Entry}
 use Rattle.ksv_memo.specs.Right.{nodes_of, AreDistinct, AreExactly, HasEachOnce, IsRightEntry, IsRight}
 use Rattle.ksv_memo.specs.Touched.{IsTouched, is_use_touched, is_hit, is_touched, tree, left_after}
-use Rattle.ksv_memo.specs.Sweep.{HasEntry, AsksBefore, Mark, has_gone, AreMarked, entries_in, entries_left, Sweeps}
+use Rattle.ksv_memo.specs.Layout.{IsOneOf}
+use Rattle.ksv_memo.specs.Sweep.{Mark, Says, AllSay, IsMarked, AreMarked, entries_with as entries_in, entries_left, Sweeps}
 use Rattle.ksv_memo.proofs.Standing.{law_on}
 use Rattle.ksv_memo.proofs.Lists.{All-map, All-both, All-++}
 use Rattle.ksv_memo.proofs.Evals.{eqb_true, or_false}
-use Rattle.ksv_memo.proofs.Keeping.{AreDistinct-none, kept-tree}
-use Rattle.ksv_memo.proofs.Turns.{any_entry}
+use Rattle.ksv_memo.proofs.Keeping.{AreDistinct-none, kept-tree, or_right}
 use Rattle.ksv_memo.proofs.Change.{All-once, All-of-once, untouched-stays}
-use Rattle.ksv_memo.proofs.Sweeping.{none_fails, none_pass, any_same, entries_in-append, asked_kept, stays-ordered}
+use Rattle.ksv_memo.proofs.Laying.{one_of-all, one_of-push}
+use Rattle.ksv_memo.proofs.Sweeping.{none_fails, none_pass, any_same}
 
 -- ---- the tests
 pub use_touched : (change : Change) (used : Use) → Decides (is_use_touched change used) (Touches change used)
@@ -106,13 +106,13 @@ module _ {N A : Type 0} (w : Standing N A) where
       by false rest = IsDistinct-cons nat_eq (w.number k.entry.node) (map w.number (nodes_of (entries_left ks))) (numbers-entries_left (λ y. nat_eq (w.number k.entry.node) y ≡ false) ks (IsDistinct-head nat_eq (w.number k.entry.node) (map w.number (nodes_of (entries_in ks))) h)) rest
 
 -- what stays has no touched use
-free-entries_left : {N A : Type 0} (eq : N → N → Bool) (change : Change) (before ks : List (Mark N A)) → AreMarked eq change before ks → AllByRecursion (λ e. AllByRecursion (λ used. Touches change used → ⊥) e.uses) (entries_left ks)
-free-entries_left eq change before [] h = tt
-free-entries_left {N} {A} eq change before (k ∷ ks) h = by k.goes refl (free-entries_left eq change (before ++ k ∷ []) ks h.1)
+free-entries_left : {N A : Type 0} (change : Change) (before ks : List (Mark N A)) → AreMarked change before ks → AllByRecursion (λ e. AllByRecursion (λ used. Touches change used → ⊥) e.uses) (entries_left ks)
+free-entries_left change before [] h = tt
+free-entries_left {N} {A} change before (k ∷ ks) h = by k.goes refl (free-entries_left change (before ++ k ∷ []) ks h.1)
   where
     by : (b : Bool) → k.goes ≡ b → AllByRecursion (λ e. AllByRecursion (λ used. Touches change used → ⊥) e.uses) (entries_left ks) → AllByRecursion (λ e. AllByRecursion (λ used. Touches change used → ⊥) e.uses) (entries_in (cond (not b) (k ∷ filter (λ k. not k.goes) ks) (filter (λ k. not k.goes) ks)))
     by true e rest = rest
-    by false e rest = (All-map (untouched_use change) k.entry.uses (none_pass (is_use_touched change) k.entry.uses (or_false (list_any (is_use_touched change) k.entry.uses) (list_any (has_gone eq before) k.entry.asked) (sym h.0 ∙ e)).0), rest)
+    by false e rest = (All-map (untouched_use change) k.entry.uses (none_pass (is_use_touched change) k.entry.uses (or_false (list_any (is_use_touched change) k.entry.uses) (list_any (λ b. b) h.0.asked) (sym h.0.goes ∙ e)).0), rest)
 
 module _ {N A : Type 0} (w : Standing N A) where
   -- the mark of an entry says whether its node is touched
@@ -167,59 +167,94 @@ module _ {N A : Type 0} (w : Standing N A) (law : IsSettled w) where
   pub left_after-same : (change : Change) (ns ms : List N) → ((x : N) → is_among w.number ns x ≡ is_among w.number ms x) → (x : N) → is_among w.number (left_after w change ns) x ≡ is_among w.number (left_after w change ms) x
   left_after-same change ns ms same x = among-filter (λ m. not (is_touched w change m)) ns x ∙ ap (λ b. b && not (is_touched w change x)) (same x) ∙ sym (among-filter (λ m. not (is_touched w change m)) ms x)
 
-module _ {N A : Type 0} (w : Standing N A) (law : IsSettled w) (eq : N → N → Bool) (laws : IsEquivalence eq) (exact : (a b : N) → eq a b ≡ true → a ≡ b) where
-  gone_touched : (change : Change) (before : List (Mark N A)) → AllByRecursion (IsTold w change) before → (m : N) → HasEntry eq (entries_in before) m → has_gone eq before m ≡ is_touched w change m
-  gone_touched change [] told m h = absurd (cc)
-  gone_touched change (k ∷ ks) told m h = by (eq m k.entry.node) refl (gone_touched change ks told.1 m) h
-    where
-      by : (b : Bool) → eq m k.entry.node ≡ b → (HasEntry eq (entries_in ks) m → has_gone eq ks m ≡ is_touched w change m) → (b || list_any (λ e. eq m e.node) (entries_in ks)) ≡ true → cond b k.goes (has_gone eq ks m) ≡ is_touched w change m
-      by true e ih h = told.0 ∙ ap (is_touched w change) (sym (exact m k.entry.node e))
-      by false e ih h = ih h
+  -- ---- the marks of the pass
+  said : (change : Change) (before : List (Mark N A)) → AllByRecursion (IsTold w change) before → (ms : List N) (bs : List Bool) → AllSay before ms bs → list_any (λ b. b) bs ≡ list_any (is_touched w change) ms
+  said change before told [] [] h = refl
+  said change before told [] (b ∷ bs) h = absurd h
+  said change before told (m ∷ ms) [] h = absurd h
+  said change before told (m ∷ ms) (b ∷ bs) h =
+      let here : b ≡ is_touched w change m = sym h.0.goes ∙ one_of-all (IsTold w change) before told h.0.mark h.0.there ∙ ap (is_touched w change) h.0.node in
+      ap (λ c. c || list_any (λ b. b) bs) here ∙ ap (λ c. is_touched w change m || c) (said change before told ms bs h.1)
 
   -- each mark of the pass says whether the node is touched, from the front on
-  marks-told : (change : Change) (kept : List N) (before ks : List (Mark N A)) → AllByRecursion (IsTold w change) before → AreMarked eq change before ks → AsksBefore eq (entries_in before) (entries_in ks) → AllByRecursion (IsRightEntry w kept) (entries_in ks) → AllByRecursion (IsTold w change) ks
-  marks-told change kept before [] told marked ordered right = tt
-  marks-told change kept before (k ∷ ks) told marked ordered right =
+  marks-told : (change : Change) (kept : List N) (before ks : List (Mark N A)) → AllByRecursion (IsTold w change) before → AreMarked change before ks → AllByRecursion (IsRightEntry w kept) (entries_in ks) → AllByRecursion (IsTold w change) ks
+  marks-told change kept before [] told marked right = tt
+  marks-told change kept before (k ∷ ks) told marked right =
       let here : IsTold w change k =
-      marked.0
-      ∙ ap (λ b. list_any (is_use_touched change) k.entry.uses || b) (any_same (has_gone eq before) (is_touched w change) k.entry.asked (All-map (gone_touched change before told) k.entry.asked ordered.0))
-      ∙ sym (touched-kept w law change kept k.entry right.0) in
-      let P : List (Entry N A) → Type 0 = λ es. AsksBefore eq es (entries_in ks) in
-      (here, marks-told change kept (before ++ k ∷ []) ks (All-++ (IsTold w change) before (k ∷ []) told (here, tt)) marked.1 (subst P (sym (entries_in-append before (k ∷ []))) ordered.1) right.1)
+      marked.0.goes
+      ∙ ap (λ b. list_any (is_use_touched change) k.entry.uses || b) (said change before told k.entry.asked marked.0.asked marked.0.say)
+      ∙ sym (touched-kept change kept k.entry right.0) in
+      (here, marks-told change kept (before ++ k ∷ []) ks (All-++ (IsTold w change) before (k ∷ []) told (here, tt)) marked.1 right.1)
 
   -- ---- what the pass leaves
+  -- an entry that stays is left
+  stays_in : (ks : List (Mark N A)) (k : Mark N A) → IsOneOf ks k → k.goes ≡ false → is_among w.number (nodes_of (entries_left ks)) k.entry.node ≡ true
+  stays_in [] k h e = absurd h
+  stays_in (x ∷ ks) k (inl same) e = subst (λ (y : Mark N A). is_among w.number (nodes_of (entries_left (x ∷ ks))) y.entry.node ≡ true) same (by x.goes (ap (λ (y : Mark N A). y.goes) same ∙ e))
+    where
+      by : (b : Bool) → b ≡ false → is_among w.number (nodes_of (entries_in (cond (not b) (x ∷ filter (λ k. not k.goes) ks) (filter (λ k. not k.goes) ks)))) x.entry.node ≡ true
+      by true f = absurd (cc)
+      by false f = ap (λ c. c || is_among w.number (nodes_of (entries_left ks)) x.entry.node) (eq-eqb (w.number x.entry.node) (w.number x.entry.node) refl)
+  stays_in (x ∷ ks) k (inr h) e = by x.goes (stays_in ks k h e)
+    where
+      by : (b : Bool) → is_among w.number (nodes_of (entries_left ks)) k.entry.node ≡ true → is_among w.number (nodes_of (entries_in (cond (not b) (x ∷ filter (λ k. not k.goes) ks) (filter (λ k. not k.goes) ks)))) k.entry.node ≡ true
+      by true ih = ih
+      by false ih = or_right (nat_eq (w.number k.entry.node) (w.number x.entry.node)) (is_among w.number (nodes_of (entries_left ks)) k.entry.node) ih
+
+  none_said : (all before : List (Mark N A)) → ((k : Mark N A) → IsOneOf before k → IsOneOf all k) → (ms : List N) (bs : List Bool) → AllSay before ms bs → list_any (λ b. b) bs ≡ false → AllByRecursion (λ m. is_among w.number (nodes_of (entries_left all)) m ≡ true) ms
+  none_said all before inside [] [] h none = tt
+  none_said all before inside [] (b ∷ bs) h none = absurd h
+  none_said all before inside (m ∷ ms) [] h none = absurd h
+  none_said all before inside (m ∷ ms) (b ∷ bs) h none =
+      let parts = or_false b (list_any (λ b. b) bs) none in
+      (subst (λ n. is_among w.number (nodes_of (entries_left all)) n ≡ true) h.0.node (stays_in all h.0.mark (inside h.0.mark h.0.there) (h.0.goes ∙ parts.0)), none_said all before inside ms bs h.1 parts.1)
+
+  -- what an entry that stays asked is left
+  closed_left : (change : Change) (all before ks : List (Mark N A)) → ((k : Mark N A) → IsOneOf before k → IsOneOf all k) → ((k : Mark N A) → IsOneOf ks k → IsOneOf all k) → AreMarked change before ks → AllByRecursion (λ (e : Entry N A). AllByRecursion (λ m. is_among w.number (nodes_of (entries_left all)) m ≡ true) e.asked) (entries_left ks)
+  closed_left change all before [] inside later marked = tt
+  closed_left change all before (k ∷ ks) inside later marked =
+      by k.goes refl (closed_left change all (before ++ k ∷ []) ks (λ x m. cases x (one_of-push before k x m)) (λ x m. later x (inr m)) marked.1)
+    where
+      cases : (x : Mark N A) → IsOneOf before x ⊎ (k ≡ x) → IsOneOf all x
+      cases x (inl m) = inside x m
+      cases x (inr e) = subst (IsOneOf all) e (later k (inl refl))
+
+      by : (b : Bool) → k.goes ≡ b → AllByRecursion (λ (e : Entry N A). AllByRecursion (λ m. is_among w.number (nodes_of (entries_left all)) m ≡ true) e.asked) (entries_left ks)
+          → AllByRecursion (λ (e : Entry N A). AllByRecursion (λ m. is_among w.number (nodes_of (entries_left all)) m ≡ true) e.asked) (entries_in (cond (not b) (k ∷ filter (λ k. not k.goes) ks) (filter (λ k. not k.goes) ks)))
+      by true e rest = rest
+      by false e rest = (none_said all before inside k.entry.asked marked.0.asked marked.0.say (or_false (list_any (is_use_touched change) k.entry.uses) (list_any (λ b. b) marked.0.asked) (sym marked.0.goes ∙ e)).1, rest)
+
   -- what stays is right on the same bytes
-  right-entries_left : (change : Change) (ks : List (Mark N A)) → IsRight w (entries_in ks) → AreMarked eq change [] ks → IsRight w (entries_left ks)
+  right-entries_left : (change : Change) (ks : List (Mark N A)) → IsRight w (entries_in ks) → AreMarked change [] ks → IsRight w (entries_left ks)
   right-entries_left change ks right marked =
       let kept : List N = nodes_of (entries_left ks) in
       record {
-        each = All-both (IsRightEntry w (nodes_of (entries_in ks))) (λ (e : Entry N A). AllByRecursion (HasEntry eq (entries_left ks)) e.asked) (IsRightEntry w kept)
-            (λ e is asked. record { outcome = is.outcome; asked = is.asked; uses = is.uses; closed = All-map (λ m has. sym (any_entry w law eq laws exact (entries_left ks) m) ∙ has) e.asked asked })
-            (entries_left ks) (All-entries_left (IsRightEntry w (nodes_of (entries_in ks))) ks right.each) (asked_kept eq [] (entries_left ks) (stays-ordered eq change [] ks marked));
+        each = All-both (IsRightEntry w (nodes_of (entries_in ks))) (λ (e : Entry N A). AllByRecursion (λ m. is_among w.number kept m ≡ true) e.asked) (IsRightEntry w kept)
+            (λ e is asked. record { outcome = is.outcome; asked = is.asked; uses = is.uses; closed = asked })
+            (entries_left ks) (All-entries_left (IsRightEntry w (nodes_of (entries_in ks))) ks right.each) (closed_left change ks [] ks (λ k m. absurd m) (λ k m. m) marked);
         once = distinct-entries_left w ks right.once;
       }
 
   -- those nodes stay that have no touched use in their tree, and no others
-  pub forgets : (change : Change) (es all : List (Entry N A)) → IsRight w es → Sweeps eq change es all → IsRight w all × AreExactly w (nodes_of all) (left_after w change (nodes_of es))
+  pub forgets : (change : Change) (es all : List (Entry N A)) → IsRight w es → Sweeps change es all → IsRight w all × AreExactly w (nodes_of all) (left_after w change (nodes_of es))
   forgets change es all right sweeps =
       let ks : List (Mark N A) = sweeps.marks in
       let R : List (Entry N A) → Type 0 = λ xs. IsRight w xs in
-      let O : List (Entry N A) → Type 0 = λ xs. AsksBefore eq [] xs in
       let right_marks : IsRight w (entries_in ks) = subst R (sym sweeps.entries) right in
-      let told : AllByRecursion (IsTold w change) ks = marks-told change (nodes_of (entries_in ks)) [] ks tt sweeps.marked (subst O (sym sweeps.entries) sweeps.ordered) right_marks.each in
+      let told : AllByRecursion (IsTold w change) ks = marks-told change (nodes_of (entries_in ks)) [] ks tt sweeps.marked right_marks.each in
       let stays : IsRight w all = subst R (sym sweeps.stays) (right-entries_left change ks right_marks sweeps.marked) in
       let same : nodes_of all ≡ left_after w change (nodes_of es) = ap nodes_of sweeps.stays ∙ left_nodes w change ks told ∙ ap (λ xs. left_after w change (nodes_of xs)) sweeps.entries in
       (stays, record { once = stays.once; same = λ x. ap (λ ns. is_among w.number ns x) same })
 
 -- and it is right for the bytes after the edit
-pub forgets-right : {N A : Type 0} (meaning : Meaning N A) → IsLawful meaning → (eq : N → N → Bool) → IsEquivalence eq → ((a b : N) → eq a b ≡ true → a ≡ b) → (change : Change) (before after : List ℕ) → Makes change before after → (es all : List (Entry N A)) → Sweeps eq change es all → IsRight (on meaning before) es → IsRight (on meaning after) all
-forgets-right {N} {A} meaning law eq laws exact change before after made es all sweeps right =
+pub forgets-right : {N A : Type 0} (meaning : Meaning N A) → IsLawful meaning → (change : Change) (before after : List ℕ) → Makes change before after → (es all : List (Entry N A)) → Sweeps change es all → IsRight (on meaning before) es → IsRight (on meaning after) all
+forgets-right {N} {A} meaning law change before after made es all sweeps right =
     let P : List (Entry N A) → Type 0 = λ xs. AllByRecursion (λ (e : Entry N A). AllByRecursion (λ used. Touches change used → ⊥) e.uses) xs in
-    untouched-stays meaning law change before after made all (forgets (on meaning before) (law_on meaning law before) eq laws exact change es all right sweeps).0
-    (subst P (sym sweeps.stays) (free-entries_left eq change [] sweeps.marks sweeps.marked))
+    untouched-stays meaning law change before after made all (forgets (on meaning before) (law_on meaning law before) change es all right sweeps).0
+    (subst P (sym sweeps.stays) (free-entries_left change [] sweeps.marks sweeps.marked))
 
 -- it was kept before
-pub forgets-kept : {N A : Type 0} (eq : N → N → Bool) (change : Change) (es all : List (Entry N A)) → Sweeps eq change es all → AllByRecursion (Contains es) all
-forgets-kept {N} {A} eq change es all sweeps =
+pub forgets-kept : {N A : Type 0} (change : Change) (es all : List (Entry N A)) → Sweeps change es all → AllByRecursion (Contains es) all
+forgets-kept {N} {A} change es all sweeps =
     let P : List (Entry N A) → Type 0 = λ xs. AllByRecursion (Contains es) xs in
     subst P (sym sweeps.stays) (All-entries_left (Contains es) sweeps.marks (subst P (sym sweeps.entries) (recursion_from_All (Contains es) es (All-contains_itself es))))

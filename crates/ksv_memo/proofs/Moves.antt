@@ -12,7 +12,8 @@ use Rattle.ksv_memo.specs.declared.rules.Outcome.TheVariants.{Answered, Circle}
 use Rattle.ksv_memo.specs.Meaning.{Standing, IsSettled, IsDone}
 use Rattle.ksv_memo.specs.Evaluation.{is_among, Told, after, with_reply, with_step, told, if_answered, tells, done}
 use Rattle.ksv_memo.specs.Entry.{Entry}
-use Rattle.ksv_memo.specs.Open.{Open, nodes_in}
+use Rattle.ksv_memo.specs.Open.{Open, nodes_in, newly, with_uses, with_answer}
+use Rattle.ksv_memo.specs.Nodes.{kept_of}
 use Rattle.ksv_memo.specs.Right.{nodes_of, AreDistinct, HasEachOnce, IsRight, fresh, costs}
 use Rattle.ksv_memo.specs.Running.{answering, Agrees, HasCome, IsWaiting, HasEnded, HasStepped, Chain, IsStack, climbed, value_of, value_at, climbed_rest, told_rest, rest_of, rest_at, to_keep, debt}
 use Rattle.ksv_memo.proofs.Lists.{All-map, All-++, All-left}
@@ -28,17 +29,6 @@ told-more : {N A : Type 0} (w : Standing N A) (g : N → Outcome N A) (n : N) (r
     → told w g n (suc w.replies - length replies) replies ≡ with_step g (w.added n replies) (λ a. told w g n (w.replies - length replies) (replies ++ a ∷ [])) (w.follow n replies)
 unfolding told
 told-more w g n replies few = let eq : suc w.replies - length replies ≡ suc (w.replies - length replies) = omega arith in ap (λ j. told w g n j replies) eq
-
--- the open node after a call that added uses
-abbrev pub with_uses : {N A : Type 0} → Open N A → List Use → Open N A
-with_uses o us = record { node = o.node; replies = o.replies; asked = o.asked; uses = o.uses ++ us }
-
--- the open node with one more reply
-abbrev pub with_answer : {N A : Type 0} → Open N A → N → A → Open N A
-with_answer o m a = record { node = o.node; replies = o.replies ++ a ∷ []; asked = o.asked ++ m ∷ []; uses = o.uses }
-
-abbrev pub newly : {N A : Type 0} → N → Open N A
-newly n = record { node = n; replies = []; asked = []; uses = [] }
 
 ended : {N A : Type 0} (asked : List N) (uses us : List Use) (a : A) → after asked uses (record { outcome = Answered a; asked = []; uses = us }) ≡ record { outcome = Answered a; asked = asked; uses = uses ++ us }
 ended asked uses us a = λ i. record { outcome = Answered a; asked = ++-nil asked i; uses = uses ++ us }
@@ -150,10 +140,6 @@ apart-keep w es e (n ∷ ns) h k =
       ap (λ ms. is_among w.number ms n) (nodes_of-append es (e ∷ [])) ∙ is_among-append w.number (nodes_of es) (e.node ∷ []) n ∙ or_false_intro (is_among w.number (nodes_of es) n) (is_among w.number (e.node ∷ []) n) h.0 (or_false_intro (nat_eq (w.number n) (w.number e.node)) false other refl),
       apart-keep w es e ns h.1 k.1,
     )
-
--- what is kept of an open node that has its answer
-abbrev pub kept_of : {N A : Type 0} → Open N A → A → List Use → Entry N A
-kept_of o a once = record { node = o.node; answer = a; asked = o.asked; uses = once }
 
 pub keeps : {N A : Type 0} (w : Standing N A) → IsSettled w → (es : List (Entry N A)) (o : Open N A) (st : List (Open N A)) (a : A) (once : List Use) → IsStack w es o.node st → HasEnded w es o a → HasEachOnce once o.uses → IsRight w (es ++ kept_of o a once ∷ [])
 keeps w law es o st a once h ended each = keep w law es (kept_of o a once) o.uses h.right h.apart.0 ended.closed each ended.came

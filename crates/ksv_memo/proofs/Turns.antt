@@ -12,18 +12,15 @@ use Rattle.ksv_memo.specs.declared.rules.Outcome.{Outcome}
 use Rattle.ksv_memo.specs.declared.rules.Outcome.TheVariants.{Answered, Circle}
 use Rattle.ksv_memo.specs.Meaning.{Standing, IsSettled, IsAddedTo}
 use Rattle.ksv_memo.specs.Evaluation.{is_among, Told, after, told, tells, done}
-use Rattle.ksv_memo.specs.Entry.{Entry, entry_of}
-use Rattle.ksv_memo.specs.Open.{Open, open_of, nodes_in}
+use Rattle.ksv_memo.specs.Entry.{Entry}
+use Rattle.ksv_memo.specs.Open.{Open, nodes_in, newly, with_uses, with_answer}
+use Rattle.ksv_memo.specs.Nodes.{kept_of}
 use Rattle.ksv_memo.specs.Right.{nodes_of, HasEachOnce, IsRight, fresh, costs, counted}
 use Rattle.ksv_memo.specs.Running.{answering, Agrees, HasCome, IsWaiting, HasEnded, HasStepped, IsStack, climbed, value_of, calls_of, calls_left, climbed_rest, rest_of, rest_at, to_keep, debt, made, Counts, Account, account_of, account_at, HasFinished, GoesOn, Advances, IsLeft}
-use Rattle.ksv_memo.specs.declared.frame.Frame.{Frame}
-use Rattle.ksv_memo.specs.declared.table.Kept.{Kept}
-use Rattle.ksv_memo.specs.declared.machine.Progress.{Progress}
-use Rattle.ksv_memo.specs.Sweep.{HasEntry}
 use Rattle.ksv_memo.proofs.Lists.{All-map, All-right}
 use Rattle.ksv_memo.proofs.Evals.{IsOut, eqb_true, or_false_intro, AreDistinct-cons, tells-free}
 use Rattle.ksv_memo.proofs.Keeping.{IsIn, AreDistinct-none, done-kept, agrees, self_in, nodes_of-append}
-use Rattle.ksv_memo.proofs.Moves.{++-nil, with_answer, with_uses, newly, kept_of, stepped, value-stepped, rest-stepped, rest-replied, rest-starts, rest-circle, covers-keep, covers-drop, to_keep-nil, fresh-nil, debt-keep, debt-drop, replied, value-replied, value-circle, starts, value-starts, room, opens, keeps, closes, IsWaiting-keep}
+use Rattle.ksv_memo.proofs.Moves.{++-nil, stepped, value-stepped, rest-stepped, rest-replied, rest-starts, rest-circle, covers-keep, covers-drop, to_keep-nil, fresh-nil, debt-keep, debt-drop, replied, value-replied, value-circle, starts, value-starts, room, opens, keeps, closes, IsWaiting-keep}
 
 -- ---- `==` on nodes is that of their numbers
 module _ {N A : Type 0} (w : Standing N A) (law : IsSettled w) (eq : N → N → Bool) (laws : IsEquivalence eq) (exact : (a b : N) → eq a b ≡ true → a ≡ b) where
@@ -36,60 +33,6 @@ module _ {N A : Type 0} (w : Standing N A) (law : IsSettled w) (eq : N → N →
       by true e false f = let same : w.number a ≡ w.number b = ap (λ z. w.number z) (exact a b e) in let yes : nat_eq (w.number a) (w.number b) ≡ true = eq-eqb (w.number a) (w.number b) same in cc
       by false e true f = let same : a ≡ b = law.own_number a b (eqb_true (w.number a) (w.number b) f) in let yes : eq a a ≡ true = laws.refl a in let moved : eq a b ≡ eq a a = ap (eq a) (sym same) in cc
 
-  -- a node whose look-up finds nothing isn't kept, and the other way round
-  out_of_miss : (es : List (Entry N A)) (n : N) → find (λ e. eq n e.node) es ≡ None → IsOut w (nodes_of es) n
-  out_of_miss [] n h = refl
-  out_of_miss (e ∷ es) n h = ap (λ b. b || is_among w.number (nodes_of es) n) (sym (eq_number n e.node)) ∙ by (eq n e.node) (out_of_miss es n) h
-    where
-      by : (b : Bool) → (find (λ e. eq n e.node) es ≡ None → IsOut w (nodes_of es) n) → cond b (Some e) (find (λ e. eq n e.node) es) ≡ None → (b || is_among w.number (nodes_of es) n) ≡ false
-      by true ih h = cc
-      by false ih h = ih h
-
-  pub miss_of_out : (es : List (Entry N A)) (n : N) → IsOut w (nodes_of es) n → find (λ e. eq n e.node) es ≡ None
-  miss_of_out [] n h = refl
-  miss_of_out (e ∷ es) n h = by (eq n e.node) (eq_number n e.node) (miss_of_out es n)
-    where
-      by : (b : Bool) → b ≡ nat_eq (w.number n) (w.number e.node) → (IsOut w (nodes_of es) n → find (λ e. eq n e.node) es ≡ None) → cond b (Some e) (find (λ e. eq n e.node) es) ≡ None
-      by true q ih = absurd (let yes : nat_eq (w.number n) (w.number e.node) ≡ true = sym q in let both : (true || is_among w.number (nodes_of es) n) ≡ false = ap (λ b. b || is_among w.number (nodes_of es) n) (sym yes) ∙ h in cc)
-      by false q ih = ih (ap (λ b. b || is_among w.number (nodes_of es) n) q ∙ h)
-
-  pub not_found : (es : List (Entry N A)) (n : N) → option_map (λ (e : Entry N A). e.answer) (find (λ e. eq n e.node) es) ≡ None → IsOut w (nodes_of es) n
-  not_found es n h = out_of_miss es n (by (find (λ e. eq n e.node) es) h)
-    where
-      by : (o : Option (Entry N A)) → option_map (λ (e : Entry N A). e.answer) o ≡ None → o ≡ None
-      by None h = refl
-      by (Some e) h = absurd (cc)
-
-  -- what holds of each entry holds of the one that a look-up finds
-  at_hit : (P : Entry N A → Type 0) (es : List (Entry N A)) (n : N) (e : Entry N A) → find (λ e. eq n e.node) es ≡ Some e → AllByRecursion P es → P e × (e.node ≡ n)
-  at_hit P [] n e h all = absurd (cc)
-  at_hit P (x ∷ es) n e h all = by (eq n x.node) refl (at_hit P es n e) h
-    where
-      by : (b : Bool) → eq n x.node ≡ b → (find (λ e. eq n e.node) es ≡ Some e → AllByRecursion P es → P e × (e.node ≡ n)) → cond b (Some x) (find (λ e. eq n e.node) es) ≡ Some e → P e × (e.node ≡ n)
-      by true q ih h = let same : x ≡ e = cc in let Q : Entry N A → Type 0 = λ y. P y × (y.node ≡ n) in subst Q same (all.0, sym (exact n x.node q))
-      by false q ih h = ih h all.1
-
-  hit : (es : List (Entry N A)) (n : N) (a : A) → option_map (λ (e : Entry N A). e.answer) (find (λ e. eq n e.node) es) ≡ Some a → (e : Entry N A) × (find (λ e. eq n e.node) es ≡ Some e) × (e.answer ≡ a)
-  hit es n a h = by (find (λ e. eq n e.node) es) refl h
-    where
-      by : (o : Option (Entry N A)) → find (λ e. eq n e.node) es ≡ o → option_map (λ (e : Entry N A). e.answer) o ≡ Some a → (e : Entry N A) × (find (λ e. eq n e.node) es ≡ Some e) × (e.answer ≡ a)
-      by None q h = absurd (cc)
-      by (Some e) q h = (e, q, let same : e.answer ≡ a = cc in same)
-
-  -- what a look-up found is kept, and is what each way of answering says that agrees with the table
-  pub found_in : (es : List (Entry N A)) (n : N) (a : A) → option_map (λ (e : Entry N A). e.answer) (find (λ e. eq n e.node) es) ≡ Some a → IsIn w (nodes_of es) n
-  found_in es n a h =
-      let one = hit es n a h in
-      let at : (IsIn w (nodes_of es) one.0.node) × (one.0.node ≡ n) = at_hit (λ (x : Entry N A). IsIn w (nodes_of es) x.node) es n one.0 one.1 (self_in w es) in
-      let P : N → Type 0 = λ m. IsIn w (nodes_of es) m in
-      subst P at.1 at.0
-
-  pub found_says : (es : List (Entry N A)) (n : N) (a b : A) → option_map (λ (e : Entry N A). e.answer) (find (λ e. eq n e.node) es) ≡ Some a → b ≡ a → (g : N → Outcome N A) → Agrees es g → g n ≡ Answered b
-  found_says es n a b h copy g agree =
-      let one = hit es n a h in
-      let at : (g one.0.node ≡ Answered one.0.answer) × (one.0.node ≡ n) = at_hit (λ (x : Entry N A). g x.node ≡ Answered x.answer) es n one.0 one.1 agree in
-      ap g (sym at.1) ∙ at.0 ∙ ap (λ x. Answered x) (one.2 ∙ sym copy)
-
   any_waits : (st : List (Open N A)) (n : N) → list_any (λ o. eq n o.node) st ≡ is_among w.number (nodes_in st) n
   any_waits [] n = refl
   any_waits (o ∷ st) n = ap (λ b. b || list_any (λ o. eq n o.node) st) (eq_number n o.node) ∙ ap (λ b. nat_eq (w.number n) (w.number o.node) || b) (any_waits st n)
@@ -99,21 +42,9 @@ module _ {N A : Type 0} (w : Standing N A) (law : IsSettled w) (eq : N → N →
   any_entry [] n = refl
   any_entry (e ∷ es) n = ap (λ b. b || list_any (λ e. eq n e.node) es) (eq_number n e.node) ∙ ap (λ b. nat_eq (w.number n) (w.number e.node) || b) (any_entry es n)
 
-  -- so what a node asked has entries, if all of it is kept
-  pub asked_have : (es : List (Entry N A)) (f : Frame N A) (k : Kept N A) → k.asked ≡ f.asked → AllByRecursion (IsIn w (nodes_of es)) f.asked.items → AllByRecursion (HasEntry eq es) k.asked.items
-  asked_have es f k same h = let P : List N → Type 0 = λ ms. AllByRecursion (HasEntry eq es) ms in subst P (ap (λ v. v.items) (sym same)) (All-map (λ m is_in. any_entry es m ∙ is_in) f.asked.items h)
-
-  -- the test of the code says whether a node is open
-  pub open_test : (top : N) (st : List (Open N A)) (n : N) → (eq n top || list_any (λ o. eq n o.node) st) ≡ is_among w.number (top ∷ nodes_in st) n
-  open_test top st n = ap (λ b. b || list_any (λ (o : Open N A). eq n o.node) st) (eq_number n top) ∙ ap (λ b. nat_eq (w.number n) (w.number top) || b) (any_waits st n)
-
-  -- an open node doesn't wait twice
-  any_none : (n : N) (ns : List N) → AllByRecursion (λ y. nat_eq (w.number n) y ≡ false) (map w.number ns) → IsOut w ns n
-  any_none n [] h = refl
-  any_none n (m ∷ ns) h = or_false_intro (nat_eq (w.number n) (w.number m)) (is_among w.number ns n) h.0 (any_none n ns h.1)
-
-  pub waits_once : (es : List (Entry N A)) (n : N) (st : List (Open N A)) → IsStack w es n st → list_any (λ o. eq n o.node) st ≡ false
-  waits_once es n st h = any_waits st n ∙ any_none n (nodes_in st) (IsDistinct-head nat_eq (w.number n) (map w.number (nodes_in st)) h.distinct)
+  -- the test of the table says whether a node is open
+  pub waits_among : (st : List (Open N A)) (n : N) → list_any (λ o. eq n o.node) st ≡ is_among w.number (nodes_in st) n
+  waits_among st n = any_waits st n
 
 -- ---- the measure
 same_product : (p q x y : ℕ) → p ≡ q → x < y → p + x < q + y
@@ -279,7 +210,7 @@ module _ {N A : Type 0} (w : Standing N A) (law : IsSettled w) where
   }
 
   -- ---- the call of a turn
-  turn-account : (es : List (Entry N A)) (o : Open N A) (st : List (Open N A)) (s : Next N A) → s ≡ w.follow o.node o.replies → HasCome w es o → account_at w es (with_uses o (w.added o.node o.replies)) st s ≡ account_of w es o st
+  pub turn-account : (es : List (Entry N A)) (o : Open N A) (st : List (Open N A)) (s : Next N A) → s ≡ w.follow o.node o.replies → HasCome w es o → account_at w es (with_uses o (w.added o.node o.replies)) st s ≡ account_of w es o st
   turn-account es o st s is h = λ i. record {
     value = value-stepped w es o st s is h i;
     left = calls_left w es o st;
@@ -290,21 +221,6 @@ module _ {N A : Type 0} (w : Standing N A) (law : IsSettled w) where
 
   pub turn-steps : (es now : List (Entry N A)) (o p : Open N A) (s : Next N A) → now ≡ es → p ≡ with_uses o (w.added o.node o.replies) → s ≡ w.follow o.node o.replies → HasCome w es o → HasStepped w now p s
   turn-steps es now o p s same view is h = let P : List (Entry N A) → Open N A → Type 0 = λ xs q. HasStepped w xs q s in subst (λ xs. P xs p) (sym same) (subst (P es) (sym view) (stepped w law es o s is h))
-
-  pub turn-advances : (es now new : List (Entry N A)) (o p : Open N A) (st above : List (Open N A)) (s : Next N A) (r : Result (Progress N A) AllocError)
-      → now ≡ es → p ≡ with_uses o (w.added o.node o.replies) → s ≡ w.follow o.node o.replies → HasCome w es o
-      → IfOk r (Advances w (account_at w now p st s) now new above) → IfOk r (Advances w (account_of w es o st) es new above)
-  turn-advances es now new o p st above s r same view is h after =
-      let P : List (Entry N A) → Open N A → Type 0 = λ xs q. IfOk r (Advances w (account_at w xs q st s) xs new above) in
-      subst (λ acc. IfOk r (Advances w acc es new above)) (turn-account es o st s is h) (subst (P es) view (subst (λ xs. P xs p) same after))
-
-  pub turn-left : (es now new : List (Entry N A)) (o p : Open N A) (st : List (Open N A)) (s : Next N A) (r : Result (Progress N A) AllocError)
-      → now ≡ es → p ≡ with_uses o (w.added o.node o.replies) → s ≡ w.follow o.node o.replies → HasCome w es o
-      → OnErr r (IsLeft w (account_at w now p st s).all now new) → OnErr r (IsLeft w (account_of w es o st).all es new)
-  turn-left es now new o p st s r same view is h after =
-      let P : List (Entry N A) → Open N A → Type 0 = λ xs q. OnErr r (IsLeft w (account_at w xs q st s).all xs new) in
-      let Q : Account N A → Type 0 = λ acc. OnErr r (IsLeft w acc.all es new) in
-      subst Q (turn-account es o st s is h) (subst (P es) view (subst (λ xs. P xs p) same after))
 
   -- ---- a question begins
   pub begins : (es : List (Entry N A)) (n : N) (o : Open N A) (st : List (Open N A)) → o ≡ newly n → st ≡ [] → IsRight w es → IsOut w (nodes_of es) n → IsStack w es o.node st
@@ -339,26 +255,6 @@ module _ {N A : Type 0} (w : Standing N A) (law : IsSettled w) where
   none-owed es n right is_in turns =
       let none : 0 ≡ debt w es (done w [] n) = sym (ap (costs w) (fresh-nil w.number (nodes_of es))) ∙ debt-drop w es (done w [] n) [] (done-kept w law es right [] tt n is_in) ∙ ap (debt w es) (++-nil (done w [] n)) in
       ap (λ k. counted k turns) none
-
--- a new frame, as an open node
-pub frame_view : {N A : Type 0} (n : N) (f : Frame N A) → f.replies.items ≡ [] → f.asked.items ≡ [] → f.uses.items ≡ [] → open_of n f ≡ newly n
-frame_view n f replies asked uses = λ i. record { node = n; replies = replies i; asked = asked i; uses = uses i }
-
--- the frame after a call, as an open node
-pub turn_view : {N A : Type 0} (n : N) (f g : Frame N A) (us : List Use) → g.replies ≡ f.replies → g.asked ≡ f.asked → g.uses.items ≡ f.uses.items ++ us → open_of n g ≡ with_uses (open_of n f) us
-turn_view n f g us replies asked uses = λ i. record { node = n; replies = (replies i).items; asked = (asked i).items; uses = uses i }
-
--- the frame after a reply, as an open node
-pub heard_view : {N A : Type 0} (n : N) (f g : Frame N A) (m : N) (a : A) → g.replies.items ≡ f.replies.items ++ a ∷ [] → g.asked.items ≡ f.asked.items ++ m ∷ [] → g.uses ≡ f.uses → open_of n g ≡ with_answer (open_of n f) m a
-heard_view n f g m a replies asked uses = λ i. record { node = n; replies = replies i; asked = asked i; uses = (uses i).items }
-
--- the same where the reply and the node are copies
-pub heard_copy : {N A : Type 0} (n : N) (f g : Frame N A) (m m' : N) (a a' : A) → m ≡ m' → a ≡ a' → g.replies.items ≡ f.replies.items ++ a ∷ [] → g.asked.items ≡ f.asked.items ++ m ∷ [] → g.uses ≡ f.uses → open_of n g ≡ with_answer (open_of n f) m' a'
-heard_copy n f g m m' a a' same copy replies asked uses = heard_view n f g m a replies asked uses ∙ (λ i. with_answer (open_of n f) (same i) (copy i))
-
--- the table once a node is kept
-pub kept_view : {N A : Type 0} (es all : List (Entry N A)) (n : N) (f : Frame N A) (k : Kept N A) (a : A) → k.answer ≡ a → k.asked ≡ f.asked → all ≡ es ++ entry_of n k ∷ [] → all ≡ es ++ kept_of (open_of n f) a k.uses.items ∷ []
-kept_view es all n f k a answer asked more = more ∙ (λ i. es ++ (record { node = n; answer = answer i; asked = (asked i).items; uses = k.uses.items }) ∷ [])
 
 pub counts-end : (before now new : Option ℕ) (owed so_far total : ℕ) → Counts before now owed so_far total → so_far + 1 ≡ owed → new ≡ counted 1 now → new ≡ counted total before
 counts-end before now new owed so_far total h e f = let last : suc h.0 ≡ total = counts-last h.0 owed so_far total h.2 e in f ∙ ap (counted 1) h.1 ∙ ap (λ k. counted k before) last

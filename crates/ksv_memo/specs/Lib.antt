@@ -3,7 +3,12 @@ pub mod Evaluation
 pub mod Entry
 pub mod Right
 pub mod Touched
-pub mod Answers
 pub mod Open
-pub mod Running
+pub mod Slots
+pub mod Layout
+pub mod Moves
+pub mod Passing
 pub mod Sweep
+pub mod Nodes
+pub mod Running
+pub mod Answers

@@ -1,17 +1,16 @@
 -- The stack of open nodes while a question is answered: what it determines about the answers to come, the nodes
 -- that are still to be kept, and the calls that are left. Only the machine's own contracts use it.
-use Rattle.std.specs.Prelude.{◌≡◌, ℕ, suc, ◌+◌, ◌-◌, ◌*◌, ◌<◌, ◌≤◌, true, false, List, [], ◌∷◌, ◌++◌, length, Option}
+use Rattle.std.specs.Prelude.{◌≡◌, ℕ, suc, ◌+◌, ◌-◌, ◌*◌, ◌<◌, ◌≤◌, true, false, List, [], ◌∷◌, ◌++◌, length, Option, Some, None}
 use Rattle.std.specs.List.{AllByRecursion, flat_map}
 use Rattle.ksv_memo.specs.declared.rules.Outcome.{Outcome}
 use Rattle.ksv_memo.specs.declared.rules.Outcome.TheVariants.{Answered}
 use Rattle.ksv_memo.specs.declared.rules.Next.{Next}
 use Rattle.ksv_memo.specs.declared.rules.Next.TheVariants.{Need, Done}
-use Rattle.ksv_memo.specs.declared.machine.Progress.{Progress}
-use Rattle.ksv_memo.specs.declared.machine.Progress.TheVariants.{Ended, Goes}
 use Rattle.ksv_memo.specs.Meaning.{Standing, IsAddedTo}
 use Rattle.ksv_memo.specs.Evaluation.{Told, is_among, tells, told, after, with_reply, done, if_answered, IsAnswered}
 use Rattle.ksv_memo.specs.Entry.{Entry}
-use Rattle.ksv_memo.specs.Open.{Open, open_of, nodes_in}
+use Rattle.ksv_memo.specs.Open.{Open, nodes_in}
+use Rattle.ksv_memo.specs.Nodes.{Nodes}
 use Rattle.ksv_memo.specs.Right.{nodes_of, AreDistinct, IsRight, fresh, costs, counted}
 
 -- what nodes answer while these are open
@@ -164,10 +163,15 @@ pub record GoesOn {N A : Type 0} (w : Standing N A) (account : Account N A) (bef
   pub all : to_keep w es (rest_of w o st) ≡ account.all
   pub calls : debt w es (rest_of w o st) + account.made + 1 ≡ account.owed + (length o.asked + made st)
 
--- the result of one turn
-abbrev pub Advances : {N A : Type 0} → Standing N A → Account N A → List (Entry N A) → List (Entry N A) → List (Open N A) → Progress N A → Type 0
-Advances w account before es st (Ended out) = HasFinished w account es out
-Advances w account before es st (Goes n f) = GoesOn w account before es (open_of n f) st
+-- the question goes on with the last of these open nodes
+abbrev pub GoesOnWith : {N A : Type 0} → Standing N A → Account N A → List (Entry N A) → List (Entry N A) → List (Open N A) → Type 0
+GoesOnWith w account before es [] = ⊥
+GoesOnWith w account before es (o ∷ st) = GoesOn w account before es o st
+
+-- the result of one turn: the outcome, if the question has ended
+abbrev pub Advances : {N A : Type 0} → Standing N A → Account N A → List (Entry N A) → Nodes N A → Option (Outcome N A) → Type 0
+Advances w account before now (Some out) = HasFinished w account now.kept out
+Advances w account before now None = GoesOnWith w account before now.kept now.opened
 
 -- what a refused memory leaves: kept answers that are right, with the old ones among them, and only those that
 -- would have been kept in the end
@@ -179,3 +183,54 @@ pub record IsLeft {N A : Type 0} (w : Standing N A) (all : List N) (before es : 
 -- some number of calls was counted; with the calls still to be made they are these and those made for open nodes
 abbrev pub Counts : Option ℕ → Option ℕ → ℕ → ℕ → ℕ → Type 0
 Counts before now owed so_far total = (c : ℕ) × (now ≡ counted c before) × (c + owed ≡ total + so_far)
+
+-- the last of the open nodes is to be run
+abbrev pub IsRunning : {N A : Type 0} → Standing N A → List (Entry N A) → List (Open N A) → Type 0
+IsRunning w es [] = ⊥
+IsRunning w es (o ∷ st) = IsStack w es o.node st × HasCome w es o
+
+-- it reached this step
+abbrev pub HasReached : {N A : Type 0} → Standing N A → List (Entry N A) → List (Open N A) → Next N A → Type 0
+HasReached w es [] s = ⊥
+HasReached w es (o ∷ st) s = IsStack w es o.node st × HasStepped w es o s
+
+-- one turn from these open nodes
+abbrev pub AdvancesFrom : {N A : Type 0} → Standing N A → List (Entry N A) → List (Open N A) → Nodes N A → Option (Outcome N A) → Type 0
+AdvancesFrom w es [] now out = ⊥
+AdvancesFrom w es (o ∷ st) now out = Advances w (account_of w es o st) es now out
+
+-- the rest of a turn from this step
+abbrev pub AdvancesAt : {N A : Type 0} → Standing N A → List (Entry N A) → List (Open N A) → Next N A → Nodes N A → Option (Outcome N A) → Type 0
+AdvancesAt w es [] s now out = ⊥
+AdvancesAt w es (o ∷ st) s now out = Advances w (account_at w es o st s) es now out
+
+-- what a refused memory leaves of a turn
+abbrev pub LeftFrom : {N A : Type 0} → Standing N A → List (Entry N A) → List (Open N A) → List (Entry N A) → Type 0
+LeftFrom w es [] now = ⊥
+LeftFrom w es (o ∷ st) now = IsLeft w (account_of w es o st).all es now
+
+abbrev pub LeftAt : {N A : Type 0} → Standing N A → List (Entry N A) → List (Open N A) → Next N A → List (Entry N A) → Type 0
+LeftAt w es [] s now = ⊥
+LeftAt w es (o ∷ st) s now = IsLeft w (account_at w es o st s).all es now
+
+-- what must hold between two turns of a question for a node that wasn't kept
+pub record Holds {N A : Type 0} (w : Standing N A) (n : N) (before : List (Entry N A)) (es : List (Entry N A)) (o : Open N A) (st : List (Open N A)) : Type 0 where
+  pub stack : IsStack w es o.node st
+  pub came : HasCome w es o
+  pub grown : IsAddedTo (nodes_of before) (nodes_of es)
+  pub all : to_keep w es (rest_of w o st) ≡ to_keep w before (done w [] n)
+  pub value : value_of w o st ≡ (tells w [] n).outcome
+
+abbrev pub HoldsWith : {N A : Type 0} → Standing N A → N → List (Entry N A) → List (Entry N A) → List (Open N A) → Type 0
+HoldsWith w n before es [] = ⊥
+HoldsWith w n before es (o ∷ st) = Holds w n before es o st
+
+-- the turns that were counted, with those that are left
+abbrev pub CountsWith : {N A : Type 0} → Standing N A → N → List (Entry N A) → Option ℕ → List (Entry N A) → List (Open N A) → Option ℕ → Type 0
+CountsWith w n before turns es [] now = ⊥
+CountsWith w n before turns es (o ∷ st) now = Counts turns now (debt w es (rest_of w o st)) (length o.asked + made st) (debt w before (done w [] n))
+
+-- a bound on the turns that are left
+abbrev pub turns_left : {N A : Type 0} → Standing N A → List (Entry N A) → List (Open N A) → ℕ
+turns_left w es [] = 0
+turns_left w es (o ∷ st) = calls_left w es o st

@@ -8,7 +8,7 @@ ghost use Rattle.ksv_memo.specs.Right.{IsRight, AreExactly, AreBetween, nodes_of
 ghost use Rattle.ksv_memo.specs.Touched.{left_after};
 ghost use Rattle.ksv_memo.specs.Answers.{answer_of, turns_after};
 
-use crate::machine::{Machine, Reply};
+use crate::machine::Machine;
 use crate::rules::{Outcome, Rules};
 use ksv_bytes::{Buffer, Change};
 use std::alloc::{AllocError, Global};
@@ -45,12 +45,14 @@ pub struct Engine<R: Rules> {
 }
 
 impl<R: Rules> Model for Engine<R> {
-    ghost use Rattle.std.specs.Prelude.{Result};
+    ghost use Rattle.std.specs.Prelude.{◌≡◌, [], Result};
     ghost use Rattle.ksv_memo.specs.Entry.{Memo};
 
     ghost Value = { Memo R.Node (Result R.Value R.Fault) };
 
-    ghost view = { λ engine. record { kept = engine.machine.table; turns = engine.machine.turns } };
+    ghost view = { λ engine. record { kept = engine.machine.table.kept; turns = engine.machine.turns } };
+
+    ghost invariant = { λ engine. engine.machine.table.opened ≡ [] };
 }
 
 impl<R: Rules> Engine<R> {

@@ -8,13 +8,15 @@
 #![tactic(auto)]
 
 mod engine;
-mod frame;
+mod layout;
 pub mod laws;
 mod machine;
+mod replies;
 mod rules;
-mod stack;
+mod sweep;
 mod table;
 mod uses;
 
 pub use engine::{Answer, Engine};
+pub use replies::{Replies, Slot};
 pub use rules::{Next, Rules};

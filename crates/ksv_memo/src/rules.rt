@@ -1,9 +1,14 @@
 //! What rules are, and the laws that they obey.
 ghost use Rattle.std.specs.Prelude.{◌≡◌, ℕ, ◌++◌, List, true, Result, IfOk, OnOk, OnErr};
+ghost use Rattle.ksv_memo.specs.Slots.{lent};
 
+use crate::replies::Replies;
 use ksv_bytes::{Buffer, Use};
 use std::alloc::{AllocError, Global};
 use std::hash::Hash;
+
+/// The reply to a question for a node: a value or a fault.
+pub type Reply<R> = Result<<R as Rules>::Value, <R as Rules>::Fault>;
 
 /// What a node does next.
 #[derive(Drop)]
@@ -50,24 +55,20 @@ pub trait Rules {
         alloc: Global,
         node: &Self::Node,
         bytes: &Buffer,
-        replies: &[Result<Self::Value, Self::Fault>],
+        replies: &Replies<Self::Value, Self::Fault>,
         uses: &mut Vec<Use>,
     ) -> Result<Next<Self::Node, Result<Self::Value, Self::Fault>>, AllocError>
         ensures step { IfOk result (λ step. step ≡ (meaning self.now).follow bytes.now node.now replies.now) }
         ensures uses { OnOk result (uses.new.items ≡ uses.old.items ++ (meaning self.now).added bytes.now node.now replies.now) }
         ensures refused { OnErr result (IsAddedTo uses.old.items uses.new.items) };
 
-    /// A copy of the node.
-    fn copy_node(&self, alloc: Global, node: &Self::Node) -> Result<Self::Node, AllocError>
-        ensures { IfOk result (λ copy. copy ≡ node.now) };
-
-    /// A copy of the answer.
+    /// A copy of an answer that is lent.
     fn copy_answer(
         &self,
         alloc: Global,
-        answer: &Result<Self::Value, Self::Fault>,
+        answer: Result<&Self::Value, &Self::Fault>,
     ) -> Result<Result<Self::Value, Self::Fault>, AllocError>
-        ensures { IfOk result (λ copy. copy ≡ answer.now) };
+        ensures { IfOk result (λ copy. copy ≡ lent answer.entry) };
 
     /// Equal nodes are the same.
     ghost exact: { (a b : Self.Node) → Self.Node.eq a b ≡ true → a ≡ b };

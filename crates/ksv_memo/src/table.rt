@@ -1,243 +1,209 @@
-//! The table of kept answers.
-ghost use Rattle.std.specs.Prelude.{◌≡◌, ◌<◌, [], ◌++◌, ◌∷◌, Some, None, find, length, not, option_map, slice_get, filter, IfSome, OnOk, OnErr};
-ghost use Rattle.std.specs.List.{AllByRecursion, list_any};
-ghost use Rattle.std.specs.Option.{option_copied};
-ghost use Rattle.indexmap.specs.IndexMap.{index_map_len};
-ghost use Rattle.ksv_memo.specs.Entry.{entry_of, entries_of};
-ghost use Rattle.ksv_memo.specs.Touched.{is_use_touched};
-ghost use Rattle.ksv_memo.specs.Sweep.{AsksBefore, AreMarked, HasEntry, MarksAt, Sweeps, has_gone, is_slot_touched, is_to_go, marks_of};
+//! The table of kept and open nodes.
+ghost use Rattle.std.specs.Prelude.{◌≡◌, ◌≤◌, [], Some, length, true, option_map, IfOk, IfSome, IfNone, OnOk, OnErr};
+ghost use Rattle.ksv_memo.specs.Meaning.{on};
+ghost use Rattle.ksv_memo.specs.Moves.{Rowed, SameRows};
+ghost use Rattle.ksv_memo.specs.Nodes.{Asks, Closes, EndsWithAnswer, Finds, MayKeep, Steps, TakesFirst, is_there};
+ghost use Rattle.ksv_memo.specs.Slots.{answer_in, lent};
+ghost use Rattle.ksv_memo.specs.Sweep.{Sweeps};
 
+use crate::layout::{Frame, Frames, Known, Rows, Slots, find, open_new, reopen, set};
+use crate::replies::{Replies, Slot, answer_at};
+use crate::rules::{Next, Reply, Rules};
+use crate::sweep::{has_touched, sweep};
+use crate::uses::each_once;
 use indexmap::IndexMap;
-use ksv_bytes::{Change, Use, touches};
+use ksv_bytes::{Buffer, Change};
 use std::alloc::{AllocError, Global};
-use std::hash::Hash;
 use std::marker::Model;
 
-/// What is kept for a node: its answer, what it asked in order, and what its calls used, each use once.
+/// What came of asking for a node.
 #[derive(Drop)]
-pub struct Kept<N, A> {
-    pub answer: A,
-    pub asked: Vec<N>,
-    pub uses: Vec<Use>,
+pub enum Asked<N> {
+    /// It is kept, and the node that asked for it has its answer.
+    Replied,
+    /// It was neither kept nor open, and is open now.
+    Opened,
+    /// This node, which is asked for, is open.
+    Circle(N),
 }
 
-/// The same elements, with no room for more.
-fn without_room<T>(items: Vec<T>) -> Vec<T>
-    ensures { result.items ≡ items.items }
+/// A kept answer as a slot.
+fn slot_of<V, F>(answer: Result<V, F>) -> Slot<V, F>
+    ensures { answer_in result ≡ Some answer }
 {
-    let mut items = items;
-    items.shrink_to_fit();
-    items
-}
-
-/// The same, with no room for more.
-fn fitted<N, A>(kept: Kept<N, A>) -> Kept<N, A>
-    ensures answer { result.answer ≡ kept.answer }
-    ensures asked { result.asked.items ≡ kept.asked.items }
-    ensures uses { result.uses.items ≡ kept.uses.items }
-{
-    Kept {
-        answer: kept.answer,
-        asked: without_room(kept.asked),
-        uses: without_room(kept.uses),
+    match answer {
+        Ok(value) => Slot::Value(value),
+        Err(fault) => Slot::Fault(fault),
     }
 }
 
-/// What a node has in the table, and the mark that a pass over the table sets.
+/// Adds the row of an open node, with each of its uses once.
+fn keep(alloc: Global, rows: &mut Rows, frames: &Frames, frame: Frame) -> Result<(), AllocError>
+    requires { (frame.asked ≤ length frames.now.asked.items) × (frame.uses ≤ length frames.now.uses.items) }
+    ensures ok { OnOk result (Rowed frame frames.now rows.old rows.new) }
+    ensures err { OnErr result (SameRows rows.old rows.new) }
+{
+    let uses = each_once(alloc, &frames.uses[frame.uses as usize..])?;
+    rows.add(frame.slot, &frames.asked[frame.asked as usize..], uses.as_slice())
+}
+
+/// The nodes that are kept and those that are open. A look-up takes one hash, however many there are.
 #[derive(Drop)]
-pub struct Slot<K> {
-    pub kept: K,
-    pub touched: bool,
+pub struct Table<R: Rules> {
+    slots: Slots<R::Node, R::Value, R::Fault>,
+    rows: Rows,
+    frames: Frames,
 }
 
-/// The slots of the kept nodes, in the order in which they were kept.
-type Slots<N, A> = IndexMap<N, Slot<Kept<N, A>>>;
+impl<R: Rules> Model for Table<R> {
+    ghost use Rattle.std.specs.Prelude.{Result};
+    ghost use Rattle.ksv_memo.specs.Nodes.{Nodes};
+    ghost use Rattle.ksv_memo.specs.Layout.{IsLaidOut, entries_of, opens_of};
 
-/// Whether a change touches a use.
-fn is_use_touched(change: Change, used: Use) -> bool
-    ensures { result ≡ is_use_touched change used }
-{
-    touches(change, used)
+    ghost Value = { Nodes R.Node (Result R.Value R.Fault) };
+
+    ghost view = { λ table. record { kept = entries_of table.slots.entries table.rows; opened = opens_of table.slots.entries table.frames } };
+
+    ghost invariant = { λ table. IsLaidOut table.slots.entries table.rows table.frames };
 }
 
-/// Whether a change touches one of these uses.
-fn has_touched(change: Change, uses: &[Use]) -> bool
-    ensures { result ≡ list_any (is_use_touched change) uses.now }
-{
-    uses.iter().any(|used| is_use_touched(change, *used))
-}
-
-/// Whether a change touches a use of what the slot at a place keeps.
-fn is_touched_at<N: Eq + Hash + Drop, A: Drop>(
-    slots: &Slots<N, A>,
-    change: Change,
-    place: usize,
-) -> bool
-    ensures { IfSome (slice_get slots.now.entries place) (λ pair. result ≡ is_slot_touched change pair) }
-{
-    match slots.get_index(place) {
-        Some((_, slot)) => has_touched(change, slot.kept.uses.as_slice()),
-        None => false,
-    }
-}
-
-/// Whether a change touches a use of what some slot keeps.
-fn has_touched_slot<N: Eq + Hash + Drop, A: Drop>(slots: &Slots<N, A>, change: Change) -> bool
-    ensures { result ≡ list_any (is_slot_touched change) slots.now.entries }
-{
-    for place in 0..slots.len() {
-        if is_touched_at(slots, change, place) {
-            return true;
-        }
-    }
-    false
-}
-
-/// Whether a node's slot is marked. A node without a slot counts as marked.
-fn has_gone<N: Eq + Hash + Drop, A: Drop>(slots: &Slots<N, A>, node: &N) -> bool
-    ensures { result ≡ has_gone N.eq (marks_of slots.now.entries) node.now }
-{
-    match slots.get(node) {
-        Some(slot) => slot.touched,
-        None => true,
-    }
-}
-
-/// Whether the slot of one of these nodes is marked.
-fn has_asked_gone<N: Eq + Hash + Drop, A: Drop>(slots: &Slots<N, A>, asked: &[N]) -> bool
-    ensures { result ≡ list_any (has_gone N.eq (marks_of slots.now.entries)) asked.now }
-{
-    asked.iter().any(|node| has_gone(slots, node))
-}
-
-/// Whether the entry at a place is to go: a change touches one of its uses, or a node that it asked is marked.
-fn is_to_go<N: Eq + Hash + Drop, A: Drop>(slots: &Slots<N, A>, change: Change, place: usize) -> bool
-    ensures { IfSome (slice_get slots.now.entries place) (λ pair. result ≡ is_to_go N.eq change (marks_of slots.now.entries) (entry_of pair.0 pair.1.kept)) }
-{
-    match slots.get_index(place) {
-        Some((_, slot)) => {
-            has_touched(change, slot.kept.uses.as_slice())
-                || has_asked_gone(slots, slot.kept.asked.as_slice())
-        }
-        None => true,
-    }
-}
-
-/// Sets the mark of the entry at a place.
-fn mark_at<N: Eq + Hash + Drop, A: Drop>(slots: &mut Slots<N, A>, change: Change, place: usize)
-    requires { place < index_map_len slots.old }
-    ensures { MarksAt N.eq change place slots.old.entries slots.new.entries }
-{
-    let goes = is_to_go(slots, change, place);
-    let (_, slot) = slots.pair_mut(place);
-    slot.touched = goes;
-}
-
-/// MarksAt each entry that a change touches, and each that asked a marked one, from the front.
-fn mark<N: Eq + Hash + Drop, A: Drop>(slots: &mut Slots<N, A>, change: Change)
-    requires { AsksBefore N.eq [] (entries_of slots.old.entries) }
-    ensures marked { AreMarked N.eq change [] (marks_of slots.new.entries) }
-    ensures entries { entries_of slots.new.entries ≡ entries_of slots.old.entries }
-{
-    for place in 0..slots.len() {
-        mark_at(slots, change, place);
-    }
-}
-
-/// Takes the marked slots out. The others keep their order.
-fn take_marked<N: Eq + Hash + Drop, K: Drop>(slots: &mut IndexMap<N, Slot<K>>)
-    ensures { slots.new.entries ≡ filter (λ pair. not pair.1.touched) slots.old.entries }
-{
-    slots.retain(
-        |_node: &N, slot: &mut Slot<K>| -> bool
-            ensures { (result ≡ not slot.old.touched) × (slot.new ≡ slot.old) }
-        { !slot.touched },
-    );
-}
-
-/// The kept answers by their nodes, in the order in which they were kept: what an entry asked stands before it.
-/// Contracts see the list of its entries.
-#[derive(Drop)]
-pub struct Table<N: Eq + Hash + Drop, A: Drop> {
-    entries: Slots<N, A>,
-}
-
-impl<N: Eq + Hash + Drop, A: Drop> Model for Table<N, A> {
-    ghost use Rattle.std.specs.Prelude.{List, []};
-    ghost use Rattle.ksv_memo.specs.Entry.{Entry, entries_of};
-    ghost use Rattle.ksv_memo.specs.Sweep.{AsksBefore};
-
-    ghost Value = { List (Entry N A) };
-
-    ghost view = { λ table. entries_of table.entries.entries };
-
-    ghost invariant = { λ table. AsksBefore N.eq [] (entries_of table.entries.entries) };
-}
-
-impl<N: Eq + Hash + Drop, A: Drop> Table<N, A> {
+impl<R: Rules> Table<R> {
     /// The empty table, which takes no memory.
     pub(crate) fn new(alloc: Global) -> Self
-        ensures { result ≡ [] }
+        ensures { result ≡ record { kept = []; opened = [] } }
     {
         Table {
-            entries: IndexMap::new(alloc),
+            slots: IndexMap::new(alloc),
+            rows: Rows {
+                rows: Vec::new(alloc),
+                asked: Vec::new(alloc),
+                uses: Vec::new(alloc),
+            },
+            frames: Frames {
+                frames: Vec::new(alloc),
+                asked: Vec::new(alloc),
+                uses: Vec::new(alloc),
+            },
         }
     }
 
     /// The number of kept nodes.
     pub(crate) fn len(&self) -> usize
-        ensures { result ≡ length self.now }
+        ensures { result ≡ length self.now.kept }
     {
-        self.entries.len()
+        self.rows.rows.as_slice().len()
     }
 
-    /// The answer that is kept for a node. It takes one hash.
-    pub(crate) fn answer(&self, node: &N) -> Option<&A>
-        ensures { option_copied result ≡ option_map (λ entry. entry.answer) (find (λ entry. N.eq node.now entry.node) self.now) }
+    /// The answer that is kept for a node.
+    pub(crate) fn answer(&self, node: &R::Node) -> Option<Result<&R::Value, &R::Fault>>
+        ensures { Finds R.Node.eq self.now.kept node.now (option_map lent result) }
     {
-        match self.entries.get(node) {
-            Some(slot) => Some(&slot.kept.answer),
-            None => None,
+        match find(&self.slots, node) {
+            Known::Kept(place) => answer_at(self.slots.values().as_slice(), place),
+            Known::New => None,
+            Known::Empty(_) => None,
+            Known::Open => None,
         }
     }
 
-    /// Inserts what is kept for a node that has no answer yet.
-    fn insert(&mut self, node: N, kept: Kept<N, A>) -> Result<(), AllocError>
-        requires new { find (λ entry. N.eq node entry.node) self.old ≡ None }
-        requires asked { AllByRecursion (HasEntry N.eq self.old) kept.asked.items }
-        ensures ok { OnOk result (self.new ≡ self.old ++ entry_of node kept ∷ []) }
+    /// Asks for a node: its answer goes to the last open node if it is kept, and else it is opened, unless it is open.
+    pub(crate) fn ask(&mut self, node: R::Node) -> Result<Asked<R::Node>, AllocError>
+        ensures ok { IfOk result (Asks R.Node.eq node self.old self.new) }
         ensures err { OnErr result (self.new ≡ self.old) }
     {
-        self.entries.insert(
-            node,
-            Slot {
-                kept,
-                touched: false,
-            },
-        )?;
-        Ok(())
+        match find(&self.slots, &node) {
+            Known::Kept(place) => {
+                self.frames.hear(place)?;
+                Ok(Asked::Replied)
+            }
+            Known::Open => Ok(Asked::Circle(node)),
+            Known::Empty(place) => {
+                reopen(&mut self.slots, &mut self.frames, place)?;
+                Ok(Asked::Opened)
+            }
+            Known::New => {
+                open_new(&mut self.slots, &mut self.frames, node)?;
+                Ok(Asked::Opened)
+            }
+        }
     }
 
-    /// Keeps the answer of a node that has none yet, and what the answer depends on, in no more room than that
-    /// needs.
-    pub(crate) fn keep(&mut self, node: N, kept: Kept<N, A>) -> Result<(), AllocError>
-        requires new { find (λ entry. N.eq node entry.node) self.old ≡ None }
-        requires asked { AllByRecursion (HasEntry N.eq self.old) kept.asked.items }
-        ensures ok { OnOk result (self.new ≡ self.old ++ entry_of node kept ∷ []) }
-        ensures err { OnErr result (self.new ≡ self.old) }
+    /// One call of the rules for the last open node. No other function calls `next`.
+    pub(crate) fn turn(
+        &mut self,
+        alloc: Global,
+        rules: &R,
+        bytes: &Buffer,
+    ) -> Result<Next<R::Node, Reply<R>>, AllocError>
+        requires { is_there self.old.opened ≡ true }
+        ensures step { IfOk result (λ step. Steps (on (R.meaning rules.now) bytes.now) self.old.opened self.new.opened step) }
+        ensures kept { self.new.kept ≡ self.old.kept }
     {
-        self.insert(node, fitted(kept))
+        let Some(frame) = self.frames.last() else {
+            unreachable!()
+        };
+        let Some((node, _)) = self.slots.get_index(frame.slot as usize) else {
+            unreachable!()
+        };
+        let asked = &self.frames.asked[frame.asked as usize..];
+        let replies = Replies::new(self.slots.values().as_slice(), asked);
+        let step = rules.next(alloc, node, bytes, &replies, &mut self.frames.uses)?;
+        Ok(step)
     }
 
-    /// Takes out each entry that a change touches or that asked one that goes, in one pass from the front. It takes no
-    /// memory. Where the change touches no entry, none goes, and no ask is looked up.
+    /// Keeps the last open node with its answer, which the one below gets. Whether there is one below.
+    pub(crate) fn close(&mut self, alloc: Global, answer: Reply<R>) -> Result<bool, AllocError>
+        requires { is_there self.old.opened ≡ true }
+        ensures ok { IfOk result (λ waits. Closes answer self.old.opened self.old self.new waits) }
+        ensures err { OnErr result (MayKeep answer self.old.opened self.old.kept self.new.kept) }
+    {
+        let Some(frame) = self.frames.last() else {
+            unreachable!()
+        };
+        keep(alloc, &mut self.rows, &self.frames, frame)?;
+        let slot = frame.slot as usize;
+        set(&mut self.slots, slot, slot_of(answer));
+        self.frames.take_last(frame);
+        if self.frames.frames.as_slice().is_empty() {
+            return Ok(false);
+        }
+        self.frames.hear(slot)?;
+        Ok(true)
+    }
+
+    /// Takes the last open node out, if there is one.
+    pub(crate) fn abandon(&mut self) -> bool
+        ensures kept { self.new.kept ≡ self.old.kept }
+        ensures rest { TakesFirst result self.old.opened self.new.opened }
+    {
+        match self.frames.pop() {
+            None => false,
+            Some(frame) => {
+                set(&mut self.slots, frame.slot as usize, Slot::Empty);
+                true
+            }
+        }
+    }
+
+    /// Takes out each kept node that a change touches or that asked one that goes, in one pass from the front. No node
+    /// is open. It takes no memory. Where the change touches no use, no row is looked at.
     pub(crate) fn forget(&mut self, change: Change)
-        ensures { Sweeps N.eq change self.old self.new }
+        requires { self.old.opened ≡ [] }
+        ensures kept { Sweeps change self.old.kept self.new.kept }
+        ensures opened { self.new.opened ≡ [] }
     {
-        if !has_touched_slot(&self.entries, change) {
-            return;
+        self.frames.asked.clear();
+        if has_touched(change, self.rows.uses.as_slice()) {
+            sweep(&mut self.slots, &mut self.rows, change);
         }
-        mark(&mut self.entries, change);
-        take_marked(&mut self.entries);
+    }
+
+    /// The answer that was kept last.
+    pub(crate) fn last(&self) -> Option<Result<&R::Value, &R::Fault>>
+        ensures some { IfSome result (λ answer. EndsWithAnswer (lent answer) self.now.kept) }
+        ensures none { IfNone result (self.now.kept ≡ []) }
+    {
+        let row = self.rows.last()?;
+        answer_at(self.slots.values().as_slice(), row.slot as usize)
     }
 }

@@ -6,7 +6,7 @@ ghost use Rattle.ksv_memo_samples.specs.Chain.{link_before, linked, same_if_equa
 ghost use Rattle.ksv_memo_calls.specs.Tower.{tower_lawful, tower_meaning};
 
 use ksv_bytes::{Buffer, Change, Use};
-use ksv_memo::{Answer, Engine, Next, Rules};
+use ksv_memo::{Answer, Engine, Next, Replies, Rules};
 use ksv_memo_samples::{Link, Missing};
 use std::alloc::{AllocError, Global};
 use std::test::Fail;
@@ -29,14 +29,14 @@ fn link_below(link: Link) -> Link
 }
 
 /// What a link does next.
-fn stepped(link: Link, size: u32, replies: &[Reply]) -> Next<Link, Reply>
+fn stepped(link: Link, size: u32, replies: &Replies<u32, Missing>) -> Next<Link, Reply>
     ensures { result ≡ linked link size replies.now }
 {
-    match replies {
-        [] if link.number == 0 => Next::Done(Ok(size)),
-        [] => Next::Need(link_below(link)),
-        [Ok(below), ..] => Next::Done(Ok(below.saturating_add(1))),
-        [Err(missing), ..] => Next::Done(Err(*missing)),
+    match replies.get(0) {
+        None if link.number == 0 => Next::Done(Ok(size)),
+        None => Next::Need(link_below(link)),
+        Some(Ok(below)) => Next::Done(Ok(below.saturating_add(1))),
+        Some(Err(missing)) => Next::Done(Err(*missing)),
     }
 }
 
@@ -54,7 +54,7 @@ impl Rules for Tower {
         _alloc: Global,
         node: &Link,
         bytes: &Buffer,
-        replies: &[Reply],
+        replies: &Replies<u32, Missing>,
         uses: &mut Vec<Use>,
     ) -> Result<Next<Link, Reply>, AllocError> {
         if node.number == 0 {
@@ -64,12 +64,15 @@ impl Rules for Tower {
         Ok(stepped(*node, size as u32, replies))
     }
 
-    fn copy_node(&self, _alloc: Global, node: &Link) -> Result<Link, AllocError> {
-        Ok(*node)
-    }
-
-    fn copy_answer(&self, _alloc: Global, answer: &Reply) -> Result<Reply, AllocError> {
-        Ok(*answer)
+    fn copy_answer(
+        &self,
+        _alloc: Global,
+        answer: Result<&u32, &Missing>,
+    ) -> Result<Reply, AllocError> {
+        Ok(match answer {
+            Ok(number) => Ok(*number),
+            Err(missing) => Err(*missing),
+        })
     }
 
     ghost exact = { same_if_equal };

@@ -5,7 +5,7 @@ ghost use Rattle.ksv_memo_samples.specs.Chain as spec;
 use crate::link::Link;
 use crate::row::Missing;
 use ksv_bytes::{Buffer, Use};
-use ksv_memo::{Next, Rules};
+use ksv_memo::{Next, Replies, Rules};
 use std::alloc::{AllocError, Global};
 
 /// A chain: link 0 answers the file's size, and each other link one more than the link before it. Each of them
@@ -26,14 +26,14 @@ fn link_before(link: Link) -> Link
 }
 
 /// What a link does next.
-fn linked(link: Link, size: u32, replies: &[Reply]) -> Next<Link, Reply>
+fn linked(link: Link, size: u32, replies: &Replies<u32, Missing>) -> Next<Link, Reply>
     ensures { result ≡ spec.linked link size replies.now }
 {
-    match replies {
-        [] if link.number == 0 => Next::Done(Ok(size)),
-        [] => Next::Need(link_before(link)),
-        [Ok(before), ..] => Next::Done(Ok(before.saturating_add(1))),
-        [Err(missing), ..] => Next::Done(Err(*missing)),
+    match replies.get(0) {
+        None if link.number == 0 => Next::Done(Ok(size)),
+        None => Next::Need(link_before(link)),
+        Some(Ok(before)) => Next::Done(Ok(before.saturating_add(1))),
+        Some(Err(missing)) => Next::Done(Err(*missing)),
     }
 }
 
@@ -51,7 +51,7 @@ impl Rules for Chain {
         _alloc: Global,
         node: &Link,
         bytes: &Buffer,
-        replies: &[Reply],
+        replies: &Replies<u32, Missing>,
         uses: &mut Vec<Use>,
     ) -> Result<Next<Link, Reply>, AllocError> {
         uses.push(Use::Size)?;
@@ -59,12 +59,15 @@ impl Rules for Chain {
         Ok(linked(*node, size as u32, replies))
     }
 
-    fn copy_node(&self, _alloc: Global, node: &Link) -> Result<Link, AllocError> {
-        Ok(*node)
-    }
-
-    fn copy_answer(&self, _alloc: Global, answer: &Reply) -> Result<Reply, AllocError> {
-        Ok(*answer)
+    fn copy_answer(
+        &self,
+        _alloc: Global,
+        answer: Result<&u32, &Missing>,
+    ) -> Result<Reply, AllocError> {
+        Ok(match answer {
+            Ok(number) => Ok(*number),
+            Err(missing) => Err(*missing),
+        })
     }
 
     ghost exact = { spec.same_if_equal };

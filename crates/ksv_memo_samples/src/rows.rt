@@ -2,11 +2,12 @@
 ghost use Rattle.std.specs.Prelude.{◌≡◌, ◌<◌, ◌≤◌, ◌+◌, ◌-◌, ◌^◌, ◌++◌, min, length, slice_get, slice_range, IfOk, OnOk, OnErr, IsSome, Some};
 ghost use Rattle.std.specs.Option.{option_copied};
 ghost use Rattle.ksv_bytes.specs.Edits.{file_limit};
+ghost use Rattle.ksv_memo.specs.Slots.{lent};
 ghost use Rattle.ksv_memo_samples.specs.Rows as spec;
 
 use crate::row::{Missing, Row, RowNumber};
 use ksv_bytes::{Buffer, Use, Window};
-use ksv_memo::{Next, Rules};
+use ksv_memo::{Next, Replies, Rules};
 use std::alloc::{AllocError, Global};
 
 /// Rows, each asked by its number.
@@ -18,22 +19,37 @@ pub struct Rows {
 
 type Reply = Result<u32, Missing>;
 
-/// The replies added to a number, or the first that is missing.
-fn total(so_far: u32, replies: &[Reply]) -> Reply
-    ensures { result ≡ spec.total so_far replies.now }
+/// A copy of a reply that is lent.
+fn copied(reply: Result<&u32, &Missing>) -> Reply
+    ensures { result ≡ lent reply.entry }
 {
-    match replies {
-        [] => Ok(so_far),
-        [Err(missing), ..] => Err(*missing),
-        [Ok(number), rest @ ..] => total(so_far.saturating_add(*number), rest),
+    match reply {
+        Ok(number) => Ok(*number),
+        Err(missing) => Err(*missing),
     }
 }
 
+/// The sum of the replies, or the first that is missing.
+#[tactic(auto, using(crate::proofs::Totals::total_number, crate::proofs::Totals::total_fault, crate::proofs::Totals::total_past, crate::proofs::Totals::total_end))]
+fn total(replies: &Replies<u32, Missing>) -> Reply
+    ensures { result ≡ spec.total 0 replies.now }
+{
+    let mut so_far = 0u32;
+    for place in 0..replies.len() {
+        match replies.get(place) {
+            Some(Ok(number)) => so_far = so_far.saturating_add(*number),
+            Some(Err(missing)) => return Err(*missing),
+            None => break,
+        }
+    }
+    Ok(so_far)
+}
+
 /// What a sum does next.
-fn summed(numbers: &[RowNumber], replies: &[Reply]) -> Next<RowNumber, Reply>
+fn summed(numbers: &[RowNumber], replies: &Replies<u32, Missing>) -> Next<RowNumber, Reply>
     ensures { result ≡ spec.summed numbers.now replies.now }
 {
-    match total(0, replies) {
+    match total(replies) {
         Err(missing) => Next::Done(Err(missing)),
         Ok(sum) => match numbers.get(replies.len()) {
             Some(number) => Next::Need(*number),
@@ -69,15 +85,15 @@ fn row_number(byte: u8) -> RowNumber
 fn named(
     place: u32,
     bytes: &Buffer,
-    replies: &[Reply],
+    replies: &Replies<u32, Missing>,
     uses: &mut Vec<Use>,
 ) -> Result<Next<RowNumber, Reply>, AllocError>
     ensures step { IfOk result (λ step. step ≡ spec.named bytes.now place replies.now) }
     ensures uses { OnOk result (uses.new.items ≡ uses.old.items ++ spec.named_uses bytes.now place replies.now) }
     ensures refused { OnErr result (uses.new.items ≡ uses.old.items) }
 {
-    if let [reply, ..] = replies {
-        return Ok(Next::Done(*reply));
+    if let Some(reply) = replies.get(0) {
+        return Ok(Next::Done(copied(reply)));
     }
     match byte_at(bytes, place) {
         None => {
@@ -102,7 +118,7 @@ fn row_at(rows: &[Row], number: usize) -> Option<&Row>
 fn row_next(
     row: &Row,
     bytes: &Buffer,
-    replies: &[Reply],
+    replies: &Replies<u32, Missing>,
     uses: &mut Vec<Use>,
 ) -> Result<Next<RowNumber, Reply>, AllocError>
     ensures step { IfOk result (λ step. step ≡ spec.row_next bytes.now replies.now (Some row.now)) }
@@ -130,7 +146,7 @@ impl Rules for Rows {
         _alloc: Global,
         node: &RowNumber,
         bytes: &Buffer,
-        replies: &[Reply],
+        replies: &Replies<u32, Missing>,
         uses: &mut Vec<Use>,
     ) -> Result<Next<RowNumber, Reply>, AllocError> {
         match row_at(self.rows.as_slice(), node.number as usize) {
@@ -139,12 +155,12 @@ impl Rules for Rows {
         }
     }
 
-    fn copy_node(&self, _alloc: Global, node: &RowNumber) -> Result<RowNumber, AllocError> {
-        Ok(*node)
-    }
-
-    fn copy_answer(&self, _alloc: Global, answer: &Reply) -> Result<Reply, AllocError> {
-        Ok(*answer)
+    fn copy_answer(
+        &self,
+        _alloc: Global,
+        answer: Result<&u32, &Missing>,
+    ) -> Result<Reply, AllocError> {
+        Ok(copied(answer))
     }
 
     ghost exact = { spec.same_if_equal };

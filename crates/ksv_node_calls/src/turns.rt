@@ -2,6 +2,7 @@
 
 use ksv_bytes::Buffer;
 use ksv_expr_eval::{Fault, FaultKind, Parts, Path, Place, Step, Stream, Value};
+use ksv_memo::{Replies, Slot};
 use ksv_nodes::{Ended, Found, Given, Halt, Head, Node, NodeKind, Rested, Turn, first_in_parts};
 use std::alloc::{AllocError, Global};
 use std::fmt::Write;
@@ -129,7 +130,8 @@ fn add_outcome(turn: &mut Turn, reading: Reading<'_>, text: &mut String) -> Resu
 /// Whether the reading of a row gives this, or a fault of this kind, and depends on this.
 fn is_seen(alloc: Global, bytes: &Buffer, row: &str, wanted: &str) -> Result<bool, AllocError> {
     let here = Path::root(alloc);
-    let mut turn = Turn::new(alloc, &here, bytes, &[]);
+    let none = Replies::new(&[], &[]);
+    let mut turn = Turn::new(alloc, &here, bytes, &none);
     let mut seen = String::new(alloc);
     add_outcome(&mut turn, reading_of(row), &mut seen)?;
     add_uses(turn, &mut seen)?;
@@ -159,11 +161,11 @@ fn readings_give_and_rest(rt: HostRuntime) -> Result<(), Fail> {
     Ok(())
 }
 
-type Replies = Vec<Result<Given, Fault>>;
+type Slots = Vec<Slot<Given, Fault>>;
 
-/// Adds a copy of a reply.
-fn add(alloc: Global, replies: &mut Replies, given: &Given) -> Result<(), AllocError> {
-    replies.push(Ok(given.copy(alloc)?))?;
+/// Adds a slot with a copy of a reply.
+fn add(alloc: Global, slots: &mut Slots, given: &Given) -> Result<(), AllocError> {
+    slots.push(Slot::Value(given.copy(alloc)?))?;
     Ok(())
 }
 
@@ -183,13 +185,13 @@ fn given(form: u8) -> Given {
     }
 }
 
-/// One reply of each form.
-fn replies(alloc: Global) -> Result<Replies, AllocError> {
-    let mut replies = Vec::new(alloc);
+/// Slots with one reply of each form.
+fn each_form(alloc: Global) -> Result<Slots, AllocError> {
+    let mut slots = Vec::new(alloc);
     for form in 0..4u8 {
-        add(alloc, &mut replies, &given(form))?;
+        add(alloc, &mut slots, &given(form))?;
     }
-    Ok(replies)
+    Ok(slots)
 }
 
 /// The kind of the fault by which a call ended.
@@ -278,7 +280,10 @@ fn is_raised(turn: &Turn) -> bool {
 fn ends_well(alloc: Global, is_in_order: bool) -> Result<bool, Fail> {
     let here = Path::root(alloc);
     let bytes = Buffer::new(Vec::new(alloc))?;
-    let replies = replies(alloc)?;
+    let slots = each_form(alloc)?;
+    let Some(replies) = Replies::checked(&slots, &[0, 1, 2, 3]) else {
+        return Ok(false);
+    };
     let mut turn = Turn::new(alloc, &here, &bytes, &replies);
     let ended = if is_in_order {
         gives_each(alloc, &here, &mut turn)
@@ -303,13 +308,13 @@ fn another_form_is_a_fault(rt: HostRuntime) -> Result<(), Fail> {
     Ok(())
 }
 
-/// One reply, a fault at a path.
-fn fault_at(alloc: Global, there: &Path) -> Result<Replies, AllocError> {
-    let mut replies: Replies = Vec::new(alloc);
+/// A slot with one reply, a fault at a path.
+fn fault_at(alloc: Global, there: &Path) -> Result<Slots, AllocError> {
+    let mut slots: Slots = Vec::new(alloc);
     let kind = FaultKind::Contents;
     let path = there.copy(alloc)?;
-    replies.push(Err(Fault { kind, path }))?;
-    Ok(replies)
+    slots.push(Slot::Fault(Fault { kind, path }))?;
+    Ok(slots)
 }
 
 /// Whether a turn that asks for a node has the fault that the node has.
@@ -323,7 +328,10 @@ fn is_handed_on(alloc: Global, there: &Path, turn: &mut Turn) -> Result<bool, Al
 /// Whether a turn at a root hands on the fault of a node at another path.
 fn hands_on(alloc: Global, bytes: &Buffer, there: &Path) -> Result<bool, AllocError> {
     let here = Path::root(alloc);
-    let replies = fault_at(alloc, there)?;
+    let slots = fault_at(alloc, there)?;
+    let Some(replies) = Replies::checked(&slots, &[0]) else {
+        return Ok(false);
+    };
     let mut turn = Turn::new(alloc, &here, bytes, &replies);
     is_handed_on(alloc, there, &mut turn)
 }
@@ -341,7 +349,8 @@ fn a_fault_of_an_asked_node_is_handed_on(rt: HostRuntime) -> Result<(), Fail> {
 
 /// The path one step on, by a turn.
 fn part(alloc: Global, bytes: &Buffer, path: &Path, step: Step) -> Option<Path> {
-    let turn = Turn::new(alloc, path, bytes, &[]);
+    let none = Replies::new(&[], &[]);
+    let turn = Turn::new(alloc, path, bytes, &none);
     match turn.part(path, step) {
         Ok(part) => Some(part),
         Err(_) => None,
@@ -361,7 +370,8 @@ fn goes_on(alloc: Global, bytes: &Buffer, path: &mut Path, step: Step) -> bool {
 
 /// Whether a part is refused, by a fault at the path itself.
 fn is_too_long(alloc: Global, bytes: &Buffer, path: &Path, step: Step) -> bool {
-    let turn = Turn::new(alloc, path, bytes, &[]);
+    let none = Replies::new(&[], &[]);
+    let turn = Turn::new(alloc, path, bytes, &none);
     match turn.part(path, step) {
         Err(Halt::Fault(fault)) => fault.kind == FaultKind::PathTooLong && fault.path == *path,
         _ => false,

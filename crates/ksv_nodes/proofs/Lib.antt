@@ -9,3 +9,4 @@ pub mod Bounds
 pub mod Resuming
 pub mod Left
 pub mod Direct
+pub mod Replied

@@ -8,6 +8,7 @@ use Rattle.ksv_expr_value.specs.Trail.{Trail}
 use Rattle.ksv_expr_value.specs.declared.fault.Fault.{Fault}
 use Rattle.ksv_expr_value.specs.declared.fault.FaultKind.{FaultKind}
 use Rattle.ksv_expr_value.specs.declared.fault.FaultKind.TheVariants as kinds
+use Rattle.ksv_memo.specs.Slots.{lent}
 use Rattle.ksv_nodes.specs.declared.node.Node.{Node}
 use Rattle.ksv_nodes.specs.declared.given.Given.{Given}
 use Rattle.ksv_nodes.specs.declared.turn.Found.{Found}
@@ -75,9 +76,14 @@ come (Err f) s = Failed f s
 abbrev pub ask : Node → Rule Given
 ask n = Ask (Of n) (λ g. Answer g)
 
+-- the function took the next reply, to whatever node it is, or found none
+abbrev pub TakesReply : State → State → Option (Result (Bor Given) (Bor Fault)) → Type 0
+TakesReply old new (Some reply) = (n : Node) → run turns (ask n) old ≡ come (lent reply) new
+TakesReply old new None = (n : Node) → run turns (ask n) old ≡ Need n new
+
 -- the function took the reply to this node, or found none
-abbrev pub RepliesWith : Node → State → State → Result (Bor (Result Given Fault)) Halt → Type 0
-RepliesWith n old new (Ok g) = run turns (ask n) old ≡ come g.now new
+abbrev pub RepliesWith : Node → State → State → Result (Result (Bor Given) (Bor Fault)) Halt → Type 0
+RepliesWith n old new (Ok reply) = run turns (ask n) old ≡ come (lent reply) new
 RepliesWith n old new (Err halts.Memory) = Unit {0}
 RepliesWith n old new (Err (halts.Need m)) = run turns (ask n) old ≡ Need m new
 RepliesWith n old new (Err (halts.Fault f)) = run turns (ask n) old ≡ Failed f new

@@ -6,13 +6,14 @@ ghost use Rattle.ksv_expr_value.specs.Bytes.{content};
 ghost use Rattle.std.specs.Prelude.{◌+◌, slice_range, IfSome};
 ghost use Rattle.ksv_nodes.specs.Reading.{first_at, end_in};
 ghost use Rattle.ksv_nodes.specs.Rule.{raise, ask_head, ask_value, ask_end, ask_rest, part, reach, finish, done, peek, find};
-ghost use Rattle.ksv_nodes.specs.Turning.{Runs, RepliesWith, IsFault, StandsBelow};
+ghost use Rattle.ksv_nodes.specs.Turning.{Runs, TakesReply, RepliesWith, IsFault, StandsBelow};
 
 use crate::given::{Ended, Given, Head, Rested};
 use crate::node::{Node, NodeKind};
 use crate::search::first_in_parts;
 use ksv_bytes::{Buffer, Use, Window};
 use ksv_expr_value::{Fault, FaultKind, Parts, Path, Place, Step, Stream, Value};
+use ksv_memo::Replies;
 use std::alloc::{AllocError, AllocFailed, Global};
 use std::marker::Model;
 
@@ -64,7 +65,7 @@ pub struct Turn<'a> {
     alloc: Global,
     here: &'a Path,
     bytes: &'a Buffer,
-    replies: &'a [Result<Given, Fault>],
+    replies: &'a Replies<'a, Given, Fault>,
     at: usize,
     uses: Vec<Use>,
 }
@@ -86,7 +87,7 @@ impl<'a> Turn<'a> {
         alloc: Global,
         here: &'a Path,
         bytes: &'a Buffer,
-        replies: &'a [Result<Given, Fault>],
+        replies: &'a Replies<'a, Given, Fault>,
     ) -> Turn<'a>
         ensures { result ≡ record { here = here.now; bytes = bytes.now; replies = replies.now; uses = [] } }
     {
@@ -119,16 +120,24 @@ impl<'a> Turn<'a> {
         self.uses
     }
 
+    /// The next reply, if one is left.
+    fn next_reply(&mut self) -> Option<Result<&'a Given, &'a Fault>>
+        ensures { TakesReply self.old self.new result }
+    {
+        let reply = self.replies.get(self.at)?;
+        let count = self.replies.len();
+        prove!(self.at < count);
+        self.at += 1;
+        Some(reply)
+    }
+
     /// The next reply, which is for this node.
-    fn reply(&mut self, node: Node) -> Result<&'a Result<Given, Fault>, Halt>
+    fn reply(&mut self, node: Node) -> Result<Result<&'a Given, &'a Fault>, Halt>
         ensures { RepliesWith node self.old self.new result }
     {
-        match self.replies.get(self.at) {
+        match self.next_reply() {
             None => Err(Halt::Need(node)),
-            Some(reply) => {
-                self.at += 1;
-                Ok(reply)
-            }
+            Some(reply) => Ok(reply),
         }
     }
 

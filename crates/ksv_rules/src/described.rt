@@ -11,7 +11,7 @@ use crate::rules::rule;
 use ksv_bytes::{Buffer, Use};
 use ksv_desc::Desc;
 use ksv_expr_eval::Fault;
-use ksv_memo::{Next, Rules};
+use ksv_memo::{Next, Replies, Rules};
 use ksv_nodes::{Given, Halt, Node, Turn};
 use std::alloc::{AllocError, Global};
 
@@ -58,7 +58,7 @@ impl Rules for Described {
         alloc: Global,
         node: &Node,
         bytes: &Buffer,
-        replies: &[Answer],
+        replies: &Replies<Given, Fault>,
         uses: &mut Vec<Use>,
     ) -> Result<Next<Node, Answer>, AllocError> {
         let mut turn = Turn::new(alloc, &node.path, bytes, replies);
@@ -73,11 +73,11 @@ impl Rules for Described {
         Ok(next)
     }
 
-    fn copy_node(&self, alloc: Global, node: &Node) -> Result<Node, AllocError> {
-        node.copy(alloc)
-    }
-
-    fn copy_answer(&self, alloc: Global, answer: &Answer) -> Result<Answer, AllocError> {
+    fn copy_answer(
+        &self,
+        alloc: Global,
+        answer: Result<&Given, &Fault>,
+    ) -> Result<Answer, AllocError> {
         Ok(match answer {
             Ok(given) => Ok(given.copy(alloc)?),
             Err(fault) => Err(fault.copy(alloc)?),

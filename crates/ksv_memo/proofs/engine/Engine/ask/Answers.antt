@@ -9,19 +9,19 @@ pub returns-in-Ok-Answered-clause-kept : goal.returns-in-Ok-Answered-clause-kept
 returns-in-Ok-Answered-clause-kept g c =
     let w = on (g.R.Rules.meaning c.args.rules.now) c.args.bytes.now in
     let ms = done w [] c.args.node in
-    let all = c.ask.new.self.table in
-    subst (λ es. AreExactly w (nodes_of all) (nodes_of es ++ ms)) (ap (λ v. v.kept) c.self.view_is) (exactly w c.self.inside.machine.table all ms c.in-Ok-Answered.ensures.right c.in-Ok-Answered.ensures.kept)
+    let all = c.ask.new.self.table.kept in
+    subst (λ es. AreExactly w (nodes_of all) (nodes_of es ++ ms)) (ap (λ v. v.kept) c.self.view_is) (exactly w c.self.inside.machine.table.kept all ms c.in-Ok-Answered.ensures.right c.in-Ok-Answered.ensures.kept)
 
 pub returns-in-Ok-Circle-clause-kept : goal.returns-in-Ok-Circle-clause-kept
 returns-in-Ok-Circle-clause-kept g c =
     let w = on (g.R.Rules.meaning c.args.rules.now) c.args.bytes.now in
     let ms = done w [] c.args.node in
-    let all = c.ask.new.self.table in
-    subst (λ es. AreExactly w (nodes_of all) (nodes_of es ++ ms)) (ap (λ v. v.kept) c.self.view_is) (exactly w c.self.inside.machine.table all ms c.in-Ok-Circle.ensures.right c.in-Ok-Circle.ensures.kept)
+    let all = c.ask.new.self.table.kept in
+    subst (λ es. AreExactly w (nodes_of all) (nodes_of es ++ ms)) (ap (λ v. v.kept) c.self.view_is) (exactly w c.self.inside.machine.table.kept all ms c.in-Ok-Circle.ensures.right c.in-Ok-Circle.ensures.kept)
 
 pub returns-in-Err-clause-refused : goal.returns-in-Err-clause-refused
 returns-in-Err-clause-refused g c =
     let w = on (g.R.Rules.meaning c.args.rules.now) c.args.bytes.now in
     let ms = done w [] c.args.node in
-    let all = c.ask.new.self.table in
-    subst (λ es. AreBetween w (nodes_of es) (nodes_of all) (nodes_of es ++ ms)) (ap (λ v. v.kept) c.self.view_is) (between w c.self.inside.machine.table all ms c.in-Err.ensures.left)
+    let all = c.ask.new.self.table.kept in
+    subst (λ es. AreBetween w (nodes_of es) (nodes_of all) (nodes_of es ++ ms)) (ap (λ v. v.kept) c.self.view_is) (between w c.self.inside.machine.table.kept all ms c.in-Err.ensures.left)

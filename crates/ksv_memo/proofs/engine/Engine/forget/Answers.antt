@@ -10,7 +10,7 @@ use Rattle.ksv_memo.proofs.engine.Engine.forget.Goals as goal
 pub returns-clause-right : goal.returns-clause-right
 returns-clause-right g c rules before after right made =
     let view = ap (λ v. v.kept) c.self.view_is in
-    forgets-right (g.R.Rules.meaning rules) (g.met.R.Rules.lawful rules) g.R.Node.PartialEq.eq g.met.R.Node.Eq.laws g.met.R.Rules.exact c.args.change before after made c.self.inside.machine.table c.forget.new.self c.forget.ensures
+    forgets-right (g.R.Rules.meaning rules) (g.met.R.Rules.lawful rules) c.args.change before after made c.self.inside.machine.table.kept c.forget.new.self.kept c.forget.ensures.kept
     (subst (IsRight (on (g.R.Rules.meaning rules) before)) (sym view) right)
 
 pub returns-clause-left : goal.returns-clause-left
@@ -18,10 +18,10 @@ returns-clause-left g c rules before right =
     let w = on (g.R.Rules.meaning rules) before in
     let view = ap (λ v. v.kept) c.self.view_is in
     let law = law_on (g.R.Rules.meaning rules) (g.met.R.Rules.lawful rules) before in
-    subst (λ es. AreExactly w (nodes_of c.forget.new.self) (left_after w c.args.change (nodes_of es))) view
-    (forgets w law g.R.Node.PartialEq.eq g.met.R.Node.Eq.laws g.met.R.Rules.exact c.args.change c.self.inside.machine.table c.forget.new.self (subst (IsRight w) (sym view) right) c.forget.ensures).1
+    subst (λ es. AreExactly w (nodes_of c.forget.new.self.kept) (left_after w c.args.change (nodes_of es))) view
+    (forgets w law c.args.change c.self.inside.machine.table.kept c.forget.new.self.kept (subst (IsRight w) (sym view) right) c.forget.ensures.kept).1
 
 pub returns-clause-kept : goal.returns-clause-kept
 returns-clause-kept g c =
-    subst (λ es. AllByRecursion (Contains es) c.forget.new.self) (ap (λ v. v.kept) c.self.view_is)
-    (forgets-kept g.R.Node.PartialEq.eq c.args.change c.self.inside.machine.table c.forget.new.self c.forget.ensures)
+    subst (λ es. AllByRecursion (Contains es) c.forget.new.self.kept) (ap (λ v. v.kept) c.self.view_is)
+    (forgets-kept c.args.change c.self.inside.machine.table.kept c.forget.new.self.kept c.forget.ensures.kept)

@@ -1,0 +1,229 @@
+-- The last open node: how it is run, kept and taken out.
+use Rattle.std.proofs.Common.{◌≡◌, ◌≢◌, ℕ, suc, ◌+◌, ◌-◌, ◌≤◌, ◌<◌, Bool, true, false, List, [], ◌∷◌, ◌++◌, length, map, take, drop, reverse, Option, Some, None, is_some, refl, sym, ◌∙◌, ap, subst, Result, Ok, Err, OnOk, OnErr, slice_get, ◌⊎◌, inl, inr, arith, length-append, ◌==◌}
+use Rattle.std.specs.Option.{option_map}
+use Rattle.std.specs.List.{AllByRecursion}
+use Rattle.std.proofs.lemmas.List.{take-append-le, drop-append-le, reverse-append, reverse-reverse, take_rest}
+use Rattle.std.proofs.lemmas.Option.{slice_get-map}
+use Rattle.ksv_bytes.specs.declared.uses.Use.{Use}
+use Rattle.ksv_memo.specs.declared.rules.Next.{Next}
+use Rattle.ksv_memo.specs.declared.replies.Slot.{Slot}
+use Rattle.ksv_memo.specs.declared.replies.Slot.TheVariants.{Empty as emptied, Open as opened}
+use Rattle.ksv_memo.specs.declared.layout.Row.{Row}
+use Rattle.ksv_memo.specs.declared.layout.Rows.{Rows}
+use Rattle.ksv_memo.specs.declared.layout.Frame.{Frame}
+use Rattle.ksv_memo.specs.declared.layout.Frames.{Frames}
+use Rattle.ksv_memo.specs.Slots.{answer_in, answer_at, answers_at}
+use Rattle.ksv_memo.specs.Meaning.{Standing, IsAddedTo}
+use Rattle.ksv_memo.specs.Entry.{Entry}
+use Rattle.ksv_memo.specs.Open.{Open, with_uses, heard}
+use Rattle.ksv_memo.specs.Layout.{IsOneOf, AllDiffer, slots_of, node_at, nodes_at, IsOpen, IsKept, entries_of, open_before, opens_in, opens_of, AreNested, AreRows, AreFrames, IsLaidOut}
+use Rattle.ksv_memo.specs.Moves.{EndsWith, SameFrames, Popped, Heard, Rowed}
+use Rattle.ksv_memo.specs.Nodes.{Nodes, kept_of, Keeps, Steps, Closes, MayKeep, TakesFirst, is_there}
+use Rattle.ksv_memo.proofs.Evals.{eqb_true}
+use Rattle.ksv_memo.proofs.Finding.{slot_there, node_there, answer_there}
+use Rattle.ksv_memo.proofs.Laying.{All-drop, All-take, some-of, asked_kept, same_entries, stays_kept}
+use Rattle.ksv_memo.proofs.Changing.{ChangesAt, grown, set_at, keeps, rows-stay, rows-add, entries-add, frames-pop, frames-hear, opens-pop, opens-hear, frames_nodes}
+
+-- the last of a list that isn't empty
+pub last-front : {X : Type 0} (xs : List X) (x : X) → slice_get xs (length xs - 1) ≡ Some x → EndsWith x xs
+last-front [] x e = absurd (cc)
+last-front (y ∷ []) x e = let same : y ≡ x = cc in ([], ap (λ z. z ∷ []) same)
+last-front (y ∷ z ∷ ys) x e =
+    let here : length (y ∷ z ∷ ys) - 1 ≡ suc (length ys) = omega arith in
+    let there : length (z ∷ ys) - 1 ≡ length ys = omega arith in
+    let rest = last-front (z ∷ ys) x (ap (slice_get (z ∷ ys)) there ∙ ap (slice_get (y ∷ z ∷ ys)) (sym here) ∙ e) in
+    (y ∷ rest.0, ap (λ zs. y ∷ zs) rest.1)
+
+-- a list has one front
+pub one-front : {X : Type 0} (xs ys : List X) (x y : X) → xs ++ x ∷ [] ≡ ys ++ y ∷ [] → xs ≡ ys
+one-front xs ys x y e = sym (reverse-reverse xs) ∙ ap reverse (tails (reverse xs) (reverse ys) x y (sym (reverse-append xs (x ∷ [])) ∙ ap reverse e ∙ reverse-append ys (y ∷ []))) ∙ reverse-reverse ys
+  where
+    tails : {X : Type 0} (us vs : List X) (a b : X) → a ∷ us ≡ b ∷ vs → us ≡ vs
+    tails us vs a b e = let same : us ≡ vs = cc in same
+
+pub no-items : (fs : List Frame) → (length fs == 0) ≡ true → fs ≡ []
+no-items [] e = refl
+no-items (f ∷ fs) e = let none : length (f ∷ fs) ≡ 0 = eqb_true (length (f ∷ fs)) 0 e in absurd (omega arith)
+
+pub some-items : (fs : List Frame) → (length fs == 0) ≡ false → is_there (reverse fs) ≡ true
+some-items [] e = absurd (cc)
+some-items (f ∷ fs) e = ap is_there (reverse-append (f ∷ []) fs) ∙ by (reverse fs)
+  where
+    by : (xs : List Frame) → is_there (xs ++ f ∷ []) ≡ true
+    by [] = refl
+    by (x ∷ xs) = refl
+
+pub on_err_always : {T E P : Type 0} (r : Result T E) → P → OnErr r P
+on_err_always (Ok x) h = tt
+on_err_always (Err e) h = h
+
+-- what a call adds begins with what there was, whether memory was refused or not
+pub next-more : {X T E : Type 0} (xs us ys : List X) (r : Result T E) → OnOk r (ys ≡ xs ++ us) → OnErr r (IsAddedTo xs ys) → IsAddedTo xs ys
+next-more xs us ys (Ok v) ok err = (us, ok)
+next-more xs us ys (Err e) ok err = err
+
+module _ {N V F : Type 0} (ps : List (N × Slot V F)) where
+  open_pair : (i : ℕ) (o : Option (N × Slot V F)) → slice_get ps i ≡ o → option_map (λ p. p.1) o ≡ Some opened → (n : N) × (slice_get ps i ≡ Some (n, opened))
+  open_pair i None is e = absurd (cc)
+  open_pair i (Some p) is e = let same : p.1 ≡ opened = cc in (p.0, is ∙ ap (λ s. Some (p.0, s)) same)
+
+  -- the last open node, and those below it
+  pub record IsTop (frames : Frames) (f : Frame) : Type 0 where
+    pub front : List Frame
+    pub turned : reverse frames.frames.items ≡ f ∷ reverse front
+    pub node : N
+    pub there : slice_get ps f.slot ≡ Some (node, opened)
+    pub asks : f.asked ≤ length frames.asked.items
+    pub count : f.uses ≤ length frames.uses.items
+
+  abbrev pub top_of : (frames : Frames) (f : Frame) → N → Open N (Result V F)
+  top_of frames f n = record { node = n; replies = answers_at (slots_of ps) (drop f.asked frames.asked.items); asked = nodes_at ps (drop f.asked frames.asked.items); uses = drop f.uses frames.uses.items }
+
+  abbrev pub below : (frames : Frames) (f : Frame) → List Frame → List (Open N (Result V F))
+  below frames f front = opens_in ps (reverse front) (take f.asked frames.asked.items) (take f.uses frames.uses.items)
+
+  pub top : (frames : Frames) (f : Frame) → AreFrames ps frames → EndsWith f frames.frames.items → IsTop frames f
+  top frames f h ends =
+      let turned : reverse frames.frames.items ≡ f ∷ reverse ends.0 = ap reverse ends.1 ∙ reverse-append ends.0 (f ∷ []) in
+      let waits : AllByRecursion (λ f. IsOpen ps f.slot) (f ∷ reverse ends.0) = subst (AllByRecursion (λ f. IsOpen ps f.slot)) turned h.waits in
+      let nested : AreNested (f ∷ reverse ends.0) (length frames.asked.items) (length frames.uses.items) = subst (λ fs. AreNested fs (length frames.asked.items) (length frames.uses.items)) turned h.nested in
+      let pair = open_pair f.slot (slice_get ps f.slot) refl (sym (slice_get-map (λ p. p.1) ps f.slot) ∙ waits.0) in
+      record { front = ends.0; turned = turned; node = pair.0; there = pair.1; asks = nested.0; count = nested.1 }
+
+  pub top-opens : (frames : Frames) (f : Frame) (t : IsTop frames f) → opens_of ps frames ≡ top_of frames f t.node ∷ below frames f t.front
+  top-opens frames f t =
+      ap (λ fs. opens_in ps fs frames.asked.items frames.uses.items) t.turned
+      ∙ ap (λ o. open_before o (answers_at (slots_of ps) (drop f.asked frames.asked.items)) (nodes_at ps (drop f.asked frames.asked.items)) (drop f.uses frames.uses.items) (below frames f t.front)) (node_there ps f.slot t.node opened t.there)
+
+  pub none-top : (frames : Frames) → frames.frames.items ≡ [] → opens_of ps frames ≡ []
+  none-top frames none = ap (λ fs. opens_in ps (reverse fs) frames.asked.items frames.uses.items) none
+
+  -- ---- a call of the last open node
+  pub more-uses : (frames new : Frames) → new.frames ≡ frames.frames → new.asked ≡ frames.asked → length frames.uses.items ≤ length new.uses.items → AreFrames ps frames → AreFrames ps new
+  more-uses frames new same asked more h =
+      let now : reverse new.frames.items ≡ reverse frames.frames.items = ap (λ v. reverse v.items) same in
+      record {
+        waits = subst (AllByRecursion (λ f. IsOpen ps f.slot)) (sym now) h.waits;
+        all = λ k o. subst (λ fs. IsOneOf (map (λ (f : Frame). f.slot) fs) k) (sym now) (h.all k o);
+        once = subst (λ fs. AllDiffer (map (λ (f : Frame). f.slot) fs)) (sym now) h.once;
+        asked = subst (AllByRecursion (IsKept ps)) (ap (λ v. v.items) (sym asked)) h.asked;
+        nested = subst (λ fs. AreNested fs (length new.asked.items) (length new.uses.items)) (sym now) (grown (reverse frames.frames.items) _ _ _ _ (let same : length frames.asked.items ≡ length new.asked.items = ap (λ v. length v.items) (sym asked) in omega arith) more h.nested);
+      }
+
+  pub same-frames : (old new : Frames) → SameFrames old new → AreFrames ps old → AreFrames ps new
+  same-frames old new same h =
+      let now : reverse new.frames.items ≡ reverse old.frames.items = ap reverse same.frames in
+      let P : List ℕ → List Use → Type 0 = λ xs us. AreNested (reverse old.frames.items) (length xs) (length us) in
+      record {
+        waits = subst (AllByRecursion (λ f. IsOpen ps f.slot)) (sym now) h.waits;
+        all = λ k o. subst (λ fs. IsOneOf (map (λ (f : Frame). f.slot) fs) k) (sym now) (h.all k o);
+        once = subst (λ fs. AllDiffer (map (λ (f : Frame). f.slot) fs)) (sym now) h.once;
+        asked = subst (AllByRecursion (IsKept ps)) (sym same.asked) h.asked;
+        nested = subst (λ fs. AreNested fs (length new.asked.items) (length new.uses.items)) (sym now) (subst (λ us. P new.asked.items us) (sym same.uses) (subst (λ xs. P xs old.uses.items) (sym same.asked) h.nested));
+      }
+
+  pub added-more : {X : Type 0} (xs ys : List X) → IsAddedTo xs ys → length xs ≤ length ys
+  added-more xs ys (more, is) = let e : length ys ≡ length xs + length more = ap length is ∙ length-append xs more in omega arith
+
+  pub top-steps : (w : Standing N (Result V F)) (frames new : Frames) (f : Frame) (t : IsTop frames f) (s : Next N (Result V F)) → new.frames ≡ frames.frames → new.asked ≡ frames.asked → new.uses.items ≡ frames.uses.items ++ w.added t.node (answers_at (slots_of ps) (drop f.asked frames.asked.items)) → s ≡ w.follow t.node (answers_at (slots_of ps) (drop f.asked frames.asked.items)) → Steps w (opens_of ps frames) (opens_of ps new) s
+  top-steps w frames new f t s same asked used is =
+      let us : List Use = w.added t.node (answers_at (slots_of ps) (drop f.asked frames.asked.items)) in
+      let now : reverse new.frames.items ≡ f ∷ reverse t.front = ap (λ v. reverse v.items) same ∙ t.turned in
+      let opens : opens_of ps new ≡ with_uses (top_of frames f t.node) us ∷ below frames f t.front =
+      (λ i. opens_in ps (now i) (asked i).items (used i))
+      ∙ ap (λ o. open_before o (answers_at (slots_of ps) (drop f.asked frames.asked.items)) (nodes_at ps (drop f.asked frames.asked.items)) (drop f.uses (frames.uses.items ++ us)) (opens_in ps (reverse t.front) (take f.asked frames.asked.items) (take f.uses (frames.uses.items ++ us)))) (node_there ps f.slot t.node opened t.there)
+      ∙ (λ i. record { node = t.node; replies = answers_at (slots_of ps) (drop f.asked frames.asked.items); asked = nodes_at ps (drop f.asked frames.asked.items); uses = drop-append-le f.uses frames.uses.items us t.count i } ∷ opens_in ps (reverse t.front) (take f.asked frames.asked.items) (take-append-le f.uses frames.uses.items us t.count i)) in
+      subst (λ st. Steps w st (opens_of ps new) s) (sym (top-opens frames f t)) (is, opens)
+
+  pair-node : (p q : N × Slot V F) → Some p ≡ Some q → p.0 ≡ q.0
+  pair-node p q e = let same : p ≡ q = cc in ap (λ r. r.0) same
+
+  pub runs : (w : Standing N (Result V F)) (frames new : Frames) (f : Frame) (t : IsTop frames f) (m : N) (slot : Slot V F) (rs : List (Result V F)) (s : Next N (Result V F)) → slice_get ps f.slot ≡ Some (m, slot) → rs ≡ answers_at (slots_of ps) (drop f.asked frames.asked.items) → new.frames ≡ frames.frames → new.asked ≡ frames.asked → new.uses.items ≡ frames.uses.items ++ w.added m rs → s ≡ w.follow m rs → Steps w (opens_of ps frames) (opens_of ps new) s
+  runs w frames new f t m slot rs s there lent same asked used is =
+      let node : m ≡ t.node = pair-node (m, slot) (t.node, opened) (sym there ∙ t.there) in
+      top-steps w frames new f t s same asked (used ∙ (λ i. frames.uses.items ++ w.added (node i) (lent i))) (is ∙ (λ i. w.follow (node i) (lent i)))
+
+  pub part-lent : (slots : List (Slot V F)) (asked items : List ℕ) (k : ℕ) (rs : List (Result V F)) → slots ≡ slots_of ps → items ≡ asked → rs ≡ answers_at slots (take (length items - k) (drop k items)) → rs ≡ answers_at (slots_of ps) (drop k asked)
+  part-lent slots asked items k rs same is lent = lent ∙ ap (answers_at slots) (take_rest items k) ∙ (λ i. answers_at (same i) (drop k (is i)))
+
+  -- ---- the last open node is taken out
+  module _ (rows : Rows) (frames new : Frames) (f : Frame) (laid : IsLaidOut ps rows frames) (popped : Popped f frames new) (t : IsTop frames f) (qs : List (N × Slot V F)) where
+    top_none : answer_at (slots_of ps) f.slot ≡ None
+    top_none = answer_there ps f.slot t.node opened t.there
+
+    same_front : reverse new.frames.items ≡ reverse t.front
+    same_front = tail-same (reverse new.frames.items) (reverse t.front) (sym (ap reverse popped.frames ∙ reverse-append new.frames.items (f ∷ [])) ∙ t.turned)
+      where
+        tail-same : (xs ys : List Frame) → f ∷ xs ≡ f ∷ ys → xs ≡ ys
+        tail-same xs ys e = let same : xs ≡ ys = cc in same
+
+    pub pops-opens : (s : Slot V F) → ChangesAt ps qs f.slot t.node s → opens_of qs new ≡ below frames f t.front
+    pops-opens s changes = opens-pop ps qs f.slot t.node s changes top_none f frames new laid.waits popped ∙ ap (λ fs. opens_in ps fs (take f.asked frames.asked.items) (take f.uses frames.uses.items)) same_front
+
+    pub abandons-laid : ChangesAt ps qs f.slot t.node emptied → IsLaidOut qs rows new
+    abandons-laid changes = record {
+      kept = rows-stay ps qs f.slot t.node emptied changes top_none refl rows laid.kept;
+      waits = frames-pop ps qs f.slot t.node emptied changes top_none (λ e. cc) f refl frames new laid.waits popped;
+    }
+
+    pub abandons-kept : ChangesAt ps qs f.slot t.node emptied → entries_of qs rows ≡ entries_of ps rows
+    abandons-kept changes = same_entries ps qs (keeps ps qs f.slot t.node emptied changes top_none) rows.rows.items rows.asked.items rows.uses.items laid.kept.kept (asked_kept ps [] rows.rows.items rows.asked.items laid.kept.ordered laid.kept.asked laid.kept.kept (λ j h. absurd h))
+
+    pub abandons-rest : ChangesAt ps qs f.slot t.node emptied → TakesFirst true (opens_of ps frames) (opens_of qs new)
+    abandons-rest changes = (top_of frames f t.node, top-opens frames f t ∙ ap (λ st. top_of frames f t.node ∷ st) (sym (pops-opens emptied changes)))
+
+    -- ---- it is kept
+    module _ (s : Slot V F) (a : Result V F) (is : answer_in s ≡ Some a) (changes : ChangesAt ps qs f.slot t.node s) (all : Rows) (rowed : Rowed f frames rows all) where
+      not_open : s ≡ opened → ⊥
+      not_open e = let none : answer_in s ≡ None = ap answer_in e in cc
+
+      part_kept : AllByRecursion (IsKept ps) (drop f.asked frames.asked.items)
+      part_kept = All-drop (IsKept ps) f.asked frames.asked.items laid.waits.asked
+
+      pub closes-laid : IsLaidOut qs all new
+      closes-laid = record {
+        kept = rows-add ps qs f.slot t.node s changes top_none (ap is_some is) rows all (drop f.asked frames.asked.items) rowed.once laid.kept part_kept rowed.added;
+        waits = frames-pop ps qs f.slot t.node s changes top_none not_open f refl frames new laid.waits popped;
+      }
+
+      pub closes-kept : Keeps (top_of frames f t.node) a (entries_of ps rows) (entries_of qs all)
+      closes-kept = record { once = rowed.once; each = rowed.each; kept = entries-add ps qs f.slot t.node s changes top_none a is rows all (drop f.asked frames.asked.items) rowed.once laid.kept part_kept rowed.added }
+
+      -- no node is below it
+      pub closes-last : new.frames.items ≡ [] → Closes a (opens_of ps frames) (record { kept = entries_of ps rows; opened = opens_of ps frames }) (record { kept = entries_of qs all; opened = opens_of qs new }) false
+      closes-last none =
+          let empty : below frames f t.front ≡ [] = sym (pops-opens s changes) ∙ ap (λ fs. opens_in qs (reverse fs) new.asked.items new.uses.items) none in
+          let C : List (Open N (Result V F)) → Type 0 = λ st. Closes a st (record { kept = entries_of ps rows; opened = opens_of ps frames }) (record { kept = entries_of qs all; opened = opens_of qs new }) false in
+          subst C (sym (top-opens frames f t ∙ ap (λ st. top_of frames f t.node ∷ st) empty)) (closes-kept, pops-opens s changes ∙ empty, refl)
+
+      -- the one below gets its answer
+      kept_now : IsKept qs f.slot
+      kept_now = ap is_some (answer_there qs f.slot t.node s changes.here ∙ is)
+
+      pub hears-laid : (last : Frames) → Heard f.slot new last → IsLaidOut qs all last
+      hears-laid last h = record { kept = closes-laid.kept; waits = frames-hear qs f.slot kept_now new last closes-laid.waits h }
+
+      some_below : (st : List (Open N (Result V F))) (fs : List Frame) (asked : List ℕ) (uses : List Use) → AllByRecursion (λ g. is_some (node_at qs g.slot) ≡ true) fs → opens_in qs fs asked uses ≡ st → is_there fs ≡ true → true ≡ is_there st
+      some_below st [] asked uses nodes e there = absurd (cc)
+      some_below st (g ∷ fs) asked uses nodes e there = by (node_at qs g.slot) nodes.0 e
+        where
+          by : (o : Option N) → is_some o ≡ true → open_before o (answers_at (slots_of qs) (drop g.asked asked)) (nodes_at qs (drop g.asked asked)) (drop g.uses uses) (opens_in qs fs (take g.asked asked) (take g.uses uses)) ≡ st → true ≡ is_there st
+          by None n e = absurd (cc)
+          by (Some m) n e = ap is_there e
+
+      pub closes-more : (last : Frames) → Heard f.slot new last → is_there (reverse new.frames.items) ≡ true → Closes a (opens_of ps frames) (record { kept = entries_of ps rows; opened = opens_of ps frames }) (record { kept = entries_of qs all; opened = opens_of qs last }) true
+      closes-more last h there =
+          let opens : opens_of qs last ≡ heard t.node a (below frames f t.front) = opens-hear qs f.slot t.node a (node_there qs f.slot t.node s changes.here) (answer_there qs f.slot t.node s changes.here ∙ is) new last closes-laid.waits h ∙ ap (heard t.node a) (pops-opens s changes) in
+          let some : true ≡ is_there (below frames f t.front) = some_below (below frames f t.front) (reverse new.frames.items) new.asked.items new.uses.items (frames_nodes qs new closes-laid.waits) (pops-opens s changes) there in
+          let C : List (Open N (Result V F)) → Type 0 = λ st. Closes a st (record { kept = entries_of ps rows; opened = opens_of ps frames }) (record { kept = entries_of qs all; opened = opens_of qs last }) true in
+          subst C (sym (top-opens frames f t)) (closes-kept, opens, some)
+
+      pub may-keep : MayKeep a (opens_of ps frames) (entries_of ps rows) (entries_of qs all)
+      may-keep = subst (λ st. MayKeep a st (entries_of ps rows) (entries_of qs all)) (sym (top-opens frames f t)) (inr closes-kept)
+
+  pub keeps-none : (a : Result V F) (frames : Frames) (before after : List (Entry N (Result V F))) → is_there (opens_of ps frames) ≡ true → after ≡ before → MayKeep a (opens_of ps frames) before after
+  keeps-none a frames before after there same = by (opens_of ps frames) there
+    where
+      by : (st : List (Open N (Result V F))) → is_there st ≡ true → MayKeep a st before after
+      by [] e = absurd (cc)
+      by (o ∷ st) e = inl same

@@ -1,0 +1,85 @@
+-- What each move of the table does to slots, rows and frames. Only the table's own contracts use it.
+use Rattle.std.specs.Prelude.{◌≡◌, ℕ, Option, Some, Bool, true, false, List, [], ◌∷◌, ◌++◌, length, map, take, drop, slice_get}
+use Rattle.std.specs.List.{list_any}
+use Rattle.ksv_bytes.specs.declared.uses.Use.{Use}
+use Rattle.ksv_memo.specs.declared.replies.Slot.{Slot}
+use Rattle.ksv_memo.specs.declared.replies.Slot.TheVariants.{Empty as emptied, Open as opened}
+use Rattle.ksv_memo.specs.declared.layout.Row.{Row}
+use Rattle.ksv_memo.specs.declared.layout.Rows.{Rows}
+use Rattle.ksv_memo.specs.declared.layout.Frame.{Frame}
+use Rattle.ksv_memo.specs.declared.layout.Frames.{Frames}
+use Rattle.ksv_memo.specs.declared.layout.Known.{Known}
+use Rattle.ksv_memo.specs.declared.layout.Known.TheVariants.{New, Empty, Open, Kept}
+use Rattle.ksv_memo.specs.Right.{HasEachOnce}
+use Rattle.ksv_memo.specs.Layout.{IsKept}
+
+-- the slot of a number is this, and its node is the one that was looked for
+pub record IsTheSlot {N V F : Type 0} (eq : N → N → Bool) (ps : List (N × Slot V F)) (n : N) (i : ℕ) (s : Slot V F) : Type 0 where
+  pub node : N
+  pub there : slice_get ps i ≡ Some (node, s)
+  pub passes : eq n node ≡ true
+
+-- what the slots have of a node
+abbrev pub Knows : {N V F : Type 0} → (N → N → Bool) → List (N × Slot V F) → N → Known → Type 0
+Knows {N} {V} {F} eq ps n New = list_any (λ (p : N × Slot V F). eq n p.0) ps ≡ false
+Knows {N} {V} {F} eq ps n (Empty i) = IsTheSlot eq ps n i emptied
+Knows {N} {V} {F} eq ps n Open = (i : ℕ) × IsTheSlot eq ps n i opened
+Knows {N} {V} {F} eq ps n (Kept i) = ((s : Slot V F) × IsTheSlot eq ps n i s) × IsKept ps i
+
+-- the frames, what open nodes asked, and their uses are the same
+pub record SameFrames (old new : Frames) : Type 0 where
+  pub frames : new.frames.items ≡ old.frames.items
+  pub asked : new.asked.items ≡ old.asked.items
+  pub uses : new.uses.items ≡ old.uses.items
+
+-- the last open node got a reply more
+pub record Heard (i : ℕ) (old new : Frames) : Type 0 where
+  pub frames : new.frames.items ≡ old.frames.items
+  pub asked : new.asked.items ≡ old.asked.items ++ i ∷ []
+  pub uses : new.uses.items ≡ old.uses.items
+
+-- the frame of a node that is opened now
+pub record IsNewFrame (i : ℕ) (frames : Frames) (f : Frame) : Type 0 where
+  pub slot : f.slot ≡ i
+  pub asked : f.asked ≡ length frames.asked.items
+  pub uses : f.uses ≡ length frames.uses.items
+
+-- a list's last element
+abbrev pub EndsWith : {X : Type 0} → X → List X → Type 0
+EndsWith {X} x xs = (front : List X) × (xs ≡ front ++ x ∷ [])
+
+-- a node was opened
+pub record Framed (i : ℕ) (old new : Frames) : Type 0 where
+  pub frame : Frame
+  pub is_new : IsNewFrame i old frame
+  pub frames : new.frames.items ≡ old.frames.items ++ frame ∷ []
+  pub asked : new.asked.items ≡ old.asked.items
+  pub uses : new.uses.items ≡ old.uses.items
+
+-- the last open node was taken out
+pub record Popped (f : Frame) (old new : Frames) : Type 0 where
+  pub frames : old.frames.items ≡ new.frames.items ++ f ∷ []
+  pub asked : new.asked.items ≡ take f.asked old.asked.items
+  pub uses : new.uses.items ≡ take f.uses old.uses.items
+
+-- the rows, what they asked, and their uses are the same
+pub record SameRows (old new : Rows) : Type 0 where
+  pub rows : new.rows.items ≡ old.rows.items
+  pub asked : new.asked.items ≡ old.asked.items
+  pub uses : new.uses.items ≡ old.uses.items
+
+-- a row was added
+pub record Added (i : ℕ) (slots : List ℕ) (once : List Use) (old new : Rows) : Type 0 where
+  pub row : Row
+  pub slot : row.slot ≡ i
+  pub asks : row.asked ≡ length slots
+  pub count : row.uses ≡ length once
+  pub rows : new.rows.items ≡ old.rows.items ++ row ∷ []
+  pub asked : new.asked.items ≡ old.asked.items ++ slots
+  pub uses : new.uses.items ≡ old.uses.items ++ once
+
+-- the row of an open node was added, with each of its uses once
+pub record Rowed (f : Frame) (frames : Frames) (old new : Rows) : Type 0 where
+  pub once : List Use
+  pub each : HasEachOnce once (drop f.uses frames.uses.items)
+  pub added : Added f.slot (drop f.asked frames.asked.items) once old new

@@ -1,0 +1,102 @@
+-- The table of nodes, as the machine sees it.
+use Rattle.std.specs.Prelude.{◌≡◌, ℕ, Bool, true, false, List, [], ◌∷◌, ◌++◌, ◌⊎◌, Option, Some, None}
+use Rattle.std.specs.List.{list_any}
+use Rattle.ksv_bytes.specs.declared.uses.Use.{Use}
+use Rattle.ksv_memo.specs.declared.table.Asked.{Asked}
+use Rattle.ksv_memo.specs.declared.table.Asked.TheVariants.{Replied, Opened, Circle}
+use Rattle.ksv_memo.specs.Entry.{Entry}
+use Rattle.ksv_memo.specs.Open.{Open, newly, with_uses, heard}
+use Rattle.ksv_memo.specs.declared.rules.Next.{Next}
+use Rattle.ksv_memo.specs.Meaning.{Standing}
+use Rattle.ksv_memo.specs.Right.{HasEachOnce}
+use Rattle.ksv_memo.specs.Layout.{IsOneOf}
+
+-- the kept nodes in the order in which they were kept, and the open ones, from the last opened to the first
+pub record Nodes (N A : Type 0) : Type 0 where
+  pub kept : List (Entry N A)
+  pub opened : List (Open N A)
+
+-- a node is kept with this answer
+pub record IsEntry {N A : Type 0} (eq : N → N → Bool) (es : List (Entry N A)) (n : N) (e : Entry N A) : Type 0 where
+  pub there : IsOneOf es e
+  pub passes : eq n e.node ≡ true
+
+-- a node is not kept
+abbrev pub HasNoEntry : {N A : Type 0} → (N → N → Bool) → List (Entry N A) → N → Type 0
+HasNoEntry eq es n = list_any (λ e. eq n e.node) es ≡ false
+
+-- what there is of a kept answer
+abbrev pub Finds : {N A : Type 0} → (N → N → Bool) → List (Entry N A) → N → Option A → Type 0
+Finds {N} {A} eq es n None = HasNoEntry eq es n
+Finds {N} {A} eq es n (Some a) = (e : Entry N A) × IsEntry eq es n e × (e.answer ≡ a)
+
+-- the last open node asked for a kept node, and got its answer
+pub record Replies {N A : Type 0} (eq : N → N → Bool) (n : N) (old new : Nodes N A) : Type 0 where
+  pub entry : Entry N A
+  pub is : IsEntry eq old.kept n entry
+  pub kept : new.kept ≡ old.kept
+  pub opened : new.opened ≡ heard entry.node entry.answer old.opened
+
+-- the last open node asked for a node that is neither kept nor open, and that is open now
+pub record Opens {N A : Type 0} (eq : N → N → Bool) (n : N) (old new : Nodes N A) : Type 0 where
+  pub node : N
+  pub passes : eq n node ≡ true
+  pub out : HasNoEntry eq old.kept n
+  pub free : list_any (λ o. eq n o.node) old.opened ≡ false
+  pub kept : new.kept ≡ old.kept
+  pub opened : new.opened ≡ newly node ∷ old.opened
+
+-- the last open node asked for an open node
+pub record Circles {N A : Type 0} (eq : N → N → Bool) (n m : N) (old new : Nodes N A) : Type 0 where
+  pub same : m ≡ n
+  pub waits : list_any (λ o. eq n o.node) old.opened ≡ true
+  pub kept : new.kept ≡ old.kept
+  pub opened : new.opened ≡ old.opened
+
+-- what came of asking for a node
+abbrev pub Asks : {N A : Type 0} → (N → N → Bool) → N → Nodes N A → Nodes N A → Asked N → Type 0
+Asks eq n old new Replied = Replies eq n old new
+Asks eq n old new Opened = Opens eq n old new
+Asks eq n old new (Circle m) = Circles eq n m old new
+
+-- an open node as an entry, with its answer, and its uses each once
+abbrev pub kept_of : {N A : Type 0} → Open N A → A → List Use → Entry N A
+kept_of o a once = record { node = o.node; answer = a; asked = o.asked; uses = once }
+
+-- an open node was kept with its answer
+pub record Keeps {N A : Type 0} (o : Open N A) (a : A) (before after : List (Entry N A)) : Type 0 where
+  pub once : List Use
+  pub each : HasEachOnce once o.uses
+  pub kept : after ≡ before ++ kept_of o a once ∷ []
+
+-- whether there is an element
+abbrev pub is_there : {X : Type 0} → List X → Bool
+is_there [] = false
+is_there (x ∷ xs) = true
+
+-- the last open node was run: this is its next step, and its call's uses were added
+abbrev pub Steps : {N A : Type 0} → Standing N A → List (Open N A) → List (Open N A) → Next N A → Type 0
+Steps w [] now s = ⊥
+Steps w (o ∷ st) now s = (s ≡ w.follow o.node o.replies) × (now ≡ with_uses o (w.added o.node o.replies) ∷ st)
+
+-- the last open node was kept with its answer, which the one below got, if there is one
+abbrev pub Closes : {N A : Type 0} → A → List (Open N A) → Nodes N A → Nodes N A → Bool → Type 0
+Closes a [] old new waits = ⊥
+Closes a (o ∷ st) old new waits = Keeps o a old.kept new.kept × (new.opened ≡ heard o.node a st) × (waits ≡ is_there st)
+
+-- after a refused memory the last open node was kept, or nothing was
+abbrev pub MayKeep : {N A : Type 0} → A → List (Open N A) → List (Entry N A) → List (Entry N A) → Type 0
+MayKeep a [] before after = ⊥
+MayKeep a (o ∷ st) before after = (after ≡ before) ⊎ Keeps o a before after
+
+-- the first element was taken, if there was one
+abbrev pub TakesFirst : {X : Type 0} → Bool → List X → List X → Type 0
+TakesFirst {X} true xs ys = (x : X) × (xs ≡ x ∷ ys)
+TakesFirst {X} false xs ys = (xs ≡ []) × (ys ≡ [])
+
+-- the last of these entries has this answer
+pub record EndsWithAnswer {N A : Type 0} (a : A) (es : List (Entry N A)) : Type 0 where
+  pub front : List (Entry N A)
+  pub entry : Entry N A
+  pub entries : es ≡ front ++ entry ∷ []
+  pub answer : entry.answer ≡ a
