@@ -4,13 +4,14 @@ ghost use Rattle.ksv_bytes.specs.Uses.{Touches, Keeps};
 
 /// What one reading of the bytes depends on. Places count from the first byte, and are below 2^32, since a file has
 /// at most 16,777,216 bytes.
-#[derive(Clone, Copy, Debug, PartialEq, Eq)]
+#[derive(Clone, Copy, Debug, Default, PartialEq, Eq)]
 pub enum Use {
     /// The bytes from the first place up to the second, and that the file reaches that far.
     Bytes(u32, u32),
     /// That the file reaches this place.
     Reach(u32),
     /// How many bytes the file has.
+    #[default]
     Size,
 }
 
