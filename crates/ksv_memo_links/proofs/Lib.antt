@@ -1,0 +1,12 @@
+pub mod Rows
+pub mod Grids
+pub mod Edits
+pub mod Adding
+pub mod Removal
+pub mod Members
+pub mod Counting
+pub mod Counts
+pub mod Clearing
+pub mod Mark
+pub mod Few
+pub mod Reaching

@@ -1,0 +1,4 @@
+pub mod Shelved
+pub mod Touching
+pub mod Linked
+pub mod Marking
