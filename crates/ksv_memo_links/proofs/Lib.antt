@@ -10,3 +10,6 @@ pub mod Clearing
 pub mod Mark
 pub mod Few
 pub mod Reaching
+pub mod More
+pub mod Hits
+pub mod Spreading

@@ -1,5 +1,5 @@
 -- More rows, which are empty.
-use Rattle.std.proofs.Common.{◌≡◌, ◌⊎◌, inl, inr, ℕ, zero, suc, ◌+◌, ◌<◌, ◌≤◌, List, [], ◌∷◌, ◌++◌, length, map, get_or, refl, sym, ◌∙◌, ap, subst, arith, sum_by}
+use Rattle.std.proofs.Common.{◌≡◌, ◌⊎◌, inl, inr, ℕ, zero, suc, ◌+◌, ◌^◌, ◌<◌, ◌≤◌, List, [], ◌∷◌, ◌++◌, length, map, get_or, refl, sym, ◌∙◌, ap, subst, arith, sum_by}
 use Rattle.std.proofs.lemmas.Bool.{cases_lt}
 use Rattle.std.proofs.lemmas.List.{get_or_past, length-map}
 use Rattle.std.proofs.lemmas.List.Sums.{sum_by-cons}
@@ -8,7 +8,7 @@ use Rattle.ksv_memo_links.specs.Shelved.{row, HasSameRows}
 use Rattle.ksv_memo_links.specs.Linked.{at, grid_of, Leads, LeadsTo, IsLinked, IsBoard, named, naming, one_if}
 use Rattle.ksv_memo_links.proofs.Edits.{named-row}
 
-named_row : (rows : List (List Pin)) (r : ℕ) → row (named rows) r ≡ map (λ (p : Pin). p.row) (row rows r)
+pub named_row : (rows : List (List Pin)) (r : ℕ) → row (named rows) r ≡ map (λ (p : Pin). p.row) (row rows r)
 named_row rows r = by (cases_lt r (length rows))
   where
     by : (r < length rows) ⊎ (length rows ≤ r) → row (named rows) r ≡ map (λ (p : Pin). p.row) (row rows r)
@@ -45,12 +45,14 @@ leads_to a b c h l = record { each = λ r i lt. (let x = get_or (row a r) i (at 
 
 pub board-notes : (lists old new : List (List Pin)) → HasSameRows old new → IsBoard lists old → IsBoard lists new
 board-notes lists old new h b = record {
+  fits = b.fits;
   linked = record { from_items = leads_to lists old new h.each b.linked.from_items; from_notes = leads_from old lists new h.each b.linked.from_notes };
   few = λ l. (let f = b.few l in let n = naming-same old new h l in omega arith);
 }
 
-pub board-lists : (old new notes : List (List Pin)) → HasSameRows old new → IsBoard old notes → IsBoard new notes
-board-lists old new notes h b = record {
+pub board-lists : (old new notes : List (List Pin)) → HasSameRows old new → length new < 2 ^ 32 → IsBoard old notes → IsBoard new notes
+board-lists old new notes h fits b = record {
+  fits = fits;
   linked = record { from_items = leads_from old notes new h.each b.linked.from_items; from_notes = leads_to notes old new h.each b.linked.from_notes };
   few = λ l. (let f = b.few l in let n = ap (λ (xs : List Pin). length xs) (h.each l) in omega arith);
 }

@@ -1,5 +1,5 @@
 -- Rows of pins that lead to each other.
-use Rattle.std.specs.Prelude.{◌≡◌, ℕ, ◌<◌, ◌≤◌, Bool, nat_eq, cond, List, length, map, slice_index_or, sum_by}
+use Rattle.std.specs.Prelude.{◌≡◌, ℕ, ◌^◌, ◌<◌, ◌≤◌, Bool, nat_eq, cond, List, length, map, slice_index_or, sum_by}
 use Rattle.ksv_memo_links.specs.declared.shelf.Pin.{Pin}
 use Rattle.ksv_memo_links.specs.Shelved.{row}
 
@@ -42,6 +42,7 @@ naming rows l = sum_by (λ ns. sum_by (one_if l) ns) rows
 pub record IsBoard (lists notes : List (List Pin)) : Type 0 where
   pub linked : IsLinked lists notes
   pub few : (l : ℕ) → length (row lists l) ≤ naming (named notes) l
+  pub fits : length lists < 2 ^ 32
 
 -- what contracts see of a board
 pub record Boarded : Type 0 where

@@ -1,7 +1,7 @@
--- Which slots are kept, which wait to be taken, and which are reached.
+-- Which slots are kept, and which wait to be taken.
 use Rattle.std.specs.Prelude.{◌≡◌, ◌≢◌, ℕ, ◌+◌, ◌^◌, ◌<◌, ◌≤◌, Bool, true, false, List, [], ◌∷◌, ◌++◌, length, slice_index_or, count_by, Contains, if◌then◌else◌}
 use Rattle.std.specs.List.{AllPairs}
-use Rattle.ksv_memo_links.specs.Shelved.{row, Celled}
+use Rattle.ksv_memo_links.specs.Shelved.{Celled}
 
 pub record Marked : Type 0 where
   pub kept : List Bool
@@ -14,7 +14,7 @@ pub record HasRoom (kept : Celled Bool) (work : Celled ℕ) (count : ℕ) : Type
   pub inside : (j : ℕ) → j < length work.items → slice_index_or work.items j 0 < length kept.items
   pub counted : count ≡ count_by (λ b. b) kept.items
   pub few : length work.items + count ≤ length kept.items
-  pub fits : length kept.items < 2 ^ 64
+  pub fits : length kept.items < 2 ^ 32
 
 -- each slot that waits was looked at
 abbrev pub IsCounted : Marked → Type 0
@@ -40,8 +40,3 @@ pub record IsMarking (first : List Bool) (why : ℕ → Type 0) (kept : List Boo
   pub gone : (j : ℕ) → j < length work → (is_kept first (slice_index_or work j 0) ≡ true) × (is_kept kept (slice_index_or work j 0) ≡ false) × why (slice_index_or work j 0)
   pub out : (s : ℕ) → is_kept first s ≡ true → is_kept kept s ≡ false → Contains work s
   pub apart : AllPairs (λ a b. a ≢ b) work
-
--- a slot from which a hit one is reached along what was asked
-pub data Reaches (asked : List (List ℕ)) (hit : ℕ → Type 0) : ℕ → Type 0 where
-  here : (s : ℕ) → hit s → Reaches asked hit s
-  through : (s k : ℕ) → k < length (row asked s) → Reaches asked hit (slice_index_or (row asked s) k 0) → Reaches asked hit s

@@ -1,5 +1,5 @@
 //! Lists, and the notes of where an owner's items are in them.
-ghost use Rattle.std.specs.Prelude.{◌≡◌, ◌+◌, ◌<◌, ◌≤◌, ◌↔◌, ◌*◌, IsTrue, false, [], ◌∷◌, ◌++◌, length, map, slice_index_or, slice_set, OnOk, OnErr, IfOk, IfSome, IfNone};
+ghost use Rattle.std.specs.Prelude.{◌≡◌, ◌+◌, ◌^◌, ◌<◌, ◌≤◌, ◌↔◌, ◌*◌, IsTrue, false, [], ◌∷◌, ◌++◌, length, map, slice_index_or, slice_set, OnOk, OnErr, IfOk, IfSome, IfNone};
 ghost use Rattle.std.specs.List.{All};
 ghost use Rattle.ksv_memo_links.specs.declared.shelf.Pin.{Pin};
 ghost use Rattle.ksv_memo_links.specs.Shelved.{row, pop_row, push_row, HasSameRows};
@@ -76,7 +76,7 @@ impl Board {
             None => false,
             Some(note) => {
                 self.lists.swap_remove(note.row, note.at);
-                if let Some(moved) = self.lists.at(note.row, note.at) {
+                if let Some(moved) = self.lists.at(note.row, note.at as usize) {
                     self.notes.set(moved.row, moved.at, note);
                 }
                 true
@@ -85,13 +85,14 @@ impl Board {
     }
 
     /// The item at a place of a list, if there is one.
-    pub(crate) fn item(&mut self, list: u32, i: u32) -> Option<Pin>
+    pub(crate) fn item(&mut self, list: u32, i: usize) -> Option<Pin>
         requires { list < length self.old.lists }
         ensures some { IfSome result (λ x. (i < length (row self.old.lists list)) × (x ≡ slice_index_or (row self.old.lists list) i x)) }
         ensures none { IfNone result (length (row self.old.lists list) ≤ i) }
         ensures lists { self.new.lists ≡ self.old.lists }
         ensures notes { self.new.notes ≡ self.old.notes }
         ensures looks { self.new.looks ≤ self.old.looks + 1 }
+        ensures fits { IfSome result (λ x. i + 1 < 2 ^ 64) }
         ensures board { IsBoard self.old.lists self.old.notes }
     {
         self.lists.at(list, i)
@@ -137,29 +138,37 @@ impl Board {
         while self.unlink(owner) {}
     }
 
+    /// Each item leads to its note and each note to its item, and no list has more items than notes name it.
+    pub(crate) fn linked(&self)
+        ensures { IsBoard self.now.lists self.now.notes }
+    {
+        let _ = &self.lists;
+    }
+
     /// The number of lists, which isn't counted.
     pub(crate) fn lists(&self) -> usize
-        ensures { result ≡ length self.now.lists }
+        ensures count { result ≡ length self.now.lists }
+        ensures fits { result < 2 ^ 32 }
     {
         self.lists.rows()
     }
 
     /// At least so many lists. The new ones have no item.
-    pub(crate) fn reach_lists(&mut self, alloc: Global, count: usize) -> Result<(), AllocError>
+    pub(crate) fn reach_lists(&mut self, alloc: Global, count: u32) -> Result<(), AllocError>
         ensures notes { self.new.notes ≡ self.old.notes }
         ensures lists { length self.old.lists ≤ length self.new.lists }
         ensures ok { OnOk result (count ≤ length self.new.lists) }
     {
-        self.lists.reach(alloc, count)
+        self.lists.reach(alloc, count as usize)
     }
 
     /// At least so many owners. The new ones have no note.
-    pub(crate) fn reach_owners(&mut self, alloc: Global, count: usize) -> Result<(), AllocError>
+    pub(crate) fn reach_owners(&mut self, alloc: Global, count: u32) -> Result<(), AllocError>
         ensures notes { HasSameRows (named self.old.notes) (named self.new.notes) }
         ensures lists { self.new.lists ≡ self.old.lists }
         ensures ok { OnOk result (count ≤ length self.new.notes) }
     {
-        self.notes.reach(alloc, count)
+        self.notes.reach(alloc, count as usize)
     }
 
     /// New notes of an owner that has none, with their items in these lists. Where memory is refused, it has none

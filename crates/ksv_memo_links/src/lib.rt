@@ -8,6 +8,7 @@
 mod board;
 mod cells;
 mod marks;
+mod parts;
 mod shelf;
 mod used;
 

@@ -64,19 +64,20 @@ impl Marks {
 
     /// The number of slots, which isn't counted.
     pub(crate) fn slots(&self) -> usize
-        ensures { result ≡ length self.now.kept }
+        ensures count { result ≡ length self.now.kept }
+        ensures fits { result < 2 ^ 32 }
     {
         self.kept.count()
     }
 
     /// At least so many slots, and room for each in the worklist. The new ones aren't kept.
-    pub(crate) fn reach(&mut self, count: usize) -> Result<(), AllocError>
+    pub(crate) fn reach(&mut self, count: u32) -> Result<(), AllocError>
         ensures kept { HasMore self.old.kept self.new.kept }
         ensures work { self.new.work ≡ self.old.work }
         ensures ok { OnOk result (count ≤ length self.new.kept) }
     {
-        self.work.reserve(count)?;
-        while self.kept.count() < count {
+        self.work.reserve(count as usize)?;
+        while self.kept.count() < count as usize {
             self.kept.push(false)?;
         }
         Ok(())

@@ -1,5 +1,5 @@
 //! Rows of pins, each reading and writing counted.
-ghost use Rattle.std.specs.Prelude.{◌≡◌, ◌+◌, ◌-◌, ◌<◌, ◌≤◌, [], ◌∷◌, ◌++◌, length, slice_index_or, OnOk, OnErr, IfSome, IfNone};
+ghost use Rattle.std.specs.Prelude.{◌≡◌, ◌+◌, ◌-◌, ◌^◌, ◌<◌, ◌≤◌, max, [], ◌∷◌, ◌++◌, length, slice_index_or, OnOk, OnErr, IfSome, IfNone};
 ghost use Rattle.ksv_memo_links.specs.Shelved.{row, ticked, pop_row, cut_row, put_row, push_row, HasSameRows};
 
 use smallvec::SmallVec;
@@ -83,17 +83,18 @@ impl Shelf {
     }
 
     /// The pin at a place of a row, if there is one.
-    pub(crate) fn at(&mut self, r: u32, i: u32) -> Option<Pin>
+    pub(crate) fn at(&mut self, r: u32, i: usize) -> Option<Pin>
         requires { r < length self.old.rows }
         ensures some { IfSome result (λ x. (i < length (row self.old.rows r)) × (x ≡ slice_index_or (row self.old.rows r) i x)) }
         ensures none { IfNone result (length (row self.old.rows r) ≤ i) }
+        ensures fits { IfSome result (λ x. i + 1 < 2 ^ 64) }
         ensures rows { self.new.rows ≡ self.old.rows }
         ensures looks { self.new.looks ≡ ticked self.old.looks }
     {
         self.look();
         let pins = &self.rows[r as usize];
-        if (i as usize) < pins.len() {
-            Some(pins[i as usize])
+        if i < pins.len() {
+            Some(pins[i])
         } else {
             None
         }
@@ -154,6 +155,7 @@ impl Shelf {
     /// At least so many rows. The new ones have no pin.
     pub(crate) fn reach(&mut self, alloc: Global, count: usize) -> Result<(), AllocError>
         ensures same { HasSameRows self.old.rows self.new.rows }
+        ensures few { length self.new.rows ≤ max (length self.old.rows) count }
         ensures ok { OnOk result (count ≤ length self.new.rows) }
     {
         while self.rows() < count {

@@ -1,4 +1,5 @@
-use Rattle.std.proofs.Common.{◌≡◌, ℕ, ◌<◌, List, length, sym, ◌∙◌, ap, subst, arith}
+use Rattle.std.proofs.Common.{◌≡◌, ℕ, ◌<◌, List, [], ◌∷◌, ◌++◌, length, sym, ◌∙◌, ap, subst, arith}
+use Rattle.std.proofs.lemmas.List.{length-set}
 use Rattle.ksv_memo_links.specs.declared.shelf.Pin.{Pin}
 use Rattle.ksv_memo_links.specs.Shelved.{row, push_row, pop_row}
 use Rattle.ksv_memo_links.specs.Linked.{at, IsBoard, named}
@@ -15,6 +16,7 @@ there a b o e h = let n = ap (λ (rows : List (List Pin)). length rows) e in ome
 board-more : (lists notes : List (List Pin)) (o l : ℕ) → IsBoard lists notes → o < length notes → l < length lists → IsBoard (push_row lists l (at o (length (row notes o)))) (push_row notes o (at l (length (row lists l))))
 board-more lists notes o l h o_in l_in = record {
   linked = linked-more lists notes o l h.linked o_in l_in;
+  fits = (let f = h.fits in let n = length-set lists l (row lists l ++ at o (length (row notes o)) ∷ []) in omega arith);
   few = few-push lists notes o l (length (row notes o)) (length (row lists l)) h.few o_in l_in;
 }
 

@@ -1,4 +1,4 @@
-use Rattle.std.proofs.Common.{◌≡◌, ℕ, ◌-◌, ◌<◌, ◌≤◌, List, length, get_or, sym, ◌∙◌, ap, subst, arith}
+use Rattle.std.proofs.Common.{◌≡◌, ℕ, ◌-◌, ◌^◌, ◌<◌, ◌≤◌, List, length, swap_remove, get_or, sym, ◌∙◌, ap, subst, arith}
 use Rattle.std.proofs.lemmas.List.{length-set}
 use Rattle.ksv_memo_links.specs.declared.shelf.Pin.{Pin}
 use Rattle.ksv_memo_links.specs.Shelved.{row, put_row, pop_row, cut_row}
@@ -17,11 +17,15 @@ moved-of lists notes cuts o note d m e h =
     let k = subst P e h in
     record { place = k.0; is = k.1 }
 
+cut-fits : (lists : List (List Pin)) (note d : Pin) → length lists < 2 ^ 32 → length (cut_row lists note.row note.at d) < 2 ^ 32
+cut-fits lists note d f = let n = length-set lists note.row (swap_remove (row lists note.row) note.at d) in omega arith
+
 board-moved : (lists notes lists2 notes2 : List (List Pin)) (o : ℕ) (note d m : Pin) → IsBoard lists notes → Before lists notes o note → Moved lists notes o note d m → lists2 ≡ cut_row lists note.row note.at d → notes2 ≡ put_row (pop_row notes o) m.row m.at note → IsBoard lists2 notes2
 board-moved lists notes lists2 notes2 o note d m board h k e f =
     let P : List (List Pin) → List (List Pin) → Type 0 = λ a b. IsBoard a b in
     subst (λ a. P a notes2) (sym e) (subst (P (cut_row lists note.row note.at d)) (sym f) (record {
         linked = linked-moved lists notes o note d m h k;
+        fits = cut-fits lists note d board.fits;
         few = few-pop lists notes (put_row (pop_row notes o) m.row m.at note) o note d board.few h (named-moved lists notes o note d m h k);
       }))
 
@@ -30,6 +34,7 @@ board-unmoved lists notes lists2 notes2 o note d board h le e f =
     let P : List (List Pin) → List (List Pin) → Type 0 = λ a b. IsBoard a b in
     subst (λ a. P a notes2) (sym e) (subst (P (cut_row lists note.row note.at d)) (sym f) (record {
         linked = linked-unmoved lists notes o note d h (subst (λ rows. length (row rows note.row) ≤ note.at) e le);
+        fits = cut-fits lists note d board.fits;
         few = few-pop lists notes (pop_row notes o) o note d board.few h (named-pop notes o h.owner);
       }))
 

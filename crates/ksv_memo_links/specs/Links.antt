@@ -1,0 +1,80 @@
+-- The links between slots, as the engine sees them, and what a change reaches along them.
+use Rattle.std.specs.Prelude.{◌≡◌, ◌≢◌, ◌↔◌, ◌/◌, ◌-◌, ℕ, ◌+◌, ◌*◌, ◌<◌, ◌≤◌, max, Bool, true, ◌&&◌, nat_lt, nat_le, List, [], length, sum_by, count_by, slice_set, slice_index_or, Contains}
+use Rattle.std.specs.List.{AllPairs, list_any}
+use Rattle.ksv_bytes.specs.declared.uses.Use.{Use}
+use Rattle.ksv_bytes.specs.declared.uses.Change.{Change}
+use Rattle.ksv_bytes.specs.declared.uses.Change.TheVariants.{Overwrite, Insert, Delete, Append}
+use Rattle.ksv_memo_links.specs.Shelved.{row}
+use Rattle.ksv_memo_links.specs.Touching.{is_use_touched, pages_in}
+use Rattle.ksv_memo_links.specs.Marking.{is_kept}
+
+-- which slots are kept, what each asked and uses, the slots that are to be taken, and the looks
+pub record Linked : Type 0 where
+  pub kept : List Bool
+  pub asked : List (List ℕ)
+  pub uses : List (List Use)
+  pub waits : List ℕ
+  pub looks : ℕ
+
+-- whether a change touches one of a slot's uses
+abbrev pub is_hit : Change → List (List Use) → ℕ → Bool
+is_hit change uses s = list_any (is_use_touched change) (row uses s)
+
+-- a kept slot has a touched use
+pub record IsHit (change : Change) (kept : List Bool) (uses : List (List Use)) (s : ℕ) : Type 0 where
+  pub was_kept : is_kept kept s ≡ true
+  pub touched : is_hit change uses s ≡ true
+
+-- a slot from which a hit one is reached along what was asked
+pub data Reaches (asked : List (List ℕ)) (hit : ℕ → Type 0) : ℕ → Type 0 where
+  here : (s : ℕ) → hit s → Reaches asked hit s
+  through : (s k : ℕ) → k < length (row asked s) → Reaches asked hit (slice_index_or (row asked s) k 0) → Reaches asked hit s
+
+-- a kept slot goes if a hit one is reached from it
+pub record Goes (old : Linked) (change : Change) (s : ℕ) : Type 0 where
+  pub was_kept : is_kept old.kept s ≡ true
+  pub reaches : Reaches old.asked (IsHit change old.kept old.uses) s
+
+-- exactly the slots that go are to be taken, each once, and are kept no more
+pub record Forgets (old new : Linked) (change : Change) : Type 0 where
+  pub asked : new.asked ≡ old.asked
+  pub uses : new.uses ≡ old.uses
+  pub exact : (s : ℕ) → Contains new.waits s ↔ Goes old change s
+  pub apart : AllPairs (λ (a b : ℕ). a ≢ b) new.waits
+  pub kept : (s : ℕ) → (is_kept new.kept s ≡ true) ↔ ((is_kept old.kept s ≡ true) × (Contains new.waits s → ⊥))
+
+-- the first page of a change, and the page after its last one
+abbrev pub first_page : ℕ → ℕ
+first_page at = at / 64
+
+abbrev pub end_page : ℕ → ℕ → ℕ
+end_page at n = (at + max n 1 - 1) / 64 + 1
+
+-- how many pages an overwrite meets
+abbrev pub pages_met : Change → ℕ
+pages_met (Overwrite at n) = end_page at n - first_page at
+pages_met (Insert at n) = 0
+pages_met (Delete at n) = 0
+pages_met Append = 0
+
+-- how many of these pages an overwrite meets
+abbrev pub met_of : Change → List ℕ → ℕ
+met_of (Overwrite at n) pages = count_by (λ g. nat_le (first_page at) g && nat_lt g (end_page at n)) pages
+met_of (Insert at n) pages = 0
+met_of (Delete at n) pages = 0
+met_of Append pages = 0
+
+-- the pairs of a use and a page that both it and the overwrite meet
+abbrev pub met_by : Change → List Use → ℕ
+met_by change us = met_of change (pages_in us)
+
+-- the change is an overwrite
+abbrev pub IsOverwrite : Change → Type 0
+IsOverwrite (Overwrite at n) = Unit {0}
+IsOverwrite (Insert at n) = ⊥
+IsOverwrite (Delete at n) = ⊥
+IsOverwrite Append = ⊥
+
+-- the asks of these slots in all
+abbrev pub asks_of : List (List ℕ) → List ℕ → ℕ
+asks_of asked ss = sum_by (λ s. length (row asked s)) ss
