@@ -112,8 +112,8 @@ tally_none : (ws : List ℕ) → tally ws [] ≡ 0
 tally_none [] = refl
 tally_none (w ∷ ws) = let c = sum_by-cons (λ s. sum_by (one_if s) []) w ws in let h = tally_none ws in omega arith
 
--- the users of slots that go are no more than what those slots asked, where each list has as many items as asks name it
-pub users_few : {X : Type 0} (lists : List (List X)) (asked : List (List ℕ)) (ws : List ℕ) → AllPairs (λ (a b : ℕ). a ≢ b) ws → ((s : ℕ) → length (row lists s) ≡ sum_by (λ ns. sum_by (one_if s) ns) asked) → ((o : ℕ) → 0 < tally ws (row asked o) → Contains ws o) → sum_by (λ s. length (row lists s)) ws ≤ sum_by (λ o. length (row asked o)) ws
+-- the users of slots that go are no more than what those slots asked, where no list has more items than asks name it
+pub users_few : {X : Type 0} (lists : List (List X)) (asked : List (List ℕ)) (ws : List ℕ) → AllPairs (λ (a b : ℕ). a ≢ b) ws → ((s : ℕ) → length (row lists s) ≤ sum_by (λ ns. sum_by (one_if s) ns) asked) → ((o : ℕ) → 0 < tally ws (row asked o) → Contains ws o) → sum_by (λ s. length (row lists s)) ws ≤ sum_by (λ o. length (row asked o)) ws
 users_few lists asked ws apart counts closed =
     let a = sum_by-le-sum_by (λ s. length (row lists s)) (λ s. sum_by (λ ns. sum_by (one_if s) ns) asked) ws (λ s. let e = counts s in omega arith) in
     let b = swapped (λ s ns. sum_by (one_if s) ns) ws asked in

@@ -13,3 +13,7 @@ pub mod Reaching
 pub mod More
 pub mod Hits
 pub mod Spreading
+pub mod Touches
+pub mod Tallies
+pub mod Closing
+pub mod Keeping

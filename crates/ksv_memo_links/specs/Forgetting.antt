@@ -9,7 +9,7 @@ use Rattle.ksv_memo_links.specs.Shelved.{row}
 use Rattle.ksv_memo_links.specs.Touching.{is_use_touched, pages_in}
 use Rattle.ksv_memo_links.specs.Linked.{at, named}
 use Rattle.ksv_memo_links.specs.Marking.{is_kept, IsCounted, IsMarking}
-use Rattle.ksv_memo_links.specs.Links.{is_hit, IsHit, Reaches}
+use Rattle.ksv_memo_links.specs.Links.{Linked, is_hit, IsHit, Reaches, IsOverwrite, pages_met, met_by, asks_of}
 
 -- each slot has a row everywhere, and no row after them has a note
 pub record IsShaped (p : Parts) : Type 0 where
@@ -112,6 +112,43 @@ pub record IsWhole (p : Parts) : Type 0 where
 pub record HitsTouched (p q : Parts) (change : Change) : Type 0 where
   pub more : MarksMore p q (IsEdit change)
   pub hits : (s : ℕ) → IsHit change p.marks.kept p.uses.rows s → is_kept q.marks.kept s ≡ false
+  pub near : IsOverwrite change → looks q + 2 * length p.marks.work ≤ looks p + pages_met change + 3 * sum_by (met_by change) p.uses.rows + 2 * length q.marks.work
+
+-- the links, as the engine sees them
+abbrev pub linked_of : Parts → Linked
+linked_of p = record { kept = p.marks.kept; asked = named p.users.notes; uses = p.uses.rows; waits = p.marks.work; looks = looks p }
+
+-- an overwrite took so many looks at most
+abbrev pub IsNear : Change → Parts → Parts → Type 0
+IsNear change p q = IsOverwrite change → looks q ≤ looks p + pages_met change + 3 * sum_by (met_by change) p.uses.rows + 1 + 4 * length q.marks.work + 2 * asks_of (named p.users.notes) q.marks.work
+
+-- nothing was to be taken
+pub record IsIdle (p q : Parts) : Type 0 where
+  pub users : q.users ≡ p.users
+  pub pages : q.pages ≡ p.pages
+  pub uses : q.uses ≡ p.uses
+  pub kept : q.marks.kept ≡ p.marks.kept
+  pub work : p.marks.work ≡ []
+  pub done : q.marks.work ≡ []
+  pub most : looks q ≤ looks p + 1
+  pub least : p.marks.looks ≤ q.marks.looks
+
+-- a slot was taken
+pub record Takes (p q : Parts) (slot : ℕ) : Type 0 where
+  pub users : named q.users.notes ≡ slice_set (named p.users.notes) slot []
+  pub uses : q.uses.rows ≡ slice_set p.uses.rows slot []
+  pub kept : q.marks.kept ≡ p.marks.kept
+  pub work : p.marks.work ≡ q.marks.work ++ slot ∷ []
+  pub inside : slot < length p.marks.kept
+  pub most : looks q ≤ looks p + 4 + 4 * length (row (named p.users.notes) slot) + 4 * length (pages_in (row p.uses.rows slot))
+  pub least : p.marks.looks ≤ q.marks.looks
+
+-- only notes of pages differ
+pub record IsMeeting (p q : Parts) : Type 0 where
+  pub users : q.users ≡ p.users
+  pub uses : q.uses ≡ p.uses
+  pub marks : q.marks ≡ p.marks
+  pub page_lists : length p.pages.lists ≤ length q.pages.lists
 
 -- the rows of a slot are empty now
 pub record Clears (p q : Parts) (slot : ℕ) : Type 0 where
@@ -124,14 +161,19 @@ pub record Clears (p q : Parts) (slot : ℕ) : Type 0 where
   pub most : looks q ≤ looks p + 3 + 4 * length (row (named p.users.notes) slot) + 4 * length (row (named p.pages.notes) slot)
   pub least : q.marks.looks ≡ p.marks.looks
 
--- as before, but for the order of items in lists and the looks
+-- as before, but for the order of items in lists, the number of lists of pages, and the looks
 pub record IsAsBefore (p q : Parts) : Type 0 where
   pub users : named q.users.notes ≡ named p.users.notes
   pub pages : named q.pages.notes ≡ named p.pages.notes
   pub uses : q.uses.rows ≡ p.uses.rows
   pub marks : q.marks ≡ p.marks
   pub user_lists : length q.users.lists ≡ length p.users.lists
-  pub page_lists : length p.pages.lists ≤ length q.pages.lists
+
+-- a slot has nothing
+pub record IsVacant (p : Parts) (slot : ℕ) : Type 0 where
+  pub users : row (named p.users.notes) slot ≡ []
+  pub pages : row (named p.pages.notes) slot ≡ []
+  pub uses : row p.uses.rows slot ≡ []
 
 -- the slot has these asks and uses now
 pub record Fills (p q : Parts) (slot : ℕ) (asked : List ℕ) (us : List Use) : Type 0 where

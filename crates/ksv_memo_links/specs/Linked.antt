@@ -1,5 +1,5 @@
 -- Rows of pins that lead to each other.
-use Rattle.std.specs.Prelude.{◌≡◌, ℕ, ◌^◌, ◌<◌, ◌≤◌, Bool, nat_eq, cond, List, length, map, slice_index_or, sum_by}
+use Rattle.std.specs.Prelude.{◌≡◌, ℕ, ◌^◌, ◌<◌, ◌≤◌, Bool, nat_eq, cond, List, length, map, slice_index_or, slice_set, sum_by}
 use Rattle.ksv_memo_links.specs.declared.shelf.Pin.{Pin}
 use Rattle.ksv_memo_links.specs.Shelved.{row}
 
@@ -43,6 +43,11 @@ pub record IsBoard (lists notes : List (List Pin)) : Type 0 where
   pub linked : IsLinked lists notes
   pub few : (l : ℕ) → length (row lists l) ≤ naming (named notes) l
   pub fits : length lists < 2 ^ 32
+
+-- only the row of an owner differs
+pub record IsRowChanged (old new : List (List ℕ)) (owner : ℕ) : Type 0 where
+  pub now : List ℕ
+  pub is : new ≡ slice_set old owner now
 
 -- what contracts see of a board
 pub record Boarded : Type 0 where

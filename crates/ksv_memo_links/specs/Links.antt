@@ -4,9 +4,9 @@ use Rattle.std.specs.List.{AllPairs, list_any}
 use Rattle.ksv_bytes.specs.declared.uses.Use.{Use}
 use Rattle.ksv_bytes.specs.declared.uses.Change.{Change}
 use Rattle.ksv_bytes.specs.declared.uses.Change.TheVariants.{Overwrite, Insert, Delete, Append}
-use Rattle.ksv_memo_links.specs.Shelved.{row}
+use Rattle.ksv_memo_links.specs.Shelved.{row, HasSameRows}
 use Rattle.ksv_memo_links.specs.Touching.{is_use_touched, pages_in}
-use Rattle.ksv_memo_links.specs.Marking.{is_kept}
+use Rattle.ksv_memo_links.specs.Marking.{is_kept, HasMore}
 
 -- which slots are kept, what each asked and uses, the slots that are to be taken, and the looks
 pub record Linked : Type 0 where
@@ -42,6 +42,27 @@ pub record Forgets (old new : Linked) (change : Change) : Type 0 where
   pub exact : (s : ℕ) → Contains new.waits s ↔ Goes old change s
   pub apart : AllPairs (λ (a b : ℕ). a ≢ b) new.waits
   pub kept : (s : ℕ) → (is_kept new.kept s ≡ true) ↔ ((is_kept old.kept s ≡ true) × (Contains new.waits s → ⊥))
+
+-- nothing that the engine sees has changed, but for the looks
+pub record IsUnchanged (old new : Linked) : Type 0 where
+  pub kept : new.kept ≡ old.kept
+  pub asked : new.asked ≡ old.asked
+  pub uses : new.uses ≡ old.uses
+  pub waits : new.waits ≡ old.waits
+
+-- a slot is kept, with what it asked and its uses
+pub record Keeps (old new : Linked) (slot : ℕ) (asks : List ℕ) (us : List Use) : Type 0 where
+  pub kept : new.kept ≡ slice_set old.kept slot true
+  pub asked : new.asked ≡ slice_set old.asked slot asks
+  pub uses : new.uses ≡ slice_set old.uses slot us
+  pub waits : new.waits ≡ old.waits
+
+-- there are as many slots or more, and each is as it was; a new one has nothing
+pub record Grows (old new : Linked) : Type 0 where
+  pub kept : HasMore old.kept new.kept
+  pub asked : HasSameRows old.asked new.asked
+  pub uses : HasSameRows old.uses new.uses
+  pub waits : new.waits ≡ old.waits
 
 -- the first page of a change, and the page after its last one
 abbrev pub first_page : ℕ → ℕ

@@ -1,9 +1,10 @@
 //! Lists, and the notes of where an owner's items are in them.
-ghost use Rattle.std.specs.Prelude.{◌≡◌, ◌+◌, ◌^◌, ◌<◌, ◌≤◌, ◌↔◌, ◌*◌, IsTrue, false, [], ◌∷◌, ◌++◌, length, map, slice_index_or, slice_set, OnOk, OnErr, IfOk, IfSome, IfNone};
+ghost use Rattle.std.specs.Prelude.{◌≡◌, ◌+◌, ◌-◌, ◌^◌, ◌<◌, ◌≤◌, ◌↔◌, ◌*◌, IsTrue, false, [], ◌∷◌, ◌++◌, length, map, slice_index_or, slice_set, OnOk, OnErr, IfOk, IfSome, IfNone};
 ghost use Rattle.std.specs.List.{All};
 ghost use Rattle.ksv_memo_links.specs.declared.shelf.Pin.{Pin};
 ghost use Rattle.ksv_memo_links.specs.Shelved.{row, pop_row, push_row, HasSameRows};
-ghost use Rattle.ksv_memo_links.specs.Linked.{named, naming, IsBoard};
+ghost use Rattle.ksv_memo_links.specs.Touching.{numbers_from};
+ghost use Rattle.ksv_memo_links.specs.Linked.{named, IsBoard, IsRowChanged};
 
 use crate::shelf::{Pin, Shelf};
 use std::alloc::{AllocError, Global};
@@ -169,6 +170,26 @@ impl Board {
         ensures ok { OnOk result (count ≤ length self.new.notes) }
     {
         self.notes.reach(alloc, count as usize)
+    }
+
+    /// New notes of an owner, with their items in the lists of a range. Where memory is refused, it has some of them.
+    pub(crate) fn link_range(
+        &mut self,
+        alloc: Global,
+        owner: u32,
+        first: u32,
+        end: u32,
+    ) -> Result<(), AllocError>
+        requires owner_in { owner < length self.old.notes }
+        ensures ok { OnOk result (named self.new.notes ≡ slice_set (named self.old.notes) owner (row (named self.old.notes) owner ++ numbers_from first (end - first))) }
+        ensures err { OnErr result (IsRowChanged (named self.old.notes) (named self.new.notes) owner) }
+        ensures count { length self.old.lists ≤ length self.new.lists }
+    {
+        self.reach_lists(alloc, end)?;
+        for list in first..end {
+            self.link(owner, list)?;
+        }
+        Ok(())
     }
 
     /// New notes of an owner that has none, with their items in these lists. Where memory is refused, it has none

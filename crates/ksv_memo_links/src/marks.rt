@@ -1,5 +1,5 @@
 //! Which slots are kept, and which of them are to go.
-ghost use Rattle.std.specs.Prelude.{◌≡◌, ◌+◌, ◌*◌, ◌^◌, ◌<◌, ◌≤◌, [], ◌∷◌, ◌++◌, length, slice_index_or, slice_set, count_by, IfSome, IfNone, OnOk, OnErr, true, false};
+ghost use Rattle.std.specs.Prelude.{◌≡◌, ◌+◌, ◌*◌, ◌^◌, ◌<◌, ◌≤◌, max, [], ◌∷◌, ◌++◌, length, slice_index_or, slice_set, count_by, IfSome, IfNone, OnOk, OnErr, true, false};
 ghost use Rattle.std.specs.Option.{option_to_list};
 ghost use Rattle.ksv_memo_links.specs.Marking.{marked_work, is_kept, IsCounted, HasMore};
 
@@ -73,6 +73,7 @@ impl Marks {
     /// At least so many slots, and room for each in the worklist. The new ones aren't kept.
     pub(crate) fn reach(&mut self, count: u32) -> Result<(), AllocError>
         ensures kept { HasMore self.old.kept self.new.kept }
+        ensures few { length self.new.kept ≤ max (length self.old.kept) count }
         ensures work { self.new.work ≡ self.old.work }
         ensures ok { OnOk result (count ≤ length self.new.kept) }
     {
@@ -130,7 +131,7 @@ impl Marks {
         ensures work { self.old.work ≡ self.new.work ++ option_to_list result }
         ensures none { IfNone result (self.new.work ≡ []) }
         ensures kept { self.new.kept ≡ self.old.kept }
-        ensures looks { self.new.looks ≤ self.old.looks + 1 }
+        ensures most { self.new.looks ≤ self.old.looks + 1 }
         ensures least { self.old.looks ≤ self.new.looks }
         ensures inside { IfSome result (λ x. x < length self.old.kept) }
     {

@@ -1,4 +1,4 @@
-use Rattle.std.proofs.Common.{◌≡◌, ◌-◌, ◌≤◌, length}
+use Rattle.std.proofs.Common.{◌≡◌, ◌-◌, ◌≤◌, max, length}
 use Rattle.ksv_memo_links.specs.Marking.{HasMore, HasRoom}
 use Rattle.ksv_memo_links.proofs.marks.Marks.reach.Given as goal
 
@@ -6,6 +6,7 @@ abbrev pub invariant-loop-self : goal.invariant-loop-self
 invariant-loop-self l = record {
   kept : HasMore l.fn.self.kept l.self-inside.kept.items;
   work : l.self-inside.work.items ≡ l.fn.self.work;
+  few : length l.self-inside.kept.items ≤ max (length l.fn.self.kept) l.count;
   room : l.count ≤ l.self-inside.work.room;
   holds : HasRoom l.self-inside.kept l.self-inside.work l.self-inside.count;
 }
