@@ -116,32 +116,11 @@ pub record HitsTouched (p q : Parts) (change : Change) : Type 0 where
 
 -- the links, as the engine sees them
 abbrev pub linked_of : Parts → Linked
-linked_of p = record { kept = p.marks.kept; asked = named p.users.notes; uses = p.uses.rows; waits = p.marks.work; looks = looks p }
+linked_of p = record { kept = p.marks.kept; asked = named p.users.notes; uses = p.uses.rows; waits = p.marks.work; looks = looks p; marked = p.marks.looks }
 
 -- an overwrite took so many looks at most
 abbrev pub IsNear : Change → Parts → Parts → Type 0
 IsNear change p q = IsOverwrite change → looks q ≤ looks p + pages_met change + 3 * sum_by (met_by change) p.uses.rows + 1 + 4 * length q.marks.work + 2 * asks_of (named p.users.notes) q.marks.work
-
--- nothing was to be taken
-pub record IsIdle (p q : Parts) : Type 0 where
-  pub users : q.users ≡ p.users
-  pub pages : q.pages ≡ p.pages
-  pub uses : q.uses ≡ p.uses
-  pub kept : q.marks.kept ≡ p.marks.kept
-  pub work : p.marks.work ≡ []
-  pub done : q.marks.work ≡ []
-  pub most : looks q ≤ looks p + 1
-  pub least : p.marks.looks ≤ q.marks.looks
-
--- a slot was taken
-pub record Takes (p q : Parts) (slot : ℕ) : Type 0 where
-  pub users : named q.users.notes ≡ slice_set (named p.users.notes) slot []
-  pub uses : q.uses.rows ≡ slice_set p.uses.rows slot []
-  pub kept : q.marks.kept ≡ p.marks.kept
-  pub work : p.marks.work ≡ q.marks.work ++ slot ∷ []
-  pub inside : slot < length p.marks.kept
-  pub most : looks q ≤ looks p + 4 + 4 * length (row (named p.users.notes) slot) + 4 * length (pages_in (row p.uses.rows slot))
-  pub least : p.marks.looks ≤ q.marks.looks
 
 -- only notes of pages differ
 pub record IsMeeting (p q : Parts) : Type 0 where

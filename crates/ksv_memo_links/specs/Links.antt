@@ -1,5 +1,5 @@
 -- The links between slots, as the engine sees them, and what a change reaches along them.
-use Rattle.std.specs.Prelude.{◌≡◌, ◌≢◌, ◌↔◌, ◌/◌, ◌-◌, ℕ, ◌+◌, ◌*◌, ◌<◌, ◌≤◌, max, Bool, true, ◌&&◌, nat_lt, nat_le, List, [], length, sum_by, count_by, slice_set, slice_index_or, Contains}
+use Rattle.std.specs.Prelude.{◌≡◌, ◌≢◌, ◌↔◌, ◌/◌, ◌-◌, ℕ, ◌+◌, ◌*◌, ◌<◌, ◌≤◌, max, Bool, true, ◌&&◌, nat_lt, nat_le, List, [], ◌∷◌, ◌++◌, length, sum_by, count_by, slice_set, slice_index_or, Contains}
 use Rattle.std.specs.List.{AllPairs, list_any}
 use Rattle.ksv_bytes.specs.declared.uses.Use.{Use}
 use Rattle.ksv_bytes.specs.declared.uses.Change.{Change}
@@ -8,13 +8,15 @@ use Rattle.ksv_memo_links.specs.Shelved.{row, HasSameRows}
 use Rattle.ksv_memo_links.specs.Touching.{is_use_touched, pages_in}
 use Rattle.ksv_memo_links.specs.Marking.{is_kept, HasMore}
 
--- which slots are kept, what each asked and uses, the slots that are to be taken, and the looks
+-- which slots are kept, what each asked and uses, the slots that are to be taken, the looks, and those of them that went
+-- to which slots are kept and to be taken
 pub record Linked : Type 0 where
   pub kept : List Bool
   pub asked : List (List ℕ)
   pub uses : List (List Use)
   pub waits : List ℕ
   pub looks : ℕ
+  pub marked : ℕ
 
 -- whether a change touches one of a slot's uses
 abbrev pub is_hit : Change → List (List Use) → ℕ → Bool
@@ -56,6 +58,26 @@ pub record Keeps (old new : Linked) (slot : ℕ) (asks : List ℕ) (us : List Us
   pub asked : new.asked ≡ slice_set old.asked slot asks
   pub uses : new.uses ≡ slice_set old.uses slot us
   pub waits : new.waits ≡ old.waits
+
+-- a slot was taken; it has nothing now
+pub record Takes (old new : Linked) (slot : ℕ) : Type 0 where
+  pub kept : new.kept ≡ old.kept
+  pub asked : new.asked ≡ slice_set old.asked slot []
+  pub uses : new.uses ≡ slice_set old.uses slot []
+  pub waits : old.waits ≡ new.waits ++ slot ∷ []
+  pub inside : slot < length old.kept
+  pub most : new.looks ≤ old.looks + 4 + 4 * length (row old.asked slot) + 4 * length (pages_in (row old.uses slot))
+  pub least : old.marked ≤ new.marked
+
+-- nothing was to be taken
+pub record IsDone (old new : Linked) : Type 0 where
+  pub kept : new.kept ≡ old.kept
+  pub asked : new.asked ≡ old.asked
+  pub uses : new.uses ≡ old.uses
+  pub waits : old.waits ≡ []
+  pub done : new.waits ≡ []
+  pub most : new.looks ≤ old.looks + 1
+  pub least : old.marked ≤ new.marked
 
 -- there are as many slots or more, and each is as it was; a new one has nothing
 pub record Grows (old new : Linked) : Type 0 where

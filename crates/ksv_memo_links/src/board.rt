@@ -1,5 +1,5 @@
 //! Lists, and the notes of where an owner's items are in them.
-ghost use Rattle.std.specs.Prelude.{◌≡◌, ◌+◌, ◌-◌, ◌^◌, ◌<◌, ◌≤◌, ◌↔◌, ◌*◌, IsTrue, false, [], ◌∷◌, ◌++◌, length, map, slice_index_or, slice_set, OnOk, OnErr, IfOk, IfSome, IfNone};
+ghost use Rattle.std.specs.Prelude.{◌≡◌, ◌+◌, ◌-◌, ◌^◌, min, ◌<◌, ◌≤◌, ◌↔◌, ◌*◌, IsTrue, false, [], ◌∷◌, ◌++◌, length, map, slice_index_or, slice_set, OnOk, OnErr, IfOk, IfSome, IfNone};
 ghost use Rattle.std.specs.List.{All};
 ghost use Rattle.ksv_memo_links.specs.declared.shelf.Pin.{Pin};
 ghost use Rattle.ksv_memo_links.specs.Shelved.{row, pop_row, push_row, HasSameRows};
@@ -59,7 +59,7 @@ impl Board {
 
     /// The looks so far.
     pub(crate) fn looks(&self) -> u64
-        ensures most { result ≤ self.now.looks }
+        ensures { result ≡ min self.now.looks (2 ^ 64 - 1) }
     {
         self.lists.looks().saturating_add(self.notes.looks())
     }

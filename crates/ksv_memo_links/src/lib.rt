@@ -7,8 +7,11 @@
 
 mod board;
 mod cells;
+mod links;
 mod marks;
 mod parts;
 mod shelf;
 mod used;
+
+pub use links::Links;
 

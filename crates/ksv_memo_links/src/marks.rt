@@ -1,5 +1,5 @@
 //! Which slots are kept, and which of them are to go.
-ghost use Rattle.std.specs.Prelude.{◌≡◌, ◌+◌, ◌*◌, ◌^◌, ◌<◌, ◌≤◌, max, [], ◌∷◌, ◌++◌, length, slice_index_or, slice_set, count_by, IfSome, IfNone, OnOk, OnErr, true, false};
+ghost use Rattle.std.specs.Prelude.{◌≡◌, ◌+◌, ◌-◌, min, ◌*◌, ◌^◌, ◌<◌, ◌≤◌, max, [], ◌∷◌, ◌++◌, length, slice_index_or, slice_set, count_by, IfSome, IfNone, OnOk, OnErr, true, false};
 ghost use Rattle.std.specs.Option.{option_to_list};
 ghost use Rattle.ksv_memo_links.specs.Marking.{marked_work, is_kept, IsCounted, HasMore};
 
@@ -50,7 +50,7 @@ impl Marks {
 
     /// The looks so far.
     pub(crate) fn looks(&self) -> u64
-        ensures most { result ≤ self.now.looks }
+        ensures { result ≡ min self.now.looks (2 ^ 64 - 1) }
     {
         self.kept.looks().saturating_add(self.work.looks())
     }

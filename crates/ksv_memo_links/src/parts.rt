@@ -1,13 +1,13 @@
 //! The parts of the links, and the steps of forgetting.
-ghost use Rattle.std.specs.Prelude.{◌≡◌, ℕ, ◌+◌, ◌-◌, ◌/◌, ◌<◌, ◌≤◌, max, min, length, slice_set, [], ◌∷◌, ◌++◌, OnOk, OnErr, IfSome, IfNone, true, false};
+ghost use Rattle.std.specs.Prelude.{◌≡◌, ℕ, ◌+◌, ◌-◌, ◌^◌, ◌/◌, ◌<◌, ◌≤◌, max, min, length, slice_set, [], ◌∷◌, ◌++◌, OnOk, OnErr, IfSome, IfNone, true, false};
 ghost use Rattle.std.specs.List.{All};
 ghost use Rattle.std.specs.Option.{option_to_list};
 ghost use Rattle.ksv_memo_links.specs.Shelved.{row};
 ghost use Rattle.ksv_memo_links.specs.Touching.{pages_in, pages_of};
 ghost use Rattle.ksv_memo_links.specs.Linked.{named, IsRowChanged};
 ghost use Rattle.ksv_memo_links.specs.Marking.{is_kept};
-ghost use Rattle.ksv_memo_links.specs.Links.{first_page, end_page, Forgets, Keeps, IsUnchanged, Grows};
-ghost use Rattle.ksv_memo_links.specs.Forgetting.{IsShaped, HitsSlot, HitsSlots, HitsPage, HitsPages, HitsUsers, HitsTouched, Spreads, Clears, IsWhole, IsNear, IsIdle, IsMeeting, IsVacant, IsAsBefore, Fills, Takes, linked_of};
+ghost use Rattle.ksv_memo_links.specs.Links.{first_page, end_page, Forgets, Keeps, IsUnchanged, Grows, Takes, IsDone};
+ghost use Rattle.ksv_memo_links.specs.Forgetting.{IsShaped, HitsSlot, HitsSlots, HitsPage, HitsPages, HitsUsers, HitsTouched, Spreads, Clears, IsWhole, IsNear, IsMeeting, IsVacant, IsAsBefore, Fills, linked_of, looks};
 
 use crate::board::Board;
 use crate::marks::Marks;
@@ -28,6 +28,43 @@ pub(crate) struct Parts {
 }
 
 impl Parts {
+    /// No slots, which take no memory.
+    pub(crate) fn new(alloc: Global) -> Self
+        ensures linked { linked_of result ≡ record { kept = []; asked = []; uses = []; waits = []; looks = 0; marked = 0 } }
+        ensures whole { IsWhole result }
+    {
+        Parts {
+            users: Board::new(alloc),
+            pages: Board::new(alloc),
+            uses: Uses::new(alloc),
+            marks: Marks::new(alloc),
+        }
+    }
+
+    /// The looks are counted from 0 again.
+    pub(crate) fn reset(&mut self)
+        requires whole { IsWhole self.old }
+        ensures same { IsUnchanged (linked_of self.old) (linked_of self.new) }
+        ensures looks { looks self.new ≡ 0 }
+        ensures whole { IsWhole self.new }
+    {
+        self.users.reset();
+        self.pages.reset();
+        self.uses.reset();
+        self.marks.reset();
+    }
+
+    /// The looks so far, which stop at 2^64 - 1.
+    pub(crate) fn looks(&self) -> u64
+        ensures { result ≡ min (looks self.now) (2 ^ 64 - 1) }
+    {
+        self.users
+            .looks()
+            .saturating_add(self.pages.looks())
+            .saturating_add(self.uses.looks())
+            .saturating_add(self.marks.looks())
+    }
+
     /// Marks a slot, if a change touches one of its uses.
     fn hit(&mut self, slot: u32, change: Change)
         requires shaped { IsShaped self.old }
@@ -139,8 +176,8 @@ impl Parts {
     /// Takes a slot that was marked, with all that it asked and uses.
     pub(crate) fn take(&mut self) -> Option<u32>
         requires whole { IsWhole self.old }
-        ensures some { IfSome result (λ slot. Takes self.old self.new slot) }
-        ensures none { IfNone result (IsIdle self.old self.new) }
+        ensures some { IfSome result (λ slot. Takes (linked_of self.old) (linked_of self.new) slot) }
+        ensures none { IfNone result (IsDone (linked_of self.old) (linked_of self.new)) }
         ensures whole { IsWhole self.new }
     {
         let slot = self.marks.take()?;
