@@ -81,6 +81,7 @@ impl Links {
     {
         self.parts.reset();
         self.parts.forget(change);
+        self.parts.marks.few();
     }
 
     /// Takes a slot that goes, with all that it asked and uses. It takes no memory.

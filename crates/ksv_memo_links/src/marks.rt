@@ -70,6 +70,13 @@ impl Marks {
         self.kept.count()
     }
 
+    /// There are fewer slots that wait than numbers of slots.
+    pub(crate) fn few(&self)
+        ensures { length self.now.work < 2 ^ 32 }
+    {
+        let _ = &self.work;
+    }
+
     /// At least so many slots, and room for each in the worklist. The new ones aren't kept.
     pub(crate) fn reach(&mut self, count: u32) -> Result<(), AllocError>
         ensures kept { HasMore self.old.kept self.new.kept }

@@ -1,0 +1,15 @@
+use Rattle.std.proofs.Common.{refl, ◌∙◌, ap, set, true}
+use Rattle.ksv_memo_links.specs.declared.parts.Parts.{Parts}
+use Rattle.ksv_memo_links.proofs.Keeping.{same_whole, filled_whole}
+use Rattle.ksv_memo_links.proofs.parts.Parts.keep.Goals as goal
+
+pub returns-in_err-fill-clause-whole : goal.returns-in_err-fill-clause-whole
+returns-in_err-fill-clause-whole c = same_whole c.args.self.now c.fill.new.self c.requires.whole c.in_err-fill.ensures.err
+
+pub returns-clause-whole : goal.returns-clause-whole
+returns-clause-whole c =
+    let p = c.args.self.now in
+    let q = c.fill.new.self in
+    let r : Parts = record { users = q.users; pages = q.pages; uses = q.uses; marks = c.keep.new.self } in
+    let f = c.in_ok-fill.ensures.ok in
+    filled_whole p q r c.args.slot c.args.asked.now c.args.uses.now c.requires.whole c.requires.idle c.requires.slot_in c.requires.asked_kept f refl refl refl (c.keep.ensures.kept ∙ ap (λ m. set m.kept c.args.slot true) f.marks) c.keep.ensures.work
