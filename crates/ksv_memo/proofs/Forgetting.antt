@@ -20,12 +20,11 @@ use Rattle.ksv_memo.specs.Touched.{IsTouched, is_use_touched, is_hit, is_touched
 use Rattle.ksv_memo.specs.Layout.{IsOneOf}
 use Rattle.ksv_memo.specs.Sweep.{Mark, Says, AllSay, IsMarked, AreMarked, entries_with as entries_in, entries_left, Sweeps}
 use Rattle.ksv_memo.proofs.Standing.{law_on}
-use Rattle.ksv_memo.proofs.Lists.{All-map, All-both, All-++}
+use Rattle.ksv_memo.proofs.Lists.{All-map, All-both, All-++, none_fails, none_pass, any_same}
 use Rattle.ksv_memo.proofs.Evals.{eqb_true, or_false}
 use Rattle.ksv_memo.proofs.Keeping.{AreDistinct-none, kept-tree, or_right}
 use Rattle.ksv_memo.proofs.Change.{All-once, All-of-once, untouched-stays}
 use Rattle.ksv_memo.proofs.Laying.{one_of-all, one_of-push}
-use Rattle.ksv_memo.proofs.Sweeping.{none_fails, none_pass, any_same}
 
 -- ---- the tests
 pub use_touched : (change : Change) (used : Use) → Decides (is_use_touched change used) (Touches change used)

@@ -3,11 +3,11 @@ pub mod Evaluation
 pub mod Entry
 pub mod Right
 pub mod Touched
+pub mod Near
 pub mod Open
 pub mod Slots
 pub mod Layout
 pub mod Moves
-pub mod Passing
 pub mod Sweep
 pub mod Nodes
 pub mod Running

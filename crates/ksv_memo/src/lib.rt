@@ -13,7 +13,6 @@ pub mod laws;
 mod machine;
 mod replies;
 mod rules;
-mod sweep;
 mod table;
 mod uses;
 

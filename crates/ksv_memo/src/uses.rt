@@ -3,15 +3,16 @@ ghost use Rattle.std.specs.Prelude.{IfOk};
 ghost use Rattle.ksv_memo.specs.Right.{HasEachOnce};
 
 use ksv_bytes::Use;
+use smallvec::SmallVec;
 use std::alloc::{AllocError, Global};
 
 /// Each of these uses once, in the order of their first occurrences.
-pub(crate) fn each_once(alloc: Global, uses: &[Use]) -> Result<Vec<Use>, AllocError>
+pub(crate) fn each_once(alloc: Global, uses: &[Use]) -> Result<SmallVec<Use, 4>, AllocError>
     ensures { IfOk result (λ once. HasEachOnce once.items uses.now) }
 {
-    let mut once = Vec::new(alloc);
+    let mut once = SmallVec::new(alloc);
     for used in uses {
-        if !once.contains(used) {
+        if !once.as_slice().contains(used) {
             once.push(*used)?;
         }
     }

@@ -94,8 +94,8 @@ impl Links {
 
     /// The looks since the last `forget` began; at 2^64 - 1 they stay.
     pub fn looks(&self) -> u64
-        ensures most { result ≤ self.now.looks }
-        ensures least { min self.now.marked (2 ^ 64 - 1) ≤ result }
+        ensures count { result ≡ min self.now.looks (2 ^ 64 - 1) }
+        ensures least { self.now.marked ≤ self.now.looks }
     {
         self.parts.looks()
     }
