@@ -10,11 +10,8 @@ pub mod Changing
 pub mod Knowing
 pub mod Tabling
 pub mod Topping
-pub mod Passing
-pub mod Sweeping
-pub mod Marking
-pub mod Forgotten
 pub mod Moves
+pub mod Places
 pub mod Change
 pub mod Turns
 pub mod Questions

@@ -9,6 +9,7 @@ pub mod Slots
 pub mod Layout
 pub mod Moves
 pub mod Sweep
+pub mod Emptying
 pub mod Nodes
 pub mod Running
 pub mod Answers

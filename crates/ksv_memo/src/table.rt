@@ -1,9 +1,12 @@
 //! The table of kept and open nodes.
-ghost use Rattle.std.specs.Prelude.{◌≡◌, ◌≤◌, [], Some, length, true, option_map, IfOk, IfSome, IfNone, OnOk, OnErr};
+ghost use Rattle.std.specs.List.{All, AllPairs};
+ghost use Rattle.indexmap.specs.IndexMap.{index_map_len};
+ghost use Rattle.std.specs.Prelude.{◌≡◌, ◌≢◌, ◌<◌, ◌≤◌, ℕ, [], Some, length, true, option_map, IfOk, IfSome, IfNone, OnOk, OnErr};
 ghost use Rattle.ksv_memo.specs.Meaning.{on};
 ghost use Rattle.ksv_memo.specs.Nodes.{Asks, Closes, Finds, MayKeep, Steps, TakesFirst, is_there, tail_of};
 ghost use Rattle.ksv_memo.specs.Slots.{answer_in, lent};
 ghost use Rattle.ksv_memo.specs.Sweep.{Sweeps};
+ghost use Rattle.ksv_memo.specs.Emptying.{IsEmptied};
 
 use crate::layout::{Frames, Known, Slots, find, number, open_new, reopen, set};
 use crate::replies::{Replies, Slot, answer_at};
@@ -13,6 +16,7 @@ use indexmap::IndexMap;
 use ksv_bytes::{Buffer, Change};
 use ksv_memo_links::Links;
 use std::alloc::{AllocError, Global};
+use std::hash::Hash;
 use std::marker::Model;
 
 /// What came of asking for a node.
@@ -34,6 +38,23 @@ fn slot_of<V, F>(answer: Result<V, F>) -> Slot<V, F>
         Ok(value) => Slot::Value(value),
         Err(fault) => Slot::Fault(fault),
     }
+}
+
+/// Empties the slots that are to be taken. How many they were.
+fn empty_taken<N: Eq + Hash + Drop, V: Drop, F: Drop>(
+    slots: &mut Slots<N, V, F>,
+    links: &mut Links,
+) -> u64
+    requires inside { All (λ s. s < index_map_len slots.old) links.old.waits }
+    requires apart { AllPairs (λ (a b : ℕ). a ≢ b) links.old.waits }
+    ensures { IsEmptied slots.old.entries slots.new.entries links.old links.new result }
+{
+    let mut emptied = 0u64;
+    while let Some(slot) = links.take() {
+        set(slots, slot as usize, Slot::Empty);
+        emptied = emptied.saturating_add(1);
+    }
+    emptied
 }
 
 /// The nodes that are kept and those that are open. A look-up takes one hash, however many there are.
@@ -189,17 +210,7 @@ impl<R: Rules> Table<R> {
     {
         self.frames.asked.clear();
         self.links.forget(change);
-        let emptied = self.empty();
+        let emptied = empty_taken(&mut self.slots, &mut self.links);
         self.links.looks().saturating_add(emptied)
-    }
-
-    /// Empties the slots that are to be taken. How many they were.
-    fn empty(&mut self) -> u64 {
-        let mut emptied = 0u64;
-        while let Some(slot) = self.links.take() {
-            set(&mut self.slots, slot as usize, Slot::Empty);
-            emptied = emptied.saturating_add(1);
-        }
-        emptied
     }
 }

@@ -1,5 +1,5 @@
 -- The links between slots, as the engine sees them, and what a change reaches along them.
-use Rattle.std.specs.Prelude.{◌≡◌, ◌≢◌, ◌↔◌, ◌/◌, ◌-◌, ℕ, ◌+◌, ◌*◌, ◌<◌, ◌≤◌, max, Bool, true, ◌&&◌, nat_lt, nat_le, List, [], ◌∷◌, ◌++◌, length, sum_by, count_by, slice_set, slice_index_or, Contains}
+use Rattle.std.specs.Prelude.{◌≡◌, ◌≢◌, ◌↔◌, ◌/◌, ◌-◌, ℕ, ◌+◌, ◌*◌, ◌<◌, ◌≤◌, max, Bool, true, false, ◌&&◌, nat_lt, nat_le, List, [], ◌∷◌, ◌++◌, length, sum_by, count_by, slice_set, slice_index_or, Contains}
 use Rattle.std.specs.List.{AllPairs, list_any}
 use Rattle.ksv_bytes.specs.declared.uses.Use.{Use}
 use Rattle.ksv_bytes.specs.declared.uses.Change.{Change}
@@ -43,6 +43,7 @@ pub record Forgets (old new : Linked) (change : Change) : Type 0 where
   pub uses : new.uses ≡ old.uses
   pub exact : (s : ℕ) → Contains new.waits s ↔ Goes old change s
   pub apart : AllPairs (λ (a b : ℕ). a ≢ b) new.waits
+  pub went : (s : ℕ) → is_kept old.kept s ≡ true → is_kept new.kept s ≡ false → Contains new.waits s
   pub kept : (s : ℕ) → (is_kept new.kept s ≡ true) ↔ ((is_kept old.kept s ≡ true) × (Contains new.waits s → ⊥))
 
 -- nothing that the engine sees has changed, but for the looks
@@ -57,6 +58,8 @@ pub record Keeps (old new : Linked) (slot : ℕ) (asks : List ℕ) (us : List Us
   pub kept : new.kept ≡ slice_set old.kept slot true
   pub asked : new.asked ≡ slice_set old.asked slot asks
   pub uses : new.uses ≡ slice_set old.uses slot us
+  pub in_asked : slot < length old.asked
+  pub in_uses : slot < length old.uses
   pub waits : new.waits ≡ old.waits
 
 -- a slot was taken; it has nothing now
