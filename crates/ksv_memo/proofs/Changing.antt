@@ -90,6 +90,14 @@ module _ {N V F : Type 0} where
     before = λ m e. let was : node_at ps i ≡ Some n = node_there ps i n t there in let same : m ≡ n = cc in same;
   }
 
+  length_set : (ps : List (N × Slot V F)) (i : ℕ) (s : Slot V F) → length (set_value_at ps i s) ≡ length ps
+  length_set [] i s = refl
+  length_set (p ∷ ps) zero s = refl
+  length_set (p ∷ ps) (suc i) s = ap suc (length_set ps i s)
+
+  pub set_count : (ps : List (N × Slot V F)) (i : ℕ) (s : Slot V F) (qs : List (N × Slot V F)) → qs ≡ set_value_at ps i s → length qs ≡ length ps
+  set_count ps i s qs is = ap length is ∙ length_set ps i s
+
   module _ (ps qs : List (N × Slot V F)) (i : ℕ) (n : N) (s : Slot V F) (changes : ChangesAt ps qs i n s) where
     other_slot : (j : ℕ) → j ≢ i → slice_get (slots_of qs) j ≡ slice_get (slots_of ps) j
     other_slot j h = slice_get-map (λ p. p.1) qs j ∙ ap (option_map (λ p. p.1)) (changes.other j h) ∙ sym (slice_get-map (λ p. p.1) ps j)

@@ -1,4 +1,5 @@
 -- What the slots have of a node is what is kept and open.
+use Rattle.std.proofs.lemmas.List.{get_or_past}
 use Rattle.std.proofs.lemmas.List.Sums.{sum_by-cons}
 use Rattle.std.proofs.Common.{◌≡◌, ◌≢◌, ℕ, zero, suc, ◌+◌, ◌<◌, ◌≤◌, sum_by, count_by, cond, arith, Bool, true, false, List, [], ◌∷◌, ◌++◌, length, map, take, drop, Option, Some, None, is_some, refl, sym, ◌∙◌, ap, subst, Result, slice_get, ◌⊎◌, inl, inr, ◌||◌}
 use Rattle.std.specs.Option.{option_map}
@@ -44,7 +45,9 @@ count_numbers [] n h = none (numbers_from 0 n)
   where
     none : (is : List ℕ) → sum_by (λ i. cond (is_kept [] i) 1 0) is ≡ 0
     none [] = refl
-    none (i ∷ is) = sum_by-cons (λ j. cond (is_kept [] j) 1 0) i is ∙ none is
+    none (i ∷ is) =
+        let z : is_kept [] i ≡ false = get_or_past [] i false (omega arith) in
+        sum_by-cons (λ j. cond (is_kept [] j) 1 0) i is ∙ (λ j. cond (z j) 1 0 + none is j)
 count_numbers (k ∷ ks) zero h =
     let rest : 0 ≡ count_by (λ b. b) ks = count_numbers ks zero (λ i le. h (suc i) (omega arith)) in
     let c : count_by (λ b. b) (k ∷ ks) ≡ cond k 1 0 + count_by (λ b. b) ks = sum_by-cons (λ (b : Bool). cond b 1 0) k ks in
@@ -101,7 +104,7 @@ module _ {N V F : Type 0} where
     -- ---- how many are kept
     count_here : (j : ℕ) (o : Option N) (b : Option (Result V F)) → (is_some b ≡ true → is_some o ≡ true) → (es : List (Entry N (Result V F))) → length (with_first (entry_with o b (nodes_at ps (row l.asked j)) (row l.uses j)) es) ≡ cond (is_some b) 1 0 + length es
     count_here j None None each es = omega arith
-    count_here j None (Some a) each es = let no : is_some {X = N} None ≡ true = each refl in absurd (cc)
+    count_here j None (Some a) each es = let no = each refl in absurd (cc)
     count_here j (Some n) None each es = omega arith
     count_here j (Some n) (Some a) each es = omega arith
 
@@ -138,6 +141,14 @@ module _ {N V F : Type 0} where
     some_open t [] asked uses i m h node pass = absurd h
     some_open t (f ∷ fs) asked uses i m (inl same) node pass = some_open_here t (node_at ps f.slot) (answers_at (slots_of ps) (drop f.asked asked)) (nodes_at ps (drop f.asked asked)) (drop f.uses uses) (opens_in ps fs (take f.asked asked) (take f.uses uses)) m (ap (node_at ps) same ∙ node) pass
     some_open t (f ∷ fs) asked uses i m (inr h) node pass = some_open_later t (node_at ps f.slot) (answers_at (slots_of ps) (drop f.asked asked)) (nodes_at ps (drop f.asked asked)) (drop f.uses uses) (opens_in ps fs (take f.asked asked) (take f.uses uses)) (some_open t fs (take f.asked asked) (take f.uses uses) i m h node pass)
+
+  pub opens_length : (ps : List (N × Slot V F)) (fs : List Frame) (asked : List ℕ) (uses : List Use) → AllByRecursion (λ f. HasNode ps f.slot) fs → length (opens_in ps fs asked uses) ≡ length fs
+  opens_length ps [] asked uses h = refl
+  opens_length ps (f ∷ fs) asked uses h = by (node_at ps f.slot) h.0 ∙ ap suc (opens_length ps fs (take f.asked asked) (take f.uses uses) h.1)
+    where
+      by : (o : Option N) → is_some o ≡ true → length (open_before o (answers_at (slots_of ps) (drop f.asked asked)) (nodes_at ps (drop f.asked asked)) (drop f.uses uses) (opens_in ps fs (take f.asked asked) (take f.uses uses))) ≡ suc (length (opens_in ps fs (take f.asked asked) (take f.uses uses)))
+      by None e = absurd (cc)
+      by (Some m) e = refl
 
   -- frames of nodes stand for open nodes
   pub some-frames : (ps : List (N × Slot V F)) (fs : List Frame) (asked : List ℕ) (uses : List Use) → AllByRecursion (λ f. HasNode ps f.slot) fs → opens_in ps fs asked uses ≡ [] → fs ≡ []

@@ -154,11 +154,12 @@ module _ {N V F : Type 0} where
   -- ---- entries
   -- a slot that keeps nothing has no entry
   pub no_entry_at : (ps : List (N × Slot V F)) (l : Linked) (i : ℕ) → answer_at (slots_of ps) i ≡ None → entry_at ps l i ≡ None
-  no_entry_at ps l i e = ap (λ o. entry_with (node_at ps i) o (nodes_at ps (row l.asked i)) (row l.uses i)) e ∙ by (node_at ps i)
+  no_entry_at ps l i e = by (node_at ps i) (answer_at (slots_of ps) i) e
     where
-      by : (o : Option N) → entry_with {N} {V} {F} o None (nodes_at ps (row l.asked i)) (row l.uses i) ≡ None
-      by None = refl
-      by (Some n) = refl
+      by : (o : Option N) (b : Option (Result V F)) → b ≡ None → entry_with o b (nodes_at ps (row l.asked i)) (row l.uses i) ≡ None
+      by None b f = refl
+      by (Some n) None f = refl
+      by (Some n) (Some a) f = absurd (cc)
 
   pub entries_at-append : (ps : List (N × Slot V F)) (l : Linked) (is js : List ℕ) → entries_at ps l (is ++ js) ≡ entries_at ps l is ++ entries_at ps l js
   entries_at-append ps l [] js = refl

@@ -84,7 +84,7 @@ module _ {N V F : Type 0} (eq : N → N → Bool) (ps : List (N × Slot V F)) (l
 
   pub replies : (i : ℕ) → Knows eq ps n (Kept i) → (new : Frames) → Heard i frames new → Replies eq n (record { kept = entries_of ps l; opened = opens_of ps frames }) (record { kept = entries_of ps l; opened = opens_of ps new })
   replies i knows new h =
-      let one = found eq ps rows frames laid.kept laid.waits n i knows in
+      let one = found eq ps l frames laid.kept laid.waits n i knows in
       record { entry = one.entry; is = one.is; kept = refl; opened = opens-hear ps i one.entry.node one.entry.answer one.node one.answer frames new laid.waits h }
 
   -- a node is opened in a slot of its own

@@ -1,7 +1,8 @@
 -- What the moves of the table come to for a question.
-use Rattle.std.proofs.Common.{◌≡◌, ℕ, ◌+◌, ◌<◌, Bool, true, false, List, [], ◌∷◌, ◌++◌, length, Option, Some, None, refl, sym, ◌∙◌, ap, subst, ◌⊎◌, inl, inr, Result, Ok, Err, IfOk, OnErr}
+use Rattle.std.proofs.Common.{◌≡◌, ℕ, ◌+◌, ◌<◌, nat_lt, arith, Bool, true, false, List, [], ◌∷◌, ◌++◌, length, Option, Some, None, refl, sym, ◌∙◌, ap, subst, ◌⊎◌, inl, inr, Result, Ok, Err, IfOk, OnErr}
 use Rattle.std.proofs.lemmas.List.{reverse-append, reverse-reverse}
 use Rattle.std.proofs.Common.{reverse}
+use Rattle.std.proofs.lemmas.Bool.Decides.{Decides-ltb}
 use Rattle.std.specs.Cmp.{IsEquivalence}
 use Rattle.std.specs.List.{AllByRecursion, list_any}
 use Rattle.ksv_bytes.specs.declared.uses.Use.{Use}
@@ -36,6 +37,17 @@ if_ok-map P Q f (Err e) h = tt
 pub on_err-map : {T E P Q : Type 0} → (P → Q) → (r : Result T E) → OnErr r P → OnErr r Q
 on_err-map f (Ok t) h = tt
 on_err-map f (Err e) h = f h
+
+-- whether a node waits for the last one, by the number of the open ones
+pub closes_more : {N A : Type 0} (a : A) (st : List (Open N A)) (old new : Nodes N A) (waits : Bool) → Closes a st old new waits → nat_lt 1 (length st) ≡ true → Closes a st old new true
+closes_more a [] old new waits r e = absurd r
+closes_more a (o ∷ []) old new waits r e = let lt = (Decides-ltb 1 (length (o ∷ []))).0 e in absurd (omega arith)
+closes_more a (o ∷ p ∷ st) old new waits r e = (r.0, r.1, refl)
+
+pub closes_one : {N A : Type 0} (a : A) (st : List (Open N A)) (old new : Nodes N A) (waits : Bool) → Closes a st old new waits → nat_lt 1 (length st) ≡ false → Closes a st old new false
+closes_one a [] old new waits r e = absurd r
+closes_one a (o ∷ []) old new waits r e = (r.0, r.1, refl)
+closes_one a (o ∷ p ∷ st) old new waits r e = let yes = (Decides-ltb 1 (length (o ∷ p ∷ st))).1 (omega arith) in absurd (cc)
 
 module _ {N A : Type 0} (w : Standing N A) (law : IsSettled w) (eq : N → N → Bool) (laws : IsEquivalence eq) (exact : (a b : N) → eq a b ≡ true → a ≡ b) where
   -- ---- a kept node
@@ -88,9 +100,9 @@ module _ {N A : Type 0} (w : Standing N A) (law : IsSettled w) (eq : N → N →
   closes_left es (o ∷ st) a now reached (inl same) = left-same w law es now _ reached.0.right same
   closes_left es (o ∷ st) a now reached (inr keeps) = finish-left w law es now keeps.front keeps.back o st a keeps.once reached.0 reached.1 keeps.each keeps.was keeps.kept
 
-  pub closed_keeps : (es : List (Entry N A)) (st : List (Open N A)) (a : A) (now : Nodes N A) (waits : Bool) → Closes a st (record { kept = es; opened = st }) now waits → MayKeep a st es now.kept
-  closed_keeps es [] a now waits r = absurd r
-  closed_keeps es (o ∷ st) a now waits r = inr r.0
+  pub done_left : (es : List (Entry N A)) (st : List (Open N A)) (a : A) (t : List (Entry N A)) → HasReached w es st (Done a) → t ≡ es → LeftAt w es st (Done a) t
+  done_left es [] a t reached same = absurd reached
+  done_left es (o ∷ st) a t reached same = left-same w law es t _ reached.0.right same
 
   -- ---- a call
   pub reached : (es : List (Entry N A)) (st now : List (Open N A)) (s : Next N A) → IsRunning w es st → Steps w st now s → HasReached w es now s

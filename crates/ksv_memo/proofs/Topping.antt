@@ -1,5 +1,5 @@
 -- The last open node: how it is run, kept and taken out.
-use Rattle.std.proofs.Common.{◌≡◌, ◌≢◌, ℕ, suc, ◌+◌, ◌-◌, ◌≤◌, ◌<◌, Bool, true, false, List, [], ◌∷◌, ◌++◌, length, map, take, drop, reverse, Option, Some, None, is_some, refl, sym, ◌∙◌, ap, subst, Result, Ok, Err, OnOk, OnErr, slice_get, ◌⊎◌, inl, inr, arith, length-append, ◌==◌}
+use Rattle.std.proofs.Common.{◌≡◌, ◌≢◌, ℕ, suc, ◌+◌, ◌-◌, ◌≤◌, ◌<◌, Bool, true, false, All, List, [], ◌∷◌, ◌++◌, length, map, take, drop, reverse, Option, Some, None, is_some, refl, sym, ◌∙◌, ap, subst, Result, Ok, Err, OnOk, OnErr, slice_get, ◌⊎◌, inl, inr, arith, length-append, ◌==◌}
 use Rattle.std.specs.Option.{option_map}
 use Rattle.std.specs.List.{AllByRecursion}
 use Rattle.std.proofs.lemmas.List.{take-append-le, drop-append-le, reverse-append, reverse-reverse, take_rest}
@@ -7,6 +7,7 @@ use Rattle.std.proofs.lemmas.Option.{slice_get-map, slice_get_within}
 use Rattle.ksv_bytes.specs.declared.uses.Use.{Use}
 use Rattle.ksv_memo.specs.declared.rules.Next.{Next}
 use Rattle.ksv_memo_links.specs.Links.{Linked, Keeps as LinksKeep}
+use Rattle.ksv_memo_links.specs.Marking.{is_kept}
 use Rattle.ksv_memo.specs.declared.replies.Slot.{Slot}
 use Rattle.ksv_memo.specs.declared.replies.Slot.TheVariants.{Empty as emptied, Open as opened}
 use Rattle.ksv_memo.specs.declared.layout.Frame.{Frame}
@@ -19,6 +20,8 @@ use Rattle.ksv_memo.specs.Right.{HasEachOnce}
 use Rattle.ksv_memo.specs.Layout.{IsOneOf, AllDiffer, slots_of, node_at, nodes_at, IsOpen, IsKept, entries_of, open_before, opens_in, opens_of, AreNested, AreLinked, AreFrames, IsLaidOut}
 use Rattle.ksv_memo.specs.Moves.{EndsWith, SameFrames, Popped, Heard}
 use Rattle.ksv_memo.specs.Nodes.{Nodes, kept_of, Keeps, Steps, Closes, MayKeep, TakesFirst, is_there}
+use Rattle.std.proofs.lemmas.List.Elements.{All-from_recursion}
+use Rattle.ksv_memo.proofs.Lists.{All-map}
 use Rattle.ksv_memo.proofs.Evals.{eqb_true}
 use Rattle.ksv_memo.proofs.Finding.{slot_there, node_there, answer_there}
 use Rattle.ksv_memo.proofs.Laying.{All-drop, All-take, some-of, stays_kept}
@@ -61,6 +64,13 @@ on_err_always (Err e) h = h
 pub next-more : {X T E : Type 0} (xs us ys : List X) (r : Result T E) → OnOk r (ys ≡ xs ++ us) → OnErr r (IsAddedTo xs ys) → IsAddedTo xs ys
 next-more xs us ys (Ok v) ok err = (us, ok)
 next-more xs us ys (Err e) ok err = err
+
+-- the last open node's part of what open nodes asked and used, as the code takes it
+pub keep_part : (k : ℕ) (uses held once : List Use) → held ≡ uses → HasEachOnce once (take (length held - k) (drop k held)) → HasEachOnce once (drop k uses)
+keep_part k uses held once e h = subst (λ us. HasEachOnce once (drop k us)) e (subst (HasEachOnce once) (take_rest held k) h)
+
+pub kept_part : (l m : Linked) (slot k : ℕ) (asked held : List ℕ) (given once : List Use) → held ≡ asked → given ≡ once → LinksKeep l m slot (take (length held - k) (drop k held)) given → LinksKeep l m slot (drop k asked) once
+kept_part l m slot k asked held given once e f h = subst (λ us. LinksKeep l m slot (drop k asked) us) f (subst (λ xs. LinksKeep l m slot (drop k xs) given) e (subst (λ xs. LinksKeep l m slot xs given) (take_rest held k) h))
 
 module _ {N V F : Type 0} (ps : List (N × Slot V F)) where
   open_pair : (i : ℕ) (o : Option (N × Slot V F)) → slice_get ps i ≡ o → option_map (λ p. p.1) o ≡ Some opened → (n : N) × (slice_get ps i ≡ Some (n, opened))
@@ -232,3 +242,16 @@ module _ {N V F : Type 0} (ps : List (N × Slot V F)) where
       by : (st : List (Open N (Result V F))) → is_there st ≡ true → MayKeep a st before after
       by [] e = absurd (cc)
       by (o ∷ st) e = inl same
+
+  -- ---- what keeping it requires
+  pub keep-in : (l : Linked) (frames : Frames) (f : Frame) → AreLinked ps l → IsTop frames f → f.slot < length l.kept
+  keep-in l frames f h t = let lt = slice_get_within ps f.slot (t.node, opened) t.there in let le = h.slots in omega arith
+
+  pub keep-out : (l : Linked) (frames : Frames) (f : Frame) → AreLinked ps l → IsTop frames f → is_kept l.kept f.slot ≡ false
+  keep-out l frames f h t = h.kept f.slot ∙ ap is_some (answer_there ps f.slot t.node opened t.there)
+
+  pub keep-asks : (l : Linked) (frames : Frames) (f : Frame) → IsLaidOut ps l frames → (held : List ℕ) → held ≡ frames.asked.items → All (λ s. is_kept l.kept s ≡ true) (take (length held - f.asked) (drop f.asked held))
+  keep-asks l frames f h held e =
+      let K : ℕ → Type 0 = λ s. is_kept l.kept s ≡ true in
+      let all : AllByRecursion K (drop f.asked frames.asked.items) = All-map (λ s k. h.kept.kept s ∙ k) (drop f.asked frames.asked.items) (All-drop (IsKept ps) f.asked frames.asked.items h.waits.asked) in
+      subst (All K) (sym (take_rest held f.asked ∙ ap (drop f.asked) e)) (All-from_recursion K (drop f.asked frames.asked.items) all)

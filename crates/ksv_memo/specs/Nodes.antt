@@ -77,11 +77,6 @@ abbrev pub is_there : {X : Type 0} → List X → Bool
 is_there [] = false
 is_there (x ∷ xs) = true
 
--- all elements but the first
-abbrev pub tail_of : {X : Type 0} → List X → List X
-tail_of [] = []
-tail_of (x ∷ xs) = xs
-
 -- the last open node was run: this is its next step, and its call's uses were added
 abbrev pub Steps : {N A : Type 0} → Standing N A → List (Open N A) → List (Open N A) → Next N A → Type 0
 Steps w [] now s = ⊥

@@ -1,9 +1,9 @@
 //! The table of kept and open nodes.
 ghost use Rattle.std.specs.List.{All, AllPairs};
 ghost use Rattle.indexmap.specs.IndexMap.{index_map_len};
-ghost use Rattle.std.specs.Prelude.{◌≡◌, ◌≢◌, ◌<◌, ◌≤◌, ℕ, [], Some, length, true, option_map, IfOk, IfSome, IfNone, OnOk, OnErr};
+ghost use Rattle.std.specs.Prelude.{◌≡◌, ◌≢◌, ◌<◌, ◌≤◌, ℕ, [], Some, length, true, option_map, nat_lt, IfOk, IfSome, IfNone, OnOk, OnErr};
 ghost use Rattle.ksv_memo.specs.Meaning.{on};
-ghost use Rattle.ksv_memo.specs.Nodes.{Asks, Closes, Finds, MayKeep, Steps, TakesFirst, is_there, tail_of};
+ghost use Rattle.ksv_memo.specs.Nodes.{Asks, Closes, Finds, MayKeep, Steps, TakesFirst, is_there};
 ghost use Rattle.ksv_memo.specs.Slots.{answer_in, lent};
 ghost use Rattle.ksv_memo.specs.Sweep.{Sweeps};
 ghost use Rattle.ksv_memo.specs.Emptying.{IsEmptied};
@@ -128,7 +128,7 @@ impl<R: Rules> Table<R> {
                 Ok(Asked::Opened)
             }
             Known::New => {
-                self.links.reach(number(self.slots.len() + 1)?)?;
+                self.links.reach(number(self.slots.len().saturating_add(1))?)?;
                 open_new(&mut self.slots, &mut self.frames, node)?;
                 Ok(Asked::Opened)
             }
@@ -196,7 +196,7 @@ impl<R: Rules> Table<R> {
 
     /// Whether an open node waits for the last one.
     pub(crate) fn waits(&self) -> bool
-        ensures { result ≡ is_there (tail_of self.now.opened) }
+        ensures { result ≡ nat_lt 1 (length self.now.opened) }
     {
         self.frames.frames.as_slice().len() > 1
     }

@@ -1,5 +1,6 @@
 use Rattle.std.proofs.Common.{[], sym, ap, ◌∙◌}
 use Rattle.ksv_memo.specs.Meaning.{on}
+use Rattle.ksv_memo.specs.Evaluation.{is_among}
 use Rattle.ksv_memo.specs.Running.{answering}
 use Rattle.ksv_memo.specs.declared.rules.Outcome.TheVariants.{Answered}
 use Rattle.ksv_memo.proofs.Standing.{law_on}
@@ -30,7 +31,7 @@ returns-in_ok-copy_answer-in-Some-clause-kept g c =
     let exact = g.met.R.Rules.exact in
     let old = c.args.self.now.table in
     let found = c.in-Some.ensures in
-    covers-kept w law old.kept c.args.node c.requires.right (entry_in w law eq laws exact old.kept c.args.node found.0 found.1)
+    λ x. ap (λ ns. is_among w.number ns x) (covers-kept w law old.kept c.args.node c.requires.right (entry_in w law eq laws exact old.kept c.args.node found.0 found.1))
 
 pub returns-in_ok-copy_answer-in-Some-clause-turns : goal.returns-in_ok-copy_answer-in-Some-clause-turns
 returns-in_ok-copy_answer-in-Some-clause-turns g c _ =
