@@ -33,7 +33,7 @@ sum_by-same : (f g : ℕ → ℕ) → ((i : ℕ) → f i ≡ g i) → (is : List
 sum_by-same f g h [] = refl
 sum_by-same f g h (i ∷ is) = sum_by-cons f i is ∙ (λ j. h i j + sum_by-same f g h is j) ∙ sym (sum_by-cons g i is)
 
-sum-shift : (f : ℕ → ℕ) (a n : ℕ) → sum_by f (numbers_from (a + 1) n) ≡ sum_by (λ i. f (suc i)) (numbers_from a n)
+pub sum-shift : (f : ℕ → ℕ) (a n : ℕ) → sum_by f (numbers_from (a + 1) n) ≡ sum_by (λ i. f (suc i)) (numbers_from a n)
 sum-shift f a zero = refl
 sum-shift f a (suc n) =
     let e : a + 1 ≡ suc a = omega arith in

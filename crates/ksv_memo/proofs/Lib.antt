@@ -10,6 +10,10 @@ pub mod Changing
 pub mod Knowing
 pub mod Tabling
 pub mod Topping
+pub mod Emptying
+pub mod Sums
+pub mod Sweeping
+pub mod Resting
 pub mod Moves
 pub mod Places
 pub mod Change

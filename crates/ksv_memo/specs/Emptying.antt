@@ -5,7 +5,7 @@ use Rattle.ksv_memo_links.specs.Touching.{pages_in}
 use Rattle.ksv_memo_links.specs.Links.{Linked}
 use Rattle.ksv_memo.specs.declared.replies.Slot.{Slot}
 use Rattle.ksv_memo.specs.Slots.{answer_at}
-use Rattle.ksv_memo.specs.Layout.{slots_of, node_at}
+use Rattle.ksv_memo.specs.Layout.{slots_of, node_at, IsOpen}
 
 -- the asks and the pages of these slots in all
 abbrev pub parts_of : Linked → List ℕ → ℕ
@@ -21,6 +21,7 @@ pub record IsTaken {N V F : Type 0} (ps qs : List (N × Slot V F)) (l m : Linked
   pub uses : (i : ℕ) → (Contains taken i → ⊥) → row m.uses i ≡ row l.uses i
   pub kept : m.kept ≡ l.kept
   pub slots : length qs ≡ length ps
+  pub opens : (i : ℕ) → IsOpen qs i → IsOpen ps i
   pub most : m.looks + count ≤ l.looks + last + 5 * length taken + parts_of l taken
   pub least : l.marked ≤ m.marked
 

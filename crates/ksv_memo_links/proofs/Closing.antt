@@ -156,6 +156,7 @@ module _ (p q r : Parts) (change : Change) (w : IsWhole p) (idle : p.marks.work 
     uses = same.uses;
     exact = λ s. (λ c. (let g = out s c in record { was_kept = g.0; reaches = g.2 }), λ g. marking.out s g.was_kept (reached s g.was_kept g.reaches));
     apart = marking.apart;
+    slots = to_r.same_length;
     went = marking.out;
     kept = λ s. (λ k. (marking.less s k, λ c. true≢false (sym k ∙ (out s c).1)), λ k. left s k.0 k.1 (true_or_false (is_kept r.marks.kept s)));
   }

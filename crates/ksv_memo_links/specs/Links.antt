@@ -43,6 +43,7 @@ pub record Forgets (old new : Linked) (change : Change) : Type 0 where
   pub uses : new.uses ≡ old.uses
   pub exact : (s : ℕ) → Contains new.waits s ↔ Goes old change s
   pub apart : AllPairs (λ (a b : ℕ). a ≢ b) new.waits
+  pub slots : length new.kept ≡ length old.kept
   pub went : (s : ℕ) → is_kept old.kept s ≡ true → is_kept new.kept s ≡ false → Contains new.waits s
   pub kept : (s : ℕ) → (is_kept new.kept s ≡ true) ↔ ((is_kept old.kept s ≡ true) × (Contains new.waits s → ⊥))
 

@@ -1,5 +1,5 @@
 //! The links between the kept slots of an engine.
-ghost use Rattle.std.specs.Prelude.{◌≡◌, ◌+◌, ◌-◌, ◌*◌, ◌^◌, ◌<◌, ◌≤◌, min, [], ◌++◌, ◌∷◌, length, count_by, sum_by, OnOk, OnErr, IfSome, IfNone, true, false};
+ghost use Rattle.std.specs.Prelude.{◌≡◌, ℕ, ◌+◌, ◌-◌, ◌*◌, ◌^◌, ◌<◌, ◌≤◌, min, [], ◌++◌, ◌∷◌, length, count_by, sum_by, OnOk, OnErr, IfSome, IfNone, true, false};
 ghost use Rattle.std.specs.List.{All};
 ghost use Rattle.ksv_memo_links.specs.Shelved.{row};
 ghost use Rattle.ksv_memo_links.specs.Touching.{pages_in};
@@ -78,6 +78,7 @@ impl Links {
         ensures most { IsOverwrite change → self.new.looks ≤ pages_met change + 3 * sum_by (met_by change) self.old.uses + 1 + 4 * length self.new.waits + 2 * asks_of self.old.asked self.new.waits }
         ensures least { length self.new.waits ≤ self.new.marked }
         ensures fits { length self.new.waits < 2 ^ 32 }
+        ensures vacant { (s : ℕ) → is_kept self.old.kept s ≡ false → row self.old.uses s ≡ [] }
     {
         self.parts.reset();
         self.parts.forget(change);

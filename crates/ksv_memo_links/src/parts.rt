@@ -167,6 +167,7 @@ impl Parts {
         ensures whole { IsWhole self.new }
         ensures near { IsNear change self.old self.new }
         ensures least { length self.new.marks.work ≤ self.new.marks.looks }
+        ensures vacant { (s : ℕ) → is_kept self.old.marks.kept s ≡ false → row self.old.uses.rows s ≡ [] }
     {
         self.users.linked();
         self.hit_touched(change);
