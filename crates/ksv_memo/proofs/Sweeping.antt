@@ -98,20 +98,20 @@ module _ {N V F : Type 0} where
   waits-in change ps l m h f k d lt = past ps (get_or m.waits k d) (sym (h.kept (get_or m.waits k d)) ∙ ((f.exact (get_or m.waits k d)).0 (Contains-get_or m.waits k d lt)).was_kept)
 
   module _ (change : Change) (ps qs : List (N × Slot V F)) (l m n : Linked) (count : ℕ) (h : AreLinked ps l) (f : Forgets l m change) (g : IsEmptied ps qs m n count) where
-    goes : ℕ → Bool
+    abbrev goes : ℕ → Bool
     goes i = not (is_kept m.kept i)
 
-    mark_of : ℕ → Entry N (Result V F) → Mark N (Result V F)
+    abbrev mark_of : ℕ → Entry N (Result V F) → Mark N (Result V F)
     mark_of i e = record { entry = e; goes = goes i }
 
-    mark_at : ℕ → Option (Mark N (Result V F))
+    abbrev mark_at : ℕ → Option (Mark N (Result V F))
     mark_at i = option_map (mark_of i) (entry_at ps l i)
 
-    pub marks_at : List ℕ → List (Mark N (Result V F))
+    abbrev pub marks_at : List ℕ → List (Mark N (Result V F))
     marks_at [] = []
     marks_at (i ∷ is) = with_first (mark_at i) (marks_at is)
 
-    pub all_marks : List (Mark N (Result V F))
+    abbrev pub all_marks : List (Mark N (Result V F))
     all_marks = marks_at (numbers_from 0 (length ps))
 
     pub entries : (is : List ℕ) → entries_with (marks_at is) ≡ entries_at ps l is
@@ -300,7 +300,7 @@ module _ {N V F : Type 0} where
     }
 
     -- ---- the looks
-    is_gone : ℕ → Bool
+    abbrev is_gone : ℕ → Bool
     is_gone i = is_kept l.kept i && goes i
 
     gone-sum : (p : Entry N (Result V F) → ℕ) (q : ℕ → ℕ) → ((i : ℕ) (e : Entry N (Result V F)) → entry_at ps l i ≡ Some e → p e ≡ q i) → (is : List ℕ) → sum_by p (entries_gone (marks_at is)) ≡ sum_by (λ i. cond (is_gone i) (q i) 0) is
@@ -312,12 +312,12 @@ module _ {N V F : Type 0} where
 
         with_mark : (e : Entry N (Result V F)) (b : Bool) → p e ≡ q i → sum_by p (entries_gone (record { entry = e; goes = b } ∷ rest)) ≡ cond b (q i) 0 + sum_by p (entries_gone rest)
         with_mark e true same = sum_by-cons p e (entries_gone rest) ∙ ap (λ x. x + sum_by p (entries_gone rest)) same
-        with_mark e false same = refl
+        with_mark e false same = omega arith
 
         by : sum_by p (entries_gone rest) ≡ sum_by (λ i. cond (is_gone i) (q i) 0) is → (a : Option (Result V F)) → answer_at (slots_of ps) i ≡ a → sum_by p (entries_gone (with_first (mark_at i) rest)) ≡ cond (is_gone i) (q i) 0 + sum_by (λ i. cond (is_gone i) (q i) 0) is
         by ih None e =
             let none : is_kept l.kept i ≡ false = h.kept i ∙ ap is_some e in
-            ap (λ o. sum_by p (entries_gone (with_first (option_map (mark_of i) o) rest))) (no_entry_at ps l i e) ∙ ih ∙ (λ j. cond (sym none j && goes i) (q i) 0 + sum_by (λ i. cond (is_gone i) (q i) 0) is)
+            ap (λ o. sum_by p (entries_gone (with_first (option_map (mark_of i) o) rest))) (no_entry_at ps l i e) ∙ ih ∙ (let z : cond (is_gone i) (q i) 0 ≡ 0 = ap (λ b. cond (b && goes i) (q i) 0) none in omega arith)
         by ih (Some a) e =
             let yes : is_kept l.kept i ≡ true = h.kept i ∙ ap is_some e in
             let node = some-of (node_at ps i) (kept_node ps i (ap is_some e)) in
@@ -332,7 +332,7 @@ module _ {N V F : Type 0} where
         by : sum_by p (entries_at ps l is) ≡ sum_by (λ i. cond (is_kept l.kept i) (q i) 0) is → (a : Option (Result V F)) → answer_at (slots_of ps) i ≡ a → sum_by p (with_first (entry_at ps l i) (entries_at ps l is)) ≡ cond (is_kept l.kept i) (q i) 0 + sum_by (λ i. cond (is_kept l.kept i) (q i) 0) is
         by ih None e =
             let none : is_kept l.kept i ≡ false = h.kept i ∙ ap is_some e in
-            ap (λ o. sum_by p (with_first o (entries_at ps l is))) (no_entry_at ps l i e) ∙ ih ∙ (λ j. cond (sym none j) (q i) 0 + sum_by (λ i. cond (is_kept l.kept i) (q i) 0) is)
+            ap (λ o. sum_by p (with_first o (entries_at ps l is))) (no_entry_at ps l i e) ∙ ih ∙ (let z : cond (is_kept l.kept i) (q i) 0 ≡ 0 = ap (λ b. cond b (q i) 0) none in omega arith)
         by ih (Some a) e =
             let yes : is_kept l.kept i ≡ true = h.kept i ∙ ap is_some e in
             let node = some-of (node_at ps i) (kept_node ps i (ap is_some e)) in
@@ -340,7 +340,7 @@ module _ {N V F : Type 0} where
             let at : entry_at ps l i ≡ Some x = λ j. entry_with (node.1 j) (e j) (nodes_at ps (row l.asked i)) (row l.uses i) in
             ap (λ o. sum_by p (with_first o (entries_at ps l is))) at ∙ sum_by-cons p x (entries_at ps l is) ∙ (λ j. same i x at j + ih j) ∙ (λ j. cond (sym yes j) (q i) 0 + sum_by (λ i. cond (is_kept l.kept i) (q i) 0) is)
 
-    nums : List ℕ
+    abbrev nums : List ℕ
     nums = numbers_from 0 (length ps)
 
     waiting : (i : ℕ) → IsOneOf m.waits i → Contains m.waits i
@@ -362,11 +362,11 @@ module _ {N V F : Type 0} where
 
     ones : (is : List ℕ) → sum_by (λ i. 1) is ≡ length is
     ones [] = refl
-    ones (i ∷ is) = sum_by-cons (λ i. 1) i is ∙ ap suc (ones is)
+    ones (i ∷ is) = let c = sum_by-cons (λ (j : ℕ). 1) i is in let r = ones is in omega arith
 
     entry-ones : (es : List (Entry N (Result V F))) → sum_by (λ e. 1) es ≡ length es
     entry-ones [] = refl
-    entry-ones (e ∷ es) = sum_by-cons (λ e. 1) e es ∙ ap suc (entry-ones es)
+    entry-ones (e ∷ es) = let c = sum_by-cons (λ (x : Entry N (Result V F)). 1) e es in let r = entry-ones es in omega arith
 
     pub gone-most : length m.waits ≤ length (entries_gone all_marks)
     gone-most = let a = waits-sum (λ e. 1) (λ i. 1) (λ i e at. refl) in let b = ones m.waits in let c = entry-ones (entries_gone all_marks) in omega arith

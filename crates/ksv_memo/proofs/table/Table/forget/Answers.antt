@@ -1,19 +1,20 @@
-use Rattle.std.proofs.Common.{◌≡◌, ◌∙◌, ℕ, ◌<◌, [], length, ap, sym, subst, refl, arith, get_or}
+use Rattle.std.proofs.Common.{◌∙◌, ap, subst, refl, arith}
 use Rattle.ksv_memo.specs.declared.layout.Frames.{Frames}
-use Rattle.ksv_memo.specs.Layout.{entries_of, opens_of, IsKept}
+use Rattle.ksv_memo.specs.Layout.{entries_at, entries_of}
+use Rattle.ksv_memo_links.specs.Touching.{numbers_from}
 use Rattle.ksv_memo.specs.Sweep.{Sweeps}
 use Rattle.ksv_memo.proofs.Sweeping.{all_marks, entries, stays, marked, swept-links, gone-least, looks-most, waits-in}
 use Rattle.ksv_memo.proofs.Resting.{no-frames, no-opens}
 use Rattle.ksv_memo.proofs.table.Table.forget.Goals as goal
 
 pub forget-requires : goal.forget-requires
-forget-requires g c = c.self.invariant.kept.idle
+forget-requires g c = record { idle = c.self.invariant.kept.idle }
 
-pub empty_taken-requires-clause-inside : goal.empty_taken-requires-clause-inside
-empty_taken-requires-clause-inside g c = waits-in c.args.change c.self.inside.slots.entries c.self.inside.links c.forget.new.self c.self.invariant.kept c.forget.ensures.forgets
+pub empty_taken-emptied-requires-clause-inside : goal.empty_taken-emptied-requires-clause-inside
+empty_taken-emptied-requires-clause-inside g c = waits-in c.args.change c.self.inside.slots.entries c.self.inside.links c.forget.new.self c.self.invariant.kept c.forget.ensures.forgets
 
-pub empty_taken-requires-clause-apart : goal.empty_taken-requires-clause-apart
-empty_taken-requires-clause-apart g c = c.forget.ensures.forgets.apart
+pub empty_taken-emptied-requires-clause-apart : goal.empty_taken-emptied-requires-clause-apart
+empty_taken-emptied-requires-clause-apart g c = c.forget.ensures.forgets.apart
 
 pub invariant_of-self : goal.invariant_of-self
 invariant_of-self g c =
@@ -48,7 +49,6 @@ returns-clause-kept g c =
     let f = c.forget.ensures.forgets in
     let e = c.empty_taken-emptied.ensures in
     let looked = c.saturating_add.result in
-    let nums = entries c.args.change ps qs l m n count h f e in
     let few = gone-least c.args.change ps qs l m n count h f e in
     let a = c.forget.ensures.least in let fits = c.forget.ensures.fits in
     let b = e.taken.least in let d = c.looks.ensures.least in let k = c.looks.ensures.count in let s = c.saturating_add.ensures in
@@ -56,7 +56,7 @@ returns-clause-kept g c =
         marks = all_marks c.args.change ps qs l m n count h f e;
         entries = entries c.args.change ps qs l m n count h f e _;
         marked = marked c.args.change ps qs l m n count h f e _;
-        stays = ?;
+        stays = ap (λ k. entries_at qs n (numbers_from 0 k)) e.taken.slots ∙ stays c.args.change ps qs l m n count h f e _;
         least = omega arith;
         most = looks-most c.args.change ps qs l m n count h f e c.forget.ensures.vacant c.forget.ensures.most looked (omega arith);
       })
