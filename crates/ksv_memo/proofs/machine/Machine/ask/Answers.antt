@@ -1,7 +1,8 @@
-use Rattle.std.proofs.Common.{[], sym, ap, ◌∙◌}
+use Rattle.std.proofs.Common.{[], sym, ap, subst, ◌∙◌, OnOk}
 use Rattle.ksv_memo.specs.Meaning.{on}
-use Rattle.ksv_memo.specs.Evaluation.{is_among}
-use Rattle.ksv_memo.specs.Running.{answering}
+use Rattle.ksv_memo.specs.Evaluation.{is_among, done}
+use Rattle.ksv_memo.specs.Right.{nodes_of}
+use Rattle.ksv_memo.specs.Running.{answering, AreSame, to_keep}
 use Rattle.ksv_memo.specs.declared.rules.Outcome.TheVariants.{Answered}
 use Rattle.ksv_memo.proofs.Standing.{law_on}
 use Rattle.ksv_memo.proofs.Keeping.{agrees}
@@ -43,3 +44,9 @@ returns-in_ok-copy_answer-in-Some-clause-turns g c _ =
     let old = c.args.self.now.table in
     let found = c.in-Some.ensures in
     none-owed w law old.kept c.args.node c.requires.right (entry_in w law eq laws exact old.kept c.args.node found.0 found.1) c.args.self.now.turns
+
+-- what is kept after it is what the run has kept
+pub returns-in-None-clause-kept : goal.returns-in-None-clause-kept
+returns-in-None-clause-kept g c =
+    let w = on (g.R.Rules.meaning c.args.rules.now) c.args.bytes.now in
+    subst (λ es. OnOk c.run-outcome.result (AreSame w (nodes_of es) (to_keep w c.args.self.now.table.kept (done w [] c.args.node)))) (sym c.abandon.ensures.kept) c.run-outcome.ensures.kept

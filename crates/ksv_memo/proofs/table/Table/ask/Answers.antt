@@ -60,12 +60,8 @@ returns-in_ok-reopen-in-Empty-clause-ok g c =
 pub open_new-requires : goal.open_new-requires
 open_new-requires g c = no_lookup (g.R.Node.PartialEq.eq c.args.node) c.self.inside.slots.entries c.in-New.ensures.knows
 
-pub invariant_of-self-in_err-reach : goal.invariant_of-self-in_err-reach
-invariant_of-self-in_err-reach g c =
-    let t = c.self.inside in
-    record { kept = grown-links t.slots.entries t.links c.reach.new.self c.self.invariant.kept c.reach.ensures.same; waits = c.self.invariant.waits }
+pub invariant_of-self-in-New : goal.invariant_of-self-in-New
+invariant_of-self-in-New g c = ?
 
-pub returns-in_err-reach-clause-err : goal.returns-in_err-reach-clause-err
-returns-in_err-reach-clause-err g c =
-    let t = c.self.inside in
-    on_err_always _ (subst (λ v. record { kept = entries_of t.slots.entries c.reach.new.self; opened = opens_of t.slots.entries t.frames } ≡ v) c.self.view_is (ap (λ es. record { kept = es; opened = opens_of t.slots.entries t.frames }) (grown-entries t.slots.entries t.links c.reach.new.self c.self.invariant.kept c.reach.ensures.same)))
+pub returns-in_ok-open_new-in-New-clause-ok : goal.returns-in_ok-open_new-in-New-clause-ok
+returns-in_ok-open_new-in-New-clause-ok g c = ?
