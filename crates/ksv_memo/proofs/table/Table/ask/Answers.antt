@@ -1,11 +1,12 @@
-use Rattle.std.proofs.Common.{◌≡◌, ◌∙◌, ap, sym, subst, refl, length, ◌<◌, arith}
+use Rattle.std.proofs.lemmas.List.{length_push}
+use Rattle.std.proofs.Common.{◌≡◌, ◌+◌, ◌∙◌, ap, sym, subst, refl, length, ◌<◌, arith}
 use Rattle.std.proofs.lemmas.Option.{slice_get_within}
 use Rattle.ksv_memo.specs.declared.replies.Slot.TheVariants.{Empty, Open}
-use Rattle.ksv_memo.specs.Layout.{entries_of, opens_of}
+use Rattle.ksv_memo.specs.Layout.{IsLaidOut, entries_of, opens_of}
 use Rattle.ksv_memo.specs.Nodes.{Nodes, Replies, Opens, Circles}
 use Rattle.ksv_memo.proofs.Changing.{set_at, set_count, appended}
-use Rattle.ksv_memo.proofs.Finding.{no_lookup}
-use Rattle.ksv_memo.proofs.Topping.{on_err_always}
+use Rattle.ksv_memo.proofs.Finding.{no_lookup, answer_there}
+use Rattle.ksv_memo.proofs.Laying.{no_entry_at}
 use Rattle.ksv_memo.proofs.Tabling.{grown-links, grown-entries, new_out, new_free, empty_out, empty_free, open_waits, hears, replies, opens-laid, opens-more, empty_none, empty_closed, past_none, past_closed}
 use Rattle.ksv_memo.proofs.table.Table.ask.Goals as goal
 
@@ -61,7 +62,44 @@ pub open_new-requires : goal.open_new-requires
 open_new-requires g c = no_lookup (g.R.Node.PartialEq.eq c.args.node) c.self.inside.slots.entries c.in-New.ensures.knows
 
 pub invariant_of-self-in-New : goal.invariant_of-self-in-New
-invariant_of-self-in-New g c = ?
+invariant_of-self-in-New g c =
+    let t = c.self.inside in
+    let eq = g.R.Node.PartialEq.eq in
+    let ps = t.slots.entries in
+    let qs = c.open_new.new.slots.entries in
+    let m = c.reach.new.self in
+    let node = c.args.node in
+    let laid : IsLaidOut ps m t.frames = record { kept = grown-links ps t.links m c.self.invariant.kept c.reach.ensures.same; waits = c.self.invariant.waits } in
+    let added = c.in_ok-open_new-in-New.ensures.slots in
+    let changes = appended ps qs node Open added in
+    let count : length qs ≡ length ps + 1 = ap length added ∙ length_push ps (node, Open) in
+    let none = past_none eq ps m t.frames laid node in
+    let closed = past_closed eq ps m t.frames laid node in
+    let a = c.in_ok-reach-in-New.ensures.ok in
+    let b = c.in_ok-number-in-New.ensures in
+    let d = c.saturating_add.ensures in
+    let e = c.len.ensures.len in
+    let f = c.len.ensures.small in
+    opens-laid eq ps m t.frames laid node qs (length ps) node changes none closed c.open_new.new.frames c.in_ok-open_new-in-New.ensures.frames (omega arith)
 
 pub returns-in_ok-open_new-in-New-clause-ok : goal.returns-in_ok-open_new-in-New-clause-ok
-returns-in_ok-open_new-in-New-clause-ok g c = ?
+returns-in_ok-open_new-in-New-clause-ok g c =
+    let t = c.self.inside in
+    let eq = g.R.Node.PartialEq.eq in
+    let ps = t.slots.entries in
+    let qs = c.open_new.new.slots.entries in
+    let m = c.reach.new.self in
+    let node = c.args.node in
+    let laid : IsLaidOut ps m t.frames = record { kept = grown-links ps t.links m c.self.invariant.kept c.reach.ensures.same; waits = c.self.invariant.waits } in
+    let added = c.in_ok-open_new-in-New.ensures.slots in
+    let changes = appended ps qs node Open added in
+    let count : length qs ≡ length ps + 1 = ap length added ∙ length_push ps (node, Open) in
+    let none = past_none eq ps m t.frames laid node in
+    let closed = past_closed eq ps m t.frames laid node in
+    let new_one = no_entry_at qs m (length ps) (answer_there qs (length ps) node Open changes.here) in
+    let opens = opens-more eq ps m t.frames laid node qs (length ps) node changes none closed c.open_new.new.frames c.in_ok-open_new-in-New.ensures.frames 1 count (new_one, tt)
+    (g.met.R.Node.Eq.laws.refl node)
+    (new_out eq ps m t.frames laid.kept laid.waits node c.in-New.ensures.knows)
+    (new_free eq ps m t.frames laid.kept laid.waits node c.in-New.ensures.knows) in
+    subst (λ v. Opens eq node v (record { kept = entries_of qs m; opened = opens_of qs c.open_new.new.frames })) c.self.view_is
+    (subst (λ es. Opens eq node (record { kept = es; opened = opens_of ps t.frames }) (record { kept = entries_of qs m; opened = opens_of qs c.open_new.new.frames })) (grown-entries ps t.links m c.self.invariant.kept c.reach.ensures.same) opens)
