@@ -255,8 +255,8 @@ module _ {N V F : Type 0} where
           asked = subst (AllByRecursion (IsKept qs)) (sym framed.asked) (All-map (stays_kept ps qs (keeps ps qs i n s changes none)) old.asked.items h.asked);
           nested = subst (λ xs. AreNested xs (length new.asked.items) (length new.uses.items)) (sym now)
               (let a : f.asked ≤ length new.asked.items = (let e : f.asked ≡ length new.asked.items = framed.is_new.asked ∙ ap length (sym framed.asked) in omega arith) in
-               let u : f.uses ≤ length new.uses.items = (let e : f.uses ≡ length new.uses.items = framed.is_new.uses ∙ ap length (sym framed.uses) in omega arith) in
-               (a, u, subst (λ k. AreNested fs k f.uses) (sym framed.is_new.asked) (subst (AreNested fs (length old.asked.items)) (sym framed.is_new.uses) h.nested)));
+              let u : f.uses ≤ length new.uses.items = (let e : f.uses ≡ length new.uses.items = framed.is_new.uses ∙ ap length (sym framed.uses) in omega arith) in
+              (a, u, subst (λ k. AreNested fs k f.uses) (sym framed.is_new.asked) (subst (AreNested fs (length old.asked.items)) (sym framed.is_new.uses) h.nested)));
         }
       where
         by_one : (fs : List Frame) (f : Frame) → f.slot ≡ i → ((j : ℕ) → IsOpen ps j → IsOneOf (map (λ f. f.slot) fs) j) → (j : ℕ) → (j ≡ i) ⊎ IsOpen ps j → IsOneOf (map (λ f. f.slot) (f ∷ fs)) j

@@ -101,18 +101,18 @@ module _ {N V F : Type 0} where
   pub taken-all : (ps qs : List (N × Slot V F)) (l m n : Linked) (taken : List ℕ) (count : ℕ) → IsTaken ps qs l m taken count 0 → IsDone m n → IsEmptied ps qs l n count
   taken-all ps qs l m n taken count h d = record {
     taken = subst (λ ws. IsTaken ps qs l n ws count 1) whole (record {
-        split = h.split ∙ ap (λ ws. ws ++ taken) (d.waits ∙ sym d.done);
-        nodes = h.nodes;
-        out = h.out;
-        same = h.same;
-        asked = λ i c. ap (λ rows. row rows i) d.asked ∙ h.asked i c;
-        uses = λ i c. ap (λ rows. row rows i) d.uses ∙ h.uses i c;
-        kept = d.kept ∙ h.kept;
-        slots = h.slots;
-        opens = h.opens;
-        most = let a = h.most in let b = d.most in omega arith;
-        least = let a = h.least in let b = d.least in omega arith;
-      });
+      split = h.split ∙ ap (λ ws. ws ++ taken) (d.waits ∙ sym d.done);
+      nodes = h.nodes;
+      out = h.out;
+      same = h.same;
+      asked = λ i c. ap (λ rows. row rows i) d.asked ∙ h.asked i c;
+      uses = λ i c. ap (λ rows. row rows i) d.uses ∙ h.uses i c;
+      kept = d.kept ∙ h.kept;
+      slots = h.slots;
+      opens = h.opens;
+      most = let a = h.most in let b = d.most in omega arith;
+      least = let a = h.least in let b = d.least in omega arith;
+    });
     done = d.done;
   }
     where

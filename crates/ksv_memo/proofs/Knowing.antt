@@ -115,8 +115,8 @@ module _ {N V F : Type 0} where
     pub count_kept : AreLinked ps l → count_by (λ b. b) l.kept ≡ length (entries_of ps l)
     count_kept h =
         sym (count_of (numbers_from 0 (length ps))
-            ∙ sum_by-same (λ i. cond (is_some (answer_at (slots_of ps) i)) 1 0) (λ i. cond (is_kept l.kept i) 1 0) (λ i. ap (λ b. cond b 1 0) (sym (h.kept i))) (numbers_from 0 (length ps))
-            ∙ count_numbers l.kept (length ps) (λ i le. h.kept i ∙ ap is_some (past ps i le)))
+        ∙ sum_by-same (λ i. cond (is_some (answer_at (slots_of ps) i)) 1 0) (λ i. cond (is_kept l.kept i) 1 0) (λ i. ap (λ b. cond b 1 0) (sym (h.kept i))) (numbers_from 0 (length ps))
+        ∙ count_numbers l.kept (length ps) (λ i le. h.kept i ∙ ap is_some (past ps i le)))
 
   module _ (ps : List (N × Slot V F)) where
     -- no open node passes it

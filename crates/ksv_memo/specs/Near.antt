@@ -24,10 +24,10 @@ gone_of w change es = filter (λ e. is_touched w change e.node) es
 abbrev pub near : {N A : Type 0} → Standing N A → Change → List (Entry N A) → ℕ
 near w change es =
     8 * (pages_met change
-      + sum_by (λ e. met_by change e.uses) es
-      + length (gone_of w change es)
-      + sum_by (λ e. length e.asked) (gone_of w change es)
-      + sum_by (λ e. length (pages_in e.uses)) (gone_of w change es))
+    + sum_by (λ e. met_by change e.uses) es
+    + length (gone_of w change es)
+    + sum_by (λ e. length e.asked) (gone_of w change es)
+    + sum_by (λ e. length (pages_in e.uses)) (gone_of w change es))
 
 -- so many looks are no fewer than the nodes that go, and no more than what is near
 pub record LooksNear {N A : Type 0} (w : Standing N A) (change : Change) (es : List (Entry N A)) (looked : ℕ) : Type 0 where

@@ -4,7 +4,7 @@ use Rattle.std.specs.Prelude.{Bool, not, List, [], filter, Any}
 use Rattle.std.specs.List.{list_any}
 use Rattle.ksv_bytes.specs.declared.uses.Change.{Change}
 use Rattle.ksv_bytes.specs.Uses.{Touches}
-use Rattle.ksv_memo_links.specs.Touching.{is_use_touched}
+pub use Rattle.ksv_memo_links.specs.Touching.{is_use_touched}
 use Rattle.ksv_memo.specs.Meaning.{Standing}
 use Rattle.ksv_memo.specs.Evaluation.{tells, done}
 

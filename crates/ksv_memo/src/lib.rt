@@ -8,8 +8,8 @@
 #![tactic(auto)]
 
 mod engine;
-mod layout;
 pub mod laws;
+mod layout;
 mod machine;
 mod replies;
 mod rules;

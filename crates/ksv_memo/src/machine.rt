@@ -55,11 +55,7 @@ impl<R: Rules> Machine<R> {
     }
 
     /// One call of the rules, which is counted.
-    fn turn(
-        &mut self,
-        rules: &R,
-        bytes: &Buffer,
-    ) -> Result<Next<R::Node, Reply<R>>, AllocError>
+    fn turn(&mut self, rules: &R, bytes: &Buffer) -> Result<Next<R::Node, Reply<R>>, AllocError>
         requires { IsRunning (on (R.meaning rules.now) bytes.now) self.old.table.kept self.old.table.opened }
         ensures step { IfOk result (λ step. Steps (on (R.meaning rules.now) bytes.now) self.old.table.opened self.new.table.opened step) }
         ensures kept { self.new.table.kept ≡ self.old.table.kept }

@@ -128,7 +128,8 @@ impl<R: Rules> Table<R> {
                 Ok(Asked::Opened)
             }
             Known::New => {
-                self.links.reach(number(self.slots.len().saturating_add(1))?)?;
+                self.links
+                    .reach(number(self.slots.len().saturating_add(1))?)?;
                 open_new(&mut self.slots, &mut self.frames, node)?;
                 Ok(Asked::Opened)
             }

@@ -102,11 +102,11 @@ page-end p q q1 change page i h k le =
     let w = h.within in
     let same : i ≡ length (row p.pages.lists page) = omega arith in
     subst (λ m. HitsPage p q1 change page m 1) same (record {
-        more = peek-more p q q1 (IsEdit change) h.more k;
-        out = λ j lj t. ap (λ (ks : List Bool). is_kept ks (item_at p.pages.lists page j).row) k.kept ∙ h.out j lj t;
-        within = w;
-        looks = let len = ap (λ (ws : List ℕ). length ws) k.work in let a = h.looks in let b = k.looks in omega arith;
-      })
+      more = peek-more p q q1 (IsEdit change) h.more k;
+      out = λ j lj t. ap (λ (ks : List Bool). is_kept ks (item_at p.pages.lists page j).row) k.kept ∙ h.out j lj t;
+      within = w;
+      looks = let len = ap (λ (ws : List ℕ). length ws) k.work in let a = h.looks in let b = k.looks in omega arith;
+    })
 
 pub pages-none : (p : Parts) (change : Change) (a : ℕ) → HitsPages p p change a a
 pages-none p change a = record {

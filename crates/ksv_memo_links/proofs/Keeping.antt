@@ -155,35 +155,35 @@ same_rows rows = record { more = omega arith; each = λ r. refl }
 
 pub grown_whole : (p r : Parts) → IsWhole p → HasSameRows (named p.users.notes) (named r.users.notes) → HasSameRows (named p.pages.notes) (named r.pages.notes) → HasSameRows p.uses.rows r.uses.rows → HasMore p.marks.kept r.marks.kept → r.marks.work ≡ p.marks.work → length r.marks.kept ≤ length r.users.notes → length r.marks.kept ≤ length r.users.lists → length r.marks.kept ≤ length r.pages.notes → length r.marks.kept ≤ length r.uses.rows → IsWhole r
 grown_whole p r w users pages uses kept work l1 l2 l3 l4 = whole r (record {
-    users = l1;
-    lists = l2;
-    pages = l3;
-    uses = l4;
-    asked_in = λ s lt. (let m = kept.more in let k = noted r.users.notes p.users.notes s (length p.marks.kept) (ap length (users.each s)) (w.shaped.asked_in s) lt in omega arith);
-    met_in = λ s lt. (let m = kept.more in let k = noted r.pages.notes p.pages.notes s (length p.marks.kept) (ap length (pages.each s)) (w.shaped.met_in s) lt in omega arith);
-  }) (record {
-    asked_kept = λ s k e lt. kept.each (get_or (row (named r.users.notes) s) k 0) ∙ ap (λ (ns : List ℕ). is_kept p.marks.kept (get_or ns k 0)) (users.each s) ∙ w.asked_kept s k (sym (kept.each s) ∙ e) (subst (λ (ns : List ℕ). k < length ns) (users.each s) lt);
-    met = λ s. pages.each s ∙ w.met s ∙ ap pages_in (sym (uses.each s));
-    vacant = λ s e non. (let v = w.vacant s (sym (kept.each s) ∙ e) (λ c. non (subst (λ ws. Contains ws s) (sym work) c)) in (users.each s ∙ v.0, uses.each s ∙ v.1));
-    waits = λ s c. kept.each s ∙ w.waits s (subst (λ ws. Contains ws s) work c);
-    apart = subst (λ ws. AllPairs (λ (a b : ℕ). a ≢ b) ws) (sym work) w.apart;
-  })
+  users = l1;
+  lists = l2;
+  pages = l3;
+  uses = l4;
+  asked_in = λ s lt. (let m = kept.more in let k = noted r.users.notes p.users.notes s (length p.marks.kept) (ap length (users.each s)) (w.shaped.asked_in s) lt in omega arith);
+  met_in = λ s lt. (let m = kept.more in let k = noted r.pages.notes p.pages.notes s (length p.marks.kept) (ap length (pages.each s)) (w.shaped.met_in s) lt in omega arith);
+}) (record {
+  asked_kept = λ s k e lt. kept.each (get_or (row (named r.users.notes) s) k 0) ∙ ap (λ (ns : List ℕ). is_kept p.marks.kept (get_or ns k 0)) (users.each s) ∙ w.asked_kept s k (sym (kept.each s) ∙ e) (subst (λ (ns : List ℕ). k < length ns) (users.each s) lt);
+  met = λ s. pages.each s ∙ w.met s ∙ ap pages_in (sym (uses.each s));
+  vacant = λ s e non. (let v = w.vacant s (sym (kept.each s) ∙ e) (λ c. non (subst (λ ws. Contains ws s) (sym work) c)) in (users.each s ∙ v.0, uses.each s ∙ v.1));
+  waits = λ s c. kept.each s ∙ w.waits s (subst (λ ws. Contains ws s) work c);
+  apart = subst (λ ws. AllPairs (λ (a b : ℕ). a ≢ b) ws) (sym work) w.apart;
+})
 
 -- ---- nothing has changed
 pub same_whole : (p r : Parts) → IsWhole p → IsAsBefore p r → IsWhole r
 same_whole p r w s = whole r (record {
-    users = (let a = ap length s.users in let b = wide p.users.notes in let c = wide r.users.notes in let d = w.shaped.users in let e = ap (λ m. length m.kept) s.marks in omega arith);
-    lists = (let a = s.user_lists in let d = w.shaped.lists in let e = ap (λ m. length m.kept) s.marks in omega arith);
-    pages = (let a = ap length s.pages in let b = wide p.pages.notes in let c = wide r.pages.notes in let d = w.shaped.pages in let e = ap (λ m. length m.kept) s.marks in omega arith);
-    uses = (let a = ap length s.uses in let d = w.shaped.uses in let e = ap (λ m. length m.kept) s.marks in omega arith);
-    asked_in = λ t lt. (let e = ap (λ m. length m.kept) s.marks in let k = noted r.users.notes p.users.notes t (length p.marks.kept) (ap (λ rows. length (row rows t)) s.users) (w.shaped.asked_in t) lt in omega arith);
-    met_in = λ t lt. (let e = ap (λ m. length m.kept) s.marks in let k = noted r.pages.notes p.pages.notes t (length p.marks.kept) (ap (λ rows. length (row rows t)) s.pages) (w.shaped.met_in t) lt in omega arith);
-  }) (
+  users = (let a = ap length s.users in let b = wide p.users.notes in let c = wide r.users.notes in let d = w.shaped.users in let e = ap (λ m. length m.kept) s.marks in omega arith);
+  lists = (let a = s.user_lists in let d = w.shaped.lists in let e = ap (λ m. length m.kept) s.marks in omega arith);
+  pages = (let a = ap length s.pages in let b = wide p.pages.notes in let c = wide r.pages.notes in let d = w.shaped.pages in let e = ap (λ m. length m.kept) s.marks in omega arith);
+  uses = (let a = ap length s.uses in let d = w.shaped.uses in let e = ap (λ m. length m.kept) s.marks in omega arith);
+  asked_in = λ t lt. (let e = ap (λ m. length m.kept) s.marks in let k = noted r.users.notes p.users.notes t (length p.marks.kept) (ap (λ rows. length (row rows t)) s.users) (w.shaped.asked_in t) lt in omega arith);
+  met_in = λ t lt. (let e = ap (λ m. length m.kept) s.marks in let k = noted r.pages.notes p.pages.notes t (length p.marks.kept) (ap (λ rows. length (row rows t)) s.pages) (w.shaped.met_in t) lt in omega arith);
+}) (
     let P : List Bool → List ℕ → List (List ℕ) → List (List ℕ) → List (List Use) → Type 0 = λ k ws a g u. IsSound k ws a g u in
     subst (λ m. P m.kept m.work (named r.users.notes) (named r.pages.notes) r.uses.rows) (sym s.marks)
     (subst (λ a. P p.marks.kept p.marks.work a (named r.pages.notes) r.uses.rows) (sym s.users)
-        (subst (λ g. P p.marks.kept p.marks.work (named p.users.notes) g r.uses.rows) (sym s.pages)
-            (subst (P p.marks.kept p.marks.work (named p.users.notes) (named p.pages.notes)) (sym s.uses) (sound p w)))))
+    (subst (λ g. P p.marks.kept p.marks.work (named p.users.notes) g r.uses.rows) (sym s.pages)
+    (subst (P p.marks.kept p.marks.work (named p.users.notes) (named p.pages.notes)) (sym s.uses) (sound p w)))))
 
 -- ---- a slot is kept
 pub still_kept : (kept : List Bool) (slot s : ℕ) → slot < length kept → is_kept kept s ≡ true → is_kept (set kept slot true) s ≡ true

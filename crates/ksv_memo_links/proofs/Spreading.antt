@@ -50,11 +50,11 @@ users-end p q q1 slot i h k le =
     let w = h.within in
     let same : i ≡ length (row p.users.lists slot) = omega arith in
     subst (λ m. HitsUsers p q1 slot m 1) same (record {
-        more = peek-more p q q1 (λ first x. Why p first x slot) h.more k;
-        out = λ j lj. ap (λ (ks : List Bool). is_kept ks (item_at p.users.lists slot j).row) k.kept ∙ h.out j lj;
-        within = w;
-        looks = let len = ap (λ (ws : List ℕ). length ws) k.work in let a = h.looks in let b = k.looks in omega arith;
-      })
+      more = peek-more p q q1 (λ first x. Why p first x slot) h.more k;
+      out = λ j lj. ap (λ (ks : List Bool). is_kept ks (item_at p.users.lists slot j).row) k.kept ∙ h.out j lj;
+      within = w;
+      looks = let len = ap (λ (ws : List ℕ). length ws) k.work in let a = h.looks in let b = k.looks in omega arith;
+    })
 
 pub spread-none : (p : Parts) → Spreads p p 0 0
 spread-none p = record {

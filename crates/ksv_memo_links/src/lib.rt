@@ -14,4 +14,3 @@ mod shelf;
 mod used;
 
 pub use links::Links;
-

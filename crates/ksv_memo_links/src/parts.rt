@@ -155,7 +155,9 @@ impl Parts {
         self.pages.linked();
         match change {
             Change::Overwrite { at, n } => self.hit_pages(change, at, n),
-            Change::Insert { .. } | Change::Delete { .. } | Change::Append => self.hit_slots(change),
+            Change::Insert { .. } | Change::Delete { .. } | Change::Append => self.hit_slots(
+                change,
+            ),
         }
     }
 

@@ -93,11 +93,7 @@ impl Shelf {
     {
         self.look();
         let pins = &self.rows[r as usize];
-        if i < pins.len() {
-            Some(pins[i])
-        } else {
-            None
-        }
+        if i < pins.len() { Some(pins[i]) } else { None }
     }
 
     pub(crate) fn set(&mut self, r: u32, i: u32, pin: Pin)

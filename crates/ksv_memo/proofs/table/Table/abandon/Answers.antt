@@ -33,4 +33,4 @@ returns-in-Some-clause-rest g c =
     let t = top ps c.self.inside.frames c.in-Some.frame c.self.invariant.waits (c.pop.new.self.frames.items, c.in-Some.ensures.some.frames) in
     subst (λ v. TakesFirst true v.opened (opens_of c.set.new.slots.entries c.pop.new.self)) c.self.view_is
     (abandons-rest ps c.self.inside.links c.self.inside.frames c.pop.new.self c.in-Some.frame c.self.invariant c.in-Some.ensures.some t c.set.new.slots.entries
-        (set_at ps c.set.new.slots.entries c.in-Some.frame.slot t.node Open Empty t.there c.set.ensures))
+    (set_at ps c.set.new.slots.entries c.in-Some.frame.slot t.node Open Empty t.there c.set.ensures))

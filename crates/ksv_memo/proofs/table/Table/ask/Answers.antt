@@ -53,9 +53,9 @@ returns-in_ok-reopen-in-Empty-clause-ok g c =
     let changes = set_at t.slots.entries c.reopen.new.slots.entries c.in-Empty.place at.node Empty Open at.there c.in_ok-reopen-in-Empty.ensures.slots in
     subst (λ v. Opens eq c.args.node v (record { kept = entries_of c.reopen.new.slots.entries t.links; opened = opens_of c.reopen.new.slots.entries c.reopen.new.frames })) c.self.view_is
     (opens-more eq t.slots.entries t.links t.frames c.self.invariant c.args.node c.reopen.new.slots.entries c.in-Empty.place at.node changes
-        (empty_none eq t.slots.entries t.links t.frames c.self.invariant c.args.node c.in-Empty.place at) (empty_closed eq t.slots.entries t.links t.frames c.self.invariant c.args.node c.in-Empty.place at) c.reopen.new.frames c.in_ok-reopen-in-Empty.ensures.frames 0 (let n = set_count t.slots.entries c.in-Empty.place Open c.reopen.new.slots.entries c.in_ok-reopen-in-Empty.ensures.slots in omega arith) tt at.passes
-        (empty_out eq t.slots.entries t.links t.frames c.self.invariant.kept c.self.invariant.waits c.args.node laws c.in-Empty.ensures.unique c.in-Empty.place at)
-        (empty_free eq t.slots.entries t.links t.frames c.self.invariant.kept c.self.invariant.waits c.args.node laws c.in-Empty.ensures.unique c.in-Empty.place at))
+    (empty_none eq t.slots.entries t.links t.frames c.self.invariant c.args.node c.in-Empty.place at) (empty_closed eq t.slots.entries t.links t.frames c.self.invariant c.args.node c.in-Empty.place at) c.reopen.new.frames c.in_ok-reopen-in-Empty.ensures.frames 0 (let n = set_count t.slots.entries c.in-Empty.place Open c.reopen.new.slots.entries c.in_ok-reopen-in-Empty.ensures.slots in omega arith) tt at.passes
+    (empty_out eq t.slots.entries t.links t.frames c.self.invariant.kept c.self.invariant.waits c.args.node laws c.in-Empty.ensures.unique c.in-Empty.place at)
+    (empty_free eq t.slots.entries t.links t.frames c.self.invariant.kept c.self.invariant.waits c.args.node laws c.in-Empty.ensures.unique c.in-Empty.place at))
 
 -- there is no slot
 pub open_new-requires : goal.open_new-requires

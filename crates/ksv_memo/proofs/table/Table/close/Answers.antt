@@ -110,4 +110,4 @@ returns-in_err-hear-clause-err g c =
     let count = set_count ps f.slot c.slot_of.result c.set.new.slots.entries c.set.ensures in
     on_err_always c.from_residual-in_err-hear.result
     (subst (λ v. MayKeep c.args.answer v.opened v.kept (entries_of c.set.new.slots.entries c.keep.new.self)) c.self.view_is
-        (may-keep ps c.self.inside.links c.self.inside.frames c.take_last.new.self f c.self.invariant c.take_last.ensures t c.set.new.slots.entries c.slot_of.result c.args.answer c.slot_of.ensures set count c.keep.new.self c.in_ok-uses.uses.items each k.in_asked k.in_uses kept))
+    (may-keep ps c.self.inside.links c.self.inside.frames c.take_last.new.self f c.self.invariant c.take_last.ensures t c.set.new.slots.entries c.slot_of.result c.args.answer c.slot_of.ensures set count c.keep.new.self c.in_ok-uses.uses.items each k.in_asked k.in_uses kept))

@@ -53,10 +53,10 @@ returns-clause-kept g c =
     let a = c.forget.ensures.least in let fits = c.forget.ensures.fits in
     let b = e.taken.least in let d = c.looks.ensures.least in let k = c.looks.ensures.count in let s = c.saturating_add.ensures in
     subst (λ v. Sweeps c.args.change v.kept (entries_of qs n) looked) c.self.view_is (record {
-        marks = all_marks c.args.change ps qs l m n count h f e;
-        entries = entries c.args.change ps qs l m n count h f e _;
-        marked = marked c.args.change ps qs l m n count h f e _;
-        stays = ap (λ k. entries_at qs n (numbers_from 0 k)) e.taken.slots ∙ stays c.args.change ps qs l m n count h f e _;
-        least = omega arith;
-        most = looks-most c.args.change ps qs l m n count h f e c.forget.ensures.vacant c.forget.ensures.most looked (omega arith);
-      })
+      marks = all_marks c.args.change ps qs l m n count h f e;
+      entries = entries c.args.change ps qs l m n count h f e _;
+      marked = marked c.args.change ps qs l m n count h f e _;
+      stays = ap (λ k. entries_at qs n (numbers_from 0 k)) e.taken.slots ∙ stays c.args.change ps qs l m n count h f e _;
+      least = omega arith;
+      most = looks-most c.args.change ps qs l m n count h f e c.forget.ensures.vacant c.forget.ensures.most looked (omega arith);
+    })

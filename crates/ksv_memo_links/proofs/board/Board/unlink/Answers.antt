@@ -24,19 +24,19 @@ board-moved : (lists notes lists2 notes2 : List (List Pin)) (o : ℕ) (note d m 
 board-moved lists notes lists2 notes2 o note d m board h k e f =
     let P : List (List Pin) → List (List Pin) → Type 0 = λ a b. IsBoard a b in
     subst (λ a. P a notes2) (sym e) (subst (P (cut_row lists note.row note.at d)) (sym f) (record {
-        linked = linked-moved lists notes o note d m h k;
-        fits = cut-fits lists note d board.fits;
-        few = few-pop lists notes (put_row (pop_row notes o) m.row m.at note) o note d board.few h (named-moved lists notes o note d m h k);
-      }))
+      linked = linked-moved lists notes o note d m h k;
+      fits = cut-fits lists note d board.fits;
+      few = few-pop lists notes (put_row (pop_row notes o) m.row m.at note) o note d board.few h (named-moved lists notes o note d m h k);
+    }))
 
 board-unmoved : (lists notes lists2 notes2 : List (List Pin)) (o : ℕ) (note d : Pin) → IsBoard lists notes → Before lists notes o note → length (row lists2 note.row) ≤ note.at → lists2 ≡ cut_row lists note.row note.at d → notes2 ≡ pop_row notes o → IsBoard lists2 notes2
 board-unmoved lists notes lists2 notes2 o note d board h le e f =
     let P : List (List Pin) → List (List Pin) → Type 0 = λ a b. IsBoard a b in
     subst (λ a. P a notes2) (sym e) (subst (P (cut_row lists note.row note.at d)) (sym f) (record {
-        linked = linked-unmoved lists notes o note d h (subst (λ rows. length (row rows note.row) ≤ note.at) e le);
-        fits = cut-fits lists note d board.fits;
-        few = few-pop lists notes (pop_row notes o) o note d board.few h (named-pop notes o h.owner);
-      }))
+      linked = linked-unmoved lists notes o note d h (subst (λ rows. length (row rows note.row) ≤ note.at) e le);
+      fits = cut-fits lists note d board.fits;
+      few = few-pop lists notes (pop_row notes o) o note d board.few h (named-pop notes o h.owner);
+    }))
 
 pub swap_remove-requires-clause-row_in : goal.swap_remove-requires-clause-row_in
 swap_remove-requires-clause-row_in c =
