@@ -2,8 +2,8 @@
 use Rattle.std.proofs.Common.{◌≡◌, ℕ, suc, ◌+◌, ◌<◌, ◌≤◌, Bool, true, false, ◌&&◌, cond, List, [], ◌∷◌, map, length, get_or, drop, Some, None, refl, sym, ap, ◌∙◌, add-one, drop-cons}
 use Rattle.std.specs.Str.{is_utf8}
 use Rattle.std.proofs.lemmas.List.{drop_all}
-use Rattle.ksv_schema_scope.specs.declared.member.Member.{Member as MemberRow}
-use Rattle.ksv_schema_scope.specs.MemberRows.{member_of as row}
+use Rattle.ksv_schema_scope.specs.declared.members.Member.{Member as MemberRow}
+use Rattle.ksv_schema_scope.specs.Code.{member_of as row}
 use Rattle.ksv_desc.specs.Names.{distinct_behind}
 use Rattle.ksv_schema_build.specs.Stated.{are_texts}
 use Rattle.ksv_desc.specs.Description.{as_text}
