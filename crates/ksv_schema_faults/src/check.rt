@@ -88,7 +88,6 @@ fn note_type<'a>(
 }
 
 /// Notes the faults of each type.
-#[tactic(auto, using(crate::proofs::Noted::steps))]
 fn note_types<'a>(
     alloc: Global,
     least: &mut Least,
@@ -104,7 +103,6 @@ fn note_types<'a>(
 }
 
 /// Notes the faults of the members of each type.
-#[tactic(auto, using(crate::proofs::Noted::steps))]
 fn note_all_members<'a>(
     alloc: Global,
     least: &mut Least,
@@ -120,7 +118,6 @@ fn note_all_members<'a>(
 }
 
 /// Notes the faults of each enum.
-#[tactic(auto, using(crate::proofs::Noted::steps))]
 fn note_enums(least: &mut Least, home: Home, enums: &[Row]) -> Result<(), AllocError>
     ensures { OnOk result (seen_fault least.new ≡ noted (seen_fault least.old) (flat_map (enum_faults_of (seen_home home.entry)) (map row_of enums.now))) }
 {

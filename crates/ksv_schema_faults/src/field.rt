@@ -88,7 +88,6 @@ fn note_case(
 }
 
 /// Notes the same for each of these cases.
-#[tactic(auto, using(crate::proofs::Noted::steps))]
 fn note_cases(
     least: &mut Least,
     home: Home,

@@ -89,7 +89,6 @@ fn note_item(least: &mut Least, item: &Yaml)
 }
 
 /// Notes the bad items of `contents`.
-#[tactic(auto, using(crate::proofs::Noted::steps))]
 fn note_items(least: &mut Least, items: &[Yaml])
     ensures { seen_fault least.new ≡ noted (seen_fault least.old) (flat_map item_faults (map view items.now)) }
 {
@@ -196,7 +195,6 @@ fn note_case(least: &mut Least, home: Home, entry: &Entry) -> Result<(), AllocEr
 }
 
 /// Notes the faults of each case.
-#[tactic(auto, using(crate::proofs::Noted::steps))]
 fn note_cases(least: &mut Least, home: Home, entries: &[Entry]) -> Result<(), AllocError>
     ensures { OnOk result (seen_fault least.new ≡ noted (seen_fault least.old) (flat_map (case_faults (seen_home home.entry)) (map pair entries.now))) }
 {
@@ -343,7 +341,6 @@ fn note_key(
 }
 
 /// Notes the faults of each key of a mapping.
-#[tactic(auto, using(crate::proofs::Noted::steps))]
 pub(crate) fn note_keys(
     least: &mut Least,
     home: Home,

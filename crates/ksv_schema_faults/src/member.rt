@@ -145,7 +145,6 @@ fn note_member(
 }
 
 /// Notes the faults of each member of a type.
-#[tactic(auto, using(crate::proofs::Noted::steps))]
 fn note_each(least: &mut Least, home: Home, members: &[Member]) -> Result<(), AllocError>
     ensures { OnOk result (seen_fault least.new ≡ noted (seen_fault least.old) (each_from (member_faults (declared home.entry.scopes.now) home.entry.within) 0 (map member_of members.now))) }
 {

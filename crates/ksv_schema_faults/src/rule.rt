@@ -181,7 +181,6 @@ fn note_ruled(
 }
 
 /// Notes what breaks each of these rules.
-#[tactic(auto, using(crate::proofs::Noted::steps))]
 fn note_each(
     least: &mut Least,
     kind: MappingKind,
