@@ -24,11 +24,10 @@ module _ {K A : Type 0} (old new : K → Bool) (eq : A → K → Bool) where
 pub none_given : {K A : Type 0} (old : K → Bool) (eq : A → K → Bool) (o : Option A) → None ≡ o → Adds old old (λ k. option_map_or (λ y. eq y k) o false)
 none_given old eq o e = record { given = λ k. or_false (old k) ∙ ap (λ (o : Option _). old k || option_map_or (λ y. eq y k) o false) e }
 
-module _ {K E : Type 0} (has new : K → Bool) (test : K → E → Bool) (before : List E) (of : (k : K) → has k ≡ list_any (test k) before) where
-  -- with one entry more
-  pub one_more : (x : E) → Adds has new (λ k. test k x) → (k : K) → new k ≡ list_any (test k) (before ++ x ∷ [])
-  one_more x a k = a.given k ∙ ap (λ (b : Bool). b || test k x) (of k) ∙ ap (λ (b : Bool). list_any (test k) before || b) (or_false (test k x)) ∙ sym (list_any-append (test k) before (x ∷ []))
+-- with one entry more
+pub one_more : {K E : Type 0} (has new : K → Bool) (test : K → E → Bool) (before : List E) → ((k : K) → has k ≡ list_any (test k) before) → (x : E) → Adds has new (λ k. test k x) → (k : K) → new k ≡ list_any (test k) (before ++ x ∷ [])
+one_more has new test before of x a k = a.given k ∙ ap (λ (b : Bool). b || test k x) (of k) ∙ ap (λ (b : Bool). list_any (test k) before || b) (or_false (test k x)) ∙ sym (list_any-append (test k) before (x ∷ []))
 
-  pub again_is : (o : Option K) → option_map_or has o false ≡ option_map_or (λ k. list_any (test k) before) o false
-  again_is None = refl
-  again_is (Some k) = of k
+pub again_is : {K E : Type 0} (has : K → Bool) (test : K → E → Bool) (before : List E) → ((k : K) → has k ≡ list_any (test k) before) → (o : Option K) → option_map_or has o false ≡ option_map_or (λ k. list_any (test k) before) o false
+again_is has test before of None = refl
+again_is has test before of (Some k) = of k

@@ -161,10 +161,13 @@ module _ (limit : ℕ) (xs ys : List ℕ) (moved : IsPermutation xs ys) (rises :
   unfolding line_past
   line_past-none le = ap (fold lower None) (none_passes passes xs (none_past le))
 
+cut : (a b : ℕ) → (a < b) ⊎ (b ≤ a)
+cut a b = grind (arith)
+
 -- of lines in rising order the one past the limit
 pub line_past_is : (limit : ℕ) (xs ys : List ℕ) → AreRising xs ys → slice_get ys limit ≡ line_past limit xs
 line_past_is limit xs ys h =
-    elim (split limit (length ys)) [
+    elim (cut limit (length ys)) [
       | inl lt ↦ slice_get-get_or ys limit 0 lt ∙ sym (line_past-some limit xs ys h.moved h.rises lt)
       | inr le ↦ slice_get_past ys limit le ∙ sym (line_past-none limit xs ys h.moved h.rises le)
     ]

@@ -1,6 +1,6 @@
 //! Limits: 1,024 types, 256 members of a type, 65,536 entries of enums.
 
-ghost use Rattle.std.specs.Prelude.{◌≡◌, ◌++◌, OnOk, IfOk, map, flat_map};
+ghost use Rattle.std.specs.Prelude.{◌≡◌, ◌++◌, OnOk, IfOk, map, flat_map, slice_get};
 ghost use Rattle.ksv_yaml_tree.specs.View.{pair};
 ghost use Rattle.ksv_schema_scope.specs.Rows.{keys_of};
 ghost use Rattle.ksv_schema_scope.specs.Code.{row_of};
@@ -54,11 +54,16 @@ fn rising_lines(alloc: Global, enums: &[Row]) -> Result<Vec<usize>, AllocError>
     Ok(lines)
 }
 
+fn past_limit(lines: &[usize]) -> Option<usize>
+    ensures { result ≡ slice_get lines.now most_entries }
+{
+    lines.get(65536).copied()
+}
+
 /// The lowest line at which there are more entries of enums than the limit.
-#[tactic(auto, using(crate::proofs::Limits::line_past_is))]
 pub(crate) fn line_past(alloc: Global, enums: &[Row]) -> Result<Option<usize>, AllocError>
     ensures { IfOk result (λ o. o ≡ line_past most_entries (map (λ p. p.line) (flat_map keys_of (map row_of enums.now)))) }
 {
     let lines = rising_lines(alloc, enums)?;
-    Ok(lines.get(65536).copied())
+    Ok(past_limit(lines.as_slice()))
 }
