@@ -18,17 +18,30 @@ use std::alloc::Global;
 
 /// A type with these members.
 #[tactic(auto, unfolding(crate::specs::Stated::type_of))]
-fn type_of(context: Context, row: &Row, members: &[Member]) -> Made<TypeDesc>
+fn type_of(
+    alloc: Global,
+    scopes: &Scopes,
+    names: &Names,
+    within: usize,
+    row: &Row,
+    members: &[Member],
+) -> Made<TypeDesc>
     requires { map member_of members.now ≡ members_of (row_of row.now) }
-    ensures { IfOk result (λ o. option_map plain_type o ≡ type_of (declared context.entry.scopes.now) context.entry.names.now context.entry.within (row_of row.now)) }
+    ensures { IfOk result (λ o. option_map plain_type o ≡ type_of (declared scopes.now) names.now within (row_of row.now)) }
 {
-    let Some(id) = owned_text(context.alloc, row.id)? else {
+    let Some(id) = owned_text(alloc, row.id)? else {
         return Ok(None);
+    };
+    let context = Context {
+        alloc,
+        scopes,
+        names,
+        within,
     };
     let Some(members) = members_of(context, members)? else {
         return Ok(None);
     };
-    Ok(Some(TypeDesc::new(context.alloc, id, members)?))
+    Ok(Some(TypeDesc::new(alloc, id, members)?))
 }
 
 /// Each of these types, of which these are the members.
@@ -44,13 +57,7 @@ fn each_of<'a>(
 {
     let mut made = Vec::new(alloc);
     for (within, row) in types.iter().enumerate() {
-        let context = Context {
-            alloc,
-            scopes,
-            names,
-            within,
-        };
-        match type_of(context, row, &members[within])? {
+        match type_of(alloc, scopes, names, within, row, &members[within])? {
             Some(type_desc) => made.push(type_desc)?,
             None => return Ok(None),
         }
