@@ -13,7 +13,8 @@ ghost use Rattle.ksv_schema_faults.specs.Rules.{meta_faults, type_keys_faults, t
 ghost use Rattle.ksv_schema_faults.specs.Code.{seen_fault, seen_home};
 
 use crate::enumeration::note_enum;
-use crate::fault::{DescFault, DescFaultKind, Least, note, note_if};
+use crate::fault::DescFaultKind::BadValue;
+use crate::fault::{DescFault, Least, Noted, note, note_if};
 use crate::home::{Home, home_in};
 use crate::limit::{line_past, note_past};
 use crate::member::note_members;
@@ -25,7 +26,7 @@ use std::alloc::{AllocError, Global};
 
 /// Notes the faults of a type's `meta`.
 #[tactic(auto, using(crate::proofs::Noted::steps), unfolding(crate::specs::Rules::meta_faults))]
-fn note_meta(least: &mut Least, home: Home, entry: &Entry) -> Result<(), AllocError>
+fn note_meta(least: &mut Least, home: Home, entry: &Entry) -> Noted
     ensures { OnOk result (seen_fault least.new ≡ noted (seen_fault least.old) (meta_faults (seen_home home.entry) home.entry.within (pair entry.now))) }
 {
     let kind = if home.within == 0 {
@@ -41,12 +42,7 @@ fn note_meta(least: &mut Least, home: Home, entry: &Entry) -> Result<(), AllocEr
 
 /// Notes the faults of a type's keys.
 #[tactic(auto, using(crate::proofs::Noted::steps), unfolding(crate::specs::Rules::type_keys_faults))]
-fn note_type_keys(
-    least: &mut Least,
-    home: Home,
-    line: usize,
-    entries: &[Entry],
-) -> Result<(), AllocError>
+fn note_type_keys(least: &mut Least, home: Home, line: usize, entries: &[Entry]) -> Noted
     ensures { OnOk result (seen_fault least.new ≡ noted (seen_fault least.old) (type_keys_faults (seen_home home.entry) home.entry.within line (map pair entries.now))) }
 {
     let kind = if home.within == 0 {
@@ -69,31 +65,21 @@ fn note_type<'a>(
     scopes: &'a Scopes<'a>,
     number: usize,
     row: &Row,
-) -> Result<(), AllocError>
+) -> Noted
     ensures { OnOk result (seen_fault least.new ≡ noted (seen_fault least.old) (type_faults (declared scopes.now) number (row_of row.now))) }
 {
     let home = home_in(alloc, scopes, number);
     match row.value.entries() {
         Some(entries) => note_type_keys(least, home, row.line, entries)?,
-        None => note(least, row.line, DescFaultKind::BadValue),
+        None => note(least, row.line, BadValue),
     }
     let is_inner = number != 0;
-    note_if(
-        least,
-        is_inner & !is_id(row.id),
-        row.line,
-        DescFaultKind::BadValue,
-    );
+    note_if(least, is_inner & !is_id(row.id), row.line, BadValue);
     Ok(())
 }
 
 /// Notes the faults of each type.
-fn note_types<'a>(
-    alloc: Global,
-    least: &mut Least,
-    scopes: &'a Scopes<'a>,
-    types: &[Row],
-) -> Result<(), AllocError>
+fn note_types<'a>(alloc: Global, least: &mut Least, scopes: &'a Scopes<'a>, types: &[Row]) -> Noted
     ensures { OnOk result (seen_fault least.new ≡ noted (seen_fault least.old) (each_from (type_faults (declared scopes.now)) 0 (map row_of types.now))) }
 {
     for (number, row) in types.iter().enumerate() {
@@ -108,7 +94,7 @@ fn note_all_members<'a>(
     least: &mut Least,
     scopes: &'a Scopes<'a>,
     members: &[Vec<Member<'a>>],
-) -> Result<(), AllocError>
+) -> Noted
     ensures { OnOk result (seen_fault least.new ≡ noted (seen_fault least.old) (each_from (members_faults (declared scopes.now)) 0 (map (λ v. map member_of v.items) members.now))) }
 {
     for (number, members) in members.iter().enumerate() {
@@ -118,7 +104,7 @@ fn note_all_members<'a>(
 }
 
 /// Notes the faults of each enum.
-fn note_enums(least: &mut Least, home: Home, enums: &[Row]) -> Result<(), AllocError>
+fn note_enums(least: &mut Least, home: Home, enums: &[Row]) -> Noted
     ensures { OnOk result (seen_fault least.new ≡ noted (seen_fault least.old) (flat_map (enum_faults_of (seen_home home.entry)) (map row_of enums.now))) }
 {
     for row in enums {

@@ -12,7 +12,8 @@ ghost use Rattle.ksv_schema_faults.specs.Faults.{noted};
 ghost use Rattle.ksv_schema_faults.specs.Rules.{enum_row_faults, entry_value_faults, entry_faults, each_from, enum_faults_of};
 ghost use Rattle.ksv_schema_faults.specs.Code.{seen_fault, seen_home, has_number, has_id, Gives, Adds, AreOf};
 
-use crate::fault::{DescFaultKind, Least, note, note_if};
+use crate::fault::DescFaultKind::{BadValue, KeysAgainst};
+use crate::fault::{Least, Noted, note, note_if};
 use crate::home::Home;
 use crate::key::note_numeral;
 use crate::member::id_line;
@@ -30,21 +31,21 @@ fn note_row(least: &mut Least, row: &Row)
 {
     let is_named = is_id(row.id);
     let has_entries = row.value.entries().is_some();
-    note_if(least, !is_named, row.line, DescFaultKind::BadValue);
-    note_if(least, !has_entries, row.line, DescFaultKind::BadValue);
+    note_if(least, !is_named, row.line, BadValue);
+    note_if(least, !has_entries, row.line, BadValue);
 }
 
 /// Notes the faults of an entry's value: an id, or a mapping with an id.
 #[tactic(auto, unfolding(crate::specs::Rules::entry_value_faults))]
-fn note_value(least: &mut Least, home: Home, entry: &Entry) -> Result<(), AllocError>
+fn note_value(least: &mut Least, home: Home, entry: &Entry) -> Noted
     ensures { OnOk result (seen_fault least.new ≡ noted (seen_fault least.old) (entry_value_faults (seen_home home.entry) (pair entry.now))) }
 {
     let value = entry.value();
     match value.text() {
-        Some(text) => note_if(least, !is_id(text), entry.line(), DescFaultKind::BadValue),
+        Some(text) => note_if(least, !is_id(text), entry.line(), BadValue),
         None => match value.entries() {
             Some(keys) => note_mapping(least, home, MappingKind::Constant, value.line(), keys)?,
-            None => note(least, entry.line(), DescFaultKind::BadValue),
+            None => note(least, entry.line(), BadValue),
         },
     }
     Ok(())
@@ -100,12 +101,7 @@ pub(crate) struct Seen<'a> {
 }
 
 /// Notes the faults of an entry, after those whose numbers and ids were given.
-fn note_entry<'a>(
-    least: &mut Least,
-    home: Home,
-    seen: &mut Seen<'a>,
-    entry: &'a Entry,
-) -> Result<(), AllocError>
+fn note_entry<'a>(least: &mut Least, home: Home, seen: &mut Seen<'a>, entry: &'a Entry) -> Noted
     ensures noted { OnOk result ((before : List Pair) → AreOf seen.old before → seen_fault least.new ≡ noted (seen_fault least.old) (entry_faults (seen_home home.entry) before (pair entry.now))) }
     ensures given { OnOk result ((before : List Pair) → AreOf seen.old before → AreOf seen.new (before ++ pair entry.now ∷ [])) }
 {
@@ -114,18 +110,18 @@ fn note_entry<'a>(
     let is_id_again = see_id(&mut seen.ids, entry)?;
     note_numeral(least, line, signed_number(entry.key()));
     note_value(least, home, entry)?;
-    note_if(least, is_number_again, line, DescFaultKind::KeysAgainst);
+    note_if(least, is_number_again, line, KeysAgainst);
     note_if(
         least,
         is_id_again,
         id_line(entry.value(), line),
-        DescFaultKind::KeysAgainst,
+        KeysAgainst,
     );
     Ok(())
 }
 
 /// Notes the faults of each of these entries.
-fn note_entries(least: &mut Least, home: Home, entries: &[Entry]) -> Result<(), AllocError>
+fn note_entries(least: &mut Least, home: Home, entries: &[Entry]) -> Noted
     ensures { OnOk result (seen_fault least.new ≡ noted (seen_fault least.old) (each_from (λ i. entry_faults (seen_home home.entry) (take i (map pair entries.now))) 0 (map pair entries.now))) }
 {
     let mut seen = Seen {
@@ -140,7 +136,7 @@ fn note_entries(least: &mut Least, home: Home, entries: &[Entry]) -> Result<(), 
 
 /// Notes the faults of an enum and of its entries.
 #[tactic(auto, using(crate::proofs::Noted::steps), unfolding(crate::specs::Rules::enum_faults_of))]
-pub(crate) fn note_enum(least: &mut Least, home: Home, row: &Row) -> Result<(), AllocError>
+pub(crate) fn note_enum(least: &mut Least, home: Home, row: &Row) -> Noted
     ensures { OnOk result (seen_fault least.new ≡ noted (seen_fault least.old) (enum_faults_of (seen_home home.entry) (row_of row.now))) }
 {
     note_row(least, row);

@@ -9,12 +9,12 @@ ghost use Rattle.ksv_schema_faults.specs.Rules.{name_fault, expression_faults, a
 ghost use Rattle.ksv_schema_keys.specs.Code.{seen_type_text};
 ghost use Rattle.ksv_schema_faults.specs.Code.{seen_fault, seen_home};
 
-use crate::fault::{DescFaultKind, Least, note, note_if};
+use crate::fault::DescFaultKind::{LeftOut, NoByteOrder, NoExpression, UnknownName, WrongCount};
+use crate::fault::{Least, Noted, note, note_if};
 use crate::home::{Home, position_at};
 use ksv_expr_tree::Expr;
 use ksv_schema_keys::{TypeText, read_expression};
 use ksv_schema_names::{BuiltIn, NameFault, Site, argument_fault, name_fault};
-use std::alloc::AllocError;
 
 /// Notes what is wrong with a name.
 #[tactic(auto, using(crate::proofs::Noted::steps))]
@@ -23,8 +23,8 @@ fn note_name(least: &mut Least, line: usize, found: Option<NameFault>)
 {
     match found {
         None => {}
-        Some(NameFault::Unknown) => note(least, line, DescFaultKind::UnknownName),
-        Some(NameFault::LeftOut) => note(least, line, DescFaultKind::LeftOut),
+        Some(NameFault::Unknown) => note(least, line, UnknownName),
+        Some(NameFault::LeftOut) => note(least, line, LeftOut),
     }
 }
 
@@ -36,7 +36,7 @@ pub(crate) fn note_expression(
     site: Site,
     line: usize,
     text: &[u8],
-) -> Result<(), AllocError>
+) -> Noted
     ensures { OnOk result (seen_fault least.new ≡ noted (seen_fault least.old) (expression_faults (seen_home home.entry) site line (expression_of text.now))) }
 {
     match read_expression(home.alloc, text)? {
@@ -44,7 +44,7 @@ pub(crate) fn note_expression(
             let found = name_fault(home.scopes, home.within, position_at(home, site), &expr);
             note_name(least, line, found);
         }
-        Err(fault) => note(least, line, DescFaultKind::NoExpression(fault)),
+        Err(fault) => note(least, line, NoExpression(fault)),
     }
     Ok(())
 }
@@ -67,16 +67,11 @@ fn note_language(least: &mut Least, home: Home, line: usize, built_in: BuiltIn)
     match built_in {
         BuiltIn::Integer { size, order, .. } => {
             let is_open = order.is_none() & home.scopes.order_of(home.within).is_none();
-            note_if(
-                least,
-                size != 1 && is_open,
-                line,
-                DescFaultKind::NoByteOrder,
-            );
+            note_if(least, size != 1 && is_open, line, NoByteOrder);
         }
         BuiltIn::Str => {}
         BuiltIn::Strz => {}
-        BuiltIn::NotHere => note(least, line, DescFaultKind::LeftOut),
+        BuiltIn::NotHere => note(least, line, LeftOut),
     }
 }
 
@@ -86,10 +81,10 @@ fn note_count(least: &mut Least, home: Home, line: usize, count: usize, found: O
     ensures { seen_fault least.new ≡ noted (seen_fault least.old) (count_faults (seen_home home.entry) line count found) }
 {
     match found {
-        None => note(least, line, DescFaultKind::UnknownName),
+        None => note(least, line, UnknownName),
         Some(number) => {
             let wanted = home.scopes.count_of_parameters(number);
-            note_if(least, wanted != count, line, DescFaultKind::WrongCount);
+            note_if(least, wanted != count, line, WrongCount);
         }
     }
 }
@@ -108,11 +103,11 @@ pub(crate) fn note_type_text(least: &mut Least, home: Home, line: usize, text: &
     ensures { seen_fault least.new ≡ noted (seen_fault least.old) (type_text_faults (seen_home home.entry) line (seen_type_text text.now)) }
 {
     match text {
-        TypeText::Unspelled(fault) => note(least, line, DescFaultKind::NoExpression(*fault)),
+        TypeText::Unspelled(fault) => note(least, line, NoExpression(*fault)),
         TypeText::OfLanguage(built_in, arguments) => {
             let arguments = arguments.as_slice();
             let given = count(arguments);
-            note_if(least, given != 0, line, DescFaultKind::WrongCount);
+            note_if(least, given != 0, line, WrongCount);
             note_language(least, home, line, *built_in);
             note_arguments(least, home, line, arguments);
         }

@@ -9,7 +9,8 @@ ghost use Rattle.ksv_schema_faults.specs.Faults.{noted};
 ghost use Rattle.ksv_schema_faults.specs.Rules.{is_declared, has_encoding, is_bounded, field_needs, case_against, field_left_out, field_faults};
 ghost use Rattle.ksv_schema_faults.specs.Code.{seen_fault, seen_home, has_other_terminator};
 
-use crate::fault::{DescFaultKind, Least, note_if};
+use crate::fault::DescFaultKind::{LeftOut, MissingKey};
+use crate::fault::{Least, Noted, note_if};
 use crate::home::Home;
 use crate::rule::{key_if, note_against, note_at_if};
 use ksv_schema_keys::{TypeKind, TypeText, byte_at, is_a, own_type, type_at};
@@ -48,14 +49,9 @@ fn note_needs(
     let is_str = is_a(TypeKind::Str, typed);
     let is_text = is_str | is_a(TypeKind::Strz, typed);
     let is_readable = has_encoding(home, entries);
-    note_if(least, !is_something, line, DescFaultKind::MissingKey);
-    note_if(least, is_str & !is_bounded, line, DescFaultKind::MissingKey);
-    note_if(
-        least,
-        is_text & !is_readable,
-        line,
-        DescFaultKind::MissingKey,
-    );
+    note_if(least, !is_something, line, MissingKey);
+    note_if(least, is_str & !is_bounded, line, MissingKey);
+    note_if(least, is_text & !is_readable, line, MissingKey);
 }
 
 /// A case, if it is an integer.
@@ -71,12 +67,7 @@ fn integer_case<'a>(home: Home, case: &'a Entry) -> Result<Option<&'a Entry>, Al
 
 /// Notes each key that bounds a case, if that is an integer.
 #[tactic(auto, using(crate::proofs::Noted::steps), unfolding(crate::specs::Rules::case_against))]
-fn note_case(
-    least: &mut Least,
-    home: Home,
-    entries: &[Entry],
-    case: &Entry,
-) -> Result<(), AllocError>
+fn note_case(least: &mut Least, home: Home, entries: &[Entry], case: &Entry) -> Noted
     ensures { OnOk result (seen_fault least.new ≡ noted (seen_fault least.old) (case_against (map pair entries.now) (pair case.now))) }
 {
     let case = integer_case(home, case)?;
@@ -88,12 +79,7 @@ fn note_case(
 }
 
 /// Notes the same for each of these cases.
-fn note_cases(
-    least: &mut Least,
-    home: Home,
-    entries: &[Entry],
-    cases: &[Entry],
-) -> Result<(), AllocError>
+fn note_cases(least: &mut Least, home: Home, entries: &[Entry], cases: &[Entry]) -> Noted
     ensures { OnOk result (seen_fault least.new ≡ noted (seen_fault least.old) (flat_map (case_against (map pair entries.now)) (map pair cases.now))) }
 {
     for case in cases {
@@ -147,7 +133,7 @@ fn note_left_out(
     typed: &Option<TypeText>,
     entries: &[Entry],
     cases: &[Entry],
-) -> Result<(), AllocError>
+) -> Noted
     requires typed { seen_type_at typed.now ≡ own_type (map pair entries.now) }
     requires cases { map pair cases.now ≡ cases_of (map pair entries.now) }
     ensures { OnOk result (seen_fault least.new ≡ noted (seen_fault least.old) (field_left_out (seen_home home.entry) (map pair entries.now))) }
@@ -156,19 +142,14 @@ fn note_left_out(
     let is_object = is_declared(home, typed) | has_object;
     let is_other = is_a(TypeKind::Strz, typed) & has_other_terminator(entries);
     let terminator = find(entries, b"terminator");
-    note_at_if(least, is_object, terminator, DescFaultKind::LeftOut);
-    note_at_if(least, is_other, terminator, DescFaultKind::LeftOut);
+    note_at_if(least, is_object, terminator, LeftOut);
+    note_at_if(least, is_other, terminator, LeftOut);
     Ok(())
 }
 
 /// Notes what an attribute of these keys needs, and what is unsupported there.
 #[tactic(auto, using(crate::proofs::Noted::steps), unfolding(crate::specs::Rules::field_faults, ksv_schema_keys::specs::Values::cases_of))]
-pub(crate) fn note_field(
-    least: &mut Least,
-    home: Home,
-    line: usize,
-    entries: &[Entry],
-) -> Result<(), AllocError>
+pub(crate) fn note_field(least: &mut Least, home: Home, line: usize, entries: &[Entry]) -> Noted
     ensures { OnOk result (seen_fault least.new ≡ noted (seen_fault least.old) (field_faults (seen_home home.entry) line (map pair entries.now))) }
 {
     let typed = own_type(home.alloc, entries)?;

@@ -12,7 +12,8 @@ ghost use Rattle.ksv_schema_faults.specs.Rules.{fits, text_faults, type_text_fau
 ghost use Rattle.ksv_schema_faults.specs.Code.{seen_fault, seen_home};
 
 use crate::expression::{note_expression, note_type_text};
-use crate::fault::{DescFaultKind, Least, note, note_if};
+use crate::fault::DescFaultKind::{BadValue, LeftOut, NoExpression, UnknownKey, UnknownName};
+use crate::fault::{Least, Noted, note, note_if};
 use crate::home::Home;
 use ksv_schema_keys::{
     CaseKey, Form, MappingKind, Piece, TypeKind, byte_number, case_key, encoding_named, form_in,
@@ -22,7 +23,6 @@ use ksv_schema_names::given_member;
 use ksv_schema_scope::order_named;
 use ksv_yaml_tree::keys::{entries_in, has};
 use ksv_yaml_tree::{Entry, Numeral, Yaml};
-use std::alloc::AllocError;
 
 /// Whether a text is allowed at a key of this form, as far as the text alone decides.
 fn fits(form: Form, text: &[u8]) -> bool
@@ -47,17 +47,12 @@ fn note_endian(least: &mut Least, entry: &Entry)
 {
     let line = entry.line();
     match entry.value().text() {
-        Some(text) => note_if(
-            least,
-            order_named(text).is_none(),
-            line,
-            DescFaultKind::BadValue,
-        ),
+        Some(text) => note_if(least, order_named(text).is_none(), line, BadValue),
         None => {
             if has(entries_in(entry.value()), b"switch-on") {
-                note(least, line, DescFaultKind::LeftOut);
+                note(least, line, LeftOut);
             } else {
-                note(least, line, DescFaultKind::BadValue);
+                note(least, line, BadValue);
             }
         }
     }
@@ -70,8 +65,8 @@ pub(crate) fn note_numeral(least: &mut Least, line: usize, numeral: Numeral)
 {
     match numeral {
         Numeral::Whole(_) => {}
-        Numeral::LeadingZero => note(least, line, DescFaultKind::LeftOut),
-        Numeral::NoNumeral => note(least, line, DescFaultKind::BadValue),
+        Numeral::LeadingZero => note(least, line, LeftOut),
+        Numeral::NoNumeral => note(least, line, BadValue),
     }
 }
 
@@ -83,8 +78,8 @@ fn note_item(least: &mut Least, item: &Yaml)
     match piece_of(item) {
         Piece::Byte(_) => {}
         Piece::Text(_) => {}
-        Piece::Bad => note(least, item.line(), DescFaultKind::BadValue),
-        Piece::LeftOut => note(least, item.line(), DescFaultKind::LeftOut),
+        Piece::Bad => note(least, item.line(), BadValue),
+        Piece::LeftOut => note(least, item.line(), LeftOut),
     }
 }
 
@@ -106,25 +101,25 @@ fn note_contents(least: &mut Least, entry: &Entry)
     match value.text() {
         Some(text) => {
             let is_number = !value.is_quoted() & looks_like_number(text);
-            note_if(least, is_number, entry.line(), DescFaultKind::LeftOut);
+            note_if(least, is_number, entry.line(), LeftOut);
         }
         None => match value.items() {
             Some(items) => note_items(least, items),
-            None => note(least, entry.line(), DescFaultKind::BadValue),
+            None => note(least, entry.line(), BadValue),
         },
     }
 }
 
 /// Notes the path of an enum that isn't there.
 #[tactic(auto, unfolding(crate::specs::Rules::enum_faults))]
-fn note_enum(least: &mut Least, home: Home, line: usize, text: &[u8]) -> Result<(), AllocError>
+fn note_enum(least: &mut Least, home: Home, line: usize, text: &[u8]) -> Noted
     ensures { OnOk result (seen_fault least.new ≡ noted (seen_fault least.old) (enum_faults (seen_home home.entry) line (ids_of text.now))) }
 {
     match ids_of(home.alloc, text)? {
-        None => note(least, line, DescFaultKind::BadValue),
+        None => note(least, line, BadValue),
         Some(path) => {
             let found = home.scopes.enum_named(home.within, path.as_slice());
-            note_if(least, found.is_none(), line, DescFaultKind::UnknownName);
+            note_if(least, found.is_none(), line, UnknownName);
         }
     }
     Ok(())
@@ -140,62 +135,52 @@ fn note_case_value(least: &mut Least, home: Home, line: usize, key: CaseKey)
         CaseKey::Negative(_) => {}
         CaseKey::Member(member) => {
             let given = given_member(home.scopes, home.within, member);
-            note_if(least, given.is_none(), line, DescFaultKind::UnknownName);
+            note_if(least, given.is_none(), line, UnknownName);
         }
         CaseKey::Default => {}
-        CaseKey::NoKey => note(least, line, DescFaultKind::BadValue),
+        CaseKey::NoKey => note(least, line, BadValue),
     }
 }
 
 /// Notes the faults of a key of `cases`.
 #[tactic(auto, unfolding(crate::specs::Rules::case_key_faults))]
-fn note_case_key(
-    least: &mut Least,
-    home: Home,
-    line: usize,
-    text: &[u8],
-) -> Result<(), AllocError>
+fn note_case_key(least: &mut Least, home: Home, line: usize, text: &[u8]) -> Noted
     ensures { OnOk result (seen_fault least.new ≡ noted (seen_fault least.old) (case_key_faults (seen_home home.entry) line (expression_of text.now))) }
 {
     match read_expression(home.alloc, text)? {
         Ok(expr) => note_case_value(least, home, line, case_key(&expr)),
-        Err(fault) => note(least, line, DescFaultKind::NoExpression(fault)),
+        Err(fault) => note(least, line, NoExpression(fault)),
     }
     Ok(())
 }
 
 /// Notes the faults of the text of a case's type; `str` and `strz` are unsupported.
 #[tactic(auto, using(crate::proofs::Noted::steps), unfolding(crate::specs::Rules::case_type_faults))]
-fn note_case_type(
-    least: &mut Least,
-    home: Home,
-    line: usize,
-    text: &[u8],
-) -> Result<(), AllocError>
+fn note_case_type(least: &mut Least, home: Home, line: usize, text: &[u8]) -> Noted
     ensures { OnOk result (seen_fault least.new ≡ noted (seen_fault least.old) (case_type_faults (seen_home home.entry) line (type_text text.now))) }
 {
     let text = type_text(home.alloc, text)?;
     let is_text = is_of_kind(TypeKind::Str, &text) | is_of_kind(TypeKind::Strz, &text);
     note_type_text(least, home, line, &text);
-    note_if(least, is_text, line, DescFaultKind::LeftOut);
+    note_if(least, is_text, line, LeftOut);
     Ok(())
 }
 
 /// Notes the faults of a case: of its key, and of its type.
 #[tactic(auto, using(crate::proofs::Noted::steps), unfolding(crate::specs::Rules::case_faults))]
-fn note_case(least: &mut Least, home: Home, entry: &Entry) -> Result<(), AllocError>
+fn note_case(least: &mut Least, home: Home, entry: &Entry) -> Noted
     ensures { OnOk result (seen_fault least.new ≡ noted (seen_fault least.old) (case_faults (seen_home home.entry) (pair entry.now))) }
 {
     note_case_key(least, home, entry.line(), entry.key())?;
     match entry.value().text() {
         Some(text) => note_case_type(least, home, entry.line(), text)?,
-        None => note(least, entry.line(), DescFaultKind::BadValue),
+        None => note(least, entry.line(), BadValue),
     }
     Ok(())
 }
 
 /// Notes the faults of each case.
-fn note_cases(least: &mut Least, home: Home, entries: &[Entry]) -> Result<(), AllocError>
+fn note_cases(least: &mut Least, home: Home, entries: &[Entry]) -> Noted
     ensures { OnOk result (seen_fault least.new ≡ noted (seen_fault least.old) (flat_map (case_faults (seen_home home.entry)) (map pair entries.now))) }
 {
     for entry in entries {
@@ -205,7 +190,7 @@ fn note_cases(least: &mut Least, home: Home, entries: &[Entry]) -> Result<(), Al
 }
 
 /// Notes the faults of a text that is to be a type.
-fn note_type(least: &mut Least, home: Home, line: usize, text: &[u8]) -> Result<(), AllocError>
+fn note_type(least: &mut Least, home: Home, line: usize, text: &[u8]) -> Noted
     ensures { OnOk result (seen_fault least.new ≡ noted (seen_fault least.old) (type_text_faults (seen_home home.entry) line (type_text text.now))) }
 {
     let text = type_text(home.alloc, text)?;
@@ -219,21 +204,15 @@ fn note_bit_endian(least: &mut Least, line: usize, text: &[u8])
     ensures { seen_fault least.new ≡ noted (seen_fault least.old) (bit_endian_faults line text.now) }
 {
     if text == b"be".as_slice() {} else if text == b"le".as_slice() {
-        note(least, line, DescFaultKind::LeftOut);
+        note(least, line, LeftOut);
     } else {
-        note(least, line, DescFaultKind::BadValue);
+        note(least, line, BadValue);
     }
 }
 
 /// Notes the faults of a text at a key of this form.
 #[tactic(auto, using(crate::proofs::Noted::steps))]
-fn note_text(
-    least: &mut Least,
-    home: Home,
-    line: usize,
-    form: Form,
-    text: &[u8],
-) -> Result<(), AllocError>
+fn note_text(least: &mut Least, home: Home, line: usize, form: Form, text: &[u8]) -> Noted
     ensures { OnOk result (seen_fault least.new ≡ noted (seen_fault least.old) (form_text_faults (seen_home home.entry) line form text.now)) }
 {
     match form {
@@ -242,59 +221,52 @@ fn note_text(
         Form::EnumName => note_enum(least, home, line, text)?,
         Form::Byte => note_numeral(least, line, byte_number(text)),
         Form::BitEndian => note_bit_endian(least, line, text),
-        Form::Coding | Form::ParameterType => {
-            note_if(least, !fits(form, text), line, DescFaultKind::LeftOut)
-        }
-        _ => note_if(least, !fits(form, text), line, DescFaultKind::BadValue),
+        Form::Coding | Form::ParameterType => { note_if(least, !fits(form, text), line, LeftOut) }
+        _ => note_if(least, !fits(form, text), line, BadValue),
     }
     Ok(())
 }
 
 /// Notes the faults of the text at a key of this form; another node is of the wrong kind.
-fn note_text_at(least: &mut Least, home: Home, entry: &Entry, form: Form) -> Result<(), AllocError>
+fn note_text_at(least: &mut Least, home: Home, entry: &Entry, form: Form) -> Noted
     ensures { OnOk result (seen_fault least.new ≡ noted (seen_fault least.old) (text_faults (form_text_faults (seen_home home.entry) (pair entry.now).line form) (pair entry.now))) }
 {
     match entry.value().text() {
         Some(text) => note_text(least, home, entry.line(), form, text)?,
-        None => note(least, entry.line(), DescFaultKind::BadValue),
+        None => note(least, entry.line(), BadValue),
     }
     Ok(())
 }
 
 /// Notes the faults of the cases at a key.
 #[tactic(auto, unfolding(crate::specs::Rules::form_faults))]
-fn note_cases_at(least: &mut Least, home: Home, entry: &Entry) -> Result<(), AllocError>
+fn note_cases_at(least: &mut Least, home: Home, entry: &Entry) -> Noted
     ensures { OnOk result (seen_fault least.new ≡ noted (seen_fault least.old) (form_faults (seen_home home.entry) (pair entry.now) forms.Cases)) }
 {
     match entry.value().entries() {
         Some(entries) => note_cases(least, home, entries)?,
-        None => note(least, entry.line(), DescFaultKind::BadValue),
+        None => note(least, entry.line(), BadValue),
     }
     Ok(())
 }
 
 /// Notes the faults of the value at a key, by its form.
 #[tactic(auto, using(crate::proofs::Noted::steps), unfolding(crate::specs::Rules::form_faults))]
-fn note_form(
-    least: &mut Least,
-    home: Home,
-    entry: &Entry,
-    form: Form,
-) -> Result<(), AllocError>
+fn note_form(least: &mut Least, home: Home, entry: &Entry, form: Form) -> Noted
     ensures { OnOk result (seen_fault least.new ≡ noted (seen_fault least.old) (form_faults (seen_home home.entry) (pair entry.now) form)) }
 {
     let line = entry.line();
     let value = entry.value();
     match form {
         Form::Ignored => {}
-        Form::NotHere => note(least, line, DescFaultKind::LeftOut),
+        Form::NotHere => note(least, line, LeftOut),
         Form::Mapping => {
             let is_mapping = value.entries().is_some();
-            note_if(least, !is_mapping, line, DescFaultKind::BadValue);
+            note_if(least, !is_mapping, line, BadValue);
         }
         Form::Listing => {
             let is_list = value.items().is_some();
-            note_if(least, !is_list, line, DescFaultKind::BadValue);
+            note_if(least, !is_list, line, BadValue);
         }
         Form::Endian => note_endian(least, entry),
         Form::Contents => note_contents(least, entry),
@@ -322,12 +294,7 @@ fn is_ignored(key: &[u8]) -> bool
 
 /// Notes the faults of one key of a mapping.
 #[tactic(auto, using(crate::proofs::Noted::steps), unfolding(crate::specs::Rules::key_faults))]
-fn note_key(
-    least: &mut Least,
-    home: Home,
-    kind: MappingKind,
-    entry: &Entry,
-) -> Result<(), AllocError>
+fn note_key(least: &mut Least, home: Home, kind: MappingKind, entry: &Entry) -> Noted
     ensures { OnOk result (seen_fault least.new ≡ noted (seen_fault least.old) (key_faults (seen_home home.entry) kind (pair entry.now))) }
 {
     if is_ignored(entry.key()) {
@@ -335,7 +302,7 @@ fn note_key(
     }
     match form_in(kind, entry.key()) {
         Some(form) => note_form(least, home, entry, form)?,
-        None => note(least, entry.line(), DescFaultKind::UnknownKey),
+        None => note(least, entry.line(), UnknownKey),
     }
     Ok(())
 }
@@ -346,7 +313,7 @@ pub(crate) fn note_keys(
     home: Home,
     kind: MappingKind,
     entries: &[Entry],
-) -> Result<(), AllocError>
+) -> Noted
     ensures { OnOk result (seen_fault least.new ≡ noted (seen_fault least.old) (flat_map (key_faults (seen_home home.entry) kind) (map pair entries.now))) }
 {
     for entry in entries {

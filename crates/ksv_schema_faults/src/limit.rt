@@ -8,7 +8,8 @@ ghost use Rattle.ksv_schema_faults.specs.Faults.{noted};
 ghost use Rattle.ksv_schema_faults.specs.Rules.{past, line_past, most_entries};
 ghost use Rattle.ksv_schema_faults.specs.Code.{seen_fault, AreRising};
 
-use crate::fault::{DescFaultKind, Least, note};
+use crate::fault::DescFaultKind::OverLimit;
+use crate::fault::{Least, Noted, note};
 use ksv_schema_scope::Row;
 use ksv_yaml_tree::Entry;
 use std::alloc::{AllocError, Global};
@@ -20,12 +21,12 @@ pub(crate) fn note_past(least: &mut Least, line: Option<usize>)
 {
     match line {
         None => {}
-        Some(line) => note(least, line, DescFaultKind::OverLimit),
+        Some(line) => note(least, line, OverLimit),
     }
 }
 
 /// Adds the lines of entries.
-fn add_lines(lines: &mut Vec<usize>, entries: &[Entry]) -> Result<(), AllocError>
+fn add_lines(lines: &mut Vec<usize>, entries: &[Entry]) -> Noted
     ensures { OnOk result (lines.new.items ≡ lines.old.items ++ map (λ p. p.line) (map pair entries.now)) }
 {
     for entry in entries {

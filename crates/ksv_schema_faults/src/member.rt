@@ -8,7 +8,8 @@ ghost use Rattle.ksv_schema_faults.specs.Faults.{noted};
 ghost use Rattle.ksv_schema_faults.specs.Rules.{switch_faults, kind_faults, member_mapping_faults, is_instance, id_line, name_line, is_named_again, member_faults, line_at, most_members, each_from, members_faults};
 ghost use Rattle.ksv_schema_faults.specs.Code.{seen_fault, seen_home};
 
-use crate::fault::{DescFaultKind, Least, note, note_if};
+use crate::fault::DescFaultKind::{BadValue, KeysAgainst, LeftOut};
+use crate::fault::{Least, Noted, note, note_if};
 use crate::field::note_field;
 use crate::home::{Home, home_of};
 use crate::limit::note_past;
@@ -17,11 +18,10 @@ use ksv_schema_keys::{MappingKind, is_id, kind_of};
 use ksv_schema_scope::{Member, Role};
 use ksv_yaml_tree::keys::entries_in;
 use ksv_yaml_tree::{Entry, Yaml, find};
-use std::alloc::AllocError;
 
 /// Notes the faults of the mapping at `type`.
 #[tactic(auto, using(crate::proofs::Noted::steps), unfolding(crate::specs::Rules::switch_faults))]
-fn note_switch(least: &mut Least, home: Home, entries: &[Entry]) -> Result<(), AllocError>
+fn note_switch(least: &mut Least, home: Home, entries: &[Entry]) -> Noted
     ensures { OnOk result (seen_fault least.new ≡ noted (seen_fault least.old) (switch_faults (seen_home home.entry) (map pair entries.now))) }
 {
     match find(entries, b"type") {
@@ -45,7 +45,7 @@ fn note_kind(
     name_line: usize,
     line: usize,
     entries: &[Entry],
-) -> Result<(), AllocError>
+) -> Noted
     ensures { OnOk result (seen_fault least.new ≡ noted (seen_fault least.old) (kind_faults (seen_home home.entry) kind name_line line (map pair entries.now))) }
 {
     match kind {
@@ -55,7 +55,7 @@ fn note_kind(
         }
         MappingKind::Placeless => {
             note_switch(least, home, entries)?;
-            note(least, name_line, DescFaultKind::LeftOut);
+            note(least, name_line, LeftOut);
         }
         _ => {}
     }
@@ -64,12 +64,7 @@ fn note_kind(
 
 /// Notes the faults of a member's mapping.
 #[tactic(auto, using(crate::proofs::Noted::steps), unfolding(crate::specs::Rules::member_mapping_faults))]
-fn note_keys(
-    least: &mut Least,
-    home: Home,
-    member: &Member,
-    entries: &[Entry],
-) -> Result<(), AllocError>
+fn note_keys(least: &mut Least, home: Home, member: &Member, entries: &[Entry]) -> Noted
     ensures { OnOk result (seen_fault least.new ≡ noted (seen_fault least.old) (member_mapping_faults (declared home.entry.scopes.now) home.entry.within (member_of member.now) (map pair entries.now))) }
 {
     let home = home_of(home, member.role, entries);
@@ -120,32 +115,22 @@ fn is_named_again(home: Home, number: usize, member: &Member) -> bool
 
 /// Notes the faults of the member of this number in its type.
 #[tactic(auto, using(crate::proofs::Noted::steps), unfolding(crate::specs::Rules::member_faults))]
-fn note_member(
-    least: &mut Least,
-    home: Home,
-    number: usize,
-    member: &Member,
-) -> Result<(), AllocError>
+fn note_member(least: &mut Least, home: Home, number: usize, member: &Member) -> Noted
     ensures { OnOk result (seen_fault least.new ≡ noted (seen_fault least.old) (member_faults (declared home.entry.scopes.now) home.entry.within number (member_of member.now))) }
 {
     match member.value.entries() {
         Some(entries) => note_keys(least, home, member, entries)?,
-        None => note(least, member.line, DescFaultKind::BadValue),
+        None => note(least, member.line, BadValue),
     }
     let is_bad = is_instance(member.role) & !is_id(member.name());
     let is_again = is_named_again(home, number, member);
-    note_if(least, is_bad, member.line, DescFaultKind::BadValue);
-    note_if(
-        least,
-        is_again,
-        name_line(member),
-        DescFaultKind::KeysAgainst,
-    );
+    note_if(least, is_bad, member.line, BadValue);
+    note_if(least, is_again, name_line(member), KeysAgainst);
     Ok(())
 }
 
 /// Notes the faults of each member of a type.
-fn note_each(least: &mut Least, home: Home, members: &[Member]) -> Result<(), AllocError>
+fn note_each(least: &mut Least, home: Home, members: &[Member]) -> Noted
     ensures { OnOk result (seen_fault least.new ≡ noted (seen_fault least.old) (each_from (member_faults (declared home.entry.scopes.now) home.entry.within) 0 (map member_of members.now))) }
 {
     for (number, member) in members.iter().enumerate() {
@@ -163,11 +148,7 @@ fn line_past(members: &[Member]) -> Option<usize>
 
 /// Notes the faults of the members of a type.
 #[tactic(auto, using(crate::proofs::Noted::steps), unfolding(crate::specs::Rules::members_faults))]
-pub(crate) fn note_members(
-    least: &mut Least,
-    home: Home,
-    members: &[Member],
-) -> Result<(), AllocError>
+pub(crate) fn note_members(least: &mut Least, home: Home, members: &[Member]) -> Noted
     ensures { OnOk result (seen_fault least.new ≡ noted (seen_fault least.old) (members_faults (declared home.entry.scopes.now) home.entry.within (map member_of members.now))) }
 {
     note_past(least, line_past(members));

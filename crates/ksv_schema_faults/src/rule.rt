@@ -12,13 +12,13 @@ ghost use Rattle.ksv_schema_faults.specs.Code.{number_of, seen_fault, seen_home,
 
 use self::Claim::{Has, Says, Typed};
 use self::Rule::{Attends, Bars, Excludes, Must, Needs};
-use crate::fault::{DescFaultKind, Least, note, note_if};
+use crate::fault::DescFaultKind::{KeysAgainst, LeftOut, MissingKey};
+use crate::fault::{DescFaultKind, Least, Noted, note, note_if};
 use crate::home::Home;
 use crate::key::note_keys;
 use ksv_schema_keys::{Group, MappingKind, TypeKind, TypeText, is_a, is_in, own_type};
 use ksv_yaml_tree::keys::says;
 use ksv_yaml_tree::{Entry, find};
-use std::alloc::AllocError;
 
 /// What a rule of keys speaks of.
 enum Claim {
@@ -54,20 +54,44 @@ static RULES: [Ruled; 24] = [
     Ruled(Group::NeedId, Must(Has(b"id"))),
     Ruled(Group::Switches, Must(Has(b"switch-on"))),
     Ruled(Group::Switches, Must(Has(b"cases"))),
-    Ruled(Group::Read, Needs(Says(b"repeat", b"expr"), Has(b"repeat-expr"))),
-    Ruled(Group::Read, Needs(Says(b"repeat", b"until"), Has(b"repeat-until"))),
-    Ruled(Group::Read, Attends(Has(b"repeat-expr"), Says(b"repeat", b"expr"))),
-    Ruled(Group::Read, Attends(Has(b"repeat-until"), Says(b"repeat", b"until"))),
+    Ruled(
+        Group::Read,
+        Needs(Says(b"repeat", b"expr"), Has(b"repeat-expr")),
+    ),
+    Ruled(
+        Group::Read,
+        Needs(Says(b"repeat", b"until"), Has(b"repeat-until")),
+    ),
+    Ruled(
+        Group::Read,
+        Attends(Has(b"repeat-expr"), Says(b"repeat", b"expr")),
+    ),
+    Ruled(
+        Group::Read,
+        Attends(Has(b"repeat-until"), Says(b"repeat", b"until")),
+    ),
     Ruled(Group::Read, Attends(Has(b"enum"), Typed(TypeKind::Integer))),
-    Ruled(Group::Read, Excludes(Has(b"size"), Says(b"size-eos", b"true"))),
+    Ruled(
+        Group::Read,
+        Excludes(Has(b"size"), Says(b"size-eos", b"true")),
+    ),
     Ruled(Group::Read, Excludes(Has(b"contents"), Has(b"type"))),
     Ruled(Group::Read, Excludes(Has(b"contents"), Has(b"size"))),
     Ruled(Group::Read, Excludes(Has(b"contents"), Has(b"size-eos"))),
     Ruled(Group::Read, Excludes(Has(b"contents"), Has(b"terminator"))),
     Ruled(Group::Read, Excludes(Has(b"contents"), Has(b"enum"))),
-    Ruled(Group::Read, Excludes(Typed(TypeKind::Integer), Has(b"size"))),
-    Ruled(Group::Read, Excludes(Typed(TypeKind::Integer), Says(b"size-eos", b"true"))),
-    Ruled(Group::Read, Excludes(Typed(TypeKind::Integer), Has(b"terminator"))),
+    Ruled(
+        Group::Read,
+        Excludes(Typed(TypeKind::Integer), Has(b"size")),
+    ),
+    Ruled(
+        Group::Read,
+        Excludes(Typed(TypeKind::Integer), Says(b"size-eos", b"true")),
+    ),
+    Ruled(
+        Group::Read,
+        Excludes(Typed(TypeKind::Integer), Has(b"terminator")),
+    ),
     Ruled(Group::Values, Excludes(Has(b"value"), Has(b"pos"))),
     Ruled(Group::Values, Excludes(Has(b"value"), Has(b"io"))),
     Ruled(Group::Values, Excludes(Has(b"value"), Has(b"type"))),
@@ -104,18 +128,19 @@ pub(crate) fn note_against(least: &mut Least, one: Option<&Entry>, other: Option
         None => {}
         Some(one) => match other {
             None => {}
-            Some(other) => note(
-                least,
-                one.line().min(other.line()),
-                DescFaultKind::KeysAgainst,
-            ),
+            Some(other) => note(least, one.line().min(other.line()), KeysAgainst),
         },
     }
 }
 
 /// Notes a key, if there is one with which something is wrong.
 #[tactic(auto, using(crate::proofs::Noted::steps))]
-pub(crate) fn note_at_if(least: &mut Least, is_wrong: bool, key: Option<&Entry>, kind: DescFaultKind)
+pub(crate) fn note_at_if(
+    least: &mut Least,
+    is_wrong: bool,
+    key: Option<&Entry>,
+    kind: DescFaultKind,
+)
     ensures { seen_fault least.new ≡ noted (seen_fault least.old) (at_if is_wrong (seen_entry key.entry) (number_of kind)) }
 {
     match key {
@@ -138,11 +163,11 @@ fn note_rule(
     match rule {
         Must(one) => {
             let lacks = claimed(one, typed, entries).is_none();
-            note_if(least, lacks, line, DescFaultKind::MissingKey);
+            note_if(least, lacks, line, MissingKey);
         }
         Bars(one) => {
             let barred = claimed(one, typed, entries);
-            note_at_if(least, true, barred, DescFaultKind::LeftOut);
+            note_at_if(least, true, barred, LeftOut);
         }
         Excludes(one, other) => note_against(
             least,
@@ -152,12 +177,12 @@ fn note_rule(
         Needs(one, other) => {
             let needs = claimed(one, typed, entries).is_some();
             let lacks = claimed(other, typed, entries).is_none();
-            note_if(least, needs & lacks, line, DescFaultKind::MissingKey);
+            note_if(least, needs & lacks, line, MissingKey);
         }
         Attends(one, other) => {
             let lacks = claimed(other, typed, entries).is_none();
             let attends = claimed(one, typed, entries);
-            note_at_if(least, lacks, attends, DescFaultKind::KeysAgainst);
+            note_at_if(least, lacks, attends, KeysAgainst);
         }
     }
 }
@@ -219,7 +244,7 @@ pub(crate) fn note_mapping(
     kind: MappingKind,
     line: usize,
     entries: &[Entry],
-) -> Result<(), AllocError>
+) -> Noted
     ensures { OnOk result (seen_fault least.new ≡ noted (seen_fault least.old) (mapping_faults (seen_home home.entry) kind line (map pair entries.now))) }
 {
     note_keys(least, home, kind, entries)?;

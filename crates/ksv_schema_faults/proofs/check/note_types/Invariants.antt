@@ -3,7 +3,7 @@ use Rattle.ksv_schema_scope.specs.Code.{row_of}
 use Rattle.ksv_schema_scope.specs.Table.{declared}
 use Rattle.ksv_schema_faults.specs.Rules.{each_from, type_faults}
 use Rattle.ksv_schema_faults.specs.Faults.{noted}
-use Rattle.ksv_schema_faults.specs.Code.{seen_fault, seen_home}
+use Rattle.ksv_schema_faults.specs.Code.{seen_fault}
 use Rattle.ksv_schema_faults.proofs.check.note_types.Given as goal
 
 abbrev pub invariant-loop-number : goal.invariant-loop-number

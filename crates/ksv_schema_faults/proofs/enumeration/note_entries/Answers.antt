@@ -1,5 +1,4 @@
-use Rattle.std.proofs.Common.{◌∙◌, ap, sym, subst, List, take, map, add-one}
-use Rattle.ksv_yaml_tree.specs.Tree.{Pair}
+use Rattle.std.proofs.Common.{◌∙◌, ap, sym, subst, take, map, add-one}
 use Rattle.ksv_yaml_tree.specs.View.{pair}
 use Rattle.ksv_schema_faults.specs.Rules.{entry_faults}
 use Rattle.ksv_schema_faults.specs.Code.{seen_home, AreOf}

@@ -3,7 +3,7 @@ use Rattle.std.specs.List.{flat_map}
 use Rattle.ksv_yaml_tree.specs.View.{pair}
 use Rattle.ksv_schema_faults.specs.Rules.{case_against}
 use Rattle.ksv_schema_faults.specs.Faults.{noted}
-use Rattle.ksv_schema_faults.specs.Code.{seen_fault, seen_home}
+use Rattle.ksv_schema_faults.specs.Code.{seen_fault}
 use Rattle.ksv_schema_faults.proofs.field.note_cases.Given as goal
 
 abbrev pub invariant-loop-case : goal.invariant-loop-case

@@ -4,7 +4,7 @@ use Rattle.ksv_yaml_tree.specs.View.{pair}
 use Rattle.ksv_schema_faults.specs.Rules.{ruled_faults}
 use Rattle.ksv_schema_faults.specs.Code.{seen_ruled}
 use Rattle.ksv_schema_faults.specs.Faults.{noted}
-use Rattle.ksv_schema_faults.specs.Code.{seen_fault, seen_home}
+use Rattle.ksv_schema_faults.specs.Code.{seen_fault}
 use Rattle.ksv_schema_faults.proofs.rule.note_each.Given as goal
 
 abbrev pub invariant-loop-ruled : goal.invariant-loop-ruled
