@@ -74,7 +74,7 @@ needed text name es line e k = go (entry_at (codes "repeat") es) (entry_at name 
 -- ---- the words of a mapping
 
 -- those at its own keys, and those of a switch at its type
-abbrev all_words : MappingKind → List Pair → List (List ℕ)
+abbrev pub all_words : MappingKind → List Pair → List (List ℕ)
 all_words kind es = flat_map (key_words kind) es ++ flat_map (key_words kinds.Switch) (entries_at (codes "type") es)
 
 own_words : (names : List (List ℕ)) (kind : MappingKind) (es : List Pair) → has_names names (all_words kind es) ≡ true → has_names names (flat_map (key_words kind) es) ≡ true
@@ -195,14 +195,14 @@ choice_good h names kind line es a f k n = contents (entry_at (codes "contents")
 -- ---- fields and members
 
 -- the faults of a mapping and what else it must be, of what is read
-abbrev AreFieldless : Home → MappingKind → ℕ → List Pair → Type 0
-AreFieldless h kind line es = (mapping_faults h kind line es ≡ []) × (switch_faults h es ++ field_faults h line es ≡ [])
+abbrev pub IsFaultless : Home → MappingKind → ℕ → List Pair → Type 0
+IsFaultless h kind line es = (mapping_faults h kind line es ≡ []) × (switch_faults h es ++ field_faults h line es ≡ [])
 
 read_keys : (h : Home) (kind : MappingKind) (line : ℕ) (es : List Pair) → mapping_faults h kind line es ≡ [] → IsRead h kind es
 unfolding mapping_faults
 read_keys h kind line es k = front (flat_map (key_faults h kind) es) (flat_map (ruled_faults kind line es) rules) k
 
-field_good : (h : Home) (names : List (List ℕ)) (kind : MappingKind) (line : ℕ) (es : List Pair) → AreEncodings h.declared → HasFieldKeys kind → AreFieldless h kind line es → Good h.declared names (all_words kind es) IsResolvedField (field_of (context h names) es)
+field_good : (h : Home) (names : List (List ℕ)) (kind : MappingKind) (line : ℕ) (es : List Pair) → AreEncodings h.declared → HasFieldKeys kind → IsFaultless h kind line es → Good h.declared names (all_words kind es) IsResolvedField (field_of (context h names) es)
 unfolding field_of is_ignored mapping_faults
 field_good h names kind line es a f r =
     let k = read_keys h kind line es r.0 in
@@ -222,7 +222,7 @@ field_good h names kind line es a f r =
 abbrev GoodKind : Home → List (List ℕ) → List (List ℕ) → Bool → Option MemberKind → Type 0
 GoodKind h names words given o = (g : Good h.declared names words IsResolvedKind o) × ((name : ℕ) → is_parameter (record { name = name; kind = g.0 }) ≡ given)
 
-parse_instance_good : (h : Home) (names : List (List ℕ)) (line : ℕ) (es : List Pair) → AreEncodings h.declared → has (codes "pos") es ≡ true → AreFieldless h kinds.ParseInstance line es → GoodKind h names (all_words kinds.ParseInstance es) false (parse_instance_of (context h names) es)
+parse_instance_good : (h : Home) (names : List (List ℕ)) (line : ℕ) (es : List Pair) → AreEncodings h.declared → has (codes "pos") es ≡ true → IsFaultless h kinds.ParseInstance line es → GoodKind h names (all_words kinds.ParseInstance es) false (parse_instance_of (context h names) es)
 unfolding parse_instance_of is_ignored form_in form_among
 parse_instance_good h names line es a p r =
     let k = read_keys h kinds.ParseInstance line es r.0 in

@@ -32,10 +32,10 @@ use Rattle.ksv_schema.proofs.Whole.{are_encodings, enums_are}
 -- ---- names
 
 -- the names of members, and the words after dots, of these types
-abbrev own_names : List Row → List (List ℕ)
+abbrev pub own_names : List Row → List (List ℕ)
 own_names rs = flat_map names_in (map members_of rs)
 
-abbrev words_of : List Row → List (List ℕ)
+abbrev pub words_of : List Row → List (List ℕ)
 words_of rs = flat_map (flat_map member_words) (map members_of rs)
 
 kept_number : (d : Declared) (name : List ℕ) → is_some (number_in (member_names d) name) ≡ true → (k : ℕ) × (k < length (member_names d)) × (number_in (names_of d) name ≡ Some k)
