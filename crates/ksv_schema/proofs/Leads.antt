@@ -80,15 +80,17 @@ as_many f n (x ∷ xs) ys s =
 
 each_at : {A B : Type 0} (f : A → Option B) (xs : List A) (ys : List B) (i : ℕ) (x : A) → each f xs ≡ Some ys → slice_get xs i ≡ Some x → (y : B) × (slice_get ys i ≡ Some y) × (f x ≡ Some y)
 each_at f [] ys i x s g = absurd cc
-each_at f (v ∷ vs) ys i x s g =
+each_at f (v ∷ vs) ys zero x s g =
     let y = bound (f v) _ ys s in
     let rest = bound (each f vs) _ ys y.2 in
     let same : y.0 ∷ rest.0 ≡ ys = some_same (y.0 ∷ rest.0) ys rest.2 in
-    by_place i g y.0 rest.0 y.1 rest.1 same
-  where
-    by_place : (i : ℕ) → slice_get (v ∷ vs) i ≡ Some x → (y : _) (rest : List _) → f v ≡ Some y → each f vs ≡ Some rest → y ∷ rest ≡ ys → (z : _) × (slice_get ys i ≡ Some z) × (f x ≡ Some z)
-    by_place zero g y rest one more same = (y, ap (λ ys. slice_get ys 0) (sym same), ap f (sym (some_same v x g)) ∙ one)
-    by_place (suc i) g y rest one more same = let r = each_at f vs rest i x more g in (r.0, ap (λ ys. slice_get ys (suc i)) (sym same) ∙ r.1, r.2)
+    (y.0, ap (λ ys. slice_get ys 0) (sym same), ap f (sym (some_same v x g)) ∙ y.1)
+each_at f (v ∷ vs) ys (suc i) x s g =
+    let y = bound (f v) _ ys s in
+    let rest = bound (each f vs) _ ys y.2 in
+    let same : y.0 ∷ rest.0 ≡ ys = some_same (y.0 ∷ rest.0) ys rest.2 in
+    let r = each_at f vs rest.0 i x rest.1 g in
+    (r.0, ap (λ ys. slice_get ys (suc i)) (sym same) ∙ r.1, r.2)
 
 pub as_many_each : {A B : Type 0} (f : A → Option B) (xs : List A) (ys : List B) → each f xs ≡ Some ys → length ys ≡ length xs
 as_many_each f [] ys s = ap length (sym (some_same [] ys s))

@@ -14,7 +14,7 @@ use Rattle.ksv_schema_names.proofs.Found.{some_is, place_within}
 use Rattle.ksv_schema_keys.specs.declared.keys.MappingKind.TheVariants as kinds
 use Rattle.ksv_schema_keys.specs.Keys.{kind_of as mapping_kind}
 use Rattle.ksv_schema_faults.specs.Faults.{fault, bad_value}
-use Rattle.ksv_schema_faults.specs.Rules.{home_in, home_of, member_mapping_faults, member_faults, members_faults, each_from, faults_of}
+use Rattle.ksv_schema_faults.specs.Rules.{home_in, home_of, mapping_faults, kind_faults, member_mapping_faults, member_faults, members_faults, each_from, faults_of}
 use Rattle.ksv_schema_build.specs.Stated.{Context, key_words, member_words, names_in, member_names, names_of, are_texts, member_of, type_of, enum_of, each, each_numbered, described, stated_by}
 use Rattle.ksv_desc.specs.Names.{distinct, number_in, has_names, AreDistinct}
 use Rattle.ksv_desc.specs.Description.{MemberOfType, TypeOfObjects, Description}
@@ -84,7 +84,11 @@ member_good d n i m a u h k = go (kept_number d m.name h) (mapping_of m.value) r
     go : (j : ℕ) × (j < length (member_names d)) × (number_in (names_of d) m.name ≡ Some j) → (o : Option (List Pair)) → mapping_of m.value ≡ o → option_map_or (member_mapping_faults d n m) o (fault m.line bad_value) ≡ [] → GoodMember d n m
     go j None e k = absurd (no_fault m.line bad_value k)
     go j (Some es) e k =
-        let r = kind_good (home_of d n m.role es) (names_of d) m.role m.line (line_of m.value) es a (front _ _ k) (back _ _ k) in
+        let h = home_of d n m.role es in
+        let kind = mapping_kind m.role es in
+        let keys = front (mapping_faults h kind (line_of m.value) es) (kind_faults h kind m.line (line_of m.value) es) k in
+        let others = back (mapping_faults h kind (line_of m.value) es) (kind_faults h kind m.line (line_of m.value) es) k in
+        let r = kind_good h (names_of d) m.role m.line (line_of m.value) es a keys others in
         let b = is_bind _ _ m.name (as_text_is m.name u) (is_bind _ _ j.0 j.2 (is_bind _ _ es e (is_bind _ _ r.0.0 r.0.1 (record { name = j.0; kind = r.0.0 }, refl)))) in
         ((b.0, b.1, λ x s fits w known. (omega (arith, j.1, known), r.0.2 x s fits (ap (λ (o : Option (List Pair)). let fs = unwrap_or o [] in has_names (names_of d) (flat_map (key_words (mapping_kind m.role fs)) fs ++ flat_map (key_words kinds.Switch) (entries_at (codes "type") fs))) (sym e) ∙ w))), sym (r.1 j.0))
 
