@@ -8,10 +8,10 @@ use Rattle.ksv_expr_value.specs.Trail.{Trail, same_trail}
 use Rattle.ksv_expr_value.specs.declared.fault.Fault.{Fault}
 use Rattle.ksv_expr_value.specs.declared.step.Step.{Step}
 use Rattle.ksv_expr_value.specs.declared.step.Step.TheVariants.{Index, Name}
-use Rattle.ksv_memo.specs.Meaning.{on}
-use Rattle.ksv_memo.specs.Evaluation.{is_among}
-use Rattle.ksv_memo.specs.Right.{AreDistinct}
-use Rattle.ksv_memo.proofs.Evals.{AreDistinct-cons}
+use Rattle.ksv_memo_rules.specs.Meaning.{on}
+use Rattle.ksv_memo_rules.specs.Evaluation.{is_among}
+use Rattle.ksv_memo_rules.specs.Right.{AreDistinct}
+use Rattle.ksv_memo_rules.proofs.Evals.{AreDistinct-cons}
 use Rattle.ksv_nodes.specs.Numbers.{node_number, node_bound, node_number-one}
 use Rattle.ksv_nodes.specs.Reading.{look}
 use Rattle.ksv_nodes.specs.Rule.{Rule, Of, See}

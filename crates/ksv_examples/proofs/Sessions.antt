@@ -2,8 +2,8 @@
 use Rattle.std.proofs.Common.{◌≡◌, ℕ, ℤ, ◌++◌, Bool, true, false, List, [], ◌∷◌, codes, if◌then◌else◌, fold, Option, Some, None, option_map, option_and_then, Result, Ok, Err, refl, ap, ◌∙◌}
 use Rattle.ksv_desc.specs.Description.{Description}
 use Rattle.ksv_expr_value.specs.Trail.{Trail}
-use Rattle.ksv_memo.specs.Meaning.{on}
-use Rattle.ksv_memo.proofs.Keeping.{AreDistinct-none}
+use Rattle.ksv_memo_rules.specs.Meaning.{on}
+use Rattle.ksv_memo_rules.proofs.Keeping.{AreDistinct-none}
 use Rattle.ksv_nodes.specs.declared.node.Node.{Node}
 use Rattle.ksv_plan.specs.Plan as plan
 use Rattle.ksv_questions.specs.Answers.{answered as node_answered, asking, outcome, question_text, told}

@@ -2,12 +2,12 @@
 use Rattle.std.proofs.Common.{ℕ, zero, suc, ◌+◌, ◌≤◌, List, [], ◌∷◌, ◌++◌, length, arith, length-append}
 use Rattle.std.specs.List.{AllByRecursion}
 use Rattle.ksv_bytes.specs.declared.uses.Use.{Use}
-use Rattle.ksv_memo.specs.declared.rules.Next.{Next}
-use Rattle.ksv_memo.specs.declared.rules.Next.TheVariants.{Need, Done}
-use Rattle.ksv_memo.specs.declared.rules.Outcome.{Outcome}
-use Rattle.ksv_memo.specs.declared.rules.Outcome.TheVariants.{Answered, Circle}
-use Rattle.ksv_memo.specs.Evaluation.{IsAnswered, Told, told, with_reply, with_step}
-use Rattle.ksv_memo.specs.Meaning.{IsDone, IsSettled, Standing}
+use Rattle.ksv_memo_rules.specs.declared.rules.Next.{Next}
+use Rattle.ksv_memo_rules.specs.declared.rules.Next.TheVariants.{Need, Done}
+use Rattle.ksv_memo_rules.specs.declared.rules.Outcome.{Outcome}
+use Rattle.ksv_memo_rules.specs.declared.rules.Outcome.TheVariants.{Answered, Circle}
+use Rattle.ksv_memo_rules.specs.Evaluation.{IsAnswered, Told, told, with_reply, with_step}
+use Rattle.ksv_memo_rules.specs.Meaning.{IsDone, IsSettled, Standing}
 
 -- each of these nodes has an answer
 abbrev pub HaveAnswers : {N A : Type 0} → (N → Outcome N A) → List N → Type 0

@@ -7,18 +7,16 @@ use mathlib.Core.Path.{fun_ext}
 use Rattle.ksv_bytes.specs.declared.uses.Change.{Change}
 use Rattle.ksv_desc.specs.Description.{Description}
 use Rattle.ksv_expr_value.specs.declared.fault.Fault.{Fault}
-use Rattle.ksv_memo.specs.declared.rules.Outcome.{Outcome}
-use Rattle.ksv_memo.specs.declared.rules.Outcome.TheVariants.{Answered, Circle}
-use Rattle.ksv_memo.specs.Evaluation.{IsAnswered, Told, done, if_answered, is_among, tells, told}
-use Rattle.ksv_memo.specs.Meaning.{IsSettled, Standing, on}
-use Rattle.ksv_memo.specs.Right.{AreDistinct}
-use Rattle.ksv_memo.specs.Running.{answering}
-use Rattle.ksv_memo.specs.Touched as engines
-use Rattle.ksv_memo.proofs.Evals.{AreDistinct-cons, completed-open, done-free, few, tells-free, tells-open, told_answered}
-use Rattle.ksv_memo.proofs.Keeping.{AreDistinct-none}
-use Rattle.ksv_memo.proofs.Lists.{All-map}
-use Rattle.ksv_memo.proofs.Standing.{law_on}
-use Rattle.ksv_memo.proofs.Sweeping.{none_pass}
+use Rattle.ksv_memo_rules.specs.declared.rules.Outcome.{Outcome}
+use Rattle.ksv_memo_rules.specs.declared.rules.Outcome.TheVariants.{Answered, Circle}
+use Rattle.ksv_memo_rules.specs.Evaluation.{IsAnswered, Told, done, if_answered, is_among, tells, told, answering}
+use Rattle.ksv_memo_rules.specs.Meaning.{IsSettled, Standing, on}
+use Rattle.ksv_memo_rules.specs.Right.{AreDistinct}
+use Rattle.ksv_memo_rules.specs.Touched as engines
+use Rattle.ksv_memo_rules.proofs.Evals.{AreDistinct-cons, completed-open, done-free, few, tells-free, tells-open, told_answered}
+use Rattle.ksv_memo_rules.proofs.Keeping.{AreDistinct-none}
+use Rattle.ksv_memo_rules.proofs.Lists.{All-map, none_pass}
+use Rattle.ksv_memo_rules.proofs.Standing.{law_on}
 use Rattle.ksv_nodes.specs.declared.given.Given.{Given}
 use Rattle.ksv_nodes.specs.declared.node.Node.{Node}
 use Rattle.ksv_nodes.specs.Numbers.{node_number, node_bound}

@@ -3,7 +3,7 @@
 use Rattle.std.specs.Prelude.{ℕ, zero, suc, Bool, true, ◌||◌, List, [], ◌∷◌, ◌++◌, if◌then◌else◌}
 use Rattle.std.specs.List.{flat_map, list_any}
 use Rattle.ksv_desc.specs.Description.{Description}
-use Rattle.ksv_memo.specs.Evaluation.{is_among}
+use Rattle.ksv_memo_rules.specs.Evaluation.{is_among}
 use Rattle.ksv_nodes.specs.declared.node.Node.{Node}
 use Rattle.ksv_nodes.specs.Numbers.{node_number, node_bound}
 use Rattle.ksv_rule_meaning.specs.FromNothing.{asks}

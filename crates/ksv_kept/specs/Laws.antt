@@ -2,10 +2,10 @@
 use Rattle.std.specs.Prelude.{◌≡◌, ◌↔◌, ℕ, false, List}
 use Rattle.ksv_bytes.specs.declared.uses.Change.{Change}
 use Rattle.ksv_desc.specs.Description.{Description}
-use Rattle.ksv_memo.specs.Evaluation.{IsAnswered, done, tells}
-use Rattle.ksv_memo.specs.Meaning.{on}
-use Rattle.ksv_memo.specs.Right.{AreDistinct, cost}
-use Rattle.ksv_memo.specs.Touched as engines
+use Rattle.ksv_memo_rules.specs.Evaluation.{IsAnswered, done, tells}
+use Rattle.ksv_memo_rules.specs.Meaning.{on}
+use Rattle.ksv_memo_rules.specs.Right.{AreDistinct, cost}
+use Rattle.ksv_memo_rules.specs.Touched as engines
 use Rattle.ksv_nodes.specs.declared.node.Node.{Node}
 use Rattle.ksv_rule_meaning.specs.Described.{described}
 use Rattle.ksv_kept.specs.Completed.{completed, meets_circle}

@@ -6,20 +6,20 @@ use Rattle.ksv_bytes.specs.declared.uses.Change.{Change}
 use Rattle.ksv_bytes.specs.Uses.{AgreeOn, CanUse, Touches, Makes}
 use Rattle.ksv_bytes.proofs.Untouched.{untouched-keeps}
 use Rattle.ksv_bytes.specs.declared.uses.Use.{Use}
-use Rattle.ksv_memo.specs.declared.rules.Next.{Next}
-use Rattle.ksv_memo.specs.declared.rules.Next.TheVariants.{Need, Done}
-use Rattle.ksv_memo.specs.declared.rules.Outcome.{Outcome}
-use Rattle.ksv_memo.specs.declared.rules.Outcome.TheVariants.{Answered, Circle}
-use Rattle.ksv_memo.specs.Meaning.{Standing, IsSettled}
-use Rattle.ksv_memo.specs.Evaluation.{is_among, Told, after, with_reply, with_step, told, eval, IsAnswered, completed, tells}
-use Rattle.ksv_memo.specs.Entry.{Entry}
-use Rattle.ksv_memo.specs.Right.{nodes_of, HasEachOnce, IsRightEntry, IsRight}
+use Rattle.ksv_memo_rules.specs.declared.rules.Next.{Next}
+use Rattle.ksv_memo_rules.specs.declared.rules.Next.TheVariants.{Need, Done}
+use Rattle.ksv_memo_rules.specs.declared.rules.Outcome.{Outcome}
+use Rattle.ksv_memo_rules.specs.declared.rules.Outcome.TheVariants.{Answered, Circle}
+use Rattle.ksv_memo_rules.specs.Meaning.{Standing, IsSettled}
+use Rattle.ksv_memo_rules.specs.Evaluation.{is_among, Told, after, with_reply, with_step, told, eval, IsAnswered, completed, tells}
+use Rattle.ksv_memo_rules.specs.Entry.{Entry}
+use Rattle.ksv_memo_rules.specs.Right.{nodes_of, HasEachOnce, IsRightEntry, IsRight}
 use Rattle.ksv_memo.specs.Running.{made}
-use Rattle.ksv_memo.specs.Meaning.{Meaning, IsLawful, on}
-use Rattle.ksv_memo.proofs.Standing.{law_on}
-use Rattle.ksv_memo.proofs.Lists.{All-always, All-both, All-++, All-left, All-right}
-use Rattle.ksv_memo.proofs.Evals.{NoneIn, eqb_true, asking, told_answered, eval-open, eval-free, transfer, deep_enough, eval-zero, eval-zero_unanswered}
-use Rattle.ksv_memo.proofs.Keeping.{IsIn, AreDistinct-none, self_in}
+use Rattle.ksv_memo_rules.specs.Meaning.{Meaning, IsLawful, on}
+use Rattle.ksv_memo_rules.proofs.Standing.{law_on}
+use Rattle.ksv_memo_rules.proofs.Lists.{All-always, All-both, All-++, All-left, All-right}
+use Rattle.ksv_memo_rules.proofs.Evals.{NoneIn, eqb_true, asking, told_answered, eval-open, eval-free, transfer, deep_enough, eval-zero, eval-zero_unanswered}
+use Rattle.ksv_memo_rules.proofs.Keeping.{IsIn, AreDistinct-none, self_in}
 
 -- rules of the same nodes, on other bytes
 abbrev pub changed : {N A : Type 0} → Standing N A → (N → List A → Next N A) → (N → List A → List Use) → Standing N A

@@ -7,17 +7,17 @@ use Rattle.std.proofs.Math.Seq.{take-length, drop-length}
 use Rattle.std.proofs.lemmas.Option.{slice_get-map}
 use Rattle.indexmap.specs.IndexMap.{set_value_at}
 use Rattle.ksv_bytes.specs.declared.uses.Use.{Use}
-use Rattle.ksv_memo.specs.declared.replies.Slot.{Slot}
-use Rattle.ksv_memo.specs.declared.replies.Slot.TheVariants.{Open as opened}
+use Rattle.ksv_memo_rules.specs.declared.replies.Slot.{Slot}
+use Rattle.ksv_memo_rules.specs.declared.replies.Slot.TheVariants.{Open as opened}
 use Rattle.ksv_memo.specs.declared.layout.Row.{Row}
 use Rattle.ksv_memo.specs.declared.layout.Rows.{Rows}
 use Rattle.ksv_memo.specs.declared.layout.Frame.{Frame}
 use Rattle.ksv_memo.specs.declared.layout.Frames.{Frames}
-use Rattle.ksv_memo.specs.Slots.{answer_in, answer_of, answer_at, answers_at, with_first}
+use Rattle.ksv_memo_rules.specs.Slots.{answer_in, answer_of, answer_at, answers_at, with_first}
 use Rattle.ksv_memo.specs.Open.{Open, newly, heard}
 use Rattle.ksv_memo.specs.Layout.{IsOneOf, AllDiffer, slots_of, node_at, nodes_at, IsOpen, IsKept, entry_before, entries_in, entries_of, open_before, opens_in, opens_of, AsksBefore, all_asked, all_uses, AreNested, AreRows, AreFrames}
 use Rattle.ksv_memo.specs.Moves.{Heard, Popped, Framed, Added}
-use Rattle.ksv_memo.proofs.Lists.{All-map, All-both, All-++}
+use Rattle.ksv_memo_rules.proofs.Lists.{All-map, All-both, All-++}
 use Rattle.ksv_memo.proofs.Finding.{slot_there, node_there, answer_there, kept_there}
 use Rattle.ksv_memo.proofs.Laying.{++-nil, All-take, one_of-left, one_of-right, AllDiffer-push, same_or, nodes_at-append, answers_at-append, Keeps, HasNode, slot_has_node, stays_kept, same_nodes, same_entries, same_opens, entries_in-push, asked_kept}
 

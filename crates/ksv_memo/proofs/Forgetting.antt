@@ -11,21 +11,20 @@ use Rattle.ksv_bytes.specs.declared.uses.Use.TheVariants.{Bytes, Reach, Size}
 use Rattle.ksv_bytes.specs.declared.uses.Change.{Change}
 use Rattle.ksv_bytes.specs.declared.uses.Change.TheVariants.{Overwrite, Insert, Delete, Append}
 use Rattle.ksv_bytes.specs.Uses.{Touches, Makes}
-use Rattle.ksv_memo.specs.declared.rules.Outcome.{Outcome}
-use Rattle.ksv_memo.specs.Meaning.{Meaning, Standing, IsLawful, IsSettled, on}
-use Rattle.ksv_memo.specs.Evaluation.{is_among, IsAnswered, completed, tells}
-use Rattle.ksv_memo.specs.Entry.{Entry}
-use Rattle.ksv_memo.specs.Right.{nodes_of, AreDistinct, AreExactly, HasEachOnce, IsRightEntry, IsRight}
-use Rattle.ksv_memo.specs.Touched.{IsTouched, is_use_touched, is_hit, is_touched, tree, left_after}
+use Rattle.ksv_memo_rules.specs.declared.rules.Outcome.{Outcome}
+use Rattle.ksv_memo_rules.specs.Meaning.{Meaning, Standing, IsLawful, IsSettled, on}
+use Rattle.ksv_memo_rules.specs.Evaluation.{is_among, IsAnswered, completed, tells}
+use Rattle.ksv_memo_rules.specs.Entry.{Entry}
+use Rattle.ksv_memo_rules.specs.Right.{nodes_of, AreDistinct, AreExactly, HasEachOnce, IsRightEntry, IsRight}
+use Rattle.ksv_memo_rules.specs.Touched.{IsTouched, is_use_touched, is_hit, is_touched, tree, left_after}
 use Rattle.ksv_memo.specs.Layout.{IsOneOf}
 use Rattle.ksv_memo.specs.Sweep.{Mark, AllSay, AreMarked, entries_with as entries_in, entries_left, Sweeps}
-use Rattle.ksv_memo.proofs.Standing.{law_on}
-use Rattle.ksv_memo.proofs.Lists.{All-map, All-both, All-++}
-use Rattle.ksv_memo.proofs.Evals.{eqb_true, or_false}
-use Rattle.ksv_memo.proofs.Keeping.{AreDistinct-none, kept-tree, or_right}
+use Rattle.ksv_memo_rules.proofs.Standing.{law_on}
+use Rattle.ksv_memo_rules.proofs.Lists.{All-map, All-both, All-++, none_pass, none_fails}
+use Rattle.ksv_memo_rules.proofs.Evals.{eqb_true, or_false}
+use Rattle.ksv_memo_rules.proofs.Keeping.{AreDistinct-none, kept-tree, or_right}
 use Rattle.ksv_memo.proofs.Change.{All-once, All-of-once, untouched-stays}
 use Rattle.ksv_memo.proofs.Laying.{one_of-all, one_of-push}
-use Rattle.ksv_memo.proofs.Sweeping.{none_fails, none_pass}
 
 -- ---- the tests
 pub use_touched : (change : Change) (used : Use) → Decides (is_use_touched change used) (Touches change used)

@@ -2,18 +2,19 @@
 use Rattle.std.proofs.Common.{◌≡◌, ℕ, false, List, [], length, map, reverse, sym, ◌∙◌, ap, subst}
 use Rattle.std.specs.List.{AllByRecursion, list_any}
 use Rattle.ksv_bytes.specs.declared.uses.Change.{Change}
-use Rattle.ksv_memo.specs.declared.replies.Slot.{Slot}
+use Rattle.ksv_memo_rules.specs.declared.replies.Slot.{Slot}
 use Rattle.ksv_memo.specs.declared.layout.Row.{Row}
 use Rattle.ksv_memo.specs.declared.layout.Rows.{Rows}
 use Rattle.ksv_memo.specs.declared.layout.Frame.{Frame}
 use Rattle.ksv_memo.specs.declared.layout.Frames.{Frames}
-use Rattle.ksv_memo.specs.Touched.{is_use_touched}
+use Rattle.ksv_memo_rules.specs.Touched.{is_use_touched}
 use Rattle.ksv_memo.specs.Layout.{IsOneOf, AllDiffer, IsKept, IsOpen, entries_in, entries_of, opens_in, opens_of, AsksBefore, AreNested, all_asked, all_uses, Sweep as Swept, swept, AreRows, AreFrames}
 use Rattle.ksv_memo.specs.Passing.{IsSwept}
 use Rattle.ksv_memo.specs.Sweep.{Sweeps}
 use Rattle.ksv_memo.proofs.Laying.{asked_kept}
 use Rattle.ksv_memo.proofs.Changing.{frames_nodes}
-use Rattle.ksv_memo.proofs.Sweeping.{numbers, none_pass, swept-rows, swept-member, swept-kept, swept-once, swept-ordered, swept-asked, swept-uses, swept-open, swept-none}
+use Rattle.ksv_memo_rules.proofs.Lists.{none_pass}
+use Rattle.ksv_memo.proofs.Sweeping.{numbers, swept-rows, swept-member, swept-kept, swept-once, swept-ordered, swept-asked, swept-uses, swept-open, swept-none}
 use Rattle.ksv_memo.proofs.Marking.{SweptMarks, swept-marks}
 use Rattle.ksv_memo.proofs.Knowing.{some-frames}
 

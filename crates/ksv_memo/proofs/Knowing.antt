@@ -5,15 +5,15 @@ use Rattle.std.specs.List.{AllByRecursion, list_any, IsDistinct}
 use Rattle.std.specs.Map.{keys_of}
 use Rattle.std.proofs.lemmas.Map.Keys.{IsDistinct-head, IsDistinct-tail}
 use Rattle.ksv_bytes.specs.declared.uses.Use.{Use}
-use Rattle.ksv_memo.specs.declared.replies.Slot.{Slot}
+use Rattle.ksv_memo_rules.specs.declared.replies.Slot.{Slot}
 use Rattle.ksv_memo.specs.declared.layout.Row.{Row}
 use Rattle.ksv_memo.specs.declared.layout.Frame.{Frame}
-use Rattle.ksv_memo.specs.Slots.{answer_at, answers_at}
-use Rattle.ksv_memo.specs.Entry.{Entry}
+use Rattle.ksv_memo_rules.specs.Slots.{answer_at, answers_at}
+use Rattle.ksv_memo_rules.specs.Entry.{Entry}
 use Rattle.ksv_memo.specs.Open.{Open}
 use Rattle.ksv_memo.specs.Nodes.{EndsWithAnswer}
 use Rattle.ksv_memo.specs.Layout.{IsOneOf, slots_of, node_at, nodes_at, IsOpen, IsKept, entry_before, entries_in, open_before, opens_in}
-use Rattle.ksv_memo.proofs.Evals.{or_false}
+use Rattle.ksv_memo_rules.proofs.Evals.{or_false}
 use Rattle.ksv_memo.proofs.Laying.{some-of, HasNode, kept_node, before-append}
 
 or_left : (a b : Bool) → a ≡ true → (a || b) ≡ true

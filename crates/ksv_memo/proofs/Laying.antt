@@ -5,14 +5,14 @@ use Rattle.std.specs.List.{AllByRecursion}
 use Rattle.std.proofs.lemmas.List.{take-append-le, drop-append-le, length-drop, take-append-drop as take_drop}
 use Rattle.std.proofs.lemmas.Option.{slice_get-map}
 use Rattle.ksv_bytes.specs.declared.uses.Use.{Use}
-use Rattle.ksv_memo.specs.declared.replies.Slot.{Slot}
+use Rattle.ksv_memo_rules.specs.declared.replies.Slot.{Slot}
 use Rattle.ksv_memo.specs.declared.layout.Row.{Row}
 use Rattle.ksv_memo.specs.declared.layout.Frame.{Frame}
-use Rattle.ksv_memo.specs.Slots.{answer_of, answer_at, answers_at, with_first}
-use Rattle.ksv_memo.specs.Entry.{Entry}
+use Rattle.ksv_memo_rules.specs.Slots.{answer_of, answer_at, answers_at, with_first}
+use Rattle.ksv_memo_rules.specs.Entry.{Entry}
 use Rattle.ksv_memo.specs.Layout.{IsOneOf, AllDiffer, slots_of, node_at, nodes_at, IsKept, entry_before, entries_in, open_before, opens_in, AsksBefore, all_asked, all_uses}
-use Rattle.ksv_memo.proofs.Evals.{eqb_true}
-use Rattle.ksv_memo.proofs.Lists.{All-map, All-++}
+use Rattle.ksv_memo_rules.proofs.Evals.{eqb_true}
+use Rattle.ksv_memo_rules.proofs.Lists.{All-map, All-++}
 
 pub ++-nil : {X : Type 0} (xs : List X) → xs ++ [] ≡ xs
 ++-nil [] = refl

@@ -1,11 +1,6 @@
-pub mod Lists
 pub mod Once
-pub mod Replying
 pub mod Finding
 pub mod Laying
-pub mod Evals
-pub mod Keeping
-pub mod Standing
 pub mod Changing
 pub mod Knowing
 pub mod Tabling

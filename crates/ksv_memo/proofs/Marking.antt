@@ -6,15 +6,15 @@ use Rattle.std.proofs.Math.Seq.{take-append_seam, drop-append_seam}
 use Rattle.indexmap.specs.IndexMap.{set_value_at}
 use Rattle.ksv_bytes.specs.declared.uses.Use.{Use}
 use Rattle.ksv_bytes.specs.declared.uses.Change.{Change}
-use Rattle.ksv_memo.specs.declared.replies.Slot.{Slot}
-use Rattle.ksv_memo.specs.declared.replies.Slot.TheVariants.{Empty as emptied}
+use Rattle.ksv_memo_rules.specs.declared.replies.Slot.{Slot}
+use Rattle.ksv_memo_rules.specs.declared.replies.Slot.TheVariants.{Empty as emptied}
 use Rattle.ksv_memo.specs.declared.layout.Row.{Row}
-use Rattle.ksv_memo.specs.Slots.{answer_at, with_first}
-use Rattle.ksv_memo.specs.Entry.{Entry}
-use Rattle.ksv_memo.specs.Touched.{is_use_touched}
+use Rattle.ksv_memo_rules.specs.Slots.{answer_at, with_first}
+use Rattle.ksv_memo_rules.specs.Entry.{Entry}
+use Rattle.ksv_memo_rules.specs.Touched.{is_use_touched}
 use Rattle.ksv_memo.specs.Layout.{IsOneOf, AllDiffer, slots_of, node_at, nodes_at, IsKept, entry_before, entries_in, AsksBefore, all_asked, all_uses, Sweep as Swept, is_to_go, swept}
 use Rattle.ksv_memo.specs.Sweep.{Mark, Says, AllSay, IsMarked, AreMarked, entries_with, entries_left}
-use Rattle.ksv_memo.proofs.Lists.{All-map, All-both}
+use Rattle.ksv_memo_rules.proofs.Lists.{All-map, All-both}
 use Rattle.ksv_memo.proofs.Laying.{some-of, one_of-left, one_of-right, one_of-push, kept_node}
 use Rattle.ksv_memo.proofs.Changing.{all_map}
 use Rattle.ksv_memo.proofs.Passing.{goes, stays}

@@ -5,20 +5,20 @@ use Rattle.std.proofs.lemmas.List.{map-append, length-map}
 use Rattle.std.proofs.lemmas.Map.Keys.{IsDistinct-head, IsDistinct-tail, IsDistinct-cons}
 use Rattle.std.proofs.lemmas.Cmp.{nat_eq_equiv}
 use Rattle.ksv_bytes.specs.declared.uses.Use.{Use}
-use Rattle.ksv_memo.specs.declared.rules.Next.{Next}
-use Rattle.ksv_memo.specs.declared.rules.Next.TheVariants.{Need, Done}
-use Rattle.ksv_memo.specs.declared.rules.Outcome.{Outcome}
-use Rattle.ksv_memo.specs.declared.rules.Outcome.TheVariants.{Answered, Circle}
-use Rattle.ksv_memo.specs.Meaning.{Standing, IsSettled, IsDone}
-use Rattle.ksv_memo.specs.Evaluation.{is_among, Told, after, with_reply, with_step, told, if_answered, tells, done}
-use Rattle.ksv_memo.specs.Entry.{Entry}
+use Rattle.ksv_memo_rules.specs.declared.rules.Next.{Next}
+use Rattle.ksv_memo_rules.specs.declared.rules.Next.TheVariants.{Need, Done}
+use Rattle.ksv_memo_rules.specs.declared.rules.Outcome.{Outcome}
+use Rattle.ksv_memo_rules.specs.declared.rules.Outcome.TheVariants.{Answered, Circle}
+use Rattle.ksv_memo_rules.specs.Meaning.{Standing, IsSettled, IsDone}
+use Rattle.ksv_memo_rules.specs.Evaluation.{is_among, Told, after, with_reply, with_step, told, if_answered, tells, done, answering}
+use Rattle.ksv_memo_rules.specs.Entry.{Entry}
 use Rattle.ksv_memo.specs.Open.{Open, nodes_in, newly, with_uses, with_answer}
 use Rattle.ksv_memo.specs.Nodes.{kept_of}
-use Rattle.ksv_memo.specs.Right.{nodes_of, AreDistinct, HasEachOnce, IsRight, fresh, costs}
-use Rattle.ksv_memo.specs.Running.{answering, Agrees, HasCome, IsWaiting, HasEnded, HasStepped, Chain, IsStack, climbed, value_of, value_at, climbed_rest, told_rest, rest_of, rest_at, to_keep, debt}
-use Rattle.ksv_memo.proofs.Lists.{All-map, All-++, All-left}
-use Rattle.ksv_memo.proofs.Evals.{IsOut, or_false_intro, few, out_apart, AreDistinct-cons, tells-open, tells-free, done-free, completed-open}
-use Rattle.ksv_memo.proofs.Keeping.{IsIn, IsIn-append, is_among-append, nodes_of-append, agrees, keep, AreDistinct-none}
+use Rattle.ksv_memo_rules.specs.Right.{nodes_of, AreDistinct, HasEachOnce, IsRight, fresh, costs, Agrees}
+use Rattle.ksv_memo.specs.Running.{HasCome, IsWaiting, HasEnded, HasStepped, Chain, IsStack, climbed, value_of, value_at, climbed_rest, told_rest, rest_of, rest_at, to_keep, debt}
+use Rattle.ksv_memo_rules.proofs.Lists.{All-map, All-++, All-left}
+use Rattle.ksv_memo_rules.proofs.Evals.{IsOut, or_false_intro, few, out_apart, AreDistinct-cons, tells-open, tells-free, done-free, completed-open}
+use Rattle.ksv_memo_rules.proofs.Keeping.{IsIn, IsIn-append, is_among-append, nodes_of-append, agrees, keep, AreDistinct-none}
 
 pub ++-nil : {X : Type 0} (xs : List X) → xs ++ [] ≡ xs
 ++-nil [] = refl

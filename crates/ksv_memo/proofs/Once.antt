@@ -9,7 +9,7 @@ use Rattle.std.specs.List.{IsAnyAnswer}
 use Rattle.ksv_bytes.specs.declared.uses.Use.{Use}
 use Rattle.ksv_bytes.specs.declared.uses.Use.TheVariants.{Bytes, Reach, Size}
 use Rattle.ksv_bytes.specs.contracts.uses.UsePartialEq.TheImpl.{ghosts}
-use Rattle.ksv_memo.specs.Right.{HasEachOnce}
+use Rattle.ksv_memo_rules.specs.Right.{HasEachOnce}
 
 -- `==` on uses says whether they are the same
 pub use_decides : (a b : Use) → Decides (ghosts.eq a b) (a ≡ b)

@@ -1,13 +1,13 @@
 -- What a question keeps, as sets of nodes.
 use Rattle.std.proofs.Common.{◌≡◌, ℕ, Bool, true, false, List, [], ◌∷◌, ◌++◌, refl, sym, ◌∙◌, ap, nat_eq, ◌||◌, append_assoc, map}
 use Rattle.std.specs.List.{list_any}
-use Rattle.ksv_memo.specs.Meaning.{Standing}
-use Rattle.ksv_memo.specs.Evaluation.{is_among}
-use Rattle.ksv_memo.specs.Entry.{Entry}
-use Rattle.ksv_memo.specs.Right.{nodes_of, IsRight, AreExactly, AreBetween, fresh}
+use Rattle.ksv_memo_rules.specs.Meaning.{Standing}
+use Rattle.ksv_memo_rules.specs.Evaluation.{is_among}
+use Rattle.ksv_memo_rules.specs.Entry.{Entry}
+use Rattle.ksv_memo_rules.specs.Right.{nodes_of, IsRight, AreExactly, AreBetween, fresh}
 use Rattle.ksv_memo.specs.Running.{to_keep, IsLeft}
-use Rattle.ksv_memo.proofs.Evals.{eqb_true}
-use Rattle.ksv_memo.proofs.Keeping.{is_among-append, IsIn-append}
+use Rattle.ksv_memo_rules.proofs.Evals.{eqb_true}
+use Rattle.ksv_memo_rules.proofs.Keeping.{is_among-append, IsIn-append}
 use Rattle.ksv_memo.proofs.Moves.{fresh-out, fresh-in, fresh-nil}
 
 -- a member that is there already adds nothing

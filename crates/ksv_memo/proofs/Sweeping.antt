@@ -6,36 +6,17 @@ use Rattle.std.proofs.Math.Seq.{take-append_seam, drop-append_seam}
 use Rattle.indexmap.specs.IndexMap.{set_value_at}
 use Rattle.ksv_bytes.specs.declared.uses.Use.{Use}
 use Rattle.ksv_bytes.specs.declared.uses.Change.{Change}
-use Rattle.ksv_memo.specs.declared.replies.Slot.{Slot}
-use Rattle.ksv_memo.specs.declared.replies.Slot.TheVariants.{Empty as emptied}
+use Rattle.ksv_memo_rules.specs.declared.replies.Slot.{Slot}
+use Rattle.ksv_memo_rules.specs.declared.replies.Slot.TheVariants.{Empty as emptied}
 use Rattle.ksv_memo.specs.declared.layout.Row.{Row}
-use Rattle.ksv_memo.specs.Slots.{answer_of, answer_at}
-use Rattle.ksv_memo.specs.Touched.{is_use_touched}
+use Rattle.ksv_memo_rules.specs.Slots.{answer_of, answer_at}
+use Rattle.ksv_memo_rules.specs.Touched.{is_use_touched}
 use Rattle.ksv_memo.specs.Layout.{IsOneOf, AllDiffer, slots_of, node_at, IsOpen, IsKept, AsksBefore, all_asked, all_uses, Sweep, behind_rows, is_to_go, swept}
-use Rattle.ksv_memo.proofs.Evals.{or_false}
-use Rattle.ksv_memo.proofs.Lists.{All-map, All-both}
+use Rattle.ksv_memo_rules.proofs.Evals.{or_false}
+use Rattle.ksv_memo_rules.proofs.Lists.{All-map, All-both, any_same, choose, none_fails, none_pass}
 use Rattle.ksv_memo.proofs.Changing.{all_map, map_all}
 use Rattle.ksv_memo.proofs.Passing.{stays}
 use Rattle.ksv_memo.proofs.Laying.{All-take, All-drop, one_of-left, one_of-right, one_of-push}
-
--- where no element passes, each fails
-pub none_pass : {X : Type 0} (p : X → Bool) (xs : List X) → list_any p xs ≡ false → AllByRecursion (λ x. p x ≡ false) xs
-none_pass p [] h = tt
-none_pass p (x ∷ xs) h = let parts = or_false (p x) (list_any p xs) h in (parts.0, none_pass p xs parts.1)
-
-pub none_fails : {X : Type 0} (p : X → Bool) (xs : List X) → AllByRecursion (λ x. p x ≡ false) xs → list_any p xs ≡ false
-none_fails p [] h = refl
-none_fails p (x ∷ xs) h = ap (λ b. b || list_any p xs) h.0 ∙ none_fails p xs h.1
-
--- two tests that agree on each element
-pub any_same : {X : Type 0} (p q : X → Bool) (xs : List X) → AllByRecursion (λ x. p x ≡ q x) xs → list_any p xs ≡ list_any q xs
-any_same p q [] h = refl
-any_same p q (x ∷ xs) h = ap (λ b. b || list_any p xs) h.0 ∙ ap (λ b. q x || b) (any_same p q xs h.1)
-
--- what holds of both choices
-pub choose : {X : Type 0} (Q : X → Type 0) (b : Bool) (x y : X) → (b ≡ true → Q x) → (b ≡ false → Q y) → Q (if b then x else y)
-choose Q true x y f g = f refl
-choose Q false x y f g = g refl
 
 -- the numbers of rows' slots
 abbrev pub numbers : List Row → List ℕ

@@ -5,19 +5,19 @@ use Rattle.std.proofs.lemmas.Option.{slice_get-map}
 use Rattle.std.specs.Cmp.{IsEquivalence}
 use Rattle.std.specs.List.{AllByRecursion, list_any, IsDistinct}
 use Rattle.std.specs.Map.{keys_of}
-use Rattle.ksv_memo.specs.declared.replies.Slot.{Slot}
-use Rattle.ksv_memo.specs.declared.replies.Slot.TheVariants.{Empty as emptied, Open as opened}
+use Rattle.ksv_memo_rules.specs.declared.replies.Slot.{Slot}
+use Rattle.ksv_memo_rules.specs.declared.replies.Slot.TheVariants.{Empty as emptied, Open as opened}
 use Rattle.std.specs.Borrow.{Bor}
 use Rattle.ksv_memo.specs.declared.layout.Row.{Row}
 use Rattle.ksv_memo.specs.declared.layout.Rows.{Rows}
 use Rattle.ksv_memo.specs.declared.layout.Frames.{Frames}
 use Rattle.ksv_memo.specs.declared.layout.Known.TheVariants.{New, Empty, Open, Kept}
-use Rattle.ksv_memo.specs.Slots.{answer_in, answer_of, answer_at, lent}
-use Rattle.ksv_memo.specs.Entry.{Entry}
+use Rattle.ksv_memo_rules.specs.Slots.{answer_in, answer_of, answer_at, lent}
+use Rattle.ksv_memo_rules.specs.Entry.{Entry}
 use Rattle.ksv_memo.specs.Layout.{slots_of, node_at, IsOpen, IsKept, entries_in, entries_of, opens_of, AreRows, AreFrames, IsLaidOut}
 use Rattle.ksv_memo.specs.Moves.{Knows, IsTheSlot, Heard, Framed, EndsWith}
 use Rattle.ksv_memo.specs.Nodes.{IsEntry, HasNoEntry, Replies, Opens, EndsWithAnswer}
-use Rattle.ksv_memo.proofs.Lists.{All-right}
+use Rattle.ksv_memo_rules.proofs.Lists.{All-right}
 use Rattle.ksv_memo.proofs.Finding.{slot_there, node_there, answer_there}
 use Rattle.ksv_memo.proofs.Laying.{some-of, asked_kept, same_entries}
 use Rattle.ksv_memo.proofs.Changing.{ChangesAt, none_past, keeps, rows-stay, frames-push, frames-hear, opens-push, opens-hear}

@@ -3,21 +3,21 @@ use Rattle.std.proofs.Common.{◌≡◌, ℕ, ◌+◌, ◌<◌, Bool, true, fals
 use Rattle.std.proofs.lemmas.List.{reverse-append}
 use Rattle.std.proofs.Common.{reverse}
 use Rattle.std.specs.Cmp.{IsEquivalence}
-use Rattle.ksv_memo.specs.declared.rules.Next.{Next}
-use Rattle.ksv_memo.specs.declared.rules.Next.TheVariants.{Need, Done}
-use Rattle.ksv_memo.specs.declared.rules.Outcome.{Outcome}
-use Rattle.ksv_memo.specs.declared.rules.Outcome.TheVariants.{Answered, Circle}
-use Rattle.ksv_memo.specs.Meaning.{Standing, IsSettled}
-use Rattle.ksv_memo.specs.Evaluation.{tells, done, IsAnswered}
-use Rattle.ksv_memo.specs.Entry.{Entry}
+use Rattle.ksv_memo_rules.specs.declared.rules.Next.{Next}
+use Rattle.ksv_memo_rules.specs.declared.rules.Next.TheVariants.{Need, Done}
+use Rattle.ksv_memo_rules.specs.declared.rules.Outcome.{Outcome}
+use Rattle.ksv_memo_rules.specs.declared.rules.Outcome.TheVariants.{Answered, Circle}
+use Rattle.ksv_memo_rules.specs.Meaning.{Standing, IsSettled}
+use Rattle.ksv_memo_rules.specs.Evaluation.{tells, done, IsAnswered}
+use Rattle.ksv_memo_rules.specs.Entry.{Entry}
 use Rattle.ksv_memo.specs.Open.{Open, newly, with_uses, with_answer}
 use Rattle.ksv_memo.specs.Nodes.{Nodes, IsEntry, HasNoEntry, Replies, Opens, Circles, kept_of, Steps, Closes, MayKeep, EndsWithAnswer}
-use Rattle.ksv_memo.specs.Right.{nodes_of, IsRight, counted}
-use Rattle.ksv_memo.specs.Running.{Agrees, account_of, account_at, GoesOn, GoesOnWith, HasFinished, Advances, IsLeft, IsRunning, HasReached, AdvancesFrom, AdvancesAt, LeftFrom, LeftAt, Holds, HoldsWith, Counts, CountsWith, turns_left, rest_of, to_keep, debt}
-use Rattle.ksv_memo.proofs.Evals.{IsOut}
-use Rattle.ksv_memo.proofs.Keeping.{IsIn, self_in}
+use Rattle.ksv_memo_rules.specs.Right.{nodes_of, IsRight, counted, Agrees}
+use Rattle.ksv_memo.specs.Running.{account_of, account_at, GoesOn, GoesOnWith, HasFinished, Advances, IsLeft, IsRunning, HasReached, AdvancesFrom, AdvancesAt, LeftFrom, LeftAt, Holds, HoldsWith, Counts, CountsWith, turns_left, rest_of, to_keep, debt}
+use Rattle.ksv_memo_rules.proofs.Evals.{IsOut}
+use Rattle.ksv_memo_rules.proofs.Keeping.{IsIn, self_in}
 use Rattle.ksv_memo.proofs.Laying.{one_of-all, ++-nil}
-use Rattle.ksv_memo.proofs.Sweeping.{none_pass}
+use Rattle.ksv_memo_rules.proofs.Lists.{none_pass}
 use Rattle.ksv_memo.proofs.Turns.{any_entry, waits_among, need-replies, need-opens, need-ends, finish-goes, finish-ends, finish-left, left-same, turn-account, turn-steps, begins, comes, covers-begins, turns-begin, value-begins, counts-end, counts-step, grown-more, left-more}
 
 -- a list has one last element

@@ -5,20 +5,20 @@ use Rattle.std.specs.List.{AllByRecursion}
 use Rattle.std.proofs.lemmas.List.{take-append-le, drop-append-le, reverse-append, reverse-reverse, take_rest}
 use Rattle.std.proofs.lemmas.Option.{slice_get-map}
 use Rattle.ksv_bytes.specs.declared.uses.Use.{Use}
-use Rattle.ksv_memo.specs.declared.rules.Next.{Next}
-use Rattle.ksv_memo.specs.declared.replies.Slot.{Slot}
-use Rattle.ksv_memo.specs.declared.replies.Slot.TheVariants.{Empty as emptied, Open as opened}
+use Rattle.ksv_memo_rules.specs.declared.rules.Next.{Next}
+use Rattle.ksv_memo_rules.specs.declared.replies.Slot.{Slot}
+use Rattle.ksv_memo_rules.specs.declared.replies.Slot.TheVariants.{Empty as emptied, Open as opened}
 use Rattle.ksv_memo.specs.declared.layout.Rows.{Rows}
 use Rattle.ksv_memo.specs.declared.layout.Frame.{Frame}
 use Rattle.ksv_memo.specs.declared.layout.Frames.{Frames}
-use Rattle.ksv_memo.specs.Slots.{answer_in, answer_at, answers_at}
-use Rattle.ksv_memo.specs.Meaning.{Standing, IsAddedTo}
-use Rattle.ksv_memo.specs.Entry.{Entry}
+use Rattle.ksv_memo_rules.specs.Slots.{answer_in, answer_at, answers_at}
+use Rattle.ksv_memo_rules.specs.Meaning.{Standing, IsAddedTo}
+use Rattle.ksv_memo_rules.specs.Entry.{Entry}
 use Rattle.ksv_memo.specs.Open.{Open, with_uses, heard}
 use Rattle.ksv_memo.specs.Layout.{IsOneOf, AllDiffer, slots_of, node_at, nodes_at, IsOpen, IsKept, entries_of, open_before, opens_in, opens_of, AreNested, AreFrames, IsLaidOut}
 use Rattle.ksv_memo.specs.Moves.{EndsWith, SameFrames, Popped, Heard, Rowed}
 use Rattle.ksv_memo.specs.Nodes.{Keeps, Steps, Closes, MayKeep, TakesFirst, is_there}
-use Rattle.ksv_memo.proofs.Evals.{eqb_true}
+use Rattle.ksv_memo_rules.proofs.Evals.{eqb_true}
 use Rattle.ksv_memo.proofs.Finding.{node_there, answer_there}
 use Rattle.ksv_memo.proofs.Laying.{All-drop, asked_kept, same_entries}
 use Rattle.ksv_memo.proofs.Changing.{ChangesAt, grown, keeps, rows-stay, rows-add, entries-add, frames-pop, frames-hear, opens-pop, opens-hear, frames_nodes}

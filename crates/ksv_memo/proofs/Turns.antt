@@ -3,20 +3,20 @@ use Rattle.std.proofs.Common.{◌≡◌, ℕ, suc, ◌+◌, ◌-◌, ◌*◌, �
 use Rattle.std.specs.Cmp.{IsEquivalence}
 use Rattle.std.specs.List.{AllByRecursion, list_any}
 use Rattle.ksv_bytes.specs.declared.uses.Use.{Use}
-use Rattle.ksv_memo.specs.declared.rules.Next.{Next}
-use Rattle.ksv_memo.specs.declared.rules.Next.TheVariants.{Need, Done}
-use Rattle.ksv_memo.specs.declared.rules.Outcome.{Outcome}
-use Rattle.ksv_memo.specs.declared.rules.Outcome.TheVariants.{Answered, Circle}
-use Rattle.ksv_memo.specs.Meaning.{Standing, IsSettled, IsAddedTo}
-use Rattle.ksv_memo.specs.Evaluation.{is_among, Told, told, tells, done}
-use Rattle.ksv_memo.specs.Entry.{Entry}
+use Rattle.ksv_memo_rules.specs.declared.rules.Next.{Next}
+use Rattle.ksv_memo_rules.specs.declared.rules.Next.TheVariants.{Need, Done}
+use Rattle.ksv_memo_rules.specs.declared.rules.Outcome.{Outcome}
+use Rattle.ksv_memo_rules.specs.declared.rules.Outcome.TheVariants.{Answered, Circle}
+use Rattle.ksv_memo_rules.specs.Meaning.{Standing, IsSettled, IsAddedTo}
+use Rattle.ksv_memo_rules.specs.Evaluation.{is_among, Told, told, tells, done, answering}
+use Rattle.ksv_memo_rules.specs.Entry.{Entry}
 use Rattle.ksv_memo.specs.Open.{Open, nodes_in, newly, with_uses, with_answer}
 use Rattle.ksv_memo.specs.Nodes.{kept_of}
-use Rattle.ksv_memo.specs.Right.{nodes_of, HasEachOnce, IsRight, fresh, costs, counted}
-use Rattle.ksv_memo.specs.Running.{answering, Agrees, HasCome, IsWaiting, HasEnded, HasStepped, IsStack, climbed, value_of, calls_of, calls_left, climbed_rest, rest_of, rest_at, to_keep, debt, made, Counts, account_of, account_at, HasFinished, GoesOn, IsLeft}
-use Rattle.ksv_memo.proofs.Lists.{All-right}
-use Rattle.ksv_memo.proofs.Evals.{IsOut, eqb_true, AreDistinct-cons, tells-free}
-use Rattle.ksv_memo.proofs.Keeping.{IsIn, AreDistinct-none, done-kept, agrees, self_in, nodes_of-append}
+use Rattle.ksv_memo_rules.specs.Right.{nodes_of, HasEachOnce, IsRight, fresh, costs, counted, Agrees}
+use Rattle.ksv_memo.specs.Running.{HasCome, IsWaiting, HasEnded, HasStepped, IsStack, climbed, value_of, calls_of, calls_left, climbed_rest, rest_of, rest_at, to_keep, debt, made, Counts, account_of, account_at, HasFinished, GoesOn, IsLeft}
+use Rattle.ksv_memo_rules.proofs.Lists.{All-right}
+use Rattle.ksv_memo_rules.proofs.Evals.{IsOut, eqb_true, AreDistinct-cons, tells-free}
+use Rattle.ksv_memo_rules.proofs.Keeping.{IsIn, AreDistinct-none, done-kept, agrees, self_in, nodes_of-append}
 use Rattle.ksv_memo.proofs.Moves.{++-nil, stepped, value-stepped, rest-stepped, rest-replied, rest-starts, rest-circle, covers-keep, covers-drop, to_keep-nil, fresh-nil, debt-keep, debt-drop, replied, value-replied, value-circle, starts, value-starts, room, opens, keeps, closes, IsWaiting-keep}
 
 -- ---- `==` on nodes is that of their numbers

@@ -2,9 +2,9 @@
 use Rattle.std.specs.Prelude.{ℕ, Option, None, Result, Ok, Err}
 use Rattle.ksv_memo.specs.declared.engine.Answer.{Answer}
 use Rattle.ksv_memo.specs.declared.engine.Answer.TheVariants.{Value, Fault, Circle}
-use Rattle.ksv_memo.specs.declared.rules.Outcome.{Outcome}
-use Rattle.ksv_memo.specs.declared.rules.Outcome.TheVariants.{Answered, Circle as CircleOf}
-use Rattle.ksv_memo.specs.Right.{counted}
+use Rattle.ksv_memo_rules.specs.declared.rules.Outcome.{Outcome}
+use Rattle.ksv_memo_rules.specs.declared.rules.Outcome.TheVariants.{Answered, Circle as CircleOf}
+use Rattle.ksv_memo_rules.specs.Right.{counted}
 
 -- an outcome as an answer
 abbrev pub answer_of : {N V F : Type 0} → Outcome N (Result V F) → Answer N V F

@@ -1,10 +1,4 @@
-pub mod Meaning
-pub mod Evaluation
-pub mod Entry
-pub mod Right
-pub mod Touched
 pub mod Open
-pub mod Slots
 pub mod Layout
 pub mod Moves
 pub mod Passing

@@ -2,15 +2,15 @@
 use Rattle.std.specs.Prelude.{◌≡◌, ℕ, Some, Bool, true, false, List, [], ◌∷◌, ◌++◌, length, take, drop, slice_get}
 use Rattle.std.specs.List.{list_any}
 use Rattle.ksv_bytes.specs.declared.uses.Use.{Use}
-use Rattle.ksv_memo.specs.declared.replies.Slot.{Slot}
-use Rattle.ksv_memo.specs.declared.replies.Slot.TheVariants.{Empty as emptied, Open as opened}
+use Rattle.ksv_memo_rules.specs.declared.replies.Slot.{Slot}
+use Rattle.ksv_memo_rules.specs.declared.replies.Slot.TheVariants.{Empty as emptied, Open as opened}
 use Rattle.ksv_memo.specs.declared.layout.Row.{Row}
 use Rattle.ksv_memo.specs.declared.layout.Rows.{Rows}
 use Rattle.ksv_memo.specs.declared.layout.Frame.{Frame}
 use Rattle.ksv_memo.specs.declared.layout.Frames.{Frames}
 use Rattle.ksv_memo.specs.declared.layout.Known.{Known}
 use Rattle.ksv_memo.specs.declared.layout.Known.TheVariants.{New, Empty, Open, Kept}
-use Rattle.ksv_memo.specs.Right.{HasEachOnce}
+use Rattle.ksv_memo_rules.specs.Right.{HasEachOnce}
 use Rattle.ksv_memo.specs.Layout.{IsKept}
 
 -- the slot of a number is this, and its node is the one that was looked for

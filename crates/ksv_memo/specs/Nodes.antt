@@ -4,11 +4,11 @@ use Rattle.std.specs.List.{list_any}
 use Rattle.ksv_bytes.specs.declared.uses.Use.{Use}
 use Rattle.ksv_memo.specs.declared.table.Asked.{Asked}
 use Rattle.ksv_memo.specs.declared.table.Asked.TheVariants.{Replied, Opened, Circle}
-use Rattle.ksv_memo.specs.Entry.{Entry}
+use Rattle.ksv_memo_rules.specs.Entry.{Entry}
 use Rattle.ksv_memo.specs.Open.{Open, newly, with_uses, heard}
-use Rattle.ksv_memo.specs.declared.rules.Next.{Next}
-use Rattle.ksv_memo.specs.Meaning.{Standing}
-use Rattle.ksv_memo.specs.Right.{HasEachOnce}
+use Rattle.ksv_memo_rules.specs.declared.rules.Next.{Next}
+use Rattle.ksv_memo_rules.specs.Meaning.{Standing}
+use Rattle.ksv_memo_rules.specs.Right.{HasEachOnce}
 use Rattle.ksv_memo.specs.Layout.{IsOneOf}
 
 -- the kept nodes in the order in which they were kept, and the open ones, from the last opened to the first

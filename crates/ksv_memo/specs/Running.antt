@@ -2,24 +2,16 @@
 -- that are still to be kept, and the calls that are left. Only the machine's own contracts use it.
 use Rattle.std.specs.Prelude.{◌≡◌, ℕ, suc, ◌+◌, ◌-◌, ◌*◌, ◌<◌, ◌≤◌, true, false, List, [], ◌∷◌, ◌++◌, length, Option, Some, None}
 use Rattle.std.specs.List.{AllByRecursion, flat_map}
-use Rattle.ksv_memo.specs.declared.rules.Outcome.{Outcome}
-use Rattle.ksv_memo.specs.declared.rules.Outcome.TheVariants.{Answered}
-use Rattle.ksv_memo.specs.declared.rules.Next.{Next}
-use Rattle.ksv_memo.specs.declared.rules.Next.TheVariants.{Need, Done}
-use Rattle.ksv_memo.specs.Meaning.{Standing, IsAddedTo}
-use Rattle.ksv_memo.specs.Evaluation.{Told, is_among, tells, told, after, with_reply, done, if_answered, IsAnswered}
-use Rattle.ksv_memo.specs.Entry.{Entry}
+use Rattle.ksv_memo_rules.specs.declared.rules.Outcome.{Outcome}
+use Rattle.ksv_memo_rules.specs.declared.rules.Outcome.TheVariants.{Answered}
+use Rattle.ksv_memo_rules.specs.declared.rules.Next.{Next}
+use Rattle.ksv_memo_rules.specs.declared.rules.Next.TheVariants.{Need, Done}
+use Rattle.ksv_memo_rules.specs.Meaning.{Standing, IsAddedTo}
+use Rattle.ksv_memo_rules.specs.Evaluation.{Told, is_among, tells, told, after, with_reply, done, if_answered, IsAnswered, answering}
+use Rattle.ksv_memo_rules.specs.Entry.{Entry}
 use Rattle.ksv_memo.specs.Open.{Open, nodes_in}
 use Rattle.ksv_memo.specs.Nodes.{Nodes}
-use Rattle.ksv_memo.specs.Right.{nodes_of, AreDistinct, IsRight, fresh, costs, counted}
-
--- what nodes answer while these are open
-abbrev pub answering : {N A : Type 0} → Standing N A → List N → N → Outcome N A
-answering w opened m = (tells w opened m).outcome
-
--- this function answers each kept node with its kept answer
-abbrev pub Agrees : {N A : Type 0} → List (Entry N A) → (N → Outcome N A) → Type 0
-Agrees es g = AllByRecursion (λ e. g e.node ≡ Answered e.answer) es
+use Rattle.ksv_memo_rules.specs.Right.{Agrees, nodes_of, AreDistinct, IsRight, fresh, costs, counted}
 
 -- for all answers that agree with the kept ones, the node gets these replies
 pub record HasCome {N A : Type 0} (w : Standing N A) (es : List (Entry N A)) (o : Open N A) : Type 0 where

@@ -2,9 +2,9 @@
 use Rattle.std.specs.Prelude.{◌≡◌, Bool, not, ◌||◌, List, [], ◌∷◌, ◌++◌, map, filter}
 use Rattle.std.specs.List.{list_any}
 use Rattle.ksv_bytes.specs.declared.uses.Change.{Change}
-use Rattle.ksv_memo.specs.Entry.{Entry}
+use Rattle.ksv_memo_rules.specs.Entry.{Entry}
 use Rattle.ksv_memo.specs.Layout.{IsOneOf}
-use Rattle.ksv_memo.specs.Touched.{is_use_touched}
+use Rattle.ksv_memo_rules.specs.Touched.{is_use_touched}
 
 -- an entry, and whether it goes
 pub record Mark (N A : Type 0) : Type 0 where

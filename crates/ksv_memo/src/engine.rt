@@ -2,15 +2,15 @@
 ghost use Rattle.std.specs.Prelude.{◌≡◌, ◌++◌, ℕ, List, [], Some, None, length, Contains, IfOk, OnOk, OnErr};
 ghost use Rattle.std.specs.List.{AllByRecursion};
 ghost use Rattle.ksv_bytes.specs.Uses.{Makes};
-ghost use Rattle.ksv_memo.specs.Meaning.{on};
-ghost use Rattle.ksv_memo.specs.Evaluation.{tells, done};
-ghost use Rattle.ksv_memo.specs.Right.{IsRight, AreExactly, AreBetween, nodes_of, fresh, costs};
-ghost use Rattle.ksv_memo.specs.Touched.{left_after};
+ghost use Rattle.ksv_memo_rules.specs.Meaning.{on};
+ghost use Rattle.ksv_memo_rules.specs.Evaluation.{tells, done};
+ghost use Rattle.ksv_memo_rules.specs.Right.{IsRight, AreExactly, AreBetween, nodes_of, fresh, costs};
+ghost use Rattle.ksv_memo_rules.specs.Touched.{left_after};
 ghost use Rattle.ksv_memo.specs.Answers.{answer_of, turns_after};
 
 use crate::machine::Machine;
-use crate::rules::{Outcome, Rules};
 use ksv_bytes::{Buffer, Change};
+use ksv_memo_rules::{Outcome, Rules};
 use std::alloc::{AllocError, Global};
 use std::marker::Model;
 
@@ -46,7 +46,7 @@ pub struct Engine<R: Rules> {
 
 impl<R: Rules> Model for Engine<R> {
     ghost use Rattle.std.specs.Prelude.{◌≡◌, [], Result};
-    ghost use Rattle.ksv_memo.specs.Entry.{Memo};
+    ghost use Rattle.ksv_memo_rules.specs.Entry.{Memo};
 
     ghost Value = { Memo R.Node (Result R.Value R.Fault) };
 

@@ -2,14 +2,14 @@
 ghost use Rattle.std.specs.Prelude.{◌≡◌, ◌↔◌, ℕ, List, Result, true};
 ghost use Rattle.std.specs.List.{AllByRecursion};
 ghost use Rattle.ksv_bytes.specs.Uses.{Makes, Touches};
-ghost use Rattle.ksv_memo.specs.Meaning.{on};
-ghost use Rattle.ksv_memo.specs.Evaluation.{is_among};
-ghost use Rattle.ksv_memo.specs.Entry.{Entry};
-ghost use Rattle.ksv_memo.specs.Right.{IsRight};
-ghost use Rattle.ksv_memo.specs.Touched.{IsTouched, left_after};
+ghost use Rattle.ksv_memo_rules.specs.Meaning.{on};
+ghost use Rattle.ksv_memo_rules.specs.Evaluation.{is_among};
+ghost use Rattle.ksv_memo_rules.specs.Entry.{Entry};
+ghost use Rattle.ksv_memo_rules.specs.Right.{IsRight};
+ghost use Rattle.ksv_memo_rules.specs.Touched.{IsTouched, left_after};
 
-use crate::rules::Rules;
 use ksv_bytes::Change;
+use ksv_memo_rules::Rules;
 
 /// If an edit touches no use of a kept answer, the answer is right for the bytes after the edit too.
 pub fn untouched_answers_stay_right<R: Rules>(_rules: &R, _change: Change)

@@ -3,9 +3,9 @@ ghost use Rattle.std.specs.Prelude.{◌≡◌, ◌<◌, ◌++◌, ◌∷◌, [],
 ghost use Rattle.indexmap.specs.IndexMap.{IsUnique, get, index_map_len, set_value_at};
 ghost use Rattle.ksv_memo.specs.Moves.{Knows, Heard, SameFrames, IsNewFrame, Popped, Framed, Added, SameRows, EndsWith};
 
-use crate::replies::Slot;
 use indexmap::IndexMap;
 use ksv_bytes::Use;
+use ksv_memo_rules::Slot;
 use std::alloc::AllocError;
 use std::hash::Hash;
 

@@ -11,12 +11,9 @@ mod engine;
 pub mod laws;
 mod layout;
 mod machine;
-mod replies;
-mod rules;
 mod sweep;
 mod table;
 mod uses;
 
 pub use engine::{Answer, Engine};
-pub use replies::{Replies, Slot};
-pub use rules::{Next, Rules};
+pub use ksv_memo_rules::{Next, Replies, Rules, Slot};

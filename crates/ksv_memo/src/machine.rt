@@ -1,15 +1,15 @@
 //! The machine that runs nodes on a stack of open nodes, and keeps what they answer.
 ghost use Rattle.std.specs.Prelude.{◌≡◌, [], ◌∷◌, IfOk, OnOk, OnErr};
-ghost use Rattle.ksv_memo.specs.Meaning.{on};
-ghost use Rattle.ksv_memo.specs.Evaluation.{tells, done, IsAnswered};
+ghost use Rattle.ksv_memo_rules.specs.Meaning.{on};
+ghost use Rattle.ksv_memo_rules.specs.Evaluation.{tells, done, IsAnswered};
 ghost use Rattle.ksv_memo.specs.Nodes.{HasNoEntry, Steps};
 ghost use Rattle.ksv_memo.specs.Open.{newly};
-ghost use Rattle.ksv_memo.specs.Right.{IsRight, nodes_of, counted};
+ghost use Rattle.ksv_memo_rules.specs.Right.{IsRight, nodes_of, counted};
 ghost use Rattle.ksv_memo.specs.Running.{AdvancesAt, AdvancesFrom, HasReached, IsLeft, IsRunning, LeftAt, LeftFrom, debt, to_keep};
 
-use crate::rules::{Next, Outcome, Reply, Rules};
 use crate::table::{Asked, Table};
 use ksv_bytes::Buffer;
+use ksv_memo_rules::{Next, Outcome, Reply, Rules};
 use std::alloc::{AllocError, Global};
 
 /// The count after one more call.

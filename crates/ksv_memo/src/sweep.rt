@@ -2,13 +2,13 @@
 ghost use Rattle.std.specs.Prelude.{◌≡◌, ◌≤◌, ◌<◌, ◌+◌, is_some, length, not, slice_range};
 ghost use Rattle.std.specs.List.{list_any};
 ghost use Rattle.ksv_memo.specs.Layout.{is_to_go, slots_of};
-ghost use Rattle.ksv_memo.specs.Slots.{answer_at};
-ghost use Rattle.ksv_memo.specs.Touched.{is_use_touched};
+ghost use Rattle.ksv_memo_rules.specs.Slots.{answer_at};
+ghost use Rattle.ksv_memo_rules.specs.Touched.{is_use_touched};
 ghost use Rattle.ksv_memo.specs.Passing.{HaveSlots, IsNextPlace, IsPlace, IsSwept, IsUpTo, Moved, RowMoved, left_of};
 
 use crate::layout::{Rows, Slots, set};
-use crate::replies::{Slot, answer_at};
 use ksv_bytes::{Change, Use, touches};
+use ksv_memo_rules::{Slot, answer_at};
 use std::hash::Hash;
 
 /// Whether a change touches a use.

@@ -1,18 +1,17 @@
 //! The table of kept and open nodes.
 ghost use Rattle.std.specs.Prelude.{◌≡◌, ◌≤◌, [], Some, length, true, option_map, IfOk, IfSome, IfNone, OnOk, OnErr};
-ghost use Rattle.ksv_memo.specs.Meaning.{on};
+ghost use Rattle.ksv_memo_rules.specs.Meaning.{on};
 ghost use Rattle.ksv_memo.specs.Moves.{Rowed, SameRows};
 ghost use Rattle.ksv_memo.specs.Nodes.{Asks, Closes, EndsWithAnswer, Finds, MayKeep, Steps, TakesFirst, is_there};
-ghost use Rattle.ksv_memo.specs.Slots.{answer_in, lent};
+ghost use Rattle.ksv_memo_rules.specs.Slots.{answer_in, lent};
 ghost use Rattle.ksv_memo.specs.Sweep.{Sweeps};
 
 use crate::layout::{Frame, Frames, Known, Rows, Slots, find, open_new, reopen, set};
-use crate::replies::{Replies, Slot, answer_at};
-use crate::rules::{Next, Reply, Rules};
 use crate::sweep::{has_touched, sweep};
 use crate::uses::each_once;
 use indexmap::IndexMap;
 use ksv_bytes::{Buffer, Change};
+use ksv_memo_rules::{Next, Replies, Reply, Rules, Slot, answer_at};
 use std::alloc::{AllocError, Global};
 use std::marker::Model;
 

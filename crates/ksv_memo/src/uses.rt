@@ -1,6 +1,6 @@
 //! Uses as a set.
 ghost use Rattle.std.specs.Prelude.{IfOk};
-ghost use Rattle.ksv_memo.specs.Right.{HasEachOnce};
+ghost use Rattle.ksv_memo_rules.specs.Right.{HasEachOnce};
 
 use ksv_bytes::Use;
 use smallvec::SmallVec;

@@ -5,9 +5,9 @@ use Rattle.std.proofs.Common.{refl, ap}
 use Rattle.ksv_bytes.specs.Uses.{AgreeOn, CanUse}
 use Rattle.ksv_bytes.specs.declared.uses.Use.{Use}
 use Rattle.ksv_bytes.specs.declared.uses.Use.TheVariants.{Size}
-use Rattle.ksv_memo.specs.declared.rules.Next.{Next}
-use Rattle.ksv_memo.specs.declared.rules.Next.TheVariants.{Done}
-use Rattle.ksv_memo.specs.Meaning.{Meaning, IsLawful}
+use Rattle.ksv_memo_rules.specs.declared.rules.Next.{Next}
+use Rattle.ksv_memo_rules.specs.declared.rules.Next.TheVariants.{Done}
+use Rattle.ksv_memo_rules.specs.Meaning.{Meaning, IsLawful}
 use Rattle.ksv_memo_samples.specs.Chain.{Reply, chain_lawful, linked}
 use Rattle.ksv_memo_samples.specs.declared.link.Link.{Link}
 

@@ -1,7 +1,7 @@
 //! The engine with two small sets of rules: worked questions, a deep chain, and random questions and edits.
 ghost use Rattle.std.specs.Prelude.{◌≡◌, ◌<◌, ◌≤◌, ◌^◌, OnOk};
-ghost use Rattle.ksv_memo.specs.Meaning.{on};
-ghost use Rattle.ksv_memo.specs.Right.{IsRight};
+ghost use Rattle.ksv_memo_rules.specs.Meaning.{on};
+ghost use Rattle.ksv_memo_rules.specs.Right.{IsRight};
 ghost use Rattle.ksv_memo_samples.specs.Rows.{rows_meaning};
 ghost use Rattle.ksv_memo_samples.specs.Chain.{chain_meaning};
 

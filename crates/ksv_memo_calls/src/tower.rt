@@ -1,7 +1,7 @@
 //! A tower of links, of which the lowest alone reads the file: an edit that touches what it reads takes all links.
 ghost use Rattle.std.specs.Prelude.{◌≡◌, ◌<◌, ◌≤◌, ◌^◌};
-ghost use Rattle.ksv_memo.specs.Meaning.{on};
-ghost use Rattle.ksv_memo.specs.Right.{IsRight};
+ghost use Rattle.ksv_memo_rules.specs.Meaning.{on};
+ghost use Rattle.ksv_memo_rules.specs.Right.{IsRight};
 ghost use Rattle.ksv_memo_samples.specs.Chain.{link_before, linked, same_if_equal};
 ghost use Rattle.ksv_memo_calls.specs.Tower.{tower_lawful, tower_meaning};
 

@@ -5,9 +5,9 @@ use Rattle.std.proofs.lemmas.Bool.Decides.{nat_tests}
 use mathlib.Core.HLevel.{is_prop→PathP}
 use native.Mathlib.Bridge.{le_prop}
 use Rattle.ksv_bytes.specs.declared.uses.Use.TheVariants.{Size}
-use Rattle.ksv_memo.specs.declared.rules.Next.{Next}
-use Rattle.ksv_memo.specs.declared.rules.Next.TheVariants.{Need, Done}
-use Rattle.ksv_memo.specs.Meaning.{Meaning, IsLawful, IsDone}
+use Rattle.ksv_memo_rules.specs.declared.rules.Next.{Next}
+use Rattle.ksv_memo_rules.specs.declared.rules.Next.TheVariants.{Need, Done}
+use Rattle.ksv_memo_rules.specs.Meaning.{Meaning, IsLawful, IsDone}
 use Rattle.ksv_memo_samples.specs.declared.link.Link.{Link}
 use Rattle.ksv_memo_samples.specs.declared.row.Missing.{Missing}
 

@@ -11,9 +11,9 @@ use native.Mathlib.Bridge.{le_prop}
 use Rattle.ksv_bytes.specs.declared.uses.Use.{Use}
 use Rattle.ksv_bytes.specs.declared.uses.Use.TheVariants.{Bytes, Size}
 use Rattle.ksv_bytes.specs.Uses.{AgreeOn, CanUse}
-use Rattle.ksv_memo.specs.declared.rules.Next.{Next}
-use Rattle.ksv_memo.specs.declared.rules.Next.TheVariants.{Need, Done}
-use Rattle.ksv_memo.specs.Meaning.{Meaning, IsLawful, IsDone}
+use Rattle.ksv_memo_rules.specs.declared.rules.Next.{Next}
+use Rattle.ksv_memo_rules.specs.declared.rules.Next.TheVariants.{Need, Done}
+use Rattle.ksv_memo_rules.specs.Meaning.{Meaning, IsLawful, IsDone}
 use Rattle.ksv_memo_samples.specs.declared.row.RowNumber.{RowNumber}
 use Rattle.ksv_memo_samples.specs.declared.row.Row.{Row}
 use Rattle.ksv_memo_samples.specs.declared.row.Row.TheVariants.{Number, Sum, Named}

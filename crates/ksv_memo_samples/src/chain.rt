@@ -5,7 +5,7 @@ ghost use Rattle.ksv_memo_samples.specs.Chain as spec;
 use crate::link::Link;
 use crate::row::Missing;
 use ksv_bytes::{Buffer, Use};
-use ksv_memo::{Next, Replies, Rules};
+use ksv_memo_rules::{Next, Replies, Rules};
 use std::alloc::{AllocError, Global};
 
 /// A chain: link 0 answers the file's size, and each other link one more than the link before it. Each of them

@@ -2,12 +2,12 @@
 ghost use Rattle.std.specs.Prelude.{◌≡◌, ◌<◌, ◌≤◌, ◌+◌, ◌-◌, ◌^◌, ◌++◌, min, length, slice_get, slice_range, IfOk, OnOk, OnErr, IsSome, Some};
 ghost use Rattle.std.specs.Option.{option_copied};
 ghost use Rattle.ksv_bytes.specs.Edits.{file_limit};
-ghost use Rattle.ksv_memo.specs.Slots.{lent};
+ghost use Rattle.ksv_memo_rules.specs.Slots.{lent};
 ghost use Rattle.ksv_memo_samples.specs.Rows as spec;
 
 use crate::row::{Missing, Row, RowNumber};
 use ksv_bytes::{Buffer, Use, Window};
-use ksv_memo::{Next, Replies, Rules};
+use ksv_memo_rules::{Next, Replies, Rules};
 use std::alloc::{AllocError, Global};
 
 /// Rows, each asked by its number.

@@ -2,7 +2,7 @@
 
 use ksv_bytes::Buffer;
 use ksv_expr_value::{Fault, FaultKind, Parts, Path, Place, Step, Stream, Value};
-use ksv_memo::{Replies, Slot};
+use ksv_memo_rules::{Replies, Slot};
 use ksv_nodes::{Ended, Found, Given, Halt, Head, Node, NodeKind, Rested, Turn, first_in_parts};
 use std::alloc::{AllocError, Global};
 use std::fmt::Write;

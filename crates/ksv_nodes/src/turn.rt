@@ -7,7 +7,7 @@ ghost use Rattle.std.specs.Prelude.{◌+◌, slice_range, IfSome};
 ghost use Rattle.ksv_nodes.specs.Reading.{first_at, end_in};
 ghost use Rattle.ksv_expr_value.specs.Trail.{child};
 ghost use Rattle.ksv_nodes.specs.Rule.{raise, in_end, ask_head, ask_value, ask_end, ask_rest, part, end_of_part, reach, finish, done, peek, find};
-ghost use Rattle.ksv_memo.specs.Slots.{lent};
+ghost use Rattle.ksv_memo_rules.specs.Slots.{lent};
 ghost use Rattle.ksv_nodes.specs.Turning.{Runs, ended, TakesReply, RepliesWith, IsFault, StandsBelow};
 
 use crate::given::{Ended, Given, Head, Rested};
@@ -15,7 +15,7 @@ use crate::node::{Node, NodeKind};
 use crate::search::first_in_parts;
 use ksv_bytes::{Buffer, Use, Window};
 use ksv_expr_value::{Fault, FaultKind, Parts, Path, Place, Step, Stream, Value};
-use ksv_memo::Replies;
+use ksv_memo_rules::Replies;
 use smallvec::SmallVec;
 use std::alloc::{AllocError, AllocFailed, Global};
 use std::marker::Model;

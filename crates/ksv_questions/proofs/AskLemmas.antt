@@ -4,13 +4,13 @@ use Rattle.std.specs.Prelude.{if◌then◌else◌}
 use Rattle.ksv_desc.specs.Description.{Description}
 use Rattle.ksv_expr_value.specs.declared.fault.Fault.{Fault}
 use Rattle.ksv_memo.specs.Answers.{answer_of, turns_after}
-use Rattle.ksv_memo.specs.Entry.{Memo}
-use Rattle.ksv_memo.specs.Evaluation.{done, is_among, tells}
-use Rattle.ksv_memo.specs.Meaning.{on}
-use Rattle.ksv_memo.specs.Right.{AreExactly, IsRight, costs, counted, fresh, nodes_of}
+use Rattle.ksv_memo_rules.specs.Entry.{Memo}
+use Rattle.ksv_memo_rules.specs.Evaluation.{done, is_among, tells}
+use Rattle.ksv_memo_rules.specs.Meaning.{on}
+use Rattle.ksv_memo_rules.specs.Right.{AreExactly, IsRight, costs, counted, fresh, nodes_of}
 use Rattle.ksv_memo.specs.declared.engine.Answer.{Answer}
-use Rattle.ksv_memo.specs.declared.rules.Outcome.{Outcome}
-use Rattle.ksv_memo.specs.declared.rules.Outcome.TheVariants.{Answered, Circle}
+use Rattle.ksv_memo_rules.specs.declared.rules.Outcome.{Outcome}
+use Rattle.ksv_memo_rules.specs.declared.rules.Outcome.TheVariants.{Answered, Circle}
 use Rattle.ksv_memo.proofs.Moves.{++-nil}
 use Rattle.ksv_nodes.specs.Numbers.{node_number}
 use Rattle.ksv_nodes.specs.declared.given.Given.{Given}

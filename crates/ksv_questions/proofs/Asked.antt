@@ -2,11 +2,11 @@
 use Rattle.std.proofs.Common.{◌≡◌, ℕ, ◌+◌, Bool, true, false, List, [], ◌∷◌, ◌++◌, Option, None, refl, sym, ◌∙◌, ap, ◌||◌, append_assoc, subst}
 use Rattle.std.specs.Prelude.{if◌then◌else◌}
 use Rattle.std.proofs.lemmas.Grind.{flat_map-append}
-use Rattle.ksv_memo.specs.Entry.{Memo}
-use Rattle.ksv_memo.specs.Evaluation.{done, is_among, tells}
-use Rattle.ksv_memo.specs.Meaning.{Standing}
-use Rattle.ksv_memo.specs.Right.{AreBetween, AreExactly, IsRight, costs, counted, fresh, nodes_of}
-use Rattle.ksv_memo.proofs.Keeping.{is_among-append}
+use Rattle.ksv_memo_rules.specs.Entry.{Memo}
+use Rattle.ksv_memo_rules.specs.Evaluation.{done, is_among, tells}
+use Rattle.ksv_memo_rules.specs.Meaning.{Standing}
+use Rattle.ksv_memo_rules.specs.Right.{AreBetween, AreExactly, IsRight, costs, counted, fresh, nodes_of}
+use Rattle.ksv_memo_rules.proofs.Keeping.{is_among-append}
 use Rattle.ksv_memo.proofs.Moves.{++-nil, fresh-nil}
 use Rattle.ksv_questions.specs.Engines.{HasAsked, HasAskedSome, completed_by, is_circle, meets_circle, turns_with}
 use Rattle.ksv_questions.proofs.Fresh.{among_more, costs_append, counted_more, counted_none, fresh_append, fresh_same}

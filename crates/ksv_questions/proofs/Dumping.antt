@@ -9,8 +9,8 @@ use Rattle.ksv_expr_value.specs.Trail.{Trail, child}
 use Rattle.ksv_expr_value.specs.declared.step.Step.TheVariants.{Index, Name}
 use Rattle.ksv_expr_value.specs.declared.value.Value.{Value}
 use Rattle.ksv_expr_value.specs.declared.value.Value.TheVariants as values
-use Rattle.ksv_memo.specs.Entry.{Memo}
-use Rattle.ksv_memo.specs.Right.{IsRight}
+use Rattle.ksv_memo_rules.specs.Entry.{Memo}
+use Rattle.ksv_memo_rules.specs.Right.{IsRight}
 use Rattle.ksv_nodes.specs.declared.node.Node.{Node}
 use Rattle.ksv_questions.specs.Asking.{Asking, Heard}
 use Rattle.ksv_questions.specs.Code.{Runs, dumped, found_of}

@@ -1,11 +1,11 @@
 -- The nodes that two questions one after the other complete, and their costs.
 use Rattle.std.proofs.Common.{◌≡◌, ℕ, zero, suc, ◌+◌, Bool, true, false, List, [], ◌∷◌, ◌++◌, Option, None, refl, sym, ◌∙◌, ap, nat_eq, ◌||◌, append_assoc, map, arith}
 use Rattle.std.specs.List.{list_any}
-use Rattle.ksv_memo.specs.Meaning.{Standing}
-use Rattle.ksv_memo.specs.Evaluation.{is_among}
-use Rattle.ksv_memo.specs.Right.{costs, counted, fresh}
-use Rattle.ksv_memo.proofs.Evals.{eqb_true}
-use Rattle.ksv_memo.proofs.Keeping.{is_among-append}
+use Rattle.ksv_memo_rules.specs.Meaning.{Standing}
+use Rattle.ksv_memo_rules.specs.Evaluation.{is_among}
+use Rattle.ksv_memo_rules.specs.Right.{costs, counted, fresh}
+use Rattle.ksv_memo_rules.proofs.Evals.{eqb_true}
+use Rattle.ksv_memo_rules.proofs.Keeping.{is_among-append}
 use Rattle.ksv_memo.proofs.Moves.{++-nil, fresh-in, fresh-nil, fresh-out}
 
 -- ---- membership

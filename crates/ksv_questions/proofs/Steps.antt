@@ -4,8 +4,8 @@ use Rattle.ksv_plan.specs.Plan.{Fail, bind}
 use Rattle.ksv_plan.specs.Asking.{and_then, asks_behind}
 use Rattle.ksv_desc.specs.Description.{Description}
 use Rattle.ksv_expr_value.specs.declared.fault.Fault.{Fault}
-use Rattle.ksv_memo.specs.Entry.{Memo}
-use Rattle.ksv_memo.specs.Right.{IsRight}
+use Rattle.ksv_memo_rules.specs.Entry.{Memo}
+use Rattle.ksv_memo_rules.specs.Right.{IsRight}
 use Rattle.ksv_memo.proofs.Moves.{++-nil}
 use Rattle.ksv_nodes.specs.declared.node.Node.{Node}
 use Rattle.ksv_questions.specs.Answers.{answered, asks, outcome}

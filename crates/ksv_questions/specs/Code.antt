@@ -3,7 +3,7 @@ use Rattle.std.specs.Prelude.{◌≡◌, ℕ, List, Result, Ok, Err}
 use Rattle.ksv_plan.specs.Plan.{Answer, Fail}
 use Rattle.ksv_desc.specs.Description.{Description}
 use Rattle.ksv_expr_value.specs.declared.fault.Fault.{Fault}
-use Rattle.ksv_memo.specs.Entry.{Memo}
+use Rattle.ksv_memo_rules.specs.Entry.{Memo}
 use Rattle.ksv_memo.specs.declared.engine.Answer.{Answer as EngineAnswer}
 use Rattle.ksv_memo.specs.declared.engine.Answer.TheVariants as answers
 use Rattle.ksv_nodes.specs.declared.given.Given.{Given}

@@ -2,12 +2,12 @@
 use Rattle.std.specs.Prelude.{◌≡◌, ℕ, Bool, true, false, ◌||◌, List, [], ◌∷◌, ◌++◌, Option, None, if◌then◌else◌}
 use Rattle.std.specs.List.{flat_map}
 use Rattle.ksv_desc.specs.Description.{Description}
-use Rattle.ksv_memo.specs.Entry.{Memo}
-use Rattle.ksv_memo.specs.Evaluation.{done, tells}
-use Rattle.ksv_memo.specs.Meaning.{Standing, on}
-use Rattle.ksv_memo.specs.Right.{AreBetween, AreExactly, IsRight, costs, counted, fresh, nodes_of}
-use Rattle.ksv_memo.specs.declared.rules.Outcome.{Outcome}
-use Rattle.ksv_memo.specs.declared.rules.Outcome.TheVariants.{Answered, Circle}
+use Rattle.ksv_memo_rules.specs.Entry.{Memo}
+use Rattle.ksv_memo_rules.specs.Evaluation.{done, tells}
+use Rattle.ksv_memo_rules.specs.Meaning.{Standing, on}
+use Rattle.ksv_memo_rules.specs.Right.{AreBetween, AreExactly, IsRight, costs, counted, fresh, nodes_of}
+use Rattle.ksv_memo_rules.specs.declared.rules.Outcome.{Outcome}
+use Rattle.ksv_memo_rules.specs.declared.rules.Outcome.TheVariants.{Answered, Circle}
 use Rattle.ksv_nodes.specs.declared.node.Node.{Node}
 use Rattle.ksv_rule_meaning.specs.Described.{described}
 use Rattle.ksv_questions.specs.Asking.{Heard}

@@ -1,7 +1,7 @@
 //! Asking an engine: what the nodes of a described file answer.
 ghost use Rattle.std.specs.Prelude.{◌≡◌};
 ghost use Rattle.ksv_desc.specs.Whole.{plain_pieces};
-ghost use Rattle.ksv_memo.specs.Right.{IsRight};
+ghost use Rattle.ksv_memo_rules.specs.Right.{IsRight};
 ghost use Rattle.ksv_nodes.specs.Turning.{fault_at};
 ghost use Rattle.ksv_questions.specs.Asking.{ask, hear, passed};
 ghost use Rattle.ksv_questions.specs.Code.{IsFault, Runs, Settles, plain_answer};

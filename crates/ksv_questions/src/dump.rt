@@ -4,7 +4,7 @@ ghost use Rattle.serde_json.specs.Data.{no_members};
 ghost use Rattle.serde_json.specs.Written.{compact_text, has_float};
 ghost use Rattle.ksv_plan.specs.Plan.{Answer};
 ghost use Rattle.ksv_desc.specs.Whole.{plain_pieces};
-ghost use Rattle.ksv_memo.specs.Right.{IsRight};
+ghost use Rattle.ksv_memo_rules.specs.Right.{IsRight};
 ghost use Rattle.ksv_questions.specs.Code.{Runs, Settles, dumped};
 ghost use Rattle.ksv_questions.specs.Dumps.{asked_part, begin, dump_question, elements_part, inner, list_part, members_part, object_part, part, unasked, value_part, whole_text};
 ghost use Rattle.ksv_questions.specs.Engines.{world};

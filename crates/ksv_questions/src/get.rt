@@ -1,7 +1,7 @@
 //! `get`: the text of the value at a path.
 ghost use Rattle.std.specs.Prelude.{◌≡◌, string_bytes};
 ghost use Rattle.ksv_desc.specs.Whole.{plain_pieces};
-ghost use Rattle.ksv_memo.specs.Right.{IsRight};
+ghost use Rattle.ksv_memo_rules.specs.Right.{IsRight};
 ghost use Rattle.ksv_questions.specs.Code.{Runs, Settles};
 ghost use Rattle.ksv_questions.specs.Engines.{world};
 ghost use Rattle.ksv_questions.specs.Questions.{object_text, of_object, of_value, plain_value, value_question};

@@ -3,7 +3,7 @@ ghost use Rattle.std.specs.Prelude.{◌≡◌};
 ghost use Rattle.ksv_desc.specs.Whole.{plain_pieces};
 ghost use Rattle.ksv_expr_value.specs.Trail.{child};
 ghost use Rattle.ksv_expr_value.specs.declared.step.Step.TheVariants.{Index};
-ghost use Rattle.ksv_memo.specs.Right.{IsRight};
+ghost use Rattle.ksv_memo_rules.specs.Right.{IsRight};
 ghost use Rattle.ksv_questions.specs.Code.{Runs, Settles};
 ghost use Rattle.ksv_questions.specs.Engines.{world};
 ghost use Rattle.ksv_questions.specs.Questions.{ask_end, ask_head, ask_value, first_asked, in_end, in_head, in_rest, in_value};

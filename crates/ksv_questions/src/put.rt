@@ -1,7 +1,7 @@
 //! `put`: writing an integer over another.
 ghost use Rattle.std.specs.Prelude.{◌≡◌, IfOk, OnErr, OnOk};
 ghost use Rattle.ksv_desc.specs.Whole.{plain_pieces};
-ghost use Rattle.ksv_memo.specs.Right.{IsRight};
+ghost use Rattle.ksv_memo_rules.specs.Right.{IsRight};
 ghost use Rattle.ksv_questions.specs.Answers.{asks, outcome};
 ghost use Rattle.ksv_questions.specs.Code.{Runs, Settles};
 ghost use Rattle.ksv_questions.specs.Engines.{HasAsked, HasAskedSome, world};

@@ -1,7 +1,7 @@
 //! Any question about a path, on one engine.
 ghost use Rattle.std.specs.Prelude.{◌≡◌, string_bytes, IfOk, OnErr, OnOk};
 ghost use Rattle.ksv_desc.specs.Whole.{plain_pieces};
-ghost use Rattle.ksv_memo.specs.Right.{IsRight};
+ghost use Rattle.ksv_memo_rules.specs.Right.{IsRight};
 ghost use Rattle.ksv_questions.specs.Answers.{asking, asks, question_text};
 ghost use Rattle.ksv_questions.specs.Code.{Runs, Tells};
 ghost use Rattle.ksv_questions.specs.Engines.{HasAsked, HasAskedSome, world};

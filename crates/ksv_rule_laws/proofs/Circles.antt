@@ -45,10 +45,10 @@ use Rattle.ksv_nodes.specs.Rule.{Rule, Raised, Here, There, Of, See, in_path, as
 use Rattle.ksv_nodes.specs.Truth.{answer_of, asks_of, with_given, with_seen, behind_given, behind_seen}
 use Rattle.ksv_nodes.specs.Turning.{fault_at}
 use Rattle.ksv_nodes.specs.Numbers.{node_number, node_bound, node_number-one, node_number-below}
-use Rattle.ksv_memo.specs.Evaluation.{is_among}
-use Rattle.ksv_memo.specs.Meaning.{Standing, IsSettled, on}
-use Rattle.ksv_memo.specs.Right.{AreDistinct}
-use Rattle.ksv_memo.proofs.Evals.{few, AreDistinct-cons}
+use Rattle.ksv_memo_rules.specs.Evaluation.{is_among}
+use Rattle.ksv_memo_rules.specs.Meaning.{Standing, IsSettled, on}
+use Rattle.ksv_memo_rules.specs.Right.{AreDistinct}
+use Rattle.ksv_memo_rules.proofs.Evals.{few, AreDistinct-cons}
 use Rattle.ksv_rule_meaning.specs.Fields.{members_of, Sought, sought, in_sought, member_named, last_attribute, read_by, in_kind, kind_of, field_of}
 use Rattle.ksv_rule_meaning.specs.Wanted.{whole, in_object, wanted, expression, in_integer, in_truth, integer_of, truth_of, holds, in_size, size_of, in_stream, stream_for}
 use Rattle.ksv_rule_meaning.specs.Choosing.{Chosen, switched, choose, in_case, content_of}

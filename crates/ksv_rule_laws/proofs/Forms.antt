@@ -20,7 +20,7 @@ use Rattle.ksv_expr_value.specs.declared.value.Value.TheVariants as values
 use Rattle.ksv_desc.specs.declared.order.ByteOrder.{ByteOrder}
 use Rattle.ksv_desc.specs.Description.{Description, MemberKind, Parameter, ValueInstance, Field, Content, Terminator}
 use Rattle.ksv_desc.specs.Description as contents
-use Rattle.ksv_memo.specs.Evaluation.{is_among}
+use Rattle.ksv_memo_rules.specs.Evaluation.{is_among}
 use Rattle.ksv_nodes.specs.declared.node.Node.{Node}
 use Rattle.ksv_nodes.specs.declared.node.NodeKind.{NodeKind}
 use Rattle.ksv_nodes.specs.declared.node.NodeKind.TheVariants as nodes

@@ -9,13 +9,12 @@ use Rattle.ksv_bytes.specs.declared.uses.Use.{Use}
 use Rattle.ksv_expr_value.specs.declared.fault.Fault.{Fault}
 use Rattle.ksv_expr_value.specs.declared.fault.FaultKind.TheVariants as kinds
 use Rattle.ksv_desc.specs.Description.{Description}
-use Rattle.ksv_memo.specs.declared.rules.Next.TheVariants as steps
-use Rattle.ksv_memo.specs.declared.rules.Outcome.{Outcome}
-use Rattle.ksv_memo.specs.declared.rules.Outcome.TheVariants.{Answered, Circle}
-use Rattle.ksv_memo.specs.Meaning.{Standing, IsSettled, IsDone, on}
-use Rattle.ksv_memo.specs.Evaluation.{is_among, Told, only_circle, after, with_reply, with_step, told, eval, tells}
-use Rattle.ksv_memo.specs.Running.{answering}
-use Rattle.ksv_memo.proofs.Evals.{tells-free}
+use Rattle.ksv_memo_rules.specs.declared.rules.Next.TheVariants as steps
+use Rattle.ksv_memo_rules.specs.declared.rules.Outcome.{Outcome}
+use Rattle.ksv_memo_rules.specs.declared.rules.Outcome.TheVariants.{Answered, Circle}
+use Rattle.ksv_memo_rules.specs.Meaning.{Standing, IsSettled, IsDone, on}
+use Rattle.ksv_memo_rules.specs.Evaluation.{is_among, Told, only_circle, after, with_reply, with_step, told, eval, tells, answering}
+use Rattle.ksv_memo_rules.proofs.Evals.{tells-free}
 use Rattle.ksv_nodes.specs.declared.node.Node.{Node}
 use Rattle.ksv_nodes.specs.declared.given.Given.{Given}
 use Rattle.ksv_nodes.specs.Numbers.{node_number, node_bound, node_number-one, node_number-below}

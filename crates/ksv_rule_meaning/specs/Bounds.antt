@@ -9,7 +9,7 @@ use Rattle.std.proofs.lemmas.List.Sums.{sum_by-cons}
 use Rattle.ksv_plan.specs.Plan.{Answer, Fail, Ask, Ran, Need, Failed, Done, bind, IsEnded}
 use Rattle.ksv_expr_tree.specs.Tree.{Tree, Arguments, no_arguments, argument}
 use Rattle.ksv_desc.specs.declared.order.ByteOrder.{ByteOrder}
-use Rattle.ksv_memo.specs.Meaning.{IsDone}
+use Rattle.ksv_memo_rules.specs.Meaning.{IsDone}
 use Rattle.ksv_expr_meaning.proofs.Wants.{value_asks}
 use Rattle.ksv_expr_meaning.specs.Evaluation.{most_wants}
 use Rattle.ksv_expr_value.specs.Trail.{Trail, element_limit, parent, last}

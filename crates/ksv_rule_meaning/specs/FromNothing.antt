@@ -6,7 +6,7 @@ use Rattle.ksv_bytes.specs.declared.uses.Use.{Use}
 use Rattle.ksv_expr_value.specs.declared.fault.Fault.{Fault}
 use Rattle.ksv_expr_value.specs.declared.fault.FaultKind.TheVariants as kinds
 use Rattle.ksv_desc.specs.Description.{Description}
-use Rattle.ksv_memo.specs.Evaluation.{is_among}
+use Rattle.ksv_memo_rules.specs.Evaluation.{is_among}
 use Rattle.ksv_nodes.specs.declared.node.Node.{Node}
 use Rattle.ksv_nodes.specs.declared.given.Given.{Given}
 use Rattle.ksv_nodes.specs.Numbers.{node_number, node_bound}

@@ -5,7 +5,7 @@ use Rattle.ksv_plan.specs.Plan.{Ran, Need, Failed, Done, behind}
 use Rattle.ksv_bytes.specs.Uses.{AgreeOn}
 use Rattle.ksv_expr_value.specs.declared.fault.Fault.{Fault}
 use Rattle.ksv_desc.specs.Description.{Description}
-use Rattle.ksv_memo.specs.Meaning.{IsLawful}
+use Rattle.ksv_memo_rules.specs.Meaning.{IsLawful}
 use Rattle.ksv_nodes.specs.declared.node.Node.{Node}
 use Rattle.ksv_nodes.specs.declared.given.Given.{Given}
 use Rattle.ksv_nodes.specs.Numbers.{node_number-one, node_number-below}

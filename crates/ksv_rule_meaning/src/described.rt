@@ -2,7 +2,7 @@
 
 ghost use Rattle.std.specs.Prelude.{◌≡◌};
 ghost use Rattle.ksv_desc.specs.Whole.{plain_pieces};
-ghost use Rattle.ksv_memo.specs.Meaning.{IsAddedTo};
+ghost use Rattle.ksv_memo_rules.specs.Meaning.{IsAddedTo};
 ghost use Rattle.ksv_nodes.specs.Exact.{node_exact};
 ghost use Rattle.ksv_nodes.specs.Turning.{Runs};
 ghost use Rattle.ksv_rule_meaning.specs.Described.{described};
@@ -12,7 +12,7 @@ ghost use Rattle.ksv_rule_meaning.specs.Meaning.{rule_of};
 use ksv_bytes::{Buffer, Use};
 use ksv_desc::Desc;
 use ksv_expr_value::Fault;
-use ksv_memo::{Next, Replies, Rules};
+use ksv_memo_rules::{Next, Replies, Rules};
 use ksv_nodes::{Given, Halt, Node, Turn};
 use std::alloc::{AllocError, Global};
 use std::marker::PhantomData;

@@ -15,19 +15,19 @@ use Rattle.ksv_desc.specs.Whole.{plain_pieces}
 use Rattle.ksv_kept.specs.Completed.{meets_circle}
 use Rattle.ksv_kept.specs.Kept.{all_completed, calls, kept_after, kept_with, turns_of}
 use Rattle.ksv_kept.proofs.Completing.{answered_direct, cost_is_direct, done_direct, touch_direct}
-use Rattle.ksv_memo.specs.Entry.{Entry, Memo}
-use Rattle.ksv_memo.specs.Evaluation.{IsAnswered, done, is_among, tells}
-use Rattle.ksv_memo.specs.Meaning.{IsSettled, Standing}
-use Rattle.ksv_memo.specs.Right.{AreDistinct, AreExactly, IsRight, IsRightEntry, costs, counted, fresh, nodes_of}
-use Rattle.ksv_memo.specs.Touched.{left_after}
-use Rattle.ksv_memo.specs.declared.rules.Outcome.{Outcome}
-use Rattle.ksv_memo.specs.declared.rules.Outcome.TheVariants.{Answered, Circle}
-use Rattle.ksv_memo.proofs.Evals.{eqb_true}
+use Rattle.ksv_memo_rules.specs.Entry.{Entry, Memo}
+use Rattle.ksv_memo_rules.specs.Evaluation.{IsAnswered, done, is_among, tells}
+use Rattle.ksv_memo_rules.specs.Meaning.{IsSettled, Standing}
+use Rattle.ksv_memo_rules.specs.Right.{AreDistinct, AreExactly, IsRight, IsRightEntry, costs, counted, fresh, nodes_of}
+use Rattle.ksv_memo_rules.specs.Touched.{left_after}
+use Rattle.ksv_memo_rules.specs.declared.rules.Outcome.{Outcome}
+use Rattle.ksv_memo_rules.specs.declared.rules.Outcome.TheVariants.{Answered, Circle}
+use Rattle.ksv_memo_rules.proofs.Evals.{eqb_true}
 use Rattle.ksv_memo.proofs.Forgetting.{left_after-same}
-use Rattle.ksv_memo.proofs.Keeping.{AreDistinct-none}
+use Rattle.ksv_memo_rules.proofs.Keeping.{AreDistinct-none}
 use Rattle.ksv_memo.proofs.Moves.{++-nil, fresh-in, fresh-nil, fresh-out}
 use Rattle.ksv_memo.proofs.Questions.{among-fresh}
-use Rattle.ksv_memo.proofs.Standing.{law_on}
+use Rattle.ksv_memo_rules.proofs.Standing.{law_on}
 use Rattle.ksv_nodes.specs.declared.node.Node.{Node}
 use Rattle.ksv_nodes.specs.Numbers.{node_number}
 use Rattle.ksv_rule_meaning.specs.Described.{described}

@@ -45,7 +45,7 @@ pub struct Session<N: NodeRules> {
 
 impl<N: NodeRules> Model for Session<N> {
     ghost use Rattle.ksv_desc.specs.Whole.{plain_pieces};
-    ghost use Rattle.ksv_memo.specs.Right.{IsRight, nodes_of};
+    ghost use Rattle.ksv_memo_rules.specs.Right.{IsRight, nodes_of};
     ghost use Rattle.ksv_questions.specs.Engines.{world};
     ghost use Rattle.ksv_session.specs.Explored.{Explored};
     ghost use Rattle.ksv_expr_tree.specs.contracts.tree.Expr as expr;

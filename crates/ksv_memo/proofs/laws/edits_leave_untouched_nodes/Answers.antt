@@ -1,5 +1,5 @@
-use Rattle.ksv_memo.specs.Meaning.{on}
-use Rattle.ksv_memo.proofs.Standing.{law_on}
+use Rattle.ksv_memo_rules.specs.Meaning.{on}
+use Rattle.ksv_memo_rules.proofs.Standing.{law_on}
 use Rattle.ksv_memo.proofs.Forgetting.{left-decides}
 use Rattle.ksv_memo.proofs.laws.edits_leave_untouched_nodes.Goals as goal
 

@@ -1,6 +1,6 @@
 use Rattle.std.proofs.Common.{◌∙◌, sym, ap, refl, Some}
 use Rattle.std.proofs.lemmas.Map.Made.{lookup_key_passes}
-use Rattle.ksv_memo.specs.declared.replies.Slot.TheVariants.{Value, Fault}
+use Rattle.ksv_memo_rules.specs.declared.replies.Slot.TheVariants.{Value, Fault}
 use Rattle.ksv_memo.proofs.Finding.{none_passes, kept_there}
 use Rattle.ksv_memo.proofs.layout.find.Goals as goal
 

@@ -1,6 +1,6 @@
 use Rattle.std.proofs.Common.{◌∙◌}
 use Rattle.indexmap.proofs.CallerLemmas.{insert_entry-new}
-use Rattle.ksv_memo.specs.declared.replies.Slot.TheVariants.{Open}
+use Rattle.ksv_memo_rules.specs.declared.replies.Slot.TheVariants.{Open}
 use Rattle.ksv_memo.proofs.layout.open_new.Goals as goal
 
 pub returns-clause-slots : goal.returns-clause-slots

@@ -1,5 +1,5 @@
 use Rattle.std.proofs.Common.{◌∙◌, sym}
-use Rattle.ksv_memo.specs.declared.replies.Slot.TheVariants.{Empty}
+use Rattle.ksv_memo_rules.specs.declared.replies.Slot.TheVariants.{Empty}
 use Rattle.ksv_memo.proofs.Passing.{stays-left, slots-left}
 use Rattle.ksv_memo.proofs.sweep.step.Goals as goal
 

@@ -1,5 +1,5 @@
-use Rattle.ksv_memo.specs.Meaning.{on}
-use Rattle.ksv_memo.specs.Right.{IsRight}
+use Rattle.ksv_memo_rules.specs.Meaning.{on}
+use Rattle.ksv_memo_rules.specs.Right.{IsRight}
 use Rattle.ksv_memo_samples.specs.Rows.{rows_meaning}
 use Rattle.ksv_memo_calls.proofs.engine.random_questions.Given as goal
 

@@ -1,7 +1,7 @@
 use Rattle.std.proofs.Common.{[], ◌++◌, ap, subst}
-use Rattle.ksv_memo.specs.Meaning.{on}
-use Rattle.ksv_memo.specs.Evaluation.{done}
-use Rattle.ksv_memo.specs.Right.{AreExactly, AreBetween, nodes_of}
+use Rattle.ksv_memo_rules.specs.Meaning.{on}
+use Rattle.ksv_memo_rules.specs.Evaluation.{done}
+use Rattle.ksv_memo_rules.specs.Right.{AreExactly, AreBetween, nodes_of}
 use Rattle.ksv_memo.proofs.Questions.{exactly, between}
 use Rattle.ksv_memo.proofs.engine.Engine.ask.Goals as goal
 

@@ -1,9 +1,9 @@
 use Rattle.std.proofs.Common.{ap, sym, subst, Contains}
 use Rattle.std.specs.List.{AllByRecursion}
-use Rattle.ksv_memo.specs.Meaning.{on}
-use Rattle.ksv_memo.specs.Right.{AreExactly, IsRight, nodes_of}
-use Rattle.ksv_memo.specs.Touched.{left_after}
-use Rattle.ksv_memo.proofs.Standing.{law_on}
+use Rattle.ksv_memo_rules.specs.Meaning.{on}
+use Rattle.ksv_memo_rules.specs.Right.{AreExactly, IsRight, nodes_of}
+use Rattle.ksv_memo_rules.specs.Touched.{left_after}
+use Rattle.ksv_memo_rules.proofs.Standing.{law_on}
 use Rattle.ksv_memo.proofs.Forgetting.{forgets, forgets-right, forgets-kept}
 use Rattle.ksv_memo.proofs.engine.Engine.forget.Goals as goal
 

@@ -1,6 +1,6 @@
 use Rattle.std.proofs.Common.{ap}
-use Rattle.ksv_memo.specs.Meaning.{on}
-use Rattle.ksv_memo.proofs.Keeping.{none_right}
+use Rattle.ksv_memo_rules.specs.Meaning.{on}
+use Rattle.ksv_memo_rules.proofs.Keeping.{none_right}
 use Rattle.ksv_memo.proofs.engine.Engine.new.Goals as goal
 
 pub returns-clause-right : goal.returns-clause-right

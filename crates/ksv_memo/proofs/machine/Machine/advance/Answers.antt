@@ -1,7 +1,7 @@
 use Rattle.std.proofs.Common.{sym, subst}
-use Rattle.ksv_memo.specs.Meaning.{on}
-use Rattle.ksv_memo.proofs.Standing.{law_on}
-use Rattle.ksv_memo.specs.declared.rules.Next.TheVariants.{Need, Done}
+use Rattle.ksv_memo_rules.specs.Meaning.{on}
+use Rattle.ksv_memo_rules.proofs.Standing.{law_on}
+use Rattle.ksv_memo_rules.specs.declared.rules.Next.TheVariants.{Need, Done}
 use Rattle.ksv_memo.specs.Running.{HasReached, AdvancesAt, LeftAt}
 use Rattle.ksv_memo.proofs.Taking.{if_ok-map, on_err-map, reached, advances, leaves}
 use Rattle.ksv_memo.proofs.machine.Machine.advance.Goals as goal

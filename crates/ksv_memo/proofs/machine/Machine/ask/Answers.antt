@@ -1,9 +1,9 @@
 use Rattle.std.proofs.Common.{[], sym, ap, ◌∙◌}
-use Rattle.ksv_memo.specs.Meaning.{on}
-use Rattle.ksv_memo.specs.Running.{answering}
-use Rattle.ksv_memo.specs.declared.rules.Outcome.TheVariants.{Answered}
-use Rattle.ksv_memo.proofs.Standing.{law_on}
-use Rattle.ksv_memo.proofs.Keeping.{agrees}
+use Rattle.ksv_memo_rules.specs.Meaning.{on}
+use Rattle.ksv_memo_rules.specs.Evaluation.{answering}
+use Rattle.ksv_memo_rules.specs.declared.rules.Outcome.TheVariants.{Answered}
+use Rattle.ksv_memo_rules.proofs.Standing.{law_on}
+use Rattle.ksv_memo_rules.proofs.Keeping.{agrees}
 use Rattle.ksv_memo.proofs.Turns.{covers-kept, none-owed}
 use Rattle.ksv_memo.proofs.Taking.{entry_in, entry_says}
 use Rattle.ksv_memo.proofs.machine.Machine.ask.Goals as goal

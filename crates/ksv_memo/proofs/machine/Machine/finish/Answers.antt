@@ -1,6 +1,6 @@
-use Rattle.ksv_memo.specs.Meaning.{on}
-use Rattle.ksv_memo.proofs.Standing.{law_on}
-use Rattle.ksv_memo.specs.Slots.{lent}
+use Rattle.ksv_memo_rules.specs.Meaning.{on}
+use Rattle.ksv_memo_rules.proofs.Standing.{law_on}
+use Rattle.ksv_memo_rules.specs.Slots.{lent}
 use Rattle.ksv_memo.proofs.Topping.{on_err_always}
 use Rattle.ksv_memo.proofs.Taking.{closes_on, closes_last, closes_left, closed_keeps}
 use Rattle.ksv_memo.proofs.machine.Machine.finish.Goals as goal

@@ -1,5 +1,5 @@
-use Rattle.ksv_memo.specs.Meaning.{on}
-use Rattle.ksv_memo.proofs.Standing.{law_on}
+use Rattle.ksv_memo_rules.specs.Meaning.{on}
+use Rattle.ksv_memo_rules.proofs.Standing.{law_on}
 use Rattle.ksv_memo.proofs.Taking.{hears, opens_node, circles}
 use Rattle.ksv_memo.proofs.machine.Machine.need.Goals as goal
 

@@ -1,7 +1,7 @@
 use Rattle.std.proofs.Common.{sym, subst}
-use Rattle.ksv_memo.specs.Meaning.{on}
+use Rattle.ksv_memo_rules.specs.Meaning.{on}
 use Rattle.ksv_memo.specs.Running.{CountsWith}
-use Rattle.ksv_memo.proofs.Standing.{law_on}
+use Rattle.ksv_memo_rules.proofs.Standing.{law_on}
 use Rattle.ksv_memo.proofs.Taking.{holds_first, counts_first, holds_next, counts_next, has_ended}
 use Rattle.ksv_memo.proofs.machine.Machine.run.Goals as goal
 

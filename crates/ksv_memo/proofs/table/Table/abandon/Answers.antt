@@ -1,6 +1,6 @@
 use Rattle.std.proofs.Common.{◌∙◌, ap, subst, true}
 use Rattle.std.proofs.lemmas.Option.{slice_get_within}
-use Rattle.ksv_memo.specs.declared.replies.Slot.TheVariants.{Empty, Open}
+use Rattle.ksv_memo_rules.specs.declared.replies.Slot.TheVariants.{Empty, Open}
 use Rattle.ksv_memo.specs.Layout.{opens_of}
 use Rattle.ksv_memo.specs.Nodes.{TakesFirst}
 use Rattle.ksv_memo.proofs.Changing.{set_at}

@@ -1,7 +1,7 @@
 use Rattle.std.proofs.Common.{◌∙◌, ap, sym, subst, refl}
 use Rattle.ksv_memo.specs.Layout.{entries_of}
 use Rattle.std.specs.Option.{option_map}
-use Rattle.ksv_memo.specs.Slots.{answer_at, lent}
+use Rattle.ksv_memo_rules.specs.Slots.{answer_at, lent}
 use Rattle.ksv_memo.specs.Nodes.{Finds, HasNoEntry}
 use Rattle.ksv_memo.proofs.Tabling.{found, new_out, empty_out, open_out}
 use Rattle.ksv_memo.proofs.table.Table.answer.Goals as goal

@@ -1,6 +1,6 @@
 use Rattle.std.proofs.Common.{subst, refl, length}
 use Rattle.std.proofs.lemmas.Option.{slice_get_within}
-use Rattle.ksv_memo.specs.declared.replies.Slot.TheVariants.{Empty, Open}
+use Rattle.ksv_memo_rules.specs.declared.replies.Slot.TheVariants.{Empty, Open}
 use Rattle.ksv_memo.specs.Layout.{entries_of, opens_of}
 use Rattle.ksv_memo.specs.Nodes.{Replies, Opens, Circles}
 use Rattle.ksv_memo.proofs.Changing.{set_at, appended}

@@ -1,6 +1,6 @@
 use Rattle.std.proofs.Common.{◌∙◌, ap, sym, subst, refl}
 use Rattle.std.specs.List.{list_any}
-use Rattle.ksv_memo.specs.Touched.{is_use_touched}
+use Rattle.ksv_memo_rules.specs.Touched.{is_use_touched}
 use Rattle.ksv_memo.specs.declared.layout.Frames.{Frames}
 use Rattle.ksv_memo.specs.Layout.{entries_of}
 use Rattle.ksv_memo.specs.Sweep.{Sweeps}

@@ -1,5 +1,5 @@
 use Rattle.std.proofs.Common.{◌∙◌, ap, subst, IfSome}
-use Rattle.ksv_memo.specs.Slots.{answer_at, lent}
+use Rattle.ksv_memo_rules.specs.Slots.{answer_at, lent}
 use Rattle.ksv_memo.specs.Nodes.{EndsWithAnswer}
 use Rattle.ksv_memo.proofs.Tabling.{last_some, last_none}
 use Rattle.ksv_memo.proofs.table.Table.last.Goals as goal

@@ -1,5 +1,5 @@
 use Rattle.std.proofs.Common.{◌∙◌, sym}
-use Rattle.ksv_memo.specs.Slots.{lent}
+use Rattle.ksv_memo_rules.specs.Slots.{lent}
 use Rattle.ksv_nodes.proofs.Parts.{runs_missing, runs_replied, needed_part}
 use Rattle.ksv_nodes.proofs.turn.Turn.end_of_part.Goals as goal
 

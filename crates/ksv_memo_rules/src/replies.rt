@@ -2,7 +2,7 @@
 ghost use Rattle.std.specs.Prelude.{◌≡◌, IfSome, is_some, length};
 ghost use Rattle.std.specs.List.{AllByRecursion, list_all, slice_get};
 ghost use Rattle.std.specs.Option.{option_map};
-ghost use Rattle.ksv_memo.specs.Slots.{HasAnswer, answer_at, answer_in, answers_at, lent};
+ghost use Rattle.ksv_memo_rules.specs.Slots.{HasAnswer, answer_at, answer_in, answers_at, lent};
 
 use std::marker::Model;
 
@@ -31,7 +31,7 @@ fn answer_in<V, F>(slot: &Slot<V, F>) -> Option<Result<&V, &F>>
 }
 
 /// The answer in the slot of a number, if one is kept there.
-pub(crate) fn answer_at<V, F>(slots: &[Slot<V, F>], place: usize) -> Option<Result<&V, &F>>
+pub fn answer_at<V, F>(slots: &[Slot<V, F>], place: usize) -> Option<Result<&V, &F>>
     ensures { option_map lent result ≡ answer_at slots.now place }
 {
     answer_in(slots.get(place)?)
@@ -69,7 +69,7 @@ pub struct Replies<'a, V, F> {
 impl<'a, V, F> Model for Replies<'a, V, F> {
     ghost use Rattle.std.specs.Prelude.{List, Result};
     ghost use Rattle.std.specs.List.{AllByRecursion};
-    ghost use Rattle.ksv_memo.specs.Slots.{HasAnswer, answers_at};
+    ghost use Rattle.ksv_memo_rules.specs.Slots.{HasAnswer, answers_at};
 
     ghost Value = { List (Result V F) };
 

@@ -7,15 +7,14 @@ use Rattle.std.proofs.lemmas.List.{length-map}
 use mathlib.Core.Path.{fun_ext}
 use Rattle.std.specs.List.{AllByRecursion, flat_map, list_any}
 use Rattle.ksv_bytes.specs.declared.uses.Use.{Use}
-use Rattle.ksv_memo.specs.declared.rules.Next.{Next}
-use Rattle.ksv_memo.specs.declared.rules.Next.TheVariants.{Need, Done}
-use Rattle.ksv_memo.specs.declared.rules.Outcome.{Outcome}
-use Rattle.ksv_memo.specs.declared.rules.Outcome.TheVariants.{Answered, Circle}
-use Rattle.ksv_memo.specs.Meaning.{Standing, IsSettled}
-use Rattle.ksv_memo.specs.Evaluation.{is_among, Told, only_circle, after, with_reply, with_step, told, eval, IsAnswered, if_answered, completed, tells}
-use Rattle.ksv_memo.specs.Right.{AreDistinct}
-use Rattle.ksv_memo.specs.Running.{answering}
-use Rattle.ksv_memo.proofs.Lists.{All-map, All-always, All-both, All-++, All-left, All-right, All-flat_map, All-from_flat_map}
+use Rattle.ksv_memo_rules.specs.declared.rules.Next.{Next}
+use Rattle.ksv_memo_rules.specs.declared.rules.Next.TheVariants.{Need, Done}
+use Rattle.ksv_memo_rules.specs.declared.rules.Outcome.{Outcome}
+use Rattle.ksv_memo_rules.specs.declared.rules.Outcome.TheVariants.{Answered, Circle}
+use Rattle.ksv_memo_rules.specs.Meaning.{Standing, IsSettled}
+use Rattle.ksv_memo_rules.specs.Evaluation.{is_among, Told, only_circle, after, with_reply, with_step, told, eval, IsAnswered, if_answered, completed, tells, answering}
+use Rattle.ksv_memo_rules.specs.Right.{AreDistinct}
+use Rattle.ksv_memo_rules.proofs.Lists.{All-map, All-always, All-both, All-++, All-left, All-right, All-flat_map, All-from_flat_map}
 
 -- two ways to answer that agree on what is asked
 reply_congr : {N A : Type 0} (f g : N → Outcome N A) (restF restG : A → Told N A) → ((a : A) → AllByRecursion (λ m. f m ≡ g m) (restF a).asked → restF a ≡ restG a) → (o : Outcome N A) → AllByRecursion (λ m. f m ≡ g m) (with_reply restF o).asked → with_reply restF o ≡ with_reply restG o

@@ -6,15 +6,14 @@ use Rattle.std.proofs.lemmas.Cmp.{nat_eq_equiv}
 use Rattle.std.proofs.lemmas.Map.Keys.{IsDistinct-push}
 use Rattle.std.specs.List.{AllByRecursion, flat_map, list_any, IsDistinct}
 use Rattle.ksv_bytes.specs.declared.uses.Use.{Use}
-use Rattle.ksv_memo.specs.declared.rules.Outcome.{Outcome}
-use Rattle.ksv_memo.specs.declared.rules.Outcome.TheVariants.{Answered, Circle}
-use Rattle.ksv_memo.specs.Meaning.{Standing, IsSettled}
-use Rattle.ksv_memo.specs.Evaluation.{is_among, Told, told, eval, IsAnswered, if_answered, completed, tells}
-use Rattle.ksv_memo.specs.Entry.{Entry}
-use Rattle.ksv_memo.specs.Right.{nodes_of, AreDistinct, HasEachOnce, IsRightEntry, IsRight}
-use Rattle.ksv_memo.specs.Running.{answering, Agrees}
-use Rattle.ksv_memo.proofs.Lists.{All-map, All-always, All-both, All-++, All-left, All-right, All-flat_map, All-from_flat_map}
-use Rattle.ksv_memo.proofs.Evals.{done-free, completed-apart, IsOut-cons, IsOut, NoneIn, eqb_true, or_false_intro, asking, told_answered, eval-open, eval-free, completed-free, transfer, deep_enough, tells-free, answered_is, eval-zero_unanswered}
+use Rattle.ksv_memo_rules.specs.declared.rules.Outcome.{Outcome}
+use Rattle.ksv_memo_rules.specs.declared.rules.Outcome.TheVariants.{Answered, Circle}
+use Rattle.ksv_memo_rules.specs.Meaning.{Standing, IsSettled}
+use Rattle.ksv_memo_rules.specs.Evaluation.{is_among, Told, told, eval, IsAnswered, if_answered, completed, tells, answering}
+use Rattle.ksv_memo_rules.specs.Entry.{Entry}
+use Rattle.ksv_memo_rules.specs.Right.{nodes_of, AreDistinct, HasEachOnce, IsRightEntry, IsRight, Agrees}
+use Rattle.ksv_memo_rules.proofs.Lists.{All-map, All-always, All-both, All-++, All-left, All-right, All-flat_map, All-from_flat_map}
+use Rattle.ksv_memo_rules.proofs.Evals.{done-free, completed-apart, IsOut-cons, IsOut, NoneIn, eqb_true, or_false_intro, asking, told_answered, eval-open, eval-free, completed-free, transfer, deep_enough, tells-free, answered_is, eval-zero_unanswered}
 
 -- a node is among a list
 abbrev pub IsIn : {N A : Type 0} → Standing N A → List N → N → Type 0

@@ -3,11 +3,11 @@
 use Rattle.std.specs.Prelude.{ℕ, zero, suc, Bool, cond, List, [], ◌∷◌, ◌++◌, nat_eq, map}
 use Rattle.std.specs.List.{list_any, flat_map}
 use Rattle.ksv_bytes.specs.declared.uses.Use.{Use}
-use Rattle.ksv_memo.specs.declared.rules.Next.{Next}
-use Rattle.ksv_memo.specs.declared.rules.Next.TheVariants.{Need, Done}
-use Rattle.ksv_memo.specs.declared.rules.Outcome.{Outcome}
-use Rattle.ksv_memo.specs.declared.rules.Outcome.TheVariants.{Answered, Circle}
-use Rattle.ksv_memo.specs.Meaning.{Standing}
+use Rattle.ksv_memo_rules.specs.declared.rules.Next.{Next}
+use Rattle.ksv_memo_rules.specs.declared.rules.Next.TheVariants.{Need, Done}
+use Rattle.ksv_memo_rules.specs.declared.rules.Outcome.{Outcome}
+use Rattle.ksv_memo_rules.specs.declared.rules.Outcome.TheVariants.{Answered, Circle}
+use Rattle.ksv_memo_rules.specs.Meaning.{Standing}
 
 -- whether a node is in a list of nodes, by their numbers
 abbrev pub is_among : {N : Type 0} → (N → ℕ) → List N → N → Bool
@@ -54,6 +54,10 @@ eval w (suc k) opened n = cond (is_among w.number opened n) (only_circle n) (tol
 -- depth
 abbrev pub tells : {N A : Type 0} → Standing N A → List N → N → Told N A
 tells w opened n = eval w w.nodes opened n
+
+-- what nodes answer while these are open
+abbrev pub answering : {N A : Type 0} → Standing N A → List N → N → Outcome N A
+answering w opened m = (tells w opened m).outcome
 
 -- there is an answer
 abbrev pub IsAnswered : {N A : Type 0} → Outcome N A → Type 0

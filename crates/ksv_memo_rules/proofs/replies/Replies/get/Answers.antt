@@ -1,8 +1,8 @@
 use Rattle.std.proofs.Common.{◌∙◌, sym, ap, slice_get}
 use Rattle.std.specs.Option.{option_map}
-use Rattle.ksv_memo.specs.Slots.{lent}
-use Rattle.ksv_memo.proofs.Replying.{lent_at, lent_past}
-use Rattle.ksv_memo.proofs.replies.Replies.get.Goals as goal
+use Rattle.ksv_memo_rules.specs.Slots.{lent}
+use Rattle.ksv_memo_rules.proofs.Replying.{lent_at, lent_past}
+use Rattle.ksv_memo_rules.proofs.replies.Replies.get.Goals as goal
 
 -- it wasn't asked yet
 pub returns-in_err-slot_at : goal.returns-in_err-slot_at

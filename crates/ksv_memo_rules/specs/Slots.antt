@@ -1,8 +1,8 @@
 -- The slots of nodes, as the engine and the replies that it lends read them.
 use Rattle.std.specs.Prelude.{◌≡◌, ℕ, true, List, [], ◌∷◌, Option, Some, None, Result, Ok, Err, is_some, slice_get}
 use Rattle.std.specs.Borrow.{Bor}
-use Rattle.ksv_memo.specs.declared.replies.Slot.{Slot}
-use Rattle.ksv_memo.specs.declared.replies.Slot.TheVariants.{Empty, Open, Value, Fault}
+use Rattle.ksv_memo_rules.specs.declared.replies.Slot.{Slot}
+use Rattle.ksv_memo_rules.specs.declared.replies.Slot.TheVariants.{Empty, Open, Value, Fault}
 
 -- the value or fault of an answer that is lent
 abbrev pub lent : {V F : Type 0} → Result (Bor V) (Bor F) → Result V F

@@ -1,6 +1,6 @@
 //! What rules are, and the laws that they obey.
 ghost use Rattle.std.specs.Prelude.{◌≡◌, ℕ, ◌++◌, List, true, Result, IfOk, OnOk, OnErr};
-ghost use Rattle.ksv_memo.specs.Slots.{lent};
+ghost use Rattle.ksv_memo_rules.specs.Slots.{lent};
 
 use crate::replies::Replies;
 use ksv_bytes::{Buffer, Use};
@@ -34,7 +34,7 @@ pub enum Outcome<N, A> {
 /// the rules; a second bound is the number of replies after which every node is done; and if two lists of bytes
 /// agree on the uses that a call adds, the call is the same on both.
 pub trait Rules {
-    ghost use Rattle.ksv_memo.specs.Meaning.{Meaning, IsLawful, IsAddedTo};
+    ghost use Rattle.ksv_memo_rules.specs.Meaning.{Meaning, IsLawful, IsAddedTo};
 
     /// What can be asked.
     type Node: Eq + Hash + Drop;

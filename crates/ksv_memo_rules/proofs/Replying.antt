@@ -1,8 +1,8 @@
 -- The replies that are lent are the answers in the slots that were asked.
 use Rattle.std.proofs.Common.{◌≡◌, ℕ, zero, suc, Bool, true, false, List, [], ◌∷◌, length, Option, Some, None, is_some, refl, ◌∙◌, ap, slice_get, ◌&&◌}
 use Rattle.std.specs.List.{AllByRecursion, list_all}
-use Rattle.ksv_memo.specs.declared.replies.Slot.{Slot}
-use Rattle.ksv_memo.specs.Slots.{HasAnswer, answer_at, answers_at, with_first}
+use Rattle.ksv_memo_rules.specs.declared.replies.Slot.{Slot}
+use Rattle.ksv_memo_rules.specs.Slots.{HasAnswer, answer_at, answers_at, with_first}
 
 -- what is there, before a list
 pub first_length : {X : Type 0} (o : Option X) (xs : List X) → is_some o ≡ true → length (with_first o xs) ≡ suc (length xs)

@@ -2,14 +2,19 @@
 use Rattle.std.specs.Prelude.{◌≡◌, ◌≢◌, ◌↔◌, ℕ, zero, suc, ◌+◌, ◌-◌, ◌^◌, min, length, Option, true, cond, List, [], ◌∷◌, ◌++◌, map, nat_eq, Contains}
 use Rattle.std.specs.Option.{option_map}
 use Rattle.std.specs.List.{AllByRecursion, AllPairs, IsDistinct}
-use Rattle.ksv_memo.specs.declared.rules.Outcome.TheVariants.{Answered}
-use Rattle.ksv_memo.specs.Meaning.{Standing}
-use Rattle.ksv_memo.specs.Evaluation.{is_among, tells}
-use Rattle.ksv_memo.specs.Entry.{Entry}
+use Rattle.ksv_memo_rules.specs.declared.rules.Outcome.{Outcome}
+use Rattle.ksv_memo_rules.specs.declared.rules.Outcome.TheVariants.{Answered}
+use Rattle.ksv_memo_rules.specs.Meaning.{Standing}
+use Rattle.ksv_memo_rules.specs.Evaluation.{is_among, tells}
+use Rattle.ksv_memo_rules.specs.Entry.{Entry}
 
 -- the kept nodes
 abbrev pub nodes_of : {N A : Type 0} → List (Entry N A) → List N
 nodes_of es = map (λ e. e.node) es
+
+-- this function answers each kept node with its kept answer
+abbrev pub Agrees : {N A : Type 0} → List (Entry N A) → (N → Outcome N A) → Type 0
+Agrees es g = AllByRecursion (λ e. g e.node ≡ Answered e.answer) es
 
 -- no node is in a list twice
 abbrev pub AreDistinct : {N A : Type 0} → Standing N A → List N → Type 0

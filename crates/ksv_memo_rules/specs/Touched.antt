@@ -7,8 +7,8 @@ use Rattle.ksv_bytes.specs.declared.uses.Use.TheVariants.{Bytes, Reach, Size}
 use Rattle.ksv_bytes.specs.declared.uses.Change.{Change}
 use Rattle.ksv_bytes.specs.declared.uses.Change.TheVariants.{Overwrite, Insert, Delete, Append}
 use Rattle.ksv_bytes.specs.Uses.{Touches}
-use Rattle.ksv_memo.specs.Meaning.{Standing}
-use Rattle.ksv_memo.specs.Evaluation.{tells, done}
+use Rattle.ksv_memo_rules.specs.Meaning.{Standing}
+use Rattle.ksv_memo_rules.specs.Evaluation.{tells, done}
 
 -- the tree of a node: the node itself, and all that evaluation of it completes
 abbrev pub tree : {N A : Type 0} → Standing N A → N → List N

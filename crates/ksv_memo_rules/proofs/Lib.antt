@@ -1,0 +1,5 @@
+pub mod Lists
+pub mod Replying
+pub mod Evals
+pub mod Keeping
+pub mod Standing

@@ -1,0 +1,6 @@
+pub mod Meaning
+pub mod Evaluation
+pub mod Entry
+pub mod Right
+pub mod Touched
+pub mod Slots
