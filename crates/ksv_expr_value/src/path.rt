@@ -10,13 +10,10 @@ ghost use Rattle.std.specs.Cmp.{on_per, on_equiv};
 ghost use Rattle.std.specs.Cmp.Lexicographic.{pointwise, lists_per, lists_equiv};
 
 use crate::step::Step;
-use smallvec::SmallVec;
+use crate::steps::Steps;
 use std::alloc::{AllocError, Global};
 use std::hash::{Hash, Hasher};
 use std::marker::Model;
-
-/// How many steps a path holds by itself; further ones are on the heap. Most paths of real descriptions are short.
-const INLINE_STEPS: usize = 3;
 
 /// The steps from the root to a value: at most 64, and each index below 1,048,576.
 ///
@@ -24,8 +21,8 @@ const INLINE_STEPS: usize = 3;
 /// if they have the same steps.
 #[derive(Drop)]
 pub struct Path {
-    steps: SmallVec<Step, INLINE_STEPS>,
-    ghost valid: { IsTrue (fits (reverse steps.items)) },
+    steps: Steps,
+    ghost valid: { IsTrue (fits (reverse steps)) },
 }
 
 impl Model for Path {
@@ -34,7 +31,7 @@ impl Model for Path {
 
     ghost Value = { Trail };
 
-    ghost view = { λ p. record { upward = reverse p.steps.items; valid = p.valid } };
+    ghost view = { λ p. record { upward = reverse p.steps; valid = p.valid } };
 }
 
 impl Path {
@@ -45,11 +42,11 @@ impl Path {
     pub const MAX_INDEX: u32 = 1048576;
 
     /// The path of no steps, which is the root's.
-    pub fn root(alloc: Global) -> Path
+    pub fn root(_alloc: Global) -> Path
         ensures { result ≡ root }
     {
         Path {
-            steps: SmallVec::new(alloc),
+            steps: Steps::none(),
         }
     }
 
@@ -59,7 +56,7 @@ impl Path {
         ensures { IfOk result (λ path. path.upward ≡ reverse steps.now) }
     {
         Ok(Path {
-            steps: SmallVec::from_slice(alloc, steps)?,
+            steps: Steps::from_slice(alloc, steps)?,
         })
     }
 
@@ -97,7 +94,7 @@ impl Path {
     pub fn copy(&self, alloc: Global) -> Result<Path, AllocError>
         ensures { IfOk result (λ path. path ≡ self.now) }
     {
-        let steps = SmallVec::from_slice(alloc, self.steps.as_slice())?;
+        let steps = self.steps.copy(alloc)?;
         Ok(Path { steps })
     }
 
@@ -107,7 +104,7 @@ impl Path {
     {
         let len = self.len();
         let shorter = if len == 0 { 0 } else { len - 1 };
-        let steps = SmallVec::from_slice(alloc, &self.steps()[..shorter])?;
+        let steps = self.steps.front(alloc, shorter)?;
         Ok(Path { steps })
     }
 
@@ -143,9 +140,7 @@ impl Path {
         if len == Path::MAX_STEPS {
             return Ok(None);
         }
-        let mut steps = SmallVec::with_capacity(alloc, len + 1)?;
-        steps.extend_from_slice(self.steps.as_slice())?;
-        steps.push(step)?;
+        let steps = self.steps.with(alloc, step)?;
         Ok(Some(Path { steps }))
     }
 
