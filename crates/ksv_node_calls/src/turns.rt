@@ -302,6 +302,42 @@ fn ends_parts(alloc: Global) -> Result<bool, Fail> {
     Ok(gives_end_of_part(&here, &mut turn))
 }
 
+/// Whether a turn whose next reply is a value takes it for the value of a part, and then needs that of another.
+fn gives_value_of_part(path: &Path, turn: &mut Turn) -> bool {
+    let given = turn.value_of_part(path, Step::Index(7));
+    let is_value = matches!(given, Ok(Value::Bool(true)));
+    needs_value_of_part(path, turn) && is_value
+}
+
+/// Whether a turn needs the value of a part, since no reply is left.
+fn needs_value_of_part(path: &Path, turn: &mut Turn) -> bool {
+    match turn.value_of_part(path, Step::Name(4)) {
+        Err(Halt::Need(node)) => {
+            node.kind == NodeKind::Value && node.path.last() == Some(Step::Name(4))
+        }
+        _ => false,
+    }
+}
+
+/// Whether a turn over one reply, a value, asks well for the values of parts.
+fn values_parts(alloc: Global) -> Result<bool, Fail> {
+    let here = Path::root(alloc);
+    let bytes = Buffer::new(Vec::new(alloc))?;
+    let slots = each_form(alloc)?;
+    let Some(replies) = Replies::checked(&slots, &[1]) else {
+        return Ok(false);
+    };
+    let mut turn = Turn::new(alloc, &here, &bytes, &replies);
+    Ok(gives_value_of_part(&here, &mut turn))
+}
+
+#[test]
+fn values_of_parts_are_asked_by_their_place(rt: HostRuntime) -> Result<(), Fail> {
+    let is_right = values_parts(rt.alloc())?;
+    assert!(rt; is_right);
+    Ok(())
+}
+
 #[test]
 fn ends_of_parts_are_asked_by_their_place(rt: HostRuntime) -> Result<(), Fail> {
     let is_right = ends_parts(rt.alloc())?;

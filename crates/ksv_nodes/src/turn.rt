@@ -6,9 +6,9 @@ ghost use Rattle.ksv_expr_value.specs.Bytes.{content};
 ghost use Rattle.std.specs.Prelude.{◌+◌, slice_range, IfSome};
 ghost use Rattle.ksv_nodes.specs.Reading.{first_at, end_in};
 ghost use Rattle.ksv_expr_value.specs.Trail.{child};
-ghost use Rattle.ksv_nodes.specs.Rule.{raise, in_end, ask_head, ask_value, ask_end, ask_rest, part, end_of_part, reach, finish, done, peek, find};
+ghost use Rattle.ksv_nodes.specs.Rule.{raise, in_end, ask_head, ask_value, ask_end, ask_rest, part, value_of_part, end_of_part, reach, finish, done, peek, find};
 ghost use Rattle.ksv_memo_rules.specs.Slots.{lent};
-ghost use Rattle.ksv_nodes.specs.Turning.{Runs, ended, TakesReply, RepliesWith, IsFault, StandsBelow};
+ghost use Rattle.ksv_nodes.specs.Turning.{Runs, valued, ended, TakesReply, RepliesWith, IsFault, StandsBelow};
 
 use crate::given::{Ended, Given, Head, Rested};
 use crate::node::{Node, NodeKind};
@@ -206,7 +206,15 @@ impl<'a> Turn<'a> {
     pub fn value(&mut self, path: &Path) -> Result<&'a Value, Halt>
         ensures { Runs (ask_value path.now) (λ value. value.now) self.old self.new result }
     {
-        match self.reply(NodeKind::Value, path)? {
+        let reply = self.reply(NodeKind::Value, path)?;
+        self.valued(reply)
+    }
+
+    /// A reply as a value.
+    fn valued(&self, reply: Result<&'a Given, &Fault>) -> Result<&'a Value, Halt>
+        ensures { Runs (valued (lent reply.entry)) (λ value. value.now) self.now self.now result }
+    {
+        match reply {
             Ok(Given::Value(value)) => Ok(value),
             Ok(_) => self.raise(FaultKind::BadType),
             Err(fault) => self.fault(fault),
@@ -269,6 +277,25 @@ impl<'a> Turn<'a> {
         match part {
             Some(part) => Ok(part),
             None => self.raise(FaultKind::PathTooLong),
+        }
+    }
+
+    /// The value of a part of what is at a path. Its path is made only where no reply is left.
+    pub fn value_of_part(&mut self, path: &Path, step: Step) -> Result<&'a Value, Halt>
+        ensures { Runs (value_of_part path.now step) (λ value. value.now) self.old self.new result }
+    {
+        if !has_part(path, step) {
+            return self.raise(FaultKind::PathTooLong);
+        }
+        match self.next_reply() {
+            None => {
+                let path = self.part(path, step)?;
+                Err(Halt::Need(Node {
+                    kind: NodeKind::Value,
+                    path,
+                }))
+            }
+            Some(reply) => self.valued(reply),
         }
     }
 
