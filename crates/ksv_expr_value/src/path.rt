@@ -61,6 +61,7 @@ impl Path {
     }
 
     /// How many steps the path has, at most 64.
+    #[inline(always)]
     pub fn len(&self) -> usize
         ensures len { result ≡ length self.now.upward }
         ensures small { result ≤ 64 }
@@ -69,6 +70,7 @@ impl Path {
     }
 
     /// The steps, from the first to the last.
+    #[inline(always)]
     pub fn steps(&self) -> &[Step]
         ensures { result.now ≡ reverse self.now.upward }
     {
@@ -76,6 +78,7 @@ impl Path {
     }
 
     /// The last step; the root has none.
+    #[inline(always)]
     pub fn last(&self) -> Option<Step>
         ensures last { result ≡ last self.now }
         ensures in_range { IfSome result InRange }
@@ -83,6 +86,7 @@ impl Path {
         self.last_step()
     }
 
+    #[inline(always)]
     fn last_step(&self) -> Option<Step>
         ensures { result ≡ last self.now }
     {
@@ -91,6 +95,7 @@ impl Path {
     }
 
     /// A copy of the path.
+    #[inline(always)]
     pub fn copy(&self, alloc: Global) -> Result<Path, AllocError>
         ensures { IfOk result (λ path. path ≡ self.now) }
     {
@@ -99,6 +104,7 @@ impl Path {
     }
 
     /// The path without its last step; of the root, the root itself.
+    #[inline(always)]
     pub fn parent(&self, alloc: Global) -> Result<Path, AllocError>
         ensures { IfOk result (λ path. path ≡ parent self.now) }
     {
@@ -132,6 +138,7 @@ impl Path {
         }
     }
 
+    #[inline(always)]
     fn child(&self, alloc: Global, step: Step) -> Result<Option<Path>, AllocError>
         requires { IsTrue (step_fits step) }
         ensures { IfOk result (λ path. path ≡ child self.now step) }

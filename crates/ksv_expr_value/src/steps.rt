@@ -20,6 +20,7 @@ impl Few {
     ghost use Rattle.ksv_expr_value.specs.Kept.{steps_of};
 
     /// No steps.
+    #[inline(always)]
     fn none() -> Few
         ensures { steps_of result ≡ [] }
     {
@@ -30,6 +31,7 @@ impl Few {
     }
 
     /// The steps.
+    #[inline(always)]
     fn as_slice(&self) -> &[Step]
         ensures { result.now ≡ steps_of self.now }
     {
@@ -37,6 +39,7 @@ impl Few {
     }
 
     /// How many there are.
+    #[inline(always)]
     fn len(&self) -> usize
         ensures len { result ≡ length (steps_of self.now) }
         ensures few { result ≤ 3 }
@@ -45,6 +48,7 @@ impl Few {
     }
 
     /// The first of them.
+    #[inline(always)]
     fn front(&self, count: usize) -> Few
         requires { count ≤ length (steps_of self.now) }
         ensures { steps_of result ≡ take count (steps_of self.now) }
@@ -56,6 +60,7 @@ impl Few {
     }
 
     /// The same with one step more.
+    #[inline(always)]
     fn with(&self, step: Step) -> Few
         requires { length (steps_of self.now) < 3 }
         ensures { steps_of result ≡ steps_of self.now ++ step ∷ [] }
@@ -108,6 +113,7 @@ impl Model for Steps {
 
 impl Steps {
     /// No steps.
+    #[inline(always)]
     pub(crate) fn none() -> Steps
         ensures { result ≡ [] }
     {
@@ -117,6 +123,7 @@ impl Steps {
     }
 
     /// These steps.
+    #[inline(never)]
     pub(crate) fn from_slice(alloc: Global, steps: &[Step]) -> Result<Steps, AllocError>
         ensures { IfOk result (λ new. new ≡ steps.now) }
     {
@@ -129,6 +136,7 @@ impl Steps {
     }
 
     /// The steps.
+    #[inline(always)]
     pub(crate) fn as_slice(&self) -> &[Step]
         ensures { result.now ≡ self.now }
     {
@@ -139,6 +147,7 @@ impl Steps {
     }
 
     /// How many there are.
+    #[inline(always)]
     pub(crate) fn len(&self) -> usize
         ensures { result ≡ length self.now }
     {
@@ -149,6 +158,7 @@ impl Steps {
     }
 
     /// A copy of them.
+    #[inline(always)]
     pub(crate) fn copy(&self, alloc: Global) -> Result<Steps, AllocError>
         ensures { IfOk result (λ copy. copy ≡ self.now) }
     {
@@ -161,6 +171,7 @@ impl Steps {
     }
 
     /// A copy of the first of them.
+    #[inline(always)]
     pub(crate) fn front(&self, alloc: Global, count: usize) -> Result<Steps, AllocError>
         requires { count ≤ length self.now }
         ensures { IfOk result (λ front. front ≡ take count self.now) }
@@ -174,6 +185,7 @@ impl Steps {
     }
 
     /// A copy of them with one step more.
+    #[inline(always)]
     pub(crate) fn with(&self, alloc: Global, step: Step) -> Result<Steps, AllocError>
         requires { length self.now < 64 }
         ensures { IfOk result (λ more. more ≡ self.now ++ step ∷ []) }
@@ -189,6 +201,7 @@ impl Steps {
     }
 
     /// The same on the heap.
+    #[inline(never)]
     fn with_many(&self, alloc: Global, step: Step) -> Result<Steps, AllocError>
         requires { length self.now < 64 }
         ensures { IfOk result (λ more. more ≡ self.now ++ step ∷ []) }

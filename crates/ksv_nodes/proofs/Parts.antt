@@ -1,10 +1,10 @@
 -- What is asked of a part of what is at a path.
-use Rattle.std.proofs.Common.{◌≡◌, ℕ, ◌<◌, ◌≤◌, ◌^◌, nat_lt, Bool, true, false, ◌∷◌, length, Some, None, Result, Ok, Err, is_some, Option, refl, sym, ap, ◌∙◌, arith}
+use Rattle.std.proofs.Common.{◌≡◌, ℕ, ◌<◌, ◌≤◌, ◌^◌, nat_lt, Bool, true, false, List, [], ◌∷◌, length, Some, None, Result, Ok, Err, is_some, Option, refl, sym, ap, ◌∙◌, arith}
 use Rattle.std.proofs.lemmas.Bool.{ltb-true}
 use Rattle.std.proofs.lemmas.Bool.Decides.{nat_tests}
 use Rattle.ksv_plan.specs.Plan.{Fail, Ask, Ran, Done, Failed, Need, next, run, ◌>>=◌}
 use Rattle.ksv_plan.proofs.Running.{run_bind}
-use Rattle.ksv_expr_value.specs.Trail.{Trail, child, fits, step_fits, trail_of-true, trail_of-false, fits-more, fits-over, fits-wide, length-fits}
+use Rattle.ksv_expr_value.specs.Trail.{Trail, all_but_last, child, parent, fits, step_fits, trail_of-true, trail_of-false, fits-more, fits-over, fits-wide, length-fits}
 use Rattle.ksv_expr_value.specs.declared.step.Step.{Step}
 use Rattle.ksv_expr_value.specs.declared.step.Step.TheVariants.{Name, Index}
 use Rattle.ksv_expr_value.specs.declared.fault.Fault.{Fault}
@@ -56,6 +56,27 @@ runs_same rule other view old begun new same (Ok x) h = same ∙ h
 runs_same rule other view old begun new same (Err halts.Memory) h = tt
 runs_same rule other view old begun new same (Err (halts.Need n)) h = same ∙ h
 runs_same rule other view old begun new same (Err (halts.Fault f)) h = same ∙ h
+
+-- a member's path beside another fits, and an element's where its index is small
+beside_few : (steps : List Step) → length steps ≤ 64 → length (all_but_last steps) < 64
+beside_few [] h = omega arith
+beside_few (s ∷ q) h = omega arith
+
+roomy : (t : Trail) → true ≡ nat_lt (length (parent t).upward) 64
+roomy t = let few : length (all_but_last t.upward) < 64 = beside_few t.upward (length-fits t.upward t.valid) in grind (arith, nat_tests)
+
+pub member_beside : (t : Trail) (x : ℕ) → x < 2 ^ 32 → true ≡ is_some (child (parent t) (Name x))
+member_beside t x small = roomy t ∙ member_fits (parent t) x small
+
+element_near : (t : Trail) (i : ℕ) → i < 1048576 → true ≡ is_some (child (parent t) (Index i))
+element_near t i small = roomy t ∙ element_fits (parent t) i small
+
+pub element_beside : (t : Trail) (i : ℕ) → nat_lt i 1048576 ≡ is_some (child (parent t) (Index i))
+element_beside t i = by_test (nat_lt i 1048576) refl
+  where
+    by_test : (b : Bool) → nat_lt i 1048576 ≡ b → nat_lt i 1048576 ≡ is_some (child (parent t) (Index i))
+    by_test true e = e ∙ element_near t i (ltb-true i 1048576 e)
+    by_test false e = far_element (parent t) i (grind (arith, nat_tests))
 
 -- a fault has no answer, whatever the rule would answer and however the code holds it
 pub raised_as : {A X : Type 0} (k : FaultKind) (view : X → A) (s : State) (r : Result X Halt) → Runs (raise {A = X} k) (λ x. x) s s r → Runs (raise {A = A} k) view s s r

@@ -9,7 +9,9 @@ ghost use Rattle.ksv_rule_base.specs.Told.{told};
 ghost use Rattle.ksv_rule_meaning.specs.Wanted.{wanted, expression};
 
 use crate::wanted::in_object;
-use ksv_expr_eval::{Ctx, EvalStep, Expr, FaultKind, Got, Path, Place, Step, Stream, Value, Want, eval};
+use ksv_expr_eval::{
+    Ctx, EvalStep, Expr, FaultKind, Got, Path, Place, Step, Stream, Value, Want, eval,
+};
 use ksv_expr_tree::Name;
 use ksv_nodes::{Halt, Turn};
 
@@ -67,6 +69,7 @@ fn answer<'a>(turn: &mut Turn<'a>, ctx: &Ctx, want: Want) -> Result<Got<'a>, Hal
 
 /// The value of an expression: it is evaluated anew with one answer more, until it wants none. Its own faults are at the
 /// path of the node.
+#[inline(never)]
 fn evaluated(turn: &mut Turn, ctx: &Ctx, expr: &Expr) -> Result<Value, Halt>
     ensures { Runs (expression ctx.now (view expr.now)) (λ v. v) turn.old turn.new result }
 {

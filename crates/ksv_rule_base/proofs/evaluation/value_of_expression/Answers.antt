@@ -10,5 +10,5 @@ use Rattle.ksv_rule_base.proofs.evaluation.value_of_expression.Goals as goal
 
 pub returns-in-Name : goal.returns-in-Name
 returns-in-Name c =
-    let same : expression c.args.ctx.now (view c.args.expr.now) ≡ value_of_name c.args.ctx.now.home c.in-Name.name.now.number = ap (λ e. expression c.args.ctx.now (view e)) c.in-Name.is ∙ name_alone c.args.ctx.now c.in-Name.name.now in
+    let same : expression c.args.ctx.now (view c.args.expr.now) ≡ value_of_name c.args.ctx.now.home c.in-Name.name.number = ap (λ e. expression c.args.ctx.now (view e)) c.in-Name.is ∙ name_alone c.args.ctx.now c.in-Name.name in
     subst (λ (rule : Rule Value). Runs rule (λ v. v) c.args.turn.now c.value_of_name.new.turn c.value_of_name.result) (sym same) c.value_of_name.ensures
