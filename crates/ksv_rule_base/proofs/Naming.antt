@@ -1,7 +1,7 @@
 -- An expression that is a name alone comes to what its object's member is asked for.
-use Rattle.std.proofs.Common.{◌≡◌, ℕ, Option, Some, None, Result, refl, ap, ◌∙◌}
+use Rattle.std.proofs.Common.{◌≡◌, ℕ, Option, Some, None, refl, ap, ◌∙◌}
 use mathlib.Core.Path.{fun_ext}
-use Rattle.ksv_plan.specs.Plan.{Answer, Fail, Ask, bind, run, translate}
+use Rattle.ksv_plan.specs.Plan.{Answer, Ask, bind, translate}
 use Rattle.ksv_expr_tree.specs.Tree.{Tree, view, view_layer, named, name_of}
 use Rattle.ksv_expr_tree.specs.declared.tree.Expr as opened
 use Rattle.ksv_expr_tree.specs.declared.tree.Expr.{Expr}
@@ -19,8 +19,6 @@ use Rattle.ksv_expr_meaning.specs.declared.want.Want.TheVariants as wants
 use Rattle.ksv_nodes.specs.Rule.{Rule, Here, Of, ask_value, in_path, in_value, value_node}
 use Rattle.ksv_nodes.specs.declared.given.Given.{Given}
 use Rattle.ksv_nodes.specs.declared.given.Given.TheVariants as givens
-use Rattle.ksv_nodes.specs.Turning.{Runs, State}
-use Rattle.ksv_nodes.specs.declared.turn.Halt.{Halt}
 use Rattle.ksv_rule_meaning.specs.Wanted.{wanted, expression}
 use Rattle.ksv_rule_base.specs.Code.{value_of_name}
 
