@@ -152,6 +152,7 @@ impl Path {
     }
 
     /// The path to the member of this name; None if it would have more than 64 steps.
+    #[inline(always)]
     pub fn child_name(&self, alloc: Global, name: u32) -> Result<Option<Path>, AllocError>
         ensures { IfOk result (λ path. path ≡ child self.now (Step.Name name)) }
     {
@@ -160,6 +161,7 @@ impl Path {
 
     /// The path to the element of this index; None if it would have more than 64 steps, or the index is 1,048,576
     /// or above.
+    #[inline(always)]
     pub fn child_index(&self, alloc: Global, index: u32) -> Result<Option<Path>, AllocError>
         ensures { IfOk result (λ path. path ≡ child self.now (Step.Index index)) }
     {

@@ -345,6 +345,7 @@ impl<'a> Turn<'a> {
     }
 
     /// The path one step further. A path that doesn't fit is a fault of the node.
+    #[inline(always)]
     pub fn part(&self, path: &Path, step: Step) -> Result<Path, Halt>
         ensures { Runs (part path.now step) (λ part. part) self.now self.now result }
     {
@@ -359,6 +360,7 @@ impl<'a> Turn<'a> {
     }
 
     /// The value of a part of what is at a path. Its path is made only where no reply is left.
+    #[inline(always)]
     pub fn value_of_part(&mut self, path: &Path, step: Step) -> Result<&'a Value, Halt>
         ensures { Runs (value_of_part path.now step) (λ value. value.now) self.old self.new result }
     {

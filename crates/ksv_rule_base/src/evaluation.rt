@@ -91,6 +91,7 @@ fn evaluated(turn: &mut Turn, ctx: &Ctx, expr: &Expr) -> Result<Value, Halt>
 /// The value of a name alone, which is that of a member of the context's object. It is asked of the turn as it is, and nothing is
 /// evaluated anew.
 #[tactic(auto, using(ksv_plan::proofs::Running::run_bind))]
+#[inline(always)]
 fn value_of_name(turn: &mut Turn, home: &Path, name: &Name) -> Result<Value, Halt>
     ensures { Runs (value_of_name home.now name.now.number) (λ v. v) turn.old turn.new result }
 {
@@ -104,6 +105,7 @@ fn value_of_name(turn: &mut Turn, home: &Path, name: &Name) -> Result<Value, Hal
 }
 
 /// The value of an expression. Its own faults are at the path of the node.
+#[inline(always)]
 pub fn value_of_expression(turn: &mut Turn, ctx: &Ctx, expr: &Expr) -> Result<Value, Halt>
     ensures { Runs (expression ctx.now (view expr.now)) (λ v. v) turn.old turn.new result }
 {
