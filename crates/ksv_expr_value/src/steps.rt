@@ -25,7 +25,7 @@ impl Few {
         ensures { steps_of result ≡ [] }
     {
         Few {
-            steps: [Step::Name(0); FEW],
+            steps: [Step::default(); FEW],
             count: 0,
         }
     }
