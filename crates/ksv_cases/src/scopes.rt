@@ -227,11 +227,7 @@ fn add_enum(scopes: &Scopes<'_>, number: usize, found: &mut String) -> Result<()
 }
 
 /// Adds an entry of an enum, by its number among all entries, if the number is one.
-fn add_constant(
-    scopes: &Scopes<'_>,
-    number: usize,
-    found: &mut String,
-) -> Result<(), AllocError> {
+fn add_constant(scopes: &Scopes<'_>, number: usize, found: &mut String) -> Result<(), AllocError> {
     let mut left = number;
     for (within, row) in scopes.enums().iter().enumerate() {
         let entries = row.entries();
@@ -258,7 +254,10 @@ fn add_entry(entry: &Entry, before: &[Entry], found: &mut String) -> Result<(), 
 
 /// Whether one of these entries has the number of an entry.
 fn is_number_again(entry: &Entry, before: &[Entry]) -> bool {
-    number_of(entry).is_some() && before.iter().any(|other| number_of(other) == number_of(entry))
+    number_of(entry).is_some()
+        && before
+            .iter()
+            .any(|other| number_of(other) == number_of(entry))
 }
 
 /// Whether one of these entries has the id of an entry.

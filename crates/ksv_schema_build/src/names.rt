@@ -9,9 +9,7 @@ ghost use Rattle.ksv_schema_keys.specs.Code.{seen_type_text};
 ghost use Rattle.ksv_schema_build.specs.Stated.{expression_words, argument_words, type_words, form_words, key_words, member_words, names_in, are_texts};
 
 use crate::texts::as_text;
-use ksv_schema_keys::{
-    Form, MappingKind, TypeText, form_in, kind_of, read_expression, type_text,
-};
+use ksv_schema_keys::{Form, MappingKind, TypeText, form_in, kind_of, read_expression, type_text};
 use ksv_schema_names::Names;
 use ksv_schema_scope::Member;
 use ksv_yaml_tree::Entry;

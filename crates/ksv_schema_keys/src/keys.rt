@@ -165,7 +165,11 @@ static KEYS: [Key; 53] = [
     Key(Group::Fields, b"eos-error", Form::Flag),
     Key(Group::Fields, b"repeat", Form::Repeat),
     Key(Group::Fields, b"repeat-expr", Form::Expression(Site::Count)),
-    Key(Group::Fields, b"repeat-until", Form::Expression(Site::Until)),
+    Key(
+        Group::Fields,
+        b"repeat-until",
+        Form::Expression(Site::Until),
+    ),
     Key(Group::Fields, b"if", Form::Expression(Site::Condition)),
     Key(Group::Fields, b"enum", Form::EnumName),
     Key(Group::Fields, b"process", Form::NotHere),
@@ -182,7 +186,11 @@ static KEYS: [Key; 53] = [
     Key(Group::Values, b"type", Form::Ignored),
     Key(Group::Values, b"size", Form::Ignored),
     Key(Group::Values, b"repeat", Form::Ignored),
-    Key(Group::Switches, b"switch-on", Form::Expression(Site::Switch)),
+    Key(
+        Group::Switches,
+        b"switch-on",
+        Form::Expression(Site::Switch),
+    ),
     Key(Group::Switches, b"cases", Form::Cases),
 ];
 
