@@ -6,7 +6,7 @@ use Rattle.std.specs.Str.{bytes_eq}
 use Rattle.std.proofs.lemmas.Slice.Eq.{bytes_eq-Decides}
 use Rattle.ksv_yaml_tree.specs.Tree.{Pair, text_of, entry_at}
 use Rattle.ksv_expr_syntax.specs.Reading.{◌>>=◌}
-use Rattle.ksv_yaml_tree.specs.Keys.{has, text_at}
+use Rattle.ksv_yaml_tree.specs.Keys.{text_at}
 use Rattle.ksv_schema_faults.specs.Faults.{Fault, fault, fault_if, bad_value, unknown_key, missing_key}
 use Rattle.ksv_schema_keys.specs.declared.keys.Form.{Form}
 use Rattle.ksv_schema_keys.specs.declared.keys.MappingKind.{MappingKind}

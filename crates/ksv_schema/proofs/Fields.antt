@@ -1,5 +1,5 @@
 -- Without faults each attribute and instance is stated, and leads somewhere.
-use Rattle.std.proofs.Common.{◌≡◌, ℕ, Bool, true, false, cond, List, [], ◌∷◌, ◌++◌, ap, sym, ◌∙◌, refl, Option, Some, None}
+use Rattle.std.proofs.Common.{◌≡◌, ℕ, Bool, true, false, cond, List, [], ◌++◌, ap, sym, ◌∙◌, refl, Option, Some, None}
 use Rattle.std.specs.Prelude.{codes, not, ◌&&◌, ◌||◌, is_some, is_none, option_map, option_and_then, flat_map, unwrap_or}
 use Rattle.std.specs.Str.{bytes_eq}
 use Rattle.std.specs.Option.{option_map_or}

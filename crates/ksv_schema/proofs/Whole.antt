@@ -1,6 +1,6 @@
 -- Without faults each encoding in force is one that there is, and each enum is stated.
 use Rattle.std.proofs.Common.{◌≡◌, ℕ, zero, suc, ◌+◌, Bool, true, false, cond, List, [], ◌∷◌, sym, ap, ◌∙◌, refl, Option, Some, None}
-use Rattle.std.specs.Prelude.{codes, not, ◌==◌, is_some, option_and_then, flat_map, unwrap_or, slice_get, take}
+use Rattle.std.specs.Prelude.{codes, not, is_some, option_and_then, flat_map, unwrap_or, slice_get, take}
 use Rattle.std.specs.Option.{option_map_or}
 use Rattle.ksv_yaml_tree.specs.Tree.{Pair, line_of, text_of, mapping_of, entry_at}
 use Rattle.ksv_yaml_tree.specs.declared.numeral.Numeral.{Numeral}
