@@ -393,6 +393,7 @@ fn element_start(turn: &mut Turn, path: &Path, list: &List, index: u32) -> Resul
 }
 
 /// What the element of this index, at a path, reads at a place.
+#[inline(always)]
 fn element_at(
     turn: &mut Turn,
     path: &Path,

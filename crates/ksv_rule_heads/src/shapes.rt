@@ -132,6 +132,7 @@ fn run_of(
 
 /// Bytes or a text of a size that is evaluated.
 #[tactic(auto, using(ksv_plan::proofs::Running::run_bind), unfolding(ksv_rule_meaning::specs::Heads::sized_leaf))]
+#[inline(always)]
 fn sized_leaf(
     turn: &mut Turn,
     ctx: &Ctx,
@@ -273,6 +274,7 @@ fn unchosen_at(
 }
 
 /// What is read by the case that was chosen.
+#[inline(always)]
 fn chosen_at(
     turn: &mut Turn,
     ctx: &Ctx,
