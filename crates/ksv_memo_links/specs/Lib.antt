@@ -1,0 +1,6 @@
+pub mod Shelved
+pub mod Touching
+pub mod Linked
+pub mod Marking
+pub mod Links
+pub mod Forgetting
