@@ -1,8 +1,8 @@
 -- What links and frames are once one slot changed.
-use Rattle.std.proofs.Common.{◌≡◌, ◌≢◌, ℕ, zero, suc, ◌+◌, ◌-◌, ◌<◌, ◌≤◌, Bool, true, false, List, [], ◌∷◌, ◌++◌, length, map, take, drop, reverse, Option, Some, None, is_some, refl, sym, ◌∙◌, ap, subst, Result, Ok, Err, slice_get, ◌⊎◌, inl, inr, append_assoc, arith, length-append, ◌||◌}
+use Rattle.std.proofs.Common.{◌≡◌, ◌≢◌, ℕ, zero, suc, ◌+◌, ◌-◌, ◌<◌, ◌≤◌, true, false, List, [], ◌∷◌, ◌++◌, length, map, take, drop, reverse, Option, Some, None, is_some, refl, sym, ◌∙◌, ap, subst, Result, slice_get, ◌⊎◌, inl, inr, arith, length-append}
 use Rattle.std.specs.Option.{option_map}
-use Rattle.std.specs.List.{AllByRecursion, list_any}
-use Rattle.std.proofs.lemmas.List.{length-set, get_or-set_same, get_or-set_other, map-append, take-append-le, drop-append-le, length-drop, length-take-le, reverse-append}
+use Rattle.std.specs.List.{AllByRecursion}
+use Rattle.std.proofs.lemmas.List.{length-set, get_or-set_same, get_or-set_other, take-append-le, drop-append-le, length-take-le, reverse-append}
 use Rattle.std.proofs.Math.Seq.{take-length, drop-length}
 use Rattle.std.proofs.lemmas.Option.{slice_get-map}
 use Rattle.indexmap.specs.IndexMap.{set_value_at}
@@ -15,14 +15,13 @@ use Rattle.ksv_memo_rules.specs.declared.replies.Slot.{Slot}
 use Rattle.ksv_memo_rules.specs.declared.replies.Slot.TheVariants.{Open as opened}
 use Rattle.ksv_memo.specs.declared.layout.Frame.{Frame}
 use Rattle.ksv_memo.specs.declared.layout.Frames.{Frames}
-use Rattle.ksv_memo_rules.specs.Slots.{HasAnswer, answer_in, answer_of, answer_at, answers_at, with_first}
-use Rattle.ksv_memo_rules.specs.Entry.{Entry}
-use Rattle.ksv_memo.specs.Open.{Open, newly, with_uses, with_answer, heard}
+use Rattle.ksv_memo_rules.specs.Slots.{answer_in, answer_of, answer_at, answers_at, with_first}
+use Rattle.ksv_memo.specs.Open.{Open, newly, heard}
 use Rattle.ksv_memo.specs.Layout.{IsOneOf, AllDiffer, slots_of, node_at, nodes_at, IsOpen, IsKept, entry_with, entry_at, entries_at, entries_of, open_before, opens_in, opens_of, AreNested, AreLinked, AreFrames}
-use Rattle.ksv_memo.specs.Moves.{Heard, IsNewFrame, Popped, Framed}
-use Rattle.ksv_memo_rules.proofs.Lists.{All-map, All-both, All-++, All-left, All-right}
-use Rattle.ksv_memo.proofs.Finding.{slot_there, node_there, answer_there, kept_there}
-use Rattle.ksv_memo.proofs.Laying.{++-nil, All-take, All-drop, some-of, one_of-all, same_or, nodes_at-append, answers_at-append, Keeps, HasNode, kept_node, slot_has_node, same_node, same_answer, stays_kept, same_nodes, same_answers, same_entry, same_opens, no_entry_at, entries_at-append, entries_at-same, All-numbers, numbers-split}
+use Rattle.ksv_memo.specs.Moves.{Heard, Popped, Framed}
+use Rattle.ksv_memo_rules.proofs.Lists.{All-map, All-both, All-++}
+use Rattle.ksv_memo.proofs.Finding.{slot_there, node_there, answer_there}
+use Rattle.ksv_memo.proofs.Laying.{++-nil, All-take, same_or, nodes_at-append, answers_at-append, Keeps, HasNode, slot_has_node, stays_kept, same_nodes, same_entry, same_opens, no_entry_at, entries_at-append, entries_at-same, All-numbers, numbers-split}
 
 -- an entry was put somewhere among others
 pub record IsPut {X : Type 0} (x : X) (before after : List X) : Type 0 where

@@ -1,5 +1,5 @@
 -- Slots that are to be taken are emptied, one upon another.
-use Rattle.std.proofs.Common.{◌≡◌, ◌≢◌, ◌⊎◌, inl, inr, ℕ, zero, suc, ◌+◌, ◌*◌, ◌≤◌, List, [], ◌∷◌, ◌++◌, length, Option, Some, None, Contains, refl, sym, ◌∙◌, ap, subst, arith, append_assoc, slice_get}
+use Rattle.std.proofs.Common.{◌≡◌, ◌≢◌, ◌⊎◌, inl, inr, ℕ, zero, suc, ◌+◌, ◌*◌, ◌≤◌, List, [], ◌∷◌, ◌++◌, length, None, Contains, refl, sym, ◌∙◌, ap, subst, arith, append_assoc, slice_get}
 use Rattle.std.specs.List.{AllPairs}
 use Rattle.std.proofs.lemmas.List.{append-nil, get_or-set_other}
 use Rattle.std.proofs.lemmas.List.Sums.{sum_by-cons}
@@ -13,7 +13,7 @@ use Rattle.ksv_memo_rules.specs.declared.replies.Slot.{Slot}
 use Rattle.ksv_memo_rules.specs.declared.replies.Slot.TheVariants.{Empty as emptied}
 use Rattle.ksv_memo_rules.specs.Slots.{answer_of, answer_at}
 use Rattle.ksv_memo.specs.Layout.{slots_of, node_at, IsOpen}
-use Rattle.ksv_memo.specs.Emptying.{parts_of, IsTaken, IsEmptied}
+use Rattle.ksv_memo.specs.Emptying.{IsTaken, IsEmptied}
 use Rattle.ksv_memo.proofs.Changing.{set_count}
 use Rattle.ksv_memo.proofs.Laying.{same_or}
 

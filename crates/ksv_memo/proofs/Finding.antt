@@ -1,15 +1,12 @@
 -- What a look-up in the map says of the slots.
-use Rattle.std.proofs.Common.{◌≡◌, ℕ, Bool, true, false, List, [], ◌∷◌, length, map, Option, Some, None, is_some, refl, sym, ◌∙◌, ap, Result, slice_get, ◌||◌, cond}
-use Rattle.std.specs.Borrow.{Bor}
+use Rattle.std.proofs.Common.{◌≡◌, ℕ, Bool, true, false, List, [], ◌∷◌, Some, None, is_some, refl, ◌∙◌, ap, slice_get, ◌||◌, cond}
 use Rattle.std.specs.Option.{option_map}
-use Rattle.std.specs.List.{AllByRecursion, list_any}
-use Rattle.std.specs.Map.{keys_of, lookup, lookup_key}
+use Rattle.std.specs.List.{list_any}
+use Rattle.std.specs.Map.{lookup, lookup_key}
 use Rattle.std.proofs.lemmas.Option.{slice_get-map}
-use Rattle.std.proofs.lemmas.Map.Made.{lookup_key_passes}
 use Rattle.ksv_memo_rules.specs.declared.replies.Slot.{Slot}
-use Rattle.ksv_memo_rules.specs.Slots.{HasAnswer, answer_in, answer_of, answer_at, with_first}
+use Rattle.ksv_memo_rules.specs.Slots.{answer_in, answer_of, answer_at}
 use Rattle.ksv_memo.specs.Layout.{slots_of, node_at, IsKept}
-use Rattle.ksv_memo.specs.Moves.{IsTheSlot}
 
 -- no key passes
 pub none_passes : {N X : Type 0} (test : N → Bool) (ps : List (N × X)) → lookup_key test ps ≡ None → list_any (λ p. test p.0) ps ≡ false

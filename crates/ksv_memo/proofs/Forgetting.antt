@@ -1,6 +1,6 @@
 -- What an edit takes from the kept nodes is what the pass takes from the table, and what stays is right.
 use Rattle.std.proofs.lemmas.List.Sums.{sum_by-cons}
-use Rattle.std.proofs.Common.{◌≡◌, ℕ, zero, suc, ◌+◌, ◌*◌, ◌<◌, ◌≤◌, arith, length, length-append, sum_by, Bool, true, false, not, cond, ◌||◌, ◌&&◌, nat_eq, nat_lt, List, [], ◌∷◌, ◌++◌, map, filter, Contains, Any, refl, sym, ◌∙◌, ap, subst, ◌⊎◌, inl, inr, eq-eqb}
+use Rattle.std.proofs.Common.{◌≡◌, ℕ, zero, suc, ◌+◌, ◌*◌, ◌<◌, ◌≤◌, arith, length, length-append, sum_by, Bool, true, false, not, cond, ◌||◌, ◌&&◌, nat_eq, nat_lt, List, [], ◌∷◌, ◌++◌, map, filter, Contains, Any, refl, sym, ◌∙◌, ap, subst, inl, inr, eq-eqb}
 use Rattle.std.specs.Bool.{Decides}
 use Rattle.std.specs.List.{AllByRecursion, list_any, flat_map}
 use Rattle.std.proofs.lemmas.Bool.Decides.{Decides-and, Decides-not, Decides-ltb, not_from_Decides}
@@ -23,9 +23,9 @@ use Rattle.ksv_memo_links.specs.Touching.{pages_in}
 use Rattle.ksv_memo_links.specs.Links.{IsOverwrite, pages_met, met_by}
 use Rattle.ksv_memo_links.proofs.Touches.{uses-meet}
 use Rattle.ksv_memo.specs.Near.{IsWrite, LooksNear, gone_of}
-use Rattle.ksv_memo.specs.Sweep.{Mark, Says, AllSay, IsMarked, entries_with as entries_in, entries_left, entries_gone, Sweeps}
+use Rattle.ksv_memo.specs.Sweep.{Mark, AllSay, IsMarked, entries_with as entries_in, entries_left, entries_gone, Sweeps}
 use Rattle.ksv_memo_rules.proofs.Standing.{law_on}
-use Rattle.ksv_memo_rules.proofs.Lists.{All-map, All-both, All-++, none_fails, none_pass, any_same}
+use Rattle.ksv_memo_rules.proofs.Lists.{All-map, All-both, none_fails, none_pass}
 use Rattle.ksv_memo_rules.proofs.Evals.{eqb_true, or_false}
 use Rattle.ksv_memo_rules.proofs.Keeping.{AreDistinct-none, kept-tree, or_right}
 use Rattle.ksv_memo.proofs.Change.{All-once, All-of-once, untouched-stays}

@@ -1,9 +1,7 @@
 -- What the slots, links and frames stand for, when one slot changes.
-use Rattle.std.proofs.Common.{◌≡◌, ◌≢◌, ℕ, zero, suc, ◌+◌, ◌-◌, ◌<◌, ◌≤◌, Bool, true, false, List, [], ◌∷◌, ◌++◌, length, map, take, drop, reverse, Option, Some, None, is_some, refl, sym, ◌∙◌, ap, subst, Result, Ok, Err, slice_get, ◌⊎◌, inl, inr, append_assoc, nat_eq, eq-eqb, arith, length-append}
+use Rattle.std.proofs.Common.{◌≡◌, ◌≢◌, ℕ, zero, suc, ◌+◌, ◌<◌, ◌≤◌, Bool, true, false, List, [], ◌∷◌, ◌++◌, take, drop, Option, Some, None, is_some, refl, sym, ◌∙◌, ap, subst, Result, slice_get, ◌⊎◌, inl, inr, nat_eq, eq-eqb, arith}
 use Rattle.std.specs.Option.{option_map}
 use Rattle.std.specs.List.{AllByRecursion}
-use Rattle.std.proofs.lemmas.Bool.{cases_lt}
-use Rattle.std.proofs.lemmas.List.{map-append, take-append-le, drop-append-le, length-drop, take-append-drop as take_drop}
 use Rattle.std.proofs.lemmas.Option.{slice_get-map}
 use Rattle.ksv_bytes.specs.declared.uses.Use.{Use}
 use Rattle.ksv_memo_links.specs.Shelved.{row}
@@ -11,12 +9,11 @@ use Rattle.ksv_memo_links.specs.Touching.{numbers_from}
 use Rattle.ksv_memo_links.specs.Links.{Linked}
 use Rattle.ksv_memo_rules.specs.declared.replies.Slot.{Slot}
 use Rattle.ksv_memo.specs.declared.layout.Frame.{Frame}
-use Rattle.ksv_memo_rules.specs.Slots.{HasAnswer, answer_in, answer_of, answer_at, answers_at, with_first}
+use Rattle.ksv_memo_rules.specs.Slots.{answer_of, answer_at, answers_at, with_first}
 use Rattle.ksv_memo_rules.specs.Entry.{Entry}
-use Rattle.ksv_memo.specs.Open.{Open}
-use Rattle.ksv_memo.specs.Layout.{IsOneOf, AllDiffer, slots_of, node_at, nodes_at, IsOpen, IsKept, entry_with, entry_at, entries_at, open_before, opens_in}
+use Rattle.ksv_memo.specs.Layout.{IsOneOf, AllDiffer, slots_of, node_at, nodes_at, IsKept, entry_with, entry_at, entries_at, open_before, opens_in}
 use Rattle.ksv_memo_rules.proofs.Evals.{eqb_true}
-use Rattle.ksv_memo_rules.proofs.Lists.{All-map, All-++, All-left, All-right}
+use Rattle.ksv_memo_rules.proofs.Lists.{All-++}
 
 pub ++-nil : {X : Type 0} (xs : List X) → xs ++ [] ≡ xs
 ++-nil [] = refl

@@ -1,5 +1,5 @@
 -- An entry among others is as one after them.
-use Rattle.std.proofs.Common.{◌≡◌, ℕ, suc, ◌+◌, ◌-◌, ◌*◌, ◌<◌, ◌≤◌, Bool, true, false, cond, List, [], ◌∷◌, ◌++◌, length, map, refl, sym, ◌∙◌, ap, subst, nat_eq, ◌||◌, arith, length-append, append_assoc, IsPermutation}
+use Rattle.std.proofs.Common.{◌≡◌, ℕ, ◌+◌, ◌-◌, ◌*◌, ◌<◌, Bool, true, false, cond, List, [], ◌∷◌, ◌++◌, length, map, refl, sym, ◌∙◌, ap, subst, nat_eq, ◌||◌, arith, length-append, append_assoc, IsPermutation}
 use Rattle.std.specs.List.{AllByRecursion, IsDistinct}
 use Rattle.std.proofs.lemmas.Cmp.{nat_eq_equiv}
 use Rattle.std.proofs.lemmas.List.{map-append}
@@ -11,7 +11,7 @@ use Rattle.ksv_memo_rules.specs.Evaluation.{is_among}
 use Rattle.ksv_memo_rules.specs.Entry.{Entry}
 use Rattle.ksv_memo.specs.Open.{Open, nodes_in}
 use Rattle.ksv_memo_rules.specs.Right.{nodes_of, AreDistinct, IsRightEntry, IsRight, fresh, costs, Agrees}
-use Rattle.ksv_memo.specs.Running.{HasCome, IsWaiting, Chain, IsStack, calls_left, calls_of, to_keep, debt, Account, GoesOn, HasFinished, IsLeft, AreSame, AreAmong, rest_of}
+use Rattle.ksv_memo.specs.Running.{HasCome, IsWaiting, Chain, IsStack, calls_left, calls_of, to_keep, debt, Account, GoesOn, HasFinished, IsLeft, AreSame, rest_of}
 use Rattle.ksv_memo_rules.proofs.Lists.{All-map, All-++, All-left, All-right}
 use Rattle.ksv_memo_rules.proofs.Keeping.{is_among-append, nodes_of-append}
 

@@ -1,10 +1,10 @@
 -- Sums over slots that differ.
-use Rattle.std.proofs.Common.{◌≡◌, ◌≢◌, ◌⊎◌, inl, inr, Bool, true, false, cond, ℕ, zero, suc, ◌+◌, ◌<◌, ◌≤◌, List, [], ◌∷◌, length, get_or, filter, Contains, refl, sym, ◌∙◌, ap, subst, arith, sum_by}
+use Rattle.std.proofs.Common.{◌≡◌, ◌≢◌, inl, inr, Bool, true, false, cond, ℕ, zero, suc, ◌+◌, ◌<◌, ◌≤◌, List, [], ◌∷◌, length, get_or, filter, Contains, refl, sym, ◌∙◌, ap, arith, sum_by}
 use Rattle.std.specs.List.{AllByRecursion, AllPairs}
 use Rattle.std.proofs.lemmas.List.Sums.{sum_by-cons}
 use Rattle.ksv_memo_links.specs.Touching.{numbers_from}
 use Rattle.ksv_memo.specs.Layout.{IsOneOf, AllDiffer}
-use Rattle.ksv_memo.proofs.Laying.{one_of-all, same_or, All-numbers}
+use Rattle.ksv_memo.proofs.Laying.{one_of-all, All-numbers}
 
 pub one_of-contains : (xs : List ℕ) (x : ℕ) → Contains xs x → IsOneOf xs x
 one_of-contains [] x (k, lt, e) = absurd (omega arith)

@@ -1,5 +1,5 @@
 -- The slots that were emptied are those of the entries that a change takes.
-use Rattle.std.proofs.Common.{◌≡◌, ◌≢◌, ◌⊎◌, inl, inr, Bool, true, false, not, cond, ◌||◌, ◌&&◌, ℕ, zero, suc, ◌+◌, ◌*◌, ◌-◌, ◌^◌, ◌<◌, ◌≤◌, min, List, [], ◌∷◌, ◌++◌, length, map, filter, get_or, Option, Some, None, is_some, All, Contains, refl, sym, ◌∙◌, ap, subst, arith, Result, sum_by, count_by, slice_get}
+use Rattle.std.proofs.Common.{◌≡◌, ◌⊎◌, inl, inr, Bool, true, false, not, cond, ◌||◌, ◌&&◌, ℕ, zero, suc, ◌+◌, ◌*◌, ◌<◌, ◌≤◌, List, [], ◌∷◌, length, map, filter, get_or, Option, Some, None, is_some, All, Contains, refl, sym, ◌∙◌, ap, subst, arith, Result, sum_by, count_by}
 use Rattle.std.specs.Option.{option_map}
 use Rattle.std.specs.List.{AllByRecursion, list_any}
 use Rattle.std.proofs.lemmas.List.{get_or_default}
@@ -13,9 +13,9 @@ use Rattle.ksv_memo_links.specs.Shelved.{row}
 use Rattle.ksv_bytes.specs.Uses.{is_use_touched}
 use Rattle.ksv_memo_links.specs.Touching.{pages_in, numbers_from}
 use Rattle.ksv_memo_links.specs.Marking.{is_kept}
-use Rattle.ksv_memo_links.specs.Links.{Linked, Forgets, Goes, Reaches, here, through, IsHit, is_hit, IsOverwrite, pages_met, met_by, asks_of}
+use Rattle.ksv_memo_links.specs.Links.{Linked, Forgets, Reaches, here, through, IsHit, is_hit, IsOverwrite, pages_met, met_by, asks_of}
 use Rattle.ksv_memo_rules.specs.declared.replies.Slot.{Slot}
-use Rattle.ksv_memo_rules.specs.Slots.{answer_of, answer_at, with_first}
+use Rattle.ksv_memo_rules.specs.Slots.{answer_at, with_first}
 use Rattle.ksv_memo_rules.specs.Entry.{Entry}
 use Rattle.ksv_memo.specs.Layout.{IsOneOf, slots_of, node_at, nodes_at, IsKept, entry_with, entry_at, entries_at, entries_of, AreLinked}
 use Rattle.ksv_memo.specs.Sweep.{Mark, Says, AllSay, IsMarked, entries_with, entries_left, entries_gone}

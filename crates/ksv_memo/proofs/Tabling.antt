@@ -1,12 +1,11 @@
 -- What a look-up says of the kept and the open nodes.
-use Rattle.std.proofs.Common.{◌≡◌, ◌≢◌, ℕ, ◌+◌, ◌≤◌, ◌<◌, arith, Bool, true, false, List, [], ◌∷◌, ◌++◌, IfSome, IfNone, map, reverse, length, Option, Some, None, is_some, refl, sym, ◌∙◌, ap, subst, Result, slice_get}
+use Rattle.std.proofs.Common.{◌≡◌, ◌≢◌, ℕ, ◌+◌, ◌≤◌, arith, Bool, true, false, List, reverse, length, Some, None, is_some, refl, sym, ◌∙◌, ap, subst, Result, slice_get}
 use Rattle.std.specs.Option.{option_map}
 use Rattle.std.proofs.lemmas.Option.{slice_get-map, slice_get_within}
 use Rattle.std.specs.Cmp.{IsEquivalence}
 use Rattle.std.specs.List.{AllByRecursion, list_any, IsDistinct}
 use Rattle.std.specs.Map.{keys_of}
 use Rattle.ksv_memo_links.specs.Touching.{numbers_from}
-use Rattle.ksv_memo_links.specs.Shelved.{row}
 use Rattle.ksv_memo_links.specs.Links.{Linked, Grows}
 use Rattle.ksv_memo_rules.specs.declared.replies.Slot.{Slot}
 use Rattle.ksv_memo_rules.specs.declared.replies.Slot.TheVariants.{Empty as emptied, Open as opened}
@@ -14,9 +13,9 @@ use Rattle.ksv_memo.specs.declared.layout.Frames.{Frames}
 use Rattle.ksv_memo.specs.declared.layout.Known.TheVariants.{New, Empty, Open, Kept}
 use Rattle.ksv_memo_rules.specs.Slots.{answer_in, answer_of, answer_at}
 use Rattle.ksv_memo_rules.specs.Entry.{Entry}
-use Rattle.ksv_memo.specs.Layout.{IsOneOf, slots_of, node_at, nodes_at, IsOpen, IsKept, entry_with, entry_at, entries_of, opens_of, AreLinked, AreFrames, IsLaidOut}
+use Rattle.ksv_memo.specs.Layout.{slots_of, node_at, nodes_at, IsOpen, IsKept, entry_with, entry_at, entries_of, opens_of, AreLinked, AreFrames, IsLaidOut}
 use Rattle.ksv_memo.specs.Moves.{Knows, IsTheSlot, Heard, Framed}
-use Rattle.ksv_memo.specs.Nodes.{Nodes, IsEntry, HasNoEntry, Replies, Opens}
+use Rattle.ksv_memo.specs.Nodes.{IsEntry, HasNoEntry, Replies, Opens}
 use Rattle.ksv_memo.proofs.Finding.{slot_there, node_there, answer_there}
 use Rattle.ksv_memo.proofs.Laying.{some-of, entries_at-same, All-numbers}
 use Rattle.ksv_memo.proofs.Changing.{ChangesAt, none_past, links-stay, entries-stay, frames-push, frames-hear, opens-push, opens-hear}

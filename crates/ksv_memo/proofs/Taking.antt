@@ -1,30 +1,23 @@
 -- What the moves of the table come to for a question.
-use Rattle.std.proofs.Common.{◌≡◌, ℕ, ◌+◌, ◌<◌, nat_lt, arith, Bool, true, false, List, [], ◌∷◌, ◌++◌, length, Option, Some, None, refl, sym, ◌∙◌, ap, subst, ◌⊎◌, inl, inr, Result, Ok, Err, IfOk, OnErr}
-use Rattle.std.proofs.lemmas.List.{reverse-append, reverse-reverse}
-use Rattle.std.proofs.Common.{reverse}
+use Rattle.std.proofs.Common.{◌≡◌, ℕ, ◌+◌, ◌<◌, nat_lt, arith, Bool, true, false, List, [], ◌∷◌, length, Option, Some, None, refl, sym, ◌∙◌, ap, subst, inl, inr, Result, Ok, Err, IfOk, OnErr}
 use Rattle.std.proofs.lemmas.Bool.Decides.{Decides-ltb}
 use Rattle.std.specs.Cmp.{IsEquivalence}
-use Rattle.std.specs.List.{AllByRecursion, list_any}
-use Rattle.ksv_bytes.specs.declared.uses.Use.{Use}
 use Rattle.ksv_memo_rules.specs.declared.rules.Next.{Next}
 use Rattle.ksv_memo_rules.specs.declared.rules.Next.TheVariants.{Need, Done}
 use Rattle.ksv_memo_rules.specs.declared.rules.Outcome.{Outcome}
 use Rattle.ksv_memo_rules.specs.declared.rules.Outcome.TheVariants.{Answered, Circle}
-use Rattle.ksv_memo.specs.declared.table.Asked.{Asked}
-use Rattle.ksv_memo.specs.declared.table.Asked.TheVariants.{Replied, Opened, Circle as CircleOf}
-use Rattle.ksv_memo_rules.specs.Meaning.{Standing, IsSettled, IsAddedTo}
-use Rattle.ksv_memo_rules.specs.Evaluation.{is_among, tells, done, IsAnswered, answering}
+use Rattle.ksv_memo_rules.specs.Meaning.{Standing, IsSettled}
+use Rattle.ksv_memo_rules.specs.Evaluation.{is_among, tells, done, IsAnswered}
 use Rattle.ksv_memo_rules.specs.Entry.{Entry}
-use Rattle.ksv_memo.specs.Open.{Open, nodes_in, newly, with_uses, with_answer, heard}
-use Rattle.ksv_memo.specs.Layout.{IsOneOf}
-use Rattle.ksv_memo.specs.Nodes.{Nodes, IsEntry, HasNoEntry, Finds, Replies, Opens, Circles, Asks, kept_of, Keeps, Steps, Closes, MayKeep, is_there}
+use Rattle.ksv_memo.specs.Open.{Open, newly, with_uses, with_answer}
+use Rattle.ksv_memo.specs.Nodes.{Nodes, IsEntry, HasNoEntry, Replies, Opens, Circles, Steps, Closes, MayKeep}
 use Rattle.ksv_memo_rules.specs.Right.{nodes_of, IsRight, counted, Agrees}
-use Rattle.ksv_memo.specs.Running.{HasCome, HasStepped, IsStack, account_of, account_at, GoesOn, GoesOnWith, HasFinished, Advances, IsLeft, IsRunning, HasReached, AdvancesFrom, AdvancesAt, LeftFrom, LeftAt, Holds, HoldsWith, Counts, CountsWith, turns_left, value_of, rest_of, to_keep, debt, made, AreSame}
+use Rattle.ksv_memo.specs.Running.{account_of, account_at, GoesOn, GoesOnWith, HasFinished, Advances, IsLeft, IsRunning, HasReached, AdvancesFrom, AdvancesAt, LeftFrom, LeftAt, Holds, HoldsWith, Counts, CountsWith, turns_left, rest_of, to_keep, debt, AreSame}
 use Rattle.ksv_memo_rules.proofs.Evals.{IsOut}
-use Rattle.ksv_memo_rules.proofs.Keeping.{IsIn, self_in, agrees}
-use Rattle.ksv_memo.proofs.Laying.{one_of-all, ++-nil}
+use Rattle.ksv_memo_rules.proofs.Keeping.{IsIn, self_in}
+use Rattle.ksv_memo.proofs.Laying.{one_of-all}
 use Rattle.ksv_memo_rules.proofs.Lists.{none_pass}
-use Rattle.ksv_memo.proofs.Turns.{any_entry, waits_among, need-replies, need-opens, need-ends, finish-goes, finish-ends, finish-left, left-same, turn-account, turn-steps, begins, comes, covers-begins, turns-begin, value-begins, covers-kept, none-owed, counts-end, counts-step, left-more}
+use Rattle.ksv_memo.proofs.Turns.{any_entry, waits_among, need-replies, need-opens, need-ends, finish-goes, finish-ends, finish-left, left-same, turn-account, turn-steps, begins, comes, covers-begins, turns-begin, value-begins, counts-end, counts-step, left-more}
 
 -- a node that isn't kept has no entry
 pub not_replied : {N A : Type 0} (eq : N → N → Bool) (es : List (Entry N A)) (n : N) (e : Entry N A) → HasNoEntry eq es n → IsEntry eq es n e → ⊥

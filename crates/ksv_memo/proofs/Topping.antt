@@ -1,5 +1,5 @@
 -- The last open node: how it is run, kept and taken out.
-use Rattle.std.proofs.Common.{◌≡◌, ◌≢◌, ℕ, suc, ◌+◌, ◌-◌, ◌≤◌, ◌<◌, Bool, true, false, All, List, [], ◌∷◌, ◌++◌, length, map, take, drop, reverse, Option, Some, None, is_some, refl, sym, ◌∙◌, ap, subst, Result, Ok, Err, OnOk, OnErr, slice_get, ◌⊎◌, inl, inr, arith, length-append, ◌==◌}
+use Rattle.std.proofs.Common.{◌≡◌, ℕ, suc, ◌+◌, ◌-◌, ◌≤◌, ◌<◌, true, false, All, List, [], ◌∷◌, ◌++◌, length, map, take, drop, reverse, Option, Some, None, is_some, refl, sym, ◌∙◌, ap, subst, Result, Ok, Err, OnOk, OnErr, slice_get, inl, inr, arith, length-append, ◌==◌}
 use Rattle.std.specs.Option.{option_map}
 use Rattle.std.specs.List.{AllByRecursion}
 use Rattle.std.proofs.lemmas.List.{take-append-le, drop-append-le, reverse-append, reverse-reverse, take_rest}
@@ -19,13 +19,13 @@ use Rattle.ksv_memo.specs.Open.{Open, with_uses, heard}
 use Rattle.ksv_memo_rules.specs.Right.{HasEachOnce}
 use Rattle.ksv_memo.specs.Layout.{IsOneOf, AllDiffer, slots_of, node_at, nodes_at, IsOpen, IsKept, entries_of, open_before, opens_in, opens_of, AreNested, AreLinked, AreFrames, IsLaidOut}
 use Rattle.ksv_memo.specs.Moves.{EndsWith, SameFrames, Popped, Heard}
-use Rattle.ksv_memo.specs.Nodes.{Nodes, kept_of, Keeps, Steps, Closes, MayKeep, TakesFirst, is_there}
+use Rattle.ksv_memo.specs.Nodes.{Keeps, Steps, Closes, MayKeep, TakesFirst, is_there}
 use Rattle.std.proofs.lemmas.List.Elements.{All-from_recursion}
 use Rattle.ksv_memo_rules.proofs.Lists.{All-map}
 use Rattle.ksv_memo_rules.proofs.Evals.{eqb_true}
-use Rattle.ksv_memo.proofs.Finding.{slot_there, node_there, answer_there}
-use Rattle.ksv_memo.proofs.Laying.{All-drop, All-take, some-of, stays_kept}
-use Rattle.ksv_memo.proofs.Changing.{ChangesAt, grown, set_at, keeps, links-stay, links-keep, entries-stay, entries-keep, frames-pop, frames-hear, opens-pop, opens-hear, frames_nodes}
+use Rattle.ksv_memo.proofs.Finding.{node_there, answer_there}
+use Rattle.ksv_memo.proofs.Laying.{All-drop}
+use Rattle.ksv_memo.proofs.Changing.{ChangesAt, grown, links-stay, links-keep, entries-stay, entries-keep, frames-pop, frames-hear, opens-pop, opens-hear, frames_nodes}
 
 -- the last of a list that isn't empty
 pub last-front : {X : Type 0} (xs : List X) (x : X) → slice_get xs (length xs - 1) ≡ Some x → EndsWith x xs

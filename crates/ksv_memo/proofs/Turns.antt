@@ -1,24 +1,21 @@
 -- What the code's tests and moves say of kept and open nodes.
-use Rattle.std.proofs.Common.{◌≡◌, ℕ, suc, ◌+◌, ◌-◌, ◌*◌, ◌<◌, ◌≤◌, Bool, true, false, cond, List, [], ◌∷◌, ◌++◌, length, map, refl, sym, ◌∙◌, ap, subst, nat_eq, arith, ◌||◌, length-append, append_assoc, eq-eqb, find, Option, Some, None, Result, Ok, Err, OnErr, IfOk}
-use Rattle.std.specs.declared.alloc.AllocError.{AllocError}
+use Rattle.std.proofs.Common.{◌≡◌, ℕ, suc, ◌+◌, ◌-◌, ◌*◌, ◌<◌, ◌≤◌, Bool, true, false, List, [], ◌∷◌, ◌++◌, length, refl, sym, ◌∙◌, ap, subst, nat_eq, arith, ◌||◌, length-append, eq-eqb, Option, Result, Ok, Err, OnErr}
 use Rattle.std.specs.Cmp.{IsEquivalence}
 use Rattle.std.specs.List.{AllByRecursion, list_any}
-use Rattle.std.specs.Option.{option_map}
-use Rattle.std.proofs.lemmas.Map.Keys.{IsDistinct-head}
 use Rattle.ksv_bytes.specs.declared.uses.Use.{Use}
 use Rattle.ksv_memo_rules.specs.declared.rules.Next.{Next}
 use Rattle.ksv_memo_rules.specs.declared.rules.Next.TheVariants.{Need, Done}
 use Rattle.ksv_memo_rules.specs.declared.rules.Outcome.{Outcome}
 use Rattle.ksv_memo_rules.specs.declared.rules.Outcome.TheVariants.{Answered, Circle}
-use Rattle.ksv_memo_rules.specs.Meaning.{Standing, IsSettled, IsAddedTo}
-use Rattle.ksv_memo_rules.specs.Evaluation.{is_among, Told, after, told, tells, done, answering}
+use Rattle.ksv_memo_rules.specs.Meaning.{Standing, IsSettled}
+use Rattle.ksv_memo_rules.specs.Evaluation.{is_among, Told, told, tells, done, answering}
 use Rattle.ksv_memo_rules.specs.Entry.{Entry}
 use Rattle.ksv_memo.specs.Open.{Open, nodes_in, newly, with_uses, with_answer}
 use Rattle.ksv_memo.specs.Nodes.{kept_of}
 use Rattle.ksv_memo_rules.specs.Right.{nodes_of, HasEachOnce, IsRight, fresh, costs, counted, Agrees}
-use Rattle.ksv_memo.specs.Running.{HasCome, IsWaiting, HasEnded, HasStepped, IsStack, climbed, value_of, calls_of, calls_left, climbed_rest, rest_of, rest_at, to_keep, debt, made, Counts, Account, account_of, account_at, HasFinished, GoesOn, IsLeft, AreSame, AreAmong}
-use Rattle.ksv_memo_rules.proofs.Lists.{All-map, All-right}
-use Rattle.ksv_memo_rules.proofs.Evals.{IsOut, eqb_true, or_false_intro, AreDistinct-cons, tells-free}
+use Rattle.ksv_memo.specs.Running.{HasCome, IsWaiting, HasEnded, HasStepped, IsStack, climbed, value_of, calls_of, calls_left, climbed_rest, rest_of, rest_at, to_keep, debt, made, Counts, account_of, account_at, HasFinished, GoesOn, IsLeft, AreSame, AreAmong}
+use Rattle.ksv_memo_rules.proofs.Lists.{All-right}
+use Rattle.ksv_memo_rules.proofs.Evals.{IsOut, eqb_true, AreDistinct-cons, tells-free}
 use Rattle.ksv_memo_rules.proofs.Keeping.{IsIn, IsIn-append, AreDistinct-none, done-kept, agrees, self_in, nodes_of-append}
 use Rattle.ksv_memo.proofs.Places.{goes-moved, finished-moved, left-moved}
 use Rattle.ksv_memo.proofs.Moves.{++-nil, stepped, value-stepped, rest-stepped, rest-replied, rest-starts, rest-circle, covers-keep, covers-drop, to_keep-nil, fresh-nil, debt-keep, debt-drop, replied, value-replied, value-circle, starts, value-starts, room, opens, keeps, closes, IsWaiting-keep}

@@ -1,5 +1,5 @@
 -- What each move of the table does to slots and frames. Only the table's own contracts use it.
-use Rattle.std.specs.Prelude.{◌≡◌, ℕ, Option, Some, Bool, true, false, List, [], ◌∷◌, ◌++◌, length, take, slice_get}
+use Rattle.std.specs.Prelude.{◌≡◌, ℕ, Some, Bool, true, false, List, [], ◌∷◌, ◌++◌, length, take, slice_get}
 use Rattle.std.specs.List.{list_any}
 use Rattle.ksv_memo_rules.specs.declared.replies.Slot.{Slot}
 use Rattle.ksv_memo_rules.specs.declared.replies.Slot.TheVariants.{Empty as emptied, Open as opened}

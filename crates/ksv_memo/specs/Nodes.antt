@@ -1,5 +1,5 @@
 -- The table of nodes, as the machine sees it.
-use Rattle.std.specs.Prelude.{◌≡◌, ℕ, Bool, true, false, List, [], ◌∷◌, ◌++◌, ◌⊎◌, Option, Some, None}
+use Rattle.std.specs.Prelude.{◌≡◌, Bool, true, false, List, [], ◌∷◌, ◌++◌, ◌⊎◌, Option, Some, None}
 use Rattle.std.specs.List.{list_any}
 use Rattle.ksv_bytes.specs.declared.uses.Use.{Use}
 use Rattle.ksv_memo.specs.declared.table.Asked.{Asked}

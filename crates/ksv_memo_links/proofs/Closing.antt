@@ -1,21 +1,20 @@
 -- What was marked is what has to go.
-use Rattle.std.proofs.Common.{◌≡◌, ◌≢◌, ◌⊎◌, inl, inr, Bool, true, false, cond, eqb, ℕ, suc, ◌+◌, ◌-◌, ◌*◌, ◌/◌, ◌<◌, ◌≤◌, max, min, List, [], ◌∷◌, ◌++◌, length, take, get_or, Contains, refl, sym, ◌∙◌, ap, subst, arith, true≢false, sum_by, count_by}
-use Rattle.std.specs.List.{AllPairs}
+use Rattle.std.proofs.Common.{◌≡◌, ◌≢◌, ◌⊎◌, inl, inr, Bool, true, false, cond, eqb, ℕ, suc, ◌+◌, ◌-◌, ◌*◌, ◌<◌, ◌≤◌, max, min, List, [], ◌∷◌, length, take, get_or, Contains, refl, sym, ◌∙◌, ap, subst, arith, true≢false, sum_by, count_by}
 use Rattle.std.proofs.lemmas.List.Sums.{sum_by-cons}
 use Rattle.std.proofs.lemmas.Bool.{cases_lt}
 use Rattle.std.proofs.lemmas.Bool.Decides.{eqb_tells}
-use Rattle.std.proofs.lemmas.List.{take_all, get_or-map, get_or_default, length-map}
+use Rattle.std.proofs.lemmas.List.{take_all, get_or-map, get_or_default}
 use Rattle.ksv_bytes.specs.declared.uses.Use.{Use}
 use Rattle.ksv_bytes.specs.declared.uses.Change.{Change}
-use Rattle.ksv_bytes.specs.declared.uses.Change.TheVariants.{Overwrite, Insert, Delete, Append}
+use Rattle.ksv_bytes.specs.declared.uses.Change.TheVariants.{Overwrite}
 use Rattle.ksv_memo_links.specs.declared.shelf.Pin.{Pin}
 use Rattle.ksv_memo_links.specs.declared.parts.Parts.{Parts}
 use Rattle.ksv_memo_links.specs.Shelved.{row}
 use Rattle.ksv_memo_links.specs.Touching.{pages_in}
 use Rattle.ksv_memo_links.specs.Linked.{named, one_if, at, IsLinked, IsBoard}
-use Rattle.ksv_memo_links.specs.Links.{Linked, is_hit, IsHit, Reaches, here, through, Goes, Forgets, first_page, end_page, pages_met, met_by, IsOverwrite, asks_of}
+use Rattle.ksv_memo_links.specs.Links.{is_hit, IsHit, here, through, Forgets, first_page, end_page, pages_met, met_by}
 use Rattle.ksv_memo_links.specs.Marking.{is_kept, IsMarking}
-use Rattle.ksv_memo_links.specs.Forgetting.{item_at, IsShaped, SameLinks, MarksMore, IsEdit, Why, HitsPages, HitsTouched, Spreads, IsWhole, IsNear, linked_of, lengths, looks, sizes}
+use Rattle.ksv_memo_links.specs.Forgetting.{item_at, SameLinks, MarksMore, IsEdit, Why, HitsPages, HitsTouched, Spreads, IsWhole, IsNear, linked_of, lengths, looks, sizes}
 use Rattle.ksv_memo_links.proofs.Edits.{row_there}
 use Rattle.ksv_memo_links.proofs.Reaching.{named_row}
 use Rattle.ksv_memo_links.proofs.Clearing.{length-named}

@@ -1,5 +1,5 @@
 -- Why the marks of the code are right, one upon another.
-use Rattle.std.proofs.Common.{◌≡◌, ◌≢◌, ◌⊎◌, inl, inr, Bool, true, false, eqb, ℕ, zero, suc, ◌+◌, ◌*◌, ◌<◌, ◌≤◌, max, List, length, get_or, map, refl, sym, ◌∙◌, ap, subst, arith}
+use Rattle.std.proofs.Common.{◌≡◌, ◌≢◌, ◌⊎◌, inl, inr, Bool, true, false, eqb, ℕ, suc, ◌+◌, ◌*◌, ◌<◌, ◌≤◌, max, List, length, get_or, refl, sym, ◌∙◌, ap, subst, arith}
 use Rattle.std.proofs.lemmas.List.{get_or_read, get_or-map, length-map}
 use Rattle.std.proofs.lemmas.Bool.Decides.{eqb_tells}
 use Rattle.ksv_bytes.specs.declared.uses.Use.{Use}
@@ -7,13 +7,12 @@ use Rattle.ksv_bytes.specs.declared.uses.Change.{Change}
 use Rattle.ksv_memo_links.specs.declared.shelf.Pin.{Pin}
 use Rattle.ksv_memo_links.specs.declared.parts.Parts.{Parts}
 use Rattle.ksv_memo_links.specs.Shelved.{row}
-use Rattle.ksv_memo_links.specs.Linked.{named, at, IsLinked, IsBoard}
-use Rattle.ksv_memo_links.specs.Links.{is_hit, IsHit, here, through}
+use Rattle.ksv_memo_links.specs.Linked.{named, at, IsLinked}
+use Rattle.ksv_memo_links.specs.Links.{is_hit, here, through}
 use Rattle.ksv_memo_links.specs.Marking.{is_kept}
-use Rattle.ksv_memo_links.specs.Forgetting.{IsShaped, SameLinks, looks, Why, MarksMore, IsEdit, HitsSlot, HitsSlots, HitsPage, HitsPages, item_at, sizes}
+use Rattle.ksv_memo_links.specs.Forgetting.{SameLinks, looks, Why, MarksMore, IsEdit, HitsSlot, HitsSlots, HitsPage, HitsPages, item_at, sizes}
 use Rattle.ksv_memo_links.proofs.Mark.{stays-out}
-use Rattle.ksv_memo_links.proofs.More.{same-trans, more-trans, no-mark, MarksOne, one-mark, one-out, below-more}
-use Rattle.ksv_memo_links.proofs.Edits.{row_there}
+use Rattle.ksv_memo_links.proofs.More.{more-trans, no-mark, MarksOne, one-mark, one-out, below-more}
 use Rattle.ksv_memo_links.proofs.Reaching.{named_row}
 
 pub item-is : (lists : List (List Pin)) (l i : ℕ) (item : Pin) → i < length (row lists l) → item ≡ get_or (row lists l) i item → item_at lists l i ≡ item

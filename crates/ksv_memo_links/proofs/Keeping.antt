@@ -1,7 +1,7 @@
 -- A slot upon another is taken or kept, and the links stay whole.
-use Rattle.std.proofs.Common.{◌≡◌, ◌≢◌, ◌⊎◌, inl, inr, Bool, true, false, eqb, ℕ, ◌+◌, ◌<◌, ◌≤◌, List, [], ◌∷◌, ◌++◌, length, map, set, get_or, Contains, All, refl, sym, ◌∙◌, ap, subst, arith, true≢false}
+use Rattle.std.proofs.Common.{◌≡◌, ◌≢◌, ◌⊎◌, inl, inr, Bool, true, false, eqb, ℕ, ◌<◌, ◌≤◌, List, [], ◌∷◌, ◌++◌, length, map, set, get_or, Contains, All, refl, sym, ◌∙◌, ap, subst, arith, true≢false}
 use Rattle.std.specs.List.{AllPairs}
-use Rattle.std.proofs.lemmas.List.{length-map, length-set, get_or-set_same, get_or-set_other, set-set, set-get_or, length_push, get_or_append_left, get_or_at}
+use Rattle.std.proofs.lemmas.List.{length-map, length-set, get_or-set_same, get_or-set_other, set-set, set-get_or, length_push, get_or_append_left}
 use Rattle.std.proofs.lemmas.List.Elements.{Contains-append_left, Contains-push, Contains-push_cases}
 use Rattle.std.proofs.lemmas.Bool.Decides.{eqb_tells}
 use Rattle.ksv_bytes.specs.declared.uses.Use.{Use}
@@ -10,12 +10,10 @@ use Rattle.ksv_memo_links.specs.declared.parts.Parts.{Parts}
 use Rattle.ksv_memo_links.specs.Shelved.{row, HasSameRows}
 use Rattle.ksv_memo_links.specs.Touching.{pages_in}
 use Rattle.ksv_memo_links.specs.Linked.{named}
-use Rattle.ksv_memo_links.specs.Links.{Linked, Keeps, IsUnchanged, Grows}
 use Rattle.ksv_memo_links.specs.Marking.{is_kept, HasMore}
-use Rattle.ksv_memo_links.specs.Forgetting.{IsShaped, IsWhole, Clears, IsAsBefore, Fills, looks, linked_of}
+use Rattle.ksv_memo_links.specs.Forgetting.{IsShaped, IsWhole, Clears, IsAsBefore, Fills}
 use Rattle.ksv_memo_links.proofs.Edits.{row_set, row_other}
 use Rattle.ksv_memo_links.proofs.Clearing.{length-named}
-use Rattle.ksv_memo_links.proofs.Mark.{kept-in, true_or_false}
 
 pub wide : (rows : List (List Pin)) → length (named rows) ≡ length rows
 wide rows = length-map rows (λ (pins : List Pin). map (λ (p : Pin). p.row) pins)

@@ -1,11 +1,11 @@
 -- More rows, which are empty.
-use Rattle.std.proofs.Common.{◌≡◌, ◌⊎◌, inl, inr, ℕ, zero, suc, ◌+◌, ◌^◌, ◌<◌, ◌≤◌, List, [], ◌∷◌, ◌++◌, length, map, get_or, refl, sym, ◌∙◌, ap, subst, arith, sum_by}
+use Rattle.std.proofs.Common.{◌≡◌, ◌⊎◌, inl, inr, ℕ, suc, ◌^◌, ◌<◌, ◌≤◌, List, [], ◌∷◌, length, map, get_or, refl, sym, ◌∙◌, ap, subst, arith, sum_by}
 use Rattle.std.proofs.lemmas.Bool.{cases_lt}
 use Rattle.std.proofs.lemmas.List.{get_or_past, length-map}
 use Rattle.std.proofs.lemmas.List.Sums.{sum_by-cons}
 use Rattle.ksv_memo_links.specs.declared.shelf.Pin.{Pin}
 use Rattle.ksv_memo_links.specs.Shelved.{row, HasSameRows}
-use Rattle.ksv_memo_links.specs.Linked.{at, grid_of, Leads, LeadsTo, IsLinked, IsBoard, named, naming, one_if}
+use Rattle.ksv_memo_links.specs.Linked.{at, grid_of, Leads, LeadsTo, IsBoard, named, naming, one_if}
 use Rattle.ksv_memo_links.proofs.Edits.{named-row}
 
 pub named_row : (rows : List (List Pin)) (r : ℕ) → row (named rows) r ≡ map (λ (p : Pin). p.row) (row rows r)

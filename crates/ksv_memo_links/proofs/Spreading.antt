@@ -1,9 +1,8 @@
 -- The users of marked slots, one slot upon another.
-use Rattle.std.proofs.Common.{◌≡◌, ◌≢◌, ◌⊎◌, inl, inr, Bool, true, false, eqb, ℕ, suc, ◌+◌, ◌*◌, ◌<◌, ◌≤◌, List, ◌++◌, length, take, get_or, refl, sym, ◌∙◌, ap, subst, arith}
+use Rattle.std.proofs.Common.{◌≡◌, ◌≢◌, ◌⊎◌, inl, inr, Bool, true, false, eqb, ℕ, ◌+◌, ◌*◌, ◌<◌, ◌≤◌, List, ◌++◌, length, take, get_or, refl, sym, ◌∙◌, ap, subst, arith}
 use Rattle.std.proofs.lemmas.List.{length-append, get_or_append_left, take-append-le, get_or_read}
 use Rattle.std.proofs.lemmas.List.Sums.{sum_by_more}
 use Rattle.std.proofs.lemmas.Bool.Decides.{eqb_tells}
-use Rattle.ksv_bytes.specs.declared.uses.Change.{Change}
 use Rattle.ksv_memo_links.specs.declared.shelf.Pin.{Pin}
 use Rattle.ksv_memo_links.specs.declared.parts.Parts.{Parts}
 use Rattle.ksv_memo_links.specs.Shelved.{row}
@@ -11,7 +10,7 @@ use Rattle.ksv_memo_links.specs.Linked.{IsLinked}
 use Rattle.ksv_memo_links.specs.Marking.{is_kept}
 use Rattle.ksv_memo_links.specs.Forgetting.{looks, Why, MarksMore, HitsUsers, Spreads, item_at, lengths}
 use Rattle.ksv_memo_links.proofs.Mark.{stays-out}
-use Rattle.ksv_memo_links.proofs.More.{more-trans, no-mark, why-along, why-back, MarksOne, one-mark, one-out, below-more}
+use Rattle.ksv_memo_links.proofs.More.{more-trans, no-mark, why-along, MarksOne, one-mark, one-out, below-more}
 use Rattle.ksv_memo_links.proofs.Hits.{Peeks, peek-more, item-is, user-why}
 
 pub users-none : (p : Parts) (slot : ℕ) → HitsUsers p p slot 0 0

@@ -1,8 +1,6 @@
 -- The items of pages are no more than the pages that uses meet.
-use Rattle.std.proofs.Common.{◌≡◌, ◌≢◌, ◌⊎◌, inl, inr, ℕ, zero, suc, ◌+◌, ◌*◌, ◌<◌, ◌≤◌, Bool, true, false, cond, ◌&&◌, nat_lt, nat_le, nat_eq, eqb, List, [], ◌∷◌, length, get_or, refl, sym, ◌∙◌, ap, arith, sum_by, count_by}
+use Rattle.std.proofs.Common.{◌≡◌, ℕ, zero, suc, ◌+◌, ◌≤◌, Bool, cond, ◌&&◌, nat_lt, nat_le, nat_eq, List, [], ◌∷◌, length, refl, ap, arith, sum_by, count_by}
 use Rattle.std.proofs.lemmas.List.Sums.{sum_by-cons}
-use Rattle.std.proofs.lemmas.Bool.{cases_lt}
-use Rattle.std.proofs.lemmas.Bool.Decides.{eqb_tells, Decides-and, Decides-ltb}
 use Rattle.ksv_memo_links.specs.Shelved.{row}
 use Rattle.ksv_memo_links.specs.Linked.{one_if, naming}
 use Rattle.ksv_memo_links.specs.Forgetting.{sizes}

@@ -1,12 +1,11 @@
 -- What forgetting does to the links. Only the private parts' own contracts use it.
-use Rattle.std.specs.Prelude.{◌≡◌, ◌≢◌, ◌↔◌, ◌/◌, ◌-◌, ℕ, zero, suc, ◌+◌, ◌*◌, ◌<◌, ◌≤◌, max, min, Bool, true, false, List, [], ◌∷◌, ◌++◌, length, map, take, sum_by, slice_set, slice_index_or, Contains}
-use Rattle.std.specs.List.{AllPairs, list_any}
+use Rattle.std.specs.Prelude.{◌≡◌, ◌≢◌, ℕ, zero, suc, ◌+◌, ◌*◌, ◌<◌, ◌≤◌, max, Bool, true, false, List, [], ◌++◌, length, take, sum_by, slice_set, slice_index_or, Contains}
+use Rattle.std.specs.List.{AllPairs}
 use Rattle.ksv_bytes.specs.declared.uses.Use.{Use}
 use Rattle.ksv_bytes.specs.declared.uses.Change.{Change}
 use Rattle.ksv_memo_links.specs.declared.shelf.Pin.{Pin}
 use Rattle.ksv_memo_links.specs.declared.parts.Parts.{Parts}
 use Rattle.ksv_memo_links.specs.Shelved.{row}
-use Rattle.ksv_bytes.specs.Uses.{is_use_touched}
 use Rattle.ksv_memo_links.specs.Touching.{pages_in}
 use Rattle.ksv_memo_links.specs.Linked.{at, named}
 use Rattle.ksv_memo_links.specs.Marking.{is_kept, IsCounted, IsMarking}

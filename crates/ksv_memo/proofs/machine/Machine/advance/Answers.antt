@@ -1,10 +1,9 @@
-use Rattle.std.proofs.Common.{sym, subst, ◌∙◌}
+use Rattle.std.proofs.Common.{sym, subst}
 use Rattle.ksv_memo_rules.specs.Meaning.{on}
 use Rattle.ksv_memo_rules.proofs.Standing.{law_on}
 use Rattle.ksv_memo_rules.specs.declared.rules.Next.TheVariants.{Need, Done}
-use Rattle.ksv_memo.specs.Running.{HasReached, AdvancesAt, AdvancesFrom, LeftAt}
-use Rattle.ksv_memo.proofs.Topping.{on_err_always}
-use Rattle.ksv_memo.proofs.Taking.{if_ok-map, on_err-map, reached, advances, leaves, leaves_same, need_left}
+use Rattle.ksv_memo.specs.Running.{HasReached, AdvancesAt, LeftAt}
+use Rattle.ksv_memo.proofs.Taking.{if_ok-map, on_err-map, reached, advances, leaves}
 use Rattle.ksv_memo.proofs.machine.Machine.advance.Goals as goal
 
 pub finish-requires : goal.finish-requires

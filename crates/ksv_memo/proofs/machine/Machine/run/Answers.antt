@@ -1,4 +1,4 @@
-use Rattle.std.proofs.Common.{sym, ap, subst}
+use Rattle.std.proofs.Common.{sym, subst}
 use Rattle.ksv_memo_rules.specs.Meaning.{on}
 use Rattle.ksv_memo.specs.Running.{CountsWith}
 use Rattle.ksv_memo_rules.proofs.Standing.{law_on}

@@ -1,4 +1,4 @@
-use Rattle.std.proofs.Common.{◌∙◌, ap, sym, subst, refl, true}
+use Rattle.std.proofs.Common.{◌∙◌, ap, subst, true}
 use Rattle.std.proofs.lemmas.Option.{slice_get_within}
 use Rattle.ksv_memo_rules.specs.declared.replies.Slot.TheVariants.{Empty, Open}
 use Rattle.ksv_memo.specs.Layout.{opens_of}

@@ -1,5 +1,5 @@
 use Rattle.std.proofs.Common.{◌∙◌, ap, sym, subst, refl}
-use Rattle.ksv_memo.specs.Layout.{slots_of, entries_of}
+use Rattle.ksv_memo.specs.Layout.{entries_of}
 use Rattle.std.specs.Option.{option_map}
 use Rattle.ksv_memo_rules.specs.Slots.{answer_at, lent}
 use Rattle.ksv_memo.specs.Nodes.{Finds, HasNoEntry}

@@ -1,9 +1,9 @@
 use Rattle.std.proofs.lemmas.List.{length_push}
-use Rattle.std.proofs.Common.{◌≡◌, ◌+◌, ◌∙◌, ap, sym, subst, refl, length, ◌<◌, arith}
+use Rattle.std.proofs.Common.{◌≡◌, ◌+◌, ◌∙◌, ap, subst, refl, length, arith}
 use Rattle.std.proofs.lemmas.Option.{slice_get_within}
 use Rattle.ksv_memo_rules.specs.declared.replies.Slot.TheVariants.{Empty, Open}
 use Rattle.ksv_memo.specs.Layout.{IsLaidOut, entries_of, opens_of}
-use Rattle.ksv_memo.specs.Nodes.{Nodes, Replies, Opens, Circles}
+use Rattle.ksv_memo.specs.Nodes.{Replies, Opens, Circles}
 use Rattle.ksv_memo.proofs.Changing.{set_at, set_count, appended}
 use Rattle.ksv_memo.proofs.Finding.{no_lookup, answer_there}
 use Rattle.ksv_memo.proofs.Laying.{no_entry_at}

@@ -1,4 +1,4 @@
-use Rattle.std.proofs.Common.{◌≡◌, ◌∙◌, ap, sym, subst, refl, true, false, length, ◌==◌, drop, take, ◌-◌}
+use Rattle.std.proofs.Common.{◌∙◌, ap, sym, subst, true, false, length, ◌==◌}
 use Rattle.std.proofs.lemmas.Option.{slice_get_within}
 use Rattle.ksv_memo_rules.specs.declared.replies.Slot.TheVariants.{Open}
 use Rattle.ksv_memo.specs.Layout.{entries_of, opens_of}

@@ -1,8 +1,7 @@
-use Rattle.std.proofs.Common.{◌≡◌, ◌∙◌, ap, sym, subst, refl, length, take, drop, ◌-◌}
+use Rattle.std.proofs.Common.{◌∙◌, sym, subst, refl, length, take, drop, ◌-◌}
 use Rattle.std.specs.List.{AllByRecursion}
-use Rattle.std.proofs.lemmas.List.{take_rest}
 use Rattle.ksv_memo_rules.specs.Meaning.{on}
-use Rattle.ksv_memo_rules.specs.Slots.{HasAnswer, answers_at}
+use Rattle.ksv_memo_rules.specs.Slots.{HasAnswer}
 use Rattle.ksv_memo.specs.Layout.{slots_of, opens_of}
 use Rattle.ksv_memo.specs.declared.layout.Frames.{Frames}
 use Rattle.ksv_memo.specs.Nodes.{Steps}

@@ -1,9 +1,9 @@
-use Rattle.std.proofs.Common.{◌≡◌, ℕ, zero, suc, ◌+◌, ◌-◌, ◌<◌, ◌≤◌, List, [], ◌∷◌, ◌++◌, length, map, set, refl, sym, ◌∙◌, ap, subst, arith, append_assoc, OnErr}
+use Rattle.std.proofs.Common.{◌≡◌, ℕ, zero, suc, ◌+◌, ◌-◌, ◌<◌, ◌≤◌, List, [], ◌∷◌, ◌++◌, length, map, set, sym, ◌∙◌, ap, arith, append_assoc}
 use Rattle.std.proofs.lemmas.List.{append-nil, set-set, set-get_or, length-map}
 use Rattle.ksv_memo_links.specs.declared.shelf.Pin.{Pin}
 use Rattle.ksv_memo_links.specs.Shelved.{row, push_row}
 use Rattle.ksv_memo_links.specs.Touching.{numbers_from}
-use Rattle.ksv_memo_links.specs.Linked.{named, IsRowChanged}
+use Rattle.ksv_memo_links.specs.Linked.{named}
 use Rattle.ksv_memo_links.proofs.Edits.{row_set}
 use Rattle.ksv_memo_links.proofs.Rows.{on_err_always}
 use Rattle.ksv_memo_links.proofs.board.Board.link_range.Goals as goal

@@ -1,7 +1,6 @@
-use Rattle.std.proofs.Common.{◌≡◌, ◌⊎◌, inl, inr, ℕ, ◌<◌, ◌≤◌, List, [], length, map, get_or, sym, ◌∙◌, ap, subst, arith}
-use Rattle.ksv_memo_links.specs.declared.shelf.Pin.{Pin}
-use Rattle.ksv_memo_links.specs.Shelved.{row, HasSameRows}
-use Rattle.ksv_memo_links.specs.Linked.{IsBoard, named}
+use Rattle.std.proofs.Common.{ap, subst}
+use Rattle.ksv_memo_links.specs.Shelved.{HasSameRows}
+use Rattle.ksv_memo_links.specs.Linked.{named}
 use Rattle.ksv_memo_links.proofs.Reaching.{named-same, board-notes}
 use Rattle.ksv_memo_links.proofs.board.Board.reach_owners.Goals as goal
 

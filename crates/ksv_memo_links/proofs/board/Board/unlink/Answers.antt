@@ -2,7 +2,7 @@ use Rattle.std.proofs.Common.{◌≡◌, ℕ, ◌-◌, ◌^◌, ◌<◌, ◌≤�
 use Rattle.std.proofs.lemmas.List.{length-set}
 use Rattle.ksv_memo_links.specs.declared.shelf.Pin.{Pin}
 use Rattle.ksv_memo_links.specs.Shelved.{row, put_row, pop_row, cut_row}
-use Rattle.ksv_memo_links.specs.Linked.{IsBoard, named, naming}
+use Rattle.ksv_memo_links.specs.Linked.{IsBoard, named}
 use Rattle.ksv_memo_links.proofs.Edits.{row_there, named-pop}
 use Rattle.ksv_memo_links.proofs.Removal.{Before, Moved, item_in, moved_in, linked-moved, linked-unmoved, named-moved}
 use Rattle.ksv_memo_links.proofs.Few.{few-pop}

@@ -1,4 +1,4 @@
-use Rattle.std.proofs.Common.{◌≡◌, List, [], length, set, ◌∙◌, ap}
+use Rattle.std.proofs.Common.{[], length, set, ◌∙◌, ap}
 use Rattle.ksv_memo_links.specs.Linked.{named}
 use Rattle.ksv_memo_links.specs.Touching.{pages_in}
 use Rattle.ksv_memo_links.proofs.Keeping.{undone}

@@ -1,7 +1,6 @@
-use Rattle.std.proofs.Common.{◌≡◌, ℕ, ◌∙◌, ap, subst, arith, min, length}
-use Rattle.ksv_memo_links.specs.Links.{first_page, end_page}
-use Rattle.ksv_memo_links.specs.Forgetting.{HitsPages}
-use Rattle.ksv_memo_links.proofs.Hits.{pages-none, pages-more, pages-last}
+use Rattle.std.proofs.Common.{arith}
+use Rattle.ksv_memo_links.specs.Links.{first_page}
+use Rattle.ksv_memo_links.proofs.Hits.{pages-none, pages-more}
 use Rattle.ksv_memo_links.proofs.parts.Parts.hit_pages.Goals as goal
 
 pub loop-page-init : goal.loop-page-init

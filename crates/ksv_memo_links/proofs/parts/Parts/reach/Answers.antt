@@ -1,4 +1,4 @@
-use Rattle.std.proofs.Common.{◌≡◌, List, ℕ, length, max, refl, sym, ◌∙◌, ap, subst, arith}
+use Rattle.std.proofs.Common.{List, length, refl, sym, ap, subst, arith}
 use Rattle.ksv_memo_links.specs.declared.shelf.Pin.{Pin}
 use Rattle.ksv_memo_links.specs.declared.parts.Parts.{Parts}
 use Rattle.ksv_memo_links.specs.Shelved.{HasSameRows}

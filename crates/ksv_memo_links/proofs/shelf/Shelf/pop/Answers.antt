@@ -1,4 +1,4 @@
-use Rattle.std.proofs.Common.{ℕ, ◌-◌, List, length, take, sym, ◌∙◌, ap}
+use Rattle.std.proofs.Common.{◌-◌, List, length, take, sym, ◌∙◌, ap}
 use Rattle.ksv_memo_links.specs.declared.shelf.Pin.{Pin}
 use Rattle.ksv_memo_links.proofs.Rows.{row_written}
 use Rattle.ksv_memo_links.proofs.shelf.Shelf.pop.Goals as goal

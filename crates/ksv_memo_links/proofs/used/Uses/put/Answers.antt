@@ -1,6 +1,5 @@
-use Rattle.std.proofs.Common.{◌≡◌, [], ◌++◌, ◌<◌, List, Result, Ok, Err, OnOk, set, sym, ◌∙◌, ap, subst}
+use Rattle.std.proofs.Common.{◌++◌, List, Result, Ok, Err, OnOk, set, sym, ◌∙◌, ap}
 use Rattle.ksv_bytes.specs.declared.uses.Use.{Use}
-use Rattle.ksv_memo_links.specs.Shelved.{row}
 use Rattle.ksv_memo_links.proofs.Rows.{row_written}
 use Rattle.ksv_memo_links.proofs.used.Uses.put.Goals as goal
 
