@@ -113,15 +113,23 @@ fn stands(engine: &mut Engine<Tower>, bytes: &Buffer, number: u32) -> Result<boo
     Ok(is_right && engine.kept() == number as usize + 1)
 }
 
-/// Writes a byte of a file over itself, and tells the engine. How many nodes went, and how many looks it took.
+/// Writes bytes over others, and tells the engine.
+fn overwrite(engine: &mut Engine<Tower>, bytes: &mut Buffer, at: usize, new: &[u8])
+    requires { IsRight (on tower_meaning bytes.old) engine.old.kept }
+    ensures { IsRight (on tower_meaning bytes.new) engine.new.kept }
+{
+    if let Ok(()) = bytes.overwrite(at, new) {
+        engine.forget(Change::Overwrite { at, n: new.len() });
+    }
+}
+
+/// How many nodes go where a byte is written over itself, and how many looks it takes.
 fn touch(engine: &mut Engine<Tower>, bytes: &mut Buffer, at: usize) -> (usize, u64)
     requires { IsRight (on tower_meaning bytes.old) engine.old.kept }
     ensures { IsRight (on tower_meaning bytes.new) engine.new.kept }
 {
     let kept = engine.kept();
-    if let Ok(()) = bytes.overwrite(at, b"a") {
-        engine.forget(Change::Overwrite { at, n: 1 });
-    }
+    overwrite(engine, bytes, at, b"a");
     (kept.saturating_sub(engine.kept()), engine.looked())
 }
 
