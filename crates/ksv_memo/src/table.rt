@@ -9,7 +9,7 @@ ghost use Rattle.ksv_memo.specs.Sweep.{Sweeps};
 ghost use Rattle.ksv_memo.specs.Emptying.{IsEmptied};
 
 use crate::layout::{Frames, Known, Slots, find, number, open_new, reopen, set};
-use crate::uses::each_once;
+use crate::uses::keep_once;
 use indexmap::IndexMap;
 use ksv_bytes::{Buffer, Change};
 use ksv_memo_links::Links;
@@ -167,9 +167,9 @@ impl<R: Rules> Table<R> {
         let Some(frame) = self.frames.last() else {
             unreachable!()
         };
-        let uses = each_once(alloc, &self.frames.uses[frame.uses as usize..])?;
+        let uses = &self.frames.uses[frame.uses as usize..];
         let asked = &self.frames.asked[frame.asked as usize..];
-        self.links.keep(frame.slot, asked, uses.as_slice())?;
+        keep_once(alloc, &mut self.links, frame.slot, asked, uses)?;
         let slot = frame.slot as usize;
         set(&mut self.slots, slot, slot_of(answer));
         self.frames.take_last(frame);
