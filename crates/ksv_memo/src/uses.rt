@@ -15,6 +15,8 @@ use std::alloc::{AllocError, Global};
 const INLINE_USES: usize = 4;
 
 /// Each of these uses once, in the order of their first occurrences.
+#[cold]
+#[inline(never)]
 pub(crate) fn each_once(
     alloc: Global,
     uses: &[Use],
@@ -31,6 +33,7 @@ pub(crate) fn each_once(
 }
 
 /// Keeps a slot, with the slots that it asked and each of its uses once. Most nodes have one use or none, which need no copy.
+#[inline(always)]
 pub(crate) fn keep_once(
     alloc: Global,
     links: &mut Links,

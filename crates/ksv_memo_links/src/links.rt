@@ -52,6 +52,7 @@ impl Links {
     }
 
     /// At least so many slots. The new ones aren't kept.
+    #[inline(always)]
     pub fn reach(&mut self, count: u32) -> Result<(), AllocError>
         ensures same { Grows self.old self.new }
         ensures ok { OnOk result (count ≤ length self.new.kept) }
@@ -63,6 +64,7 @@ impl Links {
     }
 
     /// Keeps a slot, with the slots that it asked and its uses. Where memory is refused, nothing has changed.
+    #[inline(always)]
     pub fn keep(&mut self, slot: u32, asked: &[u32], uses: &[Use]) -> Result<(), AllocError>
         requires idle { self.old.waits ≡ [] }
         requires slot_in { slot < length self.old.kept }
