@@ -8,6 +8,15 @@ use Rattle.ksv_memo.specs.declared.layout.Frames.{Frames}
 use Rattle.ksv_memo.specs.declared.layout.Known.{Known}
 use Rattle.ksv_memo.specs.declared.layout.Known.TheVariants.{New, Empty, Open, Kept}
 use Rattle.ksv_memo.specs.Layout.{IsKept}
+use Rattle.ksv_bytes.specs.declared.uses.Use.{Use}
+use Rattle.ksv_memo_links.specs.Links.{Linked, Keeps}
+use Rattle.ksv_memo_rules.specs.Right.{HasEachOnce}
+
+-- a slot is kept, with what it asked and each of these uses once
+pub record KeepsOnce (old new : Linked) (slot : ℕ) (asks : List ℕ) (uses : List Use) : Type 0 where
+  pub once : List Use
+  pub each : HasEachOnce once uses
+  pub keeps : Keeps old new slot asks once
 
 -- the slot of a number is this, and its node is the one that was looked for
 pub record IsTheSlot {N V F : Type 0} (eq : N → N → Bool) (ps : List (N × Slot V F)) (n : N) (i : ℕ) (s : Slot V F) : Type 0 where

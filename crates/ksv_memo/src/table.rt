@@ -9,7 +9,7 @@ ghost use Rattle.ksv_memo.specs.Sweep.{Sweeps};
 ghost use Rattle.ksv_memo.specs.Emptying.{IsEmptied};
 
 use crate::layout::{Frames, Known, Slots, find, number, open_new, reopen, set};
-use crate::uses::each_once;
+use crate::uses::keep_once;
 use indexmap::IndexMap;
 use ksv_bytes::{Buffer, Change};
 use ksv_memo_links::Links;
@@ -30,6 +30,7 @@ pub enum Asked<N> {
 }
 
 /// A kept answer as a slot.
+#[inline(always)]
 fn slot_of<V, F>(answer: Result<V, F>) -> Slot<V, F>
     ensures { answer_in result ≡ Some answer }
 {
@@ -112,6 +113,7 @@ impl<R: Rules> Table<R> {
     }
 
     /// Asks for a node: its answer goes to the last open node if it is kept, and else it is opened, unless it is open.
+    #[inline(always)]
     pub(crate) fn ask(&mut self, node: R::Node) -> Result<Asked<R::Node>, AllocError>
         ensures ok { IfOk result (Asks R.Node.eq node self.old self.new) }
         ensures err { OnErr result (self.new ≡ self.old) }
@@ -136,6 +138,7 @@ impl<R: Rules> Table<R> {
     }
 
     /// One call of the rules for the last open node. No other function calls `next`.
+    #[inline(always)]
     pub(crate) fn turn(
         &mut self,
         alloc: Global,
@@ -159,6 +162,7 @@ impl<R: Rules> Table<R> {
     }
 
     /// Keeps the last open node with its answer, which the one below gets. Whether there is one below.
+    #[inline(always)]
     pub(crate) fn close(&mut self, alloc: Global, answer: Reply<R>) -> Result<bool, AllocError>
         requires { is_there self.old.opened ≡ true }
         ensures ok { IfOk result (λ waits. Closes answer self.old.opened self.old self.new waits) }
@@ -167,9 +171,9 @@ impl<R: Rules> Table<R> {
         let Some(frame) = self.frames.last() else {
             unreachable!()
         };
-        let uses = each_once(alloc, &self.frames.uses[frame.uses as usize..])?;
+        let uses = &self.frames.uses[frame.uses as usize..];
         let asked = &self.frames.asked[frame.asked as usize..];
-        self.links.keep(frame.slot, asked, uses.as_slice())?;
+        keep_once(alloc, &mut self.links, frame.slot, asked, uses)?;
         let slot = frame.slot as usize;
         set(&mut self.slots, slot, slot_of(answer));
         self.frames.take_last(frame);

@@ -11,6 +11,9 @@ use ksv_bytes::{Change, Use};
 use std::alloc::{AllocError, Global};
 use std::marker::Model;
 
+/// How many slots more than are needed are made, so that most new nodes find theirs made.
+const MORE: u32 = 63;
+
 /// The slots of kept nodes, what each asked and uses, and from there the users of each slot and the uses that meet each
 /// page. Each reading or writing of one of these is counted as a look.
 #[derive(Drop)]
@@ -49,14 +52,19 @@ impl Links {
     }
 
     /// At least so many slots. The new ones aren't kept.
+    #[inline(always)]
     pub fn reach(&mut self, count: u32) -> Result<(), AllocError>
         ensures same { Grows self.old self.new }
         ensures ok { OnOk result (count ≤ length self.new.kept) }
     {
-        self.parts.reach(self.alloc, count)
+        if count as usize <= self.parts.marks.slots() {
+            return Ok(());
+        }
+        self.parts.reach(self.alloc, count.saturating_add(MORE))
     }
 
     /// Keeps a slot, with the slots that it asked and its uses. Where memory is refused, nothing has changed.
+    #[inline(always)]
     pub fn keep(&mut self, slot: u32, asked: &[u32], uses: &[Use]) -> Result<(), AllocError>
         requires idle { self.old.waits ≡ [] }
         requires slot_in { slot < length self.old.kept }

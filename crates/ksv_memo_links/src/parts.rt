@@ -189,6 +189,7 @@ impl Parts {
     }
 
     /// Notes the pages that a use of a slot meets, after those that it has.
+    #[inline(always)]
     fn meet(&mut self, alloc: Global, slot: u32, used: Use) -> Result<(), AllocError>
         requires { slot < length self.old.pages.notes }
         ensures same { IsMeeting self.old self.new }
@@ -206,6 +207,7 @@ impl Parts {
     }
 
     /// Notes the pages that the uses of a slot without notes meet. Where memory is refused, it has some of them.
+    #[inline(always)]
     fn meet_all(&mut self, alloc: Global, slot: u32, uses: &[Use]) -> Result<(), AllocError>
         requires slot_in { slot < length self.old.pages.notes }
         requires none { row (named self.old.pages.notes) slot ≡ [] }
@@ -220,6 +222,7 @@ impl Parts {
     }
 
     /// Gives a slot without any what it asked and uses. Where memory is refused, it has nothing again.
+    #[inline(always)]
     fn fill(
         &mut self,
         alloc: Global,
@@ -249,6 +252,7 @@ impl Parts {
     }
 
     /// Keeps a slot that isn't kept, with what it asked, which is kept, and its uses.
+    #[inline(always)]
     pub(crate) fn keep(
         &mut self,
         alloc: Global,
@@ -271,6 +275,8 @@ impl Parts {
     }
 
     /// At least so many slots. The new ones aren't kept.
+    #[cold]
+    #[inline(never)]
     pub(crate) fn reach(&mut self, alloc: Global, count: u32) -> Result<(), AllocError>
         requires whole { IsWhole self.old }
         ensures same { Grows (linked_of self.old) (linked_of self.new) }
