@@ -11,6 +11,9 @@ use ksv_bytes::{Change, Use};
 use std::alloc::{AllocError, Global};
 use std::marker::Model;
 
+/// How many slots are added beyond those that are asked for, so that most calls add none.
+const SPARE: u32 = 63;
+
 /// The slots of kept nodes, what each asked and uses, and from there the users of each slot and the uses that meet each
 /// page. Each reading or writing of one of these is counted as a look.
 #[derive(Drop)]
@@ -53,7 +56,10 @@ impl Links {
         ensures same { Grows self.old self.new }
         ensures ok { OnOk result (count ≤ length self.new.kept) }
     {
-        self.parts.reach(self.alloc, count)
+        if self.parts.marks.slots() >= count as usize {
+            return Ok(());
+        }
+        self.parts.reach(self.alloc, count.saturating_add(SPARE))
     }
 
     /// Keeps a slot, with the slots that it asked and its uses. Where memory is refused, nothing has changed.
