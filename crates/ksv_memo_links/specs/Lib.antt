@@ -1,3 +1,4 @@
+pub mod Placed
 pub mod Shelved
 pub mod Touching
 pub mod Linked

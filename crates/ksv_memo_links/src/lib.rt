@@ -10,6 +10,7 @@ mod cells;
 mod links;
 mod marks;
 mod parts;
+mod pins;
 mod shelf;
 mod used;
 

@@ -2,7 +2,7 @@
 ghost use Rattle.std.specs.Prelude.{◌≡◌, ◌+◌, ◌-◌, ◌^◌, ◌<◌, ◌≤◌, max, [], ◌∷◌, ◌++◌, length, slice_index_or, OnOk, OnErr, IfSome, IfNone};
 ghost use Rattle.ksv_memo_links.specs.Shelved.{row, ticked, pop_row, cut_row, put_row, push_row, HasSameRows};
 
-use smallvec::SmallVec;
+use crate::pins::Pins;
 use std::alloc::{AllocError, Global};
 use std::marker::Model;
 
@@ -17,18 +17,20 @@ pub struct Pin {
 /// Rows of pins. Each call that reads or writes is one look.
 #[derive(Drop)]
 pub(crate) struct Shelf {
-    rows: Vec<SmallVec<Pin, 2>>,
+    alloc: Global,
+    rows: Vec<Pins>,
     looks: u64,
 }
 
 impl Model for Shelf {
     ghost use Rattle.std.specs.Prelude.{map};
     ghost use Rattle.ksv_memo_links.specs.declared.shelf.Pin.{Pin};
+    ghost use Rattle.ksv_memo_links.specs.Placed.{pins_of};
     ghost use Rattle.ksv_memo_links.specs.Shelved.{Shelved};
 
     ghost Value = { Shelved Pin };
 
-    ghost view = { λ shelf. record { rows = map (λ v. v.items) shelf.rows.items; looks = shelf.looks } };
+    ghost view = { λ shelf. record { rows = map pins_of shelf.rows.items; looks = shelf.looks } };
 }
 
 impl Shelf {
@@ -37,6 +39,7 @@ impl Shelf {
         ensures { result ≡ record { rows = []; looks = 0 } }
     {
         Shelf {
+            alloc,
             rows: Vec::new(alloc),
             looks: 0,
         }
@@ -92,8 +95,7 @@ impl Shelf {
         ensures looks { self.new.looks ≡ ticked self.old.looks }
     {
         self.look();
-        let pins = &self.rows[r as usize];
-        if i < pins.len() { Some(pins[i]) } else { None }
+        self.rows[r as usize].get(i)
     }
 
     pub(crate) fn set(&mut self, r: u32, i: u32, pin: Pin)
@@ -103,7 +105,7 @@ impl Shelf {
         ensures looks { self.new.looks ≡ ticked self.old.looks }
     {
         self.look();
-        self.rows[r as usize][i as usize] = pin;
+        self.rows[r as usize].set(i as usize, pin);
     }
 
     pub(crate) fn pop(&mut self, r: u32) -> Option<Pin>
@@ -133,8 +135,8 @@ impl Shelf {
         ensures err { OnErr result (self.new.rows ≡ self.old.rows) }
     {
         self.look();
-        self.rows[r as usize].push(pin)?;
-        Ok(())
+        let alloc = self.alloc;
+        self.rows[r as usize].push(alloc, pin)
     }
 
     /// One more row, with no pin.
@@ -142,7 +144,7 @@ impl Shelf {
         ensures ok { OnOk result (self.new.rows ≡ self.old.rows ++ [] ∷ []) }
         ensures err { OnErr result (self.new.rows ≡ self.old.rows) }
     {
-        match self.rows.push(SmallVec::new(alloc)) {
+        match self.rows.push(Pins::Empty) {
             Ok(()) => Ok(()),
             Err(_) => Err(AllocError),
         }

@@ -1,11 +1,11 @@
 //! The uses of each slot, each reading and writing counted.
-ghost use Rattle.std.specs.Prelude.{◌≡◌, ◌<◌, ◌≤◌, [], ◌∷◌, ◌++◌, length, slice_set, OnOk, OnErr};
+ghost use Rattle.std.specs.Prelude.{◌≡◌, ◌<◌, ◌≤◌, [], ◌∷◌, ◌++◌, length, slice_set, IfOk, OnOk, OnErr};
 ghost use Rattle.std.specs.List.{list_any};
+ghost use Rattle.ksv_memo_links.specs.Placed.{uses_of};
 ghost use Rattle.ksv_memo_links.specs.Shelved.{row, ticked, HasSameRows};
 ghost use Rattle.ksv_bytes.specs.Uses.{is_use_touched};
 
 use ksv_bytes::{Change, Use, touches};
-use smallvec::SmallVec;
 use std::alloc::{AllocError, Global};
 use std::marker::Model;
 
@@ -23,21 +23,59 @@ fn has_touched(change: Change, uses: &[Use]) -> bool
     uses.iter().any(|used| is_use_touched(change, *used))
 }
 
+/// The uses of a slot. Most slots have one or none, which takes no memory of its own.
+#[derive(Drop)]
+pub enum Noted {
+    /// No use.
+    Nothing,
+    /// One use.
+    One(Use),
+    /// More uses.
+    Many(Box<Vec<Use>>),
+}
+
+/// These uses, noted.
+fn note_uses(alloc: Global, uses: &[Use]) -> Result<Noted, AllocError>
+    ensures { IfOk result (λ noted. uses_of noted ≡ uses.now) }
+{
+    match uses {
+        [] => Ok(Noted::Nothing),
+        [used] => Ok(Noted::One(*used)),
+        _ => {
+            let uses = Vec::from_slice(alloc, uses)?;
+            Ok(Noted::Many(Box::new(alloc, uses)?))
+        }
+    }
+}
+
+/// Whether a change touches one of the uses of a slot.
+fn is_noted_touched(change: Change, noted: &Noted) -> bool
+    ensures { result ≡ list_any (is_use_touched change) (uses_of noted.now) }
+{
+    match noted {
+        Noted::Nothing => false,
+        Noted::One(used) => is_use_touched(change, *used),
+        Noted::Many(uses) => has_touched(change, uses.as_slice()),
+    }
+}
+
 /// The uses of each slot. Each call that reads or writes those of a slot is one look.
 #[derive(Drop)]
 pub(crate) struct Uses {
-    rows: Vec<SmallVec<Use, 1>>,
+    alloc: Global,
+    rows: Vec<Noted>,
     looks: u64,
 }
 
 impl Model for Uses {
     ghost use Rattle.std.specs.Prelude.{map};
     ghost use Rattle.ksv_bytes.specs.declared.uses.Use.{Use};
+    ghost use Rattle.ksv_memo_links.specs.Placed.{uses_of};
     ghost use Rattle.ksv_memo_links.specs.Shelved.{Shelved};
 
     ghost Value = { Shelved Use };
 
-    ghost view = { λ uses. record { rows = map (λ v. v.items) uses.rows.items; looks = uses.looks } };
+    ghost view = { λ uses. record { rows = map uses_of uses.rows.items; looks = uses.looks } };
 }
 
 impl Uses {
@@ -46,6 +84,7 @@ impl Uses {
         ensures { result ≡ record { rows = []; looks = 0 } }
     {
         Uses {
+            alloc,
             rows: Vec::new(alloc),
             looks: 0,
         }
@@ -74,7 +113,7 @@ impl Uses {
         ensures looks { self.new.looks ≡ ticked self.old.looks }
     {
         self.looks = self.looks.saturating_add(1);
-        has_touched(change, self.rows[slot as usize].as_slice())
+        is_noted_touched(change, &self.rows[slot as usize])
     }
 
     /// Gives a slot that has no uses these.
@@ -85,7 +124,8 @@ impl Uses {
         ensures err { OnErr result (self.new.rows ≡ self.old.rows) }
     {
         self.looks = self.looks.saturating_add(1);
-        self.rows[slot as usize].extend_from_slice(uses)
+        self.rows[slot as usize] = note_uses(self.alloc, uses)?;
+        Ok(())
     }
 
     /// Takes the uses of a slot.
@@ -95,7 +135,7 @@ impl Uses {
         ensures looks { self.new.looks ≡ ticked self.old.looks }
     {
         self.looks = self.looks.saturating_add(1);
-        self.rows[slot as usize].clear();
+        self.rows[slot as usize] = Noted::Nothing;
     }
 
     /// One more row, with no use.
@@ -103,7 +143,7 @@ impl Uses {
         ensures ok { OnOk result (self.new.rows ≡ self.old.rows ++ [] ∷ []) }
         ensures err { OnErr result (self.new.rows ≡ self.old.rows) }
     {
-        match self.rows.push(SmallVec::new(alloc)) {
+        match self.rows.push(Noted::Nothing) {
             Ok(()) => Ok(()),
             Err(_) => Err(AllocError),
         }
