@@ -522,7 +522,11 @@ fn refills(
 {
     make_edit(engine, rules, bytes, edited);
     let is_left = engine.kept() == kept;
-    Ok(answers(engine, rules, bytes, LAST.number, Ok(Ok(14)))? && is_left && engine.kept() == LAST.kept)
+    Ok(
+        answers(engine, rules, bytes, LAST.number, Ok(Ok(14)))?
+            && is_left
+            && engine.kept() == LAST.kept,
+    )
 }
 
 /// Whether rows are taken and asked again, 20 times: by an insert, a delete, and overwrites of both bytes. The last one
@@ -753,7 +757,10 @@ fn random_overwrite(
     let left = kept & !gone;
     let looked = engine.looked();
     let (kept, gone) = (counted(kept), counted(gone));
-    let near = gone.saturating_mul(5).saturating_add(kept).saturating_add(1);
+    let near = gone
+        .saturating_mul(5)
+        .saturating_add(kept)
+        .saturating_add(1);
     let is_near = gone <= looked && looked <= near.saturating_mul(8);
     if is_right && is_near && engine.kept() as u64 == counted(left) {
         Ok(Some(left))
