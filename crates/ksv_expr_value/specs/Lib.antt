@@ -7,3 +7,4 @@ pub mod Faults
 pub mod Bytes
 pub mod Encodings
 pub mod Setting
+pub mod Kept

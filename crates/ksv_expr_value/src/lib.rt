@@ -10,6 +10,7 @@ mod parts;
 mod path;
 mod place;
 mod step;
+mod steps;
 mod text;
 mod value;
 

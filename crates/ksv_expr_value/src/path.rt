@@ -10,13 +10,10 @@ ghost use Rattle.std.specs.Cmp.{on_per, on_equiv};
 ghost use Rattle.std.specs.Cmp.Lexicographic.{pointwise, lists_per, lists_equiv};
 
 use crate::step::Step;
-use smallvec::SmallVec;
+use crate::steps::Steps;
 use std::alloc::{AllocError, Global};
 use std::hash::{Hash, Hasher};
 use std::marker::Model;
-
-/// How many steps a path holds by itself; further ones are on the heap. Most paths of real descriptions are short.
-const INLINE_STEPS: usize = 3;
 
 /// The steps from the root to a value: at most 64, and each index below 1,048,576.
 ///
@@ -24,8 +21,8 @@ const INLINE_STEPS: usize = 3;
 /// if they have the same steps.
 #[derive(Drop)]
 pub struct Path {
-    steps: SmallVec<Step, INLINE_STEPS>,
-    ghost valid: { IsTrue (fits (reverse steps.items)) },
+    steps: Steps,
+    ghost valid: { IsTrue (fits (reverse steps)) },
 }
 
 impl Model for Path {
@@ -34,7 +31,7 @@ impl Model for Path {
 
     ghost Value = { Trail };
 
-    ghost view = { λ p. record { upward = reverse p.steps.items; valid = p.valid } };
+    ghost view = { λ p. record { upward = reverse p.steps; valid = p.valid } };
 }
 
 impl Path {
@@ -45,11 +42,11 @@ impl Path {
     pub const MAX_INDEX: u32 = 1048576;
 
     /// The path of no steps, which is the root's.
-    pub fn root(alloc: Global) -> Path
+    pub fn root(_alloc: Global) -> Path
         ensures { result ≡ root }
     {
         Path {
-            steps: SmallVec::new(alloc),
+            steps: Steps::none(),
         }
     }
 
@@ -59,11 +56,12 @@ impl Path {
         ensures { IfOk result (λ path. path.upward ≡ reverse steps.now) }
     {
         Ok(Path {
-            steps: SmallVec::from_slice(alloc, steps)?,
+            steps: Steps::from_slice(alloc, steps)?,
         })
     }
 
     /// How many steps the path has, at most 64.
+    #[inline(always)]
     pub fn len(&self) -> usize
         ensures len { result ≡ length self.now.upward }
         ensures small { result ≤ 64 }
@@ -72,6 +70,7 @@ impl Path {
     }
 
     /// The steps, from the first to the last.
+    #[inline(always)]
     pub fn steps(&self) -> &[Step]
         ensures { result.now ≡ reverse self.now.upward }
     {
@@ -79,6 +78,7 @@ impl Path {
     }
 
     /// The last step; the root has none.
+    #[inline(always)]
     pub fn last(&self) -> Option<Step>
         ensures last { result ≡ last self.now }
         ensures in_range { IfSome result InRange }
@@ -86,6 +86,7 @@ impl Path {
         self.last_step()
     }
 
+    #[inline(always)]
     fn last_step(&self) -> Option<Step>
         ensures { result ≡ last self.now }
     {
@@ -94,20 +95,22 @@ impl Path {
     }
 
     /// A copy of the path.
+    #[inline(always)]
     pub fn copy(&self, alloc: Global) -> Result<Path, AllocError>
         ensures { IfOk result (λ path. path ≡ self.now) }
     {
-        let steps = SmallVec::from_slice(alloc, self.steps.as_slice())?;
+        let steps = self.steps.copy(alloc)?;
         Ok(Path { steps })
     }
 
     /// The path without its last step; of the root, the root itself.
+    #[inline(always)]
     pub fn parent(&self, alloc: Global) -> Result<Path, AllocError>
         ensures { IfOk result (λ path. path ≡ parent self.now) }
     {
         let len = self.len();
         let shorter = if len == 0 { 0 } else { len - 1 };
-        let steps = SmallVec::from_slice(alloc, &self.steps()[..shorter])?;
+        let steps = self.steps.front(alloc, shorter)?;
         Ok(Path { steps })
     }
 
@@ -135,6 +138,7 @@ impl Path {
         }
     }
 
+    #[inline(always)]
     fn child(&self, alloc: Global, step: Step) -> Result<Option<Path>, AllocError>
         requires { IsTrue (step_fits step) }
         ensures { IfOk result (λ path. path ≡ child self.now step) }
@@ -143,13 +147,12 @@ impl Path {
         if len == Path::MAX_STEPS {
             return Ok(None);
         }
-        let mut steps = SmallVec::with_capacity(alloc, len + 1)?;
-        steps.extend_from_slice(self.steps.as_slice())?;
-        steps.push(step)?;
+        let steps = self.steps.with(alloc, step)?;
         Ok(Some(Path { steps }))
     }
 
     /// The path to the member of this name; None if it would have more than 64 steps.
+    #[inline(always)]
     pub fn child_name(&self, alloc: Global, name: u32) -> Result<Option<Path>, AllocError>
         ensures { IfOk result (λ path. path ≡ child self.now (Step.Name name)) }
     {
@@ -158,6 +161,7 @@ impl Path {
 
     /// The path to the element of this index; None if it would have more than 64 steps, or the index is 1,048,576
     /// or above.
+    #[inline(always)]
     pub fn child_index(&self, alloc: Global, index: u32) -> Result<Option<Path>, AllocError>
         ensures { IfOk result (λ path. path ≡ child self.now (Step.Index index)) }
     {

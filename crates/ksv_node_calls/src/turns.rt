@@ -302,6 +302,99 @@ fn ends_parts(alloc: Global) -> Result<bool, Fail> {
     Ok(gives_end_of_part(&here, &mut turn))
 }
 
+/// Whether a turn whose next reply is a value takes it for the value of a part, and then needs that of another.
+fn gives_value_of_part(path: &Path, turn: &mut Turn) -> bool {
+    let given = turn.value_of_part(path, Step::Index(7));
+    let is_value = matches!(given, Ok(Value::Bool(true)));
+    needs_value_of_part(path, turn) && is_value
+}
+
+/// Whether a turn needs the value of a part, since no reply is left.
+fn needs_value_of_part(path: &Path, turn: &mut Turn) -> bool {
+    match turn.value_of_part(path, Step::Name(4)) {
+        Err(Halt::Need(node)) => {
+            node.kind == NodeKind::Value && node.path.last() == Some(Step::Name(4))
+        }
+        _ => false,
+    }
+}
+
+/// Whether a turn over one reply, a value, asks well for the values of parts.
+fn values_parts(alloc: Global) -> Result<bool, Fail> {
+    let here = Path::root(alloc);
+    let bytes = Buffer::new(Vec::new(alloc))?;
+    let slots = each_form(alloc)?;
+    let Some(replies) = Replies::checked(&slots, &[1]) else {
+        return Ok(false);
+    };
+    let mut turn = Turn::new(alloc, &here, &bytes, &replies);
+    Ok(gives_value_of_part(&here, &mut turn))
+}
+
+#[test]
+fn values_of_parts_are_asked_by_their_place(rt: HostRuntime) -> Result<(), Fail> {
+    let is_right = values_parts(rt.alloc())?;
+    assert!(rt; is_right);
+    Ok(())
+}
+
+/// Whether a turn needs the head above a path, since no reply is left.
+fn needs_above(path: &Path, turn: &mut Turn) -> bool {
+    match turn.head_above(path) {
+        Err(Halt::Need(node)) => node.kind == NodeKind::Head && node.path.len() == 0,
+        _ => false,
+    }
+}
+
+/// Whether a turn needs the end of a part beside a path, since no reply is left.
+fn needs_beside(path: &Path, turn: &mut Turn) -> bool {
+    match turn.end_beside(path, Step::Index(2)) {
+        Err(Halt::Need(node)) => {
+            node.kind == NodeKind::End && node.path.last() == Some(Step::Index(2))
+        }
+        _ => false,
+    }
+}
+
+/// Whether a turn gives the head that was replied for the path above.
+fn gives_above(path: &Path, turn: &mut Turn) -> bool {
+    match turn.head_above(path) {
+        Ok(Head::Absent(Some(place))) => place.byte() == 3,
+        _ => false,
+    }
+}
+
+/// Whether a turn gives the end that was replied for a part beside a path.
+fn gives_beside(path: &Path, turn: &mut Turn) -> bool {
+    let Ok(ended) = turn.end_beside(path, Step::Name(4)) else {
+        return false;
+    };
+    is_ended(&ended)
+}
+
+/// Whether a turn over two replies, a head and an end, asks well for what is above and beside a path.
+fn asks_above(alloc: Global) -> Result<bool, Fail> {
+    let here = Path::root(alloc);
+    let bytes = Buffer::new(Vec::new(alloc))?;
+    let slots = each_form(alloc)?;
+    let Some(below) = here.child_name(alloc, 5)? else {
+        return Ok(false);
+    };
+    let Some(replies) = Replies::checked(&slots, &[0, 2]) else {
+        return Ok(false);
+    };
+    let mut turn = Turn::new(alloc, &here, &bytes, &replies);
+    let is_given = gives_above(&below, &mut turn) && gives_beside(&below, &mut turn);
+    Ok(is_given && needs_above(&below, &mut turn) && needs_beside(&below, &mut turn))
+}
+
+#[test]
+fn what_is_above_and_beside_is_asked_by_a_path_below(rt: HostRuntime) -> Result<(), Fail> {
+    let is_right = asks_above(rt.alloc())?;
+    assert!(rt; is_right);
+    Ok(())
+}
+
 #[test]
 fn ends_of_parts_are_asked_by_their_place(rt: HostRuntime) -> Result<(), Fail> {
     let is_right = ends_parts(rt.alloc())?;

@@ -90,7 +90,10 @@ in_path (Some p) = Answer p
 abbrev pub part : Trail → Step → Rule Trail
 part p step = in_path (child p step)
 
--- where a part ends
+-- the value of a part, and where it ends
+abbrev pub value_of_part : Trail → Step → Rule Value
+value_of_part p step = part p step >>= ask_value
+
 abbrev pub end_of_part : Trail → Step → Rule Ended
 end_of_part p step = part p step >>= ask_end
 

@@ -9,6 +9,7 @@ use Rattle.ksv_expr_value.specs.declared.fault.Fault.{Fault}
 use Rattle.ksv_expr_value.specs.declared.fault.FaultKind.{FaultKind}
 use Rattle.ksv_expr_value.specs.declared.fault.FaultKind.TheVariants as kinds
 use Rattle.ksv_memo_rules.specs.Slots.{lent}
+use Rattle.ksv_expr_value.specs.declared.value.Value.{Value}
 use Rattle.ksv_nodes.specs.declared.node.Node.{Node}
 use Rattle.ksv_nodes.specs.declared.given.Given.{Given}
 use Rattle.ksv_nodes.specs.declared.turn.Found.{Found}
@@ -16,8 +17,9 @@ use Rattle.ksv_nodes.specs.declared.turn.Found.TheVariants as founds
 use Rattle.ksv_nodes.specs.declared.turn.Halt.{Halt}
 use Rattle.ksv_nodes.specs.declared.turn.Halt.TheVariants as halts
 use Rattle.ksv_nodes.specs.Reading.{Look, look}
+use Rattle.ksv_nodes.specs.declared.given.Head.{Head}
 use Rattle.ksv_nodes.specs.declared.given.Ended.{Ended}
-use Rattle.ksv_nodes.specs.Rule.{Query, Of, See, Reply, Raised, Here, There, Rule, in_end}
+use Rattle.ksv_nodes.specs.Rule.{Query, Of, See, Reply, Raised, Here, There, Rule, in_head, in_value, in_end}
 
 -- the path of the node, the file, the replies that are left, and the uses so far
 pub record State : Type 0 where
@@ -73,7 +75,15 @@ abbrev pub come : Result Given Fault → State → Ran Node Fault State Given
 come (Ok g) s = Done g s
 come (Err f) s = Failed f s
 
--- a reply as an end
+-- a reply as a head, as a value, and as an end
+abbrev pub headed : Result Given Fault → Rule Head
+headed (Ok g) = in_head g
+headed (Err f) = Fail (There f.kind f.path)
+
+abbrev pub valued : Result Given Fault → Rule Value
+valued (Ok g) = in_value g
+valued (Err f) = Fail (There f.kind f.path)
+
 abbrev pub ended : Result Given Fault → Rule Ended
 ended (Ok g) = in_end g
 ended (Err f) = Fail (There f.kind f.path)

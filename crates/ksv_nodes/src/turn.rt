@@ -5,10 +5,10 @@ ghost use Rattle.ksv_bytes.specs.Edits.{file_limit};
 ghost use Rattle.ksv_expr_value.specs.Bytes.{content};
 ghost use Rattle.std.specs.Prelude.{◌+◌, slice_range, IfSome};
 ghost use Rattle.ksv_nodes.specs.Reading.{first_at, end_in};
-ghost use Rattle.ksv_expr_value.specs.Trail.{child};
-ghost use Rattle.ksv_nodes.specs.Rule.{raise, in_end, ask_head, ask_value, ask_end, ask_rest, part, end_of_part, reach, finish, done, peek, find};
+ghost use Rattle.ksv_expr_value.specs.Trail.{child, parent};
+ghost use Rattle.ksv_nodes.specs.Rule.{raise, in_end, ask_head, ask_value, ask_end, ask_rest, part, value_of_part, end_of_part, reach, finish, done, peek, find};
 ghost use Rattle.ksv_memo_rules.specs.Slots.{lent};
-ghost use Rattle.ksv_nodes.specs.Turning.{Runs, ended, TakesReply, RepliesWith, IsFault, StandsBelow};
+ghost use Rattle.ksv_nodes.specs.Turning.{Runs, headed, valued, ended, TakesReply, RepliesWith, IsFault, StandsBelow};
 
 use crate::given::{Ended, Given, Head, Rested};
 use crate::node::{Node, NodeKind};
@@ -66,6 +66,7 @@ impl<T: Drop> From<AllocFailed<T>> for Halt {
 }
 
 /// Whether the path to a member fits.
+#[inline(always)]
 fn has_member(path: &Path, _name: u32) -> bool
     ensures { result ≡ is_some (child path.now (Step.Name _name)) }
 {
@@ -73,6 +74,7 @@ fn has_member(path: &Path, _name: u32) -> bool
 }
 
 /// Whether the path to an element fits.
+#[inline(always)]
 fn has_element(path: &Path, index: u32) -> bool
     ensures { result ≡ is_some (child path.now (Step.Index index)) }
 {
@@ -80,12 +82,40 @@ fn has_element(path: &Path, index: u32) -> bool
 }
 
 /// Whether the path one step further fits.
+#[inline(always)]
 fn has_part(path: &Path, step: Step) -> bool
     ensures { result ≡ is_some (child path.now step) }
 {
     match step {
         Step::Name(name) => has_member(path, name),
         Step::Index(index) => has_element(path, index),
+    }
+}
+
+/// Whether the path to a member of what is above a path fits; the path above has a step less.
+#[inline(always)]
+fn has_member_beside(_path: &Path, _name: u32) -> bool
+    ensures { result ≡ is_some (child (parent _path.now) (Step.Name _name)) }
+{
+    true
+}
+
+/// Whether the path to an element of what is above a path fits.
+#[inline(always)]
+fn has_element_beside(_path: &Path, index: u32) -> bool
+    ensures { result ≡ is_some (child (parent _path.now) (Step.Index index)) }
+{
+    index < Path::MAX_INDEX
+}
+
+/// Whether the path to a part of what is above a path fits.
+#[inline(always)]
+fn has_part_beside(path: &Path, step: Step) -> bool
+    ensures { result ≡ is_some (child (parent path.now) step) }
+{
+    match step {
+        Step::Name(name) => has_member_beside(path, name),
+        Step::Index(index) => has_element_beside(path, index),
     }
 }
 
@@ -151,6 +181,7 @@ impl<'a> Turn<'a> {
     }
 
     /// The next reply, if one is left.
+    #[inline(always)]
     fn next_reply(&mut self) -> Option<Result<&'a Given, &'a Fault>>
         ensures { TakesReply self.old self.new result }
     {
@@ -162,6 +193,7 @@ impl<'a> Turn<'a> {
     }
 
     /// The next reply, which is for the node of this kind and path. The path is copied only where none is left.
+    #[inline(always)]
     fn reply(&mut self, kind: NodeKind, path: &Path) -> Result<Result<&'a Given, &'a Fault>, Halt>
         ensures { RepliesWith (record { kind = kind; path = path.now }) self.old self.new result }
     {
@@ -174,6 +206,26 @@ impl<'a> Turn<'a> {
         }
     }
 
+    /// The next reply, which is for the node of this kind at the path above. That path is made only where none is left.
+    #[inline(always)]
+    fn reply_above(
+        &mut self,
+        kind: NodeKind,
+        path: &Path,
+    ) -> Result<Result<&'a Given, &'a Fault>, Halt>
+        ensures { RepliesWith (record { kind = kind; path = parent path.now }) self.old self.new result }
+    {
+        match self.next_reply() {
+            None => Err(Halt::Need(Node {
+                kind,
+                path: path.parent(self.alloc)?,
+            })),
+            Some(reply) => Ok(reply),
+        }
+    }
+
+    #[cold]
+    #[inline(never)]
     fn fault<X>(&self, fault: &Fault) -> Result<X, Halt>
         ensures fault { IfErr result (λ e. IsFault fault.now e) }
         ensures err { IsErr result }
@@ -182,6 +234,8 @@ impl<'a> Turn<'a> {
     }
 
     /// A fault at the path of the node.
+    #[cold]
+    #[inline(never)]
     pub fn raise<X>(&self, kind: FaultKind) -> Result<X, Halt>
         ensures { Runs (raise kind) (λ x. x) self.now self.now result }
     {
@@ -192,10 +246,29 @@ impl<'a> Turn<'a> {
     }
 
     /// What is at a path, and where.
+    #[inline(always)]
     pub fn head(&mut self, path: &Path) -> Result<Head, Halt>
         ensures { Runs (ask_head path.now) (λ head. head) self.old self.new result }
     {
-        match self.reply(NodeKind::Head, path)? {
+        let reply = self.reply(NodeKind::Head, path)?;
+        self.headed(reply)
+    }
+
+    /// What is at the path above a path, and where. That path is made only where no reply is left.
+    #[inline(always)]
+    pub fn head_above(&mut self, path: &Path) -> Result<Head, Halt>
+        ensures { Runs (ask_head (parent path.now)) (λ head. head) self.old self.new result }
+    {
+        let reply = self.reply_above(NodeKind::Head, path)?;
+        self.headed(reply)
+    }
+
+    /// A reply as a head.
+    #[inline(always)]
+    fn headed(&self, reply: Result<&Given, &Fault>) -> Result<Head, Halt>
+        ensures { Runs (headed (lent reply.entry)) (λ head. head) self.now self.now result }
+    {
+        match reply {
             Ok(Given::Head(head)) => Ok(*head),
             Ok(_) => self.raise(FaultKind::BadType),
             Err(fault) => self.fault(fault),
@@ -203,10 +276,20 @@ impl<'a> Turn<'a> {
     }
 
     /// The value at a path.
+    #[inline(always)]
     pub fn value(&mut self, path: &Path) -> Result<&'a Value, Halt>
         ensures { Runs (ask_value path.now) (λ value. value.now) self.old self.new result }
     {
-        match self.reply(NodeKind::Value, path)? {
+        let reply = self.reply(NodeKind::Value, path)?;
+        self.valued(reply)
+    }
+
+    /// A reply as a value.
+    #[inline(always)]
+    fn valued(&self, reply: Result<&'a Given, &Fault>) -> Result<&'a Value, Halt>
+        ensures { Runs (valued (lent reply.entry)) (λ value. value.now) self.now self.now result }
+    {
+        match reply {
             Ok(Given::Value(value)) => Ok(value),
             Ok(_) => self.raise(FaultKind::BadType),
             Err(fault) => self.fault(fault),
@@ -214,6 +297,7 @@ impl<'a> Turn<'a> {
     }
 
     /// Where the thing at a path ends.
+    #[inline(always)]
     pub fn end(&mut self, path: &Path) -> Result<Ended, Halt>
         ensures { Runs (ask_end path.now) (λ ended. ended) self.old self.new result }
     {
@@ -222,6 +306,7 @@ impl<'a> Turn<'a> {
     }
 
     /// A reply as an end.
+    #[inline(always)]
     fn ended(&self, reply: Result<&Given, &Fault>) -> Result<Ended, Halt>
         ensures { Runs (ended (lent reply.entry)) (λ ended. ended) self.now self.now result }
     {
@@ -232,6 +317,7 @@ impl<'a> Turn<'a> {
     }
 
     /// An answer as an end.
+    #[inline(always)]
     fn in_end(&self, given: &Given) -> Result<Ended, Halt>
         ensures { Runs (in_end given.now) (λ ended. ended) self.now self.now result }
     {
@@ -259,6 +345,7 @@ impl<'a> Turn<'a> {
     }
 
     /// The path one step further. A path that doesn't fit is a fault of the node.
+    #[inline(always)]
     pub fn part(&self, path: &Path, step: Step) -> Result<Path, Halt>
         ensures { Runs (part path.now step) (λ part. part) self.now self.now result }
     {
@@ -272,7 +359,28 @@ impl<'a> Turn<'a> {
         }
     }
 
+    /// The value of a part of what is at a path. Its path is made only where no reply is left.
+    #[inline(always)]
+    pub fn value_of_part(&mut self, path: &Path, step: Step) -> Result<&'a Value, Halt>
+        ensures { Runs (value_of_part path.now step) (λ value. value.now) self.old self.new result }
+    {
+        if !has_part(path, step) {
+            return self.raise(FaultKind::PathTooLong);
+        }
+        match self.next_reply() {
+            None => {
+                let path = self.part(path, step)?;
+                Err(Halt::Need(Node {
+                    kind: NodeKind::Value,
+                    path,
+                }))
+            }
+            Some(reply) => self.valued(reply),
+        }
+    }
+
     /// Where a part of what is at a path ends. Its path is made only where no reply is left.
+    #[inline(always)]
     pub fn end_of_part(&mut self, path: &Path, step: Step) -> Result<Ended, Halt>
         ensures { Runs (end_of_part path.now step) (λ ended. ended) self.old self.new result }
     {
@@ -291,8 +399,30 @@ impl<'a> Turn<'a> {
         }
     }
 
+    /// Where a part of what is at the path above a path ends. The paths are made only where no reply is left.
+    #[inline(always)]
+    pub fn end_beside(&mut self, path: &Path, step: Step) -> Result<Ended, Halt>
+        ensures { Runs (end_of_part (parent path.now) step) (λ ended. ended) self.old self.new result }
+    {
+        if !has_part_beside(path, step) {
+            return self.raise(FaultKind::PathTooLong);
+        }
+        match self.next_reply() {
+            None => {
+                let above = path.parent(self.alloc)?;
+                let path = self.part(&above, step)?;
+                Err(Halt::Need(Node {
+                    kind: NodeKind::End,
+                    path,
+                }))
+            }
+            Some(given) => self.ended(given),
+        }
+    }
+
     /// The place a number of bytes after another. It requires that the stream and the file go on to it.
     #[tactic(auto, unfolding(crate::specs::Reading::reach_within, crate::specs::Reading::reach_file))]
+    #[inline(always)]
     pub fn reach(&mut self, stream: Stream, from: Place, size: u64) -> Result<Place, Halt>
         ensures runs { Runs (reach stream (from + size)) (λ _. tt) self.old self.new result }
         ensures place { IfOk result (λ place. place ≡ from + size) }
@@ -329,6 +459,7 @@ impl<'a> Turn<'a> {
 
     /// Whether a place is at the end of a stream or after it.
     #[tactic(auto, unfolding(crate::specs::Reading::done_at))]
+    #[inline(always)]
     pub fn done(&mut self, stream: Stream, place: Place) -> Result<bool, Halt>
         ensures { Runs (done stream place) (λ is_done. is_done) self.old self.new result }
     {

@@ -1,3 +1,4 @@
 -- The lemmas of this crate.
 pub mod Evaluating
 pub mod Parameters
+pub mod Naming

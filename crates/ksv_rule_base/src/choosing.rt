@@ -144,6 +144,7 @@ fn switched<'d>(
 
 /// What is read, and by which case; none where a switch has no case for its value.
 #[tactic(auto, unfolding(ksv_rule_meaning::specs::Choosing::choose))]
+#[inline(always)]
 pub fn choose<'d>(
     turn: &mut Turn,
     ctx: &Ctx,

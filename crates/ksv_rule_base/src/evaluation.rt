@@ -4,12 +4,15 @@ ghost use Rattle.std.specs.Prelude.{◌≡◌, IfOk, Ok};
 ghost use Rattle.ksv_expr_tree.specs.Tree.{view};
 ghost use Rattle.ksv_expr_meaning.specs.Heard.{heard};
 ghost use Rattle.ksv_nodes.specs.Turning.{Runs};
-ghost use Rattle.ksv_rule_base.specs.Code.{ask_opened, ask_valued};
+ghost use Rattle.ksv_rule_base.specs.Code.{ask_opened, ask_valued, value_of_name};
 ghost use Rattle.ksv_rule_base.specs.Told.{told};
 ghost use Rattle.ksv_rule_meaning.specs.Wanted.{wanted, expression};
 
 use crate::wanted::in_object;
-use ksv_expr_eval::{Ctx, EvalStep, Expr, Got, Path, Place, Stream, Value, Want, eval};
+use ksv_expr_eval::{
+    Ctx, EvalStep, Expr, FaultKind, Got, Path, Place, Step, Stream, Value, Want, eval,
+};
+use ksv_expr_tree::Name;
 use ksv_nodes::{Halt, Turn};
 
 /// The value of what is at a path.
@@ -66,7 +69,8 @@ fn answer<'a>(turn: &mut Turn<'a>, ctx: &Ctx, want: Want) -> Result<Got<'a>, Hal
 
 /// The value of an expression: it is evaluated anew with one answer more, until it wants none. Its own faults are at the
 /// path of the node.
-pub fn value_of_expression(turn: &mut Turn, ctx: &Ctx, expr: &Expr) -> Result<Value, Halt>
+#[inline(never)]
+fn evaluated(turn: &mut Turn, ctx: &Ctx, expr: &Expr) -> Result<Value, Halt>
     ensures { Runs (expression ctx.now (view expr.now)) (λ v. v) turn.old turn.new result }
 {
     let mut replies: Vec<Got> = Vec::new(turn.alloc());
@@ -81,5 +85,32 @@ pub fn value_of_expression(turn: &mut Turn, ctx: &Ctx, expr: &Expr) -> Result<Va
                 replies.push(got)?;
             }
         }
+    }
+}
+
+/// The value of a name alone, which is that of a member of the context's object. It is asked of the turn as it is, and nothing is
+/// evaluated anew.
+#[tactic(auto, using(ksv_plan::proofs::Running::run_bind))]
+#[inline(always)]
+fn value_of_name(turn: &mut Turn, home: &Path, name: &Name) -> Result<Value, Halt>
+    ensures { Runs (value_of_name home.now name.now.number) (λ v. v) turn.old turn.new result }
+{
+    match name.number {
+        None => turn.raise(FaultKind::BadType),
+        Some(number) => {
+            let value = turn.value_of_part(home, Step::Name(number))?;
+            Ok(value.copy(turn.alloc())?)
+        }
+    }
+}
+
+/// The value of an expression. Its own faults are at the path of the node.
+#[inline(always)]
+pub fn value_of_expression(turn: &mut Turn, ctx: &Ctx, expr: &Expr) -> Result<Value, Halt>
+    ensures { Runs (expression ctx.now (view expr.now)) (λ v. v) turn.old turn.new result }
+{
+    match expr {
+        Expr::Name(name) => value_of_name(turn, ctx.home, name),
+        _ => evaluated(turn, ctx, expr),
     }
 }

@@ -26,6 +26,7 @@ pub struct Sought<'d> {
 
 /// The members of a type, in written order; a number that no type has is that of none.
 #[tactic(auto, unfolding(ksv_rule_meaning::specs::Fields::members_of))]
+#[inline(always)]
 pub fn members_of(desc: &Desc, type_number: u32) -> &[MemberDesc]
     ensures { map plain_member result.now ≡ members_of (plain_pieces desc.now) type_number }
 {
@@ -106,6 +107,7 @@ pub fn last_attribute(members: &[MemberDesc]) -> Option<u32>
 }
 
 /// How a member reads, where it is one that reads.
+#[inline(always)]
 fn read_by<'d>(turn: &mut Turn, kind: &'d MemberKind) -> Result<&'d Field, Halt>
     ensures { Runs (read_by (plain_kind kind.now)) (λ field. plain_field field.now) turn.old turn.new result }
 {
@@ -118,6 +120,7 @@ fn read_by<'d>(turn: &mut Turn, kind: &'d MemberKind) -> Result<&'d Field, Halt>
 
 /// What the member at a place of a type's members is.
 #[tactic(auto, unfolding(ksv_rule_meaning::specs::Fields::kind_of))]
+#[inline(always)]
 pub fn kind_of<'d>(
     turn: &mut Turn,
     desc: &'d Desc,
@@ -133,6 +136,7 @@ pub fn kind_of<'d>(
 
 /// How the attribute or parse instance at a place of a type's members reads.
 #[tactic(auto, using(ksv_plan::proofs::Running::run_bind), unfolding(ksv_rule_meaning::specs::Fields::field_of))]
+#[inline(always)]
 pub fn field_of<'d>(turn: &mut Turn, desc: &'d Desc, member: MemberRef) -> Result<&'d Field, Halt>
     ensures { Runs (field_of (plain_pieces desc.now) member) (λ field. plain_field field.now) turn.old turn.new result }
 {

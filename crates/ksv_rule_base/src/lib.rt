@@ -16,5 +16,5 @@ pub use evaluation::value_of_expression;
 pub use fields::{
     Sought, field_of, kind_of, last_attribute, member_named, members_of, parameters_before,
 };
-pub use parts::{in_list, part_end};
-pub use wanted::{holds, in_object, missing, size_of, stream_for, truth_of};
+pub use parts::{end_beside, in_list_above, part_end};
+pub use wanted::{holds, in_object_above, missing, size_of, stream_for, truth_of};

@@ -3,6 +3,7 @@
 
 ghost use Rattle.std.specs.Prelude.{option_map};
 ghost use Rattle.ksv_expr_tree.specs.Tree.{view};
+ghost use Rattle.ksv_expr_value.specs.Trail.{parent};
 ghost use Rattle.ksv_plan.specs.Plan.{Fail};
 ghost use Rattle.ksv_nodes.specs.Rule.{There};
 ghost use Rattle.ksv_nodes.specs.Turning.{Runs};
@@ -22,6 +23,8 @@ fn fault_at<X>(turn: &Turn, path: &Path, kind: FaultKind) -> Result<X, Halt>
 
 /// The fault of a head at a path that isn't what is looked for there: where nothing is it is absent, at that path;
 /// else there is no such thing, which is a fault of the asker.
+#[cold]
+#[inline(never)]
 pub fn missing<X>(turn: &Turn, path: &Path, head: Head, asker: &Path) -> Result<X, Halt>
     ensures { Runs (missing path.now head asker.now) (λ x. x) turn.now turn.now result }
 {
@@ -31,13 +34,34 @@ pub fn missing<X>(turn: &Turn, path: &Path, head: Head, asker: &Path) -> Result<
     }
 }
 
+/// The fault of a head at the path above a path that isn't what is looked for there, for the node of the turn.
+#[cold]
+#[inline(never)]
+pub(crate) fn missing_above<X>(turn: &Turn, path: &Path, head: Head) -> Result<X, Halt>
+    ensures { Runs (missing (parent path.now) head turn.now.here) (λ x. x) turn.now turn.now result }
+{
+    let above = path.parent(turn.alloc())?;
+    missing(turn, &above, head, turn.here())
+}
+
 /// The object that is at a path. Inside an absent attribute all is absent; what is no object has no members.
-pub fn in_object(turn: &Turn, path: &Path, head: Head) -> Result<Object, Halt>
+pub(crate) fn in_object(turn: &Turn, path: &Path, head: Head) -> Result<Object, Halt>
     ensures { Runs (in_object path.now head) (λ object. object) turn.now turn.now result }
 {
     match head {
         Head::Object(object) => Ok(object),
         _ => missing(turn, path, head, turn.here()),
+    }
+}
+
+/// The object that is at the path above a path.
+#[inline(always)]
+pub fn in_object_above(turn: &Turn, path: &Path, head: Head) -> Result<Object, Halt>
+    ensures { Runs (in_object (parent path.now) head) (λ object. object) turn.now turn.now result }
+{
+    match head {
+        Head::Object(object) => Ok(object),
+        _ => missing_above(turn, path, head),
     }
 }
 

@@ -3,18 +3,20 @@
 
 ghost use Rattle.std.specs.Prelude.{◌≡◌, option_map};
 ghost use Rattle.ksv_expr_tree.specs.Tree.{view};
+ghost use Rattle.ksv_expr_value.specs.Trail.{parent};
 ghost use Rattle.ksv_desc.specs.Pieces.{plain_repeat, plain_field, plain_kind};
 ghost use Rattle.ksv_desc.specs.Whole.{plain_pieces};
 ghost use Rattle.ksv_nodes.specs.Turning.{Runs};
 ghost use Rattle.ksv_rule_base.specs.Members.{plain_sought};
-ghost use Rattle.ksv_rule_meaning.specs.Heads.{in_count, count_of, counted, until_eos, repeated, attribute_at, attribute_start, origin_of, attribute_head, positioned_in, positioned, instance_head, calc, value_head, member_at, member_head, is_past, in_next, next_start, element_start, element_head, root_head, head_of};
+ghost use Rattle.ksv_rule_meaning.specs.Heads.{in_count, count_of, counted, until_eos, repeated, attribute_at, attribute_start, setting, origin_of, attribute_head, instance_setting, positioned_in, positioned, instance_head, calc, value_head, member_at, member_head, is_past, in_next, next_start, element_start, within, shape_at, element_head, root_head, head_of};
 
 use crate::shapes::shape_at;
 use ksv_desc::{Desc, Field, MemberKind, Repeat};
 use ksv_expr_eval::{Ctx, Expr, FaultKind, Path, Place, Step, Stream};
 use ksv_nodes::{Calc, Ended, Halt, Head, List, MemberRef, Object, ObjectEnd, Origin, Turn};
 use ksv_rule_base::{
-    Sought, field_of, holds, in_list, in_object, member_named, part_end, size_of, stream_for,
+    Sought, end_beside, field_of, holds, in_list_above, in_object_above, member_named, size_of,
+    stream_for,
 };
 
 // ---- attributes
@@ -76,6 +78,7 @@ fn until_eos(turn: &mut Turn, ctx: &Ctx, origin: Origin, stream: Stream) -> Resu
 
 /// What an attribute reads, once or several times.
 #[tactic(auto, unfolding(ksv_rule_meaning::specs::Heads::repeated))]
+#[inline(always)]
 fn repeated(
     turn: &mut Turn,
     ctx: &Ctx,
@@ -117,7 +120,7 @@ fn attribute_at(
     }
 }
 
-/// An attribute begins where its object does, or where the attribute before it ends.
+/// The attribute at a path begins where its object does, or where the attribute before it ends.
 #[tactic(auto, using(ksv_plan::proofs::Running::run_bind), unfolding(ksv_rule_meaning::specs::Heads::attribute_start))]
 fn attribute_start(
     turn: &mut Turn,
@@ -125,12 +128,12 @@ fn attribute_start(
     object: &Object,
     before: Option<u32>,
 ) -> Result<Place, Halt>
-    ensures { Runs (attribute_start path.now object.now before) (λ place. place) turn.old turn.new result }
+    ensures { Runs (attribute_start (parent path.now) object.now before) (λ place. place) turn.old turn.new result }
 {
     match before {
         None => Ok(object.start),
         Some(name) => {
-            let ended = part_end(turn, path, Step::Name(name))?;
+            let ended = end_beside(turn, path, Step::Name(name))?;
             Ok(ended.place)
         }
     }
@@ -150,22 +153,36 @@ fn origin_of(object: &Object, sought: Sought) -> Origin
     }
 }
 
+/// An attribute of `seq` that begins at a place.
+fn attribute_behind(
+    turn: &mut Turn,
+    path: &Path,
+    object: &Object,
+    sought: Sought,
+    start: Place,
+    field: &Field,
+) -> Result<Head, Halt>
+    ensures { Runs (attribute_at (setting (parent path.now) object.now.stream start path.now) (origin_of object.now (plain_sought sought.entry)) object.now.stream start (plain_field field.now)) (λ head. head) turn.old turn.new result }
+{
+    let home = path.parent(turn.alloc())?;
+    let ctx = Ctx::new(&home, object.stream, start, path);
+    let origin = origin_of(object, sought);
+    attribute_at(turn, &ctx, origin, object.stream, field)
+}
+
 /// An attribute of `seq`.
 #[tactic(auto, using(ksv_plan::proofs::Running::run_bind), unfolding(ksv_rule_meaning::specs::Heads::attribute_head))]
-fn attribute_head<'p>(
+fn attribute_head(
     turn: &mut Turn,
-    path: &'p Path,
-    home: &'p Path,
+    path: &Path,
     object: &Object,
     sought: Sought,
     field: &Field,
 ) -> Result<Head, Halt>
-    ensures { Runs (attribute_head path.now home.now object.now (plain_sought sought.entry) (plain_field field.now)) (λ head. head) turn.old turn.new result }
+    ensures { Runs (attribute_head path.now (parent path.now) object.now (plain_sought sought.entry) (plain_field field.now)) (λ head. head) turn.old turn.new result }
 {
-    let start = attribute_start(turn, home, object, sought.before)?;
-    let ctx = Ctx::new(home, object.stream, start, path);
-    let origin = origin_of(object, sought);
-    attribute_at(turn, &ctx, origin, object.stream, field)
+    let start = attribute_start(turn, path, object, sought.before)?;
+    attribute_behind(turn, path, object, sought, start, field)
 }
 
 // ---- instances
@@ -260,47 +277,74 @@ fn value_head(
 
 // ---- members
 
-/// A member of an object.
-#[tactic(auto, unfolding(ksv_rule_meaning::specs::Heads::member_at))]
-fn member_at(
+/// The parse instance at a path.
+fn instance_at(
     turn: &mut Turn,
     path: &Path,
-    home: &Path,
+    object: &Object,
+    origin: Origin,
+    position: &Expr,
+    io: &Option<Expr>,
+    field: &Field,
+) -> Result<Head, Halt>
+    ensures { Runs (instance_head (instance_setting path.now (parent path.now) object.now) origin (view position.now) (option_map view io.now) (plain_field field.now)) (λ head. head) turn.old turn.new result }
+{
+    let home = path.parent(turn.alloc())?;
+    let ctx = Ctx::new(&home, object.stream, object.start, path);
+    instance_head(turn, &ctx, origin, position, io, field)
+}
+
+/// The value instance at a path.
+fn value_at(
+    turn: &mut Turn,
+    path: &Path,
     object: &Object,
     sought: Sought,
+    condition: &Option<Expr>,
 ) -> Result<Head, Halt>
-    ensures { Runs (member_at path.now home.now object.now (plain_sought sought.entry) (plain_kind sought.entry.kind.now)) (λ head. head) turn.old turn.new result }
+    ensures { Runs (value_head (instance_setting path.now (parent path.now) object.now) object.now (plain_sought sought.entry) (option_map view condition.now)) (λ head. head) turn.old turn.new result }
 {
-    let ctx = Ctx::new(home, object.stream, object.start, path);
+    let home = path.parent(turn.alloc())?;
+    let ctx = Ctx::new(&home, object.stream, object.start, path);
+    value_head(turn, &ctx, *object, sought, condition)
+}
+
+/// The member at a path, of the object above it.
+#[tactic(auto, unfolding(ksv_rule_meaning::specs::Heads::member_at))]
+fn member_at(turn: &mut Turn, path: &Path, object: &Object, sought: Sought) -> Result<Head, Halt>
+    ensures { Runs (member_at path.now (parent path.now) object.now (plain_sought sought.entry) (plain_kind sought.entry.kind.now)) (λ head. head) turn.old turn.new result }
+{
     match sought.kind {
         MemberKind::Parameter => Ok(calc(*object, sought)),
-        MemberKind::Attribute(field) => attribute_head(turn, path, home, object, sought, field),
+        MemberKind::Attribute(field) => attribute_head(turn, path, object, sought, field),
         MemberKind::ParseInstance {
             place,
             stream,
             field,
-        } => instance_head(turn, &ctx, origin_of(object, sought), place, stream, field),
+        } => instance_at(
+            turn,
+            path,
+            object,
+            origin_of(object, sought),
+            place,
+            stream,
+            field,
+        ),
         MemberKind::ValueInstance { condition, .. } => {
-            value_head(turn, &ctx, *object, sought, condition)
+            value_at(turn, path, object, sought, condition)
         }
     }
 }
 
-/// The member of a name, at a path, of what is at `home`.
+/// The member of a name, at a path, of what is above it.
 #[tactic(auto, using(ksv_plan::proofs::Running::run_bind), unfolding(ksv_rule_meaning::specs::Heads::member_head))]
-fn member_head(
-    turn: &mut Turn,
-    desc: &Desc,
-    path: &Path,
-    home: &Path,
-    name: u32,
-) -> Result<Head, Halt>
-    ensures { Runs (member_head (plain_pieces desc.now) path.now home.now name) (λ head. head) turn.old turn.new result }
+fn member_head(turn: &mut Turn, desc: &Desc, path: &Path, name: u32) -> Result<Head, Halt>
+    ensures { Runs (member_head (plain_pieces desc.now) path.now (parent path.now) name) (λ head. head) turn.old turn.new result }
 {
-    let head = turn.head(home)?;
-    let object = in_object(turn, home, head)?;
+    let head = turn.head_above(path)?;
+    let object = in_object_above(turn, path, head)?;
     let sought = member_named(turn, desc, object.type_number, name)?;
-    member_at(turn, path, home, &object, sought)
+    member_at(turn, path, &object, sought)
 }
 
 // ---- elements
@@ -325,19 +369,19 @@ fn in_next(turn: &mut Turn, ended: Ended) -> Result<Place, Halt>
     Ok(ended.place)
 }
 
-/// Where the element after the one of this index begins.
+/// Where the element after the one of this index begins, in the list above a path.
 #[tactic(auto, using(ksv_plan::proofs::Running::run_bind), unfolding(ksv_rule_meaning::specs::Heads::next_start))]
-fn next_start(turn: &mut Turn, list_path: &Path, index: u32) -> Result<Place, Halt>
-    ensures { Runs (next_start list_path.now index) (λ place. place) turn.old turn.new result }
+fn next_start(turn: &mut Turn, path: &Path, index: u32) -> Result<Place, Halt>
+    ensures { Runs (next_start (parent path.now) index) (λ place. place) turn.old turn.new result }
 {
-    let ended = part_end(turn, list_path, Step::Index(index))?;
+    let ended = end_beside(turn, path, Step::Index(index))?;
     in_next(turn, ended)
 }
 
-/// An element begins where its list does, or where the element before it ends.
+/// The element at a path begins where its list does, or where the element before it ends.
 #[tactic(auto, unfolding(ksv_rule_meaning::specs::Heads::element_start))]
-fn element_start(turn: &mut Turn, list_path: &Path, list: &List, index: u32) -> Result<Place, Halt>
-    ensures { Runs (element_start list_path.now list.now index) (λ place. place) turn.old turn.new result }
+fn element_start(turn: &mut Turn, path: &Path, list: &List, index: u32) -> Result<Place, Halt>
+    ensures { Runs (element_start (parent path.now) list.now index) (λ place. place) turn.old turn.new result }
 {
     if list.is_empty || is_past(list.count, index) {
         return turn.raise(FaultKind::BadIndex);
@@ -345,27 +389,37 @@ fn element_start(turn: &mut Turn, list_path: &Path, list: &List, index: u32) -> 
     if index == 0 {
         return Ok(list.start);
     }
-    next_start(turn, list_path, index - 1)
+    next_start(turn, path, index - 1)
 }
 
-/// The element of this index, at a path, of the list at `list_path`, which is an attribute of the object at `home`.
-#[tactic(auto, using(ksv_plan::proofs::Running::run_bind), unfolding(ksv_rule_meaning::specs::Heads::element_head))]
-fn element_head<'p>(
+/// What the element of this index, at a path, reads at a place.
+#[inline(always)]
+fn element_at(
     turn: &mut Turn,
-    desc: &Desc,
-    path: &'p Path,
-    list_path: &Path,
-    home: &'p Path,
+    path: &Path,
+    list: &List,
+    start: Place,
     index: u32,
+    field: &Field,
 ) -> Result<Head, Halt>
-    ensures { Runs (element_head (plain_pieces desc.now) path.now list_path.now home.now index) (λ head. head) turn.old turn.new result }
+    ensures { Runs (shape_at (within (setting (parent (parent path.now)) list.now.origin.home start path.now) index) list.now.origin list.now.stream start (plain_field field.now)) (λ head. head) turn.old turn.new result }
 {
-    let head = turn.head(list_path)?;
-    let list = in_list(turn, list_path, head)?;
-    let start = element_start(turn, list_path, &list, index)?;
-    let field = field_of(turn, desc, list.origin.member)?;
-    let ctx = Ctx::new(home, list.origin.home, start, path).within(index);
+    let list_path = path.parent(turn.alloc())?;
+    let home = list_path.parent(turn.alloc())?;
+    let ctx = Ctx::new(&home, list.origin.home, start, path).within(index);
     shape_at(turn, &ctx, list.origin, list.stream, field)
+}
+
+/// The element of this index, at a path, of the list above it, which is an attribute of the object above that.
+#[tactic(auto, using(ksv_plan::proofs::Running::run_bind), unfolding(ksv_rule_meaning::specs::Heads::element_head))]
+fn element_head(turn: &mut Turn, desc: &Desc, path: &Path, index: u32) -> Result<Head, Halt>
+    ensures { Runs (element_head (plain_pieces desc.now) path.now (parent path.now) (parent (parent path.now)) index) (λ head. head) turn.old turn.new result }
+{
+    let head = turn.head_above(path)?;
+    let list = in_list_above(turn, path, head)?;
+    let start = element_start(turn, path, &list, index)?;
+    let field = field_of(turn, desc, list.origin.member)?;
+    element_at(turn, path, &list, start, index, field)
 }
 
 // ---- heads
@@ -390,14 +444,7 @@ pub fn head_of(turn: &mut Turn, desc: &Desc, path: &Path) -> Result<Head, Halt>
 {
     match path.last() {
         None => Ok(root_head()),
-        Some(Step::Name(name)) => {
-            let home = path.parent(turn.alloc())?;
-            member_head(turn, desc, path, &home, name)
-        }
-        Some(Step::Index(index)) => {
-            let list_path = path.parent(turn.alloc())?;
-            let home = list_path.parent(turn.alloc())?;
-            element_head(turn, desc, path, &list_path, &home, index)
-        }
+        Some(Step::Name(name)) => member_head(turn, desc, path, name),
+        Some(Step::Index(index)) => element_head(turn, desc, path, index),
     }
 }

@@ -9,6 +9,6 @@ mod shapes;
 
 pub use heads::head_of;
 pub use ksv_rule_base::{
-    content_of, field_of, in_list, kind_of, last_attribute, members_of, missing, parameters_before,
-    part_end, truth_of, value_of_expression,
+    content_of, field_of, in_list_above, kind_of, last_attribute, members_of, missing,
+    parameters_before, part_end, truth_of, value_of_expression,
 };

@@ -17,6 +17,7 @@ use ksv_rule_base::{Chosen, choose, size_of};
 
 /// As many bytes as a size says, from a place on.
 #[tactic(auto, using(ksv_plan::proofs::Running::run_bind), unfolding(ksv_rule_meaning::specs::Heads::leaf))]
+#[inline(always)]
 fn leaf(
     turn: &mut Turn,
     origin: Origin,
@@ -131,6 +132,7 @@ fn run_of(
 
 /// Bytes or a text of a size that is evaluated.
 #[tactic(auto, using(ksv_plan::proofs::Running::run_bind), unfolding(ksv_rule_meaning::specs::Heads::sized_leaf))]
+#[inline(always)]
 fn sized_leaf(
     turn: &mut Turn,
     ctx: &Ctx,
@@ -146,6 +148,7 @@ fn sized_leaf(
 
 /// Bytes or a text.
 #[tactic(auto, unfolding(ksv_rule_meaning::specs::Heads::bytes_at))]
+#[inline(always)]
 fn bytes_at(
     turn: &mut Turn,
     ctx: &Ctx,
@@ -271,6 +274,7 @@ fn unchosen_at(
 }
 
 /// What is read by the case that was chosen.
+#[inline(always)]
 fn chosen_at(
     turn: &mut Turn,
     ctx: &Ctx,
@@ -296,6 +300,7 @@ fn chosen_at(
 
 /// What an attribute or a parse instance, or one of its elements, reads at a place of a stream: first its case is chosen.
 #[tactic(auto, using(ksv_plan::proofs::Running::run_bind), unfolding(ksv_rule_meaning::specs::Heads::shape_at))]
+#[inline(always)]
 pub(crate) fn shape_at(
     turn: &mut Turn,
     ctx: &Ctx,

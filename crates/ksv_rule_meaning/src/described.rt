@@ -1,6 +1,6 @@
 //! The rules of a description, for an engine.
 
-ghost use Rattle.std.specs.Prelude.{◌≡◌};
+ghost use Rattle.std.specs.Prelude.{◌≡◌, ◌++◌, OnOk, OnErr};
 ghost use Rattle.ksv_desc.specs.Whole.{plain_pieces};
 ghost use Rattle.ksv_memo_rules.specs.Meaning.{IsAddedTo};
 ghost use Rattle.ksv_nodes.specs.Exact.{node_exact};
@@ -53,6 +53,18 @@ impl<N> Described<N> {
     }
 }
 
+/// Adds what a turn used. Most turns use nothing.
+fn add_uses(uses: &mut Vec<Use>, used: &[Use]) -> Result<(), AllocError>
+    ensures ok { OnOk result (uses.new.items ≡ uses.old.items ++ used.now) }
+    ensures err { OnErr result (uses.new.items ≡ uses.old.items) }
+{
+    if used.is_empty() {
+        return Ok(());
+    }
+    uses.extend_from_slice(used)?;
+    Ok(())
+}
+
 impl<N: NodeRules> Rules for Described<N> {
     ghost use Rattle.ksv_desc.specs.Whole.{plain_pieces};
     ghost use Rattle.ksv_nodes.specs.Exact.{node_exact};
@@ -82,7 +94,7 @@ impl<N: NodeRules> Rules for Described<N> {
             Err(Halt::Fault(fault)) => Next::Done(Err(fault)),
             Err(Halt::Memory) => return Err(AllocError),
         };
-        uses.extend_from_slice(turn.uses())?;
+        add_uses(uses, turn.uses())?;
         Ok(next)
     }
 

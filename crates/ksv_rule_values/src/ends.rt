@@ -13,7 +13,9 @@ ghost use Rattle.ksv_rule_meaning.specs.Ends.{fields_end, object_end, part_rest,
 use ksv_desc::{Desc, Repeat};
 use ksv_expr_eval::{Ctx, Expr, FaultKind, Path, Place, Step};
 use ksv_nodes::{Ended, Halt, Head, List, Object, ObjectEnd, Rested, Turn};
-use ksv_rule_base::{field_of, in_list, last_attribute, members_of, missing, part_end, truth_of};
+use ksv_rule_base::{
+    field_of, in_list_above, last_attribute, members_of, missing, part_end, truth_of,
+};
 
 /// The end of an object that ends with its last attribute; without one it ends where it begins.
 #[tactic(auto, using(ksv_plan::proofs::Running::run_bind), unfolding(ksv_rule_meaning::specs::Ends::fields_end))]
@@ -188,9 +190,8 @@ fn element_end(
 ) -> Result<Ended, Halt>
     ensures { Runs (element_end (plain_pieces desc.now) path.now (parent path.now) (parent (parent path.now)) index head place) (λ ended. ended) turn.old turn.new result }
 {
-    let list_path = path.parent(turn.alloc())?;
-    let list_head = turn.head(&list_path)?;
-    let list = in_list(turn, &list_path, list_head)?;
+    let list_head = turn.head_above(path)?;
+    let list = in_list_above(turn, path, list_head)?;
     let field = field_of(turn, desc, list.origin.member)?;
     not_empty(turn, &field.repeat, start_of(head), place)?;
     let last = is_last(turn, list, path, index, place, &field.repeat)?;

@@ -12,6 +12,7 @@ use ksv_rule_meaning::NodeRules;
 use ksv_rule_values::{end_of, rest_of, value_of};
 
 /// A node's rule.
+#[inline(always)]
 fn rule(turn: &mut Turn, desc: &Desc, node: &Node) -> Result<Given, Halt>
     ensures { Runs (rule_of (plain_pieces desc.now) node.now) (λ given. given) turn.old turn.new result }
 {
@@ -41,6 +42,7 @@ fn rule(turn: &mut Turn, desc: &Desc, node: &Node) -> Result<Given, Halt>
 pub struct DescriptionRules;
 
 impl NodeRules for DescriptionRules {
+    #[inline(always)]
     fn rule(turn: &mut Turn, desc: &Desc, node: &Node) -> Result<Given, Halt> {
         rule(turn, desc, node)
     }

@@ -1,34 +1,17 @@
-use Rattle.std.proofs.Common.{◌≡◌, Ok, Err, [], ◌∷◌, map}
-use Rattle.std.proofs.lemmas.List.{map-append}
-use Rattle.std.proofs.lemmas.Result.{err_from_is_err_and}
+use Rattle.std.proofs.Common.{◌≡◌, sym, subst, ap, ◌∙◌}
+use Rattle.ksv_expr_value.specs.Setting.{Setting}
+use Rattle.ksv_expr_value.specs.declared.value.Value.{Value}
 use Rattle.ksv_expr_tree.specs.Tree.{view}
-use Rattle.ksv_expr_meaning.specs.Heard.{heard}
-use Rattle.ksv_expr_meaning.specs.declared.want.EvalStep.TheVariants as outcomes
-use Rattle.ksv_rule_base.specs.Told.{told}
-use Rattle.ksv_rule_base.proofs.Evaluating.{outcome, left_begins, left_done, left_raised, left_halts, left_goes}
+use Rattle.ksv_nodes.specs.Rule.{Rule}
+use Rattle.ksv_nodes.specs.Turning.{Runs}
+use Rattle.ksv_rule_meaning.specs.Wanted.{expression}
+use Rattle.ksv_rule_base.specs.Code.{value_of_name}
+use Rattle.ksv_rule_base.proofs.Naming.{name_alone}
 use Rattle.ksv_rule_base.proofs.evaluation.value_of_expression.Goals as goal
 
-pub loop-replies-init : goal.loop-replies-init
-loop-replies-init c = rw c.new-replies.ensures.items (left_begins c.args.ctx.now (view c.args.expr.now) c.args.turn.now)
-
-pub returns-in-Ok : goal.returns-in-Ok
-returns-in-Ok c =
-    let e : outcome c.args.ctx.now (view c.args.expr.now) (map heard c.loop-replies.replies.items) c.args.turn.now c.loop-replies.turn ≡ outcomes.Done (Ok c.in-Ok.value) = cc (c.in_ok-done.ensures.outcome) in
-    left_done _ _ _ _ _ c.loop-replies.invariant c.in-Ok.value e
-
-pub returns-in-Err : goal.returns-in-Err
-returns-in-Err c =
-    let e : outcome c.args.ctx.now (view c.args.expr.now) (map heard c.loop-replies.replies.items) c.args.turn.now c.loop-replies.turn ≡ outcomes.Done (Err c.in-Err.fault) = cc (c.in_ok-done.ensures.outcome) in
-    left_raised _ _ _ _ _ c.loop-replies.invariant c.in-Err.fault e (λ v. v) c.loop-replies.turn c.raise.result c.raise.ensures
-
-pub returns-in_err-got-in-Need : goal.returns-in_err-got-in-Need
-returns-in_err-got-in-Need c =
-    let e : outcome c.args.ctx.now (view c.args.expr.now) (map heard c.loop-replies.replies.items) c.args.turn.now c.loop-replies.turn ≡ outcomes.Need c.in-Need.want = cc (c.in_ok-done.ensures.outcome) in
-    let p = err_from_is_err_and c.from_residual-in_err-got-in-Need.result c.from_residual-in_err-got-in-Need.ensures.1 in
-    rw (p.1, p.2) (left_halts _ _ _ _ _ c.loop-replies.invariant c.in-Need.want e told c.answer.new.turn _ c.in_err-got-in-Need.ensures.runs (λ v. v))
-
-pub loop-replies-preserved : goal.loop-replies-preserved
-loop-replies-preserved c =
-    let e : outcome c.args.ctx.now (view c.args.expr.now) (map heard c.loop-replies.replies.items) c.args.turn.now c.loop-replies.turn ≡ outcomes.Need c.in-Need.want = cc (c.in_ok-done.ensures.outcome) in
-    let goes = left_goes _ _ _ _ _ c.loop-replies.invariant c.in-Need.want e (told c.in_ok-got-in-Need.got) c.answer.new.turn c.in_ok-got-in-Need.ensures.runs in
-    rw (c.in_ok-push-in-Need.ensures.items, map-append heard c.loop-replies.replies.items (c.in_ok-got-in-Need.got ∷ []), c.in_ok-got-in-Need.ensures.told) goes
+pub returns-in-Name : goal.returns-in-Name
+returns-in-Name c =
+    let home : c.ctx.inside.home.now ≡ c.args.ctx.now.home = ap (λ (s : Setting). s.home) c.ctx.view_is in
+    let same : expression c.args.ctx.now (view c.args.expr.now) ≡ value_of_name c.args.ctx.now.home c.in-Name.name.number = ap (λ e. expression c.args.ctx.now (view e)) c.in-Name.is ∙ name_alone c.args.ctx.now c.in-Name.name in
+    let rule : value_of_name c.ctx.inside.home.now c.in-Name.name.number ≡ expression c.args.ctx.now (view c.args.expr.now) = ap (λ q. value_of_name q c.in-Name.name.number) home ∙ sym same in
+    subst (λ (r : Rule Value). Runs r (λ v. v) c.args.turn.now c.value_of_name.new.turn c.value_of_name.result) rule c.value_of_name.ensures

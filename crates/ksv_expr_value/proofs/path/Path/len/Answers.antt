@@ -4,4 +4,4 @@ use Rattle.ksv_expr_value.proofs.Paths.{length-seen}
 use Rattle.ksv_expr_value.proofs.path.Path.len.Goals as goal
 
 pub returns-clause-small : goal.returns-clause-small
-returns-clause-small c = omega (arith, length-fits _ c.self.inside.valid, length-seen c.self.inside.steps.items (reverse c.self.inside.steps.items) refl, c.len.ensures.value)
+returns-clause-small c = omega (arith, length-fits _ c.self.inside.valid, length-seen c.self.inside.steps (reverse c.self.inside.steps) refl, c.len.ensures)

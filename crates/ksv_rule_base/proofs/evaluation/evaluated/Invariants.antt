@@ -3,7 +3,7 @@ use Rattle.ksv_expr_tree.specs.Tree.{view}
 use Rattle.ksv_expr_meaning.specs.Heard.{heard}
 use Rattle.ksv_expr_meaning.specs.Evaluation.{most_wants}
 use Rattle.ksv_rule_base.proofs.Evaluating.{Left}
-use Rattle.ksv_rule_base.proofs.evaluation.value_of_expression.Given as goal
+use Rattle.ksv_rule_base.proofs.evaluation.evaluated.Given as goal
 
 abbrev pub invariant-loop-replies : goal.invariant-loop-replies
 invariant-loop-replies l = Left l.ctx (view l.expr) (map heard l.replies.items) l.fn.turn l.turn
