@@ -46,6 +46,7 @@ pub struct Frames {
 }
 
 /// A number in 32 bits. A larger one is refused, as memory for so many nodes would be.
+#[inline(always)]
 pub(crate) fn number(count: usize) -> Result<u32, AllocError>
     ensures { IfOk result (λ number. number ≡ count) }
 {
@@ -69,6 +70,7 @@ pub enum Known {
 }
 
 /// What the slots have of a node. It takes one hash.
+#[inline(always)]
 pub(crate) fn find<N: Eq + Hash + Drop, V: Drop, F: Drop>(slots: &Slots<N, V, F>, node: &N) -> Known
     ensures knows { Knows N.eq slots.now.entries node.now result }
     ensures unique { IsUnique N.eq slots.now }
@@ -88,6 +90,7 @@ pub(crate) fn find<N: Eq + Hash + Drop, V: Drop, F: Drop>(slots: &Slots<N, V, F>
 }
 
 /// Sets the slot of a number.
+#[inline(always)]
 pub(crate) fn set<N: Eq + Hash + Drop, V: Drop, F: Drop>(
     slots: &mut Slots<N, V, F>,
     place: usize,
@@ -102,6 +105,7 @@ pub(crate) fn set<N: Eq + Hash + Drop, V: Drop, F: Drop>(
 
 impl Frames {
     /// Notes that the last open node got the reply in the slot of a number.
+    #[inline(always)]
     pub(crate) fn hear(&mut self, place: usize) -> Result<(), AllocError>
         ensures ok { OnOk result (Heard place self.old self.new) }
         ensures err { OnErr result (SameFrames self.old self.new) }
@@ -111,6 +115,7 @@ impl Frames {
     }
 
     /// The frame of a node that is opened now.
+    #[inline(always)]
     fn frame(&self, place: usize) -> Result<Frame, AllocError>
         ensures { IfOk result (λ frame. IsNewFrame place self.now frame) }
     {
@@ -122,6 +127,7 @@ impl Frames {
     }
 
     /// The frame of the last open node.
+    #[inline(always)]
     pub(crate) fn last(&self) -> Option<Frame>
         ensures some { IfSome result (λ frame. EndsWith frame self.now.frames.items) }
         ensures none { IfNone result (self.now.frames.items ≡ []) }
@@ -130,6 +136,7 @@ impl Frames {
     }
 
     /// Takes out the last open node, whose frame this is, with what it asked and used.
+    #[inline(always)]
     pub(crate) fn take_last(&mut self, frame: Frame)
         requires { EndsWith frame self.old.frames.items }
         ensures { Popped frame self.old self.new }
@@ -153,6 +160,8 @@ impl Frames {
 }
 
 /// Opens a node that has a slot with nothing in it.
+#[cold]
+#[inline(never)]
 pub(crate) fn reopen<N: Eq + Hash + Drop, V: Drop, F: Drop>(
     slots: &mut Slots<N, V, F>,
     frames: &mut Frames,
@@ -171,6 +180,7 @@ pub(crate) fn reopen<N: Eq + Hash + Drop, V: Drop, F: Drop>(
 }
 
 /// Opens a node that has no slot.
+#[inline(always)]
 pub(crate) fn open_new<N: Eq + Hash + Drop, V: Drop, F: Drop>(
     slots: &mut Slots<N, V, F>,
     frames: &mut Frames,
@@ -199,6 +209,7 @@ impl Rows {
     }
 
     /// Adds what was asked and used, but no row.
+    #[inline(always)]
     fn add_parts(&mut self, asked: &[u32], uses: &[Use]) -> Result<(), AllocError>
         ensures rows { self.new.rows ≡ self.old.rows }
         ensures ok { OnOk result ((self.new.asked.items ≡ self.old.asked.items ++ asked.now) × (self.new.uses.items ≡ self.old.uses.items ++ uses.now)) }
@@ -211,6 +222,7 @@ impl Rows {
     }
 
     /// Adds a row: a kept node, the slots that it asked, and its uses.
+    #[inline(always)]
     pub(crate) fn add(&mut self, slot: u32, asked: &[u32], uses: &[Use]) -> Result<(), AllocError>
         ensures ok { OnOk result (Added slot asked.now uses.now self.old self.new) }
         ensures err { OnErr result (SameRows self.old self.new) }

@@ -13,6 +13,7 @@ use ksv_memo_rules::{Next, Outcome, Reply, Rules};
 use std::alloc::{AllocError, Global};
 
 /// The count after one more call.
+#[inline(always)]
 fn one_more(turns: Option<u64>) -> Option<u64>
     ensures { result ≡ counted 1 turns }
 {
@@ -44,6 +45,7 @@ impl<R: Rules> Machine<R> {
     }
 
     /// One call of the rules, which is counted.
+    #[inline(always)]
     fn turn(&mut self, rules: &R, bytes: &Buffer) -> Result<Next<R::Node, Reply<R>>, AllocError>
         requires { IsRunning (on (R.meaning rules.now) bytes.now) self.old.table.kept self.old.table.opened }
         ensures step { IfOk result (λ step. Steps (on (R.meaning rules.now) bytes.now) self.old.table.opened self.new.table.opened step) }
@@ -56,6 +58,7 @@ impl<R: Rules> Machine<R> {
     }
 
     /// Runs the last open node for one turn. The outcome, if that ends the question.
+    #[inline(always)]
     fn advance(
         &mut self,
         rules: &R,
@@ -74,6 +77,7 @@ impl<R: Rules> Machine<R> {
     }
 
     /// Keeps the answer of the last open node, which the one below gets. Where there is none, it ends the question.
+    #[inline(always)]
     fn finish(
         &mut self,
         rules: &R,
@@ -99,6 +103,7 @@ impl<R: Rules> Machine<R> {
     }
 
     /// Asks for what the last open node needs. A node that is open ends the question.
+    #[inline(always)]
     fn need(
         &mut self,
         rules: &R,

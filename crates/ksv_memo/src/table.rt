@@ -27,6 +27,7 @@ pub enum Asked<N> {
 }
 
 /// A kept answer as a slot.
+#[inline(always)]
 fn slot_of<V, F>(answer: Result<V, F>) -> Slot<V, F>
     ensures { answer_in result ≡ Some answer }
 {
@@ -36,18 +37,20 @@ fn slot_of<V, F>(answer: Result<V, F>) -> Slot<V, F>
     }
 }
 
-/// Adds the row of an open node, with each of its uses once.
+/// Adds the row of an open node, with each of its uses once. Most nodes have one use or none, which need no copy.
+#[inline(always)]
 fn keep(alloc: Global, rows: &mut Rows, frames: &Frames, frame: Frame) -> Result<(), AllocError>
     requires { (frame.asked ≤ length frames.now.asked.items) × (frame.uses ≤ length frames.now.uses.items) }
     ensures ok { OnOk result (Rowed frame frames.now rows.old rows.new) }
     ensures err { OnErr result (SameRows rows.old rows.new) }
 {
-    let uses = each_once(alloc, &frames.uses[frame.uses as usize..])?;
-    rows.add(
-        frame.slot,
-        &frames.asked[frame.asked as usize..],
-        uses.as_slice(),
-    )
+    let asked = &frames.asked[frame.asked as usize..];
+    let uses = &frames.uses[frame.uses as usize..];
+    if uses.len() < 2 {
+        return rows.add(frame.slot, asked, uses);
+    }
+    let once = each_once(alloc, uses)?;
+    rows.add(frame.slot, asked, once.as_slice())
 }
 
 /// The nodes that are kept and those that are open. A look-up takes one hash, however many there are.
@@ -110,6 +113,7 @@ impl<R: Rules> Table<R> {
     }
 
     /// Asks for a node: its answer goes to the last open node if it is kept, and else it is opened, unless it is open.
+    #[inline(always)]
     pub(crate) fn ask(&mut self, node: R::Node) -> Result<Asked<R::Node>, AllocError>
         ensures ok { IfOk result (Asks R.Node.eq node self.old self.new) }
         ensures err { OnErr result (self.new ≡ self.old) }
@@ -132,6 +136,7 @@ impl<R: Rules> Table<R> {
     }
 
     /// One call of the rules for the last open node. No other function calls `next`.
+    #[inline(always)]
     pub(crate) fn turn(
         &mut self,
         alloc: Global,
@@ -155,6 +160,7 @@ impl<R: Rules> Table<R> {
     }
 
     /// Keeps the last open node with its answer, which the one below gets. Whether there is one below.
+    #[inline(always)]
     pub(crate) fn close(&mut self, alloc: Global, answer: Reply<R>) -> Result<bool, AllocError>
         requires { is_there self.old.opened ≡ true }
         ensures ok { IfOk result (λ waits. Closes answer self.old.opened self.old self.new waits) }

@@ -10,6 +10,8 @@ use std::alloc::{AllocError, Global};
 const INLINE_USES: usize = 4;
 
 /// Each of these uses once, in the order of their first occurrences.
+#[cold]
+#[inline(never)]
 pub(crate) fn each_once(
     alloc: Global,
     uses: &[Use],

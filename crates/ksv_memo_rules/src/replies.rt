@@ -20,6 +20,7 @@ pub enum Slot<V, F> {
 }
 
 /// The answer in a slot, if one is kept there.
+#[inline(always)]
 fn answer_in<V, F>(slot: &Slot<V, F>) -> Option<Result<&V, &F>>
     ensures { option_map lent result ≡ answer_in slot.now }
 {
@@ -31,6 +32,7 @@ fn answer_in<V, F>(slot: &Slot<V, F>) -> Option<Result<&V, &F>>
 }
 
 /// The answer in the slot of a number, if one is kept there.
+#[inline(always)]
 pub fn answer_at<V, F>(slots: &[Slot<V, F>], place: usize) -> Option<Result<&V, &F>>
     ensures { option_map lent result ≡ answer_at slots.now place }
 {
@@ -52,6 +54,7 @@ fn are_kept<V, F>(slots: &[Slot<V, F>], asked: &[u32]) -> bool
 }
 
 /// The slot that was asked at a place.
+#[inline(always)]
 fn slot_at(asked: &[u32], place: usize) -> Option<u32>
     ensures { result ≡ slice_get asked.now place }
 {
@@ -80,6 +83,7 @@ impl<'a, V, F> Model for Replies<'a, V, F> {
 
 impl<'a, V, F> Replies<'a, V, F> {
     /// The answers in the slots of these numbers.
+    #[inline(always)]
     pub fn new(slots: &'a [Slot<V, F>], asked: &'a [u32]) -> Self
         requires { AllByRecursion (HasAnswer slots.now) asked.now }
         ensures { result ≡ answers_at slots.now asked.now }
@@ -100,6 +104,7 @@ impl<'a, V, F> Replies<'a, V, F> {
     }
 
     /// How many there are.
+    #[inline(always)]
     pub fn len(&self) -> usize
         ensures { result ≡ length self.now }
     {
@@ -107,6 +112,7 @@ impl<'a, V, F> Replies<'a, V, F> {
     }
 
     /// The reply to what was asked at a place, from 0; none where it wasn't asked yet.
+    #[inline(always)]
     pub fn get(&self, place: usize) -> Option<Result<&'a V, &'a F>>
         ensures { option_map lent result ≡ slice_get self.now place }
     {
