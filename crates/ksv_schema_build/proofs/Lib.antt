@@ -2,3 +2,6 @@
 pub mod Joined
 pub mod Made
 pub mod Named
+pub mod Naming
+pub mod EachType
+pub mod Entries

@@ -1,0 +1,10 @@
+use Rattle.std.proofs.Common.{◌≡◌}
+use Rattle.ksv_schema_scope.specs.Types.{outwards, from, type_in}
+use Rattle.ksv_schema_scope.specs.Rows.{scopes_of}
+use Rattle.ksv_schema_scope.proofs.outwards.type_outwards.Given as goal
+
+abbrev pub invariant-outwards : goal.invariant-outwards
+invariant-outwards l = outwards (type_in (scopes_of l.types) l.name) (from (scopes_of l.types) l.at) ≡ outwards (type_in (scopes_of l.types) l.name) (from (scopes_of l.types) l.n)
+
+abbrev pub decreases-outwards : goal.decreases-outwards
+decreases-outwards l = l.at
