@@ -13,9 +13,9 @@ use Rattle.ksv_plan.specs.Plan.{bind}
 use Rattle.ksv_schema_keys.specs.Expressions.{expression_of, tokens_of}
 use Rattle.ksv_schema_names.specs.Names.{enum_at}
 use Rattle.ksv_schema_names.specs.Numbered.{all_numbered, given_member, numbered}
-use Rattle.ksv_schema_scope.specs.Enums.{enum_in, enum_named, id_of, number_of_id, number_written}
+use Rattle.ksv_schema_scope.specs.Enums.{number_of, id_of, number_of_id}
 use Rattle.ksv_yaml_tree.specs.Numerals.{plain_number, signed_number}
-use Rattle.ksv_schema_scope.specs.Types.{nearest_type, type_in, type_named}
+use Rattle.ksv_schema_scope.specs.Types.{keys_at, outer_of, from, nearest_row, type_named, enum_behind}
 use Rattle.ksv_expr_tree.specs.Tree.{Tree}
 use Rattle.ksv_expr_value.specs.Faults.{name_of}
 use Rattle.ksv_expr_value.specs.Trail.{root}
@@ -31,7 +31,7 @@ use Rattle.ksv_expr_meaning.specs.Heard.{Heard, Valued}
 use Rattle.ksv_expr_value.specs.Setting.{Setting}
 use Rattle.ksv_expr_meaning.specs.Replying.{fault_at}
 use Rattle.ksv_expr_meaning.specs.Evaluation.{Ev, wants_made}
-use Rattle.ksv_schema_scope.specs.Declarations.{Declared}
+use Rattle.ksv_schema_scope.specs.Rows.{Declared, row_in}
 
 -- an expression of the root, which is no element of a list
 abbrev pub at_root : Setting
@@ -138,14 +138,14 @@ abbrev pub is_worth : Row → Bool
 is_worth r = bytes_eq (tree_shown (expression_of r.text)) r.worth
 
 expressions_are_worth : list_all is_worth expressions ≡ true
-unfolding digits chars is_utf8 encode number_in at_end binary_of byte_at byte_from bytes_and bytes_at bytes_call bytes_with call_one call_two cast_to element_count element_path element_value field_of integer_and item_at last_element list_at list_method list_size member_and member_path member_value method_of object_of_type same_bytes special_of special_value stream_method stream_of stream_size text_and text_in truth_and truth_value value_of read read_list place_on select_on fits trail_of trail_when bind expression_of tokens_of enum_at all_numbered given_member numbered enum_in enum_named id_of number_of_id number_written plain_number signed_number nearest_type type_in type_named
+unfolding digits chars is_utf8 encode number_in at_end binary_of byte_at byte_from bytes_and bytes_at bytes_call bytes_with call_one call_two cast_to element_count element_path element_value field_of integer_and item_at last_element list_at list_method list_size member_and member_path member_value method_of object_of_type same_bytes special_of special_value stream_method stream_of stream_size text_and text_in truth_and truth_value value_of read read_list place_on select_on fits trail_of trail_when bind expression_of tokens_of enum_at all_numbered given_member numbered plain_number signed_number number_of id_of number_of_id row_in keys_at outer_of from nearest_row type_named enum_behind
 expressions_are_worth = refl
 
 -- ---- expressions of members
 
 -- nothing is declared, so that a name is one of a member
 abbrev pub undeclared : Declared
-undeclared = record { types = []; members = []; enums = []; constants = [] }
+undeclared = record { types = []; enums = [] }
 
 -- the tree of a text with the members `a`, `b` and `c`, whose names have the numbers 0, 1 and 2
 abbrev pub of_members : List ℕ → Option Tree
@@ -176,25 +176,25 @@ told (Some e) = (shown (Ev met at_root e), map wanted_steps (wants_made met at_r
 
 -- `/a` and then `/a` again
 twice_told : told (of_members (codes "a + a * 2")) ≡ (codes "18", (Name 0 ∷ []) ∷ (Name 0 ∷ []) ∷ [])
-unfolding digits chars is_utf8 encode number_in at_end binary_of byte_at byte_from bytes_and bytes_at bytes_call bytes_with call_one call_two cast_to element_count element_path element_value field_of integer_and item_at last_element list_at list_method list_size member_and member_path member_value method_of object_of_type same_bytes special_of special_value stream_method stream_of stream_size text_and text_in truth_and truth_value value_of read read_list place_on select_on fits trail_of trail_when bind expression_of tokens_of enum_at all_numbered given_member numbered enum_in enum_named id_of number_of_id number_written plain_number signed_number nearest_type type_in type_named
+unfolding digits chars is_utf8 encode number_in at_end binary_of byte_at byte_from bytes_and bytes_at bytes_call bytes_with call_one call_two cast_to element_count element_path element_value field_of integer_and item_at last_element list_at list_method list_size member_and member_path member_value method_of object_of_type same_bytes special_of special_value stream_method stream_of stream_size text_and text_in truth_and truth_value value_of read read_list place_on select_on fits trail_of trail_when bind expression_of tokens_of enum_at all_numbered given_member numbered plain_number signed_number number_of id_of number_of_id row_in keys_at outer_of from nearest_row type_named enum_behind
 twice_told = refl
 
 -- `/a` and then `/b`, whose fault is the expression's
 fault_told : told (of_members (codes "a + b")) ≡ (codes "fault end-of-bytes", (Name 0 ∷ []) ∷ (Name 1 ∷ []) ∷ [])
-unfolding digits chars is_utf8 encode number_in at_end binary_of byte_at byte_from bytes_and bytes_at bytes_call bytes_with call_one call_two cast_to element_count element_path element_value field_of integer_and item_at last_element list_at list_method list_size member_and member_path member_value method_of object_of_type same_bytes special_of special_value stream_method stream_of stream_size text_and text_in truth_and truth_value value_of read read_list place_on select_on fits trail_of trail_when bind expression_of tokens_of enum_at all_numbered given_member numbered enum_in enum_named id_of number_of_id number_written plain_number signed_number nearest_type type_in type_named
+unfolding digits chars is_utf8 encode number_in at_end binary_of byte_at byte_from bytes_and bytes_at bytes_call bytes_with call_one call_two cast_to element_count element_path element_value field_of integer_and item_at last_element list_at list_method list_size member_and member_path member_value method_of object_of_type same_bytes special_of special_value stream_method stream_of stream_size text_and text_in truth_and truth_value value_of read read_list place_on select_on fits trail_of trail_when bind expression_of tokens_of enum_at all_numbered given_member numbered plain_number signed_number number_of id_of number_of_id row_in keys_at outer_of from nearest_row type_named enum_behind
 fault_told = refl
 
 -- after a fault nothing is wanted
 first_fault_told : told (of_members (codes "b + a")) ≡ (codes "fault end-of-bytes", (Name 1 ∷ []) ∷ [])
-unfolding digits chars is_utf8 encode number_in at_end binary_of byte_at byte_from bytes_and bytes_at bytes_call bytes_with call_one call_two cast_to element_count element_path element_value field_of integer_and item_at last_element list_at list_method list_size member_and member_path member_value method_of object_of_type same_bytes special_of special_value stream_method stream_of stream_size text_and text_in truth_and truth_value value_of read read_list place_on select_on fits trail_of trail_when bind expression_of tokens_of enum_at all_numbered given_member numbered enum_in enum_named id_of number_of_id number_written plain_number signed_number nearest_type type_in type_named
+unfolding digits chars is_utf8 encode number_in at_end binary_of byte_at byte_from bytes_and bytes_at bytes_call bytes_with call_one call_two cast_to element_count element_path element_value field_of integer_and item_at last_element list_at list_method list_size member_and member_path member_value method_of object_of_type same_bytes special_of special_value stream_method stream_of stream_size text_and text_in truth_and truth_value value_of read read_list place_on select_on fits trail_of trail_when bind expression_of tokens_of enum_at all_numbered given_member numbered plain_number signed_number number_of id_of number_of_id row_in keys_at outer_of from nearest_row type_named enum_behind
 first_fault_told = refl
 
 -- nor is what isn't needed
 unneeded_told : told (of_members (codes "c and b == a")) ≡ (codes "false", (Name 2 ∷ []) ∷ [])
-unfolding digits chars is_utf8 encode number_in at_end binary_of byte_at byte_from bytes_and bytes_at bytes_call bytes_with call_one call_two cast_to element_count element_path element_value field_of integer_and item_at last_element list_at list_method list_size member_and member_path member_value method_of object_of_type same_bytes special_of special_value stream_method stream_of stream_size text_and text_in truth_and truth_value value_of read read_list place_on select_on fits trail_of trail_when bind expression_of tokens_of enum_at all_numbered given_member numbered enum_in enum_named id_of number_of_id number_written plain_number signed_number nearest_type type_in type_named
+unfolding digits chars is_utf8 encode number_in at_end binary_of byte_at byte_from bytes_and bytes_at bytes_call bytes_with call_one call_two cast_to element_count element_path element_value field_of integer_and item_at last_element list_at list_method list_size member_and member_path member_value method_of object_of_type same_bytes special_of special_value stream_method stream_of stream_size text_and text_in truth_and truth_value value_of read read_list place_on select_on fits trail_of trail_when bind expression_of tokens_of enum_at all_numbered given_member numbered plain_number signed_number number_of id_of number_of_id row_in keys_at outer_of from nearest_row type_named enum_behind
 unneeded_told = refl
 
 -- of an element of what is no list nothing more is wanted than both
 element_told : told (of_members (codes "a[a]")) ≡ (codes "fault bad-type", (Name 0 ∷ []) ∷ (Name 0 ∷ []) ∷ [])
-unfolding digits chars is_utf8 encode number_in at_end binary_of byte_at byte_from bytes_and bytes_at bytes_call bytes_with call_one call_two cast_to element_count element_path element_value field_of integer_and item_at last_element list_at list_method list_size member_and member_path member_value method_of object_of_type same_bytes special_of special_value stream_method stream_of stream_size text_and text_in truth_and truth_value value_of read read_list place_on select_on fits trail_of trail_when bind expression_of tokens_of enum_at all_numbered given_member numbered enum_in enum_named id_of number_of_id number_written plain_number signed_number nearest_type type_in type_named
+unfolding digits chars is_utf8 encode number_in at_end binary_of byte_at byte_from bytes_and bytes_at bytes_call bytes_with call_one call_two cast_to element_count element_path element_value field_of integer_and item_at last_element list_at list_method list_size member_and member_path member_value method_of object_of_type same_bytes special_of special_value stream_method stream_of stream_size text_and text_in truth_and truth_value value_of read read_list place_on select_on fits trail_of trail_when bind expression_of tokens_of enum_at all_numbered given_member numbered plain_number signed_number number_of id_of number_of_id row_in keys_at outer_of from nearest_row type_named enum_behind
 element_told = refl

@@ -1,19 +1,18 @@
 -- A tree without faults states a description.
-use Rattle.std.proofs.Common.{◌≡◌, ℕ, Bool, true, false, cond, List, [], ◌∷◌, ◌++◌, sym, ap, ◌∙◌, refl, Option, Some, None}
-use Rattle.std.specs.Prelude.{not, is_some, option_map, option_and_then, map, flat_map}
+use Rattle.std.proofs.Common.{◌≡◌, ℕ, zero, suc, Bool, true, false, cond, List, [], ◌∷◌, ◌++◌, sym, ap, ◌∙◌, refl, Option, Some, None}
+use Rattle.std.specs.Prelude.{not, is_some, is_none, slice_get, option_map, option_and_then, map, flat_map}
 use Rattle.std.specs.Option.{option_map_or}
 use Rattle.std.specs.Str.{bytes_eq}
 use Rattle.std.proofs.lemmas.Slice.Eq.{bytes_eq-Decides}
 use Rattle.ksv_yaml_tree.specs.Tree.{Pair, text_of, entry_at}
 use Rattle.ksv_expr_syntax.specs.Reading.{◌>>=◌}
-use Rattle.ksv_yaml_tree.specs.Keys.{has, text_at}
-use Rattle.ksv_schema_names.specs.declared.position.Site.{Site}
-use Rattle.ksv_schema_faults.specs.Faults.{Fault, fault, fault_if, bad_value, unknown_key}
-use Rattle.ksv_schema_keys.specs.declared.keys.Form.TheVariants as forms
+use Rattle.ksv_yaml_tree.specs.Keys.{text_at}
+use Rattle.ksv_schema_faults.specs.Faults.{Fault, fault, fault_if, bad_value, unknown_key, missing_key}
 use Rattle.ksv_schema_keys.specs.declared.keys.Form.{Form}
-use Rattle.ksv_schema_keys.specs.Keys.{Key, form_in, is_ignored}
-use Rattle.ksv_schema_keys.specs.Expressions.{expression_of}
-use Rattle.ksv_schema_faults.specs.Rules.{Home, expression_faults, text_faults, form_faults, value_faults, key_faults, keys_faults, missing_if}
+use Rattle.ksv_schema_keys.specs.declared.keys.MappingKind.{MappingKind}
+use Rattle.ksv_schema_keys.specs.declared.keys.Group.{Group}
+use Rattle.ksv_schema_keys.specs.Keys.{is_in, form_in, is_ignored}
+use Rattle.ksv_schema_faults.specs.Rules.{Home, text_faults, form_faults, key_faults, Has, Must, Rule, Ruled, ruled, rule_faults, ruled_faults}
 use Rattle.ksv_schema_build.specs.Stated.{Context}
 use Rattle.ksv_desc.specs.Resolved.{Each}
 
@@ -66,24 +65,36 @@ each_mapped P f (x ∷ xs) h = (h x, each_mapped P f xs h)
 
 -- ---- one key
 
-key_is : (faults : Pair → Form → List Fault) (table : List Key) (p : Pair) (form : Form) → is_ignored p.key ≡ false → form_in table p.key ≡ Some form → key_faults faults table p ≡ faults p form
+key_is : (h : Home) (kind : MappingKind) (p : Pair) (form : Form) → is_ignored p.key ≡ false → form_in kind p.key ≡ Some form → key_faults h kind p ≡ form_faults h p form
 unfolding key_faults
-key_is faults table p form i f =
-    ap (λ (b : Bool). cond b [] (option_map_or (faults p) (form_in table p.key) (fault p.line unknown_key))) i
-    ∙ ap (λ (o : Option Form). option_map_or (faults p) o (fault p.line unknown_key)) f
+key_is h kind p form i f =
+    ap (λ (b : Bool). cond b [] (option_map_or (form_faults h p) (form_in kind p.key) (fault p.line unknown_key))) i
+    ∙ ap (λ (o : Option Form). option_map_or (form_faults h p) o (fault p.line unknown_key)) f
+
+-- the keys of a mapping have no faults
+abbrev pub IsRead : Home → MappingKind → List Pair → Type 0
+IsRead h kind es = flat_map (key_faults h kind) es ≡ []
 
 -- without faults what stands at each key is what it must be
-pub at_key : (faults : Pair → Form → List Fault) (table : List Key) (name : List ℕ) (form : Form) (es : List Pair) (p : Pair) → is_ignored name ≡ false → form_in table name ≡ Some form → keys_faults faults table es ≡ [] → entry_at name es ≡ Some p → faults p form ≡ []
-at_key faults table name form [] p i f h e = absurd cc
-at_key faults table name form (q ∷ es) p i f h e =
-    by_test (bytes_eq q.key name) refl (front (key_faults faults table q) (keys_faults faults table es) h) (at_key faults table name form es p i f (back (key_faults faults table q) (keys_faults faults table es) h))
+pub at_key : (h : Home) (kind : MappingKind) (name : List ℕ) (form : Form) (es : List Pair) (p : Pair) → is_ignored name ≡ false → form_in kind name ≡ Some form → IsRead h kind es → entry_at name es ≡ Some p → form_faults h p form ≡ []
+at_key h kind name form [] p i f k e = absurd cc
+at_key h kind name form (q ∷ es) p i f k e =
+    by_test (bytes_eq q.key name) refl (front (key_faults h kind q) (flat_map (key_faults h kind) es) k) (at_key h kind name form es p i f (back (key_faults h kind q) (flat_map (key_faults h kind) es) k))
   where
-    by_test : (b : Bool) → bytes_eq q.key name ≡ b → key_faults faults table q ≡ [] → (entry_at name es ≡ Some p → faults p form ≡ []) → faults p form ≡ []
+    by_test : (b : Bool) → bytes_eq q.key name ≡ b → key_faults h kind q ≡ [] → (entry_at name es ≡ Some p → form_faults h p form ≡ []) → form_faults h p form ≡ []
     by_test true t here there =
         let same : q.key ≡ name = (bytes_eq-Decides q.key name).0 t in
         let is : q ≡ p = some_same q p (sym (ap (λ (b : Bool). cond b (Some q) (entry_at name es)) t) ∙ e) in
-        ap (λ (q : Pair). faults q form) (sym is) ∙ sym (key_is faults table q form (ap is_ignored same ∙ i) (ap (form_in table) same ∙ f)) ∙ here
+        ap (λ (q : Pair). form_faults h q form) (sym is) ∙ sym (key_is h kind q form (ap is_ignored same ∙ i) (ap (form_in kind) same ∙ f)) ∙ here
     by_test false t here there = there (sym (ap (λ (b : Bool). cond b (Some q) (entry_at name es)) t) ∙ e)
+
+-- a rule of such mappings holds
+pub ruled_is : (kind : MappingKind) (line : ℕ) (es : List Pair) (rs : List Ruled) (i : ℕ) (group : Group) (rule : Rule) → is_in group kind ≡ true → flat_map (ruled_faults kind line es) rs ≡ [] → slice_get rs i ≡ Some (ruled group rule) → rule_faults line es rule ≡ []
+unfolding ruled_faults
+ruled_is kind line es [] i group rule b k g = absurd cc
+ruled_is kind line es (r ∷ rs) zero group rule b k g =
+    sym (ap (λ (b : Bool). cond b (rule_faults line es rule) []) b) ∙ ap (ruled_faults kind line es) (sym (some_same r (ruled group rule) g)) ∙ front (ruled_faults kind line es r) (flat_map (ruled_faults kind line es) rs) k
+ruled_is kind line es (r ∷ rs) (suc i) group rule b k g = ruled_is kind line es rs i group rule b (back (ruled_faults kind line es r) (flat_map (ruled_faults kind line es) rs) k) g
 
 -- ---- texts
 
@@ -98,13 +109,13 @@ has_text faults p h = go (text_of p.value) refl h
 abbrev pub text_unless : (List ℕ → Bool) → ℕ → Pair → List Fault
 text_unless fits number p = text_faults (λ text. fault_if (not (fits text)) p.line number) p
 
-pub text_fits : (faults : Pair → Form → List Fault) (table : List Key) (name : List ℕ) (form : Form) (fits : List ℕ → Bool) (number : ℕ) (es : List Pair) (text : List ℕ) → ((p : Pair) → faults p form ≡ text_unless fits number p) → is_ignored name ≡ false → form_in table name ≡ Some form → keys_faults faults table es ≡ [] → text_at name es ≡ Some text → fits text ≡ true
-text_fits faults table name form fits number es text a i f k t = go (entry_at name es) refl t
+pub text_fits : (h : Home) (kind : MappingKind) (name : List ℕ) (form : Form) (fits : List ℕ → Bool) (number : ℕ) (es : List Pair) (text : List ℕ) → ((p : Pair) → form_faults h p form ≡ text_unless fits number p) → is_ignored name ≡ false → form_in kind name ≡ Some form → IsRead h kind es → text_at name es ≡ Some text → fits text ≡ true
+text_fits h kind name form fits number es text a i f k t = go (entry_at name es) refl t
   where
     go : (o : Option Pair) → entry_at name es ≡ o → option_and_then (λ p. text_of p.value) o ≡ Some text → fits text ≡ true
     go None e t = absurd cc
     go (Some p) e t =
-        let r = has_text (λ text. fault_if (not (fits text)) p.line number) p (sym (a p) ∙ at_key faults table name form es p i f k e) in
+        let r = has_text (λ text. fault_if (not (fits text)) p.line number) p (sym (a p) ∙ at_key h kind name form es p i f k e) in
         ap fits (sym (some_same r.0 text (sym r.1 ∙ t))) ∙ not_not (fits r.0) (not_if _ p.line number r.2)
 
 pub some_of : {A : Type 0} (o : Option A) → is_some o ≡ true → Is o
@@ -117,18 +128,10 @@ some_of (Some x) h = (x, refl)
 abbrev pub context : Home → List (List ℕ) → Context
 context h names = record { declared = h.declared; names = names; within = h.within }
 
--- what stands at an expression's key
-abbrev pub AtExpression : Home → (Pair → Form → List Fault) → Type 0
-AtExpression h faults = (p : Pair) (site : Site) → faults p (forms.Expression site) ≡ text_faults (λ text. expression_faults h site p.line (expression_of text)) p
-
-pub by_value : (h : Home) → AtExpression h (value_faults h)
-unfolding value_faults form_faults
-by_value h p at = refl
-
-pub by_form : (h : Home) → AtExpression h (form_faults h)
-unfolding form_faults
-by_form h p at = refl
+pub is_there : {A : Type 0} (o : Option A) → is_none o ≡ false → Is o
+is_there None h = absurd cc
+is_there (Some x) h = (x, refl)
 
 -- a key that isn't missing
-pub not_missing : (name : List ℕ) (es : List Pair) (line : ℕ) → missing_if (not (has name es)) line ≡ [] → Is (entry_at name es)
-not_missing name es line h = some_of (entry_at name es) (not_not (has name es) (not_if _ line 2 h))
+pub not_missing : (name : List ℕ) (es : List Pair) (line : ℕ) → rule_faults line es (Must (Has name)) ≡ [] → Is (entry_at name es)
+not_missing name es line h = is_there (entry_at name es) (not_if _ line missing_key h)

@@ -1,37 +1,35 @@
 -- Without faults each type, enum, encoding and contents of a mapping is found, and leads somewhere.
 use Rattle.std.proofs.Common.{◌≡◌, ℕ, suc, Bool, true, false, cond, List, [], ◌∷◌, ◌++◌, length, sym, ap, ◌∙◌, refl, Option, Some, None, arith}
-use Rattle.std.specs.Prelude.{codes, not, ◌==◌, ◌&&◌, ◌||◌, is_some, is_none, option_map, option_and_then, map, flat_map}
+use Rattle.std.specs.Prelude.{codes, not, ◌==◌, ◌&&◌, ◌||◌, is_some, is_none, option_map, option_and_then, flat_map}
 use Rattle.std.specs.Option.{option_map_or}
 use Rattle.std.proofs.lemmas.Bool.Decides.{Decides-eqb}
-use Rattle.ksv_yaml_tree.specs.Tree.{Tree, Text, Seq, Map, Pair, trees, line_of, text_of, entry_at}
+use Rattle.ksv_yaml_tree.specs.Tree.{Tree, Text, Seq, Map, Pair, trees, line_of, text_of, is_quoted, list_of, entry_at}
 use Rattle.ksv_expr_tree.specs.Tree as expressions
 use Rattle.ksv_expr_syntax.specs.Reading.{◌>>=◌}
 use Rattle.ksv_desc.specs.declared.order.ByteOrder.{ByteOrder}
 use Rattle.ksv_desc.specs.declared.order.ByteOrder.TheVariants as orders
 use Rattle.ksv_yaml_tree.specs.Keys.{has, text_at}
-use Rattle.ksv_schema_scope.specs.Types.{type_named, order_of, encoding_of}
+use Rattle.ksv_schema_scope.specs.Rows.{Declared}
+use Rattle.ksv_schema_scope.specs.Types.{type_named, enum_from, order_of, encoding_of}
 use Rattle.ksv_schema_scope.specs.Members.{parameters_within}
-use Rattle.ksv_schema_scope.specs.Enums.{enum_named, number_of_id}
-use Rattle.ksv_schema_scope.specs.Declarations.{Declared}
 use Rattle.ksv_schema_names.specs.declared.built_ins.BuiltIn.TheVariants.{Integer, Str, Strz, NotHere}
-use Rattle.ksv_schema_names.specs.declared.position.NameFault.TheVariants.{Unknown}
-use Rattle.ksv_schema_names.specs.declared.position.Site.TheVariants as sites
-use Rattle.ksv_schema_names.specs.Names.{name_faults, part_faults, list_faults, is_member, enum_at, wrong_if}
-use Rattle.ksv_schema_names.specs.Numbered.{given_member, enum_member, all_numbered}
+use Rattle.ksv_schema_names.specs.Numbered.{given_member, all_numbered}
 use Rattle.ksv_schema_names.proofs.Found.{type_within}
+use Rattle.ksv_schema_names.proofs.Resolving.{given_leads}
 use Rattle.ksv_desc.specs.Names.{has_names}
-use Rattle.ksv_schema_faults.specs.Faults.{fault_if, no_expression, bad_value, unknown_name, left_out, wrong_count}
+use Rattle.ksv_schema_faults.specs.Faults.{fault, fault_if, no_expression, bad_value, unknown_name, left_out, wrong_count}
 use Rattle.ksv_schema_keys.specs.declared.keys.Form.TheVariants as forms
-use Rattle.ksv_schema_keys.specs.Keys.{Key, form_in, is_ignored}
+use Rattle.ksv_schema_keys.specs.declared.keys.MappingKind.{MappingKind}
+use Rattle.ksv_schema_keys.specs.Keys.{form_in, is_ignored}
 use Rattle.ksv_schema_keys.specs.Expressions.{expression_of}
 use Rattle.ksv_schema_keys.specs.Values.{encoding_named, TypeText, Unspelled, OfLanguage, OfDescription, type_text, is_str, is_strz, looks_like_number, Piece, Bytes, BadPiece, LeftOutPiece, piece_of, bytes_of, joined, contents_of, CaseKey, Constant as ConstantKey, Negative, Member as MemberKey, Default, NoKey, case_key, ids_of}
-use Rattle.ksv_schema_faults.specs.Rules.{Home, position_at, name_fault, expression_faults, argument_faults, language_faults, count_faults, type_text_faults, piece_faults, contents_faults, enum_faults, case_value_faults, case_key_faults, case_type_faults, case_faults, form_faults, value_faults, keys_faults, has_encoding}
+use Rattle.ksv_schema_faults.specs.Rules.{Home, argument_faults, language_faults, count_faults, type_text_faults, piece_faults, item_faults, contents_faults, enum_faults, case_value_faults, case_key_faults, case_type_faults, case_faults, form_faults, has_encoding}
 use Rattle.ksv_schema_build.specs.Stated.{argument_words, type_words, perhaps_enum, encoding_at, order_at, integer_content, language_content, content_of, content_at, value_of, case_value, case_of, each}
 use Rattle.ksv_desc.specs.Description.{Description, Number, Characters, Object, EnumValue}
 use Rattle.ksv_desc.specs.Resolved.{count, Each, IfAny, IsEnum, IsResolvedContent, IsResolvedValue, IsResolvedCase}
-use Rattle.ksv_schema.proofs.Coherent.{Is, front, back, not_if, not_not, no_fault, is_map, is_bind, at_key, has_text, text_fits, some_of, context}
-use Rattle.ksv_schema.proofs.Leads.{bound, enum_within, given_leads}
-use Rattle.ksv_schema.proofs.Good.{Good, has_both, unmapped, arguments_lead}
+use Rattle.ksv_schema.proofs.Coherent.{Is, IsRead, front, back, not_if, not_not, no_fault, is_there, is_map, is_bind, at_key, has_text, text_fits, some_of, context}
+use Rattle.ksv_schema.proofs.Leads.{bound, enum_within}
+use Rattle.ksv_schema.proofs.Good.{Good, has_both, arguments_lead}
 
 -- ---- contents
 
@@ -40,27 +38,27 @@ piece_is line (Bytes bs) h = (bs, refl)
 piece_is line BadPiece h = absurd (no_fault line 6 h)
 piece_is line LeftOutPiece h = absurd (no_fault line 8 h)
 
-joined_is : (ts : List Tree) → flat_map (λ t. piece_faults (line_of t) (piece_of t)) ts ≡ [] → Is (joined ts)
+joined_is : (ts : List Tree) → flat_map item_faults ts ≡ [] → Is (joined ts)
+unfolding item_faults
 joined_is [] h = ([], refl)
 joined_is (t ∷ ts) h =
-    let p = piece_is (line_of t) (piece_of t) (front (piece_faults (line_of t) (piece_of t)) (flat_map (λ t. piece_faults (line_of t) (piece_of t)) ts) h) in
-    let r = joined_is ts (back (piece_faults (line_of t) (piece_of t)) (flat_map (λ t. piece_faults (line_of t) (piece_of t)) ts) h) in
+    let p = piece_is (line_of t) (piece_of t) (front (piece_faults (line_of t) (piece_of t)) (flat_map item_faults ts) h) in
+    let r = joined_is ts (back (piece_faults (line_of t) (piece_of t)) (flat_map item_faults ts) h) in
     let m = is_map (λ cs. p.0 ++ cs) (joined ts) r in
     (m.0, ap (option_and_then (λ bs. option_map (λ cs. bs ++ cs) (joined ts))) p.1 ∙ m.1)
 
-pub contents_is : (line : ℕ) (t : Tree) → contents_faults line t ≡ [] → Is (contents_of t)
+pub contents_is : (p : Pair) → contents_faults p ≡ [] → Is (contents_of p.value)
 unfolding contents_faults contents_of
-contents_is line (Text first quoted text) h = (text, ap (λ (b : Bool). cond b None (Some text)) (not_if (not quoted && looks_like_number text) line left_out h))
-contents_is line (Seq first ts) h = joined_is (trees ts) h
-contents_is line (Map first es) h = absurd (no_fault line bad_value h)
+contents_is p h = at p.line p.value h
+  where
+    at : (line : ℕ) (t : Tree) → option_map_or (λ text. fault_if (not (is_quoted t) && looks_like_number text) line left_out) (text_of t) (option_map_or (flat_map item_faults) (list_of t) (fault line bad_value)) ≡ [] → Is (contents_of t)
+    at line (Text first quoted text) h = (text, ap (λ (b : Bool). cond b None (Some text)) (not_if (not quoted && looks_like_number text) line left_out h))
+    at line (Seq first ts) h = joined_is (trees ts) h
+    at line (Map first es) h = absurd (no_fault line bad_value h)
 
 -- ---- enums
 
-is_there : {A : Type 0} (o : Option A) → is_none o ≡ false → Is o
-is_there None h = absurd cc
-is_there (Some x) h = (x, refl)
-
-enum_is : (h : Home) (line : ℕ) (o : Option (List (List ℕ))) → enum_faults h line o ≡ [] → Is (o >>= enum_named h.declared.types h.declared.enums h.within)
+enum_is : (h : Home) (line : ℕ) (o : Option (List (List ℕ))) → enum_faults h line o ≡ [] → Is (o >>= enum_from h.declared.types h.declared.enums h.within [])
 unfolding enum_faults
 enum_is h line None k = absurd (no_fault line bad_value k)
 enum_is h line (Some path) k = is_there _ (not_if _ line unknown_name k)
@@ -69,24 +67,24 @@ enum_is h line (Some path) k = is_there _ (not_if _ line unknown_name k)
 abbrev pub GoodEnum : Home → List (List ℕ) → List Pair → Type 0
 GoodEnum h names es = Good h.declared names [] (λ x. IfAny (IsEnum x)) (perhaps_enum (context h names) es)
 
-pub enum_good : (h : Home) (names : List (List ℕ)) (table : List Key) (es : List Pair) → form_in table (codes "enum") ≡ Some forms.EnumName → keys_faults (value_faults h) table es ≡ [] → GoodEnum h names es
-unfolding perhaps_enum value_faults form_faults is_ignored
-enum_good h names table es f k = go (has (codes "enum") es) refl
+pub enum_good : (h : Home) (names : List (List ℕ)) (kind : MappingKind) (es : List Pair) → form_in kind (codes "enum") ≡ Some forms.EnumName → IsRead h kind es → GoodEnum h names es
+unfolding perhaps_enum form_faults is_ignored
+enum_good h names kind es f k = go (has (codes "enum") es) refl
   where
-    found : (e : ℕ) (o : Option (List (List ℕ))) → (o >>= enum_named h.declared.types h.declared.enums h.within) ≡ Some e → (x : Description) → length x.enums ≡ length h.declared.enums → IsEnum x e
+    found : (e : ℕ) (o : Option (List (List ℕ))) → (o >>= enum_from h.declared.types h.declared.enums h.within []) ≡ Some e → (x : Description) → length x.enums ≡ length h.declared.enums → IsEnum x e
     found e o s x same =
-        let path = bound o (enum_named h.declared.types h.declared.enums h.within) e s in
-        let l = enum_within h.declared.types h.declared.enums h.within path.0 e path.2 in
+        let path = bound o (enum_from h.declared.types h.declared.enums h.within []) e s in
+        let l = enum_within h.declared.types h.declared.enums h.within [] path.0 e path.2 in
         omega (arith, l, same)
 
-    go : (b : Bool) → has (codes "enum") es ≡ b → Good h.declared names [] (λ x. IfAny (IsEnum x)) (cond b (option_map (λ (e : ℕ). let o : Option ℕ = Some e in o) (text_at (codes "enum") es >>= ids_of >>= enum_named h.declared.types h.declared.enums h.within)) (Some None))
+    go : (b : Bool) → has (codes "enum") es ≡ b → Good h.declared names [] (λ x. IfAny (IsEnum x)) (cond b (option_map (λ (e : ℕ). let o : Option ℕ = Some e in o) (text_at (codes "enum") es >>= ids_of >>= enum_from h.declared.types h.declared.enums h.within [])) (Some None))
     go false e = (None, refl, λ x e fits w. tt)
     go true e =
         let p = some_of (entry_at (codes "enum") es) e in
-        let t = has_text (λ text. enum_faults h p.0.line (ids_of text)) p.0 (at_key (value_faults h) table (codes "enum") forms.EnumName es p.0 refl f k p.1) in
+        let t = has_text (λ text. enum_faults h p.0.line (ids_of text)) p.0 (at_key h kind (codes "enum") forms.EnumName es p.0 refl f k p.1) in
         let r = enum_is h p.0.line (ids_of t.0) t.2 in
         let same : text_at (codes "enum") es ≡ Some t.0 = ap (option_and_then (λ p. text_of p.value)) p.1 ∙ t.1 in
-        let m = is_map (λ (e : ℕ). let o : Option ℕ = Some e in o) _ (r.0, ap (λ (o : Option (List ℕ)). o >>= ids_of >>= enum_named h.declared.types h.declared.enums h.within) same ∙ r.1) in
+        let m = is_map (λ (e : ℕ). let o : Option ℕ = Some e in o) _ (r.0, ap (λ (o : Option (List ℕ)). o >>= ids_of >>= enum_from h.declared.types h.declared.enums h.within []) same ∙ r.1) in
         (m.0, m.1, λ x e fits w. found r.0 (ids_of t.0) r.1 x fits.enums)
 
 -- ---- encodings
@@ -96,9 +94,9 @@ abbrev pub AreEncodings : Declared → Type 0
 AreEncodings d = (n : ℕ) (text : List ℕ) → encoding_of d.types n ≡ Some text → Is (encoding_named text)
 
 -- the encoding of an attribute that has one
-pub is_encoding : (h : Home) (names : List (List ℕ)) (table : List Key) (es : List Pair) → AreEncodings h.declared → form_in table (codes "encoding") ≡ Some forms.Coding → keys_faults (value_faults h) table es ≡ [] → has_encoding h es ≡ true → Is (encoding_at (context h names) es)
-unfolding encoding_at value_faults form_faults is_ignored
-is_encoding h names table es a f k x = own (text_at (codes "encoding") es) (λ text t. some_of (encoding_named text) (text_fits (value_faults h) table (codes "encoding") forms.Coding (λ text. is_some (encoding_named text)) left_out es text (λ p. refl) refl f k t)) x
+pub is_encoding : (h : Home) (names : List (List ℕ)) (kind : MappingKind) (es : List Pair) → AreEncodings h.declared → form_in kind (codes "encoding") ≡ Some forms.Coding → IsRead h kind es → has_encoding h es ≡ true → Is (encoding_at (context h names) es)
+unfolding encoding_at form_faults is_ignored
+is_encoding h names kind es a f k x = own (text_at (codes "encoding") es) (λ text t. some_of (encoding_named text) (text_fits h kind (codes "encoding") forms.Coding (λ text. is_some (encoding_named text)) left_out es text (λ p. refl) refl f k t)) x
   where
     inherited : (o : Option (List ℕ)) → encoding_of h.declared.types h.within ≡ o → is_some o ≡ true → Is (o >>= encoding_named)
     inherited None e x = absurd cc
@@ -120,9 +118,9 @@ order_is h names bytes line None k = go (bytes == 1) (order_of h.declared.types 
     go false None k = absurd cc
     go false (Some order) k = (order, refl)
 
-count_is : (h : Home) (line n t : ℕ) → count_faults h line n (Some t) ≡ [] → length (parameters_within h.declared.members t) ≡ n
+count_is : (h : Home) (line n t : ℕ) → count_faults h line n (Some t) ≡ [] → length (parameters_within h.declared.types t) ≡ n
 unfolding count_faults
-count_is h line n t k = (Decides-eqb (length (parameters_within h.declared.members t)) n).0 (not_not (length (parameters_within h.declared.members t) == n) (not_if (not (length (parameters_within h.declared.members t) == n)) line wrong_count k))
+count_is h line n t k = (Decides-eqb (length (parameters_within h.declared.types t)) n).0 (not_not (length (parameters_within h.declared.types t) == n) (not_if (not (length (parameters_within h.declared.types t) == n)) line wrong_count k))
 
 count_kept : (d : Declared) (names : List (List ℕ)) (n : ℕ) (es : expressions.Arguments) → count (all_numbered d names n es) ≡ count es
 unfolding all_numbered
@@ -148,7 +146,7 @@ content_good h names es line (OfDescription t given) k e c = found (type_named h
       refl,
       λ x e fits w.
           let below = type_within h.declared.types h.within t.path n s in
-          let arguments = arguments_lead h names given (unmapped (name_fault line) (list_faults h.declared h.within (position_at h sites.Argument) given) (back _ _ k)) x e fits w in
+          let arguments = arguments_lead h names line given (back _ _ k) x e fits w in
           record { type = omega (arith, below, fits.types); as_many = count_kept h.declared names h.within given ∙ sym (count_is h line (count given) n l) ∙ fits.parameters n below; arguments = arguments },
     )
 
@@ -166,28 +164,12 @@ case_content h names es p k e =
     let r = is_bind (λ text. content_of (context h names) es (type_text text)) _ t.0 t.1 (g.0, g.1) in
     (r.0, r.1, λ x s fits w. g.2 x s fits (ap (λ (o : Option (List ℕ)). has_names names (option_map_or (λ text. argument_words (type_text text)) o [])) (sym t.1) ∙ w))
 
-member_there : (h : Home) (m : expressions.MemberPath) → is_member h.declared h.within m ≡ true → Is (given_member h.declared h.within m)
-unfolding is_member given_member
-member_there h m k = go (enum_at h.declared h.within m) k
-  where
-    go : (o : Option ℕ) → is_some (option_and_then (λ e. number_of_id h.declared.constants e m.name) o) ≡ true → Is (option_and_then (λ e. option_map (enum_member e) (number_of_id h.declared.constants e m.name)) o)
-    go None k = absurd cc
-    go (Some e) k = is_map (enum_member e) _ (some_of (number_of_id h.declared.constants e m.name) k)
-
-known_member : (h : Home) (line : ℕ) (m : expressions.MemberPath) → expression_faults h sites.Case line (Some (expressions.member m)) ≡ [] → is_member h.declared h.within m ≡ true
-unfolding expression_faults name_faults part_faults
-known_member h line m k = go (is_member h.declared h.within m) k
-  where
-    go : (b : Bool) → map (name_fault line) (wrong_if (not b) Unknown) ≡ [] → b ≡ true
-    go true k = refl
-    go false k = absurd cc
-
 value_good : (h : Home) (names : List (List ℕ)) (line : ℕ) (v : CaseKey) → case_value_faults h line v ≡ [] → Good h.declared names [] (λ x. IfAny (IsResolvedValue x)) (value_of (context h names) v)
 unfolding case_value_faults value_of
 value_good h names line (ConstantKey c) k = (_, refl, λ x s fits w. tt)
 value_good h names line (Negative n) k = (_, refl, λ x s fits w. tt)
 value_good h names line (MemberKey m) k =
-    let g = member_there h m (known_member h line m k) in
+    let g = is_there (given_member h.declared h.within m) (not_if _ line unknown_name k) in
     let r = is_map (λ g. Some (EnumValue g)) _ g in
     (r.0, r.1, λ x s fits w. given_leads h.declared x fits h.within m g.0 g.1)
 value_good h names line Default k = (None, refl, λ x s fits w. tt)

@@ -1,6 +1,6 @@
 -- A piece that there is, and that leads somewhere in each description that fits.
 use Rattle.std.proofs.Common.{◌≡◌, ℕ, Bool, true, false, cond, List, [], ◌∷◌, ◌++◌, sym, ap, subst, ◌∙◌, refl, Option, Some, None}
-use Rattle.std.specs.Prelude.{is_some, option_map, option_and_then, map, flat_map}
+use Rattle.std.specs.Prelude.{is_some, option_map, option_and_then, option_to_list, flat_map}
 use Rattle.std.specs.Option.{option_map_or}
 use Rattle.std.specs.Str.{bytes_eq}
 use Rattle.std.proofs.lemmas.Slice.Eq.{bytes_eq-Decides}
@@ -9,25 +9,28 @@ use Rattle.ksv_yaml_tree.specs.Tree.{Pair, text_of, entry_at}
 use Rattle.ksv_expr_syntax.specs.Reading.{◌>>=◌}
 use Rattle.ksv_expr_tree.specs.Tree as expressions
 use Rattle.ksv_yaml_tree.specs.Keys.{has}
-use Rattle.ksv_schema_scope.specs.Declarations.{Declared}
+use Rattle.ksv_schema_scope.specs.Rows.{Declared}
 use Rattle.ksv_schema_names.specs.declared.position.Site.{Site}
 use Rattle.ksv_schema_names.specs.declared.position.Site.TheVariants as sites
-use Rattle.ksv_schema_names.specs.Names.{Nothing, name_faults, list_faults}
+use Rattle.ksv_schema_names.specs.Names.{Nothing, name_faults, least}
 use Rattle.ksv_schema_names.specs.Numbered.{numbered, all_numbered}
 use Rattle.ksv_desc.specs.Names.{number_in, dotted, all_dotted, has_names}
+use Rattle.ksv_schema_names.specs.declared.position.NameFault.{NameFault}
+use Rattle.ksv_schema_names.specs.declared.position.NameFault.TheVariants.{Unknown, LeftOut}
+use Rattle.ksv_schema_names.specs.Resolved.{Fits}
 use Rattle.ksv_schema_names.proofs.Resolving.{resolved, all_resolved}
-use Rattle.ksv_schema_faults.specs.Faults.{Fault, no_expression}
+use Rattle.ksv_schema_faults.specs.Faults.{no_expression}
 use Rattle.ksv_schema_keys.specs.declared.keys.Form.{Form}
 use Rattle.ksv_schema_keys.specs.declared.keys.Form.TheVariants as forms
-use Rattle.ksv_schema_keys.specs.Keys.{Key, form_in, is_ignored}
+use Rattle.ksv_schema_keys.specs.declared.keys.MappingKind.{MappingKind}
+use Rattle.ksv_schema_keys.specs.Keys.{form_in, is_ignored}
 use Rattle.ksv_schema_keys.specs.Expressions.{expression_of}
-use Rattle.ksv_schema_faults.specs.Rules.{Home, position_at, name_fault, expression_faults, keys_faults}
+use Rattle.ksv_schema_faults.specs.Rules.{Home, position_at, name_fault, least_name, expression_faults, argument_faults, form_faults}
 use Rattle.ksv_schema_build.specs.Stated.{expression_words, form_words, key_words, expression, expression_at, perhaps_expression}
 use Rattle.ksv_desc.specs.Description.{Description}
 use Rattle.ksv_desc.specs.Resolved.{IfAny, IsResolvedTree, AreResolvedTrees}
-use Rattle.ksv_schema.proofs.Coherent.{Is, no_fault, some_same, some_of, at_key, has_text, context, AtExpression}
+use Rattle.ksv_schema.proofs.Coherent.{Is, IsRead, no_fault, some_same, some_of, at_key, has_text, context}
 use Rattle.ksv_schema.proofs.Texts.{both}
-use Rattle.ksv_schema.proofs.Leads.{Fits, leads, all_lead}
 
 -- what holds in each description of these names that fits what is declared, if the names have these words
 abbrev pub InAll : Declared → List (List ℕ) → List (List ℕ) → (Description → Type 0) → Type 0
@@ -56,13 +59,24 @@ words_at names words name (q ∷ es) p h e = go (bytes_eq q.key name) refl e (wo
     go false t e later = later e
 
 -- the words at a key of this form
-pub form_of_key : (naming : List Key) (name : List ℕ) (form : Form) (p : Pair) → p.key ≡ name → form_in naming name ≡ Some form → key_words naming p ≡ form_words p form
+pub form_of_key : (kind : MappingKind) (name : List ℕ) (form : Form) (p : Pair) → p.key ≡ name → form_in kind name ≡ Some form → key_words kind p ≡ form_words p form
 unfolding key_words
-form_of_key naming name form p k f = ap (λ (o : Option Form). option_map_or (form_words p) o []) (ap (form_in naming) k ∙ f)
+form_of_key kind name form p k f = ap (λ (o : Option Form). option_map_or (form_words p) o []) (ap (form_in kind) k ∙ f)
 
-pub unmapped : {A B : Type 0} (f : A → B) (xs : List A) → map f xs ≡ [] → xs ≡ []
-unmapped f [] h = refl
-unmapped f (x ∷ xs) h = absurd cc
+-- ---- the least fault of names
+
+some_least : (k : NameFault) (ks : List NameFault) → (j : NameFault) × (least (Some k) ks ≡ Some j)
+unfolding least
+some_least k [] = (k, refl)
+some_least Unknown (l ∷ ls) = some_least Unknown ls
+some_least LeftOut (l ∷ ls) = some_least l ls
+
+pub no_names : (line : ℕ) (ks : List NameFault) → least_name line ks ≡ [] → ks ≡ []
+unfolding least
+no_names line [] h = refl
+no_names line (k ∷ ks) h =
+    let r = some_least k ks in
+    let e : [] ≡ name_fault line r.0 ∷ [] = sym h ∙ ap (λ (o : Option NameFault). option_to_list (option_map (name_fault line) o)) r.1 in absurd cc
 
 -- ---- expressions
 
@@ -70,12 +84,14 @@ pub tree_leads : (h : Home) (names : List (List ℕ)) (site : Site) (f : express
 unfolding name_faults
 tree_leads h names site f k x e fits w =
     subst (λ (names : List (List ℕ)). has_names names (dotted f) ≡ true → IsResolvedTree x (numbered h.declared names h.within f)) e
-    (λ (w : has_names x.names (dotted f) ≡ true). leads h.declared x fits (numbered h.declared x.names h.within f) (resolved h.declared x.names h.within (position_at h site) fits.members Nothing f w k)) w
+    (λ (w : has_names x.names (dotted f) ≡ true). resolved h.declared x h.within (position_at h site) fits Nothing f w k) w
 
-pub arguments_lead : (h : Home) (names : List (List ℕ)) (es : expressions.Arguments) → list_faults h.declared h.within (position_at h sites.Argument) es ≡ [] → InAll h.declared names (all_dotted es) (λ x. AreResolvedTrees x (all_numbered h.declared names h.within es))
-arguments_lead h names es k x e fits w =
+pub arguments_lead : (h : Home) (names : List (List ℕ)) (line : ℕ) (es : expressions.Arguments) → argument_faults h line es ≡ [] → InAll h.declared names (all_dotted es) (λ x. AreResolvedTrees x (all_numbered h.declared names h.within es))
+unfolding argument_faults
+arguments_lead h names line es k x e fits w =
+    let none = no_names line _ k in
     subst (λ (names : List (List ℕ)). has_names names (all_dotted es) ≡ true → AreResolvedTrees x (all_numbered h.declared names h.within es)) e
-    (λ (w : has_names x.names (all_dotted es) ≡ true). all_lead h.declared x fits (all_numbered h.declared x.names h.within es) (all_resolved h.declared x.names h.within (position_at h sites.Argument) fits.members es w k)) w
+    (λ (w : has_names x.names (all_dotted es) ≡ true). all_resolved h.declared x h.within (position_at h sites.Argument) fits es w none) w
 
 expression_good : (h : Home) (names : List (List ℕ)) (site : Site) (line : ℕ) (text : List ℕ) → expression_faults h site line (expression_of text) ≡ [] → Good h.declared names (expression_words text) IsResolvedTree (expression (context h names) text)
 unfolding expression_faults expression expression_words
@@ -83,27 +99,27 @@ expression_good h names site line text k = go (expression_of text) k
   where
     go : (o : Option expressions.Tree) → expression_faults h site line o ≡ [] → Good h.declared names (option_map_or dotted o []) IsResolvedTree (option_map (numbered h.declared names h.within) o)
     go None k = absurd (no_fault line no_expression k)
-    go (Some f) k = (numbered h.declared names h.within f, refl, tree_leads h names site f (unmapped (name_fault line) (name_faults h.declared h.within (position_at h site) f) k))
+    go (Some f) k = (numbered h.declared names h.within f, refl, tree_leads h names site f (no_names line (name_faults h.declared h.within (position_at h site) f) k))
 
 -- the expression at a key
-pub expression_at_good : (h : Home) (names : List (List ℕ)) (faults : Pair → Form → List Fault) (table naming : List Key) (site at : Site) (name : List ℕ) (es : List Pair) → AtExpression h faults → is_ignored name ≡ false → form_in table name ≡ Some (forms.Expression site) → form_in naming name ≡ Some (forms.Expression at) → keys_faults faults table es ≡ [] → Is (entry_at name es) → Good h.declared names (flat_map (key_words naming) es) IsResolvedTree (expression_at (context h names) name es)
-unfolding expression_at form_words
-expression_at_good h names faults table naming site at name es a i f g k p =
-    let t = has_text (λ text. expression_faults h site p.0.line (expression_of text)) p.0 (sym (a p.0 site) ∙ at_key faults table name (forms.Expression site) es p.0 i f k p.1) in
+pub expression_at_good : (h : Home) (names : List (List ℕ)) (kind : MappingKind) (site : Site) (name : List ℕ) (es : List Pair) → is_ignored name ≡ false → form_in kind name ≡ Some (forms.Expression site) → IsRead h kind es → Is (entry_at name es) → Good h.declared names (flat_map (key_words kind) es) IsResolvedTree (expression_at (context h names) name es)
+unfolding expression_at form_words form_faults
+expression_at_good h names kind site name es i f k p =
+    let t = has_text (λ text. expression_faults h site p.0.line (expression_of text)) p.0 (at_key h kind name (forms.Expression site) es p.0 i f k p.1) in
     let r = expression_good h names site p.0.line t.0 t.2 in (
       r.0,
       ap (λ (o : Option Pair). option_and_then (λ p. text_of p.value) o >>= expression (context h names)) p.1 ∙ ap (λ (o : Option (List ℕ)). o >>= expression (context h names)) t.1 ∙ r.1,
       λ x e fits w.
-          let v = words_at names (key_words naming) name es p.0 w p.1 in
-          let same : key_words naming p.0 ≡ expression_words t.0 = form_of_key naming name (forms.Expression at) p.0 v.1 g ∙ ap (λ (o : Option (List ℕ)). option_map_or expression_words o []) t.1 in
+          let v = words_at names (key_words kind) name es p.0 w p.1 in
+          let same : key_words kind p.0 ≡ expression_words t.0 = form_of_key kind name (forms.Expression site) p.0 v.1 f ∙ ap (λ (o : Option (List ℕ)). option_map_or expression_words o []) t.1 in
           r.2 x e fits (ap (has_names names) (sym same) ∙ v.0),
     )
 
 -- and the one at a key that may be absent
-pub perhaps_good : (h : Home) (names : List (List ℕ)) (faults : Pair → Form → List Fault) (table naming : List Key) (site at : Site) (name : List ℕ) (es : List Pair) → AtExpression h faults → is_ignored name ≡ false → form_in table name ≡ Some (forms.Expression site) → form_in naming name ≡ Some (forms.Expression at) → keys_faults faults table es ≡ [] → Good h.declared names (flat_map (key_words naming) es) (λ x. IfAny (IsResolvedTree x)) (perhaps_expression (context h names) name es)
+pub perhaps_good : (h : Home) (names : List (List ℕ)) (kind : MappingKind) (site : Site) (name : List ℕ) (es : List Pair) → is_ignored name ≡ false → form_in kind name ≡ Some (forms.Expression site) → IsRead h kind es → Good h.declared names (flat_map (key_words kind) es) (λ x. IfAny (IsResolvedTree x)) (perhaps_expression (context h names) name es)
 unfolding perhaps_expression
-perhaps_good h names faults table naming site at name es a i f g k = go (has name es) refl
+perhaps_good h names kind site name es i f k = go (has name es) refl
   where
-    go : (b : Bool) → has name es ≡ b → Good h.declared names (flat_map (key_words naming) es) (λ x. IfAny (IsResolvedTree x)) (cond b (option_map (λ (e : expressions.Tree). let o : Option expressions.Tree = Some e in o) (expression_at (context h names) name es)) (Some None))
+    go : (b : Bool) → has name es ≡ b → Good h.declared names (flat_map (key_words kind) es) (λ x. IfAny (IsResolvedTree x)) (cond b (option_map (λ (e : expressions.Tree). let o : Option expressions.Tree = Some e in o) (expression_at (context h names) name es)) (Some None))
     go false e = (None, refl, λ x e fits w. tt)
-    go true e = good_map h.declared names (flat_map (key_words naming) es) IsResolvedTree (λ x. IfAny (IsResolvedTree x)) (λ (e : expressions.Tree). let o : Option expressions.Tree = Some e in o) _ (λ x y r. r) (expression_at_good h names faults table naming site at name es a i f g k (some_of (entry_at name es) e))
+    go true e = good_map h.declared names (flat_map (key_words kind) es) IsResolvedTree (λ x. IfAny (IsResolvedTree x)) (λ (e : expressions.Tree). let o : Option expressions.Tree = Some e in o) _ (λ x y r. r) (expression_at_good h names kind site name es i f k (some_of (entry_at name es) e))

@@ -1,6 +1,6 @@
 -- Without faults the names of members and the ids of types are texts.
-use Rattle.std.proofs.Common.{◌≡◌, ℕ, zero, suc, subst, ◌+◌, ◌/◌, ◌%◌, ◌<◌, Bool, true, false, cond, List, [], ◌∷◌, sym, ap, ◌∙◌, refl, Option, Some, None, arith, rules}
-use Rattle.std.specs.Prelude.{codes, not, ◌==◌, ◌&&◌, option_and_then, map, unwrap_or, decimal, slice_get, All}
+use Rattle.std.proofs.Common.{◌≡◌, ℕ, zero, suc, subst, ◌+◌, ◌/◌, ◌%◌, ◌<◌, Bool, true, false, cond, List, [], ◌∷◌, ◌++◌, length, sym, ap, ◌∙◌, refl, Option, Some, None, arith, rules as known_rules}
+use Rattle.std.specs.Prelude.{codes, not, ◌==◌, ◌&&◌, option_and_then, map, flat_map, unwrap_or, decimal, All}
 use Rattle.std.specs.List.{list_all}
 use Rattle.std.specs.Option.{option_map_or}
 use Rattle.std.specs.Str.{bytes_eq, is_utf8, IsAscii}
@@ -8,28 +8,25 @@ use Rattle.std.specs.Fmt.{digit_glyph, digits_onto, digits}
 use Rattle.std.proofs.lemmas.Bool.Decides.{nat_tests}
 use Rattle.std.proofs.lemmas.Str.{is_utf8-from_IsUtf8, IsUtf8-from_ascii, IsAscii-append}
 use Rattle.std.proofs.lemmas.Str.Ascii.{IsAscii-nil, IsAscii-from_all}
-use Rattle.ksv_yaml_tree.specs.Tree.{Tree, Pair, line_of, mapping_of, list_of, entry_at}
-use Rattle.ksv_schema_scope.specs.declared.member.Role.{Role}
-use Rattle.ksv_schema_scope.specs.declared.member.Role.TheVariants.{Parameter, Attribute, Instance}
+use Rattle.ksv_yaml_tree.specs.Tree.{Tree, Text, Seq, Map, Entries, no_entries, entry, Pair, line_of, mapping_of, list_of, entry_at}
 use Rattle.ksv_yaml_tree.specs.Keys.{entries_in, text_at, entries_at}
-use Rattle.ksv_schema_scope.specs.Types.{Scope, keys_of, own_id, root_scope, types_within, types_of}
-use Rattle.ksv_schema_scope.specs.Members.{Member, parameter, unnamed, attributes_from, instance, members_at_key, members_of_type, members_from, members_of}
-use Rattle.ksv_schema_scope.specs.Enums.{enums_of}
-use Rattle.ksv_schema_scope.specs.Declarations.{Declared, declared_in}
-use Rattle.ksv_schema_faults.specs.Faults.{Fault, fault, bad_value}
+use Rattle.ksv_schema_scope.specs.declared.members.Role.{Role}
+use Rattle.ksv_schema_scope.specs.declared.members.Role.TheVariants.{Parameter, Attribute, Instance}
+use Rattle.ksv_schema_scope.specs.Rows.{Row, keys_of, with_types, with_key, with_named, with_each, root_row, types_of, Declared, declared_in}
+use Rattle.ksv_schema_scope.specs.Members.{Member, unnamed, item, items_from, instance, members_at_key, members_of}
 use Rattle.ksv_schema_keys.specs.declared.keys.Form.TheVariants as forms
-use Rattle.ksv_schema_keys.specs.declared.keys.Form.{Form}
-use Rattle.ksv_schema_keys.specs.Keys.{Key, form_in, is_ignored, is_id, meta_keys, parameter_keys, attribute_keys}
-use Rattle.ksv_schema_faults.specs.Rules.{Home, home_in, home_of, form_faults, value_faults, keys_faults, parameter_faults, attribute_faults, role_faults, mapping_faults, member_faults, is_instance, meta_key_faults, meta_faults, type_key_faults, type_faults, numbered_type_faults, each_from, faults_of, faults}
+use Rattle.ksv_schema_keys.specs.declared.keys.MappingKind.{MappingKind}
+use Rattle.ksv_schema_keys.specs.declared.keys.MappingKind.TheVariants as kinds
+use Rattle.ksv_schema_keys.specs.Keys.{kind_of as mapping_kind, form_among, form_in, is_ignored, is_id}
+use Rattle.ksv_schema_faults.specs.Faults.{fault, bad_value}
+use Rattle.ksv_schema_faults.specs.Rules.{Home, home_in, home_of, form_faults, key_faults, ruled_faults, rules, mapping_faults, member_mapping_faults, is_instance, member_faults, members_faults, meta_faults, type_keys_faults, type_faults, each_from, faults_of, faults}
 use Rattle.ksv_schema_build.specs.Stated.{are_texts, stated}
 use Rattle.ksv_desc.specs.Description.{Description}
-use Rattle.ksv_schema.specs.Outcome.{States}
 use Rattle.ksv_desc.specs.Resolved.{Each, IsResolved}
-use Rattle.ksv_schema.proofs.Coherent.{each_and, each_of_all, each_mapped, text_unless, not_not, front, back, not_if, no_fault, some_same, text_fits}
+use Rattle.ksv_schema.specs.Outcome.{States}
+use Rattle.ksv_schema.proofs.Coherent.{IsRead, each_of_all, each_mapped, not_not, front, back, not_if, no_fault, some_same, text_fits}
 use Rattle.ksv_schema.proofs.Texts.{id_is_text}
-use Rattle.ksv_schema.proofs.Leads.{constants_within}
-use Rattle.ksv_schema.proofs.Whole.{AreTyped}
-use Rattle.ksv_schema.proofs.Members.{declared_good}
+use Rattle.ksv_schema.proofs.Members.{AreTyped, declared_good}
 
 -- ---- `_unnamedK`
 
@@ -58,15 +55,17 @@ decimal_is_ascii : (n : ℕ) → IsAscii (decimal n)
 unfolding digits
 decimal_is_ascii n = IsAscii-from_all (decimal n) (small_digits 64 n [] (λ k d l. absurd (omega (arith, l))))
 
-unnamed_is_text : (k : ℕ) → is_utf8 (unnamed k) ≡ true
-unnamed_is_text k =
-    is_utf8-from_IsUtf8 (unnamed k) (IsUtf8-from_ascii (unnamed k) (IsAscii-append (codes "_unnamed") (decimal k) (IsAscii-from_all (codes "_unnamed") small) (decimal_is_ascii k)))
-  where
-    small : All IsSmall (codes "_unnamed")
-    small = search rules
-
 no_text : is_utf8 [] ≡ true
 no_text = is_utf8-from_IsUtf8 [] (IsUtf8-from_ascii [] IsAscii-nil)
+
+unnamed_is_text : (role : Role) (k : ℕ) → is_utf8 (unnamed role k) ≡ true
+unnamed_is_text Parameter k = no_text
+unnamed_is_text Instance k = no_text
+unnamed_is_text Attribute k =
+    is_utf8-from_IsUtf8 (unnamed Attribute k) (IsUtf8-from_ascii (unnamed Attribute k) (IsAscii-append (codes "_unnamed") (decimal k) (IsAscii-from_all (codes "_unnamed") small) (decimal_is_ascii k)))
+  where
+    small : All IsSmall (codes "_unnamed")
+    small = search known_rules
 
 -- ---- the id of a mapping
 
@@ -75,74 +74,66 @@ id_or : (other : List ℕ) (o : Option (List ℕ)) → ((text : List ℕ) → o 
 id_or other None f u = u
 id_or other (Some text) f u = id_is_text text (f text refl)
 
--- what stands at the form of an id
-abbrev AtId : (Pair → Form → List Fault) → Type 0
-AtId faults = (p : Pair) → faults p forms.Id ≡ text_unless is_id bad_value p
+at_id : (h : Home) (kind : MappingKind) (es : List Pair) (text : List ℕ) → form_in kind (codes "id") ≡ Some forms.Id → IsRead h kind es → text_at (codes "id") es ≡ Some text → is_id text ≡ true
+unfolding is_ignored form_faults
+at_id h kind es text f k t = text_fits h kind (codes "id") forms.Id is_id bad_value es text (λ p. refl) refl f k t
 
-by_value : (h : Home) → AtId (value_faults h)
-unfolding value_faults form_faults
-by_value h p = refl
-
-by_form : (h : Home) → AtId (form_faults h)
-unfolding form_faults
-by_form h p = refl
-
-at_id : (faults : Pair → Form → List Fault) (table : List Key) (es : List Pair) (text : List ℕ) → AtId faults → form_in table (codes "id") ≡ Some forms.Id → keys_faults faults table es ≡ [] → text_at (codes "id") es ≡ Some text → is_id text ≡ true
-unfolding is_ignored
-at_id faults table es text a f k t = text_fits faults table (codes "id") forms.Id is_id bad_value es text a refl f k t
+keys_read : (h : Home) (kind : MappingKind) (line : ℕ) (es : List Pair) → mapping_faults h kind line es ≡ [] → IsRead h kind es
+unfolding mapping_faults
+keys_read h kind line es k = front (flat_map (key_faults h kind) es) (flat_map (ruled_faults kind line es) rules) k
 
 -- ---- names of members
 
 -- how a member came to its name, by its role
-abbrev IsOwn : Role → List ℕ → Tree → Type 0
-IsOwn Parameter name t = name ≡ unwrap_or (text_at (codes "id") (entries_in t)) []
-IsOwn Attribute name t = (k : ℕ) × (name ≡ unwrap_or (text_at (codes "id") (entries_in t)) (unnamed k))
-IsOwn Instance name t = Unit {0}
+abbrev IsOwn : Role → Role → List ℕ → Tree → Type 0
+IsOwn Instance role name t = Unit {0}
+IsOwn _ role name t = (k : ℕ) × (name ≡ unwrap_or (text_at (codes "id") (entries_in t)) (unnamed role k))
 
 abbrev HasOwnName : Member → Type 0
-HasOwnName m = IsOwn m.role m.name m.value
+HasOwnName m = IsOwn m.role m.role m.name m.value
 
-attributes_own : (n k : ℕ) (ts : List Tree) → Each HasOwnName (attributes_from n k ts)
-attributes_own n k [] = tt
-attributes_own n k (t ∷ ts) = ((k, refl), attributes_own n (k + 1) ts)
+item_own : (role : Role) (k : ℕ) (t : Tree) → HasOwnName (item role k t)
+item_own Parameter k t = (k, refl)
+item_own Attribute k t = (k, refl)
+item_own Instance k t = tt
 
-key_own : (n : ℕ) (p : Pair) → Each HasOwnName (members_at_key n p)
+items_own : (role : Role) (k : ℕ) (ts : List Tree) → Each HasOwnName (items_from role k ts)
+items_own role k [] = tt
+items_own role k (t ∷ ts) = (item_own role k t, items_own role (k + 1) ts)
+
+key_own : (p : Pair) → Each HasOwnName (members_at_key p)
 unfolding members_at_key
-key_own n p = go (bytes_eq p.key (codes "params")) (bytes_eq p.key (codes "seq")) (bytes_eq p.key (codes "instances"))
+key_own p = go (bytes_eq p.key (codes "params")) (bytes_eq p.key (codes "seq")) (bytes_eq p.key (codes "instances"))
   where
-    go : (a b c : Bool) → Each HasOwnName (cond a (map (parameter n) (unwrap_or (list_of p.value) [])) (cond b (attributes_from n 0 (unwrap_or (list_of p.value) [])) (cond c (map (instance n) (unwrap_or (mapping_of p.value) [])) [])))
-    go true b c = each_mapped HasOwnName (parameter n) (unwrap_or (list_of p.value) []) (λ t. refl)
-    go false true c = attributes_own n 0 (unwrap_or (list_of p.value) [])
-    go false false true = each_mapped HasOwnName (instance n) (unwrap_or (mapping_of p.value) []) (λ p. tt)
+    go : (a b c : Bool) → Each HasOwnName (cond a (items_from Parameter 0 (unwrap_or (list_of p.value) [])) (cond b (items_from Attribute 0 (unwrap_or (list_of p.value) [])) (cond c (map instance (unwrap_or (mapping_of p.value) [])) [])))
+    go true b c = items_own Parameter 0 (unwrap_or (list_of p.value) [])
+    go false true c = items_own Attribute 0 (unwrap_or (list_of p.value) [])
+    go false false true = each_mapped HasOwnName instance (unwrap_or (mapping_of p.value) []) (λ p. tt)
     go false false false = tt
 
-types_own : (n : ℕ) (ss : List Scope) → Each HasOwnName (members_from n ss)
-unfolding members_of_type
-types_own n [] = tt
-types_own n (s ∷ ss) = each_and HasOwnName (members_of_type n s) (members_from (n + 1) ss) (each_of_all HasOwnName (members_at_key n) (keys_of s) (key_own n)) (types_own (n + 1) ss)
-
-pub members_own : (ss : List Scope) → Each HasOwnName (members_of ss)
+members_own : (r : Row) → Each HasOwnName (members_of r)
 unfolding members_of
-members_own ss = types_own 0 ss
+members_own r = each_of_all HasOwnName members_at_key (keys_of r) key_own
 
 -- a member without faults has a text for its name
-name_in : (h : Home) (m : Member) (name_line line : ℕ) (role : Role) (es : List Pair) → is_instance role ≡ false → IsOwn role m.name m.value → entries_in m.value ≡ es → role_faults role h name_line line es ≡ [] → is_utf8 m.name ≡ true
-unfolding role_faults parameter_faults attribute_faults form_in
-name_in h m name_line line Parameter es i own e k =
-    let named : m.name ≡ unwrap_or (text_at (codes "id") es) [] = own ∙ ap (λ es. unwrap_or (text_at (codes "id") es) []) e in
-    ap is_utf8 named ∙ id_or [] (text_at (codes "id") es) (λ text. at_id (value_faults h) parameter_keys es text (by_value h) refl (front _ _ k)) no_text
-name_in h m name_line line Attribute es i own e k =
-    let named : m.name ≡ unwrap_or (text_at (codes "id") es) (unnamed own.0) = own.1 ∙ ap (λ es. unwrap_or (text_at (codes "id") es) (unnamed own.0)) e in
-    ap is_utf8 named ∙ id_or (unnamed own.0) (text_at (codes "id") es) (λ text. at_id (value_faults h) attribute_keys es text (by_value h) refl (front _ _ k)) (unnamed_is_text own.0)
-name_in h m name_line line Instance es i own e k = absurd cc
+own_text : (h : Home) (kind : MappingKind) (line : ℕ) (m : Member) (role : Role) (es : List Pair) → form_in kind (codes "id") ≡ Some forms.Id → (k : ℕ) × (m.name ≡ unwrap_or (text_at (codes "id") (entries_in m.value)) (unnamed role k)) → entries_in m.value ≡ es → mapping_faults h kind line es ≡ [] → is_utf8 m.name ≡ true
+own_text h kind line m role es f own e k =
+    ap is_utf8 (own.1 ∙ ap (λ es. unwrap_or (text_at (codes "id") es) (unnamed role own.0)) e)
+    ∙ id_or (unnamed role own.0) (text_at (codes "id") es) (λ text. at_id h kind es text f (keys_read h kind line es k)) (unnamed_is_text role own.0)
 
-member_text : (d : Declared) (i : ℕ) (m : Member) → HasOwnName m → member_faults d i m ≡ [] → is_utf8 m.name ≡ true
-unfolding member_faults mapping_faults
-member_text d i m own k = by_role (is_instance m.role) refl
+name_in : (h : Home) (m : Member) (line : ℕ) (role : Role) (es : List Pair) → is_instance role ≡ false → IsOwn role m.role m.name m.value → entries_in m.value ≡ es → mapping_faults h (mapping_kind role es) line es ≡ [] → is_utf8 m.name ≡ true
+unfolding form_in form_among
+name_in h m line Parameter es i own e k = own_text h kinds.Parameter line m m.role es refl own e k
+name_in h m line Attribute es i own e k = own_text h kinds.Attribute line m m.role es refl own e k
+name_in h m line Instance es i own e k = absurd cc
+
+member_text : (d : Declared) (n i : ℕ) (m : Member) → HasOwnName m → member_faults d n i m ≡ [] → is_utf8 m.name ≡ true
+unfolding member_faults member_mapping_faults
+member_text d n i m own k = by_role (is_instance m.role) refl
   where
-    mapped : is_instance m.role ≡ false → (o : Option (List Pair)) → mapping_of m.value ≡ o → option_map_or (mapping_faults d m) o (fault m.line bad_value) ≡ [] → is_utf8 m.name ≡ true
+    mapped : is_instance m.role ≡ false → (o : Option (List Pair)) → mapping_of m.value ≡ o → option_map_or (member_mapping_faults d n m) o (fault m.line bad_value) ≡ [] → is_utf8 m.name ≡ true
     mapped r None e k = absurd (no_fault m.line bad_value k)
-    mapped r (Some es) e k = name_in (home_of d m es) m m.line (line_of m.value) m.role es r own (ap (λ o. unwrap_or o []) e) k
+    mapped r (Some es) e k = name_in (home_of d n m.role es) m (line_of m.value) m.role es r own (ap (λ o. unwrap_or o []) e) (front _ _ k)
 
     by_role : (b : Bool) → is_instance m.role ≡ b → is_utf8 m.name ≡ true
     by_role true e =
@@ -150,60 +141,95 @@ member_text d i m own k = by_role (is_instance m.role) refl
         id_is_text m.name (not_not (is_id m.name) (ap (λ (b : Bool). b && not (is_id m.name)) (sym e) ∙ wrong))
     by_role false e = mapped e (mapping_of m.value) refl (front _ _ (front _ _ k))
 
-texts_of : (d : Declared) (i : ℕ) (ms : List Member) → Each HasOwnName ms → each_from (member_faults d) i ms ≡ [] → list_all (λ m. is_utf8 m.name) ms ≡ true
-texts_of d i [] own k = refl
-texts_of d i (m ∷ ms) own k =
-    let here = member_text d i m own.0 (front _ _ k) in
-    let rest = texts_of d (i + 1) ms own.1 (back _ _ k) in
+texts_of : (d : Declared) (n i : ℕ) (ms : List Member) → Each HasOwnName ms → each_from (member_faults d n) i ms ≡ [] → list_all (λ m. is_utf8 m.name) ms ≡ true
+texts_of d n i [] own k = refl
+texts_of d n i (m ∷ ms) own k =
+    let here = member_text d n i m own.0 (front _ _ k) in
+    let rest = texts_of d n (i + 1) ms own.1 (back _ _ k) in
     ap (λ (b : Bool). b && list_all (λ m. is_utf8 m.name) ms) here ∙ rest
 
-pub names_are_texts : (d : Declared) → Each HasOwnName d.members → each_from (member_faults d) 0 d.members ≡ [] → are_texts d.members ≡ true
-unfolding are_texts
-names_are_texts d own k = texts_of d 0 d.members own k
+names_are_texts : (d : Declared) (n : ℕ) (rs : List Row) → each_from (members_faults d) n (map members_of rs) ≡ [] → list_all are_texts (map members_of rs) ≡ true
+unfolding are_texts members_faults
+names_are_texts d n [] k = refl
+names_are_texts d n (r ∷ rs) k =
+    ap (λ (b : Bool). b && list_all are_texts (map members_of rs)) (texts_of d n 0 (members_of r) (members_own r) (back _ _ (front _ _ k))) ∙ names_are_texts d (n + 1) rs (back _ _ k)
 
 -- ---- ids of types
 
 -- the ids of types behind the root
-later_texts : (d : Declared) (n : ℕ) (ss : List Scope) → each_from (numbered_type_faults d) (n + 1) ss ≡ [] → (s : Scope) (i : ℕ) → slice_get ss i ≡ Some s → is_utf8 s.id ≡ true
+later_texts : (d : Declared) (n : ℕ) (rs : List Row) → each_from (type_faults d) (n + 1) rs ≡ [] → AreTyped rs
 unfolding type_faults
-later_texts d n [] k s i e = absurd cc
-later_texts d n (s ∷ ss) k t zero e =
-    let wrong = not_if (not (n + 1 == 0) && not (is_id s.id)) s.line bad_value (back _ _ (front _ _ k)) in
-    ap (λ (s : Scope). is_utf8 s.id) (sym (some_same s t e)) ∙ id_is_text s.id (not_not (is_id s.id) (is_later n (not (is_id s.id)) wrong))
+later_texts d n [] k = tt
+later_texts d n (r ∷ rs) k =
+    let wrong = not_if (not (n + 1 == 0) && not (is_id r.id)) r.line bad_value (back _ _ (front _ _ k)) in
+    (id_is_text r.id (not_not (is_id r.id) (is_later n (not (is_id r.id)) wrong)), later_texts d (n + 1) rs (back _ _ k))
   where
     is_later : (n : ℕ) (b : Bool) → (not (n + 1 == 0) && b) ≡ false → b ≡ false
     is_later n b h = grind (arith, nat_tests)
-later_texts d n (s ∷ ss) k t (suc i) e = later_texts d (n + 1) ss (back _ _ k) t i e
 
 -- the root's own id
-root_text : (h : Home) (t : Tree) → type_faults h (root_scope t) ≡ [] → is_utf8 (own_id t) ≡ true
-unfolding type_faults type_key_faults meta_faults own_id form_in
-root_text h t k = go (mapping_of t) (front _ _ k)
+root_text : (d : Declared) (t : Tree) → type_faults d 0 (root_row t) ≡ [] → is_utf8 (root_row t).id ≡ true
+unfolding type_faults type_keys_faults meta_faults form_in form_among
+root_text d t k = go (mapping_of t) (front _ _ k)
   where
-    meta : (p : Pair) (o : Option (List Pair)) → option_map_or (meta_key_faults h (line_of p.value)) o [] ≡ [] → is_utf8 (unwrap_or (text_at (codes "id") (unwrap_or o [])) []) ≡ true
+    meta : (p : Pair) (o : Option (List Pair)) → option_map_or (mapping_faults (home_in d 0) kinds.RootMeta (line_of p.value)) o [] ≡ [] → is_utf8 (unwrap_or (text_at (codes "id") (unwrap_or o [])) []) ≡ true
     meta p None k = no_text
-    meta p (Some ms) k = id_or [] (text_at (codes "id") ms) (λ text. at_id (form_faults h) meta_keys ms text (by_form h) refl (front _ _ k)) no_text
+    meta p (Some ms) k = id_or [] (text_at (codes "id") ms) (λ text. at_id (home_in d 0) kinds.RootMeta ms text refl (keys_read (home_in d 0) kinds.RootMeta (line_of p.value) ms k)) no_text
 
-    keyed : (o : Option Pair) → meta_faults h o ≡ [] → is_utf8 (unwrap_or (text_at (codes "id") (unwrap_or (option_and_then (λ p. mapping_of p.value) o) [])) []) ≡ true
+    keyed : (o : Option Pair) → option_map_or (meta_faults (home_in d 0) 0) o [] ≡ [] → is_utf8 (unwrap_or (text_at (codes "id") (unwrap_or (option_and_then (λ p. mapping_of p.value) o) [])) []) ≡ true
     keyed None k = no_text
     keyed (Some p) k = meta p (mapping_of p.value) k
 
-    go : (o : Option (List Pair)) → option_map_or (type_key_faults h (line_of t)) o (fault (line_of t) bad_value) ≡ [] → is_utf8 (unwrap_or (text_at (codes "id") (entries_at (codes "meta") (unwrap_or o []))) []) ≡ true
+    go : (o : Option (List Pair)) → option_map_or (type_keys_faults (home_in d 0) 0 (line_of t)) o (fault (line_of t) bad_value) ≡ [] → is_utf8 (unwrap_or (text_at (codes "id") (entries_at (codes "meta") (unwrap_or o []))) []) ≡ true
     go None k = no_text
-    go (Some es) k = keyed (entry_at (codes "meta") es) (back _ _ (front _ _ k))
+    go (Some es) k = keyed (entry_at (codes "meta") es) (back _ _ k)
 
-pub ids_are_texts : (t : Tree) → each_from (numbered_type_faults (declared_in t)) 0 (types_of t) ≡ [] → AreTyped (types_of t)
+-- ---- the first type stays the first one
+
+abbrev Keeps : Row → List Row → Type 0
+Keeps r rows = (rest : List Row) × (rows ≡ r ∷ rest)
+
+either : (r : Row) (b : Bool) (xs ys : List Row) → Keeps r xs → Keeps r ys → Keeps r (cond b xs ys)
+either r true xs ys x y = x
+either r false xs ys x y = y
+
+mutual
+  types_keep : (n : ℕ) (t : Tree) (r : Row) (rows : List Row) → Keeps r (with_types n t (r ∷ rows))
+  types_keep n (Text _ _ _) r rows = (rows, refl)
+  types_keep n (Seq _ _) r rows = (rows, refl)
+  types_keep n (Map _ es) r rows = key_keeps n es r rows
+
+  key_keeps : (n : ℕ) (es : Entries) (r : Row) (rows : List Row) → Keeps r (with_key n es (r ∷ rows))
+  key_keeps n no_entries r rows = (rows, refl)
+  key_keeps n (entry line key value es) r rows = either r (bytes_eq key (codes "types")) (with_named n value (r ∷ rows)) (with_key n es (r ∷ rows)) (named_keep n value r rows) (key_keeps n es r rows)
+
+  named_keep : (n : ℕ) (t : Tree) (r : Row) (rows : List Row) → Keeps r (with_named n t (r ∷ rows))
+  named_keep n (Text _ _ _) r rows = (rows, refl)
+  named_keep n (Seq _ _) r rows = (rows, refl)
+  named_keep n (Map _ es) r rows = each_keeps n es r rows
+
+  each_keeps : (n : ℕ) (es : Entries) (r : Row) (rows : List Row) → Keeps r (with_each n es (r ∷ rows))
+  each_keeps n no_entries r rows = (rows, refl)
+  each_keeps n (entry line id value es) r rows =
+      let one = types_keep (length (r ∷ rows)) value r (rows ++ record { within = Some n; line = line; id = id; value = value } ∷ []) in
+      let more = each_keeps n es r one.0 in
+      (more.0, ap (with_each n es) one.1 ∙ more.1)
+
+ids_are_texts : (d : Declared) (t : Tree) → each_from (type_faults d) 0 (types_of t) ≡ [] → AreTyped (types_of t)
 unfolding types_of
-ids_are_texts t k s zero e = ap (λ (s : Scope). is_utf8 s.id) (sym (some_same (root_scope t) s e)) ∙ root_text (home_in (declared_in t) 0) t (front _ _ k)
-ids_are_texts t k s (suc i) e = later_texts (declared_in t) 0 (types_within (0 ∷ []) 1 t) (back _ _ k) s i e
+ids_are_texts d t k =
+    let r = types_keep 0 t (root_row t) [] in
+    let f : each_from (type_faults d) 0 (root_row t ∷ r.0) ≡ [] = ap (each_from (type_faults d) 0) (sym r.1) ∙ k in
+    subst AreTyped (sym r.1) (root_text d t (front _ _ f), later_texts d 0 r.0 (back _ _ f))
 
 -- ---- trees
 
 tree_good : (t : Tree) → faults t ≡ [] → (d : Description) × (stated t ≡ Some d) × IsResolved d
 unfolding faults faults_of stated
 tree_good t k =
-    let k2 = front _ _ (front _ _ k) in
-    declared_good (declared_in t) (names_are_texts (declared_in t) (members_own (types_of t)) (back _ _ k2)) (ids_are_texts t (back _ _ (front _ _ k2))) (constants_within (enums_of (types_of t))) k
+    let d = declared_in t in
+    let k4 = front _ _ k in
+    declared_good d (names_are_texts d 0 d.types (back _ _ k4)) (ids_are_texts d t (back _ _ (front _ _ k4))) k
 
 pub tree_states : (t : Tree) → faults t ≡ [] → (d : Description) × States t d
 tree_states t k = let r = tree_good t k in (r.0, record { faultless = k; is = r.1 })

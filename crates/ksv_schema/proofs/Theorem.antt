@@ -3,7 +3,7 @@ use Rattle.std.proofs.Common.{◌≡◌, ℕ, false, List, [], sym, ap, subst, �
 use Rattle.std.specs.Prelude.{nat_lt, ◌==◌, ◌||◌, ◌&&◌, ◌≢◌, All, Contains}
 use Rattle.std.proofs.lemmas.Bool.Decides.{nat_tests}
 use Rattle.ksv_yaml_tree.specs.Tree.{Tree}
-use Rattle.ksv_schema_scope.specs.Declarations.{declared_in}
+use Rattle.ksv_schema_scope.specs.Rows.{declared_in}
 use Rattle.ksv_schema_faults.specs.Faults.{Fault, is_below, noted}
 use Rattle.ksv_schema_faults.specs.Rules.{faults_of, faults}
 use Rattle.ksv_schema_build.specs.Stated.{stated_by, stated}

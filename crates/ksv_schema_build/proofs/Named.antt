@@ -1,9 +1,11 @@
 -- Names that are texts, and members whose names are added one after the other.
 use Rattle.std.proofs.Common.{◌≡◌, ℕ, suc, ◌+◌, ◌<◌, ◌≤◌, Bool, true, false, ◌&&◌, cond, List, [], ◌∷◌, map, length, get_or, drop, Some, None, refl, sym, ap, ◌∙◌, add-one, drop-cons}
+use Rattle.std.specs.List.{list_all}
 use Rattle.std.specs.Str.{is_utf8}
+use Rattle.ksv_schema_scope.specs.Members.{Member}
 use Rattle.std.proofs.lemmas.List.{drop_all}
-use Rattle.ksv_schema_scope.specs.declared.member.Member.{Member as MemberRow}
-use Rattle.ksv_schema_scope.specs.MemberRows.{member_of as row}
+use Rattle.ksv_schema_scope.specs.declared.members.Member.{Member as MemberRow}
+use Rattle.ksv_schema_scope.specs.Code.{member_of as row}
 use Rattle.ksv_desc.specs.Names.{distinct_behind}
 use Rattle.ksv_schema_build.specs.Stated.{are_texts}
 use Rattle.ksv_desc.specs.Description.{as_text}
@@ -59,3 +61,9 @@ texts_end ms i b le now = sym (now ∙ ap (λ (xs : List MemberRow). are_texts (
 
 pub added_end : (ms : List MemberRow) (i : ℕ) (o q : List (List ℕ)) → length ms ≤ i → distinct_behind o (names_in (drop i ms)) ≡ q → o ≡ q
 added_end ms i o q le now = ap (λ (xs : List MemberRow). distinct_behind o (names_in xs)) (sym (drop_all i ms le)) ∙ now
+
+-- the members of each type are texts
+pub all_step : {S : Type 0} (see : S → List Member) (vs : List S) (i : ℕ) (v : S) → i < length vs → v ≡ get_or vs i v → (b : Bool) → are_texts (see v) ≡ true → b ≡ list_all are_texts (map see (drop i vs)) → b ≡ list_all are_texts (map see (drop (i + 1) vs))
+all_step see vs i v lt is b t now =
+    let front : drop i vs ≡ v ∷ drop (i + 1) vs = drop-cons vs i v lt ∙ ap (λ (x : _). x ∷ drop (suc i) vs) (sym is) ∙ ap (λ (j : ℕ). v ∷ drop j vs) (sym (add-one i)) in
+    now ∙ ap (λ (xs : List _). list_all are_texts (map see xs)) front ∙ ap (λ (c : Bool). c && list_all are_texts (map see (drop (i + 1) vs))) t

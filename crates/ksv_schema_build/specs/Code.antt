@@ -1,10 +1,10 @@
 -- Parts of pieces that the code builds one by one.
-use Rattle.std.specs.Prelude.{ℕ, List, Option, Some, None, Result, Ok, Err, option_map, codes}
+use Rattle.std.specs.Prelude.{ℕ, List, [], Option, Some, None, Result, Ok, Err, option_map, codes}
 use Rattle.ksv_yaml_tree.specs.Tree.{Pair}
 use Rattle.ksv_expr_syntax.specs.Reading.{◌>>=◌}
 use Rattle.ksv_expr_tree.specs.Tree as expressions
 use Rattle.ksv_yaml_tree.specs.Keys.{text_at}
-use Rattle.ksv_schema_scope.specs.Enums.{enum_named}
+use Rattle.ksv_schema_scope.specs.Types.{enum_from}
 use Rattle.ksv_schema_names.specs.Numbered.{given_member}
 use Rattle.ksv_schema_keys.specs.Values.{case_key, ids_of}
 use Rattle.ksv_schema_build.specs.Stated.{Context, value_of}
@@ -18,10 +18,10 @@ both one (Err e) = Err e
 
 -- the enum of a path, and the one at the key `enum`
 abbrev pub enum_of : Context → Option (List (List ℕ)) → Option ℕ
-enum_of c path = path >>= enum_named c.declared.types c.declared.enums c.within
+enum_of c path = path >>= enum_from c.declared.types c.declared.enums c.within []
 
 abbrev pub enum_at : Context → List Pair → Option ℕ
-enum_at c es = text_at (codes "enum") es >>= ids_of >>= enum_named c.declared.types c.declared.enums c.within
+enum_at c es = text_at (codes "enum") es >>= ids_of >>= enum_from c.declared.types c.declared.enums c.within []
 
 -- the value of a key of `cases` that is a member, and of one that was read
 abbrev pub member_value : Context → expressions.MemberPath → Option (Option CaseValue)

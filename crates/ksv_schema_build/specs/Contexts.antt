@@ -1,5 +1,5 @@
 -- Where the code builds a piece of a description.
-use Rattle.ksv_schema_scope.specs.Declarations.{declared}
+use Rattle.ksv_schema_scope.specs.Table.{declared}
 use Rattle.ksv_schema_build.specs.declared.context.Context.{Context as CodeContext}
 use Rattle.ksv_schema_build.specs.Stated.{Context}
 

@@ -1,9 +1,9 @@
 -- The description that a tree states: its types with their members, its enums, and the names of all members. Types,
 -- enums and names are known by their numbers; every name is resolved.
-use Rattle.std.specs.Prelude.{ℕ, ◌+◌, Bool, if◌then◌else◌, ◌==◌, List, [], ◌∷◌, ◌++◌, length, map, filter, flat_map, codes, Option, Some, None, option_map}
+use Rattle.std.specs.Prelude.{ℕ, ◌+◌, Bool, if◌then◌else◌, ◌==◌, List, [], ◌∷◌, ◌++◌, length, map, flat_map, codes, Option, Some, None, option_map}
 use Rattle.std.specs.List.{list_all}
 use Rattle.std.specs.Option.{option_map_or}
-use Rattle.std.specs.Str.{bytes_eq, is_utf8}
+use Rattle.std.specs.Str.{is_utf8}
 use Rattle.ksv_yaml_tree.specs.Tree.{Tree, Pair, text_of, mapping_of, entry_at}
 use Rattle.ksv_expr_syntax.specs.Reading.{◌>>=◌}
 use Rattle.ksv_expr_tree.specs.Tree.{Arguments}
@@ -11,30 +11,27 @@ use Rattle.ksv_expr_tree.specs.Tree as expressions
 use Rattle.ksv_desc.specs.declared.order.ByteOrder.{ByteOrder}
 use Rattle.ksv_desc.specs.declared.order.ByteOrder.TheVariants as orders
 use Rattle.ksv_yaml_tree.specs.Keys.{entries_in, has, says, text_at, entries_at}
-use Rattle.ksv_schema_scope.specs.Types.{Scope, type_named, order_of, encoding_of}
-use Rattle.ksv_schema_scope.specs.declared.member.Role.{Role}
-use Rattle.ksv_schema_scope.specs.declared.member.Role.TheVariants as roles
-use Rattle.ksv_schema_scope.specs.Members.{is_parameter, Member, members_within}
-use Rattle.ksv_schema_scope.specs.Enums.{Enumeration, Constant, enum_named, number_of, id_of}
-use Rattle.ksv_schema_scope.specs.Declarations.{Declared, declared_in}
+use Rattle.ksv_schema_scope.specs.Types.{type_named, enum_from, order_of, encoding_of}
+use Rattle.ksv_schema_scope.specs.declared.members.Role.{Role}
+use Rattle.ksv_schema_scope.specs.declared.members.Role.TheVariants as roles
+use Rattle.ksv_schema_scope.specs.Members.{Member, members_of}
+use Rattle.ksv_schema_scope.specs.Enums.{number_of, id_of}
+use Rattle.ksv_schema_scope.specs.Rows.{Row, keys_of, Declared, declared_in}
 use Rattle.ksv_schema_names.specs.declared.built_ins.BuiltIn.{BuiltIn}
 use Rattle.ksv_schema_names.specs.declared.built_ins.BuiltIn.TheVariants.{Integer, Str, Strz, NotHere}
 use Rattle.ksv_schema_names.specs.Numbered.{given_member, numbered, all_numbered}
 use Rattle.ksv_desc.specs.Names.{distinct, distinct_behind, number_in, dotted, all_dotted}
-use Rattle.ksv_schema_names.specs.declared.position.Site.TheVariants as sites
 use Rattle.ksv_expr_value.specs.declared.encoding.Encoding.{Encoding}
 use Rattle.ksv_desc.specs.Description.{Content, Bytes, Fixed, Number, Characters, Object, CaseValue, Literal, Negated, EnumValue, Case, Choice, Always, Switch, Extent, Sized, SizeEos, ByItself, Terminator, Repeat, Once, Eos, Expr, Until, Field, MemberKind, Parameter, Attribute, ParseInstance, ValueInstance, MemberOfType, TypeOfObjects, Numbered, Enum, Description, as_text}
 use Rattle.ksv_schema_keys.specs.declared.keys.Form.TheVariants as forms
 use Rattle.ksv_schema_keys.specs.declared.keys.Form.{Form}
-use Rattle.ksv_schema_keys.specs.Keys.{Key, key, parse_instance_keys, switch_keys, form_in}
+use Rattle.ksv_schema_keys.specs.declared.keys.MappingKind.{MappingKind}
+use Rattle.ksv_schema_keys.specs.declared.keys.MappingKind.TheVariants as kinds
+use Rattle.ksv_schema_keys.specs.Keys.{kind_of as mapping_kind, form_in}
 use Rattle.ksv_schema_keys.specs.Expressions.{expression_of}
 use Rattle.ksv_schema_keys.specs.Values.{encoding_named, TypeText, Unspelled, OfLanguage, OfDescription, type_text, is_strz, own_type, is_a, byte_at, contents_of, CaseKey, Constant as ConstantKey, Negative, Member as MemberKey, Default, NoKey, case_key, ids_of, is_true, is_not_false, is_to_end}
 
 -- ---- the names of a description
-
--- the keys that have expressions
-abbrev pub naming_keys : List Key
-naming_keys = key (codes "value") (forms.Expression sites.Value) ∷ parse_instance_keys
 
 -- the names after dots in an expression, and in the arguments of a type
 unfoldable pub expression_words : List ℕ → List (List ℕ)
@@ -55,21 +52,23 @@ form_words p forms.TypeOrSwitch = type_words p
 form_words p forms.Cases = flat_map type_words (entries_in p.value)
 form_words p _ = []
 
-unfoldable pub key_words : List Key → Pair → List (List ℕ)
-key_words table p = option_map_or (form_words p) (form_in table p.key) []
+unfoldable pub key_words : MappingKind → Pair → List (List ℕ)
+key_words kind p = option_map_or (form_words p) (form_in kind p.key) []
 
--- a switch has keys of its own
-unfoldable pub entry_words : Pair → List (List ℕ)
-entry_words p = key_words naming_keys p ++ (if bytes_eq p.key (codes "type") then flat_map (key_words switch_keys) (entries_in p.value) else [])
-
+-- a switch at `type` has keys of its own
 unfoldable pub member_words : Member → List (List ℕ)
-member_words m = if is_parameter m then [] else flat_map entry_words (entries_in m.value)
+member_words m =
+    let es = entries_in m.value in
+    flat_map (key_words (mapping_kind m.role es)) es ++ flat_map (key_words kinds.Switch) (entries_at (codes "type") es)
+
+abbrev pub names_in : List Member → List (List ℕ)
+names_in ms = map (λ m. m.name) ms
 
 unfoldable pub member_names : Declared → List (List ℕ)
-member_names d = distinct (map (λ m. m.name) d.members)
+member_names d = distinct (flat_map names_in (map members_of d.types))
 
 unfoldable pub names_of : Declared → List (List ℕ)
-names_of d = distinct_behind (member_names d) (flat_map member_words d.members)
+names_of d = distinct_behind (member_names d) (flat_map (flat_map member_words) (map members_of d.types))
 
 -- whether the names of members are texts in UTF-8
 unfoldable pub are_texts : List Member → Bool
@@ -99,7 +98,7 @@ perhaps_expression c name es = if has name es then option_map Some (expression_a
 unfoldable pub perhaps_enum : Context → List Pair → Option (Option ℕ)
 perhaps_enum c es =
     if has (codes "enum") es then
-    option_map Some (text_at (codes "enum") es >>= ids_of >>= enum_named c.declared.types c.declared.enums c.within)
+    option_map Some (text_at (codes "enum") es >>= ids_of >>= enum_from c.declared.types c.declared.enums c.within [])
     else Some None
 
 -- the encoding of an attribute, its own or the one in force
@@ -238,22 +237,22 @@ member_of c m = do
 
 -- ---- types and enums
 
-unfoldable pub type_of : Declared → List (List ℕ) → ℕ → Scope → Option TypeOfObjects
-type_of d names n s = do
-  id ← as_text s.id
-  members ← each (member_of (record { declared = d; names = names; within = n })) (members_within d.members n)
+unfoldable pub type_of : Declared → List (List ℕ) → ℕ → Row → Option TypeOfObjects
+type_of d names n r = do
+  id ← as_text r.id
+  members ← each (member_of (record { declared = d; names = names; within = n })) (members_of r)
   Some (record { id = id; members = members })
 
-unfoldable pub numbered_of : Constant → Option Numbered
-numbered_of c = do
-  number ← number_of c
-  id ← id_of c.value >>= as_text
+unfoldable pub numbered_of : Pair → Option Numbered
+numbered_of p = do
+  number ← number_of p
+  id ← id_of p >>= as_text
   Some (record { number = number; id = id })
 
-unfoldable pub enum_of : Declared → ℕ → Enumeration → Option Enum
-enum_of d e x = do
-  id ← as_text x.id
-  members ← each numbered_of (filter (λ c. c.within == e) d.constants)
+unfoldable pub enum_of : Row → Option Enum
+enum_of r = do
+  id ← as_text r.id
+  members ← each numbered_of (keys_of r)
   Some (record { id = id; members = members })
 
 -- the results for all of a list, the first of which has the number n
@@ -270,11 +269,11 @@ each_numbered f n (x ∷ xs) = do
 unfoldable pub described : Declared → List (List ℕ) → ℕ → Option Description
 described d names known = do
   types ← each_numbered (type_of d names) 0 d.types
-  enums ← each_numbered (enum_of d) 0 d.enums
+  enums ← each enum_of d.enums
   Some (record { types = types; enums = enums; names = names; known = known })
 
 unfoldable pub stated_by : Declared → Option Description
-stated_by d = if are_texts d.members then described d (names_of d) (length (member_names d)) else None
+stated_by d = if list_all are_texts (map members_of d.types) then described d (names_of d) (length (member_names d)) else None
 
 unfoldable pub stated : Tree → Option Description
 stated t = stated_by (declared_in t)

@@ -1,13 +1,13 @@
 //! The description that a tree states, piece by piece as its definition has them.
 
 ghost use Rattle.std.specs.Prelude.{◌≡◌, IfOk, option_map};
-ghost use Rattle.ksv_schema_scope.specs.Declarations.{declared};
+ghost use Rattle.ksv_schema_scope.specs.Table.{declared};
 ghost use Rattle.ksv_schema_build.specs.Stated.{described, stated_by};
 ghost use Rattle.ksv_desc.specs.Whole.{plain_pieces};
 
 use crate::both::{Made, both};
 use crate::enums::enums_of;
-use crate::names::{add_dotted, add_members};
+use crate::names::{add_all_members, add_dotted};
 use crate::types::types_of;
 use ksv_desc::Pieces;
 use ksv_schema_names::Names;
@@ -22,7 +22,7 @@ fn described(alloc: Global, scopes: &Scopes, names: Names, known: usize) -> Made
     let Some(types) = types_of(alloc, scopes, &names)? else {
         return Ok(None);
     };
-    let enums = enums_of(alloc, scopes);
+    let enums = enums_of(alloc, scopes.enums());
     match both(types, enums)? {
         Some((types, enums)) => Ok(Some(Pieces {
             types,
@@ -40,7 +40,7 @@ pub fn build(alloc: Global, scopes: &Scopes) -> Made<Pieces>
     ensures { IfOk result (λ o. option_map plain_pieces o ≡ stated_by (declared scopes.now)) }
 {
     let mut names = Names::new(alloc);
-    if !add_members(&mut names, scopes.members())? {
+    if !add_all_members(&mut names, scopes.members())? {
         return Ok(None);
     }
     let known = names.len();

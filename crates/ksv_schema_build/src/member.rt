@@ -2,7 +2,7 @@
 
 ghost use Rattle.std.specs.Prelude.{◌≡◌, map, IfOk, option_map};
 ghost use Rattle.ksv_yaml_tree.specs.View.{pair};
-ghost use Rattle.ksv_schema_scope.specs.MemberRows.{member_of as row};
+ghost use Rattle.ksv_schema_scope.specs.Code.{member_of as row};
 ghost use Rattle.ksv_schema_build.specs.Contexts.{context_of};
 ghost use Rattle.ksv_schema_build.specs.Stated.{parse_instance_of, value_instance_of, kind_of, member_of, each};
 ghost use Rattle.ksv_desc.specs.Pieces.{plain_kind, plain_member};

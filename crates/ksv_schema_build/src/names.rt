@@ -1,30 +1,46 @@
 //! The names of a description: those of its members, and then those after dots.
 
 ghost use Rattle.std.specs.Prelude.{◌≡◌, true, map, IfOk, OnOk, flat_map};
+ghost use Rattle.std.specs.List.{list_all};
 ghost use Rattle.ksv_yaml_tree.specs.View.{pair};
-ghost use Rattle.ksv_schema_scope.specs.MemberRows.{member_of as row};
+ghost use Rattle.ksv_schema_scope.specs.Code.{member_of as row};
 ghost use Rattle.ksv_desc.specs.Names.{distinct_behind};
 ghost use Rattle.ksv_schema_keys.specs.Code.{seen_type_text};
-ghost use Rattle.ksv_schema_keys.specs.Keys.{switch_keys};
-ghost use Rattle.ksv_schema_build.specs.Stated.{naming_keys, expression_words, argument_words, type_words, form_words, key_words, entry_words, member_words, are_texts};
+ghost use Rattle.ksv_schema_build.specs.Stated.{expression_words, argument_words, type_words, form_words, key_words, member_words, names_in, are_texts};
 
 use crate::texts::as_text;
-use ksv_schema_keys::{Form, MappingKind, TypeText, form_in, read_expression, type_text};
-use ksv_schema_names::{Names, Site};
-use ksv_schema_scope::{Member, Role};
+use ksv_schema_keys::{Form, MappingKind, TypeText, form_in, kind_of, read_expression, type_text};
+use ksv_schema_names::Names;
+use ksv_schema_scope::Member;
 use ksv_yaml_tree::Entry;
-use ksv_yaml_tree::keys::entries_in;
+use ksv_yaml_tree::keys::{entries_at, entries_in};
 use std::alloc::{AllocError, Global};
 
 /// Adds the names of members, as far as they are texts, and returns whether all are.
-pub(crate) fn add_members(names: &mut Names, members: &[Member]) -> Result<bool, AllocError>
-    ensures added { IfOk result (λ all. all ≡ true → names.new ≡ distinct_behind names.old (map (λ m. m.name) (map row members.now))) }
+fn add_members(names: &mut Names, members: &[Member]) -> Result<bool, AllocError>
+    ensures added { IfOk result (λ all. all ≡ true → names.new ≡ distinct_behind names.old (names_in (map row members.now))) }
     ensures texts { IfOk result (λ all. all ≡ are_texts (map row members.now)) }
 {
     for member in members {
         match as_text(member.name()) {
             Some(text) => names.add(text)?,
             None => return Ok(false),
+        }
+    }
+    Ok(true)
+}
+
+/// Adds the names of the members of each type, as far as they are texts, and returns whether all are.
+pub(crate) fn add_all_members<'a>(
+    names: &mut Names,
+    types: &[Vec<Member<'a>>],
+) -> Result<bool, AllocError>
+    ensures added { IfOk result (λ all. all ≡ true → names.new ≡ distinct_behind names.old (flat_map names_in (map (λ v. map row v.items) types.now))) }
+    ensures texts { IfOk result (λ all. all ≡ list_all are_texts (map (λ v. map row v.items) types.now)) }
+{
+    for members in types {
+        if !add_members(names, members)? {
+            return Ok(false);
         }
     }
     Ok(true)
@@ -93,85 +109,69 @@ fn add_form(alloc: Global, names: &mut Names, entry: &Entry, form: Form) -> Resu
     }
 }
 
-/// Adds the names after dots at a key of a switch.
+/// Adds the names after dots at a key of such a mapping.
 #[tactic(auto, using(ksv_desc::proofs::Dots::steps), unfolding(crate::specs::Stated::key_words))]
-fn add_switch_key(alloc: Global, names: &mut Names, entry: &Entry) -> Result<(), AllocError>
-    ensures { OnOk result (names.new ≡ distinct_behind names.old (key_words switch_keys (pair entry.now))) }
+fn add_key(
+    alloc: Global,
+    names: &mut Names,
+    kind: MappingKind,
+    entry: &Entry,
+) -> Result<(), AllocError>
+    ensures { OnOk result (names.new ≡ distinct_behind names.old (key_words kind (pair entry.now))) }
 {
-    match form_in(MappingKind::Switch, entry.key()) {
+    match form_in(kind, entry.key()) {
         Some(form) => add_form(alloc, names, entry, form),
         None => Ok(()),
     }
 }
 
-/// Adds the names after dots at these keys of a switch.
-fn add_switch(alloc: Global, names: &mut Names, keys: &[Entry]) -> Result<(), AllocError>
-    ensures { OnOk result (names.new ≡ distinct_behind names.old (flat_map (key_words switch_keys) (map pair keys.now))) }
+/// Adds the names after dots at these keys of such a mapping.
+fn add_keys(
+    alloc: Global,
+    names: &mut Names,
+    kind: MappingKind,
+    keys: &[Entry],
+) -> Result<(), AllocError>
+    ensures { OnOk result (names.new ≡ distinct_behind names.old (flat_map (key_words kind) (map pair keys.now))) }
 {
     for key in keys {
-        add_switch_key(alloc, names, key)?;
+        add_key(alloc, names, kind, key)?;
     }
     Ok(())
 }
 
-/// Adds the names after dots at a key that may have an expression or a type.
-#[tactic(auto, using(ksv_desc::proofs::Dots::steps, crate::proofs::Naming::steps), unfolding(crate::specs::Stated::key_words))]
-fn add_key(alloc: Global, names: &mut Names, entry: &Entry) -> Result<(), AllocError>
-    ensures { OnOk result (names.new ≡ distinct_behind names.old (key_words naming_keys (pair entry.now))) }
-{
-    if entry.key() == b"value".as_slice() {
-        return add_form(alloc, names, entry, Form::Expression(Site::Value));
-    }
-    match form_in(MappingKind::ParseInstance, entry.key()) {
-        Some(form) => add_form(alloc, names, entry, form),
-        None => Ok(()),
-    }
-}
-
-/// Adds the names after dots at an entry of a member, including those of a switch.
-#[tactic(auto, using(ksv_desc::proofs::Dots::steps), unfolding(crate::specs::Stated::entry_words))]
-fn add_entry(alloc: Global, names: &mut Names, entry: &Entry) -> Result<(), AllocError>
-    ensures { OnOk result (names.new ≡ distinct_behind names.old (entry_words (pair entry.now))) }
-{
-    add_key(alloc, names, entry)?;
-    if entry.key() == b"type".as_slice() {
-        return add_switch(alloc, names, entries_in(entry.value()));
-    }
-    Ok(())
-}
-
-/// Adds the names after dots at these entries of a member.
-fn add_entries(alloc: Global, names: &mut Names, entries: &[Entry]) -> Result<(), AllocError>
-    ensures { OnOk result (names.new ≡ distinct_behind names.old (flat_map entry_words (map pair entries.now))) }
-{
-    for entry in entries {
-        add_entry(alloc, names, entry)?;
-    }
-    Ok(())
-}
-
-/// Adds the names after dots of a member.
+/// Adds the names after dots of a member, including those of a switch.
 #[tactic(auto, using(ksv_desc::proofs::Dots::steps), unfolding(crate::specs::Stated::member_words))]
 fn add_member(alloc: Global, names: &mut Names, member: &Member) -> Result<(), AllocError>
     ensures { OnOk result (names.new ≡ distinct_behind names.old (member_words (row member.now))) }
 {
-    match member.role {
-        Role::Parameter => Ok(()),
-        Role::Attribute => add_entries(alloc, names, entries_in(member.value)),
-        Role::Instance => add_entries(alloc, names, entries_in(member.value)),
-    }
+    let entries = entries_in(member.value);
+    let kind = kind_of(member.role, entries);
+    add_keys(alloc, names, kind, entries)?;
+    let switch = entries_at(entries, b"type");
+    add_keys(alloc, names, MappingKind::Switch, switch)
 }
 
-/// Adds the names after dots of all members.
-pub(crate) fn add_dotted(
-    alloc: Global,
-    names: &mut Names,
-    members: &[Member],
-) -> Result<(), AllocError>
+/// Adds the names after dots of the members of a type.
+fn add_each(alloc: Global, names: &mut Names, members: &[Member]) -> Result<(), AllocError>
     ensures { OnOk result (names.new ≡ distinct_behind names.old (flat_map member_words (map row members.now))) }
 {
     for member in members {
         add_member(alloc, names, member)?;
+    }
+    Ok(())
+}
+
+/// Adds the names after dots of the members of each type.
+pub(crate) fn add_dotted<'a>(
+    alloc: Global,
+    names: &mut Names,
+    types: &[Vec<Member<'a>>],
+) -> Result<(), AllocError>
+    ensures { OnOk result (names.new ≡ distinct_behind names.old (flat_map (flat_map member_words) (map (λ v. map row v.items) types.now))) }
+{
+    for members in types {
+        add_each(alloc, names, members)?;
     }
     Ok(())
 }

@@ -1,7 +1,9 @@
 //! Types with their members.
 
-ghost use Rattle.std.specs.Prelude.{◌≡◌, map, IfOk, option_map, option_and_then, slice_get};
-ghost use Rattle.ksv_schema_scope.specs.Declarations.{declared};
+ghost use Rattle.std.specs.Prelude.{◌≡◌, map, IfOk, option_map};
+ghost use Rattle.ksv_schema_scope.specs.Members.{members_of};
+ghost use Rattle.ksv_schema_scope.specs.Table.{declared};
+ghost use Rattle.ksv_schema_scope.specs.Code.{row_of, member_of};
 ghost use Rattle.ksv_schema_build.specs.Stated.{type_of, each_numbered};
 ghost use Rattle.ksv_desc.specs.Pieces.{plain_type};
 
@@ -11,43 +13,61 @@ use crate::member::members_of;
 use crate::texts::owned_text;
 use ksv_desc::TypeDesc;
 use ksv_schema_names::Names;
-use ksv_schema_scope::Scopes;
+use ksv_schema_scope::{Member, Row, Scopes};
 use std::alloc::Global;
 
-/// The type `n`.
-#[tactic(auto, using(crate::proofs::EachType::steps), unfolding(crate::specs::Stated::type_of))]
-fn type_of(alloc: Global, scopes: &Scopes, names: &Names, n: usize) -> Made<TypeDesc>
-    ensures { IfOk result (λ o. option_map plain_type o ≡ option_and_then (type_of (declared scopes.now) names.now n) (slice_get (declared scopes.now).types n)) }
+/// A type with these members.
+#[tactic(auto, unfolding(crate::specs::Stated::type_of))]
+fn type_of(
+    alloc: Global,
+    scopes: &Scopes,
+    names: &Names,
+    within: usize,
+    row: &Row,
+    members: &[Member],
+) -> Made<TypeDesc>
+    requires { map member_of members.now ≡ members_of (row_of row.now) }
+    ensures { IfOk result (λ o. option_map plain_type o ≡ type_of (declared scopes.now) names.now within (row_of row.now)) }
 {
-    let Some(id) = scopes.id_of_type(n) else {
-        return Ok(None);
-    };
-    let Some(id) = owned_text(alloc, id)? else {
+    let Some(id) = owned_text(alloc, row.id)? else {
         return Ok(None);
     };
     let context = Context {
         alloc,
         scopes,
         names,
-        within: n,
+        within,
     };
-    let members = scopes.members_within(n);
     let Some(members) = members_of(context, members)? else {
         return Ok(None);
     };
     Ok(Some(TypeDesc::new(alloc, id, members)?))
 }
 
-/// All types.
-pub(crate) fn types_of(alloc: Global, scopes: &Scopes, names: &Names) -> Made<Vec<TypeDesc>>
-    ensures { IfOk result (λ o. option_map (λ v. map plain_type v.items) o ≡ each_numbered (type_of (declared scopes.now) names.now) 0 (declared scopes.now).types) }
+/// Each of these types, of which these are the members.
+fn each_of<'a>(
+    alloc: Global,
+    scopes: &Scopes,
+    names: &Names,
+    types: &[Row<'a>],
+    members: &[Vec<Member<'a>>],
+) -> Made<Vec<TypeDesc>>
+    requires { map (λ v. map member_of v.items) members.now ≡ map members_of (map row_of types.now) }
+    ensures { IfOk result (λ o. option_map (λ v. map plain_type v.items) o ≡ each_numbered (type_of (declared scopes.now) names.now) 0 (map row_of types.now)) }
 {
     let mut made = Vec::new(alloc);
-    for n in 0..scopes.count_of_types() {
-        match type_of(alloc, scopes, names, n)? {
+    for (within, row) in types.iter().enumerate() {
+        match type_of(alloc, scopes, names, within, row, &members[within])? {
             Some(type_desc) => made.push(type_desc)?,
             None => return Ok(None),
         }
     }
     Ok(Some(made))
+}
+
+/// All types.
+pub(crate) fn types_of(alloc: Global, scopes: &Scopes, names: &Names) -> Made<Vec<TypeDesc>>
+    ensures { IfOk result (λ o. option_map (λ v. map plain_type v.items) o ≡ each_numbered (type_of (declared scopes.now) names.now) 0 (declared scopes.now).types) }
+{
+    each_of(alloc, scopes, names, scopes.types(), scopes.members())
 }

@@ -1,5 +1,5 @@
 -- What is noted of each of a list, by its number.
-use Rattle.std.proofs.Common.{◌≡◌, ℕ, suc, ◌+◌, ◌<◌, ◌≤◌, List, map, length, get_or, drop, Option, sym, ap, ◌∙◌, add-one, drop-cons}
+use Rattle.std.proofs.Common.{◌≡◌, ℕ, zero, suc, ◌+◌, ◌<◌, ◌≤◌, List, [], ◌∷◌, ◌++◌, take, arith, map, length, get_or, drop, Option, sym, ap, ◌∙◌, add-one, drop-cons}
 use Rattle.std.proofs.lemmas.List.{drop_all}
 use Rattle.ksv_schema_faults.specs.Faults.{Fault, noted}
 use Rattle.ksv_schema_faults.specs.Rules.{each_from}
@@ -16,3 +16,9 @@ module _ {X A : Type 0} (see : X → A) (f : ℕ → A → List Fault) (xs : Lis
 
   pub each_end : (i : ℕ) (o q : Option Fault) → length xs ≤ i → noted o (each_from f i (map see (drop i xs))) ≡ q → o ≡ q
   each_end i o q le now = sym (noted_none o) ∙ ap (λ (ys : List X). noted o (each_from f i (map see ys))) (sym (drop_all i xs le)) ∙ now
+
+-- one element more
+pub take_more : {X A : Type 0} (see : X → A) (xs : List X) (i : ℕ) (x : X) → i < length xs → x ≡ get_or xs i x → take (suc i) (map see xs) ≡ take i (map see xs) ++ see x ∷ []
+take_more see [] i x lt is = absurd (omega arith)
+take_more see (y ∷ ys) zero x lt is = ap (λ (z : _). see z ∷ []) (sym is)
+take_more see (y ∷ ys) (suc i) x lt is = ap (λ (zs : List _). see y ∷ zs) (take_more see ys i x (omega arith) is)

@@ -6,7 +6,10 @@ use Rattle.std.specs.List.Sorted.{IsPermutation, IsNonDecreasing}
 use Rattle.std.proofs.lemmas.Bool.Decides.{nat_tests}
 use Rattle.std.proofs.lemmas.List.Sums.{length-filter}
 use Rattle.std.proofs.lemmas.List.Sorted.{sum_by-IsPermutation, length_permutation, Contains-permutation, IsPermutation-sym}
+use Rattle.std.specs.Prelude.{slice_get}
+use Rattle.std.proofs.lemmas.Option.{slice_get_past, slice_get-get_or}
 use Rattle.ksv_schema_faults.specs.Rules.{lower, line_past}
+use Rattle.ksv_schema_faults.specs.Code.{AreRising}
 
 -- ---- how many lines are not behind one
 
@@ -157,3 +160,14 @@ module _ (limit : ℕ) (xs ys : List ℕ) (moved : IsPermutation xs ys) (rises :
   pub line_past-none : length ys ≤ limit → line_past limit xs ≡ None
   unfolding line_past
   line_past-none le = ap (fold lower None) (none_passes passes xs (none_past le))
+
+cut : (a b : ℕ) → (a < b) ⊎ (b ≤ a)
+cut a b = grind (arith)
+
+-- of lines in rising order the one past the limit
+pub line_past_is : (limit : ℕ) (xs ys : List ℕ) → AreRising xs ys → slice_get ys limit ≡ line_past limit xs
+line_past_is limit xs ys h =
+    elim (cut limit (length ys)) [
+      | inl lt ↦ slice_get-get_or ys limit 0 lt ∙ sym (line_past-some limit xs ys h.moved h.rises lt)
+      | inr le ↦ slice_get_past ys limit le ∙ sym (line_past-none limit xs ys h.moved h.rises le)
+    ]

@@ -1,14 +1,18 @@
 -- The plain data of the code's values.
-use Rattle.std.specs.Prelude.{◌==◌, ◌||◌, not, false, ℕ, Bool, List, [], map, Option, option_map, codes}
+use Rattle.std.specs.Prelude.{◌≡◌, ◌==◌, ◌||◌, cond, not, true, false, ℕ, ℤ, Bool, List, Option, option_map, codes}
+use Rattle.std.specs.Borrow.{Bor}
+use Rattle.std.specs.HashSet.{HashSet}
+use Rattle.std.specs.Ordering.{int_eq}
+use Rattle.std.specs.Str.{bytes_eq}
 use Rattle.std.specs.Option.{option_map_or}
+use Rattle.std.specs.List.{list_any}
 use Rattle.std.specs.List.Sorted.{IsPermutation, IsNonDecreasing}
-use Rattle.ksv_yaml_tree.specs.Tree.{Tree, Pair}
-use Rattle.ksv_schema_scope.specs.Types.{Scope}
-use Rattle.ksv_yaml_tree.specs.Keys.{has}
-use Rattle.ksv_schema_scope.specs.Members.{members_within}
-use Rattle.ksv_schema_scope.specs.Declarations.{Declared, declared}
-use Rattle.ksv_schema_keys.specs.Values.{is_to_end, byte_at}
+use Rattle.ksv_yaml_tree.specs.Tree.{Pair}
+use Rattle.ksv_schema_scope.specs.Table.{declared}
+use Rattle.ksv_schema_scope.specs.Enums.{is_numbered, is_named}
+use Rattle.ksv_schema_keys.specs.Values.{byte_at}
 use Rattle.ksv_schema_keys.specs.Code.{kind_test}
+use Rattle.ksv_schema_faults.specs.declared.enumeration.Seen.{Seen}
 use Rattle.ksv_schema_faults.specs.declared.home.Home.{Home as HomeOfCode}
 use Rattle.ksv_schema_faults.specs.declared.fault.DescFault.{DescFault}
 use Rattle.ksv_schema_faults.specs.declared.fault.DescFaultKind.{DescFaultKind}
@@ -17,7 +21,8 @@ use Rattle.ksv_schema_faults.specs.declared.rule.Claim as claims
 use Rattle.ksv_schema_faults.specs.declared.rule.Claim.TheVariants as claim
 use Rattle.ksv_schema_faults.specs.declared.rule.Rule as rules
 use Rattle.ksv_schema_faults.specs.declared.rule.Rule.TheVariants as rule
-use Rattle.ksv_schema_faults.specs.Rules.{Home, Claim, Has, Says, Typed, Rule, Excludes, Needs, Attends, past}
+use Rattle.ksv_schema_faults.specs.declared.rule.Ruled.{Ruled as RuledOfCode}
+use Rattle.ksv_schema_faults.specs.Rules.{Home, Claim, Has, Says, Typed, Rule, Must, Bars, Excludes, Needs, Attends, Ruled, ruled}
 use Rattle.ksv_schema_faults.specs.Faults.{Fault, unknown_key, missing_key, keys_against, unknown_name, no_byte_order, bad_value, wrong_count, left_out, over_limit, no_expression}
 
 -- ---- faults
@@ -70,31 +75,40 @@ seen_claim (claim.Says name text) = Says name.now text.now
 seen_claim (claim.Typed kind) = Typed (kind_test kind)
 
 abbrev pub seen_rule : rules.Rule → Rule
+seen_rule (rule.Must one) = Must (seen_claim one)
+seen_rule (rule.Bars one) = Bars (seen_claim one)
 seen_rule (rule.Excludes one other) = Excludes (seen_claim one) (seen_claim other)
 seen_rule (rule.Needs one other) = Needs (seen_claim one) (seen_claim other)
 seen_rule (rule.Attends one other) = Attends (seen_claim one) (seen_claim other)
 
--- a key bounds an attribute, and a terminator is another byte than 0
-abbrev pub is_bounded : List Pair → Bool
-is_bounded es = has (codes "size") es || is_to_end es || has (codes "terminator") es
+abbrev pub seen_ruled : RuledOfCode → Ruled
+seen_ruled r = ruled r.0 (seen_rule r.1)
 
+-- a terminator is another byte than 0
 abbrev pub has_other_terminator : List Pair → Bool
 has_other_terminator es = option_map_or (λ b. not (b == 0)) (byte_at (codes "terminator") es) false
 
--- ---- types
+-- ---- numbers and ids that entries have
 
--- a type, without the types around it
-abbrev pub scope_row : ℕ → List ℕ → Tree → Scope
-scope_row line id value = record { line = line; id = id; around = []; value = value }
+abbrev pub has_number : {S : Type 0} → HashSet ℤ S → ℤ → Bool
+has_number set n = list_any (int_eq n) set.keys
+
+abbrev pub has_id : {S : Type 0} → HashSet (Bor (List ℕ)) S → List ℕ → Bool
+has_id set id = list_any (λ other. bytes_eq id other.now) set.keys
+
+-- what is given afterwards: one thing more, or perhaps one
+pub record Gives {K : Type 0} (old new : K → Bool) (is : K → Bool) : Type 0 where
+  pub given : (k : K) → new k ≡ cond (is k) true (old k)
+
+pub record Adds {K : Type 0} (old new : K → Bool) (is : K → Bool) : Type 0 where
+  pub given : (k : K) → new k ≡ (old k || is k)
+
+-- what was given is what these entries have
+pub record AreOf (seen : Seen) (before : List Pair) : Type 0 where
+  pub numbers : (n : ℤ) → has_number seen.numbers n ≡ list_any (is_numbered n) before
+  pub ids : (id : List ℕ) → has_id seen.ids id ≡ list_any (is_named id) before
 
 -- ---- limits
-
-abbrev pub limit_fault : ℕ → Fault
-limit_fault line = record { line = line; number = over_limit }
-
--- the first member past the limit of the type n
-abbrev pub members_past : Declared → ℕ → List Fault
-members_past d n = past 256 (map (λ m. m.line) (members_within d.members n))
 
 -- lines in ascending order
 pub record AreRising (lines rising : List ℕ) : Type 0 where

@@ -4,44 +4,120 @@
 //! only the least of them is kept.
 
 ghost use Rattle.std.specs.Prelude.{◌≡◌, OnOk, IfOk, None, map, flat_map};
-ghost use Rattle.ksv_schema_scope.specs.Declarations.{declared};
-ghost use Rattle.ksv_schema_scope.specs.EnumRows.{enumeration_of};
-ghost use Rattle.ksv_schema_scope.specs.MemberRows.{member_of};
+ghost use Rattle.ksv_yaml_tree.specs.View.{pair};
+ghost use Rattle.ksv_schema_scope.specs.Table.{declared};
+ghost use Rattle.ksv_schema_scope.specs.Code.{row_of, member_of};
+ghost use Rattle.ksv_schema_keys.specs.declared.keys.MappingKind.TheVariants as kinds;
 ghost use Rattle.ksv_schema_faults.specs.Faults.{noted};
-ghost use Rattle.ksv_schema_faults.specs.Rules.{each_from, member_faults, enumeration_faults, faults_of};
-ghost use Rattle.ksv_schema_faults.specs.Code.{seen_fault};
+ghost use Rattle.ksv_schema_faults.specs.Rules.{meta_faults, type_keys_faults, type_faults, members_faults, home_in, enum_faults_of, each_from, line_at, most_types, faults_of};
+ghost use Rattle.ksv_schema_faults.specs.Code.{seen_fault, seen_home};
 
-use crate::enumeration::{note_constants, note_enumeration};
-use crate::fault::{DescFault, Least};
-use crate::home::home_in;
-use crate::limit::note_limits;
-use crate::member::note_member;
-use crate::scope::note_types;
-use ksv_schema_scope::{Enumeration, Member, Scopes};
+use crate::enumeration::note_enum;
+use crate::fault::DescFaultKind::BadValue;
+use crate::fault::{DescFault, Least, Noted, note, note_if};
+use crate::home::{Home, home_in};
+use crate::limit::{line_past, note_past};
+use crate::member::note_members;
+use crate::rule::note_mapping;
+use ksv_schema_keys::{MappingKind, is_id};
+use ksv_schema_scope::{Member, Row, Scopes};
+use ksv_yaml_tree::{Entry, find};
 use std::alloc::{AllocError, Global};
 
-/// Notes the faults of each of all members.
-fn note_members<'a>(
+/// Notes the faults of a type's `meta`.
+#[tactic(auto, using(crate::proofs::Noted::steps), unfolding(crate::specs::Rules::meta_faults))]
+fn note_meta(least: &mut Least, home: Home, entry: &Entry) -> Noted
+    ensures { OnOk result (seen_fault least.new ≡ noted (seen_fault least.old) (meta_faults (seen_home home.entry) home.entry.within (pair entry.now))) }
+{
+    let kind = if home.within == 0 {
+        MappingKind::RootMeta
+    } else {
+        MappingKind::Meta
+    };
+    match entry.value().entries() {
+        Some(keys) => note_mapping(least, home, kind, entry.value().line(), keys),
+        None => Ok(()),
+    }
+}
+
+/// Notes the faults of a type's keys.
+#[tactic(auto, using(crate::proofs::Noted::steps), unfolding(crate::specs::Rules::type_keys_faults))]
+fn note_type_keys(least: &mut Least, home: Home, line: usize, entries: &[Entry]) -> Noted
+    ensures { OnOk result (seen_fault least.new ≡ noted (seen_fault least.old) (type_keys_faults (seen_home home.entry) home.entry.within line (map pair entries.now))) }
+{
+    let kind = if home.within == 0 {
+        MappingKind::Root
+    } else {
+        MappingKind::Type
+    };
+    note_mapping(least, home, kind, line, entries)?;
+    match find(entries, b"meta") {
+        Some(entry) => note_meta(least, home, entry),
+        None => Ok(()),
+    }
+}
+
+/// Notes the faults of the type of this number.
+#[tactic(auto, using(crate::proofs::Noted::steps), unfolding(crate::specs::Rules::type_faults))]
+fn note_type<'a>(
     alloc: Global,
     least: &mut Least,
     scopes: &'a Scopes<'a>,
-    members: &[Member],
-) -> Result<(), AllocError>
-    ensures { OnOk result (seen_fault least.new ≡ noted (seen_fault least.old) (each_from (member_faults (declared scopes.now)) 0 (map member_of members.now))) }
+    number: usize,
+    row: &Row,
+) -> Noted
+    ensures { OnOk result (seen_fault least.new ≡ noted (seen_fault least.old) (type_faults (declared scopes.now) number (row_of row.now))) }
 {
-    for (number, member) in members.iter().enumerate() {
-        note_member(alloc, least, scopes, number, member)?;
+    let home = home_in(alloc, scopes, number);
+    match row.value.entries() {
+        Some(entries) => note_type_keys(least, home, row.line, entries)?,
+        None => note(least, row.line, BadValue),
+    }
+    let is_inner = number != 0;
+    note_if(least, is_inner & !is_id(row.id), row.line, BadValue);
+    Ok(())
+}
+
+/// Notes the faults of each type.
+fn note_types<'a>(alloc: Global, least: &mut Least, scopes: &'a Scopes<'a>, types: &[Row]) -> Noted
+    ensures { OnOk result (seen_fault least.new ≡ noted (seen_fault least.old) (each_from (type_faults (declared scopes.now)) 0 (map row_of types.now))) }
+{
+    for (number, row) in types.iter().enumerate() {
+        note_type(alloc, least, scopes, number, row)?;
     }
     Ok(())
 }
 
-/// Notes the faults of each of all enums.
-fn note_enumerations(least: &mut Least, enumerations: &[Enumeration])
-    ensures { seen_fault least.new ≡ noted (seen_fault least.old) (flat_map enumeration_faults (map enumeration_of enumerations.now)) }
+/// Notes the faults of the members of each type.
+fn note_all_members<'a>(
+    alloc: Global,
+    least: &mut Least,
+    scopes: &'a Scopes<'a>,
+    members: &[Vec<Member<'a>>],
+) -> Noted
+    ensures { OnOk result (seen_fault least.new ≡ noted (seen_fault least.old) (each_from (members_faults (declared scopes.now)) 0 (map (λ v. map member_of v.items) members.now))) }
 {
-    for enumeration in enumerations {
-        note_enumeration(least, enumeration);
+    for (number, members) in members.iter().enumerate() {
+        note_members(least, home_in(alloc, scopes, number), members)?;
     }
+    Ok(())
+}
+
+/// Notes the faults of each enum.
+fn note_enums(least: &mut Least, home: Home, enums: &[Row]) -> Noted
+    ensures { OnOk result (seen_fault least.new ≡ noted (seen_fault least.old) (flat_map (enum_faults_of (seen_home home.entry)) (map row_of enums.now))) }
+{
+    for row in enums {
+        note_enum(least, home, row)?;
+    }
+    Ok(())
+}
+
+/// The line of the first type past the limit.
+fn type_past(types: &[Row]) -> Option<usize>
+    ensures { result ≡ line_at (λ r. r.line) most_types (map row_of types.now) }
+{
+    Some(types.get(1024)?.line)
 }
 
 /// The least fault of a description, if it has one.
@@ -53,11 +129,10 @@ pub fn least_fault<'a>(
     ensures { IfOk result (λ f. seen_fault f ≡ noted None (faults_of (declared scopes.now))) }
 {
     let mut least = None;
-    let constants = scopes.constants(alloc)?;
-    note_limits(alloc, &mut least, scopes, constants.as_slice())?;
-    note_types(alloc, &mut least, scopes)?;
-    note_members(alloc, &mut least, scopes, scopes.members())?;
-    note_enumerations(&mut least, scopes.enums());
-    note_constants(&mut least, home_in(alloc, scopes, 0), constants.as_slice())?;
+    note_past(&mut least, type_past(scopes.types()));
+    note_past(&mut least, line_past(alloc, scopes.enums())?);
+    note_types(alloc, &mut least, scopes, scopes.types())?;
+    note_all_members(alloc, &mut least, scopes, scopes.members())?;
+    note_enums(&mut least, home_in(alloc, scopes, 0), scopes.enums())?;
     Ok(least)
 }

@@ -1,126 +1,144 @@
 //! The faults of enums and of their entries.
 
-ghost use Rattle.std.specs.Prelude.{◌≡◌, OnOk, map, take};
-ghost use Rattle.ksv_yaml_tree.specs.View.{view, pair};
-ghost use Rattle.ksv_schema_scope.specs.Declarations.{declared};
-ghost use Rattle.ksv_schema_scope.specs.EnumRows.{enumeration_of};
-ghost use Rattle.ksv_schema_scope.specs.ConstantRows.{constant_of, AreMarked};
-ghost use Rattle.ksv_schema_scope.specs.Enums.{is_number_again, is_id_again};
+ghost use Rattle.std.specs.Prelude.{◌≡◌, ◌++◌, ◌∷◌, [], List, OnOk, IfOk, map, take, false};
+ghost use Rattle.std.specs.Option.{option_map_or};
+ghost use Rattle.std.specs.Ordering.{int_eq};
+ghost use Rattle.std.specs.Str.{bytes_eq};
+ghost use Rattle.ksv_yaml_tree.specs.Tree.{Pair};
+ghost use Rattle.ksv_yaml_tree.specs.View.{pair};
+ghost use Rattle.ksv_schema_scope.specs.Code.{row_of};
+ghost use Rattle.ksv_schema_scope.specs.Enums.{number_of, id_of, is_numbered, is_named};
 ghost use Rattle.ksv_schema_faults.specs.Faults.{noted};
-ghost use Rattle.ksv_schema_faults.specs.Rules.{enumeration_faults, constant_key_faults, constant_value_faults, id_line, number_again, id_again, constant_faults, each_from};
-ghost use Rattle.ksv_schema_faults.specs.Code.{seen_fault, seen_home};
+ghost use Rattle.ksv_schema_faults.specs.Rules.{enum_row_faults, entry_value_faults, entry_faults, each_from, enum_faults_of};
+ghost use Rattle.ksv_schema_faults.specs.Code.{seen_fault, seen_home, has_number, has_id, Gives, Adds, AreOf};
 
-use crate::fault::{DescFaultKind, Least, note, note_if};
+use crate::fault::DescFaultKind::{BadValue, KeysAgainst};
+use crate::fault::{Least, Noted, note, note_if};
 use crate::home::Home;
 use crate::key::note_numeral;
-use crate::mapping::note_plain_keys;
-use crate::together::note_missing_if;
+use crate::member::id_line;
+use crate::rule::note_mapping;
 use ksv_schema_keys::{MappingKind, is_id};
-use ksv_schema_scope::{Constant, Enumeration};
-use ksv_yaml_tree::keys::{entries_in, has};
-use ksv_yaml_tree::{Entry, Yaml, find, signed_number};
+use ksv_schema_scope::{Row, id_of, number_of};
+use ksv_yaml_tree::{Entry, signed_number};
 use std::alloc::AllocError;
+use std::collections::HashSet;
 
-/// Notes the faults of an enum: those of its name, and that it is no mapping.
-#[tactic(auto, using(crate::proofs::Noted::steps), unfolding(crate::specs::Rules::enumeration_faults))]
-pub(crate) fn note_enumeration(least: &mut Least, enumeration: &Enumeration)
-    ensures { seen_fault least.new ≡ noted (seen_fault least.old) (enumeration_faults (enumeration_of enumeration.now)) }
+/// Notes the faults of an enum's name, and that it is no mapping.
+#[tactic(auto, using(crate::proofs::Noted::steps), unfolding(crate::specs::Rules::enum_row_faults))]
+fn note_row(least: &mut Least, row: &Row)
+    ensures { seen_fault least.new ≡ noted (seen_fault least.old) (enum_row_faults (row_of row.now)) }
 {
-    let is_named = is_id(enumeration.id);
-    let has_entries = enumeration.value.entries().is_some();
-    let line = enumeration.line;
-    note_if(least, !is_named, line, DescFaultKind::BadValue);
-    note_if(least, !has_entries, line, DescFaultKind::BadValue);
-}
-
-/// Notes the faults of the mapping of an entry.
-#[tactic(auto, using(crate::proofs::Noted::steps))]
-fn note_constant_keys(
-    least: &mut Least,
-    home: Home,
-    line: usize,
-    entries: &[Entry],
-) -> Result<(), AllocError>
-    ensures { OnOk result (seen_fault least.new ≡ noted (seen_fault least.old) (constant_key_faults (seen_home home.entry) line (map pair entries.now))) }
-{
-    note_plain_keys(least, home, MappingKind::Constant, entries)?;
-    note_missing_if(least, !has(entries, b"id"), line);
-    Ok(())
+    let is_named = is_id(row.id);
+    let has_entries = row.value.entries().is_some();
+    note_if(least, !is_named, row.line, BadValue);
+    note_if(least, !has_entries, row.line, BadValue);
 }
 
 /// Notes the faults of an entry's value: an id, or a mapping with an id.
-#[tactic(auto, using(crate::proofs::Nodes::constant_text, crate::proofs::Nodes::constant_mapping, crate::proofs::Nodes::constant_list))]
-fn note_constant_value(
-    least: &mut Least,
-    home: Home,
-    line: usize,
-    value: &Yaml,
-) -> Result<(), AllocError>
-    ensures { OnOk result (seen_fault least.new ≡ noted (seen_fault least.old) (constant_value_faults (seen_home home.entry) line (view value.now))) }
+#[tactic(auto, unfolding(crate::specs::Rules::entry_value_faults))]
+fn note_value(least: &mut Least, home: Home, entry: &Entry) -> Noted
+    ensures { OnOk result (seen_fault least.new ≡ noted (seen_fault least.old) (entry_value_faults (seen_home home.entry) (pair entry.now))) }
 {
+    let value = entry.value();
     match value.text() {
-        Some(text) => note_if(least, !is_id(text), line, DescFaultKind::BadValue),
+        Some(text) => note_if(least, !is_id(text), entry.line(), BadValue),
         None => match value.entries() {
-            Some(entries) => note_constant_keys(least, home, value.line(), entries)?,
-            None => note(least, line, DescFaultKind::BadValue),
+            Some(keys) => note_mapping(least, home, MappingKind::Constant, value.line(), keys)?,
+            None => note(least, entry.line(), BadValue),
         },
     }
     Ok(())
 }
 
-/// The line of an entry's id.
-fn id_line(constant: &Constant) -> usize
-    ensures { result ≡ id_line (constant_of constant.now) }
+/// Whether a number was given before; afterwards it is given.
+fn give_number(numbers: &mut HashSet<i128>, number: i128) -> Result<bool, AllocError>
+    ensures again { IfOk result (λ again. again ≡ has_number numbers.old number) }
+    ensures given { OnOk result (Gives (has_number numbers.old) (has_number numbers.new) (int_eq number)) }
 {
-    match find(entries_in(constant.value), b"id") {
-        Some(entry) => entry.line(),
-        None => constant.line,
+    let is_new = numbers.insert(number)?;
+    Ok(!is_new)
+}
+
+/// Whether an id was given before; afterwards it is given.
+fn give_id<'a>(ids: &mut HashSet<&'a [u8]>, id: &'a [u8]) -> Result<bool, AllocError>
+    ensures again { IfOk result (λ again. again ≡ has_id ids.old id.now) }
+    ensures given { OnOk result (Gives (has_id ids.old) (has_id ids.new) (bytes_eq id.now)) }
+{
+    let is_new = ids.insert(id)?;
+    Ok(!is_new)
+}
+
+/// Whether the number of an entry was given before.
+#[tactic(auto, using(crate::proofs::Given::some_given, crate::proofs::Given::none_given))]
+fn see_number(numbers: &mut HashSet<i128>, entry: &Entry) -> Result<bool, AllocError>
+    ensures again { IfOk result (λ again. again ≡ option_map_or (has_number numbers.old) (number_of (pair entry.now)) false) }
+    ensures given { OnOk result (Adds (has_number numbers.old) (has_number numbers.new) (λ n. is_numbered n (pair entry.now))) }
+{
+    match number_of(entry) {
+        Some(number) => give_number(numbers, number),
+        None => Ok(false),
     }
 }
 
-/// Notes the faults of an entry, of this number among all entries.
-#[tactic(auto, using(crate::proofs::Noted::steps), unfolding(crate::specs::Rules::constant_faults, crate::specs::Rules::number_again, crate::specs::Rules::id_again))]
-fn note_constant(
-    least: &mut Least,
-    home: Home,
-    number: usize,
-    constant: &Constant,
-) -> Result<(), AllocError>
-    requires marked_number { constant.now.is_number_again ≡ is_number_again (take number (declared home.scopes.now).constants) (constant_of constant.now) }
-    requires marked_id { constant.now.is_id_again ≡ is_id_again (take number (declared home.scopes.now).constants) (constant_of constant.now) }
-    ensures { OnOk result (seen_fault least.new ≡ noted (seen_fault least.old) (constant_faults (seen_home home.entry) number (constant_of constant.now))) }
+/// Whether the id of an entry was given before.
+#[tactic(auto, using(crate::proofs::Given::some_given, crate::proofs::Given::none_given))]
+fn see_id<'a>(ids: &mut HashSet<&'a [u8]>, entry: &'a Entry) -> Result<bool, AllocError>
+    ensures again { IfOk result (λ again. again ≡ option_map_or (has_id ids.old) (id_of (pair entry.now)) false) }
+    ensures given { OnOk result (Adds (has_id ids.old) (has_id ids.new) (λ id. is_named id (pair entry.now))) }
 {
-    let line = constant.line;
-    let id_line = id_line(constant);
-    note_numeral(least, line, signed_number(constant.key));
-    note_constant_value(least, home, line, constant.value)?;
+    match id_of(entry) {
+        Some(id) => give_id(ids, id),
+        None => Ok(false),
+    }
+}
+
+/// The numbers and ids that were given so far.
+#[derive(Drop)]
+pub(crate) struct Seen<'a> {
+    pub(crate) numbers: HashSet<i128>,
+    pub(crate) ids: HashSet<&'a [u8]>,
+}
+
+/// Notes the faults of an entry, after those whose numbers and ids were given.
+fn note_entry<'a>(least: &mut Least, home: Home, seen: &mut Seen<'a>, entry: &'a Entry) -> Noted
+    ensures noted { OnOk result ((before : List Pair) → AreOf seen.old before → seen_fault least.new ≡ noted (seen_fault least.old) (entry_faults (seen_home home.entry) before (pair entry.now))) }
+    ensures given { OnOk result ((before : List Pair) → AreOf seen.old before → AreOf seen.new (before ++ pair entry.now ∷ [])) }
+{
+    let line = entry.line();
+    let is_number_again = see_number(&mut seen.numbers, entry)?;
+    let is_id_again = see_id(&mut seen.ids, entry)?;
+    note_numeral(least, line, signed_number(entry.key()));
+    note_value(least, home, entry)?;
+    note_if(least, is_number_again, line, KeysAgainst);
     note_if(
         least,
-        constant.is_number_again,
-        line,
-        DescFaultKind::KeysAgainst,
-    );
-    note_if(
-        least,
-        constant.is_id_again,
-        id_line,
-        DescFaultKind::KeysAgainst,
+        is_id_again,
+        id_line(entry.value(), line),
+        KeysAgainst,
     );
     Ok(())
 }
 
-/// Notes the faults of each entry of all enums.
-pub(crate) fn note_constants(
-    least: &mut Least,
-    home: Home,
-    constants: &[Constant],
-) -> Result<(), AllocError>
-    requires rows { map constant_of constants.now ≡ (declared home.scopes.now).constants }
-    requires marked { AreMarked constants.now }
-    ensures { OnOk result (seen_fault least.new ≡ noted (seen_fault least.old) (each_from (constant_faults (seen_home home.entry)) 0 (declared home.entry.scopes.now).constants)) }
+/// Notes the faults of each of these entries.
+fn note_entries(least: &mut Least, home: Home, entries: &[Entry]) -> Noted
+    ensures { OnOk result (seen_fault least.new ≡ noted (seen_fault least.old) (each_from (λ i. entry_faults (seen_home home.entry) (take i (map pair entries.now))) 0 (map pair entries.now))) }
 {
-    for (number, constant) in constants.iter().enumerate() {
-        note_constant(least, home, number, constant)?;
+    let mut seen = Seen {
+        numbers: HashSet::new(home.alloc),
+        ids: HashSet::new(home.alloc),
+    };
+    for (number, entry) in entries.iter().enumerate() {
+        note_entry(least, home, &mut seen, entry)?;
     }
     Ok(())
+}
+
+/// Notes the faults of an enum and of its entries.
+#[tactic(auto, using(crate::proofs::Noted::steps), unfolding(crate::specs::Rules::enum_faults_of))]
+pub(crate) fn note_enum(least: &mut Least, home: Home, row: &Row) -> Noted
+    ensures { OnOk result (seen_fault least.new ≡ noted (seen_fault least.old) (enum_faults_of (seen_home home.entry) (row_of row.now))) }
+{
+    note_row(least, row);
+    note_entries(least, home, row.entries())
 }

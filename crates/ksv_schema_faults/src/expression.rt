@@ -1,34 +1,20 @@
 //! The faults of expressions and of types.
 
-ghost use Rattle.std.specs.Prelude.{◌≡◌, Some, option_map, option_to_list, OnOk, map, string_bytes, length};
+ghost use Rattle.std.specs.Prelude.{◌≡◌, option_map, option_to_list, OnOk, map};
 ghost use Rattle.ksv_expr_tree.specs.Tree.{view, arguments_of};
 ghost use Rattle.ksv_desc.specs.Resolved.{count};
-ghost use Rattle.ksv_schema_scope.specs.Types.{type_named};
 ghost use Rattle.ksv_schema_keys.specs.Expressions.{expression_of};
 ghost use Rattle.ksv_schema_faults.specs.Faults.{noted};
-ghost use Rattle.ksv_schema_keys.specs.Values.{type_text};
-ghost use Rattle.ksv_schema_faults.specs.Rules.{name_fault, position_at, expression_faults, argument_faults, language_faults, count_faults, type_text_faults};
-ghost use Rattle.ksv_schema_keys.specs.Code.{seen_expression, seen_type_text};
+ghost use Rattle.ksv_schema_faults.specs.Rules.{name_fault, expression_faults, argument_faults, language_faults, count_faults, type_text_faults};
+ghost use Rattle.ksv_schema_keys.specs.Code.{seen_type_text};
 ghost use Rattle.ksv_schema_faults.specs.Code.{seen_fault, seen_home};
 
-use crate::fault::{DescFaultKind, Least, note, note_if};
-use crate::home::Home;
-use ksv_expr_syntax::ExprFault;
+use crate::fault::DescFaultKind::{LeftOut, NoByteOrder, NoExpression, UnknownName, WrongCount};
+use crate::fault::{Least, Noted, note, note_if};
+use crate::home::{Home, position_at};
 use ksv_expr_tree::Expr;
-use ksv_schema_keys::{TypeText, read_expression, type_text};
-use ksv_schema_names::{BuiltIn, NameFault, Position, Site, argument_fault, name_fault};
-use std::alloc::AllocError;
-
-/// Where an expression of a mapping is.
-fn position_at(home: Home, site: Site) -> Position
-    ensures { result ≡ position_at (seen_home home.entry) site }
-{
-    Position {
-        site,
-        in_sequence: home.in_sequence,
-        is_repeated: home.is_repeated,
-    }
-}
+use ksv_schema_keys::{TypeText, read_expression};
+use ksv_schema_names::{BuiltIn, NameFault, Site, argument_fault, name_fault};
 
 /// Notes what is wrong with a name.
 #[tactic(auto, using(crate::proofs::Noted::steps))]
@@ -37,37 +23,34 @@ fn note_name(least: &mut Least, line: usize, found: Option<NameFault>)
 {
     match found {
         None => {}
-        Some(NameFault::Unknown) => note(least, line, DescFaultKind::UnknownName),
-        Some(NameFault::LeftOut) => note(least, line, DescFaultKind::LeftOut),
+        Some(NameFault::Unknown) => note(least, line, UnknownName),
+        Some(NameFault::LeftOut) => note(least, line, LeftOut),
     }
 }
 
-/// Notes the names of an expression.
-pub(crate) fn note_names(least: &mut Least, home: Home, site: Site, line: usize, expr: &Expr)
-    ensures { seen_fault least.new ≡ noted (seen_fault least.old) (expression_faults (seen_home home.entry) site line (Some (view expr.now))) }
-{
-    let found = name_fault(home.scopes, home.within, position_at(home, site), expr);
-    note_name(least, line, found);
-}
-
-/// Notes the faults of an expression: that it is none, or its names.
+/// Notes the faults of a text that is to be an expression: that it is none, or its names.
 #[tactic(auto, unfolding(crate::specs::Rules::expression_faults))]
 pub(crate) fn note_expression(
     least: &mut Least,
     home: Home,
     site: Site,
     line: usize,
-    read: &Result<Expr, ExprFault>,
-)
-    ensures { seen_fault least.new ≡ noted (seen_fault least.old) (expression_faults (seen_home home.entry) site line (seen_expression read.now)) }
+    text: &[u8],
+) -> Noted
+    ensures { OnOk result (seen_fault least.new ≡ noted (seen_fault least.old) (expression_faults (seen_home home.entry) site line (expression_of text.now))) }
 {
-    match read {
-        Ok(expr) => note_names(least, home, site, line, expr),
-        Err(fault) => note(least, line, DescFaultKind::NoExpression(*fault)),
+    match read_expression(home.alloc, text)? {
+        Ok(expr) => {
+            let found = name_fault(home.scopes, home.within, position_at(home, site), &expr);
+            note_name(least, line, found);
+        }
+        Err(fault) => note(least, line, NoExpression(fault)),
     }
+    Ok(())
 }
 
 /// Notes the names in the arguments of a type.
+#[tactic(auto, unfolding(crate::specs::Rules::argument_faults))]
 fn note_arguments(least: &mut Least, home: Home, line: usize, arguments: &[Expr])
     ensures { seen_fault least.new ≡ noted (seen_fault least.old) (argument_faults (seen_home home.entry) line (arguments_of (map view arguments.now))) }
 {
@@ -84,16 +67,11 @@ fn note_language(least: &mut Least, home: Home, line: usize, built_in: BuiltIn)
     match built_in {
         BuiltIn::Integer { size, order, .. } => {
             let is_open = order.is_none() & home.scopes.order_of(home.within).is_none();
-            note_if(
-                least,
-                size != 1 && is_open,
-                line,
-                DescFaultKind::NoByteOrder,
-            );
+            note_if(least, size != 1 && is_open, line, NoByteOrder);
         }
         BuiltIn::Str => {}
         BuiltIn::Strz => {}
-        BuiltIn::NotHere => note(least, line, DescFaultKind::LeftOut),
+        BuiltIn::NotHere => note(least, line, LeftOut),
     }
 }
 
@@ -103,16 +81,16 @@ fn note_count(least: &mut Least, home: Home, line: usize, count: usize, found: O
     ensures { seen_fault least.new ≡ noted (seen_fault least.old) (count_faults (seen_home home.entry) line count found) }
 {
     match found {
-        None => note(least, line, DescFaultKind::UnknownName),
+        None => note(least, line, UnknownName),
         Some(number) => {
             let wanted = home.scopes.count_of_parameters(number);
-            note_if(least, wanted != count, line, DescFaultKind::WrongCount);
+            note_if(least, wanted != count, line, WrongCount);
         }
     }
 }
 
 /// How many arguments there are.
-#[tactic(auto, using(crate::proofs::NameFaults::count_map))]
+#[tactic(auto, using(ksv_schema_names::proofs::Forms::count_map))]
 fn count(arguments: &[Expr]) -> usize
     ensures { result ≡ count (arguments_of (map view arguments.now)) }
 {
@@ -125,11 +103,11 @@ pub(crate) fn note_type_text(least: &mut Least, home: Home, line: usize, text: &
     ensures { seen_fault least.new ≡ noted (seen_fault least.old) (type_text_faults (seen_home home.entry) line (seen_type_text text.now)) }
 {
     match text {
-        TypeText::Unspelled(fault) => note(least, line, DescFaultKind::NoExpression(*fault)),
+        TypeText::Unspelled(fault) => note(least, line, NoExpression(*fault)),
         TypeText::OfLanguage(built_in, arguments) => {
             let arguments = arguments.as_slice();
             let given = count(arguments);
-            note_if(least, given != 0, line, DescFaultKind::WrongCount);
+            note_if(least, given != 0, line, WrongCount);
             note_language(least, home, line, *built_in);
             note_arguments(least, home, line, arguments);
         }

@@ -5,6 +5,7 @@ ghost use Rattle.ksv_schema_faults.specs.Faults.{is_below, noted, fault, fault_i
 ghost use Rattle.ksv_schema_faults.specs.Code.{number_of, code_of, plain, seen_fault};
 
 use ksv_expr_syntax::ExprFault;
+use std::alloc::AllocError;
 use thiserror::Error;
 
 /// What is wrong with a description.
@@ -103,6 +104,9 @@ fn is_below(one: DescFault, other: DescFault) -> bool
 
 /// The least fault so far.
 pub(crate) type Least = Option<DescFault>;
+
+/// What notes faults refuses only for want of memory.
+pub(crate) type Noted = Result<(), AllocError>;
 
 /// Notes a fault.
 #[tactic(auto, unfolding(crate::specs::Faults::noted))]

@@ -1,33 +1,28 @@
 //! The faults of the value at one key, by its form.
 
-ghost use Rattle.std.specs.Prelude.{◌≡◌, OnOk, not, true, is_some, is_none, fold, ◌||◌, Some, List, ℕ, [], ◌∷◌, codes, map, flat_map, option_map, string_bytes};
-ghost use Rattle.std.specs.List.{list_any};
-ghost use Rattle.std.specs.Str.{bytes_eq};
-ghost use Rattle.ksv_expr_tree.specs.Tree.{view as view_expression};
-ghost use Rattle.ksv_yaml_tree.specs.Tree.{line_of, mapping_of, list_of};
-ghost use Rattle.ksv_yaml_tree.specs.View.{view, pair, seen_text};
+ghost use Rattle.std.specs.Prelude.{◌≡◌, OnOk, map, flat_map};
+ghost use Rattle.ksv_yaml_tree.specs.View.{view, pair};
 ghost use Rattle.ksv_schema_keys.specs.Expressions.{expression_of};
-ghost use Rattle.ksv_schema_faults.specs.Faults.{noted, fault_if, bad_value, left_out, unknown_name};
-ghost use Rattle.ksv_schema_keys.specs.Keys.{is_id};
+ghost use Rattle.ksv_schema_keys.specs.Keys.{is_ignored};
 ghost use Rattle.ksv_schema_keys.specs.declared.keys.Form.TheVariants as forms;
-ghost use Rattle.ksv_schema_keys.specs.Values.{encoding_named, type_text, byte_number, piece_of, case_key, ids_of};
-ghost use Rattle.ksv_schema_faults.specs.Rules.{fits, text_faults, expression_faults, type_text_faults, numeral_faults, endian_faults, bit_endian_faults, piece_faults, contents_faults, enum_faults, case_value_faults, case_key_faults, case_type_faults, case_faults, form_faults, form_text_faults};
-ghost use Rattle.ksv_schema_keys.specs.Code.{seen_expression, seen_type_text, seen_piece, seen_path};
-ghost use Rattle.ksv_schema_faults.specs.Code.{number_of, seen_fault, seen_home};
+ghost use Rattle.ksv_schema_keys.specs.Values.{type_text, ids_of};
+ghost use Rattle.ksv_schema_keys.specs.Code.{seen_case_key};
+ghost use Rattle.ksv_schema_faults.specs.Faults.{noted};
+ghost use Rattle.ksv_schema_faults.specs.Rules.{fits, text_faults, type_text_faults, numeral_faults, endian_faults, bit_endian_faults, item_faults, contents_faults, enum_faults, case_value_faults, case_key_faults, case_type_faults, case_faults, form_faults, form_text_faults, key_faults};
+ghost use Rattle.ksv_schema_faults.specs.Code.{seen_fault, seen_home};
 
-use crate::expression::{note_expression, note_names, note_type_text};
-use crate::fault::{DescFaultKind, Least, note, note_if};
+use crate::expression::{note_expression, note_type_text};
+use crate::fault::DescFaultKind::{BadValue, LeftOut, NoExpression, UnknownKey, UnknownName};
+use crate::fault::{Least, Noted, note, note_if};
 use crate::home::Home;
-use ksv_expr_syntax::ExprFault;
-use ksv_expr_tree::Expr;
 use ksv_schema_keys::{
-    CaseKey, Form, Piece, TypeKind, TypeText, byte_number, case_key, encoding_named, ids_of, is_id,
-    is_of_kind, looks_like_number, piece_of, read_expression, type_text,
+    CaseKey, Form, MappingKind, Piece, TypeKind, byte_number, case_key, encoding_named, form_in,
+    ids_of, is_id, is_of_kind, looks_like_number, piece_of, read_expression, type_text,
 };
-use ksv_schema_names::Site;
-use ksv_yaml_tree::keys::has;
+use ksv_schema_names::given_member;
+use ksv_schema_scope::order_named;
+use ksv_yaml_tree::keys::{entries_in, has};
 use ksv_yaml_tree::{Entry, Numeral, Yaml};
-use std::alloc::AllocError;
 
 /// Whether a text is allowed at a key of this form, as far as the text alone decides.
 fn fits(form: Form, text: &[u8]) -> bool
@@ -45,29 +40,21 @@ fn fits(form: Form, text: &[u8]) -> bool
     }
 }
 
-fn is_order(text: &[u8]) -> bool
-    ensures { result ≡ (bytes_eq text.now (codes "le") || bytes_eq text.now (codes "be")) }
-{
-    text == b"le".as_slice() || text == b"be".as_slice()
-}
-
 /// Notes a byte order other than `le` and `be`; a choice of one is unsupported.
-#[tactic(auto, using(crate::proofs::Nodes::endian_text, crate::proofs::Nodes::endian_choice, crate::proofs::Nodes::endian_mapping, crate::proofs::Nodes::endian_list))]
-fn note_endian(least: &mut Least, line: usize, value: &Yaml)
-    ensures { seen_fault least.new ≡ noted (seen_fault least.old) (endian_faults line (view value.now)) }
+#[tactic(auto, unfolding(crate::specs::Rules::endian_faults))]
+fn note_endian(least: &mut Least, entry: &Entry)
+    ensures { seen_fault least.new ≡ noted (seen_fault least.old) (endian_faults (pair entry.now)) }
 {
-    match value.text() {
-        Some(text) => note_if(least, !is_order(text), line, DescFaultKind::BadValue),
-        None => match value.entries() {
-            Some(entries) => {
-                if has(entries, b"switch-on") {
-                    note(least, line, DescFaultKind::LeftOut);
-                } else {
-                    note(least, line, DescFaultKind::BadValue);
-                }
+    let line = entry.line();
+    match entry.value().text() {
+        Some(text) => note_if(least, order_named(text).is_none(), line, BadValue),
+        None => {
+            if has(entries_in(entry.value()), b"switch-on") {
+                note(least, line, LeftOut);
+            } else {
+                note(least, line, BadValue);
             }
-            None => note(least, line, DescFaultKind::BadValue),
-        },
+        }
     }
 }
 
@@ -78,33 +65,27 @@ pub(crate) fn note_numeral(least: &mut Least, line: usize, numeral: Numeral)
 {
     match numeral {
         Numeral::Whole(_) => {}
-        Numeral::LeadingZero => note(least, line, DescFaultKind::LeftOut),
-        Numeral::NoNumeral => note(least, line, DescFaultKind::BadValue),
-    }
-}
-
-#[tactic(auto, using(crate::proofs::Noted::steps))]
-fn note_piece(least: &mut Least, line: usize, piece: Piece)
-    ensures { seen_fault least.new ≡ noted (seen_fault least.old) (piece_faults line (seen_piece piece.entry)) }
-{
-    match piece {
-        Piece::Byte(_) => {}
-        Piece::Text(_) => {}
-        Piece::Bad => note(least, line, DescFaultKind::BadValue),
-        Piece::LeftOut => note(least, line, DescFaultKind::LeftOut),
+        Numeral::LeadingZero => note(least, line, LeftOut),
+        Numeral::NoNumeral => note(least, line, BadValue),
     }
 }
 
 /// Notes a bad item of `contents`.
+#[tactic(auto, using(crate::proofs::Noted::steps), unfolding(crate::specs::Rules::item_faults))]
 fn note_item(least: &mut Least, item: &Yaml)
-    ensures { seen_fault least.new ≡ noted (seen_fault least.old) (piece_faults (line_of (view item.now)) (piece_of (view item.now))) }
+    ensures { seen_fault least.new ≡ noted (seen_fault least.old) (item_faults (view item.now)) }
 {
-    note_piece(least, item.line(), piece_of(item));
+    match piece_of(item) {
+        Piece::Byte(_) => {}
+        Piece::Text(_) => {}
+        Piece::Bad => note(least, item.line(), BadValue),
+        Piece::LeftOut => note(least, item.line(), LeftOut),
+    }
 }
 
 /// Notes the bad items of `contents`.
-fn note_pieces(least: &mut Least, items: &[Yaml])
-    ensures { seen_fault least.new ≡ noted (seen_fault least.old) (flat_map (λ t. piece_faults (line_of t) (piece_of t)) (map view items.now)) }
+fn note_items(least: &mut Least, items: &[Yaml])
+    ensures { seen_fault least.new ≡ noted (seen_fault least.old) (flat_map item_faults (map view items.now)) }
 {
     for item in items {
         note_item(least, item);
@@ -112,97 +93,94 @@ fn note_pieces(least: &mut Least, items: &[Yaml])
 }
 
 /// Notes bad `contents`; a plain number alone is unsupported.
-#[tactic(auto, using(crate::proofs::Nodes::contents_text, crate::proofs::Nodes::contents_list, crate::proofs::Nodes::contents_mapping))]
-fn note_contents(least: &mut Least, line: usize, value: &Yaml)
-    ensures { seen_fault least.new ≡ noted (seen_fault least.old) (contents_faults line (view value.now)) }
+#[tactic(auto, unfolding(crate::specs::Rules::contents_faults))]
+fn note_contents(least: &mut Least, entry: &Entry)
+    ensures { seen_fault least.new ≡ noted (seen_fault least.old) (contents_faults (pair entry.now)) }
 {
+    let value = entry.value();
     match value.text() {
         Some(text) => {
             let is_number = !value.is_quoted() & looks_like_number(text);
-            note_if(least, is_number, line, DescFaultKind::LeftOut);
+            note_if(least, is_number, entry.line(), LeftOut);
         }
         None => match value.items() {
-            Some(items) => note_pieces(least, items),
-            None => note(least, line, DescFaultKind::BadValue),
+            Some(items) => note_items(least, items),
+            None => note(least, entry.line(), BadValue),
         },
     }
 }
 
 /// Notes the path of an enum that isn't there.
 #[tactic(auto, unfolding(crate::specs::Rules::enum_faults))]
-fn note_enum(least: &mut Least, home: Home, line: usize, path: &Option<Vec<String>>)
-    ensures { seen_fault least.new ≡ noted (seen_fault least.old) (enum_faults (seen_home home.entry) line (seen_path path.now)) }
+fn note_enum(least: &mut Least, home: Home, line: usize, text: &[u8]) -> Noted
+    ensures { OnOk result (seen_fault least.new ≡ noted (seen_fault least.old) (enum_faults (seen_home home.entry) line (ids_of text.now))) }
 {
-    match path {
-        None => note(least, line, DescFaultKind::BadValue),
+    match ids_of(home.alloc, text)? {
+        None => note(least, line, BadValue),
         Some(path) => {
             let found = home.scopes.enum_named(home.within, path.as_slice());
-            note_if(least, found.is_none(), line, DescFaultKind::UnknownName);
+            note_if(least, found.is_none(), line, UnknownName);
         }
     }
+    Ok(())
 }
 
-/// Notes an expression that can't be a key of `cases`.
-fn note_case_value(least: &mut Least, home: Home, line: usize, expr: &Expr)
-    ensures { seen_fault least.new ≡ noted (seen_fault least.old) (case_value_faults (seen_home home.entry) line (case_key (view_expression expr.now))) }
+/// Notes what can't be a key of `cases`.
+#[tactic(auto, using(crate::proofs::Noted::steps), unfolding(crate::specs::Rules::case_value_faults))]
+fn note_case_value(least: &mut Least, home: Home, line: usize, key: CaseKey)
+    ensures { seen_fault least.new ≡ noted (seen_fault least.old) (case_value_faults (seen_home home.entry) line (seen_case_key key.entry)) }
 {
-    match case_key(expr) {
+    match key {
         CaseKey::Constant(_) => {}
         CaseKey::Negative(_) => {}
-        CaseKey::Member(_) => note_names(least, home, Site::Case, line, expr),
+        CaseKey::Member(member) => {
+            let given = given_member(home.scopes, home.within, member);
+            note_if(least, given.is_none(), line, UnknownName);
+        }
         CaseKey::Default => {}
-        CaseKey::NoKey => note(least, line, DescFaultKind::BadValue),
+        CaseKey::NoKey => note(least, line, BadValue),
     }
 }
 
 /// Notes the faults of a key of `cases`.
 #[tactic(auto, unfolding(crate::specs::Rules::case_key_faults))]
-fn note_case_key(least: &mut Least, home: Home, line: usize, read: &Result<Expr, ExprFault>)
-    ensures { seen_fault least.new ≡ noted (seen_fault least.old) (case_key_faults (seen_home home.entry) line (seen_expression read.now)) }
+fn note_case_key(least: &mut Least, home: Home, line: usize, text: &[u8]) -> Noted
+    ensures { OnOk result (seen_fault least.new ≡ noted (seen_fault least.old) (case_key_faults (seen_home home.entry) line (expression_of text.now))) }
 {
-    match read {
-        Ok(expr) => note_case_value(least, home, line, expr),
-        Err(fault) => note(least, line, DescFaultKind::NoExpression(*fault)),
+    match read_expression(home.alloc, text)? {
+        Ok(expr) => note_case_value(least, home, line, case_key(&expr)),
+        Err(fault) => note(least, line, NoExpression(fault)),
     }
+    Ok(())
 }
 
-/// Notes the faults of a case's type; `str` and `strz` are unsupported.
+/// Notes the faults of the text of a case's type; `str` and `strz` are unsupported.
 #[tactic(auto, using(crate::proofs::Noted::steps), unfolding(crate::specs::Rules::case_type_faults))]
-fn note_case_type(least: &mut Least, home: Home, line: usize, text: &TypeText)
-    ensures { seen_fault least.new ≡ noted (seen_fault least.old) (case_type_faults (seen_home home.entry) line (seen_type_text text.now)) }
+fn note_case_type(least: &mut Least, home: Home, line: usize, text: &[u8]) -> Noted
+    ensures { OnOk result (seen_fault least.new ≡ noted (seen_fault least.old) (case_type_faults (seen_home home.entry) line (type_text text.now))) }
 {
-    note_type_text(least, home, line, text);
-    let is_text = is_of_kind(TypeKind::Str, text) | is_of_kind(TypeKind::Strz, text);
-    note_if(least, is_text, line, DescFaultKind::LeftOut);
-}
-
-/// Notes the faults of the type at a case.
-fn note_case_at(least: &mut Least, home: Home, entry: &Entry) -> Result<(), AllocError>
-    ensures { OnOk result (seen_fault least.new ≡ noted (seen_fault least.old) (text_faults (λ text. case_type_faults (seen_home home.entry) (pair entry.now).line (type_text text)) (pair entry.now))) }
-{
-    match entry.value().text() {
-        Some(text) => {
-            let text = type_text(home.alloc, text)?;
-            note_case_type(least, home, entry.line(), &text);
-        }
-        None => note(least, entry.line(), DescFaultKind::BadValue),
-    }
+    let text = type_text(home.alloc, text)?;
+    let is_text = is_of_kind(TypeKind::Str, &text) | is_of_kind(TypeKind::Strz, &text);
+    note_type_text(least, home, line, &text);
+    note_if(least, is_text, line, LeftOut);
     Ok(())
 }
 
 /// Notes the faults of a case: of its key, and of its type.
 #[tactic(auto, using(crate::proofs::Noted::steps), unfolding(crate::specs::Rules::case_faults))]
-fn note_case(least: &mut Least, home: Home, entry: &Entry) -> Result<(), AllocError>
+fn note_case(least: &mut Least, home: Home, entry: &Entry) -> Noted
     ensures { OnOk result (seen_fault least.new ≡ noted (seen_fault least.old) (case_faults (seen_home home.entry) (pair entry.now))) }
 {
-    let read = read_expression(home.alloc, entry.key())?;
-    note_case_key(least, home, entry.line(), &read);
-    note_case_at(least, home, entry)?;
+    note_case_key(least, home, entry.line(), entry.key())?;
+    match entry.value().text() {
+        Some(text) => note_case_type(least, home, entry.line(), text)?,
+        None => note(least, entry.line(), BadValue),
+    }
     Ok(())
 }
 
 /// Notes the faults of each case.
-fn note_cases(least: &mut Least, home: Home, entries: &[Entry]) -> Result<(), AllocError>
+fn note_cases(least: &mut Least, home: Home, entries: &[Entry]) -> Noted
     ensures { OnOk result (seen_fault least.new ≡ noted (seen_fault least.old) (flat_map (case_faults (seen_home home.entry)) (map pair entries.now))) }
 {
     for entry in entries {
@@ -211,36 +189,12 @@ fn note_cases(least: &mut Least, home: Home, entries: &[Entry]) -> Result<(), Al
     Ok(())
 }
 
-/// Notes the faults of a text that is to be an expression.
-fn note_expression_text(
-    least: &mut Least,
-    home: Home,
-    site: Site,
-    line: usize,
-    text: &[u8],
-) -> Result<(), AllocError>
-    ensures { OnOk result (seen_fault least.new ≡ noted (seen_fault least.old) (expression_faults (seen_home home.entry) site line (expression_of text.now))) }
-{
-    let read = read_expression(home.alloc, text)?;
-    note_expression(least, home, site, line, &read);
-    Ok(())
-}
-
 /// Notes the faults of a text that is to be a type.
-fn note_type(least: &mut Least, home: Home, line: usize, text: &[u8]) -> Result<(), AllocError>
+fn note_type(least: &mut Least, home: Home, line: usize, text: &[u8]) -> Noted
     ensures { OnOk result (seen_fault least.new ≡ noted (seen_fault least.old) (type_text_faults (seen_home home.entry) line (type_text text.now))) }
 {
     let text = type_text(home.alloc, text)?;
     note_type_text(least, home, line, &text);
-    Ok(())
-}
-
-/// Notes the path of an enum that isn't there.
-fn note_enum_name(least: &mut Least, home: Home, line: usize, text: &[u8]) -> Result<(), AllocError>
-    ensures { OnOk result (seen_fault least.new ≡ noted (seen_fault least.old) (enum_faults (seen_home home.entry) line (ids_of text.now))) }
-{
-    let path = ids_of(home.alloc, text)?;
-    note_enum(least, home, line, &path);
     Ok(())
 }
 
@@ -250,87 +204,120 @@ fn note_bit_endian(least: &mut Least, line: usize, text: &[u8])
     ensures { seen_fault least.new ≡ noted (seen_fault least.old) (bit_endian_faults line text.now) }
 {
     if text == b"be".as_slice() {} else if text == b"le".as_slice() {
-        note(least, line, DescFaultKind::LeftOut);
+        note(least, line, LeftOut);
     } else {
-        note(least, line, DescFaultKind::BadValue);
+        note(least, line, BadValue);
     }
 }
 
 /// Notes the faults of a text at a key of this form.
 #[tactic(auto, using(crate::proofs::Noted::steps))]
-fn note_text(
-    least: &mut Least,
-    home: Home,
-    line: usize,
-    form: Form,
-    text: &[u8],
-) -> Result<(), AllocError>
+fn note_text(least: &mut Least, home: Home, line: usize, form: Form, text: &[u8]) -> Noted
     ensures { OnOk result (seen_fault least.new ≡ noted (seen_fault least.old) (form_text_faults (seen_home home.entry) line form text.now)) }
 {
     match form {
-        Form::Expression(site) => note_expression_text(least, home, site, line, text)?,
+        Form::Expression(site) => note_expression(least, home, site, line, text)?,
         Form::TypeOrSwitch => note_type(least, home, line, text)?,
-        Form::EnumName => note_enum_name(least, home, line, text)?,
+        Form::EnumName => note_enum(least, home, line, text)?,
         Form::Byte => note_numeral(least, line, byte_number(text)),
         Form::BitEndian => note_bit_endian(least, line, text),
-        Form::Coding | Form::ParameterType => {
-            note_if(least, !fits(form, text), line, DescFaultKind::LeftOut)
-        }
-        _ => note_if(least, !fits(form, text), line, DescFaultKind::BadValue),
+        Form::Coding | Form::ParameterType => { note_if(least, !fits(form, text), line, LeftOut) }
+        _ => note_if(least, !fits(form, text), line, BadValue),
     }
     Ok(())
 }
 
 /// Notes the faults of the text at a key of this form; another node is of the wrong kind.
-fn note_text_at(least: &mut Least, home: Home, entry: &Entry, form: Form) -> Result<(), AllocError>
+fn note_text_at(least: &mut Least, home: Home, entry: &Entry, form: Form) -> Noted
     ensures { OnOk result (seen_fault least.new ≡ noted (seen_fault least.old) (text_faults (form_text_faults (seen_home home.entry) (pair entry.now).line form) (pair entry.now))) }
 {
     match entry.value().text() {
         Some(text) => note_text(least, home, entry.line(), form, text)?,
-        None => note(least, entry.line(), DescFaultKind::BadValue),
+        None => note(least, entry.line(), BadValue),
     }
     Ok(())
 }
 
 /// Notes the faults of the cases at a key.
 #[tactic(auto, unfolding(crate::specs::Rules::form_faults))]
-fn note_cases_at(least: &mut Least, home: Home, entry: &Entry) -> Result<(), AllocError>
+fn note_cases_at(least: &mut Least, home: Home, entry: &Entry) -> Noted
     ensures { OnOk result (seen_fault least.new ≡ noted (seen_fault least.old) (form_faults (seen_home home.entry) (pair entry.now) forms.Cases)) }
 {
     match entry.value().entries() {
         Some(entries) => note_cases(least, home, entries)?,
-        None => note(least, entry.line(), DescFaultKind::BadValue),
+        None => note(least, entry.line(), BadValue),
     }
     Ok(())
 }
 
 /// Notes the faults of the value at a key, by its form.
 #[tactic(auto, using(crate::proofs::Noted::steps), unfolding(crate::specs::Rules::form_faults))]
-pub(crate) fn note_form(
-    least: &mut Least,
-    home: Home,
-    entry: &Entry,
-    form: Form,
-) -> Result<(), AllocError>
+fn note_form(least: &mut Least, home: Home, entry: &Entry, form: Form) -> Noted
     ensures { OnOk result (seen_fault least.new ≡ noted (seen_fault least.old) (form_faults (seen_home home.entry) (pair entry.now) form)) }
 {
     let line = entry.line();
     let value = entry.value();
     match form {
         Form::Ignored => {}
-        Form::NotHere => note(least, line, DescFaultKind::LeftOut),
+        Form::NotHere => note(least, line, LeftOut),
         Form::Mapping => {
             let is_mapping = value.entries().is_some();
-            note_if(least, !is_mapping, line, DescFaultKind::BadValue);
+            note_if(least, !is_mapping, line, BadValue);
         }
         Form::Listing => {
             let is_list = value.items().is_some();
-            note_if(least, !is_list, line, DescFaultKind::BadValue);
+            note_if(least, !is_list, line, BadValue);
         }
-        Form::Endian => note_endian(least, line, value),
-        Form::Contents => note_contents(least, line, value),
+        Form::Endian => note_endian(least, entry),
+        Form::Contents => note_contents(least, entry),
         Form::Cases => note_cases_at(least, home, entry)?,
+        Form::TypeOrSwitch => {
+            if value.entries().is_none() {
+                note_text_at(least, home, entry, form)?;
+            }
+        }
         _ => note_text_at(least, home, entry, form)?,
+    }
+    Ok(())
+}
+
+/// Whether a key has no meaning in a mapping of fixed keys.
+#[tactic(auto, unfolding(ksv_schema_keys::specs::Keys::is_ignored))]
+fn is_ignored(key: &[u8]) -> bool
+    ensures { result ≡ is_ignored key.now }
+{
+    match key.first() {
+        None => false,
+        Some(first) => *first == b'-' || key == b"doc".as_slice() || key == b"doc-ref".as_slice(),
+    }
+}
+
+/// Notes the faults of one key of a mapping.
+#[tactic(auto, using(crate::proofs::Noted::steps), unfolding(crate::specs::Rules::key_faults))]
+fn note_key(least: &mut Least, home: Home, kind: MappingKind, entry: &Entry) -> Noted
+    ensures { OnOk result (seen_fault least.new ≡ noted (seen_fault least.old) (key_faults (seen_home home.entry) kind (pair entry.now))) }
+{
+    if is_ignored(entry.key()) {
+        return Ok(());
+    }
+    match form_in(kind, entry.key()) {
+        Some(form) => note_form(least, home, entry, form)?,
+        None => note(least, entry.line(), UnknownKey),
+    }
+    Ok(())
+}
+
+/// Notes the faults of each key of a mapping.
+pub(crate) fn note_keys(
+    least: &mut Least,
+    home: Home,
+    kind: MappingKind,
+    entries: &[Entry],
+) -> Noted
+    ensures { OnOk result (seen_fault least.new ≡ noted (seen_fault least.old) (flat_map (key_faults (seen_home home.entry) kind) (map pair entries.now))) }
+{
+    for entry in entries {
+        note_key(least, home, kind, entry)?;
     }
     Ok(())
 }

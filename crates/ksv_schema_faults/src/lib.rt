@@ -8,14 +8,12 @@ mod check;
 mod enumeration;
 mod expression;
 mod fault;
+mod field;
 mod home;
 mod key;
 mod limit;
-mod mapping;
 mod member;
 mod rule;
-mod scope;
-mod together;
 
 pub use check::least_fault;
 pub use fault::{DescFault, DescFaultKind};

@@ -1,158 +1,92 @@
 //! The faults of parameters, attributes and instances.
 
-ghost use Rattle.std.specs.Prelude.{◌≡◌, ◌&&◌, not, OnOk, map};
-ghost use Rattle.ksv_yaml_tree.specs.View.{pair};
-ghost use Rattle.ksv_schema_scope.specs.Declarations.{declared};
-ghost use Rattle.ksv_schema_scope.specs.MemberRows.{member_of};
-ghost use Rattle.ksv_schema_faults.specs.Faults.{noted, fault_if, bad_value};
-ghost use Rattle.ksv_schema_keys.specs.Keys.{is_id};
-ghost use Rattle.ksv_schema_keys.specs.Values.{is_repeated};
-ghost use Rattle.ksv_schema_faults.specs.Rules.{is_attribute, home_of, parameter_faults, attribute_faults, instance_faults, role_faults, mapping_faults, is_instance, name_line, is_at, member_again, member_faults};
+ghost use Rattle.std.specs.Prelude.{◌≡◌, OnOk, map};
+ghost use Rattle.ksv_yaml_tree.specs.View.{view, pair};
+ghost use Rattle.ksv_schema_scope.specs.Table.{declared};
+ghost use Rattle.ksv_schema_scope.specs.Code.{member_of};
+ghost use Rattle.ksv_schema_faults.specs.Faults.{noted};
+ghost use Rattle.ksv_schema_faults.specs.Rules.{switch_faults, kind_faults, member_mapping_faults, is_instance, id_line, name_line, is_named_again, member_faults, line_at, most_members, each_from, members_faults};
 ghost use Rattle.ksv_schema_faults.specs.Code.{seen_fault, seen_home};
 
-use crate::fault::{DescFaultKind, Least, note, note_if};
-use crate::home::Home;
-use crate::mapping::note_keys;
-use crate::together::{note_field_rules, note_missing_if, note_value_rules};
-use ksv_schema_keys::{MappingKind, is_id};
-use ksv_schema_scope::{Member, Role, Scopes};
-use ksv_yaml_tree::keys::{entries_in, has, says};
-use ksv_yaml_tree::{Entry, find};
-use std::alloc::{AllocError, Global};
+use crate::fault::DescFaultKind::{BadValue, KeysAgainst, LeftOut};
+use crate::fault::{Least, Noted, note, note_if};
+use crate::field::note_field;
+use crate::home::{Home, home_of};
+use crate::limit::note_past;
+use crate::rule::note_mapping;
+use ksv_schema_keys::{MappingKind, is_id, kind_of};
+use ksv_schema_scope::{Member, Role};
+use ksv_yaml_tree::keys::entries_in;
+use ksv_yaml_tree::{Entry, Yaml, find};
 
-fn is_attribute(role: Role) -> bool
-    ensures { result ≡ is_attribute role }
+/// Notes the faults of the mapping at `type`.
+#[tactic(auto, using(crate::proofs::Noted::steps), unfolding(crate::specs::Rules::switch_faults))]
+fn note_switch(least: &mut Least, home: Home, entries: &[Entry]) -> Noted
+    ensures { OnOk result (seen_fault least.new ≡ noted (seen_fault least.old) (switch_faults (seen_home home.entry) (map pair entries.now))) }
 {
-    match role {
-        Role::Parameter => false,
-        Role::Attribute => true,
-        Role::Instance => false,
+    match find(entries, b"type") {
+        None => Ok(()),
+        Some(entry) => match entry.value().entries() {
+            None => Ok(()),
+            Some(keys) => {
+                let line = entry.value().line();
+                note_mapping(least, home, MappingKind::Switch, line, keys)
+            }
+        },
     }
 }
 
-/// Whether an attribute is repeated.
-fn is_repeated(entries: &[Entry]) -> bool
-    ensures { result ≡ is_repeated (map pair entries.now) }
-{
-    says(entries, b"repeat", b"eos")
-        || says(entries, b"repeat", b"expr")
-        || says(entries, b"repeat", b"until")
-}
-
-/// Where the mapping of a member is.
-fn home_of<'a>(
-    alloc: Global,
-    scopes: &'a Scopes<'a>,
-    member: &Member,
-    entries: &[Entry],
-) -> Home<'a>
-    ensures { seen_home result ≡ home_of (declared scopes.now) (member_of member.now) (map pair entries.now) }
-{
-    Home {
-        alloc,
-        scopes,
-        within: member.within,
-        in_sequence: is_attribute(member.role),
-        is_repeated: is_repeated(entries),
-    }
-}
-
-/// Notes the faults of a parameter.
-#[tactic(auto, using(crate::proofs::Noted::steps), unfolding(crate::specs::Rules::parameter_faults))]
-fn note_parameter(
+/// Notes what else a member of this kind must be.
+#[tactic(auto, using(crate::proofs::Noted::steps), unfolding(crate::specs::Rules::kind_faults))]
+fn note_kind(
     least: &mut Least,
     home: Home,
-    line: usize,
-    entries: &[Entry],
-) -> Result<(), AllocError>
-    ensures { OnOk result (seen_fault least.new ≡ noted (seen_fault least.old) (parameter_faults (seen_home home.entry) line (map pair entries.now))) }
-{
-    note_keys(least, home, MappingKind::Parameter, entries)?;
-    let has_id = has(entries, b"id");
-    note_missing_if(least, !has_id, line);
-    Ok(())
-}
-
-/// Notes the faults of an attribute.
-#[tactic(auto, using(crate::proofs::Noted::steps), unfolding(crate::specs::Rules::attribute_faults))]
-fn note_attribute(
-    least: &mut Least,
-    home: Home,
-    line: usize,
-    entries: &[Entry],
-) -> Result<(), AllocError>
-    ensures { OnOk result (seen_fault least.new ≡ noted (seen_fault least.old) (attribute_faults (seen_home home.entry) line (map pair entries.now))) }
-{
-    note_keys(least, home, MappingKind::Attribute, entries)?;
-    note_field_rules(least, home, line, entries)
-}
-
-/// Notes the faults of an instance, which has a value or a place; one with neither is unsupported.
-#[tactic(auto, using(crate::proofs::Noted::steps), unfolding(crate::specs::Rules::instance_faults))]
-fn note_instance(
-    least: &mut Least,
-    home: Home,
+    kind: MappingKind,
     name_line: usize,
     line: usize,
     entries: &[Entry],
-) -> Result<(), AllocError>
-    ensures { OnOk result (seen_fault least.new ≡ noted (seen_fault least.old) (instance_faults (seen_home home.entry) name_line line (map pair entries.now))) }
+) -> Noted
+    ensures { OnOk result (seen_fault least.new ≡ noted (seen_fault least.old) (kind_faults (seen_home home.entry) kind name_line line (map pair entries.now))) }
 {
-    if has(entries, b"value") {
-        note_keys(least, home, MappingKind::Value, entries)?;
-        return note_value_rules(least, home, line, entries);
+    match kind {
+        MappingKind::Attribute | MappingKind::ParseInstance => {
+            note_switch(least, home, entries)?;
+            note_field(least, home, line, entries)?;
+        }
+        MappingKind::Placeless => {
+            note_switch(least, home, entries)?;
+            note(least, name_line, LeftOut);
+        }
+        _ => {}
     }
-    if has(entries, b"pos") {
-        note_keys(least, home, MappingKind::ParseInstance, entries)?;
-        return note_field_rules(least, home, line, entries);
-    }
-    note_keys(least, home, MappingKind::ParseInstance, entries)?;
-    note(least, name_line, DescFaultKind::LeftOut);
     Ok(())
-}
-
-/// Notes the faults of a member's mapping, by the member's role.
-#[tactic(auto, unfolding(crate::specs::Rules::role_faults))]
-fn note_role(
-    least: &mut Least,
-    role: Role,
-    home: Home,
-    name_line: usize,
-    line: usize,
-    entries: &[Entry],
-) -> Result<(), AllocError>
-    ensures { OnOk result (seen_fault least.new ≡ noted (seen_fault least.old) (role_faults role (seen_home home.entry) name_line line (map pair entries.now))) }
-{
-    match role {
-        Role::Parameter => note_parameter(least, home, line, entries),
-        Role::Attribute => note_attribute(least, home, line, entries),
-        Role::Instance => note_instance(least, home, name_line, line, entries),
-    }
 }
 
 /// Notes the faults of a member's mapping.
-#[tactic(auto, unfolding(crate::specs::Rules::mapping_faults))]
-fn note_mapping<'a>(
-    alloc: Global,
-    least: &mut Least,
-    scopes: &'a Scopes<'a>,
-    member: &Member,
-    entries: &[Entry],
-) -> Result<(), AllocError>
-    ensures { OnOk result (seen_fault least.new ≡ noted (seen_fault least.old) (mapping_faults (declared scopes.now) (member_of member.now) (map pair entries.now))) }
+#[tactic(auto, using(crate::proofs::Noted::steps), unfolding(crate::specs::Rules::member_mapping_faults))]
+fn note_keys(least: &mut Least, home: Home, member: &Member, entries: &[Entry]) -> Noted
+    ensures { OnOk result (seen_fault least.new ≡ noted (seen_fault least.old) (member_mapping_faults (declared home.entry.scopes.now) home.entry.within (member_of member.now) (map pair entries.now))) }
 {
-    let home = home_of(alloc, scopes, member, entries);
+    let home = home_of(home, member.role, entries);
+    let kind = kind_of(member.role, entries);
     let line = member.value.line();
-    note_role(least, member.role, home, member.line, line, entries)
+    note_mapping(least, home, kind, line, entries)?;
+    note_kind(least, home, kind, member.line, line, entries)
 }
 
 fn is_instance(role: Role) -> bool
     ensures { result ≡ is_instance role }
 {
-    match role {
-        Role::Parameter => false,
-        Role::Attribute => false,
-        Role::Instance => true,
+    matches!(role, Role::Instance)
+}
+
+/// The line of an `id`, or this one.
+pub(crate) fn id_line(value: &Yaml, line: usize) -> usize
+    ensures { result ≡ id_line (view value.now) line }
+{
+    match find(entries_in(value), b"id") {
+        Some(entry) => entry.line(),
+        None => line,
     }
 }
 
@@ -164,61 +98,59 @@ fn name_line(member: &Member) -> usize
     if is_instance(member.role) {
         return member.line;
     }
-    match find(entries_in(member.value), b"id") {
-        Some(entry) => entry.line(),
-        None => member.line,
+    id_line(member.value, member.line)
+}
+
+/// Whether an earlier member of the same type has the name of the member of this number.
+#[tactic(auto, unfolding(crate::specs::Rules::is_named_again))]
+fn is_named_again(home: Home, number: usize, member: &Member) -> bool
+    ensures { result ≡ is_named_again (declared home.entry.scopes.now) home.entry.within number (member_of member.now) }
+{
+    let name = member.name();
+    match home.scopes.member_named(home.within, name) {
+        Some(first) => !name.is_empty() && first != number,
+        None => !name.is_empty(),
     }
 }
 
-/// Whether a thing that was found is the one of this number.
-fn is_at(number: usize, found: Option<usize>) -> bool
-    ensures { result ≡ is_at number found }
-{
-    match found {
-        Some(other) => other == number,
-        None => false,
-    }
-}
-
-/// Notes a name that an earlier member of the same type has.
-#[tactic(auto, unfolding(crate::specs::Rules::member_again))]
-fn note_member_again(least: &mut Least, scopes: &Scopes, number: usize, member: &Member)
-    ensures { seen_fault least.new ≡ noted (seen_fault least.old) (member_again (declared scopes.now) number (member_of member.now)) }
-{
-    let has_name = !member.name().is_empty();
-    let is_first = is_at(number, scopes.member_named(member.within, member.name()));
-    note_if(
-        least,
-        has_name & !is_first,
-        name_line(member),
-        DescFaultKind::KeysAgainst,
-    );
-}
-
-/// Notes the name of an instance if it is no id.
-fn note_name_of_instance(least: &mut Least, member: &Member)
-    ensures { seen_fault least.new ≡ noted (seen_fault least.old) (fault_if (is_instance (member_of member.now).role && not (is_id (member_of member.now).name)) (member_of member.now).line bad_value) }
-{
-    let is_bad = is_instance(member.role) & !is_id(member.name());
-    note_if(least, is_bad, member.line, DescFaultKind::BadValue);
-}
-
-/// Notes the faults of a member, of this number among all members.
+/// Notes the faults of the member of this number in its type.
 #[tactic(auto, using(crate::proofs::Noted::steps), unfolding(crate::specs::Rules::member_faults))]
-pub(crate) fn note_member<'a>(
-    alloc: Global,
-    least: &mut Least,
-    scopes: &'a Scopes<'a>,
-    number: usize,
-    member: &Member,
-) -> Result<(), AllocError>
-    ensures { OnOk result (seen_fault least.new ≡ noted (seen_fault least.old) (member_faults (declared scopes.now) number (member_of member.now))) }
+fn note_member(least: &mut Least, home: Home, number: usize, member: &Member) -> Noted
+    ensures { OnOk result (seen_fault least.new ≡ noted (seen_fault least.old) (member_faults (declared home.entry.scopes.now) home.entry.within number (member_of member.now))) }
 {
     match member.value.entries() {
-        Some(entries) => note_mapping(alloc, least, scopes, member, entries)?,
-        None => note(least, member.line, DescFaultKind::BadValue),
+        Some(entries) => note_keys(least, home, member, entries)?,
+        None => note(least, member.line, BadValue),
     }
-    note_name_of_instance(least, member);
-    note_member_again(least, scopes, number, member);
+    let is_bad = is_instance(member.role) & !is_id(member.name());
+    let is_again = is_named_again(home, number, member);
+    note_if(least, is_bad, member.line, BadValue);
+    note_if(least, is_again, name_line(member), KeysAgainst);
     Ok(())
+}
+
+/// Notes the faults of each member of a type.
+fn note_each(least: &mut Least, home: Home, members: &[Member]) -> Noted
+    ensures { OnOk result (seen_fault least.new ≡ noted (seen_fault least.old) (each_from (member_faults (declared home.entry.scopes.now) home.entry.within) 0 (map member_of members.now))) }
+{
+    for (number, member) in members.iter().enumerate() {
+        note_member(least, home, number, member)?;
+    }
+    Ok(())
+}
+
+/// The line of the first member past the limit.
+fn line_past(members: &[Member]) -> Option<usize>
+    ensures { result ≡ line_at (λ m. m.line) most_members (map member_of members.now) }
+{
+    Some(members.get(256)?.line)
+}
+
+/// Notes the faults of the members of a type.
+#[tactic(auto, using(crate::proofs::Noted::steps), unfolding(crate::specs::Rules::members_faults))]
+pub(crate) fn note_members(least: &mut Least, home: Home, members: &[Member]) -> Noted
+    ensures { OnOk result (seen_fault least.new ≡ noted (seen_fault least.old) (members_faults (declared home.entry.scopes.now) home.entry.within (map member_of members.now))) }
+{
+    note_past(least, line_past(members));
+    note_each(least, home, members)
 }

@@ -1,16 +1,22 @@
-//! Rules of two keys: tables of what excludes, needs or attends what, and the loop over a table.
+//! Rules of keys together: a table of what must be there, what is unsupported, and what excludes, needs or attends
+//! what; and the loop over it.
 
-ghost use Rattle.std.specs.Prelude.{◌≡◌, map, if◌then◌else◌};
+ghost use Rattle.std.specs.Prelude.{◌≡◌, OnOk, None, map, flat_map, true, if◌then◌else◌};
 ghost use Rattle.ksv_yaml_tree.specs.Tree.{entry_at};
 ghost use Rattle.ksv_yaml_tree.specs.View.{pair, seen_entry};
-ghost use Rattle.ksv_schema_faults.specs.Faults.{noted};
 ghost use Rattle.ksv_schema_keys.specs.Code.{seen_type_at};
 ghost use Rattle.ksv_schema_keys.specs.Values.{own_type};
-ghost use Rattle.ksv_schema_faults.specs.Rules.{against, alone_if, claimed, rule_faults, rules_faults, field_pairs, value_pairs};
-ghost use Rattle.ksv_schema_faults.specs.Code.{seen_fault, seen_claim, seen_rule};
+ghost use Rattle.ksv_schema_faults.specs.Faults.{noted};
+ghost use Rattle.ksv_schema_faults.specs.Rules.{against, at_if, claimed, rule_faults, ruled_faults, rules, mapping_faults};
+ghost use Rattle.ksv_schema_faults.specs.Code.{number_of, seen_fault, seen_home, seen_claim, seen_rule, seen_ruled};
 
-use crate::fault::{DescFaultKind, Least, note, note_if};
-use ksv_schema_keys::{TypeKind, TypeText, is_a};
+use self::Claim::{Has, Says, Typed};
+use self::Rule::{Attends, Bars, Excludes, Must, Needs};
+use crate::fault::DescFaultKind::{KeysAgainst, LeftOut, MissingKey};
+use crate::fault::{DescFaultKind, Least, Noted, note, note_if};
+use crate::home::Home;
+use crate::key::note_keys;
+use ksv_schema_keys::{Group, MappingKind, TypeKind, TypeText, is_a, is_in, own_type};
 use ksv_yaml_tree::keys::says;
 use ksv_yaml_tree::{Entry, find};
 
@@ -24,9 +30,13 @@ enum Claim {
     Typed(TypeKind),
 }
 
-/// A rule of two keys.
+/// A rule of keys.
 enum Rule {
-    /// They exclude each other.
+    /// The key must be there.
+    Must(Claim),
+    /// It is unsupported.
+    Bars(Claim),
+    /// The two exclude each other.
     Excludes(Claim, Claim),
     /// The first needs the second.
     Needs(Claim, Claim),
@@ -34,40 +44,59 @@ enum Rule {
     Attends(Claim, Claim),
 }
 
-/// The rules of an attribute or a parse instance.
-static FIELD_PAIRS: [Rule; 14] = [
-    Rule::Needs(Claim::Says(b"repeat", b"expr"), Claim::Has(b"repeat-expr")),
-    Rule::Needs(
-        Claim::Says(b"repeat", b"until"),
-        Claim::Has(b"repeat-until"),
-    ),
-    Rule::Attends(Claim::Has(b"repeat-expr"), Claim::Says(b"repeat", b"expr")),
-    Rule::Attends(
-        Claim::Has(b"repeat-until"),
-        Claim::Says(b"repeat", b"until"),
-    ),
-    Rule::Attends(Claim::Has(b"enum"), Claim::Typed(TypeKind::Integer)),
-    Rule::Excludes(Claim::Has(b"size"), Claim::Says(b"size-eos", b"true")),
-    Rule::Excludes(Claim::Has(b"contents"), Claim::Has(b"type")),
-    Rule::Excludes(Claim::Has(b"contents"), Claim::Has(b"size")),
-    Rule::Excludes(Claim::Has(b"contents"), Claim::Has(b"size-eos")),
-    Rule::Excludes(Claim::Has(b"contents"), Claim::Has(b"terminator")),
-    Rule::Excludes(Claim::Has(b"contents"), Claim::Has(b"enum")),
-    Rule::Excludes(Claim::Typed(TypeKind::Integer), Claim::Has(b"size")),
-    Rule::Excludes(
-        Claim::Typed(TypeKind::Integer),
-        Claim::Says(b"size-eos", b"true"),
-    ),
-    Rule::Excludes(Claim::Typed(TypeKind::Integer), Claim::Has(b"terminator")),
-];
+/// A rule of the mappings of a group.
+struct Ruled(Group, Rule);
 
-/// The rules of a value instance.
-static VALUE_PAIRS: [Rule; 5] = [
-    Rule::Excludes(Claim::Has(b"value"), Claim::Has(b"pos")),
-    Rule::Excludes(Claim::Has(b"value"), Claim::Has(b"io")),
-    Rule::Excludes(Claim::Has(b"value"), Claim::Has(b"type")),
-    Rule::Excludes(Claim::Has(b"value"), Claim::Has(b"size")),
-    Rule::Excludes(Claim::Has(b"value"), Claim::Has(b"repeat")),
+/// The rules of keys.
+static RULES: [Ruled; 24] = [
+    Ruled(Group::Roots, Must(Has(b"meta"))),
+    Ruled(Group::Roots, Bars(Has(b"params"))),
+    Ruled(Group::NeedId, Must(Has(b"id"))),
+    Ruled(Group::Switches, Must(Has(b"switch-on"))),
+    Ruled(Group::Switches, Must(Has(b"cases"))),
+    Ruled(
+        Group::Read,
+        Needs(Says(b"repeat", b"expr"), Has(b"repeat-expr")),
+    ),
+    Ruled(
+        Group::Read,
+        Needs(Says(b"repeat", b"until"), Has(b"repeat-until")),
+    ),
+    Ruled(
+        Group::Read,
+        Attends(Has(b"repeat-expr"), Says(b"repeat", b"expr")),
+    ),
+    Ruled(
+        Group::Read,
+        Attends(Has(b"repeat-until"), Says(b"repeat", b"until")),
+    ),
+    Ruled(Group::Read, Attends(Has(b"enum"), Typed(TypeKind::Integer))),
+    Ruled(
+        Group::Read,
+        Excludes(Has(b"size"), Says(b"size-eos", b"true")),
+    ),
+    Ruled(Group::Read, Excludes(Has(b"contents"), Has(b"type"))),
+    Ruled(Group::Read, Excludes(Has(b"contents"), Has(b"size"))),
+    Ruled(Group::Read, Excludes(Has(b"contents"), Has(b"size-eos"))),
+    Ruled(Group::Read, Excludes(Has(b"contents"), Has(b"terminator"))),
+    Ruled(Group::Read, Excludes(Has(b"contents"), Has(b"enum"))),
+    Ruled(
+        Group::Read,
+        Excludes(Typed(TypeKind::Integer), Has(b"size")),
+    ),
+    Ruled(
+        Group::Read,
+        Excludes(Typed(TypeKind::Integer), Says(b"size-eos", b"true")),
+    ),
+    Ruled(
+        Group::Read,
+        Excludes(Typed(TypeKind::Integer), Has(b"terminator")),
+    ),
+    Ruled(Group::Values, Excludes(Has(b"value"), Has(b"pos"))),
+    Ruled(Group::Values, Excludes(Has(b"value"), Has(b"io"))),
+    Ruled(Group::Values, Excludes(Has(b"value"), Has(b"type"))),
+    Ruled(Group::Values, Excludes(Has(b"value"), Has(b"size"))),
+    Ruled(Group::Values, Excludes(Has(b"value"), Has(b"repeat"))),
 ];
 
 /// A key, if something holds.
@@ -84,9 +113,9 @@ fn claimed<'a>(claim: &Claim, typed: &Option<TypeText>, entries: &'a [Entry]) ->
     ensures { seen_entry result ≡ claimed (map pair entries.now) (seen_claim claim.now) }
 {
     match claim {
-        Claim::Has(key) => find(entries, key),
-        Claim::Says(key, text) => key_if(says(entries, key, text), entries, key),
-        Claim::Typed(kind) => key_if(is_a(*kind, typed), entries, b"type"),
+        Has(key) => find(entries, key),
+        Says(key, text) => key_if(says(entries, key, text), entries, key),
+        Typed(kind) => key_if(is_a(*kind, typed), entries, b"type"),
     }
 }
 
@@ -99,23 +128,24 @@ pub(crate) fn note_against(least: &mut Least, one: Option<&Entry>, other: Option
         None => {}
         Some(one) => match other {
             None => {}
-            Some(other) => note(
-                least,
-                one.line().min(other.line()),
-                DescFaultKind::KeysAgainst,
-            ),
+            Some(other) => note(least, one.line().min(other.line()), KeysAgainst),
         },
     }
 }
 
-/// Notes a key without what it needs.
+/// Notes a key, if there is one with which something is wrong.
 #[tactic(auto, using(crate::proofs::Noted::steps))]
-fn note_alone_if(least: &mut Least, lacks: bool, key: Option<&Entry>)
-    ensures { seen_fault least.new ≡ noted (seen_fault least.old) (alone_if lacks (seen_entry key.entry)) }
+pub(crate) fn note_at_if(
+    least: &mut Least,
+    is_wrong: bool,
+    key: Option<&Entry>,
+    kind: DescFaultKind,
+)
+    ensures { seen_fault least.new ≡ noted (seen_fault least.old) (at_if is_wrong (seen_entry key.entry) (number_of kind)) }
 {
     match key {
         None => {}
-        Some(entry) => note_if(least, lacks, entry.line(), DescFaultKind::KeysAgainst),
+        Some(entry) => note_if(least, is_wrong, entry.line(), kind),
     }
 }
 
@@ -131,61 +161,94 @@ fn note_rule(
     ensures { seen_fault least.new ≡ noted (seen_fault least.old) (rule_faults line (map pair entries.now) (seen_rule rule.now)) }
 {
     match rule {
-        Rule::Excludes(one, other) => note_against(
+        Must(one) => {
+            let lacks = claimed(one, typed, entries).is_none();
+            note_if(least, lacks, line, MissingKey);
+        }
+        Bars(one) => {
+            let barred = claimed(one, typed, entries);
+            note_at_if(least, true, barred, LeftOut);
+        }
+        Excludes(one, other) => note_against(
             least,
             claimed(one, typed, entries),
             claimed(other, typed, entries),
         ),
-        Rule::Needs(one, other) => {
+        Needs(one, other) => {
             let needs = claimed(one, typed, entries).is_some();
             let lacks = claimed(other, typed, entries).is_none();
-            note_if(least, needs & lacks, line, DescFaultKind::MissingKey);
+            note_if(least, needs & lacks, line, MissingKey);
         }
-        Rule::Attends(one, other) => {
+        Attends(one, other) => {
             let lacks = claimed(other, typed, entries).is_none();
-            note_alone_if(least, lacks, claimed(one, typed, entries));
+            let attends = claimed(one, typed, entries);
+            note_at_if(least, lacks, attends, KeysAgainst);
         }
+    }
+}
+
+/// Notes what breaks a rule, if it is one of such mappings.
+#[tactic(auto, using(crate::proofs::Noted::steps), unfolding(crate::specs::Rules::ruled_faults))]
+fn note_ruled(
+    least: &mut Least,
+    kind: MappingKind,
+    line: usize,
+    typed: &Option<TypeText>,
+    entries: &[Entry],
+    ruled: &Ruled,
+)
+    requires { seen_type_at typed.now ≡ own_type (map pair entries.now) }
+    ensures { seen_fault least.new ≡ noted (seen_fault least.old) (ruled_faults kind line (map pair entries.now) (seen_ruled ruled.now)) }
+{
+    if is_in(ruled.0, kind) {
+        note_rule(least, line, typed, entries, &ruled.1);
     }
 }
 
 /// Notes what breaks each of these rules.
-fn note_rules(
+fn note_each(
     least: &mut Least,
+    kind: MappingKind,
     line: usize,
     typed: &Option<TypeText>,
     entries: &[Entry],
-    rules: &[Rule],
+    rules: &[Ruled],
 )
     requires { seen_type_at typed.now ≡ own_type (map pair entries.now) }
-    ensures { seen_fault least.new ≡ noted (seen_fault least.old) (rules_faults (map seen_rule rules.now) line (map pair entries.now)) }
+    ensures { seen_fault least.new ≡ noted (seen_fault least.old) (flat_map (ruled_faults kind line (map pair entries.now)) (map seen_ruled rules.now)) }
 {
-    for rule in rules {
-        note_rule(least, line, typed, entries, rule);
+    for ruled in rules {
+        note_ruled(least, kind, line, typed, entries, ruled);
     }
 }
 
-/// Notes two keys of an attribute or a parse instance that don't fit together.
-pub(crate) fn note_field_pairs(
+/// Notes what breaks a rule of such mappings.
+fn note_rules(
     least: &mut Least,
+    kind: MappingKind,
     line: usize,
     typed: &Option<TypeText>,
     entries: &[Entry],
 )
     requires { seen_type_at typed.now ≡ own_type (map pair entries.now) }
-    ensures { seen_fault least.new ≡ noted (seen_fault least.old) (rules_faults field_pairs line (map pair entries.now)) }
+    ensures { seen_fault least.new ≡ noted (seen_fault least.old) (flat_map (ruled_faults kind line (map pair entries.now)) rules) }
 {
-    note_rules(least, line, typed, entries, FIELD_PAIRS.as_slice());
+    note_each(least, kind, line, typed, entries, RULES.as_slice());
 }
 
-/// Notes the keys of a value instance that its value excludes.
-pub(crate) fn note_value_pairs(
+/// Notes the faults of a mapping: of each key, and of the keys together.
+#[tactic(auto, using(crate::proofs::Noted::steps), unfolding(crate::specs::Rules::mapping_faults))]
+pub(crate) fn note_mapping(
     least: &mut Least,
+    home: Home,
+    kind: MappingKind,
     line: usize,
-    typed: &Option<TypeText>,
     entries: &[Entry],
-)
-    requires { seen_type_at typed.now ≡ own_type (map pair entries.now) }
-    ensures { seen_fault least.new ≡ noted (seen_fault least.old) (rules_faults value_pairs line (map pair entries.now)) }
+) -> Noted
+    ensures { OnOk result (seen_fault least.new ≡ noted (seen_fault least.old) (mapping_faults (seen_home home.entry) kind line (map pair entries.now))) }
 {
-    note_rules(least, line, typed, entries, VALUE_PAIRS.as_slice());
+    note_keys(least, home, kind, entries)?;
+    let typed = own_type(home.alloc, entries)?;
+    note_rules(least, kind, line, &typed, entries);
+    Ok(())
 }

@@ -16,25 +16,12 @@ use Rattle.ksv_schema_keys.specs.declared.values.CaseKey as case_keys
 use Rattle.ksv_schema_keys.specs.declared.values.CaseKey.TheVariants as case_key
 use Rattle.ksv_schema_keys.specs.Values.{TypeText, Unspelled, OfLanguage, OfDescription, is_integer, is_str, is_strz, Piece, Bytes, BadPiece, LeftOutPiece, names_in, CaseKey, Constant, Negative, Member, Default, NoKey}
 use Rattle.ksv_schema_keys.specs.declared.keys.Key.{Key as KeyOfCode}
-use Rattle.ksv_schema_keys.specs.declared.keys.MappingKind.{MappingKind}
-use Rattle.ksv_schema_keys.specs.declared.keys.MappingKind.TheVariants as table
-use Rattle.ksv_schema_keys.specs.Keys.{Key, key, type_keys, meta_keys, parameter_keys, attribute_keys, parse_instance_keys, value_keys, switch_keys, constant_keys}
+use Rattle.ksv_schema_keys.specs.Keys.{Key, key}
 
 -- ---- keys
 
 abbrev pub seen_key : KeyOfCode → Key
-seen_key k = key k.0.now k.1
-
--- the keys of a mapping
-abbrev pub keys_of : MappingKind → List Key
-keys_of table.Type = type_keys
-keys_of table.Meta = meta_keys
-keys_of table.Parameter = parameter_keys
-keys_of table.Attribute = attribute_keys
-keys_of table.ParseInstance = parse_instance_keys
-keys_of table.Value = value_keys
-keys_of table.Switch = switch_keys
-keys_of table.Constant = constant_keys
+seen_key k = key k.0 k.1.now k.2
 
 -- ---- texts
 

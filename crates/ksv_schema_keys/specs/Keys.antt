@@ -1,110 +1,128 @@
 -- Which keys each mapping of a description may have, and what is at each of them.
-use Rattle.std.specs.Prelude.{ℕ, Bool, false, nat_le, ◌&&◌, ◌||◌, ◌==◌, List, [], ◌∷◌, codes, Option, option_map}
+use Rattle.std.specs.Prelude.{ℕ, Bool, true, false, if◌then◌else◌, nat_le, ◌&&◌, ◌||◌, ◌==◌, List, [], ◌∷◌, codes, Option, option_map}
 use Rattle.std.specs.List.{find, list_all}
 use Rattle.std.specs.Str.{bytes_eq}
+use Rattle.ksv_yaml_tree.specs.Tree.{Pair}
+use Rattle.ksv_yaml_tree.specs.Keys.{has}
+use Rattle.ksv_schema_scope.specs.declared.members.Role.{Role}
+use Rattle.ksv_schema_scope.specs.declared.members.Role.TheVariants.{Parameter, Attribute, Instance}
 use Rattle.ksv_schema_names.specs.declared.position.Site.TheVariants as sites
+use Rattle.ksv_schema_keys.specs.declared.keys.MappingKind.{MappingKind}
+use Rattle.ksv_schema_keys.specs.declared.keys.MappingKind.TheVariants as kinds
+use Rattle.ksv_schema_keys.specs.declared.keys.Group.{Group}
+use Rattle.ksv_schema_keys.specs.declared.keys.Group.TheVariants as groups
 use Rattle.ksv_schema_keys.specs.declared.keys.Form.{Form}
 use Rattle.ksv_schema_keys.specs.declared.keys.Form.TheVariants.{Ignored, NotHere, Mapping, Listing, Id, Flag, Repeat, Endian, BitEndian, Coding, ParameterType, AnyText, Expression, TypeOrSwitch, Cases, EnumName, Byte, Contents}
 
--- a key, and what is at it
+-- ---- mappings
+
+-- the mappings that have something in common
+abbrev pub is_in : Group → MappingKind → Bool
+is_in groups.Types kinds.Root = true
+is_in groups.Types kinds.Type = true
+is_in groups.Roots kinds.Root = true
+is_in groups.Metas kinds.RootMeta = true
+is_in groups.Metas kinds.Meta = true
+is_in groups.Named kinds.RootMeta = true
+is_in groups.Named kinds.Meta = true
+is_in groups.Named kinds.Parameter = true
+is_in groups.Named kinds.Attribute = true
+is_in groups.Named kinds.Constant = true
+is_in groups.NeedId kinds.RootMeta = true
+is_in groups.NeedId kinds.Parameter = true
+is_in groups.NeedId kinds.Constant = true
+is_in groups.Parameters kinds.Parameter = true
+is_in groups.Places kinds.ParseInstance = true
+is_in groups.Places kinds.Placeless = true
+is_in groups.Fields kinds.Attribute = true
+is_in groups.Fields kinds.ParseInstance = true
+is_in groups.Fields kinds.Placeless = true
+is_in groups.Read kinds.Attribute = true
+is_in groups.Read kinds.ParseInstance = true
+is_in groups.Values kinds.Value = true
+is_in groups.Switches kinds.Switch = true
+is_in _ _ = false
+
+-- what the mapping of a member is: an instance has a value or a place, or neither
+abbrev pub kind_of : Role → List Pair → MappingKind
+kind_of Parameter es = kinds.Parameter
+kind_of Attribute es = kinds.Attribute
+kind_of Instance es = if has (codes "value") es then kinds.Value else if has (codes "pos") es then kinds.ParseInstance else kinds.Placeless
+
+-- ---- the keys
+
+-- a key: which mappings have it, its name, and what is at it
 pub record Key : Type 0 where
+  pub group : Group
   pub name : List ℕ
   pub form : Form
 
-abbrev pub key : List ℕ → Form → Key
-key name form = record { name = name; form = form }
+abbrev pub key : Group → List ℕ → Form → Key
+key group name form = record { group = group; name = name; form = form }
 
--- ---- the tables
+-- the keys of a value that are ignored are what `value` excludes
+abbrev pub keys : List Key
+keys =
+    key groups.Types (codes "meta") Mapping ∷
+    key groups.Types (codes "params") Listing ∷
+    key groups.Types (codes "seq") Listing ∷
+    key groups.Types (codes "types") Mapping ∷
+    key groups.Types (codes "instances") Mapping ∷
+    key groups.Types (codes "enums") Mapping ∷
+    key groups.Named (codes "id") Id ∷
+    key groups.Metas (codes "endian") Endian ∷
+    key groups.Metas (codes "encoding") Coding ∷
+    key groups.Metas (codes "bit-endian") BitEndian ∷
+    key groups.Metas (codes "title") Ignored ∷
+    key groups.Metas (codes "application") Ignored ∷
+    key groups.Metas (codes "file-extension") Ignored ∷
+    key groups.Metas (codes "license") Ignored ∷
+    key groups.Metas (codes "xref") Ignored ∷
+    key groups.Metas (codes "ks-version") Ignored ∷
+    key groups.Metas (codes "tags") Ignored ∷
+    key groups.Metas (codes "imports") NotHere ∷
+    key groups.Metas (codes "ks-opaque-types") NotHere ∷
+    key groups.Parameters (codes "type") ParameterType ∷
+    key groups.Parameters (codes "enum") AnyText ∷
+    key groups.Places (codes "pos") (Expression sites.Place) ∷
+    key groups.Places (codes "io") (Expression sites.Stream) ∷
+    key groups.Fields (codes "type") TypeOrSwitch ∷
+    key groups.Fields (codes "size") (Expression sites.Size) ∷
+    key groups.Fields (codes "size-eos") Flag ∷
+    key groups.Fields (codes "contents") Contents ∷
+    key groups.Fields (codes "encoding") Coding ∷
+    key groups.Fields (codes "terminator") Byte ∷
+    key groups.Fields (codes "consume") Flag ∷
+    key groups.Fields (codes "include") Flag ∷
+    key groups.Fields (codes "eos-error") Flag ∷
+    key groups.Fields (codes "repeat") Repeat ∷
+    key groups.Fields (codes "repeat-expr") (Expression sites.Count) ∷
+    key groups.Fields (codes "repeat-until") (Expression sites.Until) ∷
+    key groups.Fields (codes "if") (Expression sites.Condition) ∷
+    key groups.Fields (codes "enum") EnumName ∷
+    key groups.Fields (codes "process") NotHere ∷
+    key groups.Fields (codes "pad-right") NotHere ∷
+    key groups.Fields (codes "valid") NotHere ∷
+    key groups.Values (codes "value") (Expression sites.Value) ∷
+    key groups.Values (codes "if") (Expression sites.Condition) ∷
+    key groups.Values (codes "enum") EnumName ∷
+    key groups.Values (codes "process") NotHere ∷
+    key groups.Values (codes "pad-right") NotHere ∷
+    key groups.Values (codes "valid") NotHere ∷
+    key groups.Values (codes "pos") Ignored ∷
+    key groups.Values (codes "io") Ignored ∷
+    key groups.Values (codes "type") Ignored ∷
+    key groups.Values (codes "size") Ignored ∷
+    key groups.Values (codes "repeat") Ignored ∷
+    key groups.Switches (codes "switch-on") (Expression sites.Switch) ∷
+    key groups.Switches (codes "cases") Cases ∷ []
 
--- a type, the root too
-abbrev pub type_keys : List Key
-type_keys =
-    key (codes "meta") Mapping ∷
-    key (codes "params") Listing ∷
-    key (codes "seq") Listing ∷
-    key (codes "types") Mapping ∷
-    key (codes "instances") Mapping ∷
-    key (codes "enums") Mapping ∷ []
+unfoldable pub form_among : List Key → MappingKind → List ℕ → Option Form
+form_among keys kind name = option_map (λ k. k.form) (find (λ k. is_in k.group kind && bytes_eq name k.name) keys)
 
-abbrev pub meta_keys : List Key
-meta_keys =
-    key (codes "id") Id ∷
-    key (codes "endian") Endian ∷
-    key (codes "encoding") Coding ∷
-    key (codes "bit-endian") BitEndian ∷
-    key (codes "title") Ignored ∷
-    key (codes "application") Ignored ∷
-    key (codes "file-extension") Ignored ∷
-    key (codes "license") Ignored ∷
-    key (codes "xref") Ignored ∷
-    key (codes "ks-version") Ignored ∷
-    key (codes "tags") Ignored ∷
-    key (codes "imports") NotHere ∷
-    key (codes "ks-opaque-types") NotHere ∷ []
-
-abbrev pub parameter_keys : List Key
-parameter_keys =
-    key (codes "id") Id ∷
-    key (codes "type") ParameterType ∷
-    key (codes "enum") AnyText ∷ []
-
--- an attribute of `seq`, except its id
-abbrev pub field_keys : List Key
-field_keys =
-    key (codes "type") TypeOrSwitch ∷
-    key (codes "size") (Expression sites.Size) ∷
-    key (codes "size-eos") Flag ∷
-    key (codes "contents") Contents ∷
-    key (codes "encoding") Coding ∷
-    key (codes "terminator") Byte ∷
-    key (codes "consume") Flag ∷
-    key (codes "include") Flag ∷
-    key (codes "eos-error") Flag ∷
-    key (codes "repeat") Repeat ∷
-    key (codes "repeat-expr") (Expression sites.Count) ∷
-    key (codes "repeat-until") (Expression sites.Until) ∷
-    key (codes "if") (Expression sites.Condition) ∷
-    key (codes "enum") EnumName ∷
-    key (codes "process") NotHere ∷
-    key (codes "pad-right") NotHere ∷
-    key (codes "valid") NotHere ∷ []
-
-abbrev pub attribute_keys : List Key
-attribute_keys = key (codes "id") Id ∷ field_keys
-
--- a parse instance
-abbrev pub parse_instance_keys : List Key
-parse_instance_keys =
-    key (codes "pos") (Expression sites.Place) ∷
-    key (codes "io") (Expression sites.Stream) ∷ field_keys
-
--- A value instance. The keys that are ignored here are those that `value` excludes.
-abbrev pub value_keys : List Key
-value_keys =
-    key (codes "value") (Expression sites.Value) ∷
-    key (codes "if") (Expression sites.Condition) ∷
-    key (codes "enum") EnumName ∷
-    key (codes "process") NotHere ∷
-    key (codes "pad-right") NotHere ∷
-    key (codes "valid") NotHere ∷
-    key (codes "pos") Ignored ∷
-    key (codes "io") Ignored ∷
-    key (codes "type") Ignored ∷
-    key (codes "size") Ignored ∷
-    key (codes "repeat") Ignored ∷ []
-
-abbrev pub switch_keys : List Key
-switch_keys =
-    key (codes "switch-on") (Expression sites.Switch) ∷
-    key (codes "cases") Cases ∷ []
-
--- the value of an entry of an enum, if it is a mapping
-abbrev pub constant_keys : List Key
-constant_keys = key (codes "id") Id ∷ []
-
--- the form of a key, if the table has it
-unfoldable pub form_in : List Key → List ℕ → Option Form
-form_in table name = option_map (λ k. k.form) (find (λ k. bytes_eq name k.name) table)
+-- the form of a key, if such a mapping may have it
+unfoldable pub form_in : MappingKind → List ℕ → Option Form
+form_in kind name = form_among keys kind name
 
 -- keys without a meaning in any of these mappings: `doc`, `doc-ref`, and those that begin with `-`
 unfoldable pub is_ignored : List ℕ → Bool

@@ -2,10 +2,14 @@
 
 ghost use Rattle.std.specs.Prelude.{◌≡◌, map};
 ghost use Rattle.std.specs.List.{list_all};
-ghost use Rattle.ksv_schema_keys.specs.Keys.{field_keys, attribute_keys, parse_instance_keys, form_in, is_letter, is_id_byte, is_id};
-ghost use Rattle.ksv_schema_keys.specs.Code.{seen_key, keys_of};
+ghost use Rattle.ksv_yaml_tree.specs.View.{pair};
+ghost use Rattle.ksv_schema_keys.specs.Keys.{is_in, form_among, form_in, kind_of, is_letter, is_id_byte, is_id};
+ghost use Rattle.ksv_schema_keys.specs.Code.{seen_key};
 
 use ksv_schema_names::Site;
+use ksv_schema_scope::Role;
+use ksv_yaml_tree::Entry;
+use ksv_yaml_tree::keys::has;
 
 /// What is at a key.
 #[derive(Clone, Copy)]
@@ -51,9 +55,13 @@ pub enum Form {
 /// A mapping of fixed keys.
 #[derive(Clone, Copy)]
 pub enum MappingKind {
-    /// A type.
+    /// The root.
+    Root,
+    /// Another type.
     Type,
-    /// The key `meta` of a type.
+    /// The key `meta` of the root.
+    RootMeta,
+    /// The key `meta` of another type.
     Meta,
     /// A parameter.
     Parameter,
@@ -61,6 +69,8 @@ pub enum MappingKind {
     Attribute,
     /// A parse instance.
     ParseInstance,
+    /// An instance without a place and a value.
+    Placeless,
     /// A value instance.
     Value,
     /// The key `type` of an attribute, if it is a mapping.
@@ -69,147 +79,158 @@ pub enum MappingKind {
     Constant,
 }
 
-/// A key, and what is at it.
-struct Key(&'static [u8], Form);
+/// Mappings that have something in common.
+#[derive(Clone, Copy)]
+pub enum Group {
+    /// Types.
+    Types,
+    /// The root alone.
+    Roots,
+    /// Each `meta`.
+    Metas,
+    /// Mappings that may have an id.
+    Named,
+    /// Mappings that must have an id.
+    NeedId,
+    /// Parameters.
+    Parameters,
+    /// Instances that aren't values.
+    Places,
+    /// What is read, or would be if it had a place.
+    Fields,
+    /// What is read.
+    Read,
+    /// Value instances.
+    Values,
+    /// Switches.
+    Switches,
+}
 
-/// The keys of a type.
-static TYPE_KEYS: [Key; 6] = [
-    Key(b"meta", Form::Mapping),
-    Key(b"params", Form::Listing),
-    Key(b"seq", Form::Listing),
-    Key(b"types", Form::Mapping),
-    Key(b"instances", Form::Mapping),
-    Key(b"enums", Form::Mapping),
+/// Whether a mapping is one of a group.
+pub fn is_in(group: Group, kind: MappingKind) -> bool
+    ensures { result ≡ is_in group kind }
+{
+    use MappingKind::*;
+    match group {
+        Group::Types => matches!(kind, Root | Type),
+        Group::Roots => matches!(kind, Root),
+        Group::Metas => matches!(kind, RootMeta | Meta),
+        Group::Named => matches!(kind, RootMeta | Meta | Parameter | Attribute | Constant),
+        Group::NeedId => matches!(kind, RootMeta | Parameter | Constant),
+        Group::Parameters => matches!(kind, Parameter),
+        Group::Places => matches!(kind, ParseInstance | Placeless),
+        Group::Fields => matches!(kind, Attribute | ParseInstance | Placeless),
+        Group::Read => matches!(kind, Attribute | ParseInstance),
+        Group::Values => matches!(kind, Value),
+        Group::Switches => matches!(kind, Switch),
+    }
+}
+
+/// A key: which mappings have it, its name, and what is at it.
+struct Key(Group, &'static [u8], Form);
+
+/// The keys of a description. Those of a value that are ignored are what `value` excludes.
+static KEYS: [Key; 53] = [
+    Key(Group::Types, b"meta", Form::Mapping),
+    Key(Group::Types, b"params", Form::Listing),
+    Key(Group::Types, b"seq", Form::Listing),
+    Key(Group::Types, b"types", Form::Mapping),
+    Key(Group::Types, b"instances", Form::Mapping),
+    Key(Group::Types, b"enums", Form::Mapping),
+    Key(Group::Named, b"id", Form::Id),
+    Key(Group::Metas, b"endian", Form::Endian),
+    Key(Group::Metas, b"encoding", Form::Coding),
+    Key(Group::Metas, b"bit-endian", Form::BitEndian),
+    Key(Group::Metas, b"title", Form::Ignored),
+    Key(Group::Metas, b"application", Form::Ignored),
+    Key(Group::Metas, b"file-extension", Form::Ignored),
+    Key(Group::Metas, b"license", Form::Ignored),
+    Key(Group::Metas, b"xref", Form::Ignored),
+    Key(Group::Metas, b"ks-version", Form::Ignored),
+    Key(Group::Metas, b"tags", Form::Ignored),
+    Key(Group::Metas, b"imports", Form::NotHere),
+    Key(Group::Metas, b"ks-opaque-types", Form::NotHere),
+    Key(Group::Parameters, b"type", Form::ParameterType),
+    Key(Group::Parameters, b"enum", Form::AnyText),
+    Key(Group::Places, b"pos", Form::Expression(Site::Place)),
+    Key(Group::Places, b"io", Form::Expression(Site::Stream)),
+    Key(Group::Fields, b"type", Form::TypeOrSwitch),
+    Key(Group::Fields, b"size", Form::Expression(Site::Size)),
+    Key(Group::Fields, b"size-eos", Form::Flag),
+    Key(Group::Fields, b"contents", Form::Contents),
+    Key(Group::Fields, b"encoding", Form::Coding),
+    Key(Group::Fields, b"terminator", Form::Byte),
+    Key(Group::Fields, b"consume", Form::Flag),
+    Key(Group::Fields, b"include", Form::Flag),
+    Key(Group::Fields, b"eos-error", Form::Flag),
+    Key(Group::Fields, b"repeat", Form::Repeat),
+    Key(Group::Fields, b"repeat-expr", Form::Expression(Site::Count)),
+    Key(
+        Group::Fields,
+        b"repeat-until",
+        Form::Expression(Site::Until),
+    ),
+    Key(Group::Fields, b"if", Form::Expression(Site::Condition)),
+    Key(Group::Fields, b"enum", Form::EnumName),
+    Key(Group::Fields, b"process", Form::NotHere),
+    Key(Group::Fields, b"pad-right", Form::NotHere),
+    Key(Group::Fields, b"valid", Form::NotHere),
+    Key(Group::Values, b"value", Form::Expression(Site::Value)),
+    Key(Group::Values, b"if", Form::Expression(Site::Condition)),
+    Key(Group::Values, b"enum", Form::EnumName),
+    Key(Group::Values, b"process", Form::NotHere),
+    Key(Group::Values, b"pad-right", Form::NotHere),
+    Key(Group::Values, b"valid", Form::NotHere),
+    Key(Group::Values, b"pos", Form::Ignored),
+    Key(Group::Values, b"io", Form::Ignored),
+    Key(Group::Values, b"type", Form::Ignored),
+    Key(Group::Values, b"size", Form::Ignored),
+    Key(Group::Values, b"repeat", Form::Ignored),
+    Key(
+        Group::Switches,
+        b"switch-on",
+        Form::Expression(Site::Switch),
+    ),
+    Key(Group::Switches, b"cases", Form::Cases),
 ];
 
-/// The keys of `meta`.
-static META_KEYS: [Key; 13] = [
-    Key(b"id", Form::Id),
-    Key(b"endian", Form::Endian),
-    Key(b"encoding", Form::Coding),
-    Key(b"bit-endian", Form::BitEndian),
-    Key(b"title", Form::Ignored),
-    Key(b"application", Form::Ignored),
-    Key(b"file-extension", Form::Ignored),
-    Key(b"license", Form::Ignored),
-    Key(b"xref", Form::Ignored),
-    Key(b"ks-version", Form::Ignored),
-    Key(b"tags", Form::Ignored),
-    Key(b"imports", Form::NotHere),
-    Key(b"ks-opaque-types", Form::NotHere),
-];
-
-/// The keys of a parameter.
-static PARAMETER_KEYS: [Key; 3] = [
-    Key(b"id", Form::Id),
-    Key(b"type", Form::ParameterType),
-    Key(b"enum", Form::AnyText),
-];
-
-/// The keys of an attribute, except its id.
-static FIELD_KEYS: [Key; 17] = [
-    Key(b"type", Form::TypeOrSwitch),
-    Key(b"size", Form::Expression(Site::Size)),
-    Key(b"size-eos", Form::Flag),
-    Key(b"contents", Form::Contents),
-    Key(b"encoding", Form::Coding),
-    Key(b"terminator", Form::Byte),
-    Key(b"consume", Form::Flag),
-    Key(b"include", Form::Flag),
-    Key(b"eos-error", Form::Flag),
-    Key(b"repeat", Form::Repeat),
-    Key(b"repeat-expr", Form::Expression(Site::Count)),
-    Key(b"repeat-until", Form::Expression(Site::Until)),
-    Key(b"if", Form::Expression(Site::Condition)),
-    Key(b"enum", Form::EnumName),
-    Key(b"process", Form::NotHere),
-    Key(b"pad-right", Form::NotHere),
-    Key(b"valid", Form::NotHere),
-];
-
-/// The keys of a value instance.
-static VALUE_KEYS: [Key; 11] = [
-    Key(b"value", Form::Expression(Site::Value)),
-    Key(b"if", Form::Expression(Site::Condition)),
-    Key(b"enum", Form::EnumName),
-    Key(b"process", Form::NotHere),
-    Key(b"pad-right", Form::NotHere),
-    Key(b"valid", Form::NotHere),
-    Key(b"pos", Form::Ignored),
-    Key(b"io", Form::Ignored),
-    Key(b"type", Form::Ignored),
-    Key(b"size", Form::Ignored),
-    Key(b"repeat", Form::Ignored),
-];
-
-/// The keys of a switch.
-static SWITCH_KEYS: [Key; 2] = [
-    Key(b"switch-on", Form::Expression(Site::Switch)),
-    Key(b"cases", Form::Cases),
-];
-
-/// The keys of the mapping of an enum's entry.
-static CONSTANT_KEYS: [Key; 1] = [Key(b"id", Form::Id)];
-
-/// What is at a key, if these have it.
-#[tactic(auto, unfolding(crate::specs::Keys::form_in))]
-fn form_among(keys: &[Key], name: &[u8]) -> Option<Form>
-    ensures { result ≡ form_in (map seen_key keys.now) name.now }
+/// What is at a key, if one of these keys has this name in such a mapping.
+#[tactic(auto, unfolding(crate::specs::Keys::form_among))]
+fn form_among(keys: &[Key], kind: MappingKind, name: &[u8]) -> Option<Form>
+    ensures { result ≡ form_among (map seen_key keys.now) kind name.now }
 {
     for key in keys {
-        if name == key.0 {
-            return Some(key.1);
+        if is_in(key.0, kind) && name == key.1 {
+            return Some(key.2);
         }
     }
     None
 }
 
-/// What is at a key of an attribute, except its id.
-fn field_form(key: &[u8]) -> Option<Form>
-    ensures { result ≡ form_in field_keys key.now }
-{
-    form_among(FIELD_KEYS.as_slice(), key)
-}
-
-/// What is at a key of an attribute.
+/// What is at a key, if such a mapping may have it.
 #[tactic(auto, unfolding(crate::specs::Keys::form_in))]
-fn attribute_form(key: &[u8]) -> Option<Form>
-    ensures { result ≡ form_in attribute_keys key.now }
+pub fn form_in(kind: MappingKind, key: &[u8]) -> Option<Form>
+    ensures { result ≡ form_in kind key.now }
 {
-    if key == b"id".as_slice() {
-        Some(Form::Id)
-    } else {
-        field_form(key)
-    }
+    form_among(KEYS.as_slice(), kind, key)
 }
 
-/// What is at a key of a parse instance.
-#[tactic(auto, unfolding(crate::specs::Keys::form_in))]
-fn parse_instance_form(key: &[u8]) -> Option<Form>
-    ensures { result ≡ form_in parse_instance_keys key.now }
+/// What the mapping of a member is, by the member's role.
+pub fn kind_of(role: Role, entries: &[Entry]) -> MappingKind
+    ensures { result ≡ kind_of role (map pair entries.now) }
 {
-    if key == b"pos".as_slice() {
-        Some(Form::Expression(Site::Place))
-    } else if key == b"io".as_slice() {
-        Some(Form::Expression(Site::Stream))
-    } else {
-        field_form(key)
-    }
-}
-
-/// What is at a key, if the table has it.
-pub fn form_in(table: MappingKind, key: &[u8]) -> Option<Form>
-    ensures { result ≡ form_in (keys_of table) key.now }
-{
-    match table {
-        MappingKind::Type => form_among(TYPE_KEYS.as_slice(), key),
-        MappingKind::Meta => form_among(META_KEYS.as_slice(), key),
-        MappingKind::Parameter => form_among(PARAMETER_KEYS.as_slice(), key),
-        MappingKind::Attribute => attribute_form(key),
-        MappingKind::ParseInstance => parse_instance_form(key),
-        MappingKind::Value => form_among(VALUE_KEYS.as_slice(), key),
-        MappingKind::Switch => form_among(SWITCH_KEYS.as_slice(), key),
-        MappingKind::Constant => form_among(CONSTANT_KEYS.as_slice(), key),
+    match role {
+        Role::Parameter => MappingKind::Parameter,
+        Role::Attribute => MappingKind::Attribute,
+        Role::Instance => {
+            if has(entries, b"value") {
+                MappingKind::Value
+            } else if has(entries, b"pos") {
+                MappingKind::ParseInstance
+            } else {
+                MappingKind::Placeless
+            }
+        }
     }
 }
 

@@ -11,7 +11,7 @@ mod read;
 mod values;
 
 pub use ids::ids_of;
-pub use keys::{Form, MappingKind, form_in, is_id};
+pub use keys::{Form, Group, MappingKind, form_in, is_id, is_in, kind_of};
 pub use laws::texts_are_spelled;
 pub use read::read_expression;
 pub use values::{

@@ -12,7 +12,7 @@ use Rattle.ksv_expr_tree.specs.declared.tree.UnaryOperator.{UnaryOperator}
 use Rattle.ksv_expr_tree.specs.declared.tree.BinaryOperator.{BinaryOperator}
 use Rattle.ksv_expr_tree.specs.declared.tree.LogicalOperator.{LogicalOperator}
 use Rattle.ksv_expr_tree.specs.Tree.{Tree, view, path_of, member_of, arguments_of}
-use Rattle.ksv_schema_scope.specs.Declarations.{Declared}
+use Rattle.ksv_schema_scope.specs.Rows.{Declared}
 use Rattle.ksv_schema_scope.specs.Members.{member_named}
 use Rattle.ksv_schema_names.specs.declared.position.NameFault.{NameFault}
 use Rattle.ksv_schema_names.specs.declared.position.NameFault.TheVariants.{Unknown}
@@ -38,7 +38,7 @@ module _ (d : Declared) (n : ℕ) (p : Position) (b : Behind) where
   unfolding faults_at part_faults
   of_literal c = ap (part_faults d n p b) (view_literal c)
 
-  pub of_name : (w : Name) → faults_at d n p b (made.Name w) ≡ wrong_if (is_none (member_named d.members n (string_bytes w.text))) Unknown
+  pub of_name : (w : Name) → faults_at d n p b (made.Name w) ≡ wrong_if (is_none (member_named d.types n (string_bytes w.text))) Unknown
   unfolding faults_at part_faults
   of_name w = ap (part_faults d n p b) (view_name w)
 

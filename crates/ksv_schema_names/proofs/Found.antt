@@ -6,7 +6,8 @@ use Rattle.std.specs.Str.{bytes_eq}
 use Rattle.std.proofs.lemmas.Bool.{and_parts}
 use Rattle.std.proofs.lemmas.Option.{slice_get_within}
 use Rattle.std.proofs.lemmas.Slice.Eq.{bytes_eq-Decides}
-use Rattle.ksv_schema_scope.specs.Types.{Scope, from, outwards, is_directly_in, type_in, root_named, nearest_type, type_along, type_named}
+use Rattle.ksv_schema_scope.specs.Rows.{Row, is_within, row_in}
+use Rattle.ksv_schema_scope.specs.Types.{nearest_row, root_named, type_along, type_named}
 
 -- ---- options and lists
 
@@ -61,49 +62,39 @@ place_within t xs k h =
 
 -- ---- types
 
-pub outwards_is : {A : Type 0} (f : ℕ → Option A) (ns : List ℕ) (x : A) → outwards f ns ≡ Some x → (n : ℕ) × (f n ≡ Some x)
-outwards_is f [] x h = absurd (cc)
-outwards_is {A = A} f (n ∷ ns) x h = nearer (f n) refl h (outwards_is f ns x) where
-  nearer : (o : Option A) → f n ≡ o → option_map_or Some o (outwards f ns) ≡ Some x → (outwards f ns ≡ Some x → (m : ℕ) × (f m ≡ Some x)) → (m : ℕ) × (f m ≡ Some x)
-  nearer None none found later = later found
-  nearer (Some y) here found later = (n, here ∙ found)
+pub is_bound : {A B : Type 0} (f : A → Option B) (o : Option A) (y : B) → option_and_then f o ≡ Some y → (x : A) × (o ≡ Some x) × (f x ≡ Some y)
+is_bound f None y h = absurd (cc)
+is_bound f (Some x) y h = (x, refl, h)
 
-type_in_within : (types : List Scope) (name : List ℕ) (n k : ℕ) → type_in types name n ≡ Some k → k < length types
-unfolding type_in
-type_in_within types name n k h = place_within (λ s. is_directly_in n s.around && bytes_eq s.id name) types k h
+pub row_within : (rows : List Row) (name : List ℕ) (n k : ℕ) → row_in rows name n ≡ Some k → k < length rows
+unfolding row_in
+row_within rows name n k h = place_within (λ r. is_within n r && bytes_eq r.id name) rows k h
 
-root_within : (types : List Scope) (name : List ℕ) (k : ℕ) → root_named types name ≡ Some k → k < length types
-root_within [] name k h = absurd (cc)
-root_within (root ∷ types) name k h = by_name (bytes_eq root.id name) h where
-  by_name : (b : Bool) → cond b (Some 0) None ≡ Some k → k < length (root ∷ types)
-  by_name true found = let same : 0 ≡ k = cc in omega arith
-  by_name false found = absurd (cc)
+pub nearest_within : (types rows : List Row) (name : List ℕ) (n k : ℕ) → nearest_row types rows name n ≡ Some k → k < length rows
+unfolding nearest_row
+nearest_within types rows name n k h = let m = is_bound (row_in rows name) _ k h in row_within rows name m.0 k m.2
 
-nearest_within : (types : List Scope) (n : ℕ) (name : List ℕ) (k : ℕ) → nearest_type types n name ≡ Some k → k < length types
-unfolding nearest_type
-nearest_within types n name k h = by_search (outwards (type_in types name) (from types n)) refl h where
-  by_search : (o : Option ℕ) → outwards (type_in types name) (from types n) ≡ o → option_map_or Some o (root_named types name) ≡ Some k → k < length types
-  by_search None none found = root_within types name k found
-  by_search (Some m) there found =
-      let at = outwards_is (type_in types name) (from types n) m there in
-      let same : m ≡ k = cc in
-      let below : m < length types = type_in_within types name at.0 m at.1 in
-      omega arith
-
-along_within : (types : List Scope) (n : ℕ) (path : List (List ℕ)) (k : ℕ) → n < length types → type_along types n path ≡ Some k → k < length types
+along_within : (types : List Row) (n : ℕ) (path : List (List ℕ)) (k : ℕ) → n < length types → type_along types n path ≡ Some k → k < length types
 along_within types n [] k below h = let same : n ≡ k = cc in omega arith
-along_within types n (name ∷ names) k below h = inwards (type_in types name n) refl h (λ m. along_within types m names k) where
-  inwards : (o : Option ℕ) → type_in types name n ≡ o → option_and_then (λ m. type_along types m names) o ≡ Some k → ((m : ℕ) → m < length types → type_along types m names ≡ Some k → k < length types) → k < length types
-  inwards None none found later = absurd (cc)
-  inwards (Some m) there found later = later m (type_in_within types name n m there) found
+along_within types n (name ∷ names) k below h = let m = is_bound (λ m. type_along types m names) (row_in types name n) k h in along_within types m.0 names k (row_within types name n m.0 m.1) m.2
 
-pub type_within : (types : List Scope) (n : ℕ) (path : List (List ℕ)) (k : ℕ) → type_named types n path ≡ Some k → k < length types
+pub type_within : (types : List Row) (n : ℕ) (path : List (List ℕ)) (k : ℕ) → type_named types n path ≡ Some k → k < length types
 unfolding type_named
 type_within types n [] k h = absurd (cc)
-type_within types n (name ∷ names) k h = inwards (nearest_type types n name) refl h where
-  inwards : (o : Option ℕ) → nearest_type types n name ≡ o → option_and_then (λ m. type_along types m names) o ≡ Some k → k < length types
-  inwards None none found = absurd (cc)
-  inwards (Some m) there found = along_within types m names k (nearest_within types n name m there) found
+type_within types n (name ∷ names) k h =
+    let m = is_bound (λ m. type_along types m names) (option_map_or Some (nearest_row types types name n) (root_named types name)) k h in
+    along_within types m.0 names k (by_search (nearest_row types types name n) refl m.0 m.1) m.2
+  where
+    root_within : (types : List Row) (b : ℕ) → root_named types name ≡ Some b → b < length types
+    root_within [] b h = absurd (cc)
+    root_within (root ∷ types) b h = by_name (bytes_eq root.id name) h where
+      by_name : (c : Bool) → cond c (Some 0) None ≡ Some b → b < length (root ∷ types)
+      by_name true found = let same : 0 ≡ b = cc in omega arith
+      by_name false found = absurd (cc)
+
+    by_search : (o : Option ℕ) → nearest_row types types name n ≡ o → (m : ℕ) → option_map_or Some o (root_named types name) ≡ Some m → m < length types
+    by_search None none m found = root_within types m found
+    by_search (Some k) there m found = let same : k ≡ m = cc in let below : k < length types = nearest_within types types name n k there in omega arith
 
 -- ---- equal texts
 

@@ -4,4 +4,3 @@ pub mod Forms
 pub mod Numbers
 pub mod Found
 pub mod Resolving
-pub mod BuiltIns

@@ -1,50 +1,35 @@
 -- The types that the language itself has.
-use Rattle.std.specs.Prelude.{ℕ, ◌-◌, Bool, true, false, nat_le, nat_lt, ◌==◌, ◌&&◌, ◌||◌, if◌then◌else◌, List, [], ◌∷◌, length, drop, take, slice_index, codes, Option, Some, None, option_map, find}
+use Rattle.std.specs.Prelude.{ℕ, ◌-◌, Bool, true, false, nat_le, nat_lt, ◌==◌, ◌&&◌, ◌||◌, if◌then◌else◌, List, [], ◌∷◌, length, drop, take, slice_index, codes, Option, Some, None, is_none, option_map, option_and_then}
 use Rattle.std.specs.List.{list_all}
 use Rattle.std.specs.Char.{is_ascii_digit}
 use Rattle.std.specs.Str.{bytes_eq}
 use Rattle.std.specs.Str.Parse.{digits_value}
-use Rattle.ksv_desc.specs.declared.order.ByteOrder.TheVariants.{Little, Big}
+use Rattle.ksv_desc.specs.declared.order.ByteOrder.{ByteOrder}
+use Rattle.ksv_schema_scope.specs.Types.{order_named}
 pub use Rattle.ksv_schema_names.specs.declared.built_ins.BuiltIn.{BuiltIn}
 pub use Rattle.ksv_schema_names.specs.declared.built_ins.BuiltIn.TheVariants.{Integer, Str, Strz, NotHere}
 
-pub record Row : Type 0 where
-  pub name : List ℕ
-  pub is : BuiltIn
+-- ---- numbers: `u`, `s` or `f` (with a fraction, which is unsupported), how many bytes, and their order or nothing
 
-abbrev pub row : List ℕ → BuiltIn → Row
-row name is = record { name = name; is = is }
+-- the sizes of these kinds; one byte has no order
+abbrev pub has_size : ℕ → Option ByteOrder → Bool
+has_size size order = size == 1 && is_none order || size == 2 || size == 4 || size == 8
 
-abbrev pub built_ins : List Row
-built_ins =
-    row (codes "u1") (Integer false 1 None) ∷
-    row (codes "u2") (Integer false 2 None) ∷
-    row (codes "u2le") (Integer false 2 (Some Little)) ∷
-    row (codes "u2be") (Integer false 2 (Some Big)) ∷
-    row (codes "u4") (Integer false 4 None) ∷
-    row (codes "u4le") (Integer false 4 (Some Little)) ∷
-    row (codes "u4be") (Integer false 4 (Some Big)) ∷
-    row (codes "u8") (Integer false 8 None) ∷
-    row (codes "u8le") (Integer false 8 (Some Little)) ∷
-    row (codes "u8be") (Integer false 8 (Some Big)) ∷
-    row (codes "s1") (Integer true 1 None) ∷
-    row (codes "s2") (Integer true 2 None) ∷
-    row (codes "s2le") (Integer true 2 (Some Little)) ∷
-    row (codes "s2be") (Integer true 2 (Some Big)) ∷
-    row (codes "s4") (Integer true 4 None) ∷
-    row (codes "s4le") (Integer true 4 (Some Little)) ∷
-    row (codes "s4be") (Integer true 4 (Some Big)) ∷
-    row (codes "s8") (Integer true 8 None) ∷
-    row (codes "s8le") (Integer true 8 (Some Little)) ∷
-    row (codes "s8be") (Integer true 8 (Some Big)) ∷
-    row (codes "str") Str ∷
-    row (codes "strz") Strz ∷
-    row (codes "f4") NotHere ∷
-    row (codes "f4le") NotHere ∷
-    row (codes "f4be") NotHere ∷
-    row (codes "f8") NotHere ∷
-    row (codes "f8le") NotHere ∷
-    row (codes "f8be") NotHere ∷ []
+abbrev pub of_kind : ℕ → ℕ → Option ByteOrder → Option BuiltIn
+of_kind kind size order =
+    if kind == 117 && has_size size order then Some (Integer false size order)
+    else if kind == 115 && has_size size order then Some (Integer true size order)
+    else if kind == 102 && (size == 4 || size == 8) then Some NotHere
+    else None
+
+abbrev pub order_suffix : List ℕ → Option (Option ByteOrder)
+order_suffix [] = Some None
+order_suffix (c ∷ cs) = option_map (λ (order : ByteOrder). Some order) (order_named (c ∷ cs))
+
+abbrev pub number_type : List ℕ → Option BuiltIn
+number_type [] = None
+number_type (kind ∷ []) = None
+number_type (kind ∷ digit ∷ suffix) = option_and_then (of_kind kind (digit - 48)) (order_suffix suffix)
 
 -- ---- integers of 1 to 64 bits, `b1` to `b64`, which are unsupported
 
@@ -64,13 +49,13 @@ is_bits name = slice_index name 0 == 98 && is_width (before_order (drop 1 name))
 
 -- ---- all of them
 
--- the type of a name in the table
-unfoldable pub listed : List ℕ → Option BuiltIn
-listed name = option_map (λ r. r.is) (find (λ r. bytes_eq name r.name) built_ins)
-
 -- the type of the language that a name is
 unfoldable pub built_in : List ℕ → Option BuiltIn
-built_in name = if is_bits name then Some NotHere else listed name
+built_in name =
+    if is_bits name then Some NotHere
+    else if bytes_eq name (codes "str") then Some Str
+    else if bytes_eq name (codes "strz") then Some Strz
+    else number_type name
 
 -- the same for a path, which has one name
 abbrev pub built_in_at : List (List ℕ) → Option BuiltIn

@@ -3,15 +3,15 @@
 -- A bare name must be a member of the type that the expression is in; a name after a dot needn't be one. A type and
 -- an enum's member are looked up from that type outwards. `_root` and `_parent` are allowed anywhere; the others
 -- only at the keys that are named here.
-use Rattle.std.specs.Prelude.{ℕ, suc, Bool, true, false, not, if◌then◌else◌, ◌&&◌, ◌||◌, ◌==◌, List, [], ◌∷◌, ◌++◌, codes, Option, Some, None, is_some, is_none, option_and_then, fold}
+use Rattle.std.specs.Prelude.{ℕ, Bool, true, false, not, if◌then◌else◌, ◌&&◌, ◌||◌, ◌==◌, List, [], ◌∷◌, ◌++◌, codes, Option, Some, None, is_some, is_none, option_and_then, fold}
 use Rattle.std.specs.Str.{bytes_eq}
 use Rattle.ksv_expr_tree.specs.declared.tree.SpecialName.{SpecialName}
 use Rattle.ksv_expr_tree.specs.declared.tree.SpecialName.TheVariants as specials
 use Rattle.ksv_expr_tree.specs.Tree.{Tree, literal, named, special, member, unary, binary, logical, choice, field, special_field, call, index, cast, Arguments, no_arguments, argument, MemberPath, TypePath}
-use Rattle.ksv_schema_scope.specs.Types.{type_named}
+use Rattle.ksv_schema_scope.specs.Types.{type_named, enum_from}
 use Rattle.ksv_schema_scope.specs.Members.{member_named}
-use Rattle.ksv_schema_scope.specs.Enums.{enum_named, number_of_id}
-use Rattle.ksv_schema_scope.specs.Declarations.{Declared}
+use Rattle.ksv_schema_scope.specs.Enums.{number_of_id}
+use Rattle.ksv_schema_scope.specs.Rows.{Declared}
 use Rattle.ksv_desc.specs.Resolved.{count}
 use Rattle.ksv_schema_names.specs.declared.position.Site.{Site}
 use Rattle.ksv_schema_names.specs.declared.position.Site.TheVariants as sites
@@ -99,10 +99,10 @@ special_field_faults p b specials.Element = Unknown ∷ []
 
 -- the number of the enum of a path of an enum's member, and whether there is such a member
 unfoldable pub enum_at : Declared → ℕ → MemberPath → Option ℕ
-enum_at d n m = enum_named d.types d.enums n m.path
+enum_at d n m = enum_from d.types d.enums n [] m.path
 
 unfoldable pub is_member : Declared → ℕ → MemberPath → Bool
-is_member d n m = is_some (option_and_then (λ e. number_of_id d.constants e m.name) (enum_at d n m))
+is_member d n m = is_some (option_and_then (λ e. number_of_id d.enums e m.name) (enum_at d n m))
 
 -- a cast to a type of the language is unsupported
 unfoldable pub cast_faults : Declared → ℕ → TypePath → List NameFault
@@ -120,7 +120,7 @@ unfoldable mutual
   -- the faults of a part in the type n, by what follows it
   pub part_faults : Declared → ℕ → Position → Behind → Tree → List NameFault
   part_faults d n p b (literal c) = []
-  part_faults d n p b (named w) = wrong_if (is_none (member_named d.members n w.text)) Unknown
+  part_faults d n p b (named w) = wrong_if (is_none (member_named d.types n w.text)) Unknown
   part_faults d n p b (special s) = special_faults p b s
   part_faults d n p b (member m) = wrong_if (not (is_member d n m)) Unknown
   part_faults d n p b (unary op x) = part_faults d n p Other x

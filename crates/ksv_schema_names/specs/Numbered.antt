@@ -2,14 +2,12 @@
 --
 -- A name's number is its place in the description's table of names. A type's number is its place among the types. An
 -- enum's member has the number of its enum and its own.
-use Rattle.std.specs.Prelude.{ℕ, if◌then◌else◌, ℤ, List, [], ◌∷◌, ◌++◌, Option, option_and_then, option_map}
-use Rattle.std.specs.List.{list_any, position_from}
-use Rattle.std.specs.Str.{bytes_eq}
+use Rattle.std.specs.Prelude.{ℕ, ℤ, List, Option, option_and_then, option_map}
 use Rattle.ksv_expr_tree.specs.declared.tree.EnumMember.{EnumMember}
 use Rattle.ksv_expr_tree.specs.Tree.{Tree, literal, named, special, member, unary, binary, logical, choice, field, special_field, call, index, cast, Arguments, no_arguments, argument, Word, MemberPath, TypePath}
 use Rattle.ksv_schema_scope.specs.Types.{type_named}
 use Rattle.ksv_schema_scope.specs.Enums.{number_of_id}
-use Rattle.ksv_schema_scope.specs.Declarations.{Declared}
+use Rattle.ksv_schema_scope.specs.Rows.{Declared}
 use Rattle.ksv_desc.specs.Names.{number_in}
 use Rattle.ksv_schema_names.specs.Names.{enum_at}
 
@@ -26,7 +24,7 @@ abbrev pub enum_member : ℕ → ℤ → EnumMember
 enum_member e number = record { enum_number = e; number = number }
 
 unfoldable pub given_member : Declared → ℕ → MemberPath → Option EnumMember
-given_member d n m = option_and_then (λ e. option_map (enum_member e) (number_of_id d.constants e m.name)) (enum_at d n m)
+given_member d n m = option_and_then (λ e. option_map (enum_member e) (number_of_id d.enums e m.name)) (enum_at d n m)
 
 abbrev pub numbered_member : Declared → ℕ → MemberPath → MemberPath
 numbered_member d n m = record { path = m.path; name = m.name; given = given_member d n m }

@@ -1,10 +1,9 @@
 //! The types that the language itself has.
 
 ghost use Rattle.std.specs.Prelude.{◌≡◌, map, string_bytes};
-ghost use Rattle.ksv_schema_names.specs.BuiltIn.{is_width, before_order, is_bits, listed, built_in, built_in_at};
-ghost use Rattle.ksv_schema_names.specs.Code.{type_among, seen_integer, other_types};
+ghost use Rattle.ksv_schema_names.specs.BuiltIn.{has_size, of_kind, order_suffix, number_type, is_width, before_order, is_bits, built_in, built_in_at};
 
-use ksv_schema_scope::ByteOrder;
+use ksv_schema_scope::{ByteOrder, order_named};
 
 /// A type of the language.
 #[derive(Clone, Copy, Debug)]
@@ -32,81 +31,66 @@ pub fn built_in(name: &[u8]) -> Option<BuiltIn>
     ensures { result ≡ built_in name.now }
 {
     if is_bits(name) {
-        Some(BuiltIn::NotHere)
-    } else {
-        in_table(name)
+        return Some(BuiltIn::NotHere);
+    }
+    if name == b"str".as_slice() {
+        return Some(BuiltIn::Str);
+    }
+    if name == b"strz".as_slice() {
+        return Some(BuiltIn::Strz);
+    }
+    number_type(name)
+}
+
+/// Whether a number has a size, if this is its order.
+fn has_size(size: u8, order: Option<ByteOrder>) -> bool
+    ensures { result ≡ has_size size order }
+{
+    match size {
+        1 => order.is_none(),
+        2 | 4 | 8 => true,
+        _ => false,
     }
 }
 
-/// The name of an integer: whether it has a sign, how many bytes it has, and their order, if the name has one.
-struct IntegerName(&'static [u8], bool, u8, Option<ByteOrder>);
-
-/// The integers of the language.
-static INTEGERS: [IntegerName; 20] = [
-    IntegerName(b"u1", false, 1, None),
-    IntegerName(b"u2", false, 2, None),
-    IntegerName(b"u2le", false, 2, Some(ByteOrder::Little)),
-    IntegerName(b"u2be", false, 2, Some(ByteOrder::Big)),
-    IntegerName(b"u4", false, 4, None),
-    IntegerName(b"u4le", false, 4, Some(ByteOrder::Little)),
-    IntegerName(b"u4be", false, 4, Some(ByteOrder::Big)),
-    IntegerName(b"u8", false, 8, None),
-    IntegerName(b"u8le", false, 8, Some(ByteOrder::Little)),
-    IntegerName(b"u8be", false, 8, Some(ByteOrder::Big)),
-    IntegerName(b"s1", true, 1, None),
-    IntegerName(b"s2", true, 2, None),
-    IntegerName(b"s2le", true, 2, Some(ByteOrder::Little)),
-    IntegerName(b"s2be", true, 2, Some(ByteOrder::Big)),
-    IntegerName(b"s4", true, 4, None),
-    IntegerName(b"s4le", true, 4, Some(ByteOrder::Little)),
-    IntegerName(b"s4be", true, 4, Some(ByteOrder::Big)),
-    IntegerName(b"s8", true, 8, None),
-    IntegerName(b"s8le", true, 8, Some(ByteOrder::Little)),
-    IntegerName(b"s8be", true, 8, Some(ByteOrder::Big)),
-];
-
-/// The integer of a name, if these have it.
-#[tactic(auto, unfolding(crate::specs::Code::type_among))]
-fn integer_among(integers: &[IntegerName], name: &[u8]) -> Option<BuiltIn>
-    ensures { result ≡ type_among (map seen_integer integers.now) name.now }
+/// The type of a number: its first letter, its size and its order.
+fn of_kind(kind: u8, size: u8, order: Option<ByteOrder>) -> Option<BuiltIn>
+    ensures { result ≡ of_kind kind size order }
 {
-    for integer in integers {
-        if name == integer.0 {
-            return Some(BuiltIn::Integer {
-                is_signed: integer.1,
-                size: integer.2,
-                order: integer.3,
-            });
-        }
+    let has_size = has_size(size, order);
+    let is_signed = kind == b's';
+    if has_size && (is_signed || kind == b'u') {
+        return Some(BuiltIn::Integer {
+            is_signed,
+            size,
+            order,
+        });
+    }
+    if kind == b'f' && (size == 4 || size == 8) {
+        return Some(BuiltIn::NotHere);
     }
     None
 }
 
-/// The type of a name in the table that is no integer.
-#[tactic(auto, unfolding(crate::specs::Code::type_among))]
-fn other_type(name: &[u8]) -> Option<BuiltIn>
-    ensures { result ≡ type_among other_types name.now }
+/// The order that the end of a type's name states; an empty one states none.
+fn order_suffix(suffix: &[u8]) -> Option<Option<ByteOrder>>
+    ensures { result ≡ order_suffix suffix.now }
 {
-    match name {
-        b"str" => Some(BuiltIn::Str),
-        b"strz" => Some(BuiltIn::Strz),
-        b"f4" => Some(BuiltIn::NotHere),
-        b"f4le" => Some(BuiltIn::NotHere),
-        b"f4be" => Some(BuiltIn::NotHere),
-        b"f8" => Some(BuiltIn::NotHere),
-        b"f8le" => Some(BuiltIn::NotHere),
-        b"f8be" => Some(BuiltIn::NotHere),
-        _ => None,
+    match suffix {
+        [] => Some(None),
+        [_, ..] => Some(Some(order_named(suffix)?)),
     }
 }
 
-/// The type of a name in the table.
-fn in_table(name: &[u8]) -> Option<BuiltIn>
-    ensures { result ≡ listed name.now }
+/// The type of a name that is that of a number.
+fn number_type(name: &[u8]) -> Option<BuiltIn>
+    ensures { result ≡ number_type name.now }
 {
-    match integer_among(INTEGERS.as_slice(), name) {
-        Some(integer) => Some(integer),
-        None => other_type(name),
+    match name {
+        [kind, digit, suffix @ ..] => {
+            of_kind(*kind, digit.saturating_sub(b'0'), order_suffix(suffix)?)
+        }
+        _ => None,
     }
 }
 

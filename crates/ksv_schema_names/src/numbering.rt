@@ -2,7 +2,7 @@
 
 ghost use Rattle.std.specs.Prelude.{◌≡◌, map, string_bytes};
 ghost use Rattle.ksv_expr_tree.specs.Tree.{view, view_type, name_of, path_of, member_of, arguments_of};
-ghost use Rattle.ksv_schema_scope.specs.Declarations.{declared};
+ghost use Rattle.ksv_schema_scope.specs.Table.{declared};
 ghost use Rattle.ksv_schema_scope.specs.Types.{type_named};
 ghost use Rattle.ksv_schema_names.specs.Numbered.{numbered, all_numbered, numbered_word, numbered_type, numbered_member, given_member};
 

@@ -1,9 +1,3 @@
-pub mod Growing
-pub mod Around
-pub mod EachType
-pub mod MembersOf
-pub mod EnumsOf
-pub mod ConstantsOf
-pub mod Ranges
-pub mod Rising
-pub mod Marks
+-- Lemmas.
+pub mod Weight
+pub mod Lookup

@@ -1,5 +1,5 @@
 use Rattle.std.proofs.Common.{◌≡◌, map, drop}
-use Rattle.ksv_schema_scope.specs.MemberRows.{member_of as row}
+use Rattle.ksv_schema_scope.specs.Code.{member_of as row}
 use Rattle.ksv_desc.specs.Names.{distinct_behind}
 use Rattle.ksv_schema_build.specs.Stated.{are_texts}
 use Rattle.ksv_schema_build.proofs.Named.{names_in}

@@ -1,4 +1,3 @@
--- One case after the other.
 use Rattle.ksv_schema_faults.proofs.Noted.{noted_step, noted_end}
 use Rattle.ksv_schema_faults.proofs.key.note_cases.Goals as goal
 

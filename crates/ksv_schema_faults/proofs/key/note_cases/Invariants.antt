@@ -1,8 +1,8 @@
 use Rattle.std.proofs.Common.{◌≡◌, drop, map}
 use Rattle.std.specs.List.{flat_map}
 use Rattle.ksv_yaml_tree.specs.View.{pair}
-use Rattle.ksv_schema_faults.specs.Faults.{noted}
 use Rattle.ksv_schema_faults.specs.Rules.{case_faults}
+use Rattle.ksv_schema_faults.specs.Faults.{noted}
 use Rattle.ksv_schema_faults.specs.Code.{seen_fault, seen_home}
 use Rattle.ksv_schema_faults.proofs.key.note_cases.Given as goal
 

@@ -1,10 +1,12 @@
--- One rule after the other.
-use Rattle.std.proofs.lemmas.List.{get_or_default}
-use Rattle.ksv_schema_faults.proofs.Noted.{noted_step, noted_end}
+-- The table is the definition's.
+use Rattle.std.proofs.Common.{◌∙◌, ap, map, List}
+use Rattle.std.specs.List.{flat_map}
+use Rattle.ksv_yaml_tree.specs.View.{pair}
+use Rattle.ksv_schema_faults.specs.declared.rule.Ruled.{Ruled}
+use Rattle.ksv_schema_faults.specs.Faults.{noted}
+use Rattle.ksv_schema_faults.specs.Rules.{ruled_faults}
+use Rattle.ksv_schema_faults.specs.Code.{seen_fault, seen_ruled}
 use Rattle.ksv_schema_faults.proofs.rule.note_rules.Goals as goal
 
-pub loop-rule-preserved : goal.loop-rule-preserved
-loop-rule-preserved c = noted_step _ _ c.args.rules.now c.loop-rule.rule-index _ _ _ _ c.loop-rule-test.true (get_or_default c.args.rules.now c.loop-rule.rule-index _ _ c.loop-rule-test.true) c.note_rule.ensures c.loop-rule.invariant
-
 pub returns : goal.returns
-returns c = noted_end _ _ _ _ _ _ c.loop-rule-test.false c.loop-rule.invariant
+returns c = c.note_each.ensures ∙ ap (λ (rs : List Ruled). noted (seen_fault c.args.least.now) (flat_map (ruled_faults c.args.kind c.args.line (map pair c.args.entries.now)) (map seen_ruled rs))) c.as_slice.ensures
