@@ -208,6 +208,22 @@ impl Rows {
         self.rows.as_slice().last().copied()
     }
 
+    /// Adds what was used. Most nodes have one use or none.
+    #[inline(always)]
+    fn add_uses(&mut self, uses: &[Use]) -> Result<(), AllocError>
+        ensures rows { self.new.rows ≡ self.old.rows }
+        ensures asked { self.new.asked ≡ self.old.asked }
+        ensures ok { OnOk result (self.new.uses.items ≡ self.old.uses.items ++ uses.now) }
+        ensures err { OnErr result (self.new.uses.items ≡ self.old.uses.items) }
+    {
+        match uses {
+            [] => {}
+            [one] => self.uses.push(*one)?,
+            _ => self.uses.extend_from_slice(uses)?,
+        }
+        Ok(())
+    }
+
     /// Adds what was asked and used, but no row.
     #[inline(always)]
     fn add_parts(&mut self, asked: &[u32], uses: &[Use]) -> Result<(), AllocError>
@@ -216,7 +232,7 @@ impl Rows {
         ensures err { OnErr result ((self.new.asked.items ≡ self.old.asked.items) × (self.new.uses.items ≡ self.old.uses.items)) }
     {
         self.asked.reserve(asked.len())?;
-        self.uses.extend_from_slice(uses)?;
+        self.add_uses(uses)?;
         self.asked.extend_from_slice(asked)?;
         Ok(())
     }

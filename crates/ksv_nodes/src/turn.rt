@@ -247,8 +247,8 @@ impl<'a> Turn<'a> {
 
     /// What is at a path, and where.
     #[inline(always)]
-    pub fn head(&mut self, path: &Path) -> Result<Head, Halt>
-        ensures { Runs (ask_head path.now) (λ head. head) self.old self.new result }
+    pub fn head(&mut self, path: &Path) -> Result<&'a Head, Halt>
+        ensures { Runs (ask_head path.now) (λ head. head.now) self.old self.new result }
     {
         let reply = self.reply(NodeKind::Head, path)?;
         self.headed(reply)
@@ -256,8 +256,8 @@ impl<'a> Turn<'a> {
 
     /// What is at the path above a path, and where. That path is made only where no reply is left.
     #[inline(always)]
-    pub fn head_above(&mut self, path: &Path) -> Result<Head, Halt>
-        ensures { Runs (ask_head (parent path.now)) (λ head. head) self.old self.new result }
+    pub fn head_above(&mut self, path: &Path) -> Result<&'a Head, Halt>
+        ensures { Runs (ask_head (parent path.now)) (λ head. head.now) self.old self.new result }
     {
         let reply = self.reply_above(NodeKind::Head, path)?;
         self.headed(reply)
@@ -265,11 +265,11 @@ impl<'a> Turn<'a> {
 
     /// A reply as a head.
     #[inline(always)]
-    fn headed(&self, reply: Result<&Given, &Fault>) -> Result<Head, Halt>
-        ensures { Runs (headed (lent reply.entry)) (λ head. head) self.now self.now result }
+    fn headed(&self, reply: Result<&'a Given, &Fault>) -> Result<&'a Head, Halt>
+        ensures { Runs (headed (lent reply.entry)) (λ head. head.now) self.now self.now result }
     {
         match reply {
-            Ok(Given::Head(head)) => Ok(*head),
+            Ok(Given::Head(head)) => Ok(head),
             Ok(_) => self.raise(FaultKind::BadType),
             Err(fault) => self.fault(fault),
         }

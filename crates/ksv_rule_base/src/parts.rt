@@ -29,8 +29,8 @@ pub fn end_beside(turn: &mut Turn, path: &Path, step: Step) -> Result<Ended, Hal
 
 /// The list that is at the path above a path. The elements of an absent attribute are absent; what is no list has none.
 #[inline(always)]
-pub fn in_list_above(turn: &Turn, path: &Path, head: Head) -> Result<List, Halt>
-    ensures { Runs (in_list (parent path.now) head) (λ list. list) turn.now turn.now result }
+pub fn in_list_above<'a>(turn: &Turn, path: &Path, head: &'a Head) -> Result<&'a List, Halt>
+    ensures { Runs (in_list (parent path.now) head.now) (λ list. list.now) turn.now turn.now result }
 {
     match head {
         Head::List(list) => Ok(list),

@@ -25,8 +25,8 @@ fn fault_at<X>(turn: &Turn, path: &Path, kind: FaultKind) -> Result<X, Halt>
 /// else there is no such thing, which is a fault of the asker.
 #[cold]
 #[inline(never)]
-pub fn missing<X>(turn: &Turn, path: &Path, head: Head, asker: &Path) -> Result<X, Halt>
-    ensures { Runs (missing path.now head asker.now) (λ x. x) turn.now turn.now result }
+pub fn missing<X>(turn: &Turn, path: &Path, head: &Head, asker: &Path) -> Result<X, Halt>
+    ensures { Runs (missing path.now head.now asker.now) (λ x. x) turn.now turn.now result }
 {
     match head {
         Head::Absent(_) => fault_at(turn, path, FaultKind::Absent),
@@ -37,16 +37,16 @@ pub fn missing<X>(turn: &Turn, path: &Path, head: Head, asker: &Path) -> Result<
 /// The fault of a head at the path above a path that isn't what is looked for there, for the node of the turn.
 #[cold]
 #[inline(never)]
-pub(crate) fn missing_above<X>(turn: &Turn, path: &Path, head: Head) -> Result<X, Halt>
-    ensures { Runs (missing (parent path.now) head turn.now.here) (λ x. x) turn.now turn.now result }
+pub(crate) fn missing_above<X>(turn: &Turn, path: &Path, head: &Head) -> Result<X, Halt>
+    ensures { Runs (missing (parent path.now) head.now turn.now.here) (λ x. x) turn.now turn.now result }
 {
     let above = path.parent(turn.alloc())?;
     missing(turn, &above, head, turn.here())
 }
 
 /// The object that is at a path. Inside an absent attribute all is absent; what is no object has no members.
-pub(crate) fn in_object(turn: &Turn, path: &Path, head: Head) -> Result<Object, Halt>
-    ensures { Runs (in_object path.now head) (λ object. object) turn.now turn.now result }
+pub(crate) fn in_object<'a>(turn: &Turn, path: &Path, head: &'a Head) -> Result<&'a Object, Halt>
+    ensures { Runs (in_object path.now head.now) (λ object. object.now) turn.now turn.now result }
 {
     match head {
         Head::Object(object) => Ok(object),
@@ -56,8 +56,8 @@ pub(crate) fn in_object(turn: &Turn, path: &Path, head: Head) -> Result<Object, 
 
 /// The object that is at the path above a path.
 #[inline(always)]
-pub fn in_object_above(turn: &Turn, path: &Path, head: Head) -> Result<Object, Halt>
-    ensures { Runs (in_object (parent path.now) head) (λ object. object) turn.now turn.now result }
+pub fn in_object_above<'a>(turn: &Turn, path: &Path, head: &'a Head) -> Result<&'a Object, Halt>
+    ensures { Runs (in_object (parent path.now) head.now) (λ object. object.now) turn.now turn.now result }
 {
     match head {
         Head::Object(object) => Ok(object),

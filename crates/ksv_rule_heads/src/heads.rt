@@ -344,7 +344,7 @@ fn member_head(turn: &mut Turn, desc: &Desc, path: &Path, name: u32) -> Result<H
     let head = turn.head_above(path)?;
     let object = in_object_above(turn, path, head)?;
     let sought = member_named(turn, desc, object.type_number, name)?;
-    member_at(turn, path, &object, sought)
+    member_at(turn, path, object, sought)
 }
 
 // ---- elements
@@ -417,9 +417,9 @@ fn element_head(turn: &mut Turn, desc: &Desc, path: &Path, index: u32) -> Result
 {
     let head = turn.head_above(path)?;
     let list = in_list_above(turn, path, head)?;
-    let start = element_start(turn, path, &list, index)?;
+    let start = element_start(turn, path, list, index)?;
     let field = field_of(turn, desc, list.origin.member)?;
-    element_at(turn, path, &list, start, index, field)
+    element_at(turn, path, list, start, index, field)
 }
 
 // ---- heads

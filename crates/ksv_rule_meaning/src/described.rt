@@ -53,15 +53,16 @@ impl<N> Described<N> {
     }
 }
 
-/// Adds what a turn used. Most turns use nothing.
+/// Adds what a turn used. Most turns use nothing, most others one thing.
 fn add_uses(uses: &mut Vec<Use>, used: &[Use]) -> Result<(), AllocError>
     ensures ok { OnOk result (uses.new.items ≡ uses.old.items ++ used.now) }
     ensures err { OnErr result (uses.new.items ≡ uses.old.items) }
 {
-    if used.is_empty() {
-        return Ok(());
+    match used {
+        [] => {}
+        [one] => uses.push(*one)?,
+        _ => uses.extend_from_slice(used)?,
     }
-    uses.extend_from_slice(used)?;
     Ok(())
 }
 
@@ -79,6 +80,7 @@ impl<N: NodeRules> Rules for Described<N> {
 
     ghost meaning = { λ rules. described (plain_pieces rules.desc) };
 
+    #[inline(always)]
     fn next(
         &self,
         alloc: Global,

@@ -92,12 +92,12 @@ fn place_of(turn: &mut Turn, desc: &Desc, path: &Path, head: &Head) -> Result<Pl
 }
 
 /// Where something begins.
-fn start_of(head: Head) -> Place
-    ensures { result ≡ start_of head }
+fn start_of(head: &Head) -> Place
+    ensures { result ≡ start_of head.now }
 {
     match head {
         Head::Absent(None) => Place::of_byte(0),
-        Head::Absent(Some(place)) => place,
+        Head::Absent(Some(place)) => *place,
         Head::Calc(_) => Place::of_byte(0),
         Head::Leaf(leaf) => leaf.from,
         Head::Object(object) => object.start,
@@ -118,13 +118,13 @@ fn is_counted(count: Option<u32>, index: u32) -> bool
 /// Whether what must hold of the last element of a list holds of this one, which ends at a place.
 fn holds_behind(
     turn: &mut Turn,
-    list: List,
+    list: &List,
     element: &Path,
     index: u32,
     end: Place,
     condition: &Expr,
 ) -> Result<bool, Halt>
-    ensures { Runs (truth_of (behind_element (parent (parent element.now)) list element.now index end) (view condition.now)) (λ truth. truth) turn.old turn.new result }
+    ensures { Runs (truth_of (behind_element (parent (parent element.now)) list.now element.now index end) (view condition.now)) (λ truth. truth) turn.old turn.new result }
 {
     let list_path = element.parent(turn.alloc())?;
     let home = list_path.parent(turn.alloc())?;
@@ -138,13 +138,13 @@ fn holds_behind(
 #[tactic(auto, unfolding(ksv_rule_meaning::specs::Ends::is_last))]
 fn is_last(
     turn: &mut Turn,
-    list: List,
+    list: &List,
     element: &Path,
     index: u32,
     end: Place,
     repeat: &Repeat,
 ) -> Result<bool, Halt>
-    ensures { Runs (is_last (parent (parent element.now)) list element.now index end (plain_repeat repeat.now)) (λ truth. truth) turn.old turn.new result }
+    ensures { Runs (is_last (parent (parent element.now)) list.now element.now index end (plain_repeat repeat.now)) (λ truth. truth) turn.old turn.new result }
 {
     match repeat {
         Repeat::Once => turn.raise(FaultKind::NoSuch),
@@ -185,10 +185,10 @@ fn element_end(
     desc: &Desc,
     path: &Path,
     index: u32,
-    head: Head,
+    head: &Head,
     place: Place,
 ) -> Result<Ended, Halt>
-    ensures { Runs (element_end (plain_pieces desc.now) path.now (parent path.now) (parent (parent path.now)) index head place) (λ ended. ended) turn.old turn.new result }
+    ensures { Runs (element_end (plain_pieces desc.now) path.now (parent path.now) (parent (parent path.now)) index head.now place) (λ ended. ended) turn.old turn.new result }
 {
     let list_head = turn.head_above(path)?;
     let list = in_list_above(turn, path, list_head)?;
@@ -203,10 +203,10 @@ fn end_at(
     desc: &Desc,
     path: &Path,
     step: Option<Step>,
-    head: Head,
+    head: &Head,
     place: Place,
 ) -> Result<Ended, Halt>
-    ensures { Runs (end_at (plain_pieces desc.now) path.now step head place) (λ ended. ended) turn.old turn.new result }
+    ensures { Runs (end_at (plain_pieces desc.now) path.now step head.now place) (λ ended. ended) turn.old turn.new result }
 {
     match step {
         Some(Step::Index(index)) => element_end(turn, desc, path, index, head, place),
@@ -220,7 +220,7 @@ pub fn end_of(turn: &mut Turn, desc: &Desc, path: &Path) -> Result<Ended, Halt>
     ensures { Runs (end_of (plain_pieces desc.now) path.now) (λ ended. ended) turn.old turn.new result }
 {
     let head = turn.head(path)?;
-    let place = place_of(turn, desc, path, &head)?;
+    let place = place_of(turn, desc, path, head)?;
     end_at(turn, desc, path, path.last(), head, place)
 }
 
@@ -260,8 +260,8 @@ fn rest_from(turn: &mut Turn, path: &Path, list: &Path, index: u32) -> Result<Re
 }
 
 /// The list of which an element is the first; faults are at the list.
-fn in_whole_list(turn: &Turn, path: &Path, head: Head) -> Result<List, Halt>
-    ensures { Runs (in_whole_list path.now head) (λ list. list) turn.now turn.now result }
+fn in_whole_list<'a>(turn: &Turn, path: &Path, head: &'a Head) -> Result<&'a List, Halt>
+    ensures { Runs (in_whole_list path.now head.now) (λ list. list.now) turn.now turn.now result }
 {
     match head {
         Head::List(list) => Ok(list),
@@ -269,8 +269,8 @@ fn in_whole_list(turn: &Turn, path: &Path, head: Head) -> Result<List, Halt>
     }
 }
 
-fn first_rest(turn: &mut Turn, path: &Path, list_path: &Path, list: List) -> Result<Rested, Halt>
-    ensures { Runs (first_rest path.now list_path.now list) (λ rested. rested) turn.old turn.new result }
+fn first_rest(turn: &mut Turn, path: &Path, list_path: &Path, list: &List) -> Result<Rested, Halt>
+    ensures { Runs (first_rest path.now list_path.now list.now) (λ rested. rested) turn.old turn.new result }
 {
     if list.is_empty {
         return Ok(Rested {
