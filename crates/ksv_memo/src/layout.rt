@@ -1,7 +1,7 @@
-//! How the table keeps nodes: slots by node, rows of what is kept, and frames of what is open.
+//! How the table keeps nodes: slots by node, and frames of what is open.
 ghost use Rattle.std.specs.Prelude.{◌≡◌, ◌<◌, ◌++◌, ◌∷◌, [], None, IfOk, IfSome, IfNone, OnOk, OnErr};
 ghost use Rattle.indexmap.specs.IndexMap.{IsUnique, get, index_map_len, set_value_at};
-ghost use Rattle.ksv_memo.specs.Moves.{Knows, Heard, SameFrames, IsNewFrame, Popped, Framed, Added, SameRows, EndsWith};
+ghost use Rattle.ksv_memo.specs.Moves.{Knows, Heard, SameFrames, IsNewFrame, Popped, Framed, EndsWith};
 
 use indexmap::IndexMap;
 use ksv_bytes::Use;
@@ -11,23 +11,6 @@ use std::hash::Hash;
 
 /// The slots of nodes. A node's slot has the number of its place in the map, which never changes.
 pub type Slots<N, V, F> = IndexMap<N, Slot<V, F>>;
-
-/// A kept node: the number of its slot, how many nodes it asked, and how many uses it has.
-#[derive(Clone, Copy)]
-pub struct Row {
-    pub slot: u32,
-    pub asked: u32,
-    pub uses: u32,
-}
-
-/// The kept nodes in the order in which they were kept, the slots that they asked, node after node, and their uses,
-/// node after node.
-#[derive(Drop)]
-pub struct Rows {
-    pub rows: Vec<Row>,
-    pub asked: Vec<u32>,
-    pub uses: Vec<Use>,
-}
 
 /// An open node: the number of its slot, and where its part of what open nodes asked and used begins.
 #[derive(Clone, Copy)]
@@ -197,60 +180,4 @@ pub(crate) fn open_new<N: Eq + Hash + Drop, V: Drop, F: Drop>(
     slots.insert(node, Slot::Open)?;
     frames.frames.push_reserved(frame);
     Ok(())
-}
-
-impl Rows {
-    /// The row that was added last.
-    pub(crate) fn last(&self) -> Option<Row>
-        ensures some { IfSome result (λ row. EndsWith row self.now.rows.items) }
-        ensures none { IfNone result (self.now.rows.items ≡ []) }
-    {
-        self.rows.as_slice().last().copied()
-    }
-
-    /// Adds what was used. Most nodes have one use or none.
-    #[inline(always)]
-    fn add_uses(&mut self, uses: &[Use]) -> Result<(), AllocError>
-        ensures rows { self.new.rows ≡ self.old.rows }
-        ensures asked { self.new.asked ≡ self.old.asked }
-        ensures ok { OnOk result (self.new.uses.items ≡ self.old.uses.items ++ uses.now) }
-        ensures err { OnErr result (self.new.uses.items ≡ self.old.uses.items) }
-    {
-        match uses {
-            [] => {}
-            [one] => self.uses.push(*one)?,
-            _ => self.uses.extend_from_slice(uses)?,
-        }
-        Ok(())
-    }
-
-    /// Adds what was asked and used, but no row.
-    #[inline(always)]
-    fn add_parts(&mut self, asked: &[u32], uses: &[Use]) -> Result<(), AllocError>
-        ensures rows { self.new.rows ≡ self.old.rows }
-        ensures ok { OnOk result ((self.new.asked.items ≡ self.old.asked.items ++ asked.now) × (self.new.uses.items ≡ self.old.uses.items ++ uses.now)) }
-        ensures err { OnErr result ((self.new.asked.items ≡ self.old.asked.items) × (self.new.uses.items ≡ self.old.uses.items)) }
-    {
-        self.asked.reserve(asked.len())?;
-        self.add_uses(uses)?;
-        self.asked.extend_from_slice(asked)?;
-        Ok(())
-    }
-
-    /// Adds a row: a kept node, the slots that it asked, and its uses.
-    #[inline(always)]
-    pub(crate) fn add(&mut self, slot: u32, asked: &[u32], uses: &[Use]) -> Result<(), AllocError>
-        ensures ok { OnOk result (Added slot asked.now uses.now self.old self.new) }
-        ensures err { OnErr result (SameRows self.old self.new) }
-    {
-        let row = Row {
-            slot,
-            asked: number(asked.len())?,
-            uses: number(uses.len())?,
-        };
-        self.rows.reserve(1)?;
-        self.add_parts(asked, uses)?;
-        self.rows.push_reserved(row);
-        Ok(())
-    }
 }

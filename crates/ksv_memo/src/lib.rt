@@ -11,7 +11,6 @@ mod engine;
 pub mod laws;
 mod layout;
 mod machine;
-mod sweep;
 mod table;
 mod uses;
 

@@ -1,18 +1,21 @@
 //! The table of kept and open nodes.
-ghost use Rattle.std.specs.Prelude.{◌≡◌, ◌≤◌, [], Some, length, true, option_map, IfOk, IfSome, IfNone, OnOk, OnErr};
+ghost use Rattle.std.specs.List.{All, AllPairs};
+ghost use Rattle.indexmap.specs.IndexMap.{index_map_len};
+ghost use Rattle.std.specs.Prelude.{◌≡◌, ◌≢◌, ◌<◌, ◌≤◌, ℕ, [], Some, length, true, option_map, nat_lt, IfOk, IfSome, IfNone, OnOk, OnErr};
 ghost use Rattle.ksv_memo_rules.specs.Meaning.{on};
-ghost use Rattle.ksv_memo.specs.Moves.{Rowed, SameRows};
-ghost use Rattle.ksv_memo.specs.Nodes.{Asks, Closes, EndsWithAnswer, Finds, MayKeep, Steps, TakesFirst, is_there};
+ghost use Rattle.ksv_memo.specs.Nodes.{Asks, Closes, Finds, MayKeep, Steps, TakesFirst, is_there};
 ghost use Rattle.ksv_memo_rules.specs.Slots.{answer_in, lent};
 ghost use Rattle.ksv_memo.specs.Sweep.{Sweeps};
+ghost use Rattle.ksv_memo.specs.Emptying.{IsEmptied};
 
-use crate::layout::{Frame, Frames, Known, Rows, Slots, find, open_new, reopen, set};
-use crate::sweep::{has_touched, sweep};
-use crate::uses::each_once;
+use crate::layout::{Frames, Known, Slots, find, number, open_new, reopen, set};
+use crate::uses::keep_once;
 use indexmap::IndexMap;
 use ksv_bytes::{Buffer, Change};
+use ksv_memo_links::Links;
 use ksv_memo_rules::{Next, Replies, Reply, Rules, Slot, answer_at};
 use std::alloc::{AllocError, Global};
+use std::hash::Hash;
 use std::marker::Model;
 
 /// What came of asking for a node.
@@ -37,27 +40,28 @@ fn slot_of<V, F>(answer: Result<V, F>) -> Slot<V, F>
     }
 }
 
-/// Adds the row of an open node, with each of its uses once. Most nodes have one use or none, which need no copy.
-#[inline(always)]
-fn keep(alloc: Global, rows: &mut Rows, frames: &Frames, frame: Frame) -> Result<(), AllocError>
-    requires { (frame.asked ≤ length frames.now.asked.items) × (frame.uses ≤ length frames.now.uses.items) }
-    ensures ok { OnOk result (Rowed frame frames.now rows.old rows.new) }
-    ensures err { OnErr result (SameRows rows.old rows.new) }
+/// Empties the slots that are to be taken. How many they were.
+fn empty_taken<N: Eq + Hash + Drop, V: Drop, F: Drop>(
+    slots: &mut Slots<N, V, F>,
+    links: &mut Links,
+) -> u64
+    requires inside { All (λ s. s < index_map_len slots.old) links.old.waits }
+    requires apart { AllPairs (λ (a b : ℕ). a ≢ b) links.old.waits }
+    ensures { IsEmptied slots.old.entries slots.new.entries links.old links.new result }
 {
-    let asked = &frames.asked[frame.asked as usize..];
-    let uses = &frames.uses[frame.uses as usize..];
-    if uses.len() < 2 {
-        return rows.add(frame.slot, asked, uses);
+    let mut emptied = 0u64;
+    while let Some(slot) = links.take() {
+        set(slots, slot as usize, Slot::Empty);
+        emptied = emptied.saturating_add(1);
     }
-    let once = each_once(alloc, uses)?;
-    rows.add(frame.slot, asked, once.as_slice())
+    emptied
 }
 
 /// The nodes that are kept and those that are open. A look-up takes one hash, however many there are.
 #[derive(Drop)]
 pub struct Table<R: Rules> {
     slots: Slots<R::Node, R::Value, R::Fault>,
-    rows: Rows,
+    links: Links,
     frames: Frames,
 }
 
@@ -68,9 +72,9 @@ impl<R: Rules> Model for Table<R> {
 
     ghost Value = { Nodes R.Node (Result R.Value R.Fault) };
 
-    ghost view = { λ table. record { kept = entries_of table.slots.entries table.rows; opened = opens_of table.slots.entries table.frames } };
+    ghost view = { λ table. record { kept = entries_of table.slots.entries table.links; opened = opens_of table.slots.entries table.frames } };
 
-    ghost invariant = { λ table. IsLaidOut table.slots.entries table.rows table.frames };
+    ghost invariant = { λ table. IsLaidOut table.slots.entries table.links table.frames };
 }
 
 impl<R: Rules> Table<R> {
@@ -80,11 +84,7 @@ impl<R: Rules> Table<R> {
     {
         Table {
             slots: IndexMap::new(alloc),
-            rows: Rows {
-                rows: Vec::new(alloc),
-                asked: Vec::new(alloc),
-                uses: Vec::new(alloc),
-            },
+            links: Links::new(alloc),
             frames: Frames {
                 frames: Vec::new(alloc),
                 asked: Vec::new(alloc),
@@ -97,7 +97,7 @@ impl<R: Rules> Table<R> {
     pub(crate) fn len(&self) -> usize
         ensures { result ≡ length self.now.kept }
     {
-        self.rows.rows.as_slice().len()
+        self.links.count()
     }
 
     /// The answer that is kept for a node.
@@ -129,6 +129,8 @@ impl<R: Rules> Table<R> {
                 Ok(Asked::Opened)
             }
             Known::New => {
+                self.links
+                    .reach(number(self.slots.len().saturating_add(1))?)?;
                 open_new(&mut self.slots, &mut self.frames, node)?;
                 Ok(Asked::Opened)
             }
@@ -169,7 +171,9 @@ impl<R: Rules> Table<R> {
         let Some(frame) = self.frames.last() else {
             unreachable!()
         };
-        keep(alloc, &mut self.rows, &self.frames, frame)?;
+        let uses = &self.frames.uses[frame.uses as usize..];
+        let asked = &self.frames.asked[frame.asked as usize..];
+        keep_once(alloc, &mut self.links, frame.slot, asked, uses)?;
         let slot = frame.slot as usize;
         set(&mut self.slots, slot, slot_of(answer));
         self.frames.take_last(frame);
@@ -194,25 +198,23 @@ impl<R: Rules> Table<R> {
         }
     }
 
-    /// Takes out each kept node that a change touches or that asked one that goes, in one pass from the front. No node
-    /// is open. It takes no memory. Where the change touches no use, no row is looked at.
-    pub(crate) fn forget(&mut self, change: Change)
+    /// Whether an open node waits for the last one.
+    pub(crate) fn waits(&self) -> bool
+        ensures { result ≡ nat_lt 1 (length self.now.opened) }
+    {
+        self.frames.frames.as_slice().len() > 1
+    }
+
+    /// Takes out each kept node that a change touches or that asked one that goes, in its tree. No node is open. It takes
+    /// no memory. An overwrite looks only near. How many looks it took, which stop at 2^64 - 1.
+    pub(crate) fn forget(&mut self, change: Change) -> u64
         requires { self.old.opened ≡ [] }
-        ensures kept { Sweeps change self.old.kept self.new.kept }
+        ensures kept { Sweeps change self.old.kept self.new.kept result }
         ensures opened { self.new.opened ≡ [] }
     {
         self.frames.asked.clear();
-        if has_touched(change, self.rows.uses.as_slice()) {
-            sweep(&mut self.slots, &mut self.rows, change);
-        }
-    }
-
-    /// The answer that was kept last.
-    pub(crate) fn last(&self) -> Option<Result<&R::Value, &R::Fault>>
-        ensures some { IfSome result (λ answer. EndsWithAnswer (lent answer) self.now.kept) }
-        ensures none { IfNone result (self.now.kept ≡ []) }
-    {
-        let row = self.rows.last()?;
-        answer_at(self.slots.values().as_slice(), row.slot as usize)
+        self.links.forget(change);
+        let emptied = empty_taken(&mut self.slots, &mut self.links);
+        self.links.looks().saturating_add(emptied)
     }
 }

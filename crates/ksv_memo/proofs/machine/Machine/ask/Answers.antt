@@ -1,6 +1,8 @@
-use Rattle.std.proofs.Common.{[], sym, ap, ◌∙◌}
+use Rattle.std.proofs.Common.{[], sym, ap, subst, ◌∙◌, OnOk}
 use Rattle.ksv_memo_rules.specs.Meaning.{on}
-use Rattle.ksv_memo_rules.specs.Evaluation.{answering}
+use Rattle.ksv_memo_rules.specs.Evaluation.{is_among, done, answering}
+use Rattle.ksv_memo_rules.specs.Right.{nodes_of}
+use Rattle.ksv_memo.specs.Running.{AreSame, to_keep}
 use Rattle.ksv_memo_rules.specs.declared.rules.Outcome.TheVariants.{Answered}
 use Rattle.ksv_memo_rules.proofs.Standing.{law_on}
 use Rattle.ksv_memo_rules.proofs.Keeping.{agrees}
@@ -30,7 +32,7 @@ returns-in_ok-copy_answer-in-Some-clause-kept g c =
     let exact = g.met.R.Rules.exact in
     let old = c.args.self.now.table in
     let found = c.in-Some.ensures in
-    covers-kept w law old.kept c.args.node c.requires.right (entry_in w law eq laws exact old.kept c.args.node found.0 found.1)
+    λ x. ap (λ ns. is_among w.number ns x) (covers-kept w law old.kept c.args.node c.requires.right (entry_in w law eq laws exact old.kept c.args.node found.0 found.1))
 
 pub returns-in_ok-copy_answer-in-Some-clause-turns : goal.returns-in_ok-copy_answer-in-Some-clause-turns
 returns-in_ok-copy_answer-in-Some-clause-turns g c _ =
@@ -42,3 +44,9 @@ returns-in_ok-copy_answer-in-Some-clause-turns g c _ =
     let old = c.args.self.now.table in
     let found = c.in-Some.ensures in
     none-owed w law old.kept c.args.node c.requires.right (entry_in w law eq laws exact old.kept c.args.node found.0 found.1) c.args.self.now.turns
+
+-- what is kept after it is what the run has kept
+pub returns-in-None-clause-kept : goal.returns-in-None-clause-kept
+returns-in-None-clause-kept g c =
+    let w = on (g.R.Rules.meaning c.args.rules.now) c.args.bytes.now in
+    subst (λ es. OnOk c.run-outcome.result (AreSame w (nodes_of es) (to_keep w c.args.self.now.table.kept (done w [] c.args.node)))) (sym c.abandon.ensures.kept) c.run-outcome.ensures.kept
