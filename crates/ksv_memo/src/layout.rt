@@ -33,10 +33,10 @@ pub struct Frames {
 pub(crate) fn number(count: usize) -> Result<u32, AllocError>
     ensures { IfOk result (λ number. number ≡ count) }
 {
-    match u32::try_from(count) {
-        Ok(number) => Ok(number),
-        Err(_) => Err(AllocError),
+    if count > u32::MAX as usize {
+        return Err(AllocError);
     }
+    Ok(count as u32)
 }
 
 /// What the slots have of a node.

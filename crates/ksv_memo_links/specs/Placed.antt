@@ -11,8 +11,8 @@ abbrev pub pins_of : Pins → List Pin
 pins_of Empty = []
 pins_of (One a) = a ∷ []
 pins_of (Two a b) = a ∷ b ∷ []
-pins_of (Three a b c) = a ∷ b ∷ c ∷ []
-pins_of (Many pins) = pins.items
+pins_of (Three pins) = pins.value.a ∷ pins.value.b ∷ pins.value.c ∷ []
+pins_of (Many pins) = pins.value.items
 
 abbrev pub uses_of : Noted → List Use
 uses_of Nothing = []

@@ -29,13 +29,14 @@ impl Model for Board {
 }
 
 /// A number in 32 bits. A larger one is refused, as memory for so many would be.
+#[inline(always)]
 fn number(count: usize) -> Result<u32, AllocError>
     ensures { IfOk result (λ number. number ≡ count) }
 {
-    match u32::try_from(count) {
-        Ok(number) => Ok(number),
-        Err(_) => Err(AllocError),
+    if count > u32::MAX as usize {
+        return Err(AllocError);
     }
+    Ok(count as u32)
 }
 
 impl Board {

@@ -6,7 +6,15 @@ ghost use Rattle.ksv_memo_links.specs.Placed.{pins_of};
 use crate::shelf::Pin;
 use std::alloc::{AllocError, Global};
 
-/// A row of pins. Up to three take no memory of their own; most rows have no more.
+/// Three pins, which take one small block.
+#[derive(Clone, Copy, Drop)]
+pub struct Trio {
+    pub a: Pin,
+    pub b: Pin,
+    pub c: Pin,
+}
+
+/// A row of pins. Up to two take no memory of their own; few rows have more than three.
 #[derive(Drop)]
 pub enum Pins {
     /// No pin.
@@ -16,9 +24,9 @@ pub enum Pins {
     /// Two pins.
     Two(Pin, Pin),
     /// Three pins.
-    Three(Pin, Pin, Pin),
+    Three(Box<Trio>),
     /// The pins of a row that had more than three at some time.
-    Many(Vec<Pin>),
+    Many(Box<Vec<Pin>>),
 }
 
 impl Pins {
@@ -30,7 +38,7 @@ impl Pins {
             Pins::Empty => 0,
             Pins::One(_) => 1,
             Pins::Two(_, _) => 2,
-            Pins::Three(_, _, _) => 3,
+            Pins::Three(_) => 3,
             Pins::Many(pins) => pins.len(),
         }
     }
@@ -50,10 +58,10 @@ impl Pins {
                 1 => Some(*b),
                 _ => None,
             },
-            Pins::Three(a, b, c) => match i {
-                0 => Some(*a),
-                1 => Some(*b),
-                2 => Some(*c),
+            Pins::Three(pins) => match i {
+                0 => Some(pins.a),
+                1 => Some(pins.b),
+                2 => Some(pins.c),
                 _ => None,
             },
             Pins::Many(pins) => pins.get(i).copied(),
@@ -72,10 +80,10 @@ impl Pins {
                 0 => *a = pin,
                 _ => *b = pin,
             },
-            Pins::Three(a, b, c) => match i {
-                0 => *a = pin,
-                1 => *b = pin,
-                _ => *c = pin,
+            Pins::Three(pins) => match i {
+                0 => pins.a = pin,
+                1 => pins.b = pin,
+                _ => pins.c = pin,
             },
             Pins::Many(pins) => pins[i] = pin,
         }
@@ -98,8 +106,8 @@ impl Pins {
                 *self = Pins::One(a);
                 Some(last)
             }
-            Pins::Three(a, b, c) => {
-                let (a, b, last) = (*a, *b, *c);
+            Pins::Three(pins) => {
+                let (a, b, last) = (pins.a, pins.b, pins.c);
                 *self = Pins::Two(a, b);
                 Some(last)
             }
@@ -119,12 +127,16 @@ impl Pins {
                 *self = Pins::Two(a, pin);
             }
             Pins::Two(a, b) => {
-                let (a, b) = (*a, *b);
-                *self = Pins::Three(a, b, pin);
+                let three = Trio {
+                    a: *a,
+                    b: *b,
+                    c: pin,
+                };
+                *self = Pins::Three(Box::new(alloc, three)?);
             }
-            Pins::Three(a, b, c) => {
-                let pins = Vec::from_slice(alloc, &[*a, *b, *c, pin])?;
-                *self = Pins::Many(pins);
+            Pins::Three(pins) => {
+                let pins = Vec::from_slice(alloc, &[pins.a, pins.b, pins.c, pin])?;
+                *self = Pins::Many(Box::new(alloc, pins)?);
             }
             Pins::Many(pins) => pins.push(pin)?,
         }

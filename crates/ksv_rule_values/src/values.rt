@@ -78,23 +78,23 @@ fn number_in(
 #[tactic(auto, using(ksv_plan::proofs::Running::run_bind), unfolding(ksv_rule_meaning::specs::Values::number_value))]
 fn number_value(
     turn: &mut Turn,
-    leaf: &Leaf,
+    leaf: Leaf,
     is_signed: bool,
     order: ByteOrder,
     enumeration: Option<u32>,
 ) -> Result<Value, Halt>
-    ensures { Runs (number_value leaf.now is_signed order enumeration) (λ value. value) turn.old turn.new result }
+    ensures { Runs (number_value leaf is_signed order enumeration) (λ value. value) turn.old turn.new result }
 {
-    let bytes = bytes_of(turn, leaf)?;
+    let bytes = bytes_of(turn, &leaf)?;
     number_in(turn, is_signed, order, enumeration, bytes)
 }
 
 /// Certain bytes and no others.
 #[tactic(auto, using(ksv_plan::proofs::Running::run_bind), unfolding(ksv_rule_meaning::specs::Values::fixed_value))]
-fn fixed_value(turn: &mut Turn, leaf: &Leaf, wanted: &[u8]) -> Result<Value, Halt>
-    ensures { Runs (fixed_value leaf.now wanted.now) (λ value. value) turn.old turn.new result }
+fn fixed_value(turn: &mut Turn, leaf: Leaf, wanted: &[u8]) -> Result<Value, Halt>
+    ensures { Runs (fixed_value leaf wanted.now) (λ value. value) turn.old turn.new result }
 {
-    let bytes = bytes_of(turn, leaf)?;
+    let bytes = bytes_of(turn, &leaf)?;
     if !are(bytes, wanted) {
         return turn.raise(FaultKind::Contents);
     }
@@ -136,10 +136,10 @@ fn kept(terminator: Terminator, parts: Parts) -> usize
 
 /// The range of bytes, up to a terminator.
 #[tactic(auto, using(ksv_plan::proofs::Running::run_bind), unfolding(ksv_rule_meaning::specs::Values::cut_bytes))]
-fn cut_bytes(turn: &mut Turn, leaf: &Leaf, terminator: Terminator) -> Result<Value, Halt>
-    ensures { Runs (cut_bytes leaf.now (plain_terminator terminator)) (λ value. value) turn.old turn.new result }
+fn cut_bytes(turn: &mut Turn, leaf: Leaf, terminator: Terminator) -> Result<Value, Halt>
+    ensures { Runs (cut_bytes leaf (plain_terminator terminator)) (λ value. value) turn.old turn.new result }
 {
-    let bytes = bytes_of(turn, leaf)?;
+    let bytes = bytes_of(turn, &leaf)?;
     let kept = kept(terminator, bytes);
     let from = leaf.from.byte();
     Ok(Value::Bytes {
@@ -150,8 +150,8 @@ fn cut_bytes(turn: &mut Turn, leaf: &Leaf, terminator: Terminator) -> Result<Val
 
 /// The range of bytes; where they may be cut they are read.
 #[tactic(auto, unfolding(ksv_rule_meaning::specs::Values::bytes_value))]
-fn bytes_value(turn: &mut Turn, leaf: &Leaf, terminator: Option<Terminator>) -> Result<Value, Halt>
-    ensures { Runs (bytes_value leaf.now (option_map plain_terminator terminator)) (λ value. value) turn.old turn.new result }
+fn bytes_value(turn: &mut Turn, leaf: Leaf, terminator: Option<Terminator>) -> Result<Value, Halt>
+    ensures { Runs (bytes_value leaf (option_map plain_terminator terminator)) (λ value. value) turn.old turn.new result }
 {
     match terminator {
         None => Ok(Value::Bytes {
@@ -187,13 +187,13 @@ fn cut_text(terminator: Option<Terminator>, parts: Parts) -> Parts
 #[tactic(auto, using(ksv_plan::proofs::Running::run_bind), unfolding(ksv_rule_meaning::specs::Values::text_value))]
 fn text_value(
     turn: &mut Turn,
-    leaf: &Leaf,
+    leaf: Leaf,
     encoding: Encoding,
     terminator: Option<Terminator>,
 ) -> Result<Value, Halt>
-    ensures { Runs (text_value leaf.now encoding (option_map plain_terminator terminator)) (λ value. value) turn.old turn.new result }
+    ensures { Runs (text_value leaf encoding (option_map plain_terminator terminator)) (λ value. value) turn.old turn.new result }
 {
-    let bytes = bytes_of(turn, leaf)?;
+    let bytes = bytes_of(turn, &leaf)?;
     let text = encoding.decode(turn.alloc(), cut_text(terminator, bytes))?;
     in_text(turn, text)
 }
@@ -201,11 +201,11 @@ fn text_value(
 #[tactic(auto, unfolding(ksv_rule_meaning::specs::Values::content_value))]
 fn content_value(
     turn: &mut Turn,
-    leaf: &Leaf,
+    leaf: Leaf,
     field: &Field,
     content: &Content,
 ) -> Result<Value, Halt>
-    ensures { Runs (content_value leaf.now (plain_field field.now) (plain_content content.now)) (λ value. value) turn.old turn.new result }
+    ensures { Runs (content_value leaf (plain_field field.now) (plain_content content.now)) (λ value. value) turn.old turn.new result }
 {
     match content {
         Content::Bytes => bytes_value(turn, leaf, cut_by(&field.extent, field.terminator)),
@@ -228,11 +228,11 @@ fn content_value(
 #[tactic(auto, unfolding(ksv_rule_meaning::specs::Values::content_value))]
 fn known_value(
     turn: &mut Turn,
-    leaf: &Leaf,
+    leaf: Leaf,
     field: &Field,
     content: Option<&Content>,
 ) -> Result<Value, Halt>
-    ensures { Runs (content_value leaf.now (plain_field field.now) (option_map_or (λ c. plain_content c.now) content.entry Bytes)) (λ value. value) turn.old turn.new result }
+    ensures { Runs (content_value leaf (plain_field field.now) (option_map_or (λ c. plain_content c.now) content.entry Bytes)) (λ value. value) turn.old turn.new result }
 {
     match content {
         None => bytes_value(turn, leaf, cut_by(&field.extent, field.terminator)),
@@ -247,7 +247,7 @@ fn leaf_value(turn: &mut Turn, desc: &Desc, leaf: &Leaf) -> Result<Value, Halt>
 {
     let field = field_of(turn, desc, leaf.origin.member)?;
     let content = content_of(turn, &field.choice, leaf.origin.case)?;
-    known_value(turn, leaf, field, content)
+    known_value(turn, *leaf, field, content)
 }
 
 #[tactic(auto, unfolding(ksv_rule_meaning::specs::Values::value_at))]
