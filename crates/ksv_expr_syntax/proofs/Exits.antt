@@ -9,14 +9,14 @@ use Rattle.ksv_expr_tree.specs.declared.tree.BinaryOperator.{BinaryOperator}
 use Rattle.ksv_expr_syntax.specs.declared.operator.Precedence.{Precedence}
 use Rattle.ksv_expr_syntax.specs.declared.operator.Precedence.TheVariants as tier
 use Rattle.ksv_expr_syntax.specs.declared.operator.Infix.{Infix}
-use Rattle.ksv_expr_tree.specs.Tree.{Constant, Tree, literal, unary, binary, choice, call, index, Arguments, no_arguments, argument}
+use Rattle.ksv_expr_syntax.specs.declared.operator.Infix.TheVariants as infixes
+use Rattle.ksv_expr_tree.specs.Tree.{Constant, Tree, unary, binary, choice, call, index, Arguments, no_arguments, argument}
 use Rattle.ksv_expr_syntax.specs.Lexemes.{Lexeme, constant, word, symbol}
-use Rattle.ksv_expr_syntax.specs.Grammar.{Level, Whole, Joined, Negation, Comparison, Prefix, Postfix, Primary, tighter, join_tree, select_tree, is_left_out}
-use Rattle.ksv_expr_syntax.specs.Reading.{Next, next, Found, FoundList, found, found_list, ◌>>=◌, choose, spend, after, operator_at, comparison_at, prefix_at, path_at, path_on, path_tree, read, read_list, place_on, select_on}
+use Rattle.ksv_expr_syntax.specs.Grammar.{Level, Whole, Joined, Negation, Comparison, Prefix, Postfix, Primary, tighter, join_tree, is_left_out}
+use Rattle.ksv_expr_syntax.specs.Reading.{Next, next, Found, FoundList, found, found_list, ◌>>=◌, choose, spend, after, operator_at, comparison_at, prefix_at, path_at, path_tree, room, read, read_list, place_on, select_on}
 use Rattle.ksv_expr_syntax.specs.declared.parser.Opening.{Opening}
 use Rattle.ksv_expr_syntax.specs.declared.parser.Opening.TheVariants as openings
-use Rattle.ksv_expr_syntax.specs.Code.{read_before, arms_at, cast_at, suffix_step, OpensWith}
-use Rattle.ksv_expr_syntax.specs.Code.{Gives, GivesCast, GivesSuffix}
+use Rattle.ksv_expr_syntax.specs.Code.{Gives, GivesArms, GivesList, IsWithin, inside, opened, with_tree, with_list, closing, right_at, place_at, list_at, arms_at, cast_at, member_on, member_at, literal_at, word_at, suffix_step, IsNoCall, OpensWith}
 use Rattle.ksv_expr_syntax.specs.Lexemes.{lexemes}
 use Rattle.ksv_expr_tree.specs.Tree.{view, arguments_of}
 use Rattle.ksv_expr_tree.specs.declared.tree.Expr.{Expr}
@@ -24,20 +24,18 @@ use Rattle.ksv_expr_syntax.specs.declared.token.Placed.{Placed}
 use Rattle.ksv_expr_syntax.specs.declared.cursor.Rest.{Rest}
 use Rattle.ksv_expr_syntax.specs.declared.fault.ExprFault.{ExprFault}
 use Rattle.std.proofs.lemmas.List.{map-append}
-use Rattle.std.proofs.Common.{Result, Ok, Err}
-use Rattle.ksv_expr_syntax.proofs.Steps.{after_some}
-use Rattle.ksv_expr_syntax.proofs.Flow.{pick_on, join_on, compare_on, suffix_on, more_on, read_whole, pick_on_is, arm_on_is, read_joined, join_on_is, read_negation, negate_on_is, read_comparison, compare_on_is, read_prefix, prefix_on_is, read_postfix, suffix_on_is, place_on_is, select_word, select_symbol, select_constant, select_end, primary_end, primary_constant, primary_word, primary_symbol, group_on_is, read_list_is, more_on_is}
+use Rattle.std.proofs.Common.{◌≤◌, ◌+◌, Result, Ok, Err, IfOk, MatchResult, Vec, subst, length}
+use Rattle.std.specs.declared.alloc.Global.{Global}
+use Rattle.ksv_expr_syntax.specs.declared.fault.ExprFaultKind.TheVariants as kinds
+use Rattle.ksv_expr_syntax.proofs.Same.{spend_same, room_tighter}
+use Rattle.ksv_expr_syntax.proofs.Flow.{pick_on, join_on, compare_on, suffix_on, more_on, read_whole, pick_on_is, arm_on_is, read_joined, join_on_is, read_negation, negate_on_is, read_comparison, compare_on_is, read_prefix, prefix_on_is, read_postfix, suffix_on_is, group_on, place_on_is, select_word, select_symbol, select_constant, select_end, primary_end, primary_constant, primary_word, primary_symbol, group_on_is, read_list_is, more_on_is}
 
--- how loosely a precedence binds, for the measures
-abbrev pub level_of : Precedence → ℕ
-level_of tier.Or = 14
-level_of tier.And = 13
-level_of tier.BitOr = 10
-level_of tier.BitXor = 9
-level_of tier.BitAnd = 8
-level_of tier.Shift = 7
-level_of tier.Sum = 6
-level_of tier.Term = 5
+-- how many calls lead to a level at one token, for the measures
+abbrev pub rank : Level → ℕ
+rank l = room l []
+
+pub rank_tighter : (k : Precedence) (l : Level) → l ≡ tighter k → rank l + 1 ≡ rank (Joined k)
+rank_tighter k l h = ap (λ l. rank l + 1) h ∙ room_tighter k []
 
 -- arguments put in front of those that are read
 abbrev pub append_arguments : Arguments → Arguments → Arguments
@@ -72,28 +70,33 @@ pub spend_inner : {A : Type 0} (d p : ℕ) (f : ℕ → ℕ → Option A) → p 
 spend_inner zero p f h = refl
 spend_inner (suc d) p f h = spend_zero p (f d) h
 
+-- one level and one part fewer, in either order
+pub inside_is : {A : Type 0} (d p : ℕ) (f : ℕ → ℕ → Option A) (o : Option (ℕ × ℕ)) → inside d p ≡ o → spend d (λ d. spend p (λ p. f d p)) ≡ (o >>= λ x. f x.0 x.1)
+inside_is zero p f o h = ap (λ o. o >>= λ x. f x.0 x.1) h
+inside_is (suc d) zero f o h = ap (λ o. o >>= λ x. f x.0 x.1) h
+inside_is (suc d) (suc p) f o h = ap (λ o. o >>= λ x. f x.0 x.1) h
+
+pub inside_swapped : {A : Type 0} (d p : ℕ) (f : ℕ → ℕ → Option A) (o : Option (ℕ × ℕ)) → inside d p ≡ o → spend p (λ p. spend d (λ d. f d p)) ≡ (o >>= λ x. f x.0 x.1)
+inside_swapped zero zero f o h = ap (λ o. o >>= λ x. f x.0 x.1) h
+inside_swapped zero (suc p) f o h = ap (λ o. o >>= λ x. f x.0 x.1) h
+inside_swapped (suc d) zero f o h = ap (λ o. o >>= λ x. f x.0 x.1) h
+inside_swapped (suc d) (suc p) f o h = ap (λ o. o >>= λ x. f x.0 x.1) h
+
 pub no_way : {A B : Type 0} (o : Option A) (x : B) (f : A → B) → o ≡ None → choose o x f ≡ x
 no_way o x f h = ap (λ o. choose o x f) h
 
 pub one_way : {A B : Type 0} (o : Option A) (a : A) (x : B) (f : A → B) → o ≡ Some a → choose o x f ≡ f a
 one_way o a x f h = ap (λ o. choose o x f) h
 
+pub bind_both : {A B C : Type 0} (o : Option A) (f : A → Option B) (g : B → Option C) → (o >>= λ x. f x >>= g) ≡ ((o >>= f) >>= g)
+bind_both None f g = refl
+bind_both (Some x) f g = refl
+
 -- ---- an expression and a symbol behind it
 
-pub before_fails : (s : Symbol) (d : ℕ) (ts : List Lexeme) (p : ℕ) → read Whole d ts p ≡ None → read_before s d ts p ≡ None
-before_fails s d ts p h = bind_none _ _ h
-
-pub before_open : (s : Symbol) (d : ℕ) (ts : List Lexeme) (p : ℕ) (e : Tree) (us : List Lexeme) (q : ℕ) → read Whole d ts p ≡ found e us q → after s us ≡ None → read_before s d ts p ≡ None
-before_open s d ts p e us q h n = bind_is _ (found e us q) (λ a. after s a.rest >>= λ us. found a.tree us a.left) h ∙ bind_none _ _ n
-
-pub before_is : (s : Symbol) (d : ℕ) (ts : List Lexeme) (p : ℕ) (e : Tree) (us : List Lexeme) (q : ℕ) (vs : List Lexeme) → read Whole d ts p ≡ found e us q → after s us ≡ Some vs → read_before s d ts p ≡ found e vs q
-before_is s d ts p e us q vs h n = bind_is _ (found e us q) (λ a. after s a.rest >>= λ us. found a.tree us a.left) h ∙ bind_is _ (Some vs) _ n
-
-pub before_then : (s : Symbol) (d : ℕ) (ts : List Lexeme) (p : ℕ) (g : Tree → List Lexeme → ℕ → Option Found) → (read Whole d ts p >>= λ a. after s a.rest >>= λ us. g a.tree us a.left) ≡ (read_before s d ts p >>= λ a. g a.tree a.rest a.left)
-before_then s d ts p g = elim (read Whole d ts p) as (λ o. (o >>= λ a. after s a.rest >>= λ us. g a.tree us a.left) ≡ ((o >>= λ a. after s a.rest >>= λ us. found a.tree us a.left) >>= λ a. g a.tree a.rest a.left)) [
-  | None ↦ refl
-  | Some a ↦ elim (after s a.rest) as (λ o. (o >>= λ us. g a.tree us a.left) ≡ ((o >>= λ us. found a.tree us a.left) >>= λ a. g a.tree a.rest a.left)) [ None ↦ refl | Some us ↦ refl ]
-]
+closing_then : (s : Symbol) (o : Option Found) (g : Tree → List Lexeme → ℕ → Option Found) → (o >>= λ a. after s a.rest >>= λ us. g a.tree us a.left) ≡ (closing s o >>= λ a. g a.tree a.rest a.left)
+closing_then s None g = refl
+closing_then s (Some a) g = elim (after s a.rest) as (λ o. (o >>= λ us. g a.tree us a.left) ≡ ((o >>= λ us. found a.tree us a.left) >>= λ a. g a.tree a.rest a.left)) [ None ↦ refl | Some us ↦ refl ]
 
 -- ---- choices
 
@@ -103,53 +106,51 @@ condition_fails d ts p h = read_whole d ts p ∙ bind_none _ _ h
 pub only_condition : (d : ℕ) (ts : List Lexeme) (p : ℕ) (e : Tree) (us : List Lexeme) (q : ℕ) → read (Joined tier.Or) d ts p ≡ found e us q → after tok.Question us ≡ None → read Whole d ts p ≡ found e us q
 only_condition d ts p e us q h n = read_whole d ts p ∙ bind_is _ _ (λ a. pick_on a.tree d a.rest a.left) h ∙ pick_on_is e d us q ∙ no_way _ _ _ n
 
-arms_begin : (d : ℕ) (ts : List Lexeme) (p : ℕ) (e : Tree) (us : List Lexeme) (q : ℕ) (vs : List Lexeme) → read (Joined tier.Or) d ts p ≡ found e us q → after tok.Question us ≡ Some vs → read Whole d ts p ≡ spend d (λ d. spend q (λ p. read Whole d vs p >>= λ a. after tok.Colon a.rest >>= λ us. read Whole d us a.left >>= λ b. found (choice e a.tree b.tree) b.rest b.left))
+pub arms_begin : (d : ℕ) (ts : List Lexeme) (p : ℕ) (e : Tree) (us : List Lexeme) (q : ℕ) (vs : List Lexeme) → read (Joined tier.Or) d ts p ≡ found e us q → after tok.Question us ≡ Some vs → read Whole d ts p ≡ arms_at e d vs q
 arms_begin d ts p e us q vs h n = read_whole d ts p ∙ bind_is _ _ (λ a. pick_on a.tree d a.rest a.left) h ∙ pick_on_is e d us q ∙ one_way _ vs _ _ n ∙ arm_on_is e d vs q
 
-pub choice_is : (d : ℕ) (ts : List Lexeme) (p : ℕ) (e : Tree) (us : List Lexeme) (q : ℕ) (vs : List Lexeme) (o : Option Found) → read (Joined tier.Or) d ts p ≡ found e us q → after tok.Question us ≡ Some vs → arms_at e d vs q ≡ o → read Whole d ts p ≡ o
-choice_is d ts p e us q vs o h n k = arms_begin d ts p e us q vs h n ∙ k
+abbrev arms_in : Tree → List Lexeme → ℕ → ℕ → Option Found
+arms_in e ts d p = read Whole d ts p >>= λ a. after tok.Colon a.rest >>= λ us. read Whole d us a.left >>= λ b. found (choice e a.tree b.tree) b.rest b.left
 
-pub arms_first : (d : ℕ) (ts : List Lexeme) (p c q : ℕ) (o : Option Found) (e : Tree) → d ≡ suc c → p ≡ suc q → read_before tok.Colon c ts q ≡ o → arms_at e d ts p ≡ (o >>= λ a. read Whole c a.rest a.left >>= λ b. found (choice e a.tree b.tree) b.rest b.left)
-arms_first d ts p c q o e x y h = spend_one d c _ x ∙ spend_one p q _ y ∙ before_then tok.Colon c ts q (λ a us r. read Whole c us r >>= λ b. found (choice e a b.tree) b.rest b.left) ∙ bind_is _ o _ h
+pub arms_fail : (d : ℕ) (ts : List Lexeme) (p : ℕ) (e : Tree) → inside d p ≡ None → arms_at e d ts p ≡ None
+arms_fail d ts p e h = inside_is d p (arms_in e ts) None h
 
-pub arms_second : (d : ℕ) (ts : List Lexeme) (p c q : ℕ) (a : Tree) (us : List Lexeme) (r : ℕ) (o : Option Found) (e : Tree) → d ≡ suc c → p ≡ suc q → read_before tok.Colon c ts q ≡ found a us r → read Whole c us r ≡ o → arms_at e d ts p ≡ (o >>= λ b. found (choice e a b.tree) b.rest b.left)
-arms_second d ts p c q a us r o e x y h k = arms_first d ts p c q (found a us r) e x y h ∙ bind_is _ o _ k
+pub arms_first : (d : ℕ) (ts : List Lexeme) (p c q : ℕ) (o : Option Found) (e : Tree) → inside d p ≡ Some (c, q) → closing tok.Colon (read Whole c ts q) ≡ o → arms_at e d ts p ≡ (o >>= λ a. read Whole c a.rest a.left >>= λ b. found (choice e a.tree b.tree) b.rest b.left)
+arms_first d ts p c q o e x h = inside_is d p (arms_in e ts) (Some (c, q)) x ∙ closing_then tok.Colon (read Whole c ts q) (λ a us r. read Whole c us r >>= λ b. found (choice e a b.tree) b.rest b.left) ∙ bind_is _ o _ h
 
 -- ---- operators between operands
 
-pub left_fails : (k : Precedence) (d : ℕ) (ts : List Lexeme) (p : ℕ) → read (tighter k) d ts p ≡ None → read (Joined k) d ts p ≡ None
-left_fails k d ts p h = read_joined k d ts p ∙ bind_none _ _ h
+pub left_fails : (k : Precedence) (l : Level) (d : ℕ) (ts : List Lexeme) (p : ℕ) → l ≡ tighter k → read l d ts p ≡ None → read (Joined k) d ts p ≡ None
+left_fails k l d ts p z h = read_joined k d ts p ∙ bind_none _ _ (ap (λ l. read l d ts p) (sym z) ∙ h)
 
-pub join_start : (k : Precedence) (d : ℕ) (ts : List Lexeme) (p : ℕ) (e : Tree) (us : List Lexeme) (q : ℕ) → read (tighter k) d ts p ≡ found e us q → read (Joined k) d ts p ≡ join_on k e d us q
-join_start k d ts p e us q h = read_joined k d ts p ∙ bind_is _ _ (λ a. join_on k a.tree d a.rest a.left) h
+pub join_start : (k : Precedence) (l : Level) (d : ℕ) (ts : List Lexeme) (p : ℕ) (e : Tree) (us : List Lexeme) (q : ℕ) → l ≡ tighter k → read l d ts p ≡ found e us q → read (Joined k) d ts p ≡ join_on k e d us q
+join_start k l d ts p e us q z h = read_joined k d ts p ∙ bind_is _ (found e us q) (λ a. join_on k a.tree d a.rest a.left) (ap (λ l. read l d ts p) (sym z) ∙ h)
 
 pub join_end : (k : Precedence) (r : Option Found) (e : Tree) (d : ℕ) (us : List Lexeme) (q : ℕ) → r ≡ join_on k e d us q → operator_at k us ≡ None → r ≡ found e us q
 join_end k r e d us q h n = h ∙ join_on_is k e d us q ∙ no_way _ _ _ n
 
-pub join_too_many : (k : Precedence) (r : Option Found) (e : Tree) (d : ℕ) (us : List Lexeme) (q : ℕ) (op : Infix) (vs : List Lexeme) → r ≡ join_on k e d us q → operator_at k us ≡ next op vs → q ≡ 0 → r ≡ None
-join_too_many k r e d us q op vs h n z = h ∙ join_on_is k e d us q ∙ one_way _ (record { what = op; behind = vs }) _ _ n ∙ spend_zero q _ z
+join_flow : (q : ℕ) (r : ℕ → Option Found) (f : Tree → Tree) (g : Tree → List Lexeme → ℕ → Option Found) → spend q (λ p. r p >>= λ a. g (f a.tree) a.rest a.left) ≡ (with_tree f (spend q r) >>= λ a. g a.tree a.rest a.left)
+join_flow zero r f g = refl
+join_flow (suc q) r f g = elim (r q) as (λ o. (o >>= λ a. g (f a.tree) a.rest a.left) ≡ (with_tree f o >>= λ a. g a.tree a.rest a.left)) [ None ↦ refl | Some a ↦ refl ]
 
-pub join_step : (k : Precedence) (r : Option Found) (e : Tree) (d : ℕ) (us : List Lexeme) (q : ℕ) (op : Infix) (vs : List Lexeme) (s : ℕ) (o : Option Found) → r ≡ join_on k e d us q → operator_at k us ≡ next op vs → q ≡ suc s → read (tighter k) d vs s ≡ o → r ≡ (o >>= λ a. join_on k (join_tree op e a.tree) d a.rest a.left)
-join_step k r e d us q op vs s o h n x i = h ∙ join_on_is k e d us q ∙ one_way _ (record { what = op; behind = vs }) _ _ n ∙ spend_one q s _ x ∙ bind_is _ o _ i
+pub join_step : (k : Precedence) (l : Level) (r : Option Found) (e : Tree) (d : ℕ) (us : List Lexeme) (q : ℕ) (op : Infix) (vs : List Lexeme) (o : Option Found) → l ≡ tighter k → r ≡ join_on k e d us q → operator_at k us ≡ next op vs → with_tree (λ b. join_tree op e b) (right_at l d vs q) ≡ o → r ≡ (o >>= λ a. join_on k a.tree d a.rest a.left)
+join_step k l r e d us q op vs o z h n i = h ∙ join_on_is k e d us q ∙ one_way _ (record { what = op; behind = vs }) _ _ n
+    ∙ join_flow q (λ p. read (tighter k) d vs p) (λ b. join_tree op e b) (λ a ts p. join_on k a d ts p)
+    ∙ bind_is _ o _ (ap (λ l. with_tree (λ b. join_tree op e b) (right_at l d vs q)) (sym z) ∙ i)
 
 -- ---- not
 
 pub not_here : (d : ℕ) (ts : List Lexeme) (p : ℕ) (o : Option Found) → after tok.Not ts ≡ None → read Comparison d ts p ≡ o → read Negation d ts p ≡ o
 not_here d ts p o n h = read_negation d ts p ∙ no_way _ _ _ n ∙ h
 
-not_begins : (d : ℕ) (ts : List Lexeme) (p : ℕ) (us : List Lexeme) → after tok.Not ts ≡ Some us → read Negation d ts p ≡ spend d (λ d. spend p (λ p. read Negation d us p >>= λ a. found (unary unaries.Not a.tree) a.rest a.left))
-not_begins d ts p us n = read_negation d ts p ∙ one_way _ us _ _ n ∙ negate_on_is d us p
-
-pub not_too_deep : (d : ℕ) (ts : List Lexeme) (p : ℕ) (us : List Lexeme) → after tok.Not ts ≡ Some us → d ≡ 0 → read Negation d ts p ≡ None
-not_too_deep d ts p us n z = not_begins d ts p us n ∙ spend_zero d _ z
-
-pub not_too_many : (d : ℕ) (ts : List Lexeme) (p : ℕ) (us : List Lexeme) → after tok.Not ts ≡ Some us → p ≡ 0 → read Negation d ts p ≡ None
-not_too_many d ts p us n z = not_begins d ts p us n ∙ spend_inner d p _ z
-
-pub not_step : (d : ℕ) (ts : List Lexeme) (p : ℕ) (us : List Lexeme) (c q : ℕ) (o : Option Found) → after tok.Not ts ≡ Some us → d ≡ suc c → p ≡ suc q → read Negation c us q ≡ o → read Negation d ts p ≡ (o >>= λ a. found (unary unaries.Not a.tree) a.rest a.left)
-not_step d ts p us c q o n x y h = not_begins d ts p us n ∙ spend_one d c _ x ∙ spend_one p q _ y ∙ bind_is _ o _ h
+pub not_enters : (d : ℕ) (ts : List Lexeme) (p : ℕ) (us : List Lexeme) (o : Option (ℕ × ℕ)) → after tok.Not ts ≡ Some us → inside d p ≡ o → read Negation d ts p ≡ (o >>= λ x. read Negation x.0 us x.1 >>= λ a. found (unary unaries.Not a.tree) a.rest a.left)
+not_enters d ts p us o n h = read_negation d ts p ∙ one_way _ us _ _ n ∙ negate_on_is d us p ∙ inside_is d p (λ d p. read Negation d us p >>= λ a. found (unary unaries.Not a.tree) a.rest a.left) o h
 
 -- ---- comparisons
+
+spend_with : (q : ℕ) (r : ℕ → Option Found) (f : Tree → Tree) → spend q (λ p. with_tree f (r p)) ≡ with_tree f (spend q r)
+spend_with zero r f = refl
+spend_with (suc q) r f = refl
 
 pub compare_fails : (d : ℕ) (ts : List Lexeme) (p : ℕ) → read (Joined tier.BitOr) d ts p ≡ None → read Comparison d ts p ≡ None
 compare_fails d ts p h = read_comparison d ts p ∙ bind_none _ _ h
@@ -157,31 +158,17 @@ compare_fails d ts p h = read_comparison d ts p ∙ bind_none _ _ h
 pub compare_only : (d : ℕ) (ts : List Lexeme) (p : ℕ) (e : Tree) (us : List Lexeme) (q : ℕ) → read (Joined tier.BitOr) d ts p ≡ found e us q → comparison_at us ≡ None → read Comparison d ts p ≡ found e us q
 compare_only d ts p e us q h n = read_comparison d ts p ∙ bind_is _ _ (λ a. compare_on a.tree d a.rest a.left) h ∙ compare_on_is e d us q ∙ no_way _ _ _ n
 
-compare_begins : (d : ℕ) (ts : List Lexeme) (p : ℕ) (e : Tree) (us : List Lexeme) (q : ℕ) (op : BinaryOperator) (vs : List Lexeme) → read (Joined tier.BitOr) d ts p ≡ found e us q → comparison_at us ≡ next op vs → read Comparison d ts p ≡ spend q (λ p. read (Joined tier.BitOr) d vs p >>= λ a. found (binary op e a.tree) a.rest a.left)
-compare_begins d ts p e us q op vs h n = read_comparison d ts p ∙ bind_is _ _ (λ a. compare_on a.tree d a.rest a.left) h ∙ compare_on_is e d us q ∙ one_way _ (record { what = op; behind = vs }) _ _ n
-
-pub compare_too_many : (d : ℕ) (ts : List Lexeme) (p : ℕ) (e : Tree) (us : List Lexeme) (q : ℕ) (op : BinaryOperator) (vs : List Lexeme) → read (Joined tier.BitOr) d ts p ≡ found e us q → comparison_at us ≡ next op vs → q ≡ 0 → read Comparison d ts p ≡ None
-compare_too_many d ts p e us q op vs h n z = compare_begins d ts p e us q op vs h n ∙ spend_zero q _ z
-
-pub compare_step : (d : ℕ) (ts : List Lexeme) (p : ℕ) (e : Tree) (us : List Lexeme) (q : ℕ) (op : BinaryOperator) (vs : List Lexeme) (s : ℕ) (o : Option Found) → read (Joined tier.BitOr) d ts p ≡ found e us q → comparison_at us ≡ next op vs → q ≡ suc s → read (Joined tier.BitOr) d vs s ≡ o → read Comparison d ts p ≡ (o >>= λ a. found (binary op e a.tree) a.rest a.left)
-compare_step d ts p e us q op vs s o h n x i = compare_begins d ts p e us q op vs h n ∙ spend_one q s _ x ∙ bind_is _ o _ i
+pub compare_step : (d : ℕ) (ts : List Lexeme) (p : ℕ) (e : Tree) (us : List Lexeme) (q : ℕ) (op : BinaryOperator) (vs : List Lexeme) → read (Joined tier.BitOr) d ts p ≡ found e us q → comparison_at us ≡ next op vs → read Comparison d ts p ≡ with_tree (λ b. join_tree (infixes.Binary op) e b) (right_at (Joined tier.BitOr) d vs q)
+compare_step d ts p e us q op vs h n = read_comparison d ts p ∙ bind_is _ _ (λ a. compare_on a.tree d a.rest a.left) h ∙ compare_on_is e d us q ∙ one_way _ (record { what = op; behind = vs }) _ _ n
+    ∙ spend_with q (λ p. read (Joined tier.BitOr) d vs p) (λ b. binary op e b)
 
 -- ---- operators in front
 
 pub prefix_here : (d : ℕ) (ts : List Lexeme) (p : ℕ) (o : Option Found) → prefix_at ts ≡ None → read Postfix d ts p ≡ o → read Prefix d ts p ≡ o
 prefix_here d ts p o n h = read_prefix d ts p ∙ no_way _ _ _ n ∙ h
 
-prefix_begins : (d : ℕ) (ts : List Lexeme) (p : ℕ) (op : UnaryOperator) (us : List Lexeme) → prefix_at ts ≡ next op us → read Prefix d ts p ≡ spend d (λ d. spend p (λ p. read Prefix d us p >>= λ a. found (unary op a.tree) a.rest a.left))
-prefix_begins d ts p op us n = read_prefix d ts p ∙ one_way _ (record { what = op; behind = us }) _ _ n ∙ prefix_on_is op d us p
-
-pub prefix_too_deep : (d : ℕ) (ts : List Lexeme) (p : ℕ) (op : UnaryOperator) (us : List Lexeme) → prefix_at ts ≡ next op us → d ≡ 0 → read Prefix d ts p ≡ None
-prefix_too_deep d ts p op us n z = prefix_begins d ts p op us n ∙ spend_zero d _ z
-
-pub prefix_too_many : (d : ℕ) (ts : List Lexeme) (p : ℕ) (op : UnaryOperator) (us : List Lexeme) → prefix_at ts ≡ next op us → p ≡ 0 → read Prefix d ts p ≡ None
-prefix_too_many d ts p op us n z = prefix_begins d ts p op us n ∙ spend_inner d p _ z
-
-pub prefix_step : (d : ℕ) (ts : List Lexeme) (p : ℕ) (op : UnaryOperator) (us : List Lexeme) (c q : ℕ) (o : Option Found) → prefix_at ts ≡ next op us → d ≡ suc c → p ≡ suc q → read Prefix c us q ≡ o → read Prefix d ts p ≡ (o >>= λ a. found (unary op a.tree) a.rest a.left)
-prefix_step d ts p op us c q o n x y h = prefix_begins d ts p op us n ∙ spend_one d c _ x ∙ spend_one p q _ y ∙ bind_is _ o _ h
+pub prefix_enters : (d : ℕ) (ts : List Lexeme) (p : ℕ) (op : UnaryOperator) (us : List Lexeme) (o : Option (ℕ × ℕ)) → prefix_at ts ≡ next op us → inside d p ≡ o → read Prefix d ts p ≡ (o >>= λ x. read Prefix x.0 us x.1 >>= λ a. found (unary op a.tree) a.rest a.left)
+prefix_enters d ts p op us o n h = read_prefix d ts p ∙ one_way _ (record { what = op; behind = us }) _ _ n ∙ prefix_on_is op d us p ∙ inside_is d p (λ d p. read Prefix d us p >>= λ a. found (unary op a.tree) a.rest a.left) o h
 
 -- ---- what goes on with a postfix expression
 
@@ -194,43 +181,35 @@ suffix_start d ts p e us q h = read_postfix d ts p ∙ bind_is _ _ (λ a. suffix
 pub suffix_end : (r : Option Found) (e : Tree) (d : ℕ) (us : List Lexeme) (q : ℕ) → r ≡ suffix_on e d us q → (after tok.Dot us ≡ None) × (after tok.OpenBracket us ≡ None) → r ≡ found e us q
 suffix_end r e d us q h n = h ∙ suffix_on_is e d us q ∙ no_way _ _ _ n.0 ∙ no_way _ _ _ n.1
 
+-- what no call is, after a dot
+pub member_is : (e : Tree) (d : ℕ) (ts : List Lexeme) (p : ℕ) → IsNoCall ts → select_on e d ts p ≡ member_at e ts p
+member_is e d [] zero n = select_end e d zero
+member_is e d [] (suc p) n = select_end e d (suc p)
+member_is e d (constant c ∷ ts) zero n = select_constant e d ts zero c
+member_is e d (constant c ∷ ts) (suc p) n = select_constant e d ts (suc p) c
+member_is e d (word w ∷ ts) p n = select_word e d w ts p ∙ spend_same p _ _ (λ p. no_way _ _ _ (n w ts refl))
+member_is e d (symbol s ∷ ts) p n = select_symbol e d s ts p
+
+pub member_cast : (e : Tree) (ts : List Lexeme) (p : ℕ) → ((w : List ℕ) (rest : List Lexeme) → ts ≢ word w ∷ rest) → member_on e ts p ≡ cast_at e ts p
+member_cast e [] p n = refl
+member_cast e (constant c ∷ ts) p n = refl
+member_cast e (word w ∷ ts) p n = absurd (n w ts refl)
+member_cast e (symbol s ∷ ts) p n = refl
+
+place_in : (o : Option (ℕ × ℕ)) (e : Tree) (ts : List Lexeme) → (o >>= λ x. read Whole x.0 ts x.1 >>= λ a. after tok.CloseBracket a.rest >>= λ us. found (index e a.tree) us a.left) ≡ with_tree (λ i. index e i) (o >>= λ x. closing tok.CloseBracket (read Whole x.0 ts x.1))
+place_in None e ts = refl
+place_in (Some x) e ts = closing_then tok.CloseBracket (read Whole x.0 ts x.1) (λ a us r. found (index e a) us r)
+
+place_is : (e : Tree) (d : ℕ) (ts : List Lexeme) (p : ℕ) → place_on e d ts p ≡ with_tree (λ i. index e i) (place_at d ts p)
+place_is e d ts p = place_on_is e d ts p ∙ inside_is d p (λ d p. read Whole d ts p >>= λ a. after tok.CloseBracket a.rest >>= λ us. found (index e a.tree) us a.left) (inside d p) refl ∙ place_in (inside d p) e ts
+
+call_is : (e : Tree) (w : List ℕ) (d : ℕ) (ts : List Lexeme) (p : ℕ) → spend p (λ p. spend d (λ d. read_list d ts p >>= λ a. found (call e w a.arguments) a.rest a.left)) ≡ with_list (λ es. call e w es) (list_at d ts p)
+call_is e w d ts p = inside_swapped d p (λ d p. read_list d ts p >>= λ a. found (call e w a.arguments) a.rest a.left) (inside d p) refl ∙ bind_both (inside d p) (λ x. read_list x.0 ts x.1) (λ a. found (call e w a.arguments) a.rest a.left)
+
 pub suffix_go : (o : Opening) (r : Option Found) (e : Tree) (d : ℕ) (us : List Lexeme) (q : ℕ) (vs : List Lexeme) (s : Option Found) → r ≡ suffix_on e d us q → OpensWith o us vs → suffix_step o e d vs q ≡ s → r ≡ (s >>= λ a. suffix_on a.tree d a.rest a.left)
-suffix_go openings.Dot r e d us q vs s h n k = h ∙ suffix_on_is e d us q ∙ one_way _ vs _ _ n ∙ bind_is _ s _ k
-suffix_go openings.Bracket r e d us q vs s h n k = h ∙ suffix_on_is e d us q ∙ no_way _ _ _ n.0 ∙ one_way _ vs _ _ n.1 ∙ bind_is _ s _ k
-
-select_too_many : (e : Tree) (d : ℕ) (ts : List Lexeme) (p : ℕ) → p ≡ 0 → select_on e d ts p ≡ None
-select_too_many e d [] p h = select_end e d p
-select_too_many e d (constant c ∷ ts) p h = select_constant e d ts p c
-select_too_many e d (word w ∷ ts) p h = select_word e d w ts p ∙ spend_zero p _ h
-select_too_many e d (symbol s ∷ ts) p h = select_symbol e d s ts p ∙ spend_zero p _ h
-
-pub suffix_too_many : (o : Opening) (e : Tree) (d : ℕ) (ts : List Lexeme) (p : ℕ) → p ≡ 0 → suffix_step o e d ts p ≡ None
-suffix_too_many openings.Dot e d ts p h = select_too_many e d ts p h
-suffix_too_many openings.Bracket e d ts p h = place_on_is e d ts p ∙ spend_inner d p _ h
-
-pub place_too_deep : (e : Tree) (d : ℕ) (ts : List Lexeme) (p : ℕ) → d ≡ 0 → place_on e d ts p ≡ None
-place_too_deep e d ts p h = place_on_is e d ts p ∙ spend_zero d _ h
-
-pub place_step : (e : Tree) (d : ℕ) (ts : List Lexeme) (p : ℕ) (c q : ℕ) (o : Option Found) → d ≡ suc c → p ≡ suc q → read_before tok.CloseBracket c ts q ≡ o → place_on e d ts p ≡ (o >>= λ a. found (index e a.tree) a.rest a.left)
-place_step e d ts p c q o x y h = place_on_is e d ts p ∙ spend_one d c _ x ∙ spend_one p q _ y ∙ before_then tok.CloseBracket c ts q (λ a us r. found (index e a) us r) ∙ bind_is _ o _ h
-
-pub select_cast : (e : Tree) (d : ℕ) (ts : List Lexeme) (p : ℕ) (o : Option Found) → ((w : List ℕ) (rest : List Lexeme) → ts ≢ word w ∷ rest) → cast_at e ts p ≡ o → select_on e d ts (suc p) ≡ o
-select_cast e d [] p o n h = select_end e d (suc p) ∙ h
-select_cast e d (constant c ∷ ts) p o n h = select_constant e d ts (suc p) c ∙ h
-select_cast e d (word w ∷ ts) p o n h = absurd (n w ts refl)
-select_cast e d (symbol s ∷ ts) p o n h = select_symbol e d s ts (suc p) ∙ h
-
-select_begins : (e : Tree) (d : ℕ) (ts : List Lexeme) (p : ℕ) (w : List ℕ) (us : List Lexeme) → ts ≡ word w ∷ us → select_on e d ts (suc p) ≡ choose (after tok.OpenParenthesis us) (found (select_tree e w) us p) (λ vs. spend d (λ d. read_list d vs p >>= λ a. found (call e w a.arguments) a.rest a.left))
-select_begins e d ts p w us z = ap (λ ts. select_on e d ts (suc p)) z ∙ select_word e d w us (suc p)
-
-pub select_name : (e : Tree) (d : ℕ) (ts : List Lexeme) (p : ℕ) (w : List ℕ) (us : List Lexeme) → ts ≡ word w ∷ us → after tok.OpenParenthesis us ≡ None → select_on e d ts (suc p) ≡ found (select_tree e w) us p
-select_name e d ts p w us z n = select_begins e d ts p w us z ∙ no_way _ _ _ n
-
-pub call_too_deep : (e : Tree) (d : ℕ) (ts : List Lexeme) (p : ℕ) (w : List ℕ) (us vs : List Lexeme) → ts ≡ word w ∷ us → after tok.OpenParenthesis us ≡ Some vs → d ≡ 0 → select_on e d ts (suc p) ≡ None
-call_too_deep e d ts p w us vs z n h = select_begins e d ts p w us z ∙ one_way _ vs _ _ n ∙ spend_zero d _ h
-
-pub call_step : (e : Tree) (d : ℕ) (ts : List Lexeme) (p : ℕ) (w : List ℕ) (us vs : List Lexeme) (c : ℕ) (o : Option FoundList) → ts ≡ word w ∷ us → after tok.OpenParenthesis us ≡ Some vs → d ≡ suc c → read_list c vs p ≡ o → select_on e d ts (suc p) ≡ (o >>= λ a. found (call e w a.arguments) a.rest a.left)
-call_step e d ts p w us vs c o z n x h = select_begins e d ts p w us z ∙ one_way _ vs _ _ n ∙ spend_one d c _ x ∙ bind_is _ o _ h
+suffix_go openings.Member r e d us q vs s h n k = h ∙ suffix_on_is e d us q ∙ one_way _ vs _ _ n.0 ∙ bind_is _ s _ (member_is e d vs q n.1 ∙ k)
+suffix_go (openings.Call text from) r e d us q vs s h n k = h ∙ suffix_on_is e d us q ∙ one_way _ (word text.now ∷ lexemes from.now) _ _ n.0 ∙ bind_is _ s _ (select_word e d text.now (lexemes from.now) q ∙ spend_same q _ _ (λ p. one_way _ vs _ _ n.1) ∙ call_is e text.now d vs q ∙ k)
+suffix_go openings.Place r e d us q vs s h n k = h ∙ suffix_on_is e d us q ∙ no_way _ _ _ n.0 ∙ one_way _ vs _ _ n.1 ∙ bind_is _ s _ (place_is e d vs q ∙ k)
 
 -- ---- arguments
 
@@ -280,44 +259,40 @@ list_goes_on {d} {done = done} {all} e vs r ws n h x z = record {
 pub nothing_here : (d : ℕ) (ts : List Lexeme) (p : ℕ) → ts ≡ [] → read Primary d ts p ≡ None
 nothing_here d ts p z = ap (λ ts. read Primary d ts p) z ∙ primary_end d p
 
-pub literal_too_many : (d : ℕ) (ts : List Lexeme) (p : ℕ) (c : Constant) (us : List Lexeme) → ts ≡ constant c ∷ us → p ≡ 0 → read Primary d ts p ≡ None
-literal_too_many d ts p c us z h = ap (λ ts. read Primary d ts p) z ∙ primary_constant d us p c ∙ spend_zero p _ h
+pub primary_literal : (d : ℕ) (ts : List Lexeme) (p : ℕ) (c : Constant) (us : List Lexeme) → ts ≡ constant c ∷ us → read Primary d ts p ≡ literal_at c us p
+primary_literal d ts p c us z = ap (λ ts. read Primary d ts p) z ∙ primary_constant d us p c
 
-pub literal_is : (d : ℕ) (ts : List Lexeme) (p : ℕ) (c : Constant) (us : List Lexeme) (q : ℕ) → ts ≡ constant c ∷ us → p ≡ suc q → read Primary d ts p ≡ found (literal c) us q
-literal_is d ts p c us q z x = ap (λ ts. read Primary d ts p) z ∙ primary_constant d us p c ∙ spend_one p q _ x
-
-word_begins : (d : ℕ) (ts : List Lexeme) (p : ℕ) (w : List ℕ) (us : List Lexeme) (b : Bool) → ts ≡ word w ∷ us → is_left_out w ≡ b → read Primary d ts p ≡ (if b then None else (path_at ts >>= λ x. spend p (λ p. found (path_tree x.what) x.behind p)))
-word_begins d ts p w us b z h = ap (λ ts. read Primary d ts p) z ∙ primary_word d w us p
-    ∙ ap (λ b. if b then None else (path_on w us >>= λ x. spend p (λ p. found (path_tree x.what) x.behind p))) h
-    ∙ ap (λ ts. if b then None else (path_at ts >>= λ x. spend p (λ p. found (path_tree x.what) x.behind p))) (sym z)
-
-pub word_left_out : (d : ℕ) (ts : List Lexeme) (p : ℕ) (w : List ℕ) (us : List Lexeme) → ts ≡ word w ∷ us → is_left_out w ≡ true → read Primary d ts p ≡ None
-word_left_out d ts p w us z h = word_begins d ts p w us true z h
+pub primary_name : (d : ℕ) (ts : List Lexeme) (p : ℕ) (w : List ℕ) (us : List Lexeme) → ts ≡ word w ∷ us → read Primary d ts p ≡ word_at w ts p
+primary_name d ts p w us z = ap (λ ts. read Primary d ts p) z ∙ primary_word d w us p
+    ∙ ap (λ ts. if is_left_out w then None else (path_at ts >>= λ x. spend p (λ p. found (path_tree x.what) x.behind p))) (sym z)
 
 all_none : {A B : Type 0} (r : Option A) (f : A → Option B) → ((a : A) → f a ≡ None) → (r >>= f) ≡ None
 all_none None f h = refl
 all_none (Some a) f h = h a
 
-pub word_too_many : (d : ℕ) (ts : List Lexeme) (p : ℕ) (w : List ℕ) (us : List Lexeme) → ts ≡ word w ∷ us → is_left_out w ≡ false → p ≡ 0 → read Primary d ts p ≡ None
-word_too_many d ts p w us z h n = word_begins d ts p w us false z h ∙ all_none (path_at ts) _ (λ x. spend_zero p _ n)
+word_allowed : (w : List ℕ) (b : Bool) (ts : List Lexeme) (p : ℕ) → is_left_out w ≡ b → word_at w ts p ≡ (if b then None else (path_at ts >>= λ x. spend p (λ p. found (path_tree x.what) x.behind p)))
+word_allowed w b ts p h = ap (λ b. if b then None else (path_at ts >>= λ x. spend p (λ p. found (path_tree x.what) x.behind p))) h
 
-pub word_fails : (d : ℕ) (ts : List Lexeme) (p : ℕ) (w : List ℕ) (us : List Lexeme) → ts ≡ word w ∷ us → is_left_out w ≡ false → path_at ts ≡ None → read Primary d ts p ≡ None
-word_fails d ts p w us z h n = word_begins d ts p w us false z h ∙ bind_none (path_at ts) _ n
+pub word_left_out : (w : List ℕ) (ts : List Lexeme) (p : ℕ) → is_left_out w ≡ true → word_at w ts p ≡ None
+word_left_out w ts p h = word_allowed w true ts p h
 
-pub word_is : (d : ℕ) (ts : List Lexeme) (p : ℕ) (w : List ℕ) (us : List Lexeme) (q : ℕ) (ws : List (List ℕ)) (vs : List Lexeme) → ts ≡ word w ∷ us → is_left_out w ≡ false → p ≡ suc q → path_at ts ≡ next ws vs → read Primary d ts p ≡ found (path_tree ws) vs q
-word_is d ts p w us q ws vs z h x n = word_begins d ts p w us false z h ∙ bind_is (path_at ts) (next ws vs) _ n ∙ spend_one p q _ x
+pub word_too_many : (w : List ℕ) (ts : List Lexeme) (p : ℕ) → is_left_out w ≡ false → p ≡ 0 → word_at w ts p ≡ None
+word_too_many w ts p h n = word_allowed w false ts p h ∙ all_none (path_at ts) _ (λ x. spend_zero p _ n)
 
-pub symbol_fails : (d : ℕ) (ts : List Lexeme) (p : ℕ) (s : Symbol) (us : List Lexeme) → ts ≡ symbol s ∷ us → after tok.OpenParenthesis ts ≡ None → read Primary d ts p ≡ None
-symbol_fails d ts p s us z n = ap (λ ts. read Primary d ts p) z ∙ primary_symbol d s us p ∙ bind_none _ _ (ap (after tok.OpenParenthesis) (sym z) ∙ n)
+pub word_is : (w : List ℕ) (ts : List Lexeme) (p q : ℕ) (o : Option (Next (List (List ℕ)))) → is_left_out w ≡ false → p ≡ suc q → path_at ts ≡ o → word_at w ts p ≡ (o >>= λ x. found (path_tree x.what) x.behind q)
+word_is w ts p q o h x n = word_allowed w false ts p h ∙ bind_is (path_at ts) o _ n
+    ∙ elim o as (λ o. (o >>= λ x. spend p (λ p. found (path_tree x.what) x.behind p)) ≡ (o >>= λ x. found (path_tree x.what) x.behind q)) [ None ↦ refl | Some a ↦ spend_one p q _ x ]
 
-group_begins : (d : ℕ) (ts : List Lexeme) (p : ℕ) (us : List Lexeme) → after tok.OpenParenthesis ts ≡ Some us → read Primary d ts p ≡ spend d (λ d. read Whole d us p >>= λ a. after tok.CloseParenthesis a.rest >>= λ us. found a.tree us a.left)
-group_begins d ts p us n = ap (λ ts. read Primary d ts p) (after_some tok.OpenParenthesis ts us n) ∙ primary_symbol d tok.OpenParenthesis us p ∙ group_on_is d us p
+group_in : (d : ℕ) (us : List Lexeme) (p : ℕ) → spend d (λ d. closing tok.CloseParenthesis (read Whole d us p)) ≡ (spend d (λ d. next d us) >>= λ x. closing tok.CloseParenthesis (read Whole x.what x.behind p))
+group_in zero us p = refl
+group_in (suc d) us p = refl
 
-pub group_too_deep : (d : ℕ) (ts : List Lexeme) (p : ℕ) (us : List Lexeme) → after tok.OpenParenthesis ts ≡ Some us → d ≡ 0 → read Primary d ts p ≡ None
-group_too_deep d ts p us n h = group_begins d ts p us n ∙ spend_zero d _ h
+group_all : (o : Option (List Lexeme)) (d p : ℕ) → (o >>= λ us. group_on d us p) ≡ ((o >>= λ us. spend d (λ d. next d us)) >>= λ x. closing tok.CloseParenthesis (read Whole x.what x.behind p))
+group_all None d p = refl
+group_all (Some us) d p = group_on_is d us p ∙ group_in d us p
 
-pub group_is : (d : ℕ) (ts : List Lexeme) (p : ℕ) (us : List Lexeme) (c : ℕ) (o : Option Found) → after tok.OpenParenthesis ts ≡ Some us → d ≡ suc c → read_before tok.CloseParenthesis c us p ≡ o → read Primary d ts p ≡ o
-group_is d ts p us c o n x h = group_begins d ts p us n ∙ spend_one d c _ x ∙ h
+pub group_is : (d : ℕ) (ts : List Lexeme) (p : ℕ) (s : Symbol) (us : List Lexeme) (o : Option (Next ℕ)) → ts ≡ symbol s ∷ us → opened d ts ≡ o → read Primary d ts p ≡ (o >>= λ x. closing tok.CloseParenthesis (read Whole x.what x.behind p))
+group_is d ts p s us o z h = ap (λ ts. read Primary d ts p) z ∙ primary_symbol d s us p ∙ ap (λ ts. after tok.OpenParenthesis ts >>= λ us. group_on d us p) (sym z) ∙ group_all (after tok.OpenParenthesis ts) d p ∙ bind_is (opened d ts) o _ h
 
 -- ---- tokens as the code holds them
 
@@ -331,13 +306,32 @@ pub moved_cons : (ts : List Lexeme) (v : Lexeme) (xs ys : List Placed) → ts �
 moved_cons ts v xs ys h e = h ∙ ap (λ ts. v ∷ lexemes ts) (sym e)
 
 -- what a callee's result says of its caller's
-pub gives_on : (l m : Level) (d : ℕ) (ts : List Lexeme) (p : ℕ) (r : Result (Expr × Rest) ExprFault) → ((o : Option Found) → read l d ts p ≡ o → read m d ts p ≡ o) → Gives l d ts p r → Gives m d ts p r
-gives_on l m d ts p (Ok x) f h = f _ h
-gives_on l m d ts p (Err e) f h = λ n. f None (h n)
+pub gives_is : (o u : Option Found) (r : Result (Expr × Rest) ExprFault) → u ≡ o → Gives o r → Gives u r
+gives_is o u (Ok x) h g = h ∙ g
+gives_is o u (Err e) h g = λ n. h ∙ g n
 
-pub gives_cast : (e : Tree) (d : ℕ) (ts : List Lexeme) (p : ℕ) (r : Result (Expr × Rest) ExprFault) → ((w : List ℕ) (rest : List Lexeme) → ts ≢ word w ∷ rest) → GivesCast e ts p r → GivesSuffix openings.Dot e d ts (suc p) r
-gives_cast e d ts p (Ok x) n h = select_cast e d ts p _ n h
-gives_cast e d ts p (Err f) n h = λ k. select_cast e d ts p None n (h k)
+-- an expression beside what is left
+pub gives_made : {E : Type 0} (o : Option Found) (t : Tree) (made : Result Expr E) (at : Rest) (r : Result (Expr × Rest) ExprFault) → IfOk made (λ e. view e ≡ t) → MatchResult r (λ x. (made ≡ Ok x.0) × (x.1 ≡ at)) (λ f. f.kind ≡ kinds.NoMemory) → o ≡ found t (lexemes at.tokens.now) at.parts → Gives o r
+gives_made o t made at (Ok x) i m h =
+    let v : view x.0 ≡ t = subst (λ m. IfOk m (λ e. view e ≡ t)) m.0 i in
+    h ∙ ap (λ (a : Rest). found t (lexemes a.tokens.now) a.parts) (sym m.1) ∙ ap (λ e. found e (lexemes x.1.tokens.now) x.1.parts) (sym v)
+gives_made o t made at (Err f) i m h = λ n. absurd (n m)
+
+pub within_made : {E : Type 0} (n : ℕ) (made : Result Expr E) (at : Rest) (r : Result (Expr × Rest) ExprFault) → MatchResult r (λ x. (made ≡ Ok x.0) × (x.1 ≡ at)) (λ f. f.kind ≡ kinds.NoMemory) → length at.tokens.now < n → IsWithin n r
+within_made n made at (Ok x) m h = subst (λ (a : Rest). length a.tokens.now < n) (sym m.1) h
+within_made n made at (Err f) m h = tt
+
+pub within_more : (m n : ℕ) (r : Result (Expr × Rest) ExprFault) → m ≤ n → IsWithin m r → IsWithin n r
+within_more m n (Ok x) h w = omega arith
+within_more m n (Err f) h w = tt
+
+pub gives_arms : (f g : Tree → Option Found) (r : Result (Expr × Expr × Rest) ExprFault) → ((e : Tree) → f e ≡ g e) → GivesArms g r → GivesArms f r
+gives_arms f g (Ok x) h k = λ e. h e ∙ k e
+gives_arms f g (Err y) h k = λ n e. h e ∙ k n e
+
+pub gives_list : (o u : Option FoundList) (r : Result (Vec Expr Global × Rest) ExprFault) → u ≡ o → GivesList o r → GivesList u r
+gives_list o u (Ok x) h k = h ∙ k
+gives_list o u (Err y) h k = λ n. h ∙ k n
 
 arguments_append : (xs : List Tree) (e : Tree) → arguments_of (xs ++ e ∷ []) ≡ append_arguments (arguments_of xs) (argument e no_arguments)
 arguments_append [] e = refl

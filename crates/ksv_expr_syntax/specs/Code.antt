@@ -1,5 +1,5 @@
 -- The results of the parser's functions.
-use Rattle.std.specs.Prelude.{◌≡◌, ◌≢◌, ℕ, List, map, Option, Some, None, Result, Ok, Err, string_bytes}
+use Rattle.std.specs.Prelude.{◌≡◌, ◌≢◌, ℕ, ◌<◌, List, ◌∷◌, length, map, IfOk, if◌then◌else◌, Option, Some, None, Result, Ok, Err, string_bytes}
 use Rattle.ksv_expr_tree.specs.declared.tree.Expr.{Expr}
 use Rattle.std.specs.declared.alloc.Global.{Global}
 use Rattle.std.specs.Prelude.{Vec, String}
@@ -14,73 +14,128 @@ use Rattle.ksv_expr_syntax.specs.Lexemes.{lexeme_of}
 use Rattle.std.proofs.Common.{Bor}
 use Rattle.ksv_expr_syntax.specs.declared.fault.ExprFaultKind.TheVariants as kinds
 use Rattle.ksv_expr_syntax.specs.declared.cursor.Rest.{Rest}
+use Rattle.ksv_expr_syntax.specs.declared.operator.Operand.{Operand}
+use Rattle.ksv_expr_syntax.specs.declared.operator.Operand.TheVariants as operands
 use Rattle.ksv_expr_syntax.specs.declared.parser.Opening.{Opening}
 use Rattle.ksv_expr_syntax.specs.declared.parser.Opening.TheVariants as openings
 use Rattle.ksv_expr_syntax.specs.declared.token.Symbol.{Symbol}
 use Rattle.ksv_expr_syntax.specs.declared.token.Symbol.TheVariants as tok
-use Rattle.ksv_expr_tree.specs.Tree.{Tree, choice, cast, no_arguments, view, arguments_of}
-use Rattle.ksv_expr_syntax.specs.Lexemes.{Lexeme, lexemes}
-use Rattle.ksv_expr_syntax.specs.Grammar.{Level, Whole}
-use Rattle.ksv_expr_syntax.specs.Reading.{next, Found, FoundList, found, found_list, ◌>>=◌, choose, spend, after, read, read_list, place_on, select_on, path_at}
+use Rattle.ksv_expr_tree.specs.Tree.{Constant, Tree, literal, choice, call, index, cast, Arguments, no_arguments, view, arguments_of}
+use Rattle.ksv_expr_syntax.specs.Lexemes.{Lexeme, word, lexemes}
+use Rattle.ksv_expr_syntax.specs.Grammar.{Level, Whole, Joined, Negation, Prefix, select_tree, is_left_out}
+use Rattle.ksv_expr_syntax.specs.Reading.{Next, next, Found, FoundList, found, found_list, ◌>>=◌, choose, spend, after, read, read_list, path_at, path_tree}
 
--- a function returned what reading a level finds, unless memory was refused
-abbrev pub Gives : Level → ℕ → List Lexeme → ℕ → Result (Expr × Rest) ExprFault → Type 0
-Gives l d ts p (Ok x) = read l d ts p ≡ found (view x.0) (lexemes x.1.tokens.now) x.1.parts
-Gives l d ts p (Err e) = e.kind ≢ kinds.NoMemory → read l d ts p ≡ None
+-- a function returned what is found, unless memory was refused
+abbrev pub Gives : Option Found → Result (Expr × Rest) ExprFault → Type 0
+Gives o (Ok x) = o ≡ found (view x.0) (lexemes x.1.tokens.now) x.1.parts
+Gives o (Err e) = e.kind ≢ kinds.NoMemory → o ≡ None
 
--- an expression, and this symbol after it
-abbrev pub read_before : Symbol → ℕ → List Lexeme → ℕ → Option Found
-read_before s d ts p = read Whole d ts p >>= λ a. after s a.rest >>= λ us. found a.tree us a.left
+-- fewer tokens than this are left
+abbrev pub IsWithin : ℕ → Result (Expr × Rest) ExprFault → Type 0
+IsWithin n r = IfOk r (λ x. length x.1.tokens.now < n)
 
-abbrev pub GivesBefore : Symbol → ℕ → List Lexeme → ℕ → Result (Expr × Rest) ExprFault → Type 0
-GivesBefore s d ts p (Ok x) = read_before s d ts p ≡ found (view x.0) (lexemes x.1.tokens.now) x.1.parts
-GivesBefore s d ts p (Err e) = e.kind ≢ kinds.NoMemory → read_before s d ts p ≡ None
+-- one level and one part fewer
+abbrev pub inside : ℕ → ℕ → Option (ℕ × ℕ)
+inside d p = spend d (λ d. spend p (λ p. Some (d, p)))
+
+-- one level fewer, and the tokens after a parenthesis
+abbrev pub opened : ℕ → List Lexeme → Option (Next ℕ)
+opened d ts = after tok.OpenParenthesis ts >>= λ us. spend d (λ d. next d us)
+
+-- the level of a precedence's operands
+abbrev pub level_of : Operand → Level
+level_of (operands.Joined k) = Joined k
+level_of operands.Negation = Negation
+level_of operands.Prefix = Prefix
+
+-- what is found with another tree
+abbrev pub with_tree : (Tree → Tree) → Option Found → Option Found
+with_tree f o = o >>= λ a. found (f a.tree) a.rest a.left
+
+abbrev pub with_list : (Arguments → Tree) → Option FoundList → Option Found
+with_list f o = o >>= λ a. found (f a.arguments) a.rest a.left
+
+-- what is found, and this symbol after it
+abbrev pub closing : Symbol → Option Found → Option Found
+closing s o = o >>= λ a. after s a.rest >>= λ us. found a.tree us a.left
+
+-- what is after an operator
+abbrev pub right_at : Level → ℕ → List Lexeme → ℕ → Option Found
+right_at l d ts p = spend p (λ p. read l d ts p)
+
+-- what is after an opening bracket
+abbrev pub place_at : ℕ → List Lexeme → ℕ → Option Found
+place_at d ts p = inside d p >>= λ x. closing tok.CloseBracket (read Whole x.0 ts x.1)
+
+-- what is after the parenthesis of a call
+abbrev pub list_at : ℕ → List Lexeme → ℕ → Option FoundList
+list_at d ts p = inside d p >>= λ x. read_list x.0 ts x.1
 
 -- both arms of a choice after this condition
 abbrev pub arms_at : Tree → ℕ → List Lexeme → ℕ → Option Found
 arms_at e d ts p = spend d (λ d. spend p (λ p. read Whole d ts p >>= λ a. after tok.Colon a.rest >>= λ us. read Whole d us a.left >>= λ b. found (choice e a.tree b.tree) b.rest b.left))
 
-abbrev pub GivesArms : ℕ → List Lexeme → ℕ → Result (Expr × Expr × Rest) ExprFault → Type 0
-GivesArms d ts p (Ok x) = (e : Tree) → arms_at e d ts p ≡ found (choice e (view x.0) (view x.1)) (lexemes x.2.tokens.now) x.2.parts
-GivesArms d ts p (Err f) = f.kind ≢ kinds.NoMemory → (e : Tree) → arms_at e d ts p ≡ None
+-- the same for both arms
+abbrev pub GivesArms : (Tree → Option Found) → Result (Expr × Expr × Rest) ExprFault → Type 0
+GivesArms f (Ok x) = (e : Tree) → f e ≡ found (choice e (view x.0) (view x.1)) (lexemes x.2.tokens.now) x.2.parts
+GivesArms f (Err g) = g.kind ≢ kinds.NoMemory → (e : Tree) → f e ≡ None
 
 -- the same for arguments and their closing parenthesis
-abbrev pub GivesList : ℕ → List Lexeme → ℕ → Result (Vec Expr Global × Rest) ExprFault → Type 0
-GivesList d ts p (Ok x) = read_list d ts p ≡ found_list (arguments_of (map view x.0.items)) (lexemes x.1.tokens.now) x.1.parts
-GivesList d ts p (Err e) = e.kind ≢ kinds.NoMemory → read_list d ts p ≡ None
+abbrev pub GivesList : Option FoundList → Result (Vec Expr Global × Rest) ExprFault → Type 0
+GivesList o (Ok x) = o ≡ found_list (arguments_of (map view x.0.items)) (lexemes x.1.tokens.now) x.1.parts
+GivesList o (Err e) = e.kind ≢ kinds.NoMemory → o ≡ None
 
 -- the same for names with `::` between them
 abbrev pub GivesPath : List Lexeme → Result (Vec (String Global) Global × Rest) ExprFault → Type 0
 GivesPath ts (Ok x) = path_at ts ≡ next (map string_bytes x.0.items) (lexemes x.1.tokens.now)
 GivesPath ts (Err e) = e.kind ≢ kinds.NoMemory → path_at ts ≡ None
 
--- a symbol that continues a postfix expression is first, with these tokens after it
-abbrev pub OpensWith : Opening → List Lexeme → List Lexeme → Type 0
-OpensWith openings.Dot ts us = after tok.Dot ts ≡ Some us
-OpensWith openings.Bracket ts us = (after tok.Dot ts ≡ None) × (after tok.OpenBracket ts ≡ Some us)
-
--- the expression with what comes after that symbol
-abbrev pub suffix_step : Opening → Tree → ℕ → List Lexeme → ℕ → Option Found
-suffix_step openings.Dot e d ts p = select_on e d ts p
-suffix_step openings.Bracket e d ts p = place_on e d ts p
-
--- a function returned what is read after such a symbol
-abbrev pub GivesSuffix : Opening → Tree → ℕ → List Lexeme → ℕ → Result (Expr × Rest) ExprFault → Type 0
-GivesSuffix o e d ts p (Ok x) = suffix_step o e d ts p ≡ found (view x.0) (lexemes x.1.tokens.now) x.1.parts
-GivesSuffix o e d ts p (Err f) = f.kind ≢ kinds.NoMemory → suffix_step o e d ts p ≡ None
-
 -- a cast of this tree
 abbrev pub cast_at : Tree → List Lexeme → ℕ → Option Found
 cast_at e ts p = after tok.As ts >>= λ us. after tok.Less us >>= λ vs. path_at vs >>= λ x. after tok.Greater x.behind >>= λ ws. found (cast e (record { path = x.what; number = None })) ws p
+
+-- a member or a cast of this tree
+abbrev pub member_on : Tree → List Lexeme → ℕ → Option Found
+member_on e (word w ∷ ts) p = found (select_tree e w) ts p
+member_on e ts p = cast_at e ts p
+
+abbrev pub member_at : Tree → List Lexeme → ℕ → Option Found
+member_at e ts p = spend p (λ p. member_on e ts p)
+
+-- a literal before these tokens
+abbrev pub literal_at : Constant → List Lexeme → ℕ → Option Found
+literal_at c ts p = spend p (λ p. found (literal c) ts p)
+
+-- a name or an enum's member, where these tokens begin with this name
+abbrev pub word_at : List ℕ → List Lexeme → ℕ → Option Found
+word_at w ts p = if is_left_out w then None else (path_at ts >>= λ x. spend p (λ p. found (path_tree x.what) x.behind p))
+
+-- no call is first
+abbrev pub IsNoCall : List Lexeme → Type 0
+IsNoCall ts = (w : List ℕ) (us : List Lexeme) → ts ≡ word w ∷ us → after tok.OpenParenthesis us ≡ None
+
+-- what is first after a dot, with these tokens after it
+abbrev pub SelectsWith : Opening → List Lexeme → List Lexeme → Type 0
+SelectsWith openings.Member ts us = (ts ≡ us) × IsNoCall us
+SelectsWith (openings.Call text from) ts us = (ts ≡ word text.now ∷ lexemes from.now) × (after tok.OpenParenthesis (lexemes from.now) ≡ Some us)
+SelectsWith openings.Place ts us = ⊥
+
+-- what continues a postfix expression is first, with these tokens after it
+abbrev pub OpensWith : Opening → List Lexeme → List Lexeme → Type 0
+OpensWith openings.Member ts us = (after tok.Dot ts ≡ Some us) × IsNoCall us
+OpensWith (openings.Call text from) ts us = (after tok.Dot ts ≡ Some (word text.now ∷ lexemes from.now)) × (after tok.OpenParenthesis (lexemes from.now) ≡ Some us)
+OpensWith openings.Place ts us = (after tok.Dot ts ≡ None) × (after tok.OpenBracket ts ≡ Some us)
+
+-- the expression with what continues it
+abbrev pub suffix_step : Opening → Tree → ℕ → List Lexeme → ℕ → Option Found
+suffix_step openings.Member e d ts p = member_at e ts p
+suffix_step (openings.Call text from) e d ts p = with_list (λ es. call e text.now es) (list_at d ts p)
+suffix_step openings.Place e d ts p = with_tree (λ i. index e i) (place_at d ts p)
 
 -- the names of a cast of any tree
 abbrev pub GivesCastType : List Lexeme → ℕ → Result (Vec (String Global) Global × Rest) ExprFault → Type 0
 GivesCastType ts p (Ok x) = (e : Tree) → cast_at e ts p ≡ found (cast e (record { path = map string_bytes x.0.items; number = None })) (lexemes x.1.tokens.now) x.1.parts
 GivesCastType ts p (Err f) = f.kind ≢ kinds.NoMemory → (e : Tree) → cast_at e ts p ≡ None
-
-abbrev pub GivesCast : Tree → List Lexeme → ℕ → Result (Expr × Rest) ExprFault → Type 0
-GivesCast e ts p (Ok x) = cast_at e ts p ≡ found (view x.0) (lexemes x.1.tokens.now) x.1.parts
-GivesCast e ts p (Err f) = f.kind ≢ kinds.NoMemory → cast_at e ts p ≡ None
 
 -- a function returned the token at the front and the bytes after it, unless memory was refused
 abbrev pub GivesCut : Option Cut → Result (Token × Bor (List ℕ)) ExprFaultKind → Type 0
@@ -100,7 +155,3 @@ GivesTokens bs (Err e) = e.kind ≢ kinds.NoMemory → (ts : List Lexeme) → To
 -- the arguments of a type, if it has any
 abbrev pub type_list : List Lexeme → ℕ → Option FoundList
 type_list ts p = choose (after tok.OpenParenthesis ts) (found_list no_arguments ts p) (λ us. read_list 31 us p)
-
-abbrev pub GivesTypeList : List Lexeme → ℕ → Result (Vec Expr Global × Rest) ExprFault → Type 0
-GivesTypeList ts p (Ok x) = type_list ts p ≡ found_list (arguments_of (map view x.0.items)) (lexemes x.1.tokens.now) x.1.parts
-GivesTypeList ts p (Err e) = e.kind ≢ kinds.NoMemory → type_list ts p ≡ None

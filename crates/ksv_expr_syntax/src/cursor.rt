@@ -2,8 +2,8 @@
 
 ghost use Rattle.std.specs.Prelude.{◌≡◌, ◌≢◌, ℕ, suc, ◌+◌, ◌<◌, List, [], ◌∷◌, length, map, string_bytes, Option, Some, None, IfOk, MatchOption, MatchResult};
 ghost use Rattle.ksv_expr_syntax.specs.Lexemes.{Lexeme, lexemes, lexeme_of};
-ghost use Rattle.ksv_expr_syntax.specs.Reading.{after, path_at};
-ghost use Rattle.ksv_expr_syntax.specs.Code.{GivesPath};
+ghost use Rattle.ksv_expr_syntax.specs.Reading.{next, after, path_at};
+ghost use Rattle.ksv_expr_syntax.specs.Code.{GivesPath, inside, opened};
 
 use crate::fault::{ExprFault, ExprFaultKind};
 use crate::token::{Placed, Symbol, Token};
@@ -88,20 +88,6 @@ pub(crate) fn expect(at: Rest, wanted: Symbol) -> Result<Rest, ExprFault>
     }
 }
 
-/// Goes on after `(`, which must be first where an expression begins without a literal or name; `[` is unsupported
-/// there.
-pub(crate) fn open_group(at: Rest) -> Result<Rest, ExprFault>
-    ensures is { MatchResult result (λ r. after Symbol.OpenParenthesis (lexemes at.entry.tokens.now) ≡ Some (lexemes r.tokens.now)) (λ _. after Symbol.OpenParenthesis (lexemes at.entry.tokens.now) ≡ None) }
-    ensures same { IfOk result (λ r. r.parts ≡ at.entry.parts) }
-    ensures shorter { IfOk result (λ r. length r.tokens.now + 1 ≡ length at.entry.tokens.now) }
-{
-    match behind(at.tokens, Symbol::OpenParenthesis) {
-        Some(tokens) => Ok(Rest { tokens, ..at }),
-        None if behind(at.tokens, Symbol::OpenBracket).is_some() => Err(left_out(at)),
-        None => Err(unexpected(at)),
-    }
-}
-
 /// Counts a part that begins with the next token, and goes on with these tokens.
 pub(crate) fn spend<'a>(at: Rest<'a>, tokens: &'a [Placed]) -> Result<Rest<'a>, ExprFault>
     ensures is { MatchResult result (λ r. at.entry.parts ≡ suc r.parts) (λ _. at.entry.parts ≡ 0) }
@@ -125,6 +111,44 @@ pub(crate) fn deeper(depth: u32, at: Rest) -> Result<u32, ExprFault>
         return Err(too_large(at));
     }
     Ok(depth - 1)
+}
+
+/// Counts a part that begins with the next token and a level that begins with the first of `opening`, and goes on
+/// with `tokens`.
+pub(crate) fn enter<'a>(
+    depth: u32,
+    at: Rest<'a>,
+    opening: &'a [Placed],
+    tokens: &'a [Placed],
+) -> Result<(u32, Rest<'a>), ExprFault>
+    ensures is { MatchResult result (λ x. inside depth at.entry.parts ≡ Some (x.0, x.1.parts)) (λ _. inside depth at.entry.parts ≡ None) }
+    ensures same { IfOk result (λ x. x.1.tokens.now ≡ tokens.now) }
+{
+    let start = spend(at, opening)?;
+    let inner = deeper(depth, start)?;
+    Ok((inner, Rest { tokens, ..start }))
+}
+
+/// What is wrong where an expression begins without a literal, a name or `(`; `[` is unsupported there.
+fn no_group(at: Rest) -> ExprFault {
+    if behind(at.tokens, Symbol::OpenBracket).is_some() {
+        left_out(at)
+    } else {
+        unexpected(at)
+    }
+}
+
+/// Goes on one level deeper after `(`, which must be first.
+pub(crate) fn open_group(depth: u32, at: Rest) -> Result<(u32, Rest), ExprFault>
+    ensures is { MatchResult result (λ x. opened depth (lexemes at.entry.tokens.now) ≡ next x.0 (lexemes x.1.tokens.now)) (λ _. opened depth (lexemes at.entry.tokens.now) ≡ None) }
+    ensures same { IfOk result (λ x. x.1.parts ≡ at.entry.parts) }
+    ensures shorter { IfOk result (λ x. length x.1.tokens.now + 1 ≡ length at.entry.tokens.now) }
+{
+    let Some(tokens) = behind(at.tokens, Symbol::OpenParenthesis) else {
+        return Err(no_group(at));
+    };
+    let inner = deeper(depth, at)?;
+    Ok((inner, Rest { tokens, ..at }))
 }
 
 /// The name that is first.

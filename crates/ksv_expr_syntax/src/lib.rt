@@ -11,6 +11,7 @@ mod laws;
 mod lexer;
 mod make;
 mod operator;
+mod outcome;
 mod parser;
 mod read;
 mod token;

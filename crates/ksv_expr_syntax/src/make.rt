@@ -103,12 +103,13 @@ pub(crate) fn select_expr(alloc: Global, object: Expr, text: String) -> Result<E
 pub(crate) fn call_expr(
     alloc: Global,
     object: Expr,
-    method: String,
+    method: &str,
     arguments: Vec<Expr>,
 ) -> Result<Expr, AllocError>
-    ensures { IfOk result (λ e. view e ≡ call (view object) (string_bytes method) (arguments_of (map view arguments.items))) }
+    ensures { IfOk result (λ e. view e ≡ call (view object) method.now (arguments_of (map view arguments.items))) }
 {
-    Ok(Expr::Call(Box::new(alloc, object)?, method, arguments))
+    let object = Box::new(alloc, object)?;
+    Ok(Expr::Call(object, String::from_str(alloc, method)?, arguments))
 }
 
 pub(crate) fn index_expr(alloc: Global, list: Expr, place: Expr) -> Result<Expr, AllocError>

@@ -2,8 +2,9 @@
 
 ghost use Rattle.std.specs.Prelude.{◌≡◌, ◌+◌, length, None, MatchOption};
 ghost use Rattle.ksv_expr_syntax.specs.Lexemes.{Lexeme, lexemes};
-ghost use Rattle.ksv_expr_syntax.specs.Grammar.{operator};
+ghost use Rattle.ksv_expr_syntax.specs.Grammar.{operator, tighter};
 ghost use Rattle.ksv_expr_syntax.specs.Reading.{next, operator_at, comparison_at, prefix_at};
+ghost use Rattle.ksv_expr_syntax.specs.Code.{level_of};
 
 use crate::cursor::first;
 use crate::token::{Placed, Symbol, Token};
@@ -28,6 +29,33 @@ pub enum Precedence {
     Sum,
     /// `*`, `/` and `%`
     Term,
+}
+
+/// What the operands of such a level are.
+#[derive(Clone, Copy)]
+pub enum Operand {
+    /// Operands of this level, joined.
+    Joined(Precedence),
+    /// `not` any number of times, and a comparison.
+    Negation,
+    /// `-`, `~` and `+` any number of times, and a postfix expression.
+    Prefix,
+}
+
+/// What this precedence's operands are.
+pub(crate) fn operand_of(precedence: Precedence) -> Operand
+    ensures { level_of result ≡ tighter precedence }
+{
+    match precedence {
+        Precedence::Or => Operand::Joined(Precedence::And),
+        Precedence::And => Operand::Negation,
+        Precedence::BitOr => Operand::Joined(Precedence::BitXor),
+        Precedence::BitXor => Operand::Joined(Precedence::BitAnd),
+        Precedence::BitAnd => Operand::Joined(Precedence::Shift),
+        Precedence::Shift => Operand::Joined(Precedence::Sum),
+        Precedence::Sum => Operand::Joined(Precedence::Term),
+        Precedence::Term => Operand::Prefix,
+    }
 }
 
 /// An operator of such a level.

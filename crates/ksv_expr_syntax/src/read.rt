@@ -4,7 +4,7 @@ ghost use Rattle.std.specs.Prelude.{◌≢◌, IfOk, IfErr};
 ghost use Rattle.ksv_expr_tree.specs.Tree.{Tree, TypeTree, view, view_type};
 ghost use Rattle.ksv_expr_syntax.specs.Lexemes.{lexemes};
 ghost use Rattle.ksv_expr_syntax.specs.Grammar.{IsExpr, SpellsType};
-ghost use Rattle.ksv_expr_syntax.specs.Code.{GivesTypeList};
+ghost use Rattle.ksv_expr_syntax.specs.Code.{GivesList, type_list};
 ghost use Rattle.ksv_expr_syntax.specs.Text.{SpellsText, SpellsTypeText};
 ghost use Rattle.ksv_expr_syntax.specs.declared.fault.ExprFaultKind.TheVariants.{NoMemory};
 
@@ -107,7 +107,7 @@ fn read_type(alloc: Global, tokens: &[Placed], end: ExprFault) -> Result<TypeRef
 
 /// The arguments after a type's name, if there are any.
 fn type_arguments<'a>(alloc: Global, at: Rest<'a>) -> Result<(Vec<Expr>, Rest<'a>), ExprFault>
-    ensures { GivesTypeList (lexemes at.entry.tokens.now) at.entry.parts result }
+    ensures { GivesList (type_list (lexemes at.entry.tokens.now) at.entry.parts) result }
 {
     let Some(tokens) = behind(at.tokens, Symbol::OpenParenthesis) else {
         return Ok((Vec::new(alloc), at));

@@ -3,7 +3,7 @@
 use ksv_expr_tree::Literal;
 
 /// An operator, a bracket, a mark between parts, or a word with the role of one of these.
-#[derive(Clone, Copy, PartialEq, Eq, Debug)]
+#[derive(Clone, Copy, PartialEq, Eq)]
 pub enum Symbol {
     /// `+`
     Plus,

@@ -4,26 +4,27 @@ use Rattle.ksv_expr_syntax.specs.Lexemes.{lexemes}
 use Rattle.ksv_expr_syntax.specs.Grammar.{Joined, Postfix}
 use Rattle.ksv_expr_syntax.specs.Reading.{read}
 use Rattle.ksv_expr_syntax.proofs.Flow.{join_on, suffix_on}
-use Rattle.ksv_expr_syntax.proofs.Exits.{level_of, ListNow}
+use Rattle.ksv_expr_syntax.specs.Code.{level_of}
+use Rattle.ksv_expr_syntax.proofs.Exits.{rank, ListNow}
 use Rattle.ksv_expr_syntax.proofs.parser.+parser.Given as goal
 
 abbrev pub decreases-arguments : goal.decreases-arguments
 decreases-arguments l = 64 * length l.at.tokens.now + 32
 
 abbrev pub decreases-whole : goal.decreases-whole
-decreases-whole l = 64 * length l.at.tokens.now + 30
-
-abbrev pub decreases-before : goal.decreases-before
-decreases-before l = 64 * length l.at.tokens.now + 31
+decreases-whole l = 64 * length l.at.tokens.now + 31
 
 abbrev pub decreases-arms : goal.decreases-arms
 decreases-arms l = 64 * length l.rest.now + 40
 
 abbrev pub decreases-joined : goal.decreases-joined
-decreases-joined l = 64 * length l.at.tokens.now + 2 * level_of l.precedence + 1
+decreases-joined l = 64 * length l.at.tokens.now + 2 * rank (Joined l.precedence) + 1
+
+abbrev pub decreases-right_side : goal.decreases-right_side
+decreases-right_side l = 64 * length l.rest.now + 40
 
 abbrev pub decreases-operand : goal.decreases-operand
-decreases-operand l = 64 * length l.at.tokens.now + 2 * level_of l.precedence
+decreases-operand l = 64 * length l.at.tokens.now + 2 * rank (level_of l.kind) + 2
 
 abbrev pub decreases-negation : goal.decreases-negation
 decreases-negation l = 64 * length l.at.tokens.now + 25
@@ -43,8 +44,11 @@ decreases-primary l = 64 * length l.at.tokens.now + 5
 abbrev pub decreases-suffix : goal.decreases-suffix
 decreases-suffix l = 64 * length l.rest.now + 50
 
-abbrev pub decreases-selected : goal.decreases-selected
-decreases-selected l = 64 * length l.at.tokens.now + 49
+abbrev pub decreases-call_list : goal.decreases-call_list
+decreases-call_list l = 64 * length l.rest.now + 40
+
+abbrev pub decreases-place : goal.decreases-place
+decreases-place l = 64 * length l.rest.now + 40
 
 abbrev pub invariant-joined-operators : goal.invariant-joined-operators
 invariant-joined-operators l = record {
