@@ -14,6 +14,8 @@ mod laws;
 #[cfg(test)]
 mod messages;
 #[cfg(test)]
+mod near;
+#[cfg(test)]
 mod nodes;
 #[cfg(test)]
 mod plain;

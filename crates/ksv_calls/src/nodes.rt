@@ -54,7 +54,7 @@ value /len => no-such at /len";
 const CIRCLE: &str = "meta:\n  id: t\nseq:\n  - id: a\n    size: b\n  - id: b\n    type: u1\n";
 
 /// Bytes up to the end of the file.
-const BYTES: &str = "meta:\n  id: t\nseq:\n  - id: xs\n    type: u1\n    repeat: eos\n";
+pub(crate) const BYTES: &str = "meta:\n  id: t\nseq:\n  - id: xs\n    type: u1\n    repeat: eos\n";
 
 /// The description that a text states.
 pub(crate) fn described(alloc: Global, text: &str) -> Result<Desc, Fail> {
@@ -197,7 +197,12 @@ fn answer(
 }
 
 /// The node of this kind at a path.
-fn node_at(alloc: Global, rules: &Described, kind: NodeKind, path: &str) -> Result<Node, Fail> {
+pub(crate) fn node_at(
+    alloc: Global,
+    rules: &Described,
+    kind: NodeKind,
+    path: &str,
+) -> Result<Node, Fail> {
     match path_of(alloc, rules.desc(), path.as_bytes())? {
         Some(path) => Ok(Node { kind, path }),
         None => Err(Fail::from("no path")),

@@ -1,52 +1,38 @@
--- What rows and frames are once one slot changed.
-use Rattle.std.proofs.Common.{◌≡◌, ◌≢◌, ℕ, zero, suc, ◌+◌, ◌-◌, ◌≤◌, true, false, List, [], ◌∷◌, ◌++◌, length, map, take, drop, reverse, Option, Some, None, is_some, refl, sym, ◌∙◌, ap, subst, Result, slice_get, ◌⊎◌, inl, inr, append_assoc, arith, length-append}
+-- What links and frames are once one slot changed.
+use Rattle.std.proofs.Common.{◌≡◌, ◌≢◌, ℕ, zero, suc, ◌+◌, ◌-◌, ◌<◌, ◌≤◌, true, false, List, [], ◌∷◌, ◌++◌, length, map, take, drop, reverse, Option, Some, None, is_some, refl, sym, ◌∙◌, ap, subst, Result, slice_get, ◌⊎◌, inl, inr, arith, length-append}
 use Rattle.std.specs.Option.{option_map}
 use Rattle.std.specs.List.{AllByRecursion}
-use Rattle.std.proofs.lemmas.List.{map-append, take-append-le, drop-append-le, length-drop, length-take-le, reverse-append}
+use Rattle.std.proofs.lemmas.List.{length-set, get_or-set_same, get_or-set_other, take-append-le, drop-append-le, length-take-le, reverse-append}
 use Rattle.std.proofs.Math.Seq.{take-length, drop-length}
 use Rattle.std.proofs.lemmas.Option.{slice_get-map}
 use Rattle.indexmap.specs.IndexMap.{set_value_at}
 use Rattle.ksv_bytes.specs.declared.uses.Use.{Use}
+use Rattle.ksv_memo_links.specs.Shelved.{row}
+use Rattle.ksv_memo_links.specs.Touching.{numbers_from}
+use Rattle.ksv_memo_links.specs.Marking.{is_kept}
+use Rattle.ksv_memo_links.specs.Links.{Linked, Keeps as LinksKeep}
 use Rattle.ksv_memo_rules.specs.declared.replies.Slot.{Slot}
 use Rattle.ksv_memo_rules.specs.declared.replies.Slot.TheVariants.{Open as opened}
-use Rattle.ksv_memo.specs.declared.layout.Row.{Row}
-use Rattle.ksv_memo.specs.declared.layout.Rows.{Rows}
 use Rattle.ksv_memo.specs.declared.layout.Frame.{Frame}
 use Rattle.ksv_memo.specs.declared.layout.Frames.{Frames}
 use Rattle.ksv_memo_rules.specs.Slots.{answer_in, answer_of, answer_at, answers_at, with_first}
 use Rattle.ksv_memo.specs.Open.{Open, newly, heard}
-use Rattle.ksv_memo.specs.Layout.{IsOneOf, AllDiffer, slots_of, node_at, nodes_at, IsOpen, IsKept, entry_before, entries_in, entries_of, open_before, opens_in, opens_of, AsksBefore, all_asked, all_uses, AreNested, AreRows, AreFrames}
-use Rattle.ksv_memo.specs.Moves.{Heard, Popped, Framed, Added}
+use Rattle.ksv_memo.specs.Layout.{IsOneOf, AllDiffer, slots_of, node_at, nodes_at, IsOpen, IsKept, entry_with, entry_at, entries_at, entries_of, open_before, opens_in, opens_of, AreNested, AreLinked, AreFrames}
+use Rattle.ksv_memo.specs.Moves.{Heard, Popped, Framed}
 use Rattle.ksv_memo_rules.proofs.Lists.{All-map, All-both, All-++}
-use Rattle.ksv_memo.proofs.Finding.{slot_there, node_there, answer_there, kept_there}
-use Rattle.ksv_memo.proofs.Laying.{++-nil, All-take, one_of-left, one_of-right, AllDiffer-push, same_or, nodes_at-append, answers_at-append, Keeps, HasNode, slot_has_node, stays_kept, same_nodes, same_entries, same_opens, entries_in-push, asked_kept}
+use Rattle.ksv_memo.proofs.Finding.{slot_there, node_there, answer_there}
+use Rattle.ksv_memo.proofs.Laying.{++-nil, All-take, same_or, nodes_at-append, answers_at-append, Keeps, HasNode, slot_has_node, stays_kept, same_nodes, same_entry, same_opens, no_entry_at, entries_at-append, entries_at-same, All-numbers, numbers-split}
+
+-- an entry was put somewhere among others
+pub record IsPut {X : Type 0} (x : X) (before after : List X) : Type 0 where
+  pub front : List X
+  pub back : List X
+  pub was : before ≡ front ++ back
+  pub now : after ≡ front ++ x ∷ back
 
 pub map_all : {X Y : Type 0} (f : X → Y) (P : Y → Type 0) (xs : List X) → AllByRecursion (λ x. P (f x)) xs → AllByRecursion P (map f xs)
 map_all f P [] h = tt
 map_all f P (x ∷ xs) h = (h.0, map_all f P xs h.1)
-
-AsksBefore-push : (before : List ℕ) (rows : List Row) (asked slots : List ℕ) (r : Row) → AsksBefore before rows asked → length asked ≡ all_asked rows → r.asked ≡ length slots → AllByRecursion (IsOneOf (before ++ map (λ r. r.slot) rows)) slots → AsksBefore before (rows ++ r ∷ []) (asked ++ slots)
-AsksBefore-push before [] [] slots r h e f all =
-    let P : List ℕ → Type 0 = λ xs. AllByRecursion (IsOneOf xs) slots in
-    (All-take (IsOneOf before) r.asked slots (subst P (++-nil before) all), tt)
-AsksBefore-push before [] (i ∷ asked) slots r h e f all = absurd (omega arith)
-AsksBefore-push before (x ∷ rows) asked slots r h e f all =
-    let asks : x.asked ≤ length asked = omega arith in
-    let rest : length (drop x.asked asked) ≡ all_asked rows = length-drop x.asked asked ∙ (let left : length asked - x.asked ≡ all_asked rows = omega arith in left) in
-    let P : List ℕ → Type 0 = λ xs. AllByRecursion (IsOneOf before) xs in
-    let Q : List ℕ → Type 0 = λ xs. AsksBefore (before ++ x.slot ∷ []) (rows ++ r ∷ []) xs in
-    let O : List ℕ → Type 0 = λ xs. AllByRecursion (IsOneOf xs) slots in (
-      subst P (sym (take-append-le x.asked asked slots asks)) h.0,
-      subst Q (sym (drop-append-le x.asked asked slots asks)) (AsksBefore-push (before ++ x.slot ∷ []) rows (drop x.asked asked) slots r h.1 rest f (subst O (sym (append_assoc before (x.slot ∷ []) (map (λ r. r.slot) rows))) all)),
-    )
-
-all_asked-push : (rows : List Row) (r : Row) → all_asked (rows ++ r ∷ []) ≡ all_asked rows + r.asked
-all_asked-push [] r = omega arith
-all_asked-push (x ∷ rows) r = let rest : all_asked (rows ++ r ∷ []) ≡ all_asked rows + r.asked = all_asked-push rows r in omega arith
-
-all_uses-push : (rows : List Row) (r : Row) → all_uses (rows ++ r ∷ []) ≡ all_uses rows + r.uses
-all_uses-push [] r = omega arith
-all_uses-push (x ∷ rows) r = let rest : all_uses (rows ++ r ∷ []) ≡ all_uses rows + r.uses = all_uses-push rows r in omega arith
 
 pub all_map : {X Y : Type 0} (f : X → Y) (P : Y → Type 0) (xs : List X) → AllByRecursion P (map f xs) → AllByRecursion (λ x. P (f x)) xs
 all_map f P [] h = tt
@@ -103,6 +89,14 @@ module _ {N V F : Type 0} where
     before = λ m e. let was : node_at ps i ≡ Some n = node_there ps i n t there in let same : m ≡ n = cc in same;
   }
 
+  length_set : (ps : List (N × Slot V F)) (i : ℕ) (s : Slot V F) → length (set_value_at ps i s) ≡ length ps
+  length_set [] i s = refl
+  length_set (p ∷ ps) zero s = refl
+  length_set (p ∷ ps) (suc i) s = ap suc (length_set ps i s)
+
+  pub set_count : (ps : List (N × Slot V F)) (i : ℕ) (s : Slot V F) (qs : List (N × Slot V F)) → qs ≡ set_value_at ps i s → length qs ≡ length ps
+  set_count ps i s qs is = ap length is ∙ length_set ps i s
+
   module _ (ps qs : List (N × Slot V F)) (i : ℕ) (n : N) (s : Slot V F) (changes : ChangesAt ps qs i n s) where
     other_slot : (j : ℕ) → j ≢ i → slice_get (slots_of qs) j ≡ slice_get (slots_of ps) j
     other_slot j h = slice_get-map (λ p. p.1) qs j ∙ ap (option_map (λ p. p.1)) (changes.other j h) ∙ sym (slice_get-map (λ p. p.1) ps j)
@@ -132,63 +126,98 @@ module _ {N V F : Type 0} where
         by (inl same) = inl same
         by (inr apart) = inr (ap is_some (sym (other_answer j apart)) ∙ h)
 
-    -- rows stay, where the slot keeps nothing now either
-    pub rows-stay : answer_at (slots_of ps) i ≡ None → answer_in s ≡ None → (rows : Rows) → AreRows ps rows → AreRows qs rows
-    rows-stay none empty rows h = record {
-      kept = All-map (λ r k. stays_kept ps qs (keeps none) r.slot k) rows.rows.items h.kept;
-      all = λ j k. by j k (kept_or j k);
-      once = h.once;
-      ordered = h.ordered;
-      asked = h.asked;
-      uses = h.uses;
+  -- ---- the links
+  module _ (ps qs : List (N × Slot V F)) (i : ℕ) (n : N) (s : Slot V F) (changes : ChangesAt ps qs i n s) (none : answer_at (slots_of ps) i ≡ None) where
+    stays : Keeps ps qs
+    stays = keeps ps qs i n s changes none
+
+    -- an entry of another slot is the same
+    other_entry : (l m : Linked) → AreLinked ps l → (j : ℕ) → j ≢ i → row m.asked j ≡ row l.asked j → row m.uses j ≡ row l.uses j → entry_at qs m j ≡ entry_at ps l j
+    other_entry l m h j apart asked uses = by (answer_at (slots_of ps) j) refl
+      where
+        by : (o : Option (Result V F)) → answer_at (slots_of ps) j ≡ o → entry_at qs m j ≡ entry_at ps l j
+        by None e = no_entry_at qs m j (other_answer ps qs i n s changes j apart ∙ e) ∙ sym (no_entry_at ps l j e)
+        by (Some a) e = let kept : IsKept ps j = ap is_some e in same_entry ps qs stays l m j kept (h.asked j kept) asked uses
+
+    -- they stay, where the slot keeps nothing now either
+    pub links-stay : answer_in s ≡ None → (l : Linked) → AreLinked ps l → length qs ≤ length l.kept → AreLinked qs l
+    links-stay empty l h le = record {
+      kept = λ j. by j (same_or j i);
+      asked = λ j k. All-map (stays_kept ps qs stays) (row l.asked j) (h.asked j (was j k (same_or j i)));
+      idle = h.idle;
+      slots = le;
     }
       where
-        by : (j : ℕ) → IsKept qs j → (j ≡ i) ⊎ IsKept ps j → IsOneOf (map (λ r. r.slot) rows.rows.items) j
-        by j k (inl same) = let now : answer_at (slots_of qs) j ≡ None = ap (answer_at (slots_of qs)) same ∙ answer_there qs i n s changes.here ∙ empty in let no : is_some (answer_at (slots_of qs) j) ≡ false = ap is_some now in absurd (cc)
-        by j k (inr kept) = h.all j kept
+        now : answer_at (slots_of qs) i ≡ None
+        now = answer_there qs i n s changes.here ∙ empty
 
-  -- ---- a row more
-  module _ (ps qs : List (N × Slot V F)) (i : ℕ) (n : N) (s : Slot V F) (changes : ChangesAt ps qs i n s) (none : answer_at (slots_of ps) i ≡ None) where
-    pub rows-add : is_some (answer_in s) ≡ true → (rows new : Rows) (slots : List ℕ) (once : List Use) → AreRows ps rows → AllByRecursion (IsKept ps) slots → Added i slots once rows new → AreRows qs new
-    rows-add some rows new slots once h kept added =
-        let here : IsKept qs i = kept_there qs i n s changes.here some in
-        let stays : (j : ℕ) → IsKept ps j → IsKept qs j = stays_kept ps qs (keeps ps qs i n s changes none) in
-        let apart : (j : ℕ) → IsKept ps j → j ≢ added.row.slot = λ j k same. let no : answer_at (slots_of ps) j ≡ None = ap (answer_at (slots_of ps)) (same ∙ added.slot) ∙ none in let never : is_some (answer_at (slots_of ps) j) ≡ false = ap is_some no in cc in
-        let P : List Row → Type 0 = λ rs. AllByRecursion (λ r. IsKept qs r.slot) rs in
-        let Q : List Row → Type 0 = λ rs. AllDiffer (map (λ r. r.slot) rs) in
-        let slots_push : map (λ (r : Row). r.slot) (rows.rows.items ++ added.row ∷ []) ≡ map (λ r. r.slot) rows.rows.items ++ added.row.slot ∷ [] = map-append (λ r. r.slot) rows.rows.items (added.row ∷ []) in
-        let M : List Row → Type 0 = λ rs. (j : ℕ) → IsKept qs j → IsOneOf (map (λ r. r.slot) rs) j in
-        let one : (j : ℕ) → IsKept qs j → (j ≡ i) ⊎ IsKept ps j → IsOneOf (map (λ r. r.slot) rows.rows.items ++ added.row.slot ∷ []) j = by_one rows added.row h added.slot in
-        let member : M (rows.rows.items ++ added.row ∷ []) = λ j k. subst (λ xs. IsOneOf xs j) (sym slots_push) (one j k (kept_or ps qs i n s changes j k)) in
-        let A : List Row → List ℕ → Type 0 = λ rs xs. AsksBefore [] rs xs in
-        let before : AllByRecursion (IsOneOf (map (λ r. r.slot) rows.rows.items)) slots = All-map (λ j k. h.all j k) slots kept in
-        record {
-          kept = subst P (sym added.rows) (All-++ (λ (r : Row). IsKept qs r.slot) rows.rows.items (added.row ∷ []) (All-map (λ r k. stays r.slot k) rows.rows.items h.kept) (subst (IsKept qs) (sym added.slot) here, tt));
-          all = subst M (sym added.rows) member;
-          once = subst Q (sym added.rows) (subst AllDiffer (sym slots_push) (AllDiffer-push (map (λ r. r.slot) rows.rows.items) added.row.slot h.once (map_all (λ (r : Row). r.slot) (λ j. j ≢ added.row.slot) rows.rows.items (All-map (λ r k. apart r.slot k) rows.rows.items h.kept))));
-          ordered = subst (λ rs. A rs new.asked.items) (sym added.rows) (subst (A (rows.rows.items ++ added.row ∷ [])) (sym added.asked) (AsksBefore-push [] rows.rows.items rows.asked.items slots added.row h.ordered h.asked added.asks before));
-          asked = ap length added.asked ∙ length-append rows.asked.items slots ∙ ap (λ k. k + length slots) h.asked ∙ ap (λ k. all_asked rows.rows.items + k) (sym added.asks) ∙ sym (all_asked-push rows.rows.items added.row) ∙ ap all_asked (sym added.rows);
-          uses = ap length added.uses ∙ length-append rows.uses.items once ∙ ap (λ k. k + length once) h.uses ∙ ap (λ k. all_uses rows.rows.items + k) (sym added.count) ∙ sym (all_uses-push rows.rows.items added.row) ∙ ap all_uses (sym added.rows);
-        }
+        by : (j : ℕ) → (j ≡ i) ⊎ (j ≢ i) → is_kept l.kept j ≡ is_some (answer_at (slots_of qs) j)
+        by j (inl same) = ap (is_kept l.kept) same ∙ h.kept i ∙ ap is_some none ∙ sym (ap (λ k. is_some (answer_at (slots_of qs) k)) same ∙ ap is_some now)
+        by j (inr apart) = h.kept j ∙ ap is_some (sym (other_answer ps qs i n s changes j apart))
+
+        was : (j : ℕ) → IsKept qs j → (j ≡ i) ⊎ (j ≢ i) → IsKept ps j
+        was j k (inl same) = let no : is_some (answer_at (slots_of qs) j) ≡ false = ap (λ x. is_some (answer_at (slots_of qs) x)) same ∙ ap is_some now in absurd (cc)
+        was j k (inr apart) = ap is_some (sym (other_answer ps qs i n s changes j apart)) ∙ k
+
+    same_at : (l : Linked) → AreLinked ps l → answer_in s ≡ None → (j : ℕ) → (j ≡ i) ⊎ (j ≢ i) → entry_at qs l j ≡ entry_at ps l j
+    same_at l h empty j (inl same) = no_entry_at qs l j (ap (answer_at (slots_of qs)) same ∙ answer_there qs i n s changes.here ∙ empty) ∙ sym (no_entry_at ps l j (ap (answer_at (slots_of ps)) same ∙ none))
+    same_at l h empty j (inr apart) = other_entry l l h j apart refl refl
+
+    -- the same nodes are kept
+    pub entries-stay : answer_in s ≡ None → (l : Linked) → AreLinked ps l → (more : ℕ) → length qs ≡ length ps + more → AllByRecursion (λ j. entry_at qs l j ≡ None) (numbers_from (length ps) more) → entries_of qs l ≡ entries_of ps l
+    entries-stay empty l h more count new =
+        ap (λ k. entries_at qs l (numbers_from 0 k)) count
+        ∙ ap (entries_at qs l) (numbers-split 0 (length ps) more)
+        ∙ entries_at-append qs l (numbers_from 0 (length ps)) (numbers_from (0 + length ps) more)
+        ∙ (let e : 0 + length ps ≡ length ps = omega arith in ap (λ k. entries_at qs l (numbers_from 0 (length ps)) ++ entries_at qs l (numbers_from k more)) e)
+        ∙ ap (λ xs. entries_at qs l (numbers_from 0 (length ps)) ++ xs) (nothing (numbers_from (length ps) more) new)
+        ∙ ++-nil (entries_at qs l (numbers_from 0 (length ps)))
+        ∙ entries_at-same ps qs l l (numbers_from 0 (length ps)) (All-numbers (λ j. entry_at qs l j ≡ entry_at ps l j) 0 (length ps) (λ j le lt. same_at l h empty j (same_or j i)))
       where
-        by_one : (rows : Rows) (r : Row) → AreRows ps rows → r.slot ≡ i → (j : ℕ) → IsKept qs j → (j ≡ i) ⊎ IsKept ps j → IsOneOf (map (λ r. r.slot) rows.rows.items ++ r.slot ∷ []) j
-        by_one rows r h is j k (inl same) = one_of-right (map (λ r. r.slot) rows.rows.items) (r.slot ∷ []) j (inl (is ∙ sym same))
-        by_one rows r h is j k (inr kept) = one_of-left (map (λ r. r.slot) rows.rows.items) (r.slot ∷ []) j (h.all j kept)
+        nothing : (is : List ℕ) → AllByRecursion (λ j. entry_at qs l j ≡ None) is → entries_at qs l is ≡ []
+        nothing [] k = refl
+        nothing (j ∷ is) k = ap (λ o. with_first o (entries_at qs l is)) k.0 ∙ nothing is k.1
 
-    -- the kept nodes are one more
-    pub entries-add : (a : Result V F) → answer_in s ≡ Some a → (rows new : Rows) (slots : List ℕ) (once : List Use) → AreRows ps rows → AllByRecursion (IsKept ps) slots → Added i slots once rows new
-        → entries_of qs new ≡ entries_of ps rows ++ record { node = n; answer = a; asked = nodes_at ps slots; uses = once } ∷ []
-    entries-add a is rows new slots once h kept added =
-        let k : Keeps ps qs = keeps ps qs i n s changes none in
-        let all : AllByRecursion (IsKept ps) rows.asked.items = asked_kept ps [] rows.rows.items rows.asked.items h.ordered h.asked h.kept (λ j m. absurd m) in
-        let node : node_at qs added.row.slot ≡ Some n = ap (node_at qs) added.slot ∙ node_there qs i n s changes.here in
-        let answer : answer_at (slots_of qs) added.row.slot ≡ Some a = ap (answer_at (slots_of qs)) added.slot ∙ answer_there qs i n s changes.here ∙ is in
-        let part : take added.row.asked slots ≡ slots = ap (λ m. take m slots) added.asks ∙ take-length slots in
-        let uses : take added.row.uses once ≡ once = ap (λ m. take m once) added.count ∙ take-length once in
-        (λ j. entries_in qs (added.rows j) (added.asked j) (added.uses j))
-        ∙ entries_in-push qs rows.rows.items rows.asked.items slots rows.uses.items once added.row h.asked h.uses
-        ∙ (λ j. same_entries ps qs k rows.rows.items rows.asked.items rows.uses.items h.kept all j ++ entry_before (node j) (answer j) (nodes_at qs (part j)) (uses j) [])
-        ∙ ap (λ ns. entries_of ps rows ++ record { node = n; answer = a; asked = ns; uses = once } ∷ []) (same_nodes ps qs k slots kept)
+    -- a slot more is kept
+    pub links-keep : (a : Result V F) → answer_in s ≡ Some a → (l m : Linked) (slots : List ℕ) (once : List Use) → AreLinked ps l → AllByRecursion (IsKept ps) slots → i < length l.kept → i < length l.asked → length qs ≤ length l.kept → LinksKeep l m i slots once → AreLinked qs m
+    links-keep a is l m slots once h all lt in_asked le k = record {
+      kept = λ j. by j (same_or j i);
+      asked = λ j q. rows j q (same_or j i);
+      idle = k.waits ∙ h.idle;
+      slots = (let e = ap length k.kept in let f = length-set l.kept i true in omega arith);
+    }
+      where
+        here : answer_at (slots_of qs) i ≡ Some a
+        here = answer_there qs i n s changes.here ∙ is
+
+        by : (j : ℕ) → (j ≡ i) ⊎ (j ≢ i) → is_kept m.kept j ≡ is_some (answer_at (slots_of qs) j)
+        by j (inl same) = ap (is_kept m.kept) same ∙ ap (λ ks. is_kept ks i) k.kept ∙ get_or-set_same l.kept i true false lt ∙ sym (ap (λ x. is_some (answer_at (slots_of qs) x)) same ∙ ap is_some here)
+        by j (inr apart) = ap (λ ks. is_kept ks j) k.kept ∙ get_or-set_other l.kept i j true false apart ∙ h.kept j ∙ ap is_some (sym (other_answer ps qs i n s changes j apart))
+
+        rows : (j : ℕ) → IsKept qs j → (j ≡ i) ⊎ (j ≢ i) → AllByRecursion (IsKept qs) (row m.asked j)
+        rows j q (inl same) = subst (AllByRecursion (IsKept qs)) (sym (ap (row m.asked) same ∙ ap (λ rs. row rs i) k.asked ∙ get_or-set_same l.asked i slots [] in_asked)) (All-map (stays_kept ps qs stays) slots all)
+        rows j q (inr apart) = subst (AllByRecursion (IsKept qs)) (sym (ap (λ rs. row rs j) k.asked ∙ get_or-set_other l.asked i j slots [] apart)) (All-map (stays_kept ps qs stays) (row l.asked j) (h.asked j (ap is_some (sym (other_answer ps qs i n s changes j apart)) ∙ q)))
+
+    -- the kept nodes are one more, in its place
+    pub entries-keep : (a : Result V F) → answer_in s ≡ Some a → (l m : Linked) (slots : List ℕ) (once : List Use) → AreLinked ps l → AllByRecursion (IsKept ps) slots → i < length l.asked → i < length l.uses → i < length ps → length qs ≡ length ps → LinksKeep l m i slots once
+        → IsPut (record { node = n; answer = a; asked = nodes_at ps slots; uses = once }) (entries_of ps l) (entries_of qs m)
+    entries-keep a is l m slots once h all in_asked in_uses lt count k =
+        let rest : ℕ = length ps - (i + 1) in
+        let e : length ps ≡ i + suc rest = omega arith in
+        let before : List ℕ = numbers_from 0 i in
+        let after : List ℕ = numbers_from (i + 1) rest in
+        let cut : numbers_from 0 (length ps) ≡ before ++ i ∷ after = ap (numbers_from 0) e ∙ numbers-split 0 i (suc rest) ∙ (let z : 0 + i ≡ i = omega arith in ap (λ x. before ++ numbers_from x (suc rest)) z) in
+        let same : (j : ℕ) → j ≢ i → entry_at qs m j ≡ entry_at ps l j = λ j apart. other_entry l m h j apart (ap (λ rs. row rs j) k.asked ∙ get_or-set_other l.asked i j slots [] apart) (ap (λ rs. row rs j) k.uses ∙ get_or-set_other l.uses i j once [] apart) in
+        let now : entry_at qs m i ≡ Some (record { node = n; answer = a; asked = nodes_at ps slots; uses = once }) =
+        (λ j. entry_with (node_there qs i n s changes.here j) ((answer_there qs i n s changes.here ∙ is) j) (nodes_at qs ((ap (λ rs. row rs i) k.asked ∙ get_or-set_same l.asked i slots [] in_asked) j)) ((ap (λ rs. row rs i) k.uses ∙ get_or-set_same l.uses i once [] in_uses) j))
+        ∙ ap (λ ns. Some (record { node = n; answer = a; asked = ns; uses = once })) (same_nodes ps qs stays slots all) in
+        record {
+          front = entries_at ps l before;
+          back = entries_at ps l after;
+          was = ap (entries_at ps l) cut ∙ entries_at-append ps l before (i ∷ after) ∙ ap (λ o. entries_at ps l before ++ with_first o (entries_at ps l after)) (no_entry_at ps l i none);
+          now = ap (λ x. entries_at qs m (numbers_from 0 x)) count ∙ ap (entries_at qs m) cut ∙ entries_at-append qs m before (i ∷ after)
+              ∙ (λ j. entries_at-same ps qs l m before (All-numbers (λ x. entry_at qs m x ≡ entry_at ps l x) 0 i (λ x le lt. same x (omega arith))) j ++ with_first (now j) (entries_at-same ps qs l m after (All-numbers (λ x. entry_at qs m x ≡ entry_at ps l x) (i + 1) rest (λ x le lt. same x (omega arith))) j));
+        }
 
   -- ---- frames
   HasNode-opened : (ps : List (N × Slot V F)) (fs : List Frame) → AllByRecursion (λ f. IsOpen ps f.slot) fs → AllByRecursion (λ f. HasNode ps f.slot) fs

@@ -1,5 +1,6 @@
 -- What an edit takes from the kept nodes is what the pass takes from the table, and what stays is right.
-use Rattle.std.proofs.Common.{◌≡◌, ℕ, ◌+◌, Bool, true, false, not, cond, ◌||◌, ◌&&◌, nat_eq, nat_lt, List, [], ◌∷◌, ◌++◌, map, filter, Contains, Any, refl, sym, ◌∙◌, ap, subst, ◌⊎◌, inl, inr, eq-eqb}
+use Rattle.std.proofs.lemmas.List.Sums.{sum_by-cons}
+use Rattle.std.proofs.Common.{◌≡◌, ℕ, zero, suc, ◌+◌, ◌*◌, ◌<◌, ◌≤◌, arith, length, length-append, sum_by, Bool, true, false, not, cond, ◌||◌, ◌&&◌, nat_eq, nat_lt, List, [], ◌∷◌, ◌++◌, map, filter, Contains, Any, refl, sym, ◌∙◌, ap, subst, inl, inr, eq-eqb}
 use Rattle.std.specs.Bool.{Decides}
 use Rattle.std.specs.List.{AllByRecursion, list_any, flat_map}
 use Rattle.std.proofs.lemmas.Bool.Decides.{Decides-and, Decides-not, Decides-ltb, not_from_Decides}
@@ -16,15 +17,19 @@ use Rattle.ksv_memo_rules.specs.Meaning.{Meaning, Standing, IsLawful, IsSettled,
 use Rattle.ksv_memo_rules.specs.Evaluation.{is_among, IsAnswered, completed, tells}
 use Rattle.ksv_memo_rules.specs.Entry.{Entry}
 use Rattle.ksv_memo_rules.specs.Right.{nodes_of, AreDistinct, AreExactly, HasEachOnce, IsRightEntry, IsRight}
-use Rattle.ksv_memo_rules.specs.Touched.{IsTouched, is_use_touched, is_hit, is_touched, tree, left_after}
+use Rattle.ksv_memo_rules.specs.Touched.{IsTouched, is_hit, is_touched, is_use_touched, tree, left_after}
 use Rattle.ksv_memo.specs.Layout.{IsOneOf}
-use Rattle.ksv_memo.specs.Sweep.{Mark, AllSay, AreMarked, entries_with as entries_in, entries_left, Sweeps}
+use Rattle.ksv_memo_links.specs.Touching.{pages_in}
+use Rattle.ksv_memo_links.specs.Links.{IsOverwrite, pages_met, met_by}
+use Rattle.ksv_memo_links.proofs.Touches.{uses-meet}
+use Rattle.ksv_memo.specs.Near.{IsWrite, LooksNear, gone_of}
+use Rattle.ksv_memo.specs.Sweep.{Mark, AllSay, IsMarked, entries_with as entries_in, entries_left, entries_gone, Sweeps}
 use Rattle.ksv_memo_rules.proofs.Standing.{law_on}
-use Rattle.ksv_memo_rules.proofs.Lists.{All-map, All-both, All-++, none_pass, none_fails}
+use Rattle.ksv_memo_rules.proofs.Lists.{All-map, All-both, none_fails, none_pass}
 use Rattle.ksv_memo_rules.proofs.Evals.{eqb_true, or_false}
 use Rattle.ksv_memo_rules.proofs.Keeping.{AreDistinct-none, kept-tree, or_right}
 use Rattle.ksv_memo.proofs.Change.{All-once, All-of-once, untouched-stays}
-use Rattle.ksv_memo.proofs.Laying.{one_of-all, one_of-push}
+use Rattle.ksv_memo.proofs.Laying.{one_of-all}
 
 -- ---- the tests
 pub use_touched : (change : Change) (used : Use) → Decides (is_use_touched change used) (Touches change used)
@@ -105,9 +110,9 @@ module _ {N A : Type 0} (w : Standing N A) where
       by false rest = IsDistinct-cons nat_eq (w.number k.entry.node) (map w.number (nodes_of (entries_left ks))) (numbers-entries_left (λ y. nat_eq (w.number k.entry.node) y ≡ false) ks (IsDistinct-head nat_eq (w.number k.entry.node) (map w.number (nodes_of (entries_in ks))) h)) rest
 
 -- what stays has no touched use
-free-entries_left : {N A : Type 0} (change : Change) (before ks : List (Mark N A)) → AreMarked change before ks → AllByRecursion (λ e. AllByRecursion (λ used. Touches change used → ⊥) e.uses) (entries_left ks)
+free-entries_left : {N A : Type 0} (change : Change) (before ks : List (Mark N A)) → AllByRecursion (IsMarked change before) ks → AllByRecursion (λ e. AllByRecursion (λ used. Touches change used → ⊥) e.uses) (entries_left ks)
 free-entries_left change before [] h = tt
-free-entries_left {N} {A} change before (k ∷ ks) h = by k.goes refl (free-entries_left change (before ++ k ∷ []) ks h.1)
+free-entries_left {N} {A} change before (k ∷ ks) h = by k.goes refl (free-entries_left change before ks h.1)
   where
     by : (b : Bool) → k.goes ≡ b → AllByRecursion (λ e. AllByRecursion (λ used. Touches change used → ⊥) e.uses) (entries_left ks) → AllByRecursion (λ e. AllByRecursion (λ used. Touches change used → ⊥) e.uses) (entries_in (cond (not b) (k ∷ filter (λ k. not k.goes) ks) (filter (λ k. not k.goes) ks)))
     by true e rest = rest
@@ -131,6 +136,64 @@ module _ {N A : Type 0} (w : Standing N A) where
   left_nodes : (change : Change) (ks : List (Mark N A)) → AllByRecursion (IsTold change) ks → nodes_of (entries_left ks) ≡ left_after w change (nodes_of (entries_in ks))
   left_nodes change [] told = refl
   left_nodes change (k ∷ ks) told = left_here change k ks told.0 (left_nodes change ks told.1)
+
+  gone_here : (change : Change) (k : Mark N A) (ks : List (Mark N A)) → IsTold change k → entries_gone ks ≡ gone_of w change (entries_in ks) → entries_gone (k ∷ ks) ≡ gone_of w change (entries_in (k ∷ ks))
+  gone_here change k ks told rest = by k.goes (is_touched w change k.entry.node) told
+    where
+      by : (b c : Bool) → b ≡ c → entries_in (cond b (k ∷ filter (λ k. k.goes) ks) (filter (λ k. k.goes) ks)) ≡ cond c (k.entry ∷ gone_of w change (entries_in ks)) (gone_of w change (entries_in ks))
+      by true true e = ap (λ es. k.entry ∷ es) rest
+      by false false e = rest
+      by true false e = absurd (cc)
+      by false true e = absurd (cc)
+
+  -- and those go that are
+  gone_nodes : (change : Change) (ks : List (Mark N A)) → AllByRecursion (IsTold change) ks → entries_gone ks ≡ gone_of w change (entries_in ks)
+  gone_nodes change [] told = refl
+  gone_nodes change (k ∷ ks) told = gone_here change k ks told.0 (gone_nodes change ks told.1)
+
+-- ---- what goes has an ask or meets a page
+write-over : (change : Change) → IsWrite change → IsOverwrite change
+write-over (Overwrite at n) h = tt
+write-over (Insert at n) h = h
+write-over (Delete at n) h = h
+write-over Append h = h
+
+pages-some : (change : Change) → IsWrite change → 1 ≤ pages_met change
+pages-some (Overwrite at n) h = omega arith
+pages-some (Insert at n) h = absurd h
+pages-some (Delete at n) h = absurd h
+pages-some Append h = absurd h
+
+some-page : (change : Change) (us : List Use) → IsOverwrite change → list_any (is_use_touched change) us ≡ true → 1 ≤ length (pages_in us)
+some-page (Overwrite at n) us h e = let m = uses-meet at n us e in let lt = m.there.1 in omega arith
+some-page (Insert at n) us h e = absurd h
+some-page (Delete at n) us h e = absurd h
+some-page Append us h e = absurd h
+
+some-ask : {N A : Type 0} (all : List (Mark N A)) (ms : List N) (bs : List Bool) → AllSay all ms bs → list_any (λ b. b) bs ≡ true → 1 ≤ length ms
+some-ask all [] [] h e = absurd (cc)
+some-ask all [] (b ∷ bs) h e = absurd h
+some-ask all (m ∷ ms) bs h e = omega arith
+
+one-near : {N A : Type 0} (change : Change) (all : List (Mark N A)) (k : Mark N A) → IsOverwrite change → IsMarked change all k → k.goes ≡ true → 1 ≤ length k.entry.asked + length (pages_in k.entry.uses)
+one-near change all k over mark goes = by (list_any (is_use_touched change) k.entry.uses) refl (list_any (λ b. b) mark.asked) refl
+  where
+    by : (a : Bool) → list_any (is_use_touched change) k.entry.uses ≡ a → (b : Bool) → list_any (λ b. b) mark.asked ≡ b → 1 ≤ length k.entry.asked + length (pages_in k.entry.uses)
+    by true e b f = let p = some-page change k.entry.uses over e in omega arith
+    by false e true f = let p = some-ask all k.entry.asked mark.asked mark.say f in omega arith
+    by false e false f = let no : true ≡ (false || false) = sym goes ∙ mark.goes ∙ (λ i. e i || f i) in absurd (cc)
+
+gone-few : {N A : Type 0} (change : Change) (all ks : List (Mark N A)) → IsOverwrite change → AllByRecursion (IsMarked change all) ks → length (entries_gone ks) ≤ sum_by (λ e. length e.asked) (entries_gone ks) + sum_by (λ e. length (pages_in e.uses)) (entries_gone ks)
+gone-few change all [] over h = omega arith
+gone-few {N} {A} change all (k ∷ ks) over h = by k.goes refl (gone-few change all ks over h.1)
+  where
+    by : (b : Bool) → k.goes ≡ b → length (entries_gone ks) ≤ sum_by (λ e. length e.asked) (entries_gone ks) + sum_by (λ e. length (pages_in e.uses)) (entries_gone ks) → length (entries_in (cond b (k ∷ filter (λ k. k.goes) ks) (filter (λ k. k.goes) ks))) ≤ sum_by (λ e. length e.asked) (entries_in (cond b (k ∷ filter (λ k. k.goes) ks) (filter (λ k. k.goes) ks))) + sum_by (λ e. length (pages_in e.uses)) (entries_in (cond b (k ∷ filter (λ k. k.goes) ks) (filter (λ k. k.goes) ks)))
+    by false e rest = rest
+    by true e rest =
+        let one = one-near change all k over h.0 e in
+        let a = sum_by-cons (λ (e : Entry N A). length e.asked) k.entry (entries_gone ks) in
+        let b = sum_by-cons (λ (e : Entry N A). length (pages_in e.uses)) k.entry (entries_gone ks) in
+        omega arith
 
 module _ {N A : Type 0} (w : Standing N A) (law : IsSettled w) where
   -- ---- a kept node is touched if one of its uses is, or a node that it asked
@@ -166,24 +229,49 @@ module _ {N A : Type 0} (w : Standing N A) (law : IsSettled w) where
   pub left_after-same : (change : Change) (ns ms : List N) → ((x : N) → is_among w.number ns x ≡ is_among w.number ms x) → (x : N) → is_among w.number (left_after w change ns) x ≡ is_among w.number (left_after w change ms) x
   left_after-same change ns ms same x = among-filter (λ m. not (is_touched w change m)) ns x ∙ ap (λ b. b && not (is_touched w change x)) (same x) ∙ sym (among-filter (λ m. not (is_touched w change m)) ms x)
 
-  -- ---- the marks of the pass
-  said : (change : Change) (before : List (Mark N A)) → AllByRecursion (IsTold w change) before → (ms : List N) (bs : List Bool) → AllSay before ms bs → list_any (λ b. b) bs ≡ list_any (is_touched w change) ms
-  said change before told [] [] h = refl
-  said change before told [] (b ∷ bs) h = absurd h
-  said change before told (m ∷ ms) [] h = absurd h
-  said change before told (m ∷ ms) (b ∷ bs) h =
-      let here : b ≡ is_touched w change m = sym h.0.goes ∙ one_of-all (IsTold w change) before told h.0.mark h.0.there ∙ ap (is_touched w change) h.0.node in
-      ap (λ c. c || list_any (λ b. b) bs) here ∙ ap (λ c. is_touched w change m || c) (said change before told ms bs h.1)
+  -- ---- the marks
+  -- what a node asked has a shorter tree
+  small : (ms : List N) → AllByRecursion (λ m. length (tree w m) ≤ length (flat_map (tree w) ms)) ms
+  small [] = tt
+  small (m ∷ ms) =
+      let n = length-append (tree w m) (flat_map (tree w) ms) in
+      (omega arith, All-map (λ x le. (let k : length (tree w x) ≤ length (tree w m ++ flat_map (tree w) ms) = omega arith in k)) ms (small ms))
 
-  -- each mark of the pass says whether the node is touched, from the front on
-  marks-told : (change : Change) (kept : List N) (before ks : List (Mark N A)) → AllByRecursion (IsTold w change) before → AreMarked change before ks → AllByRecursion (IsRightEntry w kept) (entries_in ks) → AllByRecursion (IsTold w change) ks
-  marks-told change kept before [] told marked right = tt
-  marks-told change kept before (k ∷ ks) told marked right =
-      let here : IsTold w change k =
-      marked.0.goes
-      ∙ ap (λ b. list_any (is_use_touched change) k.entry.uses || b) (said change before told k.entry.asked marked.0.asked marked.0.say)
-      ∙ sym (touched-kept change kept k.entry right.0) in
-      (here, marks-told change kept (before ++ k ∷ []) ks (All-++ (IsTold w change) before (k ∷ []) told (here, tt)) marked.1 right.1)
+  said : (change : Change) (all : List (Mark N A)) (n : ℕ) → ((k : Mark N A) → IsOneOf all k → length (tree w k.entry.node) < n → IsTold w change k) → (ms : List N) → AllByRecursion (λ m. length (tree w m) < n) ms → (bs : List Bool) → AllSay all ms bs → list_any (λ b. b) bs ≡ list_any (is_touched w change) ms
+  said change all n told [] few [] h = refl
+  said change all n told [] few (b ∷ bs) h = absurd h
+  said change all n told (m ∷ ms) few [] h = absurd h
+  said change all n told (m ∷ ms) few (b ∷ bs) h =
+      let short : length (tree w h.0.mark.entry.node) < n = subst (λ x. length (tree w x) < n) (sym h.0.node) few.0 in
+      let here : b ≡ is_touched w change m = sym h.0.goes ∙ told h.0.mark h.0.there short ∙ ap (is_touched w change) h.0.node in
+      ap (λ c. c || list_any (λ b. b) bs) here ∙ ap (λ c. is_touched w change m || c) (said change all n told ms few.1 bs h.1)
+
+  entry_right : (kept : List N) (ks : List (Mark N A)) → AllByRecursion (IsRightEntry w kept) (entries_in ks) → AllByRecursion (λ k. IsRightEntry w kept k.entry) ks
+  entry_right kept [] h = tt
+  entry_right kept (k ∷ ks) h = (h.0, entry_right kept ks h.1)
+
+  -- each mark says whether the node is touched, by the length of its tree
+  mark-told : (change : Change) (kept : List N) (all : List (Mark N A)) → AllByRecursion (IsMarked change all) all → AllByRecursion (λ k. IsRightEntry w kept k.entry) all → (n : ℕ) (k : Mark N A) → IsOneOf all k → length (tree w k.entry.node) < n → IsTold w change k
+  mark-told change kept all marked right zero k m lt = absurd (omega arith)
+  mark-told change kept all marked right (suc n) k m lt =
+      let mark : IsMarked change all k = one_of-all (IsMarked change all) all marked k m in
+      let is : IsRightEntry w kept k.entry = one_of-all (λ (x : Mark N A). IsRightEntry w kept x.entry) all right k m in
+      let Q : Outcome N A → Type 0 = λ out. IsAnswered out in
+      let answered : IsAnswered (tells w [] k.entry.node).outcome = subst Q (sym is.outcome) tt in
+      let whole : tree w k.entry.node ≡ flat_map (tree w) k.entry.asked ++ k.entry.node ∷ [] = kept-tree w law k.entry.node answered ∙ ap (λ ns. flat_map (tree w) ns ++ k.entry.node ∷ []) is.asked in
+      let count = ap length whole in
+      let more = length-append (flat_map (tree w) k.entry.asked) (k.entry.node ∷ []) in
+      let few : AllByRecursion (λ x. length (tree w x) < n) k.entry.asked = All-map (λ x le. (let short : length (tree w x) < n = omega arith in short)) k.entry.asked (small k.entry.asked) in
+      mark.goes
+      ∙ ap (λ b. list_any (is_use_touched change) k.entry.uses || b) (said change all n (mark-told change kept all marked right n) k.entry.asked few mark.asked mark.say)
+      ∙ sym (touched-kept change kept k.entry is)
+
+  marks-told : (change : Change) (kept : List N) (ks : List (Mark N A)) → AllByRecursion (IsMarked change ks) ks → AllByRecursion (IsRightEntry w kept) (entries_in ks) → AllByRecursion (IsTold w change) ks
+  marks-told change kept ks marked right = each ks (λ k m. m)
+    where
+      each : (xs : List (Mark N A)) → ((k : Mark N A) → IsOneOf xs k → IsOneOf ks k) → AllByRecursion (IsTold w change) xs
+      each [] inside = tt
+      each (k ∷ xs) inside = (mark-told change kept ks marked (entry_right kept ks right) (suc (length (tree w k.entry.node))) k (inside k (inl refl)) (omega arith), each xs (λ x m. inside x (inr m)))
 
   -- ---- what the pass leaves
   -- an entry that stays is left
@@ -209,51 +297,63 @@ module _ {N A : Type 0} (w : Standing N A) (law : IsSettled w) where
       (subst (λ n. is_among w.number (nodes_of (entries_left all)) n ≡ true) h.0.node (stays_in all h.0.mark (inside h.0.mark h.0.there) (h.0.goes ∙ parts.0)), none_said all before inside ms bs h.1 parts.1)
 
   -- what an entry that stays asked is left
-  closed_left : (change : Change) (all before ks : List (Mark N A)) → ((k : Mark N A) → IsOneOf before k → IsOneOf all k) → ((k : Mark N A) → IsOneOf ks k → IsOneOf all k) → AreMarked change before ks → AllByRecursion (λ (e : Entry N A). AllByRecursion (λ m. is_among w.number (nodes_of (entries_left all)) m ≡ true) e.asked) (entries_left ks)
-  closed_left change all before [] inside later marked = tt
-  closed_left change all before (k ∷ ks) inside later marked =
-      by k.goes refl (closed_left change all (before ++ k ∷ []) ks (λ x m. cases x (one_of-push before k x m)) (λ x m. later x (inr m)) marked.1)
+  closed_left : (change : Change) (all ks : List (Mark N A)) → AllByRecursion (IsMarked change all) ks → AllByRecursion (λ (e : Entry N A). AllByRecursion (λ m. is_among w.number (nodes_of (entries_left all)) m ≡ true) e.asked) (entries_left ks)
+  closed_left change all [] marked = tt
+  closed_left change all (k ∷ ks) marked = by k.goes refl (closed_left change all ks marked.1)
     where
-      cases : (x : Mark N A) → IsOneOf before x ⊎ (k ≡ x) → IsOneOf all x
-      cases x (inl m) = inside x m
-      cases x (inr e) = subst (IsOneOf all) e (later k (inl refl))
-
       by : (b : Bool) → k.goes ≡ b → AllByRecursion (λ (e : Entry N A). AllByRecursion (λ m. is_among w.number (nodes_of (entries_left all)) m ≡ true) e.asked) (entries_left ks)
           → AllByRecursion (λ (e : Entry N A). AllByRecursion (λ m. is_among w.number (nodes_of (entries_left all)) m ≡ true) e.asked) (entries_in (cond (not b) (k ∷ filter (λ k. not k.goes) ks) (filter (λ k. not k.goes) ks)))
       by true e rest = rest
-      by false e rest = (none_said all before inside k.entry.asked marked.0.asked marked.0.say (or_false (list_any (is_use_touched change) k.entry.uses) (list_any (λ b. b) marked.0.asked) (sym marked.0.goes ∙ e)).1, rest)
+      by false e rest = (none_said all all (λ x m. m) k.entry.asked marked.0.asked marked.0.say (or_false (list_any (is_use_touched change) k.entry.uses) (list_any (λ b. b) marked.0.asked) (sym marked.0.goes ∙ e)).1, rest)
 
   -- what stays is right on the same bytes
-  right-entries_left : (change : Change) (ks : List (Mark N A)) → IsRight w (entries_in ks) → AreMarked change [] ks → IsRight w (entries_left ks)
+  right-entries_left : (change : Change) (ks : List (Mark N A)) → IsRight w (entries_in ks) → AllByRecursion (IsMarked change ks) ks → IsRight w (entries_left ks)
   right-entries_left change ks right marked =
       let kept : List N = nodes_of (entries_left ks) in
       record {
         each = All-both (IsRightEntry w (nodes_of (entries_in ks))) (λ (e : Entry N A). AllByRecursion (λ m. is_among w.number kept m ≡ true) e.asked) (IsRightEntry w kept)
             (λ e is asked. record { outcome = is.outcome; asked = is.asked; uses = is.uses; closed = asked })
-            (entries_left ks) (All-entries_left (IsRightEntry w (nodes_of (entries_in ks))) ks right.each) (closed_left change ks [] ks (λ k m. absurd m) (λ k m. m) marked);
+            (entries_left ks) (All-entries_left (IsRightEntry w (nodes_of (entries_in ks))) ks right.each) (closed_left change ks ks marked);
         once = distinct-entries_left w ks right.once;
       }
 
-  -- those nodes stay that have no touched use in their tree, and no others
-  pub forgets : (change : Change) (es all : List (Entry N A)) → IsRight w es → Sweeps change es all → IsRight w all × AreExactly w (nodes_of all) (left_after w change (nodes_of es))
-  forgets change es all right sweeps =
-      let ks : List (Mark N A) = sweeps.marks in
-      let R : List (Entry N A) → Type 0 = λ xs. IsRight w xs in
-      let right_marks : IsRight w (entries_in ks) = subst R (sym sweeps.entries) right in
-      let told : AllByRecursion (IsTold w change) ks = marks-told change (nodes_of (entries_in ks)) [] ks tt sweeps.marked right_marks.each in
-      let stays : IsRight w all = subst R (sym sweeps.stays) (right-entries_left change ks right_marks sweeps.marked) in
-      let same : nodes_of all ≡ left_after w change (nodes_of es) = ap nodes_of sweeps.stays ∙ left_nodes w change ks told ∙ ap (λ xs. left_after w change (nodes_of xs)) sweeps.entries in
-      (stays, record { once = stays.once; same = λ x. ap (λ ns. is_among w.number ns x) same })
+  module _ (change : Change) (es all : List (Entry N A)) (looked : ℕ) (right : IsRight w es) (sweeps : Sweeps change es all looked) where
+    right_marks : IsRight w (entries_in sweeps.marks)
+    right_marks = let R : List (Entry N A) → Type 0 = λ xs. IsRight w xs in subst R (sym sweeps.entries) right
+
+    told : AllByRecursion (IsTold w change) sweeps.marks
+    told = marks-told change (nodes_of (entries_in sweeps.marks)) sweeps.marks sweeps.marked right_marks.each
+
+    -- those nodes stay that have no touched use in their tree, and no others
+    pub forgets : IsRight w all × AreExactly w (nodes_of all) (left_after w change (nodes_of es))
+    forgets =
+        let R : List (Entry N A) → Type 0 = λ xs. IsRight w xs in
+        let stays : IsRight w all = subst R (sym sweeps.stays) (right-entries_left change sweeps.marks right_marks sweeps.marked) in
+        let same : nodes_of all ≡ left_after w change (nodes_of es) = ap nodes_of sweeps.stays ∙ left_nodes w change sweeps.marks told ∙ ap (λ xs. left_after w change (nodes_of xs)) sweeps.entries in
+        (stays, record { once = stays.once; same = λ x. ap (λ ns. is_among w.number ns x) same })
+
+    -- and the looks are near
+    pub looks-near : IsWrite change → LooksNear w change es looked
+    looks-near wrote =
+        let gone : entries_gone sweeps.marks ≡ gone_of w change es = gone_nodes w change sweeps.marks told ∙ ap (gone_of w change) sweeps.entries in
+        let over : IsOverwrite change = write-over change wrote in
+        let pages = pages-some change wrote in
+        let few = gone-few change sweeps.marks sweeps.marks over sweeps.marked in
+        let most = sweeps.most over in
+        record {
+          least = subst (λ xs. length xs ≤ looked) gone sweeps.least;
+          most = subst (λ xs. looked ≤ 8 * (pages_met change + sum_by (λ e. met_by change e.uses) es + length xs + sum_by (λ e. length e.asked) xs + sum_by (λ e. length (pages_in e.uses)) xs)) gone (omega arith);
+        }
 
 -- and it is right for the bytes after the edit
-pub forgets-right : {N A : Type 0} (meaning : Meaning N A) → IsLawful meaning → (change : Change) (before after : List ℕ) → Makes change before after → (es all : List (Entry N A)) → Sweeps change es all → IsRight (on meaning before) es → IsRight (on meaning after) all
-forgets-right {N} {A} meaning law change before after made es all sweeps right =
+pub forgets-right : {N A : Type 0} (meaning : Meaning N A) → IsLawful meaning → (change : Change) (before after : List ℕ) → Makes change before after → (es all : List (Entry N A)) (looked : ℕ) → Sweeps change es all looked → IsRight (on meaning before) es → IsRight (on meaning after) all
+forgets-right {N} {A} meaning law change before after made es all looked sweeps right =
     let P : List (Entry N A) → Type 0 = λ xs. AllByRecursion (λ (e : Entry N A). AllByRecursion (λ used. Touches change used → ⊥) e.uses) xs in
-    untouched-stays meaning law change before after made all (forgets (on meaning before) (law_on meaning law before) change es all right sweeps).0
-    (subst P (sym sweeps.stays) (free-entries_left change [] sweeps.marks sweeps.marked))
+    untouched-stays meaning law change before after made all (forgets (on meaning before) (law_on meaning law before) change es all looked right sweeps).0
+    (subst P (sym sweeps.stays) (free-entries_left change sweeps.marks sweeps.marks sweeps.marked))
 
 -- it was kept before
-pub forgets-kept : {N A : Type 0} (change : Change) (es all : List (Entry N A)) → Sweeps change es all → AllByRecursion (Contains es) all
-forgets-kept {N} {A} change es all sweeps =
+pub forgets-kept : {N A : Type 0} (change : Change) (es all : List (Entry N A)) (looked : ℕ) → Sweeps change es all looked → AllByRecursion (Contains es) all
+forgets-kept {N} {A} change es all looked sweeps =
     let P : List (Entry N A) → Type 0 = λ xs. AllByRecursion (Contains es) xs in
     subst P (sym sweeps.stays) (All-entries_left (Contains es) sweeps.marks (subst P (sym sweeps.entries) (recursion_from_All (Contains es) es (All-contains_itself es))))

@@ -1,20 +1,24 @@
 -- What the slots have of a node is what is kept and open.
-use Rattle.std.proofs.Common.{◌≡◌, ◌≢◌, ℕ, zero, suc, Bool, true, false, List, [], ◌∷◌, ◌++◌, length, map, take, drop, Option, Some, None, is_some, refl, sym, ◌∙◌, ap, subst, Result, inl, inr, ◌||◌}
+use Rattle.std.proofs.lemmas.List.{get_or_past}
+use Rattle.std.proofs.lemmas.List.Sums.{sum_by-cons}
+use Rattle.std.proofs.Common.{◌≡◌, ◌≢◌, ℕ, zero, suc, ◌+◌, ◌<◌, ◌≤◌, sum_by, count_by, cond, arith, Bool, true, false, List, [], ◌∷◌, length, map, take, drop, Option, Some, None, is_some, refl, sym, ◌∙◌, ap, subst, Result, inl, inr, ◌||◌}
 use Rattle.std.specs.Cmp.{IsEquivalence}
 use Rattle.std.specs.List.{AllByRecursion, list_any, IsDistinct}
 use Rattle.std.specs.Map.{keys_of}
 use Rattle.std.proofs.lemmas.Map.Keys.{IsDistinct-head, IsDistinct-tail}
 use Rattle.ksv_bytes.specs.declared.uses.Use.{Use}
+use Rattle.ksv_memo_links.specs.Shelved.{row}
+use Rattle.ksv_memo_links.specs.Touching.{numbers_from}
+use Rattle.ksv_memo_links.specs.Marking.{is_kept}
+use Rattle.ksv_memo_links.specs.Links.{Linked}
 use Rattle.ksv_memo_rules.specs.declared.replies.Slot.{Slot}
-use Rattle.ksv_memo.specs.declared.layout.Row.{Row}
 use Rattle.ksv_memo.specs.declared.layout.Frame.{Frame}
-use Rattle.ksv_memo_rules.specs.Slots.{answer_at, answers_at}
+use Rattle.ksv_memo_rules.specs.Slots.{answer_at, answers_at, with_first}
 use Rattle.ksv_memo_rules.specs.Entry.{Entry}
 use Rattle.ksv_memo.specs.Open.{Open}
-use Rattle.ksv_memo.specs.Nodes.{EndsWithAnswer}
-use Rattle.ksv_memo.specs.Layout.{IsOneOf, slots_of, node_at, nodes_at, IsOpen, IsKept, entry_before, entries_in, open_before, opens_in}
+use Rattle.ksv_memo.specs.Layout.{IsOneOf, slots_of, node_at, nodes_at, IsOpen, IsKept, entry_with, entry_at, entries_at, entries_of, open_before, opens_in, AreLinked}
 use Rattle.ksv_memo_rules.proofs.Evals.{or_false}
-use Rattle.ksv_memo.proofs.Laying.{some-of, HasNode, kept_node, before-append}
+use Rattle.ksv_memo.proofs.Laying.{HasNode, kept_node, number_in}
 
 or_left : (a b : Bool) → a ≡ true → (a || b) ≡ true
 or_left true b e = refl
@@ -24,60 +28,96 @@ or_right : (a b : Bool) → b ≡ true → (a || b) ≡ true
 or_right true b e = refl
 or_right false b e = e
 
+sum_by-same : (f g : ℕ → ℕ) → ((i : ℕ) → f i ≡ g i) → (is : List ℕ) → sum_by f is ≡ sum_by g is
+sum_by-same f g h [] = refl
+sum_by-same f g h (i ∷ is) = sum_by-cons f i is ∙ (λ j. h i j + sum_by-same f g h is j) ∙ sym (sum_by-cons g i is)
+
+pub sum-shift : (f : ℕ → ℕ) (a n : ℕ) → sum_by f (numbers_from (a + 1) n) ≡ sum_by (λ i. f (suc i)) (numbers_from a n)
+sum-shift f a zero = refl
+sum-shift f a (suc n) =
+    let e : a + 1 ≡ suc a = omega arith in
+    sum_by-cons f (a + 1) (numbers_from (a + 1 + 1) n) ∙ ap (λ k. f k + sum_by f (numbers_from (a + 1 + 1) n)) e ∙ ap (λ k. f (suc a) + k) (sum-shift f (a + 1) n) ∙ sym (sum_by-cons (λ i. f (suc i)) a (numbers_from (a + 1) n))
+
+-- the flags that are set are as many as the numbers at which one is
+count_numbers : (ks : List Bool) (n : ℕ) → ((i : ℕ) → n ≤ i → is_kept ks i ≡ false) → sum_by (λ i. cond (is_kept ks i) 1 0) (numbers_from 0 n) ≡ count_by (λ b. b) ks
+count_numbers [] n h = none (numbers_from 0 n)
+  where
+    none : (is : List ℕ) → sum_by (λ i. cond (is_kept [] i) 1 0) is ≡ 0
+    none [] = refl
+    none (i ∷ is) =
+        let z : is_kept [] i ≡ false = get_or_past [] i false (omega arith) in
+        sum_by-cons (λ j. cond (is_kept [] j) 1 0) i is ∙ (λ j. cond (z j) 1 0 + none is j)
+count_numbers (k ∷ ks) zero h =
+    let rest : 0 ≡ count_by (λ b. b) ks = count_numbers ks zero (λ i le. h (suc i) (omega arith)) in
+    let c : count_by (λ b. b) (k ∷ ks) ≡ cond k 1 0 + count_by (λ b. b) ks = sum_by-cons (λ (b : Bool). cond b 1 0) k ks in
+    let z : cond k 1 0 ≡ 0 = ap (λ b. cond b 1 0) (h 0 (omega arith)) in
+    sym (c ∙ (λ j. z j + sym rest j))
+count_numbers (k ∷ ks) (suc n) h =
+    let e : 0 + 1 ≡ 1 = omega arith in
+    sum_by-cons (λ i. cond (is_kept (k ∷ ks) i) 1 0) 0 (numbers_from (0 + 1) n)
+    ∙ ap (λ x. cond k 1 0 + x) (sum-shift (λ i. cond (is_kept (k ∷ ks) i) 1 0) 0 n ∙ count_numbers ks n (λ i le. h (suc i) (omega arith)))
+    ∙ sym (sum_by-cons (λ (b : Bool). cond b 1 0) k ks)
+
 module _ {N V F : Type 0} where
+  past : (ps : List (N × Slot V F)) (i : ℕ) → length ps ≤ i → answer_at (slots_of ps) i ≡ None
+  past [] i le = refl
+  past (p ∷ ps) zero le = absurd (omega arith)
+  past (p ∷ ps) (suc i) le = past ps i (omega arith)
+
   -- ---- an entry of a kept node
-  here_entry : (o : Option N) (b : Option (Result V F)) (asked : List N) (uses : List Use) (rest : List (Entry N (Result V F))) (m : N) (a : Result V F) → o ≡ Some m → b ≡ Some a → (e : Entry N (Result V F)) × IsOneOf (entry_before o b asked uses rest) e × (e.node ≡ m) × (e.answer ≡ a)
-  here_entry None b asked uses rest m a e f = absurd (cc)
-  here_entry (Some n) None asked uses rest m a e f = absurd (cc)
-  here_entry (Some n) (Some c) asked uses rest m a e f = let node : n ≡ m = cc in let answer : c ≡ a = cc in (record { node = n; answer = c; asked = asked; uses = uses }, inl refl, node, answer)
+  some_entry : (ps : List (N × Slot V F)) (l : Linked) (i : ℕ) (m : N) (a : Result V F) → node_at ps i ≡ Some m → answer_at (slots_of ps) i ≡ Some a → entry_at ps l i ≡ Some (record { node = m; answer = a; asked = nodes_at ps (row l.asked i); uses = row l.uses i })
+  some_entry ps l i m a node answer = λ j. entry_with (node j) (answer j) (nodes_at ps (row l.asked i)) (row l.uses i)
 
-  later_entry : (o : Option N) (b : Option (Result V F)) (asked : List N) (uses : List Use) (rest : List (Entry N (Result V F))) (e : Entry N (Result V F)) → IsOneOf rest e → IsOneOf (entry_before o b asked uses rest) e
-  later_entry None b asked uses rest e h = h
-  later_entry (Some n) None asked uses rest e h = h
-  later_entry (Some n) (Some a) asked uses rest e h = inr h
+  in_first : (o : Option (Entry N (Result V F))) (es : List (Entry N (Result V F))) (e : Entry N (Result V F)) → o ≡ Some e → IsOneOf (with_first o es) e
+  in_first None es e h = absurd (cc)
+  in_first (Some x) es e h = let same : x ≡ e = cc in inl same
 
-  module _ (ps : List (N × Slot V F)) where
-    pub find_entry : (rows : List Row) (asked : List ℕ) (uses : List Use) (i : ℕ) (m : N) (a : Result V F) → IsOneOf (map (λ r. r.slot) rows) i → node_at ps i ≡ Some m → answer_at (slots_of ps) i ≡ Some a
-        → (e : Entry N (Result V F)) × IsOneOf (entries_in ps rows asked uses) e × (e.node ≡ m) × (e.answer ≡ a)
-    find_entry [] asked uses i m a h node answer = absurd h
-    find_entry (r ∷ rs) asked uses i m a (inl same) node answer = here_entry (node_at ps r.slot) (answer_at (slots_of ps) r.slot) (nodes_at ps (take r.asked asked)) (take r.uses uses) (entries_in ps rs (drop r.asked asked) (drop r.uses uses)) m a (ap (node_at ps) same ∙ node) (ap (answer_at (slots_of ps)) same ∙ answer)
-    find_entry (r ∷ rs) asked uses i m a (inr h) node answer =
-        let one = find_entry rs (drop r.asked asked) (drop r.uses uses) i m a h node answer in
-        (one.0, later_entry (node_at ps r.slot) (answer_at (slots_of ps) r.slot) (nodes_at ps (take r.asked asked)) (take r.uses uses) (entries_in ps rs (drop r.asked asked) (drop r.uses uses)) one.0 one.1, one.2, one.3)
+  in_later : (o : Option (Entry N (Result V F))) (es : List (Entry N (Result V F))) (e : Entry N (Result V F)) → IsOneOf es e → IsOneOf (with_first o es) e
+  in_later None es e h = h
+  in_later (Some x) es e h = inr h
 
-    here_length : (o : Option N) (b : Option (Result V F)) (asked : List N) (uses : List Use) (rest : List (Entry N (Result V F))) → is_some o ≡ true → is_some b ≡ true → length (entry_before o b asked uses rest) ≡ suc (length rest)
-    here_length None b asked uses rest e f = absurd (cc)
-    here_length (Some n) None asked uses rest e f = absurd (cc)
-    here_length (Some n) (Some a) asked uses rest e f = refl
+  module _ (ps : List (N × Slot V F)) (l : Linked) where
+    pub find_entry : (is : List ℕ) (i : ℕ) (e : Entry N (Result V F)) → IsOneOf is i → entry_at ps l i ≡ Some e → IsOneOf (entries_at ps l is) e
+    find_entry [] i e h at = absurd h
+    find_entry (j ∷ is) i e (inl same) at = in_first (entry_at ps l j) (entries_at ps l is) e (ap (entry_at ps l) same ∙ at)
+    find_entry (j ∷ is) i e (inr h) at = in_later (entry_at ps l j) (entries_at ps l is) e (find_entry is i e h at)
 
-    pub entries_length : (rows : List Row) (asked : List ℕ) (uses : List Use) → AllByRecursion (λ r. IsKept ps r.slot) rows → length (entries_in ps rows asked uses) ≡ length rows
-    entries_length [] asked uses h = refl
-    entries_length (r ∷ rs) asked uses h = here_length (node_at ps r.slot) (answer_at (slots_of ps) r.slot) (nodes_at ps (take r.asked asked)) (take r.uses uses) (entries_in ps rs (drop r.asked asked) (drop r.uses uses)) (kept_node ps r.slot h.0) h.0 ∙ ap suc (entries_length rs (drop r.asked asked) (drop r.uses uses) h.1)
-
-    -- the last entry is that of the last row
-    pub last_entry : (rows : List Row) (r : Row) (asked : List ℕ) (uses : List Use) (a : Result V F) → IsKept ps r.slot → answer_at (slots_of ps) r.slot ≡ Some a → EndsWithAnswer a (entries_in ps (rows ++ r ∷ []) asked uses)
-    last_entry [] r asked uses a kept answer =
-        let node : (n : N) × (node_at ps r.slot ≡ Some n) = some-of (node_at ps r.slot) (kept_node ps r.slot kept) in
-        record { front = []; entry = record { node = node.0; answer = a; asked = nodes_at ps (take r.asked asked); uses = take r.uses uses }; entries = λ i. entry_before (node.1 i) (answer i) (nodes_at ps (take r.asked asked)) (take r.uses uses) []; answer = refl }
-    last_entry (x ∷ rows) r asked uses a kept answer =
-        let rest : EndsWithAnswer a (entries_in ps (rows ++ r ∷ []) (drop x.asked asked) (drop x.uses uses)) = last_entry rows r (drop x.asked asked) (drop x.uses uses) a kept answer in
-        record {
-          front = entry_before (node_at ps x.slot) (answer_at (slots_of ps) x.slot) (nodes_at ps (take x.asked asked)) (take x.uses uses) rest.front;
-          entry = rest.entry;
-          entries = ap (entry_before (node_at ps x.slot) (answer_at (slots_of ps) x.slot) (nodes_at ps (take x.asked asked)) (take x.uses uses)) rest.entries ∙ before-append (node_at ps x.slot) (answer_at (slots_of ps) x.slot) (nodes_at ps (take x.asked asked)) (take x.uses uses) rest.front (rest.entry ∷ []);
-          answer = rest.answer;
-        }
+    pub entry_of : (i : ℕ) (m : N) (a : Result V F) → i < length ps → node_at ps i ≡ Some m → answer_at (slots_of ps) i ≡ Some a → (e : Entry N (Result V F)) × IsOneOf (entries_of ps l) e × (e.node ≡ m) × (e.answer ≡ a)
+    entry_of i m a lt node answer =
+        let e : Entry N (Result V F) = record { node = m; answer = a; asked = nodes_at ps (row l.asked i); uses = row l.uses i } in
+        (e, find_entry (numbers_from 0 (length ps)) i e (number_in 0 (length ps) i (omega arith) (omega arith)) (some_entry ps l i m a node answer), refl, refl)
 
     -- no kept node passes a test
-    no_entry_here : (t : N → Bool) (o : Option N) (b : Option (Result V F)) (asked : List N) (uses : List Use) (rest : List (Entry N (Result V F))) → ((m : N) → o ≡ Some m → t m ≡ false) → list_any (λ e. t e.node) rest ≡ false → list_any (λ e. t e.node) (entry_before o b asked uses rest) ≡ false
-    no_entry_here t None b asked uses rest each h = h
-    no_entry_here t (Some n) None asked uses rest each h = h
-    no_entry_here t (Some n) (Some a) asked uses rest each h = ap (λ b. b || list_any (λ (e : Entry N (Result V F)). t e.node) rest) (each n refl) ∙ h
+    no_entry_here : (t : N → Bool) (j : ℕ) (o : Option N) (b : Option (Result V F)) → (is_some b ≡ true → (m : N) → o ≡ Some m → t m ≡ false) → (es : List (Entry N (Result V F))) → list_any (λ e. t e.node) es ≡ false → list_any (λ e. t e.node) (with_first (entry_with o b (nodes_at ps (row l.asked j)) (row l.uses j)) es) ≡ false
+    no_entry_here t j None b each es h = h
+    no_entry_here t j (Some n) None each es h = h
+    no_entry_here t j (Some n) (Some a) each es h = ap (λ b. b || list_any (λ (e : Entry N (Result V F)). t e.node) es) (each refl n refl) ∙ h
 
-    pub no_entry : (t : N → Bool) → ((j : ℕ) (m : N) → IsKept ps j → node_at ps j ≡ Some m → t m ≡ false) → (rows : List Row) (asked : List ℕ) (uses : List Use) → AllByRecursion (λ r. IsKept ps r.slot) rows → list_any (λ e. t e.node) (entries_in ps rows asked uses) ≡ false
-    no_entry t each [] asked uses h = refl
-    no_entry t each (r ∷ rs) asked uses h = no_entry_here t (node_at ps r.slot) (answer_at (slots_of ps) r.slot) (nodes_at ps (take r.asked asked)) (take r.uses uses) (entries_in ps rs (drop r.asked asked) (drop r.uses uses)) (λ m e. each r.slot m h.0 e) (no_entry t each rs (drop r.asked asked) (drop r.uses uses) h.1)
+    none_of : (t : N → Bool) → ((j : ℕ) (m : N) → IsKept ps j → node_at ps j ≡ Some m → t m ≡ false) → (is : List ℕ) → list_any (λ e. t e.node) (entries_at ps l is) ≡ false
+    none_of t each [] = refl
+    none_of t each (j ∷ is) = no_entry_here t j (node_at ps j) (answer_at (slots_of ps) j) (λ kept m e. each j m kept e) (entries_at ps l is) (none_of t each is)
 
+    pub no_entry : (t : N → Bool) → ((j : ℕ) (m : N) → IsKept ps j → node_at ps j ≡ Some m → t m ≡ false) → list_any (λ e. t e.node) (entries_of ps l) ≡ false
+    no_entry t each = none_of t each (numbers_from 0 (length ps))
+
+    -- ---- how many are kept
+    count_here : (j : ℕ) (o : Option N) (b : Option (Result V F)) → (is_some b ≡ true → is_some o ≡ true) → (es : List (Entry N (Result V F))) → length (with_first (entry_with o b (nodes_at ps (row l.asked j)) (row l.uses j)) es) ≡ cond (is_some b) 1 0 + length es
+    count_here j None None each es = omega arith
+    count_here j None (Some a) each es = let no = each refl in absurd (cc)
+    count_here j (Some n) None each es = omega arith
+    count_here j (Some n) (Some a) each es = omega arith
+
+    count_of : (is : List ℕ) → length (entries_at ps l is) ≡ sum_by (λ i. cond (is_some (answer_at (slots_of ps) i)) 1 0) is
+    count_of [] = refl
+    count_of (j ∷ is) = count_here j (node_at ps j) (answer_at (slots_of ps) j) (kept_node ps j) (entries_at ps l is) ∙ ap (λ k. cond (is_some (answer_at (slots_of ps) j)) 1 0 + k) (count_of is) ∙ sym (sum_by-cons (λ i. cond (is_some (answer_at (slots_of ps) i)) 1 0) j is)
+
+    pub count_kept : AreLinked ps l → count_by (λ b. b) l.kept ≡ length (entries_of ps l)
+    count_kept h =
+        sym (count_of (numbers_from 0 (length ps))
+        ∙ sum_by-same (λ i. cond (is_some (answer_at (slots_of ps) i)) 1 0) (λ i. cond (is_kept l.kept i) 1 0) (λ i. ap (λ b. cond b 1 0) (sym (h.kept i))) (numbers_from 0 (length ps))
+        ∙ count_numbers l.kept (length ps) (λ i le. h.kept i ∙ ap is_some (past ps i le)))
+
+  module _ (ps : List (N × Slot V F)) where
     -- no open node passes it
     no_open_here : (t : N → Bool) (o : Option N) (replies : List (Result V F)) (asked : List N) (uses : List Use) (rest : List (Open N (Result V F))) → ((m : N) → o ≡ Some m → t m ≡ false) → list_any (λ p. t p.node) rest ≡ false → list_any (λ p. t p.node) (open_before o replies asked uses rest) ≡ false
     no_open_here t None replies asked uses rest each h = h
@@ -100,6 +140,14 @@ module _ {N V F : Type 0} where
     some_open t [] asked uses i m h node pass = absurd h
     some_open t (f ∷ fs) asked uses i m (inl same) node pass = some_open_here t (node_at ps f.slot) (answers_at (slots_of ps) (drop f.asked asked)) (nodes_at ps (drop f.asked asked)) (drop f.uses uses) (opens_in ps fs (take f.asked asked) (take f.uses uses)) m (ap (node_at ps) same ∙ node) pass
     some_open t (f ∷ fs) asked uses i m (inr h) node pass = some_open_later t (node_at ps f.slot) (answers_at (slots_of ps) (drop f.asked asked)) (nodes_at ps (drop f.asked asked)) (drop f.uses uses) (opens_in ps fs (take f.asked asked) (take f.uses uses)) (some_open t fs (take f.asked asked) (take f.uses uses) i m h node pass)
+
+  pub opens_length : (ps : List (N × Slot V F)) (fs : List Frame) (asked : List ℕ) (uses : List Use) → AllByRecursion (λ f. HasNode ps f.slot) fs → length (opens_in ps fs asked uses) ≡ length fs
+  opens_length ps [] asked uses h = refl
+  opens_length ps (f ∷ fs) asked uses h = by (node_at ps f.slot) h.0 ∙ ap suc (opens_length ps fs (take f.asked asked) (take f.uses uses) h.1)
+    where
+      by : (o : Option N) → is_some o ≡ true → length (open_before o (answers_at (slots_of ps) (drop f.asked asked)) (nodes_at ps (drop f.asked asked)) (drop f.uses uses) (opens_in ps fs (take f.asked asked) (take f.uses uses))) ≡ suc (length (opens_in ps fs (take f.asked asked) (take f.uses uses)))
+      by None e = absurd (cc)
+      by (Some m) e = refl
 
   -- frames of nodes stand for open nodes
   pub some-frames : (ps : List (N × Slot V F)) (fs : List Frame) (asked : List ℕ) (uses : List Use) → AllByRecursion (λ f. HasNode ps f.slot) fs → opens_in ps fs asked uses ≡ [] → fs ≡ []

@@ -1,18 +1,19 @@
--- What the slots, rows and frames stand for, when one slot changes.
-use Rattle.std.proofs.Common.{◌≡◌, ◌≢◌, ℕ, zero, suc, ◌-◌, ◌≤◌, Bool, true, false, List, [], ◌∷◌, ◌++◌, length, take, drop, Option, Some, None, is_some, refl, sym, ◌∙◌, ap, subst, Result, slice_get, ◌⊎◌, inl, inr, nat_eq, eq-eqb, arith}
+-- What the slots, links and frames stand for, when one slot changes.
+use Rattle.std.proofs.Common.{◌≡◌, ◌≢◌, ℕ, zero, suc, ◌+◌, ◌<◌, ◌≤◌, Bool, true, false, List, [], ◌∷◌, ◌++◌, take, drop, Option, Some, None, is_some, refl, sym, ◌∙◌, ap, subst, Result, slice_get, ◌⊎◌, inl, inr, nat_eq, eq-eqb, arith}
 use Rattle.std.specs.Option.{option_map}
 use Rattle.std.specs.List.{AllByRecursion}
-use Rattle.std.proofs.lemmas.List.{take-append-le, drop-append-le, length-drop, take-append-drop as take_drop}
 use Rattle.std.proofs.lemmas.Option.{slice_get-map}
 use Rattle.ksv_bytes.specs.declared.uses.Use.{Use}
+use Rattle.ksv_memo_links.specs.Shelved.{row}
+use Rattle.ksv_memo_links.specs.Touching.{numbers_from}
+use Rattle.ksv_memo_links.specs.Links.{Linked}
 use Rattle.ksv_memo_rules.specs.declared.replies.Slot.{Slot}
-use Rattle.ksv_memo.specs.declared.layout.Row.{Row}
 use Rattle.ksv_memo.specs.declared.layout.Frame.{Frame}
 use Rattle.ksv_memo_rules.specs.Slots.{answer_of, answer_at, answers_at, with_first}
 use Rattle.ksv_memo_rules.specs.Entry.{Entry}
-use Rattle.ksv_memo.specs.Layout.{IsOneOf, AllDiffer, slots_of, node_at, nodes_at, IsKept, entry_before, entries_in, open_before, opens_in, AsksBefore, all_asked, all_uses}
+use Rattle.ksv_memo.specs.Layout.{IsOneOf, AllDiffer, slots_of, node_at, nodes_at, IsKept, entry_with, entry_at, entries_at, open_before, opens_in}
 use Rattle.ksv_memo_rules.proofs.Evals.{eqb_true}
-use Rattle.ksv_memo_rules.proofs.Lists.{All-map, All-++}
+use Rattle.ksv_memo_rules.proofs.Lists.{All-++}
 
 pub ++-nil : {X : Type 0} (xs : List X) → xs ++ [] ≡ xs
 ++-nil [] = refl
@@ -123,14 +124,11 @@ module _ {N V F : Type 0} where
     same_answers [] h = refl
     same_answers (i ∷ is) h = ap (λ o. with_first o (answers_at (slots_of qs) is)) (same_answer i h.0) ∙ ap (with_first (answer_at (slots_of ps) i)) (same_answers is h.1)
 
-    -- so the kept nodes are the same
-    pub same_entries : (rows : List Row) (asked : List ℕ) (uses : List Use) → AllByRecursion (λ r. IsKept ps r.slot) rows → AllByRecursion (IsKept ps) asked → entries_in qs rows asked uses ≡ entries_in ps rows asked uses
-    same_entries [] asked uses h k = refl
-    same_entries (r ∷ rs) asked uses h k =
-        ap (λ o. entry_before o (answer_at (slots_of qs) r.slot) (nodes_at qs (take r.asked asked)) (take r.uses uses) (entries_in qs rs (drop r.asked asked) (drop r.uses uses))) (same_node r.slot (kept_node ps r.slot h.0))
-        ∙ ap (λ o. entry_before (node_at ps r.slot) o (nodes_at qs (take r.asked asked)) (take r.uses uses) (entries_in qs rs (drop r.asked asked) (drop r.uses uses))) (same_answer r.slot h.0)
-        ∙ ap (λ ns. entry_before (node_at ps r.slot) (answer_at (slots_of ps) r.slot) ns (take r.uses uses) (entries_in qs rs (drop r.asked asked) (drop r.uses uses))) (same_nodes (take r.asked asked) (All-take (IsKept ps) r.asked asked k))
-        ∙ ap (entry_before (node_at ps r.slot) (answer_at (slots_of ps) r.slot) (nodes_at ps (take r.asked asked)) (take r.uses uses)) (same_entries rs (drop r.asked asked) (drop r.uses uses) h.1 (All-drop (IsKept ps) r.asked asked k))
+    -- so the entry of a kept node is the same
+    pub same_entry : (l m : Linked) (i : ℕ) → IsKept ps i → AllByRecursion (IsKept ps) (row l.asked i) → row m.asked i ≡ row l.asked i → row m.uses i ≡ row l.uses i → entry_at qs m i ≡ entry_at ps l i
+    same_entry l m i kept all asked uses =
+        (λ j. entry_with (same_node i (kept_node ps i kept) j) (same_answer i kept j) (nodes_at qs (asked j)) (uses j))
+        ∙ ap (λ ns. entry_with (node_at ps i) (answer_at (slots_of ps) i) ns (row l.uses i)) (same_nodes (row l.asked i) all)
 
     -- and the open ones
     pub same_opens : (fs : List Frame) (asked : List ℕ) (uses : List Use) → AllByRecursion (λ f. HasNode ps f.slot) fs → AllByRecursion (IsKept ps) asked → opens_in qs fs asked uses ≡ opens_in ps fs asked uses
@@ -150,36 +148,44 @@ module _ {N V F : Type 0} where
       first-append None xs ys = refl
       first-append (Some x) xs ys = refl
 
-  -- ---- a row more
-  pub before-append : (o : Option N) (a : Option (Result V F)) (asked : List N) (uses : List Use) (es fs : List (Entry N (Result V F))) → entry_before o a asked uses (es ++ fs) ≡ entry_before o a asked uses es ++ fs
-  before-append None a asked uses es fs = refl
-  before-append (Some n) None asked uses es fs = refl
-  before-append (Some n) (Some a) asked uses es fs = refl
-
-  pub entries_in-push : (ps : List (N × Slot V F)) (rows : List Row) (asked slots : List ℕ) (uses once : List Use) (r : Row) → length asked ≡ all_asked rows → length uses ≡ all_uses rows
-      → entries_in ps (rows ++ r ∷ []) (asked ++ slots) (uses ++ once) ≡ entries_in ps rows asked uses ++ entries_in ps (r ∷ []) slots once
-  entries_in-push ps [] [] slots [] once r e f = refl
-  entries_in-push ps [] (i ∷ asked) slots uses once r e f = absurd (omega arith)
-  entries_in-push ps [] [] slots (u ∷ uses) once r e f = absurd (omega arith)
-  entries_in-push ps (x ∷ rows) asked slots uses once r e f =
-      let asks : x.asked ≤ length asked = omega arith in
-      let count : x.uses ≤ length uses = omega arith in
-      let rest_asked : length (drop x.asked asked) ≡ all_asked rows = length-drop x.asked asked ∙ (let left : length asked - x.asked ≡ all_asked rows = omega arith in left) in
-      let rest_uses : length (drop x.uses uses) ≡ all_uses rows = length-drop x.uses uses ∙ (let left : length uses - x.uses ≡ all_uses rows = omega arith in left) in
-      (λ i. entry_before (node_at ps x.slot) (answer_at (slots_of ps) x.slot) (nodes_at ps (take-append-le x.asked asked slots asks i)) (take-append-le x.uses uses once count i) (entries_in ps (rows ++ r ∷ []) (drop-append-le x.asked asked slots asks i) (drop-append-le x.uses uses once count i)))
-      ∙ ap (entry_before (node_at ps x.slot) (answer_at (slots_of ps) x.slot) (nodes_at ps (take x.asked asked)) (take x.uses uses)) (entries_in-push ps rows (drop x.asked asked) slots (drop x.uses uses) once r rest_asked rest_uses)
-      ∙ before-append (node_at ps x.slot) (answer_at (slots_of ps) x.slot) (nodes_at ps (take x.asked asked)) (take x.uses uses) (entries_in ps rows (drop x.asked asked) (drop x.uses uses)) (entries_in ps (r ∷ []) slots once)
-
-  -- what rows asked is kept
-  pub asked_kept : (ps : List (N × Slot V F)) (before : List ℕ) (rows : List Row) (asked : List ℕ) → AsksBefore before rows asked → length asked ≡ all_asked rows → AllByRecursion (λ r. IsKept ps r.slot) rows → ((i : ℕ) → IsOneOf before i → IsKept ps i) → AllByRecursion (IsKept ps) asked
-  asked_kept ps before [] [] h e all kept = tt
-  asked_kept ps before [] (i ∷ asked) h e all kept = absurd (omega arith)
-  asked_kept ps before (r ∷ rs) asked h e all kept =
-      let rest : length (drop r.asked asked) ≡ all_asked rs = length-drop r.asked asked ∙ (let left : length asked - r.asked ≡ all_asked rs = omega arith in left) in
-      subst (AllByRecursion (IsKept ps)) (take_drop r.asked asked)
-      (All-++ (IsKept ps) (take r.asked asked) (drop r.asked asked) (All-map kept (take r.asked asked) h.0)
-      (asked_kept ps (before ++ r.slot ∷ []) rs (drop r.asked asked) h.1 rest all.1 (λ i in_it. cases i (one_of-push before r.slot i in_it))))
+  -- ---- entries
+  -- a slot that keeps nothing has no entry
+  pub no_entry_at : (ps : List (N × Slot V F)) (l : Linked) (i : ℕ) → answer_at (slots_of ps) i ≡ None → entry_at ps l i ≡ None
+  no_entry_at ps l i e = by (node_at ps i) (answer_at (slots_of ps) i) e
     where
-      cases : (i : ℕ) → IsOneOf before i ⊎ (r.slot ≡ i) → IsKept ps i
-      cases i (inl h) = kept i h
-      cases i (inr e) = subst (IsKept ps) e all.0
+      by : (o : Option N) (b : Option (Result V F)) → b ≡ None → entry_with o b (nodes_at ps (row l.asked i)) (row l.uses i) ≡ None
+      by None b f = refl
+      by (Some n) None f = refl
+      by (Some n) (Some a) f = absurd (cc)
+
+  pub entries_at-append : (ps : List (N × Slot V F)) (l : Linked) (is js : List ℕ) → entries_at ps l (is ++ js) ≡ entries_at ps l is ++ entries_at ps l js
+  entries_at-append ps l [] js = refl
+  entries_at-append ps l (i ∷ is) js = ap (with_first (entry_at ps l i)) (entries_at-append ps l is js) ∙ first-append (entry_at ps l i) (entries_at ps l is) (entries_at ps l js)
+    where
+      first-append : (o : Option (Entry N (Result V F))) (xs ys : List (Entry N (Result V F))) → with_first o (xs ++ ys) ≡ with_first o xs ++ ys
+      first-append None xs ys = refl
+      first-append (Some x) xs ys = refl
+
+  pub entries_at-same : (ps qs : List (N × Slot V F)) (l m : Linked) (is : List ℕ) → AllByRecursion (λ i. entry_at qs m i ≡ entry_at ps l i) is → entries_at qs m is ≡ entries_at ps l is
+  entries_at-same ps qs l m [] h = refl
+  entries_at-same ps qs l m (i ∷ is) h = ap (λ o. with_first o (entries_at qs m is)) h.0 ∙ ap (with_first (entry_at ps l i)) (entries_at-same ps qs l m is h.1)
+
+-- ---- the numbers of slots
+pub All-numbers : (P : ℕ → Type 0) (a n : ℕ) → ((j : ℕ) → a ≤ j → j < a + n → P j) → AllByRecursion P (numbers_from a n)
+All-numbers P a zero h = tt
+All-numbers P a (suc n) h = (h a (omega arith) (omega arith), All-numbers P (a + 1) n (λ j le lt. h j (omega arith) (omega arith)))
+
+pub numbers-split : (a n m : ℕ) → numbers_from a (n + m) ≡ numbers_from a n ++ numbers_from (a + n) m
+numbers-split a zero m = let e : 0 + m ≡ m = omega arith in let f : a ≡ a + 0 = omega arith in ap (numbers_from a) e ∙ ap (λ k. numbers_from k m) f
+numbers-split a (suc n) m =
+    let e : suc n + m ≡ suc (n + m) = omega arith in
+    let f : a + 1 + n ≡ a + suc n = omega arith in
+    ap (numbers_from a) e ∙ ap (λ ns. a ∷ ns) (numbers-split (a + 1) n m ∙ ap (λ k. numbers_from (a + 1) n ++ numbers_from k m) f)
+
+pub number_in : (a n i : ℕ) → a ≤ i → i < a + n → IsOneOf (numbers_from a n) i
+number_in a zero i le lt = absurd (omega arith)
+number_in a (suc n) i le lt = by (same_or a i) (λ h. number_in (a + 1) n i h (omega arith))
+  where
+    by : (a ≡ i) ⊎ (a ≢ i) → (a + 1 ≤ i → IsOneOf (numbers_from (a + 1) n) i) → IsOneOf (a ∷ numbers_from (a + 1) n) i
+    by (inl e) later = inl e
+    by (inr ne) later = inr (later (omega arith))

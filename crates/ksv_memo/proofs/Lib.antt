@@ -5,11 +5,12 @@ pub mod Changing
 pub mod Knowing
 pub mod Tabling
 pub mod Topping
-pub mod Passing
+pub mod Emptying
+pub mod Sums
 pub mod Sweeping
-pub mod Marking
-pub mod Forgotten
+pub mod Resting
 pub mod Moves
+pub mod Places
 pub mod Change
 pub mod Turns
 pub mod Questions

@@ -5,9 +5,9 @@ use Rattle.ksv_memo_rules.specs.Meaning.{Standing}
 use Rattle.ksv_memo_rules.specs.Evaluation.{is_among}
 use Rattle.ksv_memo_rules.specs.Entry.{Entry}
 use Rattle.ksv_memo_rules.specs.Right.{nodes_of, IsRight, AreExactly, AreBetween, fresh}
-use Rattle.ksv_memo.specs.Running.{to_keep, IsLeft}
+use Rattle.ksv_memo.specs.Running.{to_keep, IsLeft, AreSame}
 use Rattle.ksv_memo_rules.proofs.Evals.{eqb_true}
-use Rattle.ksv_memo_rules.proofs.Keeping.{is_among-append, IsIn-append}
+use Rattle.ksv_memo_rules.proofs.Keeping.{is_among-append}
 use Rattle.ksv_memo.proofs.Moves.{fresh-out, fresh-in, fresh-nil}
 
 -- a member that is there already adds nothing
@@ -36,16 +36,16 @@ among-fresh number kept (m ∷ ms) x = by (is_among number kept m) refl (among-f
 
 module _ {N A : Type 0} (w : Standing N A) where
   -- the nodes after a question are the kept ones and the completed ones
-  pub exactly : (es all : List (Entry N A)) (ms : List N) → IsRight w all → nodes_of all ≡ to_keep w es ms → AreExactly w (nodes_of all) (nodes_of es ++ ms)
+  pub exactly : (es all : List (Entry N A)) (ms : List N) → IsRight w all → AreSame w (nodes_of all) (to_keep w es ms) → AreExactly w (nodes_of all) (nodes_of es ++ ms)
   exactly es all ms right is = record {
     once = right.once;
-    same = λ x. ap (λ ns. is_among w.number ns x) is ∙ among-fresh w.number (nodes_of es) ms x;
+    same = λ x. is x ∙ among-fresh w.number (nodes_of es) ms x;
   }
 
   -- after a refused memory they lie between the two
   pub between : (es all : List (Entry N A)) (ms : List N) → IsLeft w (to_keep w es ms) es all → AreBetween w (nodes_of es) (nodes_of all) (nodes_of es ++ ms)
   between es all ms left = record {
     once = left.right.once;
-    holds = λ x h. ap (λ ns. is_among w.number ns x) left.grown.1 ∙ IsIn-append w (nodes_of es) left.grown.0 x h;
-    within = λ x h. sym (ap (λ ns. is_among w.number ns x) (sym left.within.1) ∙ among-fresh w.number (nodes_of es) ms x) ∙ ap (λ ns. is_among w.number ns x) refl ∙ IsIn-append w (nodes_of all) left.within.0 x h;
+    holds = left.grown;
+    within = λ x h. sym (among-fresh w.number (nodes_of es) ms x) ∙ left.within x h;
   }

@@ -1,217 +1,430 @@
--- What the pass over the rows leaves.
-use Rattle.std.proofs.Common.{◌≡◌, ◌≢◌, ℕ, zero, suc, ◌+◌, ◌-◌, ◌≤◌, Bool, true, false, not, ◌||◌, List, [], ◌∷◌, ◌++◌, length, map, take, drop, None, is_some, refl, sym, ◌∙◌, ap, subst, slice_get, ◌⊎◌, inl, inr, arith, length-append, if◌then◌else◌}
+-- The slots that were emptied are those of the entries that a change takes.
+use Rattle.std.proofs.Common.{◌≡◌, ◌⊎◌, inl, inr, Bool, true, false, not, cond, ◌||◌, ◌&&◌, ℕ, zero, suc, ◌+◌, ◌*◌, ◌<◌, ◌≤◌, List, [], ◌∷◌, length, map, filter, get_or, Option, Some, None, is_some, All, Contains, refl, sym, ◌∙◌, ap, subst, arith, Result, sum_by, count_by}
+use Rattle.std.specs.Option.{option_map}
 use Rattle.std.specs.List.{AllByRecursion, list_any}
-use Rattle.std.proofs.lemmas.List.{length-drop, length-take-le, take-append-drop}
-use Rattle.std.proofs.Math.Seq.{take-append_seam, drop-append_seam}
-use Rattle.indexmap.specs.IndexMap.{set_value_at}
+use Rattle.std.proofs.lemmas.List.{get_or_default}
+use Rattle.std.proofs.lemmas.List.Sums.{sum_by-cons, length-filter}
+use Rattle.std.proofs.lemmas.List.Folds.{Any-from_list_any, list_any-from_Any}
+use Rattle.std.proofs.lemmas.List.Elements.{Contains-get_or}
 use Rattle.ksv_bytes.specs.declared.uses.Use.{Use}
 use Rattle.ksv_bytes.specs.declared.uses.Change.{Change}
-use Rattle.ksv_memo_rules.specs.declared.replies.Slot.{Slot}
-use Rattle.ksv_memo_rules.specs.declared.replies.Slot.TheVariants.{Empty as emptied}
-use Rattle.ksv_memo.specs.declared.layout.Row.{Row}
-use Rattle.ksv_memo_rules.specs.Slots.{answer_of, answer_at}
+use Rattle.ksv_bytes.specs.declared.uses.Change.TheVariants.{Overwrite, Insert, Delete, Append}
+use Rattle.ksv_memo_links.specs.Shelved.{row}
 use Rattle.ksv_memo_rules.specs.Touched.{is_use_touched}
-use Rattle.ksv_memo.specs.Layout.{IsOneOf, AllDiffer, slots_of, node_at, IsOpen, IsKept, AsksBefore, all_asked, all_uses, Sweep, behind_rows, is_to_go, swept}
-use Rattle.ksv_memo_rules.proofs.Evals.{or_false}
-use Rattle.ksv_memo_rules.proofs.Lists.{All-map, All-both, any_same, choose, none_fails, none_pass}
-use Rattle.ksv_memo.proofs.Changing.{all_map, map_all}
-use Rattle.ksv_memo.proofs.Passing.{stays}
-use Rattle.ksv_memo.proofs.Laying.{All-take, All-drop, one_of-left, one_of-right, one_of-push}
+use Rattle.ksv_memo_links.specs.Touching.{pages_in, numbers_from}
+use Rattle.ksv_memo_links.specs.Marking.{is_kept}
+use Rattle.ksv_memo_links.specs.Links.{Linked, Forgets, Reaches, here, through, IsHit, is_hit, IsOverwrite, pages_met, met_by, asks_of}
+use Rattle.ksv_memo_rules.specs.declared.replies.Slot.{Slot}
+use Rattle.ksv_memo_rules.specs.Slots.{answer_at, with_first}
+use Rattle.ksv_memo_rules.specs.Entry.{Entry}
+use Rattle.ksv_memo.specs.Layout.{IsOneOf, slots_of, node_at, nodes_at, IsKept, entry_with, entry_at, entries_at, entries_of, AreLinked}
+use Rattle.ksv_memo.specs.Sweep.{Mark, Says, AllSay, IsMarked, entries_with, entries_left, entries_gone}
+use Rattle.ksv_memo.specs.Emptying.{IsEmptied, parts_of}
+use Rattle.ksv_memo.proofs.Knowing.{sum-shift}
+use Rattle.ksv_memo.proofs.Sums.{one_of-contains, differ, numbers-differ, filter-differ, filter-passes, sum-within, sum-alike}
+use Rattle.ksv_memo.proofs.Laying.{some-of, kept_node, no_entry_at, number_in}
 
--- the numbers of rows' slots
-abbrev pub numbers : List Row → List ℕ
-numbers rows = map (λ r. r.slot) rows
+any-of-map : {X : Type 0} (p : X → Bool) (xs : List X) → list_any (λ b. b) (map p xs) ≡ list_any p xs
+any-of-map p [] = refl
+any-of-map p (x ∷ xs) = ap (λ b. p x || b) (any-of-map p xs)
+
+not_true : (b : Bool) → not b ≡ true → b ≡ false
+not_true true e = absurd (cc)
+not_true false e = refl
+
+true_or : (b : Bool) → (b ≡ true) ⊎ (b ≡ false)
+true_or true = inl refl
+true_or false = inr refl
+
+and_parts : (a b : Bool) → (a && b) ≡ true → (a ≡ true) × (b ≡ true)
+and_parts true b e = (refl, e)
+and_parts false b e = absurd (cc)
+
+each-of : (P : ℕ → Type 0) (xs : List ℕ) → ((x : ℕ) → IsOneOf xs x → P x) → AllByRecursion P xs
+each-of P [] h = tt
+each-of P (x ∷ xs) h = (h x (inl refl), each-of P xs (λ y m. h y (inr m)))
+
+one_of-back : (xs : List ℕ) (x : ℕ) → IsOneOf xs x → Contains xs x
+one_of-back [] x h = absurd h
+one_of-back (y ∷ xs) x (inl e) = (0, (let l : 0 < length (y ∷ xs) = omega arith in l), e)
+one_of-back (y ∷ xs) x (inr h) = let c = one_of-back xs x h in let lt = c.1 in (suc c.0, (let l : suc c.0 < length (y ∷ xs) = omega arith in l), c.2)
+
+met_none : (change : Change) → met_by change [] ≡ 0
+met_none (Overwrite at n) = refl
+met_none (Insert at n) = refl
+met_none (Delete at n) = refl
+met_none Append = refl
+
+-- a sum over rows is no more than one over the numbers of the rows that count
+rows-numbers : (f : List Use → ℕ) (g : ℕ → ℕ) (rows : List (List Use)) (n : ℕ) → f [] ≡ 0 → ((i : ℕ) → f (row rows i) ≤ g i) → ((i : ℕ) → n ≤ i → f (row rows i) ≡ 0) → sum_by f rows ≤ sum_by g (numbers_from 0 n)
+rows-numbers f g [] n z h k = omega arith
+rows-numbers f g (x ∷ rows) zero z h k =
+    let c = sum_by-cons f x rows in
+    let a : f x ≡ 0 = k 0 (omega arith) in
+    let rest : sum_by f rows ≤ 0 = rows-numbers f (λ i. g (suc i)) rows zero z (λ i. h (suc i)) (λ i le. k (suc i) (omega arith)) in
+    omega arith
+rows-numbers f g (x ∷ rows) (suc n) z h k =
+    let c = sum_by-cons f x rows in
+    let d = sum_by-cons g 0 (numbers_from (0 + 1) n) in
+    let a : f x ≤ g 0 = h 0 in
+    let rest = rows-numbers f (λ i. g (suc i)) rows n z (λ i. h (suc i)) (λ i le. k (suc i) (omega arith)) in
+    let s = sum-shift g 0 n in
+    omega arith
 
 module _ {N V F : Type 0} where
-  -- ---- one slot is emptied
-  pub set-node : (ps : List (N × Slot V F)) (i j : ℕ) (s : Slot V F) → node_at (set_value_at ps i s) j ≡ node_at ps j
-  set-node [] i j s = refl
-  set-node (p ∷ ps) zero zero s = refl
-  set-node (p ∷ ps) zero (suc j) s = refl
-  set-node (p ∷ ps) (suc i) zero s = refl
-  set-node (p ∷ ps) (suc i) (suc j) s = set-node ps i j s
+  none_after : (ps : List (N × Slot V F)) (i : ℕ) → length ps ≤ i → answer_at (slots_of ps) i ≡ None
+  none_after [] i le = refl
+  none_after (p ∷ ps) zero le = absurd (omega arith)
+  none_after (p ∷ ps) (suc i) le = none_after ps i (omega arith)
 
-  set-slot : (ps : List (N × Slot V F)) (i j : ℕ) (s : Slot V F) → j ≢ i → slice_get (slots_of (set_value_at ps i s)) j ≡ slice_get (slots_of ps) j
-  set-slot [] i j s h = refl
-  set-slot (p ∷ ps) zero zero s h = absurd (h refl)
-  set-slot (p ∷ ps) zero (suc j) s h = refl
-  set-slot (p ∷ ps) (suc i) zero s h = refl
-  set-slot (p ∷ ps) (suc i) (suc j) s h = set-slot ps i j s (λ e. h (ap suc e))
+  -- what an entry is
+  pub entry_parts : (o : Option N) (b : Option (Result V F)) (asked : List N) (uses : List Use) (e : Entry N (Result V F)) → entry_with o b asked uses ≡ Some e → (is_some b ≡ true) × (e.asked ≡ asked) × (e.uses ≡ uses) × (o ≡ Some e.node)
+  entry_parts None b asked uses e is = absurd (cc)
+  entry_parts (Some n) None asked uses e is = absurd (cc)
+  entry_parts (Some n) (Some a) asked uses e is =
+      let same : record { node = n; answer = a; asked = asked; uses = uses } ≡ e = cc in
+      (refl, ap (λ (x : Entry N (Result V F)). x.asked) (sym same), ap (λ (x : Entry N (Result V F)). x.uses) (sym same), ap (λ (x : Entry N (Result V F)). Some x.node) same)
 
-  pub set-answer : (ps : List (N × Slot V F)) (i j : ℕ) (s : Slot V F) → j ≢ i → answer_at (slots_of (set_value_at ps i s)) j ≡ answer_at (slots_of ps) j
-  set-answer ps i j s h = ap answer_of (set-slot ps i j s h)
+  nodes-alike : (ps qs : List (N × Slot V F)) → ((i : ℕ) → node_at qs i ≡ node_at ps i) → (is : List ℕ) → nodes_at qs is ≡ nodes_at ps is
+  nodes-alike ps qs h [] = refl
+  nodes-alike ps qs h (i ∷ is) = (λ j. with_first (h i j) (nodes-alike ps qs h is j))
 
-  pub emptied-answer : (ps : List (N × Slot V F)) (i : ℕ) → answer_at (slots_of (set_value_at ps i emptied)) i ≡ None
-  emptied-answer [] i = refl
-  emptied-answer (p ∷ ps) zero = refl
-  emptied-answer (p ∷ ps) (suc i) = emptied-answer ps i
+  past : (ps : List (N × Slot V F)) (i : ℕ) → IsKept ps i → i < length ps
+  past [] i h = absurd (cc)
+  past (p ∷ ps) zero h = omega arith
+  past (p ∷ ps) (suc i) h = let lt = past ps i h in omega arith
 
-  -- what is kept then was kept before
-  emptied-kept : (ps : List (N × Slot V F)) (i j : ℕ) → IsKept (set_value_at ps i emptied) j → (j ≢ i) × IsKept ps j
-  emptied-kept ps i j k = (apart, ap is_some (sym (set-answer ps i j emptied apart)) ∙ k)
-    where
-      apart : j ≢ i
-      apart same = let none : answer_at (slots_of (set_value_at ps i emptied)) j ≡ None = ap (answer_at (slots_of (set_value_at ps i emptied))) same ∙ emptied-answer ps i in let no : is_some (answer_at (slots_of (set_value_at ps i emptied)) j) ≡ false = ap is_some none in cc
+  -- the slots that go are there
+  pub waits-in : (change : Change) (ps : List (N × Slot V F)) (l m : Linked) → AreLinked ps l → Forgets l m change → All (λ s. s < length ps) m.waits
+  waits-in change ps l m h f k d lt = past ps (get_or m.waits k d) (sym (h.kept (get_or m.waits k d)) ∙ ((f.exact (get_or m.waits k d)).0 (Contains-get_or m.waits k d lt)).was_kept)
 
-module _ {N V F : Type 0} (change : Change) where
-  -- ---- what becomes of the slots
-  pub swept-node : (ps : List (N × Slot V F)) (rows : List Row) (asked : List ℕ) (uses : List Use) (i : ℕ) → node_at (swept change ps rows asked uses).slots i ≡ node_at ps i
-  swept-node ps [] asked uses i = refl
-  swept-node ps (r ∷ rs) asked uses i = by (is_to_go change ps (take r.asked asked) (take r.uses uses)) (swept-node (set_value_at ps r.slot emptied) rs (drop r.asked asked) (drop r.uses uses) i ∙ set-node ps r.slot i emptied) (swept-node ps rs (drop r.asked asked) (drop r.uses uses) i)
-    where
-      by : (b : Bool) → node_at (swept change (set_value_at ps r.slot emptied) rs (drop r.asked asked) (drop r.uses uses)).slots i ≡ node_at ps i → node_at (swept change ps rs (drop r.asked asked) (drop r.uses uses)).slots i ≡ node_at ps i
-          → node_at (if b then swept change (set_value_at ps r.slot emptied) rs (drop r.asked asked) (drop r.uses uses) else behind_rows (r ∷ []) (take r.asked asked) (take r.uses uses) (swept change ps rs (drop r.asked asked) (drop r.uses uses))).slots i ≡ node_at ps i
-      by true goes stays = goes
-      by false goes stays = stays
+  module _ (change : Change) (ps qs : List (N × Slot V F)) (l m n : Linked) (count : ℕ) (h : AreLinked ps l) (f : Forgets l m change) (g : IsEmptied ps qs m n count) where
+    abbrev goes : ℕ → Bool
+    goes i = not (is_kept m.kept i)
 
-  pub swept-answer : (ps : List (N × Slot V F)) (rows : List Row) (asked : List ℕ) (uses : List Use) (i : ℕ) → AllByRecursion (λ j. i ≢ j) (numbers rows) → answer_at (slots_of (swept change ps rows asked uses).slots) i ≡ answer_at (slots_of ps) i
-  swept-answer ps [] asked uses i h = refl
-  swept-answer ps (r ∷ rs) asked uses i h = by (is_to_go change ps (take r.asked asked) (take r.uses uses)) (swept-answer (set_value_at ps r.slot emptied) rs (drop r.asked asked) (drop r.uses uses) i h.1 ∙ set-answer ps r.slot i emptied h.0) (swept-answer ps rs (drop r.asked asked) (drop r.uses uses) i h.1)
-    where
-      by : (b : Bool) → answer_at (slots_of (swept change (set_value_at ps r.slot emptied) rs (drop r.asked asked) (drop r.uses uses)).slots) i ≡ answer_at (slots_of ps) i → answer_at (slots_of (swept change ps rs (drop r.asked asked) (drop r.uses uses)).slots) i ≡ answer_at (slots_of ps) i
-          → answer_at (slots_of (if b then swept change (set_value_at ps r.slot emptied) rs (drop r.asked asked) (drop r.uses uses) else behind_rows (r ∷ []) (take r.asked asked) (take r.uses uses) (swept change ps rs (drop r.asked asked) (drop r.uses uses))).slots) i ≡ answer_at (slots_of ps) i
-      by true goes stays = goes
-      by false goes stays = stays
+    abbrev mark_of : ℕ → Entry N (Result V F) → Mark N (Result V F)
+    mark_of i e = record { entry = e; goes = goes i }
 
-  -- what is kept then was kept before
-  pub swept-kept : (ps : List (N × Slot V F)) (rows : List Row) (asked : List ℕ) (uses : List Use) (i : ℕ) → IsKept (swept change ps rows asked uses).slots i → IsKept ps i
-  swept-kept ps [] asked uses i h = h
-  swept-kept ps (r ∷ rs) asked uses i h = by (is_to_go change ps (take r.asked asked) (take r.uses uses)) h (λ k. (emptied-kept ps r.slot i (swept-kept (set_value_at ps r.slot emptied) rs (drop r.asked asked) (drop r.uses uses) i k)).1) (swept-kept ps rs (drop r.asked asked) (drop r.uses uses) i)
-    where
-      by : (b : Bool) → IsKept (if b then swept change (set_value_at ps r.slot emptied) rs (drop r.asked asked) (drop r.uses uses) else behind_rows (r ∷ []) (take r.asked asked) (take r.uses uses) (swept change ps rs (drop r.asked asked) (drop r.uses uses))).slots i
-          → (IsKept (swept change (set_value_at ps r.slot emptied) rs (drop r.asked asked) (drop r.uses uses)).slots i → IsKept ps i) → (IsKept (swept change ps rs (drop r.asked asked) (drop r.uses uses)).slots i → IsKept ps i) → IsKept ps i
-      by true k goes stays = goes k
-      by false k goes stays = stays k
+    abbrev mark_at : ℕ → Option (Mark N (Result V F))
+    mark_at i = option_map (mark_of i) (entry_at ps l i)
 
-  -- ---- what becomes of the rows
-  -- what holds of all rows holds of those that stay
-  pub swept-all : (P : Row → Type 0) (ps : List (N × Slot V F)) (rows : List Row) (asked : List ℕ) (uses : List Use) → AllByRecursion P rows → AllByRecursion P (swept change ps rows asked uses).rows
-  swept-all P ps [] asked uses h = tt
-  swept-all P ps (r ∷ rs) asked uses h = by (is_to_go change ps (take r.asked asked) (take r.uses uses)) (swept-all P (set_value_at ps r.slot emptied) rs (drop r.asked asked) (drop r.uses uses) h.1) (swept-all P ps rs (drop r.asked asked) (drop r.uses uses) h.1)
-    where
-      by : (b : Bool) → AllByRecursion P (swept change (set_value_at ps r.slot emptied) rs (drop r.asked asked) (drop r.uses uses)).rows → AllByRecursion P (swept change ps rs (drop r.asked asked) (drop r.uses uses)).rows
-          → AllByRecursion P (if b then swept change (set_value_at ps r.slot emptied) rs (drop r.asked asked) (drop r.uses uses) else behind_rows (r ∷ []) (take r.asked asked) (take r.uses uses) (swept change ps rs (drop r.asked asked) (drop r.uses uses))).rows
-      by true goes stays = goes
-      by false goes stays = (h.0, stays)
+    abbrev pub marks_at : List ℕ → List (Mark N (Result V F))
+    marks_at [] = []
+    marks_at (i ∷ is) = with_first (mark_at i) (marks_at is)
 
-  pub swept-rows : (ps : List (N × Slot V F)) (rows : List Row) (asked : List ℕ) (uses : List Use) → AllDiffer (numbers rows) → AllByRecursion (λ r. IsKept ps r.slot) rows → AllByRecursion (λ r. IsKept (swept change ps rows asked uses).slots r.slot) (swept change ps rows asked uses).rows
-  swept-rows ps [] asked uses differ kept = tt
-  swept-rows ps (r ∷ rs) asked uses differ kept =
-      let gone : List (N × Slot V F) = set_value_at ps r.slot emptied in
-      let others : AllByRecursion (λ q. r.slot ≢ q.slot) rs = all_map (λ (q : Row). q.slot) (λ j. r.slot ≢ j) rs differ.0 in
-      let still : AllByRecursion (λ q. IsKept gone q.slot) rs = All-both (λ (q : Row). r.slot ≢ q.slot) (λ (q : Row). IsKept ps q.slot) (λ (q : Row). IsKept gone q.slot) (λ q apart k. ap is_some (set-answer ps r.slot q.slot emptied (λ e. apart (sym e))) ∙ k) rs others kept.1 in
-      let here : IsKept (swept change ps rs (drop r.asked asked) (drop r.uses uses)).slots r.slot = ap is_some (swept-answer ps rs (drop r.asked asked) (drop r.uses uses) r.slot differ.0) ∙ kept.0 in
-      choose (λ (s : Sweep N V F). AllByRecursion (λ q. IsKept s.slots q.slot) s.rows) (is_to_go change ps (take r.asked asked) (take r.uses uses)) (swept change gone rs (drop r.asked asked) (drop r.uses uses)) (behind_rows (r ∷ []) (take r.asked asked) (take r.uses uses) (swept change ps rs (drop r.asked asked) (drop r.uses uses)))
-      (λ e. swept-rows gone rs (drop r.asked asked) (drop r.uses uses) differ.1 still)
-      (λ e. (here, swept-rows ps rs (drop r.asked asked) (drop r.uses uses) differ.1 kept.1))
+    abbrev pub all_marks : List (Mark N (Result V F))
+    all_marks = marks_at (numbers_from 0 (length ps))
 
-  pub swept-member : (ps : List (N × Slot V F)) (rows : List Row) (asked : List ℕ) (uses : List Use) → AllDiffer (numbers rows) → (i : ℕ) → IsKept (swept change ps rows asked uses).slots i → IsOneOf (numbers rows) i → IsOneOf (numbers (swept change ps rows asked uses).rows) i
-  swept-member ps [] asked uses differ i k m = absurd m
-  swept-member ps (r ∷ rs) asked uses differ i k m =
-      let gone : List (N × Slot V F) = set_value_at ps r.slot emptied in
-      let goes : Sweep N V F = swept change gone rs (drop r.asked asked) (drop r.uses uses) in
-      let stays : Sweep N V F = swept change ps rs (drop r.asked asked) (drop r.uses uses) in
-      choose (λ (s : Sweep N V F). IsKept s.slots i → IsOneOf (numbers s.rows) i) (is_to_go change ps (take r.asked asked) (take r.uses uses)) goes (behind_rows (r ∷ []) (take r.asked asked) (take r.uses uses) stays)
-      (λ e now. by_gone goes (swept-answer gone rs (drop r.asked asked) (drop r.uses uses) r.slot differ.0 ∙ emptied-answer ps r.slot) now (swept-member gone rs (drop r.asked asked) (drop r.uses uses) differ.1 i) m)
-      (λ e now. by_stays stays (swept-member ps rs (drop r.asked asked) (drop r.uses uses) differ.1 i now) m) k
-    where
-      by_gone : (s : Sweep N V F) → answer_at (slots_of s.slots) r.slot ≡ None → IsKept s.slots i → (IsKept s.slots i → IsOneOf (numbers rs) i → IsOneOf (numbers s.rows) i) → IsOneOf (numbers (r ∷ rs)) i → IsOneOf (numbers s.rows) i
-      by_gone s none now ih (inl same) = let here : answer_at (slots_of s.slots) i ≡ None = ap (answer_at (slots_of s.slots)) (sym same) ∙ none in let no : is_some (answer_at (slots_of s.slots) i) ≡ false = ap is_some here in absurd (cc)
-      by_gone s none now ih (inr m) = ih now m
+    pub entries : (is : List ℕ) → entries_with (marks_at is) ≡ entries_at ps l is
+    entries [] = refl
+    entries (i ∷ is) = by (entry_at ps l i) ∙ ap (with_first (entry_at ps l i)) (entries is)
+      where
+        by : (o : Option (Entry N (Result V F))) → entries_with (with_first (option_map (mark_of i) o) (marks_at is)) ≡ with_first o (entries_with (marks_at is))
+        by None = refl
+        by (Some e) = refl
 
-      by_stays : (s : Sweep N V F) → (IsOneOf (numbers rs) i → IsOneOf (numbers s.rows) i) → IsOneOf (numbers (r ∷ rs)) i → IsOneOf (numbers (r ∷ s.rows)) i
-      by_stays s ih (inl same) = inl same
-      by_stays s ih (inr m) = inr (ih m)
+    -- ---- what goes
+    was : (i : ℕ) → Contains m.waits i → is_kept l.kept i ≡ true
+    was i c = ((f.exact i).0 c).was_kept
 
-  pub swept-once : (ps : List (N × Slot V F)) (rows : List Row) (asked : List ℕ) (uses : List Use) → AllDiffer (numbers rows) → AllDiffer (numbers (swept change ps rows asked uses).rows)
-  swept-once ps [] asked uses differ = tt
-  swept-once ps (r ∷ rs) asked uses differ =
-      let others : AllByRecursion (λ q. r.slot ≢ q.slot) rs = all_map (λ (q : Row). q.slot) (λ j. r.slot ≢ j) rs differ.0 in
-      choose (λ (s : Sweep N V F). AllDiffer (numbers s.rows)) (is_to_go change ps (take r.asked asked) (take r.uses uses)) (swept change (set_value_at ps r.slot emptied) rs (drop r.asked asked) (drop r.uses uses)) (behind_rows (r ∷ []) (take r.asked asked) (take r.uses uses) (swept change ps rs (drop r.asked asked) (drop r.uses uses)))
-      (λ e. swept-once (set_value_at ps r.slot emptied) rs (drop r.asked asked) (drop r.uses uses) differ.1)
-      (λ e. (map_all (λ (q : Row). q.slot) (λ j. r.slot ≢ j) (swept change ps rs (drop r.asked asked) (drop r.uses uses)).rows (swept-all (λ q. r.slot ≢ q.slot) ps rs (drop r.asked asked) (drop r.uses uses) others), swept-once ps rs (drop r.asked asked) (drop r.uses uses) differ.1))
+    pub taken : (i : ℕ) → IsKept ps i → is_kept m.kept i ≡ false → Contains m.waits i
+    taken i k e = f.went i (h.kept i ∙ k) e
 
-  -- the parts of the rows that stay are all that stays
-  pub swept-asked : (ps : List (N × Slot V F)) (rows : List Row) (asked : List ℕ) (uses : List Use) → length asked ≡ all_asked rows → length (swept change ps rows asked uses).asked ≡ all_asked (swept change ps rows asked uses).rows
-  swept-asked ps [] asked uses e = refl
-  swept-asked ps (r ∷ rs) asked uses e =
-      let few : r.asked ≤ length asked = omega arith in
-      let rest : length (drop r.asked asked) ≡ all_asked rs = length-drop r.asked asked ∙ (let left : length asked - r.asked ≡ all_asked rs = omega arith in left) in
-      let stays : Sweep N V F = swept change ps rs (drop r.asked asked) (drop r.uses uses) in
-      choose (λ (s : Sweep N V F). length s.asked ≡ all_asked s.rows) (is_to_go change ps (take r.asked asked) (take r.uses uses)) (swept change (set_value_at ps r.slot emptied) rs (drop r.asked asked) (drop r.uses uses)) (behind_rows (r ∷ []) (take r.asked asked) (take r.uses uses) stays)
-      (λ _. swept-asked (set_value_at ps r.slot emptied) rs (drop r.asked asked) (drop r.uses uses) rest)
-      (λ _. length-append (take r.asked asked) stays.asked ∙ ap (λ k. k + length stays.asked) (length-take-le r.asked asked few) ∙ ap (λ k. r.asked + k) (swept-asked ps rs (drop r.asked asked) (drop r.uses uses) rest))
+    pub out : (i : ℕ) → Contains m.waits i → is_kept m.kept i ≡ false
+    out i c = by (true_or (is_kept m.kept i))
+      where
+        by : (is_kept m.kept i ≡ true) ⊎ (is_kept m.kept i ≡ false) → is_kept m.kept i ≡ false
+        by (inl e) = absurd (((f.kept i).0 e).1 c)
+        by (inr e) = e
 
-  pub swept-uses : (ps : List (N × Slot V F)) (rows : List Row) (asked : List ℕ) (uses : List Use) → length uses ≡ all_uses rows → length (swept change ps rows asked uses).uses ≡ all_uses (swept change ps rows asked uses).rows
-  swept-uses ps [] asked uses e = refl
-  swept-uses ps (r ∷ rs) asked uses e =
-      let few : r.uses ≤ length uses = omega arith in
-      let rest : length (drop r.uses uses) ≡ all_uses rs = length-drop r.uses uses ∙ (let left : length uses - r.uses ≡ all_uses rs = omega arith in left) in
-      let stays : Sweep N V F = swept change ps rs (drop r.asked asked) (drop r.uses uses) in
-      choose (λ (s : Sweep N V F). length s.uses ≡ all_uses s.rows) (is_to_go change ps (take r.asked asked) (take r.uses uses)) (swept change (set_value_at ps r.slot emptied) rs (drop r.asked asked) (drop r.uses uses)) (behind_rows (r ∷ []) (take r.asked asked) (take r.uses uses) stays)
-      (λ _. swept-uses (set_value_at ps r.slot emptied) rs (drop r.asked asked) (drop r.uses uses) rest)
-      (λ _. length-append (take r.uses uses) stays.uses ∙ ap (λ k. k + length stays.uses) (length-take-le r.uses uses few) ∙ ap (λ k. r.uses + k) (swept-uses ps rs (drop r.asked asked) (drop r.uses uses) rest))
+    stay : (i : ℕ) → is_kept m.kept i ≡ true → Contains m.waits i → ⊥
+    stay i e = ((f.kept i).0 e).1
 
-  -- what a row that stays asked stays
-  unmarked : (ps : List (N × Slot V F)) (is : List ℕ) (us : List Use) → is_to_go change ps is us ≡ false → AllByRecursion (IsKept ps) is
-  unmarked ps is us e = All-map (λ i f. not_false (is_some (answer_at (slots_of ps) i)) f) is (none_pass (λ i. not (is_some (answer_at (slots_of ps) i))) is (or_false (list_any (is_use_touched change) us) (list_any (λ i. not (is_some (answer_at (slots_of ps) i))) is) e).1)
-    where
-      not_false : (b : Bool) → not b ≡ false → b ≡ true
-      not_false true e = refl
-      not_false false e = absurd (cc)
+    -- an entry stays, or there is none
+    now_none : (i : ℕ) → answer_at (slots_of ps) i ≡ None → answer_at (slots_of qs) i ≡ None
+    now_none i e = g.taken.same i (λ c. (let yes = sym (h.kept i) ∙ was i c in let no : is_some (answer_at (slots_of ps) i) ≡ false = ap is_some e in cc)) ∙ e
 
-  pub swept-ordered : (ps : List (N × Slot V F)) (first left : List ℕ) (rows : List Row) (asked : List ℕ) (uses : List Use) → AllDiffer (numbers rows) → length asked ≡ all_asked rows → AsksBefore first rows asked → ((i : ℕ) → IsOneOf first i → IsKept ps i → IsOneOf left i) → AsksBefore left (swept change ps rows asked uses).rows (swept change ps rows asked uses).asked
-  swept-ordered ps first left [] asked uses differ count h stay = tt
-  swept-ordered ps first left (r ∷ rs) asked uses differ count h stay =
-      let gone : List (N × Slot V F) = set_value_at ps r.slot emptied in
-      let few : r.asked ≤ length asked = omega arith in
-      let rest : length (drop r.asked asked) ≡ all_asked rs = length-drop r.asked asked ∙ (let left_over : length asked - r.asked ≡ all_asked rs = omega arith in left_over) in
-      let stays : Sweep N V F = swept change ps rs (drop r.asked asked) (drop r.uses uses) in
-      let size : length (take r.asked asked) ≡ r.asked = length-take-le r.asked asked few in
-      let front : take r.asked (take r.asked asked ++ stays.asked) ≡ take r.asked asked = ap (λ k. take k (take r.asked asked ++ stays.asked)) (sym size) ∙ take-append_seam (take r.asked asked) stays.asked in
-      let back : drop r.asked (take r.asked asked ++ stays.asked) ≡ stays.asked = ap (λ k. drop k (take r.asked asked ++ stays.asked)) (sym size) ∙ drop-append_seam (take r.asked asked) stays.asked in
-      choose (λ (s : Sweep N V F). AsksBefore left s.rows s.asked) (is_to_go change ps (take r.asked asked) (take r.uses uses)) (swept change gone rs (drop r.asked asked) (drop r.uses uses)) (behind_rows (r ∷ []) (take r.asked asked) (take r.uses uses) stays)
-      (λ e. swept-ordered gone (first ++ r.slot ∷ []) left rs (drop r.asked asked) (drop r.uses uses) differ.1 rest h.1 (λ i m k. by_gone i (emptied-kept ps r.slot i k) stay (one_of-push first r.slot i m)))
-      (λ e. (
-        subst (AllByRecursion (IsOneOf left)) (sym front) (All-both (IsOneOf first) (IsKept ps) (IsOneOf left) stay (take r.asked asked) h.0 (unmarked ps (take r.asked asked) (take r.uses uses) e)),
-        subst (AsksBefore (left ++ r.slot ∷ []) stays.rows) (sym back) (swept-ordered ps (first ++ r.slot ∷ []) (left ++ r.slot ∷ []) rs (drop r.asked asked) (drop r.uses uses) differ.1 rest h.1 (λ i m k. by_stays i k stay (one_of-push first r.slot i m))),
-      ))
-    where
-      by_gone : (i : ℕ) → (i ≢ r.slot) × IsKept ps i → ((i : ℕ) → IsOneOf first i → IsKept ps i → IsOneOf left i) → IsOneOf first i ⊎ (r.slot ≡ i) → IsOneOf left i
-      by_gone i k stay (inl m) = stay i m k.1
-      by_gone i k stay (inr e) = absurd (k.0 (sym e))
+    still : (i : ℕ) → is_kept m.kept i ≡ true → entry_at qs n i ≡ entry_at ps l i
+    still i e =
+        let not_taken = stay i e in
+        (λ j. entry_with (g.taken.nodes i j) (g.taken.same i not_taken j) (nodes-alike ps qs g.taken.nodes ((g.taken.asked i not_taken ∙ ap (λ rows. row rows i) f.asked) j) j) ((g.taken.uses i not_taken ∙ ap (λ rows. row rows i) f.uses) j))
 
-      by_stays : (i : ℕ) → IsKept ps i → ((i : ℕ) → IsOneOf first i → IsKept ps i → IsOneOf left i) → IsOneOf first i ⊎ (r.slot ≡ i) → IsOneOf (left ++ r.slot ∷ []) i
-      by_stays i k stay (inl m) = one_of-left left (r.slot ∷ []) i (stay i m k)
-      by_stays i k stay (inr e) = one_of-right left (r.slot ∷ []) i (inl e)
+    left_one : (i : ℕ) (rest : List (Mark N (Result V F))) → with_first (entry_at qs n i) (entries_left rest) ≡ entries_left (with_first (mark_at i) rest)
+    left_one i rest = by (entry_at ps l i) refl (answer_at (slots_of ps) i) refl (true_or (is_kept m.kept i))
+      where
+        stays : (o : Option (Entry N (Result V F))) (b : Bool) → b ≡ true → with_first o (entries_left rest) ≡ entries_left (with_first (option_map (λ (e : Entry N (Result V F)). record { entry = e; goes = not b }) o) rest)
+        stays None b e = refl
+        stays (Some x) true e = refl
+        stays (Some x) false e = absurd (cc)
 
-  -- what is open then was open before
-  emptied-open : (ps : List (N × Slot V F)) (i j : ℕ) → IsOpen (set_value_at ps i emptied) j → IsOpen ps j
-  emptied-open [] i j o = o
-  emptied-open (p ∷ ps) zero zero o = absurd (cc)
-  emptied-open (p ∷ ps) zero (suc j) o = o
-  emptied-open (p ∷ ps) (suc i) zero o = o
-  emptied-open (p ∷ ps) (suc i) (suc j) o = emptied-open ps i j o
+        gone : (o : Option (Entry N (Result V F))) (b : Bool) → b ≡ false → entries_left rest ≡ entries_left (with_first (option_map (λ (e : Entry N (Result V F)). record { entry = e; goes = not b }) o) rest)
+        gone None b e = refl
+        gone (Some x) false e = refl
+        gone (Some x) true e = absurd (cc)
 
-  pub swept-open : (ps : List (N × Slot V F)) (rows : List Row) (asked : List ℕ) (uses : List Use) (i : ℕ) → IsOpen (swept change ps rows asked uses).slots i → IsOpen ps i
-  swept-open ps [] asked uses i o = o
-  swept-open ps (r ∷ rs) asked uses i o =
-      choose (λ (s : Sweep N V F). IsOpen s.slots i → IsOpen ps i) (is_to_go change ps (take r.asked asked) (take r.uses uses)) (swept change (set_value_at ps r.slot emptied) rs (drop r.asked asked) (drop r.uses uses)) (behind_rows (r ∷ []) (take r.asked asked) (take r.uses uses) (swept change ps rs (drop r.asked asked) (drop r.uses uses)))
-      (λ _ k. emptied-open ps r.slot i (swept-open (set_value_at ps r.slot emptied) rs (drop r.asked asked) (drop r.uses uses) i k))
-      (λ _ k. swept-open ps rs (drop r.asked asked) (drop r.uses uses) i k) o
+        by : (o : Option (Entry N (Result V F))) → entry_at ps l i ≡ o → (a : Option (Result V F)) → answer_at (slots_of ps) i ≡ a → (is_kept m.kept i ≡ true) ⊎ (is_kept m.kept i ≡ false) → with_first (entry_at qs n i) (entries_left rest) ≡ entries_left (with_first (mark_at i) rest)
+        by o is a at (inl e) = ap (λ x. with_first x (entries_left rest)) (still i e) ∙ stays (entry_at ps l i) (is_kept m.kept i) e
+        by o is None at (inr e) = ap (λ x. with_first x (entries_left rest)) (no_entry_at qs n i (now_none i at)) ∙ gone (entry_at ps l i) (is_kept m.kept i) e
+        by o is (Some r) at (inr e) = ap (λ x. with_first x (entries_left rest)) (no_entry_at qs n i (g.taken.out i (taken i (ap is_some at) e))) ∙ gone (entry_at ps l i) (is_kept m.kept i) e
 
-  -- where no use is touched, all stays
-  pub swept-none : (ps : List (N × Slot V F)) (rows : List Row) (asked : List ℕ) (uses : List Use) → length asked ≡ all_asked rows → length uses ≡ all_uses rows → AllByRecursion (IsKept ps) asked → AllByRecursion (λ u. is_use_touched change u ≡ false) uses
-      → swept change ps rows asked uses ≡ record { slots = ps; rows = rows; asked = asked; uses = uses }
-  swept-none ps [] [] [] e f kept free = refl
-  swept-none ps [] (i ∷ asked) uses e f kept free = absurd (omega arith)
-  swept-none ps [] [] (u ∷ uses) e f kept free = absurd (omega arith)
-  swept-none ps (r ∷ rs) asked uses e f kept free =
-      let rest : length (drop r.asked asked) ≡ all_asked rs = length-drop r.asked asked ∙ (let left_over : length asked - r.asked ≡ all_asked rs = omega arith in left_over) in
-      let rest_uses : length (drop r.uses uses) ≡ all_uses rs = length-drop r.uses uses ∙ (let left_over : length uses - r.uses ≡ all_uses rs = omega arith in left_over) in
-      let here : list_any (is_use_touched change) (take r.uses uses) ≡ false = none_fails (is_use_touched change) (take r.uses uses) (All-take (λ u. is_use_touched change u ≡ false) r.uses uses free) in
-      let asks : list_any (λ i. not (is_some (answer_at (slots_of ps) i))) (take r.asked asked) ≡ false = none_fails (λ i. not (is_some (answer_at (slots_of ps) i))) (take r.asked asked) (All-map (λ i k. ap not k) (take r.asked asked) (All-take (IsKept ps) r.asked asked kept)) in
-      let no : is_to_go change ps (take r.asked asked) (take r.uses uses) ≡ false = ap (λ b. b || list_any (λ i. not (is_some (answer_at (slots_of ps) i))) (take r.asked asked)) here ∙ asks in
-      stays change ps r rs asked uses no
-      ∙ ap (behind_rows (r ∷ []) (take r.asked asked) (take r.uses uses)) (swept-none ps rs (drop r.asked asked) (drop r.uses uses) rest rest_uses (All-drop (IsKept ps) r.asked asked kept) (All-drop (λ u. is_use_touched change u ≡ false) r.uses uses free))
-      ∙ (λ k. record { slots = ps; rows = r ∷ rs; asked = take-append-drop r.asked asked k; uses = take-append-drop r.uses uses k })
+    pub stays : (is : List ℕ) → entries_at qs n is ≡ entries_left (marks_at is)
+    stays [] = refl
+    stays (i ∷ is) = ap (with_first (entry_at qs n i)) (stays is) ∙ left_one i (marks_at is)
+
+    -- ---- each mark is right
+    first_in : (o : Option (Mark N (Result V F))) (ks : List (Mark N (Result V F))) (k : Mark N (Result V F)) → o ≡ Some k → IsOneOf (with_first o ks) k
+    first_in None ks k e = absurd (cc)
+    first_in (Some x) ks k e = let same : x ≡ k = cc in inl same
+
+    later_in : (o : Option (Mark N (Result V F))) (ks : List (Mark N (Result V F))) (k : Mark N (Result V F)) → IsOneOf ks k → IsOneOf (with_first o ks) k
+    later_in None ks k m = m
+    later_in (Some x) ks k m = inr m
+
+    find_mark : (is : List ℕ) (i : ℕ) (k : Mark N (Result V F)) → IsOneOf is i → mark_at i ≡ Some k → IsOneOf (marks_at is) k
+    find_mark [] i k c e = absurd c
+    find_mark (j ∷ is) i k (inl same) e = first_in (mark_at j) (marks_at is) k (ap mark_at same ∙ e)
+    find_mark (j ∷ is) i k (inr c) e = later_in (mark_at j) (marks_at is) k (find_mark is i k c e)
+
+    say-all : (is : List ℕ) → AllByRecursion (IsKept ps) is → AllSay all_marks (nodes_at ps is) (map goes is)
+    say-all [] all = tt
+    say-all (i ∷ is) all =
+        let one = some-of (answer_at (slots_of ps) i) all.0 in
+        let node = some-of (node_at ps i) (kept_node ps i all.0) in
+        let e : Entry N (Result V F) = record { node = node.0; answer = one.0; asked = nodes_at ps (row l.asked i); uses = row l.uses i } in
+        let at : entry_at ps l i ≡ Some e = λ j. entry_with (node.1 j) (one.1 j) (nodes_at ps (row l.asked i)) (row l.uses i) in
+        let lt = past ps i all.0 in
+        let says : Says all_marks node.0 (goes i) = record { mark = mark_of i e; there = find_mark (numbers_from 0 (length ps)) i (mark_of i e) (number_in 0 (length ps) i (omega arith) (omega arith)) (ap (option_map (mark_of i)) at); node = refl; goes = refl } in
+        subst (λ o. AllSay all_marks (with_first o (nodes_at ps is)) (map goes (i ∷ is))) (sym node.1) (says, say-all is all.1)
+
+    at_index : (is : List ℕ) (k : ℕ) (j : ℕ) → k < length is → get_or is k 0 ≡ j → goes j ≡ true → list_any goes is ≡ true
+    at_index is k j lt e t = list_any-from_Any goes is (k, j, lt, get_or_default is k j 0 lt ∙ e, t)
+
+    kept_at : (is : List ℕ) (k : ℕ) → AllByRecursion (IsKept ps) is → k < length is → IsKept ps (get_or is k 0)
+    kept_at [] k all lt = absurd (omega arith)
+    kept_at (i ∷ is) zero all lt = all.0
+    kept_at (i ∷ is) (suc k) all lt = kept_at is k all.1 (omega arith)
+
+    goes-is : (i : ℕ) → IsKept ps i → goes i ≡ (is_hit change l.uses i || list_any goes (row l.asked i))
+    goes-is i k = by (true_or (is_kept m.kept i)) (is_hit change l.uses i) refl (list_any goes (row l.asked i)) refl
+      where
+        kept_now : is_kept l.kept i ≡ true
+        kept_now = h.kept i ∙ k
+
+        all : AllByRecursion (IsKept ps) (row l.asked i)
+        all = h.asked i k
+
+        reached : (s : ℕ) → s ≡ i → Reaches l.asked (IsHit change l.kept l.uses) s → is_hit change l.uses i ≡ false → list_any goes (row l.asked i) ≡ false → ⊥
+        reached _ e (here s hit) x y = let t = ap (is_hit change l.uses) (sym e) ∙ hit.touched in cc
+        reached _ e (through s a lt r) x y =
+            let lt2 : a < length (row l.asked i) = subst (λ q. a < length (row l.asked q)) e lt in
+            let j = get_or (row l.asked i) a 0 in
+            let kj = kept_at (row l.asked i) a all lt2 in
+            let r2 = subst (λ q. Reaches l.asked (IsHit change l.kept l.uses) (get_or (row l.asked q) a 0)) e r in
+            let c : Contains m.waits j = (f.exact j).1 (record { was_kept = h.kept j ∙ kj; reaches = r2 }) in
+            let t : goes j ≡ true = ap not (out j c) in
+            let yes = at_index (row l.asked i) a j lt2 refl t in cc
+
+        gone_by : is_kept m.kept i ≡ true → list_any goes (row l.asked i) ≡ true → ⊥
+        gone_by e y =
+            let a = Any-from_list_any goes (row l.asked i) y in
+            let j : get_or (row l.asked i) a.0 0 ≡ a.1 = get_or_default (row l.asked i) a.0 0 a.1 a.2 ∙ a.3 in
+            let kj : IsKept ps a.1 = subst (IsKept ps) j (kept_at (row l.asked i) a.0 all a.2) in
+            let c = taken a.1 kj (not_true (is_kept m.kept a.1) a.4) in
+            let r = ((f.exact a.1).0 c).reaches in
+            stay i e ((f.exact i).1 (record { was_kept = kept_now; reaches = through i a.0 a.2 (subst (Reaches l.asked (IsHit change l.kept l.uses)) (sym j) r) }))
+
+        by : (is_kept m.kept i ≡ true) ⊎ (is_kept m.kept i ≡ false) → (x : Bool) → is_hit change l.uses i ≡ x → (y : Bool) → list_any goes (row l.asked i) ≡ y → goes i ≡ (x || y)
+        by (inl e) true x y z = absurd (stay i e ((f.exact i).1 (record { was_kept = kept_now; reaches = here i (record { was_kept = kept_now; touched = x }) })))
+        by (inl e) false x true y = absurd (gone_by e y)
+        by (inl e) false x false y = ap not e
+        by (inr e) true x y z = ap not e
+        by (inr e) false x true y = ap not e
+        by (inr e) false x false y = absurd (reached i refl ((f.exact i).0 (taken i k e)).reaches x y)
+
+    mark-right : (i : ℕ) (e : Entry N (Result V F)) → entry_at ps l i ≡ Some e → IsMarked change all_marks (mark_of i e)
+    mark-right i e at =
+        let p = entry_parts (node_at ps i) (answer_at (slots_of ps) i) (nodes_at ps (row l.asked i)) (row l.uses i) e at in
+        record {
+          asked = map goes (row l.asked i);
+          say = subst (λ ms. AllSay all_marks ms (map goes (row l.asked i))) (sym p.1) (say-all (row l.asked i) (h.asked i p.0));
+          goes = goes-is i p.0 ∙ (λ j. list_any (is_use_touched change) (sym p.2 j) || sym (any-of-map goes (row l.asked i)) j);
+        }
+
+    pub marked : (is : List ℕ) → AllByRecursion (IsMarked change all_marks) (marks_at is)
+    marked [] = tt
+    marked (i ∷ is) = by (entry_at ps l i) refl (marked is)
+      where
+        by : (o : Option (Entry N (Result V F))) → entry_at ps l i ≡ o → AllByRecursion (IsMarked change all_marks) (marks_at is) → AllByRecursion (IsMarked change all_marks) (with_first (option_map (mark_of i) o) (marks_at is))
+        by None e rest = rest
+        by (Some x) e rest = (mark-right i x e, rest)
+
+    -- ---- the table after it
+    kept_was : (i : ℕ) → IsKept qs i → (is_kept m.kept i ≡ true) × IsKept ps i
+    kept_was i k = by (answer_at (slots_of ps) i) refl (true_or (is_kept m.kept i))
+      where
+        by : (a : Option (Result V F)) → answer_at (slots_of ps) i ≡ a → (is_kept m.kept i ≡ true) ⊎ (is_kept m.kept i ≡ false) → (is_kept m.kept i ≡ true) × IsKept ps i
+        by None e c = let no : is_some (answer_at (slots_of qs) i) ≡ false = ap is_some (now_none i e) in absurd (cc)
+        by (Some r) e (inl c) = (c, ap is_some e)
+        by (Some r) e (inr c) = let no : is_some (answer_at (slots_of qs) i) ≡ false = ap is_some (g.taken.out i (taken i (ap is_some e) c)) in absurd (cc)
+
+    still_kept : (i : ℕ) → is_kept m.kept i ≡ true → IsKept ps i → IsKept qs i
+    still_kept i e k = ap is_some (g.taken.same i (stay i e)) ∙ k
+
+    each_kept : (i : ℕ) → is_kept m.kept i ≡ is_some (answer_at (slots_of qs) i)
+    each_kept i = by (answer_at (slots_of ps) i) refl (true_or (is_kept m.kept i))
+      where
+        by : (a : Option (Result V F)) → answer_at (slots_of ps) i ≡ a → (is_kept m.kept i ≡ true) ⊎ (is_kept m.kept i ≡ false) → is_kept m.kept i ≡ is_some (answer_at (slots_of qs) i)
+        by (Some r) e (inl c) = c ∙ sym (still_kept i c (ap is_some e))
+        by (Some r) e (inr c) = c ∙ sym (ap is_some (g.taken.out i (taken i (ap is_some e) c)))
+        by None e (inr c) = c ∙ sym (ap is_some (now_none i e))
+        by None e (inl c) = let yes = sym (h.kept i) ∙ ((f.kept i).0 c).0 in let no : is_some (answer_at (slots_of ps) i) ≡ false = ap is_some e in absurd (cc)
+
+    asks_stay : (i : ℕ) → is_kept m.kept i ≡ true → IsKept ps i → (js : List ℕ) → ((k : ℕ) → k < length js → (a : ℕ) × (a < length (row l.asked i)) × (get_or (row l.asked i) a 0 ≡ get_or js k 0)) → AllByRecursion (IsKept ps) js → AllByRecursion (IsKept qs) js
+    asks_stay i e k [] from all = tt
+    asks_stay i e k (j ∷ js) from all = (one (true_or (is_kept m.kept j)), asks_stay i e k js (λ x lt. from (suc x) (omega arith)) all.1)
+      where
+        one : (is_kept m.kept j ≡ true) ⊎ (is_kept m.kept j ≡ false) → IsKept qs j
+        one (inl c) = still_kept j c all.0
+        one (inr c) =
+            let at = from 0 (omega arith) in
+            let r = ((f.exact j).0 (taken j all.0 c)).reaches in
+            absurd (stay i e ((f.exact i).1 (record { was_kept = h.kept i ∙ k; reaches = through i at.0 at.1 (subst (Reaches l.asked (IsHit change l.kept l.uses)) (sym at.2) r) })))
+
+    pub swept-links : AreLinked qs n
+    swept-links = record {
+      kept = λ i. ap (λ ks. is_kept ks i) g.taken.kept ∙ each_kept i;
+      asked = λ i k. (let c = kept_was i k in
+          let same : row n.asked i ≡ row l.asked i = g.taken.asked i (stay i c.0) ∙ ap (λ rows. row rows i) f.asked in
+          subst (AllByRecursion (IsKept qs)) (sym same) (asks_stay i c.0 c.1 (row l.asked i) (λ x lt. (x, lt, refl)) (h.asked i c.1)));
+      idle = g.done;
+      slots = (let a = ap length g.taken.kept in let b = f.slots in let d = g.taken.slots in let e = h.slots in omega arith);
+    }
+
+    -- ---- the looks
+    abbrev is_gone : ℕ → Bool
+    is_gone i = is_kept l.kept i && goes i
+
+    gone-sum : (p : Entry N (Result V F) → ℕ) (q : ℕ → ℕ) → ((i : ℕ) (e : Entry N (Result V F)) → entry_at ps l i ≡ Some e → p e ≡ q i) → (is : List ℕ) → sum_by p (entries_gone (marks_at is)) ≡ sum_by (λ i. cond (is_gone i) (q i) 0) is
+    gone-sum p q same [] = refl
+    gone-sum p q same (i ∷ is) = by (gone-sum p q same is) (answer_at (slots_of ps) i) refl ∙ sym (sum_by-cons (λ i. cond (is_gone i) (q i) 0) i is)
+      where
+        rest : List (Mark N (Result V F))
+        rest = marks_at is
+
+        with_mark : (e : Entry N (Result V F)) (b : Bool) → p e ≡ q i → sum_by p (entries_gone (record { entry = e; goes = b } ∷ rest)) ≡ cond b (q i) 0 + sum_by p (entries_gone rest)
+        with_mark e true same = sum_by-cons p e (entries_gone rest) ∙ ap (λ x. x + sum_by p (entries_gone rest)) same
+        with_mark e false same = omega arith
+
+        by : sum_by p (entries_gone rest) ≡ sum_by (λ i. cond (is_gone i) (q i) 0) is → (a : Option (Result V F)) → answer_at (slots_of ps) i ≡ a → sum_by p (entries_gone (with_first (mark_at i) rest)) ≡ cond (is_gone i) (q i) 0 + sum_by (λ i. cond (is_gone i) (q i) 0) is
+        by ih None e =
+            let none : is_kept l.kept i ≡ false = h.kept i ∙ ap is_some e in
+            ap (λ o. sum_by p (entries_gone (with_first (option_map (mark_of i) o) rest))) (no_entry_at ps l i e) ∙ ih ∙ (let z : cond (is_gone i) (q i) 0 ≡ 0 = ap (λ b. cond (b && goes i) (q i) 0) none in omega arith)
+        by ih (Some a) e =
+            let yes : is_kept l.kept i ≡ true = h.kept i ∙ ap is_some e in
+            let node = some-of (node_at ps i) (kept_node ps i (ap is_some e)) in
+            let x : Entry N (Result V F) = record { node = node.0; answer = a; asked = nodes_at ps (row l.asked i); uses = row l.uses i } in
+            let at : entry_at ps l i ≡ Some x = λ j. entry_with (node.1 j) (e j) (nodes_at ps (row l.asked i)) (row l.uses i) in
+            ap (λ o. sum_by p (entries_gone (with_first (option_map (mark_of i) o) rest))) at ∙ with_mark x (goes i) (same i x at) ∙ (λ j. cond (sym yes j && goes i) (q i) 0 + ih j)
+
+    entry-sum : (p : Entry N (Result V F) → ℕ) (q : ℕ → ℕ) → ((i : ℕ) (e : Entry N (Result V F)) → entry_at ps l i ≡ Some e → p e ≡ q i) → (is : List ℕ) → sum_by p (entries_at ps l is) ≡ sum_by (λ i. cond (is_kept l.kept i) (q i) 0) is
+    entry-sum p q same [] = refl
+    entry-sum p q same (i ∷ is) = by (entry-sum p q same is) (answer_at (slots_of ps) i) refl ∙ sym (sum_by-cons (λ i. cond (is_kept l.kept i) (q i) 0) i is)
+      where
+        by : sum_by p (entries_at ps l is) ≡ sum_by (λ i. cond (is_kept l.kept i) (q i) 0) is → (a : Option (Result V F)) → answer_at (slots_of ps) i ≡ a → sum_by p (with_first (entry_at ps l i) (entries_at ps l is)) ≡ cond (is_kept l.kept i) (q i) 0 + sum_by (λ i. cond (is_kept l.kept i) (q i) 0) is
+        by ih None e =
+            let none : is_kept l.kept i ≡ false = h.kept i ∙ ap is_some e in
+            ap (λ o. sum_by p (with_first o (entries_at ps l is))) (no_entry_at ps l i e) ∙ ih ∙ (let z : cond (is_kept l.kept i) (q i) 0 ≡ 0 = ap (λ b. cond b (q i) 0) none in omega arith)
+        by ih (Some a) e =
+            let yes : is_kept l.kept i ≡ true = h.kept i ∙ ap is_some e in
+            let node = some-of (node_at ps i) (kept_node ps i (ap is_some e)) in
+            let x : Entry N (Result V F) = record { node = node.0; answer = a; asked = nodes_at ps (row l.asked i); uses = row l.uses i } in
+            let at : entry_at ps l i ≡ Some x = λ j. entry_with (node.1 j) (e j) (nodes_at ps (row l.asked i)) (row l.uses i) in
+            ap (λ o. sum_by p (with_first o (entries_at ps l is))) at ∙ sum_by-cons p x (entries_at ps l is) ∙ (λ j. same i x at j + ih j) ∙ (λ j. cond (sym yes j) (q i) 0 + sum_by (λ i. cond (is_kept l.kept i) (q i) 0) is)
+
+    abbrev nums : List ℕ
+    nums = numbers_from 0 (length ps)
+
+    waiting : (i : ℕ) → IsOneOf m.waits i → Contains m.waits i
+    waiting i c = one_of-back m.waits i c
+
+    wait_gone : (i : ℕ) → IsOneOf m.waits i → is_gone i ≡ true
+    wait_gone i c = λ j. was i (waiting i c) j && not (out i (waiting i c) j)
+
+    wait_in : (i : ℕ) → IsOneOf m.waits i → IsOneOf nums i
+    wait_in i c = let lt = past ps i (sym (h.kept i) ∙ was i (waiting i c)) in number_in 0 (length ps) i (omega arith) (omega arith)
+
+    -- what the slots that go have is what their entries have
+    waits-sum : (p : Entry N (Result V F) → ℕ) (q : ℕ → ℕ) → ((i : ℕ) (e : Entry N (Result V F)) → entry_at ps l i ≡ Some e → p e ≡ q i) → sum_by q m.waits ≤ sum_by p (entries_gone all_marks)
+    waits-sum p q same =
+        let a : sum_by q m.waits ≡ sum_by (λ i. cond (is_gone i) (q i) 0) m.waits = sum-alike q (λ i. cond (is_gone i) (q i) 0) m.waits (each-of (λ i. q i ≡ cond (is_gone i) (q i) 0) m.waits (λ i c. (λ j. cond (sym (wait_gone i c) j) (q i) 0))) in
+        let b = sum-within (λ i. cond (is_gone i) (q i) 0) m.waits nums (differ m.waits f.apart) wait_in in
+        let c = gone-sum p q same nums in
+        omega arith
+
+    ones : (is : List ℕ) → sum_by (λ i. 1) is ≡ length is
+    ones [] = refl
+    ones (i ∷ is) = let c = sum_by-cons (λ (j : ℕ). 1) i is in let r = ones is in omega arith
+
+    entry-ones : (es : List (Entry N (Result V F))) → sum_by (λ e. 1) es ≡ length es
+    entry-ones [] = refl
+    entry-ones (e ∷ es) = let c = sum_by-cons (λ (x : Entry N (Result V F)). 1) e es in let r = entry-ones es in omega arith
+
+    pub gone-most : length m.waits ≤ length (entries_gone all_marks)
+    gone-most = let a = waits-sum (λ e. 1) (λ i. 1) (λ i e at. refl) in let b = ones m.waits in let c = entry-ones (entries_gone all_marks) in omega arith
+
+    gone_wait : (i : ℕ) → IsOneOf (filter is_gone nums) i → IsOneOf m.waits i
+    gone_wait i c =
+        let e = and_parts (is_kept l.kept i) (goes i) (filter-passes is_gone nums i c) in
+        one_of-contains m.waits i (f.went i e.0 (not_true (is_kept m.kept i) e.1))
+
+    pub gone-least : length (entries_gone all_marks) ≤ length m.waits
+    gone-least =
+        let a : sum_by (λ e. 1) (entries_gone all_marks) ≡ count_by is_gone nums = gone-sum (λ e. 1) (λ i. 1) (λ i e at. refl) nums in
+        let b = length-filter is_gone nums in
+        let c = sum-within (λ i. 1) (filter is_gone nums) m.waits (filter-differ is_gone nums (numbers-differ 0 (length ps))) gone_wait in
+        let d = ones (filter is_gone nums) in
+        let k = ones m.waits in
+        let x = entry-ones (entries_gone all_marks) in
+        omega arith
+
+    nodes_count : (is : List ℕ) → AllByRecursion (IsKept ps) is → length (nodes_at ps is) ≡ length is
+    nodes_count [] all = refl
+    nodes_count (i ∷ is) all = let node = some-of (node_at ps i) (kept_node ps i all.0) in ap (λ o. length (with_first o (nodes_at ps is))) node.1 ∙ ap suc (nodes_count is all.1)
+
+    asked_count : (i : ℕ) (e : Entry N (Result V F)) → entry_at ps l i ≡ Some e → length e.asked ≡ length (row l.asked i)
+    asked_count i e at = let p = entry_parts (node_at ps i) (answer_at (slots_of ps) i) (nodes_at ps (row l.asked i)) (row l.uses i) e at in ap length p.1 ∙ nodes_count (row l.asked i) (h.asked i p.0)
+
+    uses_same : (i : ℕ) (e : Entry N (Result V F)) → entry_at ps l i ≡ Some e → e.uses ≡ row l.uses i
+    uses_same i e at = (entry_parts (node_at ps i) (answer_at (slots_of ps) i) (nodes_at ps (row l.asked i)) (row l.uses i) e at).2
+
+    two_sums : (a b : ℕ → ℕ) (ss : List ℕ) → sum_by (λ s. 4 * a s + 4 * b s) ss ≡ 4 * sum_by a ss + 4 * sum_by b ss
+    two_sums a b [] = omega arith
+    two_sums a b (s ∷ ss) =
+        let x = sum_by-cons (λ s. 4 * a s + 4 * b s) s ss in let y = sum_by-cons a s ss in let z = sum_by-cons b s ss in let r = two_sums a b ss in omega arith
+
+    same_parts : parts_of m m.waits ≡ parts_of l m.waits
+    same_parts = λ j. sum_by (λ s. 4 * length (row (f.asked j) s) + 4 * length (pages_in (row (f.uses j) s))) m.waits
+
+    -- the uses of all slots are those of the kept ones
+    met-all : ((s : ℕ) → is_kept l.kept s ≡ false → row l.uses s ≡ []) → sum_by (met_by change) l.uses ≤ sum_by (λ e. met_by change e.uses) (entries_of ps l)
+    met-all vacant =
+        let a = rows-numbers (met_by change) (λ i. cond (is_kept l.kept i) (met_by change (row l.uses i)) 0) l.uses (length ps) (met_none change) (λ i. by i (true_or (is_kept l.kept i))) (λ i le. ap (met_by change) (vacant i (h.kept i ∙ ap is_some (none_after ps i le))) ∙ met_none change) in
+        let b = entry-sum (λ e. met_by change e.uses) (λ i. met_by change (row l.uses i)) (λ i e at. ap (met_by change) (uses_same i e at)) nums in
+        omega arith
+      where
+        by : (i : ℕ) → (is_kept l.kept i ≡ true) ⊎ (is_kept l.kept i ≡ false) → met_by change (row l.uses i) ≤ cond (is_kept l.kept i) (met_by change (row l.uses i)) 0
+        by i (inl e) = let k = ap (λ b. cond b (met_by change (row l.uses i)) 0) e in omega arith
+        by i (inr e) = let k = ap (met_by change) (vacant i e) ∙ met_none change in omega arith
+
+    pub looks-most : ((s : ℕ) → is_kept l.kept s ≡ false → row l.uses s ≡ []) → (IsOverwrite change → m.looks ≤ pages_met change + 3 * sum_by (met_by change) l.uses + 1 + 4 * length m.waits + 2 * asks_of l.asked m.waits) → (looked : ℕ) → looked ≤ n.looks + count → IsOverwrite change
+        → looked ≤ pages_met change + 3 * sum_by (λ e. met_by change e.uses) (entries_of ps l) + 9 * length (entries_gone all_marks) + 6 * sum_by (λ e. length e.asked) (entries_gone all_marks) + 4 * sum_by (λ e. length (pages_in e.uses)) (entries_gone all_marks) + 2
+    looks-most vacant most looked le over =
+        let a = most over in
+        let b = g.taken.most in
+        let c = met-all vacant in
+        let d = waits-sum (λ e. length e.asked) (λ i. length (row l.asked i)) asked_count in
+        let e = waits-sum (λ e. length (pages_in e.uses)) (λ i. length (pages_in (row l.uses i))) (λ i e at. ap (λ us. length (pages_in us)) (uses_same i e at)) in
+        let p = same_parts in
+        let q = two_sums (λ s. length (row l.asked s)) (λ s. length (pages_in (row l.uses s))) m.waits in
+        let r = gone-most in
+        omega arith

@@ -1,33 +1,42 @@
 -- What a look-up says of the kept and the open nodes.
-use Rattle.std.proofs.Common.{◌≡◌, ◌≢◌, ℕ, Bool, true, false, List, [], ◌∷◌, IfSome, IfNone, reverse, length, Option, Some, None, is_some, refl, sym, ◌∙◌, ap, subst, Result, slice_get}
+use Rattle.std.proofs.Common.{◌≡◌, ◌≢◌, ℕ, ◌+◌, ◌≤◌, arith, Bool, true, false, List, reverse, length, Some, None, is_some, refl, sym, ◌∙◌, ap, subst, Result, Ok, Err, IfOk, slice_get}
 use Rattle.std.specs.Option.{option_map}
-use Rattle.std.proofs.lemmas.Option.{slice_get-map}
+use Rattle.std.proofs.lemmas.Option.{slice_get-map, slice_get_within}
 use Rattle.std.specs.Cmp.{IsEquivalence}
 use Rattle.std.specs.List.{AllByRecursion, list_any, IsDistinct}
 use Rattle.std.specs.Map.{keys_of}
+use Rattle.ksv_memo_links.specs.Touching.{numbers_from}
+use Rattle.ksv_memo_links.specs.Links.{Linked, Grows}
 use Rattle.ksv_memo_rules.specs.declared.replies.Slot.{Slot}
 use Rattle.ksv_memo_rules.specs.declared.replies.Slot.TheVariants.{Empty as emptied, Open as opened}
-use Rattle.std.specs.Borrow.{Bor}
-use Rattle.ksv_memo.specs.declared.layout.Row.{Row}
-use Rattle.ksv_memo.specs.declared.layout.Rows.{Rows}
 use Rattle.ksv_memo.specs.declared.layout.Frames.{Frames}
-use Rattle.ksv_memo.specs.declared.layout.Known.TheVariants.{New, Empty, Open, Kept}
-use Rattle.ksv_memo_rules.specs.Slots.{answer_in, answer_of, answer_at, lent}
+use Rattle.ksv_memo.specs.declared.slots.Known.TheVariants.{New, Empty, Open, Kept}
+use Rattle.ksv_memo_rules.specs.Slots.{answer_in, answer_of, answer_at}
 use Rattle.ksv_memo_rules.specs.Entry.{Entry}
-use Rattle.ksv_memo.specs.Layout.{slots_of, node_at, IsOpen, IsKept, entries_in, entries_of, opens_of, AreRows, AreFrames, IsLaidOut}
-use Rattle.ksv_memo.specs.Moves.{Knows, IsTheSlot, Heard, Framed, EndsWith}
-use Rattle.ksv_memo.specs.Nodes.{IsEntry, HasNoEntry, Replies, Opens, EndsWithAnswer}
-use Rattle.ksv_memo_rules.proofs.Lists.{All-right}
+use Rattle.ksv_memo.specs.Layout.{slots_of, node_at, nodes_at, IsOpen, IsKept, entry_with, entry_at, entries_of, opens_of, AreLinked, AreFrames, IsLaidOut}
+use Rattle.ksv_memo.specs.Moves.{Knows, IsTheSlot, Heard, Framed}
+use Rattle.ksv_memo.specs.Nodes.{Nodes, IsEntry, HasNoEntry, Replies, Opens}
 use Rattle.ksv_memo.proofs.Finding.{slot_there, node_there, answer_there}
-use Rattle.ksv_memo.proofs.Laying.{some-of, asked_kept, same_entries}
-use Rattle.ksv_memo.proofs.Changing.{ChangesAt, none_past, keeps, rows-stay, frames-push, frames-hear, opens-push, opens-hear}
-use Rattle.ksv_memo.proofs.Knowing.{last_entry, find_entry, no_entry, no_open, some_open, none_at, not_other}
+use Rattle.ksv_memo.proofs.Laying.{some-of, entries_at-same, All-numbers}
+use Rattle.ksv_memo.proofs.Changing.{ChangesAt, none_past, links-stay, entries-stay, frames-push, frames-hear, opens-push, opens-hear}
+use Rattle.ksv_memo.proofs.Knowing.{entry_of, no_entry, no_open, some_open, none_at, not_other}
 
-module _ {N V F : Type 0} (eq : N → N → Bool) (ps : List (N × Slot V F)) (rows : Rows) (frames : Frames) (kept : AreRows ps rows) (waits : AreFrames ps frames) (n : N) where
+pub told : {A E : Type 0} (P Q : A → Type 0) → ((a : A) → P a → Q a) → (r : Result A E) → IfOk r P → IfOk r Q
+told P Q f (Ok a) h = f a h
+told P Q f (Err e) h = h
+
+-- a look-up leaves the slots as they were
+pub looked-laid : {N V F : Type 0} (ps qs : List (N × Slot V F)) (l : Linked) (frames : Frames) → qs ≡ ps → IsLaidOut ps l frames → IsLaidOut qs l frames
+looked-laid ps qs l frames same laid = subst (λ es. IsLaidOut es l frames) (sym same) laid
+
+pub looked-view : {N V F : Type 0} (ps qs : List (N × Slot V F)) (l : Linked) (frames : Frames) (v : Nodes N (Result V F)) → qs ≡ ps → record { kept = entries_of ps l; opened = opens_of ps frames } ≡ v → record { kept = entries_of qs l; opened = opens_of qs frames } ≡ v
+looked-view ps qs l frames v same is = (λ i. record { kept = entries_of (same i) l; opened = opens_of (same i) frames }) ∙ is
+
+module _ {N V F : Type 0} (eq : N → N → Bool) (ps : List (N × Slot V F)) (l : Linked) (frames : Frames) (kept : AreLinked ps l) (waits : AreFrames ps frames) (n : N) where
   -- what is known of a kept node
   pub record IsFound (i : ℕ) : Type 0 where
     pub entry : Entry N (Result V F)
-    pub is : IsEntry eq (entries_of ps rows) n entry
+    pub is : IsEntry eq (entries_of ps l) n entry
     pub node : node_at ps i ≡ Some entry.node
     pub answer : answer_at (slots_of ps) i ≡ Some entry.answer
 
@@ -36,7 +45,7 @@ module _ {N V F : Type 0} (eq : N → N → Bool) (ps : List (N × Slot V F)) (r
       let at : IsTheSlot eq ps n i h.0.0 = h.0.1 in
       let node : node_at ps i ≡ Some at.node = node_there ps i at.node h.0.0 at.there in
       let one : (a : Result V F) × (answer_at (slots_of ps) i ≡ Some a) = some-of (answer_at (slots_of ps) i) h.1 in
-      let e = find_entry ps rows.rows.items rows.asked.items rows.uses.items i at.node one.0 (kept.all i h.1) node one.1 in
+      let e = entry_of ps l i at.node one.0 (slice_get_within ps i (at.node, h.0.0) at.there) node one.1 in
       record {
         entry = e.0;
         is = record { there = e.1; passes = ap (eq n) e.2 ∙ at.passes };
@@ -52,25 +61,25 @@ module _ {N V F : Type 0} (eq : N → N → Bool) (ps : List (N × Slot V F)) (r
   apart_open i m there j o same = let now : Some emptied ≡ Some opened = sym (slot_there ps i m emptied there) ∙ ap (slice_get (slots_of ps)) (sym same) ∙ o in cc
 
   -- a node without a slot is neither kept nor open
-  pub new_out : Knows eq ps n New → HasNoEntry eq (entries_of ps rows) n
-  new_out h = no_entry ps (eq n) (λ j m k e. none_at (eq n) ps h j m e) rows.rows.items rows.asked.items rows.uses.items kept.kept
+  pub new_out : Knows eq ps n New → HasNoEntry eq (entries_of ps l) n
+  new_out h = no_entry ps l (eq n) (λ j m k e. none_at (eq n) ps h j m e)
 
   pub new_free : Knows eq ps n New → list_any (λ o. eq n o.node) (opens_of ps frames) ≡ false
   new_free h = no_open ps (eq n) (λ j m o e. none_at (eq n) ps h j m e) (reverse frames.frames.items) frames.asked.items frames.uses.items waits.waits
 
   module _ (laws : IsEquivalence eq) (unique : IsDistinct eq (keys_of ps)) where
-    slot_out : (i : ℕ) (s : Slot V F) → IsTheSlot eq ps n i s → answer_in s ≡ None → HasNoEntry eq (entries_of ps rows) n
-    slot_out i s at none = no_entry ps (eq n) (λ j m k e. not_other eq laws ps unique n i at.node (node_there ps i at.node s at.there) at.passes j m (apart_kept i at.node s at.there none j k) e) rows.rows.items rows.asked.items rows.uses.items kept.kept
+    slot_out : (i : ℕ) (s : Slot V F) → IsTheSlot eq ps n i s → answer_in s ≡ None → HasNoEntry eq (entries_of ps l) n
+    slot_out i s at none = no_entry ps l (eq n) (λ j m k e. not_other eq laws ps unique n i at.node (node_there ps i at.node s at.there) at.passes j m (apart_kept i at.node s at.there none j k) e)
 
     -- nor is one with an empty slot
-    pub empty_out : (i : ℕ) → Knows eq ps n (Empty i) → HasNoEntry eq (entries_of ps rows) n
+    pub empty_out : (i : ℕ) → Knows eq ps n (Empty i) → HasNoEntry eq (entries_of ps l) n
     empty_out i at = slot_out i emptied at refl
 
     pub empty_free : (i : ℕ) → Knows eq ps n (Empty i) → list_any (λ o. eq n o.node) (opens_of ps frames) ≡ false
     empty_free i at = no_open ps (eq n) (λ j m o e. not_other eq laws ps unique n i at.node (node_there ps i at.node emptied at.there) at.passes j m (apart_open i at.node at.there j o) e) (reverse frames.frames.items) frames.asked.items frames.uses.items waits.waits
 
     -- an open node isn't kept
-    pub open_out : Knows eq ps n Open → HasNoEntry eq (entries_of ps rows) n
+    pub open_out : Knows eq ps n Open → HasNoEntry eq (entries_of ps l) n
     open_out (i, at) = slot_out i opened at refl
 
   -- an open node waits
@@ -78,32 +87,30 @@ module _ {N V F : Type 0} (eq : N → N → Bool) (ps : List (N × Slot V F)) (r
   open_waits (i, at) = some_open ps (eq n) (reverse frames.frames.items) frames.asked.items frames.uses.items i at.node (waits.all i (slot_there ps i at.node opened at.there)) (node_there ps i at.node opened at.there) at.passes
 
 -- ---- the moves of the table
-module _ {N V F : Type 0} (eq : N → N → Bool) (ps : List (N × Slot V F)) (rows : Rows) (frames : Frames) (laid : IsLaidOut ps rows frames) (n : N) where
+module _ {N V F : Type 0} (eq : N → N → Bool) (ps : List (N × Slot V F)) (l : Linked) (frames : Frames) (laid : IsLaidOut ps l frames) (n : N) where
   -- a kept answer is heard
-  pub hears : (i : ℕ) → Knows eq ps n (Kept i) → (new : Frames) → Heard i frames new → IsLaidOut ps rows new
+  pub hears : (i : ℕ) → Knows eq ps n (Kept i) → (new : Frames) → Heard i frames new → IsLaidOut ps l new
   hears i knows new h = record { kept = laid.kept; waits = frames-hear ps i knows.1 frames new laid.waits h }
 
-  pub replies : (i : ℕ) → Knows eq ps n (Kept i) → (new : Frames) → Heard i frames new → Replies eq n (record { kept = entries_of ps rows; opened = opens_of ps frames }) (record { kept = entries_of ps rows; opened = opens_of ps new })
+  pub replies : (i : ℕ) → Knows eq ps n (Kept i) → (new : Frames) → Heard i frames new → Replies eq n (record { kept = entries_of ps l; opened = opens_of ps frames }) (record { kept = entries_of ps l; opened = opens_of ps new })
   replies i knows new h =
-      let one = found eq ps rows frames laid.kept laid.waits n i knows in
+      let one = found eq ps l frames laid.kept laid.waits n i knows in
       record { entry = one.entry; is = one.is; kept = refl; opened = opens-hear ps i one.entry.node one.entry.answer one.node one.answer frames new laid.waits h }
 
   -- a node is opened in a slot of its own
   module _ (qs : List (N × Slot V F)) (i : ℕ) (m : N) (changes : ChangesAt ps qs i m opened) (none : answer_at (slots_of ps) i ≡ None) (free : IsOpen ps i → ⊥) (new : Frames) (framed : Framed i frames new) where
-    pub opens-laid : IsLaidOut qs rows new
-    opens-laid = record { kept = rows-stay ps qs i m opened changes none refl rows laid.kept; waits = frames-push ps qs i m opened changes none refl free frames new laid.waits framed }
+    pub opens-laid : length qs ≤ length l.kept → IsLaidOut qs l new
+    opens-laid le = record { kept = links-stay ps qs i m opened changes none refl l laid.kept le; waits = frames-push ps qs i m opened changes none refl free frames new laid.waits framed }
 
-    pub opens-more : eq n m ≡ true → HasNoEntry eq (entries_of ps rows) n → list_any (λ o. eq n o.node) (opens_of ps frames) ≡ false → Opens eq n (record { kept = entries_of ps rows; opened = opens_of ps frames }) (record { kept = entries_of qs rows; opened = opens_of qs new })
-    opens-more passes out apart =
-        let all : AllByRecursion (IsKept ps) rows.asked.items = asked_kept ps [] rows.rows.items rows.asked.items laid.kept.ordered laid.kept.asked laid.kept.kept (λ j h. absurd h) in
-        record {
-          node = m;
-          passes = passes;
-          out = out;
-          free = apart;
-          kept = same_entries ps qs (keeps ps qs i m opened changes none) rows.rows.items rows.asked.items rows.uses.items laid.kept.kept all;
-          opened = opens-push ps qs i m opened changes none frames new laid.waits framed;
-        }
+    pub opens-more : (more : ℕ) → length qs ≡ length ps + more → AllByRecursion (λ j. entry_at qs l j ≡ None) (numbers_from (length ps) more) → eq n m ≡ true → HasNoEntry eq (entries_of ps l) n → list_any (λ o. eq n o.node) (opens_of ps frames) ≡ false → Opens eq n (record { kept = entries_of ps l; opened = opens_of ps frames }) (record { kept = entries_of qs l; opened = opens_of qs new })
+    opens-more more count new_ones passes out apart = record {
+      node = m;
+      passes = passes;
+      out = out;
+      free = apart;
+      kept = entries-stay ps qs i m opened changes none refl l laid.kept more count new_ones;
+      opened = opens-push ps qs i m opened changes none frames new laid.waits framed;
+    }
 
   -- an empty slot
   pub empty_none : (i : ℕ) (at : IsTheSlot eq ps n i emptied) → answer_at (slots_of ps) i ≡ None
@@ -119,15 +126,15 @@ module _ {N V F : Type 0} (eq : N → N → Bool) (ps : List (N × Slot V F)) (r
   pub past_closed : IsOpen ps (length ps) → ⊥
   past_closed o = let now : None ≡ Some opened = sym (slice_get-map (λ p. p.1) ps (length ps) ∙ ap (option_map (λ p. p.1)) (none_past ps)) ∙ o in cc
 
--- ---- the answer that was kept last
-module _ {N V F : Type 0} (ps : List (N × Slot V F)) (rows : Rows) (kept : AreRows ps rows) (r : Row) (ends : EndsWith r rows.rows.items) where
-  row_kept : IsKept ps r.slot
-  row_kept = (All-right (λ (q : Row). IsKept ps q.slot) ends.0 (r ∷ []) (subst (AllByRecursion (λ q. IsKept ps q.slot)) ends.1 kept.kept)).0
+-- ---- more slots for links
+module _ {N V F : Type 0} (ps : List (N × Slot V F)) (l m : Linked) (h : AreLinked ps l) (g : Grows l m) where
+  pub grown-links : AreLinked ps m
+  grown-links = record {
+    kept = λ i. g.kept.each i ∙ h.kept i;
+    asked = λ i k. subst (AllByRecursion (IsKept ps)) (sym (g.asked.each i)) (h.asked i k);
+    idle = g.waits ∙ h.idle;
+    slots = (let a = h.slots in let b = g.kept.more in omega arith);
+  }
 
-  pub last_some : (o : Option (Result (Bor V) (Bor F))) → option_map lent o ≡ answer_at (slots_of ps) r.slot → IfSome o (λ a. EndsWithAnswer (lent a) (entries_of ps rows))
-  last_some None e = tt
-  last_some (Some a) e = subst (λ rs. EndsWithAnswer (lent a) (entries_in ps rs rows.asked.items rows.uses.items)) (sym ends.1) (last_entry ps ends.0 r rows.asked.items rows.uses.items (lent a) row_kept (sym e))
-
-  pub last_none : (P : Type 0) (o : Option (Result (Bor V) (Bor F))) → option_map lent o ≡ answer_at (slots_of ps) r.slot → IfNone o P
-  last_none P None e = let none : is_some (answer_at (slots_of ps) r.slot) ≡ false = ap is_some (sym e) in absurd (let yes : is_some (answer_at (slots_of ps) r.slot) ≡ true = row_kept in cc)
-  last_none P (Some a) e = tt
+  pub grown-entries : entries_of ps m ≡ entries_of ps l
+  grown-entries = entries_at-same ps ps l m (numbers_from 0 (length ps)) (All-numbers (λ i. entry_at ps m i ≡ entry_at ps l i) 0 (length ps) (λ i le lt. (λ j. entry_with (node_at ps i) (answer_at (slots_of ps) i) (nodes_at ps (g.asked.each i j)) (g.uses.each i j))))

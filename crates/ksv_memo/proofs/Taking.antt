@@ -1,31 +1,23 @@
 -- What the moves of the table come to for a question.
-use Rattle.std.proofs.Common.{◌≡◌, ℕ, ◌+◌, ◌<◌, Bool, true, false, List, [], ◌∷◌, ◌++◌, Option, Some, None, refl, sym, ◌∙◌, ap, subst, inl, inr, Result, Ok, Err, IfOk, OnErr}
-use Rattle.std.proofs.lemmas.List.{reverse-append}
-use Rattle.std.proofs.Common.{reverse}
+use Rattle.std.proofs.Common.{◌≡◌, ℕ, ◌+◌, ◌<◌, nat_lt, arith, Bool, true, false, List, [], ◌∷◌, length, Option, Some, None, refl, sym, ◌∙◌, ap, subst, inl, inr, Result, Ok, Err, IfOk, OnErr}
+use Rattle.std.proofs.lemmas.Bool.Decides.{Decides-ltb}
 use Rattle.std.specs.Cmp.{IsEquivalence}
 use Rattle.ksv_memo_rules.specs.declared.rules.Next.{Next}
 use Rattle.ksv_memo_rules.specs.declared.rules.Next.TheVariants.{Need, Done}
 use Rattle.ksv_memo_rules.specs.declared.rules.Outcome.{Outcome}
 use Rattle.ksv_memo_rules.specs.declared.rules.Outcome.TheVariants.{Answered, Circle}
 use Rattle.ksv_memo_rules.specs.Meaning.{Standing, IsSettled}
-use Rattle.ksv_memo_rules.specs.Evaluation.{tells, done, IsAnswered}
+use Rattle.ksv_memo_rules.specs.Evaluation.{is_among, tells, done, IsAnswered}
 use Rattle.ksv_memo_rules.specs.Entry.{Entry}
 use Rattle.ksv_memo.specs.Open.{Open, newly, with_uses, with_answer}
-use Rattle.ksv_memo.specs.Nodes.{Nodes, IsEntry, HasNoEntry, Replies, Opens, Circles, kept_of, Steps, Closes, MayKeep, EndsWithAnswer}
+use Rattle.ksv_memo.specs.Nodes.{Nodes, IsEntry, HasNoEntry, Replies, Opens, Circles, Steps, Closes, MayKeep}
 use Rattle.ksv_memo_rules.specs.Right.{nodes_of, IsRight, counted, Agrees}
-use Rattle.ksv_memo.specs.Running.{account_of, account_at, GoesOn, GoesOnWith, HasFinished, Advances, IsLeft, IsRunning, HasReached, AdvancesFrom, AdvancesAt, LeftFrom, LeftAt, Holds, HoldsWith, Counts, CountsWith, turns_left, rest_of, to_keep, debt}
+use Rattle.ksv_memo.specs.Running.{account_of, account_at, GoesOn, GoesOnWith, HasFinished, Advances, IsLeft, IsRunning, HasReached, AdvancesFrom, AdvancesAt, LeftFrom, LeftAt, Holds, HoldsWith, Counts, CountsWith, turns_left, rest_of, to_keep, debt, AreSame}
 use Rattle.ksv_memo_rules.proofs.Evals.{IsOut}
 use Rattle.ksv_memo_rules.proofs.Keeping.{IsIn, self_in}
-use Rattle.ksv_memo.proofs.Laying.{one_of-all, ++-nil}
+use Rattle.ksv_memo.proofs.Laying.{one_of-all}
 use Rattle.ksv_memo_rules.proofs.Lists.{none_pass}
-use Rattle.ksv_memo.proofs.Turns.{any_entry, waits_among, need-replies, need-opens, need-ends, finish-goes, finish-ends, finish-left, left-same, turn-account, turn-steps, begins, comes, covers-begins, turns-begin, value-begins, counts-end, counts-step, grown-more, left-more}
-
--- a list has one last element
-pub one-last : {X : Type 0} (xs ys : List X) (x y : X) → xs ++ x ∷ [] ≡ ys ++ y ∷ [] → x ≡ y
-one-last xs ys x y e = heads (reverse xs) (reverse ys) x y (sym (reverse-append xs (x ∷ [])) ∙ ap reverse e ∙ reverse-append ys (y ∷ []))
-  where
-    heads : {X : Type 0} (us vs : List X) (a b : X) → a ∷ us ≡ b ∷ vs → a ≡ b
-    heads us vs a b e = let same : a ≡ b = cc in same
+use Rattle.ksv_memo.proofs.Turns.{any_entry, waits_among, need-replies, need-opens, need-ends, finish-goes, finish-ends, finish-left, left-same, turn-account, turn-steps, begins, comes, covers-begins, turns-begin, value-begins, counts-end, counts-step, left-more}
 
 -- a node that isn't kept has no entry
 pub not_replied : {N A : Type 0} (eq : N → N → Bool) (es : List (Entry N A)) (n : N) (e : Entry N A) → HasNoEntry eq es n → IsEntry eq es n e → ⊥
@@ -38,6 +30,17 @@ if_ok-map P Q f (Err e) h = tt
 pub on_err-map : {T E P Q : Type 0} → (P → Q) → (r : Result T E) → OnErr r P → OnErr r Q
 on_err-map f (Ok t) h = tt
 on_err-map f (Err e) h = f h
+
+-- whether a node waits for the last one, by the number of the open ones
+pub closes_more : {N A : Type 0} (a : A) (st : List (Open N A)) (old new : Nodes N A) (waits : Bool) → Closes a st old new waits → nat_lt 1 (length st) ≡ true → Closes a st old new true
+closes_more a [] old new waits r e = absurd r
+closes_more a (o ∷ []) old new waits r e = let lt = (Decides-ltb 1 (length (o ∷ []))).0 e in absurd (omega arith)
+closes_more a (o ∷ p ∷ st) old new waits r e = (r.0, r.1, refl)
+
+pub closes_one : {N A : Type 0} (a : A) (st : List (Open N A)) (old new : Nodes N A) (waits : Bool) → Closes a st old new waits → nat_lt 1 (length st) ≡ false → Closes a st old new false
+closes_one a [] old new waits r e = absurd r
+closes_one a (o ∷ []) old new waits r e = (r.0, r.1, refl)
+closes_one a (o ∷ p ∷ st) old new waits r e = let yes = (Decides-ltb 1 (length (o ∷ p ∷ st))).1 (omega arith) in absurd (cc)
 
 module _ {N A : Type 0} (w : Standing N A) (law : IsSettled w) (eq : N → N → Bool) (laws : IsEquivalence eq) (exact : (a b : N) → eq a b ≡ true → a ≡ b) where
   -- ---- a kept node
@@ -77,24 +80,22 @@ module _ {N A : Type 0} (w : Standing N A) (law : IsSettled w) (eq : N → N →
   closes_on es [] a now reached r = absurd reached
   closes_on es (o ∷ []) a now reached r = let no : true ≡ false = r.2 in absurd (cc)
   closes_on es (o ∷ p ∷ rest) a now reached r =
-      let goes : GoesOn w (account_at w es o (p ∷ rest) (Done a)) es now.kept (with_answer p o.node a) rest = finish-goes w law es now.kept o p (with_answer p o.node a) (p ∷ rest) rest a r.0.once reached.0 reached.1 r.0.each r.0.kept refl refl in
+      let goes : GoesOn w (account_at w es o (p ∷ rest) (Done a)) es now.kept (with_answer p o.node a) rest = finish-goes w law es now.kept r.0.front r.0.back o p (with_answer p o.node a) (p ∷ rest) rest a r.0.once reached.0 reached.1 r.0.each r.0.was r.0.kept refl refl in
       subst (GoesOnWith w (account_at w es o (p ∷ rest) (Done a)) es now.kept) (sym r.1) goes
 
-  pub closes_last : (es : List (Entry N A)) (st : List (Open N A)) (a b c : A) (now : Nodes N A) → HasReached w es st (Done a) → Closes a st (record { kept = es; opened = st }) now false → EndsWithAnswer b now.kept → c ≡ b → AdvancesAt w es st (Done a) now (Some (Answered c))
-  closes_last es [] a b c now reached r ends copy = absurd reached
-  closes_last es (o ∷ p ∷ rest) a b c now reached r ends copy = let no : false ≡ true = r.2 in absurd (cc)
-  closes_last es (o ∷ []) a b c now reached r ends copy =
-      let last : ends.entry ≡ kept_of o a r.0.once = one-last ends.front es ends.entry (kept_of o a r.0.once) (sym ends.entries ∙ r.0.kept) in
-      finish-ends w law es now.kept o [] a c r.0.once reached.0 reached.1 r.0.each r.0.kept refl (copy ∙ sym ends.answer ∙ ap (λ (e : Entry N A). e.answer) last)
+  pub closes_last : (es : List (Entry N A)) (st : List (Open N A)) (a c : A) (now : Nodes N A) → HasReached w es st (Done a) → Closes a st (record { kept = es; opened = st }) now false → c ≡ a → AdvancesAt w es st (Done a) now (Some (Answered c))
+  closes_last es [] a c now reached r copy = absurd reached
+  closes_last es (o ∷ p ∷ rest) a c now reached r copy = let no : false ≡ true = r.2 in absurd (cc)
+  closes_last es (o ∷ []) a c now reached r copy = finish-ends w law es now.kept r.0.front r.0.back o [] a c r.0.once reached.0 reached.1 r.0.each r.0.was r.0.kept refl copy
 
   pub closes_left : (es : List (Entry N A)) (st : List (Open N A)) (a : A) (now : List (Entry N A)) → HasReached w es st (Done a) → MayKeep a st es now → LeftAt w es st (Done a) now
   closes_left es [] a now reached may = absurd reached
   closes_left es (o ∷ st) a now reached (inl same) = left-same w law es now _ reached.0.right same
-  closes_left es (o ∷ st) a now reached (inr keeps) = finish-left w law es now o st a keeps.once reached.0 reached.1 keeps.each keeps.kept
+  closes_left es (o ∷ st) a now reached (inr keeps) = finish-left w law es now keeps.front keeps.back o st a keeps.once reached.0 reached.1 keeps.each keeps.was keeps.kept
 
-  pub closed_keeps : (es : List (Entry N A)) (st : List (Open N A)) (a : A) (now : Nodes N A) (waits : Bool) → Closes a st (record { kept = es; opened = st }) now waits → MayKeep a st es now.kept
-  closed_keeps es [] a now waits r = absurd r
-  closed_keeps es (o ∷ st) a now waits r = inr r.0
+  pub done_left : (es : List (Entry N A)) (st : List (Open N A)) (a : A) (t : List (Entry N A)) → HasReached w es st (Done a) → t ≡ es → LeftAt w es st (Done a) t
+  done_left es [] a t reached same = absurd reached
+  done_left es (o ∷ st) a t reached same = left-same w law es t _ reached.0.right same
 
   -- ---- a call
   pub reached : (es : List (Entry N A)) (st now : List (Open N A)) (s : Next N A) → IsRunning w es st → Steps w st now s → HasReached w es now s
@@ -129,8 +130,8 @@ module _ {N A : Type 0} (w : Standing N A) (law : IsSettled w) (eq : N → N →
       let holds : Holds w n es es (newly n) [] = record {
         stack = begins w law es n (newly n) [] refl refl right (no_entry_out es n none);
         came = comes w law es n (newly n) refl;
-        grown = ([], sym (++-nil (nodes_of es)));
-        all = covers-begins w law es n (newly n) [] refl refl;
+        grown = λ x k. k;
+        all = λ x. ap (λ ns. is_among w.number ns x) (covers-begins w law es n (newly n) [] refl refl);
         value = value-begins w law n (newly n) [] refl refl;
       } in
       subst (λ xs. HoldsWith w n es xs st) (sym kept) (subst (HoldsWith w n es es) (sym opened) holds)
@@ -150,7 +151,7 @@ module _ {N A : Type 0} (w : Standing N A) (law : IsSettled w) (eq : N → N →
     where
       by : (qs : List (Entry N A)) (xs : List (Open N A)) → GoesOnWith w (account_of w ks o st) ks qs xs → HoldsWith w n es qs xs
       by qs [] g = absurd g
-      by qs (p ∷ rest) g = record { stack = g.stack; came = g.came; grown = grown-more (nodes_of es) (nodes_of ks) (nodes_of qs) h.grown g.grown; all = g.all ∙ h.all; value = g.value ∙ h.value }
+      by qs (p ∷ rest) g = record { stack = g.stack; came = g.came; grown = λ x k. g.grown x (h.grown x k); all = λ x. g.all x ∙ h.all x; value = g.value ∙ h.value }
 
   pub counts_next : (es ks : List (Entry N A)) (n : N) (st : List (Open N A)) (now : Nodes N A) (first before after : Option ℕ) → CountsWith w n es first ks st before → AdvancesFrom w ks st now None → after ≡ counted 1 before → CountsWith w n es first now.kept now.opened after
   counts_next es ks n [] now first before after h goes e = absurd h
@@ -172,7 +173,7 @@ module _ {N A : Type 0} (w : Standing N A) (law : IsSettled w) (eq : N → N →
   pub record HasEnd (n : N) (es : List (Entry N A)) (first : Option ℕ) (after : Option ℕ) (now : List (Entry N A)) (out : Outcome N A) : Type 0 where
     pub outcome : out ≡ (tells w [] n).outcome
     pub right : IsRight w now
-    pub kept : nodes_of now ≡ to_keep w es (done w [] n)
+    pub kept : AreSame w (nodes_of now) (to_keep w es (done w [] n))
     pub turns : IsAnswered out → after ≡ counted (debt w es (done w [] n)) first
 
   pub has_ended : (es ks : List (Entry N A)) (n : N) (st : List (Open N A)) (now : Nodes N A) (out : Outcome N A) (first before after : Option ℕ) → HoldsWith w n es ks st → CountsWith w n es first ks st before → AdvancesFrom w ks st now (Some out) → after ≡ counted 1 before → HasEnd n es first after now.kept out
@@ -180,7 +181,7 @@ module _ {N A : Type 0} (w : Standing N A) (law : IsSettled w) (eq : N → N →
   has_ended es ks n (o ∷ st) now out first before after h c ends e = record {
     outcome = ends.value ∙ h.value;
     right = ends.right;
-    kept = ends.all ∙ h.all;
+    kept = λ x. ends.all x ∙ h.all x;
     turns = λ answered. counts-end first before after _ _ _ c (ends.calls answered) e;
   }
 

@@ -1,27 +1,31 @@
 -- The last open node: how it is run, kept and taken out.
-use Rattle.std.proofs.Common.{◌≡◌, ℕ, suc, ◌+◌, ◌-◌, ◌≤◌, true, false, List, [], ◌∷◌, ◌++◌, length, map, take, drop, reverse, Option, Some, None, is_some, refl, sym, ◌∙◌, ap, subst, Result, Ok, Err, OnOk, OnErr, slice_get, inl, inr, arith, length-append, ◌==◌}
+use Rattle.std.proofs.Common.{◌≡◌, ℕ, suc, ◌+◌, ◌-◌, ◌≤◌, ◌<◌, true, false, All, List, [], ◌∷◌, ◌++◌, length, map, take, drop, reverse, Option, Some, None, is_some, refl, sym, ◌∙◌, ap, subst, Result, Ok, Err, OnOk, OnErr, slice_get, inl, inr, arith, length-append, ◌==◌}
 use Rattle.std.specs.Option.{option_map}
 use Rattle.std.specs.List.{AllByRecursion}
 use Rattle.std.proofs.lemmas.List.{take-append-le, drop-append-le, reverse-append, reverse-reverse, take_rest}
-use Rattle.std.proofs.lemmas.Option.{slice_get-map}
+use Rattle.std.proofs.lemmas.Option.{slice_get-map, slice_get_within}
 use Rattle.ksv_bytes.specs.declared.uses.Use.{Use}
 use Rattle.ksv_memo_rules.specs.declared.rules.Next.{Next}
+use Rattle.ksv_memo_links.specs.Links.{Linked, Keeps as LinksKeep}
+use Rattle.ksv_memo_links.specs.Marking.{is_kept}
 use Rattle.ksv_memo_rules.specs.declared.replies.Slot.{Slot}
 use Rattle.ksv_memo_rules.specs.declared.replies.Slot.TheVariants.{Empty as emptied, Open as opened}
-use Rattle.ksv_memo.specs.declared.layout.Rows.{Rows}
 use Rattle.ksv_memo.specs.declared.layout.Frame.{Frame}
 use Rattle.ksv_memo.specs.declared.layout.Frames.{Frames}
 use Rattle.ksv_memo_rules.specs.Slots.{answer_in, answer_at, answers_at}
 use Rattle.ksv_memo_rules.specs.Meaning.{Standing, IsAddedTo}
 use Rattle.ksv_memo_rules.specs.Entry.{Entry}
 use Rattle.ksv_memo.specs.Open.{Open, with_uses, heard}
-use Rattle.ksv_memo.specs.Layout.{IsOneOf, AllDiffer, slots_of, node_at, nodes_at, IsOpen, IsKept, entries_of, open_before, opens_in, opens_of, AreNested, AreFrames, IsLaidOut}
-use Rattle.ksv_memo.specs.Moves.{EndsWith, SameFrames, Popped, Heard, Rowed}
+use Rattle.ksv_memo_rules.specs.Right.{HasEachOnce}
+use Rattle.ksv_memo.specs.Layout.{IsOneOf, AllDiffer, slots_of, node_at, nodes_at, IsOpen, IsKept, entries_of, open_before, opens_in, opens_of, AreNested, AreLinked, AreFrames, IsLaidOut}
+use Rattle.ksv_memo.specs.Moves.{EndsWith, SameFrames, Popped, Heard}
 use Rattle.ksv_memo.specs.Nodes.{Keeps, Steps, Closes, MayKeep, TakesFirst, is_there}
+use Rattle.std.proofs.lemmas.List.Elements.{All-from_recursion}
+use Rattle.ksv_memo_rules.proofs.Lists.{All-map}
 use Rattle.ksv_memo_rules.proofs.Evals.{eqb_true}
 use Rattle.ksv_memo.proofs.Finding.{node_there, answer_there}
-use Rattle.ksv_memo.proofs.Laying.{All-drop, asked_kept, same_entries}
-use Rattle.ksv_memo.proofs.Changing.{ChangesAt, grown, keeps, rows-stay, rows-add, entries-add, frames-pop, frames-hear, opens-pop, opens-hear, frames_nodes}
+use Rattle.ksv_memo.proofs.Laying.{All-drop}
+use Rattle.ksv_memo.proofs.Changing.{ChangesAt, grown, links-stay, links-keep, entries-stay, entries-keep, frames-pop, frames-hear, opens-pop, opens-hear, frames_nodes}
 
 -- the last of a list that isn't empty
 pub last-front : {X : Type 0} (xs : List X) (x : X) → slice_get xs (length xs - 1) ≡ Some x → EndsWith x xs
@@ -60,6 +64,13 @@ on_err_always (Err e) h = h
 pub next-more : {X T E : Type 0} (xs us ys : List X) (r : Result T E) → OnOk r (ys ≡ xs ++ us) → OnErr r (IsAddedTo xs ys) → IsAddedTo xs ys
 next-more xs us ys (Ok v) ok err = (us, ok)
 next-more xs us ys (Err e) ok err = err
+
+-- the last open node's part of what open nodes asked and used, as the code takes it
+pub keep_part : (k : ℕ) (uses held once : List Use) → held ≡ uses → HasEachOnce once (take (length held - k) (drop k held)) → HasEachOnce once (drop k uses)
+keep_part k uses held once e h = subst (λ us. HasEachOnce once (drop k us)) e (subst (HasEachOnce once) (take_rest held k) h)
+
+pub kept_part : (l m : Linked) (slot k : ℕ) (asked held : List ℕ) (given once : List Use) → held ≡ asked → given ≡ once → LinksKeep l m slot (take (length held - k) (drop k held)) given → LinksKeep l m slot (drop k asked) once
+kept_part l m slot k asked held given once e f h = subst (λ us. LinksKeep l m slot (drop k asked) us) f (subst (λ xs. LinksKeep l m slot (drop k xs) given) e (subst (λ xs. LinksKeep l m slot xs given) (take_rest held k) h))
 
 module _ {N V F : Type 0} (ps : List (N × Slot V F)) where
   open_pair : (i : ℕ) (o : Option (N × Slot V F)) → slice_get ps i ≡ o → option_map (λ p. p.1) o ≡ Some opened → (n : N) × (slice_get ps i ≡ Some (n, opened))
@@ -134,19 +145,22 @@ module _ {N V F : Type 0} (ps : List (N × Slot V F)) where
       ∙ (λ i. record { node = t.node; replies = answers_at (slots_of ps) (drop f.asked frames.asked.items); asked = nodes_at ps (drop f.asked frames.asked.items); uses = drop-append-le f.uses frames.uses.items us t.count i } ∷ opens_in ps (reverse t.front) (take f.asked frames.asked.items) (take-append-le f.uses frames.uses.items us t.count i)) in
       subst (λ st. Steps w st (opens_of ps new) s) (sym (top-opens frames f t)) (is, opens)
 
-  pair-node : (p q : N × Slot V F) → Some p ≡ Some q → p.0 ≡ q.0
-  pair-node p q e = let same : p ≡ q = cc in ap (λ r. r.0) same
+  some-same : {m n : N} → Some m ≡ Some n → m ≡ n
+  some-same e = cc
 
-  pub runs : (w : Standing N (Result V F)) (frames new : Frames) (f : Frame) (t : IsTop frames f) (m : N) (slot : Slot V F) (rs : List (Result V F)) (s : Next N (Result V F)) → slice_get ps f.slot ≡ Some (m, slot) → rs ≡ answers_at (slots_of ps) (drop f.asked frames.asked.items) → new.frames ≡ frames.frames → new.asked ≡ frames.asked → new.uses.items ≡ frames.uses.items ++ w.added m rs → s ≡ w.follow m rs → Steps w (opens_of ps frames) (opens_of ps new) s
-  runs w frames new f t m slot rs s there lent same asked used is =
-      let node : m ≡ t.node = pair-node (m, slot) (t.node, opened) (sym there ∙ t.there) in
+  pub none-some : {n : N} → Some n ≡ None → ⊥
+  none-some e = cc
+
+  pub runs : (w : Standing N (Result V F)) (frames new : Frames) (f : Frame) (t : IsTop frames f) (m : N) (rs : List (Result V F)) (s : Next N (Result V F)) → node_at ps f.slot ≡ Some m → rs ≡ answers_at (slots_of ps) (drop f.asked frames.asked.items) → new.frames ≡ frames.frames → new.asked ≡ frames.asked → new.uses.items ≡ frames.uses.items ++ w.added m rs → s ≡ w.follow m rs → Steps w (opens_of ps frames) (opens_of ps new) s
+  runs w frames new f t m rs s there lent same asked used is =
+      let node : m ≡ t.node = some-same (sym there ∙ node_there ps f.slot t.node opened t.there) in
       top-steps w frames new f t s same asked (used ∙ (λ i. frames.uses.items ++ w.added (node i) (lent i))) (is ∙ (λ i. w.follow (node i) (lent i)))
 
   pub part-lent : (slots : List (Slot V F)) (asked items : List ℕ) (k : ℕ) (rs : List (Result V F)) → slots ≡ slots_of ps → items ≡ asked → rs ≡ answers_at slots (take (length items - k) (drop k items)) → rs ≡ answers_at (slots_of ps) (drop k asked)
   part-lent slots asked items k rs same is lent = lent ∙ ap (answers_at slots) (take_rest items k) ∙ (λ i. answers_at (same i) (drop k (is i)))
 
   -- ---- the last open node is taken out
-  module _ (rows : Rows) (frames new : Frames) (f : Frame) (laid : IsLaidOut ps rows frames) (popped : Popped f frames new) (t : IsTop frames f) (qs : List (N × Slot V F)) where
+  module _ (l : Linked) (frames new : Frames) (f : Frame) (laid : IsLaidOut ps l frames) (popped : Popped f frames new) (t : IsTop frames f) (qs : List (N × Slot V F)) where
     top_none : answer_at (slots_of ps) f.slot ≡ None
     top_none = answer_there ps f.slot t.node opened t.there
 
@@ -159,40 +173,45 @@ module _ {N V F : Type 0} (ps : List (N × Slot V F)) where
     pub pops-opens : (s : Slot V F) → ChangesAt ps qs f.slot t.node s → opens_of qs new ≡ below frames f t.front
     pops-opens s changes = opens-pop ps qs f.slot t.node s changes top_none f frames new laid.waits popped ∙ ap (λ fs. opens_in ps fs (take f.asked frames.asked.items) (take f.uses frames.uses.items)) same_front
 
-    pub abandons-laid : ChangesAt ps qs f.slot t.node emptied → IsLaidOut qs rows new
-    abandons-laid changes = record {
-      kept = rows-stay ps qs f.slot t.node emptied changes top_none refl rows laid.kept;
+    pub abandons-laid : ChangesAt ps qs f.slot t.node emptied → length qs ≡ length ps → IsLaidOut qs l new
+    abandons-laid changes count = record {
+      kept = links-stay ps qs f.slot t.node emptied changes top_none refl l laid.kept (let h = laid.kept.slots in omega arith);
       waits = frames-pop ps qs f.slot t.node emptied changes top_none (λ e. cc) f refl frames new laid.waits popped;
     }
 
-    pub abandons-kept : ChangesAt ps qs f.slot t.node emptied → entries_of qs rows ≡ entries_of ps rows
-    abandons-kept changes = same_entries ps qs (keeps ps qs f.slot t.node emptied changes top_none) rows.rows.items rows.asked.items rows.uses.items laid.kept.kept (asked_kept ps [] rows.rows.items rows.asked.items laid.kept.ordered laid.kept.asked laid.kept.kept (λ j h. absurd h))
+    pub abandons-kept : ChangesAt ps qs f.slot t.node emptied → length qs ≡ length ps → entries_of qs l ≡ entries_of ps l
+    abandons-kept changes count = entries-stay ps qs f.slot t.node emptied changes top_none refl l laid.kept 0 (let e : length ps ≡ length ps + 0 = omega arith in count ∙ e) tt
 
     pub abandons-rest : ChangesAt ps qs f.slot t.node emptied → TakesFirst true (opens_of ps frames) (opens_of qs new)
     abandons-rest changes = (top_of frames f t.node, top-opens frames f t ∙ ap (λ st. top_of frames f t.node ∷ st) (sym (pops-opens emptied changes)))
 
     -- ---- it is kept
-    module _ (s : Slot V F) (a : Result V F) (is : answer_in s ≡ Some a) (changes : ChangesAt ps qs f.slot t.node s) (all : Rows) (rowed : Rowed f frames rows all) where
+    module _ (s : Slot V F) (a : Result V F) (is : answer_in s ≡ Some a) (changes : ChangesAt ps qs f.slot t.node s) (count : length qs ≡ length ps) (all : Linked) (once : List Use) (each : HasEachOnce once (drop f.uses frames.uses.items)) (in_asked : f.slot < length l.asked) (in_uses : f.slot < length l.uses) (kept : LinksKeep l all f.slot (drop f.asked frames.asked.items) once) where
       not_open : s ≡ opened → ⊥
       not_open e = let none : answer_in s ≡ None = ap answer_in e in cc
 
       part_kept : AllByRecursion (IsKept ps) (drop f.asked frames.asked.items)
       part_kept = All-drop (IsKept ps) f.asked frames.asked.items laid.waits.asked
 
+      slot_in : f.slot < length ps
+      slot_in = slice_get_within ps f.slot (t.node, opened) t.there
+
       pub closes-laid : IsLaidOut qs all new
       closes-laid = record {
-        kept = rows-add ps qs f.slot t.node s changes top_none (ap is_some is) rows all (drop f.asked frames.asked.items) rowed.once laid.kept part_kept rowed.added;
+        kept = links-keep ps qs f.slot t.node s changes top_none a is l all (drop f.asked frames.asked.items) once laid.kept part_kept (let h = laid.kept.slots in let k = slot_in in omega arith) in_asked (let h = laid.kept.slots in omega arith) kept;
         waits = frames-pop ps qs f.slot t.node s changes top_none not_open f refl frames new laid.waits popped;
       }
 
-      pub closes-kept : Keeps (top_of frames f t.node) a (entries_of ps rows) (entries_of qs all)
-      closes-kept = record { once = rowed.once; each = rowed.each; kept = entries-add ps qs f.slot t.node s changes top_none a is rows all (drop f.asked frames.asked.items) rowed.once laid.kept part_kept rowed.added }
+      pub closes-kept : Keeps (top_of frames f t.node) a (entries_of ps l) (entries_of qs all)
+      closes-kept =
+          let p = entries-keep ps qs f.slot t.node s changes top_none a is l all (drop f.asked frames.asked.items) once laid.kept part_kept in_asked in_uses slot_in count kept in
+          record { once = once; each = each; front = p.front; back = p.back; was = p.was; kept = p.now }
 
       -- no node is below it
-      pub closes-last : new.frames.items ≡ [] → Closes a (opens_of ps frames) (record { kept = entries_of ps rows; opened = opens_of ps frames }) (record { kept = entries_of qs all; opened = opens_of qs new }) false
+      pub closes-last : new.frames.items ≡ [] → Closes a (opens_of ps frames) (record { kept = entries_of ps l; opened = opens_of ps frames }) (record { kept = entries_of qs all; opened = opens_of qs new }) false
       closes-last none =
           let empty : below frames f t.front ≡ [] = sym (pops-opens s changes) ∙ ap (λ fs. opens_in qs (reverse fs) new.asked.items new.uses.items) none in
-          let C : List (Open N (Result V F)) → Type 0 = λ st. Closes a st (record { kept = entries_of ps rows; opened = opens_of ps frames }) (record { kept = entries_of qs all; opened = opens_of qs new }) false in
+          let C : List (Open N (Result V F)) → Type 0 = λ st. Closes a st (record { kept = entries_of ps l; opened = opens_of ps frames }) (record { kept = entries_of qs all; opened = opens_of qs new }) false in
           subst C (sym (top-opens frames f t ∙ ap (λ st. top_of frames f t.node ∷ st) empty)) (closes-kept, pops-opens s changes ∙ empty, refl)
 
       -- the one below gets its answer
@@ -210,15 +229,15 @@ module _ {N V F : Type 0} (ps : List (N × Slot V F)) where
           by None n e = absurd (cc)
           by (Some m) n e = ap is_there e
 
-      pub closes-more : (last : Frames) → Heard f.slot new last → is_there (reverse new.frames.items) ≡ true → Closes a (opens_of ps frames) (record { kept = entries_of ps rows; opened = opens_of ps frames }) (record { kept = entries_of qs all; opened = opens_of qs last }) true
+      pub closes-more : (last : Frames) → Heard f.slot new last → is_there (reverse new.frames.items) ≡ true → Closes a (opens_of ps frames) (record { kept = entries_of ps l; opened = opens_of ps frames }) (record { kept = entries_of qs all; opened = opens_of qs last }) true
       closes-more last h there =
           let opens : opens_of qs last ≡ heard t.node a (below frames f t.front) = opens-hear qs f.slot t.node a (node_there qs f.slot t.node s changes.here) (answer_there qs f.slot t.node s changes.here ∙ is) new last closes-laid.waits h ∙ ap (heard t.node a) (pops-opens s changes) in
           let some : true ≡ is_there (below frames f t.front) = some_below (below frames f t.front) (reverse new.frames.items) new.asked.items new.uses.items (frames_nodes qs new closes-laid.waits) (pops-opens s changes) there in
-          let C : List (Open N (Result V F)) → Type 0 = λ st. Closes a st (record { kept = entries_of ps rows; opened = opens_of ps frames }) (record { kept = entries_of qs all; opened = opens_of qs last }) true in
+          let C : List (Open N (Result V F)) → Type 0 = λ st. Closes a st (record { kept = entries_of ps l; opened = opens_of ps frames }) (record { kept = entries_of qs all; opened = opens_of qs last }) true in
           subst C (sym (top-opens frames f t)) (closes-kept, opens, some)
 
-      pub may-keep : MayKeep a (opens_of ps frames) (entries_of ps rows) (entries_of qs all)
-      may-keep = subst (λ st. MayKeep a st (entries_of ps rows) (entries_of qs all)) (sym (top-opens frames f t)) (inr closes-kept)
+      pub may-keep : MayKeep a (opens_of ps frames) (entries_of ps l) (entries_of qs all)
+      may-keep = subst (λ st. MayKeep a st (entries_of ps l) (entries_of qs all)) (sym (top-opens frames f t)) (inr closes-kept)
 
   pub keeps-none : (a : Result V F) (frames : Frames) (before after : List (Entry N (Result V F))) → is_there (opens_of ps frames) ≡ true → after ≡ before → MayKeep a (opens_of ps frames) before after
   keeps-none a frames before after there same = by (opens_of ps frames) there
@@ -226,3 +245,16 @@ module _ {N V F : Type 0} (ps : List (N × Slot V F)) where
       by : (st : List (Open N (Result V F))) → is_there st ≡ true → MayKeep a st before after
       by [] e = absurd (cc)
       by (o ∷ st) e = inl same
+
+  -- ---- what keeping it requires
+  pub keep-in : (l : Linked) (frames : Frames) (f : Frame) → AreLinked ps l → IsTop frames f → f.slot < length l.kept
+  keep-in l frames f h t = let lt = slice_get_within ps f.slot (t.node, opened) t.there in let le = h.slots in omega arith
+
+  pub keep-out : (l : Linked) (frames : Frames) (f : Frame) → AreLinked ps l → IsTop frames f → is_kept l.kept f.slot ≡ false
+  keep-out l frames f h t = h.kept f.slot ∙ ap is_some (answer_there ps f.slot t.node opened t.there)
+
+  pub keep-asks : (l : Linked) (frames : Frames) (f : Frame) → IsLaidOut ps l frames → (held : List ℕ) → held ≡ frames.asked.items → All (λ s. is_kept l.kept s ≡ true) (take (length held - f.asked) (drop f.asked held))
+  keep-asks l frames f h held e =
+      let K : ℕ → Type 0 = λ s. is_kept l.kept s ≡ true in
+      let all : AllByRecursion K (drop f.asked frames.asked.items) = All-map (λ s k. h.kept.kept s ∙ k) (drop f.asked frames.asked.items) (All-drop (IsKept ps) f.asked frames.asked.items h.waits.asked) in
+      subst (All K) (sym (take_rest held f.asked ∙ ap (drop f.asked) e)) (All-from_recursion K (drop f.asked frames.asked.items) all)

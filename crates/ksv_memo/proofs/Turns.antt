@@ -1,5 +1,5 @@
 -- What the code's tests and moves say of kept and open nodes.
-use Rattle.std.proofs.Common.{◌≡◌, ℕ, suc, ◌+◌, ◌-◌, ◌*◌, ◌<◌, ◌≤◌, Bool, true, false, List, [], ◌∷◌, ◌++◌, length, refl, sym, ◌∙◌, ap, subst, nat_eq, arith, ◌||◌, length-append, append_assoc, eq-eqb, Option, Result, Ok, Err, OnErr}
+use Rattle.std.proofs.Common.{◌≡◌, ℕ, suc, ◌+◌, ◌-◌, ◌*◌, ◌<◌, ◌≤◌, Bool, true, false, List, [], ◌∷◌, ◌++◌, length, refl, sym, ◌∙◌, ap, subst, nat_eq, arith, ◌||◌, length-append, eq-eqb, Option, Result, Ok, Err, OnErr}
 use Rattle.std.specs.Cmp.{IsEquivalence}
 use Rattle.std.specs.List.{AllByRecursion, list_any}
 use Rattle.ksv_bytes.specs.declared.uses.Use.{Use}
@@ -7,16 +7,17 @@ use Rattle.ksv_memo_rules.specs.declared.rules.Next.{Next}
 use Rattle.ksv_memo_rules.specs.declared.rules.Next.TheVariants.{Need, Done}
 use Rattle.ksv_memo_rules.specs.declared.rules.Outcome.{Outcome}
 use Rattle.ksv_memo_rules.specs.declared.rules.Outcome.TheVariants.{Answered, Circle}
-use Rattle.ksv_memo_rules.specs.Meaning.{Standing, IsSettled, IsAddedTo}
+use Rattle.ksv_memo_rules.specs.Meaning.{Standing, IsSettled}
 use Rattle.ksv_memo_rules.specs.Evaluation.{is_among, Told, told, tells, done, answering}
 use Rattle.ksv_memo_rules.specs.Entry.{Entry}
 use Rattle.ksv_memo.specs.Open.{Open, nodes_in, newly, with_uses, with_answer}
 use Rattle.ksv_memo.specs.Nodes.{kept_of}
 use Rattle.ksv_memo_rules.specs.Right.{nodes_of, HasEachOnce, IsRight, fresh, costs, counted, Agrees}
-use Rattle.ksv_memo.specs.Running.{HasCome, IsWaiting, HasEnded, HasStepped, IsStack, climbed, value_of, calls_of, calls_left, climbed_rest, rest_of, rest_at, to_keep, debt, made, Counts, account_of, account_at, HasFinished, GoesOn, IsLeft}
+use Rattle.ksv_memo.specs.Running.{HasCome, IsWaiting, HasEnded, HasStepped, IsStack, climbed, value_of, calls_of, calls_left, climbed_rest, rest_of, rest_at, to_keep, debt, made, Counts, account_of, account_at, HasFinished, GoesOn, IsLeft, AreSame, AreAmong}
 use Rattle.ksv_memo_rules.proofs.Lists.{All-right}
 use Rattle.ksv_memo_rules.proofs.Evals.{IsOut, eqb_true, AreDistinct-cons, tells-free}
-use Rattle.ksv_memo_rules.proofs.Keeping.{IsIn, AreDistinct-none, done-kept, agrees, self_in, nodes_of-append}
+use Rattle.ksv_memo_rules.proofs.Keeping.{IsIn, IsIn-append, AreDistinct-none, done-kept, agrees, self_in, nodes_of-append}
+use Rattle.ksv_memo.proofs.Places.{goes-moved, finished-moved, left-moved}
 use Rattle.ksv_memo.proofs.Moves.{++-nil, stepped, value-stepped, rest-stepped, rest-replied, rest-starts, rest-circle, covers-keep, covers-drop, to_keep-nil, fresh-nil, debt-keep, debt-drop, replied, value-replied, value-circle, starts, value-starts, room, opens, keeps, closes, IsWaiting-keep}
 
 -- ---- `==` on nodes is that of their numbers
@@ -104,20 +105,22 @@ module _ {N A : Type 0} (w : Standing N A) (law : IsSettled w) where
       record {
         stack = closes w es o p st e h refl right;
         came = replied w (es ++ e ∷ []) p o.node a waits (kept_last w es e) says;
-        grown = (o.node ∷ [], nodes_of-append es (e ∷ []));
+        grown = λ x k. ap (λ ns. is_among w.number ns x) (nodes_of-append es (e ∷ [])) ∙ IsIn-append w (nodes_of es) (e.node ∷ []) x k;
         value = value-replied w p o.node a st;
         fewer = calls-kept w es e o p o.node a st ended.few h.chain.0.few;
-        all = ap (to_keep w (es ++ e ∷ [])) (rest-replied w p o.node a st) ∙ covers-keep w es e o.node (climbed_rest w (p ∷ st) (Answered a)) refl h.apart.0;
+        all = λ x. ap (λ ns. is_among w.number ns x) (ap (to_keep w (es ++ e ∷ [])) (rest-replied w p o.node a st) ∙ covers-keep w es e o.node (climbed_rest w (p ∷ st) (Answered a)) refl h.apart.0);
         calls = calls-paid _ _ (debt w (es ++ e ∷ []) (climbed_rest w (p ∷ st) (Answered a))) (length o.asked) (length p.asked) (made st) _ left_over paid (length-append p.asked (o.node ∷ []));
       }
 
-  pub finish-goes : (es all : List (Entry N A)) (o p q : Open N A) (st rest : List (Open N A)) (a : A) (once : List Use)
-      → IsStack w es o.node st → HasEnded w es o a → HasEachOnce once o.uses → all ≡ es ++ kept_of o a once ∷ [] → st ≡ p ∷ rest → q ≡ with_answer p o.node a
+  pub finish-goes : (es all front back : List (Entry N A)) (o p q : Open N A) (st rest : List (Open N A)) (a : A) (once : List Use)
+      → IsStack w es o.node st → HasEnded w es o a → HasEachOnce once o.uses → es ≡ front ++ back → all ≡ front ++ kept_of o a once ∷ back → st ≡ p ∷ rest → q ≡ with_answer p o.node a
       → GoesOn w (account_at w es o st (Done a)) es all q rest
-  finish-goes es all o p q st rest a once h ended each more popped is =
+  finish-goes es all front back o p q st rest a once h ended each was more popped is =
       let stack : IsStack w es o.node (p ∷ rest) = subst (λ below. IsStack w es o.node below) popped h in
       let P : List (Open N A) → List (Entry N A) → Open N A → Type 0 = λ below xs r. GoesOn w (account_at w es o below (Done a)) es xs r rest in
-      subst (λ below. P below all q) (sym popped) (subst (λ xs. P (p ∷ rest) xs q) (sym more) (subst (P (p ∷ rest) (es ++ kept_of o a once ∷ [])) (sym is) (goes-kept es o p rest a once stack ended each)))
+      let goes = subst (λ xs. P (p ∷ rest) (xs ++ kept_of o a once ∷ []) (with_answer p o.node a)) was (goes-kept es o p rest a once stack ended each) in
+      let moved : P (p ∷ rest) (front ++ kept_of o a once ∷ back) (with_answer p o.node a) = goes-moved w front back (kept_of o a once) (account_at w es o (p ∷ rest) (Done a)) es (with_answer p o.node a) rest goes in
+      subst (λ below. P below all q) (sym popped) (subst (λ xs. P (p ∷ rest) xs q) (sym more) (subst (P (p ∷ rest) (front ++ kept_of o a once ∷ back)) (sym is) moved))
 
   -- the lowest node is kept
   ends-kept : (es : List (Entry N A)) (o : Open N A) (a : A) (once : List Use) → IsStack w es o.node [] → HasEnded w es o a → HasEachOnce once o.uses → HasFinished w (account_at w es o [] (Done a)) (es ++ kept_of o a once ∷ []) (Answered a)
@@ -129,36 +132,39 @@ module _ {N A : Type 0} (w : Standing N A) (law : IsSettled w) where
       record {
         value = refl;
         right = keeps w law es o [] a once h ended each;
-        all = to_keep-nil w (es ++ e ∷ []) ∙ covers-keep w es e o.node [] refl h.apart.0;
+        all = λ x. ap (λ ns. is_among w.number ns x) (to_keep-nil w (es ++ e ∷ []) ∙ covers-keep w es e o.node [] refl h.apart.0);
         calls = λ _. now;
       }
 
-  pub finish-ends : (es all : List (Entry N A)) (o : Open N A) (st : List (Open N A)) (a b : A) (once : List Use)
-      → IsStack w es o.node st → HasEnded w es o a → HasEachOnce once o.uses → all ≡ es ++ kept_of o a once ∷ [] → st ≡ [] → b ≡ a
+  pub finish-ends : (es all front back : List (Entry N A)) (o : Open N A) (st : List (Open N A)) (a b : A) (once : List Use)
+      → IsStack w es o.node st → HasEnded w es o a → HasEachOnce once o.uses → es ≡ front ++ back → all ≡ front ++ kept_of o a once ∷ back → st ≡ [] → b ≡ a
       → HasFinished w (account_at w es o st (Done a)) all (Answered b)
-  finish-ends es all o st a b once h ended each more none copy =
+  finish-ends es all front back o st a b once h ended each was more none copy =
       let stack : IsStack w es o.node [] = subst (λ below. IsStack w es o.node below) none h in
       let P : List (Open N A) → List (Entry N A) → A → Type 0 = λ below xs x. HasFinished w (account_at w es o below (Done a)) xs (Answered x) in
-      subst (λ below. P below all b) (sym none) (subst (λ xs. P [] xs b) (sym more) (subst (P [] (es ++ kept_of o a once ∷ [])) (sym copy) (ends-kept es o a once stack ended each)))
+      let ends = subst (λ xs. P [] (xs ++ kept_of o a once ∷ []) a) was (ends-kept es o a once stack ended each) in
+      let moved : P [] (front ++ kept_of o a once ∷ back) a = finished-moved w front back (kept_of o a once) (account_at w es o [] (Done a)) (Answered a) ends in
+      subst (λ below. P below all b) (sym none) (subst (λ xs. P [] xs b) (sym more) (subst (P [] (front ++ kept_of o a once ∷ back)) (sym copy) moved))
 
   -- memory is refused once a node is kept, or before
-  pub finish-left : (es all : List (Entry N A)) (o : Open N A) (st : List (Open N A)) (a : A) (once : List Use)
-      → IsStack w es o.node st → HasEnded w es o a → HasEachOnce once o.uses → all ≡ es ++ kept_of o a once ∷ []
+  pub finish-left : (es all front back : List (Entry N A)) (o : Open N A) (st : List (Open N A)) (a : A) (once : List Use)
+      → IsStack w es o.node st → HasEnded w es o a → HasEachOnce once o.uses → es ≡ front ++ back → all ≡ front ++ kept_of o a once ∷ back
       → IsLeft w (account_at w es o st (Done a)).all es all
-  finish-left es all o st a once h ended each more =
+  finish-left es all front back o st a once h ended each was more =
       let e : Entry N A = kept_of o a once in
       let rest : List N = climbed_rest w st (Answered a) in
       let P : List (Entry N A) → Type 0 = λ xs. IsLeft w (to_keep w es (o.node ∷ rest)) es xs in
-      subst P (sym more) (record {
+      let here : P (es ++ e ∷ []) = record {
         right = keeps w law es o st a once h ended each;
-        grown = (o.node ∷ [], nodes_of-append es (e ∷ []));
-        within = (fresh w.number (nodes_of (es ++ e ∷ [])) rest, sym (covers-keep w es e o.node rest refl h.apart.0));
-      })
+        grown = λ x k. ap (λ ns. is_among w.number ns x) (nodes_of-append es (e ∷ [])) ∙ IsIn-append w (nodes_of es) (e.node ∷ []) x k;
+        within = λ x k. ap (λ ns. is_among w.number ns x) (sym (covers-keep w es e o.node rest refl h.apart.0)) ∙ IsIn-append w (nodes_of (es ++ e ∷ [])) (fresh w.number (nodes_of (es ++ e ∷ [])) rest) x k;
+      } in
+      subst P (sym more) (left-moved w front back e (to_keep w es (o.node ∷ rest)) es (subst (λ xs. P (xs ++ e ∷ [])) was here))
 
   pub left-same : (es all : List (Entry N A)) (rest : List N) → IsRight w es → all ≡ es → IsLeft w (to_keep w es rest) es all
   left-same es all rest right same =
       let P : List (Entry N A) → Type 0 = λ xs. IsLeft w (to_keep w es rest) es xs in
-      subst P (sym same) (record { right = right; grown = ([], sym (++-nil (nodes_of es))); within = (fresh w.number (nodes_of es) rest, refl) })
+      subst P (sym same) (record { right = right; grown = λ x k. k; within = λ x k. IsIn-append w (nodes_of es) (fresh w.number (nodes_of es) rest) x k })
 
   -- a kept answer is replied
   pub need-replies : (es : List (Entry N A)) (o q : Open N A) (st : List (Open N A)) (m : N) (a : A)
@@ -172,10 +178,10 @@ module _ {N A : Type 0} (w : Standing N A) (law : IsSettled w) where
       subst P (sym is) (record {
         stack = h;
         came = replied w es o m a waits is_in says;
-        grown = ([], sym (++-nil (nodes_of es)));
+        grown = λ x k. k;
         value = value-replied w o m a st ∙ ap (climbed w (o ∷ st)) told_so;
         fewer = calls-replied w es o m a st waits.few;
-        all = ap (to_keep w es) (rest-replied w o m a st ∙ ap (climbed_rest w (o ∷ st)) told_so) ∙ covers-drop w es (done w (o.node ∷ nodes_in st) m) (climbed_rest w (o ∷ st) (answering w (o.node ∷ nodes_in st) m)) inside;
+        all = λ x. ap (λ ns. is_among w.number ns x) (ap (to_keep w es) (rest-replied w o m a st ∙ ap (climbed_rest w (o ∷ st)) told_so) ∙ covers-drop w es (done w (o.node ∷ nodes_in st) m) (climbed_rest w (o ∷ st) (answering w (o.node ∷ nodes_in st) m)) inside);
         calls = calls-more _ _ (length o.asked) (made st) _ same_debt (length-append o.asked (m ∷ []));
       })
 
@@ -190,10 +196,10 @@ module _ {N A : Type 0} (w : Standing N A) (law : IsSettled w) where
       subst (λ up. P up q) (sym over) (subst (P (o ∷ st)) (sym is) (record {
         stack = stack;
         came = starts w es m;
-        grown = ([], sym (++-nil (nodes_of es)));
+        grown = λ x k. k;
         value = value-starts w law o st m h.distinct free;
         fewer = calls-opened w es o m st (room w law es m (o ∷ st) stack);
-        all = ap (to_keep w es) (rest-starts w law (o ∷ st) m h.distinct free);
+        all = λ x. ap (λ ns. is_among w.number (to_keep w es ns) x) (rest-starts w law (o ∷ st) m h.distinct free);
         calls = calls-open _ _ (length o.asked) (made st) same_debt;
       }))
 
@@ -202,7 +208,7 @@ module _ {N A : Type 0} (w : Standing N A) (law : IsSettled w) where
   need-ends es o st m h is_open = record {
     value = sym (value-circle w o st m is_open);
     right = h.right;
-    all = to_keep-nil w es ∙ ap (to_keep w es) (sym (rest-circle w o st m is_open));
+    all = λ x. ap (λ ns. is_among w.number ns x) (to_keep-nil w es ∙ ap (to_keep w es) (sym (rest-circle w o st m is_open)));
     calls = λ never. absurd never;
   }
 
@@ -263,12 +269,6 @@ pub on_err_always : {T E P : Type 0} (r : Result T E) → P → OnErr r P
 on_err_always (Ok x) h = tt
 on_err_always (Err e) h = h
 
--- growth upon growth
-pub grown-more : {X : Type 0} (first middle last : List X) → IsAddedTo first middle → IsAddedTo middle last → IsAddedTo first last
-grown-more first middle last (a, e) (b, f) = (a ++ b, f ∙ ap (λ xs. xs ++ b) e ∙ append_assoc first a b)
-
 -- what is left of a later state is left of an earlier one
-pub left-more : {N A : Type 0} (w : Standing N A) (all all' : List N) (first middle last : List (Entry N A)) → all ≡ all' → IsAddedTo (nodes_of first) (nodes_of middle) → IsLeft w all middle last → IsLeft w all' first last
-left-more {N} {A} w all all' first middle last same grown h =
-    let P : List N → Type 0 = λ ns. IsLeft w ns first last in
-    subst P same (record { right = h.right; grown = grown-more (nodes_of first) (nodes_of middle) (nodes_of last) grown h.grown; within = h.within })
+pub left-more : {N A : Type 0} (w : Standing N A) (all all' : List N) (first middle last : List (Entry N A)) → AreSame w all all' → AreAmong w (nodes_of first) (nodes_of middle) → IsLeft w all middle last → IsLeft w all' first last
+left-more w all all' first middle last same grown h = record { right = h.right; grown = λ x k. h.grown x (grown x k); within = λ x k. sym (same x) ∙ h.within x k }

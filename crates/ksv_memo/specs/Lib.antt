@@ -1,8 +1,10 @@
+pub mod Near
 pub mod Open
 pub mod Layout
+pub mod Slotted
 pub mod Moves
-pub mod Passing
 pub mod Sweep
+pub mod Emptying
 pub mod Nodes
 pub mod Running
 pub mod Answers

@@ -1,17 +1,22 @@
--- What each move of the table does to slots, rows and frames. Only the table's own contracts use it.
-use Rattle.std.specs.Prelude.{◌≡◌, ℕ, Some, Bool, true, false, List, [], ◌∷◌, ◌++◌, length, take, drop, slice_get}
+-- What each move of the table does to slots and frames. Only the table's own contracts use it.
+use Rattle.std.specs.Prelude.{◌≡◌, ℕ, Some, Bool, true, false, List, [], ◌∷◌, ◌++◌, length, take, slice_get}
 use Rattle.std.specs.List.{list_any}
-use Rattle.ksv_bytes.specs.declared.uses.Use.{Use}
 use Rattle.ksv_memo_rules.specs.declared.replies.Slot.{Slot}
 use Rattle.ksv_memo_rules.specs.declared.replies.Slot.TheVariants.{Empty as emptied, Open as opened}
-use Rattle.ksv_memo.specs.declared.layout.Row.{Row}
-use Rattle.ksv_memo.specs.declared.layout.Rows.{Rows}
 use Rattle.ksv_memo.specs.declared.layout.Frame.{Frame}
 use Rattle.ksv_memo.specs.declared.layout.Frames.{Frames}
-use Rattle.ksv_memo.specs.declared.layout.Known.{Known}
-use Rattle.ksv_memo.specs.declared.layout.Known.TheVariants.{New, Empty, Open, Kept}
-use Rattle.ksv_memo_rules.specs.Right.{HasEachOnce}
+use Rattle.ksv_memo.specs.declared.slots.Known.{Known}
+use Rattle.ksv_memo.specs.declared.slots.Known.TheVariants.{New, Empty, Open, Kept}
 use Rattle.ksv_memo.specs.Layout.{IsKept}
+use Rattle.ksv_bytes.specs.declared.uses.Use.{Use}
+use Rattle.ksv_memo_links.specs.Links.{Linked, Keeps}
+use Rattle.ksv_memo_rules.specs.Right.{HasEachOnce}
+
+-- a slot is kept, with what it asked and each of these uses once
+pub record KeepsOnce (old new : Linked) (slot : ℕ) (asks : List ℕ) (uses : List Use) : Type 0 where
+  pub once : List Use
+  pub each : HasEachOnce once uses
+  pub keeps : Keeps old new slot asks once
 
 -- the slot of a number is this, and its node is the one that was looked for
 pub record IsTheSlot {N V F : Type 0} (eq : N → N → Bool) (ps : List (N × Slot V F)) (n : N) (i : ℕ) (s : Slot V F) : Type 0 where
@@ -61,25 +66,3 @@ pub record Popped (f : Frame) (old new : Frames) : Type 0 where
   pub frames : old.frames.items ≡ new.frames.items ++ f ∷ []
   pub asked : new.asked.items ≡ take f.asked old.asked.items
   pub uses : new.uses.items ≡ take f.uses old.uses.items
-
--- the rows, what they asked, and their uses are the same
-pub record SameRows (old new : Rows) : Type 0 where
-  pub rows : new.rows.items ≡ old.rows.items
-  pub asked : new.asked.items ≡ old.asked.items
-  pub uses : new.uses.items ≡ old.uses.items
-
--- a row was added
-pub record Added (i : ℕ) (slots : List ℕ) (once : List Use) (old new : Rows) : Type 0 where
-  pub row : Row
-  pub slot : row.slot ≡ i
-  pub asks : row.asked ≡ length slots
-  pub count : row.uses ≡ length once
-  pub rows : new.rows.items ≡ old.rows.items ++ row ∷ []
-  pub asked : new.asked.items ≡ old.asked.items ++ slots
-  pub uses : new.uses.items ≡ old.uses.items ++ once
-
--- the row of an open node was added, with each of its uses once
-pub record Rowed (f : Frame) (frames : Frames) (old new : Rows) : Type 0 where
-  pub once : List Use
-  pub each : HasEachOnce once (drop f.uses frames.uses.items)
-  pub added : Added f.slot (drop f.asked frames.asked.items) once old new

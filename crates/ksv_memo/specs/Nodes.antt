@@ -11,7 +11,7 @@ use Rattle.ksv_memo_rules.specs.Meaning.{Standing}
 use Rattle.ksv_memo_rules.specs.Right.{HasEachOnce}
 use Rattle.ksv_memo.specs.Layout.{IsOneOf}
 
--- the kept nodes in the order in which they were kept, and the open ones, from the last opened to the first
+-- the kept nodes, in the order of their slots, and the open ones, from the last opened to the first
 pub record Nodes (N A : Type 0) : Type 0 where
   pub kept : List (Entry N A)
   pub opened : List (Open N A)
@@ -63,11 +63,14 @@ Asks eq n old new (Circle m) = Circles eq n m old new
 abbrev pub kept_of : {N A : Type 0} → Open N A → A → List Use → Entry N A
 kept_of o a once = record { node = o.node; answer = a; asked = o.asked; uses = once }
 
--- an open node was kept with its answer
+-- an open node was kept with its answer, somewhere among the kept ones
 pub record Keeps {N A : Type 0} (o : Open N A) (a : A) (before after : List (Entry N A)) : Type 0 where
   pub once : List Use
   pub each : HasEachOnce once o.uses
-  pub kept : after ≡ before ++ kept_of o a once ∷ []
+  pub front : List (Entry N A)
+  pub back : List (Entry N A)
+  pub was : before ≡ front ++ back
+  pub kept : after ≡ front ++ kept_of o a once ∷ back
 
 -- whether there is an element
 abbrev pub is_there : {X : Type 0} → List X → Bool
@@ -93,10 +96,3 @@ MayKeep a (o ∷ st) before after = (after ≡ before) ⊎ Keeps o a before afte
 abbrev pub TakesFirst : {X : Type 0} → Bool → List X → List X → Type 0
 TakesFirst {X} true xs ys = (x : X) × (xs ≡ x ∷ ys)
 TakesFirst {X} false xs ys = (xs ≡ []) × (ys ≡ [])
-
--- the last of these entries has this answer
-pub record EndsWithAnswer {N A : Type 0} (a : A) (es : List (Entry N A)) : Type 0 where
-  pub front : List (Entry N A)
-  pub entry : Entry N A
-  pub entries : es ≡ front ++ entry ∷ []
-  pub answer : entry.answer ≡ a

@@ -6,7 +6,7 @@ use Rattle.ksv_memo_rules.specs.declared.rules.Outcome.{Outcome}
 use Rattle.ksv_memo_rules.specs.declared.rules.Outcome.TheVariants.{Answered}
 use Rattle.ksv_memo_rules.specs.declared.rules.Next.{Next}
 use Rattle.ksv_memo_rules.specs.declared.rules.Next.TheVariants.{Need, Done}
-use Rattle.ksv_memo_rules.specs.Meaning.{Standing, IsAddedTo}
+use Rattle.ksv_memo_rules.specs.Meaning.{Standing}
 use Rattle.ksv_memo_rules.specs.Evaluation.{Told, is_among, tells, told, after, with_reply, done, if_answered, IsAnswered, answering}
 use Rattle.ksv_memo_rules.specs.Entry.{Entry}
 use Rattle.ksv_memo.specs.Open.{Open, nodes_in}
@@ -138,21 +138,29 @@ account_at w es o st s = record {
   made = length o.asked + made st;
 }
 
+-- two lists of nodes have the same members
+abbrev pub AreSame : {N A : Type 0} → Standing N A → List N → List N → Type 0
+AreSame {N} w ns ms = (x : N) → is_among w.number ns x ≡ is_among w.number ms x
+
+-- the second list has all members of the first
+abbrev pub AreAmong : {N A : Type 0} → Standing N A → List N → List N → Type 0
+AreAmong {N} w ns ms = (x : N) → is_among w.number ns x ≡ true → is_among w.number ms x ≡ true
+
 -- the question has ended with this outcome
 pub record HasFinished {N A : Type 0} (w : Standing N A) (account : Account N A) (es : List (Entry N A)) (out : Outcome N A) : Type 0 where
   pub value : out ≡ account.value
   pub right : IsRight w es
-  pub all : nodes_of es ≡ account.all
+  pub all : AreSame w (nodes_of es) account.all
   pub calls : IsAnswered out → account.made + 1 ≡ account.owed
 
 -- the question goes on, with `o` as the last open node
 pub record GoesOn {N A : Type 0} (w : Standing N A) (account : Account N A) (before es : List (Entry N A)) (o : Open N A) (st : List (Open N A)) : Type 0 where
   pub stack : IsStack w es o.node st
   pub came : HasCome w es o
-  pub grown : IsAddedTo (nodes_of before) (nodes_of es)
+  pub grown : AreAmong w (nodes_of before) (nodes_of es)
   pub value : value_of w o st ≡ account.value
   pub fewer : calls_left w es o st < account.left
-  pub all : to_keep w es (rest_of w o st) ≡ account.all
+  pub all : AreSame w (to_keep w es (rest_of w o st)) account.all
   pub calls : debt w es (rest_of w o st) + account.made + 1 ≡ account.owed + (length o.asked + made st)
 
 -- the question goes on with the last of these open nodes
@@ -169,8 +177,8 @@ Advances w account before now None = GoesOnWith w account before now.kept now.op
 -- would have been kept in the end
 pub record IsLeft {N A : Type 0} (w : Standing N A) (all : List N) (before es : List (Entry N A)) : Type 0 where
   pub right : IsRight w es
-  pub grown : IsAddedTo (nodes_of before) (nodes_of es)
-  pub within : IsAddedTo (nodes_of es) all
+  pub grown : AreAmong w (nodes_of before) (nodes_of es)
+  pub within : AreAmong w (nodes_of es) all
 
 -- some number of calls was counted; with the calls still to be made they are these and those made for open nodes
 abbrev pub Counts : Option ℕ → Option ℕ → ℕ → ℕ → ℕ → Type 0
@@ -209,8 +217,8 @@ LeftAt w es (o ∷ st) s now = IsLeft w (account_at w es o st s).all es now
 pub record Holds {N A : Type 0} (w : Standing N A) (n : N) (before : List (Entry N A)) (es : List (Entry N A)) (o : Open N A) (st : List (Open N A)) : Type 0 where
   pub stack : IsStack w es o.node st
   pub came : HasCome w es o
-  pub grown : IsAddedTo (nodes_of before) (nodes_of es)
-  pub all : to_keep w es (rest_of w o st) ≡ to_keep w before (done w [] n)
+  pub grown : AreAmong w (nodes_of before) (nodes_of es)
+  pub all : AreSame w (to_keep w es (rest_of w o st)) (to_keep w before (done w [] n))
   pub value : value_of w o st ≡ (tells w [] n).outcome
 
 abbrev pub HoldsWith : {N A : Type 0} → Standing N A → N → List (Entry N A) → List (Entry N A) → List (Open N A) → Type 0

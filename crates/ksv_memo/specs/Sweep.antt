@@ -1,10 +1,13 @@
--- What an edit takes from the kept nodes, entry by entry. Only the table's own contracts use it.
-use Rattle.std.specs.Prelude.{◌≡◌, Bool, not, ◌||◌, List, [], ◌∷◌, ◌++◌, map, filter}
-use Rattle.std.specs.List.{list_any}
+-- What an edit takes from the kept nodes, entry by entry, and how many looks it takes. Only the table's own contracts use
+-- it.
+use Rattle.std.specs.Prelude.{◌≡◌, ℕ, ◌+◌, ◌*◌, ◌≤◌, Bool, not, ◌||◌, List, [], ◌∷◌, length, map, filter, sum_by}
+use Rattle.std.specs.List.{AllByRecursion, list_any}
 use Rattle.ksv_bytes.specs.declared.uses.Change.{Change}
+use Rattle.ksv_memo_rules.specs.Touched.{is_use_touched}
+use Rattle.ksv_memo_links.specs.Touching.{pages_in}
+use Rattle.ksv_memo_links.specs.Links.{IsOverwrite, pages_met, met_by}
 use Rattle.ksv_memo_rules.specs.Entry.{Entry}
 use Rattle.ksv_memo.specs.Layout.{IsOneOf}
-use Rattle.ksv_memo_rules.specs.Touched.{is_use_touched}
 
 -- an entry, and whether it goes
 pub record Mark (N A : Type 0) : Type 0 where
@@ -25,16 +28,11 @@ AllSay ks [] (b ∷ bs) = ⊥
 AllSay ks (m ∷ ms) [] = ⊥
 AllSay ks (m ∷ ms) (b ∷ bs) = Says ks m b × AllSay ks ms bs
 
--- an entry goes exactly if it has a touched use, or asked a node that goes by the marks before it
-pub record IsMarked {N A : Type 0} (change : Change) (before : List (Mark N A)) (k : Mark N A) : Type 0 where
+-- an entry goes exactly if it has a touched use, or asked a node that goes
+pub record IsMarked {N A : Type 0} (change : Change) (all : List (Mark N A)) (k : Mark N A) : Type 0 where
   pub asked : List Bool
-  pub say : AllSay before k.entry.asked asked
+  pub say : AllSay all k.entry.asked asked
   pub goes : k.goes ≡ (list_any (is_use_touched change) k.entry.uses || list_any (λ b. b) asked)
-
--- each of the second entries is marked so
-abbrev pub AreMarked : {N A : Type 0} → Change → List (Mark N A) → List (Mark N A) → Type 0
-AreMarked change before [] = Unit {0}
-AreMarked change before (k ∷ ks) = IsMarked change before k × AreMarked change (before ++ k ∷ []) ks
 
 -- the entries that have these marks
 abbrev pub entries_with : {N A : Type 0} → List (Mark N A) → List (Entry N A)
@@ -44,9 +42,15 @@ entries_with ks = map (λ k. k.entry) ks
 abbrev pub entries_left : {N A : Type 0} → List (Mark N A) → List (Entry N A)
 entries_left ks = entries_with (filter (λ k. not k.goes) ks)
 
--- the entries were marked in their order, and those stay that don't go
-pub record Sweeps {N A : Type 0} (change : Change) (before after : List (Entry N A)) : Type 0 where
+-- those of them that go
+abbrev pub entries_gone : {N A : Type 0} → List (Mark N A) → List (Entry N A)
+entries_gone ks = entries_with (filter (λ k. k.goes) ks)
+
+-- the entries are marked, and those stay that don't go; so many looks were made
+pub record Sweeps {N A : Type 0} (change : Change) (before after : List (Entry N A)) (looked : ℕ) : Type 0 where
   pub marks : List (Mark N A)
   pub entries : entries_with marks ≡ before
-  pub marked : AreMarked change [] marks
+  pub marked : AllByRecursion (IsMarked change marks) marks
   pub stays : after ≡ entries_left marks
+  pub least : length (entries_gone marks) ≤ looked
+  pub most : IsOverwrite change → looked ≤ pages_met change + 3 * sum_by (λ e. met_by change e.uses) before + 9 * length (entries_gone marks) + 6 * sum_by (λ e. length e.asked) (entries_gone marks) + 4 * sum_by (λ e. length (pages_in e.uses)) (entries_gone marks) + 2

@@ -6,6 +6,7 @@ ghost use Rattle.ksv_memo_rules.specs.Meaning.{on};
 ghost use Rattle.ksv_memo_rules.specs.Evaluation.{tells, done};
 ghost use Rattle.ksv_memo_rules.specs.Right.{IsRight, AreExactly, AreBetween, nodes_of, fresh, costs};
 ghost use Rattle.ksv_memo_rules.specs.Touched.{left_after};
+ghost use Rattle.ksv_memo.specs.Near.{IsWrite, LooksNear};
 ghost use Rattle.ksv_memo.specs.Answers.{answer_of, turns_after};
 
 use crate::machine::Machine;
@@ -42,6 +43,7 @@ fn answer_of<N, V, F>(outcome: Outcome<N, Result<V, F>>) -> Answer<N, V, F>
 #[derive(Drop)]
 pub struct Engine<R: Rules> {
     machine: Machine<R>,
+    looked: u64,
 }
 
 impl<R: Rules> Model for Engine<R> {
@@ -50,7 +52,7 @@ impl<R: Rules> Model for Engine<R> {
 
     ghost Value = { Memo R.Node (Result R.Value R.Fault) };
 
-    ghost view = { λ engine. record { kept = engine.machine.table.kept; turns = engine.machine.turns } };
+    ghost view = { λ engine. record { kept = engine.machine.table.kept; turns = engine.machine.turns; looked = engine.looked } };
 
     ghost invariant = { λ engine. engine.machine.table.opened ≡ [] };
 }
@@ -64,6 +66,7 @@ impl<R: Rules> Engine<R> {
     {
         Engine {
             machine: Machine::new(alloc),
+            looked: 0,
         }
     }
 
@@ -120,8 +123,20 @@ impl<R: Rules> Engine<R> {
         ensures left { (rules : R) (before : List ℕ) → IsRight (on (R.meaning rules) before) self.old.kept → AreExactly (on (R.meaning rules) before) (nodes_of self.new.kept) (left_after (on (R.meaning rules) before) change (nodes_of self.old.kept)) }
         ensures kept { AllByRecursion (Contains self.old.kept) self.new.kept }
         ensures turns { self.new.turns ≡ self.old.turns }
+
+        // After an overwrite of at least one byte, the looks are no fewer than the nodes that went, and no more than near.
+        ensures looked { (rules : R) (before after : List ℕ) → IsRight (on (R.meaning rules) before) self.old.kept → Makes change before after → IsWrite change → LooksNear (on (R.meaning rules) before) change self.old.kept self.new.looked }
     {
-        self.machine.table.forget(change);
+        self.looked = self.machine.table.forget(change);
+    }
+
+    /// The looks of the last `forget`: readings and writings of an entry, or of an item or the length of one list of
+    /// users, uses of a page, notes of an entry, or slots to be taken. The count stops at 2^64 - 1.
+    pub fn looked(&self) -> u64
+        ensures { result ≡ self.now.looked }
+    {
+        let looked = &self.looked;
+        *looked
     }
 
     /// The number of kept nodes.

@@ -1,33 +1,14 @@
-//! How the table keeps nodes: slots by node, rows of what is kept, and frames of what is open.
-ghost use Rattle.std.specs.Prelude.{◌≡◌, ◌<◌, ◌++◌, ◌∷◌, [], None, IfOk, IfSome, IfNone, OnOk, OnErr};
-ghost use Rattle.indexmap.specs.IndexMap.{IsUnique, get, index_map_len, set_value_at};
-ghost use Rattle.ksv_memo.specs.Moves.{Knows, Heard, SameFrames, IsNewFrame, Popped, Framed, Added, SameRows, EndsWith};
+//! What open nodes asked and used, by frames.
+ghost use Rattle.std.specs.Prelude.{◌≡◌, ◌<◌, ◌++◌, ◌∷◌, [], length, false, IfOk, IfSome, IfNone, OnOk, OnErr};
+ghost use Rattle.std.specs.List.{list_any};
+ghost use Rattle.indexmap.specs.IndexMap.{set_value_at};
+ghost use Rattle.ksv_memo.specs.Moves.{Heard, SameFrames, IsNewFrame, Popped, Framed, EndsWith};
 
-use indexmap::IndexMap;
+use crate::slots::Slots;
 use ksv_bytes::Use;
 use ksv_memo_rules::Slot;
 use std::alloc::AllocError;
 use std::hash::Hash;
-
-/// The slots of nodes. A node's slot has the number of its place in the map, which never changes.
-pub type Slots<N, V, F> = IndexMap<N, Slot<V, F>>;
-
-/// A kept node: the number of its slot, how many nodes it asked, and how many uses it has.
-#[derive(Clone, Copy)]
-pub struct Row {
-    pub slot: u32,
-    pub asked: u32,
-    pub uses: u32,
-}
-
-/// The kept nodes in the order in which they were kept, the slots that they asked, node after node, and their uses,
-/// node after node.
-#[derive(Drop)]
-pub struct Rows {
-    pub rows: Vec<Row>,
-    pub asked: Vec<u32>,
-    pub uses: Vec<Use>,
-}
 
 /// An open node: the number of its slot, and where its part of what open nodes asked and used begins.
 #[derive(Clone, Copy)]
@@ -54,53 +35,6 @@ pub(crate) fn number(count: usize) -> Result<u32, AllocError>
         return Err(AllocError);
     }
     Ok(count as u32)
-}
-
-/// What the slots have of a node.
-#[derive(Clone, Copy)]
-pub enum Known {
-    /// No slot is its.
-    New,
-    /// Its slot has this number, and nothing is in it.
-    Empty(usize),
-    /// It is open.
-    Open,
-    /// It is kept, in the slot of this number.
-    Kept(usize),
-}
-
-/// What the slots have of a node. It takes one hash.
-#[inline(always)]
-pub(crate) fn find<N: Eq + Hash + Drop, V: Drop, F: Drop>(slots: &Slots<N, V, F>, node: &N) -> Known
-    ensures knows { Knows N.eq slots.now.entries node.now result }
-    ensures unique { IsUnique N.eq slots.now }
-{
-    if slots.len() == 0 {
-        return Known::New;
-    }
-    match slots.get_full(node) {
-        None => Known::New,
-        Some((place, _, slot)) => match slot {
-            Slot::Empty => Known::Empty(place),
-            Slot::Open => Known::Open,
-            Slot::Value(_) => Known::Kept(place),
-            Slot::Fault(_) => Known::Kept(place),
-        },
-    }
-}
-
-/// Sets the slot of a number.
-#[inline(always)]
-pub(crate) fn set<N: Eq + Hash + Drop, V: Drop, F: Drop>(
-    slots: &mut Slots<N, V, F>,
-    place: usize,
-    new: Slot<V, F>,
-)
-    requires { place < index_map_len slots.old }
-    ensures { slots.new.entries ≡ set_value_at slots.old.entries place new }
-{
-    let (_, slot) = slots.pair_mut(place);
-    *slot = new;
 }
 
 impl Frames {
@@ -167,7 +101,7 @@ pub(crate) fn reopen<N: Eq + Hash + Drop, V: Drop, F: Drop>(
     frames: &mut Frames,
     place: usize,
 ) -> Result<(), AllocError>
-    requires { place < index_map_len slots.old }
+    requires { place < length slots.old.entries }
     ensures slots { OnOk result (slots.new.entries ≡ set_value_at slots.old.entries place Slot.Open) }
     ensures frames { OnOk result (Framed place frames.old frames.new) }
     ensures kept { OnErr result (slots.new.entries ≡ slots.old.entries) }
@@ -175,7 +109,7 @@ pub(crate) fn reopen<N: Eq + Hash + Drop, V: Drop, F: Drop>(
 {
     let frame = frames.frame(place)?;
     frames.frames.push(frame)?;
-    set(slots, place, Slot::Open);
+    slots.set(place, Slot::Open);
     Ok(())
 }
 
@@ -186,71 +120,15 @@ pub(crate) fn open_new<N: Eq + Hash + Drop, V: Drop, F: Drop>(
     frames: &mut Frames,
     node: N,
 ) -> Result<(), AllocError>
-    requires { get N.eq slots.old node ≡ None }
+    requires { list_any (λ p. N.eq node p.0) slots.old.entries ≡ false }
     ensures slots { OnOk result (slots.new.entries ≡ slots.old.entries ++ (node, Slot.Open) ∷ []) }
-    ensures frames { OnOk result (Framed (index_map_len slots.old) frames.old frames.new) }
+    ensures frames { OnOk result (Framed (length slots.old.entries) frames.old frames.new) }
     ensures kept { OnErr result (slots.new.entries ≡ slots.old.entries) }
     ensures err { OnErr result (SameFrames frames.old frames.new) }
 {
     let frame = frames.frame(slots.len())?;
     frames.frames.reserve(1)?;
-    slots.insert(node, Slot::Open)?;
+    slots.add(node)?;
     frames.frames.push_reserved(frame);
     Ok(())
-}
-
-impl Rows {
-    /// The row that was added last.
-    pub(crate) fn last(&self) -> Option<Row>
-        ensures some { IfSome result (λ row. EndsWith row self.now.rows.items) }
-        ensures none { IfNone result (self.now.rows.items ≡ []) }
-    {
-        self.rows.as_slice().last().copied()
-    }
-
-    /// Adds what was used. Most nodes have one use or none.
-    #[inline(always)]
-    fn add_uses(&mut self, uses: &[Use]) -> Result<(), AllocError>
-        ensures rows { self.new.rows ≡ self.old.rows }
-        ensures asked { self.new.asked ≡ self.old.asked }
-        ensures ok { OnOk result (self.new.uses.items ≡ self.old.uses.items ++ uses.now) }
-        ensures err { OnErr result (self.new.uses.items ≡ self.old.uses.items) }
-    {
-        match uses {
-            [] => {}
-            [one] => self.uses.push(*one)?,
-            _ => self.uses.extend_from_slice(uses)?,
-        }
-        Ok(())
-    }
-
-    /// Adds what was asked and used, but no row.
-    #[inline(always)]
-    fn add_parts(&mut self, asked: &[u32], uses: &[Use]) -> Result<(), AllocError>
-        ensures rows { self.new.rows ≡ self.old.rows }
-        ensures ok { OnOk result ((self.new.asked.items ≡ self.old.asked.items ++ asked.now) × (self.new.uses.items ≡ self.old.uses.items ++ uses.now)) }
-        ensures err { OnErr result ((self.new.asked.items ≡ self.old.asked.items) × (self.new.uses.items ≡ self.old.uses.items)) }
-    {
-        self.asked.reserve(asked.len())?;
-        self.add_uses(uses)?;
-        self.asked.extend_from_slice(asked)?;
-        Ok(())
-    }
-
-    /// Adds a row: a kept node, the slots that it asked, and its uses.
-    #[inline(always)]
-    pub(crate) fn add(&mut self, slot: u32, asked: &[u32], uses: &[Use]) -> Result<(), AllocError>
-        ensures ok { OnOk result (Added slot asked.now uses.now self.old self.new) }
-        ensures err { OnErr result (SameRows self.old self.new) }
-    {
-        let row = Row {
-            slot,
-            asked: number(asked.len())?,
-            uses: number(uses.len())?,
-        };
-        self.rows.reserve(1)?;
-        self.add_parts(asked, uses)?;
-        self.rows.push_reserved(row);
-        Ok(())
-    }
 }

@@ -11,7 +11,7 @@ mod engine;
 pub mod laws;
 mod layout;
 mod machine;
-mod sweep;
+mod slots;
 mod table;
 mod uses;
 

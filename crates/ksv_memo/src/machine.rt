@@ -4,8 +4,9 @@ ghost use Rattle.ksv_memo_rules.specs.Meaning.{on};
 ghost use Rattle.ksv_memo_rules.specs.Evaluation.{tells, done, IsAnswered};
 ghost use Rattle.ksv_memo.specs.Nodes.{HasNoEntry, Steps};
 ghost use Rattle.ksv_memo.specs.Open.{newly};
+ghost use Rattle.ksv_memo_rules.specs.Slots.{lent};
 ghost use Rattle.ksv_memo_rules.specs.Right.{IsRight, nodes_of, counted};
-ghost use Rattle.ksv_memo.specs.Running.{AdvancesAt, AdvancesFrom, HasReached, IsLeft, IsRunning, LeftAt, LeftFrom, debt, to_keep};
+ghost use Rattle.ksv_memo.specs.Running.{AreSame, AdvancesAt, AdvancesFrom, HasReached, IsLeft, IsRunning, LeftAt, LeftFrom, debt, to_keep};
 
 use crate::table::{Asked, Table};
 use ksv_bytes::Buffer;
@@ -20,6 +21,16 @@ fn one_more(turns: Option<u64>) -> Option<u64>
     match turns {
         None => None,
         Some(turns) => Some(turns.saturating_add(1)),
+    }
+}
+
+/// An answer, lent.
+fn lend<V, F>(answer: &Result<V, F>) -> Result<&V, &F>
+    ensures { lent result ≡ answer.now }
+{
+    match answer {
+        Ok(value) => Ok(value),
+        Err(fault) => Err(fault),
     }
 }
 
@@ -89,17 +100,13 @@ impl<R: Rules> Machine<R> {
         ensures err { OnErr result (LeftAt (on (R.meaning rules.now) bytes.now) self.old.table.kept self.old.table.opened (Next.Done answer) self.new.table.kept) }
         ensures turns { self.new.turns ≡ self.old.turns }
     {
-        let waits = self.table.close(self.alloc, answer)?;
-        if waits {
+        if self.table.waits() {
+            self.table.close(self.alloc, answer)?;
             return Ok(None);
         }
-        match self.table.last() {
-            Some(answer) => {
-                let reply = rules.copy_answer(self.alloc, answer)?;
-                Ok(Some(Outcome::Answered(reply)))
-            }
-            None => unreachable!(),
-        }
+        let reply = rules.copy_answer(self.alloc, lend(&answer))?;
+        self.table.close(self.alloc, answer)?;
+        Ok(Some(Outcome::Answered(reply)))
     }
 
     /// Asks for what the last open node needs. A node that is open ends the question.
@@ -160,7 +167,7 @@ impl<R: Rules> Machine<R> {
         requires opened { self.old.table.opened ≡ [] }
         ensures outcome { IfOk result (λ outcome. outcome ≡ (tells (on (R.meaning rules.now) bytes.now) [] node).outcome) }
         ensures right { IsRight (on (R.meaning rules.now) bytes.now) self.new.table.kept }
-        ensures kept { OnOk result (nodes_of self.new.table.kept ≡ to_keep (on (R.meaning rules.now) bytes.now) self.old.table.kept (done (on (R.meaning rules.now) bytes.now) [] node)) }
+        ensures kept { OnOk result (AreSame (on (R.meaning rules.now) bytes.now) (nodes_of self.new.table.kept) (to_keep (on (R.meaning rules.now) bytes.now) self.old.table.kept (done (on (R.meaning rules.now) bytes.now) [] node))) }
         ensures left { OnErr result (IsLeft (on (R.meaning rules.now) bytes.now) (to_keep (on (R.meaning rules.now) bytes.now) self.old.table.kept (done (on (R.meaning rules.now) bytes.now) [] node)) self.old.table.kept self.new.table.kept) }
         ensures turns { IfOk result (λ outcome. IsAnswered outcome → self.new.turns ≡ counted (debt (on (R.meaning rules.now) bytes.now) self.old.table.kept (done (on (R.meaning rules.now) bytes.now) [] node)) self.old.turns) }
     {
@@ -185,12 +192,12 @@ impl<R: Rules> Machine<R> {
         ensures opened { self.new.table.opened ≡ [] }
         ensures outcome { IfOk result (λ outcome. outcome ≡ (tells (on (R.meaning rules.now) bytes.now) [] node).outcome) }
         ensures right { IsRight (on (R.meaning rules.now) bytes.now) self.new.table.kept }
-        ensures kept { OnOk result (nodes_of self.new.table.kept ≡ to_keep (on (R.meaning rules.now) bytes.now) self.old.table.kept (done (on (R.meaning rules.now) bytes.now) [] node)) }
+        ensures kept { OnOk result (AreSame (on (R.meaning rules.now) bytes.now) (nodes_of self.new.table.kept) (to_keep (on (R.meaning rules.now) bytes.now) self.old.table.kept (done (on (R.meaning rules.now) bytes.now) [] node))) }
         ensures left { OnErr result (IsLeft (on (R.meaning rules.now) bytes.now) (to_keep (on (R.meaning rules.now) bytes.now) self.old.table.kept (done (on (R.meaning rules.now) bytes.now) [] node)) self.old.table.kept self.new.table.kept) }
         ensures turns { IfOk result (λ outcome. IsAnswered outcome → self.new.turns ≡ counted (debt (on (R.meaning rules.now) bytes.now) self.old.table.kept (done (on (R.meaning rules.now) bytes.now) [] node)) self.old.turns) }
     {
-        match self.table.answer(&node) {
-            Some(answer) => Ok(Outcome::Answered(rules.copy_answer(self.alloc, answer)?)),
+        match self.table.answer(self.alloc, rules, &node)? {
+            Some(answer) => Ok(Outcome::Answered(answer)),
             None => {
                 let outcome = self.run(rules, bytes, node);
                 self.abandon();

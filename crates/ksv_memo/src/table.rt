@@ -1,18 +1,20 @@
 //! The table of kept and open nodes.
-ghost use Rattle.std.specs.Prelude.{◌≡◌, ◌≤◌, [], Some, length, true, option_map, IfOk, IfSome, IfNone, OnOk, OnErr};
+ghost use Rattle.std.specs.List.{All, AllPairs};
+ghost use Rattle.std.specs.Prelude.{◌≡◌, ◌≢◌, ◌<◌, ◌≤◌, ℕ, [], Some, length, true, option_map, nat_lt, IfOk, IfSome, IfNone, OnOk, OnErr};
 ghost use Rattle.ksv_memo_rules.specs.Meaning.{on};
-ghost use Rattle.ksv_memo.specs.Moves.{Rowed, SameRows};
-ghost use Rattle.ksv_memo.specs.Nodes.{Asks, Closes, EndsWithAnswer, Finds, MayKeep, Steps, TakesFirst, is_there};
-ghost use Rattle.ksv_memo_rules.specs.Slots.{answer_in, lent};
+ghost use Rattle.ksv_memo.specs.Nodes.{Asks, Closes, Finds, MayKeep, Steps, TakesFirst, is_there};
+ghost use Rattle.ksv_memo_rules.specs.Slots.{answer_at, answer_in};
 ghost use Rattle.ksv_memo.specs.Sweep.{Sweeps};
+ghost use Rattle.ksv_memo.specs.Emptying.{IsEmptied};
 
-use crate::layout::{Frame, Frames, Known, Rows, Slots, find, open_new, reopen, set};
-use crate::sweep::{has_touched, sweep};
-use crate::uses::each_once;
-use indexmap::IndexMap;
+use crate::layout::{Frames, number, open_new, reopen};
+use crate::slots::{Known, Slots};
+use crate::uses::keep_once;
 use ksv_bytes::{Buffer, Change};
+use ksv_memo_links::Links;
 use ksv_memo_rules::{Next, Replies, Reply, Rules, Slot, answer_at};
 use std::alloc::{AllocError, Global};
+use std::hash::Hash;
 use std::marker::Model;
 
 /// What came of asking for a node.
@@ -37,27 +39,38 @@ fn slot_of<V, F>(answer: Result<V, F>) -> Slot<V, F>
     }
 }
 
-/// Adds the row of an open node, with each of its uses once. Most nodes have one use or none, which need no copy.
-#[inline(always)]
-fn keep(alloc: Global, rows: &mut Rows, frames: &Frames, frame: Frame) -> Result<(), AllocError>
-    requires { (frame.asked ≤ length frames.now.asked.items) × (frame.uses ≤ length frames.now.uses.items) }
-    ensures ok { OnOk result (Rowed frame frames.now rows.old rows.new) }
-    ensures err { OnErr result (SameRows rows.old rows.new) }
+/// A copy of the answer in the slot of a number, if there is one.
+fn copy_at<R: Rules>(
+    alloc: Global,
+    rules: &R,
+    slots: &[Slot<R::Value, R::Fault>],
+    place: usize,
+) -> Result<Option<Reply<R>>, AllocError>
+    ensures { IfOk result (λ copy. copy ≡ answer_at slots.now place) }
 {
-    let asked = &frames.asked[frame.asked as usize..];
-    let uses = &frames.uses[frame.uses as usize..];
-    if uses.len() < 2 {
-        return rows.add(frame.slot, asked, uses);
+    match answer_at(slots, place) {
+        Some(answer) => Ok(Some(rules.copy_answer(alloc, answer)?)),
+        None => Ok(None),
     }
-    let once = each_once(alloc, uses)?;
-    rows.add(frame.slot, asked, once.as_slice())
+}
+
+/// Empties the slots that are to be taken; their looks are counted from here on.
+fn empty_taken<N: Eq + Hash + Drop, V: Drop, F: Drop>(slots: &mut Slots<N, V, F>, links: &mut Links)
+    requires inside { All (λ s. s < length slots.old.entries) links.old.waits }
+    requires apart { AllPairs (λ (a b : ℕ). a ≢ b) links.old.waits }
+    ensures { IsEmptied slots.old.entries slots.new.entries links.old links.new slots.new.looks }
+{
+    slots.reset();
+    while let Some(slot) = links.take() {
+        slots.set(slot as usize, Slot::Empty);
+    }
 }
 
 /// The nodes that are kept and those that are open. A look-up takes one hash, however many there are.
 #[derive(Drop)]
 pub struct Table<R: Rules> {
     slots: Slots<R::Node, R::Value, R::Fault>,
-    rows: Rows,
+    links: Links,
     frames: Frames,
 }
 
@@ -68,9 +81,9 @@ impl<R: Rules> Model for Table<R> {
 
     ghost Value = { Nodes R.Node (Result R.Value R.Fault) };
 
-    ghost view = { λ table. record { kept = entries_of table.slots.entries table.rows; opened = opens_of table.slots.entries table.frames } };
+    ghost view = { λ table. record { kept = entries_of table.slots.entries table.links; opened = opens_of table.slots.entries table.frames } };
 
-    ghost invariant = { λ table. IsLaidOut table.slots.entries table.rows table.frames };
+    ghost invariant = { λ table. IsLaidOut table.slots.entries table.links table.frames };
 }
 
 impl<R: Rules> Table<R> {
@@ -79,12 +92,8 @@ impl<R: Rules> Table<R> {
         ensures { result ≡ record { kept = []; opened = [] } }
     {
         Table {
-            slots: IndexMap::new(alloc),
-            rows: Rows {
-                rows: Vec::new(alloc),
-                asked: Vec::new(alloc),
-                uses: Vec::new(alloc),
-            },
+            slots: Slots::new(alloc),
+            links: Links::new(alloc),
             frames: Frames {
                 frames: Vec::new(alloc),
                 asked: Vec::new(alloc),
@@ -97,18 +106,24 @@ impl<R: Rules> Table<R> {
     pub(crate) fn len(&self) -> usize
         ensures { result ≡ length self.now.kept }
     {
-        self.rows.rows.as_slice().len()
+        self.links.count()
     }
 
-    /// The answer that is kept for a node.
-    pub(crate) fn answer(&self, node: &R::Node) -> Option<Result<&R::Value, &R::Fault>>
-        ensures { Finds R.Node.eq self.now.kept node.now (option_map lent result) }
+    /// A copy of the answer that is kept for a node, if it is kept.
+    pub(crate) fn answer(
+        &mut self,
+        alloc: Global,
+        rules: &R,
+        node: &R::Node,
+    ) -> Result<Option<Reply<R>>, AllocError>
+        ensures answer { IfOk result (λ answer. Finds R.Node.eq self.old.kept node.now answer) }
+        ensures same { self.new ≡ self.old }
     {
-        match find(&self.slots, node) {
-            Known::Kept(place) => answer_at(self.slots.values().as_slice(), place),
-            Known::New => None,
-            Known::Empty(_) => None,
-            Known::Open => None,
+        match self.slots.find(node) {
+            Known::Kept(place) => copy_at(alloc, rules, self.slots.lend(), place),
+            Known::New => Ok(None),
+            Known::Empty(_) => Ok(None),
+            Known::Open => Ok(None),
         }
     }
 
@@ -118,7 +133,7 @@ impl<R: Rules> Table<R> {
         ensures ok { IfOk result (Asks R.Node.eq node self.old self.new) }
         ensures err { OnErr result (self.new ≡ self.old) }
     {
-        match find(&self.slots, &node) {
+        match self.slots.find(&node) {
             Known::Kept(place) => {
                 self.frames.hear(place)?;
                 Ok(Asked::Replied)
@@ -129,6 +144,8 @@ impl<R: Rules> Table<R> {
                 Ok(Asked::Opened)
             }
             Known::New => {
+                self.links
+                    .reach(number(self.slots.len().saturating_add(1))?)?;
                 open_new(&mut self.slots, &mut self.frames, node)?;
                 Ok(Asked::Opened)
             }
@@ -150,11 +167,11 @@ impl<R: Rules> Table<R> {
         let Some(frame) = self.frames.last() else {
             unreachable!()
         };
-        let Some((node, _)) = self.slots.get_index(frame.slot as usize) else {
+        let Some(node) = self.slots.node(frame.slot as usize) else {
             unreachable!()
         };
         let asked = &self.frames.asked[frame.asked as usize..];
-        let replies = Replies::new(self.slots.values().as_slice(), asked);
+        let replies = Replies::new(self.slots.lend(), asked);
         let step = rules.next(alloc, node, bytes, &replies, &mut self.frames.uses)?;
         Ok(step)
     }
@@ -169,9 +186,11 @@ impl<R: Rules> Table<R> {
         let Some(frame) = self.frames.last() else {
             unreachable!()
         };
-        keep(alloc, &mut self.rows, &self.frames, frame)?;
+        let uses = &self.frames.uses[frame.uses as usize..];
+        let asked = &self.frames.asked[frame.asked as usize..];
+        keep_once(alloc, &mut self.links, frame.slot, asked, uses)?;
         let slot = frame.slot as usize;
-        set(&mut self.slots, slot, slot_of(answer));
+        self.slots.set(slot, slot_of(answer));
         self.frames.take_last(frame);
         if self.frames.frames.as_slice().is_empty() {
             return Ok(false);
@@ -188,31 +207,29 @@ impl<R: Rules> Table<R> {
         match self.frames.pop() {
             None => false,
             Some(frame) => {
-                set(&mut self.slots, frame.slot as usize, Slot::Empty);
+                self.slots.set(frame.slot as usize, Slot::Empty);
                 true
             }
         }
     }
 
-    /// Takes out each kept node that a change touches or that asked one that goes, in one pass from the front. No node
-    /// is open. It takes no memory. Where the change touches no use, no row is looked at.
-    pub(crate) fn forget(&mut self, change: Change)
+    /// Whether an open node waits for the last one.
+    pub(crate) fn waits(&self) -> bool
+        ensures { result ≡ nat_lt 1 (length self.now.opened) }
+    {
+        self.frames.frames.as_slice().len() > 1
+    }
+
+    /// Takes out each kept node that a change touches or that asked one that goes, in its tree. No node is open. It takes
+    /// no memory. An overwrite looks only near. How many looks it took, which stop at 2^64 - 1.
+    pub(crate) fn forget(&mut self, change: Change) -> u64
         requires { self.old.opened ≡ [] }
-        ensures kept { Sweeps change self.old.kept self.new.kept }
+        ensures kept { Sweeps change self.old.kept self.new.kept result }
         ensures opened { self.new.opened ≡ [] }
     {
         self.frames.asked.clear();
-        if has_touched(change, self.rows.uses.as_slice()) {
-            sweep(&mut self.slots, &mut self.rows, change);
-        }
-    }
-
-    /// The answer that was kept last.
-    pub(crate) fn last(&self) -> Option<Result<&R::Value, &R::Fault>>
-        ensures some { IfSome result (λ answer. EndsWithAnswer (lent answer) self.now.kept) }
-        ensures none { IfNone result (self.now.kept ≡ []) }
-    {
-        let row = self.rows.last()?;
-        answer_at(self.slots.values().as_slice(), row.slot as usize)
+        self.links.forget(change);
+        empty_taken(&mut self.slots, &mut self.links);
+        self.links.looks().saturating_add(self.slots.looks())
     }
 }

@@ -1,8 +1,13 @@
 //! Uses as a set.
-ghost use Rattle.std.specs.Prelude.{IfOk};
+ghost use Rattle.std.specs.Prelude.{◌≡◌, ◌<◌, [], length, true, false, IfOk, OnOk, OnErr};
+ghost use Rattle.std.specs.List.{All};
+ghost use Rattle.ksv_memo_links.specs.Links.{IsUnchanged};
+ghost use Rattle.ksv_memo_links.specs.Marking.{is_kept};
 ghost use Rattle.ksv_memo_rules.specs.Right.{HasEachOnce};
+ghost use Rattle.ksv_memo.specs.Moves.{KeepsOnce};
 
 use ksv_bytes::Use;
+use ksv_memo_links::Links;
 use smallvec::SmallVec;
 use std::alloc::{AllocError, Global};
 
@@ -25,4 +30,27 @@ pub(crate) fn each_once(
         }
     }
     Ok(once)
+}
+
+/// Keeps a slot, with the slots that it asked and each of its uses once. Most nodes have one use or none, which need no copy.
+#[inline(always)]
+pub(crate) fn keep_once(
+    alloc: Global,
+    links: &mut Links,
+    slot: u32,
+    asked: &[u32],
+    uses: &[Use],
+) -> Result<(), AllocError>
+    requires idle { links.old.waits ≡ [] }
+    requires slot_in { slot < length links.old.kept }
+    requires out { is_kept links.old.kept slot ≡ false }
+    requires asked_kept { All (λ s. is_kept links.old.kept s ≡ true) asked.now }
+    ensures ok { OnOk result (KeepsOnce links.old links.new slot asked.now uses.now) }
+    ensures err { OnErr result (IsUnchanged links.old links.new) }
+{
+    if uses.len() < 2 {
+        return links.keep(slot, asked, uses);
+    }
+    let once = each_once(alloc, uses)?;
+    links.keep(slot, asked, once.as_slice())
 }

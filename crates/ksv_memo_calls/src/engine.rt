@@ -1,4 +1,5 @@
-//! The engine with two small sets of rules: worked questions, a deep chain, and random questions and edits.
+//! The engine with two small sets of rules: worked questions, a deep chain, how many looks an overwrite takes, and random
+//! questions and edits.
 ghost use Rattle.std.specs.Prelude.{◌≡◌, ◌<◌, ◌≤◌, ◌^◌, OnOk};
 ghost use Rattle.ksv_memo_rules.specs.Meaning.{on};
 ghost use Rattle.ksv_memo_rules.specs.Right.{IsRight};
@@ -398,6 +399,8 @@ enum Edit {
     After,
     /// A byte before the second one.
     Between,
+    /// None in place of the second one.
+    Without,
 }
 
 /// Makes an edit, and tells the engine.
@@ -409,6 +412,7 @@ fn make_edit(engine: &mut Engine<Rows>, rules: &Rows, bytes: &mut Buffer, edit: 
         Edit::At(place) => overwrite(engine, rules, bytes, place, b"\0"),
         Edit::After => append(engine, rules, bytes, b"\0"),
         Edit::Between => insert(engine, rules, bytes, 1, b"\0"),
+        Edit::Without => delete(engine, rules, bytes, 1, 1),
     }
 }
 
@@ -484,6 +488,83 @@ fn forgets_a_row_that_asks_another_twice(rt: HostRuntime) -> Result<(), Fail> {
     Ok(())
 }
 
+/// Whether an overwrite of the byte in a place, after the last row of [`DOUBLED`] was asked, takes at least so many looks
+/// and no more than so many.
+fn looks(alloc: Global, place: usize, least: u64, most: u64) -> Result<bool, Fail> {
+    let rules = rows(alloc, &DOUBLED)?;
+    let mut bytes = Buffer::new(b"\0\0".to_vec(alloc)?)?;
+    let mut engine = rows_engine(alloc, &rules, &bytes);
+    let is_none = engine.looked() == 0;
+    let is_sum = answers(&mut engine, &rules, &bytes, 2, Ok(Ok(14)))?;
+    make_edit(&mut engine, &rules, &mut bytes, Edit::At(place));
+    let looked = engine.looked();
+    Ok(is_none && is_sum && least <= looked && looked <= most)
+}
+
+#[test]
+fn looks_near_an_overwrite_alone(rt: HostRuntime) -> Result<(), Fail> {
+    // The page and the use that meets it, and then with them two rows, three asks and the page of a use.
+    let is_right = looks(rt.alloc(), 1, 0, 8 * 2)? && looks(rt.alloc(), 0, 2, 8 * (2 + 2 + 3 + 1))?;
+    assert!(rt; is_right);
+    Ok(())
+}
+
+/// Whether, after an edit, so many rows of [`LINKED`] are kept, and then all of them once the last row was asked again.
+fn refills(
+    engine: &mut Engine<Rows>,
+    rules: &Rows,
+    bytes: &mut Buffer,
+    edited: Edit,
+    kept: usize,
+) -> Result<bool, AllocError>
+    requires { IsRight (on (rows_meaning rules.now.rows.items) bytes.old) engine.old.kept }
+    ensures { IsRight (on (rows_meaning rules.now.rows.items) bytes.new) engine.new.kept }
+{
+    make_edit(engine, rules, bytes, edited);
+    let is_left = engine.kept() == kept;
+    Ok(
+        answers(engine, rules, bytes, LAST.number, Ok(Ok(14)))?
+            && is_left
+            && engine.kept() == LAST.kept,
+    )
+}
+
+/// Whether rows are taken and asked again, 20 times: by an insert, a delete, and overwrites of both bytes. The last one
+/// takes rows 1, 2, 3 and 5 with no more looks than near: a page and the two uses of it, four rows, five asks and the page
+/// of a use.
+fn fills_slots_again(alloc: Global) -> Result<bool, Fail> {
+    let rules = rows(alloc, &LINKED)?;
+    let mut bytes = Buffer::new(b"\0\0".to_vec(alloc)?)?;
+    let mut engine = rows_engine(alloc, &rules, &bytes);
+    let mut is_right = answers(&mut engine, &rules, &bytes, LAST.number, Ok(Ok(14)))?;
+    for _ in 0..20 {
+        is_right &= refills(&mut engine, &rules, &mut bytes, Edit::Between, 4)?;
+        is_right &= refills(&mut engine, &rules, &mut bytes, Edit::Without, 4)?;
+        is_right &= refills(&mut engine, &rules, &mut bytes, Edit::At(1), 4)?;
+        is_right &= refills(&mut engine, &rules, &mut bytes, Edit::At(0), 2)?;
+        is_right &= 4 <= engine.looked() && engine.looked() <= 8 * (1 + 2 + 4 + 5 + 1);
+    }
+    Ok(is_right)
+}
+
+#[test]
+fn fills_slots_again_after_inserts_and_deletes(rt: HostRuntime) -> Result<(), Fail> {
+    let is_right = fills_slots_again(rt.alloc())?;
+    assert!(rt; is_right);
+    Ok(())
+}
+
+/// All bytes of a buffer.
+fn all_bytes(alloc: Global, bytes: &Buffer) -> Result<Vec<u8>, AllocError> {
+    let (front, back) = bytes.parts(Window {
+        from: 0,
+        to: bytes.len(),
+    });
+    let mut all = Vec::from_slice(alloc, front)?;
+    all.extend_from_slice(back)?;
+    Ok(all)
+}
+
 /// What a row answers by plain recursion over the bytes of a buffer.
 fn plain_answer(
     alloc: Global,
@@ -491,12 +572,7 @@ fn plain_answer(
     bytes: &Buffer,
     number: u8,
 ) -> Result<Plain, AllocError> {
-    let (front, back) = bytes.parts(Window {
-        from: 0,
-        to: bytes.len(),
-    });
-    let mut all = Vec::from_slice(alloc, front)?;
-    all.extend_from_slice(back)?;
+    let all = all_bytes(alloc, bytes)?;
     Ok(plainly(rules.rows.as_slice(), all.as_slice(), 0, number, 20))
 }
 
@@ -562,6 +638,160 @@ fn answers_random_questions_between_edits_as_from_nothing(rt: HostRuntime) -> Re
     for round in 0..150 {
         let is_same = random_round(rt.alloc(), round, &mut random)?;
         assert!(rt; is_same, "round {round}");
+    }
+    Ok(())
+}
+
+/// A number for rows 0 and 1; for another row the sum of up to three lower rows, or a row that a byte names.
+fn random_lower_row(alloc: Global, random: &mut Random, number: u8) -> Result<Row, AllocError> {
+    if number < 2 {
+        return Ok(Row::Number(u32::from(random.below(10))));
+    }
+    if random.below(2) == 0 {
+        return Ok(Row::Named(u32::from(random.below(8))));
+    }
+    let mut numbers = Vec::new(alloc);
+    for _ in 0..random.below(4) {
+        numbers.push(row(random.below(number)))?;
+    }
+    Ok(Row::Sum(numbers))
+}
+
+/// 16 rows, of which each asks lower ones, as long as no byte names another than rows 0 and 1.
+fn random_lower_rows(alloc: Global, random: &mut Random) -> Result<Rows, AllocError> {
+    let mut rows = Vec::new(alloc);
+    for number in 0..16 {
+        rows.push(random_lower_row(alloc, random, number)?)?;
+    }
+    Ok(Rows { rows })
+}
+
+/// The bits of the rows that a row asks, and theirs, with its own.
+fn tree_of(rows: &[Row], bytes: &[u8], number: u8, depth: u8) -> u16 {
+    if depth == 0 {
+        return 0;
+    }
+    let depth = depth - 1;
+    let mut bits = bit_of(number);
+    match rows.get(number as usize) {
+        Some(Row::Named(place)) => {
+            if let Some(byte) = bytes.get(*place as usize) {
+                bits |= tree_of(rows, bytes, *byte, depth);
+            }
+        }
+        Some(Row::Sum(numbers)) => {
+            for part in numbers {
+                bits |= tree_of(rows, bytes, part.number, depth);
+            }
+        }
+        _ => {}
+    }
+    bits
+}
+
+/// Whether a row is named by the byte in a place.
+fn is_named_by(rows: &[Row], number: u8, place: usize) -> bool {
+    match rows.get(number as usize) {
+        Some(Row::Named(at)) => *at as usize == place,
+        _ => false,
+    }
+}
+
+/// The bits of the rows that are named by the byte in a place.
+fn named_by(rows: &[Row], place: usize) -> u16 {
+    let mut bits = 0u16;
+    for number in 0..16u8 {
+        if is_named_by(rows, number, place) {
+            bits |= bit_of(number);
+        }
+    }
+    bits
+}
+
+/// Of some rows, the bits of those in whose trees one is that the byte in a place names: the plain pass over all.
+fn touched_of(rows: &[Row], bytes: &[u8], kept: u16, place: usize) -> u16 {
+    let named = named_by(rows, place);
+    let mut bits = 0u16;
+    for number in 0..16u8 {
+        let bit = bit_of(number);
+        if kept & bit != 0 && tree_of(rows, bytes, number, 20) & named != 0 {
+            bits |= bit;
+        }
+    }
+    bits
+}
+
+/// How many bits are set.
+fn counted(bits: u16) -> u64 {
+    let mut count = 0u64;
+    for number in 0..16u8 {
+        if bits & bit_of(number) != 0 {
+            count = count.saturating_add(1);
+        }
+    }
+    count
+}
+
+/// Asks a random row and overwrites a random byte. The bits of the rows that are kept then by the plain pass, if the engine
+/// has kept as many, and looked no fewer times than rows went and no more than near.
+fn random_overwrite(
+    alloc: Global,
+    engine: &mut Engine<Rows>,
+    rules: &Rows,
+    bytes: &mut Buffer,
+    random: &mut Random,
+    kept: u16,
+) -> Result<Option<u16>, AllocError>
+    requires { IsRight (on (rows_meaning rules.now.rows.items) bytes.old) engine.old.kept }
+    ensures { IsRight (on (rows_meaning rules.now.rows.items) bytes.new) engine.new.kept }
+{
+    let number = random.below(16);
+    let place = random.below(8) as usize;
+    let new = [random.below(2)];
+    let before = all_bytes(alloc, bytes)?;
+    let wanted = plainly(rules.rows.as_slice(), before.as_slice(), 0, number, 20);
+    let is_right = answers(engine, rules, bytes, number, wanted)?;
+    let kept = kept | tree_of(rules.rows.as_slice(), before.as_slice(), number, 20);
+    let gone = touched_of(rules.rows.as_slice(), before.as_slice(), kept, place);
+    overwrite(engine, rules, bytes, place, &new);
+    let left = kept & !gone;
+    let looked = engine.looked();
+    let (kept, gone) = (counted(kept), counted(gone));
+    let near = gone
+        .saturating_mul(5)
+        .saturating_add(kept)
+        .saturating_add(1);
+    let is_near = gone <= looked && looked <= near.saturating_mul(8);
+    if is_right && is_near && engine.kept() as u64 == counted(left) {
+        Ok(Some(left))
+    } else {
+        Ok(None)
+    }
+}
+
+/// Five random questions and overwrites over random rows.
+fn random_overwrites(alloc: Global, random: &mut Random) -> Result<bool, Fail> {
+    let rules = random_lower_rows(alloc, random)?;
+    let mut bytes = Buffer::new(b"\0\x01\0\x01\0\x01\0\x01".to_vec(alloc)?)?;
+    let mut engine = rows_engine(alloc, &rules, &bytes);
+    let mut kept = 0u16;
+    for _ in 0..5 {
+        match random_overwrite(alloc, &mut engine, &rules, &mut bytes, random, kept)? {
+            Some(left) => kept = left,
+            None => return Ok(false),
+        }
+    }
+    Ok(true)
+}
+
+#[test]
+fn forgets_at_random_overwrites_what_a_plain_pass_does(rt: HostRuntime) -> Result<(), Fail> {
+    let mut random = Random {
+        state: 88_172_645_463_325_252,
+    };
+    for round in 0..10_000 {
+        let is_right = random_overwrites(rt.alloc(), &mut random)?;
+        assert!(rt; is_right, "round {round}");
     }
     Ok(())
 }

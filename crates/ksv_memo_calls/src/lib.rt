@@ -7,4 +7,6 @@ mod buffer;
 #[cfg(test)]
 mod engine;
 #[cfg(test)]
+mod links;
+#[cfg(test)]
 mod tower;

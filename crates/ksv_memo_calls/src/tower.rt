@@ -1,9 +1,10 @@
-//! A tower of links, of which the lowest alone reads the file: an edit that touches what it reads takes all links.
-ghost use Rattle.std.specs.Prelude.{◌≡◌, ◌<◌, ◌≤◌, ◌^◌};
+//! A tower of links, of which the lowest alone reads the file: an edit that touches what it reads takes all links, and
+//! another one looks at none of them.
+ghost use Rattle.std.specs.Prelude.{◌≡◌, ◌<◌, ◌≤◌, ◌^◌, ◌==◌, ◌++◌, length, OnOk, OnErr};
 ghost use Rattle.ksv_memo_rules.specs.Meaning.{on};
 ghost use Rattle.ksv_memo_rules.specs.Right.{IsRight};
 ghost use Rattle.ksv_memo_samples.specs.Chain.{link_before, linked, same_if_equal};
-ghost use Rattle.ksv_memo_calls.specs.Tower.{tower_lawful, tower_meaning};
+ghost use Rattle.ksv_memo_calls.specs.Tower.{read_by, tower_lawful, tower_meaning};
 
 use ksv_bytes::{Buffer, Change, Use};
 use ksv_memo::{Answer, Engine, Next, Replies, Rules};
@@ -11,8 +12,8 @@ use ksv_memo_samples::{Link, Missing};
 use std::alloc::{AllocError, Global};
 use std::test::Fail;
 
-/// A tower: link 0 answers the file's size, and each other link one more than the link below it, without reading
-/// anything.
+/// A tower: link 0 answers the file's size, and reads its first byte too; each other link answers one more than the link
+/// below it, without reading anything.
 #[derive(Drop)]
 struct Tower;
 
@@ -40,6 +41,21 @@ fn stepped(link: Link, size: u32, replies: &Replies<u32, Missing>) -> Next<Link,
     }
 }
 
+/// Notes what a link of a tower over so many bytes reads.
+fn read(is_lowest: bool, size: usize, uses: &mut Vec<Use>) -> Result<(), AllocError>
+    ensures ok { OnOk result (uses.new.items ≡ uses.old.items ++ read_by is_lowest (size == 0)) }
+    ensures err { OnErr result (uses.new.items ≡ uses.old.items) }
+{
+    if !is_lowest {
+        return Ok(());
+    }
+    if size == 0 {
+        uses.push(Use::Size)?;
+        return Ok(());
+    }
+    uses.extend_from_slice(&[Use::Size, Use::Bytes(0, 1)])
+}
+
 impl Rules for Tower {
     type Node = Link;
 
@@ -57,10 +73,8 @@ impl Rules for Tower {
         replies: &Replies<u32, Missing>,
         uses: &mut Vec<Use>,
     ) -> Result<Next<Link, Reply>, AllocError> {
-        if node.number == 0 {
-            uses.push(Use::Size)?;
-        }
         let size = bytes.len();
+        read(node.number == 0, size, uses)?;
         Ok(stepped(*node, size as u32, replies))
     }
 
@@ -86,27 +100,62 @@ fn tower_engine(alloc: Global, _bytes: &Buffer) -> Engine<Tower>
     Engine::new(alloc)
 }
 
-/// Asks a link of a tower over two bytes; whether it has the value that follows from them, so many links are kept, an
-/// overwrite leaves all of them, and an append none.
-fn falls(alloc: Global, number: u32) -> Result<bool, Fail> {
-    let bytes = Buffer::new(b"ab".to_vec(alloc)?)?;
-    let mut engine = tower_engine(alloc, &bytes);
-    let answer = engine.ask(&Tower, &bytes, Link { number })?;
+/// Asks a link of a tower over some bytes; whether it has the value that follows from them, and so many links are kept.
+fn stands(engine: &mut Engine<Tower>, bytes: &Buffer, number: u32) -> Result<bool, AllocError>
+    requires { IsRight (on tower_meaning bytes.now) engine.old.kept }
+    ensures { IsRight (on tower_meaning bytes.now) engine.new.kept }
+{
+    let answer = engine.ask(&Tower, bytes, Link { number })?;
     let is_right = match answer {
-        Answer::Value(value) => value == number.saturating_add(2),
+        Answer::Value(value) => value as usize == (number as usize).saturating_add(bytes.len()),
         _ => false,
     };
+    Ok(is_right && engine.kept() == number as usize + 1)
+}
+
+/// Writes bytes over others, and tells the engine.
+fn overwrite(engine: &mut Engine<Tower>, bytes: &mut Buffer, at: usize, new: &[u8])
+    requires { IsRight (on tower_meaning bytes.old) engine.old.kept }
+    ensures { IsRight (on tower_meaning bytes.new) engine.new.kept }
+{
+    if let Ok(()) = bytes.overwrite(at, new) {
+        engine.forget(Change::Overwrite { at, n: new.len() });
+    }
+}
+
+/// How many nodes go where a byte is written over itself, and how many looks it takes.
+fn touch(engine: &mut Engine<Tower>, bytes: &mut Buffer, at: usize) -> (usize, u64)
+    requires { IsRight (on tower_meaning bytes.old) engine.old.kept }
+    ensures { IsRight (on tower_meaning bytes.new) engine.new.kept }
+{
+    let kept = engine.kept();
+    overwrite(engine, bytes, at, b"a");
+    (kept.saturating_sub(engine.kept()), engine.looked())
+}
+
+/// Asks a link of a tower over two bytes. Whether an overwrite of the second byte takes no link and looks at one page and
+/// one use of it alone; whether one of the first byte takes all links, with no fewer looks than them and no more than near:
+/// one page, one use of it, and the links with their asks; and whether an append takes them again.
+fn falls(alloc: Global, number: u32) -> Result<bool, Fail> {
+    let mut bytes = Buffer::new(b"aa".to_vec(alloc)?)?;
+    let mut engine = tower_engine(alloc, &bytes);
+    let stood = stands(&mut engine, &bytes, number)?;
+    let (left_out, beside) = touch(&mut engine, &mut bytes, 1);
+    let (gone, looked) = touch(&mut engine, &mut bytes, 0);
     let links = number as usize + 1;
-    let is_kept = engine.kept() == links;
-    engine.forget(Change::Overwrite { at: 0, n: 2 });
-    let is_left = engine.kept() == links;
+    let near = (links as u64).saturating_mul(2).saturating_add(2);
+    let is_near = links as u64 <= looked && looked <= near.saturating_mul(8);
+    let stands_again = stands(&mut engine, &bytes, number)?;
     engine.forget(Change::Append);
-    Ok(is_right && is_kept && is_left && engine.kept() == 0)
+    let fell = left_out == 0 && beside <= 8 * 2 && gone == links && is_near;
+    Ok(stood && fell && stands_again && engine.kept() == 0)
 }
 
 #[test]
 fn a_million_links_fall_with_the_lowest(rt: HostRuntime) -> Result<(), Fail> {
-    let has_fallen = falls(rt.alloc(), 999_999)?;
-    assert!(rt; has_fallen);
+    for number in [0, 1, 2, 63_999, 999_999] {
+        let has_fallen = falls(rt.alloc(), number)?;
+        assert!(rt; has_fallen, "at {number}");
+    }
     Ok(())
 }

@@ -9,7 +9,9 @@ pub record Entry (N A : Type 0) : Type 0 where
   pub asked : List N
   pub uses : List Use
 
--- an engine: what it keeps, in no stated order, and the calls of rules that were counted since the question began
+-- an engine: what it keeps, in no stated order, and the calls of rules that were counted since the question began, and
+-- the looks of the last `forget`
 pub record Memo (N A : Type 0) : Type 0 where
   pub kept : List (Entry N A)
   pub turns : Option ℕ
+  pub looked : ℕ

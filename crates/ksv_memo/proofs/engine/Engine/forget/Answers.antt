@@ -3,14 +3,15 @@ use Rattle.std.specs.List.{AllByRecursion}
 use Rattle.ksv_memo_rules.specs.Meaning.{on}
 use Rattle.ksv_memo_rules.specs.Right.{AreExactly, IsRight, nodes_of}
 use Rattle.ksv_memo_rules.specs.Touched.{left_after}
+use Rattle.ksv_memo.specs.Near.{LooksNear}
 use Rattle.ksv_memo_rules.proofs.Standing.{law_on}
-use Rattle.ksv_memo.proofs.Forgetting.{forgets, forgets-right, forgets-kept}
+use Rattle.ksv_memo.proofs.Forgetting.{forgets, forgets-right, forgets-kept, looks-near}
 use Rattle.ksv_memo.proofs.engine.Engine.forget.Goals as goal
 
 pub returns-clause-right : goal.returns-clause-right
 returns-clause-right g c rules before after right made =
     let view = ap (λ v. v.kept) c.self.view_is in
-    forgets-right (g.R.Rules.meaning rules) (g.met.R.Rules.lawful rules) c.args.change before after made c.self.inside.machine.table.kept c.forget.new.self.kept c.forget.ensures.kept
+    forgets-right (g.R.Rules.meaning rules) (g.met.R.Rules.lawful rules) c.args.change before after made c.self.inside.machine.table.kept c.forget-self-inside.new.self.kept c.forget-self-inside.result c.forget-self-inside.ensures.kept
     (subst (IsRight (on (g.R.Rules.meaning rules) before)) (sym view) right)
 
 pub returns-clause-left : goal.returns-clause-left
@@ -18,10 +19,18 @@ returns-clause-left g c rules before right =
     let w = on (g.R.Rules.meaning rules) before in
     let view = ap (λ v. v.kept) c.self.view_is in
     let law = law_on (g.R.Rules.meaning rules) (g.met.R.Rules.lawful rules) before in
-    subst (λ es. AreExactly w (nodes_of c.forget.new.self.kept) (left_after w c.args.change (nodes_of es))) view
-    (forgets w law c.args.change c.self.inside.machine.table.kept c.forget.new.self.kept (subst (IsRight w) (sym view) right) c.forget.ensures.kept).1
+    subst (λ es. AreExactly w (nodes_of c.forget-self-inside.new.self.kept) (left_after w c.args.change (nodes_of es))) view
+    (forgets w law c.args.change c.self.inside.machine.table.kept c.forget-self-inside.new.self.kept c.forget-self-inside.result (subst (IsRight w) (sym view) right) c.forget-self-inside.ensures.kept).1
 
 pub returns-clause-kept : goal.returns-clause-kept
 returns-clause-kept g c =
-    subst (λ es. AllByRecursion (Contains es) c.forget.new.self.kept) (ap (λ v. v.kept) c.self.view_is)
-    (forgets-kept c.args.change c.self.inside.machine.table.kept c.forget.new.self.kept c.forget.ensures.kept)
+    subst (λ es. AllByRecursion (Contains es) c.forget-self-inside.new.self.kept) (ap (λ v. v.kept) c.self.view_is)
+    (forgets-kept c.args.change c.self.inside.machine.table.kept c.forget-self-inside.new.self.kept c.forget-self-inside.result c.forget-self-inside.ensures.kept)
+
+pub returns-clause-looked : goal.returns-clause-looked
+returns-clause-looked g c rules before after right made wrote =
+    let w = on (g.R.Rules.meaning rules) before in
+    let view = ap (λ v. v.kept) c.self.view_is in
+    let law = law_on (g.R.Rules.meaning rules) (g.met.R.Rules.lawful rules) before in
+    subst (λ es. LooksNear w c.args.change es c.forget-self-inside.result) view
+    (looks-near w law c.args.change c.self.inside.machine.table.kept c.forget-self-inside.new.self.kept c.forget-self-inside.result (subst (IsRight w) (sym view) right) c.forget-self-inside.ensures.kept wrote)

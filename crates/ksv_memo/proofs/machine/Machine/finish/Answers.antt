@@ -1,19 +1,19 @@
+use Rattle.std.proofs.Common.{refl, sym, ◌∙◌}
 use Rattle.ksv_memo_rules.specs.Meaning.{on}
 use Rattle.ksv_memo_rules.proofs.Standing.{law_on}
-use Rattle.ksv_memo_rules.specs.Slots.{lent}
 use Rattle.ksv_memo.proofs.Topping.{on_err_always}
-use Rattle.ksv_memo.proofs.Taking.{closes_on, closes_last, closes_left, closed_keeps}
+use Rattle.ksv_memo.proofs.Taking.{closes_on, closes_last, closes_left, closes_more, closes_one, done_left}
 use Rattle.ksv_memo.proofs.machine.Machine.finish.Goals as goal
 
-pub returns-in_err-waits-clause-err : goal.returns-in_err-waits-clause-err
-returns-in_err-waits-clause-err g c =
+pub returns-in_err-close-clause-err : goal.returns-in_err-close-clause-err
+returns-in_err-close-clause-err g c =
     let w = on (g.R.Rules.meaning c.args.rules.now) c.args.bytes.now in
     let law = law_on (g.R.Rules.meaning c.args.rules.now) (g.met.R.Rules.lawful c.args.rules.now) c.args.bytes.now in
     let eq = g.R.Node.PartialEq.eq in
     let laws = g.met.R.Node.Eq.laws in
     let exact = g.met.R.Rules.exact in
     let old = c.args.self.now.table in
-    on_err_always c.from_residual.result (closes_left w law eq laws exact old.kept old.opened c.args.answer c.close.new.self.kept c.requires c.in_err-waits.ensures.err)
+    on_err_always c.from_residual.result (closes_left w law eq laws exact old.kept old.opened c.args.answer c.close.new.self.kept c.requires c.in_err-close.ensures.err)
 
 pub returns-then-waits-clause-ok : goal.returns-then-waits-clause-ok
 returns-then-waits-clause-ok g c =
@@ -23,17 +23,27 @@ returns-then-waits-clause-ok g c =
     let laws = g.met.R.Node.Eq.laws in
     let exact = g.met.R.Rules.exact in
     let old = c.args.self.now.table in
-    closes_on w law eq laws exact old.kept old.opened c.args.answer c.close.new.self c.requires (rw c.if-waits.true at c.in_ok-waits.ensures.ok)
+    closes_on w law eq laws exact old.kept old.opened c.args.answer c.close.new.self c.requires (closes_more c.args.answer old.opened old c.close.new.self c.in_ok-close.field-0 c.in_ok-close.ensures.ok (sym c.waits.ensures ∙ c.if-waits.true))
 
-pub returns-in_err-reply-in-Some-clause-err : goal.returns-in_err-reply-in-Some-clause-err
-returns-in_err-reply-in-Some-clause-err g c =
+pub returns-in_err-reply-clause-err : goal.returns-in_err-reply-clause-err
+returns-in_err-reply-clause-err g c =
     let w = on (g.R.Rules.meaning c.args.rules.now) c.args.bytes.now in
     let law = law_on (g.R.Rules.meaning c.args.rules.now) (g.met.R.Rules.lawful c.args.rules.now) c.args.bytes.now in
     let eq = g.R.Node.PartialEq.eq in
     let laws = g.met.R.Node.Eq.laws in
     let exact = g.met.R.Rules.exact in
     let old = c.args.self.now.table in
-    on_err_always c.from_residual-in_err-reply-in-Some.result (closes_left w law eq laws exact old.kept old.opened c.args.answer c.close.new.self.kept c.requires (closed_keeps w law eq laws exact old.kept old.opened c.args.answer c.close.new.self c.in_ok-waits.waits c.in_ok-waits.ensures.ok))
+    on_err_always _ (done_left w law eq laws exact old.kept old.opened c.args.answer old.kept c.requires refl)
+
+pub returns-in_err-close-2-clause-err : goal.returns-in_err-close-2-clause-err
+returns-in_err-close-2-clause-err g c =
+    let w = on (g.R.Rules.meaning c.args.rules.now) c.args.bytes.now in
+    let law = law_on (g.R.Rules.meaning c.args.rules.now) (g.met.R.Rules.lawful c.args.rules.now) c.args.bytes.now in
+    let eq = g.R.Node.PartialEq.eq in
+    let laws = g.met.R.Node.Eq.laws in
+    let exact = g.met.R.Rules.exact in
+    let old = c.args.self.now.table in
+    on_err_always _ (closes_left w law eq laws exact old.kept old.opened c.args.answer c.close-2.new.self.kept c.requires c.in_err-close-2.ensures.err)
 
 pub returns-clause-ok : goal.returns-clause-ok
 returns-clause-ok g c =
@@ -43,4 +53,4 @@ returns-clause-ok g c =
     let laws = g.met.R.Node.Eq.laws in
     let exact = g.met.R.Rules.exact in
     let old = c.args.self.now.table in
-    closes_last w law eq laws exact old.kept old.opened c.args.answer (lent c.in-Some.answer) c.in_ok-reply-in-Some.reply c.close.new.self c.requires (rw c.if-waits.false at c.in_ok-waits.ensures.ok) c.in-Some.ensures.some c.in_ok-reply-in-Some.ensures
+    closes_last w law eq laws exact old.kept old.opened c.args.answer c.in_ok-reply.reply c.close-2.new.self c.requires (closes_one c.args.answer old.opened old c.close-2.new.self c.in_ok-close-2.field-0 c.in_ok-close-2.ensures.ok (sym c.waits.ensures ∙ c.if-waits.false)) (c.in_ok-reply.ensures ∙ c.lend.ensures)

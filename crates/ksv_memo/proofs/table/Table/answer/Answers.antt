@@ -1,33 +1,35 @@
-use Rattle.std.proofs.Common.{◌∙◌, ap, sym, subst, refl}
+use Rattle.std.proofs.Common.{◌∙◌, ap, sym, subst, refl, IfOk}
 use Rattle.ksv_memo.specs.Layout.{entries_of}
-use Rattle.std.specs.Option.{option_map}
-use Rattle.ksv_memo_rules.specs.Slots.{answer_at, lent}
+use Rattle.ksv_memo_rules.specs.Slots.{answer_at}
 use Rattle.ksv_memo.specs.Nodes.{Finds, HasNoEntry}
-use Rattle.ksv_memo.proofs.Tabling.{found, new_out, empty_out, open_out}
+use Rattle.ksv_memo.proofs.Tabling.{found, new_out, empty_out, open_out, looked-laid, looked-view, told}
 use Rattle.ksv_memo.proofs.table.Table.answer.Goals as goal
+use Rattle.ksv_memo.proofs.table.Table.answer.Goals.{in-Kept, in-New, in-Empty, in-Open}
 
-pub returns-in-Kept : goal.returns-in-Kept
-returns-in-Kept g c =
+-- a kept answer is copied; of no other node is there one
+pub returns-clause-answer : goal.returns-clause-answer
+returns-clause-answer g c =
     let eq = g.R.Node.PartialEq.eq in
+    let n = c.args.node.now in
     let t = c.self.inside in
-    let one = found eq t.slots.entries t.rows t.frames c.self.invariant.kept c.self.invariant.waits c.args.node.now c.in-Kept.place c.in-Kept.ensures.knows in
-    subst (λ v. Finds eq v.kept c.args.node.now (option_map lent c.answer_at.result)) c.self.view_is
-    (subst (Finds eq (entries_of t.slots.entries t.rows) c.args.node.now) (sym (c.answer_at.ensures ∙ ap (λ ss. answer_at ss c.in-Kept.place) (c.as_slice.ensures ∙ c.values.ensures.rest) ∙ one.answer)) (one.entry, one.is, refl))
-
-pub returns-in-New : goal.returns-in-New
-returns-in-New g c =
-    let eq = g.R.Node.PartialEq.eq in
-    let t = c.self.inside in
-    subst (λ v. HasNoEntry eq v.kept c.args.node.now) c.self.view_is (new_out eq t.slots.entries t.rows t.frames c.self.invariant.kept c.self.invariant.waits c.args.node.now c.in-New.ensures.knows)
-
-pub returns-in-Empty : goal.returns-in-Empty
-returns-in-Empty g c =
-    let eq = g.R.Node.PartialEq.eq in
-    let t = c.self.inside in
-    subst (λ v. HasNoEntry eq v.kept c.args.node.now) c.self.view_is (empty_out eq t.slots.entries t.rows t.frames c.self.invariant.kept c.self.invariant.waits c.args.node.now g.met.R.Node.Eq.laws c.in-Empty.ensures.unique c.in-Empty.field-0 c.in-Empty.ensures.knows)
-
-pub returns-in-Open : goal.returns-in-Open
-returns-in-Open g c =
-    let eq = g.R.Node.PartialEq.eq in
-    let t = c.self.inside in
-    subst (λ v. HasNoEntry eq v.kept c.args.node.now) c.self.view_is (open_out eq t.slots.entries t.rows t.frames c.self.invariant.kept c.self.invariant.waits c.args.node.now g.met.R.Node.Eq.laws c.in-Open.ensures.unique c.in-Open.ensures.knows)
+    let ps = c.find.new.self.entries in
+    let laid = looked-laid t.slots.entries ps t.links t.frames c.find.ensures.entries c.self.invariant in
+    let view = looked-view t.slots.entries ps t.links t.frames _ c.find.ensures.entries c.self.view_is in
+    elim c.match-find.branch [
+      | in-Kept w ↦
+          let one = found eq ps t.links t.frames laid.kept laid.waits n w.in-Kept.place w.in-Kept.ensures.knows in
+          subst (λ r. IfOk r (λ answer. Finds eq c.args.self.now.kept n answer)) (sym w.result-is)
+          (told _ _
+          (λ copy is. subst (λ v. Finds eq v.kept n copy) view
+          (subst (Finds eq (entries_of ps t.links) n) (sym (is ∙ ap (λ ss. answer_at ss w.in-Kept.place) w.lend.ensures ∙ one.answer)) (one.entry, one.is, refl)))
+          w.copy_at.result w.copy_at.ensures)
+      | in-New w ↦
+          subst (λ r. IfOk r (λ answer. Finds eq c.args.self.now.kept n answer)) (sym w.result-is)
+          (subst (λ v. HasNoEntry eq v.kept n) view (new_out eq ps t.links t.frames laid.kept laid.waits n w.in-New.ensures.knows))
+      | in-Empty w ↦
+          subst (λ r. IfOk r (λ answer. Finds eq c.args.self.now.kept n answer)) (sym w.result-is)
+          (subst (λ v. HasNoEntry eq v.kept n) view (empty_out eq ps t.links t.frames laid.kept laid.waits n g.met.R.Node.Eq.laws w.in-Empty.ensures.unique w.in-Empty.field-0 w.in-Empty.ensures.knows))
+      | in-Open w ↦
+          subst (λ r. IfOk r (λ answer. Finds eq c.args.self.now.kept n answer)) (sym w.result-is)
+          (subst (λ v. HasNoEntry eq v.kept n) view (open_out eq ps t.links t.frames laid.kept laid.waits n g.met.R.Node.Eq.laws w.in-Open.ensures.unique w.in-Open.ensures.knows))
+    ]

@@ -1,59 +1,62 @@
-use Rattle.std.proofs.Common.{◌∙◌, ap, sym, subst, refl}
-use Rattle.std.specs.List.{list_any}
-use Rattle.ksv_memo_rules.specs.Touched.{is_use_touched}
+use Rattle.std.proofs.Common.{◌∙◌, ap, subst, refl, arith}
 use Rattle.ksv_memo.specs.declared.layout.Frames.{Frames}
-use Rattle.ksv_memo.specs.Layout.{entries_of}
+use Rattle.ksv_memo.specs.Layout.{entries_at, entries_of}
+use Rattle.ksv_memo_links.specs.Touching.{numbers_from}
 use Rattle.ksv_memo.specs.Sweep.{Sweeps}
-use Rattle.ksv_memo.proofs.Forgotten.{untouched, swept-areRows, sweeps, no-frames, no-opens}
+use Rattle.ksv_memo.proofs.Sweeping.{all_marks, entries, stays, marked, swept-links, gone-least, looks-most, waits-in}
+use Rattle.ksv_memo.proofs.Resting.{no-frames, no-opens}
 use Rattle.ksv_memo.proofs.table.Table.forget.Goals as goal
 
--- some use is touched
+pub forget-requires : goal.forget-requires
+forget-requires g c = record { idle = c.self.invariant.kept.idle }
+
+pub empty_taken-requires-clause-inside : goal.empty_taken-requires-clause-inside
+empty_taken-requires-clause-inside g c = waits-in c.args.change c.self.inside.slots.entries c.self.inside.links c.forget.new.self c.self.invariant.kept c.forget.ensures.forgets
+
+pub empty_taken-requires-clause-apart : goal.empty_taken-requires-clause-apart
+empty_taken-requires-clause-apart g c = c.forget.ensures.forgets.apart
+
 pub invariant_of-self : goal.invariant_of-self
 invariant_of-self g c =
     let t = c.self.inside in
     let ps = t.slots.entries in
+    let qs = c.empty_taken.new.slots.entries in
     let none : Frames = record { frames = t.frames.frames; asked = c.clear.new.self; uses = t.frames.uses } in
+    let e = c.empty_taken.ensures in
     record {
-      kept = swept-areRows c.args.change ps t.rows c.self.invariant.kept c.sweep.new.slots.entries c.sweep.new.rows c.sweep.ensures;
-      waits = no-frames c.args.change ps t.rows c.self.invariant.kept c.sweep.new.slots.entries c.sweep.new.rows c.sweep.ensures t.frames none c.self.invariant.waits (ap (λ v. v.opened) c.self.view_is ∙ c.requires) refl c.clear.ensures.items;
+      kept = swept-links c.args.change ps qs t.links c.forget.new.self c.empty_taken.new.links c.empty_taken.new.slots.looks c.self.invariant.kept c.forget.ensures.forgets e;
+      waits = no-frames ps qs e.taken.opens t.frames none c.self.invariant.waits (ap (λ v. v.opened) c.self.view_is ∙ c.requires) refl c.clear.ensures.items;
     }
 
-pub returns-then-has_touched-clause-kept : goal.returns-then-has_touched-clause-kept
-returns-then-has_touched-clause-kept g c =
+pub returns-clause-opened : goal.returns-clause-opened
+returns-clause-opened g c =
     let t = c.self.inside in
     let ps = t.slots.entries in
-    subst (λ v. Sweeps c.args.change v.kept (entries_of c.sweep.new.slots.entries c.sweep.new.rows)) c.self.view_is (sweeps c.args.change ps t.rows c.self.invariant.kept c.sweep.new.slots.entries c.sweep.new.rows c.sweep.ensures)
-
-pub returns-then-has_touched-clause-opened : goal.returns-then-has_touched-clause-opened
-returns-then-has_touched-clause-opened g c =
-    let t = c.self.inside in
-    let ps = t.slots.entries in
+    let qs = c.empty_taken.new.slots.entries in
     let none : Frames = record { frames = t.frames.frames; asked = c.clear.new.self; uses = t.frames.uses } in
-    no-opens c.args.change ps t.rows c.self.invariant.kept c.sweep.new.slots.entries c.sweep.new.rows c.sweep.ensures t.frames none c.self.invariant.waits (ap (λ v. v.opened) c.self.view_is ∙ c.requires) refl
+    no-opens ps qs c.empty_taken.ensures.taken.opens t.frames none c.self.invariant.waits (ap (λ v. v.opened) c.self.view_is ∙ c.requires) refl
 
--- none is
-pub invariant_of-self-else-has_touched : goal.invariant_of-self-else-has_touched
-invariant_of-self-else-has_touched g c =
+pub returns-clause-kept : goal.returns-clause-kept
+returns-clause-kept g c =
     let t = c.self.inside in
     let ps = t.slots.entries in
-    let none : Frames = record { frames = t.frames.frames; asked = c.clear.new.self; uses = t.frames.uses } in
-    let swept = untouched c.args.change ps t.rows c.self.invariant.kept (ap (list_any (is_use_touched c.args.change)) (sym c.as_slice.ensures.value) ∙ sym c.has_touched.ensures ∙ c.if-has_touched.false) in
-    record {
-      kept = c.self.invariant.kept;
-      waits = no-frames c.args.change ps t.rows c.self.invariant.kept ps t.rows swept t.frames none c.self.invariant.waits (ap (λ v. v.opened) c.self.view_is ∙ c.requires) refl c.clear.ensures.items;
-    }
-
-pub returns-else-has_touched-clause-kept : goal.returns-else-has_touched-clause-kept
-returns-else-has_touched-clause-kept g c =
-    let t = c.self.inside in
-    let ps = t.slots.entries in
-    let swept = untouched c.args.change ps t.rows c.self.invariant.kept (ap (list_any (is_use_touched c.args.change)) (sym c.as_slice.ensures.value) ∙ sym c.has_touched.ensures ∙ c.if-has_touched.false) in
-    subst (λ v. Sweeps c.args.change v.kept (entries_of ps t.rows)) c.self.view_is (sweeps c.args.change ps t.rows c.self.invariant.kept ps t.rows swept)
-
-pub returns-else-has_touched-clause-opened : goal.returns-else-has_touched-clause-opened
-returns-else-has_touched-clause-opened g c =
-    let t = c.self.inside in
-    let ps = t.slots.entries in
-    let none : Frames = record { frames = t.frames.frames; asked = c.clear.new.self; uses = t.frames.uses } in
-    let swept = untouched c.args.change ps t.rows c.self.invariant.kept (ap (list_any (is_use_touched c.args.change)) (sym c.as_slice.ensures.value) ∙ sym c.has_touched.ensures ∙ c.if-has_touched.false) in
-    no-opens c.args.change ps t.rows c.self.invariant.kept ps t.rows swept t.frames none c.self.invariant.waits (ap (λ v. v.opened) c.self.view_is ∙ c.requires) refl
+    let qs = c.empty_taken.new.slots.entries in
+    let l = t.links in
+    let m = c.forget.new.self in
+    let n = c.empty_taken.new.links in
+    let count = c.empty_taken.new.slots.looks in
+    let h = c.self.invariant.kept in
+    let f = c.forget.ensures.forgets in
+    let e = c.empty_taken.ensures in
+    let looked = c.saturating_add.result in
+    let few = gone-least c.args.change ps qs l m n count h f e in
+    let a = c.forget.ensures.least in let fits = c.forget.ensures.fits in
+    let b = e.taken.least in let d = c.looks.ensures.least in let k = c.looks.ensures.count in let s = c.saturating_add.ensures in let u = c.looks-2.ensures in
+    subst (λ v. Sweeps c.args.change v.kept (entries_of qs n) looked) c.self.view_is (record {
+      marks = all_marks c.args.change ps qs l m n count h f e;
+      entries = entries c.args.change ps qs l m n count h f e _;
+      marked = marked c.args.change ps qs l m n count h f e _;
+      stays = ap (λ k. entries_at qs n (numbers_from 0 k)) e.taken.slots ∙ stays c.args.change ps qs l m n count h f e _;
+      least = omega arith;
+      most = looks-most c.args.change ps qs l m n count h f e c.forget.ensures.vacant c.forget.ensures.most looked (omega arith);
+    })

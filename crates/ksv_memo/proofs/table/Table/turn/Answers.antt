@@ -6,21 +6,23 @@ use Rattle.ksv_memo.specs.Layout.{slots_of, opens_of}
 use Rattle.ksv_memo.specs.declared.layout.Frames.{Frames}
 use Rattle.ksv_memo.specs.Nodes.{Steps}
 use Rattle.ksv_memo.proofs.Laying.{All-take, All-drop}
-use Rattle.ksv_memo.proofs.Topping.{top, more-uses, added-more, runs, part-lent, next-more}
+use Rattle.ksv_memo.proofs.Finding.{node_there}
+use Rattle.ksv_memo_rules.specs.declared.replies.Slot.TheVariants.{Open}
+use Rattle.ksv_memo.proofs.Topping.{top, none-some, more-uses, added-more, runs, part-lent, next-more}
 use Rattle.ksv_memo.proofs.table.Table.turn.Goals as goal
 
-pub unreachable-requires-in_default-get_index : goal.unreachable-requires-in_default-get_index
-unreachable-requires-in_default-get_index g c =
-    let t = top c.self.inside.slots.entries c.self.inside.frames c.in-Some.frame c.self.invariant.waits c.in-Some.ensures.some in
-    let none = c.in_default-get_index.ensures.entry in
-    let there = t.there in cc
+pub unreachable-requires-in_default-node : goal.unreachable-requires-in_default-node
+unreachable-requires-in_default-node g c =
+    let ps = c.self.inside.slots.entries in
+    let t = top ps c.self.inside.frames c.in-Some.frame c.self.invariant.waits c.in-Some.ensures.some in
+    none-some ps (sym (node_there ps c.in-Some.frame.slot t.node Open t.there) ∙ c.in_default-node.ensures.none)
 
 -- what the last open node asked is kept
 pub new-replies-requires : goal.new-replies-requires
 new-replies-requires g c =
     let asked = c.deref.result.now in
     let kept = subst (AllByRecursion (HasAnswer (slots_of c.self.inside.slots.entries))) (sym c.deref.ensures.value) c.self.invariant.waits.asked in
-    subst (λ ss. AllByRecursion (HasAnswer ss) (take (length asked - c.in-Some.frame.asked) (drop c.in-Some.frame.asked asked))) (sym (c.as_slice.ensures ∙ c.values.ensures.rest))
+    subst (λ ss. AllByRecursion (HasAnswer ss) (take (length asked - c.in-Some.frame.asked) (drop c.in-Some.frame.asked asked))) (sym c.lend.ensures)
     (All-take (HasAnswer (slots_of c.self.inside.slots.entries)) (length asked - c.in-Some.frame.asked) (drop c.in-Some.frame.asked asked) (All-drop (HasAnswer (slots_of c.self.inside.slots.entries)) c.in-Some.frame.asked asked kept))
 
 pub invariant_of-self : goal.invariant_of-self
@@ -46,6 +48,6 @@ returns-clause-step g c =
     let w = on (g.R.Rules.meaning c.args.rules.now) c.args.bytes.now in
     let t = top ps c.self.inside.frames f c.self.invariant.waits c.in-Some.ensures.some in
     let new : Frames = record { frames = c.self.inside.frames.frames; asked = c.self.inside.frames.asked; uses = c.next.new.uses } in
-    let lent = part-lent ps c.as_slice.result.now c.self.inside.frames.asked.items c.deref.result.now f.asked c.new-replies.result (c.as_slice.ensures ∙ c.values.ensures.rest) c.deref.ensures.value c.new-replies.ensures in
+    let lent = part-lent ps c.lend.result.now c.self.inside.frames.asked.items c.deref.result.now f.asked c.new-replies.result c.lend.ensures c.deref.ensures.value c.new-replies.ensures in
     subst (λ v. Steps w v.opened (opens_of ps new) c.in_ok-step.step) c.self.view_is
-    (runs ps w c.self.inside.frames new f t c.in-Some-get_index.node.now c.in-Some-get_index.field-0-1.now c.new-replies.result c.in_ok-step.step (sym c.in-Some-get_index.ensures.entry) lent refl refl c.in_ok-step.ensures.uses c.in_ok-step.ensures.step)
+    (runs ps w c.self.inside.frames new f t c.in-Some-node.node.now c.new-replies.result c.in_ok-step.step c.in-Some-node.ensures.some lent refl refl c.in_ok-step.ensures.uses c.in_ok-step.ensures.step)

@@ -1,0 +1,46 @@
+//! Links between slots: what an overwrite takes along them, and how many looks it takes.
+ghost use Rattle.std.specs.Prelude.{◌≡◌, [], IfOk};
+
+use ksv_bytes::{Change, Use};
+use ksv_memo_links::Links;
+use std::alloc::{AllocError, Global};
+use std::test::Fail;
+
+/// Two slots, of which the first uses four pages and the second asked it twice.
+fn asked_twice(alloc: Global) -> Result<Links, AllocError>
+    ensures { IfOk result (λ links. links.waits ≡ []) }
+{
+    let mut links = Links::new(alloc);
+    links.reach(2)?;
+    links.keep(0, &[], &[Use::Bytes(10, 200)])?;
+    links.keep(1, &[0, 0], &[])?;
+    Ok(links)
+}
+
+/// Whether an overwrite within the third page takes both slots, in no more looks than near: one page and use that meet,
+/// two slots, two asks, and four pages of a use.
+fn takes_both(alloc: Global) -> Result<bool, AllocError> {
+    let mut links = asked_twice(alloc)?;
+    let are_kept = links.count() == 2;
+    links.forget(Change::Overwrite { at: 150, n: 1 });
+    let is_second = links.take() == Some(1);
+    let is_first = links.take() == Some(0);
+    let is_all = links.take().is_none();
+    let are_near = links.looks() >= 2 && links.looks() <= 8 * (1 + 1 + 2 + 2 + 4);
+    Ok(are_kept && is_second && is_first && is_all && are_near && links.count() == 0)
+}
+
+/// Whether an overwrite next to the used bytes, in a page that they meet, takes nothing.
+fn takes_none(alloc: Global) -> Result<bool, AllocError> {
+    let mut links = asked_twice(alloc)?;
+    links.forget(Change::Overwrite { at: 200, n: 9 });
+    let is_none = links.take().is_none();
+    Ok(is_none && links.looks() <= 8 * (1 + 1) && links.count() == 2)
+}
+
+#[test]
+fn takes_a_use_over_several_pages(rt: HostRuntime) -> Result<(), Fail> {
+    let is_right = takes_both(rt.alloc())? && takes_none(rt.alloc())?;
+    assert!(rt; is_right);
+    Ok(())
+}

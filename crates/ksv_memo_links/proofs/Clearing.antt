@@ -1,0 +1,58 @@
+-- A row that is cut from its end.
+use Rattle.std.proofs.lemmas.Bool.{cases_lt}
+use Rattle.std.proofs.lemmas.List.{get_or_past}
+use Rattle.ksv_memo_links.proofs.Edits.{named-row}
+use Rattle.std.proofs.Common.{◌≡◌, ◌⊎◌, inl, inr, map, ℕ, ◌-◌, ◌<◌, ◌≤◌, List, [], length, take, set, sym, ◌∙◌, ap, arith}
+use Rattle.std.proofs.lemmas.List.{set-set, set-get_or, take-take, length-take-le, length-map, take_all}
+use Rattle.ksv_memo_links.specs.declared.shelf.Pin.{Pin}
+use Rattle.ksv_memo_links.specs.Shelved.{row, pop_row}
+use Rattle.ksv_memo_links.specs.Linked.{named}
+use Rattle.ksv_memo_links.proofs.Edits.{row_set}
+
+-- of row o the first elements are left
+pub record IsCutTo {X : Type 0} (before now : List (List X)) (o : ℕ) : Type 0 where
+  pub inside : o < length before
+  pub short : length (row now o) ≤ length (row before o)
+  pub is : now ≡ set before o (take (length (row now o)) (row before o))
+
+pub cut-none : {X : Type 0} (rows : List (List X)) (o : ℕ) → o < length rows → IsCutTo rows rows o
+cut-none rows o lt = record {
+  inside = lt;
+  short = omega arith;
+  is = sym (ap (λ xs. set rows o xs) (take_all (length (row rows o)) (row rows o) (omega arith)) ∙ set-get_or rows o []);
+}
+
+-- what is left of the row after one more pop
+pub cut-next : {X : Type 0} (before now then : List (List X)) (o : ℕ) → IsCutTo before now o → then ≡ pop_row now o → (row then o ≡ take (length (row now o) - 1) (row before o)) × (then ≡ set before o (take (length (row now o) - 1) (row before o)))
+cut-next {X} before now then o h e =
+    let n = length (row now o) in
+    let k = h.short in
+    let here : row now o ≡ take n (row before o) = ap (λ (rows : List (List X)). row rows o) h.is ∙ row_set before o (take n (row before o)) h.inside in
+    let less : take (n - 1) (row now o) ≡ take (n - 1) (row before o) = ap (λ (xs : List X). take (n - 1) xs) here ∙ take-take (n - 1) n (row before o) (omega arith) in
+    let whole : then ≡ set before o (take (n - 1) (row before o)) = e ∙ ap (λ (xs : List X). set now o xs) less ∙ ap (λ (rows : List (List X)). set rows o (take (n - 1) (row before o))) h.is ∙ set-set before o (take n (row before o)) (take (n - 1) (row before o)) in
+    (ap (λ (rows : List (List X)). row rows o) whole ∙ row_set before o (take (n - 1) (row before o)) h.inside, whole)
+
+pub cut-length : {X : Type 0} (before now then : List (List X)) (o : ℕ) → IsCutTo before now o → then ≡ pop_row now o → length (row then o) ≡ length (row now o) - 1
+cut-length {X} before now then o h e =
+    let k = h.short in
+    ap (λ (xs : List X). length xs) (cut-next before now then o h e).0 ∙ length-take-le (length (row now o) - 1) (row before o) (omega arith)
+
+pub cut-more : {X : Type 0} (before now then : List (List X)) (o : ℕ) → IsCutTo before now o → then ≡ pop_row now o → IsCutTo before then o
+cut-more {X} before now then o h e =
+    let n = cut-length before now then o h e in
+    let k = h.short in
+    record {
+      inside = h.inside;
+      short = omega arith;
+      is = (cut-next before now then o h e).1 ∙ ap (λ i. set before o (take i (row before o))) (sym n);
+    }
+
+pub cut-all : {X : Type 0} (before now then : List (List X)) (o : ℕ) → IsCutTo before now o → then ≡ pop_row now o → length (row now o) ≡ 0 → then ≡ set before o []
+cut-all {X} before now then o h e z = (cut-next before now then o h e).1 ∙ ap (λ n. set before o (take (n - 1) (row before o))) z
+
+pub length-named : (rows : List (List Pin)) (o : ℕ) → length (row (named rows) o) ≡ length (row rows o)
+length-named rows o = by (cases_lt o (length rows))
+  where
+    by : (o < length rows) ⊎ (length rows ≤ o) → length (row (named rows) o) ≡ length (row rows o)
+    by (inl lt) = ap (λ (ns : List ℕ). length ns) (named-row rows o lt) ∙ length-map (row rows o) (λ (p : Pin). p.row)
+    by (inr le) = ap (λ (ns : List ℕ). length ns) (get_or_past (named rows) o [] (let e = length-map rows (λ (pins : List Pin). map (λ (p : Pin). p.row) pins) in omega arith)) ∙ ap (λ (ps : List Pin). length ps) (sym (get_or_past rows o [] le))

@@ -1,0 +1,210 @@
+-- What was marked is what has to go.
+use Rattle.std.proofs.Common.{◌≡◌, ◌≢◌, ◌⊎◌, inl, inr, Bool, true, false, cond, eqb, ℕ, suc, ◌+◌, ◌-◌, ◌*◌, ◌<◌, ◌≤◌, max, min, List, [], ◌∷◌, length, take, get_or, Contains, refl, sym, ◌∙◌, ap, subst, arith, true≢false, sum_by, count_by}
+use Rattle.std.proofs.lemmas.List.Sums.{sum_by-cons}
+use Rattle.std.proofs.lemmas.Bool.{cases_lt}
+use Rattle.std.proofs.lemmas.Bool.Decides.{eqb_tells}
+use Rattle.std.proofs.lemmas.List.{take_all, get_or-map, get_or_default}
+use Rattle.ksv_bytes.specs.declared.uses.Use.{Use}
+use Rattle.ksv_bytes.specs.declared.uses.Change.{Change}
+use Rattle.ksv_bytes.specs.declared.uses.Change.TheVariants.{Overwrite}
+use Rattle.ksv_memo_links.specs.declared.shelf.Pin.{Pin}
+use Rattle.ksv_memo_links.specs.declared.parts.Parts.{Parts}
+use Rattle.ksv_memo_links.specs.Shelved.{row}
+use Rattle.ksv_memo_links.specs.Touching.{pages_in}
+use Rattle.ksv_memo_links.specs.Linked.{named, one_if, at, IsLinked, IsBoard}
+use Rattle.ksv_memo_links.specs.Links.{is_hit, IsHit, here, through, Forgets, first_page, end_page, pages_met, met_by}
+use Rattle.ksv_memo_links.specs.Marking.{is_kept, IsMarking}
+use Rattle.ksv_memo_links.specs.Forgetting.{item_at, SameLinks, MarksMore, IsEdit, Why, HitsPages, HitsTouched, Spreads, IsWhole, IsNear, linked_of, lengths, looks, sizes}
+use Rattle.ksv_memo_links.proofs.Edits.{row_there}
+use Rattle.ksv_memo_links.proofs.Reaching.{named_row}
+use Rattle.ksv_memo_links.proofs.Clearing.{length-named}
+use Rattle.ksv_memo_links.proofs.Mark.{stays-out, true_or_false}
+use Rattle.ksv_memo_links.proofs.More.{same-trans, more-trans, shaped-more}
+use Rattle.ksv_memo_links.proofs.Touches.{uses-meet}
+use Rattle.ksv_memo_links.proofs.Tallies.{within, tally, sizes-few, sizes-grow, rows-le}
+use Rattle.ksv_memo_links.proofs.Counting.{users_few, tally as tally_of}
+
+pub marking-none : (first : List Bool) (why : ℕ → Type 0) (work : List ℕ) → work ≡ [] → IsMarking first why first work
+marking-none first why work e =
+    let n = ap (λ (ws : List ℕ). length ws) e in
+    record {
+      same_length = refl;
+      less = λ s h. h;
+      gone = λ j lt. absurd (omega arith);
+      out = λ s h k. absurd (true≢false (sym h ∙ k));
+      apart = λ i j d lt l. absurd (omega arith);
+    }
+
+-- an item of the list that a note names leads back to the note
+pub item_of : (lists notes : List (List Pin)) (s k m : ℕ) → IsLinked lists notes → k < length (row (named notes) s) → get_or (row (named notes) s) k 0 ≡ m → (a : ℕ) × (a < length (row lists m)) × (item_at lists m a ≡ at s k)
+item_of lists notes s k m h lt e =
+    let n = length-named notes s in
+    let l : k < length (row notes s) = omega arith in
+    let x = get_or (row notes s) k (at 0 0) in
+    let name : x.row ≡ m = sym (ap (λ (ns : List ℕ). get_or ns k 0) (named_row notes s) ∙ get_or-map (λ (p : Pin). p.row) (row notes s) k (at 0 0) 0 l) ∙ e in
+    let back = h.from_notes.each s k l in
+    let P : ℕ → Type 0 = λ r. (x.at < length (row lists r)) × (item_at lists r x.at ≡ at s k) in
+    let out = subst P name (back.inside, back.back) in
+    (x.at, out.0, out.1)
+
+-- each slot that the overwrite touches is marked
+pub pages-hit : (p q : Parts) (at n s : ℕ) → IsWhole p → IsLinked p.pages.lists p.pages.notes → HitsPages p q (Overwrite at n) (first_page at) (min (end_page at n) (length p.pages.lists)) → IsHit (Overwrite at n) p.marks.kept p.uses.rows s → is_kept q.marks.kept s ≡ false
+pages-hit p q at n s w l h hit =
+    let m = uses-meet at n (row p.uses.rows s) hit.touched in
+    let c = subst (λ ps. Contains ps m.page) (sym (w.met s)) m.there in
+    let i = item_of p.pages.lists p.pages.notes s c.0 m.page l c.1 (get_or_default (row (named p.pages.notes) s) c.0 0 m.page c.1 ∙ c.2) in
+    let there = row_there p.pages.lists m.page i.0 i.1 in
+    let from = m.from in let before = m.before in
+    let P : Pin → Type 0 = λ x. is_hit (Overwrite at n) p.uses.rows x.row ≡ true → is_kept q.marks.kept x.row ≡ false in
+    subst P i.2 (h.out m.page i.0 (omega arith) (omega arith) i.1) hit.touched
+
+pages-near : (p q : Parts) (at n : ℕ) → IsWhole p → IsBoard p.pages.lists p.pages.notes → HitsPages p q (Overwrite at n) (first_page at) (min (end_page at n) (length p.pages.lists)) → looks q + 2 * length p.marks.work ≤ looks p + pages_met (Overwrite at n) + 3 * sum_by (met_by (Overwrite at n)) p.uses.rows + 2 * length q.marks.work
+pages-near p q at n w b h =
+    let first = first_page at in
+    let end = end_page at n in
+    let L = p.pages.lists in
+    let last = max first (min end (length L)) in
+    let le : first ≤ end = omega arith in
+    let a = sizes-few L (named p.pages.notes) first (end - first) b.few in
+    let g = sizes-grow L last (end - last) in
+    let e1 : end - first + first ≡ end = omega arith in
+    let e2 : end - last + last ≡ end = omega arith in
+    let f1 = ap (λ k. sizes L k) e1 in
+    let f2 = ap (λ k. sizes L k) e2 in
+    let f3 = ap (λ k. tally first k (named p.pages.notes)) e1 in
+    let t : tally first end (named p.pages.notes) ≤ sum_by (met_by (Overwrite at n)) p.uses.rows = rows-le (λ ns. count_by (within first end) ns) (met_by (Overwrite at n)) (named p.pages.notes) p.uses.rows refl refl (λ r. ap (λ ns. count_by (within first end) ns) (w.met r)) in
+    let k = h.looks in
+    omega arith
+
+pub pages-touched : (p q : Parts) (at n : ℕ) → IsWhole p → IsBoard p.pages.lists p.pages.notes → HitsPages p q (Overwrite at n) (first_page at) (min (end_page at n) (length p.pages.lists)) → HitsTouched p q (Overwrite at n)
+pages-touched p q at n w b h = record {
+  more = h.more;
+  hits = λ s hit. pages-hit p q at n s w b.linked h hit;
+  near = λ o. pages-near p q at n w b h;
+}
+
+user-reached : (p q r : Parts) (s i asked : ℕ) → IsLinked p.users.lists p.users.notes → i < length (row (named p.users.notes) s) → get_or (row (named p.users.notes) s) i 0 ≡ asked → SameLinks p q → Spreads q r (length r.marks.work) 1 → Contains r.marks.work asked → is_kept r.marks.kept s ≡ false
+user-reached p q r s i asked l lt e same spread c =
+    let a = item_of p.users.lists p.users.notes s i asked l lt e in
+    let j : get_or r.marks.work c.0 0 ≡ asked = get_or_default r.marks.work c.0 0 asked c.1 ∙ c.2 in
+    let P : ℕ → Type 0 = λ n. a.0 < length (row q.users.lists n) → is_kept r.marks.kept (item_at q.users.lists n a.0).row ≡ false in
+    let Q : List (List Pin) → Type 0 = λ lists. a.0 < length (row lists asked) → is_kept r.marks.kept (item_at lists asked a.0).row ≡ false in
+    let out = subst Q same.user_lists (subst P j (spread.out c.0 a.0 c.1)) a.1 in
+    ap (λ (x : Pin). is_kept r.marks.kept x.row) (sym a.2) ∙ out
+
+-- and each slot from which a marked one is reached
+all-reached : (p q r : Parts) (change : Change) → IsWhole p → IsLinked p.users.lists p.users.notes → HitsTouched p q change → Spreads q r (length r.marks.work) 1 → IsMarking p.marks.kept (Why p p.marks.kept change) r.marks.kept r.marks.work → (s : ℕ) → is_kept p.marks.kept s ≡ true → Why p p.marks.kept change s → is_kept r.marks.kept s ≡ false
+all-reached p q r change w l h spread m _ k (here s hit) = stays-out q.marks.kept r.marks.kept s spread.more.fewer (h.hits s hit)
+all-reached p q r change w l h spread m _ k (through s i lt why) =
+    let asked = get_or (row (named p.users.notes) s) i 0 in
+    let was = w.asked_kept s i k lt in
+    user-reached p q r s i asked l lt refl h.more.same spread (m.out asked was (all-reached p q r change w l h spread m asked was why))
+
+-- a positive sum has a positive part
+cases_sum : (f : ℕ → ℕ) (xs : List ℕ) → 0 < sum_by f xs → (k : ℕ) × (k < length xs) × (0 < f (get_or xs k 0))
+cases_sum f [] lt = absurd (omega arith)
+cases_sum f (x ∷ xs) lt = by (cases_lt 0 (f x)) (cases_sum f xs)
+  where
+    by : (0 < f x) ⊎ (f x ≤ 0) → (0 < sum_by f xs → (k : ℕ) × (k < length xs) × (0 < f (get_or xs k 0))) → (k : ℕ) × (k < length (x ∷ xs)) × (0 < f (get_or (x ∷ xs) k 0))
+    by (inl h) later = (0, omega arith, h)
+    by (inr h) later =
+        let c = sum_by-cons f x xs in
+        let rest = later (omega arith) in
+        let l = rest.1 in
+        (suc rest.0, omega arith, rest.2)
+
+one-is : (a b : ℕ) → 0 < one_if a b → b ≡ a
+one-is a b lt = by (eqb_tells a b)
+  where
+    by : ((eqb a b ≡ true) × (a ≡ b)) ⊎ ((eqb a b ≡ false) × (a ≢ b)) → b ≡ a
+    by (inl e) = sym e.1
+    by (inr e) = let z : one_if a b ≡ 0 = ap (λ x. cond x 1 0) e.0 in absurd (omega arith)
+
+positive : (f : ℕ → ℕ) (xs : List ℕ) → 0 < sum_by f xs → (x : ℕ) × Contains xs x × (0 < f x)
+positive f xs lt = by (cases_sum f xs lt)
+  where
+    by : (k : ℕ) × (k < length xs) × (0 < f (get_or xs k 0)) → (x : ℕ) × Contains xs x × (0 < f x)
+    by (k, l, h) = (get_or xs k 0, (k, l, get_or_default xs k (get_or xs k 0) 0 l), h)
+
+module _ (p q r : Parts) (change : Change) (w : IsWhole p) (idle : p.marks.work ≡ []) (users : IsBoard p.users.lists p.users.notes) (h : HitsTouched p q change) (spread : Spreads q r (length r.marks.work) 1) where
+  same : SameLinks p r
+  same = same-trans p q r h.more.same spread.more.same
+
+  to_r : MarksMore p r (IsEdit change)
+  to_r = more-trans p q r (IsEdit change) (λ first x. Unit {0}) h.more spread.more (λ first x e m. tt)
+
+  marking : IsMarking p.marks.kept (Why p p.marks.kept change) r.marks.kept r.marks.work
+  marking = to_r.marking p.marks.kept change refl (marking-none p.marks.kept (Why p p.marks.kept change) p.marks.work idle)
+
+  reached : (s : ℕ) → is_kept p.marks.kept s ≡ true → Why p p.marks.kept change s → is_kept r.marks.kept s ≡ false
+  reached s k y = all-reached p q r change w users.linked h spread marking s k y
+
+  out : (s : ℕ) → Contains r.marks.work s → (is_kept p.marks.kept s ≡ true) × (is_kept r.marks.kept s ≡ false) × Why p p.marks.kept change s
+  out s c =
+      let g = marking.gone c.0 c.1 in
+      let P : ℕ → Type 0 = λ n. (is_kept p.marks.kept n ≡ true) × (is_kept r.marks.kept n ≡ false) × Why p p.marks.kept change n in
+      subst P (get_or_default r.marks.work c.0 0 s c.1 ∙ c.2) g
+
+  left : (s : ℕ) → is_kept p.marks.kept s ≡ true → (Contains r.marks.work s → ⊥) → (is_kept r.marks.kept s ≡ true) ⊎ (is_kept r.marks.kept s ≡ false) → is_kept r.marks.kept s ≡ true
+  left s k non (inl e) = e
+  left s k non (inr e) = absurd (non (marking.out s k e))
+
+  pub forgets : Forgets (linked_of p) (linked_of r) change
+  forgets = record {
+    asked = ap (λ (rows : List (List Pin)). named rows) same.users;
+    uses = same.uses;
+    exact = λ s. (λ c. (let g = out s c in record { was_kept = g.0; reaches = g.2 }), λ g. marking.out s g.was_kept (reached s g.was_kept g.reaches));
+    apart = marking.apart;
+    slots = to_r.same_length;
+    went = marking.out;
+    kept = λ s. (λ k. (marking.less s k, λ c. true≢false (sym k ∙ (out s c).1)), λ k. left s k.0 k.1 (true_or_false (is_kept r.marks.kept s)));
+  }
+
+  asked_still : (s k : ℕ) → is_kept r.marks.kept s ≡ true → k < length (row (named p.users.notes) s) → is_kept r.marks.kept (get_or (row (named p.users.notes) s) k 0) ≡ true
+  asked_still s k e lt =
+      let m = get_or (row (named p.users.notes) s) k 0 in
+      let was = w.asked_kept s k (marking.less s e) lt in
+      left m was (λ c. true≢false (sym e ∙ reached s (marking.less s e) (through s k lt (out m c).2))) (true_or_false (is_kept r.marks.kept m))
+
+  vacant_still : (s : ℕ) → is_kept r.marks.kept s ≡ false → (Contains r.marks.work s → ⊥) → (is_kept p.marks.kept s ≡ true) ⊎ (is_kept p.marks.kept s ≡ false) → (row (named p.users.notes) s ≡ []) × (row p.uses.rows s ≡ [])
+  vacant_still s e non (inl k) = absurd (non (marking.out s k e))
+  vacant_still s e non (inr k) = w.vacant s k (λ c. (let lt = c.1 in let z = ap (λ (ws : List ℕ). length ws) idle in absurd (omega arith)))
+
+  pub whole-after : IsWhole r
+  whole-after = record {
+    shaped = shaped-more p r w.shaped same to_r.same_length;
+    asked_kept = λ s k e. (let P : List (List Pin) → Type 0 = λ rows. k < length (row (named rows) s) → is_kept r.marks.kept (get_or (row (named rows) s) k 0) ≡ true in subst P (sym same.users) (asked_still s k e));
+    met = λ s. ap (λ (rows : List (List Pin)). row (named rows) s) same.pages ∙ w.met s ∙ ap (λ (rows : List (List Use)). pages_in (row rows s)) (sym same.uses);
+    vacant = λ s e non. (let v = vacant_still s e non (true_or_false (is_kept p.marks.kept s)) in (ap (λ (rows : List (List Pin)). row (named rows) s) same.users ∙ v.0, ap (λ (rows : List (List Use)). row rows s) same.uses ∙ v.1));
+    waits = λ s c. (out s c).1;
+    apart = marking.apart;
+  }
+
+  -- who asked a slot that goes, goes
+  closed : (o : ℕ) → 0 < tally_of r.marks.work (row (named p.users.notes) o) → Contains r.marks.work o
+  closed o lt =
+      let a = positive (λ s. sum_by (one_if s) (row (named p.users.notes) o)) r.marks.work lt in
+      let b = positive (one_if a.0) (row (named p.users.notes) o) a.2 in
+      let same_slot : b.0 ≡ a.0 = one-is a.0 b.0 b.2 in
+      let k = b.1.0 in
+      let name : get_or (row (named p.users.notes) o) k 0 ≡ a.0 = get_or_default (row (named p.users.notes) o) k 0 b.0 b.1.1 ∙ b.1.2 ∙ same_slot in
+      marking.out o (was_kept (true_or_false (is_kept p.marks.kept o)) b.1.1) (user-reached p q r o k a.0 users.linked b.1.1 name h.more.same spread a.1)
+    where
+      was_kept : {k : ℕ} → (is_kept p.marks.kept o ≡ true) ⊎ (is_kept p.marks.kept o ≡ false) → k < length (row (named p.users.notes) o) → is_kept p.marks.kept o ≡ true
+      was_kept (inl e) l = e
+      was_kept (inr e) l =
+          let v = w.vacant o e (λ c. (let lt = c.1 in let z = ap (λ (ws : List ℕ). length ws) idle in absurd (omega arith))) in
+          let n = ap (λ (ns : List ℕ). length ns) v.0 in absurd (omega arith)
+
+  pub near : IsNear change p r
+  near o =
+      let a = h.near o in
+      let b = spread.looks in
+      let u = users_few p.users.lists (named p.users.notes) r.marks.work marking.apart users.few closed in
+      let e = ap (λ (rows : List (List Pin)). lengths rows (take (length r.marks.work) r.marks.work)) h.more.same.user_lists in
+      let f = ap (λ (ws : List ℕ). lengths p.users.lists ws) (take_all (length r.marks.work) r.marks.work (omega arith)) in
+      let z = ap (λ (ws : List ℕ). length ws) idle in
+      omega arith
+
+  pub least : length r.marks.work ≤ r.marks.looks
+  least = let z = ap (λ (ws : List ℕ). length ws) idle in to_r.least (omega arith)

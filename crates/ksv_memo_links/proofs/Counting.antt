@@ -1,0 +1,122 @@
+-- The users of slots that go are no more than what those slots asked.
+use Rattle.std.proofs.Common.{◌≡◌, ◌≢◌, ◌⊎◌, inl, inr, true, false, cond, eqb, ℕ, suc, ◌+◌, ◌*◌, ◌<◌, ◌≤◌, List, [], ◌∷◌, length, set, get_or, Contains, refl, sym, ◌∙◌, ap, subst, arith, sum_by}
+use Rattle.std.specs.List.{AllPairs}
+use Rattle.std.proofs.lemmas.List.{set_past, get_or_past, get_or_default}
+use Rattle.std.proofs.lemmas.List.Sums.{sum_by-cons, sum_by-set, sum_by-le, sum_by-le-sum_by}
+use Rattle.std.proofs.lemmas.List.Elements.{Contains-append_left, Contains-append_right, Contains-push}
+use Rattle.std.proofs.lemmas.Bool.{cases_lt}
+use Rattle.std.proofs.lemmas.Bool.Decides.{eqb_tells}
+use Rattle.ksv_memo_links.specs.Shelved.{row}
+use Rattle.ksv_memo_links.specs.Linked.{one_if}
+use Rattle.ksv_memo_links.proofs.Edits.{row_set, row_other}
+use Rattle.ksv_memo_links.proofs.Members.{none_in, first_or_later, not_later}
+
+-- a sum in two ways
+pub swapped : {X Y : Type 0} (f : X → Y → ℕ) (xs : List X) (ys : List Y) → sum_by (λ x. sum_by (f x) ys) xs ≡ sum_by (λ y. sum_by (λ x. f x y) xs) ys
+swapped {X} {Y} f [] ys = sym (zeros ys)
+  where
+    zeros : (ys : List Y) → sum_by (λ (y : Y). 0) ys ≡ 0
+    zeros [] = refl
+    zeros (y ∷ ys) = sum_by-cons (λ (y : Y). 0) y ys ∙ (let h = zeros ys in omega arith)
+swapped {X} {Y} f (x ∷ xs) ys = sum_by-cons (λ x. sum_by (f x) ys) x xs ∙ ap (λ n. sum_by (f x) ys + n) (swapped f xs ys) ∙ both ys
+  where
+    both : (ys : List Y) → sum_by (f x) ys + sum_by (λ y. sum_by (λ x. f x y) xs) ys ≡ sum_by (λ y. sum_by (λ x. f x y) (x ∷ xs)) ys
+    both [] = omega arith
+    both (y ∷ ys) =
+        let a = sum_by-cons (f x) y ys in
+        let b = sum_by-cons (λ y. sum_by (λ x. f x y) xs) y ys in
+        let c = sum_by-cons (λ y. sum_by (λ x. f x y) (x ∷ xs)) y ys in
+        let d = sum_by-cons (λ x. f x y) x xs in
+        let h = both ys in
+        omega arith
+
+row_emptied : (rows : List (List ℕ)) (w : ℕ) → row (set rows w []) w ≡ []
+row_emptied rows w = by (cases_lt w (length rows))
+  where
+    by : (w < length rows) ⊎ (length rows ≤ w) → row (set rows w []) w ≡ []
+    by (inl lt) = row_set rows w [] lt
+    by (inr le) = ap (λ (rs : List (List ℕ)). row rs w) (set_past rows w [] le) ∙ get_or_past rows w [] le
+
+-- one row less
+sum_emptied : (g : List ℕ → ℕ) → g [] ≡ 0 → (rows : List (List ℕ)) (w : ℕ) → sum_by g (set rows w []) + g (row rows w) ≡ sum_by g rows
+sum_emptied g z rows w = by (cases_lt w (length rows))
+  where
+    by : (w < length rows) ⊎ (length rows ≤ w) → sum_by g (set rows w []) + g (row rows w) ≡ sum_by g rows
+    by (inl lt) = let e = sum_by-set g rows w [] [] lt in omega arith
+    by (inr le) = let e = ap (λ (rs : List (List ℕ)). sum_by g rs) (set_past rows w [] le) in let f = ap g (get_or_past rows w [] le) in omega arith
+
+less_after : (g : List ℕ → ℕ) → g [] ≡ 0 → (rows : List (List ℕ)) (w o : ℕ) → g (row (set rows w []) o) ≤ g (row rows o)
+less_after g z rows w o = by (eqb_tells o w)
+  where
+    by : ((eqb o w ≡ true) × (o ≡ w)) ⊎ ((eqb o w ≡ false) × (o ≢ w)) → g (row (set rows w []) o) ≤ g (row rows o)
+    by (inl e) = let f = ap (λ n. g (row (set rows w []) n)) e.1 in let k = ap g (row_emptied rows w) in omega arith
+    by (inr e) = let f = ap g (row_other rows w o [] e.1) in omega arith
+
+left_after : (g : List ℕ → ℕ) → g [] ≡ 0 → (rows : List (List ℕ)) (w : ℕ) (ws : List ℕ) → ((o : ℕ) → 0 < g (row rows o) → Contains (w ∷ ws) o) → (o : ℕ) → 0 < g (row (set rows w []) o) → Contains ws o
+left_after g z rows w ws h o lt = by (eqb_tells o w)
+  where
+    later : (w ≡ o) ⊎ Contains ws o → o ≢ w → Contains ws o
+    later (inl e) ne = absurd (ne (sym e))
+    later (inr c) ne = c
+
+    by : ((eqb o w ≡ true) × (o ≡ w)) ⊎ ((eqb o w ≡ false) × (o ≢ w)) → Contains ws o
+    by (inl e) = let f = ap (λ n. g (row (set rows w []) n)) e.1 in let k = ap g (row_emptied rows w) in absurd (omega arith)
+    by (inr e) = let f = ap g (row_other rows w o [] e.1) in later (first_or_later w ws o (h o (omega arith))) e.1
+
+none_counts : (g : List ℕ → ℕ) (rows : List (List ℕ)) → ((o : ℕ) → 0 < g (row rows o) → Contains {X = ℕ} [] o) → (k : ℕ) (d : List ℕ) → k < length rows → g (get_or rows k d) ≤ 0
+none_counts g rows h k d lt = by (cases_lt 0 (g (row rows k)))
+  where
+    by : (0 < g (row rows k)) ⊎ (g (row rows k) ≤ 0) → g (get_or rows k d) ≤ 0
+    by (inl p) = absurd (none_in k (h k p))
+    by (inr le) = let e = ap g (get_or_default rows k d [] lt) in omega arith
+
+-- a sum over rows is one over the slots of the rows that count
+pub supported : (g : List ℕ → ℕ) → g [] ≡ 0 → (ws : List ℕ) (rows : List (List ℕ)) → ((o : ℕ) → 0 < g (row rows o) → Contains ws o) → sum_by g rows ≤ sum_by (λ o. g (row rows o)) ws
+supported g z [] rows h = let m : sum_by g rows ≤ length rows * 0 = sum_by-le g 0 rows (none_counts g rows h) in omega arith
+supported g z (w ∷ ws) rows h =
+    let ih = supported g z ws (set rows w []) (left_after g z rows w ws h) in
+    let a = sum_emptied g z rows w in
+    let b = sum_by-le-sum_by (λ o. g (row (set rows w []) o)) (λ o. g (row rows o)) ws (less_after g z rows w) in
+    let c = sum_by-cons (λ o. g (row rows o)) w ws in
+    omega arith
+
+-- what isn't among the slots isn't counted
+not_counted_next : (n v : ℕ) (vs : List ℕ) → (Contains (v ∷ vs) n → ⊥) → ((eqb v n ≡ true) × (v ≡ n)) ⊎ ((eqb v n ≡ false) × (v ≢ n)) → sum_by (λ s. one_if s n) vs ≡ 0 → sum_by (λ s. one_if s n) (v ∷ vs) ≡ 0
+not_counted_next n v vs k (inl e) h = absurd (k (subst (Contains (v ∷ vs)) e.1 (Contains-append_left (v ∷ []) vs v (Contains-push [] v))))
+not_counted_next n v vs k (inr e) h = let c = sum_by-cons (λ s. one_if s n) v vs in let t : one_if v n ≡ 0 = ap (λ b. cond b 1 0) e.0 in omega arith
+
+not_counted : (n : ℕ) (vs : List ℕ) → (Contains vs n → ⊥) → sum_by (λ s. one_if s n) vs ≡ 0
+not_counted n [] k = refl
+not_counted n (v ∷ vs) k = not_counted_next n v vs k (eqb_tells v n) (not_counted n vs (λ c. k (Contains-append_right (v ∷ []) vs n c)))
+
+one_more : (w : ℕ) (ws : List ℕ) (n : ℕ) → AllPairs (λ (a b : ℕ). a ≢ b) (w ∷ ws) → ((eqb w n ≡ true) × (w ≡ n)) ⊎ ((eqb w n ≡ false) × (w ≢ n)) → sum_by (λ s. one_if s n) ws ≤ 1 → sum_by (λ s. one_if s n) (w ∷ ws) ≤ 1
+one_more w ws n h (inl e) ih = let c = sum_by-cons (λ s. one_if s n) w ws in let r = not_counted n ws (let P : ℕ → Type 0 = λ m. Contains ws m → ⊥ in subst P e.1 (not_later [] ws w h)) in let t : one_if w n ≡ 1 = ap (λ b. cond b 1 0) e.0 in omega arith
+one_more w ws n h (inr e) ih = let c = sum_by-cons (λ s. one_if s n) w ws in let t : one_if w n ≡ 0 = ap (λ b. cond b 1 0) e.0 in omega arith
+
+-- of slots that differ at most one is n
+at_most_one : (ws : List ℕ) (n : ℕ) → AllPairs (λ (a b : ℕ). a ≢ b) ws → sum_by (λ s. one_if s n) ws ≤ 1
+at_most_one [] n h = omega arith
+at_most_one (w ∷ ws) n h = one_more w ws n h (eqb_tells w n) (at_most_one ws n (λ i j e lt l. h (suc i) (suc j) e (omega arith) (omega arith)))
+
+-- how many of these asks go to one of these slots
+abbrev pub tally : List ℕ → List ℕ → ℕ
+tally ws ns = sum_by (λ s. sum_by (one_if s) ns) ws
+
+pub tally_few : (ws ns : List ℕ) → AllPairs (λ (a b : ℕ). a ≢ b) ws → tally ws ns ≤ length ns
+tally_few ws ns h =
+    let e = swapped one_if ws ns in
+    let m = sum_by-le (λ n. sum_by (λ s. one_if s n) ws) 1 ns (λ k d lt. at_most_one ws (get_or ns k d) h) in
+    omega arith
+
+tally_none : (ws : List ℕ) → tally ws [] ≡ 0
+tally_none [] = refl
+tally_none (w ∷ ws) = let c = sum_by-cons (λ s. sum_by (one_if s) []) w ws in let h = tally_none ws in omega arith
+
+-- the users of slots that go are no more than what those slots asked, where no list has more items than asks name it
+pub users_few : {X : Type 0} (lists : List (List X)) (asked : List (List ℕ)) (ws : List ℕ) → AllPairs (λ (a b : ℕ). a ≢ b) ws → ((s : ℕ) → length (row lists s) ≤ sum_by (λ ns. sum_by (one_if s) ns) asked) → ((o : ℕ) → 0 < tally ws (row asked o) → Contains ws o) → sum_by (λ s. length (row lists s)) ws ≤ sum_by (λ o. length (row asked o)) ws
+users_few lists asked ws apart counts closed =
+    let a = sum_by-le-sum_by (λ s. length (row lists s)) (λ s. sum_by (λ ns. sum_by (one_if s) ns) asked) ws (λ s. let e = counts s in omega arith) in
+    let b = swapped (λ s ns. sum_by (one_if s) ns) ws asked in
+    let c = supported (tally ws) (tally_none ws) ws asked closed in
+    let d = sum_by-le-sum_by (λ o. tally ws (row asked o)) (λ o. length (row asked o)) ws (λ o. tally_few ws (row asked o) apart) in
+    omega arith

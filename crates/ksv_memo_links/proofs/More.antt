@@ -1,0 +1,97 @@
+-- Marks upon marks.
+use Rattle.std.proofs.Common.{◌≡◌, ◌≢◌, ◌⊎◌, inl, inr, Bool, true, false, eqb, ℕ, ◌+◌, ◌<◌, List, [], ◌++◌, length, set, sym, ◌∙◌, ap, subst, arith, append_assoc}
+use Rattle.std.proofs.lemmas.List.{length-set, append-nil}
+use Rattle.std.proofs.lemmas.Bool.Decides.{eqb_tells}
+use Rattle.ksv_bytes.specs.declared.uses.Use.{Use}
+use Rattle.ksv_bytes.specs.declared.uses.Change.{Change}
+use Rattle.ksv_memo_links.specs.declared.shelf.Pin.{Pin}
+use Rattle.ksv_memo_links.specs.declared.parts.Parts.{Parts}
+use Rattle.ksv_memo_links.specs.Shelved.{row}
+use Rattle.ksv_memo_links.specs.Linked.{named}
+use Rattle.ksv_memo_links.specs.Links.{IsHit, Reaches}
+use Rattle.ksv_memo_links.specs.Marking.{is_kept, marked_work, IsMarking, IsCounted}
+use Rattle.ksv_memo_links.specs.Forgetting.{IsShaped, SameLinks, Why, MarksMore}
+use Rattle.ksv_memo_links.proofs.Mark.{kept-fewer, kept-marked, stays-out, marked-grows, mark-step}
+
+pub same-trans : (p q r : Parts) → SameLinks p q → SameLinks q r → SameLinks p r
+same-trans p q r h k = record {
+  users = k.users ∙ h.users;
+  user_lists = k.user_lists ∙ h.user_lists;
+  pages = k.pages ∙ h.pages;
+  page_lists = k.page_lists ∙ h.page_lists;
+  uses = k.uses ∙ h.uses;
+}
+
+pub shaped-more : (p q : Parts) → IsShaped p → SameLinks p q → length q.marks.kept ≡ length p.marks.kept → IsShaped q
+shaped-more p q h s e = record {
+  users = (let a = ap (λ (rows : List (List Pin)). length rows) s.users in let b = h.users in omega arith);
+  lists = (let a = ap (λ (rows : List (List Pin)). length rows) s.user_lists in let b = h.lists in omega arith);
+  pages = (let a = ap (λ (rows : List (List Pin)). length rows) s.pages in let b = h.pages in omega arith);
+  uses = (let a = ap (λ (rows : List (List Use)). length rows) s.uses in let b = h.uses in omega arith);
+  asked_in = λ t lt. (let a = ap (λ (rows : List (List Pin)). length (row rows t)) s.users in let b = h.asked_in t (omega arith) in omega arith);
+  met_in = λ t lt. (let a = ap (λ (rows : List (List Pin)). length (row rows t)) s.pages in let b = h.met_in t (omega arith) in omega arith);
+}
+
+-- the reasons are those of the parts as they were
+pub why-along : (p q : Parts) (first : List Bool) (x : Change) (P : (ℕ → Type 0) → Type 0) → SameLinks p q → P (Why p first x) → P (Why q first x)
+why-along p q first x P s h =
+    let F : List (List Pin) → List (List Use) → Type 0 = λ notes uses. P (Reaches (named notes) (IsHit x first uses)) in
+    subst (λ notes. F notes q.uses.rows) (sym s.users) (subst (F p.users.notes) (sym s.uses) h)
+
+pub why-back : (p q : Parts) (first : List Bool) (x : Change) (P : (ℕ → Type 0) → Type 0) → SameLinks p q → P (Why q first x) → P (Why p first x)
+why-back p q first x P s h =
+    let F : List (List Pin) → List (List Use) → Type 0 = λ notes uses. P (Reaches (named notes) (IsHit x first uses)) in
+    subst (λ notes. F notes p.uses.rows) s.users (subst (F q.users.notes) s.uses h)
+
+pub more-trans : (p q r : Parts) (P Q : List Bool → Change → Type 0) → MarksMore p q P → MarksMore q r Q → ((first : List Bool) (x : Change) → P first x → IsMarking first (Why p first x) q.marks.kept q.marks.work → Q first x) → MarksMore p r P
+more-trans p q r P Q h k f = record {
+  same = same-trans p q r h.same k.same;
+  same_length = k.same_length ∙ h.same_length;
+  fewer = λ s e. h.fewer s (k.fewer s e);
+  marking = λ first x w m. (let n = h.marking first x w m in why-back p q first x (λ why. IsMarking first why r.marks.kept r.marks.work) h.same (k.marking first x (f first x w n) (why-along p q first x (λ why. IsMarking first why q.marks.kept q.marks.work) h.same n)));
+  grows = (h.grows.0 ++ k.grows.0, k.grows.1 ∙ ap (λ (ws : List ℕ). ws ++ k.grows.0) h.grows.1 ∙ append_assoc p.marks.work h.grows.0 k.grows.0);
+  least = λ c. k.least (h.least c);
+}
+
+-- what one call marks
+pub record MarksOne (p q : Parts) (s : ℕ) : Type 0 where
+  pub same : SameLinks p q
+  pub kept : q.marks.kept ≡ set p.marks.kept s false
+  pub work : q.marks.work ≡ marked_work p.marks.kept p.marks.work s
+  pub least : IsCounted p.marks → IsCounted q.marks
+
+pub one-mark : (p q : Parts) (P : List Bool → Change → Type 0) (s : ℕ) → MarksOne p q s → ((first : List Bool) (x : Change) → P first x → is_kept first s ≡ true → Why p first x s) → MarksMore p q P
+one-mark p q P s h why = record {
+  same = h.same;
+  same_length = ap (λ (bs : List Bool). length bs) h.kept ∙ length-set p.marks.kept s false;
+  fewer = λ t e. kept-fewer p.marks.kept s t (ap (λ (bs : List Bool). is_kept bs t) (sym h.kept) ∙ e);
+  marking = λ first x w m. (let F : List Bool → List ℕ → Type 0 = λ ks ws. IsMarking first (Why p first x) ks ws in
+      subst (λ ks. F ks q.marks.work) (sym h.kept) (subst (F (set p.marks.kept s false)) (sym h.work) (mark-step first (Why p first x) p.marks.kept p.marks.work s m (λ e. why first x w (m.less s e)))));
+  grows = let g = marked-grows p.marks.kept p.marks.work s in (g.0, h.work ∙ g.1);
+  least = h.least;
+}
+
+pub no-mark : (p q : Parts) (P : List Bool → Change → Type 0) → SameLinks p q → q.marks.kept ≡ p.marks.kept → q.marks.work ≡ p.marks.work → (IsCounted p.marks → IsCounted q.marks) → MarksMore p q P
+no-mark p q P s e f least = record {
+  same = s;
+  same_length = ap (λ (bs : List Bool). length bs) e;
+  fewer = λ t k. ap (λ (bs : List Bool). is_kept bs t) (sym e) ∙ k;
+  marking = λ first x w m. (let F : List Bool → List ℕ → Type 0 = λ ks ws. IsMarking first (Why p first x) ks ws in
+      subst (λ ks. F ks q.marks.work) (sym e) (subst (F p.marks.kept) (sym f) m));
+  grows = ([], f ∙ sym (append-nil p.marks.work));
+  least = least;
+}
+
+pub one-out : (p q : Parts) (s : ℕ) → MarksOne p q s → is_kept q.marks.kept s ≡ false
+one-out p q s h = ap (λ (bs : List Bool). is_kept bs s) h.kept ∙ kept-marked p.marks.kept s
+
+-- what holds below i and at i holds below i + 1
+pub below-more : (P : ℕ → Type 0) (i : ℕ) → ((j : ℕ) → j < i → P j) → P i → (j : ℕ) → j < i + 1 → P j
+below-more P i h k j lt = by (eqb_tells j i)
+  where
+    by : ((eqb j i ≡ true) × (j ≡ i)) ⊎ ((eqb j i ≡ false) × (j ≢ i)) → P j
+    by (inl e) = subst P (sym e.1) k
+    by (inr e) = h j (let ne = e.1 in omega arith)
+
+pub stays-out-of : (p q : Parts) (P : List Bool → Change → Type 0) (t : ℕ) → MarksMore p q P → is_kept p.marks.kept t ≡ false → is_kept q.marks.kept t ≡ false
+stays-out-of p q P t h e = stays-out p.marks.kept q.marks.kept t h.fewer e

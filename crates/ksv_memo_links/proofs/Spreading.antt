@@ -1,0 +1,127 @@
+-- The users of marked slots, one slot upon another.
+use Rattle.std.proofs.Common.{◌≡◌, ◌≢◌, ◌⊎◌, inl, inr, Bool, true, false, eqb, ℕ, ◌+◌, ◌*◌, ◌<◌, ◌≤◌, List, ◌++◌, length, take, get_or, refl, sym, ◌∙◌, ap, subst, arith}
+use Rattle.std.proofs.lemmas.List.{length-append, get_or_append_left, take-append-le, get_or_read}
+use Rattle.std.proofs.lemmas.List.Sums.{sum_by_more}
+use Rattle.std.proofs.lemmas.Bool.Decides.{eqb_tells}
+use Rattle.ksv_memo_links.specs.declared.shelf.Pin.{Pin}
+use Rattle.ksv_memo_links.specs.declared.parts.Parts.{Parts}
+use Rattle.ksv_memo_links.specs.Shelved.{row}
+use Rattle.ksv_memo_links.specs.Linked.{IsLinked}
+use Rattle.ksv_memo_links.specs.Marking.{is_kept}
+use Rattle.ksv_memo_links.specs.Forgetting.{looks, Why, MarksMore, HitsUsers, Spreads, item_at, lengths}
+use Rattle.ksv_memo_links.proofs.Mark.{stays-out}
+use Rattle.ksv_memo_links.proofs.More.{more-trans, no-mark, why-along, MarksOne, one-mark, one-out, below-more}
+use Rattle.ksv_memo_links.proofs.Hits.{Peeks, peek-more, item-is, user-why}
+
+pub users-none : (p : Parts) (slot : ℕ) → HitsUsers p p slot 0 0
+users-none p slot = record {
+  more = no-mark p p (λ first x. Why p first x slot) (record { users = refl; user_lists = refl; pages = refl; page_lists = refl; uses = refl }) refl refl (λ c. c);
+  out = λ s lt. absurd (omega arith);
+  within = omega arith;
+  looks = omega arith;
+}
+
+pub users-more : (p q q1 r : Parts) (slot i : ℕ) (item : Pin) → HitsUsers p q slot i 0 → Peeks q q1 → IsLinked q.users.lists q.users.notes → i < length (row q.users.lists slot) → item ≡ get_or (row q.users.lists slot) i item → MarksOne q1 r item.row → looks r + 2 * length q1.marks.work ≤ looks q1 + 1 + 2 * length r.marks.work → HitsUsers p r slot (i + 1) 0
+users-more p q q1 r slot i item h k l lt e one few = record {
+  more = more-trans p q1 r (λ first x. Why p first x slot) (λ first x. Why q first x slot) to_q1
+      (one-mark q1 r (λ first x. Why q first x slot) item.row one (λ first x w f. why-along q q1 first x (λ why. why item.row) k.same (user-why q slot i item l lt (item-is q.users.lists slot i item lt e) first x w)))
+      (λ first x w m. why-along p q first x (λ why. why slot) h.more.same w);
+  out = below-more (λ j. is_kept r.marks.kept (item_at p.users.lists slot j).row ≡ false) i (λ j lj. stays-out q.marks.kept r.marks.kept (item_at p.users.lists slot j).row fewer (h.out j lj)) (ap (λ (x : Pin). is_kept r.marks.kept x.row) is ∙ one-out q1 r item.row one);
+  within = let n = ap (λ (rows : List (List Pin)). length (row rows slot)) h.more.same.user_lists in omega arith;
+  looks = let len = ap (λ (ws : List ℕ). length ws) k.work in let a = h.looks in let b = k.looks in omega arith;
+}
+  where
+    to_q1 : MarksMore p q1 (λ first x. Why p first x slot)
+    to_q1 = peek-more p q q1 (λ first x. Why p first x slot) h.more k
+
+    is : item_at p.users.lists slot i ≡ item
+    is = ap (λ rows. item_at rows slot i) (sym h.more.same.user_lists) ∙ item-is q.users.lists slot i item lt e
+
+    marks : MarksMore q1 r (λ first x. Unit {0} → Why q1 first x item.row)
+    marks = one-mark q1 r (λ first x. Unit {0} → Why q1 first x item.row) item.row one (λ first x w f. w tt)
+
+    fewer : (s : ℕ) → is_kept r.marks.kept s ≡ true → is_kept q.marks.kept s ≡ true
+    fewer s f = ap (λ (ks : List Bool). is_kept ks s) (sym k.kept) ∙ marks.fewer s f
+
+pub users-end : (p q q1 : Parts) (slot i : ℕ) → HitsUsers p q slot i 0 → Peeks q q1 → length (row q.users.lists slot) ≤ i → HitsUsers p q1 slot (length (row p.users.lists slot)) 1
+users-end p q q1 slot i h k le =
+    let n = ap (λ (rows : List (List Pin)). length (row rows slot)) h.more.same.user_lists in
+    let w = h.within in
+    let same : i ≡ length (row p.users.lists slot) = omega arith in
+    subst (λ m. HitsUsers p q1 slot m 1) same (record {
+      more = peek-more p q q1 (λ first x. Why p first x slot) h.more k;
+      out = λ j lj. ap (λ (ks : List Bool). is_kept ks (item_at p.users.lists slot j).row) k.kept ∙ h.out j lj;
+      within = w;
+      looks = let len = ap (λ (ws : List ℕ). length ws) k.work in let a = h.looks in let b = k.looks in omega arith;
+    })
+
+pub spread-none : (p : Parts) → Spreads p p 0 0
+spread-none p = record {
+  more = no-mark p p (λ first x. Unit {0}) (record { users = refl; user_lists = refl; pages = refl; page_lists = refl; uses = refl }) refl refl (λ c. c);
+  within = omega arith;
+  out = λ j i lt k. absurd (omega arith);
+  looks = omega arith;
+}
+
+pub spread-end : (p q q1 : Parts) (i : ℕ) → Spreads p q i 0 → Peeks q q1 → length q.marks.work ≤ i → Spreads p q1 (length q1.marks.work) 1
+spread-end p q q1 i h k le =
+    let n = ap (λ (ws : List ℕ). length ws) k.work in
+    let w = h.within in
+    let same : i ≡ length q1.marks.work = omega arith in
+    let c : Spreads p q1 i 1 = record {
+      more = peek-more p q q1 (λ first x. Unit {0}) h.more k;
+      within = omega arith;
+      out = λ j l lt. (let F : List Bool → List ℕ → Type 0 = λ ks ws. l < length (row p.users.lists (get_or ws j 0)) → is_kept ks (item_at p.users.lists (get_or ws j 0) l).row ≡ false in
+          subst (λ ks. F ks q1.marks.work) (sym k.kept) (subst (F q.marks.kept) (sym k.work) (h.out j l lt)));
+      looks = let x = h.looks in let y = k.looks in let z = ap (λ (ws : List ℕ). lengths p.users.lists (take i ws)) k.work in omega arith;
+    } in
+    let P : ℕ → Type 0 = λ n. Spreads p q1 n 1 in
+    subst P same c
+
+pub spread-more : (p q q1 r : Parts) (i slot : ℕ) → Spreads p q i 0 → Peeks q q1 → i < length q.marks.work → slot ≡ get_or q.marks.work i slot → HitsUsers q1 r slot (length (row q1.users.lists slot)) 1 → Spreads p r (i + 1) 0
+spread-more p q q1 r i slot h k lt is u = record {
+  more = more-trans p q1 r (λ first x. Unit {0}) (λ first x. Why q1 first x slot) to_q1 u.more (λ first x w m. why-along p q1 first x (λ why. why slot) to_q1.same (let P : ℕ → Type 0 = λ s. Why p first x s in subst P there (m.gone i lt1).2));
+  within = let n = ap (λ (ws : List ℕ). length ws) grown in let l = length-append q.marks.work u.more.grows.0 in omega arith;
+  out = λ j l lt2. out j l lt2 (eqb_tells j i);
+  looks =
+      let n = ap (λ (rows : List (List Pin)). length (row rows slot)) to_q1.same.user_lists in
+      let len = ap (λ (ws : List ℕ). length ws) k.work in
+      let x = h.looks in let y = k.looks in let z = u.looks in omega (arith, sums);
+}
+  where
+    to_q1 : MarksMore p q1 (λ first x. Unit {0})
+    to_q1 = peek-more p q q1 (λ first x. Unit {0}) h.more k
+
+    lt1 : i < length q1.marks.work
+    lt1 = let len = ap (λ (ws : List ℕ). length ws) k.work in omega arith
+
+    at_i : get_or q.marks.work i 0 ≡ slot
+    at_i = sym (get_or_read q.marks.work i slot lt is 0)
+
+    there : get_or q1.marks.work i 0 ≡ slot
+    there = ap (λ (ws : List ℕ). get_or ws i 0) k.work ∙ at_i
+
+    grown : r.marks.work ≡ q.marks.work ++ u.more.grows.0
+    grown = u.more.grows.1 ∙ ap (λ (ws : List ℕ). ws ++ u.more.grows.0) k.work
+
+    early : (j : ℕ) → j < length q.marks.work → get_or r.marks.work j 0 ≡ get_or q.marks.work j 0
+    early j l = ap (λ (ws : List ℕ). get_or ws j 0) grown ∙ get_or_append_left q.marks.work u.more.grows.0 0 j l
+
+    sums : lengths p.users.lists (take (i + 1) r.marks.work) ≡ lengths p.users.lists (take i q.marks.work) + length (row p.users.lists slot)
+    sums = ap (λ (ws : List ℕ). lengths p.users.lists (take (i + 1) ws)) grown ∙ ap (λ (ws : List ℕ). lengths p.users.lists ws) (take-append-le (i + 1) q.marks.work u.more.grows.0 (omega arith)) ∙ sum_by_more (λ s. length (row p.users.lists s)) q.marks.work i 0 lt ∙ ap (λ s. lengths p.users.lists (take i q.marks.work) + length (row p.users.lists s)) at_i
+
+    P : ℕ → ℕ → Type 0
+    P s l = l < length (row p.users.lists s) → is_kept r.marks.kept (item_at p.users.lists s l).row ≡ false
+
+    new : (l : ℕ) → P slot l
+    new l = let F : List (List Pin) → Type 0 = λ lists. l < length (row lists slot) → is_kept r.marks.kept (item_at lists slot l).row ≡ false in subst F to_q1.same.user_lists (u.out l)
+
+    fewer : (s : ℕ) → is_kept r.marks.kept s ≡ true → is_kept q.marks.kept s ≡ true
+    fewer s e = ap (λ (ks : List Bool). is_kept ks s) (sym k.kept) ∙ u.more.fewer s e
+
+    out : (j l : ℕ) → j < i + 1 → ((eqb j i ≡ true) × (j ≡ i)) ⊎ ((eqb j i ≡ false) × (j ≢ i)) → P (get_or r.marks.work j 0) l
+    out j l l2 (inl e) = subst (λ s. P s l) (sym (ap (λ n. get_or r.marks.work n 0) e.1 ∙ early i lt ∙ at_i)) (new l)
+    out j l l2 (inr e) =
+        let ne = e.1 in
+        let lj : j < i = omega arith in
+        subst (λ s. P s l) (sym (early j (omega arith))) (λ m. stays-out q.marks.kept r.marks.kept (item_at p.users.lists (get_or q.marks.work j 0) l).row fewer (h.out j l lj m))

@@ -1,0 +1,59 @@
+-- The items of pages are no more than the pages that uses meet.
+use Rattle.std.proofs.Common.{◌≡◌, ℕ, zero, suc, ◌+◌, ◌≤◌, Bool, cond, ◌&&◌, nat_lt, nat_le, nat_eq, List, [], ◌∷◌, length, refl, ap, arith, sum_by, count_by}
+use Rattle.std.proofs.lemmas.List.Sums.{sum_by-cons}
+use Rattle.ksv_memo_links.specs.Shelved.{row}
+use Rattle.ksv_memo_links.specs.Linked.{one_if, naming}
+use Rattle.ksv_memo_links.specs.Forgetting.{sizes}
+
+-- a page is from a on and before b
+abbrev pub within : ℕ → ℕ → ℕ → Bool
+within a b g = nat_le a g && nat_lt g b
+
+-- one page more
+step-one : (a b g : ℕ) → a ≤ b → cond (within a (suc b) g) 1 0 ≡ cond (within a b g) 1 0 + one_if b g
+step-one a b g le = by (nat_le a g) refl (nat_lt g b) refl (nat_lt g (suc b)) refl (nat_eq b g) refl
+  where
+    by : (x : Bool) → nat_le a g ≡ x → (y : Bool) → nat_lt g b ≡ y → (z : Bool) → nat_lt g (suc b) ≡ z → (u : Bool) → nat_eq b g ≡ u → cond (x && z) 1 0 ≡ cond (x && y) 1 0 + cond u 1 0
+    by x e y f z h u k = grind arith
+
+sums : {X : Type 0} (f g h : X → ℕ) → ((x : X) → h x ≡ f x + g x) → (xs : List X) → sum_by h xs ≡ sum_by f xs + sum_by g xs
+sums f g h each [] = refl
+sums f g h each (x ∷ xs) =
+    let a = sum_by-cons f x xs in let b = sum_by-cons g x xs in let c = sum_by-cons h x xs in
+    let d = each x in let e = sums f g h each xs in omega arith
+
+-- the pages of rows that are in the range
+abbrev pub tally : ℕ → ℕ → List (List ℕ) → ℕ
+tally a b rows = sum_by (λ ns. count_by (within a b) ns) rows
+
+tally-more : (a b : ℕ) (rows : List (List ℕ)) → a ≤ b → tally a (suc b) rows ≡ tally a b rows + naming rows b
+tally-more a b rows le = sums (λ ns. count_by (within a b) ns) (λ ns. sum_by (one_if b) ns) (λ ns. count_by (within a (suc b)) ns) (λ ns. sums (λ g. cond (within a b g) 1 0) (one_if b) (λ g. cond (within a (suc b) g) 1 0) (λ g. step-one a b g le) ns) rows
+
+pub sizes-few : {X : Type 0} (lists : List (List X)) (rows : List (List ℕ)) (a n : ℕ) → ((l : ℕ) → length (row lists l) ≤ naming rows l) → sizes lists (n + a) ≤ sizes lists a + tally a (n + a) rows
+sizes-few lists rows a zero few = let e : 0 + a ≡ a = omega arith in let f = ap (λ n. sizes lists n) e in omega arith
+sizes-few lists rows a (suc n) few =
+    let ih = sizes-few lists rows a n few in
+    let f = few (n + a) in
+    let m = tally-more a (n + a) rows (omega arith) in
+    let e : suc n + a ≡ suc (n + a) = omega arith in
+    let g = ap (λ k. sizes lists k) e in
+    let h = ap (λ k. tally a k rows) e in
+    omega arith
+
+pub sizes-grow : {X : Type 0} (lists : List (List X)) (a n : ℕ) → sizes lists a ≤ sizes lists (n + a)
+sizes-grow lists a zero = let e : 0 + a ≡ a = omega arith in let f = ap (λ k. sizes lists k) e in omega arith
+sizes-grow lists a (suc n) = let ih = sizes-grow lists a n in let e : suc n + a ≡ suc (n + a) = omega arith in let f = ap (λ k. sizes lists k) e in omega arith
+
+-- sums over rows that are read alike
+pub rows-le : {X Y : Type 0} (f : List X → ℕ) (g : List Y → ℕ) (xs : List (List X)) (ys : List (List Y)) → f [] ≡ 0 → g [] ≡ 0 → ((r : ℕ) → f (row xs r) ≡ g (row ys r)) → sum_by f xs ≤ sum_by g ys
+rows-le f g [] ys z y h = omega arith
+rows-le f g (x ∷ xs) [] z y h =
+    let a = sum_by-cons f x xs in
+    let b : f x ≡ g [] = h 0 in
+    let rest = rows-le f g xs [] z y (λ r. h (suc r)) in
+    omega arith
+rows-le f g (x ∷ xs) (u ∷ ys) z y h =
+    let a = sum_by-cons f x xs in let c = sum_by-cons g u ys in
+    let b : f x ≡ g u = h 0 in
+    let rest = rows-le f g xs ys z y (λ r. h (suc r)) in
+    omega arith

@@ -1,0 +1,17 @@
+use Rattle.std.proofs.Common.{refl, sym, ◌∙◌, arith}
+use Rattle.ksv_memo_links.specs.declared.parts.Parts.{Parts}
+use Rattle.ksv_memo_links.proofs.More.{MarksOne}
+use Rattle.ksv_memo_links.proofs.Hits.{hit-marked}
+use Rattle.ksv_memo_links.proofs.parts.Parts.hit.Goals as goal
+
+pub returns-then-is_touched : goal.returns-then-is_touched
+returns-then-is_touched c =
+    let p = c.args.self.now in
+    let q : Parts = record { users = p.users; pages = p.pages; uses = c.is_touched.new.self; marks = c.mark.new.self } in
+    let one : MarksOne p q c.args.slot = record {
+      same = record { users = refl; user_lists = refl; pages = refl; page_lists = refl; uses = c.is_touched.ensures.rows };
+      kept = c.mark.ensures.kept;
+      work = c.mark.ensures.work;
+      least = c.mark.ensures.least;
+    } in
+    hit-marked p q c.args.change c.args.slot one (sym c.is_touched.ensures.result ∙ c.if-is_touched.true) (let a = c.is_touched.ensures.looks in let b = c.mark.ensures.looks in omega arith)

@@ -1,0 +1,34 @@
+use Rattle.std.proofs.Common.{refl, arith}
+use Rattle.ksv_memo_links.specs.declared.parts.Parts.{Parts}
+use Rattle.ksv_memo_links.proofs.Hits.{Peeks}
+use Rattle.ksv_memo_links.proofs.Spreading.{spread-none, spread-more, spread-end}
+use Rattle.ksv_memo_links.proofs.parts.Parts.spread.Goals as goal
+
+pub loop-slot-init : goal.loop-slot-init
+loop-slot-init c = spread-none c.args.self.now
+
+pub loop-slot-preserved : goal.loop-slot-preserved
+loop-slot-preserved c =
+    let q = c.loop-slot.self in
+    let q1 : Parts = record { users = q.users; pages = q.pages; uses = q.uses; marks = c.at.new.self } in
+    let k : Peeks q q1 = record {
+      same = record { users = refl; user_lists = refl; pages = refl; page_lists = refl; uses = refl };
+      kept = c.at.ensures.kept;
+      work = c.at.ensures.work;
+      looks = let l = c.at.ensures.looks in omega arith;
+      least = c.at.ensures.least;
+    } in
+    spread-more c.args.self.now q q1 c.mark_users.new.self c.loop-slot.i c.in-Some.slot c.loop-slot.invariant k c.in-Some.ensures.some.0 c.in-Some.ensures.some.1 c.mark_users.ensures
+
+pub returns : goal.returns
+returns c =
+    let q = c.loop-slot.self in
+    let q1 : Parts = record { users = q.users; pages = q.pages; uses = q.uses; marks = c.at.new.self } in
+    let k : Peeks q q1 = record {
+      same = record { users = refl; user_lists = refl; pages = refl; page_lists = refl; uses = refl };
+      kept = c.at.ensures.kept;
+      work = c.at.ensures.work;
+      looks = let l = c.at.ensures.looks in omega arith;
+      least = c.at.ensures.least;
+    } in
+    spread-end c.args.self.now q q1 c.loop-slot.i c.loop-slot.invariant k c.in_default.ensures.none

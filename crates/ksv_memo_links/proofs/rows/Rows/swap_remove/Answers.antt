@@ -1,0 +1,47 @@
+use Rattle.std.proofs.Common.{◌≡◌, ◌-◌, ◌<◌, ◌≤◌, ℕ, List, length, take, set, get_or, slice_get, Some, None, sym, ◌∙◌, ap, inl, inr, arith}
+use Rattle.std.proofs.Math.Seq.{take-set-lt}
+use Rattle.std.proofs.lemmas.Bool.{cases_lt}
+use Rattle.std.proofs.lemmas.List.{length-take, take-set-le, set-set}
+use Rattle.std.proofs.lemmas.Option.{slice_get_within, slice_get-get_or, get_or_from_slice_get}
+use Rattle.std.specs.List.{swap_remove}
+use Rattle.ksv_memo_links.specs.declared.shelf.Pin.{Pin}
+use Rattle.ksv_memo_links.specs.Shelved.{row, pop_row}
+use Rattle.ksv_memo_links.proofs.Edits.{row_set}
+use Rattle.ksv_memo_links.proofs.rows.Rows.swap_remove.Goals as goal
+
+absent : (xs : List Pin) (i : ℕ) → slice_get xs i ≡ None → length xs ≤ i
+absent xs i e = elim (cases_lt i (length xs)) [ inl lt ↦ (let there = slice_get-get_or xs i (record { row = 0; at = 0 }) lt in absurd (cc)) | inr le ↦ le ]
+
+-- it was the last one
+cut_last : (xs ys : List Pin) (i : ℕ) (d : Pin) → ys ≡ take (length xs - 1) xs → slice_get ys i ≡ None → i < length xs → ys ≡ swap_remove xs i d
+cut_last xs ys i d rest none lt =
+    let past : length ys ≤ i = absent ys i none in
+    let n = ap (λ (zs : List Pin). length zs) rest ∙ length-take (length xs - 1) xs in
+    rest ∙ sym (take-set-le (length xs - 1) xs i (get_or xs (length xs - 1) d) (omega arith))
+
+-- the last one takes its place
+cut_other : (xs ys : List Pin) (i : ℕ) (last d : Pin) → ys ≡ take (length xs - 1) xs → slice_get xs (length xs - 1) ≡ Some last → slice_get ys i ≡ Some d → set ys i last ≡ swap_remove xs i d
+cut_other xs ys i last d rest is there =
+    let inside : i < length ys = slice_get_within ys i d there in
+    let n = ap (λ (zs : List Pin). length zs) rest ∙ length-take (length xs - 1) xs in
+    let at : get_or xs (length xs - 1) d ≡ last = get_or_from_slice_get xs (length xs - 1) last d is in
+    ap (λ zs. set zs i last) rest ∙ ap (set (take (length xs - 1) xs) i) (sym at) ∙ sym (take-set-lt (length xs - 1) xs i (get_or xs (length xs - 1) d) (omega arith))
+
+-- the row after the pop
+popped_row : (rows then : List (List Pin)) (r : ℕ) → r < length rows → then ≡ pop_row rows r → row then r ≡ take (length (row rows r) - 1) (row rows r)
+popped_row rows then r lt e = ap (λ xs. row xs r) e ∙ row_set rows r (take (length (row rows r) - 1) (row rows r)) lt
+
+pub returns-in-None-get : goal.returns-in-None-get
+returns-in-None-get c =
+    let rows = c.args.self.now in
+    let r = c.args.r in
+    let p = popped_row rows c.pop.new.self r c.requires.row_in c.pop.ensures.rest in
+    c.pop.ensures.rest ∙ ap (λ xs. set rows r xs) (sym p ∙ cut_last (row rows r) (row c.pop.new.self r) c.args.i c.in-Some.last p (sym c.get.ensures.result ∙ c.in-None-get.is) c.requires.item_in)
+
+pub returns-in-Some-get : goal.returns-in-Some-get
+returns-in-Some-get c =
+    let rows = c.args.self.now in
+    let r = c.args.r in
+    let p = popped_row rows c.pop.new.self r c.requires.row_in c.pop.ensures.rest in
+    let e = cut_other (row rows r) (row c.pop.new.self r) c.args.i c.in-Some.last c.in-Some-get.taken p (sym c.pop.ensures.last ∙ c.in-Some.is) (sym c.get.ensures.result ∙ c.in-Some-get.is) in
+    c.set.ensures ∙ ap (λ xs. set xs r (set (row c.pop.new.self r) c.args.i c.in-Some.last)) c.pop.ensures.rest ∙ set-set rows r _ _ ∙ ap (λ xs. set rows r xs) e

@@ -1,0 +1,7 @@
+pub mod Placed
+pub mod Shelved
+pub mod Touching
+pub mod Linked
+pub mod Marking
+pub mod Links
+pub mod Forgetting

@@ -1,0 +1,39 @@
+-- Rows of items, as contracts see them.
+use Rattle.std.specs.Prelude.{◌≡◌, ◌≤◌, ℕ, ◌+◌, ◌-◌, ◌^◌, min, List, [], ◌∷◌, ◌++◌, length, take, slice_index_or, slice_set}
+use Rattle.std.specs.List.{swap_remove}
+
+-- the rows, and how often a call looked at them, which stays at the largest number
+pub record Shelved (T : Type 0) : Type 0 where
+  pub rows : List (List T)
+  pub looks : ℕ
+
+abbrev pub ticked : ℕ → ℕ
+ticked n = min (n + 1) (2 ^ 64 - 1)
+
+-- a row, empty where there is none
+abbrev pub row : {T : Type 0} → List (List T) → ℕ → List T
+row rows r = slice_index_or rows r []
+
+-- after a write, a pop, a `swap_remove` and a push in a row
+abbrev pub put_row : {T : Type 0} → List (List T) → ℕ → ℕ → T → List (List T)
+put_row rows r i x = slice_set rows r (slice_set (row rows r) i x)
+
+abbrev pub pop_row : {T : Type 0} → List (List T) → ℕ → List (List T)
+pop_row rows r = slice_set rows r (take (length (row rows r) - 1) (row rows r))
+
+abbrev pub cut_row : {T : Type 0} → List (List T) → ℕ → ℕ → T → List (List T)
+cut_row rows r i d = slice_set rows r (swap_remove (row rows r) i d)
+
+abbrev pub push_row : {T : Type 0} → List (List T) → ℕ → T → List (List T)
+push_row rows r x = slice_set rows r (row rows r ++ x ∷ [])
+
+-- a list with room, and how often a call looked at it
+pub record Celled (T : Type 0) : Type 0 where
+  pub items : List T
+  pub room : ℕ
+  pub looks : ℕ
+
+-- there are as many rows or more, and each is as it was; a new one is empty
+pub record HasSameRows {T : Type 0} (old new : List (List T)) : Type 0 where
+  pub more : length old ≤ length new
+  pub each : (r : ℕ) → row new r ≡ row old r

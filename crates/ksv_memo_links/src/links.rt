@@ -1,0 +1,109 @@
+//! The links between the kept slots of an engine.
+ghost use Rattle.std.specs.Prelude.{◌≡◌, ℕ, ◌+◌, ◌-◌, ◌*◌, ◌^◌, ◌<◌, ◌≤◌, min, [], ◌++◌, ◌∷◌, length, count_by, sum_by, OnOk, OnErr, IfSome, IfNone, true, false};
+ghost use Rattle.std.specs.List.{All};
+ghost use Rattle.ksv_memo_links.specs.Shelved.{row};
+ghost use Rattle.ksv_memo_links.specs.Touching.{pages_in};
+ghost use Rattle.ksv_memo_links.specs.Marking.{is_kept};
+ghost use Rattle.ksv_memo_links.specs.Links.{Forgets, Grows, IsDone, IsUnchanged, Keeps, Takes, IsOverwrite, asks_of, met_by, pages_met};
+
+use crate::parts::Parts;
+use ksv_bytes::{Change, Use};
+use std::alloc::{AllocError, Global};
+use std::marker::Model;
+
+/// How many slots more than are needed are made, so that most new nodes find theirs made.
+const MORE: u32 = 255;
+
+/// The slots of kept nodes, what each asked and uses, and from there the users of each slot and the uses that meet each
+/// page. Each reading or writing of one of these is counted as a look.
+#[derive(Drop)]
+pub struct Links {
+    parts: Parts,
+}
+
+impl Model for Links {
+    ghost use Rattle.ksv_memo_links.specs.Links.{Linked};
+    ghost use Rattle.ksv_memo_links.specs.Forgetting.{IsWhole, linked_of};
+
+    ghost Value = { Linked };
+
+    ghost view = { λ links. linked_of links.parts };
+
+    ghost invariant = { λ links. IsWhole links.parts };
+}
+
+impl Links {
+    /// No slots, which take no memory.
+    pub fn new(alloc: Global) -> Self
+        ensures { result ≡ record { kept = []; asked = []; uses = []; waits = []; looks = 0; marked = 0 } }
+    {
+        Links {
+            parts: Parts::new(alloc),
+        }
+    }
+
+    /// How many slots are kept.
+    pub fn count(&self) -> usize
+        ensures { result ≡ count_by (λ b. b) self.now.kept }
+    {
+        self.parts.marks.count()
+    }
+
+    /// At least so many slots. The new ones aren't kept.
+    #[inline(always)]
+    pub fn reach(&mut self, count: u32) -> Result<(), AllocError>
+        ensures same { Grows self.old self.new }
+        ensures ok { OnOk result (count ≤ length self.new.kept) }
+    {
+        if count as usize <= self.parts.marks.slots() {
+            return Ok(());
+        }
+        self.parts.reach(count.saturating_add(MORE))
+    }
+
+    /// Keeps a slot, with the slots that it asked and its uses. Where memory is refused, nothing has changed.
+    #[inline(always)]
+    pub fn keep(&mut self, slot: u32, asked: &[u32], uses: &[Use]) -> Result<(), AllocError>
+        requires idle { self.old.waits ≡ [] }
+        requires slot_in { slot < length self.old.kept }
+        requires out { is_kept self.old.kept slot ≡ false }
+        requires asked_kept { All (λ s. is_kept self.old.kept s ≡ true) asked.now }
+        ensures ok { OnOk result (Keeps self.old self.new slot asked.now uses.now) }
+        ensures err { OnErr result (IsUnchanged self.old self.new) }
+    {
+        self.parts.keep(slot, asked, uses)
+    }
+
+    /// Marks the slots that go: each kept slot from which one is reached, along what was asked, that a change touches. They
+    /// are kept no more, and are to be taken one by one. It takes no memory.
+    pub fn forget(&mut self, change: Change)
+        requires idle { self.old.waits ≡ [] }
+        ensures forgets { Forgets self.old self.new change }
+
+        // The looks are counted from here on.
+        ensures most { IsOverwrite change → self.new.looks ≤ pages_met change + 3 * sum_by (met_by change) self.old.uses + 1 + 4 * length self.new.waits + 2 * asks_of self.old.asked self.new.waits }
+        ensures least { length self.new.waits ≤ self.new.marked }
+        ensures fits { length self.new.waits < 2 ^ 32 }
+        ensures vacant { (s : ℕ) → is_kept self.old.kept s ≡ false → row self.old.uses s ≡ [] }
+    {
+        self.parts.reset();
+        self.parts.forget(change);
+        self.parts.marks.few();
+    }
+
+    /// Takes a slot that goes, with all that it asked and uses. It takes no memory.
+    pub fn take(&mut self) -> Option<u32>
+        ensures some { IfSome result (λ slot. Takes self.old self.new slot) }
+        ensures none { IfNone result (IsDone self.old self.new) }
+    {
+        self.parts.take()
+    }
+
+    /// The looks since the last `forget` began; at 2^64 - 1 they stay.
+    pub fn looks(&self) -> u64
+        ensures count { result ≡ min self.now.looks (2 ^ 64 - 1) }
+        ensures least { self.now.marked ≤ self.now.looks }
+    {
+        self.parts.looks()
+    }
+}

@@ -1,0 +1,280 @@
+//! The parts of the links, and the steps of forgetting.
+ghost use Rattle.std.specs.Prelude.{◌≡◌, ℕ, ◌+◌, ◌-◌, ◌^◌, ◌/◌, ◌<◌, ◌≤◌, max, min, length, slice_set, [], ◌∷◌, ◌++◌, OnOk, OnErr, IfSome, IfNone, true, false};
+ghost use Rattle.std.specs.List.{All};
+ghost use Rattle.std.specs.Option.{option_to_list};
+ghost use Rattle.ksv_memo_links.specs.Shelved.{row};
+ghost use Rattle.ksv_memo_links.specs.Touching.{pages_in, pages_of};
+ghost use Rattle.ksv_memo_links.specs.Linked.{named, IsRowChanged};
+ghost use Rattle.ksv_memo_links.specs.Marking.{is_kept};
+ghost use Rattle.ksv_memo_links.specs.Links.{first_page, end_page, Forgets, Keeps, IsUnchanged, Grows, Takes, IsDone};
+ghost use Rattle.ksv_memo_links.specs.Forgetting.{IsShaped, HitsSlot, HitsSlots, HitsPage, HitsPages, HitsUsers, HitsTouched, Spreads, Clears, IsWhole, IsNear, IsMeeting, IsVacant, IsAsBefore, Fills, linked_of, looks};
+
+use crate::board::Board;
+use crate::marks::Marks;
+use crate::used::Uses;
+use ksv_bytes::{Change, Use};
+use std::alloc::{AllocError, Global};
+
+/// How many bytes a page has.
+const PAGE: u32 = 64;
+
+/// What each slot asked and its users, its uses and the pages that they meet, and whether it is kept.
+#[derive(Drop)]
+pub(crate) struct Parts {
+    pub(crate) users: Board,
+    pub(crate) pages: Board,
+    pub(crate) uses: Uses,
+    pub(crate) marks: Marks,
+}
+
+impl Parts {
+    /// No slots, which take no memory.
+    pub(crate) fn new(alloc: Global) -> Self
+        ensures linked { linked_of result ≡ record { kept = []; asked = []; uses = []; waits = []; looks = 0; marked = 0 } }
+        ensures whole { IsWhole result }
+    {
+        Parts {
+            users: Board::new(alloc),
+            pages: Board::new(alloc),
+            uses: Uses::new(alloc),
+            marks: Marks::new(alloc),
+        }
+    }
+
+    /// The looks are counted from 0 again.
+    pub(crate) fn reset(&mut self)
+        requires whole { IsWhole self.old }
+        ensures same { IsUnchanged (linked_of self.old) (linked_of self.new) }
+        ensures looks { looks self.new ≡ 0 }
+        ensures whole { IsWhole self.new }
+    {
+        self.users.reset();
+        self.pages.reset();
+        self.uses.reset();
+        self.marks.reset();
+    }
+
+    /// The looks so far, which stop at 2^64 - 1.
+    pub(crate) fn looks(&self) -> u64
+        ensures { result ≡ min (looks self.now) (2 ^ 64 - 1) }
+    {
+        self.users
+            .looks()
+            .saturating_add(self.pages.looks())
+            .saturating_add(self.uses.looks())
+            .saturating_add(self.marks.looks())
+    }
+
+    /// Marks a slot, if a change touches one of its uses.
+    fn hit(&mut self, slot: u32, change: Change)
+        requires shaped { IsShaped self.old }
+        requires slot_in { slot < length self.old.marks.kept }
+        ensures { HitsSlot self.old self.new change slot }
+    {
+        if self.uses.is_touched(slot, change) {
+            self.marks.mark(slot);
+        }
+    }
+
+    /// Marks the slots that a change touches, by a look at each.
+    fn hit_slots(&mut self, change: Change)
+        requires shaped { IsShaped self.old }
+        ensures { HitsSlots self.old self.new change (length self.old.marks.kept) }
+    {
+        for slot in 0..self.marks.slots() {
+            self.hit(slot as u32, change);
+        }
+    }
+
+    /// Marks the slots that a change touches and one of whose uses meets this page.
+    fn hit_page(&mut self, page: u32, change: Change)
+        requires shaped { IsShaped self.old }
+        requires page_in { page < length self.old.pages.lists }
+        ensures { HitsPage self.old self.new change page (length (row self.old.pages.lists page)) 1 }
+    {
+        let mut i = 0;
+        while let Some(item) = self.pages.item(page, i) {
+            self.hit(item.row, change);
+            i += 1;
+        }
+    }
+
+    /// Marks the slots that an overwrite touches, by the pages that it meets.
+    fn hit_pages(&mut self, change: Change, at: usize, n: usize)
+        requires shaped { IsShaped self.old }
+        ensures { HitsPages self.old self.new change (first_page at) (min (end_page at n) (length self.old.pages.lists)) }
+    {
+        let first = at / PAGE as usize;
+        let last = ((at.saturating_add(n.max(1)) - 1) / PAGE as usize + 1).min(self.pages.lists());
+        for page in first..last {
+            self.hit_page(page as u32, change);
+        }
+    }
+
+    /// Marks the users of a slot.
+    fn mark_users(&mut self, slot: u32)
+        requires shaped { IsShaped self.old }
+        requires slot_in { slot < length self.old.marks.kept }
+        ensures { HitsUsers self.old self.new slot (length (row self.old.users.lists slot)) 1 }
+    {
+        let mut i = 0;
+        while let Some(item) = self.users.item(slot, i) {
+            self.marks.mark(item.row);
+            i += 1;
+        }
+    }
+
+    /// Marks all from which a marked slot is reached.
+    fn spread(&mut self)
+        requires shaped { IsShaped self.old }
+        ensures { Spreads self.old self.new (length self.new.marks.work) 1 }
+    {
+        let mut i = 0;
+        while let Some(slot) = self.marks.at(i) {
+            self.mark_users(slot);
+            i += 1;
+        }
+    }
+
+    /// Takes all that a slot asked and uses.
+    fn clear(&mut self, slot: u32)
+        requires shaped { IsShaped self.old }
+        requires slot_in { slot < length self.old.marks.kept }
+        ensures { Clears self.old self.new slot }
+    {
+        self.users.clear(slot);
+        self.pages.clear(slot);
+        self.uses.clear(slot);
+    }
+
+    /// Marks the slots that a change touches.
+    fn hit_touched(&mut self, change: Change)
+        requires whole { IsWhole self.old }
+        ensures { HitsTouched self.old self.new change }
+    {
+        self.pages.linked();
+        match change {
+            Change::Overwrite { at, n } => self.hit_pages(change, at, n),
+            Change::Insert { .. } | Change::Delete { .. } | Change::Append => self.hit_slots(
+                change,
+            ),
+        }
+    }
+
+    /// Marks each kept slot from which one is reached that a change touches. It takes no memory.
+    pub(crate) fn forget(&mut self, change: Change)
+        requires whole { IsWhole self.old }
+        requires idle { self.old.marks.work ≡ [] }
+        ensures forgets { Forgets (linked_of self.old) (linked_of self.new) change }
+        ensures whole { IsWhole self.new }
+        ensures near { IsNear change self.old self.new }
+        ensures least { length self.new.marks.work ≤ self.new.marks.looks }
+        ensures vacant { (s : ℕ) → is_kept self.old.marks.kept s ≡ false → row self.old.uses.rows s ≡ [] }
+    {
+        self.users.linked();
+        self.hit_touched(change);
+        self.spread();
+    }
+
+    /// Takes a slot that was marked, with all that it asked and uses.
+    pub(crate) fn take(&mut self) -> Option<u32>
+        requires whole { IsWhole self.old }
+        ensures some { IfSome result (λ slot. Takes (linked_of self.old) (linked_of self.new) slot) }
+        ensures none { IfNone result (IsDone (linked_of self.old) (linked_of self.new)) }
+        ensures whole { IsWhole self.new }
+    {
+        let slot = self.marks.take()?;
+        self.clear(slot);
+        Some(slot)
+    }
+
+    /// Notes the pages that a use of a slot meets, after those that it has.
+    #[inline(always)]
+    fn meet(&mut self, slot: u32, used: Use) -> Result<(), AllocError>
+        requires { slot < length self.old.pages.notes }
+        ensures same { IsMeeting self.old self.new }
+        ensures ok { OnOk result (named self.new.pages.notes ≡ slice_set (named self.old.pages.notes) slot (row (named self.old.pages.notes) slot ++ pages_of used)) }
+        ensures err { OnErr result (IsRowChanged (named self.old.pages.notes) (named self.new.pages.notes) slot) }
+    {
+        match used {
+            Use::Bytes(from, to) => {
+                let end = from.max(to.saturating_sub(1)) / PAGE + 1;
+                self.pages.link_range(slot, from / PAGE, end)
+            }
+            Use::Reach(_) => Ok(()),
+            Use::Size => Ok(()),
+        }
+    }
+
+    /// Notes the pages that the uses of a slot without notes meet. Where memory is refused, it has some of them.
+    #[inline(always)]
+    fn meet_all(&mut self, slot: u32, uses: &[Use]) -> Result<(), AllocError>
+        requires slot_in { slot < length self.old.pages.notes }
+        requires none { row (named self.old.pages.notes) slot ≡ [] }
+        ensures same { IsMeeting self.old self.new }
+        ensures ok { OnOk result (named self.new.pages.notes ≡ slice_set (named self.old.pages.notes) slot (pages_in uses.now)) }
+        ensures err { OnErr result (IsRowChanged (named self.old.pages.notes) (named self.new.pages.notes) slot) }
+    {
+        for used in uses {
+            self.meet(slot, *used)?;
+        }
+        Ok(())
+    }
+
+    /// Gives a slot without any what it asked and uses. Where memory is refused, it has nothing again.
+    #[inline(always)]
+    fn fill(&mut self, slot: u32, asked: &[u32], uses: &[Use]) -> Result<(), AllocError>
+        requires shaped { IsShaped self.old }
+        requires slot_in { slot < length self.old.marks.kept }
+        requires vacant { IsVacant self.old slot }
+        requires asked_in { All (λ s. s < length self.old.marks.kept) asked.now }
+        ensures ok { OnOk result (Fills self.old self.new slot asked.now uses.now) }
+        ensures err { OnErr result (IsAsBefore self.old self.new) }
+    {
+        self.users.link_all(slot, asked)?;
+        if let Err(error) = self.meet_all(slot, uses) {
+            self.users.clear(slot);
+            self.pages.clear(slot);
+            return Err(error);
+        }
+        if let Err(error) = self.uses.put(slot, uses) {
+            self.users.clear(slot);
+            self.pages.clear(slot);
+            return Err(error);
+        }
+        Ok(())
+    }
+
+    /// Keeps a slot that isn't kept, with what it asked, which is kept, and its uses.
+    #[inline(always)]
+    pub(crate) fn keep(&mut self, slot: u32, asked: &[u32], uses: &[Use]) -> Result<(), AllocError>
+        requires whole { IsWhole self.old }
+        requires idle { self.old.marks.work ≡ [] }
+        requires slot_in { slot < length self.old.marks.kept }
+        requires out { is_kept self.old.marks.kept slot ≡ false }
+        requires asked_kept { All (λ s. is_kept self.old.marks.kept s ≡ true) asked.now }
+        ensures ok { OnOk result (Keeps (linked_of self.old) (linked_of self.new) slot asked.now uses.now) }
+        ensures err { OnErr result (IsUnchanged (linked_of self.old) (linked_of self.new)) }
+        ensures whole { IsWhole self.new }
+    {
+        self.fill(slot, asked, uses)?;
+        self.marks.keep(slot);
+        Ok(())
+    }
+
+    /// At least so many slots. The new ones aren't kept.
+    #[cold]
+    #[inline(never)]
+    pub(crate) fn reach(&mut self, count: u32) -> Result<(), AllocError>
+        requires whole { IsWhole self.old }
+        ensures same { Grows (linked_of self.old) (linked_of self.new) }
+        ensures ok { OnOk result (count ≤ length self.new.marks.kept) }
+        ensures whole { IsWhole self.new }
+    {
+        self.users.reach_lists(count)?;
+        self.users.reach_owners(count)?;
+        self.pages.reach_owners(count)?;
+        self.uses.reach(count as usize)?;
+        self.marks.reach(count)
+    }
+}
