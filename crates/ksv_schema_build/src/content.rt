@@ -1,80 +1,77 @@
-//! What is read at a member.
+//! What is read at a member: a content each time, or one that a switch chooses.
 
 ghost use Rattle.std.specs.Prelude.{◌≡◌, map, IfOk, option_map, string_bytes};
-ghost use Rattle.ksv_yaml_tree.specs.View.{pair};
-ghost use Rattle.ksv_expr_tree.specs.Tree.{view, arguments_of};
+ghost use Rattle.ksv_yaml_tree.specs.View.{view as view_node, pair};
+ghost use Rattle.ksv_expr_tree.specs.Tree.{view, literal_of, member_of, arguments_of};
 ghost use Rattle.ksv_schema_scope.specs.Table.{declared};
 ghost use Rattle.ksv_schema_scope.specs.Types.{type_named};
 ghost use Rattle.ksv_schema_names.specs.Numbered.{all_numbered};
-ghost use Rattle.ksv_schema_build.specs.Contexts.{context_of};
-ghost use Rattle.ksv_schema_build.specs.Stated.{perhaps_enum, encoding_at, order_at, integer_content, language_content, content_of, content_at};
-ghost use Rattle.ksv_schema_build.specs.Code.{enum_of, enum_at};
-ghost use Rattle.ksv_desc.specs.Description.{Characters, Object};
-ghost use Rattle.ksv_desc.specs.Pieces.{plain_content};
-ghost use Rattle.ksv_schema_keys.specs.Code.{seen_path, seen_type_text};
+ghost use Rattle.ksv_schema_keys.specs.Values.{joined, text_bytes, contents_of};
+ghost use Rattle.ksv_schema_keys.specs.Code.{seen_path, seen_type_text, seen_case_key, seen_expression};
+ghost use Rattle.ksv_desc.specs.Description.{Characters, Object, Always, Fixed};
+ghost use Rattle.ksv_desc.specs.Pieces.{plain_content, plain_value, plain_case, plain_choice};
+ghost use Rattle.ksv_schema_build.specs.Stated.{perhaps_enum, encoding_at, order_at, integer_content, language_content, content_of, content_at, value_of, case_value, case_of, each, switch_of, typed, choice_of};
+ghost use Rattle.ksv_schema_build.specs.Code.{context_of, Makes, enum_of, enum_at, value_read};
 
-use crate::both::Made;
-use crate::context::Context;
-use ksv_desc::Content;
-use ksv_expr_tree::{Expr, TypeName};
+use crate::piece::{Context, Gap, Made, both, expression_at};
+use ksv_desc::{Case, CaseValue, Choice, Content};
+use ksv_expr_syntax::ExprFault;
+use ksv_expr_tree::{Expr, Literal, TypeName};
 use ksv_expr_value::Encoding;
-use ksv_schema_keys::{TypeText, encoding_named, ids_of, type_text};
-use ksv_schema_names::{BuiltIn, number_arguments};
+use ksv_schema_keys::{
+    CaseKey, Piece, TypeText, case_key, encoding_named, ids_of, looks_like_number, piece_of,
+    read_expression, type_text,
+};
+use ksv_schema_names::{BuiltIn, given_member, number_arguments};
 use ksv_schema_scope::ByteOrder;
-use ksv_yaml_tree::Entry;
-use ksv_yaml_tree::keys::{has, text_at};
+use ksv_yaml_tree::keys::{entries_at, has, text_at};
+use ksv_yaml_tree::{Entry, Yaml, find};
+use std::alloc::{AllocError, Global};
+
+// ---- integers and texts
 
 /// The number of the enum of this path.
-fn enum_of(context: Context, path: &Option<Vec<String>>) -> Option<u32>
-    ensures { result ≡ enum_of (context_of context.entry) (seen_path path.now) }
+fn enum_of(context: Context, path: &Option<Vec<String>>) -> Made<u32>
+    ensures { Makes (enum_of (context_of context.entry) (seen_path path.now)) (λ n. n) result }
 {
     match path {
         Some(path) => match context.scopes.enum_named(context.within, path.as_slice()) {
-            Some(number) => Some(number as u32),
-            None => None,
+            Some(number) => Ok(number as u32),
+            None => Err(Gap::Missing),
         },
-        None => None,
+        None => Err(Gap::Missing),
     }
 }
 
 /// The number of the enum at the key `enum`.
 fn enum_at(context: Context, entries: &[Entry]) -> Made<u32>
-    ensures { IfOk result (λ o. o ≡ enum_at (context_of context.entry) (map pair entries.now)) }
+    ensures { Makes (enum_at (context_of context.entry) (map pair entries.now)) (λ n. n) result }
 {
     match text_at(entries, b"enum") {
-        Some(text) => {
-            let path = ids_of(context.alloc, text)?;
-            Ok(enum_of(context, &path))
-        }
-        None => Ok(None),
+        Some(text) => enum_of(context, &ids_of(context.alloc, text)?),
+        None => Err(Gap::Missing),
     }
 }
 
 /// The number of the enum at the key `enum`, which is optional.
 #[tactic(auto, unfolding(crate::specs::Stated::perhaps_enum))]
 pub(crate) fn perhaps_enum(context: Context, entries: &[Entry]) -> Made<Option<u32>>
-    ensures { IfOk result (λ o. o ≡ perhaps_enum (context_of context.entry) (map pair entries.now)) }
+    ensures { Makes (perhaps_enum (context_of context.entry) (map pair entries.now)) (λ o. o) result }
 {
     if !has(entries, b"enum") {
-        return Ok(Some(None));
+        return Ok(None);
     }
-    match enum_at(context, entries)? {
-        Some(number) => Ok(Some(Some(number))),
-        None => Ok(None),
-    }
+    Ok(Some(enum_at(context, entries)?))
 }
 
 /// The encoding of an attribute, its own or the one in force.
 #[tactic(auto, unfolding(crate::specs::Stated::encoding_at))]
-pub(crate) fn encoding_at(context: Context, entries: &[Entry]) -> Option<Encoding>
+fn encoding_at(context: Context, entries: &[Entry]) -> Option<Encoding>
     ensures { result ≡ encoding_at (context_of context.entry) (map pair entries.now) }
 {
     match text_at(entries, b"encoding") {
         Some(name) => encoding_named(name),
-        None => match context.scopes.encoding_of(context.within) {
-            Some(name) => encoding_named(name),
-            None => None,
-        },
+        None => encoding_named(context.scopes.encoding_of(context.within)?),
     }
 }
 
@@ -87,10 +84,9 @@ fn order_at(context: Context, size: u8, stated: Option<ByteOrder>) -> Option<Byt
         Some(order) => Some(order),
         None => {
             if size == 1 {
-                Some(ByteOrder::Little)
-            } else {
-                context.scopes.order_of(context.within)
+                return Some(ByteOrder::Little);
             }
+            context.scopes.order_of(context.within)
         }
     }
 }
@@ -104,36 +100,34 @@ fn integer_content(
     size: u8,
     stated: Option<ByteOrder>,
 ) -> Made<Content>
-    ensures { IfOk result (λ o. option_map plain_content o ≡ integer_content (context_of context.entry) (map pair entries.now) is_signed size stated) }
+    ensures { Makes (integer_content (context_of context.entry) (map pair entries.now) is_signed size stated) plain_content result }
 {
     let Some(order) = order_at(context, size, stated) else {
-        return Ok(None);
+        return Err(Gap::Missing);
     };
-    let Some(enumeration) = perhaps_enum(context, entries)? else {
-        return Ok(None);
-    };
-    Ok(Some(Content::Number {
+    let enumeration = perhaps_enum(context, entries)?;
+    Ok(Content::Number {
         is_signed,
         size,
         order,
         enumeration,
-    }))
+    })
 }
 
 /// A text.
-fn characters(context: Context, entries: &[Entry]) -> Option<Content>
-    ensures { option_map plain_content result ≡ option_map Characters (encoding_at (context_of context.entry) (map pair entries.now)) }
+fn characters(context: Context, entries: &[Entry]) -> Made<Content>
+    ensures { Makes (option_map Characters (encoding_at (context_of context.entry) (map pair entries.now))) plain_content result }
 {
     match encoding_at(context, entries) {
-        Some(encoding) => Some(Content::Characters(encoding)),
-        None => None,
+        Some(encoding) => Ok(Content::Characters(encoding)),
+        None => Err(Gap::Missing),
     }
 }
 
 /// What a type of the language means.
 #[tactic(auto, unfolding(crate::specs::Stated::language_content))]
 fn language_content(context: Context, entries: &[Entry], built_in: BuiltIn) -> Made<Content>
-    ensures { IfOk result (λ o. option_map plain_content o ≡ language_content (context_of context.entry) (map pair entries.now) built_in) }
+    ensures { Makes (language_content (context_of context.entry) (map pair entries.now) built_in) plain_content result }
 {
     match built_in {
         BuiltIn::Integer {
@@ -141,15 +135,16 @@ fn language_content(context: Context, entries: &[Entry], built_in: BuiltIn) -> M
             size,
             order,
         } => integer_content(context, entries, is_signed, size, order),
-        BuiltIn::Str => Ok(characters(context, entries)),
-        BuiltIn::Strz => Ok(characters(context, entries)),
-        BuiltIn::NotHere => Ok(None),
+        BuiltIn::Str | BuiltIn::Strz => characters(context, entries),
+        BuiltIn::NotHere => Err(Gap::Missing),
     }
 }
 
+// ---- types
+
 /// An object of a type of the description.
-fn object(context: Context, name: TypeName, arguments: Vec<Expr>) -> Option<Content>
-    ensures { option_map plain_content result ≡ option_map (λ n. Object n (all_numbered (declared context.entry.scopes.now) context.entry.names.now context.entry.within (arguments_of (map view arguments.items)))) (type_named (declared context.entry.scopes.now).types context.entry.within (map string_bytes name.path.items)) }
+fn object(context: Context, name: TypeName, arguments: Vec<Expr>) -> Made<Content>
+    ensures { Makes (option_map (λ n. Object n (all_numbered (declared context.entry.scopes.now) context.entry.names.now context.entry.within (arguments_of (map view arguments.items)))) (type_named (declared context.entry.scopes.now).types context.entry.within (map string_bytes name.path.items))) plain_content result }
 {
     match context
         .scopes
@@ -163,34 +158,187 @@ fn object(context: Context, name: TypeName, arguments: Vec<Expr>) -> Option<Cont
                 context.within,
                 &mut arguments,
             );
-            Some(Content::Object {
+            Ok(Content::Object {
                 type_number: number as u32,
                 arguments,
             })
         }
-        None => None,
+        None => Err(Gap::Missing),
     }
 }
 
 /// What a type's text means.
 #[tactic(auto, unfolding(crate::specs::Stated::content_of))]
 fn content_of(context: Context, entries: &[Entry], text: TypeText) -> Made<Content>
-    ensures { IfOk result (λ o. option_map plain_content o ≡ content_of (context_of context.entry) (map pair entries.now) (seen_type_text text)) }
+    ensures { Makes (content_of (context_of context.entry) (map pair entries.now) (seen_type_text text)) plain_content result }
 {
     match text {
-        TypeText::Unspelled(_) => Ok(None),
+        TypeText::Unspelled(_) => Err(Gap::Missing),
         TypeText::OfLanguage(built_in, _) => language_content(context, entries, built_in),
-        TypeText::OfDescription(name, arguments) => Ok(object(context, name, arguments)),
+        TypeText::OfDescription(name, arguments) => object(context, name, arguments),
     }
 }
 
 /// What the type at an entry means, in an attribute of these keys.
 #[tactic(auto, unfolding(crate::specs::Stated::content_at))]
-pub(crate) fn content_at(context: Context, entries: &[Entry], entry: &Entry) -> Made<Content>
-    ensures { IfOk result (λ o. option_map plain_content o ≡ content_at (context_of context.entry) (map pair entries.now) (pair entry.now)) }
+fn content_at(context: Context, entries: &[Entry], entry: &Entry) -> Made<Content>
+    ensures { Makes (content_at (context_of context.entry) (map pair entries.now) (pair entry.now)) plain_content result }
 {
     match entry.value().text() {
         Some(text) => content_of(context, entries, type_text(context.alloc, text)?),
-        None => Ok(None),
+        None => Err(Gap::Missing),
+    }
+}
+
+// ---- switches
+
+/// A copy of a value written in the text.
+fn copied(alloc: Global, literal: &Literal) -> Result<Literal, AllocError>
+    ensures { IfOk result (λ l. literal_of l ≡ literal_of literal.now) }
+{
+    match literal {
+        Literal::Number(number) => Ok(Literal::Number(*number)),
+        Literal::Truth(truth) => Ok(Literal::Truth(*truth)),
+        Literal::Text(text) => Ok(Literal::Text(String::from_str(alloc, text.as_str())?)),
+    }
+}
+
+/// What a key of `cases` is compared with; None for `_`.
+#[tactic(auto, unfolding(crate::specs::Stated::value_of))]
+fn value_of(context: Context, key: CaseKey) -> Made<Option<CaseValue>>
+    ensures { Makes (value_of (context_of context.entry) (seen_case_key key.entry)) (λ o. option_map plain_value o) result }
+{
+    match key {
+        CaseKey::Constant(literal) => {
+            Ok(Some(CaseValue::Literal(copied(context.alloc, literal)?)))
+        }
+        CaseKey::Negative(number) => Ok(Some(CaseValue::Negated(number))),
+        CaseKey::Member(member) => match given_member(context.scopes, context.within, member) {
+            Some(given) => Ok(Some(CaseValue::Member(given))),
+            None => Err(Gap::Missing),
+        },
+        CaseKey::Default => Ok(None),
+        CaseKey::NoKey => Err(Gap::Missing),
+    }
+}
+
+/// What an expression is compared with, if one was read.
+fn value_read(context: Context, read: &Result<Expr, ExprFault>) -> Made<Option<CaseValue>>
+    ensures { Makes (value_read (context_of context.entry) (seen_expression read.now)) (λ o. option_map plain_value o) result }
+{
+    match read {
+        Ok(expr) => value_of(context, case_key(expr)),
+        Err(_) => Err(Gap::Missing),
+    }
+}
+
+/// What the text of a key of `cases` is compared with.
+#[tactic(auto, unfolding(crate::specs::Stated::case_value))]
+fn case_value(context: Context, text: &[u8]) -> Made<Option<CaseValue>>
+    ensures { Makes (case_value (context_of context.entry) text.now) (λ o. option_map plain_value o) result }
+{
+    let read = read_expression(context.alloc, text)?;
+    value_read(context, &read)
+}
+
+/// A case.
+#[tactic(auto, unfolding(crate::specs::Stated::case_of))]
+fn case_of(context: Context, entries: &[Entry], case: &Entry) -> Made<Case>
+    ensures { Makes (case_of (context_of context.entry) (map pair entries.now) (pair case.now)) plain_case result }
+{
+    let value = case_value(context, case.key())?;
+    let (value, content) = both(value, content_at(context, entries, case))?;
+    Ok(Case { value, content })
+}
+
+/// The cases of a switch.
+fn cases_of(context: Context, entries: &[Entry], cases: &[Entry]) -> Made<Vec<Case>>
+    ensures { Makes (each (case_of (context_of context.entry) (map pair entries.now)) (map pair cases.now)) (λ v. map plain_case v.items) result }
+{
+    let mut made = Vec::new(context.alloc);
+    for case in cases {
+        made.push(case_of(context, entries, case)?)?;
+    }
+    Ok(made)
+}
+
+/// What a switch chooses.
+#[tactic(auto, unfolding(crate::specs::Stated::switch_of))]
+fn switch_of(context: Context, entries: &[Entry], keys: &[Entry]) -> Made<Choice>
+    ensures { Makes (switch_of (context_of context.entry) (map pair entries.now) (map pair keys.now)) plain_choice result }
+{
+    let on = expression_at(context, b"switch-on", keys)?;
+    let cases = cases_of(context, entries, entries_at(keys, b"cases"));
+    let (on, cases) = both(on, cases)?;
+    Ok(Choice::Switch { on, cases })
+}
+
+/// The content or switch at the key `type`: a text, or a switch.
+#[tactic(auto, unfolding(crate::specs::Stated::typed))]
+fn typed(context: Context, entries: &[Entry], entry: &Entry) -> Made<Choice>
+    ensures { Makes (typed (context_of context.entry) (map pair entries.now) (pair entry.now)) plain_choice result }
+{
+    match entry.value().entries() {
+        Some(keys) => switch_of(context, entries, keys),
+        None => Ok(Choice::Always(content_at(context, entries, entry)?)),
+    }
+}
+
+// ---- contents
+
+/// The bytes of all items, if each has bytes.
+fn joined(alloc: Global, items: &[Yaml]) -> Made<Vec<u8>>
+    ensures { Makes (joined (map view_node items.now)) (λ v. v.items) result }
+{
+    let mut bytes = Vec::new(alloc);
+    for item in items {
+        match piece_of(item) {
+            Piece::Byte(byte) => bytes.push(byte)?,
+            Piece::Text(text) => bytes.extend_from_slice(text)?,
+            Piece::Bad => return Err(Gap::Missing),
+            Piece::LeftOut => return Err(Gap::Missing),
+        }
+    }
+    Ok(bytes)
+}
+
+/// The bytes of a text; a plain number alone has none.
+fn text_bytes(alloc: Global, is_quoted: bool, text: &[u8]) -> Made<Vec<u8>>
+    ensures { Makes (text_bytes is_quoted text.now) (λ v. v.items) result }
+{
+    if !is_quoted && looks_like_number(text) {
+        return Err(Gap::Missing);
+    }
+    Ok(Vec::from_slice(alloc, text)?)
+}
+
+/// The bytes of a text or of a list.
+#[tactic(auto, using(crate::proofs::Joined::steps))]
+fn contents_of(alloc: Global, node: &Yaml) -> Made<Vec<u8>>
+    ensures { Makes (contents_of (view_node node.now)) (λ v. v.items) result }
+{
+    match node.text() {
+        Some(text) => text_bytes(alloc, node.is_quoted(), text),
+        None => match node.items() {
+            Some(items) => joined(alloc, items),
+            None => Err(Gap::Missing),
+        },
+    }
+}
+
+/// What an attribute of these keys reads; without a type and contents it is bytes.
+#[tactic(auto, unfolding(crate::specs::Stated::choice_of))]
+pub(crate) fn choice_of(context: Context, entries: &[Entry]) -> Made<Choice>
+    ensures { Makes (choice_of (context_of context.entry) (map pair entries.now)) plain_choice result }
+{
+    match find(entries, b"contents") {
+        Some(entry) => {
+            let bytes = contents_of(context.alloc, entry.value())?;
+            Ok(Choice::Always(Content::Fixed(bytes)))
+        }
+        None => match find(entries, b"type") {
+            Some(entry) => typed(context, entries, entry),
+            None => Ok(Choice::Always(Content::Bytes)),
+        },
     }
 }

@@ -1,20 +1,31 @@
-//! The names of a description: those of its members, and then those after dots.
+//! The names of a description, which are texts: those of its members, and then those after dots.
 
-ghost use Rattle.std.specs.Prelude.{◌≡◌, true, map, IfOk, OnOk, flat_map};
+ghost use Rattle.std.specs.Prelude.{◌≡◌, true, map, IfOk, OnOk, flat_map, option_map};
 ghost use Rattle.std.specs.List.{list_all};
 ghost use Rattle.ksv_yaml_tree.specs.View.{pair};
 ghost use Rattle.ksv_schema_scope.specs.Code.{member_of as row};
+ghost use Rattle.ksv_desc.specs.Description.{as_text};
 ghost use Rattle.ksv_desc.specs.Names.{distinct_behind};
 ghost use Rattle.ksv_schema_keys.specs.Code.{seen_type_text};
 ghost use Rattle.ksv_schema_build.specs.Stated.{expression_words, argument_words, type_words, form_words, key_words, member_words, names_in, are_texts};
 
-use crate::texts::as_text;
 use ksv_schema_keys::{Form, MappingKind, TypeText, form_in, kind_of, read_expression, type_text};
 use ksv_schema_names::Names;
 use ksv_schema_scope::Member;
 use ksv_yaml_tree::Entry;
 use ksv_yaml_tree::keys::{entries_at, entries_in};
 use std::alloc::{AllocError, Global};
+
+/// The text of these bytes, if they are one.
+#[tactic(auto, unfolding(ksv_desc::specs::Description::as_text))]
+pub(crate) fn as_text(bytes: &[u8]) -> Option<&str>
+    ensures { option_map (λ s. s.now) result ≡ as_text bytes.now }
+{
+    match str::from_utf8(bytes) {
+        Ok(text) => Some(text),
+        Err(_) => None,
+    }
+}
 
 /// Adds the names of members, as far as they are texts, and returns whether all are.
 fn add_members(names: &mut Names, members: &[Member]) -> Result<bool, AllocError>

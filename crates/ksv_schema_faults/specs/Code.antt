@@ -13,7 +13,7 @@ use Rattle.ksv_schema_scope.specs.Enums.{is_numbered, is_named}
 use Rattle.ksv_schema_keys.specs.Values.{byte_at}
 use Rattle.ksv_schema_keys.specs.Code.{kind_test}
 use Rattle.ksv_schema_faults.specs.declared.enumeration.Seen.{Seen}
-use Rattle.ksv_schema_faults.specs.declared.home.Home.{Home as HomeOfCode}
+use Rattle.ksv_schema_faults.specs.declared.expression.Home.{Home as HomeOfCode}
 use Rattle.ksv_schema_faults.specs.declared.fault.DescFault.{DescFault}
 use Rattle.ksv_schema_faults.specs.declared.fault.DescFaultKind.{DescFaultKind}
 use Rattle.ksv_schema_faults.specs.declared.fault.DescFaultKind.TheVariants as kinds

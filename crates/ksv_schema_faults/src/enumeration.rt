@@ -14,7 +14,7 @@ ghost use Rattle.ksv_schema_faults.specs.Code.{seen_fault, seen_home, has_number
 
 use crate::fault::DescFaultKind::{BadValue, KeysAgainst};
 use crate::fault::{Least, Noted, note, note_if};
-use crate::home::Home;
+use crate::expression::Home;
 use crate::key::note_numeral;
 use crate::member::id_line;
 use crate::rule::note_mapping;

@@ -2,24 +2,20 @@
 
 ghost use Rattle.std.specs.Prelude.{◌≡◌, OnOk, map, flat_map};
 ghost use Rattle.ksv_yaml_tree.specs.View.{view, pair};
-ghost use Rattle.ksv_schema_keys.specs.Expressions.{expression_of};
 ghost use Rattle.ksv_schema_keys.specs.Keys.{is_ignored};
 ghost use Rattle.ksv_schema_keys.specs.declared.keys.Form.TheVariants as forms;
 ghost use Rattle.ksv_schema_keys.specs.Values.{type_text, ids_of};
-ghost use Rattle.ksv_schema_keys.specs.Code.{seen_case_key};
 ghost use Rattle.ksv_schema_faults.specs.Faults.{noted};
-ghost use Rattle.ksv_schema_faults.specs.Rules.{fits, text_faults, type_text_faults, numeral_faults, endian_faults, bit_endian_faults, item_faults, contents_faults, enum_faults, case_value_faults, case_key_faults, case_type_faults, case_faults, form_faults, form_text_faults, key_faults};
+ghost use Rattle.ksv_schema_faults.specs.Rules.{fits, text_faults, type_text_faults, numeral_faults, endian_faults, bit_endian_faults, item_faults, contents_faults, enum_faults, form_faults, form_text_faults, key_faults};
 ghost use Rattle.ksv_schema_faults.specs.Code.{seen_fault, seen_home};
 
-use crate::expression::{note_expression, note_type_text};
-use crate::fault::DescFaultKind::{BadValue, LeftOut, NoExpression, UnknownKey, UnknownName};
+use crate::expression::{Home, note_expression, note_type_text};
+use crate::fault::DescFaultKind::{BadValue, LeftOut, UnknownKey, UnknownName};
 use crate::fault::{Least, Noted, note, note_if};
-use crate::home::Home;
 use ksv_schema_keys::{
-    CaseKey, Form, MappingKind, Piece, TypeKind, byte_number, case_key, encoding_named, form_in,
-    ids_of, is_id, is_of_kind, looks_like_number, piece_of, read_expression, type_text,
+    Form, MappingKind, Piece, byte_number, encoding_named, form_in, ids_of, is_id,
+    looks_like_number, piece_of, type_text,
 };
-use ksv_schema_names::given_member;
 use ksv_schema_scope::order_named;
 use ksv_yaml_tree::keys::{entries_in, has};
 use ksv_yaml_tree::{Entry, Numeral, Yaml};
@@ -125,70 +121,6 @@ fn note_enum(least: &mut Least, home: Home, line: usize, text: &[u8]) -> Noted
     Ok(())
 }
 
-/// Notes what can't be a key of `cases`.
-#[tactic(auto, using(crate::proofs::Noted::steps), unfolding(crate::specs::Rules::case_value_faults))]
-fn note_case_value(least: &mut Least, home: Home, line: usize, key: CaseKey)
-    ensures { seen_fault least.new ≡ noted (seen_fault least.old) (case_value_faults (seen_home home.entry) line (seen_case_key key.entry)) }
-{
-    match key {
-        CaseKey::Constant(_) => {}
-        CaseKey::Negative(_) => {}
-        CaseKey::Member(member) => {
-            let given = given_member(home.scopes, home.within, member);
-            note_if(least, given.is_none(), line, UnknownName);
-        }
-        CaseKey::Default => {}
-        CaseKey::NoKey => note(least, line, BadValue),
-    }
-}
-
-/// Notes the faults of a key of `cases`.
-#[tactic(auto, unfolding(crate::specs::Rules::case_key_faults))]
-fn note_case_key(least: &mut Least, home: Home, line: usize, text: &[u8]) -> Noted
-    ensures { OnOk result (seen_fault least.new ≡ noted (seen_fault least.old) (case_key_faults (seen_home home.entry) line (expression_of text.now))) }
-{
-    match read_expression(home.alloc, text)? {
-        Ok(expr) => note_case_value(least, home, line, case_key(&expr)),
-        Err(fault) => note(least, line, NoExpression(fault)),
-    }
-    Ok(())
-}
-
-/// Notes the faults of the text of a case's type; `str` and `strz` are unsupported.
-#[tactic(auto, using(crate::proofs::Noted::steps), unfolding(crate::specs::Rules::case_type_faults))]
-fn note_case_type(least: &mut Least, home: Home, line: usize, text: &[u8]) -> Noted
-    ensures { OnOk result (seen_fault least.new ≡ noted (seen_fault least.old) (case_type_faults (seen_home home.entry) line (type_text text.now))) }
-{
-    let text = type_text(home.alloc, text)?;
-    let is_text = is_of_kind(TypeKind::Str, &text) | is_of_kind(TypeKind::Strz, &text);
-    note_type_text(least, home, line, &text);
-    note_if(least, is_text, line, LeftOut);
-    Ok(())
-}
-
-/// Notes the faults of a case: of its key, and of its type.
-#[tactic(auto, using(crate::proofs::Noted::steps), unfolding(crate::specs::Rules::case_faults))]
-fn note_case(least: &mut Least, home: Home, entry: &Entry) -> Noted
-    ensures { OnOk result (seen_fault least.new ≡ noted (seen_fault least.old) (case_faults (seen_home home.entry) (pair entry.now))) }
-{
-    note_case_key(least, home, entry.line(), entry.key())?;
-    match entry.value().text() {
-        Some(text) => note_case_type(least, home, entry.line(), text)?,
-        None => note(least, entry.line(), BadValue),
-    }
-    Ok(())
-}
-
-/// Notes the faults of each case.
-fn note_cases(least: &mut Least, home: Home, entries: &[Entry]) -> Noted
-    ensures { OnOk result (seen_fault least.new ≡ noted (seen_fault least.old) (flat_map (case_faults (seen_home home.entry)) (map pair entries.now))) }
-{
-    for entry in entries {
-        note_case(least, home, entry)?;
-    }
-    Ok(())
-}
-
 /// Notes the faults of a text that is to be a type.
 fn note_type(least: &mut Least, home: Home, line: usize, text: &[u8]) -> Noted
     ensures { OnOk result (seen_fault least.new ≡ noted (seen_fault least.old) (type_text_faults (seen_home home.entry) line (type_text text.now))) }
@@ -238,18 +170,6 @@ fn note_text_at(least: &mut Least, home: Home, entry: &Entry, form: Form) -> Not
     Ok(())
 }
 
-/// Notes the faults of the cases at a key.
-#[tactic(auto, unfolding(crate::specs::Rules::form_faults))]
-fn note_cases_at(least: &mut Least, home: Home, entry: &Entry) -> Noted
-    ensures { OnOk result (seen_fault least.new ≡ noted (seen_fault least.old) (form_faults (seen_home home.entry) (pair entry.now) forms.Cases)) }
-{
-    match entry.value().entries() {
-        Some(entries) => note_cases(least, home, entries)?,
-        None => note(least, entry.line(), BadValue),
-    }
-    Ok(())
-}
-
 /// Notes the faults of the value at a key, by its form.
 #[tactic(auto, using(crate::proofs::Noted::steps), unfolding(crate::specs::Rules::form_faults))]
 fn note_form(least: &mut Least, home: Home, entry: &Entry, form: Form) -> Noted
@@ -260,17 +180,10 @@ fn note_form(least: &mut Least, home: Home, entry: &Entry, form: Form) -> Noted
     match form {
         Form::Ignored => {}
         Form::NotHere => note(least, line, LeftOut),
-        Form::Mapping => {
-            let is_mapping = value.entries().is_some();
-            note_if(least, !is_mapping, line, BadValue);
-        }
-        Form::Listing => {
-            let is_list = value.items().is_some();
-            note_if(least, !is_list, line, BadValue);
-        }
+        Form::Mapping | Form::Cases => note_if(least, value.entries().is_none(), line, BadValue),
+        Form::Listing => note_if(least, value.items().is_none(), line, BadValue),
         Form::Endian => note_endian(least, entry),
         Form::Contents => note_contents(least, entry),
-        Form::Cases => note_cases_at(least, home, entry)?,
         Form::TypeOrSwitch => {
             if value.entries().is_none() {
                 note_text_at(least, home, entry, form)?;

@@ -1,40 +1,252 @@
-//! The faults of parameters, attributes and instances.
+//! The faults of parameters, attributes and instances, and of the switches in them.
 
-ghost use Rattle.std.specs.Prelude.{◌≡◌, OnOk, map};
-ghost use Rattle.ksv_yaml_tree.specs.View.{view, pair};
+ghost use Rattle.std.specs.Prelude.{◌≡◌, OnOk, IfOk, None, Some, map, flat_map, if◌then◌else◌};
+ghost use Rattle.ksv_yaml_tree.specs.View.{pair, seen_entry, view};
+ghost use Rattle.ksv_schema_keys.specs.Code.{seen_type_at, seen_type_text, seen_case_key};
+ghost use Rattle.ksv_schema_keys.specs.Expressions.{expression_of};
+ghost use Rattle.ksv_schema_keys.specs.Values.{own_type, is_a, type_text};
+ghost use Rattle.ksv_schema_faults.specs.Faults.{noted};
+ghost use Rattle.ksv_schema_faults.specs.Rules.{is_declared, has_encoding, is_bounded, field_needs, field_left_out, field_faults, case_value_faults, case_key_faults, case_against, case_type_faults, case_faults, switch_keys_faults, switch_faults, kind_faults, member_mapping_faults, is_instance, id_line, name_line, is_named_again, member_faults, line_at, most_members, each_from, members_faults};
+ghost use Rattle.ksv_schema_faults.specs.Code.{seen_fault, seen_home, has_other_terminator};
 ghost use Rattle.ksv_schema_scope.specs.Table.{declared};
 ghost use Rattle.ksv_schema_scope.specs.Code.{member_of};
-ghost use Rattle.ksv_schema_faults.specs.Faults.{noted};
-ghost use Rattle.ksv_schema_faults.specs.Rules.{switch_faults, kind_faults, member_mapping_faults, is_instance, id_line, name_line, is_named_again, member_faults, line_at, most_members, each_from, members_faults};
-ghost use Rattle.ksv_schema_faults.specs.Code.{seen_fault, seen_home};
 
-use crate::fault::DescFaultKind::{BadValue, KeysAgainst, LeftOut};
 use crate::fault::{Least, Noted, note, note_if};
-use crate::field::note_field;
-use crate::home::{Home, home_of};
-use crate::limit::note_past;
-use crate::rule::note_mapping;
-use ksv_schema_keys::{MappingKind, is_id, kind_of};
+use crate::expression::{Home, home_of, note_type_text};
+use crate::fault::DescFaultKind::{BadValue, KeysAgainst, LeftOut, MissingKey, NoExpression, UnknownName};
+use crate::check::note_past;
+use crate::rule::{key_if, line_of_key, note_against, note_at_if, note_mapping};
+use ksv_schema_keys::{CaseKey, MappingKind, TypeKind, TypeText, byte_at, case_key, is_a, is_id, is_of_kind, kind_of, own_type, read_expression, type_text};
+use ksv_schema_names::given_member;
 use ksv_schema_scope::{Member, Role};
-use ksv_yaml_tree::keys::entries_in;
 use ksv_yaml_tree::{Entry, Yaml, find};
+use ksv_yaml_tree::keys::{entries_at, entries_in, has, says, text_at};
 
-/// Notes the faults of the mapping at `type`.
-#[tactic(auto, using(crate::proofs::Noted::steps), unfolding(crate::specs::Rules::switch_faults))]
-fn note_switch(least: &mut Least, home: Home, entries: &[Entry]) -> Noted
-    ensures { OnOk result (seen_fault least.new ≡ noted (seen_fault least.old) (switch_faults (seen_home home.entry) (map pair entries.now))) }
+// ---- what attributes and parse instances need
+
+/// Whether there is an encoding, the attribute's own or the one in force.
+fn has_encoding(home: Home, entries: &[Entry]) -> bool
+    ensures { result ≡ has_encoding (seen_home home.entry) (map pair entries.now) }
 {
-    match find(entries, b"type") {
+    text_at(entries, b"encoding").is_some() || home.scopes.encoding_of(home.within).is_some()
+}
+
+/// Whether a key bounds an attribute.
+fn is_bounded(entries: &[Entry]) -> bool
+    ensures { result ≡ is_bounded (map pair entries.now) }
+{
+    has(entries, b"size") || says(entries, b"size-eos", b"true") || has(entries, b"terminator")
+}
+
+/// Notes what an attribute needs but doesn't have.
+#[tactic(auto, using(crate::proofs::Noted::steps), unfolding(crate::specs::Rules::field_needs))]
+fn note_needs(
+    least: &mut Least,
+    home: Home,
+    line: usize,
+    typed: &Option<TypeText>,
+    entries: &[Entry],
+)
+    requires { seen_type_at typed.now ≡ own_type (map pair entries.now) }
+    ensures { seen_fault least.new ≡ noted (seen_fault least.old) (field_needs (seen_home home.entry) line (map pair entries.now)) }
+{
+    let is_bounded = is_bounded(entries);
+    let is_something = has(entries, b"type") | is_bounded | has(entries, b"contents");
+    let is_str = is_a(TypeKind::Str, typed);
+    let is_text = is_str | is_a(TypeKind::Strz, typed);
+    let is_readable = has_encoding(home, entries);
+    note_if(least, !is_something, line, MissingKey);
+    note_if(least, is_str & !is_bounded, line, MissingKey);
+    note_if(least, is_text & !is_readable, line, MissingKey);
+}
+
+/// Whether a type is one that the description declares.
+fn is_declared(home: Home, text: &TypeText) -> bool
+    ensures { result ≡ is_declared (seen_home home.entry) (seen_type_text text.now) }
+{
+    match text {
+        TypeText::OfDescription(name, _) => home
+            .scopes
+            .type_named(home.within, name.path.as_slice())
+            .is_some(),
+        TypeText::OfLanguage(..) | TypeText::Unspelled(_) => false,
+    }
+}
+
+/// Whether there is a type, and it is one that the description declares.
+fn is_object(home: Home, typed: &Option<TypeText>) -> bool
+    ensures { result ≡ is_a (is_declared (seen_home home.entry)) (seen_type_at typed.now) }
+{
+    match typed {
+        Some(text) => is_declared(home, text),
+        None => false,
+    }
+}
+
+/// Whether the terminator is another byte than 0.
+fn has_other_terminator(entries: &[Entry]) -> bool
+    ensures { result ≡ has_other_terminator (map pair entries.now) }
+{
+    match byte_at(entries, b"terminator") {
+        Some(byte) => byte != 0,
+        None => false,
+    }
+}
+
+/// Notes an unsupported terminator: of a type of the description, or of `strz` another one than 0.
+#[tactic(auto, using(crate::proofs::Noted::steps), unfolding(crate::specs::Rules::field_left_out))]
+fn note_left_out(least: &mut Least, home: Home, typed: &Option<TypeText>, entries: &[Entry])
+    requires { seen_type_at typed.now ≡ own_type (map pair entries.now) }
+    ensures { seen_fault least.new ≡ noted (seen_fault least.old) (field_left_out (seen_home home.entry) (map pair entries.now)) }
+{
+    let is_object = is_object(home, typed);
+    let is_other = is_a(TypeKind::Strz, typed) & has_other_terminator(entries);
+    let terminator = find(entries, b"terminator");
+    note_at_if(least, is_object, terminator, LeftOut);
+    note_at_if(least, is_other, terminator, LeftOut);
+}
+
+/// Notes what an attribute of these keys needs, and what is unsupported there.
+#[tactic(auto, using(crate::proofs::Noted::steps), unfolding(crate::specs::Rules::field_faults))]
+fn note_field(least: &mut Least, home: Home, line: usize, entries: &[Entry]) -> Noted
+    ensures { OnOk result (seen_fault least.new ≡ noted (seen_fault least.old) (field_faults (seen_home home.entry) line (map pair entries.now))) }
+{
+    let typed = own_type(home.alloc, entries)?;
+    note_needs(least, home, line, &typed, entries);
+    note_left_out(least, home, &typed, entries);
+    Ok(())
+}
+
+// ---- switches
+
+/// Notes what can't be a key of `cases`.
+#[tactic(auto, using(crate::proofs::Noted::steps), unfolding(crate::specs::Rules::case_value_faults))]
+fn note_case_value(least: &mut Least, home: Home, line: usize, key: CaseKey)
+    ensures { seen_fault least.new ≡ noted (seen_fault least.old) (case_value_faults (seen_home home.entry) line (seen_case_key key.entry)) }
+{
+    match key {
+        CaseKey::Constant(_) => {}
+        CaseKey::Negative(_) => {}
+        CaseKey::Member(member) => {
+            let given = given_member(home.scopes, home.within, member);
+            note_if(least, given.is_none(), line, UnknownName);
+        }
+        CaseKey::Default => {}
+        CaseKey::NoKey => note(least, line, BadValue),
+    }
+}
+
+/// Notes the faults of a key of `cases`.
+#[tactic(auto, unfolding(crate::specs::Rules::case_key_faults))]
+fn note_case_key(least: &mut Least, home: Home, line: usize, text: &[u8]) -> Noted
+    ensures { OnOk result (seen_fault least.new ≡ noted (seen_fault least.old) (case_key_faults (seen_home home.entry) line (expression_of text.now))) }
+{
+    match read_expression(home.alloc, text)? {
+        Ok(expr) => note_case_value(least, home, line, case_key(&expr)),
+        Err(fault) => note(least, line, NoExpression(fault)),
+    }
+    Ok(())
+}
+
+/// Notes what doesn't fit to a type of a case on this line, in an attribute of these keys.
+#[tactic(auto, using(crate::proofs::Noted::steps), unfolding(crate::specs::Rules::case_against))]
+fn note_case_against(
+    least: &mut Least,
+    home: Home,
+    entries: &[Entry],
+    line: usize,
+    text: &TypeText,
+)
+    ensures { seen_fault least.new ≡ noted (seen_fault least.old) (case_against (seen_home home.entry) (map pair entries.now) line (seen_type_text text.now)) }
+{
+    let is_text = is_of_kind(TypeKind::Str, text) | is_of_kind(TypeKind::Strz, text);
+    let is_object = is_declared(home, text);
+    let case = line_if(is_of_kind(TypeKind::Integer, text), line);
+    let to_end = key_if(says(entries, b"size-eos", b"true"), entries, b"size-eos");
+    let terminator = find(entries, b"terminator");
+    note_if(least, is_text, line, LeftOut);
+    note_against(least, case, line_of_key(find(entries, b"size")));
+    note_against(least, case, line_of_key(to_end));
+    note_against(least, case, line_of_key(terminator));
+    note_at_if(least, is_object, terminator, LeftOut);
+}
+
+/// Notes the faults of the text of a case's type.
+#[tactic(auto, using(crate::proofs::Noted::steps), unfolding(crate::specs::Rules::case_type_faults))]
+fn note_case_type(
+    least: &mut Least,
+    home: Home,
+    entries: &[Entry],
+    line: usize,
+    text: &[u8],
+) -> Noted
+    ensures { OnOk result (seen_fault least.new ≡ noted (seen_fault least.old) (case_type_faults (seen_home home.entry) (map pair entries.now) line (type_text text.now))) }
+{
+    let text = type_text(home.alloc, text)?;
+    note_type_text(least, home, line, &text);
+    note_case_against(least, home, entries, line, &text);
+    Ok(())
+}
+
+/// Notes the faults of a case: of its key, and of its type.
+#[tactic(auto, using(crate::proofs::Noted::steps), unfolding(crate::specs::Rules::case_faults))]
+fn note_case(least: &mut Least, home: Home, entries: &[Entry], case: &Entry) -> Noted
+    ensures { OnOk result (seen_fault least.new ≡ noted (seen_fault least.old) (case_faults (seen_home home.entry) (map pair entries.now) (pair case.now))) }
+{
+    note_case_key(least, home, case.line(), case.key())?;
+    match case.value().text() {
+        Some(text) => note_case_type(least, home, entries, case.line(), text)?,
+        None => note(least, case.line(), BadValue),
+    }
+    Ok(())
+}
+
+/// Notes the faults of each case.
+fn note_cases(least: &mut Least, home: Home, entries: &[Entry], cases: &[Entry]) -> Noted
+    ensures { OnOk result (seen_fault least.new ≡ noted (seen_fault least.old) (flat_map (case_faults (seen_home home.entry) (map pair entries.now)) (map pair cases.now))) }
+{
+    for case in cases {
+        note_case(least, home, entries, case)?;
+    }
+    Ok(())
+}
+
+/// Notes the faults of a switch with these keys.
+#[tactic(auto, using(crate::proofs::Noted::steps), unfolding(crate::specs::Rules::switch_keys_faults))]
+fn note_switch_keys(
+    least: &mut Least,
+    home: Home,
+    entries: &[Entry],
+    line: usize,
+    keys: &[Entry],
+) -> Noted
+    ensures { OnOk result (seen_fault least.new ≡ noted (seen_fault least.old) (switch_keys_faults (seen_home home.entry) (map pair entries.now) line (map pair keys.now))) }
+{
+    note_mapping(least, home, MappingKind::Switch, line, keys)?;
+    note_cases(least, home, entries, entries_at(keys, b"cases"))
+}
+
+/// Notes the faults of the mapping at `type`, if there is one, in an attribute of these keys.
+#[tactic(auto, using(crate::proofs::Noted::steps), unfolding(crate::specs::Rules::switch_faults))]
+fn note_switch(least: &mut Least, home: Home, entries: &[Entry], at: Option<&Entry>) -> Noted
+    ensures { OnOk result (seen_fault least.new ≡ noted (seen_fault least.old) (switch_faults (seen_home home.entry) (map pair entries.now) (seen_entry at.entry))) }
+{
+    match at {
         None => Ok(()),
         Some(entry) => match entry.value().entries() {
             None => Ok(()),
-            Some(keys) => {
-                let line = entry.value().line();
-                note_mapping(least, home, MappingKind::Switch, line, keys)
-            }
+            Some(keys) => note_switch_keys(least, home, entries, entry.value().line(), keys),
         },
     }
 }
+
+fn line_if(holds: bool, line: usize) -> Option<usize>
+    ensures { result ≡ (if holds then Some line else None) }
+{
+    if holds { Some(line) } else { None }
+}
+
+// ---- members
 
 /// Notes what else a member of this kind must be.
 #[tactic(auto, using(crate::proofs::Noted::steps), unfolding(crate::specs::Rules::kind_faults))]
@@ -50,11 +262,11 @@ fn note_kind(
 {
     match kind {
         MappingKind::Attribute | MappingKind::ParseInstance => {
-            note_switch(least, home, entries)?;
+            note_switch(least, home, entries, find(entries, b"type"))?;
             note_field(least, home, line, entries)?;
         }
         MappingKind::Placeless => {
-            note_switch(least, home, entries)?;
+            note_switch(least, home, &[], find(entries, b"type"))?;
             note(least, name_line, LeftOut);
         }
         _ => {}

@@ -120,7 +120,7 @@ pub fn is_a(kind: TypeKind, text: &Option<TypeText>) -> bool
 }
 
 /// The type whose text is at an entry.
-pub fn type_at(alloc: Global, entry: &Entry) -> Result<Option<TypeText>, AllocError>
+fn type_at(alloc: Global, entry: &Entry) -> Result<Option<TypeText>, AllocError>
     ensures { IfOk result (λ t. seen_type_at t ≡ type_at (pair entry.now)) }
 {
     match entry.value().text() {

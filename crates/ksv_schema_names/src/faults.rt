@@ -45,21 +45,14 @@ fn note(found: &mut Option<NameFault>, is_wrong: bool, fault: NameFault)
 fn has_place(site: Site) -> bool
     ensures { result ≡ has_place site }
 {
-    match site {
-        Site::Condition | Site::Size | Site::Count | Site::Until | Site::Switch => true,
-        Site::Argument | Site::Place | Site::Stream | Site::Value | Site::Case => false,
-    }
+    use Site::*;
+    matches!(site, Condition | Size | Count | Until | Switch)
 }
 
 fn is_of_element(site: Site) -> bool
     ensures { result ≡ is_of_element site }
 {
-    match site {
-        Site::Size | Site::Until | Site::Switch | Site::Argument => true,
-        Site::Condition | Site::Count | Site::Place | Site::Stream | Site::Value | Site::Case => {
-            false
-        }
-    }
+    matches!(site, Site::Size | Site::Until | Site::Switch | Site::Argument)
 }
 
 fn is_until(site: Site) -> bool
