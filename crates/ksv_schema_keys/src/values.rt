@@ -5,7 +5,7 @@ ghost use Rattle.ksv_yaml_tree.specs.View.{view, pair, seen_entry, seen_text};
 ghost use Rattle.std.specs.List.{list_all};
 ghost use Rattle.ksv_expr_tree.specs.Tree.{view as view_expression, view_type, literal_of, special, unary};
 ghost use Rattle.ksv_yaml_tree.specs.Numerals.{is_digit, is_numeral};
-ghost use Rattle.ksv_schema_keys.specs.Values.{encoding_named, of_name, type_text, is_integer, is_str, is_strz, is_a, type_at, own_type, byte_number, byte_at, looks_like_number, number_piece, piece_of, case_key};
+ghost use Rattle.ksv_schema_keys.specs.Values.{encoding_named, of_name, type_text, is_a, type_at, own_type, byte_number, byte_at, looks_like_number, number_piece, piece_of, case_key};
 ghost use Rattle.ksv_schema_keys.specs.Code.{seen_type_text, seen_type_at, kind_test, IsUpTo, seen_piece, seen_case_key, negative_constant, negative_key};
 ghost use Rattle.ksv_schema_names.specs.BuiltIn.{built_in_at};
 
@@ -78,34 +78,14 @@ pub enum TypeKind {
     Strz,
 }
 
-fn is_integer(text: &TypeText) -> bool
-    ensures { result ≡ is_integer (seen_type_text text.now) }
-{
-    matches!(text, TypeText::OfLanguage(BuiltIn::Integer { .. }, _))
-}
-
-/// Whether a type is `str`.
-fn is_str(text: &TypeText) -> bool
-    ensures { result ≡ is_str (seen_type_text text.now) }
-{
-    matches!(text, TypeText::OfLanguage(BuiltIn::Str, _))
-}
-
-/// Whether a type is `strz`.
-fn is_strz(text: &TypeText) -> bool
-    ensures { result ≡ is_strz (seen_type_text text.now) }
-{
-    matches!(text, TypeText::OfLanguage(BuiltIn::Strz, _))
-}
-
 /// Whether a type is of this kind.
 pub fn is_of_kind(kind: TypeKind, text: &TypeText) -> bool
     ensures { result ≡ kind_test kind (seen_type_text text.now) }
 {
     match kind {
-        TypeKind::Integer => is_integer(text),
-        TypeKind::Str => is_str(text),
-        TypeKind::Strz => is_strz(text),
+        TypeKind::Integer => matches!(text, TypeText::OfLanguage(BuiltIn::Integer { .. }, _)),
+        TypeKind::Str => matches!(text, TypeText::OfLanguage(BuiltIn::Str, _)),
+        TypeKind::Strz => matches!(text, TypeText::OfLanguage(BuiltIn::Strz, _)),
     }
 }
 
