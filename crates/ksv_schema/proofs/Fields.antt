@@ -11,7 +11,7 @@ use Rattle.ksv_schema_scope.specs.Members.{is_in_params}
 use Rattle.ksv_schema_names.specs.declared.position.Site.{Site}
 use Rattle.ksv_schema_names.specs.declared.position.Site.TheVariants as sites
 use Rattle.ksv_desc.specs.Names.{has_names}
-use Rattle.ksv_schema_faults.specs.Faults.{Fault, fault, fault_if, missing_key, bad_value, left_out}
+use Rattle.ksv_schema_faults.specs.Faults.{Fault, fault_if, missing_key, left_out}
 use Rattle.ksv_schema_keys.specs.declared.keys.Form.TheVariants as forms
 use Rattle.ksv_schema_keys.specs.declared.keys.MappingKind.{MappingKind}
 use Rattle.ksv_schema_keys.specs.declared.keys.MappingKind.TheVariants as kinds
@@ -19,7 +19,7 @@ use Rattle.ksv_schema_keys.specs.declared.keys.Group.TheVariants as groups
 use Rattle.ksv_schema_keys.specs.Keys.{is_in, kind_of as mapping_kind, form_among, form_in, is_ignored}
 use Rattle.ksv_schema_keys.specs.Values.{TypeText, type_text, is_str, is_strz, type_at, own_type, is_a, contents_of, is_to_end}
 use Rattle.ksv_schema_faults.specs.Rules.{Home, text_faults, type_text_faults, contents_faults, case_faults, form_faults, key_faults, has_encoding, Has, Says, Needs, claimed, rule_faults, ruled_faults, rules, mapping_faults, field_needs, field_left_out, field_faults, switch_keys_faults, switch_faults, kind_faults}
-use Rattle.ksv_schema_build.specs.Stated.{argument_words, perhaps_expression, type_words, form_words, key_words, expression_at, content_at, content_of, case_of, switch_of, typed, choice_of, extent_of, repeat_of, field_of, parse_instance_of, value_instance_of, kind_of, each}
+use Rattle.ksv_schema_build.specs.Stated.{argument_words, perhaps_expression, type_words, form_words, key_words, expression_at, content_at, content_of, switch_of, typed, choice_of, extent_of, repeat_of, field_of, parse_instance_of, value_instance_of, kind_of}
 use Rattle.ksv_desc.specs.Description.{Always, Switch, Bytes, Fixed, Sized, SizeEos, ByItself, Once, Eos, Expr, Until, MemberKind, Parameter, Attribute, ParseInstance, ValueInstance}
 use Rattle.ksv_desc.specs.Resolved.{is_parameter, IfAny, IsResolvedTree, IsResolvedContent, IsResolvedChoice, IsResolvedExtent, IsResolvedRepeat, IsResolvedField, IsResolvedKind}
 use Rattle.ksv_schema.proofs.Coherent.{Is, IsRead, front, back, not_if, no_fault, is_map, is_bind, at_key, ruled_is, has_text, context, some_of, not_missing}

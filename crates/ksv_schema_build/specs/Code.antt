@@ -3,15 +3,13 @@ use Rattle.std.specs.Prelude.{◌≡◌, ℕ, List, [], Option, Some, None, Resu
 use Rattle.ksv_yaml_tree.specs.Tree.{Pair}
 use Rattle.ksv_yaml_tree.specs.Keys.{text_at}
 use Rattle.ksv_expr_syntax.specs.Reading.{◌>>=◌}
-use Rattle.ksv_expr_tree.specs.Tree as expressions
 use Rattle.ksv_schema_scope.specs.Table.{declared}
 use Rattle.ksv_schema_scope.specs.Types.{enum_from}
-use Rattle.ksv_schema_keys.specs.Values.{case_key, ids_of}
+use Rattle.ksv_schema_keys.specs.Values.{ids_of}
 use Rattle.ksv_schema_build.specs.declared.piece.Context.{Context as CodeContext}
 use Rattle.ksv_schema_build.specs.declared.piece.Gap.{Gap}
 use Rattle.ksv_schema_build.specs.declared.piece.Gap.TheVariants as gaps
-use Rattle.ksv_schema_build.specs.Stated.{Context, value_of}
-use Rattle.ksv_desc.specs.Description.{CaseValue}
+use Rattle.ksv_schema_build.specs.Stated.{Context}
 
 abbrev pub context_of : CodeContext → Context
 context_of c = record { declared = declared c.scopes.now; names = c.names.now; within = c.within }
@@ -27,13 +25,6 @@ abbrev pub both : {A B E : Type 0} → A → Result B E → Result (A × B) E
 both one (Ok next) = Ok (one, next)
 both one (Err e) = Err e
 
--- the enum of a path, and the one at the key `enum`
-abbrev pub enum_of : Context → Option (List (List ℕ)) → Option ℕ
-enum_of c path = path >>= enum_from c.declared.types c.declared.enums c.within []
-
+-- the enum at the key `enum`
 abbrev pub enum_at : Context → List Pair → Option ℕ
 enum_at c es = text_at (codes "enum") es >>= ids_of >>= enum_from c.declared.types c.declared.enums c.within []
-
--- the value of a key of `cases` that was read
-abbrev pub value_read : Context → Option expressions.Tree → Option (Option CaseValue)
-value_read c read = read >>= λ e. value_of c (case_key e)

@@ -7,15 +7,14 @@ ghost use Rattle.ksv_schema_scope.specs.Table.{declared};
 ghost use Rattle.ksv_schema_scope.specs.Types.{type_named};
 ghost use Rattle.ksv_schema_names.specs.Numbered.{all_numbered};
 ghost use Rattle.ksv_schema_keys.specs.Values.{joined, text_bytes, contents_of};
-ghost use Rattle.ksv_schema_keys.specs.Code.{seen_path, seen_type_text, seen_case_key, seen_expression};
-ghost use Rattle.ksv_desc.specs.Description.{Characters, Object, Always, Fixed};
+ghost use Rattle.ksv_schema_keys.specs.Code.{seen_type_text, seen_case_key};
+ghost use Rattle.ksv_desc.specs.Description.{Object};
 ghost use Rattle.ksv_desc.specs.Pieces.{plain_content, plain_value, plain_case, plain_choice};
 ghost use Rattle.ksv_schema_build.specs.Stated.{perhaps_enum, encoding_at, order_at, integer_content, language_content, content_of, content_at, value_of, case_value, case_of, each, switch_of, typed, choice_of};
-ghost use Rattle.ksv_schema_build.specs.Code.{context_of, Makes, enum_of, enum_at, value_read};
+ghost use Rattle.ksv_schema_build.specs.Code.{context_of, Makes, enum_at};
 
 use crate::piece::{Context, Gap, Made, both, expression_at};
 use ksv_desc::{Case, CaseValue, Choice, Content};
-use ksv_expr_syntax::ExprFault;
 use ksv_expr_tree::{Expr, Literal, TypeName};
 use ksv_expr_value::Encoding;
 use ksv_schema_keys::{
@@ -30,25 +29,18 @@ use std::alloc::{AllocError, Global};
 
 // ---- integers and texts
 
-/// The number of the enum of this path.
-fn enum_of(context: Context, path: &Option<Vec<String>>) -> Made<u32>
-    ensures { Makes (enum_of (context_of context.entry) (seen_path path.now)) (λ n. n) result }
-{
-    match path {
-        Some(path) => match context.scopes.enum_named(context.within, path.as_slice()) {
-            Some(number) => Ok(number as u32),
-            None => Err(Gap::Missing),
-        },
-        None => Err(Gap::Missing),
-    }
-}
-
 /// The number of the enum at the key `enum`.
 fn enum_at(context: Context, entries: &[Entry]) -> Made<u32>
     ensures { Makes (enum_at (context_of context.entry) (map pair entries.now)) (λ n. n) result }
 {
     match text_at(entries, b"enum") {
-        Some(text) => enum_of(context, &ids_of(context.alloc, text)?),
+        Some(text) => match ids_of(context.alloc, text)? {
+            Some(path) => match context.scopes.enum_named(context.within, path.as_slice()) {
+                Some(number) => Ok(number as u32),
+                None => Err(Gap::Missing),
+            },
+            None => Err(Gap::Missing),
+        },
         None => Err(Gap::Missing),
     }
 }
@@ -114,16 +106,6 @@ fn integer_content(
     })
 }
 
-/// A text.
-fn characters(context: Context, entries: &[Entry]) -> Made<Content>
-    ensures { Makes (option_map Characters (encoding_at (context_of context.entry) (map pair entries.now))) plain_content result }
-{
-    match encoding_at(context, entries) {
-        Some(encoding) => Ok(Content::Characters(encoding)),
-        None => Err(Gap::Missing),
-    }
-}
-
 /// What a type of the language means.
 #[tactic(auto, unfolding(crate::specs::Stated::language_content))]
 fn language_content(context: Context, entries: &[Entry], built_in: BuiltIn) -> Made<Content>
@@ -135,7 +117,10 @@ fn language_content(context: Context, entries: &[Entry], built_in: BuiltIn) -> M
             size,
             order,
         } => integer_content(context, entries, is_signed, size, order),
-        BuiltIn::Str | BuiltIn::Strz => characters(context, entries),
+        BuiltIn::Str | BuiltIn::Strz => match encoding_at(context, entries) {
+            Some(encoding) => Ok(Content::Characters(encoding)),
+            None => Err(Gap::Missing),
+        },
         BuiltIn::NotHere => Err(Gap::Missing),
     }
 }
@@ -222,23 +207,15 @@ fn value_of(context: Context, key: CaseKey) -> Made<Option<CaseValue>>
     }
 }
 
-/// What an expression is compared with, if one was read.
-fn value_read(context: Context, read: &Result<Expr, ExprFault>) -> Made<Option<CaseValue>>
-    ensures { Makes (value_read (context_of context.entry) (seen_expression read.now)) (λ o. option_map plain_value o) result }
-{
-    match read {
-        Ok(expr) => value_of(context, case_key(expr)),
-        Err(_) => Err(Gap::Missing),
-    }
-}
-
 /// What the text of a key of `cases` is compared with.
 #[tactic(auto, unfolding(crate::specs::Stated::case_value))]
 fn case_value(context: Context, text: &[u8]) -> Made<Option<CaseValue>>
     ensures { Makes (case_value (context_of context.entry) text.now) (λ o. option_map plain_value o) result }
 {
-    let read = read_expression(context.alloc, text)?;
-    value_read(context, &read)
+    match read_expression(context.alloc, text)? {
+        Ok(expr) => value_of(context, case_key(&expr)),
+        Err(_) => Err(Gap::Missing),
+    }
 }
 
 /// A case.

@@ -6,8 +6,7 @@ ghost use Rattle.ksv_yaml_tree.specs.View.{pair};
 ghost use Rattle.ksv_schema_scope.specs.Code.{member_of as row};
 ghost use Rattle.ksv_desc.specs.Description.{as_text};
 ghost use Rattle.ksv_desc.specs.Names.{distinct_behind};
-ghost use Rattle.ksv_schema_keys.specs.Code.{seen_type_text};
-ghost use Rattle.ksv_schema_build.specs.Stated.{expression_words, argument_words, type_words, form_words, key_words, member_words, names_in, are_texts};
+ghost use Rattle.ksv_schema_build.specs.Stated.{type_words, form_words, key_words, member_words, names_in, are_texts};
 
 use ksv_schema_keys::{Form, MappingKind, TypeText, form_in, kind_of, read_expression, type_text};
 use ksv_schema_names::Names;
@@ -57,39 +56,18 @@ pub(crate) fn add_all_members<'a>(
     Ok(true)
 }
 
-/// Adds the names after dots of an expression's text.
-#[tactic(auto, using(ksv_desc::proofs::Dots::steps), unfolding(crate::specs::Stated::expression_words))]
-fn add_expression(alloc: Global, names: &mut Names, text: &[u8]) -> Result<(), AllocError>
-    ensures { OnOk result (names.new ≡ distinct_behind names.old (expression_words text.now)) }
-{
-    match read_expression(alloc, text)? {
-        Ok(expr) => names.add_dotted(&expr),
-        Err(_) => Ok(()),
-    }
-}
-
-/// Adds the names after dots in the arguments of a type.
-#[tactic(auto, using(ksv_desc::proofs::Dots::steps))]
-fn add_arguments(names: &mut Names, text: &TypeText) -> Result<(), AllocError>
-    ensures { OnOk result (names.new ≡ distinct_behind names.old (argument_words (seen_type_text text.now))) }
-{
-    match text {
-        TypeText::Unspelled(_) => Ok(()),
-        TypeText::OfLanguage(_, arguments) => names.add_all_dotted(arguments),
-        TypeText::OfDescription(_, arguments) => names.add_all_dotted(arguments),
-    }
-}
-
 /// Adds the names after dots of the type at an entry.
 #[tactic(auto, using(ksv_desc::proofs::Dots::steps), unfolding(crate::specs::Stated::type_words))]
 fn add_type(alloc: Global, names: &mut Names, entry: &Entry) -> Result<(), AllocError>
     ensures { OnOk result (names.new ≡ distinct_behind names.old (type_words (pair entry.now))) }
 {
     match entry.value().text() {
-        Some(text) => {
-            let text = type_text(alloc, text)?;
-            add_arguments(names, &text)
-        }
+        Some(text) => match type_text(alloc, text)? {
+            TypeText::Unspelled(_) => Ok(()),
+            TypeText::OfLanguage(_, arguments) | TypeText::OfDescription(_, arguments) => {
+                names.add_all_dotted(&arguments)
+            }
+        },
         None => Ok(()),
     }
 }
@@ -105,13 +83,16 @@ fn add_types(alloc: Global, names: &mut Names, entries: &[Entry]) -> Result<(), 
 }
 
 /// Adds the names after dots of the value at an entry, by its form.
-#[tactic(auto, using(ksv_desc::proofs::Dots::steps), unfolding(crate::specs::Stated::form_words))]
+#[tactic(auto, using(ksv_desc::proofs::Dots::steps), unfolding(crate::specs::Stated::form_words, crate::specs::Stated::expression_words))]
 fn add_form(alloc: Global, names: &mut Names, entry: &Entry, form: Form) -> Result<(), AllocError>
     ensures { OnOk result (names.new ≡ distinct_behind names.old (form_words (pair entry.now) form)) }
 {
     match form {
         Form::Expression(_) => match entry.value().text() {
-            Some(text) => add_expression(alloc, names, text),
+            Some(text) => match read_expression(alloc, text)? {
+                Ok(expr) => names.add_dotted(&expr),
+                Err(_) => Ok(()),
+            },
             None => Ok(()),
         },
         Form::TypeOrSwitch => add_type(alloc, names, entry),

@@ -3,7 +3,7 @@
 ghost use Rattle.std.specs.Prelude.{◌≡◌, map, option_map};
 ghost use Rattle.ksv_yaml_tree.specs.View.{pair};
 ghost use Rattle.ksv_expr_tree.specs.Tree.{view};
-ghost use Rattle.ksv_schema_build.specs.Stated.{expression, expression_at, perhaps_expression};
+ghost use Rattle.ksv_schema_build.specs.Stated.{expression_at, perhaps_expression};
 ghost use Rattle.ksv_schema_build.specs.Code.{context_of, both, Makes};
 
 use ksv_expr_tree::Expr;
@@ -68,27 +68,19 @@ pub(crate) fn both<A: Drop, B: Drop>(one: A, next: Made<B>) -> Made<(A, B)>
     }
 }
 
-/// The expression that a text is, with its names resolved.
-#[tactic(auto, unfolding(crate::specs::Stated::expression))]
-fn expression(context: Context, text: &[u8]) -> Made<Expr>
-    ensures { Makes (expression (context_of context.entry) text.now) view result }
-{
-    match read_expression(context.alloc, text)? {
-        Ok(mut expr) => {
-            number_expr(context.scopes, context.names, context.within, &mut expr);
-            Ok(expr)
-        }
-        Err(_) => Err(Gap::Missing),
-    }
-}
-
-/// The expression at a key.
-#[tactic(auto, unfolding(crate::specs::Stated::expression_at))]
+/// The expression at a key, with its names resolved.
+#[tactic(auto, unfolding(crate::specs::Stated::expression_at, crate::specs::Stated::expression))]
 pub(crate) fn expression_at(context: Context, key: &[u8], entries: &[Entry]) -> Made<Expr>
     ensures { Makes (expression_at (context_of context.entry) key.now (map pair entries.now)) view result }
 {
     match text_at(entries, key) {
-        Some(text) => expression(context, text),
+        Some(text) => match read_expression(context.alloc, text)? {
+            Ok(mut expr) => {
+                number_expr(context.scopes, context.names, context.within, &mut expr);
+                Ok(expr)
+            }
+            Err(_) => Err(Gap::Missing),
+        },
         None => Err(Gap::Missing),
     }
 }

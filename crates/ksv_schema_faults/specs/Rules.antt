@@ -376,10 +376,6 @@ member_faults d n i m =
 
 -- ---- enums
 
--- an enum: its name, and that it is a mapping
-unfoldable pub enum_row_faults : Row → List Fault
-enum_row_faults r = fault_if (not (is_id r.id)) r.line bad_value ++ fault_if (is_none (mapping_of r.value)) r.line bad_value
-
 -- the value of an entry: an id, or a mapping with an id
 unfoldable pub entry_value_faults : Home → Pair → List Fault
 entry_value_faults h p =
@@ -406,8 +402,12 @@ abbrev pub each_from : {A : Type 0} → (ℕ → A → List Fault) → ℕ → L
 each_from faults n [] = []
 each_from faults n (x ∷ xs) = faults n x ++ each_from faults (n + 1) xs
 
+-- an enum: its name, that it is a mapping, and its entries
 unfoldable pub enum_faults_of : Home → Row → List Fault
-enum_faults_of h r = enum_row_faults r ++ each_from (λ i. entry_faults h (take i (keys_of r))) 0 (keys_of r)
+enum_faults_of h r =
+    fault_if (not (is_id r.id)) r.line bad_value
+    ++ fault_if (is_none (mapping_of r.value)) r.line bad_value
+    ++ each_from (λ i. entry_faults h (take i (keys_of r))) 0 (keys_of r)
 
 -- ---- types
 

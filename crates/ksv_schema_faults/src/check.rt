@@ -11,7 +11,6 @@ ghost use Rattle.ksv_schema_faults.specs.Faults.{noted};
 ghost use Rattle.ksv_schema_faults.specs.Rules.{past, line_past, most_entries, meta_faults, type_keys_faults, type_faults, members_faults, home_in, enum_faults_of, each_from, line_at, most_types, faults_of};
 ghost use Rattle.ksv_schema_faults.specs.Code.{seen_fault, AreRising, seen_home};
 ghost use Rattle.ksv_schema_scope.specs.Table.{declared};
-ghost use Rattle.ksv_schema_keys.specs.declared.keys.MappingKind.TheVariants as kinds;
 
 use crate::enumeration::note_enum;
 use crate::fault::{DescFault, Least, Noted, note, note_if};

@@ -7,7 +7,6 @@ ghost use Rattle.ksv_schema_keys.specs.Values.{is_repeated};
 ghost use Rattle.ksv_schema_faults.specs.Rules.{home_in, home_of, is_attribute, position_at, name_fault, expression_faults, argument_faults, language_faults, count_faults, type_text_faults};
 ghost use Rattle.ksv_schema_faults.specs.Code.{seen_home, seen_fault};
 ghost use Rattle.ksv_expr_tree.specs.Tree.{view, arguments_of};
-ghost use Rattle.ksv_desc.specs.Resolved.{count};
 ghost use Rattle.ksv_schema_keys.specs.Expressions.{expression_of};
 ghost use Rattle.ksv_schema_faults.specs.Faults.{noted};
 ghost use Rattle.ksv_schema_keys.specs.Code.{seen_type_text};
@@ -157,16 +156,8 @@ fn note_count(least: &mut Least, home: Home, line: usize, count: usize, found: O
     }
 }
 
-/// How many arguments there are.
-#[tactic(auto, using(ksv_schema_names::proofs::Forms::count_map))]
-fn count(arguments: &[Expr]) -> usize
-    ensures { result ≡ count (arguments_of (map view arguments.now)) }
-{
-    arguments.len()
-}
-
 /// Notes the faults of a type's text.
-#[tactic(auto, using(crate::proofs::Noted::steps), unfolding(crate::specs::Rules::type_text_faults))]
+#[tactic(auto, using(crate::proofs::Noted::steps, ksv_schema_names::proofs::Forms::count_map), unfolding(crate::specs::Rules::type_text_faults))]
 pub(crate) fn note_type_text(least: &mut Least, home: Home, line: usize, text: &TypeText)
     ensures { seen_fault least.new ≡ noted (seen_fault least.old) (type_text_faults (seen_home home.entry) line (seen_type_text text.now)) }
 {
@@ -174,14 +165,14 @@ pub(crate) fn note_type_text(least: &mut Least, home: Home, line: usize, text: &
         TypeText::Unspelled(fault) => note(least, line, NoExpression(*fault)),
         TypeText::OfLanguage(built_in, arguments) => {
             let arguments = arguments.as_slice();
-            let given = count(arguments);
+            let given = arguments.len();
             note_if(least, given != 0, line, WrongCount);
             note_language(least, home, line, *built_in);
             note_arguments(least, home, line, arguments);
         }
         TypeText::OfDescription(name, arguments) => {
             let arguments = arguments.as_slice();
-            let given = count(arguments);
+            let given = arguments.len();
             let found = home.scopes.type_named(home.within, name.path.as_slice());
             note_count(least, home, line, given, found);
             note_arguments(least, home, line, arguments);

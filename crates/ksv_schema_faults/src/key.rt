@@ -3,7 +3,6 @@
 ghost use Rattle.std.specs.Prelude.{◌≡◌, OnOk, map, flat_map};
 ghost use Rattle.ksv_yaml_tree.specs.View.{view, pair};
 ghost use Rattle.ksv_schema_keys.specs.Keys.{is_ignored};
-ghost use Rattle.ksv_schema_keys.specs.declared.keys.Form.TheVariants as forms;
 ghost use Rattle.ksv_schema_keys.specs.Values.{type_text, ids_of};
 ghost use Rattle.ksv_schema_faults.specs.Faults.{noted};
 ghost use Rattle.ksv_schema_faults.specs.Rules.{fits, text_faults, type_text_faults, numeral_faults, endian_faults, bit_endian_faults, item_faults, contents_faults, enum_faults, form_faults, form_text_faults, key_faults};
@@ -121,15 +120,6 @@ fn note_enum(least: &mut Least, home: Home, line: usize, text: &[u8]) -> Noted
     Ok(())
 }
 
-/// Notes the faults of a text that is to be a type.
-fn note_type(least: &mut Least, home: Home, line: usize, text: &[u8]) -> Noted
-    ensures { OnOk result (seen_fault least.new ≡ noted (seen_fault least.old) (type_text_faults (seen_home home.entry) line (type_text text.now))) }
-{
-    let text = type_text(home.alloc, text)?;
-    note_type_text(least, home, line, &text);
-    Ok(())
-}
-
 /// Notes a bit order other than `be`; `le` is unsupported.
 #[tactic(auto, using(crate::proofs::Noted::steps), unfolding(crate::specs::Rules::bit_endian_faults))]
 fn note_bit_endian(least: &mut Least, line: usize, text: &[u8])
@@ -149,7 +139,10 @@ fn note_text(least: &mut Least, home: Home, line: usize, form: Form, text: &[u8]
 {
     match form {
         Form::Expression(site) => note_expression(least, home, site, line, text)?,
-        Form::TypeOrSwitch => note_type(least, home, line, text)?,
+        Form::TypeOrSwitch => {
+            let text = type_text(home.alloc, text)?;
+            note_type_text(least, home, line, &text);
+        }
         Form::EnumName => note_enum(least, home, line, text)?,
         Form::Byte => note_numeral(least, line, byte_number(text)),
         Form::BitEndian => note_bit_endian(least, line, text),

@@ -6,7 +6,7 @@ ghost use Rattle.ksv_schema_keys.specs.Code.{seen_type_at, seen_type_text, seen_
 ghost use Rattle.ksv_schema_keys.specs.Expressions.{expression_of};
 ghost use Rattle.ksv_schema_keys.specs.Values.{own_type, is_a, type_text};
 ghost use Rattle.ksv_schema_faults.specs.Faults.{noted};
-ghost use Rattle.ksv_schema_faults.specs.Rules.{is_declared, has_encoding, is_bounded, field_needs, field_left_out, field_faults, case_value_faults, case_key_faults, case_against, case_type_faults, case_faults, switch_keys_faults, switch_faults, kind_faults, member_mapping_faults, is_instance, id_line, name_line, is_named_again, member_faults, line_at, most_members, each_from, members_faults};
+ghost use Rattle.ksv_schema_faults.specs.Rules.{is_declared, field_needs, field_left_out, field_faults, case_value_faults, case_key_faults, case_against, case_type_faults, case_faults, switch_keys_faults, switch_faults, kind_faults, member_mapping_faults, is_instance, id_line, name_line, is_named_again, member_faults, line_at, most_members, each_from, members_faults};
 ghost use Rattle.ksv_schema_faults.specs.Code.{seen_fault, seen_home, has_other_terminator};
 ghost use Rattle.ksv_schema_scope.specs.Table.{declared};
 ghost use Rattle.ksv_schema_scope.specs.Code.{member_of};
@@ -24,20 +24,6 @@ use ksv_yaml_tree::keys::{entries_at, entries_in, has, says, text_at};
 
 // ---- what attributes and parse instances need
 
-/// Whether there is an encoding, the attribute's own or the one in force.
-fn has_encoding(home: Home, entries: &[Entry]) -> bool
-    ensures { result ≡ has_encoding (seen_home home.entry) (map pair entries.now) }
-{
-    text_at(entries, b"encoding").is_some() || home.scopes.encoding_of(home.within).is_some()
-}
-
-/// Whether a key bounds an attribute.
-fn is_bounded(entries: &[Entry]) -> bool
-    ensures { result ≡ is_bounded (map pair entries.now) }
-{
-    has(entries, b"size") || says(entries, b"size-eos", b"true") || has(entries, b"terminator")
-}
-
 /// Notes what an attribute needs but doesn't have.
 #[tactic(auto, using(crate::proofs::Noted::steps), unfolding(crate::specs::Rules::field_needs))]
 fn note_needs(
@@ -50,11 +36,13 @@ fn note_needs(
     requires { seen_type_at typed.now ≡ own_type (map pair entries.now) }
     ensures { seen_fault least.new ≡ noted (seen_fault least.old) (field_needs (seen_home home.entry) line (map pair entries.now)) }
 {
-    let is_bounded = is_bounded(entries);
+    let is_sized = has(entries, b"size") | says(entries, b"size-eos", b"true");
+    let is_bounded = is_sized | has(entries, b"terminator");
     let is_something = has(entries, b"type") | is_bounded | has(entries, b"contents");
     let is_str = is_a(TypeKind::Str, typed);
     let is_text = is_str | is_a(TypeKind::Strz, typed);
-    let is_readable = has_encoding(home, entries);
+    let has_own = text_at(entries, b"encoding").is_some();
+    let is_readable = has_own | home.scopes.encoding_of(home.within).is_some();
     note_if(least, !is_something, line, MissingKey);
     note_if(least, is_str & !is_bounded, line, MissingKey);
     note_if(least, is_text & !is_readable, line, MissingKey);
@@ -248,34 +236,8 @@ fn line_if(holds: bool, line: usize) -> Option<usize>
 
 // ---- members
 
-/// Notes what else a member of this kind must be.
-#[tactic(auto, using(crate::proofs::Noted::steps), unfolding(crate::specs::Rules::kind_faults))]
-fn note_kind(
-    least: &mut Least,
-    home: Home,
-    kind: MappingKind,
-    name_line: usize,
-    line: usize,
-    entries: &[Entry],
-) -> Noted
-    ensures { OnOk result (seen_fault least.new ≡ noted (seen_fault least.old) (kind_faults (seen_home home.entry) kind name_line line (map pair entries.now))) }
-{
-    match kind {
-        MappingKind::Attribute | MappingKind::ParseInstance => {
-            note_switch(least, home, entries, find(entries, b"type"))?;
-            note_field(least, home, line, entries)?;
-        }
-        MappingKind::Placeless => {
-            note_switch(least, home, &[], find(entries, b"type"))?;
-            note(least, name_line, LeftOut);
-        }
-        _ => {}
-    }
-    Ok(())
-}
-
-/// Notes the faults of a member's mapping.
-#[tactic(auto, using(crate::proofs::Noted::steps), unfolding(crate::specs::Rules::member_mapping_faults))]
+/// Notes the faults of a member's mapping, and what else a member of its kind must be.
+#[tactic(auto, using(crate::proofs::Noted::steps), unfolding(crate::specs::Rules::member_mapping_faults, crate::specs::Rules::kind_faults))]
 fn note_keys(least: &mut Least, home: Home, member: &Member, entries: &[Entry]) -> Noted
     ensures { OnOk result (seen_fault least.new ≡ noted (seen_fault least.old) (member_mapping_faults (declared home.entry.scopes.now) home.entry.within (member_of member.now) (map pair entries.now))) }
 {
@@ -283,7 +245,18 @@ fn note_keys(least: &mut Least, home: Home, member: &Member, entries: &[Entry]) 
     let kind = kind_of(member.role, entries);
     let line = member.value.line();
     note_mapping(least, home, kind, line, entries)?;
-    note_kind(least, home, kind, member.line, line, entries)
+    match kind {
+        MappingKind::Attribute | MappingKind::ParseInstance => {
+            note_switch(least, home, entries, find(entries, b"type"))?;
+            note_field(least, home, line, entries)?;
+        }
+        MappingKind::Placeless => {
+            note_switch(least, home, &[], find(entries, b"type"))?;
+            note(least, member.line, LeftOut);
+        }
+        _ => {}
+    }
+    Ok(())
 }
 
 fn is_instance(role: Role) -> bool
