@@ -131,13 +131,13 @@ pub content_good : (h : Home) (names : List (List ℕ)) (es : List Pair) (line :
 unfolding type_text_faults language_faults count_faults content_of language_content integer_content
 content_good h names es line Unspelled k e c = absurd (no_fault line no_expression k)
 content_good h names es line (OfLanguage (Integer signed bytes o) given) k e c =
-    let r = order_is h names bytes line o (back (fault_if (not (count given == 0)) line wrong_count) (language_faults h line (Integer signed bytes o)) (front _ (argument_faults h line given) k)) in
+    let r = order_is h names bytes line o (back _ (language_faults h line (Integer signed bytes o)) k) in
     let n = is_bind _ _ r.0 r.1 (is_bind _ _ e.0 e.1 (Number signed bytes r.0 e.0, refl)) in
     (n.0, n.1, λ x s fits w. e.2 x s fits refl)
 content_good h names es line (OfLanguage Str given) k e c = let r = is_map Characters _ (c refl) in (r.0, r.1, λ x s fits w. tt)
 content_good h names es line (OfLanguage Strz given) k e c = let r = is_map Characters _ (c refl) in (r.0, r.1, λ x s fits w. tt)
-content_good h names es line (OfLanguage NotHere given) k e c = absurd (no_fault line left_out (back _ _ (front _ _ k)))
-content_good h names es line (OfDescription t given) k e c = found (type_named h.declared.types h.within t.path) refl (front _ _ k)
+content_good h names es line (OfLanguage NotHere given) k e c = absurd (no_fault line left_out (back _ _ k))
+content_good h names es line (OfDescription t given) k e c = found (type_named h.declared.types h.within t.path) refl (back _ _ k)
   where
     found : (o : Option ℕ) → type_named h.declared.types h.within t.path ≡ o → count_faults h line (count given) o ≡ [] → Good h.declared names (argument_words (OfDescription t given)) IsResolvedContent (option_map (λ n. Object n (all_numbered h.declared names h.within given)) o)
     found None n l = absurd (no_fault line unknown_name l)
@@ -146,7 +146,7 @@ content_good h names es line (OfDescription t given) k e c = found (type_named h
       refl,
       λ x e fits w.
           let below = type_within h.declared.types h.within t.path n s in
-          let arguments = arguments_lead h names line given (back _ _ k) x e fits w in
+          let arguments = arguments_lead h names line given (front _ _ k) x e fits w in
           record { type = omega (arith, below, fits.types); as_many = count_kept h.declared names h.within given ∙ sym (count_is h line (count given) n l) ∙ fits.parameters n below; arguments = arguments },
     )
 

@@ -1,21 +1,17 @@
 //! What is read at a member: a content each time, or one that a switch chooses.
 
-ghost use Rattle.std.specs.Prelude.{◌≡◌, map, IfOk, option_map, string_bytes};
-ghost use Rattle.ksv_yaml_tree.specs.View.{view as view_node, pair};
-ghost use Rattle.ksv_expr_tree.specs.Tree.{view, literal_of, member_of, arguments_of};
-ghost use Rattle.ksv_schema_scope.specs.Table.{declared};
-ghost use Rattle.ksv_schema_scope.specs.Types.{type_named};
-ghost use Rattle.ksv_schema_names.specs.Numbered.{all_numbered};
+ghost use Rattle.std.specs.Prelude.{◌≡◌, map, IfOk, option_map};
+ghost use Rattle.ksv_yaml_tree.specs.View.{view, pair};
+ghost use Rattle.ksv_expr_tree.specs.Tree.{literal_of};
 ghost use Rattle.ksv_schema_keys.specs.Values.{joined, text_bytes, contents_of};
 ghost use Rattle.ksv_schema_keys.specs.Code.{seen_type_text, seen_case_key};
-ghost use Rattle.ksv_desc.specs.Description.{Object};
 ghost use Rattle.ksv_desc.specs.Pieces.{plain_content, plain_value, plain_case, plain_choice};
 ghost use Rattle.ksv_schema_build.specs.Stated.{perhaps_enum, encoding_at, order_at, integer_content, language_content, content_of, content_at, value_of, case_value, case_of, each, switch_of, typed, choice_of};
 ghost use Rattle.ksv_schema_build.specs.Code.{context_of, Makes, enum_at};
 
 use crate::piece::{Context, Gap, Made, both, expression_at};
 use ksv_desc::{Case, CaseValue, Choice, Content};
-use ksv_expr_tree::{Expr, Literal, TypeName};
+use ksv_expr_tree::Literal;
 use ksv_expr_value::Encoding;
 use ksv_schema_keys::{
     CaseKey, Piece, TypeText, case_key, encoding_named, ids_of, looks_like_number, piece_of,
@@ -127,31 +123,6 @@ fn language_content(context: Context, entries: &[Entry], built_in: BuiltIn) -> M
 
 // ---- types
 
-/// An object of a type of the description.
-fn object(context: Context, name: TypeName, arguments: Vec<Expr>) -> Made<Content>
-    ensures { Makes (option_map (λ n. Object n (all_numbered (declared context.entry.scopes.now) context.entry.names.now context.entry.within (arguments_of (map view arguments.items)))) (type_named (declared context.entry.scopes.now).types context.entry.within (map string_bytes name.path.items))) plain_content result }
-{
-    match context
-        .scopes
-        .type_named(context.within, name.path.as_slice())
-    {
-        Some(number) => {
-            let mut arguments = arguments;
-            number_arguments(
-                context.scopes,
-                context.names,
-                context.within,
-                &mut arguments,
-            );
-            Ok(Content::Object {
-                type_number: number as u32,
-                arguments,
-            })
-        }
-        None => Err(Gap::Missing),
-    }
-}
-
 /// What a type's text means.
 #[tactic(auto, unfolding(crate::specs::Stated::content_of))]
 fn content_of(context: Context, entries: &[Entry], text: TypeText) -> Made<Content>
@@ -160,7 +131,17 @@ fn content_of(context: Context, entries: &[Entry], text: TypeText) -> Made<Conte
     match text {
         TypeText::Unspelled(_) => Err(Gap::Missing),
         TypeText::OfLanguage(built_in, _) => language_content(context, entries, built_in),
-        TypeText::OfDescription(name, arguments) => object(context, name, arguments),
+        TypeText::OfDescription(name, mut arguments) => {
+            let path = name.path.as_slice();
+            let Some(number) = context.scopes.type_named(context.within, path) else {
+                return Err(Gap::Missing);
+            };
+            number_arguments(context.scopes, context.names, context.within, &mut arguments);
+            Ok(Content::Object {
+                type_number: number as u32,
+                arguments,
+            })
+        }
     }
 }
 
@@ -265,7 +246,7 @@ fn typed(context: Context, entries: &[Entry], entry: &Entry) -> Made<Choice>
 
 /// The bytes of all items, if each has bytes.
 fn joined(alloc: Global, items: &[Yaml]) -> Made<Vec<u8>>
-    ensures { Makes (joined (map view_node items.now)) (λ v. v.items) result }
+    ensures { Makes (joined (map view items.now)) (λ v. v.items) result }
 {
     let mut bytes = Vec::new(alloc);
     for item in items {
@@ -292,7 +273,7 @@ fn text_bytes(alloc: Global, is_quoted: bool, text: &[u8]) -> Made<Vec<u8>>
 /// The bytes of a text or of a list.
 #[tactic(auto, using(crate::proofs::Joined::steps))]
 fn contents_of(alloc: Global, node: &Yaml) -> Made<Vec<u8>>
-    ensures { Makes (contents_of (view_node node.now)) (λ v. v.items) result }
+    ensures { Makes (contents_of (view node.now)) (λ v. v.items) result }
 {
     match node.text() {
         Some(text) => text_bytes(alloc, node.is_quoted(), text),

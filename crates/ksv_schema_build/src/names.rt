@@ -6,7 +6,7 @@ ghost use Rattle.ksv_yaml_tree.specs.View.{pair};
 ghost use Rattle.ksv_schema_scope.specs.Code.{member_of as row};
 ghost use Rattle.ksv_desc.specs.Description.{as_text};
 ghost use Rattle.ksv_desc.specs.Names.{distinct_behind};
-ghost use Rattle.ksv_schema_build.specs.Stated.{type_words, form_words, key_words, member_words, names_in, are_texts};
+ghost use Rattle.ksv_schema_build.specs.Stated.{type_words, key_words, member_words, names_in, are_texts};
 
 use ksv_schema_keys::{Form, MappingKind, TypeText, form_in, kind_of, read_expression, type_text};
 use ksv_schema_names::Names;
@@ -82,11 +82,19 @@ fn add_types(alloc: Global, names: &mut Names, entries: &[Entry]) -> Result<(), 
     Ok(())
 }
 
-/// Adds the names after dots of the value at an entry, by its form.
-#[tactic(auto, using(ksv_desc::proofs::Dots::steps), unfolding(crate::specs::Stated::form_words, crate::specs::Stated::expression_words))]
-fn add_form(alloc: Global, names: &mut Names, entry: &Entry, form: Form) -> Result<(), AllocError>
-    ensures { OnOk result (names.new ≡ distinct_behind names.old (form_words (pair entry.now) form)) }
+/// Adds the names after dots at a key of such a mapping, by the form of its value.
+#[tactic(auto, using(ksv_desc::proofs::Dots::steps), unfolding(crate::specs::Stated::key_words, crate::specs::Stated::form_words, crate::specs::Stated::expression_words))]
+fn add_key(
+    alloc: Global,
+    names: &mut Names,
+    kind: MappingKind,
+    entry: &Entry,
+) -> Result<(), AllocError>
+    ensures { OnOk result (names.new ≡ distinct_behind names.old (key_words kind (pair entry.now))) }
 {
+    let Some(form) = form_in(kind, entry.key()) else {
+        return Ok(());
+    };
     match form {
         Form::Expression(_) => match entry.value().text() {
             Some(text) => match read_expression(alloc, text)? {
@@ -98,22 +106,6 @@ fn add_form(alloc: Global, names: &mut Names, entry: &Entry, form: Form) -> Resu
         Form::TypeOrSwitch => add_type(alloc, names, entry),
         Form::Cases => add_types(alloc, names, entries_in(entry.value())),
         _ => Ok(()),
-    }
-}
-
-/// Adds the names after dots at a key of such a mapping.
-#[tactic(auto, using(ksv_desc::proofs::Dots::steps), unfolding(crate::specs::Stated::key_words))]
-fn add_key(
-    alloc: Global,
-    names: &mut Names,
-    kind: MappingKind,
-    entry: &Entry,
-) -> Result<(), AllocError>
-    ensures { OnOk result (names.new ≡ distinct_behind names.old (key_words kind (pair entry.now))) }
-{
-    match form_in(kind, entry.key()) {
-        Some(form) => add_form(alloc, names, entry, form),
-        None => Ok(()),
     }
 }
 

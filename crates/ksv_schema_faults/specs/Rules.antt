@@ -87,8 +87,8 @@ count_faults h line n (Some t) = fault_if (not (length (parameters_within h.decl
 
 unfoldable pub type_text_faults : Home → ℕ → TypeText → List Fault
 type_text_faults h line Unspelled = fault line no_expression
-type_text_faults h line (OfLanguage b es) = fault_if (not (count es == 0)) line wrong_count ++ language_faults h line b ++ argument_faults h line es
-type_text_faults h line (OfDescription t es) = count_faults h line (count es) (type_named h.declared.types h.within t.path) ++ argument_faults h line es
+type_text_faults h line (OfLanguage b es) = argument_faults h line es ++ fault_if (not (count es == 0)) line wrong_count ++ language_faults h line b
+type_text_faults h line (OfDescription t es) = argument_faults h line es ++ count_faults h line (count es) (type_named h.declared.types h.within t.path)
 
 -- ---- one key
 

@@ -4,7 +4,7 @@ ghost use Rattle.std.specs.Prelude.{◌≡◌, map, option_map, option_to_list, 
 ghost use Rattle.ksv_yaml_tree.specs.View.{pair};
 ghost use Rattle.ksv_schema_scope.specs.Table.{declared};
 ghost use Rattle.ksv_schema_keys.specs.Values.{is_repeated};
-ghost use Rattle.ksv_schema_faults.specs.Rules.{home_in, home_of, is_attribute, position_at, name_fault, expression_faults, argument_faults, language_faults, count_faults, type_text_faults};
+ghost use Rattle.ksv_schema_faults.specs.Rules.{home_in, home_of, is_attribute, position_at, name_fault, expression_faults, argument_faults, language_faults, type_text_faults};
 ghost use Rattle.ksv_schema_faults.specs.Code.{seen_home, seen_fault};
 ghost use Rattle.ksv_expr_tree.specs.Tree.{view, arguments_of};
 ghost use Rattle.ksv_schema_keys.specs.Expressions.{expression_of};
@@ -142,22 +142,8 @@ fn note_language(least: &mut Least, home: Home, line: usize, built_in: BuiltIn)
     }
 }
 
-/// Notes a type of the description that isn't there, or that has another count of parameters.
-#[tactic(auto, unfolding(crate::specs::Rules::count_faults))]
-fn note_count(least: &mut Least, home: Home, line: usize, count: usize, found: Option<usize>)
-    ensures { seen_fault least.new ≡ noted (seen_fault least.old) (count_faults (seen_home home.entry) line count found) }
-{
-    match found {
-        None => note(least, line, UnknownName),
-        Some(number) => {
-            let wanted = home.scopes.count_of_parameters(number);
-            note_if(least, wanted != count, line, WrongCount);
-        }
-    }
-}
-
 /// Notes the faults of a type's text.
-#[tactic(auto, using(crate::proofs::Noted::steps, ksv_schema_names::proofs::Forms::count_map), unfolding(crate::specs::Rules::type_text_faults))]
+#[tactic(auto, using(crate::proofs::Noted::steps, ksv_schema_names::proofs::Forms::count_map), unfolding(crate::specs::Rules::type_text_faults, crate::specs::Rules::count_faults))]
 pub(crate) fn note_type_text(least: &mut Least, home: Home, line: usize, text: &TypeText)
     ensures { seen_fault least.new ≡ noted (seen_fault least.old) (type_text_faults (seen_home home.entry) line (seen_type_text text.now)) }
 {
@@ -165,17 +151,20 @@ pub(crate) fn note_type_text(least: &mut Least, home: Home, line: usize, text: &
         TypeText::Unspelled(fault) => note(least, line, NoExpression(*fault)),
         TypeText::OfLanguage(built_in, arguments) => {
             let arguments = arguments.as_slice();
-            let given = arguments.len();
-            note_if(least, given != 0, line, WrongCount);
-            note_language(least, home, line, *built_in);
             note_arguments(least, home, line, arguments);
+            note_if(least, arguments.len() != 0, line, WrongCount);
+            note_language(least, home, line, *built_in);
         }
         TypeText::OfDescription(name, arguments) => {
             let arguments = arguments.as_slice();
-            let given = arguments.len();
-            let found = home.scopes.type_named(home.within, name.path.as_slice());
-            note_count(least, home, line, given, found);
             note_arguments(least, home, line, arguments);
+            match home.scopes.type_named(home.within, name.path.as_slice()) {
+                None => note(least, line, UnknownName),
+                Some(number) => {
+                    let wanted = home.scopes.count_of_parameters(number);
+                    note_if(least, wanted != arguments.len(), line, WrongCount);
+                }
+            }
         }
     }
 }
