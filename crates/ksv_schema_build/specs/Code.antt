@@ -1,11 +1,6 @@
--- The plain data of the code's values, and parts of pieces that it builds one by one.
-use Rattle.std.specs.Prelude.{◌≡◌, ℕ, List, [], Option, Some, None, Result, Ok, Err, codes}
-use Rattle.ksv_yaml_tree.specs.Tree.{Pair}
-use Rattle.ksv_yaml_tree.specs.Keys.{text_at}
-use Rattle.ksv_expr_syntax.specs.Reading.{◌>>=◌}
+-- The plain data of the code's values, and what is made of a piece.
+use Rattle.std.specs.Prelude.{◌≡◌, Option, Some, None, Result, Ok, Err}
 use Rattle.ksv_schema_scope.specs.Table.{declared}
-use Rattle.ksv_schema_scope.specs.Types.{enum_from}
-use Rattle.ksv_schema_keys.specs.Values.{ids_of}
 use Rattle.ksv_schema_build.specs.declared.piece.Context.{Context as CodeContext}
 use Rattle.ksv_schema_build.specs.declared.piece.Gap.{Gap}
 use Rattle.ksv_schema_build.specs.declared.piece.Gap.TheVariants as gaps
@@ -24,7 +19,3 @@ Makes stated view (Err gaps.NoMemory) = Unit {0}
 abbrev pub both : {A B E : Type 0} → A → Result B E → Result (A × B) E
 both one (Ok next) = Ok (one, next)
 both one (Err e) = Err e
-
--- the enum at the key `enum`
-abbrev pub enum_at : Context → List Pair → Option ℕ
-enum_at c es = text_at (codes "enum") es >>= ids_of >>= enum_from c.declared.types c.declared.enums c.within []

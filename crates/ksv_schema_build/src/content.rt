@@ -7,7 +7,7 @@ ghost use Rattle.ksv_schema_keys.specs.Values.{joined, text_bytes, contents_of};
 ghost use Rattle.ksv_schema_keys.specs.Code.{seen_type_text, seen_case_key};
 ghost use Rattle.ksv_desc.specs.Pieces.{plain_content, plain_value, plain_case, plain_choice};
 ghost use Rattle.ksv_schema_build.specs.Stated.{perhaps_enum, encoding_at, order_at, integer_content, language_content, content_of, content_at, value_of, case_value, case_of, each, switch_of, typed, choice_of};
-ghost use Rattle.ksv_schema_build.specs.Code.{context_of, Makes, enum_at};
+ghost use Rattle.ksv_schema_build.specs.Code.{context_of, Makes};
 
 use crate::piece::{Context, Gap, Made, both, expression_at};
 use ksv_desc::{Case, CaseValue, Choice, Content};
@@ -25,22 +25,6 @@ use std::alloc::{AllocError, Global};
 
 // ---- integers and texts
 
-/// The number of the enum at the key `enum`.
-fn enum_at(context: Context, entries: &[Entry]) -> Made<u32>
-    ensures { Makes (enum_at (context_of context.entry) (map pair entries.now)) (λ n. n) result }
-{
-    match text_at(entries, b"enum") {
-        Some(text) => match ids_of(context.alloc, text)? {
-            Some(path) => match context.scopes.enum_named(context.within, path.as_slice()) {
-                Some(number) => Ok(number as u32),
-                None => Err(Gap::Missing),
-            },
-            None => Err(Gap::Missing),
-        },
-        None => Err(Gap::Missing),
-    }
-}
-
 /// The number of the enum at the key `enum`, which is optional.
 #[tactic(auto, unfolding(crate::specs::Stated::perhaps_enum))]
 pub(crate) fn perhaps_enum(context: Context, entries: &[Entry]) -> Made<Option<u32>>
@@ -49,7 +33,16 @@ pub(crate) fn perhaps_enum(context: Context, entries: &[Entry]) -> Made<Option<u
     if !has(entries, b"enum") {
         return Ok(None);
     }
-    Ok(Some(enum_at(context, entries)?))
+    match text_at(entries, b"enum") {
+        Some(text) => match ids_of(context.alloc, text)? {
+            Some(path) => match context.scopes.enum_named(context.within, path.as_slice()) {
+                Some(number) => Ok(Some(number as u32)),
+                None => Err(Gap::Missing),
+            },
+            None => Err(Gap::Missing),
+        },
+        None => Err(Gap::Missing),
+    }
 }
 
 /// The encoding of an attribute, its own or the one in force.

@@ -62,12 +62,14 @@ fn add_type(alloc: Global, names: &mut Names, entry: &Entry) -> Result<(), Alloc
     ensures { OnOk result (names.new ≡ distinct_behind names.old (type_words (pair entry.now))) }
 {
     match entry.value().text() {
-        Some(text) => match type_text(alloc, text)? {
-            TypeText::Unspelled(_) => Ok(()),
-            TypeText::OfLanguage(_, arguments) | TypeText::OfDescription(_, arguments) => {
-                names.add_all_dotted(&arguments)
+        Some(text) => {
+            let text = type_text(alloc, text)?;
+            match &text {
+                TypeText::Unspelled(_) => Ok(()),
+                TypeText::OfLanguage(_, arguments) => names.add_all_dotted(arguments),
+                TypeText::OfDescription(_, arguments) => names.add_all_dotted(arguments),
             }
-        },
+        }
         None => Ok(()),
     }
 }
