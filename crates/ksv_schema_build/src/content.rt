@@ -129,7 +129,12 @@ fn content_of(context: Context, entries: &[Entry], text: TypeText) -> Made<Conte
             let Some(number) = context.scopes.type_named(context.within, path) else {
                 return Err(Gap::Missing);
             };
-            number_arguments(context.scopes, context.names, context.within, &mut arguments);
+            number_arguments(
+                context.scopes,
+                context.names,
+                context.within,
+                &mut arguments,
+            );
             Ok(Content::Object {
                 type_number: number as u32,
                 arguments,

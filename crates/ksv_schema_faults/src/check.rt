@@ -13,9 +13,9 @@ ghost use Rattle.ksv_schema_faults.specs.Code.{seen_fault, AreRising, seen_home}
 ghost use Rattle.ksv_schema_scope.specs.Table.{declared};
 
 use crate::enumeration::note_enum;
-use crate::fault::{DescFault, Least, Noted, note, note_if};
-use crate::fault::DescFaultKind::{BadValue, OverLimit};
 use crate::expression::{Home, home_in};
+use crate::fault::DescFaultKind::{BadValue, OverLimit};
+use crate::fault::{DescFault, Least, Noted, note, note_if};
 use crate::member::note_members;
 use crate::rule::note_mapping;
 use ksv_schema_keys::{MappingKind, is_id};

@@ -12,9 +12,9 @@ ghost use Rattle.ksv_schema_faults.specs.Faults.{noted};
 ghost use Rattle.ksv_schema_faults.specs.Rules.{entry_value_faults, entry_faults, each_from, enum_faults_of};
 ghost use Rattle.ksv_schema_faults.specs.Code.{seen_fault, seen_home, has_number, has_id, Gives, Adds, AreOf};
 
+use crate::expression::Home;
 use crate::fault::DescFaultKind::{BadValue, KeysAgainst};
 use crate::fault::{Least, Noted, note, note_if};
-use crate::expression::Home;
 use crate::key::note_numeral;
 use crate::member::id_line;
 use crate::rule::note_mapping;

@@ -11,8 +11,8 @@ ghost use Rattle.ksv_schema_keys.specs.Expressions.{expression_of};
 ghost use Rattle.ksv_schema_faults.specs.Faults.{noted};
 ghost use Rattle.ksv_schema_keys.specs.Code.{seen_type_text};
 
-use crate::fault::{Least, Noted, note, note_if};
 use crate::fault::DescFaultKind::{LeftOut, NoByteOrder, NoExpression, UnknownName, WrongCount};
+use crate::fault::{Least, Noted, note, note_if};
 use ksv_expr_tree::Expr;
 use ksv_schema_keys::{TypeText, read_expression};
 use ksv_schema_names::{BuiltIn, NameFault, Position, Site, argument_fault, name_fault};

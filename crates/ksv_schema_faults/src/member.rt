@@ -11,16 +11,21 @@ ghost use Rattle.ksv_schema_faults.specs.Code.{seen_fault, seen_home, has_other_
 ghost use Rattle.ksv_schema_scope.specs.Table.{declared};
 ghost use Rattle.ksv_schema_scope.specs.Code.{member_of};
 
-use crate::fault::{Least, Noted, note, note_if};
-use crate::expression::{Home, home_of, note_type_text};
-use crate::fault::DescFaultKind::{BadValue, KeysAgainst, LeftOut, MissingKey, NoExpression, UnknownName};
 use crate::check::note_past;
+use crate::expression::{Home, home_of, note_type_text};
+use crate::fault::DescFaultKind::{
+    BadValue, KeysAgainst, LeftOut, MissingKey, NoExpression, UnknownName,
+};
+use crate::fault::{Least, Noted, note, note_if};
 use crate::rule::{key_if, line_of_key, note_against, note_at_if, note_mapping};
-use ksv_schema_keys::{CaseKey, MappingKind, TypeKind, TypeText, byte_at, case_key, is_a, is_id, is_of_kind, kind_of, own_type, read_expression, type_text};
+use ksv_schema_keys::{
+    CaseKey, MappingKind, TypeKind, TypeText, byte_at, case_key, is_a, is_id, is_of_kind, kind_of,
+    own_type, read_expression, type_text,
+};
 use ksv_schema_names::given_member;
 use ksv_schema_scope::{Member, Role};
-use ksv_yaml_tree::{Entry, Yaml, find};
 use ksv_yaml_tree::keys::{entries_at, entries_in, has, says, text_at};
+use ksv_yaml_tree::{Entry, Yaml, find};
 
 // ---- what attributes and parse instances need
 
@@ -138,13 +143,7 @@ fn note_case_key(least: &mut Least, home: Home, line: usize, text: &[u8]) -> Not
 
 /// Notes what doesn't fit to a type of a case on this line, in an attribute of these keys.
 #[tactic(auto, using(crate::proofs::Noted::steps), unfolding(crate::specs::Rules::case_against))]
-fn note_case_against(
-    least: &mut Least,
-    home: Home,
-    entries: &[Entry],
-    line: usize,
-    text: &TypeText,
-)
+fn note_case_against(least: &mut Least, home: Home, entries: &[Entry], line: usize, text: &TypeText)
     ensures { seen_fault least.new ≡ noted (seen_fault least.old) (case_against (seen_home home.entry) (map pair entries.now) line (seen_type_text text.now)) }
 {
     let is_text = is_of_kind(TypeKind::Str, text) | is_of_kind(TypeKind::Strz, text);

@@ -12,9 +12,9 @@ ghost use Rattle.ksv_schema_faults.specs.Code.{number_of, seen_fault, seen_home,
 
 use self::Claim::{Has, Says, Typed};
 use self::Rule::{Attends, Bars, Excludes, Must, Needs};
+use crate::expression::Home;
 use crate::fault::DescFaultKind::{KeysAgainst, LeftOut, MissingKey};
 use crate::fault::{DescFaultKind, Least, Noted, note, note_if};
-use crate::expression::Home;
 use crate::key::note_keys;
 use ksv_schema_keys::Group::{NeedId, Read, Roots, Switches, Values};
 use ksv_schema_keys::{Group, MappingKind, TypeKind, TypeText, is_a, is_in, own_type};
@@ -58,7 +58,10 @@ static RULES: [Ruled; 24] = [
     Ruled(Read, Needs(Says(b"repeat", b"expr"), Has(b"repeat-expr"))),
     Ruled(Read, Needs(Says(b"repeat", b"until"), Has(b"repeat-until"))),
     Ruled(Read, Attends(Has(b"repeat-expr"), Says(b"repeat", b"expr"))),
-    Ruled(Read, Attends(Has(b"repeat-until"), Says(b"repeat", b"until"))),
+    Ruled(
+        Read,
+        Attends(Has(b"repeat-until"), Says(b"repeat", b"until")),
+    ),
     Ruled(Read, Attends(Has(b"enum"), Typed(TypeKind::Integer))),
     Ruled(Read, Excludes(Has(b"size"), Says(b"size-eos", b"true"))),
     Ruled(Read, Excludes(Has(b"contents"), Has(b"type"))),
@@ -67,7 +70,10 @@ static RULES: [Ruled; 24] = [
     Ruled(Read, Excludes(Has(b"contents"), Has(b"terminator"))),
     Ruled(Read, Excludes(Has(b"contents"), Has(b"enum"))),
     Ruled(Read, Excludes(Typed(TypeKind::Integer), Has(b"size"))),
-    Ruled(Read, Excludes(Typed(TypeKind::Integer), Says(b"size-eos", b"true"))),
+    Ruled(
+        Read,
+        Excludes(Typed(TypeKind::Integer), Says(b"size-eos", b"true")),
+    ),
     Ruled(Read, Excludes(Typed(TypeKind::Integer), Has(b"terminator"))),
     Ruled(Values, Excludes(Has(b"value"), Has(b"pos"))),
     Ruled(Values, Excludes(Has(b"value"), Has(b"io"))),

@@ -52,7 +52,10 @@ fn has_place(site: Site) -> bool
 fn is_of_element(site: Site) -> bool
     ensures { result ≡ is_of_element site }
 {
-    matches!(site, Site::Size | Site::Until | Site::Switch | Site::Argument)
+    matches!(
+        site,
+        Site::Size | Site::Until | Site::Switch | Site::Argument
+    )
 }
 
 fn is_until(site: Site) -> bool
