@@ -5,7 +5,7 @@ ghost use Rattle.ksv_yaml_tree.specs.View.{view, pair};
 ghost use Rattle.ksv_schema_keys.specs.Keys.{is_ignored};
 ghost use Rattle.ksv_schema_keys.specs.Values.{type_text, ids_of};
 ghost use Rattle.ksv_schema_faults.specs.Faults.{noted};
-ghost use Rattle.ksv_schema_faults.specs.Rules.{fits, text_faults, type_text_faults, numeral_faults, endian_faults, bit_endian_faults, item_faults, contents_faults, enum_faults, form_faults, form_text_faults, key_faults};
+ghost use Rattle.ksv_schema_faults.specs.Rules.{fits, text_faults, type_text_faults, numeral_faults, item_faults, contents_faults, form_faults, form_text_faults, key_faults};
 ghost use Rattle.ksv_schema_faults.specs.Code.{seen_fault, seen_home};
 
 use crate::expression::{Home, note_expression, note_type_text};
@@ -32,24 +32,6 @@ fn fits(form: Form, text: &[u8]) -> bool
         Form::Coding => encoding_named(text).is_some(),
         Form::ParameterType => text != b"io".as_slice(),
         _ => true,
-    }
-}
-
-/// Notes a byte order other than `le` and `be`; a choice of one is unsupported.
-#[tactic(auto, unfolding(crate::specs::Rules::endian_faults))]
-fn note_endian(least: &mut Least, entry: &Entry)
-    ensures { seen_fault least.new ≡ noted (seen_fault least.old) (endian_faults (pair entry.now)) }
-{
-    let line = entry.line();
-    match entry.value().text() {
-        Some(text) => note_if(least, order_named(text).is_none(), line, BadValue),
-        None => {
-            if has(entries_in(entry.value()), b"switch-on") {
-                note(least, line, LeftOut);
-            } else {
-                note(least, line, BadValue);
-            }
-        }
     }
 }
 
@@ -105,35 +87,8 @@ fn note_contents(least: &mut Least, entry: &Entry)
     }
 }
 
-/// Notes the path of an enum that isn't there.
-#[tactic(auto, unfolding(crate::specs::Rules::enum_faults))]
-fn note_enum(least: &mut Least, home: Home, line: usize, text: &[u8]) -> Noted
-    ensures { OnOk result (seen_fault least.new ≡ noted (seen_fault least.old) (enum_faults (seen_home home.entry) line (ids_of text.now))) }
-{
-    match ids_of(home.alloc, text)? {
-        None => note(least, line, BadValue),
-        Some(path) => {
-            let found = home.scopes.enum_named(home.within, path.as_slice());
-            note_if(least, found.is_none(), line, UnknownName);
-        }
-    }
-    Ok(())
-}
-
-/// Notes a bit order other than `be`; `le` is unsupported.
-#[tactic(auto, using(crate::proofs::Noted::steps), unfolding(crate::specs::Rules::bit_endian_faults))]
-fn note_bit_endian(least: &mut Least, line: usize, text: &[u8])
-    ensures { seen_fault least.new ≡ noted (seen_fault least.old) (bit_endian_faults line text.now) }
-{
-    if text == b"be".as_slice() {} else if text == b"le".as_slice() {
-        note(least, line, LeftOut);
-    } else {
-        note(least, line, BadValue);
-    }
-}
-
 /// Notes the faults of a text at a key of this form.
-#[tactic(auto, using(crate::proofs::Noted::steps))]
+#[tactic(auto, using(crate::proofs::Noted::steps), unfolding(crate::specs::Rules::bit_endian_faults, crate::specs::Rules::enum_faults))]
 fn note_text(least: &mut Least, home: Home, line: usize, form: Form, text: &[u8]) -> Noted
     ensures { OnOk result (seen_fault least.new ≡ noted (seen_fault least.old) (form_text_faults (seen_home home.entry) line form text.now)) }
 {
@@ -143,9 +98,21 @@ fn note_text(least: &mut Least, home: Home, line: usize, form: Form, text: &[u8]
             let text = type_text(home.alloc, text)?;
             note_type_text(least, home, line, &text);
         }
-        Form::EnumName => note_enum(least, home, line, text)?,
+        Form::EnumName => match ids_of(home.alloc, text)? {
+            None => note(least, line, BadValue),
+            Some(path) => {
+                let found = home.scopes.enum_named(home.within, path.as_slice());
+                note_if(least, found.is_none(), line, UnknownName);
+            }
+        },
         Form::Byte => note_numeral(least, line, byte_number(text)),
-        Form::BitEndian => note_bit_endian(least, line, text),
+        Form::BitEndian => {
+            if text == b"be".as_slice() {} else if text == b"le".as_slice() {
+                note(least, line, LeftOut);
+            } else {
+                note(least, line, BadValue);
+            }
+        }
         Form::Coding | Form::ParameterType => { note_if(least, !fits(form, text), line, LeftOut) }
         _ => note_if(least, !fits(form, text), line, BadValue),
     }
@@ -164,7 +131,7 @@ fn note_text_at(least: &mut Least, home: Home, entry: &Entry, form: Form) -> Not
 }
 
 /// Notes the faults of the value at a key, by its form.
-#[tactic(auto, using(crate::proofs::Noted::steps), unfolding(crate::specs::Rules::form_faults))]
+#[tactic(auto, using(crate::proofs::Noted::steps), unfolding(crate::specs::Rules::form_faults, crate::specs::Rules::endian_faults))]
 fn note_form(least: &mut Least, home: Home, entry: &Entry, form: Form) -> Noted
     ensures { OnOk result (seen_fault least.new ≡ noted (seen_fault least.old) (form_faults (seen_home home.entry) (pair entry.now) form)) }
 {
@@ -175,7 +142,11 @@ fn note_form(least: &mut Least, home: Home, entry: &Entry, form: Form) -> Noted
         Form::NotHere => note(least, line, LeftOut),
         Form::Mapping | Form::Cases => note_if(least, value.entries().is_none(), line, BadValue),
         Form::Listing => note_if(least, value.items().is_none(), line, BadValue),
-        Form::Endian => note_endian(least, entry),
+        Form::Endian => match value.text() {
+            Some(text) => note_if(least, order_named(text).is_none(), line, BadValue),
+            None if has(entries_in(value), b"switch-on") => note(least, line, LeftOut),
+            None => note(least, line, BadValue),
+        },
         Form::Contents => note_contents(least, entry),
         Form::TypeOrSwitch => {
             if value.entries().is_none() {

@@ -188,16 +188,6 @@ fn note_case(least: &mut Least, home: Home, entries: &[Entry], case: &Entry) -> 
     Ok(())
 }
 
-/// Notes the faults of each case.
-fn note_cases(least: &mut Least, home: Home, entries: &[Entry], cases: &[Entry]) -> Noted
-    ensures { OnOk result (seen_fault least.new ≡ noted (seen_fault least.old) (flat_map (case_faults (seen_home home.entry) (map pair entries.now)) (map pair cases.now))) }
-{
-    for case in cases {
-        note_case(least, home, entries, case)?;
-    }
-    Ok(())
-}
-
 /// Notes the faults of a switch with these keys.
 #[tactic(auto, using(crate::proofs::Noted::steps), unfolding(crate::specs::Rules::switch_keys_faults))]
 fn note_switch_keys(
@@ -210,7 +200,11 @@ fn note_switch_keys(
     ensures { OnOk result (seen_fault least.new ≡ noted (seen_fault least.old) (switch_keys_faults (seen_home home.entry) (map pair entries.now) line (map pair keys.now))) }
 {
     note_mapping(least, home, MappingKind::Switch, line, keys)?;
-    note_cases(least, home, entries, entries_at(keys, b"cases"))
+    let cases = entries_at(keys, b"cases");
+    for case in cases {
+        note_case(least, home, entries, case)?;
+    }
+    Ok(())
 }
 
 /// Notes the faults of the mapping at `type`, if there is one, in an attribute of these keys.
@@ -313,16 +307,6 @@ fn note_member(least: &mut Least, home: Home, number: usize, member: &Member) ->
     Ok(())
 }
 
-/// Notes the faults of each member of a type.
-fn note_each(least: &mut Least, home: Home, members: &[Member]) -> Noted
-    ensures { OnOk result (seen_fault least.new ≡ noted (seen_fault least.old) (each_from (member_faults (declared home.entry.scopes.now) home.entry.within) 0 (map member_of members.now))) }
-{
-    for (number, member) in members.iter().enumerate() {
-        note_member(least, home, number, member)?;
-    }
-    Ok(())
-}
-
 /// The line of the first member past the limit.
 fn line_past(members: &[Member]) -> Option<usize>
     ensures { result ≡ line_at (λ m. m.line) most_members (map member_of members.now) }
@@ -336,5 +320,8 @@ pub(crate) fn note_members(least: &mut Least, home: Home, members: &[Member]) ->
     ensures { OnOk result (seen_fault least.new ≡ noted (seen_fault least.old) (members_faults (declared home.entry.scopes.now) home.entry.within (map member_of members.now))) }
 {
     note_past(least, line_past(members));
-    note_each(least, home, members)
+    for (number, member) in members.iter().enumerate() {
+        note_member(least, home, number, member)?;
+    }
+    Ok(())
 }
