@@ -6,7 +6,7 @@ ghost use Rattle.ksv_expr_tree.specs.Tree.{literal_of};
 ghost use Rattle.ksv_schema_keys.specs.Values.{joined, text_bytes, contents_of};
 ghost use Rattle.ksv_schema_keys.specs.Code.{seen_type_text, seen_case_key};
 ghost use Rattle.ksv_desc.specs.Pieces.{plain_content, plain_value, plain_case, plain_choice};
-ghost use Rattle.ksv_schema_build.specs.Stated.{perhaps_enum, encoding_at, order_at, integer_content, language_content, content_of, content_at, value_of, case_value, case_of, each, switch_of, typed, choice_of};
+ghost use Rattle.ksv_schema_build.specs.Stated.{perhaps_enum, encoding_at, order_at, integer_content, language_content, content_of, content_at, value_of, case_of, each, switch_of, typed, choice_of};
 ghost use Rattle.ksv_schema_build.specs.Code.{context_of, Makes};
 
 use crate::piece::{Context, Gap, Made, both, expression_at};
@@ -186,23 +186,15 @@ fn value_of(context: Context, key: CaseKey) -> Made<Option<CaseValue>>
     }
 }
 
-/// What the text of a key of `cases` is compared with.
-#[tactic(auto, unfolding(crate::specs::Stated::case_value))]
-fn case_value(context: Context, text: &[u8]) -> Made<Option<CaseValue>>
-    ensures { Makes (case_value (context_of context.entry) text.now) (λ o. option_map plain_value o) result }
-{
-    match read_expression(context.alloc, text)? {
-        Ok(expr) => value_of(context, case_key(&expr)),
-        Err(_) => Err(Gap::Missing),
-    }
-}
-
 /// A case.
-#[tactic(auto, unfolding(crate::specs::Stated::case_of))]
+#[tactic(auto, unfolding(crate::specs::Stated::case_of, crate::specs::Stated::case_value))]
 fn case_of(context: Context, entries: &[Entry], case: &Entry) -> Made<Case>
     ensures { Makes (case_of (context_of context.entry) (map pair entries.now) (pair case.now)) plain_case result }
 {
-    let value = case_value(context, case.key())?;
+    let value = match read_expression(context.alloc, case.key())? {
+        Ok(expr) => value_of(context, case_key(&expr))?,
+        Err(_) => return Err(Gap::Missing),
+    };
     let (value, content) = both(value, content_at(context, entries, case))?;
     Ok(Case { value, content })
 }

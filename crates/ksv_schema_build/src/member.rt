@@ -4,7 +4,7 @@ ghost use Rattle.std.specs.Prelude.{◌≡◌, map, IfOk, option_map};
 ghost use Rattle.ksv_yaml_tree.specs.View.{pair};
 ghost use Rattle.ksv_schema_scope.specs.Code.{member_of as row};
 ghost use Rattle.ksv_desc.specs.Pieces.{plain_extent, plain_terminator, plain_repeat, plain_field, plain_kind, plain_member};
-ghost use Rattle.ksv_schema_build.specs.Stated.{extent_of, terminated_by, terminator_of, repeat_of, field_of, parse_instance_of, value_instance_of, kind_of, member_of, each};
+ghost use Rattle.ksv_schema_build.specs.Stated.{extent_of, terminator_of, repeat_of, field_of, parse_instance_of, value_instance_of, member_of, each};
 ghost use Rattle.ksv_schema_build.specs.Code.{context_of, Makes};
 
 use crate::content::{choice_of, perhaps_enum};
@@ -31,32 +31,28 @@ fn extent_of(context: Context, entries: &[Entry]) -> Made<Extent>
     Ok(Extent::ByItself)
 }
 
-/// The terminator of this byte, as the other keys have it.
-fn terminated_by(entries: &[Entry], byte: u8) -> Terminator
-    ensures { plain_terminator result ≡ terminated_by (map pair entries.now) byte }
-{
-    let is_unconsumed = says(entries, b"consume", b"false");
-    let is_included = says(entries, b"include", b"true");
-    let is_optional = says(entries, b"eos-error", b"false");
-    Terminator {
-        byte,
-        is_consumed: !is_unconsumed,
-        is_included,
-        is_required: !is_optional,
-    }
-}
-
 /// The terminator of an attribute of these keys: the byte that is written, or 0 for `strz`.
 #[tactic(auto, unfolding(crate::specs::Stated::terminator_of))]
 fn terminator_of(alloc: Global, entries: &[Entry]) -> Result<Option<Terminator>, AllocError>
     ensures { IfOk result (λ o. option_map plain_terminator o ≡ terminator_of (map pair entries.now)) }
 {
     let typed = own_type(alloc, entries)?;
-    if is_a(TypeKind::Strz, &typed) {
-        return Ok(Some(terminated_by(entries, 0)));
-    }
-    match byte_at(entries, b"terminator") {
-        Some(byte) => Ok(Some(terminated_by(entries, byte))),
+    let written = byte_at(entries, b"terminator");
+    let is_unconsumed = says(entries, b"consume", b"false");
+    let is_included = says(entries, b"include", b"true");
+    let is_optional = says(entries, b"eos-error", b"false");
+    let byte = if is_a(TypeKind::Strz, &typed) {
+        Some(0)
+    } else {
+        written
+    };
+    match byte {
+        Some(byte) => Ok(Some(Terminator {
+            byte,
+            is_consumed: !is_unconsumed,
+            is_included,
+            is_required: !is_optional,
+        })),
         None => Ok(None),
     }
 }
@@ -129,26 +125,8 @@ fn value_instance_of(context: Context, entries: &[Entry]) -> Made<MemberKind>
     })
 }
 
-/// What a member of these keys is, by its role.
-#[tactic(auto, unfolding(crate::specs::Stated::kind_of))]
-fn kind_of(context: Context, role: Role, entries: &[Entry]) -> Made<MemberKind>
-    ensures { Makes (kind_of (context_of context.entry) role (map pair entries.now)) plain_kind result }
-{
-    match role {
-        Role::Parameter => Ok(MemberKind::Parameter),
-        Role::Attribute => Ok(MemberKind::Attribute(field_of(context, entries)?)),
-        Role::Instance => {
-            if has(entries, b"value") {
-                value_instance_of(context, entries)
-            } else {
-                parse_instance_of(context, entries)
-            }
-        }
-    }
-}
-
 /// A member.
-#[tactic(auto, unfolding(crate::specs::Stated::member_of))]
+#[tactic(auto, unfolding(crate::specs::Stated::member_of, crate::specs::Stated::kind_of))]
 fn member_of(context: Context, member: &Member) -> Made<MemberDesc>
     ensures { Makes (member_of (context_of context.entry) (row member.now)) plain_member result }
 {
@@ -161,7 +139,12 @@ fn member_of(context: Context, member: &Member) -> Made<MemberDesc>
     let Some(entries) = member.value.entries() else {
         return Err(Gap::Missing);
     };
-    let kind = kind_of(context, member.role, entries)?;
+    let kind = match member.role {
+        Role::Parameter => MemberKind::Parameter,
+        Role::Attribute => MemberKind::Attribute(field_of(context, entries)?),
+        Role::Instance if has(entries, b"value") => value_instance_of(context, entries)?,
+        Role::Instance => parse_instance_of(context, entries)?,
+    };
     Ok(MemberDesc { name, kind })
 }
 

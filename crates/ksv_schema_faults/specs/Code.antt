@@ -10,7 +10,6 @@ use Rattle.std.specs.List.Sorted.{IsPermutation, IsNonDecreasing}
 use Rattle.ksv_yaml_tree.specs.Tree.{Pair}
 use Rattle.ksv_schema_scope.specs.Table.{declared}
 use Rattle.ksv_schema_scope.specs.Enums.{is_numbered, is_named}
-use Rattle.ksv_schema_keys.specs.Values.{byte_at}
 use Rattle.ksv_schema_keys.specs.Code.{kind_test}
 use Rattle.ksv_schema_faults.specs.declared.enumeration.Seen.{Seen}
 use Rattle.ksv_schema_faults.specs.declared.expression.Home.{Home as HomeOfCode}
@@ -83,10 +82,6 @@ seen_rule (rule.Attends one other) = Attends (seen_claim one) (seen_claim other)
 
 abbrev pub seen_ruled : RuledOfCode → Ruled
 seen_ruled r = ruled r.0 (seen_rule r.1)
-
--- a terminator is another byte than 0
-abbrev pub has_other_terminator : List Pair → Bool
-has_other_terminator es = option_map_or (λ b. not (b == 0)) (byte_at (codes "terminator") es) false
 
 -- ---- numbers and ids that entries have
 

@@ -3,8 +3,7 @@
 ghost use Rattle.std.specs.Prelude.{◌≡◌, map, option_map, option_to_list, OnOk};
 ghost use Rattle.ksv_yaml_tree.specs.View.{pair};
 ghost use Rattle.ksv_schema_scope.specs.Table.{declared};
-ghost use Rattle.ksv_schema_keys.specs.Values.{is_repeated};
-ghost use Rattle.ksv_schema_faults.specs.Rules.{home_in, home_of, is_attribute, position_at, name_fault, expression_faults, argument_faults, language_faults, type_text_faults};
+ghost use Rattle.ksv_schema_faults.specs.Rules.{home_in, home_of, position_at, name_fault, expression_faults, argument_faults, language_faults, type_text_faults};
 ghost use Rattle.ksv_schema_faults.specs.Code.{seen_home, seen_fault};
 ghost use Rattle.ksv_expr_tree.specs.Tree.{view, arguments_of};
 ghost use Rattle.ksv_schema_keys.specs.Expressions.{expression_of};
@@ -45,27 +44,16 @@ pub(crate) fn home_in<'a>(alloc: Global, scopes: &'a Scopes<'a>, within: usize) 
     }
 }
 
-fn is_attribute(role: Role) -> bool
-    ensures { result ≡ is_attribute role }
-{
-    matches!(role, Role::Attribute)
-}
-
-fn is_repeated(entries: &[Entry]) -> bool
-    ensures { result ≡ is_repeated (map pair entries.now) }
-{
-    says(entries, b"repeat", b"eos")
-        || says(entries, b"repeat", b"expr")
-        || says(entries, b"repeat", b"until")
-}
-
 /// The place of a member's mapping.
 pub(crate) fn home_of<'a>(home: Home<'a>, role: Role, entries: &[Entry]) -> Home<'a>
     ensures { seen_home result ≡ home_of (declared home.entry.scopes.now) home.entry.within role (map pair entries.now) }
 {
+    let is_eos = says(entries, b"repeat", b"eos");
     Home {
-        in_sequence: is_attribute(role),
-        is_repeated: is_repeated(entries),
+        in_sequence: matches!(role, Role::Attribute),
+        is_repeated: is_eos
+            | says(entries, b"repeat", b"expr")
+            | says(entries, b"repeat", b"until"),
         ..home
     }
 }

@@ -5,7 +5,7 @@ ghost use Rattle.ksv_yaml_tree.specs.View.{view, pair};
 ghost use Rattle.ksv_schema_keys.specs.Keys.{is_ignored};
 ghost use Rattle.ksv_schema_keys.specs.Values.{type_text, ids_of};
 ghost use Rattle.ksv_schema_faults.specs.Faults.{noted};
-ghost use Rattle.ksv_schema_faults.specs.Rules.{fits, text_faults, type_text_faults, numeral_faults, item_faults, contents_faults, form_faults, form_text_faults, key_faults};
+ghost use Rattle.ksv_schema_faults.specs.Rules.{fits, type_text_faults, numeral_faults, item_faults, contents_faults, form_faults, form_text_faults, key_faults};
 ghost use Rattle.ksv_schema_faults.specs.Code.{seen_fault, seen_home};
 
 use crate::expression::{Home, note_expression, note_type_text};
@@ -119,17 +119,6 @@ fn note_text(least: &mut Least, home: Home, line: usize, form: Form, text: &[u8]
     Ok(())
 }
 
-/// Notes the faults of the text at a key of this form; another node is of the wrong kind.
-fn note_text_at(least: &mut Least, home: Home, entry: &Entry, form: Form) -> Noted
-    ensures { OnOk result (seen_fault least.new ≡ noted (seen_fault least.old) (text_faults (form_text_faults (seen_home home.entry) (pair entry.now).line form) (pair entry.now))) }
-{
-    match entry.value().text() {
-        Some(text) => note_text(least, home, entry.line(), form, text)?,
-        None => note(least, entry.line(), BadValue),
-    }
-    Ok(())
-}
-
 /// Notes the faults of the value at a key, by its form.
 #[tactic(auto, using(crate::proofs::Noted::steps), unfolding(crate::specs::Rules::form_faults, crate::specs::Rules::endian_faults))]
 fn note_form(least: &mut Least, home: Home, entry: &Entry, form: Form) -> Noted
@@ -148,12 +137,11 @@ fn note_form(least: &mut Least, home: Home, entry: &Entry, form: Form) -> Noted
             None => note(least, line, BadValue),
         },
         Form::Contents => note_contents(least, entry),
-        Form::TypeOrSwitch => {
-            if value.entries().is_none() {
-                note_text_at(least, home, entry, form)?;
-            }
-        }
-        _ => note_text_at(least, home, entry, form)?,
+        Form::TypeOrSwitch if value.entries().is_some() => {}
+        _ => match value.text() {
+            Some(text) => note_text(least, home, line, form, text)?,
+            None => note(least, line, BadValue),
+        },
     }
     Ok(())
 }

@@ -6,8 +6,8 @@ ghost use Rattle.ksv_schema_keys.specs.Code.{seen_type_at, seen_type_text, seen_
 ghost use Rattle.ksv_schema_keys.specs.Expressions.{expression_of};
 ghost use Rattle.ksv_schema_keys.specs.Values.{own_type, is_a, type_text};
 ghost use Rattle.ksv_schema_faults.specs.Faults.{noted};
-ghost use Rattle.ksv_schema_faults.specs.Rules.{is_declared, field_needs, field_left_out, field_faults, case_value_faults, case_key_faults, case_against, case_type_faults, case_faults, switch_keys_faults, switch_faults, kind_faults, member_mapping_faults, is_instance, id_line, name_line, is_named_again, member_faults, line_at, most_members, each_from, members_faults};
-ghost use Rattle.ksv_schema_faults.specs.Code.{seen_fault, seen_home, has_other_terminator};
+ghost use Rattle.ksv_schema_faults.specs.Rules.{is_declared, field_needs, field_left_out, field_faults, case_value_faults, case_key_faults, case_against, case_type_faults, case_faults, switch_keys_faults, switch_faults, kind_faults, member_mapping_faults, id_line, name_line, is_named_again, member_faults, line_at, most_members, each_from, members_faults};
+ghost use Rattle.ksv_schema_faults.specs.Code.{seen_fault, seen_home};
 ghost use Rattle.ksv_schema_scope.specs.Table.{declared};
 ghost use Rattle.ksv_schema_scope.specs.Code.{member_of};
 
@@ -66,34 +66,21 @@ fn is_declared(home: Home, text: &TypeText) -> bool
     }
 }
 
-/// Whether there is a type, and it is one that the description declares.
-fn is_object(home: Home, typed: &Option<TypeText>) -> bool
-    ensures { result ≡ is_a (is_declared (seen_home home.entry)) (seen_type_at typed.now) }
-{
-    match typed {
-        Some(text) => is_declared(home, text),
-        None => false,
-    }
-}
-
-/// Whether the terminator is another byte than 0.
-fn has_other_terminator(entries: &[Entry]) -> bool
-    ensures { result ≡ has_other_terminator (map pair entries.now) }
-{
-    match byte_at(entries, b"terminator") {
-        Some(byte) => byte != 0,
-        None => false,
-    }
-}
-
 /// Notes an unsupported terminator: of a type of the description, or of `strz` another one than 0.
 #[tactic(auto, using(crate::proofs::Noted::steps), unfolding(crate::specs::Rules::field_left_out))]
 fn note_left_out(least: &mut Least, home: Home, typed: &Option<TypeText>, entries: &[Entry])
     requires { seen_type_at typed.now ≡ own_type (map pair entries.now) }
     ensures { seen_fault least.new ≡ noted (seen_fault least.old) (field_left_out (seen_home home.entry) (map pair entries.now)) }
 {
-    let is_object = is_object(home, typed);
-    let is_other = is_a(TypeKind::Strz, typed) & has_other_terminator(entries);
+    let is_object = match typed {
+        Some(text) => is_declared(home, text),
+        None => false,
+    };
+    let has_other = match byte_at(entries, b"terminator") {
+        Some(byte) => byte != 0,
+        None => false,
+    };
+    let is_other = is_a(TypeKind::Strz, typed) & has_other;
     let terminator = find(entries, b"terminator");
     note_at_if(least, is_object, terminator, LeftOut);
     note_at_if(least, is_other, terminator, LeftOut);
@@ -148,7 +135,11 @@ fn note_case_against(least: &mut Least, home: Home, entries: &[Entry], line: usi
 {
     let is_text = is_of_kind(TypeKind::Str, text) | is_of_kind(TypeKind::Strz, text);
     let is_object = is_declared(home, text);
-    let case = line_if(is_of_kind(TypeKind::Integer, text), line);
+    let case = if is_of_kind(TypeKind::Integer, text) {
+        Some(line)
+    } else {
+        None
+    };
     let to_end = key_if(says(entries, b"size-eos", b"true"), entries, b"size-eos");
     let terminator = find(entries, b"terminator");
     note_if(least, is_text, line, LeftOut);
@@ -221,12 +212,6 @@ fn note_switch(least: &mut Least, home: Home, entries: &[Entry], at: Option<&Ent
     }
 }
 
-fn line_if(holds: bool, line: usize) -> Option<usize>
-    ensures { result ≡ (if holds then Some line else None) }
-{
-    if holds { Some(line) } else { None }
-}
-
 // ---- members
 
 /// Notes the faults of a member's mapping, and what else a member of its kind must be.
@@ -252,12 +237,6 @@ fn note_keys(least: &mut Least, home: Home, member: &Member, entries: &[Entry]) 
     Ok(())
 }
 
-fn is_instance(role: Role) -> bool
-    ensures { result ≡ is_instance role }
-{
-    matches!(role, Role::Instance)
-}
-
 /// The line of an `id`, or this one.
 pub(crate) fn id_line(value: &Yaml, line: usize) -> usize
     ensures { result ≡ id_line (view value.now) line }
@@ -273,7 +252,7 @@ pub(crate) fn id_line(value: &Yaml, line: usize) -> usize
 fn name_line(member: &Member) -> usize
     ensures { result ≡ name_line (member_of member.now) }
 {
-    if is_instance(member.role) {
+    if matches!(member.role, Role::Instance) {
         return member.line;
     }
     id_line(member.value, member.line)
@@ -300,7 +279,8 @@ fn note_member(least: &mut Least, home: Home, number: usize, member: &Member) ->
         Some(entries) => note_keys(least, home, member, entries)?,
         None => note(least, member.line, BadValue),
     }
-    let is_bad = is_instance(member.role) & !is_id(member.name());
+    let is_instance = matches!(member.role, Role::Instance);
+    let is_bad = is_instance & !is_id(member.name());
     let is_again = is_named_again(home, number, member);
     note_if(least, is_bad, member.line, BadValue);
     note_if(least, is_again, name_line(member), KeysAgainst);
