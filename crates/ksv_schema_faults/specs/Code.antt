@@ -1,10 +1,9 @@
 -- The plain data of the code's values.
-use Rattle.std.specs.Prelude.{◌≡◌, ◌==◌, ◌||◌, cond, not, true, false, ℕ, ℤ, Bool, List, Option, option_map, codes}
+use Rattle.std.specs.Prelude.{◌≡◌, ◌||◌, cond, true, ℕ, ℤ, Bool, List, Option, option_map, codes}
 use Rattle.std.specs.Borrow.{Bor}
 use Rattle.std.specs.HashSet.{HashSet}
 use Rattle.std.specs.Ordering.{int_eq}
 use Rattle.std.specs.Str.{bytes_eq}
-use Rattle.std.specs.Option.{option_map_or}
 use Rattle.std.specs.List.{list_any}
 use Rattle.std.specs.List.Sorted.{IsPermutation, IsNonDecreasing}
 use Rattle.ksv_yaml_tree.specs.Tree.{Pair}

@@ -8,7 +8,7 @@ ghost use Rattle.ksv_yaml_tree.specs.View.{pair};
 ghost use Rattle.ksv_schema_scope.specs.Rows.{keys_of};
 ghost use Rattle.ksv_schema_scope.specs.Code.{row_of, member_of};
 ghost use Rattle.ksv_schema_faults.specs.Faults.{noted};
-ghost use Rattle.ksv_schema_faults.specs.Rules.{past, line_past, most_entries, meta_faults, type_keys_faults, type_faults, members_faults, home_in, enum_faults_of, each_from, line_at, most_types, faults_of};
+ghost use Rattle.ksv_schema_faults.specs.Rules.{past, line_past, most_entries, type_keys_faults, type_faults, members_faults, home_in, enum_faults_of, each_from, line_at, most_types, faults_of};
 ghost use Rattle.ksv_schema_faults.specs.Code.{seen_fault, AreRising, seen_home};
 ghost use Rattle.ksv_schema_scope.specs.Table.{declared};
 
@@ -82,35 +82,22 @@ pub(crate) fn line_past(alloc: Global, enums: &[Row]) -> Result<Option<usize>, A
 
 // ---- types, and the whole
 
-/// Notes the faults of a type's `meta`.
-#[tactic(auto, using(crate::proofs::Noted::steps), unfolding(crate::specs::Rules::meta_faults))]
-fn note_meta(least: &mut Least, home: Home, entry: &Entry) -> Noted
-    ensures { OnOk result (seen_fault least.new ≡ noted (seen_fault least.old) (meta_faults (seen_home home.entry) home.entry.within (pair entry.now))) }
-{
-    let kind = if home.within == 0 {
-        MappingKind::RootMeta
-    } else {
-        MappingKind::Meta
-    };
-    match entry.value().entries() {
-        Some(keys) => note_mapping(least, home, kind, entry.value().line(), keys),
-        None => Ok(()),
-    }
-}
-
-/// Notes the faults of a type's keys.
-#[tactic(auto, using(crate::proofs::Noted::steps), unfolding(crate::specs::Rules::type_keys_faults))]
+/// Notes the faults of a type's keys, and of those of its `meta`.
+#[tactic(auto, using(crate::proofs::Noted::steps), unfolding(crate::specs::Rules::type_keys_faults, crate::specs::Rules::meta_faults))]
 fn note_type_keys(least: &mut Least, home: Home, line: usize, entries: &[Entry]) -> Noted
     ensures { OnOk result (seen_fault least.new ≡ noted (seen_fault least.old) (type_keys_faults (seen_home home.entry) home.entry.within line (map pair entries.now))) }
 {
-    let kind = if home.within == 0 {
-        MappingKind::Root
+    let (kind, meta) = if home.within == 0 {
+        (MappingKind::Root, MappingKind::RootMeta)
     } else {
-        MappingKind::Type
+        (MappingKind::Type, MappingKind::Meta)
     };
     note_mapping(least, home, kind, line, entries)?;
     match find(entries, b"meta") {
-        Some(entry) => note_meta(least, home, entry),
+        Some(entry) => match entry.value().entries() {
+            Some(keys) => note_mapping(least, home, meta, entry.value().line(), keys),
+            None => Ok(()),
+        },
         None => Ok(()),
     }
 }

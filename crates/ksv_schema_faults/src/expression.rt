@@ -3,7 +3,7 @@
 ghost use Rattle.std.specs.Prelude.{◌≡◌, map, option_map, option_to_list, OnOk};
 ghost use Rattle.ksv_yaml_tree.specs.View.{pair};
 ghost use Rattle.ksv_schema_scope.specs.Table.{declared};
-ghost use Rattle.ksv_schema_faults.specs.Rules.{home_in, home_of, position_at, name_fault, expression_faults, argument_faults, language_faults, type_text_faults};
+ghost use Rattle.ksv_schema_faults.specs.Rules.{home_in, home_of, position_at, name_fault, expression_faults, argument_faults, type_text_faults};
 ghost use Rattle.ksv_schema_faults.specs.Code.{seen_home, seen_fault};
 ghost use Rattle.ksv_expr_tree.specs.Tree.{view, arguments_of};
 ghost use Rattle.ksv_schema_keys.specs.Expressions.{expression_of};
@@ -114,24 +114,8 @@ fn note_arguments(least: &mut Least, home: Home, line: usize, arguments: &[Expr]
     note_name(least, line, found);
 }
 
-/// Notes a type of the language that is unsupported, or that needs a byte order.
-#[tactic(auto, using(crate::proofs::Noted::steps), unfolding(crate::specs::Rules::language_faults))]
-fn note_language(least: &mut Least, home: Home, line: usize, built_in: BuiltIn)
-    ensures { seen_fault least.new ≡ noted (seen_fault least.old) (language_faults (seen_home home.entry) line built_in) }
-{
-    match built_in {
-        BuiltIn::Integer { size, order, .. } => {
-            let is_open = order.is_none() & home.scopes.order_of(home.within).is_none();
-            note_if(least, size != 1 && is_open, line, NoByteOrder);
-        }
-        BuiltIn::Str => {}
-        BuiltIn::Strz => {}
-        BuiltIn::NotHere => note(least, line, LeftOut),
-    }
-}
-
 /// Notes the faults of a type's text.
-#[tactic(auto, using(crate::proofs::Noted::steps, ksv_schema_names::proofs::Forms::count_map), unfolding(crate::specs::Rules::type_text_faults, crate::specs::Rules::count_faults))]
+#[tactic(auto, using(crate::proofs::Noted::steps, ksv_schema_names::proofs::Forms::count_map), unfolding(crate::specs::Rules::type_text_faults, crate::specs::Rules::count_faults, crate::specs::Rules::language_faults))]
 pub(crate) fn note_type_text(least: &mut Least, home: Home, line: usize, text: &TypeText)
     ensures { seen_fault least.new ≡ noted (seen_fault least.old) (type_text_faults (seen_home home.entry) line (seen_type_text text.now)) }
 {
@@ -141,7 +125,14 @@ pub(crate) fn note_type_text(least: &mut Least, home: Home, line: usize, text: &
             let arguments = arguments.as_slice();
             note_arguments(least, home, line, arguments);
             note_if(least, arguments.len() != 0, line, WrongCount);
-            note_language(least, home, line, *built_in);
+            match built_in {
+                BuiltIn::Integer { size, order, .. } => {
+                    let is_open = order.is_none() & home.scopes.order_of(home.within).is_none();
+                    note_if(least, *size != 1 && is_open, line, NoByteOrder);
+                }
+                BuiltIn::Str | BuiltIn::Strz => {}
+                BuiltIn::NotHere => note(least, line, LeftOut),
+            }
         }
         TypeText::OfDescription(name, arguments) => {
             let arguments = arguments.as_slice();

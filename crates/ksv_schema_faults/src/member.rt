@@ -6,7 +6,7 @@ ghost use Rattle.ksv_schema_keys.specs.Code.{seen_type_at, seen_type_text, seen_
 ghost use Rattle.ksv_schema_keys.specs.Expressions.{expression_of};
 ghost use Rattle.ksv_schema_keys.specs.Values.{own_type, is_a, type_text};
 ghost use Rattle.ksv_schema_faults.specs.Faults.{noted};
-ghost use Rattle.ksv_schema_faults.specs.Rules.{is_declared, field_needs, field_left_out, field_faults, case_value_faults, case_key_faults, case_against, case_type_faults, case_faults, switch_keys_faults, switch_faults, kind_faults, member_mapping_faults, id_line, name_line, is_named_again, member_faults, line_at, most_members, each_from, members_faults};
+ghost use Rattle.ksv_schema_faults.specs.Rules.{is_declared, field_needs, field_left_out, field_faults, case_key_faults, case_against, case_faults, switch_keys_faults, switch_faults, kind_faults, member_mapping_faults, id_line, name_line, member_faults, line_at, most_members, each_from, members_faults};
 ghost use Rattle.ksv_schema_faults.specs.Code.{seen_fault, seen_home};
 ghost use Rattle.ksv_schema_scope.specs.Table.{declared};
 ghost use Rattle.ksv_schema_scope.specs.Code.{member_of};
@@ -99,30 +99,20 @@ fn note_field(least: &mut Least, home: Home, line: usize, entries: &[Entry]) -> 
 
 // ---- switches
 
-/// Notes what can't be a key of `cases`.
-#[tactic(auto, using(crate::proofs::Noted::steps), unfolding(crate::specs::Rules::case_value_faults))]
-fn note_case_value(least: &mut Least, home: Home, line: usize, key: CaseKey)
-    ensures { seen_fault least.new ≡ noted (seen_fault least.old) (case_value_faults (seen_home home.entry) line (seen_case_key key.entry)) }
-{
-    match key {
-        CaseKey::Constant(_) => {}
-        CaseKey::Negative(_) => {}
-        CaseKey::Member(member) => {
-            let given = given_member(home.scopes, home.within, member);
-            note_if(least, given.is_none(), line, UnknownName);
-        }
-        CaseKey::Default => {}
-        CaseKey::NoKey => note(least, line, BadValue),
-    }
-}
-
 /// Notes the faults of a key of `cases`.
-#[tactic(auto, unfolding(crate::specs::Rules::case_key_faults))]
+#[tactic(auto, using(crate::proofs::Noted::steps), unfolding(crate::specs::Rules::case_key_faults, crate::specs::Rules::case_value_faults))]
 fn note_case_key(least: &mut Least, home: Home, line: usize, text: &[u8]) -> Noted
     ensures { OnOk result (seen_fault least.new ≡ noted (seen_fault least.old) (case_key_faults (seen_home home.entry) line (expression_of text.now))) }
 {
     match read_expression(home.alloc, text)? {
-        Ok(expr) => note_case_value(least, home, line, case_key(&expr)),
+        Ok(expr) => match case_key(&expr) {
+            CaseKey::Constant(_) | CaseKey::Negative(_) | CaseKey::Default => {}
+            CaseKey::Member(member) => {
+                let given = given_member(home.scopes, home.within, member);
+                note_if(least, given.is_none(), line, UnknownName);
+            }
+            CaseKey::NoKey => note(least, line, BadValue),
+        },
         Err(fault) => note(least, line, NoExpression(fault)),
     }
     Ok(())
@@ -149,31 +139,18 @@ fn note_case_against(least: &mut Least, home: Home, entries: &[Entry], line: usi
     note_at_if(least, is_object, terminator, LeftOut);
 }
 
-/// Notes the faults of the text of a case's type.
-#[tactic(auto, using(crate::proofs::Noted::steps), unfolding(crate::specs::Rules::case_type_faults))]
-fn note_case_type(
-    least: &mut Least,
-    home: Home,
-    entries: &[Entry],
-    line: usize,
-    text: &[u8],
-) -> Noted
-    ensures { OnOk result (seen_fault least.new ≡ noted (seen_fault least.old) (case_type_faults (seen_home home.entry) (map pair entries.now) line (type_text text.now))) }
-{
-    let text = type_text(home.alloc, text)?;
-    note_type_text(least, home, line, &text);
-    note_case_against(least, home, entries, line, &text);
-    Ok(())
-}
-
 /// Notes the faults of a case: of its key, and of its type.
-#[tactic(auto, using(crate::proofs::Noted::steps), unfolding(crate::specs::Rules::case_faults))]
+#[tactic(auto, using(crate::proofs::Noted::steps), unfolding(crate::specs::Rules::case_faults, crate::specs::Rules::case_type_faults))]
 fn note_case(least: &mut Least, home: Home, entries: &[Entry], case: &Entry) -> Noted
     ensures { OnOk result (seen_fault least.new ≡ noted (seen_fault least.old) (case_faults (seen_home home.entry) (map pair entries.now) (pair case.now))) }
 {
     note_case_key(least, home, case.line(), case.key())?;
     match case.value().text() {
-        Some(text) => note_case_type(least, home, entries, case.line(), text)?,
+        Some(text) => {
+            let text = type_text(home.alloc, text)?;
+            note_type_text(least, home, case.line(), &text);
+            note_case_against(least, home, entries, case.line(), &text);
+        }
         None => note(least, case.line(), BadValue),
     }
     Ok(())
@@ -258,20 +235,8 @@ fn name_line(member: &Member) -> usize
     id_line(member.value, member.line)
 }
 
-/// Whether an earlier member of the same type has the name of the member of this number.
-#[tactic(auto, unfolding(crate::specs::Rules::is_named_again))]
-fn is_named_again(home: Home, number: usize, member: &Member) -> bool
-    ensures { result ≡ is_named_again (declared home.entry.scopes.now) home.entry.within number (member_of member.now) }
-{
-    let name = member.name();
-    match home.scopes.member_named(home.within, name) {
-        Some(first) => !name.is_empty() && first != number,
-        None => !name.is_empty(),
-    }
-}
-
 /// Notes the faults of the member of this number in its type.
-#[tactic(auto, using(crate::proofs::Noted::steps), unfolding(crate::specs::Rules::member_faults))]
+#[tactic(auto, using(crate::proofs::Noted::steps), unfolding(crate::specs::Rules::member_faults, crate::specs::Rules::is_named_again))]
 fn note_member(least: &mut Least, home: Home, number: usize, member: &Member) -> Noted
     ensures { OnOk result (seen_fault least.new ≡ noted (seen_fault least.old) (member_faults (declared home.entry.scopes.now) home.entry.within number (member_of member.now))) }
 {
@@ -281,7 +246,12 @@ fn note_member(least: &mut Least, home: Home, number: usize, member: &Member) ->
     }
     let is_instance = matches!(member.role, Role::Instance);
     let is_bad = is_instance & !is_id(member.name());
-    let is_again = is_named_again(home, number, member);
+    let name = member.name();
+    let is_first = match home.scopes.member_named(home.within, name) {
+        Some(first) => first == number,
+        None => false,
+    };
+    let is_again = !name.is_empty() & !is_first;
     note_if(least, is_bad, member.line, BadValue);
     note_if(least, is_again, name_line(member), KeysAgainst);
     Ok(())
