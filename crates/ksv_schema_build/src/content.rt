@@ -6,7 +6,7 @@ ghost use Rattle.ksv_expr_tree.specs.Tree.{literal_of};
 ghost use Rattle.ksv_schema_keys.specs.Values.{joined, text_bytes, contents_of};
 ghost use Rattle.ksv_schema_keys.specs.Code.{seen_type_text, seen_case_key};
 ghost use Rattle.ksv_desc.specs.Pieces.{plain_content, plain_value, plain_case, plain_choice};
-ghost use Rattle.ksv_schema_build.specs.Stated.{perhaps_enum, encoding_at, order_at, integer_content, language_content, content_of, content_at, value_of, case_of, each, switch_of, typed, choice_of};
+ghost use Rattle.ksv_schema_build.specs.Stated.{perhaps_enum, encoding_at, integer_content, language_content, content_of, content_at, value_of, case_of, each, switch_of, typed, choice_of};
 ghost use Rattle.ksv_schema_build.specs.Code.{context_of, Makes};
 
 use crate::piece::{Context, Gap, Made, both, expression_at};
@@ -56,24 +56,8 @@ fn encoding_at(context: Context, entries: &[Entry]) -> Option<Encoding>
     }
 }
 
-/// The order of an integer, its own or the one in force; one byte has any.
-#[tactic(auto, unfolding(crate::specs::Stated::order_at))]
-fn order_at(context: Context, size: u8, stated: Option<ByteOrder>) -> Option<ByteOrder>
-    ensures { result ≡ order_at (context_of context.entry) size stated }
-{
-    match stated {
-        Some(order) => Some(order),
-        None => {
-            if size == 1 {
-                return Some(ByteOrder::Little);
-            }
-            context.scopes.order_of(context.within)
-        }
-    }
-}
-
-/// An integer.
-#[tactic(auto, unfolding(crate::specs::Stated::integer_content))]
+/// An integer, of its own order or the one in force; one byte has any.
+#[tactic(auto, unfolding(crate::specs::Stated::integer_content, crate::specs::Stated::order_at))]
 fn integer_content(
     context: Context,
     entries: &[Entry],
@@ -83,7 +67,12 @@ fn integer_content(
 ) -> Made<Content>
     ensures { Makes (integer_content (context_of context.entry) (map pair entries.now) is_signed size stated) plain_content result }
 {
-    let Some(order) = order_at(context, size, stated) else {
+    let order = match stated {
+        Some(order) => Some(order),
+        None if size == 1 => Some(ByteOrder::Little),
+        None => context.scopes.order_of(context.within),
+    };
+    let Some(order) = order else {
         return Err(Gap::Missing);
     };
     let enumeration = perhaps_enum(context, entries)?;

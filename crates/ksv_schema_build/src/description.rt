@@ -91,24 +91,17 @@ fn entry_of(alloc: Global, entry: &Entry) -> Made<EnumEntry>
     Ok(EnumEntry { number, id })
 }
 
-/// The numbers of an enum.
-fn entries_of(alloc: Global, entries: &[Entry]) -> Made<Vec<EnumEntry>>
-    ensures { Makes (each numbered_of (map pair entries.now)) (λ v. map plain_entry v.items) result }
-{
-    let mut made = Vec::new(alloc);
-    for entry in entries {
-        made.push(entry_of(alloc, entry)?)?;
-    }
-    Ok(made)
-}
-
 /// An enum.
 #[tactic(auto, unfolding(crate::specs::Stated::enum_of))]
 fn enum_of(alloc: Global, row: &Row) -> Made<EnumDesc>
     ensures { Makes (enum_of (row_of row.now)) plain_enum result }
 {
     let id = owned_text(alloc, row.id)?;
-    let (id, entries) = both(id, entries_of(alloc, row.entries()))?;
+    let rows = row.entries();
+    let mut entries = Vec::new(alloc);
+    for entry in rows {
+        entries.push(entry_of(alloc, entry)?)?;
+    }
     Ok(EnumDesc { id, entries })
 }
 
