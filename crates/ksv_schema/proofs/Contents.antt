@@ -23,7 +23,7 @@ use Rattle.ksv_schema_keys.specs.declared.keys.MappingKind.{MappingKind}
 use Rattle.ksv_schema_keys.specs.Keys.{form_in, is_ignored}
 use Rattle.ksv_schema_keys.specs.Expressions.{expression_of}
 use Rattle.ksv_schema_keys.specs.Values.{encoding_named, TypeText, Unspelled, OfLanguage, OfDescription, type_text, is_str, is_strz, looks_like_number, Piece, Bytes, BadPiece, LeftOutPiece, piece_of, bytes_of, joined, contents_of, CaseKey, Constant as ConstantKey, Negative, Member as MemberKey, Default, NoKey, case_key, ids_of}
-use Rattle.ksv_schema_faults.specs.Rules.{Home, argument_faults, language_faults, count_faults, type_text_faults, piece_faults, item_faults, contents_faults, enum_faults, case_value_faults, case_key_faults, case_type_faults, case_faults, form_faults, has_encoding}
+use Rattle.ksv_schema_faults.specs.Rules.{Home, argument_faults, language_faults, count_faults, type_text_faults, piece_faults, item_faults, contents_faults, enum_faults, case_value_faults, case_key_faults, case_against, case_type_faults, case_faults, form_faults, has_encoding}
 use Rattle.ksv_schema_build.specs.Stated.{argument_words, type_words, perhaps_enum, encoding_at, order_at, integer_content, language_content, content_of, content_at, value_of, case_value, case_of, each}
 use Rattle.ksv_desc.specs.Description.{Description, Number, Characters, Object, EnumValue}
 use Rattle.ksv_desc.specs.Resolved.{count, Each, IfAny, IsEnum, IsResolvedContent, IsResolvedValue, IsResolvedCase}
@@ -131,13 +131,13 @@ pub content_good : (h : Home) (names : List (List ℕ)) (es : List Pair) (line :
 unfolding type_text_faults language_faults count_faults content_of language_content integer_content
 content_good h names es line Unspelled k e c = absurd (no_fault line no_expression k)
 content_good h names es line (OfLanguage (Integer signed bytes o) given) k e c =
-    let r = order_is h names bytes line o (back (fault_if (not (count given == 0)) line wrong_count) (language_faults h line (Integer signed bytes o)) (front _ (argument_faults h line given) k)) in
+    let r = order_is h names bytes line o (back _ (language_faults h line (Integer signed bytes o)) k) in
     let n = is_bind _ _ r.0 r.1 (is_bind _ _ e.0 e.1 (Number signed bytes r.0 e.0, refl)) in
     (n.0, n.1, λ x s fits w. e.2 x s fits refl)
 content_good h names es line (OfLanguage Str given) k e c = let r = is_map Characters _ (c refl) in (r.0, r.1, λ x s fits w. tt)
 content_good h names es line (OfLanguage Strz given) k e c = let r = is_map Characters _ (c refl) in (r.0, r.1, λ x s fits w. tt)
-content_good h names es line (OfLanguage NotHere given) k e c = absurd (no_fault line left_out (back _ _ (front _ _ k)))
-content_good h names es line (OfDescription t given) k e c = found (type_named h.declared.types h.within t.path) refl (front _ _ k)
+content_good h names es line (OfLanguage NotHere given) k e c = absurd (no_fault line left_out (back _ _ k))
+content_good h names es line (OfDescription t given) k e c = found (type_named h.declared.types h.within t.path) refl (back _ _ k)
   where
     found : (o : Option ℕ) → type_named h.declared.types h.within t.path ≡ o → count_faults h line (count given) o ≡ [] → Good h.declared names (argument_words (OfDescription t given)) IsResolvedContent (option_map (λ n. Object n (all_numbered h.declared names h.within given)) o)
     found None n l = absurd (no_fault line unknown_name l)
@@ -146,7 +146,7 @@ content_good h names es line (OfDescription t given) k e c = found (type_named h
       refl,
       λ x e fits w.
           let below = type_within h.declared.types h.within t.path n s in
-          let arguments = arguments_lead h names line given (back _ _ k) x e fits w in
+          let arguments = arguments_lead h names line given (front _ _ k) x e fits w in
           record { type = omega (arith, below, fits.types); as_many = count_kept h.declared names h.within given ∙ sym (count_is h line (count given) n l) ∙ fits.parameters n below; arguments = arguments },
     )
 
@@ -156,11 +156,11 @@ is_no_string : (t : TypeText) (line : ℕ) → fault_if (is_str t || is_strz t) 
 is_no_string t line k e = absurd (let z : false ≡ true = sym (not_if _ line left_out k) ∙ e in cc)
 
 -- what stands at the type of a case
-case_content : (h : Home) (names : List (List ℕ)) (es : List Pair) (p : Pair) → case_faults h p ≡ [] → GoodEnum h names es → Good h.declared names (type_words p) IsResolvedContent (content_at (context h names) es p)
-unfolding case_faults case_type_faults content_at type_words
-case_content h names es p k e =
-    let t = has_text (λ text. case_type_faults h p.line (type_text text)) p (back _ _ k) in
-    let g = content_good h names es p.line (type_text t.0) (front _ _ t.2) e (λ z. absurd (is_no_string (type_text t.0) p.line (back _ _ t.2) z)) in
+case_content : (h : Home) (names : List (List ℕ)) (beside es : List Pair) (p : Pair) → case_faults h beside p ≡ [] → GoodEnum h names es → Good h.declared names (type_words p) IsResolvedContent (content_at (context h names) es p)
+unfolding case_faults case_type_faults case_against content_at type_words
+case_content h names beside es p k e =
+    let t = has_text (λ text. case_type_faults h beside p.line (type_text text)) p (back _ _ k) in
+    let g = content_good h names es p.line (type_text t.0) (front _ _ t.2) e (λ z. absurd (is_no_string (type_text t.0) p.line (front _ _ (front _ _ (front _ _ (front _ _ (back _ _ t.2))))) z)) in
     let r = is_bind (λ text. content_of (context h names) es (type_text text)) _ t.0 t.1 (g.0, g.1) in
     (r.0, r.1, λ x s fits w. g.2 x s fits (ap (λ (o : Option (List ℕ)). has_names names (option_map_or (λ text. argument_words (type_text text)) o [])) (sym t.1) ∙ w))
 
@@ -183,18 +183,18 @@ key_value h names line text k = go (expression_of text) k
     go None k = absurd (no_fault line no_expression k)
     go (Some e) k = value_good h names line (case_key e) k
 
-case_good : (h : Home) (names : List (List ℕ)) (es : List Pair) (p : Pair) → case_faults h p ≡ [] → GoodEnum h names es → Good h.declared names (type_words p) IsResolvedCase (case_of (context h names) es p)
+case_good : (h : Home) (names : List (List ℕ)) (beside es : List Pair) (p : Pair) → case_faults h beside p ≡ [] → GoodEnum h names es → Good h.declared names (type_words p) IsResolvedCase (case_of (context h names) es p)
 unfolding case_faults case_of
-case_good h names es p k e =
+case_good h names beside es p k e =
     let v = key_value h names p.line p.key (front _ _ k) in
-    let c = case_content h names es p k e in
+    let c = case_content h names beside es p k e in
     let r = is_bind _ _ v.0 v.1 (is_bind _ _ c.0 c.1 (_, refl)) in
     (r.0, r.1, λ x s fits w. (v.2 x s fits refl, c.2 x s fits w))
 
-pub cases_good : (h : Home) (names : List (List ℕ)) (es keys : List Pair) → GoodEnum h names es → flat_map (case_faults h) keys ≡ [] → Good h.declared names (flat_map type_words keys) (λ x. Each (IsResolvedCase x)) (each (case_of (context h names) es) keys)
-cases_good h names es [] e k = ([], refl, λ x s fits w. tt)
-cases_good h names es (p ∷ ps) e k =
-    let c = case_good h names es p (front _ _ k) e in
-    let cs = cases_good h names es ps e (back _ _ k) in
+pub cases_good : (h : Home) (names : List (List ℕ)) (beside es keys : List Pair) → GoodEnum h names es → flat_map (case_faults h beside) keys ≡ [] → Good h.declared names (flat_map type_words keys) (λ x. Each (IsResolvedCase x)) (each (case_of (context h names) es) keys)
+cases_good h names beside es [] e k = ([], refl, λ x s fits w. tt)
+cases_good h names beside es (p ∷ ps) e k =
+    let c = case_good h names beside es p (front _ _ k) e in
+    let cs = cases_good h names beside es ps e (back _ _ k) in
     let r = is_bind _ _ c.0 c.1 (is_bind _ _ cs.0 cs.1 (c.0 ∷ cs.0, refl)) in
     (r.0, r.1, λ x s fits w. let ws = has_both names (type_words p) (flat_map type_words ps) w in (c.2 x s fits ws.0, cs.2 x s fits ws.1))

@@ -11,15 +11,15 @@ use Rattle.ksv_schema_scope.specs.Members.{is_in_params}
 use Rattle.ksv_schema_names.specs.declared.position.Site.{Site}
 use Rattle.ksv_schema_names.specs.declared.position.Site.TheVariants as sites
 use Rattle.ksv_desc.specs.Names.{has_names}
-use Rattle.ksv_schema_faults.specs.Faults.{Fault, fault, fault_if, missing_key, bad_value, left_out}
+use Rattle.ksv_schema_faults.specs.Faults.{Fault, fault_if, missing_key, left_out}
 use Rattle.ksv_schema_keys.specs.declared.keys.Form.TheVariants as forms
 use Rattle.ksv_schema_keys.specs.declared.keys.MappingKind.{MappingKind}
 use Rattle.ksv_schema_keys.specs.declared.keys.MappingKind.TheVariants as kinds
 use Rattle.ksv_schema_keys.specs.declared.keys.Group.TheVariants as groups
 use Rattle.ksv_schema_keys.specs.Keys.{is_in, kind_of as mapping_kind, form_among, form_in, is_ignored}
-use Rattle.ksv_schema_keys.specs.Values.{TypeText, type_text, is_str, is_strz, type_at, own_type, is_a, cases_of, contents_of, is_to_end}
-use Rattle.ksv_schema_faults.specs.Rules.{Home, text_faults, type_text_faults, contents_faults, case_faults, form_faults, key_faults, has_encoding, Has, Says, Needs, claimed, rule_faults, ruled_faults, rules, mapping_faults, case_against, field_needs, field_left_out, field_faults, switch_faults, kind_faults}
-use Rattle.ksv_schema_build.specs.Stated.{argument_words, perhaps_expression, type_words, form_words, key_words, expression_at, content_at, content_of, case_of, switch_of, typed, choice_of, extent_of, repeat_of, field_of, parse_instance_of, value_instance_of, kind_of, each}
+use Rattle.ksv_schema_keys.specs.Values.{TypeText, type_text, is_str, is_strz, type_at, own_type, is_a, contents_of, is_to_end}
+use Rattle.ksv_schema_faults.specs.Rules.{Home, text_faults, type_text_faults, contents_faults, case_faults, form_faults, key_faults, has_encoding, Has, Says, Needs, claimed, rule_faults, ruled_faults, rules, mapping_faults, field_needs, field_left_out, field_faults, switch_keys_faults, switch_faults, kind_faults}
+use Rattle.ksv_schema_build.specs.Stated.{argument_words, perhaps_expression, type_words, form_words, key_words, expression_at, content_at, content_of, switch_of, typed, choice_of, extent_of, repeat_of, field_of, parse_instance_of, value_instance_of, kind_of}
 use Rattle.ksv_desc.specs.Description.{Always, Switch, Bytes, Fixed, Sized, SizeEos, ByItself, Once, Eos, Expr, Until, MemberKind, Parameter, Attribute, ParseInstance, ValueInstance}
 use Rattle.ksv_desc.specs.Resolved.{is_parameter, IfAny, IsResolvedTree, IsResolvedContent, IsResolvedChoice, IsResolvedExtent, IsResolvedRepeat, IsResolvedField, IsResolvedKind}
 use Rattle.ksv_schema.proofs.Coherent.{Is, IsRead, front, back, not_if, no_fault, is_map, is_bind, at_key, ruled_is, has_text, context, some_of, not_missing}
@@ -56,11 +56,11 @@ need_encoding h line es = fault_if ((is_a is_str (own_type es) || is_a is_strz (
 pub record HasNeeds (h : Home) (kind : MappingKind) (line : ℕ) (es : List Pair) : Type 0 where
   pub encoding : need_encoding h line es ≡ []
   pub rules : flat_map (ruled_faults kind line es) rules ≡ []
-  pub switch : switch_faults h es ≡ []
+  pub switch : switch_faults h es (entry_at (codes "type") es) ≡ []
 
 needed_encoding : (h : Home) (line : ℕ) (es : List Pair) → field_faults h line es ≡ [] → need_encoding h line es ≡ []
 unfolding field_faults field_needs
-needed_encoding h line es k = back _ (need_encoding h line es) (front (field_needs h line es) (flat_map (case_against es) (cases_of es)) (front (field_needs h line es ++ flat_map (case_against es) (cases_of es)) (field_left_out h es) k))
+needed_encoding h line es k = back _ (need_encoding h line es) (front (field_needs h line es) (field_left_out h es) k)
 
 -- a key that is needed where `repeat` is said to be something
 needed : (text name : List ℕ) (es : List Pair) (line : ℕ) → says (codes "repeat") text es ≡ true → rule_faults line es (Needs (Says (codes "repeat") text) (Has name)) ≡ [] → Is (entry_at name es)
@@ -139,45 +139,42 @@ text_good h names kind line es p a f k n e r =
     let b = is_bind (λ text. content_of (context h names) es (type_text text)) _ t.0 t.1 (g.0, g.1) in
     (b.0, b.1, λ x s fits w. g.2 x s fits (ap (λ (o : Option (List ℕ)). has_names names (option_map_or (λ text. argument_words (type_text text)) o [])) (sym t.1) ∙ w))
 
-switch_good : (h : Home) (names : List (List ℕ)) (es keys : List Pair) (line : ℕ) → GoodEnum h names es → mapping_faults h kinds.Switch line keys ≡ [] → Good h.declared names (flat_map (key_words kinds.Switch) keys) IsResolvedChoice (switch_of (context h names) es keys)
-unfolding mapping_faults switch_of form_in form_among is_ignored form_faults form_words
-switch_good h names es keys line e k =
-    let all = front (flat_map (key_faults h kinds.Switch) keys) (flat_map (ruled_faults kinds.Switch line keys) rules) k in
-    let ruled = back (flat_map (key_faults h kinds.Switch) keys) (flat_map (ruled_faults kinds.Switch line keys) rules) k in
-    let q = not_missing (codes "cases") keys line (ruled_is kinds.Switch line keys rules 4 groups.Switches _ refl ruled refl) in
-    let on = expression_at_good h names kinds.Switch sites.Switch (codes "switch-on") keys refl refl all (not_missing (codes "switch-on") keys line (ruled_is kinds.Switch line keys rules 3 groups.Switches _ refl ruled refl)) in
-    let cs = mapped (mapping_of q.0.value) q.0.line (at_key h kinds.Switch (codes "cases") forms.Cases keys q.0 refl refl all q.1) q.0 refl in
-    let same : entries_at (codes "cases") keys ≡ cs.0 = ap (λ (o : Option Pair). unwrap_or (option_and_then (λ (p : Pair). mapping_of p.value) o) []) q.1 ∙ ap (λ (o : Option (List Pair)). unwrap_or o []) cs.1 in
-    let r = cases_good h names es cs.0 e cs.2 in
-    let b = is_bind _ _ on.0 on.1 (is_bind _ _ r.0 (ap (each (case_of (context h names) es)) same ∙ r.1) (Switch on.0 r.0, refl)) in (
-      b.0,
-      b.1,
-      λ x s fits w.
-          let v = words_at names (key_words kinds.Switch) (codes "cases") keys q.0 w q.1 in
-          let cased : has_names names (flat_map type_words (unwrap_or (mapping_of q.0.value) [])) ≡ true = ap (has_names names) (sym (form_of_key kinds.Switch (codes "cases") forms.Cases q.0 v.1 refl)) ∙ v.0 in
-          (on.2 x s fits w, r.2 x s fits (ap (λ (o : Option (List Pair)). has_names names (flat_map type_words (unwrap_or o []))) (sym cs.1) ∙ cased)),
-    )
+-- the words of the cases of a switch
+case_words : (names : List (List ℕ)) (keys : List Pair) → has_names names (flat_map (key_words kinds.Switch) keys) ≡ true → has_names names (flat_map type_words (entries_at (codes "cases") keys)) ≡ true
+unfolding form_in form_among form_words
+case_words names keys w = go (entry_at (codes "cases") keys) refl
   where
-    mapped : (o : Option (List Pair)) (line : ℕ) → option_map_or (flat_map (case_faults h)) o (fault line bad_value) ≡ [] → (p : Pair) → mapping_of p.value ≡ o → (cs : List Pair) × (mapping_of p.value ≡ Some cs) × (flat_map (case_faults h) cs ≡ [])
-    mapped None line k p e = absurd (no_fault line bad_value k)
-    mapped (Some cs) line k p e = (cs, e, k)
+    go : (o : Option Pair) → entry_at (codes "cases") keys ≡ o → has_names names (flat_map type_words (unwrap_or (option_and_then (λ (p : Pair). mapping_of p.value) o) [])) ≡ true
+    go None e = refl
+    go (Some p) e = let v = words_at names (key_words kinds.Switch) (codes "cases") keys p w e in ap (has_names names) (sym (form_of_key kinds.Switch (codes "cases") forms.Cases p v.1 refl)) ∙ v.0
+
+switch_good : (h : Home) (names : List (List ℕ)) (beside es keys : List Pair) (line : ℕ) → GoodEnum h names es → switch_keys_faults h beside line keys ≡ [] → Good h.declared names (flat_map (key_words kinds.Switch) keys) IsResolvedChoice (switch_of (context h names) es keys)
+unfolding switch_keys_faults mapping_faults switch_of form_in form_among is_ignored
+switch_good h names beside es keys line e k =
+    let mapped = front _ (flat_map (case_faults h beside) (entries_at (codes "cases") keys)) k in
+    let all = front (flat_map (key_faults h kinds.Switch) keys) (flat_map (ruled_faults kinds.Switch line keys) rules) mapped in
+    let ruled = back (flat_map (key_faults h kinds.Switch) keys) (flat_map (ruled_faults kinds.Switch line keys) rules) mapped in
+    let on = expression_at_good h names kinds.Switch sites.Switch (codes "switch-on") keys refl refl all (not_missing (codes "switch-on") keys line (ruled_is kinds.Switch line keys rules 3 groups.Switches _ refl ruled refl)) in
+    let r = cases_good h names beside es (entries_at (codes "cases") keys) e (back _ (flat_map (case_faults h beside) (entries_at (codes "cases") keys)) k) in
+    let b = is_bind _ _ on.0 on.1 (is_bind _ _ r.0 r.1 (Switch on.0 r.0, refl)) in
+    (b.0, b.1, λ x s fits w. (on.2 x s fits w, r.2 x s fits (case_words names keys w)))
 
 -- what stands at `type`
 typed_good : (h : Home) (names : List (List ℕ)) (kind : MappingKind) (line : ℕ) (es : List Pair) (p : Pair) → AreEncodings h.declared → HasFieldKeys kind → IsRead h kind es → HasNeeds h kind line es → entry_at (codes "type") es ≡ Some p → Good h.declared names (all_words kind es) IsResolvedChoice (typed (context h names) es p)
 unfolding typed form_faults form_words is_ignored switch_faults
-typed_good h names kind line es p a f k n e = go (mapping_of p.value) refl (at_key h kind (codes "type") forms.TypeOrSwitch es p refl f.type k e) (ap (λ (o : Option Pair). option_map_or (λ (p : Pair). option_map_or (mapping_faults h kinds.Switch (line_of p.value)) (mapping_of p.value) []) o []) (sym e) ∙ n.switch)
+typed_good h names kind line es p a f k n e = go (mapping_of p.value) refl (at_key h kind (codes "type") forms.TypeOrSwitch es p refl f.type k e) (ap (switch_faults h es) (sym e) ∙ n.switch)
   where
     typed_words : has_names names (all_words kind es) ≡ true → has_names names (type_words p) ≡ true
     typed_words w =
         let v = words_at names (key_words kind) (codes "type") es p (own_words names kind es w) e in
         ap (has_names names) (sym (form_of_key kind (codes "type") forms.TypeOrSwitch p v.1 f.type)) ∙ v.0
 
-    go : (o : Option (List Pair)) → mapping_of p.value ≡ o → cond (is_some o) [] (text_faults (λ text. type_text_faults h p.line (type_text text)) p) ≡ [] → option_map_or (mapping_faults h kinds.Switch (line_of p.value)) o [] ≡ [] → Good h.declared names (all_words kind es) IsResolvedChoice (option_map_or (switch_of (context h names) es) o (option_map Always (content_at (context h names) es p)))
+    go : (o : Option (List Pair)) → mapping_of p.value ≡ o → cond (is_some o) [] (text_faults (λ text. type_text_faults h p.line (type_text text)) p) ≡ [] → option_map_or (switch_keys_faults h es (line_of p.value)) o [] ≡ [] → Good h.declared names (all_words kind es) IsResolvedChoice (option_map_or (switch_of (context h names) es) o (option_map Always (content_at (context h names) es p)))
     go None q r l =
         let g = text_good h names kind line es p a f k n e r in
         good_map h.declared names (all_words kind es) IsResolvedContent IsResolvedChoice Always _ (λ x y r. r) (g.0, g.1, λ x s fits w. g.2 x s fits (typed_words w))
     go (Some keys) q r l =
-        let g = switch_good h names es keys (line_of p.value) (enum_good h names kind es f.enum k) l in
+        let g = switch_good h names es es keys (line_of p.value) (enum_good h names kind es f.enum k) l in
         (g.0, g.1, λ x s fits w. g.2 x s fits (ap (λ (o : Option (List Pair)). has_names names (flat_map (key_words kinds.Switch) (unwrap_or o []))) (sym q) ∙ switch_words names kind es p w e))
 
 choice_good : (h : Home) (names : List (List ℕ)) (kind : MappingKind) (line : ℕ) (es : List Pair) → AreEncodings h.declared → HasFieldKeys kind → IsRead h kind es → HasNeeds h kind line es → Good h.declared names (all_words kind es) IsResolvedChoice (choice_of (context h names) es)
@@ -196,7 +193,7 @@ choice_good h names kind line es a f k n = contents (entry_at (codes "contents")
 
 -- the faults of a mapping and what else it must be, of what is read
 abbrev pub IsFaultless : Home → MappingKind → ℕ → List Pair → Type 0
-IsFaultless h kind line es = (mapping_faults h kind line es ≡ []) × (switch_faults h es ++ field_faults h line es ≡ [])
+IsFaultless h kind line es = (mapping_faults h kind line es ≡ []) × (switch_faults h es (entry_at (codes "type") es) ++ field_faults h line es ≡ [])
 
 read_keys : (h : Home) (kind : MappingKind) (line : ℕ) (es : List Pair) → mapping_faults h kind line es ≡ [] → IsRead h kind es
 unfolding mapping_faults
@@ -207,9 +204,9 @@ unfolding field_of is_ignored mapping_faults
 field_good h names kind line es a f r =
     let k = read_keys h kind line es r.0 in
     let n : HasNeeds h kind line es = record {
-      encoding = needed_encoding h line es (back (switch_faults h es) (field_faults h line es) r.1);
+      encoding = needed_encoding h line es (back (switch_faults h es (entry_at (codes "type") es)) (field_faults h line es) r.1);
       rules = back (flat_map (key_faults h kind) es) (flat_map (ruled_faults kind line es) rules) r.0;
-      switch = front (switch_faults h es) (field_faults h line es) r.1;
+      switch = front (switch_faults h es (entry_at (codes "type") es)) (field_faults h line es) r.1;
     } in
     let condition = optional_good h names kind sites.Condition (codes "if") es k refl f.condition in
     let repeat = repeat_good h names kind line es f k n in

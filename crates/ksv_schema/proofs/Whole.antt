@@ -18,7 +18,7 @@ use Rattle.ksv_schema_keys.specs.declared.keys.Group.TheVariants as groups
 use Rattle.ksv_schema_keys.specs.Keys.{form_among, form_in, is_ignored, is_id}
 use Rattle.ksv_schema_keys.specs.Values.{encoding_named}
 use Rattle.ksv_schema_faults.specs.Faults.{Fault, fault, fault_if, bad_value, left_out}
-use Rattle.ksv_schema_faults.specs.Rules.{Home, home_in, form_faults, key_faults, ruled_faults, rules, mapping_faults, enum_row_faults, numeral_faults, entry_value_faults, entry_faults, enum_faults_of, is_root, meta_faults, type_keys_faults, type_faults, each_from}
+use Rattle.ksv_schema_faults.specs.Rules.{Home, home_in, form_faults, key_faults, ruled_faults, rules, mapping_faults, numeral_faults, entry_value_faults, entry_faults, enum_faults_of, is_root, meta_faults, type_keys_faults, type_faults, each_from}
 use Rattle.ksv_schema_build.specs.Stated.{numbered_of, enum_of, each}
 use Rattle.ksv_desc.specs.Description.{as_text}
 use Rattle.ksv_schema.proofs.Coherent.{Is, front, back, not_if, not_not, no_fault, some_same, is_bind, at_key, ruled_is, has_text, text_fits, some_of, not_missing}
@@ -101,7 +101,7 @@ entries_are h all i (p ∷ ps) k =
     is_bind _ _ here.0 here.1 (is_bind _ _ r.0 r.1 (here.0 ∷ r.0, refl))
 
 enum_is : (h : Home) (r : Row) → enum_faults_of h r ≡ [] → Is (enum_of r)
-unfolding enum_faults_of enum_row_faults enum_of
+unfolding enum_faults_of enum_of
 enum_is h r k =
     let text = as_text_is r.id (id_is_text r.id (not_not (is_id r.id) (not_if _ r.line bad_value (front _ _ (front _ _ k))))) in
     let es = entries_are h (keys_of r) 0 (keys_of r) (back _ _ k) in

@@ -59,9 +59,6 @@ pub texts_end : (ms : List MemberRow) (i : ℕ) (b : Bool) → length ms ≤ i �
 unfolding are_texts
 texts_end ms i b le now = sym (now ∙ ap (λ (xs : List MemberRow). are_texts (map row xs)) (drop_all i ms le))
 
-pub added_end : (ms : List MemberRow) (i : ℕ) (o q : List (List ℕ)) → length ms ≤ i → distinct_behind o (names_in (drop i ms)) ≡ q → o ≡ q
-added_end ms i o q le now = ap (λ (xs : List MemberRow). distinct_behind o (names_in xs)) (sym (drop_all i ms le)) ∙ now
-
 -- the members of each type are texts
 pub all_step : {S : Type 0} (see : S → List Member) (vs : List S) (i : ℕ) (v : S) → i < length vs → v ≡ get_or vs i v → (b : Bool) → are_texts (see v) ≡ true → b ≡ list_all are_texts (map see (drop i vs)) → b ≡ list_all are_texts (map see (drop (i + 1) vs))
 all_step see vs i v lt is b t now =

@@ -1,31 +1,21 @@
--- Parts of pieces that the code builds one by one.
-use Rattle.std.specs.Prelude.{ℕ, List, [], Option, Some, None, Result, Ok, Err, option_map, codes}
-use Rattle.ksv_yaml_tree.specs.Tree.{Pair}
-use Rattle.ksv_expr_syntax.specs.Reading.{◌>>=◌}
-use Rattle.ksv_expr_tree.specs.Tree as expressions
-use Rattle.ksv_yaml_tree.specs.Keys.{text_at}
-use Rattle.ksv_schema_scope.specs.Types.{enum_from}
-use Rattle.ksv_schema_names.specs.Numbered.{given_member}
-use Rattle.ksv_schema_keys.specs.Values.{case_key, ids_of}
-use Rattle.ksv_schema_build.specs.Stated.{Context, value_of}
-use Rattle.ksv_desc.specs.Description.{CaseValue, EnumValue}
+-- The plain data of the code's values, and what is made of a piece.
+use Rattle.std.specs.Prelude.{◌≡◌, Option, Some, None, Result, Ok, Err}
+use Rattle.ksv_schema_scope.specs.Table.{declared}
+use Rattle.ksv_schema_build.specs.declared.piece.Context.{Context as CodeContext}
+use Rattle.ksv_schema_build.specs.declared.piece.Gap.{Gap}
+use Rattle.ksv_schema_build.specs.declared.piece.Gap.TheVariants as gaps
+use Rattle.ksv_schema_build.specs.Stated.{Context}
 
--- a part with another one, if that is there
-abbrev pub both : {A B E : Type 0} → A → Result (Option B) E → Result (Option (A × B)) E
-both one (Ok (Some next)) = Ok (Some (one, next))
-both one (Ok None) = Ok None
+abbrev pub context_of : CodeContext → Context
+context_of c = record { declared = declared c.scopes.now; names = c.names.now; within = c.within }
+
+-- What was made, seen by view, is what is stated. Where something is missing nothing is stated.
+abbrev pub Makes : {X A : Type 0} → Option A → (X → A) → Result X Gap → Type 0
+Makes stated view (Ok x) = stated ≡ Some (view x)
+Makes stated view (Err gaps.Missing) = stated ≡ None
+Makes stated view (Err gaps.NoMemory) = Unit {0}
+
+-- a part with the next one, if that was made
+abbrev pub both : {A B E : Type 0} → A → Result B E → Result (A × B) E
+both one (Ok next) = Ok (one, next)
 both one (Err e) = Err e
-
--- the enum of a path, and the one at the key `enum`
-abbrev pub enum_of : Context → Option (List (List ℕ)) → Option ℕ
-enum_of c path = path >>= enum_from c.declared.types c.declared.enums c.within []
-
-abbrev pub enum_at : Context → List Pair → Option ℕ
-enum_at c es = text_at (codes "enum") es >>= ids_of >>= enum_from c.declared.types c.declared.enums c.within []
-
--- the value of a key of `cases` that is a member, and of one that was read
-abbrev pub member_value : Context → expressions.MemberPath → Option (Option CaseValue)
-member_value c m = option_map (λ g. Some (EnumValue g)) (given_member c.declared c.within m)
-
-abbrev pub value_read : Context → Option expressions.Tree → Option (Option CaseValue)
-value_read c read = read >>= λ e. value_of c (case_key e)

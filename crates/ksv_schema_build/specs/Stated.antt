@@ -6,7 +6,6 @@ use Rattle.std.specs.Option.{option_map_or}
 use Rattle.std.specs.Str.{is_utf8}
 use Rattle.ksv_yaml_tree.specs.Tree.{Tree, Pair, text_of, mapping_of, entry_at}
 use Rattle.ksv_expr_syntax.specs.Reading.{◌>>=◌}
-use Rattle.ksv_expr_tree.specs.Tree.{Arguments}
 use Rattle.ksv_expr_tree.specs.Tree as expressions
 use Rattle.ksv_desc.specs.declared.order.ByteOrder.{ByteOrder}
 use Rattle.ksv_desc.specs.declared.order.ByteOrder.TheVariants as orders

@@ -3,18 +3,10 @@
 //! `specs/Stated` defines it piece by piece; a tree with a fault may state none.
 #![tactic(auto)]
 
-mod both;
-mod choice;
 mod content;
-mod contents;
-mod context;
 mod description;
-mod enums;
-mod expressions;
-mod field;
 mod member;
 mod names;
-mod texts;
-mod types;
+mod piece;
 
 pub use description::build;

@@ -1,20 +1,30 @@
-//! The names of a description: those of its members, and then those after dots.
+//! The names of a description, which are texts: those of its members, and then those after dots.
 
-ghost use Rattle.std.specs.Prelude.{◌≡◌, true, map, IfOk, OnOk, flat_map};
+ghost use Rattle.std.specs.Prelude.{◌≡◌, true, map, IfOk, OnOk, flat_map, option_map};
 ghost use Rattle.std.specs.List.{list_all};
 ghost use Rattle.ksv_yaml_tree.specs.View.{pair};
 ghost use Rattle.ksv_schema_scope.specs.Code.{member_of as row};
+ghost use Rattle.ksv_desc.specs.Description.{as_text};
 ghost use Rattle.ksv_desc.specs.Names.{distinct_behind};
-ghost use Rattle.ksv_schema_keys.specs.Code.{seen_type_text};
-ghost use Rattle.ksv_schema_build.specs.Stated.{expression_words, argument_words, type_words, form_words, key_words, member_words, names_in, are_texts};
+ghost use Rattle.ksv_schema_build.specs.Stated.{type_words, key_words, member_words, names_in, are_texts};
 
-use crate::texts::as_text;
 use ksv_schema_keys::{Form, MappingKind, TypeText, form_in, kind_of, read_expression, type_text};
 use ksv_schema_names::Names;
 use ksv_schema_scope::Member;
 use ksv_yaml_tree::Entry;
 use ksv_yaml_tree::keys::{entries_at, entries_in};
 use std::alloc::{AllocError, Global};
+
+/// The text of these bytes, if they are one.
+#[tactic(auto, unfolding(ksv_desc::specs::Description::as_text))]
+pub(crate) fn as_text(bytes: &[u8]) -> Option<&str>
+    ensures { option_map (λ s. s.now) result ≡ as_text bytes.now }
+{
+    match str::from_utf8(bytes) {
+        Ok(text) => Some(text),
+        Err(_) => None,
+    }
+}
 
 /// Adds the names of members, as far as they are texts, and returns whether all are.
 fn add_members(names: &mut Names, members: &[Member]) -> Result<bool, AllocError>
@@ -46,29 +56,6 @@ pub(crate) fn add_all_members<'a>(
     Ok(true)
 }
 
-/// Adds the names after dots of an expression's text.
-#[tactic(auto, using(ksv_desc::proofs::Dots::steps), unfolding(crate::specs::Stated::expression_words))]
-fn add_expression(alloc: Global, names: &mut Names, text: &[u8]) -> Result<(), AllocError>
-    ensures { OnOk result (names.new ≡ distinct_behind names.old (expression_words text.now)) }
-{
-    match read_expression(alloc, text)? {
-        Ok(expr) => names.add_dotted(&expr),
-        Err(_) => Ok(()),
-    }
-}
-
-/// Adds the names after dots in the arguments of a type.
-#[tactic(auto, using(ksv_desc::proofs::Dots::steps))]
-fn add_arguments(names: &mut Names, text: &TypeText) -> Result<(), AllocError>
-    ensures { OnOk result (names.new ≡ distinct_behind names.old (argument_words (seen_type_text text.now))) }
-{
-    match text {
-        TypeText::Unspelled(_) => Ok(()),
-        TypeText::OfLanguage(_, arguments) => names.add_all_dotted(arguments),
-        TypeText::OfDescription(_, arguments) => names.add_all_dotted(arguments),
-    }
-}
-
 /// Adds the names after dots of the type at an entry.
 #[tactic(auto, using(ksv_desc::proofs::Dots::steps), unfolding(crate::specs::Stated::type_words))]
 fn add_type(alloc: Global, names: &mut Names, entry: &Entry) -> Result<(), AllocError>
@@ -77,7 +64,11 @@ fn add_type(alloc: Global, names: &mut Names, entry: &Entry) -> Result<(), Alloc
     match entry.value().text() {
         Some(text) => {
             let text = type_text(alloc, text)?;
-            add_arguments(names, &text)
+            match &text {
+                TypeText::Unspelled(_) => Ok(()),
+                TypeText::OfLanguage(_, arguments) => names.add_all_dotted(arguments),
+                TypeText::OfDescription(_, arguments) => names.add_all_dotted(arguments),
+            }
         }
         None => Ok(()),
     }
@@ -93,24 +84,8 @@ fn add_types(alloc: Global, names: &mut Names, entries: &[Entry]) -> Result<(), 
     Ok(())
 }
 
-/// Adds the names after dots of the value at an entry, by its form.
-#[tactic(auto, using(ksv_desc::proofs::Dots::steps), unfolding(crate::specs::Stated::form_words))]
-fn add_form(alloc: Global, names: &mut Names, entry: &Entry, form: Form) -> Result<(), AllocError>
-    ensures { OnOk result (names.new ≡ distinct_behind names.old (form_words (pair entry.now) form)) }
-{
-    match form {
-        Form::Expression(_) => match entry.value().text() {
-            Some(text) => add_expression(alloc, names, text),
-            None => Ok(()),
-        },
-        Form::TypeOrSwitch => add_type(alloc, names, entry),
-        Form::Cases => add_types(alloc, names, entries_in(entry.value())),
-        _ => Ok(()),
-    }
-}
-
-/// Adds the names after dots at a key of such a mapping.
-#[tactic(auto, using(ksv_desc::proofs::Dots::steps), unfolding(crate::specs::Stated::key_words))]
+/// Adds the names after dots at a key of such a mapping, by the form of its value.
+#[tactic(auto, using(ksv_desc::proofs::Dots::steps), unfolding(crate::specs::Stated::key_words, crate::specs::Stated::form_words, crate::specs::Stated::expression_words))]
 fn add_key(
     alloc: Global,
     names: &mut Names,
@@ -119,9 +94,20 @@ fn add_key(
 ) -> Result<(), AllocError>
     ensures { OnOk result (names.new ≡ distinct_behind names.old (key_words kind (pair entry.now))) }
 {
-    match form_in(kind, entry.key()) {
-        Some(form) => add_form(alloc, names, entry, form),
-        None => Ok(()),
+    let Some(form) = form_in(kind, entry.key()) else {
+        return Ok(());
+    };
+    match form {
+        Form::Expression(_) => match entry.value().text() {
+            Some(text) => match read_expression(alloc, text)? {
+                Ok(expr) => names.add_dotted(&expr),
+                Err(_) => Ok(()),
+            },
+            None => Ok(()),
+        },
+        Form::TypeOrSwitch => add_type(alloc, names, entry),
+        Form::Cases => add_types(alloc, names, entries_in(entry.value())),
+        _ => Ok(()),
     }
 }
 

@@ -105,30 +105,3 @@ noted_least f (g ∷ fs) h =
       among = elim r.here [ inl same ↦ subst (λ (f : Fault). Contains (g ∷ fs) f) same (contains_first g fs) | inr there ↦ contains_more f g fs there ];
       none_below = all_cons (λ x. is_below x f ≡ false) g fs r.first r.others;
     }
-
--- ---- two faults, one after the other
-
-below_below_lem : (a x b y d z : ℕ) → (nat_lt a b || ((a == b) && nat_lt x y)) ≡ true → (nat_lt b d || ((b == d) && nat_lt y z)) ≡ true → (nat_lt a d || ((a == d) && nat_lt x z)) ≡ true
-below_below_lem a x b y d z h k = grind (arith, nat_tests)
-
-below_below : (a b d : Fault) → is_below a b ≡ true → is_below b d ≡ true → is_below a d ≡ true
-unfolding is_below
-below_below a b d h k = below_below_lem a.line a.number b.line b.number d.line d.number h k
-
--- one that isn't below the other changes nothing behind it
-pub lesser_kept : (o : Option Fault) (f g : Fault) → is_below g f ≡ false → lesser (lesser o f) g ≡ lesser o f
-lesser_kept None f g h = ap (λ (b : Bool). cond b (Some g) (Some f)) h
-lesser_kept (Some d) f g h = by_test (is_below f d) refl
-  where
-    by_test : (b : Bool) → is_below f d ≡ b → lesser (lesser (Some d) f) g ≡ lesser (Some d) f
-    by_test true e = ap (λ (b : Bool). lesser (cond b (Some f) (Some d)) g) e ∙ ap (λ (b : Bool). cond b (Some g) (Some f)) h ∙ ap (λ (b : Bool). cond b (Some f) (Some d)) (sym e)
-    by_test false e = ap (λ (b : Bool). lesser (cond b (Some f) (Some d)) g) e ∙ ap (λ (b : Bool). cond b (Some g) (Some d)) (not_over g f d h e) ∙ ap (λ (b : Bool). cond b (Some f) (Some d)) (sym e)
-
--- one that is below the other makes it needless
-pub lesser_over : (o : Option Fault) (f g : Fault) → is_below g f ≡ true → lesser (lesser o f) g ≡ lesser o g
-lesser_over None f g h = ap (λ (b : Bool). cond b (Some g) (Some f)) h
-lesser_over (Some d) f g h = by_test (is_below f d) refl
-  where
-    by_test : (b : Bool) → is_below f d ≡ b → lesser (lesser (Some d) f) g ≡ lesser (Some d) g
-    by_test true e = ap (λ (b : Bool). lesser (cond b (Some f) (Some d)) g) e ∙ ap (λ (b : Bool). cond b (Some g) (Some f)) h ∙ ap (λ (b : Bool). cond b (Some g) (Some d)) (sym (below_below g f d h e))
-    by_test false e = ap (λ (b : Bool). lesser (cond b (Some f) (Some d)) g) e

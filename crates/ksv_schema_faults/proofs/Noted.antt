@@ -27,8 +27,4 @@ noted_step see f xs i x o p q lt is new now =
 pub noted_end : {X A : Type 0} (see : X → A) (f : A → List Fault) (xs : List X) (i : ℕ) (o q : Option Fault) → length xs ≤ i → noted o (flat_map f (map see (drop i xs))) ≡ q → o ≡ q
 noted_end see f xs i o q le now = sym (noted_none o) ∙ ap (λ (ys : List _). noted o (flat_map f (map see ys))) (sym (drop_all i xs le)) ∙ now
 
--- one part, and then another
-pub noted_then : (o p q : Option Fault) (xs ys : List Fault) → p ≡ noted o xs → q ≡ noted p ys → q ≡ noted o (xs ++ ys)
-noted_then o p q xs ys e f = f ∙ ap (λ (p : Option Fault). noted p ys) e ∙ sym (noted_append o xs ys)
-
 pub ruleset steps = (noted_append, noted_none)

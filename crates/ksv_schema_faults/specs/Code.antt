@@ -1,19 +1,17 @@
 -- The plain data of the code's values.
-use Rattle.std.specs.Prelude.{◌≡◌, ◌==◌, ◌||◌, cond, not, true, false, ℕ, ℤ, Bool, List, Option, option_map, codes}
+use Rattle.std.specs.Prelude.{◌≡◌, ◌||◌, cond, true, ℕ, ℤ, Bool, List, Option, option_map, codes}
 use Rattle.std.specs.Borrow.{Bor}
 use Rattle.std.specs.HashSet.{HashSet}
 use Rattle.std.specs.Ordering.{int_eq}
 use Rattle.std.specs.Str.{bytes_eq}
-use Rattle.std.specs.Option.{option_map_or}
 use Rattle.std.specs.List.{list_any}
 use Rattle.std.specs.List.Sorted.{IsPermutation, IsNonDecreasing}
 use Rattle.ksv_yaml_tree.specs.Tree.{Pair}
 use Rattle.ksv_schema_scope.specs.Table.{declared}
 use Rattle.ksv_schema_scope.specs.Enums.{is_numbered, is_named}
-use Rattle.ksv_schema_keys.specs.Values.{byte_at}
 use Rattle.ksv_schema_keys.specs.Code.{kind_test}
 use Rattle.ksv_schema_faults.specs.declared.enumeration.Seen.{Seen}
-use Rattle.ksv_schema_faults.specs.declared.home.Home.{Home as HomeOfCode}
+use Rattle.ksv_schema_faults.specs.declared.expression.Home.{Home as HomeOfCode}
 use Rattle.ksv_schema_faults.specs.declared.fault.DescFault.{DescFault}
 use Rattle.ksv_schema_faults.specs.declared.fault.DescFaultKind.{DescFaultKind}
 use Rattle.ksv_schema_faults.specs.declared.fault.DescFaultKind.TheVariants as kinds
@@ -83,10 +81,6 @@ seen_rule (rule.Attends one other) = Attends (seen_claim one) (seen_claim other)
 
 abbrev pub seen_ruled : RuledOfCode → Ruled
 seen_ruled r = ruled r.0 (seen_rule r.1)
-
--- a terminator is another byte than 0
-abbrev pub has_other_terminator : List Pair → Bool
-has_other_terminator es = option_map_or (λ b. not (b == 0)) (byte_at (codes "terminator") es) false
 
 -- ---- numbers and ids that entries have
 

@@ -6,7 +6,7 @@ use Rattle.std.specs.List.{list_any}
 use Rattle.std.specs.Option.{option_map_or}
 use Rattle.std.specs.Str.{bytes_eq}
 use Rattle.ksv_yaml_tree.specs.Tree.{Tree, Pair, line_of, text_of, is_quoted, mapping_of, list_of, entry_at}
-use Rattle.ksv_yaml_tree.specs.Keys.{entries_in, has, says, text_at}
+use Rattle.ksv_yaml_tree.specs.Keys.{entries_in, entries_at, has, says, text_at}
 use Rattle.ksv_yaml_tree.specs.declared.numeral.Numeral.{Numeral}
 use Rattle.ksv_yaml_tree.specs.declared.numeral.Numeral.TheVariants.{Whole, LeadingZero, NoNumeral}
 use Rattle.ksv_yaml_tree.specs.Numerals.{signed_number}
@@ -36,7 +36,7 @@ use Rattle.ksv_schema_keys.specs.declared.keys.Group.{Group}
 use Rattle.ksv_schema_keys.specs.declared.keys.Group.TheVariants as groups
 use Rattle.ksv_schema_keys.specs.Keys.{is_in, kind_of, form_in, is_ignored, is_id}
 use Rattle.ksv_schema_keys.specs.Expressions.{expression_of}
-use Rattle.ksv_schema_keys.specs.Values.{encoding_named, TypeText, Unspelled, OfLanguage, OfDescription, type_text, is_integer, is_str, is_strz, is_a, own_type, is_type, type_key, cases_of, byte_number, byte_at, looks_like_number, Piece, Bytes, BadPiece, LeftOutPiece, piece_of, CaseKey, Constant as ConstantKey, Negative, Member as MemberKey, Default, NoKey, case_key, ids_of, is_to_end, is_repeated}
+use Rattle.ksv_schema_keys.specs.Values.{encoding_named, TypeText, Unspelled, OfLanguage, OfDescription, type_text, is_integer, is_str, is_strz, is_a, own_type, type_key, byte_number, byte_at, looks_like_number, Piece, Bytes, BadPiece, LeftOutPiece, piece_of, CaseKey, Constant as ConstantKey, Negative, Member as MemberKey, Default, NoKey, case_key, ids_of, is_to_end, is_repeated}
 use Rattle.ksv_schema_faults.specs.Faults.{Fault, fault, fault_if, unknown_key, missing_key, keys_against, unknown_name, no_byte_order, bad_value, wrong_count, left_out, over_limit, no_expression}
 
 -- where a mapping is: in which type, whether in its `seq`, and whether it is of something repeated
@@ -87,8 +87,8 @@ count_faults h line n (Some t) = fault_if (not (length (parameters_within h.decl
 
 unfoldable pub type_text_faults : Home → ℕ → TypeText → List Fault
 type_text_faults h line Unspelled = fault line no_expression
-type_text_faults h line (OfLanguage b es) = fault_if (not (count es == 0)) line wrong_count ++ language_faults h line b ++ argument_faults h line es
-type_text_faults h line (OfDescription t es) = count_faults h line (count es) (type_named h.declared.types h.within t.path) ++ argument_faults h line es
+type_text_faults h line (OfLanguage b es) = argument_faults h line es ++ fault_if (not (count es == 0)) line wrong_count ++ language_faults h line b
+type_text_faults h line (OfDescription t es) = argument_faults h line es ++ count_faults h line (count es) (type_named h.declared.types h.within t.path)
 
 -- ---- one key
 
@@ -143,13 +143,6 @@ unfoldable pub case_key_faults : Home → ℕ → Option expressions.Tree → Li
 case_key_faults h line None = fault line no_expression
 case_key_faults h line (Some e) = case_value_faults h line (case_key e)
 
--- the type of a case: `str` and `strz` are unsupported
-unfoldable pub case_type_faults : Home → ℕ → TypeText → List Fault
-case_type_faults h line t = type_text_faults h line t ++ fault_if (is_str t || is_strz t) line left_out
-
-unfoldable pub case_faults : Home → Pair → List Fault
-case_faults h p = case_key_faults h p.line (expression_of p.key) ++ text_faults (λ text. case_type_faults h p.line (type_text text)) p
-
 -- whether a text is allowed at a key of this form, as far as the text alone decides
 abbrev pub fits : Form → List ℕ → Bool
 fits forms.Id text = is_id text
@@ -170,14 +163,14 @@ form_text_faults h line forms.Coding text = fault_if (not (fits forms.Coding tex
 form_text_faults h line forms.ParameterType text = fault_if (not (fits forms.ParameterType text)) line left_out
 form_text_faults h line form text = fault_if (not (fits form text)) line bad_value
 
--- the value at a key, by its form; a mapping at `type` has keys of its own (`switch_faults`)
+-- the value at a key, by its form; a mapping at `type` has keys of its own, and its cases have theirs (`switch_faults`)
 unfoldable pub form_faults : Home → Pair → Form → List Fault
 form_faults h p forms.Ignored = []
 form_faults h p forms.NotHere = fault p.line left_out
 form_faults h p forms.Mapping = fault_if (is_none (mapping_of p.value)) p.line bad_value
 form_faults h p forms.Listing = fault_if (is_none (list_of p.value)) p.line bad_value
 form_faults h p forms.Endian = endian_faults p
-form_faults h p forms.Cases = option_map_or (flat_map (case_faults h)) (mapping_of p.value) (fault p.line bad_value)
+form_faults h p forms.Cases = fault_if (is_none (mapping_of p.value)) p.line bad_value
 form_faults h p forms.Contents = contents_faults p
 form_faults h p forms.TypeOrSwitch = if is_some (mapping_of p.value) then [] else text_faults (form_text_faults h p.line forms.TypeOrSwitch) p
 form_faults h p form = text_faults (form_text_faults h p.line form) p
@@ -211,11 +204,14 @@ pub data Rule : Type 0 where
   Needs : Claim → Claim → Rule
   Attends : Claim → Claim → Rule
 
--- the lower line of two keys, if both are there
-unfoldable pub against : Option Pair → Option Pair → List Fault
-against None q = []
-against (Some p) None = []
-against (Some p) (Some q) = fault (min p.line q.line) keys_against
+-- the lower line of two, if both are there
+unfoldable pub against : Option ℕ → Option ℕ → List Fault
+against None other = []
+against (Some line) None = []
+against (Some line) (Some other) = fault (min line other) keys_against
+
+abbrev pub line_of_key : Option Pair → Option ℕ
+line_of_key o = option_map (λ p. p.line) o
 
 -- something is wrong with a key that is there
 abbrev pub at_if : Bool → Option Pair → ℕ → List Fault
@@ -225,7 +221,7 @@ at_if wrong (Some p) number = fault_if wrong p.line number
 abbrev pub rule_faults : ℕ → List Pair → Rule → List Fault
 rule_faults line es (Must one) = fault_if (is_none (claimed es one)) line missing_key
 rule_faults line es (Bars one) = at_if true (claimed es one) left_out
-rule_faults line es (Excludes one other) = against (claimed es one) (claimed es other)
+rule_faults line es (Excludes one other) = against (line_of_key (claimed es one)) (line_of_key (claimed es other))
 rule_faults line es (Needs one other) = fault_if (is_some (claimed es one) && is_none (claimed es other)) line missing_key
 rule_faults line es (Attends one other) = at_if (is_none (claimed es other)) (claimed es one) keys_against
 
@@ -288,14 +284,6 @@ field_needs h line es =
     ++ fault_if (is_a is_str (own_type es) && not (is_bounded es)) line missing_key
     ++ fault_if (is_text && not (has_encoding h es)) line missing_key
 
--- a case that is an integer, and a key that bounds it
-unfoldable pub case_against : List Pair → Pair → List Fault
-case_against es p =
-    let case = if is_type is_integer p then Some p else None in
-    against case (entry_at (codes "size") es)
-    ++ against case (claimed es (Says (codes "size-eos") (codes "true")))
-    ++ against case (entry_at (codes "terminator") es)
-
 -- a type that the description declares; an unknown type has a fault of its own
 abbrev pub is_declared : Home → TypeText → Bool
 is_declared h Unspelled = false
@@ -305,13 +293,39 @@ is_declared h (OfDescription t es) = is_some (type_named h.declared.types h.with
 -- a terminator of a type of the description, or of `strz` another one than 0
 unfoldable pub field_left_out : Home → List Pair → List Fault
 field_left_out h es =
-    let of_description = is_a (is_declared h) (own_type es) || list_any (is_type (is_declared h)) (cases_of es) in
     let is_other = option_map_or (λ b. not (b == 0)) (byte_at (codes "terminator") es) false in
-    at_if of_description (entry_at (codes "terminator") es) left_out
+    at_if (is_a (is_declared h) (own_type es)) (entry_at (codes "terminator") es) left_out
     ++ at_if (is_a is_strz (own_type es) && is_other) (entry_at (codes "terminator") es) left_out
 
 unfoldable pub field_faults : Home → ℕ → List Pair → List Fault
-field_faults h line es = field_needs h line es ++ flat_map (case_against es) (cases_of es) ++ field_left_out h es
+field_faults h line es = field_needs h line es ++ field_left_out h es
+
+-- ---- switches
+
+-- what doesn't fit to a type of a case on this line, in an attribute of these keys: `str` and `strz`; a key that bounds
+-- an integer; a terminator of a type of the description
+unfoldable pub case_against : Home → List Pair → ℕ → TypeText → List Fault
+case_against h es line t =
+    let case = if is_integer t then Some line else None in
+    fault_if (is_str t || is_strz t) line left_out
+    ++ against case (line_of_key (entry_at (codes "size") es))
+    ++ against case (line_of_key (claimed es (Says (codes "size-eos") (codes "true"))))
+    ++ against case (line_of_key (entry_at (codes "terminator") es))
+    ++ at_if (is_declared h t) (entry_at (codes "terminator") es) left_out
+
+unfoldable pub case_type_faults : Home → List Pair → ℕ → TypeText → List Fault
+case_type_faults h es line t = type_text_faults h line t ++ case_against h es line t
+
+unfoldable pub case_faults : Home → List Pair → Pair → List Fault
+case_faults h es p = case_key_faults h p.line (expression_of p.key) ++ text_faults (λ text. case_type_faults h es p.line (type_text text)) p
+
+-- a switch with these keys
+unfoldable pub switch_keys_faults : Home → List Pair → ℕ → List Pair → List Fault
+switch_keys_faults h es line keys = mapping_faults h kinds.Switch line keys ++ flat_map (case_faults h es) (entries_at (codes "cases") keys)
+
+-- the mapping at `type`, if there is one, in an attribute of these keys
+unfoldable pub switch_faults : Home → List Pair → Option Pair → List Fault
+switch_faults h es o = option_map_or (λ p. option_map_or (switch_keys_faults h es (line_of p.value)) (mapping_of p.value) []) o []
 
 -- ---- members
 
@@ -323,15 +337,12 @@ is_attribute Instance = false
 abbrev pub home_of : Declared → ℕ → Role → List Pair → Home
 home_of d n role es = record { declared = d; within = n; in_sequence = is_attribute role; is_repeated = is_repeated es }
 
--- the mapping at `type`
-unfoldable pub switch_faults : Home → List Pair → List Fault
-switch_faults h es = option_map_or (λ p. option_map_or (mapping_faults h kinds.Switch (line_of p.value)) (mapping_of p.value) []) (entry_at (codes "type") es) []
-
--- what else a member of this kind must be; an instance without a place and a value is unsupported
+-- what else a member of this kind must be; an instance without a place and a value is unsupported, whatever its keys are
+-- together
 unfoldable pub kind_faults : Home → MappingKind → ℕ → ℕ → List Pair → List Fault
-kind_faults h kinds.Attribute name_line line es = switch_faults h es ++ field_faults h line es
-kind_faults h kinds.ParseInstance name_line line es = switch_faults h es ++ field_faults h line es
-kind_faults h kinds.Placeless name_line line es = switch_faults h es ++ fault name_line left_out
+kind_faults h kinds.Attribute name_line line es = switch_faults h es (entry_at (codes "type") es) ++ field_faults h line es
+kind_faults h kinds.ParseInstance name_line line es = switch_faults h es (entry_at (codes "type") es) ++ field_faults h line es
+kind_faults h kinds.Placeless name_line line es = switch_faults h [] (entry_at (codes "type") es) ++ fault name_line left_out
 kind_faults h _ name_line line es = []
 
 unfoldable pub member_mapping_faults : Declared → ℕ → Member → List Pair → List Fault
@@ -365,10 +376,6 @@ member_faults d n i m =
 
 -- ---- enums
 
--- an enum: its name, and that it is a mapping
-unfoldable pub enum_row_faults : Row → List Fault
-enum_row_faults r = fault_if (not (is_id r.id)) r.line bad_value ++ fault_if (is_none (mapping_of r.value)) r.line bad_value
-
 -- the value of an entry: an id, or a mapping with an id
 unfoldable pub entry_value_faults : Home → Pair → List Fault
 entry_value_faults h p =
@@ -395,8 +402,12 @@ abbrev pub each_from : {A : Type 0} → (ℕ → A → List Fault) → ℕ → L
 each_from faults n [] = []
 each_from faults n (x ∷ xs) = faults n x ++ each_from faults (n + 1) xs
 
+-- an enum: its name, that it is a mapping, and its entries
 unfoldable pub enum_faults_of : Home → Row → List Fault
-enum_faults_of h r = enum_row_faults r ++ each_from (λ i. entry_faults h (take i (keys_of r))) 0 (keys_of r)
+enum_faults_of h r =
+    fault_if (not (is_id r.id)) r.line bad_value
+    ++ fault_if (is_none (mapping_of r.value)) r.line bad_value
+    ++ each_from (λ i. entry_faults h (take i (keys_of r))) 0 (keys_of r)
 
 -- ---- types
 

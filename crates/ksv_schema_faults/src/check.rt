@@ -3,20 +3,19 @@
 //! What is wrong is noted in the order of `specs/Rules`. Each function notes the faults that one definition lists;
 //! only the least of them is kept.
 
-ghost use Rattle.std.specs.Prelude.{◌≡◌, OnOk, IfOk, None, map, flat_map};
+ghost use Rattle.std.specs.Prelude.{◌≡◌, ◌++◌, OnOk, IfOk, map, flat_map, slice_get, None};
 ghost use Rattle.ksv_yaml_tree.specs.View.{pair};
-ghost use Rattle.ksv_schema_scope.specs.Table.{declared};
+ghost use Rattle.ksv_schema_scope.specs.Rows.{keys_of};
 ghost use Rattle.ksv_schema_scope.specs.Code.{row_of, member_of};
-ghost use Rattle.ksv_schema_keys.specs.declared.keys.MappingKind.TheVariants as kinds;
 ghost use Rattle.ksv_schema_faults.specs.Faults.{noted};
-ghost use Rattle.ksv_schema_faults.specs.Rules.{meta_faults, type_keys_faults, type_faults, members_faults, home_in, enum_faults_of, each_from, line_at, most_types, faults_of};
-ghost use Rattle.ksv_schema_faults.specs.Code.{seen_fault, seen_home};
+ghost use Rattle.ksv_schema_faults.specs.Rules.{past, line_past, most_entries, type_keys_faults, type_faults, members_faults, home_in, enum_faults_of, each_from, line_at, most_types, faults_of};
+ghost use Rattle.ksv_schema_faults.specs.Code.{seen_fault, AreRising, seen_home};
+ghost use Rattle.ksv_schema_scope.specs.Table.{declared};
 
 use crate::enumeration::note_enum;
-use crate::fault::DescFaultKind::BadValue;
+use crate::expression::{Home, home_in};
+use crate::fault::DescFaultKind::{BadValue, OverLimit};
 use crate::fault::{DescFault, Least, Noted, note, note_if};
-use crate::home::{Home, home_in};
-use crate::limit::{line_past, note_past};
 use crate::member::note_members;
 use crate::rule::note_mapping;
 use ksv_schema_keys::{MappingKind, is_id};
@@ -24,35 +23,81 @@ use ksv_schema_scope::{Member, Row, Scopes};
 use ksv_yaml_tree::{Entry, find};
 use std::alloc::{AllocError, Global};
 
-/// Notes the faults of a type's `meta`.
-#[tactic(auto, using(crate::proofs::Noted::steps), unfolding(crate::specs::Rules::meta_faults))]
-fn note_meta(least: &mut Least, home: Home, entry: &Entry) -> Noted
-    ensures { OnOk result (seen_fault least.new ≡ noted (seen_fault least.old) (meta_faults (seen_home home.entry) home.entry.within (pair entry.now))) }
+// ---- limits: 1,024 types, 256 members of a type, 65,536 entries of enums
+
+/// Notes a line at which a limit is passed.
+#[tactic(auto, using(crate::proofs::Noted::steps))]
+pub(crate) fn note_past(least: &mut Least, line: Option<usize>)
+    ensures { seen_fault least.new ≡ noted (seen_fault least.old) (past line) }
 {
-    let kind = if home.within == 0 {
-        MappingKind::RootMeta
-    } else {
-        MappingKind::Meta
-    };
-    match entry.value().entries() {
-        Some(keys) => note_mapping(least, home, kind, entry.value().line(), keys),
-        None => Ok(()),
+    match line {
+        None => {}
+        Some(line) => note(least, line, OverLimit),
     }
 }
 
-/// Notes the faults of a type's keys.
-#[tactic(auto, using(crate::proofs::Noted::steps), unfolding(crate::specs::Rules::type_keys_faults))]
+/// Adds the lines of entries.
+fn add_lines(lines: &mut Vec<usize>, entries: &[Entry]) -> Noted
+    ensures { OnOk result (lines.new.items ≡ lines.old.items ++ map (λ p. p.line) (map pair entries.now)) }
+{
+    for entry in entries {
+        lines.push(entry.line())?;
+    }
+    Ok(())
+}
+
+/// The lines of the entries of all enums.
+fn lines_of(alloc: Global, enums: &[Row]) -> Result<Vec<usize>, AllocError>
+    ensures { IfOk result (λ v. v.items ≡ map (λ p. p.line) (flat_map keys_of (map row_of enums.now))) }
+{
+    let mut lines = Vec::new(alloc);
+    for row in enums {
+        add_lines(&mut lines, row.entries())?;
+    }
+    Ok(lines)
+}
+
+/// The same lines in ascending order.
+fn rising_lines(alloc: Global, enums: &[Row]) -> Result<Vec<usize>, AllocError>
+    ensures { IfOk result (λ v. AreRising (map (λ p. p.line) (flat_map keys_of (map row_of enums.now))) v.items) }
+{
+    let mut lines = lines_of(alloc, enums)?;
+    lines.sort()?;
+    Ok(lines)
+}
+
+fn past_limit(lines: &[usize]) -> Option<usize>
+    ensures { result ≡ slice_get lines.now most_entries }
+{
+    lines.get(65536).copied()
+}
+
+/// The lowest line at which there are more entries of enums than the limit.
+pub(crate) fn line_past(alloc: Global, enums: &[Row]) -> Result<Option<usize>, AllocError>
+    ensures { IfOk result (λ o. o ≡ line_past most_entries (map (λ p. p.line) (flat_map keys_of (map row_of enums.now)))) }
+{
+    let lines = rising_lines(alloc, enums)?;
+    Ok(past_limit(lines.as_slice()))
+}
+
+// ---- types, and the whole
+
+/// Notes the faults of a type's keys, and of those of its `meta`.
+#[tactic(auto, using(crate::proofs::Noted::steps), unfolding(crate::specs::Rules::type_keys_faults, crate::specs::Rules::meta_faults))]
 fn note_type_keys(least: &mut Least, home: Home, line: usize, entries: &[Entry]) -> Noted
     ensures { OnOk result (seen_fault least.new ≡ noted (seen_fault least.old) (type_keys_faults (seen_home home.entry) home.entry.within line (map pair entries.now))) }
 {
-    let kind = if home.within == 0 {
-        MappingKind::Root
+    let (kind, meta) = if home.within == 0 {
+        (MappingKind::Root, MappingKind::RootMeta)
     } else {
-        MappingKind::Type
+        (MappingKind::Type, MappingKind::Meta)
     };
     note_mapping(least, home, kind, line, entries)?;
     match find(entries, b"meta") {
-        Some(entry) => note_meta(least, home, entry),
+        Some(entry) => match entry.value().entries() {
+            Some(keys) => note_mapping(least, home, meta, entry.value().line(), keys),
+            None => Ok(()),
+        },
         None => Ok(()),
     }
 }

@@ -9,12 +9,12 @@ ghost use Rattle.ksv_yaml_tree.specs.View.{pair};
 ghost use Rattle.ksv_schema_scope.specs.Code.{row_of};
 ghost use Rattle.ksv_schema_scope.specs.Enums.{number_of, id_of, is_numbered, is_named};
 ghost use Rattle.ksv_schema_faults.specs.Faults.{noted};
-ghost use Rattle.ksv_schema_faults.specs.Rules.{enum_row_faults, entry_value_faults, entry_faults, each_from, enum_faults_of};
+ghost use Rattle.ksv_schema_faults.specs.Rules.{entry_value_faults, entry_faults, each_from, enum_faults_of};
 ghost use Rattle.ksv_schema_faults.specs.Code.{seen_fault, seen_home, has_number, has_id, Gives, Adds, AreOf};
 
+use crate::expression::Home;
 use crate::fault::DescFaultKind::{BadValue, KeysAgainst};
 use crate::fault::{Least, Noted, note, note_if};
-use crate::home::Home;
 use crate::key::note_numeral;
 use crate::member::id_line;
 use crate::rule::note_mapping;
@@ -23,17 +23,6 @@ use ksv_schema_scope::{Row, id_of, number_of};
 use ksv_yaml_tree::{Entry, signed_number};
 use std::alloc::AllocError;
 use std::collections::HashSet;
-
-/// Notes the faults of an enum's name, and that it is no mapping.
-#[tactic(auto, using(crate::proofs::Noted::steps), unfolding(crate::specs::Rules::enum_row_faults))]
-fn note_row(least: &mut Least, row: &Row)
-    ensures { seen_fault least.new ≡ noted (seen_fault least.old) (enum_row_faults (row_of row.now)) }
-{
-    let is_named = is_id(row.id);
-    let has_entries = row.value.entries().is_some();
-    note_if(least, !is_named, row.line, BadValue);
-    note_if(least, !has_entries, row.line, BadValue);
-}
 
 /// Notes the faults of an entry's value: an id, or a mapping with an id.
 #[tactic(auto, unfolding(crate::specs::Rules::entry_value_faults))]
@@ -139,6 +128,9 @@ fn note_entries(least: &mut Least, home: Home, entries: &[Entry]) -> Noted
 pub(crate) fn note_enum(least: &mut Least, home: Home, row: &Row) -> Noted
     ensures { OnOk result (seen_fault least.new ≡ noted (seen_fault least.old) (enum_faults_of (seen_home home.entry) (row_of row.now))) }
 {
-    note_row(least, row);
+    let is_named = is_id(row.id);
+    let has_entries = row.value.entries().is_some();
+    note_if(least, !is_named, row.line, BadValue);
+    note_if(least, !has_entries, row.line, BadValue);
     note_entries(least, home, row.entries())
 }

@@ -2,24 +2,19 @@
 
 ghost use Rattle.std.specs.Prelude.{◌≡◌, OnOk, map, flat_map};
 ghost use Rattle.ksv_yaml_tree.specs.View.{view, pair};
-ghost use Rattle.ksv_schema_keys.specs.Expressions.{expression_of};
 ghost use Rattle.ksv_schema_keys.specs.Keys.{is_ignored};
-ghost use Rattle.ksv_schema_keys.specs.declared.keys.Form.TheVariants as forms;
 ghost use Rattle.ksv_schema_keys.specs.Values.{type_text, ids_of};
-ghost use Rattle.ksv_schema_keys.specs.Code.{seen_case_key};
 ghost use Rattle.ksv_schema_faults.specs.Faults.{noted};
-ghost use Rattle.ksv_schema_faults.specs.Rules.{fits, text_faults, type_text_faults, numeral_faults, endian_faults, bit_endian_faults, item_faults, contents_faults, enum_faults, case_value_faults, case_key_faults, case_type_faults, case_faults, form_faults, form_text_faults, key_faults};
+ghost use Rattle.ksv_schema_faults.specs.Rules.{fits, type_text_faults, numeral_faults, item_faults, contents_faults, form_faults, form_text_faults, key_faults};
 ghost use Rattle.ksv_schema_faults.specs.Code.{seen_fault, seen_home};
 
-use crate::expression::{note_expression, note_type_text};
-use crate::fault::DescFaultKind::{BadValue, LeftOut, NoExpression, UnknownKey, UnknownName};
+use crate::expression::{Home, note_expression, note_type_text};
+use crate::fault::DescFaultKind::{BadValue, LeftOut, UnknownKey, UnknownName};
 use crate::fault::{Least, Noted, note, note_if};
-use crate::home::Home;
 use ksv_schema_keys::{
-    CaseKey, Form, MappingKind, Piece, TypeKind, byte_number, case_key, encoding_named, form_in,
-    ids_of, is_id, is_of_kind, looks_like_number, piece_of, read_expression, type_text,
+    Form, MappingKind, Piece, byte_number, encoding_named, form_in, ids_of, is_id,
+    looks_like_number, piece_of, type_text,
 };
-use ksv_schema_names::given_member;
 use ksv_schema_scope::order_named;
 use ksv_yaml_tree::keys::{entries_in, has};
 use ksv_yaml_tree::{Entry, Numeral, Yaml};
@@ -37,24 +32,6 @@ fn fits(form: Form, text: &[u8]) -> bool
         Form::Coding => encoding_named(text).is_some(),
         Form::ParameterType => text != b"io".as_slice(),
         _ => true,
-    }
-}
-
-/// Notes a byte order other than `le` and `be`; a choice of one is unsupported.
-#[tactic(auto, unfolding(crate::specs::Rules::endian_faults))]
-fn note_endian(least: &mut Least, entry: &Entry)
-    ensures { seen_fault least.new ≡ noted (seen_fault least.old) (endian_faults (pair entry.now)) }
-{
-    let line = entry.line();
-    match entry.value().text() {
-        Some(text) => note_if(least, order_named(text).is_none(), line, BadValue),
-        None => {
-            if has(entries_in(entry.value()), b"switch-on") {
-                note(least, line, LeftOut);
-            } else {
-                note(least, line, BadValue);
-            }
-        }
     }
 }
 
@@ -110,148 +87,40 @@ fn note_contents(least: &mut Least, entry: &Entry)
     }
 }
 
-/// Notes the path of an enum that isn't there.
-#[tactic(auto, unfolding(crate::specs::Rules::enum_faults))]
-fn note_enum(least: &mut Least, home: Home, line: usize, text: &[u8]) -> Noted
-    ensures { OnOk result (seen_fault least.new ≡ noted (seen_fault least.old) (enum_faults (seen_home home.entry) line (ids_of text.now))) }
-{
-    match ids_of(home.alloc, text)? {
-        None => note(least, line, BadValue),
-        Some(path) => {
-            let found = home.scopes.enum_named(home.within, path.as_slice());
-            note_if(least, found.is_none(), line, UnknownName);
-        }
-    }
-    Ok(())
-}
-
-/// Notes what can't be a key of `cases`.
-#[tactic(auto, using(crate::proofs::Noted::steps), unfolding(crate::specs::Rules::case_value_faults))]
-fn note_case_value(least: &mut Least, home: Home, line: usize, key: CaseKey)
-    ensures { seen_fault least.new ≡ noted (seen_fault least.old) (case_value_faults (seen_home home.entry) line (seen_case_key key.entry)) }
-{
-    match key {
-        CaseKey::Constant(_) => {}
-        CaseKey::Negative(_) => {}
-        CaseKey::Member(member) => {
-            let given = given_member(home.scopes, home.within, member);
-            note_if(least, given.is_none(), line, UnknownName);
-        }
-        CaseKey::Default => {}
-        CaseKey::NoKey => note(least, line, BadValue),
-    }
-}
-
-/// Notes the faults of a key of `cases`.
-#[tactic(auto, unfolding(crate::specs::Rules::case_key_faults))]
-fn note_case_key(least: &mut Least, home: Home, line: usize, text: &[u8]) -> Noted
-    ensures { OnOk result (seen_fault least.new ≡ noted (seen_fault least.old) (case_key_faults (seen_home home.entry) line (expression_of text.now))) }
-{
-    match read_expression(home.alloc, text)? {
-        Ok(expr) => note_case_value(least, home, line, case_key(&expr)),
-        Err(fault) => note(least, line, NoExpression(fault)),
-    }
-    Ok(())
-}
-
-/// Notes the faults of the text of a case's type; `str` and `strz` are unsupported.
-#[tactic(auto, using(crate::proofs::Noted::steps), unfolding(crate::specs::Rules::case_type_faults))]
-fn note_case_type(least: &mut Least, home: Home, line: usize, text: &[u8]) -> Noted
-    ensures { OnOk result (seen_fault least.new ≡ noted (seen_fault least.old) (case_type_faults (seen_home home.entry) line (type_text text.now))) }
-{
-    let text = type_text(home.alloc, text)?;
-    let is_text = is_of_kind(TypeKind::Str, &text) | is_of_kind(TypeKind::Strz, &text);
-    note_type_text(least, home, line, &text);
-    note_if(least, is_text, line, LeftOut);
-    Ok(())
-}
-
-/// Notes the faults of a case: of its key, and of its type.
-#[tactic(auto, using(crate::proofs::Noted::steps), unfolding(crate::specs::Rules::case_faults))]
-fn note_case(least: &mut Least, home: Home, entry: &Entry) -> Noted
-    ensures { OnOk result (seen_fault least.new ≡ noted (seen_fault least.old) (case_faults (seen_home home.entry) (pair entry.now))) }
-{
-    note_case_key(least, home, entry.line(), entry.key())?;
-    match entry.value().text() {
-        Some(text) => note_case_type(least, home, entry.line(), text)?,
-        None => note(least, entry.line(), BadValue),
-    }
-    Ok(())
-}
-
-/// Notes the faults of each case.
-fn note_cases(least: &mut Least, home: Home, entries: &[Entry]) -> Noted
-    ensures { OnOk result (seen_fault least.new ≡ noted (seen_fault least.old) (flat_map (case_faults (seen_home home.entry)) (map pair entries.now))) }
-{
-    for entry in entries {
-        note_case(least, home, entry)?;
-    }
-    Ok(())
-}
-
-/// Notes the faults of a text that is to be a type.
-fn note_type(least: &mut Least, home: Home, line: usize, text: &[u8]) -> Noted
-    ensures { OnOk result (seen_fault least.new ≡ noted (seen_fault least.old) (type_text_faults (seen_home home.entry) line (type_text text.now))) }
-{
-    let text = type_text(home.alloc, text)?;
-    note_type_text(least, home, line, &text);
-    Ok(())
-}
-
-/// Notes a bit order other than `be`; `le` is unsupported.
-#[tactic(auto, using(crate::proofs::Noted::steps), unfolding(crate::specs::Rules::bit_endian_faults))]
-fn note_bit_endian(least: &mut Least, line: usize, text: &[u8])
-    ensures { seen_fault least.new ≡ noted (seen_fault least.old) (bit_endian_faults line text.now) }
-{
-    if text == b"be".as_slice() {} else if text == b"le".as_slice() {
-        note(least, line, LeftOut);
-    } else {
-        note(least, line, BadValue);
-    }
-}
-
 /// Notes the faults of a text at a key of this form.
-#[tactic(auto, using(crate::proofs::Noted::steps))]
+#[tactic(auto, using(crate::proofs::Noted::steps), unfolding(crate::specs::Rules::bit_endian_faults, crate::specs::Rules::enum_faults))]
 fn note_text(least: &mut Least, home: Home, line: usize, form: Form, text: &[u8]) -> Noted
     ensures { OnOk result (seen_fault least.new ≡ noted (seen_fault least.old) (form_text_faults (seen_home home.entry) line form text.now)) }
 {
     match form {
         Form::Expression(site) => note_expression(least, home, site, line, text)?,
-        Form::TypeOrSwitch => note_type(least, home, line, text)?,
-        Form::EnumName => note_enum(least, home, line, text)?,
+        Form::TypeOrSwitch => {
+            let text = type_text(home.alloc, text)?;
+            note_type_text(least, home, line, &text);
+        }
+        Form::EnumName => match ids_of(home.alloc, text)? {
+            None => note(least, line, BadValue),
+            Some(path) => {
+                let found = home.scopes.enum_named(home.within, path.as_slice());
+                note_if(least, found.is_none(), line, UnknownName);
+            }
+        },
         Form::Byte => note_numeral(least, line, byte_number(text)),
-        Form::BitEndian => note_bit_endian(least, line, text),
+        Form::BitEndian => {
+            if text == b"be".as_slice() {} else if text == b"le".as_slice() {
+                note(least, line, LeftOut);
+            } else {
+                note(least, line, BadValue);
+            }
+        }
         Form::Coding | Form::ParameterType => { note_if(least, !fits(form, text), line, LeftOut) }
         _ => note_if(least, !fits(form, text), line, BadValue),
     }
     Ok(())
 }
 
-/// Notes the faults of the text at a key of this form; another node is of the wrong kind.
-fn note_text_at(least: &mut Least, home: Home, entry: &Entry, form: Form) -> Noted
-    ensures { OnOk result (seen_fault least.new ≡ noted (seen_fault least.old) (text_faults (form_text_faults (seen_home home.entry) (pair entry.now).line form) (pair entry.now))) }
-{
-    match entry.value().text() {
-        Some(text) => note_text(least, home, entry.line(), form, text)?,
-        None => note(least, entry.line(), BadValue),
-    }
-    Ok(())
-}
-
-/// Notes the faults of the cases at a key.
-#[tactic(auto, unfolding(crate::specs::Rules::form_faults))]
-fn note_cases_at(least: &mut Least, home: Home, entry: &Entry) -> Noted
-    ensures { OnOk result (seen_fault least.new ≡ noted (seen_fault least.old) (form_faults (seen_home home.entry) (pair entry.now) forms.Cases)) }
-{
-    match entry.value().entries() {
-        Some(entries) => note_cases(least, home, entries)?,
-        None => note(least, entry.line(), BadValue),
-    }
-    Ok(())
-}
-
 /// Notes the faults of the value at a key, by its form.
-#[tactic(auto, using(crate::proofs::Noted::steps), unfolding(crate::specs::Rules::form_faults))]
+#[tactic(auto, using(crate::proofs::Noted::steps), unfolding(crate::specs::Rules::form_faults, crate::specs::Rules::endian_faults))]
 fn note_form(least: &mut Least, home: Home, entry: &Entry, form: Form) -> Noted
     ensures { OnOk result (seen_fault least.new ≡ noted (seen_fault least.old) (form_faults (seen_home home.entry) (pair entry.now) form)) }
 {
@@ -260,23 +129,19 @@ fn note_form(least: &mut Least, home: Home, entry: &Entry, form: Form) -> Noted
     match form {
         Form::Ignored => {}
         Form::NotHere => note(least, line, LeftOut),
-        Form::Mapping => {
-            let is_mapping = value.entries().is_some();
-            note_if(least, !is_mapping, line, BadValue);
-        }
-        Form::Listing => {
-            let is_list = value.items().is_some();
-            note_if(least, !is_list, line, BadValue);
-        }
-        Form::Endian => note_endian(least, entry),
+        Form::Mapping | Form::Cases => note_if(least, value.entries().is_none(), line, BadValue),
+        Form::Listing => note_if(least, value.items().is_none(), line, BadValue),
+        Form::Endian => match value.text() {
+            Some(text) => note_if(least, order_named(text).is_none(), line, BadValue),
+            None if has(entries_in(value), b"switch-on") => note(least, line, LeftOut),
+            None => note(least, line, BadValue),
+        },
         Form::Contents => note_contents(least, entry),
-        Form::Cases => note_cases_at(least, home, entry)?,
-        Form::TypeOrSwitch => {
-            if value.entries().is_none() {
-                note_text_at(least, home, entry, form)?;
-            }
-        }
-        _ => note_text_at(least, home, entry, form)?,
+        Form::TypeOrSwitch if value.entries().is_some() => {}
+        _ => match value.text() {
+            Some(text) => note_text(least, home, line, form, text)?,
+            None => note(least, line, BadValue),
+        },
     }
     Ok(())
 }

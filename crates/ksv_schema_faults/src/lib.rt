@@ -8,10 +8,7 @@ mod check;
 mod enumeration;
 mod expression;
 mod fault;
-mod field;
-mod home;
 mod key;
-mod limit;
 mod member;
 mod rule;
 

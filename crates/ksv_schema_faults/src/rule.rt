@@ -7,15 +7,16 @@ ghost use Rattle.ksv_yaml_tree.specs.View.{pair, seen_entry};
 ghost use Rattle.ksv_schema_keys.specs.Code.{seen_type_at};
 ghost use Rattle.ksv_schema_keys.specs.Values.{own_type};
 ghost use Rattle.ksv_schema_faults.specs.Faults.{noted};
-ghost use Rattle.ksv_schema_faults.specs.Rules.{against, at_if, claimed, rule_faults, ruled_faults, rules, mapping_faults};
+ghost use Rattle.ksv_schema_faults.specs.Rules.{against, line_of_key, at_if, claimed, rule_faults, ruled_faults, rules, mapping_faults};
 ghost use Rattle.ksv_schema_faults.specs.Code.{number_of, seen_fault, seen_home, seen_claim, seen_rule, seen_ruled};
 
 use self::Claim::{Has, Says, Typed};
 use self::Rule::{Attends, Bars, Excludes, Must, Needs};
+use crate::expression::Home;
 use crate::fault::DescFaultKind::{KeysAgainst, LeftOut, MissingKey};
 use crate::fault::{DescFaultKind, Least, Noted, note, note_if};
-use crate::home::Home;
 use crate::key::note_keys;
+use ksv_schema_keys::Group::{NeedId, Read, Roots, Switches, Values};
 use ksv_schema_keys::{Group, MappingKind, TypeKind, TypeText, is_a, is_in, own_type};
 use ksv_yaml_tree::keys::says;
 use ksv_yaml_tree::{Entry, find};
@@ -49,54 +50,36 @@ struct Ruled(Group, Rule);
 
 /// The rules of keys.
 static RULES: [Ruled; 24] = [
-    Ruled(Group::Roots, Must(Has(b"meta"))),
-    Ruled(Group::Roots, Bars(Has(b"params"))),
-    Ruled(Group::NeedId, Must(Has(b"id"))),
-    Ruled(Group::Switches, Must(Has(b"switch-on"))),
-    Ruled(Group::Switches, Must(Has(b"cases"))),
+    Ruled(Roots, Must(Has(b"meta"))),
+    Ruled(Roots, Bars(Has(b"params"))),
+    Ruled(NeedId, Must(Has(b"id"))),
+    Ruled(Switches, Must(Has(b"switch-on"))),
+    Ruled(Switches, Must(Has(b"cases"))),
+    Ruled(Read, Needs(Says(b"repeat", b"expr"), Has(b"repeat-expr"))),
+    Ruled(Read, Needs(Says(b"repeat", b"until"), Has(b"repeat-until"))),
+    Ruled(Read, Attends(Has(b"repeat-expr"), Says(b"repeat", b"expr"))),
     Ruled(
-        Group::Read,
-        Needs(Says(b"repeat", b"expr"), Has(b"repeat-expr")),
-    ),
-    Ruled(
-        Group::Read,
-        Needs(Says(b"repeat", b"until"), Has(b"repeat-until")),
-    ),
-    Ruled(
-        Group::Read,
-        Attends(Has(b"repeat-expr"), Says(b"repeat", b"expr")),
-    ),
-    Ruled(
-        Group::Read,
+        Read,
         Attends(Has(b"repeat-until"), Says(b"repeat", b"until")),
     ),
-    Ruled(Group::Read, Attends(Has(b"enum"), Typed(TypeKind::Integer))),
+    Ruled(Read, Attends(Has(b"enum"), Typed(TypeKind::Integer))),
+    Ruled(Read, Excludes(Has(b"size"), Says(b"size-eos", b"true"))),
+    Ruled(Read, Excludes(Has(b"contents"), Has(b"type"))),
+    Ruled(Read, Excludes(Has(b"contents"), Has(b"size"))),
+    Ruled(Read, Excludes(Has(b"contents"), Has(b"size-eos"))),
+    Ruled(Read, Excludes(Has(b"contents"), Has(b"terminator"))),
+    Ruled(Read, Excludes(Has(b"contents"), Has(b"enum"))),
+    Ruled(Read, Excludes(Typed(TypeKind::Integer), Has(b"size"))),
     Ruled(
-        Group::Read,
-        Excludes(Has(b"size"), Says(b"size-eos", b"true")),
-    ),
-    Ruled(Group::Read, Excludes(Has(b"contents"), Has(b"type"))),
-    Ruled(Group::Read, Excludes(Has(b"contents"), Has(b"size"))),
-    Ruled(Group::Read, Excludes(Has(b"contents"), Has(b"size-eos"))),
-    Ruled(Group::Read, Excludes(Has(b"contents"), Has(b"terminator"))),
-    Ruled(Group::Read, Excludes(Has(b"contents"), Has(b"enum"))),
-    Ruled(
-        Group::Read,
-        Excludes(Typed(TypeKind::Integer), Has(b"size")),
-    ),
-    Ruled(
-        Group::Read,
+        Read,
         Excludes(Typed(TypeKind::Integer), Says(b"size-eos", b"true")),
     ),
-    Ruled(
-        Group::Read,
-        Excludes(Typed(TypeKind::Integer), Has(b"terminator")),
-    ),
-    Ruled(Group::Values, Excludes(Has(b"value"), Has(b"pos"))),
-    Ruled(Group::Values, Excludes(Has(b"value"), Has(b"io"))),
-    Ruled(Group::Values, Excludes(Has(b"value"), Has(b"type"))),
-    Ruled(Group::Values, Excludes(Has(b"value"), Has(b"size"))),
-    Ruled(Group::Values, Excludes(Has(b"value"), Has(b"repeat"))),
+    Ruled(Read, Excludes(Typed(TypeKind::Integer), Has(b"terminator"))),
+    Ruled(Values, Excludes(Has(b"value"), Has(b"pos"))),
+    Ruled(Values, Excludes(Has(b"value"), Has(b"io"))),
+    Ruled(Values, Excludes(Has(b"value"), Has(b"type"))),
+    Ruled(Values, Excludes(Has(b"value"), Has(b"size"))),
+    Ruled(Values, Excludes(Has(b"value"), Has(b"repeat"))),
 ];
 
 /// A key, if something holds.
@@ -119,16 +102,23 @@ fn claimed<'a>(claim: &Claim, typed: &Option<TypeText>, entries: &'a [Entry]) ->
     }
 }
 
-/// Notes two keys that are both there.
+/// The line of a key, if there is one.
+pub(crate) fn line_of_key(key: Option<&Entry>) -> Option<usize>
+    ensures { result ≡ line_of_key (seen_entry key.entry) }
+{
+    Some(key?.line())
+}
+
+/// Notes two lines that are both there.
 #[tactic(auto, using(crate::proofs::Noted::steps), unfolding(crate::specs::Rules::against))]
-pub(crate) fn note_against(least: &mut Least, one: Option<&Entry>, other: Option<&Entry>)
-    ensures { seen_fault least.new ≡ noted (seen_fault least.old) (against (seen_entry one.entry) (seen_entry other.entry)) }
+pub(crate) fn note_against(least: &mut Least, one: Option<usize>, other: Option<usize>)
+    ensures { seen_fault least.new ≡ noted (seen_fault least.old) (against one other) }
 {
     match one {
         None => {}
         Some(one) => match other {
             None => {}
-            Some(other) => note(least, one.line().min(other.line()), KeysAgainst),
+            Some(other) => note(least, one.min(other), KeysAgainst),
         },
     }
 }
@@ -171,8 +161,8 @@ fn note_rule(
         }
         Excludes(one, other) => note_against(
             least,
-            claimed(one, typed, entries),
-            claimed(other, typed, entries),
+            line_of_key(claimed(one, typed, entries)),
+            line_of_key(claimed(other, typed, entries)),
         ),
         Needs(one, other) => {
             let needs = claimed(one, typed, entries).is_some();

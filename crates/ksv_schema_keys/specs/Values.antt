@@ -7,7 +7,7 @@ use Rattle.ksv_expr_tree.specs.declared.tree.UnaryOperator.TheVariants as unarie
 use Rattle.ksv_expr_tree.specs.declared.tree.SpecialName.TheVariants as specials
 use Rattle.ksv_expr_tree.specs.Tree.{TypePath, Arguments, TypeTree}
 use Rattle.ksv_expr_tree.specs.Tree as expressions
-use Rattle.ksv_yaml_tree.specs.Keys.{text_at, entries_at, says}
+use Rattle.ksv_yaml_tree.specs.Keys.{text_at, says}
 use Rattle.ksv_yaml_tree.specs.declared.numeral.Numeral.{Numeral}
 use Rattle.ksv_yaml_tree.specs.declared.numeral.Numeral.TheVariants.{Whole, LeadingZero, NoNumeral}
 use Rattle.ksv_yaml_tree.specs.Numerals.{is_numeral, plain_number}
@@ -68,16 +68,9 @@ own_type es = option_and_then type_at (entry_at (codes "type") es)
 abbrev pub is_a : (TypeText → Bool) → Option TypeText → Bool
 is_a kind t = option_map_or kind t false
 
-unfoldable pub is_type : (TypeText → Bool) → Pair → Bool
-is_type kind p = is_a kind (type_at p)
-
 -- the key `type`, if its type is of this kind
 unfoldable pub type_key : (TypeText → Bool) → List Pair → Option Pair
 type_key kind es = if is_a kind (own_type es) then entry_at (codes "type") es else None
-
--- the cases of a switch at the key `type`
-unfoldable pub cases_of : List Pair → List Pair
-cases_of es = entries_at (codes "cases") (entries_at (codes "type") es)
 
 -- ---- numbers of one byte
 

@@ -16,5 +16,5 @@ pub use laws::texts_are_spelled;
 pub use read::read_expression;
 pub use values::{
     CaseKey, Piece, TypeKind, TypeText, byte_at, byte_number, case_key, encoding_named, is_a,
-    is_of_kind, looks_like_number, own_type, piece_of, type_at, type_text,
+    is_of_kind, looks_like_number, own_type, piece_of, type_text,
 };

@@ -3,11 +3,10 @@
 ghost use Rattle.std.specs.Prelude.{◌≡◌, ◌≤◌, nat_abs, IfOk, map, slice_index, drop, ◌==◌, ◌&&◌};
 ghost use Rattle.ksv_yaml_tree.specs.View.{view, pair, seen_entry, seen_text};
 ghost use Rattle.std.specs.List.{list_all};
-ghost use Rattle.ksv_expr_tree.specs.Tree.{view as view_expression, view_type, literal_of, special, unary};
+ghost use Rattle.ksv_expr_tree.specs.Tree.{view as view_expression, literal_of};
 ghost use Rattle.ksv_yaml_tree.specs.Numerals.{is_digit, is_numeral};
-ghost use Rattle.ksv_schema_keys.specs.Values.{encoding_named, of_name, type_text, is_integer, is_str, is_strz, is_a, type_at, own_type, byte_number, byte_at, looks_like_number, number_piece, piece_of, case_key};
+ghost use Rattle.ksv_schema_keys.specs.Values.{encoding_named, type_text, is_a, type_at, own_type, byte_number, byte_at, looks_like_number, number_piece, piece_of, case_key};
 ghost use Rattle.ksv_schema_keys.specs.Code.{seen_type_text, seen_type_at, kind_test, IsUpTo, seen_piece, seen_case_key, negative_constant, negative_key};
-ghost use Rattle.ksv_schema_names.specs.BuiltIn.{built_in_at};
 
 use crate::read::read_type;
 use ksv_expr_syntax::ExprFault;
@@ -46,23 +45,16 @@ pub enum TypeText {
     OfDescription(TypeName, Vec<Expr>),
 }
 
-fn of_type(type_ref: TypeRef) -> TypeText
-    ensures { seen_type_text result ≡ of_name (view_type type_ref) (built_in_at (view_type type_ref).name.path) }
-{
-    let TypeRef { name, arguments } = type_ref;
-    match built_in_at(name.path.as_slice()) {
-        Some(built_in) => TypeText::OfLanguage(built_in, arguments),
-        None => TypeText::OfDescription(name, arguments),
-    }
-}
-
 /// What the text of a type is.
 #[tactic(auto, unfolding(crate::specs::Values::type_text))]
 pub fn type_text(alloc: Global, text: &[u8]) -> Result<TypeText, AllocError>
     ensures { IfOk result (λ t. seen_type_text t ≡ type_text text.now) }
 {
     match read_type(alloc, text)? {
-        Ok(type_ref) => Ok(of_type(type_ref)),
+        Ok(TypeRef { name, arguments }) => match built_in_at(name.path.as_slice()) {
+            Some(built_in) => Ok(TypeText::OfLanguage(built_in, arguments)),
+            None => Ok(TypeText::OfDescription(name, arguments)),
+        },
         Err(fault) => Ok(TypeText::Unspelled(fault)),
     }
 }
@@ -78,34 +70,14 @@ pub enum TypeKind {
     Strz,
 }
 
-fn is_integer(text: &TypeText) -> bool
-    ensures { result ≡ is_integer (seen_type_text text.now) }
-{
-    matches!(text, TypeText::OfLanguage(BuiltIn::Integer { .. }, _))
-}
-
-/// Whether a type is `str`.
-fn is_str(text: &TypeText) -> bool
-    ensures { result ≡ is_str (seen_type_text text.now) }
-{
-    matches!(text, TypeText::OfLanguage(BuiltIn::Str, _))
-}
-
-/// Whether a type is `strz`.
-fn is_strz(text: &TypeText) -> bool
-    ensures { result ≡ is_strz (seen_type_text text.now) }
-{
-    matches!(text, TypeText::OfLanguage(BuiltIn::Strz, _))
-}
-
 /// Whether a type is of this kind.
 pub fn is_of_kind(kind: TypeKind, text: &TypeText) -> bool
     ensures { result ≡ kind_test kind (seen_type_text text.now) }
 {
     match kind {
-        TypeKind::Integer => is_integer(text),
-        TypeKind::Str => is_str(text),
-        TypeKind::Strz => is_strz(text),
+        TypeKind::Integer => matches!(text, TypeText::OfLanguage(BuiltIn::Integer { .. }, _)),
+        TypeKind::Str => matches!(text, TypeText::OfLanguage(BuiltIn::Str, _)),
+        TypeKind::Strz => matches!(text, TypeText::OfLanguage(BuiltIn::Strz, _)),
     }
 }
 
@@ -120,7 +92,7 @@ pub fn is_a(kind: TypeKind, text: &Option<TypeText>) -> bool
 }
 
 /// The type whose text is at an entry.
-pub fn type_at(alloc: Global, entry: &Entry) -> Result<Option<TypeText>, AllocError>
+fn type_at(alloc: Global, entry: &Entry) -> Result<Option<TypeText>, AllocError>
     ensures { IfOk result (λ t. seen_type_at t ≡ type_at (pair entry.now)) }
 {
     match entry.value().text() {
@@ -288,36 +260,16 @@ fn negative_key(operand: &Expr) -> CaseKey<'_>
     }
 }
 
-#[tactic(auto, using(crate::proofs::CaseKeys::key_negated), unfolding(crate::specs::Values::case_key))]
-fn unary_key(operator: UnaryOperator, operand: &Expr) -> CaseKey<'_>
-    ensures { seen_case_key result ≡ case_key (unary operator (view_expression operand.now)) }
-{
-    match operator {
-        UnaryOperator::Negate => negative_key(operand),
-        _ => CaseKey::NoKey,
-    }
-}
-
-#[tactic(auto, unfolding(crate::specs::Values::case_key))]
-fn special_key(name: SpecialName) -> CaseKey<'static>
-    ensures { seen_case_key result ≡ case_key (special name) }
-{
-    match name {
-        SpecialName::Element => CaseKey::Default,
-        _ => CaseKey::NoKey,
-    }
-}
-
 /// What an expression is as a key of `cases`.
-#[tactic(auto, unfolding(crate::specs::Values::case_key))]
+#[tactic(auto, using(crate::proofs::CaseKeys::key_negated), unfolding(crate::specs::Values::case_key))]
 pub fn case_key(expr: &Expr) -> CaseKey<'_>
     ensures { seen_case_key result ≡ case_key (view_expression expr.now) }
 {
     match expr {
         Expr::Literal(literal) => CaseKey::Constant(literal),
-        Expr::Special(name) => special_key(*name),
+        Expr::Special(SpecialName::Element) => CaseKey::Default,
         Expr::Member(member) => CaseKey::Member(member),
-        Expr::Unary(operator, operand) => unary_key(*operator, operand),
+        Expr::Unary(UnaryOperator::Negate, operand) => negative_key(operand),
         _ => CaseKey::NoKey,
     }
 }

@@ -32,24 +32,15 @@ has_place sites.Size = true
 has_place sites.Count = true
 has_place sites.Until = true
 has_place sites.Switch = true
-has_place sites.Argument = false
-has_place sites.Place = false
-has_place sites.Stream = false
-has_place sites.Value = false
-has_place sites.Case = false
+has_place _ = false
 
 -- `_index` is allowed where each element is read
 abbrev pub is_of_element : Site → Bool
-is_of_element sites.Condition = false
 is_of_element sites.Size = true
-is_of_element sites.Count = false
 is_of_element sites.Until = true
 is_of_element sites.Switch = true
 is_of_element sites.Argument = true
-is_of_element sites.Place = false
-is_of_element sites.Stream = false
-is_of_element sites.Value = false
-is_of_element sites.Case = false
+is_of_element _ = false
 
 -- `_` is allowed in `repeat-until`, and `io` has a stream
 abbrev pub is_until : Site → Bool

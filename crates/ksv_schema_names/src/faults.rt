@@ -3,7 +3,7 @@
 ghost use Rattle.std.specs.Prelude.{◌≡◌, None, map, string_bytes};
 ghost use Rattle.ksv_expr_tree.specs.Tree.{view, path_of, member_of, arguments_of};
 ghost use Rattle.ksv_schema_scope.specs.Table.{declared};
-ghost use Rattle.ksv_schema_names.specs.Names.{has_place, is_of_element, is_until, is_stream, is_own_stream_fit, is_stream_fit, special_faults, special_field_faults, is_member, cast_faults, is_call, part_faults, list_faults, name_faults, wrong_if, lesser, least};
+ghost use Rattle.ksv_schema_names.specs.Names.{has_place, is_own_stream_fit, is_stream_fit, special_faults, special_field_faults, is_member, cast_faults, is_call, part_faults, list_faults, name_faults, wrong_if, lesser, least};
 ghost use Rattle.ksv_schema_names.specs.Code.{behind_of, faults_at};
 
 use crate::built_ins::built_in_at;
@@ -45,33 +45,8 @@ fn note(found: &mut Option<NameFault>, is_wrong: bool, fault: NameFault)
 fn has_place(site: Site) -> bool
     ensures { result ≡ has_place site }
 {
-    match site {
-        Site::Condition | Site::Size | Site::Count | Site::Until | Site::Switch => true,
-        Site::Argument | Site::Place | Site::Stream | Site::Value | Site::Case => false,
-    }
-}
-
-fn is_of_element(site: Site) -> bool
-    ensures { result ≡ is_of_element site }
-{
-    match site {
-        Site::Size | Site::Until | Site::Switch | Site::Argument => true,
-        Site::Condition | Site::Count | Site::Place | Site::Stream | Site::Value | Site::Case => {
-            false
-        }
-    }
-}
-
-fn is_until(site: Site) -> bool
-    ensures { result ≡ is_until site }
-{
-    matches!(site, Site::Until)
-}
-
-fn is_stream(site: Site) -> bool
-    ensures { result ≡ is_stream site }
-{
-    matches!(site, Site::Stream)
+    use Site::*;
+    matches!(site, Condition | Size | Count | Until | Switch)
 }
 
 /// Whether `_io` is allowed here.
@@ -84,7 +59,7 @@ fn is_own_stream_fit(position: Position, behind: Behind) -> bool
             let is_place = name == "pos" || name == "eof";
             is_size || position.in_sequence && has_place(position.site) && is_place
         }
-        Behind::Nothing => is_stream(position.site),
+        Behind::Nothing => matches!(position.site, Site::Stream),
         Behind::Other => false,
     }
 }
@@ -95,7 +70,7 @@ fn is_stream_fit(position: Position, behind: Behind) -> bool
 {
     match behind {
         Behind::Dot(name) => name == "size",
-        Behind::Nothing => is_stream(position.site),
+        Behind::Nothing => matches!(position.site, Site::Stream),
         Behind::Other => false,
     }
 }
@@ -117,11 +92,13 @@ fn note_special(
             note(found, !fits, NameFault::LeftOut);
         }
         SpecialName::Index => {
-            let fits = position.is_repeated & is_of_element(position.site);
+            use Site::*;
+            let is_of_element = matches!(position.site, Size | Until | Switch | Argument);
+            let fits = position.is_repeated & is_of_element;
             note(found, !fits, NameFault::Unknown);
         }
         SpecialName::Element => {
-            let fits = is_until(position.site);
+            let fits = matches!(position.site, Site::Until);
             note(found, !fits, NameFault::Unknown);
         }
     }

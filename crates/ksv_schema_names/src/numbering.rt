@@ -1,9 +1,8 @@
 //! The numbers of the names in an expression, set in place.
 
-ghost use Rattle.std.specs.Prelude.{◌≡◌, map, string_bytes};
+ghost use Rattle.std.specs.Prelude.{◌≡◌, map};
 ghost use Rattle.ksv_expr_tree.specs.Tree.{view, view_type, name_of, path_of, member_of, arguments_of};
 ghost use Rattle.ksv_schema_scope.specs.Table.{declared};
-ghost use Rattle.ksv_schema_scope.specs.Types.{type_named};
 ghost use Rattle.ksv_schema_names.specs.Numbered.{numbered, all_numbered, numbered_word, numbered_type, numbered_member, given_member};
 
 use ksv_desc::Names;
@@ -23,16 +22,6 @@ pub fn given_member(scopes: &Scopes, within: usize, member: &Member) -> Option<E
     })
 }
 
-/// The number of a type.
-fn type_number(scopes: &Scopes, within: usize, path: &[String]) -> Option<u32>
-    ensures { result ≡ type_named (declared scopes.now).types within (map string_bytes path.now) }
-{
-    match scopes.type_named(within, path) {
-        Some(number) => Some(number as u32),
-        None => None,
-    }
-}
-
 fn number_name(names: &Names, name: &mut Name)
     ensures { name_of name.new ≡ numbered_word names.now (name_of name.old) }
 {
@@ -43,7 +32,10 @@ fn number_name(names: &Names, name: &mut Name)
 pub fn number_type(scopes: &Scopes, within: usize, name: &mut TypeName)
     ensures { path_of name.new ≡ numbered_type (declared scopes.now) within (path_of name.old) }
 {
-    name.number = type_number(scopes, within, name.path.as_slice());
+    name.number = match scopes.type_named(within, name.path.as_slice()) {
+        Some(number) => Some(number as u32),
+        None => None,
+    };
 }
 
 fn number_member(scopes: &Scopes, within: usize, member: &mut Member)

@@ -1,13 +1,12 @@
 -- Names that are looked up.
-use Rattle.std.proofs.Common.{◌≡◌, ◌∙◌, ap, sym, refl, ℕ, zero, suc, ◌+◌, ◌<◌, Bool, true, false, cond, length, List, [], ◌∷◌, ◌++◌, map, Option, Some, None, append_assoc, arith}
-use Rattle.std.specs.Prelude.{find, filter, count_by, option_map, slice_get}
+use Rattle.std.proofs.Common.{◌≡◌, ◌∙◌, ap, sym, refl, ℕ, zero, suc, ◌+◌, ◌<◌, Bool, true, false, cond, length, List, [], ◌∷◌, ◌++◌, map, Option, Some, append_assoc, arith}
+use Rattle.std.specs.Prelude.{find, filter, count_by}
 use Rattle.std.specs.Option.{option_map_or}
 use Rattle.std.proofs.lemmas.List.{append-nil, map-append}
 use Rattle.std.proofs.lemmas.List.Sums.{length-filter}
-use Rattle.std.proofs.lemmas.Option.{slice_get-map}
 use Rattle.ksv_schema_scope.specs.declared.members.Member.{Member as MemberOfCode}
 use Rattle.ksv_schema_scope.specs.Rows.{Row}
-use Rattle.ksv_schema_scope.specs.Members.{Member, members_of, is_in_params, is_parameter, members_within}
+use Rattle.ksv_schema_scope.specs.Members.{is_in_params, is_parameter}
 use Rattle.ksv_schema_scope.specs.Code.{member_of}
 use Rattle.ksv_schema_scope.specs.Types.{outer_of, around, enum_behind, enum_from}
 
@@ -45,12 +44,3 @@ as_many (m ∷ ms) = go (is_in_params m.role) (as_many ms)
 
 pub parameters_counted : (ms : List MemberOfCode) → count_by (λ m. is_in_params m.role) ms ≡ length (filter is_parameter (map member_of ms))
 parameters_counted ms = sym (length-filter (λ m. is_in_params m.role) ms) ∙ as_many ms
-
--- the members of the type n, by the table of all of them
-pub those_within : (rows : List (List Member)) (types : List Row) (n : ℕ) (o : Option (List Member)) → rows ≡ map members_of types → o ≡ slice_get rows n → option_map_or (λ (ms : List Member). ms) o [] ≡ members_within types n
-unfolding members_within
-those_within rows types n o e f = ap (λ (o : Option (List Member)). option_map_or (λ (ms : List Member). ms) o []) (f ∙ ap (λ (rs : List (List Member)). slice_get rs n) e ∙ slice_get-map members_of types n) ∙ go (slice_get types n)
-  where
-    go : (o : Option Row) → option_map_or (λ (ms : List Member). ms) (option_map members_of o) [] ≡ option_map_or members_of o []
-    go None = refl
-    go (Some r) = refl

@@ -5,8 +5,8 @@ ghost use Rattle.std.specs.List.{position_from};
 ghost use Rattle.std.specs.Str.{bytes_eq};
 ghost use Rattle.ksv_yaml_tree.specs.View.{view, pair, seen_text};
 ghost use Rattle.ksv_yaml_tree.specs.Keys.{text_at, entries_in};
-ghost use Rattle.ksv_schema_scope.specs.Members.{item, items_from, unnamed, instance, members_at_key, members_of, is_in_params, is_parameter};
-ghost use Rattle.ksv_schema_scope.specs.Code.{member_of, name_of, row_of};
+ghost use Rattle.ksv_schema_scope.specs.Members.{item, items_from, instance, members_at_key, members_of, is_in_params, is_parameter};
+ghost use Rattle.ksv_schema_scope.specs.Code.{member_of, row_of};
 
 use crate::row::Row;
 use ksv_yaml_tree::keys::{entries_in, items_in, text_at};
@@ -57,17 +57,6 @@ impl<'a> Member<'a> {
     }
 }
 
-/// The name of an item without an id.
-fn unnamed<'a>(alloc: Global, role: Role, number: usize) -> Result<MemberName<'a>, AllocError>
-    ensures { IfOk result (λ n. name_of n ≡ unnamed role number) }
-{
-    match role {
-        Role::Parameter => Ok(MemberName::Written(&[])),
-        Role::Attribute => Ok(MemberName::Made(format!(in alloc; "_unnamed{number}")?)),
-        Role::Instance => Ok(MemberName::Written(&[])),
-    }
-}
-
 /// The item of this number in `params` or `seq`.
 fn item<'a>(
     alloc: Global,
@@ -79,7 +68,10 @@ fn item<'a>(
 {
     let name = match text_at(entries_in(value), b"id") {
         Some(id) => MemberName::Written(id),
-        None => unnamed(alloc, role, number)?,
+        None => match role {
+            Role::Attribute => MemberName::Made(format!(in alloc; "_unnamed{number}")?),
+            Role::Parameter | Role::Instance => MemberName::Written(&[]),
+        },
     };
     Ok(Member {
         role,
@@ -194,11 +186,7 @@ pub(crate) fn first_named(members: &[Member], name: &[u8]) -> Option<usize>
 fn is_parameter(member: &Member) -> bool
     ensures { result ≡ is_in_params member.now.role }
 {
-    match member.role {
-        Role::Parameter => true,
-        Role::Attribute => false,
-        Role::Instance => false,
-    }
+    matches!(member.role, Role::Parameter)
 }
 
 /// How many of these members are parameters.

@@ -2,7 +2,7 @@
 
 ghost use Rattle.std.specs.Prelude.{◌≡◌, ◌<◌, [], find, map, string_bytes, codes, length, IfSome};
 ghost use Rattle.ksv_yaml_tree.specs.View.{pair, seen_text};
-ghost use Rattle.ksv_schema_scope.specs.Types.{keys_at, outer_of, from, nearest_row, root_named, type_along, type_named, enum_behind, enum_from, order_named, order_in, order_of, setting, encoding_of};
+ghost use Rattle.ksv_schema_scope.specs.Types.{keys_at, outer_of, from, nearest_row, root_named, type_along, type_named, enum_behind, enum_from, order_named, order_in, setting};
 ghost use Rattle.ksv_schema_scope.specs.Code.{row_of, has_sought};
 
 use crate::row::Row;
@@ -36,14 +36,14 @@ pub fn order_named(text: &[u8]) -> Option<ByteOrder>
 }
 
 /// The text at a key of the `meta` of the type `n`.
-fn setting<'a>(types: &[Row<'a>], key: &[u8], n: usize) -> Option<&'a [u8]>
+pub(crate) fn setting<'a>(types: &[Row<'a>], key: &[u8], n: usize) -> Option<&'a [u8]>
     ensures { seen_text result ≡ setting key.now (map row_of types.now) n }
 {
     text_at(entries_at(keys_at(types, n), b"meta"), key)
 }
 
 /// The byte order that the type `n` itself sets.
-fn order_in(types: &[Row], n: usize) -> Option<ByteOrder>
+pub(crate) fn order_in(types: &[Row], n: usize) -> Option<ByteOrder>
     ensures { result ≡ order_in (map row_of types.now) n }
 {
     order_named(setting(types, b"endian", n)?)
@@ -51,7 +51,7 @@ fn order_in(types: &[Row], n: usize) -> Option<ByteOrder>
 
 /// What is looked for from a type outwards.
 #[derive(Clone, Copy)]
-enum Sought<'a> {
+pub(crate) enum Sought<'a> {
     /// One of these rows, by its name.
     Named(&'a [Row<'a>], &'a [u8]),
     /// A byte order.
@@ -81,7 +81,7 @@ fn outer_of(types: &[Row], n: usize) -> Option<usize>
 
 /// The nearest type, from the type `n` outwards, that has what is sought.
 #[tactic(auto, unfolding(crate::specs::Types::from))]
-fn nearest(types: &[Row], sought: Sought, n: usize) -> Option<usize>
+pub(crate) fn nearest(types: &[Row], sought: Sought, n: usize) -> Option<usize>
     ensures { result ≡ find (has_sought (map row_of types.now) sought.entry) (from (map row_of types.now) n) }
 {
     let mut at = n;
@@ -95,22 +95,6 @@ fn nearest(types: &[Row], sought: Sought, n: usize) -> Option<usize>
         }
     }
     None
-}
-
-/// The byte order in force in the type `n`.
-#[tactic(auto, unfolding(crate::specs::Types::order_of))]
-pub(crate) fn order_of(types: &[Row], n: usize) -> Option<ByteOrder>
-    ensures { result ≡ order_of (map row_of types.now) n }
-{
-    order_in(types, nearest(types, Sought::Order, n)?)
-}
-
-/// The name of the encoding in force in the type `n`.
-#[tactic(auto, unfolding(crate::specs::Types::encoding_of))]
-pub(crate) fn encoding_of<'a>(types: &[Row<'a>], n: usize) -> Option<&'a [u8]>
-    ensures { seen_text result ≡ encoding_of (map row_of types.now) n }
-{
-    setting(types, b"encoding", nearest(types, Sought::Encoding, n)?)
 }
 
 /// The nearest of these rows that has this name, from the type `n` outwards.

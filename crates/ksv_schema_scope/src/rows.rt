@@ -3,7 +3,7 @@
 ghost use Rattle.std.specs.Prelude.{◌≡◌, ◌&&◌, ◌++◌, ◌<◌, length, map, OnOk, IfOk, IfSome};
 ghost use Rattle.std.specs.Str.{bytes_eq};
 ghost use Rattle.ksv_yaml_tree.specs.View.{view, pair};
-ghost use Rattle.ksv_schema_scope.specs.Rows.{with_types, types_of, root_row, named_row, enums_from, row_in, is_within};
+ghost use Rattle.ksv_schema_scope.specs.Rows.{with_types, types_of, named_row, enums_from, row_in, is_within};
 ghost use Rattle.ksv_schema_scope.specs.Code.{row_of};
 
 use crate::row::Row;
@@ -36,26 +36,19 @@ fn add_types<'a>(rows: &mut Vec<Row<'a>>, n: usize, value: &'a Yaml) -> Result<(
     Ok(())
 }
 
-/// The root's row.
-fn root_row<'a>(tree: &'a Yaml) -> Row<'a>
-    ensures { row_of result ≡ root_row (view tree.now) }
-{
-    let id = text_at(entries_at(entries_in(tree), b"meta"), b"id").unwrap_or(&[]);
-    Row {
-        within: None,
-        line: tree.line(),
-        id,
-        value: tree,
-    }
-}
-
 /// The types of a description: the root, and those in it.
 #[tactic(auto, unfolding(crate::specs::Rows::types_of))]
 pub(crate) fn types_of<'a>(alloc: Global, tree: &'a Yaml) -> Result<Vec<Row<'a>>, AllocError>
     ensures { IfOk result (λ v. map row_of v.items ≡ types_of (view tree.now)) }
 {
+    let id = text_at(entries_at(entries_in(tree), b"meta"), b"id").unwrap_or(&[]);
     let mut rows = Vec::new(alloc);
-    rows.push(root_row(tree))?;
+    rows.push(Row {
+        within: None,
+        line: tree.line(),
+        id,
+        value: tree,
+    })?;
     add_types(&mut rows, 0, tree)?;
     Ok(rows)
 }

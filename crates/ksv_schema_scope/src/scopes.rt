@@ -10,7 +10,7 @@ ghost use Rattle.ksv_schema_scope.specs.Code.{row_of, member_of};
 
 use crate::entries::{id_in, number_in};
 use crate::members::{Member, count_parameters, first_named, members_at, members_of_each};
-use crate::outwards::{encoding_of, enum_named, keys_at, order_of, type_named};
+use crate::outwards::{Sought, enum_named, keys_at, nearest, order_in, setting, type_named};
 use crate::row::Row;
 use crate::rows::{enums_of, types_of};
 use ksv_desc::ByteOrder;
@@ -131,17 +131,20 @@ impl<'a> Scopes<'a> {
     }
 
     /// The byte order in force in the type `n`.
+    #[tactic(auto, unfolding(crate::specs::Types::order_of))]
     pub fn order_of(&self, n: usize) -> Option<ByteOrder>
         ensures { result ≡ order_of (declared self.now).types n }
     {
-        order_of(&self.types, n)
+        order_in(&self.types, nearest(&self.types, Sought::Order, n)?)
     }
 
     /// The name of the encoding in force in the type `n`.
+    #[tactic(auto, unfolding(crate::specs::Types::encoding_of))]
     pub fn encoding_of(&self, n: usize) -> Option<&'a [u8]>
         ensures { seen_text result ≡ encoding_of (declared self.now).types n }
     {
-        encoding_of(&self.types, n)
+        let nearest = nearest(&self.types, Sought::Encoding, n)?;
+        setting(&self.types, b"encoding", nearest)
     }
 
     /// The id that a number has in the enum `e`.

@@ -1,6 +1,6 @@
 use Rattle.std.proofs.Common.{◌≡◌, drop, map}
 use Rattle.ksv_schema_scope.specs.Code.{member_of as row}
-use Rattle.ksv_schema_build.specs.Contexts.{context_of}
+use Rattle.ksv_schema_build.specs.Code.{context_of}
 use Rattle.ksv_desc.specs.Pieces.{plain_member}
 use Rattle.ksv_schema_build.specs.Stated.{each, member_of}
 use Rattle.ksv_schema_build.proofs.Made.{onto}

@@ -1,8 +1,0 @@
-use Rattle.ksv_schema_faults.proofs.Noted.{noted_step, noted_end}
-use Rattle.ksv_schema_faults.proofs.field.note_cases.Goals as goal
-
-pub loop-case-preserved : goal.loop-case-preserved
-loop-case-preserved c = noted_step _ _ _ _ _ _ _ _ c.loop-case-test.true c.case-item.is c.in_ok-note_case.ensures c.loop-case.invariant
-
-pub returns : goal.returns
-returns c = noted_end _ _ _ _ _ _ c.loop-case-test.false c.loop-case.invariant
