@@ -149,7 +149,10 @@ fn forgotten_value(
 fn an_overwrite_takes_a_sum_of_a_node_and_itself(rt: HostRuntime) -> Result<(), Fail> {
     let (kept, left, looked) = forgotten_value(rt.alloc(), TWICE, 1, 0, 1)?;
     assert!(rt; kept == 5 && left == 3, "{kept} and {left}");
-    assert!(rt; looked >= 2 && looked <= 8 * (1 + 1 + 2 + 4 + 1), "{looked}");
+    assert!(rt;
+        looked >= 2 && looked <= 8 * (1 + 1 + 2 + 4 + 1),
+        "{looked}"
+    );
     Ok(())
 }
 

@@ -123,32 +123,64 @@ fn overwrite(engine: &mut Engine<Tower>, bytes: &mut Buffer, at: usize, new: &[u
     }
 }
 
-/// How many nodes go where a byte is written over itself, and how many looks it takes.
-fn touch(engine: &mut Engine<Tower>, bytes: &mut Buffer, at: usize) -> (usize, u64)
+/// What an overwrite did: how many nodes it took, and how many looks that was.
+#[derive(Clone, Copy, Drop)]
+struct Fall {
+    gone: u64,
+    looked: u64,
+}
+
+/// What is done where a byte is written over itself.
+fn touch(engine: &mut Engine<Tower>, bytes: &mut Buffer, at: usize) -> Fall
     requires { IsRight (on tower_meaning bytes.old) engine.old.kept }
     ensures { IsRight (on tower_meaning bytes.new) engine.new.kept }
 {
     let kept = engine.kept();
     overwrite(engine, bytes, at, b"a");
-    (kept.saturating_sub(engine.kept()), engine.looked())
+    let gone = kept.saturating_sub(engine.kept()) as u64;
+    let looked = engine.looked();
+    Fall { gone, looked }
 }
 
-/// Asks a link of a tower over two bytes. Whether an overwrite of the second byte takes no link and looks at one page and
-/// one use of it alone; whether one of the first byte takes all links, with no fewer looks than them and no more than near:
-/// one page, one use of it, and the links with their asks; and whether an append takes them again.
+/// Whether no link went, with looks at one page and one use of it alone.
+fn is_beside(fall: Fall) -> bool {
+    fall.gone == 0 && fall.looked <= 16
+}
+
+/// Whether all of so many links went, with no fewer looks than them and no more than near: one page, one use of it, and the
+/// links with their asks.
+fn is_whole(fall: Fall, links: u64) -> bool {
+    let near = links.saturating_mul(2).saturating_add(2);
+    fall.gone == links && links <= fall.looked && fall.looked <= near.saturating_mul(8)
+}
+
+/// Overwrites the second byte, and then the first, of two bytes over which a link was asked. Whether the first of these takes
+/// none and the second takes all.
+fn falls_by_overwrites(engine: &mut Engine<Tower>, bytes: &mut Buffer, number: u32) -> bool
+    requires { IsRight (on tower_meaning bytes.old) engine.old.kept }
+    ensures { IsRight (on tower_meaning bytes.new) engine.new.kept }
+{
+    let beside = touch(engine, bytes, 1);
+    let whole = touch(engine, bytes, 0);
+    is_beside(beside) && is_whole(whole, u64::from(number).saturating_add(1))
+}
+
+/// Whether an append takes all links.
+fn falls_by_an_append(engine: &mut Engine<Tower>) -> bool {
+    engine.forget(Change::Append);
+    engine.kept() == 0
+}
+
+/// Asks a link of a tower over two bytes. Whether it falls by an overwrite of the first byte alone, and, asked again, by an
+/// append.
 fn falls(alloc: Global, number: u32) -> Result<bool, Fail> {
     let mut bytes = Buffer::new(b"aa".to_vec(alloc)?)?;
     let mut engine = tower_engine(alloc, &bytes);
     let stood = stands(&mut engine, &bytes, number)?;
-    let (left_out, beside) = touch(&mut engine, &mut bytes, 1);
-    let (gone, looked) = touch(&mut engine, &mut bytes, 0);
-    let links = number as usize + 1;
-    let near = (links as u64).saturating_mul(2).saturating_add(2);
-    let is_near = links as u64 <= looked && looked <= near.saturating_mul(8);
+    let fell = falls_by_overwrites(&mut engine, &mut bytes, number);
     let stands_again = stands(&mut engine, &bytes, number)?;
-    engine.forget(Change::Append);
-    let fell = left_out == 0 && beside <= 8 * 2 && gone == links && is_near;
-    Ok(stood && fell && stands_again && engine.kept() == 0)
+    let fell_again = falls_by_an_append(&mut engine);
+    Ok(stood && fell && stands_again && fell_again)
 }
 
 #[test]
