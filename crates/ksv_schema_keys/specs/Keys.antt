@@ -6,13 +6,12 @@ use Rattle.ksv_yaml_tree.specs.Tree.{Pair}
 use Rattle.ksv_yaml_tree.specs.Keys.{has}
 use Rattle.ksv_schema_scope.specs.declared.members.Role.{Role}
 use Rattle.ksv_schema_scope.specs.declared.members.Role.TheVariants.{Parameter, Attribute, Instance}
-use Rattle.ksv_schema_names.specs.declared.position.Site.TheVariants as sites
 use Rattle.ksv_schema_keys.specs.declared.keys.MappingKind.{MappingKind}
 use Rattle.ksv_schema_keys.specs.declared.keys.MappingKind.TheVariants as kinds
 use Rattle.ksv_schema_keys.specs.declared.keys.Group.{Group}
 use Rattle.ksv_schema_keys.specs.declared.keys.Group.TheVariants as groups
 use Rattle.ksv_schema_keys.specs.declared.keys.Form.{Form}
-use Rattle.ksv_schema_keys.specs.declared.keys.Form.TheVariants.{Ignored, NotHere, Mapping, Listing, Id, Flag, Repeat, Endian, BitEndian, Coding, ParameterType, AnyText, Expression, TypeOrSwitch, Cases, EnumName, Byte, Contents}
+use Rattle.ksv_schema_keys.specs.declared.keys.Form.TheVariants.{Ignored, NotHere, Mapping, Listing, Id, Flag, Repeat, Endian, BitEndian, Coding, ParameterType, AnyText, Byte, Stated}
 
 -- ---- mappings
 
@@ -84,28 +83,28 @@ keys =
     key groups.Metas (codes "ks-opaque-types") NotHere ∷
     key groups.Parameters (codes "type") ParameterType ∷
     key groups.Parameters (codes "enum") AnyText ∷
-    key groups.Places (codes "pos") (Expression sites.Place) ∷
-    key groups.Places (codes "io") (Expression sites.Stream) ∷
-    key groups.Fields (codes "type") TypeOrSwitch ∷
-    key groups.Fields (codes "size") (Expression sites.Size) ∷
+    key groups.Places (codes "pos") Stated ∷
+    key groups.Places (codes "io") Stated ∷
+    key groups.Fields (codes "type") Stated ∷
+    key groups.Fields (codes "size") Stated ∷
     key groups.Fields (codes "size-eos") Flag ∷
-    key groups.Fields (codes "contents") Contents ∷
+    key groups.Fields (codes "contents") Stated ∷
     key groups.Fields (codes "encoding") Coding ∷
     key groups.Fields (codes "terminator") Byte ∷
     key groups.Fields (codes "consume") Flag ∷
     key groups.Fields (codes "include") Flag ∷
     key groups.Fields (codes "eos-error") Flag ∷
     key groups.Fields (codes "repeat") Repeat ∷
-    key groups.Fields (codes "repeat-expr") (Expression sites.Count) ∷
-    key groups.Fields (codes "repeat-until") (Expression sites.Until) ∷
-    key groups.Fields (codes "if") (Expression sites.Condition) ∷
-    key groups.Fields (codes "enum") EnumName ∷
+    key groups.Fields (codes "repeat-expr") Stated ∷
+    key groups.Fields (codes "repeat-until") Stated ∷
+    key groups.Fields (codes "if") Stated ∷
+    key groups.Fields (codes "enum") Stated ∷
     key groups.Fields (codes "process") NotHere ∷
     key groups.Fields (codes "pad-right") NotHere ∷
     key groups.Fields (codes "valid") NotHere ∷
-    key groups.Values (codes "value") (Expression sites.Value) ∷
-    key groups.Values (codes "if") (Expression sites.Condition) ∷
-    key groups.Values (codes "enum") EnumName ∷
+    key groups.Values (codes "value") Stated ∷
+    key groups.Values (codes "if") Stated ∷
+    key groups.Values (codes "enum") Stated ∷
     key groups.Values (codes "process") NotHere ∷
     key groups.Values (codes "pad-right") NotHere ∷
     key groups.Values (codes "valid") NotHere ∷
@@ -114,8 +113,8 @@ keys =
     key groups.Values (codes "type") Ignored ∷
     key groups.Values (codes "size") Ignored ∷
     key groups.Values (codes "repeat") Ignored ∷
-    key groups.Switches (codes "switch-on") (Expression sites.Switch) ∷
-    key groups.Switches (codes "cases") Cases ∷ []
+    key groups.Switches (codes "switch-on") Stated ∷
+    key groups.Switches (codes "cases") Stated ∷ []
 
 unfoldable pub form_among : List Key → MappingKind → List ℕ → Option Form
 form_among keys kind name = option_map (λ k. k.form) (find (λ k. is_in k.group kind && bytes_eq name k.name) keys)

@@ -68,10 +68,6 @@ own_type es = option_and_then type_at (entry_at (codes "type") es)
 abbrev pub is_a : (TypeText → Bool) → Option TypeText → Bool
 is_a kind t = option_map_or kind t false
 
--- the key `type`, if its type is of this kind
-unfoldable pub type_key : (TypeText → Bool) → List Pair → Option Pair
-type_key kind es = if is_a kind (own_type es) then entry_at (codes "type") es else None
-
 -- ---- numbers of one byte
 
 unfoldable pub byte_number : List ℕ → Numeral
@@ -108,26 +104,6 @@ unfoldable pub piece_of : Tree → Piece
 piece_of (Text line quoted text) = if not quoted && looks_like_number text then number_piece (byte_number text) else Bytes text
 piece_of (Seq line ts) = BadPiece
 piece_of (Map line es) = BadPiece
-
-abbrev pub bytes_of : Piece → Option (List ℕ)
-bytes_of (Bytes bs) = Some bs
-bytes_of BadPiece = None
-bytes_of LeftOutPiece = None
-
--- the bytes of all items, if each has bytes
-abbrev pub joined : List Tree → Option (List ℕ)
-joined [] = Some []
-joined (t ∷ ts) = option_and_then (λ bs. option_map (λ cs. bs ++ cs) (joined ts)) (bytes_of (piece_of t))
-
--- the bytes of a text; a plain number alone is unsupported
-abbrev pub text_bytes : Bool → List ℕ → Option (List ℕ)
-text_bytes quoted text = if not quoted && looks_like_number text then None else Some text
-
--- the bytes of a text or of a list
-unfoldable pub contents_of : Tree → Option (List ℕ)
-contents_of (Text line quoted text) = text_bytes quoted text
-contents_of (Seq line ts) = joined (trees ts)
-contents_of (Map line es) = None
 
 -- ---- keys of `cases`
 

@@ -6,7 +6,6 @@ ghost use Rattle.ksv_yaml_tree.specs.View.{pair};
 ghost use Rattle.ksv_schema_keys.specs.Keys.{is_in, form_among, form_in, kind_of, is_letter, is_id_byte, is_id};
 ghost use Rattle.ksv_schema_keys.specs.Code.{seen_key};
 
-use ksv_schema_names::Site;
 use ksv_schema_scope::Role;
 use ksv_yaml_tree::Entry;
 use ksv_yaml_tree::keys::has;
@@ -38,18 +37,10 @@ pub enum Form {
     ParameterType,
     /// A text without a meaning.
     AnyText,
-    /// An expression.
-    Expression(Site),
-    /// The text of a type, or a mapping of `switch-on` and `cases`.
-    TypeOrSwitch,
-    /// The cases of a switch.
-    Cases,
-    /// The path of an enum.
-    EnumName,
     /// A number from 0 to 255.
     Byte,
-    /// A text, or a list of numbers from 0 to 255 and texts.
-    Contents,
+    /// What a description states: whoever reads the mapping reads it.
+    Stated,
 }
 
 /// A mapping of fixed keys.
@@ -152,32 +143,28 @@ static KEYS: [Key; 53] = [
     Key(Group::Metas, b"ks-opaque-types", Form::NotHere),
     Key(Group::Parameters, b"type", Form::ParameterType),
     Key(Group::Parameters, b"enum", Form::AnyText),
-    Key(Group::Places, b"pos", Form::Expression(Site::Place)),
-    Key(Group::Places, b"io", Form::Expression(Site::Stream)),
-    Key(Group::Fields, b"type", Form::TypeOrSwitch),
-    Key(Group::Fields, b"size", Form::Expression(Site::Size)),
+    Key(Group::Places, b"pos", Form::Stated),
+    Key(Group::Places, b"io", Form::Stated),
+    Key(Group::Fields, b"type", Form::Stated),
+    Key(Group::Fields, b"size", Form::Stated),
     Key(Group::Fields, b"size-eos", Form::Flag),
-    Key(Group::Fields, b"contents", Form::Contents),
+    Key(Group::Fields, b"contents", Form::Stated),
     Key(Group::Fields, b"encoding", Form::Coding),
     Key(Group::Fields, b"terminator", Form::Byte),
     Key(Group::Fields, b"consume", Form::Flag),
     Key(Group::Fields, b"include", Form::Flag),
     Key(Group::Fields, b"eos-error", Form::Flag),
     Key(Group::Fields, b"repeat", Form::Repeat),
-    Key(Group::Fields, b"repeat-expr", Form::Expression(Site::Count)),
-    Key(
-        Group::Fields,
-        b"repeat-until",
-        Form::Expression(Site::Until),
-    ),
-    Key(Group::Fields, b"if", Form::Expression(Site::Condition)),
-    Key(Group::Fields, b"enum", Form::EnumName),
+    Key(Group::Fields, b"repeat-expr", Form::Stated),
+    Key(Group::Fields, b"repeat-until", Form::Stated),
+    Key(Group::Fields, b"if", Form::Stated),
+    Key(Group::Fields, b"enum", Form::Stated),
     Key(Group::Fields, b"process", Form::NotHere),
     Key(Group::Fields, b"pad-right", Form::NotHere),
     Key(Group::Fields, b"valid", Form::NotHere),
-    Key(Group::Values, b"value", Form::Expression(Site::Value)),
-    Key(Group::Values, b"if", Form::Expression(Site::Condition)),
-    Key(Group::Values, b"enum", Form::EnumName),
+    Key(Group::Values, b"value", Form::Stated),
+    Key(Group::Values, b"if", Form::Stated),
+    Key(Group::Values, b"enum", Form::Stated),
     Key(Group::Values, b"process", Form::NotHere),
     Key(Group::Values, b"pad-right", Form::NotHere),
     Key(Group::Values, b"valid", Form::NotHere),
@@ -186,12 +173,8 @@ static KEYS: [Key; 53] = [
     Key(Group::Values, b"type", Form::Ignored),
     Key(Group::Values, b"size", Form::Ignored),
     Key(Group::Values, b"repeat", Form::Ignored),
-    Key(
-        Group::Switches,
-        b"switch-on",
-        Form::Expression(Site::Switch),
-    ),
-    Key(Group::Switches, b"cases", Form::Cases),
+    Key(Group::Switches, b"switch-on", Form::Stated),
+    Key(Group::Switches, b"cases", Form::Stated),
 ];
 
 /// What is at a key, if one of these keys has this name in such a mapping.
