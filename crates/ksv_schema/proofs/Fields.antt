@@ -1,254 +1,185 @@
--- Without faults each attribute and instance is stated, and leads somewhere.
+-- What is read of a member is good: it leads somewhere, and it is a parameter or isn't.
 use Rattle.std.proofs.Common.{◌≡◌, ℕ, Bool, true, false, cond, List, [], ◌++◌, ap, sym, ◌∙◌, refl, Option, Some, None}
-use Rattle.std.specs.Prelude.{codes, not, ◌&&◌, ◌||◌, is_some, is_none, option_map, option_and_then, flat_map, unwrap_or}
-use Rattle.std.specs.Str.{bytes_eq}
+use Rattle.std.specs.Prelude.{codes, not, ◌&&◌, ◌||◌, is_some, option_map, option_and_then}
 use Rattle.std.specs.Option.{option_map_or}
-use Rattle.ksv_yaml_tree.specs.Tree.{Pair, line_of, text_of, mapping_of, entry_at}
-use Rattle.ksv_yaml_tree.specs.Keys.{entries_in, has, says, entries_at}
+use Rattle.ksv_yaml_tree.specs.Tree.{Pair, text_of, entry_at}
+use Rattle.ksv_yaml_tree.specs.Keys.{has, says, text_at}
+use Rattle.ksv_expr_syntax.specs.Reading.{◌>>=◌}
+use Rattle.ksv_expr_tree.specs.Tree as expressions
+use Rattle.ksv_expr_value.specs.declared.encoding.Encoding.{Encoding}
 use Rattle.ksv_schema_scope.specs.declared.members.Role.{Role}
 use Rattle.ksv_schema_scope.specs.declared.members.Role.TheVariants as roles
 use Rattle.ksv_schema_scope.specs.Members.{is_in_params}
-use Rattle.ksv_schema_names.specs.declared.position.Site.{Site}
+use Rattle.ksv_schema_scope.specs.Rows.{Declared}
+use Rattle.ksv_schema_scope.specs.Types.{encoding_of}
 use Rattle.ksv_schema_names.specs.declared.position.Site.TheVariants as sites
-use Rattle.ksv_desc.specs.Names.{has_names}
-use Rattle.ksv_schema_faults.specs.Faults.{Fault, fault_if, missing_key, left_out}
+use Rattle.ksv_desc.specs.Description.{Extent, Sized, SizeEos, ByItself, Repeat, Once, Eos, Expr, Until, Field, MemberKind, Parameter, Attribute, ParseInstance, ValueInstance}
+use Rattle.ksv_desc.specs.Resolved.{is_parameter, IfAny, IsThere, IsEnum, IsResolvedTree, IsResolvedExtent, IsResolvedRepeat, IsResolvedField, IsResolvedKind}
 use Rattle.ksv_schema_keys.specs.declared.keys.Form.TheVariants as forms
 use Rattle.ksv_schema_keys.specs.declared.keys.MappingKind.{MappingKind}
 use Rattle.ksv_schema_keys.specs.declared.keys.MappingKind.TheVariants as kinds
 use Rattle.ksv_schema_keys.specs.declared.keys.Group.TheVariants as groups
-use Rattle.ksv_schema_keys.specs.Keys.{is_in, kind_of as mapping_kind, form_among, form_in, is_ignored}
-use Rattle.ksv_schema_keys.specs.Values.{TypeText, type_text, is_str, is_strz, type_at, own_type, is_a, contents_of, is_to_end}
-use Rattle.ksv_schema_faults.specs.Rules.{Home, text_faults, type_text_faults, contents_faults, case_faults, form_faults, key_faults, has_encoding, Has, Says, Needs, claimed, rule_faults, ruled_faults, rules, mapping_faults, field_needs, field_left_out, field_faults, switch_keys_faults, switch_faults, kind_faults}
-use Rattle.ksv_schema_build.specs.Stated.{argument_words, perhaps_expression, type_words, form_words, key_words, expression_at, content_at, content_of, switch_of, typed, choice_of, extent_of, repeat_of, field_of, parse_instance_of, value_instance_of, kind_of}
-use Rattle.ksv_desc.specs.Description.{Always, Switch, Bytes, Fixed, Sized, SizeEos, ByItself, Once, Eos, Expr, Until, MemberKind, Parameter, Attribute, ParseInstance, ValueInstance}
-use Rattle.ksv_desc.specs.Resolved.{is_parameter, IfAny, IsResolvedTree, IsResolvedContent, IsResolvedChoice, IsResolvedExtent, IsResolvedRepeat, IsResolvedField, IsResolvedKind}
-use Rattle.ksv_schema.proofs.Coherent.{Is, IsRead, front, back, not_if, no_fault, is_map, is_bind, at_key, ruled_is, has_text, context, some_of, not_missing}
-use Rattle.ksv_schema.proofs.Good.{Good, good_map, has_both, words_at, form_of_key, expression_at_good, perhaps_good}
-use Rattle.ksv_schema.proofs.Contents.{contents_is, GoodEnum, enum_good, AreEncodings, is_encoding, content_good, cases_good}
+use Rattle.ksv_schema_keys.specs.Keys.{is_in, kind_of, form_among, form_in, is_ignored}
+use Rattle.ksv_schema_keys.specs.Values.{encoding_named, type_text, is_str, is_strz, type_at, own_type, is_a, is_to_end}
+use Rattle.ksv_schema_read.specs.Faults.{fault_if, missing_key, left_out}
+use Rattle.ksv_schema_read.specs.Rules.{form_faults, keys_faults, together}
+use Rattle.ksv_schema_read.specs.Values.{Home, expression, enumeration, choice, encoding_at}
+use Rattle.ksv_schema_read.specs.Members.{Parts, parts, repeat_of, extent_of, terminator_of, field_of, has_encoding, needs, field, own_enum, enum_in, attribute, parse_instance, value_instance, placeless, by_kind}
+use Rattle.ksv_schema_read.specs.Description.{Context, in_tree, in_extent, in_repeat, in_field, in_kind}
+use Rattle.ksv_schema.proofs.Good.{front, back, not_if, no_fault, is_there, there_map, IsGood, gives_good, also_good, chosen_good, made_good, next_good, both_good, weaker, perhaps_good, must_good}
+use Rattle.ksv_schema.proofs.Keys.{text_fits, HasRepeat, has_repeat}
+use Rattle.ksv_schema.proofs.Values.{Leads, any_leads, in_home, IsTree, IsEnumThere, IsChoice, any_enum, expression_good, enumeration_good, IsEncoded, is_text, choice_good}
 
--- a mapping with the keys and the rules of what is read
-pub record HasFieldKeys (kind : MappingKind) : Type 0 where
-  pub type : form_in kind (codes "type") ≡ Some forms.TypeOrSwitch
-  pub size : form_in kind (codes "size") ≡ Some (forms.Expression sites.Size)
-  pub contents : form_in kind (codes "contents") ≡ Some forms.Contents
-  pub encoding : form_in kind (codes "encoding") ≡ Some forms.Coding
-  pub count : form_in kind (codes "repeat-expr") ≡ Some (forms.Expression sites.Count)
-  pub until : form_in kind (codes "repeat-until") ≡ Some (forms.Expression sites.Until)
-  pub condition : form_in kind (codes "if") ≡ Some (forms.Expression sites.Condition)
-  pub enum : form_in kind (codes "enum") ≡ Some forms.EnumName
-  pub read : is_in groups.Read kind ≡ true
+-- ---- encodings
 
-attributes_have : HasFieldKeys kinds.Attribute
-unfolding form_in form_among
-attributes_have = record { type = refl; size = refl; contents = refl; encoding = refl; count = refl; until = refl; condition = refl; enum = refl; read = refl }
+-- each encoding in force is one of those that there are
+abbrev pub AreEncodings : Declared → Type 0
+AreEncodings d = (n : ℕ) (text : List ℕ) → encoding_of d.types n ≡ Some text → IsThere (λ (e : Encoding). Unit {0}) (encoding_named text)
 
-places_have : HasFieldKeys kinds.ParseInstance
-unfolding form_in form_among
-places_have = record { type = refl; size = refl; contents = refl; encoding = refl; count = refl; until = refl; condition = refl; enum = refl; read = refl }
+pub some_there : {A : Type 0} (o : Option A) → is_some o ≡ true → IsThere (λ x. Unit {0}) o
+some_there None h = absurd cc
+some_there (Some x) h = tt
 
--- ---- what a field needs
+-- a member leads somewhere, and is a parameter or isn't
+pub record IsKind (c : Context) (is_given : Bool) (k : MemberKind) : Type 0 where
+  pub leads : Leads c IsResolvedKind (in_kind c k)
+  pub given : (name : ℕ) → is_parameter (record { name = name; kind = in_kind c k }) ≡ is_given
 
--- a text has an encoding
-abbrev need_encoding : Home → ℕ → List Pair → List Fault
-need_encoding h line es = fault_if ((is_a is_str (own_type es) || is_a is_strz (own_type es)) && not (has_encoding h es)) line missing_key
+module _ (names : List (List ℕ)) (h : Home) where
+  abbrev c : Context
+  c = in_home names h
 
--- what a field without faults has
-pub record HasNeeds (h : Home) (kind : MappingKind) (line : ℕ) (es : List Pair) : Type 0 where
-  pub encoding : need_encoding h line es ≡ []
-  pub rules : flat_map (ruled_faults kind line es) rules ≡ []
-  pub switch : switch_faults h es (entry_at (codes "type") es) ≡ []
+  -- the encoding of an attribute that has one
+  is_encoded : (kind : MappingKind) (es : List Pair) → AreEncodings h.declared → form_in kind (codes "encoding") ≡ Some forms.Coding → keys_faults kind es ≡ [] → has_encoding h es ≡ true → IsEncoded names h es
+  unfolding encoding_at form_faults is_ignored
+  is_encoded kind es a f k x = own (text_at (codes "encoding") es) (λ text t. some_there (encoding_named text) (text_fits kind (codes "encoding") forms.Coding (λ text. is_some (encoding_named text)) left_out es text (λ p. refl) refl f k t)) x
+    where
+      inherited : (o : Option (List ℕ)) → encoding_of h.declared.types h.within ≡ o → is_some o ≡ true → IsThere (λ (e : Encoding). Unit {0}) (o >>= encoding_named)
+      inherited None e x = absurd cc
+      inherited (Some text) e x = a h.within text e
 
-needed_encoding : (h : Home) (line : ℕ) (es : List Pair) → field_faults h line es ≡ [] → need_encoding h line es ≡ []
-unfolding field_faults field_needs
-needed_encoding h line es k = back _ (need_encoding h line es) (front (field_needs h line es) (field_left_out h es) k)
+      own : (o : Option (List ℕ)) → ((text : List ℕ) → o ≡ Some text → IsThere (λ (e : Encoding). Unit {0}) (encoding_named text)) → (is_some o || is_some (encoding_of h.declared.types h.within)) ≡ true → IsThere (λ (e : Encoding). Unit {0}) (option_map_or (λ (text : List ℕ). let r : Option (List ℕ) = Some text in r) o (encoding_of h.declared.types h.within) >>= encoding_named)
+      own None named x = inherited (encoding_of h.declared.types h.within) refl x
+      own (Some text) named x = named text refl
 
--- a key that is needed where `repeat` is said to be something
-needed : (text name : List ℕ) (es : List Pair) (line : ℕ) → says (codes "repeat") text es ≡ true → rule_faults line es (Needs (Says (codes "repeat") text) (Has name)) ≡ [] → Is (entry_at name es)
-needed text name es line e k = go (entry_at (codes "repeat") es) (entry_at name es) e (not_if (is_some (claimed es (Says (codes "repeat") text)) && is_none (entry_at name es)) line 2 k)
-  where
-    go : (o p : Option Pair) → option_map_or (bytes_eq text) (option_and_then (λ p. text_of p.value) o) false ≡ true → (is_some (cond (option_map_or (bytes_eq text) (option_and_then (λ p. text_of p.value) o) false) o None) && is_none p) ≡ false → Is p
-    go o (Some p) e k = (p, refl)
-    go None None e k = absurd cc
-    go (Some q) None e k = absurd (let w : true ≡ false = sym (ap (λ (b : Bool). is_some (cond b (Some q) None) && true) e) ∙ k in cc)
+  encoded : (a b e : Bool) (line : ℕ) → fault_if ((a || b) && not e) line missing_key ≡ [] → (a || b) ≡ true → e ≡ true
+  encoded a b true line k z = refl
+  encoded true b false line k z = absurd cc
+  encoded false true false line k z = absurd cc
+  encoded false false false line k z = absurd cc
 
--- ---- the words of a mapping
+  -- the type of an attribute with needs has an encoding if it is a text
+  type_encoded : (kind : MappingKind) (line : ℕ) (es : List Pair) → AreEncodings h.declared → form_in kind (codes "encoding") ≡ Some forms.Coding → keys_faults kind es ≡ [] → needs h line (own_type es) es ≡ [] → (p : Pair) (text : List ℕ) → entry_at (codes "type") es ≡ Some p → text_of p.value ≡ Some text → is_text (type_text text) ≡ true → IsEncoded names h es
+  unfolding needs
+  type_encoded kind line es a f k n p text e t b =
+      let same : (is_a is_str (own_type es) || is_a is_strz (own_type es)) ≡ is_text (type_text text)
+          = ap (λ (o : Option Pair). is_a is_str (option_and_then type_at o) || is_a is_strz (option_and_then type_at o)) e ∙ ap (λ (o : Option (List ℕ)). is_a is_str (option_map type_text o) || is_a is_strz (option_map type_text o)) t in
+      is_encoded kind es a f k (encoded (is_a is_str (own_type es)) (is_a is_strz (own_type es)) (has_encoding h es) line (back _ _ n) (same ∙ b))
 
--- those at its own keys, and those of a switch at its type
-abbrev pub all_words : MappingKind → List Pair → List (List ℕ)
-all_words kind es = flat_map (key_words kind) es ++ flat_map (key_words kinds.Switch) (entries_at (codes "type") es)
+  -- ---- parts
 
-own_words : (names : List (List ℕ)) (kind : MappingKind) (es : List Pair) → has_names names (all_words kind es) ≡ true → has_names names (flat_map (key_words kind) es) ≡ true
-own_words names kind es w = (has_both names (flat_map (key_words kind) es) (flat_map (key_words kinds.Switch) (entries_at (codes "type") es)) w).0
+  abbrev IsRepeat : Repeat → Type 0
+  IsRepeat r = Leads c IsResolvedRepeat (in_repeat c r)
 
-switch_words : (names : List (List ℕ)) (kind : MappingKind) (es : List Pair) (p : Pair) → has_names names (all_words kind es) ≡ true → entry_at (codes "type") es ≡ Some p → has_names names (flat_map (key_words kinds.Switch) (entries_in p.value)) ≡ true
-switch_words names kind es p w e =
-    ap (λ (o : Option Pair). has_names names (flat_map (key_words kinds.Switch) (unwrap_or (option_and_then (λ p. mapping_of p.value) o) []))) (sym e)
-    ∙ (has_both names (flat_map (key_words kind) es) (flat_map (key_words kinds.Switch) (entries_at (codes "type") es)) w).1
+  record IsParts (es : List Pair) (p : Parts) : Type 0 where
+    condition : IfAny (IsTree c) p.condition
+    count : is_some (entry_at (codes "repeat-expr") es) ≡ true → IsThere (IsTree c) p.count
+    until : is_some (entry_at (codes "repeat-until") es) ≡ true → IsThere (IsTree c) p.until
+    choice : IsChoice c p.choice
+    size : IfAny (IsTree c) p.size
 
--- the expression at a key, and at one that may be absent
-read_good : (h : Home) (names : List (List ℕ)) (kind : MappingKind) (site : Site) (name : List ℕ) (es : List Pair) → IsRead h kind es → is_ignored name ≡ false → form_in kind name ≡ Some (forms.Expression site) → Is (entry_at name es) → Good h.declared names (all_words kind es) IsResolvedTree (expression_at (context h names) name es)
-read_good h names kind site name es k i f p =
-    let r = expression_at_good h names kind site name es i f k p in
-    (r.0, r.1, λ x e fits w. r.2 x e fits (own_words names kind es w))
+  parts_good : (beside : List Pair) (enum : Option ℕ) (es : List Pair) → IfAny (IsEnumThere c) enum → ((p : Pair) (text : List ℕ) → entry_at (codes "type") es ≡ Some p → text_of p.value ≡ Some text → is_text (type_text text) ≡ true → IsEncoded names h es) → IsGood names (IsParts es) (parts h beside enum es)
+  unfolding parts
+  parts_good beside enum es e i =
+      made_good _
+      (both_good (perhaps_good _ (entry_at (codes "if") es) (λ p e. expression_good names h sites.Condition p))
+        (both_good (perhaps_good _ (entry_at (codes "repeat-expr") es) (λ p e. expression_good names h sites.Count p))
+          (both_good (perhaps_good _ (entry_at (codes "repeat-until") es) (λ p e. expression_good names h sites.Until p))
+            (both_good (choice_good names h beside enum es e i)
+              (perhaps_good _ (entry_at (codes "size") es) (λ p e. expression_good names h sites.Size p))))))
+      (λ p g. record { condition = g.0.0; count = g.1.0.1; until = g.1.1.0.1; choice = g.1.1.1.0; size = g.1.1.1.1.0 })
 
-optional_good : (h : Home) (names : List (List ℕ)) (kind : MappingKind) (site : Site) (name : List ℕ) (es : List Pair) → IsRead h kind es → is_ignored name ≡ false → form_in kind name ≡ Some (forms.Expression site) → Good h.declared names (all_words kind es) (λ x. IfAny (IsResolvedTree x)) (perhaps_expression (context h names) name es)
-optional_good h names kind site name es k i f =
-    let r = perhaps_good h names kind site name es i f k in
-    (r.0, r.1, λ x e fits w. r.2 x e fits (own_words names kind es w))
+  repeat_there : (es : List Pair) (p : Parts) → HasRepeat es → IsParts es p → IsThere IsRepeat (repeat_of es p.count p.until)
+  unfolding repeat_of
+  repeat_there es p r g = go (says (codes "repeat") (codes "eos") es) (says (codes "repeat") (codes "expr") es) (says (codes "repeat") (codes "until") es) r.count r.until
+    where
+      go : (eos expr until : Bool) → (expr ≡ true → is_some (entry_at (codes "repeat-expr") es) ≡ true) → (until ≡ true → is_some (entry_at (codes "repeat-until") es) ≡ true)
+          → IsThere IsRepeat (cond eos (Some Eos) (cond expr (option_map Expr p.count) (cond until (option_map Until p.until) (Some Once))))
+      go true expr until x y = λ y s fits. tt
+      go false true until x y = there_map (IsTree c) IsRepeat Expr p.count (λ e g. g) (g.count (x refl))
+      go false false true x y = there_map (IsTree c) IsRepeat Until p.until (λ e g. g) (g.until (y refl))
+      go false false false x y = λ y s fits. tt
 
--- ---- how it is read
+  extent_leads : (es : List Pair) (o : Option expressions.Tree) → IfAny (IsTree c) o → Leads c IsResolvedExtent (in_extent c (extent_of es o))
+  extent_leads es (Some e) g = g
+  extent_leads es None g = go (is_to_end es)
+    where
+      go : (b : Bool) → Leads c IsResolvedExtent (in_extent c (cond b SizeEos ByItself))
+      go true y s fits = tt
+      go false y s fits = tt
 
-repeat_good : (h : Home) (names : List (List ℕ)) (kind : MappingKind) (line : ℕ) (es : List Pair) → HasFieldKeys kind → IsRead h kind es → HasNeeds h kind line es → Good h.declared names (all_words kind es) IsResolvedRepeat (repeat_of (context h names) es)
-unfolding repeat_of is_ignored
-repeat_good h names kind line es f k n = go (says (codes "repeat") (codes "eos") es) (says (codes "repeat") (codes "expr") es) (says (codes "repeat") (codes "until") es) refl refl
-  where
-    go : (a b c : Bool) → says (codes "repeat") (codes "expr") es ≡ b → says (codes "repeat") (codes "until") es ≡ c → Good h.declared names (all_words kind es) IsResolvedRepeat (cond a (Some Eos) (cond b (option_map Expr (expression_at (context h names) (codes "repeat-expr") es)) (cond c (option_map Until (expression_at (context h names) (codes "repeat-until") es)) (Some Once))))
-    go true b c x y = (Eos, refl, λ x e fits w. tt)
-    go false true c x y = good_map h.declared names (all_words kind es) IsResolvedTree IsResolvedRepeat Expr _ (λ x y r. r) (read_good h names kind sites.Count (codes "repeat-expr") es k refl f.count (needed (codes "expr") (codes "repeat-expr") es line x (ruled_is kind line es rules 5 groups.Read _ f.read n.rules refl)))
-    go false false true x y = good_map h.declared names (all_words kind es) IsResolvedTree IsResolvedRepeat Until _ (λ x y r. r) (read_good h names kind sites.Until (codes "repeat-until") es k refl f.until (needed (codes "until") (codes "repeat-until") es line y (ruled_is kind line es rules 6 groups.Read _ f.read n.rules refl)))
-    go false false false x y = (Once, refl, λ x e fits w. tt)
+  -- ---- fields
 
-extent_good : (h : Home) (names : List (List ℕ)) (kind : MappingKind) (es : List Pair) → HasFieldKeys kind → IsRead h kind es → Good h.declared names (all_words kind es) IsResolvedExtent (extent_of (context h names) es)
-unfolding extent_of is_ignored
-extent_good h names kind es f k = go (has (codes "size") es) (is_to_end es) refl
-  where
-    go : (a b : Bool) → has (codes "size") es ≡ a → Good h.declared names (all_words kind es) IsResolvedExtent (cond a (option_map Sized (expression_at (context h names) (codes "size") es)) (cond b (Some SizeEos) (Some ByItself)))
-    go true b x = good_map h.declared names (all_words kind es) IsResolvedTree IsResolvedExtent Sized _ (λ x y r. r) (read_good h names kind sites.Size (codes "size") es k refl f.size (some_of (entry_at (codes "size") es) x))
-    go false true x = (SizeEos, refl, λ x e fits w. tt)
-    go false false x = (ByItself, refl, λ x e fits w. tt)
+  abbrev IsField : Field → Type 0
+  IsField f = Leads c IsResolvedField (in_field c f)
 
--- ---- what is read
+  -- a mapping of what is read
+  record HasFieldKeys (kind : MappingKind) : Type 0 where
+    encoding : form_in kind (codes "encoding") ≡ Some forms.Coding
+    read : is_in groups.Read kind ≡ true
 
--- the kind of the type that is written
-kind_is : (kind : TypeText → Bool) (es : List Pair) (p : Pair) (text : List ℕ) → entry_at (codes "type") es ≡ Some p → text_of p.value ≡ Some text → is_a kind (own_type es) ≡ kind (type_text text)
-kind_is kind es p text e t = ap (λ (o : Option Pair). is_a kind (option_and_then type_at o)) e ∙ ap (λ (o : Option (List ℕ)). is_a kind (option_map type_text o)) t
+  field_good : (kind : MappingKind) (line : ℕ) (enum : Option ℕ) (es : List Pair) → HasFieldKeys kind → AreEncodings h.declared → keys_faults kind es ≡ [] → IfAny (IsEnumThere c) enum → IsGood names IsField (field h kind line enum (own_type es) es)
+  unfolding field field_of
+  field_good kind line enum es f a k e = also_good _ _ (λ n.
+      let r = has_repeat kind line (own_type es) es f.read (front _ _ (front _ _ n)) in
+      chosen_good _ (parts_good es enum es e (type_encoded kind line es a f.encoding k (back _ _ (front _ _ n))))
+      (λ p g. there_map IsRepeat IsField _ (repeat_of es p.count p.until)
+        (λ repeat x y s fits. record { condition = any_leads c IsResolvedTree (in_tree c) p.condition g.condition y s fits; repeat = x y s fits; choice = g.choice y s fits; extent = extent_leads es p.size g.size y s fits })
+        (repeat_there es p r g)))
 
-encoded : (a b c : Bool) (x y : Bool) (line : ℕ) → a ≡ x → b ≡ y → fault_if ((a || b) && not c) line missing_key ≡ [] → (x || y) ≡ true → c ≡ true
-encoded a b true x y line e f k z = refl
-encoded true b false x y line e f k z = absurd cc
-encoded false true false x y line e f k z = absurd cc
-encoded false false false x y line e f k z = absurd (let w : false ≡ true = f ∙ ap (λ (b : Bool). b || y) e ∙ z in cc)
+  -- ---- kinds of members
 
--- the text of a type
-text_good : (h : Home) (names : List (List ℕ)) (kind : MappingKind) (line : ℕ) (es : List Pair) (p : Pair) → AreEncodings h.declared → HasFieldKeys kind → IsRead h kind es → HasNeeds h kind line es → entry_at (codes "type") es ≡ Some p → text_faults (λ text. type_text_faults h p.line (type_text text)) p ≡ [] → Good h.declared names (type_words p) IsResolvedContent (content_at (context h names) es p)
-unfolding content_at type_words
-text_good h names kind line es p a f k n e r =
-    let t = has_text (λ text. type_text_faults h p.line (type_text text)) p r in
-    let g = content_good h names es p.line (type_text t.0) t.2 (enum_good h names kind es f.enum k) (λ z.
-    is_encoding h names kind es a f.encoding k (encoded (is_a is_str (own_type es)) (is_a is_strz (own_type es)) (has_encoding h es) (is_str (type_text t.0)) (is_strz (type_text t.0)) line (kind_is is_str es p t.0 e t.1) (kind_is is_strz es p t.0 e t.1) n.encoding z)) in
-    let b = is_bind (λ text. content_of (context h names) es (type_text text)) _ t.0 t.1 (g.0, g.1) in
-    (b.0, b.1, λ x s fits w. g.2 x s fits (ap (λ (o : Option (List ℕ)). has_names names (option_map_or (λ text. argument_words (type_text text)) o [])) (sym t.1) ∙ w))
+  own_enum_good : (es : List Pair) → IsGood names (λ e. IfAny (IsEnumThere c) e) (own_enum h es)
+  own_enum_good es = weaker (perhaps_good (enumeration h) (entry_at (codes "enum") es) (λ p e. enumeration_good names h p)) (λ e g. g.0)
 
--- the words of the cases of a switch
-case_words : (names : List (List ℕ)) (keys : List Pair) → has_names names (flat_map (key_words kinds.Switch) keys) ≡ true → has_names names (flat_map type_words (entries_at (codes "cases") keys)) ≡ true
-unfolding form_in form_among form_words
-case_words names keys w = go (entry_at (codes "cases") keys) refl
-  where
-    go : (o : Option Pair) → entry_at (codes "cases") keys ≡ o → has_names names (flat_map type_words (unwrap_or (option_and_then (λ (p : Pair). mapping_of p.value) o) [])) ≡ true
-    go None e = refl
-    go (Some p) e = let v = words_at names (key_words kinds.Switch) (codes "cases") keys p w e in ap (has_names names) (sym (form_of_key kinds.Switch (codes "cases") forms.Cases p v.1 refl)) ∙ v.0
+  enum_there : (o : Option (Option ℕ)) → IsThere (λ e. IfAny (IsEnumThere c) e) o → IfAny (IsEnumThere c) (option_map_or (λ e. e) o None)
+  enum_there None g = absurd g
+  enum_there (Some e) g = g
 
-switch_good : (h : Home) (names : List (List ℕ)) (beside es keys : List Pair) (line : ℕ) → GoodEnum h names es → switch_keys_faults h beside line keys ≡ [] → Good h.declared names (flat_map (key_words kinds.Switch) keys) IsResolvedChoice (switch_of (context h names) es keys)
-unfolding switch_keys_faults mapping_faults switch_of form_in form_among is_ignored
-switch_good h names beside es keys line e k =
-    let mapped = front _ (flat_map (case_faults h beside) (entries_at (codes "cases") keys)) k in
-    let all = front (flat_map (key_faults h kinds.Switch) keys) (flat_map (ruled_faults kinds.Switch line keys) rules) mapped in
-    let ruled = back (flat_map (key_faults h kinds.Switch) keys) (flat_map (ruled_faults kinds.Switch line keys) rules) mapped in
-    let on = expression_at_good h names kinds.Switch sites.Switch (codes "switch-on") keys refl refl all (not_missing (codes "switch-on") keys line (ruled_is kinds.Switch line keys rules 3 groups.Switches _ refl ruled refl)) in
-    let r = cases_good h names beside es (entries_at (codes "cases") keys) e (back _ (flat_map (case_faults h beside) (entries_at (codes "cases") keys)) k) in
-    let b = is_bind _ _ on.0 on.1 (is_bind _ _ r.0 r.1 (Switch on.0 r.0, refl)) in
-    (b.0, b.1, λ x s fits w. (on.2 x s fits w, r.2 x s fits (case_words names keys w)))
+  attribute_good : (line : ℕ) (es : List Pair) → AreEncodings h.declared → keys_faults kinds.Attribute es ≡ [] → IsGood names (IsKind c false) (attribute h line es)
+  unfolding attribute form_in form_among
+  attribute_good line es a k =
+      made_good _ (next_good (own_enum_good es) (λ e. field_good kinds.Attribute line _ es (record { encoding = refl; read = refl }) a k (enum_there (own_enum h es).value e)))
+      (λ p g. record { leads = g.1; given = λ name. refl })
 
--- what stands at `type`
-typed_good : (h : Home) (names : List (List ℕ)) (kind : MappingKind) (line : ℕ) (es : List Pair) (p : Pair) → AreEncodings h.declared → HasFieldKeys kind → IsRead h kind es → HasNeeds h kind line es → entry_at (codes "type") es ≡ Some p → Good h.declared names (all_words kind es) IsResolvedChoice (typed (context h names) es p)
-unfolding typed form_faults form_words is_ignored switch_faults
-typed_good h names kind line es p a f k n e = go (mapping_of p.value) refl (at_key h kind (codes "type") forms.TypeOrSwitch es p refl f.type k e) (ap (switch_faults h es) (sym e) ∙ n.switch)
-  where
-    typed_words : has_names names (all_words kind es) ≡ true → has_names names (type_words p) ≡ true
-    typed_words w =
-        let v = words_at names (key_words kind) (codes "type") es p (own_words names kind es w) e in
-        ap (has_names names) (sym (form_of_key kind (codes "type") forms.TypeOrSwitch p v.1 f.type)) ∙ v.0
+  parse_instance_good : (line : ℕ) (es : List Pair) → AreEncodings h.declared → keys_faults kinds.ParseInstance es ≡ [] → IsGood names (IsKind c false) (parse_instance h line es)
+  unfolding parse_instance form_in form_among
+  parse_instance_good line es a k =
+      made_good _
+      (both_good (must_good line (expression h sites.Place) (entry_at (codes "pos") es) (λ p. expression_good names h sites.Place p))
+        (both_good (perhaps_good (expression h sites.Stream) (entry_at (codes "io") es) (λ p e. expression_good names h sites.Stream p))
+          (next_good (own_enum_good es) (λ e. field_good kinds.ParseInstance line _ es (record { encoding = refl; read = refl }) a k (enum_there (own_enum h es).value e)))))
+      (λ p g. record { leads = λ y s fits. (g.0 y s fits, any_leads c IsResolvedTree (in_tree c) p.1.0 g.1.0.0 y s fits, g.1.1.1 y s fits); given = λ name. refl })
 
-    go : (o : Option (List Pair)) → mapping_of p.value ≡ o → cond (is_some o) [] (text_faults (λ text. type_text_faults h p.line (type_text text)) p) ≡ [] → option_map_or (switch_keys_faults h es (line_of p.value)) o [] ≡ [] → Good h.declared names (all_words kind es) IsResolvedChoice (option_map_or (switch_of (context h names) es) o (option_map Always (content_at (context h names) es p)))
-    go None q r l =
-        let g = text_good h names kind line es p a f k n e r in
-        good_map h.declared names (all_words kind es) IsResolvedContent IsResolvedChoice Always _ (λ x y r. r) (g.0, g.1, λ x s fits w. g.2 x s fits (typed_words w))
-    go (Some keys) q r l =
-        let g = switch_good h names es es keys (line_of p.value) (enum_good h names kind es f.enum k) l in
-        (g.0, g.1, λ x s fits w. g.2 x s fits (ap (λ (o : Option (List Pair)). has_names names (flat_map (key_words kinds.Switch) (unwrap_or o []))) (sym q) ∙ switch_words names kind es p w e))
+  value_instance_good : (line : ℕ) (es : List Pair) → IsGood names (IsKind c false) (value_instance h line es)
+  unfolding value_instance
+  value_instance_good line es = also_good _ _ (λ k.
+      made_good _
+      (both_good (perhaps_good (expression h sites.Condition) (entry_at (codes "if") es) (λ p e. expression_good names h sites.Condition p))
+        (both_good (must_good line (expression h sites.Value) (entry_at (codes "value") es) (λ p. expression_good names h sites.Value p)) (own_enum_good es)))
+      (λ p g. record { leads = λ y s fits. (any_leads c IsResolvedTree (in_tree c) p.0 g.0.0 y s fits, g.1.0 y s fits, any_enum c p.1.1 g.1.1 y s fits); given = λ name. refl }))
 
-choice_good : (h : Home) (names : List (List ℕ)) (kind : MappingKind) (line : ℕ) (es : List Pair) → AreEncodings h.declared → HasFieldKeys kind → IsRead h kind es → HasNeeds h kind line es → Good h.declared names (all_words kind es) IsResolvedChoice (choice_of (context h names) es)
-unfolding choice_of is_ignored form_faults
-choice_good h names kind line es a f k n = contents (entry_at (codes "contents") es) (λ p e. at_key h kind (codes "contents") forms.Contents es p refl f.contents k e)
-  where
-    at_type : (o : Option Pair) → entry_at (codes "type") es ≡ o → Good h.declared names (all_words kind es) IsResolvedChoice (option_map_or (typed (context h names) es) o (Some (Always Bytes)))
-    at_type None e = (Always Bytes, refl, λ x s fits w. tt)
-    at_type (Some p) e = typed_good h names kind line es p a f k n e
+  placeless_good : (name_line : ℕ) (es : List Pair) → IsGood names (IsKind c false) (placeless h name_line es)
+  unfolding placeless
+  placeless_good name_line es = record { is = λ k w. absurd cc }
 
-    contents : (o : Option Pair) → ((p : Pair) → o ≡ Some p → contents_faults p ≡ []) → Good h.declared names (all_words kind es) IsResolvedChoice (option_map_or (λ p. option_map (λ bs. Always (Fixed bs)) (contents_of p.value)) o (option_map_or (typed (context h names) es) (entry_at (codes "type") es) (Some (Always Bytes))))
-    contents None r = at_type (entry_at (codes "type") es) refl
-    contents (Some p) r = let m = is_map (λ bs. Always (Fixed bs)) _ (contents_is p (r p refl)) in (m.0, m.1, λ x s fits w. tt)
-
--- ---- fields and members
-
--- the faults of a mapping and what else it must be, of what is read
-abbrev pub IsFaultless : Home → MappingKind → ℕ → List Pair → Type 0
-IsFaultless h kind line es = (mapping_faults h kind line es ≡ []) × (switch_faults h es (entry_at (codes "type") es) ++ field_faults h line es ≡ [])
-
-read_keys : (h : Home) (kind : MappingKind) (line : ℕ) (es : List Pair) → mapping_faults h kind line es ≡ [] → IsRead h kind es
-unfolding mapping_faults
-read_keys h kind line es k = front (flat_map (key_faults h kind) es) (flat_map (ruled_faults kind line es) rules) k
-
-field_good : (h : Home) (names : List (List ℕ)) (kind : MappingKind) (line : ℕ) (es : List Pair) → AreEncodings h.declared → HasFieldKeys kind → IsFaultless h kind line es → Good h.declared names (all_words kind es) IsResolvedField (field_of (context h names) es)
-unfolding field_of is_ignored mapping_faults
-field_good h names kind line es a f r =
-    let k = read_keys h kind line es r.0 in
-    let n : HasNeeds h kind line es = record {
-      encoding = needed_encoding h line es (back (switch_faults h es (entry_at (codes "type") es)) (field_faults h line es) r.1);
-      rules = back (flat_map (key_faults h kind) es) (flat_map (ruled_faults kind line es) rules) r.0;
-      switch = front (switch_faults h es (entry_at (codes "type") es)) (field_faults h line es) r.1;
-    } in
-    let condition = optional_good h names kind sites.Condition (codes "if") es k refl f.condition in
-    let repeat = repeat_good h names kind line es f k n in
-    let choice = choice_good h names kind line es a f k n in
-    let extent = extent_good h names kind es f k in
-    let b = is_bind _ _ condition.0 condition.1 (is_bind _ _ repeat.0 repeat.1 (is_bind _ _ choice.0 choice.1 (is_bind _ _ extent.0 extent.1 (_, refl)))) in
-    (b.0, b.1, λ x s fits w. record { condition = condition.2 x s fits w; repeat = repeat.2 x s fits w; choice = choice.2 x s fits w; extent = extent.2 x s fits w })
-
--- what a member is, which is a parameter or isn't
-abbrev GoodKind : Home → List (List ℕ) → List (List ℕ) → Bool → Option MemberKind → Type 0
-GoodKind h names words given o = (g : Good h.declared names words IsResolvedKind o) × ((name : ℕ) → is_parameter (record { name = name; kind = g.0 }) ≡ given)
-
-parse_instance_good : (h : Home) (names : List (List ℕ)) (line : ℕ) (es : List Pair) → AreEncodings h.declared → has (codes "pos") es ≡ true → IsFaultless h kinds.ParseInstance line es → GoodKind h names (all_words kinds.ParseInstance es) false (parse_instance_of (context h names) es)
-unfolding parse_instance_of is_ignored form_in form_among
-parse_instance_good h names line es a p r =
-    let k = read_keys h kinds.ParseInstance line es r.0 in
-    let place = read_good h names kinds.ParseInstance sites.Place (codes "pos") es k refl refl (some_of (entry_at (codes "pos") es) p) in
-    let stream = optional_good h names kinds.ParseInstance sites.Stream (codes "io") es k refl refl in
-    let field = field_good h names kinds.ParseInstance line es a places_have r in
-    let b = is_bind _ _ place.0 place.1 (is_bind _ _ stream.0 stream.1 (is_bind _ _ field.0 field.1 (ParseInstance place.0 stream.0 field.0, refl))) in
-    ((b.0, b.1, λ x s fits w. (place.2 x s fits w, stream.2 x s fits w, field.2 x s fits w)), λ name. refl)
-
-value_instance_good : (h : Home) (names : List (List ℕ)) (line : ℕ) (es : List Pair) → has (codes "value") es ≡ true → mapping_faults h kinds.Value line es ≡ [] → GoodKind h names (all_words kinds.Value es) false (value_instance_of (context h names) es)
-unfolding value_instance_of is_ignored form_in form_among
-value_instance_good h names line es v r =
-    let k = read_keys h kinds.Value line es r in
-    let condition = optional_good h names kinds.Value sites.Condition (codes "if") es k refl refl in
-    let value = read_good h names kinds.Value sites.Value (codes "value") es k refl refl (some_of (entry_at (codes "value") es) v) in
-    let enum = enum_good h names kinds.Value es refl k in
-    let b = is_bind _ _ condition.0 condition.1 (is_bind _ _ value.0 value.1 (is_bind _ _ enum.0 enum.1 (ValueInstance condition.0 value.0 enum.0, refl))) in
-    ((b.0, b.1, λ x s fits w. (condition.2 x s fits w, value.2 x s fits w, enum.2 x s fits refl)), λ name. refl)
-
--- what a member of a role is
-pub kind_good : (h : Home) (names : List (List ℕ)) (role : Role) (name_line line : ℕ) (es : List Pair) → AreEncodings h.declared → mapping_faults h (mapping_kind role es) line es ≡ [] → kind_faults h (mapping_kind role es) name_line line es ≡ [] → GoodKind h names (all_words (mapping_kind role es) es) (is_in_params role) (kind_of (context h names) role es)
-unfolding kind_of kind_faults
-kind_good h names roles.Parameter name_line line es a k l = ((Parameter, refl, λ x s fits w. tt), λ name. refl)
-kind_good h names roles.Attribute name_line line es a k l =
-    let field = field_good h names kinds.Attribute line es a attributes_have (k, l) in
-    (good_map h.declared names (all_words kinds.Attribute es) IsResolvedField IsResolvedKind Attribute _ (λ x y r. r) field, λ name. refl)
-kind_good h names roles.Instance name_line line es a k l = go (has (codes "value") es) (has (codes "pos") es) refl refl k l
-  where
-    go : (v p : Bool) → has (codes "value") es ≡ v → has (codes "pos") es ≡ p → mapping_faults h (cond v kinds.Value (cond p kinds.ParseInstance kinds.Placeless)) line es ≡ [] → kind_faults h (cond v kinds.Value (cond p kinds.ParseInstance kinds.Placeless)) name_line line es ≡ [] → GoodKind h names (all_words (cond v kinds.Value (cond p kinds.ParseInstance kinds.Placeless)) es) false (cond v (value_instance_of (context h names) es) (parse_instance_of (context h names) es))
-    go true p x y k l = value_instance_good h names line es x k
-    go false true x y k l = parse_instance_good h names line es a y (k, l)
-    go false false x y k l = absurd (no_fault name_line left_out (back _ _ l))
+  pub kind_good : (role : Role) (name_line line : ℕ) (es : List Pair) → AreEncodings h.declared → keys_faults (kind_of role es) es ≡ [] → IsGood names (IsKind c (is_in_params role)) (by_kind h (kind_of role es) name_line line es)
+  unfolding by_kind
+  kind_good roles.Parameter name_line line es a k = also_good _ _ (λ n. gives_good Parameter (record { leads = λ y s fits. tt; given = λ name. refl }))
+  kind_good roles.Attribute name_line line es a k = attribute_good line es a k
+  kind_good roles.Instance name_line line es a k = go (has (codes "value") es) (has (codes "pos") es) k
+    where
+      go : (v p : Bool) → keys_faults (cond v kinds.Value (cond p kinds.ParseInstance kinds.Placeless)) es ≡ [] → IsGood names (IsKind c false) (by_kind h (cond v kinds.Value (cond p kinds.ParseInstance kinds.Placeless)) name_line line es)
+      go true p k = value_instance_good line es
+      go false true k = parse_instance_good line es a k
+      go false false k = placeless_good name_line es

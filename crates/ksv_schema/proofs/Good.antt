@@ -1,125 +1,163 @@
--- A piece that there is, and that leads somewhere in each description that fits.
-use Rattle.std.proofs.Common.{◌≡◌, ℕ, Bool, true, false, cond, List, [], ◌∷◌, ◌++◌, sym, ap, subst, ◌∙◌, refl, Option, Some, None}
-use Rattle.std.specs.Prelude.{is_some, option_map, option_and_then, option_to_list, flat_map}
+-- A reading that is good: without faults there is a value, and something holds for it. One lemma for each way to put readings
+-- together.
+use Rattle.std.proofs.Common.{◌≡◌, ℕ, ◌+◌, Bool, true, false, cond, List, [], ◌∷◌, ◌++◌, sym, ◌∙◌, refl, Option, Some, None}
+use Rattle.std.specs.Prelude.{not, ◌&&◌, is_some, option_map, option_and_then, map}
 use Rattle.std.specs.Option.{option_map_or}
-use Rattle.std.specs.Str.{bytes_eq}
-use Rattle.std.proofs.lemmas.Slice.Eq.{bytes_eq-Decides}
 use Rattle.std.proofs.lemmas.List.Folds.{list_all-append}
-use Rattle.ksv_yaml_tree.specs.Tree.{Pair, text_of, entry_at}
+use Rattle.ksv_yaml_tree.specs.Tree.{Pair, text_of, mapping_of}
 use Rattle.ksv_expr_syntax.specs.Reading.{◌>>=◌}
-use Rattle.ksv_expr_tree.specs.Tree as expressions
-use Rattle.ksv_yaml_tree.specs.Keys.{has}
-use Rattle.ksv_schema_scope.specs.Rows.{Declared}
-use Rattle.ksv_schema_names.specs.declared.position.Site.{Site}
-use Rattle.ksv_schema_names.specs.declared.position.Site.TheVariants as sites
-use Rattle.ksv_schema_names.specs.Names.{Nothing, name_faults, least}
-use Rattle.ksv_schema_names.specs.Numbered.{numbered, all_numbered}
-use Rattle.ksv_desc.specs.Names.{number_in, dotted, all_dotted, has_names}
-use Rattle.ksv_schema_names.specs.declared.position.NameFault.{NameFault}
-use Rattle.ksv_schema_names.specs.declared.position.NameFault.TheVariants.{Unknown, LeftOut}
-use Rattle.ksv_schema_names.specs.Resolved.{Fits}
-use Rattle.ksv_schema_names.proofs.Resolving.{resolved, all_resolved}
-use Rattle.ksv_schema_faults.specs.Faults.{no_expression}
-use Rattle.ksv_schema_keys.specs.declared.keys.Form.{Form}
-use Rattle.ksv_schema_keys.specs.declared.keys.Form.TheVariants as forms
-use Rattle.ksv_schema_keys.specs.declared.keys.MappingKind.{MappingKind}
-use Rattle.ksv_schema_keys.specs.Keys.{form_in, is_ignored}
-use Rattle.ksv_schema_keys.specs.Expressions.{expression_of}
-use Rattle.ksv_schema_faults.specs.Rules.{Home, position_at, name_fault, least_name, expression_faults, argument_faults, form_faults}
-use Rattle.ksv_schema_build.specs.Stated.{expression_words, form_words, key_words, expression, expression_at, perhaps_expression}
-use Rattle.ksv_desc.specs.Description.{Description}
-use Rattle.ksv_desc.specs.Resolved.{IfAny, IsResolvedTree, AreResolvedTrees}
-use Rattle.ksv_schema.proofs.Coherent.{Is, IsRead, no_fault, some_same, some_of, at_key, has_text, context}
-use Rattle.ksv_schema.proofs.Texts.{both}
+use Rattle.ksv_desc.specs.Names.{number_in, has_names}
+use Rattle.ksv_desc.specs.Resolved.{Each, IfAny, IsThere}
+use Rattle.ksv_schema_read.specs.Faults.{Fault, fault, fault_if, missing_key, bad_value}
+use Rattle.ksv_schema_read.specs.Reading.{Reading, gives, wrong, found, also, chosen, made, both, each, each_from, perhaps, must}
 
--- what holds in each description of these names that fits what is declared, if the names have these words
-abbrev pub InAll : Declared → List (List ℕ) → List (List ℕ) → (Description → Type 0) → Type 0
-InAll d names words P = (x : Description) → x.names ≡ names → Fits d x → has_names names words ≡ true → P x
+-- ---- no faults
 
-abbrev pub Good : {A : Type 0} → Declared → List (List ℕ) → List (List ℕ) → (Description → A → Type 0) → Option A → Type 0
-Good {A} d names words P o = (y : A) × (o ≡ Some y) × InAll d names words (λ x. P x y)
+pub front : {A : Type 0} (xs ys : List A) → xs ++ ys ≡ [] → xs ≡ []
+front [] ys h = refl
+front (x ∷ xs) ys h = absurd cc
 
-abbrev pub good_map : {A B : Type 0} (d : Declared) (names words : List (List ℕ)) (P : Description → A → Type 0) (Q : Description → B → Type 0) (f : A → B) (o : Option A) → ((x : Description) (y : A) → P x y → Q x (f y)) → Good d names words P o → Good d names words Q (option_map f o)
-good_map d names words P Q f o step g = (f g.0, ap (option_map f) g.1, λ x e fits w. step x g.0 (g.2 x e fits w))
+pub back : {A : Type 0} (xs ys : List A) → xs ++ ys ≡ [] → ys ≡ []
+back [] ys h = h
+back (x ∷ xs) ys h = absurd cc
 
--- ---- words that are in a table
+pub not_if : (b : Bool) (line number : ℕ) → fault_if b line number ≡ [] → b ≡ false
+not_if true line number h = absurd cc
+not_if false line number h = refl
 
+pub not_not : (b : Bool) → not b ≡ false → b ≡ true
+not_not true h = refl
+not_not false h = absurd cc
+
+pub no_fault : (line number : ℕ) → fault line number ≡ [] → ⊥
+no_fault line number h = cc
+
+pub two : (a b : Bool) → (a && b) ≡ true → (a ≡ true) × (b ≡ true)
+two true b h = (refl, h)
+two false b h = absurd cc
+
+-- names that are in a table
 pub has_both : (names xs ys : List (List ℕ)) → has_names names (xs ++ ys) ≡ true → (has_names names xs ≡ true) × (has_names names ys ≡ true)
-has_both names xs ys h = both (has_names names xs) (has_names names ys) (sym (list_all-append (λ w. is_some (number_in names w)) xs ys) ∙ h)
+has_both names xs ys h = two (has_names names xs) (has_names names ys) (sym (list_all-append (λ w. is_some (number_in names w)) xs ys) ∙ h)
 
--- the words of one entry of a mapping
-pub words_at : (names : List (List ℕ)) (words : Pair → List (List ℕ)) (name : List ℕ) (es : List Pair) (p : Pair) → has_names names (flat_map words es) ≡ true → entry_at name es ≡ Some p → (has_names names (words p) ≡ true) × (p.key ≡ name)
-words_at names words name [] p h e = absurd cc
-words_at names words name (q ∷ es) p h e = go (bytes_eq q.key name) refl e (words_at names words name es p (has_both names (words q) (flat_map words es) h).1)
+-- ---- what is there
+
+pub there_map : {A B : Type 0} (G : A → Type 0) (H : B → Type 0) (f : A → B) (o : Option A) → ((x : A) → G x → H (f x)) → IsThere G o → IsThere H (option_map f o)
+there_map G H f None step g = g
+there_map G H f (Some x) step g = step x g
+
+pub there_bind : {A B : Type 0} (G : A → Type 0) (H : B → Type 0) (f : A → Option B) (o : Option A) → ((x : A) → G x → IsThere H (f x)) → IsThere G o → IsThere H (option_and_then f o)
+there_bind G H f None step g = g
+there_bind G H f (Some x) step g = step x g
+
+pub there_next : {A B : Type 0} (G : A → Type 0) (H : B → Type 0) (f : A → Option B) (o : Option A) → ((x : A) → G x → IsThere H (f x)) → IsThere G o → IsThere H (o >>= f)
+there_next G H f None step g = g
+there_next G H f (Some x) step g = step x g
+
+there_both : {A B : Type 0} (G : A → Type 0) (H : B → Type 0) (o : Option A) (p : Option B) → IsThere G o → IsThere H p → IsThere (λ (z : A × B). G z.0 × H z.1) (option_and_then (λ x. option_map (λ y. (x, y)) p) o)
+there_both G H None p g h = g
+there_both G H (Some x) None g h = h
+there_both G H (Some x) (Some y) g h = (g, h)
+
+pub is_there : {A : Type 0} (o : Option A) → is_some o ≡ true → (x : A) × (o ≡ Some x)
+is_there None h = absurd cc
+is_there (Some x) h = (x, refl)
+
+-- ---- readings
+
+-- where it has no faults, and these names have its words, G holds for its value
+pub record IsGood {A : Type 0} (names : List (List ℕ)) (G : A → Type 0) (r : Reading A) : Type 0 where
+  pub is : r.faults ≡ [] → has_names names r.words ≡ true → IsThere G r.value
+
+pub gives_good : {A : Type 0} {names : List (List ℕ)} {G : A → Type 0} (x : A) → G x → IsGood names G (gives x)
+gives_good x g = record { is = λ k w. g }
+
+pub wrong_good : {A : Type 0} {names : List (List ℕ)} {G : A → Type 0} (line number : ℕ) → IsGood names G (wrong line number)
+wrong_good line number = record { is = λ k w. absurd (no_fault line number k) }
+
+pub found_good : {A : Type 0} {names : List (List ℕ)} {G : A → Type 0} (line number : ℕ) (o : Option A) → ((x : A) → o ≡ Some x → G x) → IsGood names G (found line number o)
+found_good line number None g = wrong_good line number
+found_good line number (Some x) g = gives_good x (g x refl)
+
+pub also_good : {A : Type 0} {names : List (List ℕ)} {G : A → Type 0} (fs : List Fault) (r : Reading A) → (fs ≡ [] → IsGood names G r) → IsGood names G (also fs r)
+also_good fs r g = record { is = λ k w. (g (front fs r.faults k)).is (back fs r.faults k) w }
+
+pub chosen_good : {A B : Type 0} {names : List (List ℕ)} {G : A → Type 0} {H : B → Type 0} {r : Reading A} (f : A → Option B) → IsGood names G r → ((x : A) → G x → IsThere H (f x)) → IsGood names H (chosen f r)
+chosen_good {G = G} {H = H} {r = r} f g step = record { is = λ k w. there_bind G H f r.value step (g.is k w) }
+
+pub made_good : {A B : Type 0} {names : List (List ℕ)} {G : A → Type 0} {H : B → Type 0} {r : Reading A} (f : A → B) → IsGood names G r → ((x : A) → G x → H (f x)) → IsGood names H (made f r)
+made_good {G = G} {H = H} {r = r} f g step = record { is = λ k w. there_map G H f r.value step (g.is k w) }
+
+-- one and then another, which may depend on the first one's value
+pub next_good : {A B : Type 0} {names : List (List ℕ)} {G : A → Type 0} {H : B → Type 0} {r : Reading A} {s : Reading B} → IsGood names G r → (IsThere G r.value → IsGood names H s) → IsGood names (λ (p : A × B). G p.0 × H p.1) (both r s)
+next_good {names = names} {G = G} {H = H} {r = r} {s = s} g h = record {
+  is = λ k w.
+      let ws = has_both names r.words s.words w in
+      let x = g.is (front r.faults s.faults k) ws.0 in
+      there_both G H r.value s.value x ((h x).is (back r.faults s.faults k) ws.1);
+}
+
+pub both_good : {A B : Type 0} {names : List (List ℕ)} {G : A → Type 0} {H : B → Type 0} {r : Reading A} {s : Reading B} → IsGood names G r → IsGood names H s → IsGood names (λ (p : A × B). G p.0 × H p.1) (both r s)
+both_good g h = next_good g (λ x. h)
+
+pub weaker : {A : Type 0} {names : List (List ℕ)} {G H : A → Type 0} {r : Reading A} → IsGood names G r → ((x : A) → G x → H x) → IsGood names H r
+weaker {G = G} {H = H} {r = r} g step = record { is = λ k w. weaken r.value (g.is k w) }
   where
-    go : (b : Bool) → bytes_eq q.key name ≡ b → cond b (Some q) (entry_at name es) ≡ Some p → (entry_at name es ≡ Some p → (has_names names (words p) ≡ true) × (p.key ≡ name)) → (has_names names (words p) ≡ true) × (p.key ≡ name)
-    go true t e later =
-        let is : q ≡ p = some_same q p e in
-        subst (λ (p : Pair). (has_names names (words p) ≡ true) × (p.key ≡ name)) is ((has_both names (words q) (flat_map words es) h).0, (bytes_eq-Decides q.key name).0 t)
-    go false t e later = later e
+    weaken : (o : Option _) → IsThere G o → IsThere H o
+    weaken None t = t
+    weaken (Some x) t = step x t
 
--- the words at a key of this form
-pub form_of_key : (kind : MappingKind) (name : List ℕ) (form : Form) (p : Pair) → p.key ≡ name → form_in kind name ≡ Some form → key_words kind p ≡ form_words p form
-unfolding key_words
-form_of_key kind name form p k f = ap (λ (o : Option Form). option_map_or (form_words p) o []) (ap (form_in kind) k ∙ f)
+-- ---- alternatives
 
--- ---- the least fault of names
+pub if_good : {A : Type 0} {names : List (List ℕ)} {G : A → Type 0} (b : Bool) (r s : Reading A) → (b ≡ true → IsGood names G r) → (b ≡ false → IsGood names G s) → IsGood names G (cond b r s)
+if_good true r s g h = g refl
+if_good false r s g h = h refl
 
-some_least : (k : NameFault) (ks : List NameFault) → (j : NameFault) × (least (Some k) ks ≡ Some j)
-unfolding least
-some_least k [] = (k, refl)
-some_least Unknown (l ∷ ls) = some_least Unknown ls
-some_least LeftOut (l ∷ ls) = some_least l ls
+pub or_good : {A B : Type 0} {names : List (List ℕ)} {G : B → Type 0} (f : A → Reading B) (o : Option A) (r : Reading B) → ((x : A) → o ≡ Some x → IsGood names G (f x)) → (o ≡ None → IsGood names G r) → IsGood names G (option_map_or f o r)
+or_good f None r g h = h refl
+or_good f (Some x) r g h = g x refl
 
-pub no_names : (line : ℕ) (ks : List NameFault) → least_name line ks ≡ [] → ks ≡ []
-unfolding least
-no_names line [] h = refl
-no_names line (k ∷ ks) h =
-    let r = some_least k ks in
-    let e : [] ≡ name_fault line r.0 ∷ [] = sym h ∙ ap (λ (o : Option NameFault). option_to_list (option_map (name_fault line) o)) r.1 in absurd cc
+-- ---- keys
 
--- ---- expressions
+-- what is at a key that may be absent; it is there if the key is
+abbrev pub IsPerhaps : {A : Type 0} → (A → Type 0) → Option Pair → Option A → Type 0
+IsPerhaps G o x = IfAny G x × (is_some o ≡ true → IsThere G x)
 
-pub tree_leads : (h : Home) (names : List (List ℕ)) (site : Site) (f : expressions.Tree) → name_faults h.declared h.within (position_at h site) f ≡ [] → InAll h.declared names (dotted f) (λ x. IsResolvedTree x (numbered h.declared names h.within f))
-unfolding name_faults
-tree_leads h names site f k x e fits w =
-    subst (λ (names : List (List ℕ)). has_names names (dotted f) ≡ true → IsResolvedTree x (numbered h.declared names h.within f)) e
-    (λ (w : has_names x.names (dotted f) ≡ true). resolved h.declared x h.within (position_at h site) fits Nothing f w k) w
+pub perhaps_good : {A : Type 0} {names : List (List ℕ)} {G : A → Type 0} (f : Pair → Reading A) (o : Option Pair) → ((p : Pair) → o ≡ Some p → IsGood names G (f p)) → IsGood names (IsPerhaps G o) (perhaps f o)
+perhaps_good f None g = gives_good None (tt, λ h. absurd cc)
+perhaps_good f (Some p) g = made_good (λ x. Some x) (g p refl) (λ x h. (h, λ k. h))
 
-pub arguments_lead : (h : Home) (names : List (List ℕ)) (line : ℕ) (es : expressions.Arguments) → argument_faults h line es ≡ [] → InAll h.declared names (all_dotted es) (λ x. AreResolvedTrees x (all_numbered h.declared names h.within es))
-unfolding argument_faults
-arguments_lead h names line es k x e fits w =
-    let none = no_names line _ k in
-    subst (λ (names : List (List ℕ)). has_names names (all_dotted es) ≡ true → AreResolvedTrees x (all_numbered h.declared names h.within es)) e
-    (λ (w : has_names x.names (all_dotted es) ≡ true). all_resolved h.declared x h.within (position_at h sites.Argument) fits es w none) w
+pub must_good : {A : Type 0} {names : List (List ℕ)} {G : A → Type 0} (line : ℕ) (f : Pair → Reading A) (o : Option Pair) → ((p : Pair) → IsGood names G (f p)) → IsGood names G (must line f o)
+must_good line f None g = wrong_good line missing_key
+must_good line f (Some p) g = g p
 
-expression_good : (h : Home) (names : List (List ℕ)) (site : Site) (line : ℕ) (text : List ℕ) → expression_faults h site line (expression_of text) ≡ [] → Good h.declared names (expression_words text) IsResolvedTree (expression (context h names) text)
-unfolding expression_faults expression expression_words
-expression_good h names site line text k = go (expression_of text) k
-  where
-    go : (o : Option expressions.Tree) → expression_faults h site line o ≡ [] → Good h.declared names (option_map_or dotted o []) IsResolvedTree (option_map (numbered h.declared names h.within) o)
-    go None k = absurd (no_fault line no_expression k)
-    go (Some f) k = (numbered h.declared names h.within f, refl, tree_leads h names site f (no_names line (name_faults h.declared h.within (position_at h site) f) k))
+pub text_good : {A : Type 0} {names : List (List ℕ)} {G : A → Type 0} (f : List ℕ → Reading A) (p : Pair) → ((text : List ℕ) → text_of p.value ≡ Some text → IsGood names G (f text)) → IsGood names G (option_map_or f (text_of p.value) (wrong p.line bad_value))
+text_good f p g = or_good f (text_of p.value) (wrong p.line bad_value) g (λ e. wrong_good p.line bad_value)
 
--- the expression at a key
-pub expression_at_good : (h : Home) (names : List (List ℕ)) (kind : MappingKind) (site : Site) (name : List ℕ) (es : List Pair) → is_ignored name ≡ false → form_in kind name ≡ Some (forms.Expression site) → IsRead h kind es → Is (entry_at name es) → Good h.declared names (flat_map (key_words kind) es) IsResolvedTree (expression_at (context h names) name es)
-unfolding expression_at form_words form_faults
-expression_at_good h names kind site name es i f k p =
-    let t = has_text (λ text. expression_faults h site p.0.line (expression_of text)) p.0 (at_key h kind name (forms.Expression site) es p.0 i f k p.1) in
-    let r = expression_good h names site p.0.line t.0 t.2 in (
-      r.0,
-      ap (λ (o : Option Pair). option_and_then (λ p. text_of p.value) o >>= expression (context h names)) p.1 ∙ ap (λ (o : Option (List ℕ)). o >>= expression (context h names)) t.1 ∙ r.1,
-      λ x e fits w.
-          let v = words_at names (key_words kind) name es p.0 w p.1 in
-          let same : key_words kind p.0 ≡ expression_words t.0 = form_of_key kind name (forms.Expression site) p.0 v.1 f ∙ ap (λ (o : Option (List ℕ)). option_map_or expression_words o []) t.1 in
-          r.2 x e fits (ap (has_names names) (sym same) ∙ v.0),
-    )
+pub mapping_good : {A : Type 0} {names : List (List ℕ)} {G : A → Type 0} (f : List Pair → Reading A) (p : Pair) → ((es : List Pair) → IsGood names G (f es)) → IsGood names G (option_map_or f (mapping_of p.value) (wrong p.line bad_value))
+mapping_good f p g = or_good f (mapping_of p.value) (wrong p.line bad_value) (λ es e. g es) (λ e. wrong_good p.line bad_value)
 
--- and the one at a key that may be absent
-pub perhaps_good : (h : Home) (names : List (List ℕ)) (kind : MappingKind) (site : Site) (name : List ℕ) (es : List Pair) → is_ignored name ≡ false → form_in kind name ≡ Some (forms.Expression site) → IsRead h kind es → Good h.declared names (flat_map (key_words kind) es) (λ x. IfAny (IsResolvedTree x)) (perhaps_expression (context h names) name es)
-unfolding perhaps_expression
-perhaps_good h names kind site name es i f k = go (has name es) refl
-  where
-    go : (b : Bool) → has name es ≡ b → Good h.declared names (flat_map (key_words kind) es) (λ x. IfAny (IsResolvedTree x)) (cond b (option_map (λ (e : expressions.Tree). let o : Option expressions.Tree = Some e in o) (expression_at (context h names) name es)) (Some None))
-    go false e = (None, refl, λ x e fits w. tt)
-    go true e = good_map h.declared names (flat_map (key_words kind) es) IsResolvedTree (λ x. IfAny (IsResolvedTree x)) (λ (e : expressions.Tree). let o : Option expressions.Tree = Some e in o) _ (λ x y r. r) (expression_at_good h names kind site name es i f k (some_of (entry_at name es) e))
+-- ---- lists
+
+-- it holds for each two at the same place, the first of which is n
+abbrev pub EachOf : {A B : Type 0} → (ℕ → A → B → Type 0) → ℕ → List A → List B → Type 0
+EachOf G n [] [] = Unit {0}
+EachOf G n (x ∷ xs) (y ∷ ys) = G n x y × EachOf G (n + 1) xs ys
+EachOf G n _ _ = ⊥
+
+pub each_good : {A B : Type 0} {names : List (List ℕ)} {G : A → B → Type 0} (f : A → Reading B) (n : ℕ) (xs : List A) → ((x : A) → IsGood names (G x) (f x)) → IsGood names (EachOf (λ i. G) n xs) (each f xs)
+each_good f n [] g = gives_good [] tt
+each_good f n (x ∷ xs) g = made_good (λ p. p.0 ∷ p.1) (both_good (g x) (each_good f (n + 1) xs g)) (λ p h. h)
+
+-- each of a list, of which something is known
+pub each_from_good : {A B : Type 0} {names : List (List ℕ)} {G : ℕ → A → B → Type 0} (P : A → Type 0) (f : ℕ → A → Reading B) (n : ℕ) (xs : List A) → Each P xs → ((n : ℕ) (x : A) → P x → IsGood names (G n x) (f n x)) → IsGood names (EachOf G n xs) (each_from f n xs)
+each_from_good P f n [] ps g = gives_good [] tt
+each_from_good P f n (x ∷ xs) ps g = made_good (λ p. p.0 ∷ p.1) (both_good (g n x ps.0) (each_from_good P f (n + 1) xs ps.1 g)) (λ p h. h)
+
+pub each_and : {A : Type 0} (P : A → Type 0) (xs ys : List A) → Each P xs → Each P ys → Each P (xs ++ ys)
+each_and P [] ys h k = k
+each_and P (x ∷ xs) ys h k = (h.0, each_and P xs ys h.1 k)
+
+pub each_mapped : {A B : Type 0} (P : B → Type 0) (f : A → B) (xs : List A) → ((x : A) → P (f x)) → Each P (map f xs)
+each_mapped P f [] h = tt
+each_mapped P f (x ∷ xs) h = (h x, each_mapped P f xs h)

@@ -1,11 +1,10 @@
 -- Lemmas of the crate.
-pub mod Coherent
 pub mod Good
-pub mod Contents
-pub mod Fields
-pub mod Texts
+pub mod Keys
 pub mod Leads
+pub mod Values
+pub mod Fields
+pub mod OwnNames
 pub mod Whole
 pub mod Members
-pub mod OwnNames
 pub mod Theorem

@@ -1,96 +1,132 @@
 -- Without faults each member and type is stated, and leads somewhere.
-use Rattle.std.proofs.Common.{◌≡◌, ℕ, zero, suc, ◌+◌, ◌<◌, Bool, true, false, cond, List, [], ◌∷◌, ◌++◌, length, sym, ap, ◌∙◌, refl, Option, Some, None, arith}
-use Rattle.std.specs.Prelude.{codes, ◌&&◌, is_some, map, flat_map, filter, unwrap_or, slice_get}
+use Rattle.std.proofs.Common.{◌≡◌, ℕ, zero, suc, ◌+◌, ◌<◌, Bool, true, false, cond, List, [], ◌∷◌, ◌++◌, length, sym, ap, subst, ◌∙◌, refl, Option, Some, None, arith}
+use Rattle.std.specs.Prelude.{◌&&◌, is_some, map, flat_map, filter, slice_get}
 use Rattle.std.specs.List.{list_all}
 use Rattle.std.specs.Option.{option_map_or}
 use Rattle.std.specs.Str.{bytes_eq, is_utf8}
 use Rattle.std.proofs.lemmas.List.{map-append}
 use Rattle.ksv_yaml_tree.specs.Tree.{Pair, line_of, mapping_of}
-use Rattle.ksv_yaml_tree.specs.Keys.{entries_at}
+use Rattle.ksv_expr_syntax.specs.Reading.{◌>>=◌}
 use Rattle.ksv_schema_scope.specs.Rows.{Row, Declared}
-use Rattle.ksv_schema_scope.specs.Members.{Member, members_of, all_members, is_parameter, members_within, parameters_within}
+use Rattle.ksv_schema_scope.specs.Members.{Member, members_of, is_in_params, is_parameter, members_within, parameters_within}
+use Rattle.ksv_schema_scope.specs.Members as scope
 use Rattle.ksv_schema_names.specs.Resolved.{Fits}
 use Rattle.ksv_schema_names.proofs.Found.{some_is, place_within}
-use Rattle.ksv_schema_keys.specs.declared.keys.MappingKind.TheVariants as kinds
-use Rattle.ksv_schema_keys.specs.Keys.{kind_of as mapping_kind}
-use Rattle.ksv_schema_faults.specs.Faults.{fault, bad_value}
-use Rattle.ksv_schema_faults.specs.Rules.{home_in, home_of, mapping_faults, kind_faults, member_mapping_faults, member_faults, members_faults, each_from, faults_of}
-use Rattle.ksv_schema_build.specs.Stated.{Context, key_words, member_words, names_in, member_names, names_of, are_texts, member_of, type_of, enum_of, each, each_numbered, described, stated_by}
+use Rattle.ksv_schema_read.specs.Faults.{bad_value}
+use Rattle.ksv_schema_read.specs.Values.{home_of}
+use Rattle.ksv_schema_read.specs.Members.{is_instance, member_keys, member}
+use Rattle.ksv_schema_read.specs.Description.{Context, in_kind, members, all_members, all_enums, faults_of, names_in, member_names, names_of, each_of, member_of, type_of, types_of, are_texts, described, stated_by}
 use Rattle.ksv_desc.specs.Names.{distinct, number_in, has_names, AreDistinct}
-use Rattle.ksv_desc.specs.Description.{MemberOfType, TypeOfObjects, Description}
+use Rattle.ksv_desc.specs.Description.{MemberKind, MemberOfType, TypeOfObjects, Enum, Description, as_text}
 use Rattle.ksv_desc.specs.Resolved as resolved
-use Rattle.ksv_desc.specs.Resolved.{Each, IsResolvedMember, IsResolved}
+use Rattle.ksv_desc.specs.Resolved.{Each, IsThere, IsResolvedMember, IsResolved}
 use Rattle.ksv_desc.proofs.Tabled.{is_table}
-use Rattle.ksv_schema.proofs.Coherent.{front, back, no_fault, is_bind}
-use Rattle.ksv_schema.proofs.Texts.{both, as_text_is}
-use Rattle.ksv_schema.proofs.Leads.{member_stated, as_many, as_many_each, number_kept, no_shorter}
-use Rattle.ksv_schema.proofs.Good.{InAll, Good, has_both}
-use Rattle.ksv_schema.proofs.Contents.{AreEncodings}
-use Rattle.ksv_schema.proofs.Fields.{kind_good}
-use Rattle.ksv_schema.proofs.Whole.{are_encodings, enums_are}
+use Rattle.ksv_schema.proofs.Good.{front, back, not_if, two, has_both, there_next, IsGood, wrong_good, also_good, weaker, or_good, EachOf, each_from_good, each_mapped}
+use Rattle.ksv_schema.proofs.Leads.{as_many, HasNumbers, member_stated, number_kept, no_shorter}
+use Rattle.ksv_schema.proofs.Fields.{AreEncodings, IsKind, kind_good}
+use Rattle.ksv_schema.proofs.OwnNames.{HasOwnName, members_own, name_is_text, AreTyped}
+use Rattle.ksv_schema.proofs.Whole.{are_encodings, enums_there}
 
--- ---- names
-
--- the names of members, and the words after dots, of these types
-abbrev pub own_names : List Row → List (List ℕ)
-own_names rs = flat_map names_in (map members_of rs)
-
-abbrev pub words_of : List Row → List (List ℕ)
-words_of rs = flat_map (flat_map member_words) (map members_of rs)
-
-kept_number : (d : Declared) (name : List ℕ) → is_some (number_in (member_names d) name) ≡ true → (k : ℕ) × (k < length (member_names d)) × (number_in (names_of d) name ≡ Some k)
-unfolding names_of number_in
-kept_number d name h =
-    let k = some_is (number_in (member_names d) name) h in
-    (k.0, place_within (bytes_eq name) (member_names d) k.0 k.1, number_kept (member_names d) (words_of d.types) name k.0 k.1)
-
-has_each : (d : Declared) (ws : List (List ℕ)) → has_names (member_names d) ws ≡ true → has_names (names_of d) ws ≡ true
-has_each d [] h = refl
-has_each d (w ∷ ws) h =
-    let hs = both (is_some (number_in (member_names d) w)) (has_names (member_names d) ws) h in
-    let at = kept_number d w hs.0 in
-    ap (λ (o : Option ℕ). is_some o && has_names (names_of d) ws) at.2 ∙ has_each d ws hs.1
-
-all_known : (d : Declared) → has_names (member_names d) (own_names d.types) ≡ true
-unfolding member_names distinct
-all_known d = (is_table [] (own_names d.types)).has_added
-
-all_words : (d : Declared) → has_names (names_of d) (words_of d.types) ≡ true
-unfolding names_of
-all_words d = (is_table (member_names d) (words_of d.types)).has_added
-
-all_distinct : (d : Declared) → AreDistinct (names_of d)
-unfolding names_of member_names distinct
-all_distinct d = (is_table (member_names d) (words_of d.types)).stays_distinct ((is_table [] (own_names d.types)).stays_distinct (λ k w h. absurd cc))
-
-same_names : (rs : List Row) → own_names rs ≡ map (λ m. m.name) (all_members rs)
-same_names [] = refl
-same_names (r ∷ rs) = ap (λ (ws : List (List ℕ)). names_in (members_of r) ++ ws) (same_names rs) ∙ sym (map-append (λ (m : Member). m.name) (members_of r) (all_members rs))
-
--- ---- members
+-- ---- what is read of members
 
 -- where the members of a type stand
 abbrev within : Declared → ℕ → Context
 within d n = record { declared = d; names = names_of d; within = n }
 
--- what is stated of a member: it leads somewhere where the names of members are known, and is a parameter or isn't
-abbrev GoodMember : Declared → ℕ → Member → Type 0
-GoodMember d n m = (g : Good d (names_of d) (member_words m) (λ x r. x.known ≡ length (member_names d) → IsResolvedMember x r) (member_of (within d n) m)) × (is_parameter m ≡ resolved.is_parameter g.0)
+-- a member leads somewhere, and its name is a text
+pub record IsMember (d : Declared) (n : ℕ) (m : Member) (k : MemberKind) : Type 0 where
+  pub kind : IsKind (within d n) (is_in_params m.role) k
+  pub text : is_utf8 m.name ≡ true
 
-member_good : (d : Declared) (n i : ℕ) (m : Member) → AreEncodings d → is_utf8 m.name ≡ true → is_some (number_in (member_names d) m.name) ≡ true → member_faults d n i m ≡ [] → GoodMember d n m
-unfolding member_faults member_mapping_faults member_of member_words
-member_good d n i m a u h k = go (kept_number d m.name h) (mapping_of m.value) refl (front _ _ (front _ _ k))
+abbrev AreMembers : Declared → ℕ → ℕ → List Member → List MemberKind → Type 0
+AreMembers d n i ms ks = EachOf (λ i. IsMember d n) i ms ks
+
+member_good : (d : Declared) (n i : ℕ) (m : Member) → AreEncodings d → HasOwnName m → IsGood (names_of d) (IsMember d n m) (member d n i m)
+unfolding member member_keys
+member_good d n i m a own = also_good _ _ (λ k.
+    or_good (member_keys d n m) (mapping_of m.value) _
+    (λ es e. also_good _ _ (λ f.
+      weaker (kind_good (names_of d) (home_of d n m.role es) m.role m.line (line_of m.value) es a f)
+      (λ x g. record { kind = g; text = name_is_text m.role m.name m.value es own (not_if _ m.line bad_value (front _ _ k)) e f })))
+    (λ e. wrong_good m.line bad_value))
+
+all_good : (d : Declared) → AreEncodings d → IsGood (names_of d) (EachOf (λ n. AreMembers d n 0) 0 (map members_of d.types)) (all_members d)
+unfolding all_members members
+all_good d a =
+    each_from_good (Each HasOwnName) (members d) 0 (map members_of d.types) (each_mapped (Each HasOwnName) members_of d.types members_own)
+    (λ n ms own. also_good _ _ (λ k. each_from_good HasOwnName (member d n) 0 ms own (λ i m o. member_good d n i m a o)))
+
+-- their names are texts
+names_are_texts : (d : Declared) (n i : ℕ) (ms : List Member) (ks : List MemberKind) → AreMembers d n i ms ks → list_all (λ m. is_utf8 m.name) ms ≡ true
+names_are_texts d n i [] ks g = refl
+names_are_texts d n i (m ∷ ms) [] g = absurd g
+names_are_texts d n i (m ∷ ms) (k ∷ ks) g = ap (λ (b : Bool). b && list_all (λ m. is_utf8 m.name) ms) g.0.text ∙ names_are_texts d n (i + 1) ms ks g.1
+
+all_are_texts : (d : Declared) (n : ℕ) (mss : List (List Member)) (kss : List (List MemberKind)) → EachOf (λ n. AreMembers d n 0) n mss kss → list_all are_texts mss ≡ true
+unfolding are_texts
+all_are_texts d n [] kss g = refl
+all_are_texts d n (ms ∷ mss) [] g = absurd g
+all_are_texts d n (ms ∷ mss) (ks ∷ kss) g = ap (λ (b : Bool). b && list_all are_texts mss) (names_are_texts d n 0 ms ks g.0) ∙ all_are_texts d (n + 1) mss kss g.1
+
+-- ---- names
+
+-- the names of members of these types
+abbrev own_names : List Row → List (List ℕ)
+own_names rs = flat_map names_in (map members_of rs)
+
+kept_number : (d : Declared) (name : List ℕ) → is_some (number_in (member_names d) name) ≡ true → IsThere (λ k. k < length (member_names d)) (number_in (names_of d) name)
+unfolding names_of number_in
+kept_number d name h =
+    let k = some_is (number_in (member_names d) name) h in
+    subst (IsThere (λ k. k < length (member_names d))) (sym (number_kept (member_names d) (all_members d).words name k.0 k.1)) (place_within (bytes_eq name) (member_names d) k.0 k.1)
+
+has_each : (d : Declared) (ws : List (List ℕ)) → has_names (member_names d) ws ≡ true → has_names (names_of d) ws ≡ true
+has_each d [] h = refl
+has_each d (w ∷ ws) h =
+    let hs = two (is_some (number_in (member_names d) w)) (has_names (member_names d) ws) h in
+    ap (λ (b : Bool). b && has_names (names_of d) ws) (is_some_there (number_in (names_of d) w) (kept_number d w hs.0)) ∙ has_each d ws hs.1
   where
-    go : (j : ℕ) × (j < length (member_names d)) × (number_in (names_of d) m.name ≡ Some j) → (o : Option (List Pair)) → mapping_of m.value ≡ o → option_map_or (member_mapping_faults d n m) o (fault m.line bad_value) ≡ [] → GoodMember d n m
-    go j None e k = absurd (no_fault m.line bad_value k)
-    go j (Some es) e k =
-        let h = home_of d n m.role es in
-        let kind = mapping_kind m.role es in
-        let keys = front (mapping_faults h kind (line_of m.value) es) (kind_faults h kind m.line (line_of m.value) es) k in
-        let others = back (mapping_faults h kind (line_of m.value) es) (kind_faults h kind m.line (line_of m.value) es) k in
-        let r = kind_good h (names_of d) m.role m.line (line_of m.value) es a keys others in
-        let b = is_bind _ _ m.name (as_text_is m.name u) (is_bind _ _ j.0 j.2 (is_bind _ _ es e (is_bind _ _ r.0.0 r.0.1 (record { name = j.0; kind = r.0.0 }, refl)))) in
-        ((b.0, b.1, λ x s fits w known. (omega (arith, j.1, known), r.0.2 x s fits (ap (λ (o : Option (List Pair)). let fs = unwrap_or o [] in has_names (names_of d) (flat_map (key_words (mapping_kind m.role fs)) fs ++ flat_map (key_words kinds.Switch) (entries_at (codes "type") fs))) (sym e) ∙ w))), sym (r.1 j.0))
+    is_some_there : (o : Option ℕ) → IsThere (λ k. k < length (member_names d)) o → is_some o ≡ true
+    is_some_there None t = absurd t
+    is_some_there (Some k) t = refl
+
+all_known : (d : Declared) → has_names (member_names d) (own_names d.types) ≡ true
+unfolding member_names distinct
+all_known d = (is_table [] (own_names d.types)).has_added
+
+all_words : (d : Declared) → has_names (names_of d) (all_members d).words ≡ true
+unfolding names_of
+all_words d = (is_table (member_names d) (all_members d).words).has_added
+
+all_distinct : (d : Declared) → AreDistinct (names_of d)
+unfolding names_of member_names distinct
+all_distinct d = (is_table (member_names d) (all_members d).words).stays_distinct ((is_table [] (own_names d.types)).stays_distinct (λ k w h. absurd cc))
+
+same_names : (rs : List Row) → own_names rs ≡ map (λ m. m.name) (scope.all_members rs)
+same_names [] = refl
+same_names (r ∷ rs) = ap (λ (ws : List (List ℕ)). names_in (members_of r) ++ ws) (same_names rs) ∙ sym (map-append (λ (m : Member). m.name) (members_of r) (scope.all_members rs))
+
+-- ---- members with the numbers of their names
+
+-- what holds in each description of these names that knows those of members and fits what is declared
+abbrev Known : {A : Type 0} → Declared → (Description → A → Type 0) → A → Type 0
+Known d Q x = (y : Description) → y.names ≡ names_of d → Fits d y → y.known ≡ length (member_names d) → Q y x
+
+record IsStated (d : Declared) (m : Member) (r : MemberOfType) : Type 0 where
+  known : Known d IsResolvedMember r
+  given : is_parameter m ≡ resolved.is_parameter r
+
+member_there : (d : Declared) (n : ℕ) (m : Member) (k : MemberKind) → IsMember d n m k → is_some (number_in (member_names d) m.name) ≡ true → IsThere (IsStated d m) (member_of (within d n) m k)
+unfolding member_of as_text
+member_there d n m k g h = go (is_utf8 m.name) g.text
+  where
+    numbered : (o : Option ℕ) → IsThere (λ j. j < length (member_names d)) o → IsThere (IsStated d m) (o >>= λ name. Some (record { name = name; kind = in_kind (within d n) k }))
+    numbered None t = absurd t
+    numbered (Some j) t = record { known = λ y s fits known. (omega (arith, t, known), g.kind.leads y s fits); given = sym (g.kind.given j) }
+
+    go : (b : Bool) → b ≡ true → IsThere (IsStated d m) (cond b (Some m.name) None >>= λ text. number_in (names_of d) text >>= λ name. Some (record { name = name; kind = in_kind (within d n) k }))
+    go true e = numbered (number_in (names_of d) m.name) (kept_number d m.name h)
+    go false e = absurd cc
 
 -- of members and what is stated of them equally many are parameters
 counted : (a b : Bool) → a ≡ b → (m : Member) (ms : List Member) (r : MemberOfType) (rs : List MemberOfType) → length ms ≡ length rs → length (cond a (m ∷ ms) ms) ≡ length (cond b (r ∷ rs) rs)
@@ -99,24 +135,22 @@ counted true false e m ms r rs l = absurd cc
 counted false true e m ms r rs l = absurd cc
 counted false false e m ms r rs l = l
 
-abbrev GoodMembers : Declared → ℕ → List Member → Type 0
-GoodMembers d n ms = (g : Good d (names_of d) (flat_map member_words ms) (λ x rs. x.known ≡ length (member_names d) → Each (IsResolvedMember x) rs) (each (member_of (within d n)) ms)) × (length (filter is_parameter ms) ≡ length (filter resolved.is_parameter g.0))
+record AreStated (d : Declared) (ms : List Member) (rs : List MemberOfType) : Type 0 where
+  known : Known d (λ y. Each (IsResolvedMember y)) rs
+  given : length (filter is_parameter ms) ≡ length (filter resolved.is_parameter rs)
 
-members_good : (d : Declared) (n i : ℕ) (ms : List Member) → AreEncodings d → list_all (λ m. is_utf8 m.name) ms ≡ true → has_names (member_names d) (names_in ms) ≡ true → each_from (member_faults d n) i ms ≡ [] → GoodMembers d n ms
-members_good d n i [] a u h k = (([], refl, λ x s fits w known. tt), refl)
-members_good d n i (m ∷ ms) a u h k =
-    let us = both (is_utf8 m.name) (list_all (λ m. is_utf8 m.name) ms) u in
-    let hs = both (is_some (number_in (member_names d) m.name)) (has_names (member_names d) (names_in ms)) h in
-    let here = member_good d n i m a us.0 hs.0 (front _ _ k) in
-    let r = members_good d n (i + 1) ms a us.1 hs.1 (back _ _ k) in
-    let b = is_bind _ _ here.0.0 here.0.1 (is_bind _ _ r.0.0 r.0.1 (here.0.0 ∷ r.0.0, refl)) in
-    ((b.0, b.1, λ x s fits w known. let ws = has_both (names_of d) (member_words m) (flat_map member_words ms) w in (here.0.2 x s fits ws.0 known, r.0.2 x s fits ws.1 known)), counted (is_parameter m) (resolved.is_parameter here.0.0) here.1 m (filter is_parameter ms) here.0.0 (filter resolved.is_parameter r.0.0) r.1)
+members_there : (d : Declared) (n i : ℕ) (ms : List Member) (ks : List MemberKind) → AreMembers d n i ms ks → has_names (member_names d) (names_in ms) ≡ true → IsThere (AreStated d ms) (each_of (member_of (within d n)) ms ks)
+members_there d n i [] ks g h = record { known = λ y s fits known. tt; given = refl }
+members_there d n i (m ∷ ms) [] g h = absurd g
+members_there d n i (m ∷ ms) (k ∷ ks) g h =
+    let hs = two (is_some (number_in (member_names d) m.name)) (has_names (member_names d) (names_in ms)) h in
+    there_next (IsStated d m) (AreStated d (m ∷ ms)) _ (member_of (within d n) m k)
+    (λ r x. there_next (AreStated d ms) (AreStated d (m ∷ ms)) _ (each_of (member_of (within d n)) ms ks)
+      (λ rs xs. record { known = λ y s fits known. (x.known y s fits known, xs.known y s fits known); given = counted (is_parameter m) (resolved.is_parameter r) x.given m (filter is_parameter ms) r (filter resolved.is_parameter rs) xs.given })
+      (members_there d n (i + 1) ms ks g.1 hs.1))
+    (member_there d n m k g.0 hs.0)
 
 -- ---- types
-
--- the ids of types are texts in UTF-8
-abbrev pub AreTyped : List Row → Type 0
-AreTyped rs = Each (λ r. is_utf8 r.id ≡ true) rs
 
 -- types have as many parameters as are declared
 abbrev AreCounted : List Row → List TypeOfObjects → Type 0
@@ -126,42 +160,54 @@ counted_both : (r : Row) (rs : List Row) (t : TypeOfObjects) (ts : List TypeOfOb
 counted_both r rs t ts h more zero l = h
 counted_both r rs t ts h more (suc i) l = more i (omega (arith, l))
 
-types_good : (d : Declared) → AreEncodings d → (n : ℕ) (rs : List Row) → AreTyped rs → list_all are_texts (map members_of rs) ≡ true → has_names (member_names d) (own_names rs) ≡ true → each_from (members_faults d) n (map members_of rs) ≡ []
-    → (ts : List TypeOfObjects) × (each_numbered (type_of d (names_of d)) n rs ≡ Some ts) × AreCounted rs ts × InAll d (names_of d) (words_of rs) (λ x. x.known ≡ length (member_names d) → Each (λ t. Each (IsResolvedMember x) t.members) ts)
-unfolding type_of members_faults are_texts
-types_good d a n [] v u h k = ([], refl, (λ i l. absurd (omega (arith, l))), λ x s fits w known. tt)
-types_good d a n (r ∷ rs) v u h k =
-    let us = both (are_texts (members_of r)) (list_all are_texts (map members_of rs)) u in
+record AreTypes (d : Declared) (rs : List Row) (ts : List TypeOfObjects) : Type 0 where
+  known : Known d (λ y. Each (λ t. Each (IsResolvedMember y) t.members)) ts
+  as_many : length ts ≡ length rs
+  counted : AreCounted rs ts
+
+type_there : (d : Declared) (n : ℕ) (r : Row) (ks : List MemberKind) → is_utf8 r.id ≡ true → AreMembers d n 0 (members_of r) ks → has_names (member_names d) (names_in (members_of r)) ≡ true → IsThere (λ t. AreStated d (members_of r) t.members) (type_of d (names_of d) n r ks)
+unfolding type_of as_text
+type_there d n r ks v g h = go (is_utf8 r.id) v
+  where
+    go : (b : Bool) → b ≡ true → IsThere (λ (t : TypeOfObjects). AreStated d (members_of r) t.members) (cond b (Some r.id) None >>= λ text. each_of (member_of (within d n)) (members_of r) ks >>= λ ms. Some (record { id = text; members = ms }))
+    go true e = there_next (AreStated d (members_of r)) (λ (t : TypeOfObjects). AreStated d (members_of r) t.members) _ (each_of (member_of (within d n)) (members_of r) ks) (λ ms x. x) (members_there d n 0 (members_of r) ks g h)
+    go false e = absurd cc
+
+types_there : (d : Declared) (n : ℕ) (rs : List Row) (kss : List (List MemberKind)) → AreTyped rs → EachOf (λ n. AreMembers d n 0) n (map members_of rs) kss → has_names (member_names d) (own_names rs) ≡ true → IsThere (AreTypes d rs) (types_of d (names_of d) n rs kss)
+types_there d n [] kss v g h = record { known = λ y s fits known. tt; as_many = refl; counted = λ i l. absurd (omega (arith, l)) }
+types_there d n (r ∷ rs) [] v g h = absurd g
+types_there d n (r ∷ rs) (ks ∷ kss) v g h =
     let hs = has_both (member_names d) (names_in (members_of r)) (own_names rs) h in
-    let m = members_good d n 0 (members_of r) a us.0 hs.0 (back _ _ (front _ _ k)) in
-    let t : TypeOfObjects = record { id = r.id; members = m.0.0 } in
-    let one = is_bind _ _ r.id (as_text_is r.id v.0) (is_bind _ _ m.0.0 m.0.1 (t, refl)) in
-    let ts = types_good d a (n + 1) rs v.1 us.1 hs.1 (back _ _ k) in
-    let b = is_bind _ _ one.0 one.1 (is_bind _ _ ts.0 ts.1 (t ∷ ts.0, refl)) in
-    (b.0, b.1, counted_both r rs t ts.0 m.1 ts.2, λ x s fits w known. let ws = has_both (names_of d) (flat_map member_words (members_of r)) (words_of rs) w in (m.0.2 x s fits ws.0 known, ts.3 x s fits ws.1 known))
+    there_next (λ (t : TypeOfObjects). AreStated d (members_of r) t.members) (AreTypes d (r ∷ rs)) _ (type_of d (names_of d) n r ks)
+    (λ t x. there_next (AreTypes d rs) (AreTypes d (r ∷ rs)) _ (types_of d (names_of d) (n + 1) rs kss)
+      (λ ts xs. record { known = λ y s fits known. (x.known y s fits known, xs.known y s fits known); as_many = ap suc xs.as_many; counted = counted_both r rs t ts x.given xs.counted })
+      (types_there d (n + 1) rs kss v.1 g.1 hs.1))
+    (type_there d n r ks v.0 g.0 hs.0)
 
 -- ---- a description
 
-pub declared_good : (d : Declared) → list_all are_texts (map members_of d.types) ≡ true → AreTyped d.types → faults_of d ≡ [] → (x : Description) × (stated_by d ≡ Some x) × IsResolved x
-unfolding faults_of stated_by described names_of members_within parameters_within
-declared_good d u v k =
-    let k4 = front _ _ k in
-    let ts = types_good d (are_encodings d (back _ _ (front _ _ k4))) 0 d.types v u (all_known d) (back _ _ k4) in
-    let es = enums_are (home_in d 0) d.enums (back _ _ k) in
-    let x : Description = record { types = ts.0; enums = es.0; names = names_of d; known = length (member_names d) } in
+resolved_with : (d : Declared) (ts : List TypeOfObjects) (es : List Enum) → AreTypes d d.types ts → EachOf (λ i. HasNumbers) 0 d.enums es → IsResolved (record { types = ts; enums = es; names = names_of d; known = length (member_names d) })
+unfolding names_of members_within parameters_within
+resolved_with d ts es t e =
+    let x : Description = record { types = ts; enums = es; names = names_of d; known = length (member_names d) } in
     let fits : Fits d x = record {
-      types = as_many (type_of d (names_of d)) 0 d.types ts.0 ts.1;
-      enums = as_many_each enum_of d.enums es.0 es.1;
-      parameters = ts.2;
+      types = t.as_many;
+      enums = as_many (λ i. HasNumbers) 0 d.enums es e;
+      parameters = t.counted;
       members = ap (has_names (names_of d)) (sym (same_names d.types)) ∙ has_each d (own_names d.types) (all_known d);
-      entries = member_stated d.enums x es.1;
+      entries = member_stated d.enums x e;
     } in
-    let r = is_bind _ _ ts.0 ts.1 (is_bind _ _ es.0 es.1 (x, refl)) in (
-      x,
-      ap (λ (b : Bool). cond b (described d (names_of d) (length (member_names d))) None) u ∙ r.1,
-      record {
-        distinct = all_distinct d;
-        known = no_shorter (member_names d) (words_of d.types);
-        members = ts.3 x refl fits (all_words d) refl;
-      },
-    )
+    record { distinct = all_distinct d; known = no_shorter (member_names d) (all_members d).words; members = t.known x refl fits refl }
+
+pub declared_good : (d : Declared) → AreTyped d.types → faults_of d ≡ [] → IsThere IsResolved (stated_by d)
+unfolding faults_of stated_by described
+declared_good d v k =
+    go (all_members d).value (all_enums d).value ((all_good d (are_encodings d (back _ _ (front _ _ (front _ _ k))))).is (back _ _ (front _ _ k)) (all_words d)) (enums_there d (back _ _ k))
+  where
+    go : (ks : Option (List (List MemberKind))) (es : Option (List Enum)) → IsThere (EachOf (λ n. AreMembers d n 0) 0 (map members_of d.types)) ks → IsThere (EachOf (λ i. HasNumbers) 0 d.enums) es
+        → IsThere IsResolved (cond (list_all are_texts (map members_of d.types)) (ks >>= λ ks. types_of d (names_of d) 0 d.types ks >>= λ ts. es >>= λ es. Some (record { types = ts; enums = es; names = names_of d; known = length (member_names d) })) None)
+    go None es g h = absurd g
+    go (Some ks) None g h = absurd h
+    go (Some ks) (Some es) g h =
+        subst (λ (b : Bool). IsThere IsResolved (cond b (types_of d (names_of d) 0 d.types ks >>= λ ts. Some (record { types = ts; enums = es; names = names_of d; known = length (member_names d) })) None)) (sym (all_are_texts d 0 (map members_of d.types) ks g))
+        (there_next (AreTypes d d.types) IsResolved _ (types_of d (names_of d) 0 d.types ks) (λ ts t. resolved_with d ts es t h) (types_there d 0 d.types ks v g (all_known d)))

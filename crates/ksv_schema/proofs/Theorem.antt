@@ -4,15 +4,34 @@ use Rattle.std.specs.Prelude.{nat_lt, ◌==◌, ◌||◌, ◌&&◌, ◌≢◌, A
 use Rattle.std.proofs.lemmas.Bool.Decides.{nat_tests}
 use Rattle.ksv_yaml_tree.specs.Tree.{Tree}
 use Rattle.ksv_schema_scope.specs.Rows.{declared_in}
-use Rattle.ksv_schema_faults.specs.Faults.{Fault, is_below, noted}
-use Rattle.ksv_schema_faults.specs.Rules.{faults_of, faults}
-use Rattle.ksv_schema_build.specs.Stated.{stated_by, stated}
+use Rattle.ksv_schema_read.specs.Faults.{Fault, is_below, noted}
+use Rattle.ksv_schema_read.specs.Description.{faults_of, faults, stated_by, stated}
 use Rattle.ksv_desc.specs.Description.{Description}
 use Rattle.ksv_schema.specs.Outcome.{States, Refuses}
-use Rattle.ksv_desc.specs.Resolved.{IsResolved}
-use Rattle.ksv_schema_faults.proofs.Least.{nothing_noted, noted_least}
-use Rattle.ksv_schema.proofs.OwnNames.{tree_resolved}
-use Rattle.ksv_schema.proofs.OwnNames.{tree_states}
+use Rattle.ksv_desc.specs.Resolved.{IsThere, IsResolved}
+use Rattle.ksv_schema_read.proofs.Least.{nothing_noted, noted_least}
+use Rattle.ksv_schema.proofs.Good.{front, back}
+use Rattle.ksv_schema.proofs.OwnNames.{ids_are_texts}
+use Rattle.ksv_schema.proofs.Members.{declared_good}
+
+-- ---- what a tree states
+
+tree_good : (t : Tree) → faults t ≡ [] → IsThere IsResolved (stated t)
+unfolding faults faults_of stated
+tree_good t k = declared_good (declared_in t) (ids_are_texts t (back _ _ (front _ _ (front _ _ k)))) k
+
+pub tree_states : (t : Tree) → faults t ≡ [] → (d : Description) × States t d
+tree_states t k = go (stated t) refl (tree_good t k)
+  where
+    go : (o : Option Description) → stated t ≡ o → IsThere IsResolved o → (d : Description) × States t d
+    go None e g = absurd g
+    go (Some d) e g = (d, record { faultless = k; is = e })
+
+pub states_one : (t : Tree) (d e : Description) → States t d → States t e → d ≡ e
+states_one t d e x y = let same : Some d ≡ Some e = sym x.is ∙ y.is in cc
+
+pub tree_resolved : (t : Tree) (d : Description) → States t d → IsResolved d
+tree_resolved t d s = subst (IsThere IsResolved) s.is (tree_good t s.faultless)
 
 -- ---- what is declared, and the tree
 

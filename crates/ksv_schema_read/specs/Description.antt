@@ -1,6 +1,6 @@
 -- What is read of a whole tree: the faults of its types and what is past a limit, its enums, and the members of its types;
 -- and the description that it states, in which each name has its number.
-use Rattle.std.specs.Prelude.{ℕ, ◌+◌, Bool, not, if◌then◌else◌, ◌&&◌, ◌==◌, nat_lt, nat_le, min, List, [], ◌∷◌, ◌++◌, length, map, filter, take, flat_map, fold, codes, Option, Some, None, is_none, option_map, option_to_list, slice_get}
+use Rattle.std.specs.Prelude.{ℕ, ◌+◌, ℤ, Bool, true, false, not, if◌then◌else◌, ◌&&◌, ◌==◌, nat_lt, nat_le, min, List, [], ◌∷◌, ◌++◌, length, map, filter, take, flat_map, fold, codes, Option, Some, None, is_none, option_map, option_to_list, slice_get}
 use Rattle.std.specs.List.{list_any, list_all}
 use Rattle.std.specs.Option.{option_map_or}
 use Rattle.std.specs.Str.{is_utf8}
@@ -58,7 +58,7 @@ constant before p =
     (made (λ x. record { number = x.0; id = x.1 }) (both (whole p.line (signed_number p.key)) (entry_id p)))
 
 -- an enum: its name, that it is a mapping, and its entries
-unfoldable pub enum : Row → Reading Enum
+abbrev pub enum : Row → Reading Enum
 enum r =
     made (λ p. record { id = p.0; members = p.1 })
     (both (id_text r.line r.id)
@@ -197,14 +197,14 @@ member_names d = distinct (flat_map names_in (map members_of d.types))
 unfoldable pub names_of : Declared → List (List ℕ)
 names_of d = distinct_behind (member_names d) (all_members d).words
 
--- the results for all of two lists of the same length, if each has one
+-- the results for all of a list with those of another beside them, if each has one
 abbrev pub each_of : {A B C : Type 0} → (A → B → Option C) → List A → List B → Option (List C)
-each_of f [] [] = Some []
+each_of f [] ys = Some []
+each_of f (x ∷ xs) [] = None
 each_of f (x ∷ xs) (y ∷ ys) = do
   z ← f x y
   zs ← each_of f xs ys
   Some (z ∷ zs)
-each_of f _ _ = None
 
 -- a member with its name's number
 unfoldable pub member_of : Context → Member → MemberKind → Option MemberOfType
@@ -221,12 +221,12 @@ type_of d names n r kinds = do
 
 -- the types, the first of which has the number n
 abbrev pub types_of : Declared → List (List ℕ) → ℕ → List Row → List (List MemberKind) → Option (List TypeOfObjects)
-types_of d names n [] [] = Some []
+types_of d names n [] kinds = Some []
+types_of d names n (r ∷ rs) [] = None
 types_of d names n (r ∷ rs) (ks ∷ kinds) = do
   t ← type_of d names n r ks
   ts ← types_of d names (n + 1) rs kinds
   Some (t ∷ ts)
-types_of d names n _ _ = None
 
 unfoldable pub are_texts : List Member → Bool
 are_texts members = list_all (λ m. is_utf8 m.name) members

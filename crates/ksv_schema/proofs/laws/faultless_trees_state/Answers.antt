@@ -1,4 +1,4 @@
-use Rattle.ksv_schema.proofs.OwnNames.{tree_states, states_one}
+use Rattle.ksv_schema.proofs.Theorem.{tree_states, states_one}
 use Rattle.ksv_schema.proofs.laws.faultless_trees_state.Goals as goal
 
 pub returns-clause-some : goal.returns-clause-some

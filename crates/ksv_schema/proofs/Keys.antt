@@ -1,0 +1,76 @@
+-- Without faults what stands at each key is what it must be, and the rules of keys together hold.
+use Rattle.std.proofs.Common.{◌≡◌, ℕ, Bool, true, false, cond, List, [], ◌∷◌, ◌++◌, sym, ap, ◌∙◌, refl, Option, Some, None}
+use Rattle.std.specs.Prelude.{codes, not, ◌&&◌, is_some, is_none, option_and_then, flat_map}
+use Rattle.std.specs.Option.{option_map_or}
+use Rattle.std.specs.Str.{bytes_eq}
+use Rattle.std.proofs.lemmas.Slice.Eq.{bytes_eq-Decides}
+use Rattle.ksv_yaml_tree.specs.Tree.{Pair, text_of, entry_at}
+use Rattle.ksv_yaml_tree.specs.Keys.{says, text_at}
+use Rattle.ksv_schema_keys.specs.declared.keys.Form.{Form}
+use Rattle.ksv_schema_keys.specs.declared.keys.MappingKind.{MappingKind}
+use Rattle.ksv_schema_keys.specs.declared.keys.Group.TheVariants as groups
+use Rattle.ksv_schema_keys.specs.Keys.{is_in, form_in, is_ignored}
+use Rattle.ksv_schema_keys.specs.Values.{TypeText}
+use Rattle.ksv_schema_read.specs.Faults.{Fault, fault, fault_if, unknown_key, bad_value}
+use Rattle.ksv_schema_read.specs.Rules.{form_faults, key_faults, keys_faults, Has, Says, Needs, Rule, claimed, rule_faults, ruled_faults, together, rules}
+use Rattle.ksv_schema.proofs.Good.{front, back, not_if, not_not, no_fault}
+
+key_is : (kind : MappingKind) (p : Pair) (form : Form) → is_ignored p.key ≡ false → form_in kind p.key ≡ Some form → key_faults kind p ≡ form_faults p form
+unfolding key_faults
+key_is kind p form i f =
+    ap (λ (b : Bool). cond b [] (option_map_or (form_faults p) (form_in kind p.key) (fault p.line unknown_key))) i
+    ∙ ap (λ (o : Option Form). option_map_or (form_faults p) o (fault p.line unknown_key)) f
+
+at_key : (kind : MappingKind) (name : List ℕ) (form : Form) (es : List Pair) (p : Pair) → is_ignored name ≡ false → form_in kind name ≡ Some form → keys_faults kind es ≡ [] → entry_at name es ≡ Some p → form_faults p form ≡ []
+at_key kind name form [] p i f k e = absurd cc
+at_key kind name form (q ∷ es) p i f k e =
+    by_test (bytes_eq q.key name) refl (front (key_faults kind q) (keys_faults kind es) k) (at_key kind name form es p i f (back (key_faults kind q) (keys_faults kind es) k))
+  where
+    by_test : (b : Bool) → bytes_eq q.key name ≡ b → key_faults kind q ≡ [] → (entry_at name es ≡ Some p → form_faults p form ≡ []) → form_faults p form ≡ []
+    by_test true t here there =
+        let same : q.key ≡ name = (bytes_eq-Decides q.key name).0 t in
+        let first : Some q ≡ Some p = sym (ap (λ (b : Bool). cond b (Some q) (entry_at name es)) t) ∙ e in
+        let is : q ≡ p = cc in
+        ap (λ (q : Pair). form_faults q form) (sym is) ∙ sym (key_is kind q form (ap is_ignored same ∙ i) (ap (form_in kind) same ∙ f)) ∙ here
+    by_test false t here there = there (sym (ap (λ (b : Bool). cond b (Some q) (entry_at name es)) t) ∙ e)
+
+-- the text at a key whose form allows certain texts alone
+abbrev pub text_unless : (List ℕ → Bool) → ℕ → Pair → List Fault
+text_unless fits number p = option_map_or (λ text. fault_if (not (fits text)) p.line number) (text_of p.value) (fault p.line bad_value)
+
+pub text_fits : (kind : MappingKind) (name : List ℕ) (form : Form) (fits : List ℕ → Bool) (number : ℕ) (es : List Pair) (text : List ℕ) → ((p : Pair) → form_faults p form ≡ text_unless fits number p) → is_ignored name ≡ false → form_in kind name ≡ Some form → keys_faults kind es ≡ [] → text_at name es ≡ Some text → fits text ≡ true
+text_fits kind name form fits number es text a i f k t = at (entry_at name es) refl t
+  where
+    of_text : (p : Pair) (o : Option (List ℕ)) → o ≡ Some text → option_map_or (λ text. fault_if (not (fits text)) p.line number) o (fault p.line bad_value) ≡ [] → fits text ≡ true
+    of_text p None t n = absurd cc
+    of_text p (Some other) t n = let same : other ≡ text = cc in ap fits (sym same) ∙ not_not (fits other) (not_if (not (fits other)) p.line number n)
+
+    at : (o : Option Pair) → entry_at name es ≡ o → option_and_then (λ p. text_of p.value) o ≡ Some text → fits text ≡ true
+    at None e t = absurd cc
+    at (Some p) e t = of_text p (text_of p.value) t (sym (a p) ∙ at_key kind name form es p i f k e)
+
+-- ---- how often it is read
+
+-- a key that is needed where `repeat` has a text
+needed : (typed : Option TypeText) (text name : List ℕ) (es : List Pair) (line : ℕ) → rule_faults line typed es (Needs (Says (codes "repeat") text) (Has name)) ≡ [] → says (codes "repeat") text es ≡ true → is_some (entry_at name es) ≡ true
+needed typed text name es line k e = go (entry_at (codes "repeat") es) (is_some (entry_at name es)) e (not_if (is_some (claimed typed es (Says (codes "repeat") text)) && is_none (entry_at name es)) line 2 k)
+  where
+    go : (o : Option Pair) (b : Bool) → option_map_or (bytes_eq text) (option_and_then (λ p. text_of p.value) o) false ≡ true → (is_some (cond (option_map_or (bytes_eq text) (option_and_then (λ p. text_of p.value) o) false) o None) && not b) ≡ false → b ≡ true
+    go o true e k = refl
+    go None false e k = absurd cc
+    go (Some q) false e k = let w : true ≡ false = sym (ap (λ (b : Bool). is_some (cond b (Some q) None) && true) e) ∙ k in absurd cc
+
+-- what `repeat` needs is there
+pub record HasRepeat (es : List Pair) : Type 0 where
+  pub count : says (codes "repeat") (codes "expr") es ≡ true → is_some (entry_at (codes "repeat-expr") es) ≡ true
+  pub until : says (codes "repeat") (codes "until") es ≡ true → is_some (entry_at (codes "repeat-until") es) ≡ true
+
+pub has_repeat : (kind : MappingKind) (line : ℕ) (typed : Option TypeText) (es : List Pair) → is_in groups.Read kind ≡ true → together kind line typed es ≡ [] → HasRepeat es
+unfolding together ruled_faults
+has_repeat kind line typed es b k = record {
+  count = needed typed (codes "expr") (codes "repeat-expr") es line (read _ (front _ _ k));
+  until = needed typed (codes "until") (codes "repeat-until") es line (read _ (front _ _ (back _ _ k)));
+}
+  where
+    read : (fs : List Fault) → cond (is_in groups.Read kind) fs [] ≡ [] → fs ≡ []
+    read fs n = sym (ap (λ (b : Bool). cond b fs []) b) ∙ n

@@ -1,0 +1,241 @@
+-- What is read at a key is good: it leads somewhere once its names have their numbers.
+use Rattle.std.proofs.Common.{◌≡◌, ℕ, suc, ◌+◌, Bool, true, false, cond, List, [], ◌∷◌, ◌++◌, length, sym, ap, subst, ◌∙◌, refl, Option, Some, None, arith}
+use Rattle.std.specs.Prelude.{codes, not, ◌==◌, ◌&&◌, ◌||◌, is_some, option_map, option_to_list, map}
+use Rattle.std.specs.Option.{option_map_or}
+use Rattle.std.proofs.lemmas.Bool.Decides.{Decides-eqb}
+use Rattle.ksv_yaml_tree.specs.Tree.{Tree, Pair, line_of, text_of, is_quoted, mapping_of, list_of, entry_at}
+use Rattle.ksv_expr_tree.specs.Tree as expressions
+use Rattle.ksv_desc.specs.declared.order.ByteOrder.{ByteOrder}
+use Rattle.ksv_expr_value.specs.declared.encoding.Encoding.{Encoding}
+use Rattle.ksv_schema_scope.specs.Types.{type_named, enum_from}
+use Rattle.ksv_schema_scope.specs.Members.{parameters_within}
+use Rattle.ksv_schema_names.specs.declared.position.Site.{Site}
+use Rattle.ksv_schema_names.specs.declared.position.Site.TheVariants as sites
+use Rattle.ksv_schema_names.specs.declared.position.NameFault.{NameFault}
+use Rattle.ksv_schema_names.specs.declared.position.NameFault.TheVariants.{Unknown, LeftOut}
+use Rattle.ksv_schema_names.specs.declared.built_ins.BuiltIn.{BuiltIn}
+use Rattle.ksv_schema_names.specs.declared.built_ins.BuiltIn.TheVariants.{Integer, Str, Strz, NotHere}
+use Rattle.ksv_schema_names.specs.Names.{Nothing, name_faults, list_faults, least}
+use Rattle.ksv_schema_names.specs.Numbered.{numbered, all_numbered, given_member}
+use Rattle.ksv_schema_names.specs.Resolved.{Fits}
+use Rattle.ksv_schema_names.proofs.Found.{type_within}
+use Rattle.ksv_schema_names.proofs.Resolving.{given_leads, resolved, all_resolved}
+use Rattle.ksv_desc.specs.Names.{dotted, all_dotted, has_names}
+use Rattle.ksv_desc.specs.Description.{Description, Content, Bytes, Fixed, Number, Characters, Object, CaseValue, Literal, Negated, EnumValue, Case, Choice, Always, Switch}
+use Rattle.ksv_desc.specs.Resolved.{count, Each, IfAny, IsThere, IsEnum, IsResolvedTree, AreResolvedTrees, IsResolvedContent, IsResolvedValue, IsResolvedCase, IsResolvedChoice}
+use Rattle.ksv_schema_keys.specs.Expressions.{expression_of}
+use Rattle.ksv_schema_keys.specs.Values.{TypeText, Unspelled, OfLanguage, OfDescription, type_text, is_str, is_strz, looks_like_number, Piece, Bytes as BytesPiece, BadPiece, LeftOutPiece, piece_of, CaseKey, Constant, Negative, Member, Default, NoKey, case_key, ids_of}
+use Rattle.ksv_schema_keys.specs.declared.keys.MappingKind.TheVariants as kinds
+use Rattle.ksv_schema_read.specs.Faults.{fault_if, unknown_name, no_byte_order, bad_value, wrong_count, left_out, no_expression}
+use Rattle.ksv_schema_read.specs.Reading.{wrong, each}
+use Rattle.ksv_schema_read.specs.Rules.{keys_faults}
+use Rattle.ksv_schema_read.specs.Values.{Home, position_at, name_fault, least_name, of_expression, expression, arguments, of_path, enumeration, of_piece, item, items, contents, order_at, encoding_at, of_language, counts_differ, of_type, of_case_key, case_value, case_against, case, switch, typed, content_or_type, choice}
+use Rattle.ksv_schema_read.specs.Description.{Context, in_tree, in_content, in_case, in_choice}
+use Rattle.ksv_schema.proofs.Leads.{enum_within}
+use Rattle.ksv_schema.proofs.Good.{front, back, not_if, not_not, there_map, IsGood, gives_good, wrong_good, found_good, also_good, made_good, both_good, if_good, or_good, perhaps_good, must_good, weaker, text_good, mapping_good, EachOf, each_good}
+
+-- ---- what leads somewhere
+
+-- it holds in each description that fits what is declared and has these names
+abbrev pub Leads : {A : Type 0} → Context → (Description → A → Type 0) → A → Type 0
+Leads c Q x = (y : Description) → y.names ≡ c.names → Fits c.declared y → Q y x
+
+-- something optional leads somewhere if it is there
+pub any_leads : {A B : Type 0} (c : Context) (Q : Description → B → Type 0) (f : A → B) (o : Option A) → IfAny (λ x. Leads c Q (f x)) o → Leads c (λ y. IfAny (Q y)) (option_map f o)
+any_leads c Q f None g y s fits = tt
+any_leads c Q f (Some x) g y s fits = g y s fits
+
+each_leads : {A B X : Type 0} (c : Context) (Q : Description → B → Type 0) (f : A → B) (n : ℕ) (ps : List X) (xs : List A) → EachOf (λ i p x. Leads c Q (f x)) n ps xs → Leads c (λ y. Each (Q y)) (map f xs)
+each_leads c Q f n [] [] g y s fits = tt
+each_leads c Q f n [] (x ∷ xs) g y s fits = absurd g
+each_leads c Q f n (p ∷ ps) [] g y s fits = absurd g
+each_leads c Q f n (p ∷ ps) (x ∷ xs) g y s fits = (g.0 y s fits, each_leads c Q f (n + 1) ps xs g.1 y s fits)
+
+-- where a mapping is, and the names
+abbrev pub in_home : List (List ℕ) → Home → Context
+in_home names h = record { declared = h.declared; names = names; within = h.within }
+
+abbrev pub IsTree : Context → expressions.Tree → Type 0
+IsTree c e = Leads c IsResolvedTree (in_tree c e)
+
+abbrev pub IsEnumThere : Context → ℕ → Type 0
+IsEnumThere c e = Leads c IsEnum e
+
+abbrev pub IsContent : Context → Content → Type 0
+IsContent c x = Leads c IsResolvedContent (in_content c x)
+
+abbrev IsValue : Context → Option CaseValue → Type 0
+IsValue c v = Leads c (λ y. IfAny (IsResolvedValue y)) v
+
+abbrev IsCase : Context → Case → Type 0
+IsCase c x = Leads c IsResolvedCase (in_case c x)
+
+abbrev pub IsChoice : Context → Choice → Type 0
+IsChoice c x = Leads c IsResolvedChoice (in_choice c x)
+
+pub any_enum : (c : Context) (e : Option ℕ) → IfAny (IsEnumThere c) e → Leads c (λ y. IfAny (IsEnum y)) e
+any_enum c None g y s fits = tt
+any_enum c (Some e) g y s fits = g y s fits
+
+-- a type whose value is a text
+abbrev pub is_text : TypeText → Bool
+is_text t = is_str t || is_strz t
+
+-- ---- the least fault of names
+
+some_least : (k : NameFault) (ks : List NameFault) → (j : NameFault) × (least (Some k) ks ≡ Some j)
+unfolding least
+some_least k [] = (k, refl)
+some_least Unknown (l ∷ ls) = some_least Unknown ls
+some_least LeftOut (l ∷ ls) = some_least l ls
+
+no_names : (line : ℕ) (ks : List NameFault) → least_name line ks ≡ [] → ks ≡ []
+unfolding least
+no_names line [] h = refl
+no_names line (k ∷ ks) h =
+    let r = some_least k ks in
+    let e : [] ≡ name_fault line r.0 ∷ [] = sym h ∙ ap (λ (o : Option NameFault). option_to_list (option_map (name_fault line) o)) r.1 in absurd cc
+
+count_kept : (c : Context) (es : expressions.Arguments) → count (all_numbered c.declared c.names c.within es) ≡ count es
+unfolding all_numbered
+count_kept c expressions.no_arguments = refl
+count_kept c (expressions.argument e es) = ap suc (count_kept c es)
+
+-- ---- what is read in a mapping
+
+module _ (names : List (List ℕ)) (h : Home) where
+  abbrev c : Context
+  c = in_home names h
+
+  -- expressions
+
+  of_expression_good : (site : Site) (line : ℕ) (o : Option expressions.Tree) → IsGood names (IsTree c) (of_expression h site line o)
+  unfolding of_expression name_faults
+  of_expression_good site line None = wrong_good line no_expression
+  of_expression_good site line (Some e) = record {
+    is = λ k w y s fits.
+        subst (λ (names : List (List ℕ)). has_names names (dotted e) ≡ true → IsResolvedTree y (numbered h.declared names h.within e)) s
+        (λ (w : has_names y.names (dotted e) ≡ true). resolved h.declared y h.within (position_at h site) fits Nothing e w (no_names line _ k)) w;
+  }
+
+  pub expression_good : (site : Site) (p : Pair) → IsGood names (IsTree c) (expression h site p)
+  unfolding expression
+  expression_good site p = text_good _ p (λ text t. of_expression_good site p.line (expression_of text))
+
+  arguments_good : (line : ℕ) (es : expressions.Arguments) → IsGood names (λ fs. (fs ≡ es) × Leads c AreResolvedTrees (all_numbered h.declared names h.within fs)) (arguments h line es)
+  unfolding arguments
+  arguments_good line es = record {
+    is = λ k w. (refl, λ y s fits.
+        subst (λ (names : List (List ℕ)). has_names names (all_dotted es) ≡ true → AreResolvedTrees y (all_numbered h.declared names h.within es)) s
+        (λ (w : has_names y.names (all_dotted es) ≡ true). all_resolved h.declared y h.within (position_at h sites.Argument) fits es w (no_names line _ k)) w);
+  }
+
+  -- enums
+
+  of_path_good : (line : ℕ) (o : Option (List (List ℕ))) → IsGood names (IsEnumThere c) (of_path h line o)
+  of_path_good line None = wrong_good line bad_value
+  of_path_good line (Some path) = found_good line unknown_name _ (λ e f y s fits. let l = enum_within h.declared.types h.declared.enums h.within [] path e f in omega (arith, l, fits.enums))
+
+  pub enumeration_good : (p : Pair) → IsGood names (IsEnumThere c) (enumeration h p)
+  unfolding enumeration
+  enumeration_good p = text_good _ p (λ text t. of_path_good p.line (ids_of text))
+
+  -- contents
+
+  piece_good : (line : ℕ) (p : Piece) → IsGood names (λ bs. Unit {0}) (of_piece line p)
+  piece_good line (BytesPiece bs) = gives_good bs tt
+  piece_good line BadPiece = wrong_good line bad_value
+  piece_good line LeftOutPiece = wrong_good line left_out
+
+  items_good : (ts : List Tree) → IsGood names (λ bs. Unit {0}) (items ts)
+  unfolding item
+  items_good [] = gives_good [] tt
+  items_good (t ∷ ts) = made_good (λ p. p.0 ++ p.1) (both_good (piece_good (line_of t) (piece_of t)) (items_good ts)) (λ p g. tt)
+
+  contents_good : (p : Pair) → IsGood names (λ bs. Unit {0}) (contents p)
+  unfolding contents
+  contents_good p =
+      or_good _ (text_of p.value) _ (λ text t. if_good (not (is_quoted p.value) && looks_like_number text) _ _ (λ b. wrong_good p.line left_out) (λ b. gives_good text tt))
+      (λ t. or_good items (list_of p.value) _ (λ ts l. items_good ts) (λ l. wrong_good p.line bad_value))
+
+  -- types
+
+  -- an attribute of these keys has an encoding
+  abbrev pub IsEncoded : List Pair → Type 0
+  IsEncoded es = IsThere (λ (e : Encoding). Unit {0}) (encoding_at h es)
+
+  of_language_good : (enum : Option ℕ) (es : List Pair) (line : ℕ) (b : BuiltIn) (given : expressions.Arguments) → IfAny (IsEnumThere c) enum → (is_text (OfLanguage b given) ≡ true → IsEncoded es) → IsGood names (IsContent c) (of_language h enum es line b)
+  of_language_good enum es line (Integer signed bytes order) given e t = made_good (λ order. Number signed bytes order enum) (found_good {G = λ order. Unit {0}} line no_byte_order (order_at h bytes order) (λ order f. tt)) (λ order g. any_enum c enum e)
+  of_language_good enum es line Str given e t = record { is = λ k w. there_map (λ (e : Encoding). Unit {0}) (IsContent c) Characters (encoding_at h es) (λ e g y s fits. tt) (t refl) }
+  of_language_good enum es line Strz given e t = record { is = λ k w. there_map (λ (e : Encoding). Unit {0}) (IsContent c) Characters (encoding_at h es) (λ e g y s fits. tt) (t refl) }
+  of_language_good enum es line NotHere given e t = wrong_good line left_out
+
+  -- as many arguments as parameters
+  as_many : (given line t : ℕ) (n : Option ℕ) → fault_if (counts_differ h given n) line wrong_count ≡ [] → n ≡ Some t → length (parameters_within h.declared.types t) ≡ given
+  as_many given line t n k e =
+      (Decides-eqb (length (parameters_within h.declared.types t)) given).0 (not_not (length (parameters_within h.declared.types t) == given) (ap (counts_differ h given) (sym e) ∙ not_if (counts_differ h given n) line wrong_count k))
+
+  of_type_good : (enum : Option ℕ) (es : List Pair) (line : ℕ) (t : TypeText) → IfAny (IsEnumThere c) enum → (is_text t ≡ true → IsEncoded es) → IsGood names (IsContent c) (of_type h enum es line t)
+  unfolding of_type
+  of_type_good enum es line Unspelled e i = wrong_good line no_expression
+  of_type_good enum es line (OfLanguage b given) e i = also_good _ _ (λ k. made_good (λ p. p.1) (both_good (arguments_good line given) (of_language_good enum es line b given e i)) (λ p g. g.1))
+  of_type_good enum es line (OfDescription t given) e i = also_good _ _ (λ k.
+      made_good (λ p. Object p.0 p.1) (both_good (found_good line unknown_name (type_named h.declared.types h.within t.path) (λ n f. f)) (arguments_good line given))
+      (λ p g y s fits.
+          let below = type_within h.declared.types h.within t.path p.0 g.0 in
+          record { type = omega (arith, below, fits.types); as_many = count_kept c p.1 ∙ ap count g.1.0 ∙ sym (as_many (count given) line p.0 _ k g.0) ∙ fits.parameters p.0 below; arguments = g.1.1 y s fits }))
+
+  -- switches
+
+  of_case_key_good : (line : ℕ) (v : CaseKey) → IsGood names (IsValue c) (of_case_key h line v)
+  unfolding of_case_key
+  of_case_key_good line (Constant k) = gives_good _ (λ y s fits. tt)
+  of_case_key_good line (Negative n) = gives_good _ (λ y s fits. tt)
+  of_case_key_good line (Member m) = made_good (λ g. Some (EnumValue g)) (found_good line unknown_name (given_member h.declared h.within m) (λ g f. f)) (λ g f y s fits. given_leads h.declared y fits h.within m g f)
+  of_case_key_good line Default = gives_good None (λ y s fits. tt)
+  of_case_key_good line NoKey = wrong_good line bad_value
+
+  case_value_good : (line : ℕ) (o : Option expressions.Tree) → IsGood names (IsValue c) (case_value h line o)
+  unfolding case_value
+  case_value_good line None = wrong_good line no_expression
+  case_value_good line (Some e) = of_case_key_good line (case_key e)
+
+  -- a case has no text
+  no_text : (es : List Pair) (line : ℕ) (t : TypeText) → case_against h es line t ≡ [] → is_text t ≡ true → ⊥
+  unfolding case_against
+  no_text es line t k b = let z : false ≡ true = sym (not_if (is_text t) line left_out (front _ _ (front _ _ (front _ _ (front _ _ k))))) ∙ b in cc
+
+  case_good : (beside : List Pair) (enum : Option ℕ) (es : List Pair) (p : Pair) → IfAny (IsEnumThere c) enum → IsGood names (IsCase c) (case h beside enum es p)
+  unfolding case
+  case_good beside enum es p e =
+      made_good _ (both_good (case_value_good p.line (expression_of p.key)) (text_good _ p (λ text t. also_good _ _ (λ k. of_type_good enum es p.line (type_text text) e (λ b. absurd (no_text beside p.line (type_text text) k b))))))
+      (λ p g y s fits. (g.0 y s fits, g.1 y s fits))
+
+  switch_good : (beside : List Pair) (enum : Option ℕ) (es : List Pair) (line : ℕ) (keys : List Pair) → IfAny (IsEnumThere c) enum → IsGood names (IsChoice c) (switch h beside enum es line keys)
+  unfolding switch
+  switch_good beside enum es line keys e = also_good _ _ (λ k.
+      made_good (λ p. Switch p.0 p.1)
+      (both_good (must_good line (expression h sites.Switch) (entry_at (codes "switch-on") keys) (expression_good sites.Switch))
+        (must_good line _ (entry_at (codes "cases") keys) (λ p. mapping_good _ p (λ ps. has_cases ps))))
+      (λ p g y s fits. (g.0 y s fits, g.1 y s fits)))
+    where
+      has_cases : (ps : List Pair) → IsGood names (λ cs. Leads c (λ y. Each (IsResolvedCase y)) (map (in_case c) cs)) (each (case h beside enum es) ps)
+      has_cases ps = weaker (each_good (case h beside enum es) 0 ps (λ p. case_good beside enum es p e)) (λ cs g. each_leads c IsResolvedCase (in_case c) 0 ps cs g)
+
+  -- what an attribute reads: if its type is a text, it has an encoding
+  typed_good : (beside : List Pair) (enum : Option ℕ) (es : List Pair) (p : Pair) → IfAny (IsEnumThere c) enum → ((text : List ℕ) → text_of p.value ≡ Some text → is_text (type_text text) ≡ true → IsEncoded es) → IsGood names (IsChoice c) (typed h beside enum es p)
+  unfolding typed
+  typed_good beside enum es p e i =
+      or_good _ (mapping_of p.value) _ (λ keys m. switch_good beside enum es (line_of p.value) keys e)
+      (λ m. made_good Always (text_good _ p (λ text t. of_type_good enum es p.line (type_text text) e (i text t))) (λ x g. g))
+
+  chosen_leads : (p : Option (List ℕ) × Option Choice) → IfAny (IsChoice c) p.1 → IsChoice c (content_or_type p)
+  chosen_leads (Some bytes, o) g y s fits = tt
+  chosen_leads (None, Some x) g y s fits = g y s fits
+  chosen_leads (None, None) g y s fits = tt
+
+  pub choice_good : (beside : List Pair) (enum : Option ℕ) (es : List Pair) → IfAny (IsEnumThere c) enum → ((p : Pair) (text : List ℕ) → entry_at (codes "type") es ≡ Some p → text_of p.value ≡ Some text → is_text (type_text text) ≡ true → IsEncoded es) → IsGood names (IsChoice c) (choice h beside enum es)
+  unfolding choice
+  choice_good beside enum es e i =
+      made_good content_or_type (both_good (perhaps_good contents (entry_at (codes "contents") es) (λ p t. contents_good p)) (perhaps_good (typed h beside enum es) (entry_at (codes "type") es) (λ p t. typed_good beside enum es p e (λ text. i p text t))))
+      (λ p g. chosen_leads p g.1.0)
