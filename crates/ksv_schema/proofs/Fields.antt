@@ -1,5 +1,5 @@
 -- What is read of a member is good: it leads somewhere, and it is a parameter or isn't.
-use Rattle.std.proofs.Common.{◌≡◌, ℕ, Bool, true, false, cond, List, [], ◌++◌, ap, sym, ◌∙◌, refl, Option, Some, None}
+use Rattle.std.proofs.Common.{◌≡◌, ℕ, Bool, true, false, cond, List, [], ap, ◌∙◌, refl, Option, Some, None}
 use Rattle.std.specs.Prelude.{codes, not, ◌&&◌, ◌||◌, is_some, option_map, option_and_then}
 use Rattle.std.specs.Option.{option_map_or}
 use Rattle.ksv_yaml_tree.specs.Tree.{Pair, text_of, entry_at}
@@ -13,8 +13,8 @@ use Rattle.ksv_schema_scope.specs.Members.{is_in_params}
 use Rattle.ksv_schema_scope.specs.Rows.{Declared}
 use Rattle.ksv_schema_scope.specs.Types.{encoding_of}
 use Rattle.ksv_schema_names.specs.declared.position.Site.TheVariants as sites
-use Rattle.ksv_desc.specs.Description.{Extent, Sized, SizeEos, ByItself, Repeat, Once, Eos, Expr, Until, Field, MemberKind, Parameter, Attribute, ParseInstance, ValueInstance}
-use Rattle.ksv_desc.specs.Resolved.{is_parameter, IfAny, IsThere, IsEnum, IsResolvedTree, IsResolvedExtent, IsResolvedRepeat, IsResolvedField, IsResolvedKind}
+use Rattle.ksv_desc.specs.Description.{SizeEos, ByItself, Repeat, Once, Eos, Expr, Until, Field, MemberKind, Parameter}
+use Rattle.ksv_desc.specs.Resolved.{is_parameter, IfAny, IsThere, IsResolvedTree, IsResolvedExtent, IsResolvedRepeat, IsResolvedField, IsResolvedKind}
 use Rattle.ksv_schema_keys.specs.declared.keys.Form.TheVariants as forms
 use Rattle.ksv_schema_keys.specs.declared.keys.MappingKind.{MappingKind}
 use Rattle.ksv_schema_keys.specs.declared.keys.MappingKind.TheVariants as kinds
@@ -22,11 +22,11 @@ use Rattle.ksv_schema_keys.specs.declared.keys.Group.TheVariants as groups
 use Rattle.ksv_schema_keys.specs.Keys.{is_in, kind_of, form_among, form_in, is_ignored}
 use Rattle.ksv_schema_keys.specs.Values.{encoding_named, type_text, is_str, is_strz, type_at, own_type, is_a, is_to_end}
 use Rattle.ksv_schema_read.specs.Faults.{fault_if, missing_key, left_out}
-use Rattle.ksv_schema_read.specs.Rules.{form_faults, keys_faults, together}
-use Rattle.ksv_schema_read.specs.Values.{Home, expression, enumeration, choice, encoding_at}
-use Rattle.ksv_schema_read.specs.Members.{Parts, parts, repeat_of, extent_of, terminator_of, field_of, has_encoding, needs, field, own_enum, enum_in, attribute, parse_instance, value_instance, placeless, by_kind}
+use Rattle.ksv_schema_read.specs.Rules.{form_faults, keys_faults}
+use Rattle.ksv_schema_read.specs.Values.{Home, expression, enumeration, encoding_at}
+use Rattle.ksv_schema_read.specs.Members.{Parts, parts, repeat_of, extent_of, field_of, has_encoding, needs, field, own_enum, attribute, parse_instance, value_instance, placeless, by_kind}
 use Rattle.ksv_schema_read.specs.Description.{Context, in_tree, in_extent, in_repeat, in_field, in_kind}
-use Rattle.ksv_schema.proofs.Good.{front, back, not_if, no_fault, is_there, there_map, IsGood, gives_good, also_good, chosen_good, made_good, next_good, both_good, weaker, perhaps_good, must_good}
+use Rattle.ksv_schema.proofs.Good.{front, back, there_map, IsGood, gives_good, also_good, chosen_good, made_good, next_good, both_good, weaker, perhaps_good, must_good}
 use Rattle.ksv_schema.proofs.Keys.{text_fits, HasRepeat, has_repeat}
 use Rattle.ksv_schema.proofs.Values.{Leads, any_leads, in_home, IsTree, IsEnumThere, IsChoice, any_enum, expression_good, enumeration_good, IsEncoded, is_text, choice_good}
 
@@ -73,7 +73,7 @@ module _ (names : List (List ℕ)) (h : Home) where
   unfolding needs
   type_encoded kind line es a f k n p text e t b =
       let same : (is_a is_str (own_type es) || is_a is_strz (own_type es)) ≡ is_text (type_text text)
-          = ap (λ (o : Option Pair). is_a is_str (option_and_then type_at o) || is_a is_strz (option_and_then type_at o)) e ∙ ap (λ (o : Option (List ℕ)). is_a is_str (option_map type_text o) || is_a is_strz (option_map type_text o)) t in
+      = ap (λ (o : Option Pair). is_a is_str (option_and_then type_at o) || is_a is_strz (option_and_then type_at o)) e ∙ ap (λ (o : Option (List ℕ)). is_a is_str (option_map type_text o) || is_a is_strz (option_map type_text o)) t in
       is_encoded kind es a f k (encoded (is_a is_str (own_type es)) (is_a is_strz (own_type es)) (has_encoding h es) line (back _ _ n) (same ∙ b))
 
   -- ---- parts
@@ -93,10 +93,10 @@ module _ (names : List (List ℕ)) (h : Home) where
   parts_good beside enum es e i =
       made_good _
       (both_good (perhaps_good _ (entry_at (codes "if") es) (λ p e. expression_good names h sites.Condition p))
-        (both_good (perhaps_good _ (entry_at (codes "repeat-expr") es) (λ p e. expression_good names h sites.Count p))
-          (both_good (perhaps_good _ (entry_at (codes "repeat-until") es) (λ p e. expression_good names h sites.Until p))
-            (both_good (choice_good names h beside enum es e i)
-              (perhaps_good _ (entry_at (codes "size") es) (λ p e. expression_good names h sites.Size p))))))
+      (both_good (perhaps_good _ (entry_at (codes "repeat-expr") es) (λ p e. expression_good names h sites.Count p))
+      (both_good (perhaps_good _ (entry_at (codes "repeat-until") es) (λ p e. expression_good names h sites.Until p))
+      (both_good (choice_good names h beside enum es e i)
+      (perhaps_good _ (entry_at (codes "size") es) (λ p e. expression_good names h sites.Size p))))))
       (λ p g. record { condition = g.0.0; count = g.1.0.1; until = g.1.1.0.1; choice = g.1.1.1.0; size = g.1.1.1.1.0 })
 
   repeat_there : (es : List Pair) (p : Parts) → HasRepeat es → IsParts es p → IsThere IsRepeat (repeat_of es p.count p.until)
@@ -134,8 +134,8 @@ module _ (names : List (List ℕ)) (h : Home) where
       let r = has_repeat kind line (own_type es) es f.read (front _ _ (front _ _ n)) in
       chosen_good _ (parts_good es enum es e (type_encoded kind line es a f.encoding k (back _ _ (front _ _ n))))
       (λ p g. there_map IsRepeat IsField _ (repeat_of es p.count p.until)
-        (λ repeat x y s fits. record { condition = any_leads c IsResolvedTree (in_tree c) p.condition g.condition y s fits; repeat = x y s fits; choice = g.choice y s fits; extent = extent_leads es p.size g.size y s fits })
-        (repeat_there es p r g)))
+      (λ repeat x y s fits. record { condition = any_leads c IsResolvedTree (in_tree c) p.condition g.condition y s fits; repeat = x y s fits; choice = g.choice y s fits; extent = extent_leads es p.size g.size y s fits })
+      (repeat_there es p r g)))
 
   -- ---- kinds of members
 
@@ -157,8 +157,8 @@ module _ (names : List (List ℕ)) (h : Home) where
   parse_instance_good line es a k =
       made_good _
       (both_good (must_good line (expression h sites.Place) (entry_at (codes "pos") es) (λ p. expression_good names h sites.Place p))
-        (both_good (perhaps_good (expression h sites.Stream) (entry_at (codes "io") es) (λ p e. expression_good names h sites.Stream p))
-          (next_good (own_enum_good es) (λ e. field_good kinds.ParseInstance line _ es (record { encoding = refl; read = refl }) a k (enum_there (own_enum h es).value e)))))
+      (both_good (perhaps_good (expression h sites.Stream) (entry_at (codes "io") es) (λ p e. expression_good names h sites.Stream p))
+      (next_good (own_enum_good es) (λ e. field_good kinds.ParseInstance line _ es (record { encoding = refl; read = refl }) a k (enum_there (own_enum h es).value e)))))
       (λ p g. record { leads = λ y s fits. (g.0 y s fits, any_leads c IsResolvedTree (in_tree c) p.1.0 g.1.0.0 y s fits, g.1.1.1 y s fits); given = λ name. refl })
 
   value_instance_good : (line : ℕ) (es : List Pair) → IsGood names (IsKind c false) (value_instance h line es)
@@ -166,7 +166,7 @@ module _ (names : List (List ℕ)) (h : Home) where
   value_instance_good line es = also_good _ _ (λ k.
       made_good _
       (both_good (perhaps_good (expression h sites.Condition) (entry_at (codes "if") es) (λ p e. expression_good names h sites.Condition p))
-        (both_good (must_good line (expression h sites.Value) (entry_at (codes "value") es) (λ p. expression_good names h sites.Value p)) (own_enum_good es)))
+      (both_good (must_good line (expression h sites.Value) (entry_at (codes "value") es) (λ p. expression_good names h sites.Value p)) (own_enum_good es)))
       (λ p g. record { leads = λ y s fits. (any_leads c IsResolvedTree (in_tree c) p.0 g.0.0 y s fits, g.1.0 y s fits, any_enum c p.1.1 g.1.1 y s fits); given = λ name. refl }))
 
   placeless_good : (name_line : ℕ) (es : List Pair) → IsGood names (IsKind c false) (placeless h name_line es)

@@ -1,6 +1,6 @@
 -- Without faults what stands at each key is what it must be, and the rules of keys together hold.
-use Rattle.std.proofs.Common.{◌≡◌, ℕ, Bool, true, false, cond, List, [], ◌∷◌, ◌++◌, sym, ap, ◌∙◌, refl, Option, Some, None}
-use Rattle.std.specs.Prelude.{codes, not, ◌&&◌, is_some, is_none, option_and_then, flat_map}
+use Rattle.std.proofs.Common.{◌≡◌, ℕ, Bool, true, false, cond, List, [], ◌∷◌, sym, ap, ◌∙◌, refl, Option, Some, None}
+use Rattle.std.specs.Prelude.{codes, not, ◌&&◌, is_some, is_none, option_and_then}
 use Rattle.std.specs.Option.{option_map_or}
 use Rattle.std.specs.Str.{bytes_eq}
 use Rattle.std.proofs.lemmas.Slice.Eq.{bytes_eq-Decides}
@@ -12,8 +12,8 @@ use Rattle.ksv_schema_keys.specs.declared.keys.Group.TheVariants as groups
 use Rattle.ksv_schema_keys.specs.Keys.{is_in, form_in, is_ignored}
 use Rattle.ksv_schema_keys.specs.Values.{TypeText}
 use Rattle.ksv_schema_read.specs.Faults.{Fault, fault, fault_if, unknown_key, bad_value}
-use Rattle.ksv_schema_read.specs.Rules.{form_faults, key_faults, keys_faults, Has, Says, Needs, Rule, claimed, rule_faults, ruled_faults, together, rules}
-use Rattle.ksv_schema.proofs.Good.{front, back, not_if, not_not, no_fault}
+use Rattle.ksv_schema_read.specs.Rules.{form_faults, key_faults, keys_faults, Has, Says, Needs, claimed, rule_faults, ruled_faults, together}
+use Rattle.ksv_schema.proofs.Good.{front, back, not_if, not_not}
 
 key_is : (kind : MappingKind) (p : Pair) (form : Form) → is_ignored p.key ≡ false → form_in kind p.key ≡ Some form → key_faults kind p ≡ form_faults p form
 unfolding key_faults

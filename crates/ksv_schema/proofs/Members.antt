@@ -5,7 +5,7 @@ use Rattle.std.specs.List.{list_all}
 use Rattle.std.specs.Option.{option_map_or}
 use Rattle.std.specs.Str.{bytes_eq, is_utf8}
 use Rattle.std.proofs.lemmas.List.{map-append}
-use Rattle.ksv_yaml_tree.specs.Tree.{Pair, line_of, mapping_of}
+use Rattle.ksv_yaml_tree.specs.Tree.{line_of, mapping_of}
 use Rattle.ksv_expr_syntax.specs.Reading.{◌>>=◌}
 use Rattle.ksv_schema_scope.specs.Rows.{Row, Declared}
 use Rattle.ksv_schema_scope.specs.Members.{Member, members_of, is_in_params, is_parameter, members_within, parameters_within}
@@ -14,7 +14,7 @@ use Rattle.ksv_schema_names.specs.Resolved.{Fits}
 use Rattle.ksv_schema_names.proofs.Found.{some_is, place_within}
 use Rattle.ksv_schema_read.specs.Faults.{bad_value}
 use Rattle.ksv_schema_read.specs.Values.{home_of}
-use Rattle.ksv_schema_read.specs.Members.{is_instance, member_keys, member}
+use Rattle.ksv_schema_read.specs.Members.{member_keys, member}
 use Rattle.ksv_schema_read.specs.Description.{Context, in_kind, members, all_members, all_enums, faults_of, names_in, member_names, names_of, each_of, member_of, type_of, types_of, are_texts, described, stated_by}
 use Rattle.ksv_desc.specs.Names.{distinct, number_in, has_names, AreDistinct}
 use Rattle.ksv_desc.specs.Description.{MemberKind, MemberOfType, TypeOfObjects, Enum, Description, as_text}
@@ -46,8 +46,8 @@ unfolding member member_keys
 member_good d n i m a own = also_good _ _ (λ k.
     or_good (member_keys d n m) (mapping_of m.value) _
     (λ es e. also_good _ _ (λ f.
-      weaker (kind_good (names_of d) (home_of d n m.role es) m.role m.line (line_of m.value) es a f)
-      (λ x g. record { kind = g; text = name_is_text m.role m.name m.value es own (not_if _ m.line bad_value (front _ _ k)) e f })))
+    weaker (kind_good (names_of d) (home_of d n m.role es) m.role m.line (line_of m.value) es a f)
+    (λ x g. record { kind = g; text = name_is_text m.role m.name m.value es own (not_if _ m.line bad_value (front _ _ k)) e f })))
     (λ e. wrong_good m.line bad_value))
 
 all_good : (d : Declared) → AreEncodings d → IsGood (names_of d) (EachOf (λ n. AreMembers d n 0) 0 (map members_of d.types)) (all_members d)
@@ -146,8 +146,8 @@ members_there d n i (m ∷ ms) (k ∷ ks) g h =
     let hs = two (is_some (number_in (member_names d) m.name)) (has_names (member_names d) (names_in ms)) h in
     there_next (IsStated d m) (AreStated d (m ∷ ms)) _ (member_of (within d n) m k)
     (λ r x. there_next (AreStated d ms) (AreStated d (m ∷ ms)) _ (each_of (member_of (within d n)) ms ks)
-      (λ rs xs. record { known = λ y s fits known. (x.known y s fits known, xs.known y s fits known); given = counted (is_parameter m) (resolved.is_parameter r) x.given m (filter is_parameter ms) r (filter resolved.is_parameter rs) xs.given })
-      (members_there d n (i + 1) ms ks g.1 hs.1))
+    (λ rs xs. record { known = λ y s fits known. (x.known y s fits known, xs.known y s fits known); given = counted (is_parameter m) (resolved.is_parameter r) x.given m (filter is_parameter ms) r (filter resolved.is_parameter rs) xs.given })
+    (members_there d n (i + 1) ms ks g.1 hs.1))
     (member_there d n m k g.0 hs.0)
 
 -- ---- types
@@ -180,8 +180,8 @@ types_there d n (r ∷ rs) (ks ∷ kss) v g h =
     let hs = has_both (member_names d) (names_in (members_of r)) (own_names rs) h in
     there_next (λ (t : TypeOfObjects). AreStated d (members_of r) t.members) (AreTypes d (r ∷ rs)) _ (type_of d (names_of d) n r ks)
     (λ t x. there_next (AreTypes d rs) (AreTypes d (r ∷ rs)) _ (types_of d (names_of d) (n + 1) rs kss)
-      (λ ts xs. record { known = λ y s fits known. (x.known y s fits known, xs.known y s fits known); as_many = ap suc xs.as_many; counted = counted_both r rs t ts x.given xs.counted })
-      (types_there d (n + 1) rs kss v.1 g.1 hs.1))
+    (λ ts xs. record { known = λ y s fits known. (x.known y s fits known, xs.known y s fits known); as_many = ap suc xs.as_many; counted = counted_both r rs t ts x.given xs.counted })
+    (types_there d (n + 1) rs kss v.1 g.1 hs.1))
     (type_there d n r ks v.0 g.0 hs.0)
 
 -- ---- a description

@@ -1,13 +1,11 @@
 -- What is read at a key is good: it leads somewhere once its names have their numbers.
-use Rattle.std.proofs.Common.{◌≡◌, ℕ, suc, ◌+◌, Bool, true, false, cond, List, [], ◌∷◌, ◌++◌, length, sym, ap, subst, ◌∙◌, refl, Option, Some, None, arith}
-use Rattle.std.specs.Prelude.{codes, not, ◌==◌, ◌&&◌, ◌||◌, is_some, option_map, option_to_list, map}
-use Rattle.std.specs.Option.{option_map_or}
+use Rattle.std.proofs.Common.{◌≡◌, ℕ, suc, ◌+◌, Bool, true, false, List, [], ◌∷◌, ◌++◌, length, sym, ap, subst, ◌∙◌, refl, Option, Some, None, arith}
+use Rattle.std.specs.Prelude.{codes, not, ◌==◌, ◌&&◌, ◌||◌, option_map, option_to_list, map}
 use Rattle.std.proofs.lemmas.Bool.Decides.{Decides-eqb}
 use Rattle.ksv_yaml_tree.specs.Tree.{Tree, Pair, line_of, text_of, is_quoted, mapping_of, list_of, entry_at}
 use Rattle.ksv_expr_tree.specs.Tree as expressions
-use Rattle.ksv_desc.specs.declared.order.ByteOrder.{ByteOrder}
 use Rattle.ksv_expr_value.specs.declared.encoding.Encoding.{Encoding}
-use Rattle.ksv_schema_scope.specs.Types.{type_named, enum_from}
+use Rattle.ksv_schema_scope.specs.Types.{type_named}
 use Rattle.ksv_schema_scope.specs.Members.{parameters_within}
 use Rattle.ksv_schema_names.specs.declared.position.Site.{Site}
 use Rattle.ksv_schema_names.specs.declared.position.Site.TheVariants as sites
@@ -15,24 +13,22 @@ use Rattle.ksv_schema_names.specs.declared.position.NameFault.{NameFault}
 use Rattle.ksv_schema_names.specs.declared.position.NameFault.TheVariants.{Unknown, LeftOut}
 use Rattle.ksv_schema_names.specs.declared.built_ins.BuiltIn.{BuiltIn}
 use Rattle.ksv_schema_names.specs.declared.built_ins.BuiltIn.TheVariants.{Integer, Str, Strz, NotHere}
-use Rattle.ksv_schema_names.specs.Names.{Nothing, name_faults, list_faults, least}
+use Rattle.ksv_schema_names.specs.Names.{Nothing, name_faults, least}
 use Rattle.ksv_schema_names.specs.Numbered.{numbered, all_numbered, given_member}
 use Rattle.ksv_schema_names.specs.Resolved.{Fits}
 use Rattle.ksv_schema_names.proofs.Found.{type_within}
 use Rattle.ksv_schema_names.proofs.Resolving.{given_leads, resolved, all_resolved}
 use Rattle.ksv_desc.specs.Names.{dotted, all_dotted, has_names}
-use Rattle.ksv_desc.specs.Description.{Description, Content, Bytes, Fixed, Number, Characters, Object, CaseValue, Literal, Negated, EnumValue, Case, Choice, Always, Switch}
+use Rattle.ksv_desc.specs.Description.{Description, Content, Number, Characters, Object, CaseValue, EnumValue, Case, Choice, Always, Switch}
 use Rattle.ksv_desc.specs.Resolved.{count, Each, IfAny, IsThere, IsEnum, IsResolvedTree, AreResolvedTrees, IsResolvedContent, IsResolvedValue, IsResolvedCase, IsResolvedChoice}
 use Rattle.ksv_schema_keys.specs.Expressions.{expression_of}
 use Rattle.ksv_schema_keys.specs.Values.{TypeText, Unspelled, OfLanguage, OfDescription, type_text, is_str, is_strz, looks_like_number, Piece, Bytes as BytesPiece, BadPiece, LeftOutPiece, piece_of, CaseKey, Constant, Negative, Member, Default, NoKey, case_key, ids_of}
-use Rattle.ksv_schema_keys.specs.declared.keys.MappingKind.TheVariants as kinds
 use Rattle.ksv_schema_read.specs.Faults.{fault_if, unknown_name, no_byte_order, bad_value, wrong_count, left_out, no_expression}
-use Rattle.ksv_schema_read.specs.Reading.{wrong, each}
-use Rattle.ksv_schema_read.specs.Rules.{keys_faults}
+use Rattle.ksv_schema_read.specs.Reading.{each}
 use Rattle.ksv_schema_read.specs.Values.{Home, position_at, name_fault, least_name, of_expression, expression, arguments, of_path, enumeration, of_piece, item, items, contents, order_at, encoding_at, of_language, counts_differ, of_type, of_case_key, case_value, case_against, case, switch, typed, content_or_type, choice}
 use Rattle.ksv_schema_read.specs.Description.{Context, in_tree, in_content, in_case, in_choice}
 use Rattle.ksv_schema.proofs.Leads.{enum_within}
-use Rattle.ksv_schema.proofs.Good.{front, back, not_if, not_not, there_map, IsGood, gives_good, wrong_good, found_good, also_good, made_good, both_good, if_good, or_good, perhaps_good, must_good, weaker, text_good, mapping_good, EachOf, each_good}
+use Rattle.ksv_schema.proofs.Good.{front, not_if, not_not, there_map, IsGood, gives_good, wrong_good, found_good, also_good, made_good, both_good, if_good, or_good, perhaps_good, must_good, weaker, text_good, mapping_good, EachOf, each_good}
 
 -- ---- what leads somewhere
 
@@ -109,13 +105,13 @@ module _ (names : List (List ℕ)) (h : Home) where
 
   -- expressions
 
-  of_expression_good : (site : Site) (line : ℕ) (o : Option expressions.Tree) → IsGood names (IsTree c) (of_expression h site line o)
+  of_expression_good : (at : Site) (line : ℕ) (o : Option expressions.Tree) → IsGood names (IsTree c) (of_expression h at line o)
   unfolding of_expression name_faults
-  of_expression_good site line None = wrong_good line no_expression
-  of_expression_good site line (Some e) = record {
+  of_expression_good at line None = wrong_good line no_expression
+  of_expression_good at line (Some e) = record {
     is = λ k w y s fits.
         subst (λ (names : List (List ℕ)). has_names names (dotted e) ≡ true → IsResolvedTree y (numbered h.declared names h.within e)) s
-        (λ (w : has_names y.names (dotted e) ≡ true). resolved h.declared y h.within (position_at h site) fits Nothing e w (no_names line _ k)) w;
+        (λ (w : has_names y.names (dotted e) ≡ true). resolved h.declared y h.within (position_at h at) fits Nothing e w (no_names line _ k)) w;
   }
 
   pub expression_good : (site : Site) (p : Pair) → IsGood names (IsTree c) (expression h site p)
@@ -125,9 +121,12 @@ module _ (names : List (List ℕ)) (h : Home) where
   arguments_good : (line : ℕ) (es : expressions.Arguments) → IsGood names (λ fs. (fs ≡ es) × Leads c AreResolvedTrees (all_numbered h.declared names h.within fs)) (arguments h line es)
   unfolding arguments
   arguments_good line es = record {
-    is = λ k w. (refl, λ y s fits.
-        subst (λ (names : List (List ℕ)). has_names names (all_dotted es) ≡ true → AreResolvedTrees y (all_numbered h.declared names h.within es)) s
-        (λ (w : has_names y.names (all_dotted es) ≡ true). all_resolved h.declared y h.within (position_at h sites.Argument) fits es w (no_names line _ k)) w);
+    is = λ k w. (
+      refl,
+      λ y s fits.
+          subst (λ (names : List (List ℕ)). has_names names (all_dotted es) ≡ true → AreResolvedTrees y (all_numbered h.declared names h.within es)) s
+          (λ (w : has_names y.names (all_dotted es) ≡ true). all_resolved h.declared y h.within (position_at h sites.Argument) fits es w (no_names line _ k)) w,
+    );
   }
 
   -- enums
@@ -182,8 +181,8 @@ module _ (names : List (List ℕ)) (h : Home) where
   of_type_good enum es line (OfDescription t given) e i = also_good _ _ (λ k.
       made_good (λ p. Object p.0 p.1) (both_good (found_good line unknown_name (type_named h.declared.types h.within t.path) (λ n f. f)) (arguments_good line given))
       (λ p g y s fits.
-          let below = type_within h.declared.types h.within t.path p.0 g.0 in
-          record { type = omega (arith, below, fits.types); as_many = count_kept c p.1 ∙ ap count g.1.0 ∙ sym (as_many (count given) line p.0 _ k g.0) ∙ fits.parameters p.0 below; arguments = g.1.1 y s fits }))
+      let below = type_within h.declared.types h.within t.path p.0 g.0 in
+      record { type = omega (arith, below, fits.types); as_many = count_kept c p.1 ∙ ap count g.1.0 ∙ sym (as_many (count given) line p.0 _ k g.0) ∙ fits.parameters p.0 below; arguments = g.1.1 y s fits }))
 
   -- switches
 
@@ -216,7 +215,7 @@ module _ (names : List (List ℕ)) (h : Home) where
   switch_good beside enum es line keys e = also_good _ _ (λ k.
       made_good (λ p. Switch p.0 p.1)
       (both_good (must_good line (expression h sites.Switch) (entry_at (codes "switch-on") keys) (expression_good sites.Switch))
-        (must_good line _ (entry_at (codes "cases") keys) (λ p. mapping_good _ p (λ ps. has_cases ps))))
+      (must_good line _ (entry_at (codes "cases") keys) (λ p. mapping_good _ p (λ ps. has_cases ps))))
       (λ p g y s fits. (g.0 y s fits, g.1 y s fits)))
     where
       has_cases : (ps : List Pair) → IsGood names (λ cs. Leads c (λ y. Each (IsResolvedCase y)) (map (in_case c) cs)) (each (case h beside enum es) ps)

@@ -1,6 +1,6 @@
 -- Without faults each encoding in force is one that there is, and each enum has the numbers of its entries.
 use Rattle.std.proofs.Common.{◌≡◌, ℕ, zero, suc, ◌+◌, Bool, true, false, cond, List, [], ◌∷◌, ◌++◌, sym, ap, ◌∙◌, refl, Option, Some, None}
-use Rattle.std.specs.Prelude.{codes, not, is_some, option_and_then, unwrap_or, slice_get, take}
+use Rattle.std.specs.Prelude.{codes, is_some, option_and_then, unwrap_or, slice_get, take}
 use Rattle.std.specs.Option.{option_map_or}
 use Rattle.ksv_yaml_tree.specs.Tree.{Pair, line_of, text_of, mapping_of, entry_at}
 use Rattle.ksv_yaml_tree.specs.declared.numeral.Numeral.{Numeral}
@@ -17,7 +17,7 @@ use Rattle.ksv_schema_keys.specs.declared.keys.MappingKind.{MappingKind}
 use Rattle.ksv_schema_keys.specs.declared.keys.MappingKind.TheVariants as kinds
 use Rattle.ksv_schema_keys.specs.Keys.{form_among, form_in, is_ignored, is_id}
 use Rattle.ksv_schema_keys.specs.Values.{encoding_named}
-use Rattle.ksv_schema_read.specs.Faults.{fault, fault_if, bad_value, left_out}
+use Rattle.ksv_schema_read.specs.Faults.{fault, bad_value, left_out}
 use Rattle.ksv_schema_read.specs.Rules.{form_faults, keys_faults, missing}
 use Rattle.ksv_schema_read.specs.Description.{whole, id_text, id, entry_id, constant, enum, is_root, meta_faults, type_keys_faults, type_faults, all_types_faults, all_enums}
 use Rattle.ksv_desc.specs.Names.{distinct_behind}

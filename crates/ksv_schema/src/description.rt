@@ -2,14 +2,13 @@
 
 ghost use Rattle.std.specs.Prelude.{◌≡◌, ◌≢◌, IfOk, IfErr};
 ghost use Rattle.ksv_yaml_tree.specs.View.{view};
-ghost use Rattle.ksv_schema_faults.specs.Code.{plain};
+ghost use Rattle.ksv_schema_read.specs.Code.{plain};
 ghost use Rattle.ksv_schema.specs.Outcome.{States, Refuses};
 ghost use Rattle.ksv_desc.specs.Whole.{plain_pieces};
-ghost use Rattle.ksv_schema_faults.specs.declared.fault.DescFaultKind.TheVariants.{NoMemory};
+ghost use Rattle.ksv_schema_read.specs.declared.fault.DescFaultKind.TheVariants.{NoMemory};
 
 use ksv_desc::Desc;
-use ksv_schema_build::build;
-use ksv_schema_faults::{DescFault, DescFaultKind, least_fault};
+use ksv_schema_read::{DescFault, DescFaultKind, read};
 use ksv_schema_scope::Scopes;
 use ksv_yaml_tree::Yaml;
 use std::alloc::{AllocError, Global};
@@ -44,11 +43,9 @@ fn outcome_of(alloc: Global, scopes: &Scopes) -> Result<Result<Desc, DescFault>,
     ensures described { IfOk result (λ r. IfOk r (λ d. States (view scopes.now) (plain_pieces d))) }
     ensures refused { IfOk result (λ r. IfErr r (λ f. Refuses (view scopes.now) (plain f))) }
 {
-    match least_fault(alloc, scopes)? {
-        Some(fault) => Ok(Err(fault)),
-        None => match build(alloc, scopes)? {
-            Some(pieces) => Ok(Ok(Desc::new(pieces))),
-            None => unreachable!(),
-        },
+    match read(alloc, scopes)? {
+        Ok(Some(pieces)) => Ok(Ok(Desc::new(pieces))),
+        Ok(None) => unreachable!(),
+        Err(fault) => Ok(Err(fault)),
     }
 }

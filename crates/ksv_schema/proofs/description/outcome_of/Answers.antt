@@ -1,28 +1,21 @@
-use Rattle.std.proofs.Common.{ap, sym, subst, ◌∙◌}
-use Rattle.std.specs.Prelude.{option_map}
+use Rattle.std.proofs.Common.{sym, subst}
 use Rattle.ksv_yaml_tree.specs.View.{view}
 use Rattle.ksv_desc.specs.declared.pieces.Pieces.{Pieces}
-use Rattle.ksv_schema_faults.specs.Code.{seen_fault}
-use Rattle.ksv_schema.specs.Outcome.{States}
 use Rattle.ksv_desc.specs.Whole.{plain_pieces}
+use Rattle.ksv_schema.specs.Outcome.{States}
 use Rattle.ksv_schema.proofs.Theorem.{refuses, states, resolved, never_none}
 use Rattle.ksv_schema.proofs.description.outcome_of.Goals as goal
 
-pub returns-in-Some-clause-refused : goal.returns-in-Some-clause-refused
-returns-in-Some-clause-refused c = refuses _ _ (sym (sym (ap seen_fault c.in-Some.is) ∙ c.in_ok-fault.ensures))
+pub new-requires : goal.new-requires
+new-requires c = resolved _ _ (rw c.in-Ok-Some.is at c.in_ok-pieces.ensures.faultless) (sym (rw (c.in-Ok-Some.is, c.in-Ok-Some.field-0-is) at c.in_ok-pieces.ensures.stated))
 
 pub unreachable-requires : goal.unreachable-requires
-unreachable-requires c =
-    never_none _ (sym (sym (ap seen_fault c.in-None.is) ∙ c.in_ok-fault.ensures))
-    (sym (sym (ap (option_map plain_pieces) c.in-None-2.is) ∙ c.in_ok-pieces-in-None.ensures))
+unreachable-requires c = never_none _ (rw c.in-Ok-None.is at c.in_ok-pieces.ensures.faultless) (sym (rw (c.in-Ok-None.is, c.in-Ok-None.field-0-is) at c.in_ok-pieces.ensures.stated))
 
-pub new-requires : goal.new-requires
-new-requires c =
-    resolved _ _ (sym (sym (ap seen_fault c.in-None.is) ∙ c.in_ok-fault.ensures))
-    (sym (sym (ap (option_map plain_pieces) c.in-Some-2.is) ∙ c.in_ok-pieces-in-None.ensures))
-
-pub returns-in-Some-2-clause-described : goal.returns-in-Some-2-clause-described
-returns-in-Some-2-clause-described c =
+pub returns-in-Ok-Some-clause-described : goal.returns-in-Ok-Some-clause-described
+returns-in-Ok-Some-clause-described c =
     subst (λ (p : Pieces). States (view c.args.scopes.now) (plain_pieces p)) (sym c.new.ensures)
-    (states _ _ (sym (sym (ap seen_fault c.in-None.is) ∙ c.in_ok-fault.ensures))
-    (sym (sym (ap (option_map plain_pieces) c.in-Some-2.is) ∙ c.in_ok-pieces-in-None.ensures)))
+    (states _ _ (rw c.in-Ok-Some.is at c.in_ok-pieces.ensures.faultless) (sym (rw (c.in-Ok-Some.is, c.in-Ok-Some.field-0-is) at c.in_ok-pieces.ensures.stated)))
+
+pub returns-in-Err-clause-refused : goal.returns-in-Err-clause-refused
+returns-in-Err-clause-refused c = refuses _ _ (rw c.in-Err.is at c.in_ok-pieces.ensures.fault)
