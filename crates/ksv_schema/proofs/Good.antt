@@ -3,6 +3,7 @@
 use Rattle.std.proofs.Common.{◌≡◌, ℕ, ◌+◌, Bool, true, false, cond, List, [], ◌∷◌, ◌++◌, sym, ◌∙◌, refl, Option, Some, None}
 use Rattle.std.specs.Prelude.{not, ◌&&◌, is_some, option_map, option_and_then, map}
 use Rattle.std.specs.Option.{option_map_or}
+use Rattle.std.proofs.lemmas.Bool.{and_parts}
 use Rattle.std.proofs.lemmas.List.Folds.{list_all-append}
 use Rattle.ksv_yaml_tree.specs.Tree.{Pair, text_of, mapping_of}
 use Rattle.ksv_expr_syntax.specs.Reading.{◌>>=◌}
@@ -32,13 +33,15 @@ not_not false h = absurd cc
 pub no_fault : (line number : ℕ) → fault line number ≡ [] → ⊥
 no_fault line number h = cc
 
-pub two : (a b : Bool) → (a && b) ≡ true → (a ≡ true) × (b ≡ true)
-two true b h = (refl, h)
-two false b h = absurd cc
+-- a fault where one is and the other isn't
+pub implies : (a b : Bool) (line number : ℕ) → fault_if (a && not b) line number ≡ [] → a ≡ true → b ≡ true
+implies a true line number k h = refl
+implies true false line number k h = absurd cc
+implies false false line number k h = absurd cc
 
 -- names that are in a table
 pub has_both : (names xs ys : List (List ℕ)) → has_names names (xs ++ ys) ≡ true → (has_names names xs ≡ true) × (has_names names ys ≡ true)
-has_both names xs ys h = two (has_names names xs) (has_names names ys) (sym (list_all-append (λ w. is_some (number_in names w)) xs ys) ∙ h)
+has_both names xs ys h = and_parts (has_names names xs) (has_names names ys) (sym (list_all-append (λ w. is_some (number_in names w)) xs ys) ∙ h)
 
 -- ---- what is there
 

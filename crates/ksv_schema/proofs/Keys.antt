@@ -1,19 +1,22 @@
 -- Without faults what stands at each key is what it must be, and the rules of keys together hold.
-use Rattle.std.proofs.Common.{◌≡◌, ℕ, Bool, true, false, cond, List, [], ◌∷◌, sym, ap, ◌∙◌, refl, Option, Some, None}
-use Rattle.std.specs.Prelude.{codes, not, ◌&&◌, is_some, is_none, option_and_then}
+use Rattle.std.proofs.Common.{◌≡◌, ℕ, Bool, true, false, cond, List, [], ◌∷◌, ◌++◌, sym, ap, ◌∙◌, refl, Option, Some, None}
+use Rattle.std.specs.Prelude.{codes, not, is_some, option_and_then, unwrap_or}
 use Rattle.std.specs.Option.{option_map_or}
 use Rattle.std.specs.Str.{bytes_eq}
 use Rattle.std.proofs.lemmas.Slice.Eq.{bytes_eq-Decides}
-use Rattle.ksv_yaml_tree.specs.Tree.{Pair, text_of, entry_at}
-use Rattle.ksv_yaml_tree.specs.Keys.{says, text_at}
+use Rattle.ksv_yaml_tree.specs.Tree.{Pair, line_of, text_of, mapping_of, entry_at}
+use Rattle.ksv_yaml_tree.specs.Keys.{entries_at, says, text_at}
+use Rattle.ksv_schema_scope.specs.Rows.{Row, keys_of}
 use Rattle.ksv_schema_keys.specs.declared.keys.Form.{Form}
 use Rattle.ksv_schema_keys.specs.declared.keys.MappingKind.{MappingKind}
+use Rattle.ksv_schema_keys.specs.declared.keys.MappingKind.TheVariants as kinds
 use Rattle.ksv_schema_keys.specs.declared.keys.Group.TheVariants as groups
 use Rattle.ksv_schema_keys.specs.Keys.{is_in, form_in, is_ignored}
 use Rattle.ksv_schema_keys.specs.Values.{TypeText}
-use Rattle.ksv_schema_read.specs.Faults.{Fault, fault, fault_if, unknown_key, bad_value}
-use Rattle.ksv_schema_read.specs.Rules.{form_faults, key_faults, keys_faults, Has, Says, Needs, claimed, rule_faults, ruled_faults, together}
-use Rattle.ksv_schema.proofs.Good.{front, back, not_if, not_not}
+use Rattle.ksv_schema_read.specs.Faults.{Fault, fault, fault_if, unknown_key, missing_key, bad_value}
+use Rattle.ksv_schema_read.specs.Rules.{form_faults, key_faults, keys_faults, missing, Has, Says, Needs, claimed, rule_faults, ruled_faults, together}
+use Rattle.ksv_schema_read.specs.Description.{is_root, meta_faults, type_keys_faults, type_faults}
+use Rattle.ksv_schema.proofs.Good.{front, back, not_if, not_not, implies}
 
 key_is : (kind : MappingKind) (p : Pair) (form : Form) → is_ignored p.key ≡ false → form_in kind p.key ≡ Some form → key_faults kind p ≡ form_faults p form
 unfolding key_faults
@@ -49,16 +52,33 @@ text_fits kind name form fits number es text a i f k t = at (entry_at name es) r
     at None e t = absurd cc
     at (Some p) e t = of_text p (text_of p.value) t (sym (a p) ∙ at_key kind name form es p i f k e)
 
+-- the keys at a type's `meta`
+pub meta_faultless : (n : ℕ) (r : Row) → type_faults n r ≡ [] → keys_faults (cond (is_root n) kinds.RootMeta kinds.Meta) (entries_at (codes "meta") (keys_of r)) ≡ []
+unfolding type_faults type_keys_faults meta_faults
+meta_faultless n r k = at_type (mapping_of r.value) (front _ _ k)
+  where
+    in_meta : (line : ℕ) (b : Bool) (o : Option (List Pair)) → option_map_or (λ es. cond b (keys_faults kinds.RootMeta es ++ missing (codes "id") line es) (keys_faults kinds.Meta es)) o [] ≡ [] → keys_faults (cond b kinds.RootMeta kinds.Meta) (unwrap_or o []) ≡ []
+    in_meta line b None k = refl
+    in_meta line true (Some es) k = front _ _ k
+    in_meta line false (Some es) k = k
+
+    at_meta : (o : Option Pair) → option_map_or (meta_faults n) o [] ≡ [] → keys_faults (cond (is_root n) kinds.RootMeta kinds.Meta) (unwrap_or (option_and_then (λ p. mapping_of p.value) o) []) ≡ []
+    at_meta None k = refl
+    at_meta (Some p) k = in_meta (line_of p.value) (is_root n) (mapping_of p.value) k
+
+    at_type : (o : Option (List Pair)) → option_map_or (type_keys_faults n r.line) o (fault r.line bad_value) ≡ [] → keys_faults (cond (is_root n) kinds.RootMeta kinds.Meta) (entries_at (codes "meta") (unwrap_or o [])) ≡ []
+    at_type None k = refl
+    at_type (Some es) k = at_meta (entry_at (codes "meta") es) (back _ _ k)
+
 -- ---- how often it is read
 
 -- a key that is needed where `repeat` has a text
 needed : (typed : Option TypeText) (text name : List ℕ) (es : List Pair) (line : ℕ) → rule_faults line typed es (Needs (Says (codes "repeat") text) (Has name)) ≡ [] → says (codes "repeat") text es ≡ true → is_some (entry_at name es) ≡ true
-needed typed text name es line k e = go (entry_at (codes "repeat") es) (is_some (entry_at name es)) e (not_if (is_some (claimed typed es (Says (codes "repeat") text)) && is_none (entry_at name es)) line 2 k)
+needed typed text name es line k e = implies (is_some (claimed typed es (Says (codes "repeat") text))) (is_some (entry_at name es)) line missing_key k (go (entry_at (codes "repeat") es) e)
   where
-    go : (o : Option Pair) (b : Bool) → option_map_or (bytes_eq text) (option_and_then (λ p. text_of p.value) o) false ≡ true → (is_some (cond (option_map_or (bytes_eq text) (option_and_then (λ p. text_of p.value) o) false) o None) && not b) ≡ false → b ≡ true
-    go o true e k = refl
-    go None false e k = absurd cc
-    go (Some q) false e k = let w : true ≡ false = sym (ap (λ (b : Bool). is_some (cond b (Some q) None) && true) e) ∙ k in absurd cc
+    go : (o : Option Pair) → option_map_or (bytes_eq text) (option_and_then (λ p. text_of p.value) o) false ≡ true → is_some (cond (option_map_or (bytes_eq text) (option_and_then (λ p. text_of p.value) o) false) o None) ≡ true
+    go None e = absurd cc
+    go (Some q) e = ap (λ (b : Bool). is_some (cond b (Some q) None)) e
 
 -- what `repeat` needs is there
 pub record HasRepeat (es : List Pair) : Type 0 where

@@ -4,6 +4,7 @@ use Rattle.std.specs.Prelude.{◌&&◌, is_some, map, flat_map, filter, slice_ge
 use Rattle.std.specs.List.{list_all}
 use Rattle.std.specs.Option.{option_map_or}
 use Rattle.std.specs.Str.{bytes_eq, is_utf8}
+use Rattle.std.proofs.lemmas.Bool.{and_parts}
 use Rattle.std.proofs.lemmas.List.{map-append}
 use Rattle.ksv_yaml_tree.specs.Tree.{line_of, mapping_of}
 use Rattle.ksv_expr_syntax.specs.Reading.{◌>>=◌}
@@ -21,7 +22,7 @@ use Rattle.ksv_desc.specs.Description.{MemberKind, MemberOfType, TypeOfObjects, 
 use Rattle.ksv_desc.specs.Resolved as resolved
 use Rattle.ksv_desc.specs.Resolved.{Each, IsThere, IsResolvedMember, IsResolved}
 use Rattle.ksv_desc.proofs.Tabled.{is_table}
-use Rattle.ksv_schema.proofs.Good.{front, back, not_if, two, has_both, there_next, IsGood, wrong_good, also_good, weaker, or_good, EachOf, each_from_good, each_mapped}
+use Rattle.ksv_schema.proofs.Good.{front, back, not_if, has_both, there_next, IsGood, wrong_good, also_good, weaker, or_good, EachOf, each_from_good, each_mapped}
 use Rattle.ksv_schema.proofs.Leads.{as_many, HasNumbers, member_stated, number_kept, no_shorter}
 use Rattle.ksv_schema.proofs.Fields.{AreEncodings, IsKind, kind_good}
 use Rattle.ksv_schema.proofs.OwnNames.{HasOwnName, members_own, name_is_text, AreTyped}
@@ -83,7 +84,7 @@ kept_number d name h =
 has_each : (d : Declared) (ws : List (List ℕ)) → has_names (member_names d) ws ≡ true → has_names (names_of d) ws ≡ true
 has_each d [] h = refl
 has_each d (w ∷ ws) h =
-    let hs = two (is_some (number_in (member_names d) w)) (has_names (member_names d) ws) h in
+    let hs = and_parts (is_some (number_in (member_names d) w)) (has_names (member_names d) ws) h in
     ap (λ (b : Bool). b && has_names (names_of d) ws) (is_some_there (number_in (names_of d) w) (kept_number d w hs.0)) ∙ has_each d ws hs.1
   where
     is_some_there : (o : Option ℕ) → IsThere (λ k. k < length (member_names d)) o → is_some o ≡ true
@@ -143,7 +144,7 @@ members_there : (d : Declared) (n i : ℕ) (ms : List Member) (ks : List MemberK
 members_there d n i [] ks g h = record { known = λ y s fits known. tt; given = refl }
 members_there d n i (m ∷ ms) [] g h = absurd g
 members_there d n i (m ∷ ms) (k ∷ ks) g h =
-    let hs = two (is_some (number_in (member_names d) m.name)) (has_names (member_names d) (names_in ms)) h in
+    let hs = and_parts (is_some (number_in (member_names d) m.name)) (has_names (member_names d) (names_in ms)) h in
     there_next (IsStated d m) (AreStated d (m ∷ ms)) _ (member_of (within d n) m k)
     (λ r x. there_next (AreStated d ms) (AreStated d (m ∷ ms)) _ (each_of (member_of (within d n)) ms ks)
     (λ rs xs. record { known = λ y s fits known. (x.known y s fits known, xs.known y s fits known); given = counted (is_parameter m) (resolved.is_parameter r) x.given m (filter is_parameter ms) r (filter resolved.is_parameter rs) xs.given })
