@@ -26,19 +26,13 @@ use Rattle.ksv_schema_read.specs.Rules.{form_faults, keys_faults}
 use Rattle.ksv_schema_read.specs.Values.{Home, expression, enumeration, encoding_at}
 use Rattle.ksv_schema_read.specs.Members.{Parts, parts, repeat_of, extent_of, field_of, has_encoding, needs, field, own_enum, attribute, parse_instance, value_instance, placeless, by_kind}
 use Rattle.ksv_schema_read.specs.Description.{Context, in_tree, in_extent, in_repeat, in_field, in_kind}
-use Rattle.ksv_schema.proofs.Good.{front, back, there_map, IsGood, gives_good, also_good, chosen_good, made_good, next_good, both_good, weaker, perhaps_good, must_good}
+use Rattle.ksv_schema.proofs.Good.{front, back, implies, there_map, IsGood, gives_good, also_good, chosen_good, made_good, next_good, both_good, weaker, perhaps_good, must_good}
 use Rattle.ksv_schema.proofs.Keys.{text_fits, HasRepeat, has_repeat}
 use Rattle.ksv_schema.proofs.Values.{Leads, any_leads, in_home, IsTree, IsEnumThere, IsChoice, any_enum, expression_good, enumeration_good, IsEncoded, is_text, choice_good}
 
--- ---- encodings
-
 -- each encoding in force is one of those that there are
 abbrev pub AreEncodings : Declared → Type 0
-AreEncodings d = (n : ℕ) (text : List ℕ) → encoding_of d.types n ≡ Some text → IsThere (λ (e : Encoding). Unit {0}) (encoding_named text)
-
-pub some_there : {A : Type 0} (o : Option A) → is_some o ≡ true → IsThere (λ x. Unit {0}) o
-some_there None h = absurd cc
-some_there (Some x) h = tt
+AreEncodings d = (n : ℕ) (text : List ℕ) → encoding_of d.types n ≡ Some text → is_some (encoding_named text) ≡ true
 
 -- a member leads somewhere, and is a parameter or isn't
 pub record IsKind (c : Context) (is_given : Bool) (k : MemberKind) : Type 0 where
@@ -49,32 +43,21 @@ module _ (names : List (List ℕ)) (h : Home) where
   abbrev c : Context
   c = in_home names h
 
-  -- the encoding of an attribute that has one
-  is_encoded : (kind : MappingKind) (es : List Pair) → AreEncodings h.declared → form_in kind (codes "encoding") ≡ Some forms.Coding → keys_faults kind es ≡ [] → has_encoding h es ≡ true → IsEncoded names h es
-  unfolding encoding_at form_faults is_ignored
-  is_encoded kind es a f k x = own (text_at (codes "encoding") es) (λ text t. some_there (encoding_named text) (text_fits kind (codes "encoding") forms.Coding (λ text. is_some (encoding_named text)) left_out es text (λ p. refl) refl f k t)) x
-    where
-      inherited : (o : Option (List ℕ)) → encoding_of h.declared.types h.within ≡ o → is_some o ≡ true → IsThere (λ (e : Encoding). Unit {0}) (o >>= encoding_named)
-      inherited None e x = absurd cc
-      inherited (Some text) e x = a h.within text e
+  -- ---- encodings
 
-      own : (o : Option (List ℕ)) → ((text : List ℕ) → o ≡ Some text → IsThere (λ (e : Encoding). Unit {0}) (encoding_named text)) → (is_some o || is_some (encoding_of h.declared.types h.within)) ≡ true → IsThere (λ (e : Encoding). Unit {0}) (option_map_or (λ (text : List ℕ). let r : Option (List ℕ) = Some text in r) o (encoding_of h.declared.types h.within) >>= encoding_named)
-      own None named x = inherited (encoding_of h.declared.types h.within) refl x
-      own (Some text) named x = named text refl
-
-  encoded : (a b e : Bool) (line : ℕ) → fault_if ((a || b) && not e) line missing_key ≡ [] → (a || b) ≡ true → e ≡ true
-  encoded a b true line k z = refl
-  encoded true b false line k z = absurd cc
-  encoded false true false line k z = absurd cc
-  encoded false false false line k z = absurd cc
-
-  -- the type of an attribute with needs has an encoding if it is a text
-  type_encoded : (kind : MappingKind) (line : ℕ) (es : List Pair) → AreEncodings h.declared → form_in kind (codes "encoding") ≡ Some forms.Coding → keys_faults kind es ≡ [] → needs h line (own_type es) es ≡ [] → (p : Pair) (text : List ℕ) → entry_at (codes "type") es ≡ Some p → text_of p.value ≡ Some text → is_text (type_text text) ≡ true → IsEncoded names h es
-  unfolding needs
-  type_encoded kind line es a f k n p text e t b =
+  -- an attribute has an encoding if its type is a text
+  is_encoded : (kind : MappingKind) (line : ℕ) (es : List Pair) → AreEncodings h.declared → form_in kind (codes "encoding") ≡ Some forms.Coding → keys_faults kind es ≡ [] → needs h line (own_type es) es ≡ [] → (p : Pair) (text : List ℕ) → entry_at (codes "type") es ≡ Some p → text_of p.value ≡ Some text → is_text (type_text text) ≡ true → IsEncoded names h es
+  unfolding needs encoding_at form_faults is_ignored
+  is_encoded kind line es a f k n p text e t b =
       let same : (is_a is_str (own_type es) || is_a is_strz (own_type es)) ≡ is_text (type_text text)
-      = ap (λ (o : Option Pair). is_a is_str (option_and_then type_at o) || is_a is_strz (option_and_then type_at o)) e ∙ ap (λ (o : Option (List ℕ)). is_a is_str (option_map type_text o) || is_a is_strz (option_map type_text o)) t in
-      is_encoded kind es a f k (encoded (is_a is_str (own_type es)) (is_a is_strz (own_type es)) (has_encoding h es) line (back _ _ n) (same ∙ b))
+          = ap (λ (o : Option Pair). is_a is_str (option_and_then type_at o) || is_a is_strz (option_and_then type_at o)) e ∙ ap (λ (o : Option (List ℕ)). is_a is_str (option_map type_text o) || is_a is_strz (option_map type_text o)) t in
+      go (text_at (codes "encoding") es) (encoding_of h.declared.types h.within) (λ text t. text_fits kind (codes "encoding") forms.Coding (λ text. is_some (encoding_named text)) left_out es text (λ p. refl) refl f k t) (a h.within)
+      (implies (is_a is_str (own_type es) || is_a is_strz (own_type es)) (has_encoding h es) line missing_key (back _ _ n) (same ∙ b))
+    where
+      go : (own outer : Option (List ℕ)) → ((text : List ℕ) → own ≡ Some text → is_some (encoding_named text) ≡ true) → ((text : List ℕ) → outer ≡ Some text → is_some (encoding_named text) ≡ true) → (is_some own || is_some outer) ≡ true → is_some (option_map_or (λ (text : List ℕ). let r : Option (List ℕ) = Some text in r) own outer >>= encoding_named) ≡ true
+      go (Some text) outer f g x = f text refl
+      go None (Some text) f g x = g text refl
+      go None None f g x = absurd cc
 
   -- ---- parts
 
@@ -132,7 +115,7 @@ module _ (names : List (List ℕ)) (h : Home) where
   unfolding field field_of
   field_good kind line enum es f a k e = also_good _ _ (λ n.
       let r = has_repeat kind line (own_type es) es f.read (front _ _ (front _ _ n)) in
-      chosen_good _ (parts_good es enum es e (type_encoded kind line es a f.encoding k (back _ _ (front _ _ n))))
+      chosen_good _ (parts_good es enum es e (is_encoded kind line es a f.encoding k (back _ _ (front _ _ n))))
       (λ p g. there_map IsRepeat IsField _ (repeat_of es p.count p.until)
       (λ repeat x y s fits. record { condition = any_leads c IsResolvedTree (in_tree c) p.condition g.condition y s fits; repeat = x y s fits; choice = g.choice y s fits; extent = extent_leads es p.size g.size y s fits })
       (repeat_there es p r g)))

@@ -3,7 +3,8 @@
 use Rattle.std.proofs.Common.{◌≡◌, ℕ, ◌+◌, Bool, true, false, cond, List, [], ◌∷◌, ◌++◌, sym, ◌∙◌, refl, Option, Some, None}
 use Rattle.std.specs.Prelude.{not, ◌&&◌, is_some, option_map, option_and_then, map}
 use Rattle.std.specs.Option.{option_map_or}
-use Rattle.std.proofs.lemmas.Bool.{and_parts}
+use Rattle.std.specs.List.{list_all}
+use Rattle.std.proofs.lemmas.Bool.{and_parts, and_from}
 use Rattle.std.proofs.lemmas.List.Folds.{list_all-append}
 use Rattle.ksv_yaml_tree.specs.Tree.{Pair, text_of, mapping_of}
 use Rattle.ksv_expr_syntax.specs.Reading.{◌>>=◌}
@@ -25,10 +26,6 @@ back (x ∷ xs) ys h = absurd cc
 pub not_if : (b : Bool) (line number : ℕ) → fault_if b line number ≡ [] → b ≡ false
 not_if true line number h = absurd cc
 not_if false line number h = refl
-
-pub not_not : (b : Bool) → not b ≡ false → b ≡ true
-not_not true h = refl
-not_not false h = absurd cc
 
 pub no_fault : (line number : ℕ) → fault line number ≡ [] → ⊥
 no_fault line number h = cc
@@ -156,6 +153,17 @@ each_good f n (x ∷ xs) g = made_good (λ p. p.0 ∷ p.1) (both_good (g x) (eac
 pub each_from_good : {A B : Type 0} {names : List (List ℕ)} {G : ℕ → A → B → Type 0} (P : A → Type 0) (f : ℕ → A → Reading B) (n : ℕ) (xs : List A) → Each P xs → ((n : ℕ) (x : A) → P x → IsGood names (G n x) (f n x)) → IsGood names (EachOf G n xs) (each_from f n xs)
 each_from_good P f n [] ps g = gives_good [] tt
 each_from_good P f n (x ∷ xs) ps g = made_good (λ p. p.0 ∷ p.1) (both_good (g n x ps.0) (each_from_good P f (n + 1) xs ps.1 g)) (λ p h. h)
+
+-- what holds for each one of the second list, and tests that the first one passes
+pub each_second : {A B : Type 0} (G : ℕ → A → B → Type 0) (P : B → Type 0) (n : ℕ) (xs : List A) (ys : List B) → ((i : ℕ) (x : A) (y : B) → G i x y → P y) → EachOf G n xs ys → Each P ys
+each_second G P n [] [] step g = tt
+each_second G P n (x ∷ xs) (y ∷ ys) step g = (step n x y g.0, each_second G P (n + 1) xs ys step g.1)
+each_second G P n _ _ step g = absurd g
+
+pub each_passes : {A B : Type 0} (G : ℕ → A → B → Type 0) (test : A → Bool) (n : ℕ) (xs : List A) (ys : List B) → ((i : ℕ) (x : A) (y : B) → G i x y → test x ≡ true) → EachOf G n xs ys → list_all test xs ≡ true
+each_passes G test n [] ys step g = refl
+each_passes G test n (x ∷ xs) [] step g = absurd g
+each_passes G test n (x ∷ xs) (y ∷ ys) step g = and_from (test x) (list_all test xs) (step n x y g.0) (each_passes G test (n + 1) xs ys step g.1)
 
 pub each_and : {A : Type 0} (P : A → Type 0) (xs ys : List A) → Each P xs → Each P ys → Each P (xs ++ ys)
 each_and P [] ys h k = k

@@ -3,6 +3,7 @@ use Rattle.std.proofs.Common.{◌≡◌, ℕ, Bool, true, false, cond, List, [],
 use Rattle.std.specs.Prelude.{codes, not, is_some, option_and_then, unwrap_or}
 use Rattle.std.specs.Option.{option_map_or}
 use Rattle.std.specs.Str.{bytes_eq}
+use Rattle.std.proofs.lemmas.Bool.{not-false}
 use Rattle.std.proofs.lemmas.Slice.Eq.{bytes_eq-Decides}
 use Rattle.ksv_yaml_tree.specs.Tree.{Pair, line_of, text_of, mapping_of, entry_at}
 use Rattle.ksv_yaml_tree.specs.Keys.{entries_at, says, text_at}
@@ -16,7 +17,7 @@ use Rattle.ksv_schema_keys.specs.Values.{TypeText}
 use Rattle.ksv_schema_read.specs.Faults.{Fault, fault, fault_if, unknown_key, missing_key, bad_value}
 use Rattle.ksv_schema_read.specs.Rules.{form_faults, key_faults, keys_faults, missing, Has, Says, Needs, claimed, rule_faults, ruled_faults, together}
 use Rattle.ksv_schema_read.specs.Description.{is_root, meta_faults, type_keys_faults, type_faults}
-use Rattle.ksv_schema.proofs.Good.{front, back, not_if, not_not, implies}
+use Rattle.ksv_schema.proofs.Good.{front, back, not_if, implies}
 
 key_is : (kind : MappingKind) (p : Pair) (form : Form) → is_ignored p.key ≡ false → form_in kind p.key ≡ Some form → key_faults kind p ≡ form_faults p form
 unfolding key_faults
@@ -46,7 +47,7 @@ text_fits kind name form fits number es text a i f k t = at (entry_at name es) r
   where
     of_text : (p : Pair) (o : Option (List ℕ)) → o ≡ Some text → option_map_or (λ text. fault_if (not (fits text)) p.line number) o (fault p.line bad_value) ≡ [] → fits text ≡ true
     of_text p None t n = absurd cc
-    of_text p (Some other) t n = let same : other ≡ text = cc in ap fits (sym same) ∙ not_not (fits other) (not_if (not (fits other)) p.line number n)
+    of_text p (Some other) t n = let same : other ≡ text = cc in ap fits (sym same) ∙ not-false (fits other) (not_if (not (fits other)) p.line number n)
 
     at : (o : Option Pair) → entry_at name es ≡ o → option_and_then (λ p. text_of p.value) o ≡ Some text → fits text ≡ true
     at None e t = absurd cc

@@ -34,9 +34,8 @@ enum_within types enums n before (name ∷ next ∷ names) e h = enum_within typ
 
 pub as_many : {A B : Type 0} (G : ℕ → A → B → Type 0) (n : ℕ) (xs : List A) (ys : List B) → EachOf G n xs ys → length ys ≡ length xs
 as_many G n [] [] g = refl
-as_many G n [] (y ∷ ys) g = absurd g
-as_many G n (x ∷ xs) [] g = absurd g
 as_many G n (x ∷ xs) (y ∷ ys) g = ap suc (as_many G (n + 1) xs ys g.1)
+as_many G n _ _ g = absurd g
 
 each_at : {A B : Type 0} (G : ℕ → A → B → Type 0) (n : ℕ) (xs : List A) (ys : List B) (i : ℕ) (x : A) → EachOf G n xs ys → slice_get xs i ≡ Some x → IsThere (λ y. (k : ℕ) × G k x y) (slice_get ys i)
 each_at G n [] ys i x g h = absurd cc

@@ -21,8 +21,9 @@ use Rattle.ksv_desc.specs.Names.{distinct, number_in, has_names, AreDistinct}
 use Rattle.ksv_desc.specs.Description.{MemberKind, MemberOfType, TypeOfObjects, Enum, Description, as_text}
 use Rattle.ksv_desc.specs.Resolved as resolved
 use Rattle.ksv_desc.specs.Resolved.{Each, IsThere, IsResolvedMember, IsResolved}
+use Rattle.ksv_desc.proofs.Dots.{distinct_append}
 use Rattle.ksv_desc.proofs.Tabled.{is_table}
-use Rattle.ksv_schema.proofs.Good.{front, back, not_if, has_both, there_next, IsGood, wrong_good, also_good, weaker, or_good, EachOf, each_from_good, each_mapped}
+use Rattle.ksv_schema.proofs.Good.{front, back, not_if, has_both, there_next, IsGood, wrong_good, also_good, weaker, or_good, EachOf, each_passes, each_from_good, each_mapped}
 use Rattle.ksv_schema.proofs.Leads.{as_many, HasNumbers, member_stated, number_kept, no_shorter}
 use Rattle.ksv_schema.proofs.Fields.{AreEncodings, IsKind, kind_good}
 use Rattle.ksv_schema.proofs.OwnNames.{HasOwnName, members_own, name_is_text, AreTyped}
@@ -58,16 +59,9 @@ all_good d a =
     (λ n ms own. also_good _ _ (λ k. each_from_good HasOwnName (member d n) 0 ms own (λ i m o. member_good d n i m a o)))
 
 -- their names are texts
-names_are_texts : (d : Declared) (n i : ℕ) (ms : List Member) (ks : List MemberKind) → AreMembers d n i ms ks → list_all (λ m. is_utf8 m.name) ms ≡ true
-names_are_texts d n i [] ks g = refl
-names_are_texts d n i (m ∷ ms) [] g = absurd g
-names_are_texts d n i (m ∷ ms) (k ∷ ks) g = ap (λ (b : Bool). b && list_all (λ m. is_utf8 m.name) ms) g.0.text ∙ names_are_texts d n (i + 1) ms ks g.1
-
-all_are_texts : (d : Declared) (n : ℕ) (mss : List (List Member)) (kss : List (List MemberKind)) → EachOf (λ n. AreMembers d n 0) n mss kss → list_all are_texts mss ≡ true
+are_all_texts : (d : Declared) (mss : List (List Member)) (kss : List (List MemberKind)) → EachOf (λ n. AreMembers d n 0) 0 mss kss → list_all are_texts mss ≡ true
 unfolding are_texts
-all_are_texts d n [] kss g = refl
-all_are_texts d n (ms ∷ mss) [] g = absurd g
-all_are_texts d n (ms ∷ mss) (ks ∷ kss) g = ap (λ (b : Bool). b && list_all are_texts mss) (names_are_texts d n 0 ms ks g.0) ∙ all_are_texts d (n + 1) mss kss g.1
+are_all_texts d mss kss = each_passes (λ n. AreMembers d n 0) are_texts 0 mss kss (λ n ms ks. each_passes (λ i. IsMember d n) (λ m. is_utf8 m.name) 0 ms ks (λ i m k g. g.text))
 
 -- ---- names
 
@@ -75,37 +69,33 @@ all_are_texts d n (ms ∷ mss) (ks ∷ kss) g = ap (λ (b : Bool). b && list_all
 abbrev own_names : List Row → List (List ℕ)
 own_names rs = flat_map names_in (map members_of rs)
 
+same_names : (rs : List Row) → own_names rs ≡ map (λ m. m.name) (scope.all_members rs)
+same_names [] = refl
+same_names (r ∷ rs) = ap (λ (ws : List (List ℕ)). names_in (members_of r) ++ ws) (same_names rs) ∙ sym (map-append (λ (m : Member). m.name) (members_of r) (scope.all_members rs))
+
+-- the names are those of members and the words
+record HasNames (d : Declared) : Type 0 where
+  known : has_names (member_names d) (own_names d.types) ≡ true
+  all : has_names (names_of d) (own_names d.types ++ (all_members d).words) ≡ true
+  distinct : AreDistinct (names_of d)
+
+has_all_names : (d : Declared) → HasNames d
+unfolding names_of member_names distinct
+has_all_names d =
+    let own = own_names d.types in
+    let words = (all_members d).words in
+    let all = is_table [] (own ++ words) in
+    record {
+      known = (is_table [] own).has_added;
+      all = ap (λ (ns : List (List ℕ)). has_names ns (own ++ words)) (sym (distinct_append [] own words)) ∙ all.has_added;
+      distinct = subst AreDistinct (distinct_append [] own words) (all.stays_distinct (λ k w h. absurd cc));
+    }
+
 kept_number : (d : Declared) (name : List ℕ) → is_some (number_in (member_names d) name) ≡ true → IsThere (λ k. k < length (member_names d)) (number_in (names_of d) name)
 unfolding names_of number_in
 kept_number d name h =
     let k = some_is (number_in (member_names d) name) h in
     subst (IsThere (λ k. k < length (member_names d))) (sym (number_kept (member_names d) (all_members d).words name k.0 k.1)) (place_within (bytes_eq name) (member_names d) k.0 k.1)
-
-has_each : (d : Declared) (ws : List (List ℕ)) → has_names (member_names d) ws ≡ true → has_names (names_of d) ws ≡ true
-has_each d [] h = refl
-has_each d (w ∷ ws) h =
-    let hs = and_parts (is_some (number_in (member_names d) w)) (has_names (member_names d) ws) h in
-    ap (λ (b : Bool). b && has_names (names_of d) ws) (is_some_there (number_in (names_of d) w) (kept_number d w hs.0)) ∙ has_each d ws hs.1
-  where
-    is_some_there : (o : Option ℕ) → IsThere (λ k. k < length (member_names d)) o → is_some o ≡ true
-    is_some_there None t = absurd t
-    is_some_there (Some k) t = refl
-
-all_known : (d : Declared) → has_names (member_names d) (own_names d.types) ≡ true
-unfolding member_names distinct
-all_known d = (is_table [] (own_names d.types)).has_added
-
-all_words : (d : Declared) → has_names (names_of d) (all_members d).words ≡ true
-unfolding names_of
-all_words d = (is_table (member_names d) (all_members d).words).has_added
-
-all_distinct : (d : Declared) → AreDistinct (names_of d)
-unfolding names_of member_names distinct
-all_distinct d = (is_table (member_names d) (all_members d).words).stays_distinct ((is_table [] (own_names d.types)).stays_distinct (λ k w h. absurd cc))
-
-same_names : (rs : List Row) → own_names rs ≡ map (λ m. m.name) (scope.all_members rs)
-same_names [] = refl
-same_names (r ∷ rs) = ap (λ (ws : List (List ℕ)). names_in (members_of r) ++ ws) (same_names rs) ∙ sym (map-append (λ (m : Member). m.name) (members_of r) (scope.all_members rs))
 
 -- ---- members with the numbers of their names
 
@@ -129,7 +119,7 @@ member_there d n m k g h = go (is_utf8 m.name) g.text
     go true e = numbered (number_in (names_of d) m.name) (kept_number d m.name h)
     go false e = absurd cc
 
--- of members and what is stated of them equally many are parameters
+-- equally many are parameters
 counted : (a b : Bool) → a ≡ b → (m : Member) (ms : List Member) (r : MemberOfType) (rs : List MemberOfType) → length ms ≡ length rs → length (cond a (m ∷ ms) ms) ≡ length (cond b (r ∷ rs) rs)
 counted true true e m ms r rs l = ap suc l
 counted true false e m ms r rs l = absurd cc
@@ -190,25 +180,26 @@ types_there d n (r ∷ rs) (ks ∷ kss) v g h =
 resolved_with : (d : Declared) (ts : List TypeOfObjects) (es : List Enum) → AreTypes d d.types ts → EachOf (λ i. HasNumbers) 0 d.enums es → IsResolved (record { types = ts; enums = es; names = names_of d; known = length (member_names d) })
 unfolding names_of members_within parameters_within
 resolved_with d ts es t e =
+    let names = has_all_names d in
     let x : Description = record { types = ts; enums = es; names = names_of d; known = length (member_names d) } in
     let fits : Fits d x = record {
       types = t.as_many;
       enums = as_many (λ i. HasNumbers) 0 d.enums es e;
       parameters = t.counted;
-      members = ap (has_names (names_of d)) (sym (same_names d.types)) ∙ has_each d (own_names d.types) (all_known d);
+      members = ap (has_names (names_of d)) (sym (same_names d.types)) ∙ (has_both (names_of d) (own_names d.types) (all_members d).words names.all).0;
       entries = member_stated d.enums x e;
     } in
-    record { distinct = all_distinct d; known = no_shorter (member_names d) (all_members d).words; members = t.known x refl fits refl }
+    record { distinct = names.distinct; known = no_shorter (member_names d) (all_members d).words; members = t.known x refl fits refl }
 
 pub declared_good : (d : Declared) → AreTyped d.types → faults_of d ≡ [] → IsThere IsResolved (stated_by d)
 unfolding faults_of stated_by described
 declared_good d v k =
-    go (all_members d).value (all_enums d).value ((all_good d (are_encodings d (back _ _ (front _ _ (front _ _ k))))).is (back _ _ (front _ _ k)) (all_words d)) (enums_there d (back _ _ k))
+    go (all_members d).value (all_enums d).value ((all_good d (are_encodings d (back _ _ (front _ _ (front _ _ k))))).is (back _ _ (front _ _ k)) (has_both (names_of d) (own_names d.types) (all_members d).words (has_all_names d).all).1) (enums_there d (back _ _ k))
   where
     go : (ks : Option (List (List MemberKind))) (es : Option (List Enum)) → IsThere (EachOf (λ n. AreMembers d n 0) 0 (map members_of d.types)) ks → IsThere (EachOf (λ i. HasNumbers) 0 d.enums) es
         → IsThere IsResolved (cond (list_all are_texts (map members_of d.types)) (ks >>= λ ks. types_of d (names_of d) 0 d.types ks >>= λ ts. es >>= λ es. Some (record { types = ts; enums = es; names = names_of d; known = length (member_names d) })) None)
     go None es g h = absurd g
     go (Some ks) None g h = absurd h
     go (Some ks) (Some es) g h =
-        subst (λ (b : Bool). IsThere IsResolved (cond b (types_of d (names_of d) 0 d.types ks >>= λ ts. Some (record { types = ts; enums = es; names = names_of d; known = length (member_names d) })) None)) (sym (all_are_texts d 0 (map members_of d.types) ks g))
-        (there_next (AreTypes d d.types) IsResolved _ (types_of d (names_of d) 0 d.types ks) (λ ts t. resolved_with d ts es t h) (types_there d 0 d.types ks v g (all_known d)))
+        subst (λ (b : Bool). IsThere IsResolved (cond b (types_of d (names_of d) 0 d.types ks >>= λ ts. Some (record { types = ts; enums = es; names = names_of d; known = length (member_names d) })) None)) (sym (are_all_texts d (map members_of d.types) ks g))
+        (there_next (AreTypes d d.types) IsResolved _ (types_of d (names_of d) 0 d.types ks) (λ ts t. resolved_with d ts es t h) (types_there d 0 d.types ks v g (has_all_names d).known))

@@ -2,6 +2,7 @@
 use Rattle.std.proofs.Common.{◌≡◌, ℕ, ◌+◌, Bool, true, false, cond, List, [], ◌∷◌, ◌++◌, length, subst, refl, Option, Some, None, arith, rules as known_rules}
 use Rattle.std.specs.Prelude.{codes, not, ◌==◌, ◌&&◌, map, flat_map, unwrap_or, decimal, slice_get}
 use Rattle.std.specs.Str.{bytes_eq, is_utf8, IsUtf8}
+use Rattle.std.proofs.lemmas.Bool.{not-false}
 use Rattle.std.proofs.lemmas.Bool.Decides.{nat_tests}
 use Rattle.std.proofs.lemmas.Str.{is_utf8-from_IsUtf8, IsUtf8-from_ascii, IsUtf8-append}
 use Rattle.std.proofs.lemmas.Str.Ascii.{IsAscii-nil, IsAscii-from_all}
@@ -22,7 +23,7 @@ use Rattle.ksv_schema_read.specs.Rules.{form_faults, keys_faults}
 use Rattle.ksv_schema_read.specs.Members.{is_instance}
 use Rattle.ksv_schema_read.specs.Description.{type_faults, all_types_faults}
 use Rattle.ksv_desc.specs.Resolved.{Each}
-use Rattle.ksv_schema.proofs.Good.{front, back, not_if, not_not, each_and, each_mapped}
+use Rattle.ksv_schema.proofs.Good.{front, back, not_if, each_and, each_mapped}
 use Rattle.ksv_schema.proofs.Keys.{text_fits, meta_faultless}
 
 -- ---- texts
@@ -78,7 +79,7 @@ members_own r = of_keys (keys_of r)
 -- the name of a member without faults is a text
 pub name_is_text : (role : Role) (name : List ℕ) (t : Tree) (es : List Pair) → HasOwnName (record { role = role; line = 0; name = name; value = t }) → (is_instance role && not (is_id name)) ≡ false → mapping_of t ≡ Some es → keys_faults (kind_of role es) es ≡ [] → is_utf8 name ≡ true
 unfolding form_in form_among
-name_is_text Instance name t es own i e k = id_is_text name (not_not (is_id name) i)
+name_is_text Instance name t es own i e k = id_is_text name (not-false (is_id name) i)
 name_is_text Parameter name t es own i e k = let n = own refl in rw (n.1, e) (id_or kinds.Parameter es _ refl k (unnamed_is_text Parameter n.0))
 name_is_text Attribute name t es own i e k = let n = own refl in rw (n.1, e) (id_or kinds.Attribute es _ refl k (unnamed_is_text Attribute n.0))
 

@@ -35,7 +35,7 @@ tree_resolved t d s = subst (IsThere IsResolved) s.is (tree_good t s.faultless)
 
 -- ---- what is declared, and the tree
 
-pub faultless : (t : Tree) → noted None (faults_of (declared_in t)) ≡ None → faults t ≡ []
+faultless : (t : Tree) → noted None (faults_of (declared_in t)) ≡ None → faults t ≡ []
 unfolding faults
 faultless t h = nothing_noted (faults_of (declared_in t)) (sym h)
 
@@ -47,15 +47,9 @@ pub states : (t : Tree) (d : Description) → noted None (faults_of (declared_in
 unfolding stated
 states t d h s = record { faultless = faultless t h; is = s }
 
-pub resolved : (t : Tree) (d : Description) → noted None (faults_of (declared_in t)) ≡ None → stated_by (declared_in t) ≡ Some d → IsResolved d
-resolved t d h s = tree_resolved t d (states t d h s)
-
 pub never_none : (t : Tree) → noted None (faults_of (declared_in t)) ≡ None → stated_by (declared_in t) ≡ None → ⊥
 unfolding stated
-never_none t h s = let r = tree_states t (faultless t h) in apart r.0 (sym s ∙ r.1.is)
-  where
-    apart : (d : Description) → None ≡ Some d → ⊥
-    apart d h = cc
+never_none t h s = subst (IsThere IsResolved) s (tree_good t (faultless t h))
 
 -- ---- one fault
 

@@ -1,6 +1,7 @@
 -- What is read at a key is good: it leads somewhere once its names have their numbers.
 use Rattle.std.proofs.Common.{◌≡◌, ℕ, suc, ◌+◌, Bool, true, false, List, [], ◌∷◌, ◌++◌, length, sym, ap, subst, ◌∙◌, refl, Option, Some, None, arith}
-use Rattle.std.specs.Prelude.{codes, not, ◌==◌, ◌&&◌, ◌||◌, option_map, option_to_list, map}
+use Rattle.std.specs.Prelude.{codes, is_some, not, ◌==◌, ◌&&◌, ◌||◌, option_map, option_to_list, map}
+use Rattle.std.proofs.lemmas.Bool.{not-false, both_ways}
 use Rattle.std.proofs.lemmas.Bool.Decides.{Decides-eqb}
 use Rattle.ksv_yaml_tree.specs.Tree.{Tree, Pair, line_of, text_of, is_quoted, mapping_of, list_of, entry_at}
 use Rattle.ksv_expr_tree.specs.Tree as expressions
@@ -28,7 +29,7 @@ use Rattle.ksv_schema_read.specs.Reading.{each}
 use Rattle.ksv_schema_read.specs.Values.{Home, position_at, name_fault, least_name, of_expression, expression, arguments, of_path, enumeration, of_piece, item, items, contents, order_at, encoding_at, of_language, counts_differ, of_type, of_case_key, case_value, case_against, case, switch, typed, content_or_type, choice}
 use Rattle.ksv_schema_read.specs.Description.{Context, in_tree, in_content, in_case, in_choice}
 use Rattle.ksv_schema.proofs.Leads.{enum_within}
-use Rattle.ksv_schema.proofs.Good.{front, not_if, not_not, there_map, IsGood, gives_good, wrong_good, found_good, also_good, made_good, both_good, if_good, or_good, perhaps_good, must_good, weaker, text_good, mapping_good, EachOf, each_good}
+use Rattle.ksv_schema.proofs.Good.{front, not_if, there_map, IsGood, gives_good, wrong_good, found_good, also_good, made_good, both_good, if_good, or_good, perhaps_good, must_good, weaker, text_good, mapping_good, EachOf, each_good}
 
 -- ---- what leads somewhere
 
@@ -43,9 +44,8 @@ any_leads c Q f (Some x) g y s fits = g y s fits
 
 each_leads : {A B X : Type 0} (c : Context) (Q : Description → B → Type 0) (f : A → B) (n : ℕ) (ps : List X) (xs : List A) → EachOf (λ i p x. Leads c Q (f x)) n ps xs → Leads c (λ y. Each (Q y)) (map f xs)
 each_leads c Q f n [] [] g y s fits = tt
-each_leads c Q f n [] (x ∷ xs) g y s fits = absurd g
-each_leads c Q f n (p ∷ ps) [] g y s fits = absurd g
 each_leads c Q f n (p ∷ ps) (x ∷ xs) g y s fits = (g.0 y s fits, each_leads c Q f (n + 1) ps xs g.1 y s fits)
+each_leads c Q f n _ _ g y s fits = absurd g
 
 -- where a mapping is, and the names
 abbrev pub in_home : List (List ℕ) → Home → Context
@@ -59,12 +59,6 @@ IsEnumThere c e = Leads c IsEnum e
 
 abbrev pub IsContent : Context → Content → Type 0
 IsContent c x = Leads c IsResolvedContent (in_content c x)
-
-abbrev IsValue : Context → Option CaseValue → Type 0
-IsValue c v = Leads c (λ y. IfAny (IsResolvedValue y)) v
-
-abbrev IsCase : Context → Case → Type 0
-IsCase c x = Leads c IsResolvedCase (in_case c x)
 
 abbrev pub IsChoice : Context → Choice → Type 0
 IsChoice c x = Leads c IsResolvedChoice (in_choice c x)
@@ -161,18 +155,22 @@ module _ (names : List (List ℕ)) (h : Home) where
 
   -- an attribute of these keys has an encoding
   abbrev pub IsEncoded : List Pair → Type 0
-  IsEncoded es = IsThere (λ (e : Encoding). Unit {0}) (encoding_at h es)
+  IsEncoded es = is_some (encoding_at h es) ≡ true
+
+  characters : (o : Option Encoding) → is_some o ≡ true → IsThere (IsContent c) (option_map Characters o)
+  characters None i = absurd cc
+  characters (Some e) i = λ y s fits. tt
 
   of_language_good : (enum : Option ℕ) (es : List Pair) (line : ℕ) (b : BuiltIn) (given : expressions.Arguments) → IfAny (IsEnumThere c) enum → (is_text (OfLanguage b given) ≡ true → IsEncoded es) → IsGood names (IsContent c) (of_language h enum es line b)
   of_language_good enum es line (Integer signed bytes order) given e t = made_good (λ order. Number signed bytes order enum) (found_good {G = λ order. Unit {0}} line no_byte_order (order_at h bytes order) (λ order f. tt)) (λ order g. any_enum c enum e)
-  of_language_good enum es line Str given e t = record { is = λ k w. there_map (λ (e : Encoding). Unit {0}) (IsContent c) Characters (encoding_at h es) (λ e g y s fits. tt) (t refl) }
-  of_language_good enum es line Strz given e t = record { is = λ k w. there_map (λ (e : Encoding). Unit {0}) (IsContent c) Characters (encoding_at h es) (λ e g y s fits. tt) (t refl) }
+  of_language_good enum es line Str given e t = record { is = λ k w. characters (encoding_at h es) (t refl) }
+  of_language_good enum es line Strz given e t = record { is = λ k w. characters (encoding_at h es) (t refl) }
   of_language_good enum es line NotHere given e t = wrong_good line left_out
 
   -- as many arguments as parameters
   as_many : (given line t : ℕ) (n : Option ℕ) → fault_if (counts_differ h given n) line wrong_count ≡ [] → n ≡ Some t → length (parameters_within h.declared.types t) ≡ given
   as_many given line t n k e =
-      (Decides-eqb (length (parameters_within h.declared.types t)) given).0 (not_not (length (parameters_within h.declared.types t) == given) (ap (counts_differ h given) (sym e) ∙ not_if (counts_differ h given n) line wrong_count k))
+      (Decides-eqb (length (parameters_within h.declared.types t)) given).0 (not-false (length (parameters_within h.declared.types t) == given) (ap (counts_differ h given) (sym e) ∙ not_if (counts_differ h given n) line wrong_count k))
 
   of_type_good : (enum : Option ℕ) (es : List Pair) (line : ℕ) (t : TypeText) → IfAny (IsEnumThere c) enum → (is_text t ≡ true → IsEncoded es) → IsGood names (IsContent c) (of_type h enum es line t)
   unfolding of_type
@@ -186,7 +184,7 @@ module _ (names : List (List ℕ)) (h : Home) where
 
   -- switches
 
-  of_case_key_good : (line : ℕ) (v : CaseKey) → IsGood names (IsValue c) (of_case_key h line v)
+  of_case_key_good : (line : ℕ) (v : CaseKey) → IsGood names (Leads c (λ y. IfAny (IsResolvedValue y))) (of_case_key h line v)
   unfolding of_case_key
   of_case_key_good line (Constant k) = gives_good _ (λ y s fits. tt)
   of_case_key_good line (Negative n) = gives_good _ (λ y s fits. tt)
@@ -194,7 +192,7 @@ module _ (names : List (List ℕ)) (h : Home) where
   of_case_key_good line Default = gives_good None (λ y s fits. tt)
   of_case_key_good line NoKey = wrong_good line bad_value
 
-  case_value_good : (line : ℕ) (o : Option expressions.Tree) → IsGood names (IsValue c) (case_value h line o)
+  case_value_good : (line : ℕ) (o : Option expressions.Tree) → IsGood names (Leads c (λ y. IfAny (IsResolvedValue y))) (case_value h line o)
   unfolding case_value
   case_value_good line None = wrong_good line no_expression
   case_value_good line (Some e) = of_case_key_good line (case_key e)
@@ -202,9 +200,9 @@ module _ (names : List (List ℕ)) (h : Home) where
   -- a case has no text
   no_text : (es : List Pair) (line : ℕ) (t : TypeText) → case_against h es line t ≡ [] → is_text t ≡ true → ⊥
   unfolding case_against
-  no_text es line t k b = let z : false ≡ true = sym (not_if (is_text t) line left_out (front _ _ (front _ _ (front _ _ (front _ _ k))))) ∙ b in cc
+  no_text es line t k = both_ways (is_text t) (not_if (is_text t) line left_out (front _ _ (front _ _ (front _ _ (front _ _ k)))))
 
-  case_good : (beside : List Pair) (enum : Option ℕ) (es : List Pair) (p : Pair) → IfAny (IsEnumThere c) enum → IsGood names (IsCase c) (case h beside enum es p)
+  case_good : (beside : List Pair) (enum : Option ℕ) (es : List Pair) (p : Pair) → IfAny (IsEnumThere c) enum → IsGood names (λ x. Leads c IsResolvedCase (in_case c x)) (case h beside enum es p)
   unfolding case
   case_good beside enum es p e =
       made_good _ (both_good (case_value_good p.line (expression_of p.key)) (text_good _ p (λ text t. also_good _ _ (λ k. of_type_good enum es p.line (type_text text) e (λ b. absurd (no_text beside p.line (type_text text) k b))))))

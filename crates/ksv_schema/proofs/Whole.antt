@@ -24,56 +24,35 @@ use Rattle.ksv_desc.specs.Names.{distinct_behind}
 use Rattle.ksv_desc.specs.Resolved.{Each, IsThere}
 use Rattle.ksv_desc.proofs.Tabled.{is_table}
 use Rattle.ksv_schema.proofs.Good.{front, back, IsGood, gives_good, wrong_good, also_good, made_good, both_good, if_good, or_good, must_good, text_good, mapping_good, EachOf, each_good, each_from_good}
-use Rattle.ksv_schema.proofs.Keys.{text_fits}
+use Rattle.ksv_schema.proofs.Keys.{text_fits, meta_faultless}
 use Rattle.ksv_schema.proofs.Leads.{HasNumber, HasNumbers}
-use Rattle.ksv_schema.proofs.Fields.{AreEncodings, some_there}
+use Rattle.ksv_schema.proofs.Fields.{AreEncodings}
 
 -- ---- encodings in force
 
-abbrev IsEncoding : List ℕ → Type 0
-IsEncoding text = IsThere (λ (e : Encoding). Unit {0}) (encoding_named text)
+-- the encoding that a type without faults sets
+type_encoding : (n : ℕ) (r : Row) (text : List ℕ) → type_faults n r ≡ [] → text_at (codes "encoding") (entries_at (codes "meta") (keys_of r)) ≡ Some text → is_some (encoding_named text) ≡ true
+unfolding is_ignored form_faults form_in form_among
+type_encoding n r text k t = text_fits (cond (is_root n) kinds.RootMeta kinds.Meta) (codes "encoding") forms.Coding (λ text. is_some (encoding_named text)) left_out _ text (λ p. refl) refl (coded (is_root n)) (meta_faultless n r k) t
+  where
+    coded : (b : Bool) → form_in (cond b kinds.RootMeta kinds.Meta) (codes "encoding") ≡ Some forms.Coding
+    coded true = refl
+    coded false = refl
 
 faultless_at : (k : ℕ) (rs : List Row) (i : ℕ) (r : Row) → all_types_faults k rs ≡ [] → slice_get rs i ≡ Some r → (n : ℕ) × (type_faults n r ≡ [])
 faultless_at k [] i r h e = absurd cc
 faultless_at k (y ∷ ys) zero r h e = let same : y ≡ r = cc in (k, ap (type_faults k) (sym same) ∙ front (type_faults k y) (all_types_faults (k + 1) ys) h)
 faultless_at k (y ∷ ys) (suc i) r h e = faultless_at (k + 1) ys i r (back (type_faults k y) (all_types_faults (k + 1) ys) h) e
 
--- the encoding that a mapping with this key sets
-coding : (kind : MappingKind) (es : List Pair) (text : List ℕ) → form_in kind (codes "encoding") ≡ Some forms.Coding → keys_faults kind es ≡ [] → text_at (codes "encoding") es ≡ Some text → IsEncoding text
-unfolding is_ignored form_faults
-coding kind es text f k t = some_there (encoding_named text) (text_fits kind (codes "encoding") forms.Coding (λ text. is_some (encoding_named text)) left_out es text (λ p. refl) refl f k t)
-
--- the encoding that a type without faults sets
-meta_encoding : (n : ℕ) (p : Pair) (text : List ℕ) → meta_faults n p ≡ [] → text_at (codes "encoding") (unwrap_or (mapping_of p.value) []) ≡ Some text → IsEncoding text
-unfolding meta_faults form_in form_among
-meta_encoding n p text k t = mapped (is_root n) (mapping_of p.value) k t
-  where
-    mapped : (b : Bool) (o : Option (List Pair)) → option_map_or (λ es. cond b (keys_faults kinds.RootMeta es ++ missing (codes "id") (line_of p.value) es) (keys_faults kinds.Meta es)) o [] ≡ [] → text_at (codes "encoding") (unwrap_or o []) ≡ Some text → IsEncoding text
-    mapped b None k t = absurd cc
-    mapped true (Some ms) k t = coding kinds.RootMeta ms text refl (front _ _ k) t
-    mapped false (Some ms) k t = coding kinds.Meta ms text refl k t
-
-type_encoding : (n : ℕ) (r : Row) (text : List ℕ) → type_faults n r ≡ [] → text_at (codes "encoding") (entries_at (codes "meta") (keys_of r)) ≡ Some text → IsEncoding text
-unfolding type_faults type_keys_faults
-type_encoding n r text k t = go (mapping_of r.value) (front _ _ k) t
-  where
-    at_meta : (o : Option Pair) → option_map_or (meta_faults n) o [] ≡ [] → text_at (codes "encoding") (unwrap_or (option_and_then (λ p. mapping_of p.value) o) []) ≡ Some text → IsEncoding text
-    at_meta None k t = absurd cc
-    at_meta (Some p) k t = meta_encoding n p text k t
-
-    go : (o : Option (List Pair)) → option_map_or (type_keys_faults n r.line) o (fault r.line bad_value) ≡ [] → text_at (codes "encoding") (entries_at (codes "meta") (unwrap_or o [])) ≡ Some text → IsEncoding text
-    go None k t = absurd cc
-    go (Some es) k t = at_meta (entry_at (codes "meta") es) (back _ _ k) t
-
 pub are_encodings : (d : Declared) → all_types_faults 0 d.types ≡ [] → AreEncodings d
 unfolding encoding_of keys_at
 are_encodings d k n text e =
     let r = is_bound (setting (codes "encoding") d.types) _ text e in
-    go r.0 (slice_get d.types r.0) refl r.2
+    go (slice_get d.types r.0) (faultless_at 0 d.types r.0) r.2
   where
-    go : (m : ℕ) (o : Option Row) → slice_get d.types m ≡ o → text_at (codes "encoding") (entries_at (codes "meta") (option_map_or keys_of o [])) ≡ Some text → IsEncoding text
-    go m None e t = absurd cc
-    go m (Some r) e t = let f = faultless_at 0 d.types m r k e in type_encoding f.0 r text f.1 t
+    go : (o : Option Row) → ((r : Row) → all_types_faults 0 d.types ≡ [] → o ≡ Some r → (n : ℕ) × (type_faults n r ≡ [])) → text_at (codes "encoding") (entries_at (codes "meta") (option_map_or keys_of o [])) ≡ Some text → is_some (encoding_named text) ≡ true
+    go None f t = absurd cc
+    go (Some r) f t = let g = f r k refl in type_encoding g.0 r text g.1 t
 
 -- ---- enums
 
