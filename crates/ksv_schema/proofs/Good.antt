@@ -1,7 +1,7 @@
 -- A reading that is good: without faults there is a value, and something holds for it. One lemma for each way to put readings
 -- together.
-use Rattle.std.proofs.Common.{◌≡◌, ℕ, ◌+◌, Bool, true, false, cond, List, [], ◌∷◌, ◌++◌, sym, ◌∙◌, refl, Option, Some, None}
-use Rattle.std.specs.Prelude.{not, ◌&&◌, is_some, option_map, option_and_then, map}
+use Rattle.std.proofs.Common.{◌≡◌, ℕ, zero, suc, ◌+◌, Bool, true, false, cond, List, [], ◌∷◌, ◌++◌, length, sym, ap, subst, ◌∙◌, refl, Option, Some, None}
+use Rattle.std.specs.Prelude.{not, ◌&&◌, is_some, option_map, option_and_then, map, slice_get}
 use Rattle.std.specs.Option.{option_map_or}
 use Rattle.std.specs.List.{list_all}
 use Rattle.std.proofs.lemmas.Bool.{and_parts, and_from}
@@ -164,6 +164,17 @@ pub each_passes : {A B : Type 0} (G : ℕ → A → B → Type 0) (test : A → 
 each_passes G test n [] ys step g = refl
 each_passes G test n (x ∷ xs) [] step g = absurd g
 each_passes G test n (x ∷ xs) (y ∷ ys) step g = and_from (test x) (list_all test xs) (step n x y g.0) (each_passes G test (n + 1) xs ys step g.1)
+
+pub as_many : {A B : Type 0} (G : ℕ → A → B → Type 0) (n : ℕ) (xs : List A) (ys : List B) → EachOf G n xs ys → length ys ≡ length xs
+as_many G n [] [] g = refl
+as_many G n (x ∷ xs) (y ∷ ys) g = ap suc (as_many G (n + 1) xs ys g.1)
+as_many G n _ _ g = absurd g
+
+pub each_at : {A B : Type 0} (G : ℕ → A → B → Type 0) (n : ℕ) (xs : List A) (ys : List B) (i : ℕ) (x : A) → EachOf G n xs ys → slice_get xs i ≡ Some x → IsThere (λ y. (k : ℕ) × G k x y) (slice_get ys i)
+each_at G n [] ys i x g h = absurd cc
+each_at G n (v ∷ vs) [] i x g h = absurd g
+each_at G n (v ∷ vs) (y ∷ ys) zero x g h = let same : v ≡ x = cc in (n, subst (λ v. G n v y) same g.0)
+each_at G n (v ∷ vs) (y ∷ ys) (suc i) x g h = each_at G (n + 1) vs ys i x g.1 h
 
 pub each_and : {A : Type 0} (P : A → Type 0) (xs ys : List A) → Each P xs → Each P ys → Each P (xs ++ ys)
 each_and P [] ys h k = k

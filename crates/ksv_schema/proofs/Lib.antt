@@ -1,7 +1,6 @@
 -- Lemmas of the crate.
 pub mod Good
 pub mod Keys
-pub mod Leads
 pub mod Values
 pub mod Fields
 pub mod OwnNames

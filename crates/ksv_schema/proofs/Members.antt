@@ -1,11 +1,11 @@
 -- Without faults each member and type is stated, and leads somewhere.
-use Rattle.std.proofs.Common.{◌≡◌, ℕ, zero, suc, ◌+◌, ◌<◌, Bool, true, false, cond, List, [], ◌∷◌, ◌++◌, length, sym, ap, subst, ◌∙◌, refl, Option, Some, None, arith}
+use Rattle.std.proofs.Common.{◌≡◌, ℕ, zero, suc, ◌+◌, ◌<◌, ◌≤◌, Bool, true, false, cond, List, [], ◌∷◌, ◌++◌, length, sym, ap, subst, ◌∙◌, refl, Option, Some, None, arith}
 use Rattle.std.specs.Prelude.{◌&&◌, is_some, map, flat_map, filter, slice_get}
-use Rattle.std.specs.List.{list_all}
+use Rattle.std.specs.List.{list_all, list_any, position_from}
 use Rattle.std.specs.Option.{option_map_or}
 use Rattle.std.specs.Str.{bytes_eq, is_utf8}
 use Rattle.std.proofs.lemmas.Bool.{and_parts}
-use Rattle.std.proofs.lemmas.List.{map-append}
+use Rattle.std.proofs.lemmas.List.{map-append, length-append}
 use Rattle.ksv_yaml_tree.specs.Tree.{line_of, mapping_of}
 use Rattle.ksv_expr_syntax.specs.Reading.{◌>>=◌}
 use Rattle.ksv_schema_scope.specs.Rows.{Row, Declared}
@@ -17,17 +17,16 @@ use Rattle.ksv_schema_read.specs.Faults.{bad_value}
 use Rattle.ksv_schema_read.specs.Values.{home_of}
 use Rattle.ksv_schema_read.specs.Members.{member_keys, member}
 use Rattle.ksv_schema_read.specs.Description.{Context, in_kind, members, all_members, all_enums, faults_of, names_in, member_names, names_of, each_of, member_of, type_of, types_of, are_texts, described, stated_by}
-use Rattle.ksv_desc.specs.Names.{distinct, number_in, has_names, AreDistinct}
+use Rattle.ksv_desc.specs.Names.{distinct, distinct_behind, number_in, has_names, AreDistinct}
 use Rattle.ksv_desc.specs.Description.{MemberKind, MemberOfType, TypeOfObjects, Enum, Description, as_text}
 use Rattle.ksv_desc.specs.Resolved as resolved
 use Rattle.ksv_desc.specs.Resolved.{Each, IsThere, IsResolvedMember, IsResolved}
 use Rattle.ksv_desc.proofs.Dots.{distinct_append}
 use Rattle.ksv_desc.proofs.Tabled.{is_table}
-use Rattle.ksv_schema.proofs.Good.{front, back, not_if, has_both, there_next, IsGood, wrong_good, also_good, weaker, or_good, EachOf, each_passes, each_from_good, each_mapped}
-use Rattle.ksv_schema.proofs.Leads.{as_many, HasNumbers, member_stated, number_kept, no_shorter}
+use Rattle.ksv_schema.proofs.Good.{front, back, not_if, has_both, there_next, IsGood, wrong_good, also_good, weaker, or_good, EachOf, each_passes, each_from_good, as_many, each_second, each_mapped}
 use Rattle.ksv_schema.proofs.Fields.{AreEncodings, IsKind, kind_good}
 use Rattle.ksv_schema.proofs.OwnNames.{HasOwnName, members_own, name_is_text, AreTyped}
-use Rattle.ksv_schema.proofs.Whole.{are_encodings, enums_there}
+use Rattle.ksv_schema.proofs.Whole.{are_encodings, HasNumbers, member_stated, enums_there}
 
 -- ---- what is read of members
 
@@ -91,6 +90,32 @@ has_all_names d =
       distinct = subst AreDistinct (distinct_append [] own words) (all.stays_distinct (λ k w h. absurd cc));
     }
 
+place_kept : {A : Type 0} (test : A → Bool) (i k : ℕ) (xs ys : List A) → position_from test i xs ≡ Some k → position_from test i (xs ++ ys) ≡ Some k
+place_kept test i k [] ys h = absurd cc
+place_kept test i k (x ∷ xs) ys h = go (test x) h (place_kept test (i + 1) k xs ys)
+  where
+    go : (b : Bool) → cond b (Some i) (position_from test (i + 1) xs) ≡ Some k → (position_from test (i + 1) xs ≡ Some k → position_from test (i + 1) (xs ++ ys) ≡ Some k) → cond b (Some i) (position_from test (i + 1) (xs ++ ys)) ≡ Some k
+    go true h later = h
+    go false h later = later h
+
+-- a name keeps its number where names are added
+number_kept : (before added : List (List ℕ)) (name : List ℕ) (k : ℕ) → number_in before name ≡ Some k → number_in (distinct_behind before added) name ≡ Some k
+unfolding number_in
+number_kept before [] name k h = h
+number_kept before (n ∷ ns) name k h = number_kept (cond (list_any (bytes_eq n) before) before (before ++ n ∷ [])) ns name k (go (list_any (bytes_eq n) before))
+  where
+    go : (b : Bool) → position_from (bytes_eq name) 0 (cond b before (before ++ n ∷ [])) ≡ Some k
+    go true = h
+    go false = place_kept (bytes_eq name) 0 k before (n ∷ []) h
+
+no_shorter : (before added : List (List ℕ)) → length before ≤ length (distinct_behind before added)
+no_shorter before [] = omega arith
+no_shorter before (n ∷ ns) = go (list_any (bytes_eq n) before) (no_shorter (cond (list_any (bytes_eq n) before) before (before ++ n ∷ [])) ns)
+  where
+    go : (b : Bool) → length (cond b before (before ++ n ∷ [])) ≤ length (distinct_behind (cond b before (before ++ n ∷ [])) ns) → length before ≤ length (distinct_behind (cond b before (before ++ n ∷ [])) ns)
+    go true l = l
+    go false l = omega (arith, l, length-append before (n ∷ []))
+
 kept_number : (d : Declared) (name : List ℕ) → is_some (number_in (member_names d) name) ≡ true → IsThere (λ k. k < length (member_names d)) (number_in (names_of d) name)
 unfolding names_of number_in
 kept_number d name h =
@@ -143,19 +168,6 @@ members_there d n i (m ∷ ms) (k ∷ ks) g h =
 
 -- ---- types
 
--- types have as many parameters as are declared
-abbrev AreCounted : List Row → List TypeOfObjects → Type 0
-AreCounted rs ts = (i : ℕ) → i < length rs → length (filter is_parameter (option_map_or members_of (slice_get rs i) [])) ≡ length (option_map_or (λ y. filter resolved.is_parameter y.members) (slice_get ts i) [])
-
-counted_both : (r : Row) (rs : List Row) (t : TypeOfObjects) (ts : List TypeOfObjects) → length (filter is_parameter (members_of r)) ≡ length (filter resolved.is_parameter t.members) → AreCounted rs ts → AreCounted (r ∷ rs) (t ∷ ts)
-counted_both r rs t ts h more zero l = h
-counted_both r rs t ts h more (suc i) l = more i (omega (arith, l))
-
-record AreTypes (d : Declared) (rs : List Row) (ts : List TypeOfObjects) : Type 0 where
-  known : Known d (λ y. Each (λ t. Each (IsResolvedMember y) t.members)) ts
-  as_many : length ts ≡ length rs
-  counted : AreCounted rs ts
-
 type_there : (d : Declared) (n : ℕ) (r : Row) (ks : List MemberKind) → is_utf8 r.id ≡ true → AreMembers d n 0 (members_of r) ks → has_names (member_names d) (names_in (members_of r)) ≡ true → IsThere (λ t. AreStated d (members_of r) t.members) (type_of d (names_of d) n r ks)
 unfolding type_of as_text
 type_there d n r ks v g h = go (is_utf8 r.id) v
@@ -164,32 +176,40 @@ type_there d n r ks v g h = go (is_utf8 r.id) v
     go true e = there_next (AreStated d (members_of r)) (λ (t : TypeOfObjects). AreStated d (members_of r) t.members) _ (each_of (member_of (within d n)) (members_of r) ks) (λ ms x. x) (members_there d n 0 (members_of r) ks g h)
     go false e = absurd cc
 
-types_there : (d : Declared) (n : ℕ) (rs : List Row) (kss : List (List MemberKind)) → AreTyped rs → EachOf (λ n. AreMembers d n 0) n (map members_of rs) kss → has_names (member_names d) (own_names rs) ≡ true → IsThere (AreTypes d rs) (types_of d (names_of d) n rs kss)
-types_there d n [] kss v g h = record { known = λ y s fits known. tt; as_many = refl; counted = λ i l. absurd (omega (arith, l)) }
+abbrev AreTypes : Declared → ℕ → List Row → List TypeOfObjects → Type 0
+AreTypes d n rs ts = EachOf (λ n r t. AreStated d (members_of r) t.members) n rs ts
+
+types_there : (d : Declared) (n : ℕ) (rs : List Row) (kss : List (List MemberKind)) → AreTyped rs → EachOf (λ n. AreMembers d n 0) n (map members_of rs) kss → has_names (member_names d) (own_names rs) ≡ true → IsThere (AreTypes d n rs) (types_of d (names_of d) n rs kss)
+types_there d n [] kss v g h = tt
 types_there d n (r ∷ rs) [] v g h = absurd g
 types_there d n (r ∷ rs) (ks ∷ kss) v g h =
     let hs = has_both (member_names d) (names_in (members_of r)) (own_names rs) h in
-    there_next (λ (t : TypeOfObjects). AreStated d (members_of r) t.members) (AreTypes d (r ∷ rs)) _ (type_of d (names_of d) n r ks)
-    (λ t x. there_next (AreTypes d rs) (AreTypes d (r ∷ rs)) _ (types_of d (names_of d) (n + 1) rs kss)
-    (λ ts xs. record { known = λ y s fits known. (x.known y s fits known, xs.known y s fits known); as_many = ap suc xs.as_many; counted = counted_both r rs t ts x.given xs.counted })
-    (types_there d (n + 1) rs kss v.1 g.1 hs.1))
+    there_next (λ (t : TypeOfObjects). AreStated d (members_of r) t.members) (AreTypes d n (r ∷ rs)) _ (type_of d (names_of d) n r ks)
+    (λ t x. there_next (AreTypes d (n + 1) rs) (AreTypes d n (r ∷ rs)) _ (types_of d (names_of d) (n + 1) rs kss) (λ ts xs. (x, xs)) (types_there d (n + 1) rs kss v.1 g.1 hs.1))
     (type_there d n r ks v.0 g.0 hs.0)
+
+-- types have as many parameters as are declared
+as_declared : (d : Declared) (n : ℕ) (rs : List Row) (ts : List TypeOfObjects) (i : ℕ) → AreTypes d n rs ts → length (filter is_parameter (option_map_or members_of (slice_get rs i) [])) ≡ length (option_map_or (λ y. filter resolved.is_parameter y.members) (slice_get ts i) [])
+as_declared d n [] [] i g = refl
+as_declared d n (r ∷ rs) (t ∷ ts) zero g = g.0.given
+as_declared d n (r ∷ rs) (t ∷ ts) (suc i) g = as_declared d (n + 1) rs ts i g.1
+as_declared d n _ _ i g = absurd g
 
 -- ---- a description
 
-resolved_with : (d : Declared) (ts : List TypeOfObjects) (es : List Enum) → AreTypes d d.types ts → EachOf (λ i. HasNumbers) 0 d.enums es → IsResolved (record { types = ts; enums = es; names = names_of d; known = length (member_names d) })
+resolved_with : (d : Declared) (ts : List TypeOfObjects) (es : List Enum) → AreTypes d 0 d.types ts → EachOf (λ i. HasNumbers) 0 d.enums es → IsResolved (record { types = ts; enums = es; names = names_of d; known = length (member_names d) })
 unfolding names_of members_within parameters_within
 resolved_with d ts es t e =
     let names = has_all_names d in
     let x : Description = record { types = ts; enums = es; names = names_of d; known = length (member_names d) } in
     let fits : Fits d x = record {
-      types = t.as_many;
+      types = as_many (λ n r t. AreStated d (members_of r) t.members) 0 d.types ts t;
       enums = as_many (λ i. HasNumbers) 0 d.enums es e;
-      parameters = t.counted;
+      parameters = λ i l. as_declared d 0 d.types ts i t;
       members = ap (has_names (names_of d)) (sym (same_names d.types)) ∙ (has_both (names_of d) (own_names d.types) (all_members d).words names.all).0;
       entries = member_stated d.enums x e;
     } in
-    record { distinct = names.distinct; known = no_shorter (member_names d) (all_members d).words; members = t.known x refl fits refl }
+    record { distinct = names.distinct; known = no_shorter (member_names d) (all_members d).words; members = each_second (λ n r t. AreStated d (members_of r) t.members) (λ t. Each (IsResolvedMember x) t.members) 0 d.types ts (λ n r t g. g.known x refl fits refl) t }
 
 pub declared_good : (d : Declared) → AreTyped d.types → faults_of d ≡ [] → IsThere IsResolved (stated_by d)
 unfolding faults_of stated_by described
@@ -202,4 +222,4 @@ declared_good d v k =
     go (Some ks) None g h = absurd h
     go (Some ks) (Some es) g h =
         subst (λ (b : Bool). IsThere IsResolved (cond b (types_of d (names_of d) 0 d.types ks >>= λ ts. Some (record { types = ts; enums = es; names = names_of d; known = length (member_names d) })) None)) (sym (are_all_texts d (map members_of d.types) ks g))
-        (there_next (AreTypes d d.types) IsResolved _ (types_of d (names_of d) 0 d.types ks) (λ ts t. resolved_with d ts es t h) (types_there d 0 d.types ks v g (has_all_names d).known))
+        (there_next (AreTypes d 0 d.types) IsResolved _ (types_of d (names_of d) 0 d.types ks) (λ ts t. resolved_with d ts es t h) (types_there d 0 d.types ks v g (has_all_names d).known))

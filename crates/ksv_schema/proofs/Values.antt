@@ -1,12 +1,13 @@
 -- What is read at a key is good: it leads somewhere once its names have their numbers.
-use Rattle.std.proofs.Common.{◌≡◌, ℕ, suc, ◌+◌, Bool, true, false, List, [], ◌∷◌, ◌++◌, length, sym, ap, subst, ◌∙◌, refl, Option, Some, None, arith}
+use Rattle.std.proofs.Common.{◌≡◌, ℕ, suc, ◌+◌, ◌<◌, Bool, true, false, List, [], ◌∷◌, ◌++◌, length, sym, ap, subst, ◌∙◌, refl, Option, Some, None, arith}
 use Rattle.std.specs.Prelude.{codes, is_some, not, ◌==◌, ◌&&◌, ◌||◌, option_map, option_to_list, map}
 use Rattle.std.proofs.lemmas.Bool.{not-false, both_ways}
 use Rattle.std.proofs.lemmas.Bool.Decides.{Decides-eqb}
 use Rattle.ksv_yaml_tree.specs.Tree.{Tree, Pair, line_of, text_of, is_quoted, mapping_of, list_of, entry_at}
 use Rattle.ksv_expr_tree.specs.Tree as expressions
 use Rattle.ksv_expr_value.specs.declared.encoding.Encoding.{Encoding}
-use Rattle.ksv_schema_scope.specs.Types.{type_named}
+use Rattle.ksv_schema_scope.specs.Rows.{Row, row_in}
+use Rattle.ksv_schema_scope.specs.Types.{type_named, enum_behind, enum_from}
 use Rattle.ksv_schema_scope.specs.Members.{parameters_within}
 use Rattle.ksv_schema_names.specs.declared.position.Site.{Site}
 use Rattle.ksv_schema_names.specs.declared.position.Site.TheVariants as sites
@@ -17,7 +18,7 @@ use Rattle.ksv_schema_names.specs.declared.built_ins.BuiltIn.TheVariants.{Intege
 use Rattle.ksv_schema_names.specs.Names.{Nothing, name_faults, least}
 use Rattle.ksv_schema_names.specs.Numbered.{numbered, all_numbered, given_member}
 use Rattle.ksv_schema_names.specs.Resolved.{Fits}
-use Rattle.ksv_schema_names.proofs.Found.{type_within}
+use Rattle.ksv_schema_names.proofs.Found.{is_bound, row_within, nearest_within, type_within}
 use Rattle.ksv_schema_names.proofs.Resolving.{given_leads, resolved, all_resolved}
 use Rattle.ksv_desc.specs.Names.{dotted, all_dotted, has_names}
 use Rattle.ksv_desc.specs.Description.{Description, Content, Number, Characters, Object, CaseValue, EnumValue, Case, Choice, Always, Switch}
@@ -28,7 +29,6 @@ use Rattle.ksv_schema_read.specs.Faults.{fault_if, unknown_name, no_byte_order, 
 use Rattle.ksv_schema_read.specs.Reading.{each}
 use Rattle.ksv_schema_read.specs.Values.{Home, position_at, name_fault, least_name, of_expression, expression, arguments, of_path, enumeration, of_piece, item, items, contents, order_at, encoding_at, of_language, counts_differ, of_type, of_case_key, case_value, case_against, case, switch, typed, content_or_type, choice}
 use Rattle.ksv_schema_read.specs.Description.{Context, in_tree, in_content, in_case, in_choice}
-use Rattle.ksv_schema.proofs.Leads.{enum_within}
 use Rattle.ksv_schema.proofs.Good.{front, not_if, there_map, IsGood, gives_good, wrong_good, found_good, also_good, made_good, both_good, if_good, or_good, perhaps_good, must_good, weaker, text_good, mapping_good, EachOf, each_good}
 
 -- ---- what leads somewhere
@@ -70,6 +70,18 @@ any_enum c (Some e) g y s fits = g y s fits
 -- a type whose value is a text
 abbrev pub is_text : TypeText → Bool
 is_text t = is_str t || is_strz t
+
+-- ---- numbers of enums
+
+behind_within : (types enums : List Row) (n : ℕ) (path : List (List ℕ)) (name : List ℕ) (e : ℕ) → enum_behind types enums n path name ≡ Some e → e < length enums
+unfolding enum_behind
+behind_within types enums n [] name e h = nearest_within types enums name n e h
+behind_within types enums n (first ∷ path) name e h = let m = is_bound (row_in enums name) (type_named types n (first ∷ path)) e h in row_within enums name m.0 e m.2
+
+enum_within : (types enums : List Row) (n : ℕ) (before path : List (List ℕ)) (e : ℕ) → enum_from types enums n before path ≡ Some e → e < length enums
+enum_within types enums n before [] e h = absurd cc
+enum_within types enums n before (name ∷ []) e h = behind_within types enums n before name e h
+enum_within types enums n before (name ∷ next ∷ names) e h = enum_within types enums n (before ++ name ∷ []) (next ∷ names) e h
 
 -- ---- the least fault of names
 

@@ -1,7 +1,10 @@
 -- Without faults each encoding in force is one that there is, and each enum has the numbers of its entries.
-use Rattle.std.proofs.Common.{◌≡◌, ℕ, zero, suc, ◌+◌, Bool, true, false, cond, List, [], ◌∷◌, ◌++◌, sym, ap, ◌∙◌, refl, Option, Some, None}
-use Rattle.std.specs.Prelude.{codes, is_some, option_and_then, unwrap_or, slice_get, take}
+use Rattle.std.proofs.Common.{◌≡◌, ℕ, zero, suc, ◌+◌, ℤ, Bool, true, false, cond, List, [], ◌∷◌, ◌++◌, sym, ap, ◌∙◌, refl, Option, Some, None}
+use Rattle.std.specs.Prelude.{codes, is_some, option_map, option_and_then, find, slice_get, take}
 use Rattle.std.specs.Option.{option_map_or}
+use Rattle.std.specs.Ordering.{int_eq}
+use Rattle.std.proofs.lemmas.Bool.{both_ways}
+use Rattle.std.proofs.lemmas.Bool.Decides.{Decides-int_eq}
 use Rattle.ksv_yaml_tree.specs.Tree.{Pair, line_of, text_of, mapping_of, entry_at}
 use Rattle.ksv_yaml_tree.specs.declared.numeral.Numeral.{Numeral}
 use Rattle.ksv_yaml_tree.specs.declared.numeral.Numeral.TheVariants.{Whole, LeadingZero, NoNumeral}
@@ -10,7 +13,8 @@ use Rattle.ksv_yaml_tree.specs.Keys.{text_at, entries_at}
 use Rattle.ksv_expr_value.specs.declared.encoding.Encoding.{Encoding}
 use Rattle.ksv_schema_scope.specs.Rows.{Row, keys_of, Declared}
 use Rattle.ksv_schema_scope.specs.Types.{keys_at, setting, encoding_of}
-use Rattle.ksv_schema_scope.specs.Enums.{whole_of, number_of}
+use Rattle.ksv_schema_scope.specs.Enums.{whole_of, number_of, is_named, number_of_id}
+use Rattle.ksv_schema_names.specs.Numbered.{enum_member}
 use Rattle.ksv_schema_names.proofs.Found.{is_bound}
 use Rattle.ksv_schema_keys.specs.declared.keys.Form.TheVariants as forms
 use Rattle.ksv_schema_keys.specs.declared.keys.MappingKind.{MappingKind}
@@ -21,11 +25,11 @@ use Rattle.ksv_schema_read.specs.Faults.{fault, bad_value, left_out}
 use Rattle.ksv_schema_read.specs.Rules.{form_faults, keys_faults, missing}
 use Rattle.ksv_schema_read.specs.Description.{whole, id_text, id, entry_id, constant, enum, is_root, meta_faults, type_keys_faults, type_faults, all_types_faults, all_enums}
 use Rattle.ksv_desc.specs.Names.{distinct_behind}
-use Rattle.ksv_desc.specs.Resolved.{Each, IsThere}
+use Rattle.ksv_desc.specs.Description.{Description, Numbered, Enum}
+use Rattle.ksv_desc.specs.Resolved.{Each, IsThere, IsMemberOf}
 use Rattle.ksv_desc.proofs.Tabled.{is_table}
-use Rattle.ksv_schema.proofs.Good.{front, back, IsGood, gives_good, wrong_good, also_good, made_good, both_good, if_good, or_good, must_good, text_good, mapping_good, EachOf, each_good, each_from_good}
+use Rattle.ksv_schema.proofs.Good.{front, back, IsGood, gives_good, wrong_good, also_good, made_good, both_good, if_good, or_good, must_good, text_good, mapping_good, there_map, there_bind, EachOf, each_at, each_good, each_from_good}
 use Rattle.ksv_schema.proofs.Keys.{text_fits, meta_faultless}
-use Rattle.ksv_schema.proofs.Leads.{HasNumber, HasNumbers}
 use Rattle.ksv_schema.proofs.Fields.{AreEncodings}
 
 -- ---- encodings in force
@@ -55,6 +59,44 @@ are_encodings d k n text e =
     go (Some r) f t = let g = f r k refl in type_encoding g.0 r text g.1 t
 
 -- ---- enums
+
+-- what is read of an entry has its number
+abbrev pub HasNumber : Pair → Numbered → Type 0
+HasNumber p x = number_of p ≡ Some x.number
+
+abbrev pub HasNumbers : Row → Enum → Type 0
+HasNumbers r e = EachOf (λ i. HasNumber) 0 (keys_of r) e.members
+
+abbrev Exists : {A : Type 0} → Option A → Type 0
+Exists o = IsThere (λ x. Unit {0}) o
+
+-- the number of an entry is one of those that are read
+number_stated : (test : Pair → Bool) (n : ℕ) (cs : List Pair) (ms : List Numbered) (c : Pair) (z : ℤ) → EachOf (λ i. HasNumber) n cs ms → find test cs ≡ Some c → number_of c ≡ Some z → Exists (find (λ m. int_eq z m.number) ms)
+number_stated test n [] ms c z s f e = absurd cc
+number_stated test n (y ∷ ys) [] c z s f e = absurd s
+number_stated test n (y ∷ ys) (m ∷ ms) c z s f e = go (test y) (int_eq z m.number) refl f (number_stated test (n + 1) ys ms c z s.1)
+  where
+    go : (b same : Bool) → int_eq z m.number ≡ same → cond b (Some y) (find test ys) ≡ Some c → (find test ys ≡ Some c → number_of c ≡ Some z → Exists (find (λ m. int_eq z m.number) ms)) → Exists (cond same (Some m) (find (λ m. int_eq z m.number) ms))
+    go b true q f later = tt
+    go true false q f later =
+        let same : y ≡ c = cc in
+        let both : Some z ≡ Some m.number = sym e ∙ ap number_of (sym same) ∙ s.0 in
+        let number : z ≡ m.number = cc in
+        absurd (both_ways (int_eq z m.number) q ((Decides-int_eq z m.number).1 number))
+    go false false q f later = later f e
+
+-- a member of an enum that is found is one of those that are read
+pub member_stated : (enums : List Row) (x : Description) → EachOf (λ i. HasNumbers) 0 enums x.enums → (e : ℕ) (id : List ℕ) (z : ℤ) → number_of_id enums e id ≡ Some z → IsMemberOf x (enum_member e z)
+unfolding number_of_id keys_at
+member_stated enums x s e id z h = at (slice_get enums e) refl h
+  where
+    at : (o : Option Row) → slice_get enums e ≡ o → option_and_then number_of (find (is_named id) (option_map_or keys_of o [])) ≡ Some z → IsMemberOf x (enum_member e z)
+    at None g h = absurd cc
+    at (Some r) g h =
+        let c = is_bound number_of (find (is_named id) (keys_of r)) z h in
+        there_bind (λ (y : Enum). (k : ℕ) × HasNumbers r y) (λ (id : List ℕ). Unit {0}) _ (slice_get x.enums e)
+        (λ y n. there_map (λ (m : Numbered). Unit {0}) (λ (id : List ℕ). Unit {0}) (λ m. m.id) (find (λ m. int_eq z m.number) y.members) (λ m u. tt) (number_stated (is_named id) 0 (keys_of r) y.members c.0 z n.1 c.1 c.2))
+        (each_at (λ i. HasNumbers) 0 enums x.enums e r s g)
 
 module _ (names : List (List ℕ)) where
   whole_good : (line : ℕ) (n : Numeral) → IsGood names (λ z. whole_of n ≡ Some z) (whole line n)
