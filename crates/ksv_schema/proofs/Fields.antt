@@ -1,12 +1,11 @@
 -- What is read of a member is good: it leads somewhere, and it is a parameter or isn't.
 use Rattle.std.proofs.Common.{◌≡◌, ℕ, Bool, true, false, cond, List, [], ap, ◌∙◌, refl, Option, Some, None}
-use Rattle.std.specs.Prelude.{codes, not, ◌&&◌, ◌||◌, is_some, option_map, option_and_then}
+use Rattle.std.specs.Prelude.{codes, ◌||◌, is_some, option_map, option_and_then}
 use Rattle.std.specs.Option.{option_map_or}
 use Rattle.ksv_yaml_tree.specs.Tree.{Pair, text_of, entry_at}
 use Rattle.ksv_yaml_tree.specs.Keys.{has, says, text_at}
 use Rattle.ksv_expr_syntax.specs.Reading.{◌>>=◌}
 use Rattle.ksv_expr_tree.specs.Tree as expressions
-use Rattle.ksv_expr_value.specs.declared.encoding.Encoding.{Encoding}
 use Rattle.ksv_schema_scope.specs.declared.members.Role.{Role}
 use Rattle.ksv_schema_scope.specs.declared.members.Role.TheVariants as roles
 use Rattle.ksv_schema_scope.specs.Members.{is_in_params}
@@ -21,7 +20,7 @@ use Rattle.ksv_schema_keys.specs.declared.keys.MappingKind.TheVariants as kinds
 use Rattle.ksv_schema_keys.specs.declared.keys.Group.TheVariants as groups
 use Rattle.ksv_schema_keys.specs.Keys.{is_in, kind_of, form_among, form_in, is_ignored}
 use Rattle.ksv_schema_keys.specs.Values.{encoding_named, type_text, is_str, is_strz, type_at, own_type, is_a, is_to_end}
-use Rattle.ksv_schema_read.specs.Faults.{fault_if, missing_key, left_out}
+use Rattle.ksv_schema_read.specs.Faults.{missing_key, left_out}
 use Rattle.ksv_schema_read.specs.Rules.{form_faults, keys_faults}
 use Rattle.ksv_schema_read.specs.Values.{Home, expression, enumeration, encoding_at}
 use Rattle.ksv_schema_read.specs.Members.{Parts, parts, repeat_of, extent_of, field_of, has_encoding, needs, field, own_enum, attribute, parse_instance, value_instance, placeless, by_kind}
@@ -50,7 +49,7 @@ module _ (names : List (List ℕ)) (h : Home) where
   unfolding needs encoding_at form_faults is_ignored
   is_encoded kind line es a f k n p text e t b =
       let same : (is_a is_str (own_type es) || is_a is_strz (own_type es)) ≡ is_text (type_text text)
-          = ap (λ (o : Option Pair). is_a is_str (option_and_then type_at o) || is_a is_strz (option_and_then type_at o)) e ∙ ap (λ (o : Option (List ℕ)). is_a is_str (option_map type_text o) || is_a is_strz (option_map type_text o)) t in
+      = ap (λ (o : Option Pair). is_a is_str (option_and_then type_at o) || is_a is_strz (option_and_then type_at o)) e ∙ ap (λ (o : Option (List ℕ)). is_a is_str (option_map type_text o) || is_a is_strz (option_map type_text o)) t in
       go (text_at (codes "encoding") es) (encoding_of h.declared.types h.within) (λ text t. text_fits kind (codes "encoding") forms.Coding (λ text. is_some (encoding_named text)) left_out es text (λ p. refl) refl f k t) (a h.within)
       (implies (is_a is_str (own_type es) || is_a is_strz (own_type es)) (has_encoding h es) line missing_key (back _ _ n) (same ∙ b))
     where

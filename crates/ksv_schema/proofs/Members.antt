@@ -1,11 +1,11 @@
 -- Without faults each member and type is stated, and leads somewhere.
-use Rattle.std.proofs.Common.{◌≡◌, ℕ, zero, suc, ◌+◌, ◌<◌, ◌≤◌, Bool, true, false, cond, List, [], ◌∷◌, ◌++◌, length, sym, ap, subst, ◌∙◌, refl, Option, Some, None, arith}
-use Rattle.std.specs.Prelude.{◌&&◌, is_some, map, flat_map, filter, slice_get}
+use Rattle.std.proofs.Common.{◌≡◌, ℕ, zero, suc, ◌+◌, ◌<◌, Bool, true, false, cond, List, [], ◌∷◌, ◌++◌, length, sym, ap, subst, ◌∙◌, refl, Option, Some, None, append_assoc, arith}
+use Rattle.std.specs.Prelude.{is_some, map, flat_map, filter, slice_get}
 use Rattle.std.specs.List.{list_all, list_any, position_from}
 use Rattle.std.specs.Option.{option_map_or}
 use Rattle.std.specs.Str.{bytes_eq, is_utf8}
 use Rattle.std.proofs.lemmas.Bool.{and_parts}
-use Rattle.std.proofs.lemmas.List.{map-append, length-append}
+use Rattle.std.proofs.lemmas.List.{map-append, length-append, append-nil}
 use Rattle.ksv_yaml_tree.specs.Tree.{line_of, mapping_of}
 use Rattle.ksv_expr_syntax.specs.Reading.{◌>>=◌}
 use Rattle.ksv_schema_scope.specs.Rows.{Row, Declared}
@@ -98,29 +98,22 @@ place_kept test i k (x ∷ xs) ys h = go (test x) h (place_kept test (i + 1) k x
     go true h later = h
     go false h later = later h
 
--- a name keeps its number where names are added
-number_kept : (before added : List (List ℕ)) (name : List ℕ) (k : ℕ) → number_in before name ≡ Some k → number_in (distinct_behind before added) name ≡ Some k
-unfolding number_in
-number_kept before [] name k h = h
-number_kept before (n ∷ ns) name k h = number_kept (cond (list_any (bytes_eq n) before) before (before ++ n ∷ [])) ns name k (go (list_any (bytes_eq n) before))
+-- names are added behind the others
+added_behind : (before added : List (List ℕ)) → (more : List (List ℕ)) × (distinct_behind before added ≡ before ++ more)
+added_behind before [] = ([], sym (append-nil before))
+added_behind before (n ∷ ns) = go (list_any (bytes_eq n) before) (added_behind (cond (list_any (bytes_eq n) before) before (before ++ n ∷ [])) ns)
   where
-    go : (b : Bool) → position_from (bytes_eq name) 0 (cond b before (before ++ n ∷ [])) ≡ Some k
-    go true = h
-    go false = place_kept (bytes_eq name) 0 k before (n ∷ []) h
+    go : (b : Bool) → (more : List (List ℕ)) × (distinct_behind (cond b before (before ++ n ∷ [])) ns ≡ cond b before (before ++ n ∷ []) ++ more) → (more : List (List ℕ)) × (distinct_behind (cond b before (before ++ n ∷ [])) ns ≡ before ++ more)
+    go true h = h
+    go false h = (n ∷ h.0, h.1 ∙ append_assoc before (n ∷ []) h.0)
 
-no_shorter : (before added : List (List ℕ)) → length before ≤ length (distinct_behind before added)
-no_shorter before [] = omega arith
-no_shorter before (n ∷ ns) = go (list_any (bytes_eq n) before) (no_shorter (cond (list_any (bytes_eq n) before) before (before ++ n ∷ [])) ns)
-  where
-    go : (b : Bool) → length (cond b before (before ++ n ∷ [])) ≤ length (distinct_behind (cond b before (before ++ n ∷ [])) ns) → length before ≤ length (distinct_behind (cond b before (before ++ n ∷ [])) ns)
-    go true l = l
-    go false l = omega (arith, l, length-append before (n ∷ []))
-
+-- the number of a member's name
 kept_number : (d : Declared) (name : List ℕ) → is_some (number_in (member_names d) name) ≡ true → IsThere (λ k. k < length (member_names d)) (number_in (names_of d) name)
 unfolding names_of number_in
 kept_number d name h =
     let k = some_is (number_in (member_names d) name) h in
-    subst (IsThere (λ k. k < length (member_names d))) (sym (number_kept (member_names d) (all_members d).words name k.0 k.1)) (place_within (bytes_eq name) (member_names d) k.0 k.1)
+    let more = added_behind (member_names d) (all_members d).words in
+    rw (more.1, place_kept (bytes_eq name) 0 k.0 (member_names d) more.0 k.1) (place_within (bytes_eq name) (member_names d) k.0 k.1)
 
 -- ---- members with the numbers of their names
 
@@ -144,13 +137,6 @@ member_there d n m k g h = go (is_utf8 m.name) g.text
     go true e = numbered (number_in (names_of d) m.name) (kept_number d m.name h)
     go false e = absurd cc
 
--- equally many are parameters
-counted : (a b : Bool) → a ≡ b → (m : Member) (ms : List Member) (r : MemberOfType) (rs : List MemberOfType) → length ms ≡ length rs → length (cond a (m ∷ ms) ms) ≡ length (cond b (r ∷ rs) rs)
-counted true true e m ms r rs l = ap suc l
-counted true false e m ms r rs l = absurd cc
-counted false true e m ms r rs l = absurd cc
-counted false false e m ms r rs l = l
-
 record AreStated (d : Declared) (ms : List Member) (rs : List MemberOfType) : Type 0 where
   known : Known d (λ y. Each (IsResolvedMember y)) rs
   given : length (filter is_parameter ms) ≡ length (filter resolved.is_parameter rs)
@@ -162,7 +148,7 @@ members_there d n i (m ∷ ms) (k ∷ ks) g h =
     let hs = and_parts (is_some (number_in (member_names d) m.name)) (has_names (member_names d) (names_in ms)) h in
     there_next (IsStated d m) (AreStated d (m ∷ ms)) _ (member_of (within d n) m k)
     (λ r x. there_next (AreStated d ms) (AreStated d (m ∷ ms)) _ (each_of (member_of (within d n)) ms ks)
-    (λ rs xs. record { known = λ y s fits known. (x.known y s fits known, xs.known y s fits known); given = counted (is_parameter m) (resolved.is_parameter r) x.given m (filter is_parameter ms) r (filter resolved.is_parameter rs) xs.given })
+    (λ rs xs. record { known = λ y s fits known. (x.known y s fits known, xs.known y s fits known); given = grind (arith, x.given, xs.given) })
     (members_there d n (i + 1) ms ks g.1 hs.1))
     (member_there d n m k g.0 hs.0)
 
@@ -201,6 +187,7 @@ resolved_with : (d : Declared) (ts : List TypeOfObjects) (es : List Enum) → Ar
 unfolding names_of members_within parameters_within
 resolved_with d ts es t e =
     let names = has_all_names d in
+    let more = added_behind (member_names d) (all_members d).words in
     let x : Description = record { types = ts; enums = es; names = names_of d; known = length (member_names d) } in
     let fits : Fits d x = record {
       types = as_many (λ n r t. AreStated d (members_of r) t.members) 0 d.types ts t;
@@ -209,7 +196,7 @@ resolved_with d ts es t e =
       members = ap (has_names (names_of d)) (sym (same_names d.types)) ∙ (has_both (names_of d) (own_names d.types) (all_members d).words names.all).0;
       entries = member_stated d.enums x e;
     } in
-    record { distinct = names.distinct; known = no_shorter (member_names d) (all_members d).words; members = each_second (λ n r t. AreStated d (members_of r) t.members) (λ t. Each (IsResolvedMember x) t.members) 0 d.types ts (λ n r t g. g.known x refl fits refl) t }
+    record { distinct = names.distinct; known = omega (arith, ap length more.1, length-append (member_names d) more.0); members = each_second (λ n r t. AreStated d (members_of r) t.members) (λ t. Each (IsResolvedMember x) t.members) 0 d.types ts (λ n r t g. g.known x refl fits refl) t }
 
 pub declared_good : (d : Declared) → AreTyped d.types → faults_of d ≡ [] → IsThere IsResolved (stated_by d)
 unfolding faults_of stated_by described

@@ -1,18 +1,18 @@
 -- Without faults the names of members and the ids of types are texts.
 use Rattle.std.proofs.Common.{◌≡◌, ℕ, ◌+◌, Bool, true, false, cond, List, [], ◌∷◌, ◌++◌, length, subst, refl, Option, Some, None, arith, rules as known_rules}
 use Rattle.std.specs.Prelude.{codes, not, ◌==◌, ◌&&◌, map, flat_map, unwrap_or, decimal, slice_get}
-use Rattle.std.specs.Str.{bytes_eq, is_utf8, IsUtf8}
+use Rattle.std.specs.Str.{bytes_eq, is_utf8}
 use Rattle.std.proofs.lemmas.Bool.{not-false}
 use Rattle.std.proofs.lemmas.Bool.Decides.{nat_tests}
 use Rattle.std.proofs.lemmas.Str.{is_utf8-from_IsUtf8, IsUtf8-from_ascii, IsUtf8-append}
 use Rattle.std.proofs.lemmas.Str.Ascii.{IsAscii-nil, IsAscii-from_all}
 use Rattle.std.proofs.DigitsParse.{digits-IsUtf8}
-use Rattle.ksv_yaml_tree.specs.Tree.{Tree, Map, Entries, no_entries, entry, Pair, mapping_of, list_of, entry_at}
+use Rattle.ksv_yaml_tree.specs.Tree.{Tree, Map, Entries, no_entries, entry, Pair, mapping_of, list_of}
 use Rattle.ksv_yaml_tree.specs.Keys.{entries_in, text_at, entries_at}
 use Rattle.ksv_schema_scope.specs.declared.members.Role.{Role}
 use Rattle.ksv_schema_scope.specs.declared.members.Role.TheVariants.{Parameter, Attribute, Instance}
 use Rattle.ksv_schema_scope.specs.Rows.{Row, keys_of, with_types, with_key, with_named, with_each, root_row, types_of}
-use Rattle.ksv_schema_scope.specs.Members.{Member, unnamed, item, items_from, instance, members_at_key, members_of}
+use Rattle.ksv_schema_scope.specs.Members.{Member, unnamed, items_from, instance, members_at_key, members_of}
 use Rattle.ksv_schema_keys.specs.declared.keys.Form.TheVariants as forms
 use Rattle.ksv_schema_keys.specs.declared.keys.MappingKind.{MappingKind}
 use Rattle.ksv_schema_keys.specs.declared.keys.MappingKind.TheVariants as kinds

@@ -1,29 +1,27 @@
 -- Without faults each encoding in force is one that there is, and each enum has the numbers of its entries.
-use Rattle.std.proofs.Common.{◌≡◌, ℕ, zero, suc, ◌+◌, ℤ, Bool, true, false, cond, List, [], ◌∷◌, ◌++◌, sym, ap, ◌∙◌, refl, Option, Some, None}
-use Rattle.std.specs.Prelude.{codes, is_some, option_map, option_and_then, find, slice_get, take}
+use Rattle.std.proofs.Common.{◌≡◌, ℕ, zero, suc, ◌+◌, ℤ, Bool, true, false, cond, List, [], ◌∷◌, sym, ap, ◌∙◌, refl, Option, Some, None}
+use Rattle.std.specs.Prelude.{codes, is_some, option_and_then, find, slice_get, take}
 use Rattle.std.specs.Option.{option_map_or}
 use Rattle.std.specs.Ordering.{int_eq}
 use Rattle.std.proofs.lemmas.Bool.{both_ways}
 use Rattle.std.proofs.lemmas.Bool.Decides.{Decides-int_eq}
-use Rattle.ksv_yaml_tree.specs.Tree.{Pair, line_of, text_of, mapping_of, entry_at}
+use Rattle.ksv_yaml_tree.specs.Tree.{Pair, line_of, text_of, entry_at}
 use Rattle.ksv_yaml_tree.specs.declared.numeral.Numeral.{Numeral}
 use Rattle.ksv_yaml_tree.specs.declared.numeral.Numeral.TheVariants.{Whole, LeadingZero, NoNumeral}
 use Rattle.ksv_yaml_tree.specs.Numerals.{signed_number}
 use Rattle.ksv_yaml_tree.specs.Keys.{text_at, entries_at}
-use Rattle.ksv_expr_value.specs.declared.encoding.Encoding.{Encoding}
 use Rattle.ksv_schema_scope.specs.Rows.{Row, keys_of, Declared}
 use Rattle.ksv_schema_scope.specs.Types.{keys_at, setting, encoding_of}
 use Rattle.ksv_schema_scope.specs.Enums.{whole_of, number_of, is_named, number_of_id}
 use Rattle.ksv_schema_names.specs.Numbered.{enum_member}
 use Rattle.ksv_schema_names.proofs.Found.{is_bound}
 use Rattle.ksv_schema_keys.specs.declared.keys.Form.TheVariants as forms
-use Rattle.ksv_schema_keys.specs.declared.keys.MappingKind.{MappingKind}
 use Rattle.ksv_schema_keys.specs.declared.keys.MappingKind.TheVariants as kinds
 use Rattle.ksv_schema_keys.specs.Keys.{form_among, form_in, is_ignored, is_id}
 use Rattle.ksv_schema_keys.specs.Values.{encoding_named}
-use Rattle.ksv_schema_read.specs.Faults.{fault, bad_value, left_out}
-use Rattle.ksv_schema_read.specs.Rules.{form_faults, keys_faults, missing}
-use Rattle.ksv_schema_read.specs.Description.{whole, id_text, id, entry_id, constant, enum, is_root, meta_faults, type_keys_faults, type_faults, all_types_faults, all_enums}
+use Rattle.ksv_schema_read.specs.Faults.{bad_value, left_out}
+use Rattle.ksv_schema_read.specs.Rules.{form_faults}
+use Rattle.ksv_schema_read.specs.Description.{whole, id_text, id, entry_id, constant, enum, is_root, type_faults, all_types_faults, all_enums}
 use Rattle.ksv_desc.specs.Names.{distinct_behind}
 use Rattle.ksv_desc.specs.Description.{Description, Numbered, Enum}
 use Rattle.ksv_desc.specs.Resolved.{Each, IsThere, IsMemberOf}
