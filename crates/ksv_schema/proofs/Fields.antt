@@ -2,7 +2,7 @@
 use Rattle.std.proofs.Common.{◌≡◌, ℕ, Bool, true, false, cond, List, [], ap, ◌∙◌, refl, Option, Some, None}
 use Rattle.std.specs.Prelude.{codes, ◌||◌, is_some, option_map, option_and_then}
 use Rattle.std.specs.Option.{option_map_or}
-use Rattle.ksv_yaml_tree.specs.Tree.{Pair, text_of, entry_at}
+use Rattle.ksv_yaml_tree.specs.Tree.{Pair, entry_at}
 use Rattle.ksv_yaml_tree.specs.Keys.{has, says, text_at}
 use Rattle.ksv_expr_syntax.specs.Reading.{◌>>=◌}
 use Rattle.ksv_expr_tree.specs.Tree as expressions
@@ -23,11 +23,11 @@ use Rattle.ksv_schema_keys.specs.Values.{encoding_named, type_text, is_str, is_s
 use Rattle.ksv_schema_read.specs.Faults.{missing_key, left_out}
 use Rattle.ksv_schema_read.specs.Rules.{form_faults, keys_faults}
 use Rattle.ksv_schema_read.specs.Values.{Home, expression, enumeration, encoding_at}
-use Rattle.ksv_schema_read.specs.Members.{Parts, parts, repeat_of, extent_of, field_of, has_encoding, needs, field, own_enum, attribute, parse_instance, value_instance, placeless, by_kind}
+use Rattle.ksv_schema_read.specs.Members.{Parts, parts, repeat_of, extent_of, field_of, has_encoding, needs, field, own_enum, own_field, attribute, parse_instance, value_instance, placeless, by_kind}
 use Rattle.ksv_schema_read.specs.Description.{Context, in_tree, in_extent, in_repeat, in_field, in_kind}
 use Rattle.ksv_schema.proofs.Good.{front, back, implies, there_map, IsGood, gives_good, also_good, chosen_good, made_good, next_good, both_good, weaker, perhaps_good, must_good}
 use Rattle.ksv_schema.proofs.Keys.{text_fits, HasRepeat, has_repeat}
-use Rattle.ksv_schema.proofs.Values.{Leads, any_leads, in_home, IsTree, IsEnumThere, IsChoice, any_enum, expression_good, enumeration_good, IsEncoded, is_text, choice_good}
+use Rattle.ksv_schema.proofs.Values.{Leads, any_leads, in_home, IsTree, IsEnumThere, IsChoice, any_enum, expression_good, enumeration_good, HasText, is_text, choice_good}
 
 -- each encoding in force is one of those that there are
 abbrev pub AreEncodings : Declared → Type 0
@@ -45,7 +45,7 @@ module _ (names : List (List ℕ)) (h : Home) where
   -- ---- encodings
 
   -- an attribute has an encoding if its type is a text
-  is_encoded : (kind : MappingKind) (line : ℕ) (es : List Pair) → AreEncodings h.declared → form_in kind (codes "encoding") ≡ Some forms.Coding → keys_faults kind es ≡ [] → needs h line (own_type es) es ≡ [] → (p : Pair) (text : List ℕ) → entry_at (codes "type") es ≡ Some p → text_of p.value ≡ Some text → is_text (type_text text) ≡ true → IsEncoded names h es
+  is_encoded : (kind : MappingKind) (line : ℕ) (es : List Pair) → AreEncodings h.declared → form_in kind (codes "encoding") ≡ Some forms.Coding → keys_faults kind es ≡ [] → needs h line (own_type es) es ≡ [] → HasText names h es
   unfolding needs encoding_at form_faults is_ignored
   is_encoded kind line es a f k n p text e t b =
       let same : (is_a is_str (own_type es) || is_a is_strz (own_type es)) ≡ is_text (type_text text)
@@ -70,7 +70,7 @@ module _ (names : List (List ℕ)) (h : Home) where
     choice : IsChoice c p.choice
     size : IfAny (IsTree c) p.size
 
-  parts_good : (beside : List Pair) (enum : Option ℕ) (es : List Pair) → IfAny (IsEnumThere c) enum → ((p : Pair) (text : List ℕ) → entry_at (codes "type") es ≡ Some p → text_of p.value ≡ Some text → is_text (type_text text) ≡ true → IsEncoded names h es) → IsGood names (IsParts es) (parts h beside enum es)
+  parts_good : (beside : List Pair) (enum : Option ℕ) (es : List Pair) → IfAny (IsEnumThere c) enum → HasText names h es → IsGood names (IsParts es) (parts h beside enum es)
   unfolding parts
   parts_good beside enum es e i =
       made_good _
@@ -128,11 +128,12 @@ module _ (names : List (List ℕ)) (h : Home) where
   enum_there None g = absurd g
   enum_there (Some e) g = g
 
+  own_field_good : (kind : MappingKind) (line : ℕ) (es : List Pair) → HasFieldKeys kind → AreEncodings h.declared → keys_faults kind es ≡ [] → IsGood names (λ p. IfAny (IsEnumThere c) p.0 × IsField p.1) (own_field h kind line es)
+  own_field_good kind line es f a k = next_good (own_enum_good es) (λ e. field_good kind line _ es f a k (enum_there (own_enum h es).value e))
+
   attribute_good : (line : ℕ) (es : List Pair) → AreEncodings h.declared → keys_faults kinds.Attribute es ≡ [] → IsGood names (IsKind c false) (attribute h line es)
   unfolding attribute form_in form_among
-  attribute_good line es a k =
-      made_good _ (next_good (own_enum_good es) (λ e. field_good kinds.Attribute line _ es (record { encoding = refl; read = refl }) a k (enum_there (own_enum h es).value e)))
-      (λ p g. record { leads = g.1; given = λ name. refl })
+  attribute_good line es a k = made_good _ (own_field_good kinds.Attribute line es (record { encoding = refl; read = refl }) a k) (λ p g. record { leads = g.1; given = λ name. refl })
 
   parse_instance_good : (line : ℕ) (es : List Pair) → AreEncodings h.declared → keys_faults kinds.ParseInstance es ≡ [] → IsGood names (IsKind c false) (parse_instance h line es)
   unfolding parse_instance form_in form_among
@@ -140,7 +141,7 @@ module _ (names : List (List ℕ)) (h : Home) where
       made_good _
       (both_good (must_good line (expression h sites.Place) (entry_at (codes "pos") es) (λ p. expression_good names h sites.Place p))
       (both_good (perhaps_good (expression h sites.Stream) (entry_at (codes "io") es) (λ p e. expression_good names h sites.Stream p))
-      (next_good (own_enum_good es) (λ e. field_good kinds.ParseInstance line _ es (record { encoding = refl; read = refl }) a k (enum_there (own_enum h es).value e)))))
+      (own_field_good kinds.ParseInstance line es (record { encoding = refl; read = refl }) a k)))
       (λ p g. record { leads = λ y s fits. (g.0 y s fits, any_leads c IsResolvedTree (in_tree c) p.1.0 g.1.0.0 y s fits, g.1.1.1 y s fits); given = λ name. refl })
 
   value_instance_good : (line : ℕ) (es : List Pair) → IsGood names (IsKind c false) (value_instance h line es)

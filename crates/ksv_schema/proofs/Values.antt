@@ -169,6 +169,10 @@ module _ (names : List (List ℕ)) (h : Home) where
   abbrev pub IsEncoded : List Pair → Type 0
   IsEncoded es = is_some (encoding_at h es) ≡ true
 
+  -- one that is read as a text has
+  abbrev pub HasText : List Pair → Type 0
+  HasText es = (p : Pair) (text : List ℕ) → entry_at (codes "type") es ≡ Some p → text_of p.value ≡ Some text → is_text (type_text text) ≡ true → IsEncoded es
+
   characters : (o : Option Encoding) → is_some o ≡ true → IsThere (IsContent c) (option_map Characters o)
   characters None i = absurd cc
   characters (Some e) i = λ y s fits. tt
@@ -243,7 +247,7 @@ module _ (names : List (List ℕ)) (h : Home) where
   chosen_leads (None, Some x) g y s fits = g y s fits
   chosen_leads (None, None) g y s fits = tt
 
-  pub choice_good : (beside : List Pair) (enum : Option ℕ) (es : List Pair) → IfAny (IsEnumThere c) enum → ((p : Pair) (text : List ℕ) → entry_at (codes "type") es ≡ Some p → text_of p.value ≡ Some text → is_text (type_text text) ≡ true → IsEncoded es) → IsGood names (IsChoice c) (choice h beside enum es)
+  pub choice_good : (beside : List Pair) (enum : Option ℕ) (es : List Pair) → IfAny (IsEnumThere c) enum → HasText es → IsGood names (IsChoice c) (choice h beside enum es)
   unfolding choice
   choice_good beside enum es e i =
       made_good content_or_type (both_good (perhaps_good contents (entry_at (codes "contents") es) (λ p t. contents_good p)) (perhaps_good (typed h beside enum es) (entry_at (codes "type") es) (λ p t. typed_good beside enum es p e (λ text. i p text t))))
