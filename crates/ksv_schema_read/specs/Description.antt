@@ -31,13 +31,17 @@ whole line (Whole n) = gives n
 whole line LeadingZero = wrong line left_out
 whole line NoNumeral = wrong line bad_value
 
+-- a text that must be an id
+abbrev pub id_text : ℕ → List ℕ → Reading (List ℕ)
+id_text line name = if is_id name then gives name else wrong line bad_value
+
 abbrev pub id : Pair → Reading (List ℕ)
-id p = text (λ line name. if is_id name then gives name else wrong line bad_value) p
+id p = text id_text p
 
 -- the value of an entry: an id, or a mapping with an id
 unfoldable pub entry_id : Pair → Reading (List ℕ)
 entry_id p =
-    option_map_or (λ name. if is_id name then gives name else wrong p.line bad_value) (text_of p.value)
+    option_map_or (id_text p.line) (text_of p.value)
     (mapping (λ es. also (keys_faults kinds.Constant es) (must (line_of p.value) id (entry_at (codes "id") es))) p)
 
 -- a number, and an id, that one of these entries has
@@ -56,8 +60,9 @@ constant before p =
 -- an enum: its name, that it is a mapping, and its entries
 unfoldable pub enum : Row → Reading Enum
 enum r =
-    also (fault_if (not (is_id r.id)) r.line bad_value ++ fault_if (is_none (mapping_of r.value)) r.line bad_value)
-    (made (λ entries. record { id = r.id; members = entries }) (each_from (λ i. constant (take i (keys_of r))) 0 (keys_of r)))
+    made (λ p. record { id = p.0; members = p.1 })
+    (both (id_text r.line r.id)
+      (also (fault_if (is_none (mapping_of r.value)) r.line bad_value) (each_from (λ i. constant (take i (keys_of r))) 0 (keys_of r))))
 
 -- ---- types, whose members are read by themselves
 
