@@ -1,0 +1,4 @@
+//! What is read of a description's tree.
+#![tactic(auto)]
+
+mod number;
