@@ -1,0 +1,3 @@
+-- Lemmas.
+pub mod Noted
+pub mod Items
