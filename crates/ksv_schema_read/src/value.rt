@@ -173,32 +173,32 @@ fn extended(made: Option<Vec<u8>>, bytes: &[u8]) -> Read<Vec<u8>>
 
 /// Bytes, if there are any so far, and those of an item of a list behind them.
 #[tactic(auto, using(crate::proofs::Noted::steps), unfolding(crate::specs::Values::item))]
-fn with_item(least: &mut Least, made: Option<Vec<u8>>, item: &Yaml) -> Read<Vec<u8>>
-    ensures value { IfOk result (λ o. items_of o ≡ joined (items_of made) (item (view_node item.now)).value) }
-    ensures faults { seen_fault least.new ≡ noted (seen_fault least.old) (item (view_node item.now)).faults }
+fn with_item(least: &mut Least, made: Option<Vec<u8>>, node: &Yaml) -> Read<Vec<u8>>
+    ensures value { IfOk result (λ o. items_of o ≡ joined (items_of made) (item (view_node node.now)).value) }
+    ensures faults { seen_fault least.new ≡ noted (seen_fault least.old) (item (view_node node.now)).faults }
 {
-    match piece_of(item) {
+    match piece_of(node) {
         Piece::Byte(byte) => extended(made, &[byte]),
         Piece::Text(text) => extended(made, text),
         Piece::Bad => {
-            note(least, item.line(), BadValue);
+            note(least, node.line(), BadValue);
             Ok(None)
         }
         Piece::LeftOut => {
-            note(least, item.line(), LeftOut);
+            note(least, node.line(), LeftOut);
             Ok(None)
         }
     }
 }
 
 /// The bytes of the items of a list.
-fn items(alloc: Global, least: &mut Least, items: &[Yaml]) -> Read<Vec<u8>>
-    ensures value { IfOk result (λ o. items_of o ≡ (items (map view_node items.now)).value) }
-    ensures faults { OnOk result (seen_fault least.new ≡ noted (seen_fault least.old) (items (map view_node items.now)).faults) }
+fn items(alloc: Global, least: &mut Least, nodes: &[Yaml]) -> Read<Vec<u8>>
+    ensures value { IfOk result (λ o. items_of o ≡ (items (map view_node nodes.now)).value) }
+    ensures faults { OnOk result (seen_fault least.new ≡ noted (seen_fault least.old) (items (map view_node nodes.now)).faults) }
 {
     let mut made = Some(Vec::new(alloc));
-    for item in items {
-        made = with_item(least, made, item)?;
+    for node in nodes {
+        made = with_item(least, made, node)?;
     }
     Ok(made)
 }
