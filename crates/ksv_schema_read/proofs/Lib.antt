@@ -1,2 +1,9 @@
--- Lemmas of the crate.
+-- Lemmas.
 pub mod Least
+pub mod Noted
+pub mod Items
+pub mod Along
+pub mod Texts
+pub mod Given
+pub mod Limits
+pub mod Named

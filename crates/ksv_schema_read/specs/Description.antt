@@ -197,14 +197,14 @@ member_names d = distinct (flat_map names_in (map members_of d.types))
 unfoldable pub names_of : Declared → List (List ℕ)
 names_of d = distinct_behind (member_names d) (all_members d).words
 
--- the results for all of two lists of the same length, if each has one
+-- the results for all of a list with those of another beside them, if each has one
 abbrev pub each_of : {A B C : Type 0} → (A → B → Option C) → List A → List B → Option (List C)
-each_of f [] [] = Some []
+each_of f [] ys = Some []
+each_of f (x ∷ xs) [] = None
 each_of f (x ∷ xs) (y ∷ ys) = do
   z ← f x y
   zs ← each_of f xs ys
   Some (z ∷ zs)
-each_of f _ _ = None
 
 -- a member with its name's number
 unfoldable pub member_of : Context → Member → MemberKind → Option MemberOfType
@@ -221,12 +221,12 @@ type_of d names n r kinds = do
 
 -- the types, the first of which has the number n
 abbrev pub types_of : Declared → List (List ℕ) → ℕ → List Row → List (List MemberKind) → Option (List TypeOfObjects)
-types_of d names n [] [] = Some []
+types_of d names n [] kinds = Some []
+types_of d names n (r ∷ rs) [] = None
 types_of d names n (r ∷ rs) (ks ∷ kinds) = do
   t ← type_of d names n r ks
   ts ← types_of d names (n + 1) rs kinds
   Some (t ∷ ts)
-types_of d names n _ _ = None
 
 unfoldable pub are_texts : List Member → Bool
 are_texts members = list_all (λ m. is_utf8 m.name) members

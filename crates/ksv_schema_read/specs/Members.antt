@@ -41,12 +41,12 @@ parts h beside enum es =
           (both (choice h beside enum es)
             (perhaps (expression h sites.Size) (entry_at (codes "size") es))))))
 
--- how often it is read
-unfoldable pub repeat_of : List Pair → Parts → Option Repeat
-repeat_of es p =
+-- how often it is read, with these expressions
+unfoldable pub repeat_of : List Pair → Option expressions.Tree → Option expressions.Tree → Option Repeat
+repeat_of es count until =
     if says (codes "repeat") (codes "eos") es then Some Eos
-    else if says (codes "repeat") (codes "expr") es then option_map Expr p.count
-    else if says (codes "repeat") (codes "until") es then option_map Until p.until
+    else if says (codes "repeat") (codes "expr") es then option_map Expr count
+    else if says (codes "repeat") (codes "until") es then option_map Until until
     else Some Once
 
 abbrev pub extent_of : List Pair → Option expressions.Tree → Extent
@@ -66,7 +66,7 @@ unfoldable pub terminator_of : Option TypeText → List Pair → Option Terminat
 terminator_of typed es = option_map (terminated_by es) (if is_a is_strz typed then Some 0 else byte_at (codes "terminator") es)
 
 unfoldable pub field_of : Option TypeText → List Pair → Parts → Option Field
-field_of typed es p = option_map (λ repeat. record { condition = p.condition; repeat = repeat; choice = p.choice; extent = extent_of es p.size; terminator = terminator_of typed es }) (repeat_of es p)
+field_of typed es p = option_map (λ repeat. record { condition = p.condition; repeat = repeat; choice = p.choice; extent = extent_of es p.size; terminator = terminator_of typed es }) (repeat_of es p.count p.until)
 
 -- ---- what an attribute or a parse instance needs
 
@@ -106,15 +106,17 @@ own_enum h es = perhaps (enumeration h) (entry_at (codes "enum") es)
 abbrev pub enum_in : Reading (Option ℕ) → Option ℕ
 enum_in r = option_map_or (λ e. e) r.value None
 
+abbrev pub own_field : Home → MappingKind → ℕ → List Pair → Reading (Option ℕ × Field)
+own_field h kind line es = both (own_enum h es) (field h kind line (enum_in (own_enum h es)) (own_type es) es)
+
 unfoldable pub attribute : Home → ℕ → List Pair → Reading MemberKind
-attribute h line es = made (λ p. desc.Attribute p.1) (both (own_enum h es) (field h kinds.Attribute line (enum_in (own_enum h es)) (own_type es) es))
+attribute h line es = made (λ p. desc.Attribute p.1) (own_field h kinds.Attribute line es)
 
 unfoldable pub parse_instance : Home → ℕ → List Pair → Reading MemberKind
 parse_instance h line es =
     made (λ p. desc.ParseInstance p.0 p.1.0 p.1.1.1)
     (both (must line (expression h sites.Place) (entry_at (codes "pos") es))
-      (both (perhaps (expression h sites.Stream) (entry_at (codes "io") es))
-        (both (own_enum h es) (field h kinds.ParseInstance line (enum_in (own_enum h es)) (own_type es) es))))
+      (both (perhaps (expression h sites.Stream) (entry_at (codes "io") es)) (own_field h kinds.ParseInstance line es)))
 
 unfoldable pub value_instance : Home → ℕ → List Pair → Reading MemberKind
 value_instance h line es =

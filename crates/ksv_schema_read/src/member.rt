@@ -1,6 +1,7 @@
 //! Members: parameters, attributes, parse instances and value instances.
 
-ghost use Rattle.std.specs.Prelude.{◌≡◌, IfOk, map, option_map, codes};
+ghost use Rattle.std.specs.Prelude.{◌≡◌, None, map, option_map};
+ghost use Rattle.std.specs.Option.{option_map_or};
 ghost use Rattle.ksv_yaml_tree.specs.View.{pair};
 ghost use Rattle.ksv_expr_tree.specs.Tree.{view};
 ghost use Rattle.ksv_desc.specs.Pieces.{plain_extent, plain_terminator, plain_repeat, plain_field, plain_kind};
@@ -9,8 +10,7 @@ ghost use Rattle.ksv_schema_scope.specs.Code.{member_of};
 ghost use Rattle.ksv_schema_keys.specs.Values.{own_type};
 ghost use Rattle.ksv_schema_keys.specs.Code.{seen_type_at};
 ghost use Rattle.ksv_schema_read.specs.Faults.{noted};
-ghost use Rattle.ksv_schema_read.specs.Values.{enum_of};
-ghost use Rattle.ksv_schema_read.specs.Members.{parts, repeat_of, extent_of, terminator_of, field_of, needs, unsupported, field, attribute, parse_instance, value_instance, placeless, by_kind, member_keys, name_line, member};
+ghost use Rattle.ksv_schema_read.specs.Members.{parts, repeat_of, extent_of, terminator_of, field_of, needs, unsupported, field, own_field, attribute, parse_instance, value_instance, placeless, by_kind, member_keys, name_line, member};
 ghost use Rattle.ksv_schema_read.specs.Code.{seen_fault, seen_home, Reads};
 ghost use Rattle.ksv_schema_read.specs.Plain.{plain_parts};
 
@@ -229,7 +229,7 @@ fn field(
 
 /// The enum that was read, if it was.
 fn enum_in(enumeration: Option<Option<u32>>) -> Option<u32>
-    ensures { result ≡ enum_of enumeration }
+    ensures { result ≡ option_map_or (λ e. e) enumeration None }
 {
     match enumeration {
         Some(number) => number,

@@ -1,0 +1,225 @@
+//! The whole description: the names of all members, what is read of each type and enum, and what is put together of it.
+
+ghost use Rattle.std.specs.Prelude.{◌≡◌, true, map, IfOk, option_map, flat_map, None, Some, length};
+ghost use Rattle.std.specs.List.{list_all};
+ghost use Rattle.ksv_schema_scope.specs.Table.{declared};
+ghost use Rattle.ksv_schema_scope.specs.Members.{members_of};
+ghost use Rattle.ksv_schema_scope.specs.Code.{row_of, member_of as row};
+ghost use Rattle.ksv_desc.specs.Names.{distinct_behind};
+ghost use Rattle.ksv_desc.specs.Pieces.{plain_kind, plain_member, plain_type, plain_enum};
+ghost use Rattle.ksv_desc.specs.Whole.{plain_pieces};
+ghost use Rattle.ksv_schema_read.specs.Faults.{noted};
+ghost use Rattle.ksv_schema_read.specs.Reading.{each_from};
+ghost use Rattle.ksv_schema_read.specs.Members.{member};
+ghost use Rattle.ksv_schema_read.specs.Description.{faults_of, members, all_members, all_enums, names_in, are_texts, each_of, member_of, type_of, types_of, described, stated_by};
+ghost use Rattle.ksv_schema_read.specs.Code.{plain, Reads};
+ghost use Rattle.ksv_schema_read.specs.Plain.{context_of};
+
+use crate::check::{line_past, member_past, note_types, type_past};
+use crate::enumeration::{as_text, enumerations, owned_text};
+use crate::fault::{DescFault, note_past};
+use crate::member::member;
+use crate::number::{Context, number_kind};
+use crate::reader::{Read, Reader, both, pushed};
+use ksv_desc::{EnumDesc, MemberDesc, MemberKind, Pieces, TypeDesc};
+use ksv_schema_names::Names;
+use ksv_schema_scope::{Member, Row, Scopes};
+use std::alloc::{AllocError, Global};
+
+// ---- the names of members
+
+/// Adds the names of members, as far as they are texts, and returns whether all are.
+fn add_members(names: &mut Names, members: &[Member]) -> Result<bool, AllocError>
+    ensures added { IfOk result (λ all. all ≡ true → names.new ≡ distinct_behind names.old (names_in (map row members.now))) }
+    ensures texts { IfOk result (λ all. all ≡ are_texts (map row members.now)) }
+{
+    for member in members {
+        match as_text(member.name()) {
+            Some(text) => names.add(text)?,
+            None => return Ok(false),
+        }
+    }
+    Ok(true)
+}
+
+/// Adds the names of the members of each type, as far as they are texts, and returns whether all are.
+fn add_all_members<'a>(
+    names: &mut Names,
+    types: &[Vec<Member<'a>>],
+) -> Result<bool, AllocError>
+    ensures added { IfOk result (λ all. all ≡ true → names.new ≡ distinct_behind names.old (flat_map names_in (map (λ v. map row v.items) types.now))) }
+    ensures texts { IfOk result (λ all. all ≡ list_all are_texts (map (λ v. map row v.items) types.now)) }
+{
+    for members in types {
+        if !add_members(names, members)? {
+            return Ok(false);
+        }
+    }
+    Ok(true)
+}
+
+// ---- what is read of members
+
+/// Each of these members of the type of this number.
+fn each_member<'a>(
+    reader: &mut Reader,
+    scopes: &'a Scopes<'a>,
+    within: usize,
+    members: &[Member],
+) -> Read<Vec<MemberKind>>
+    ensures { Reads (each_from (member (declared scopes.now) within) 0 (map row members.now)) (λ v. map plain_kind v.items) reader.old reader.new result }
+{
+    let mut made = Some(Vec::new(reader.alloc));
+    for (number, one) in members.iter().enumerate() {
+        let next = member(reader, scopes, within, number, one)?;
+        made = pushed(made, next)?;
+    }
+    Ok(made)
+}
+
+/// The members of the type of this number.
+#[tactic(auto, using(crate::proofs::Noted::steps), unfolding(crate::specs::Description::members))]
+fn members<'a>(
+    reader: &mut Reader,
+    scopes: &'a Scopes<'a>,
+    within: usize,
+    members: &[Member],
+) -> Read<Vec<MemberKind>>
+    ensures { Reads (members (declared scopes.now) within (map row members.now)) (λ v. map plain_kind v.items) reader.old reader.new result }
+{
+    note_past(&mut reader.least, member_past(members));
+    each_member(reader, scopes, within, members)
+}
+
+/// The members of each type.
+fn all_members<'a>(
+    reader: &mut Reader,
+    scopes: &'a Scopes<'a>,
+    types: &[Vec<Member<'a>>],
+) -> Read<Vec<Vec<MemberKind>>>
+    ensures { Reads (each_from (members (declared scopes.now)) 0 (map (λ v. map row v.items) types.now)) (λ v. map (λ w. map plain_kind w.items) v.items) reader.old reader.new result }
+{
+    let mut made = Some(Vec::new(reader.alloc));
+    for (within, own) in types.iter().enumerate() {
+        let next = members(reader, scopes, within, own)?;
+        made = pushed(made, next)?;
+    }
+    Ok(made)
+}
+
+// ---- members and types, with the numbers of names
+
+/// A member of this kind, with the numbers of names.
+#[tactic(auto, unfolding(crate::specs::Description::member_of))]
+fn member_of(context: Context, member: &Member, mut kind: MemberKind) -> Option<MemberDesc>
+    ensures { option_map plain_member result ≡ member_of (context_of context.entry) (row member.now) (plain_kind kind) }
+{
+    let name = context.names.number_of(as_text(member.name())?)?;
+    number_kind(context, &mut kind);
+    Some(MemberDesc { name, kind })
+}
+
+/// Each of these members, of which these are the kinds.
+fn members_of(
+    alloc: Global,
+    context: Context,
+    members: &[Member],
+    kinds: Vec<MemberKind>,
+) -> Read<Vec<MemberDesc>>
+    ensures { IfOk result (λ o. option_map (λ v. map plain_member v.items) o ≡ each_of (member_of (context_of context.entry)) (map row members.now) (map plain_kind kinds.items)) }
+{
+    let mut kinds = kinds.into_iter();
+    let mut made = Vec::new(alloc);
+    for member in members {
+        let Some(kind) = kinds.next() else {
+            return Ok(None);
+        };
+        let Some(desc) = member_of(context, member, kind) else {
+            return Ok(None);
+        };
+        made.push(desc)?;
+    }
+    Ok(Some(made))
+}
+
+/// A type with these members, of which these are the kinds.
+#[tactic(auto, unfolding(crate::specs::Description::type_of))]
+fn type_of(
+    alloc: Global,
+    context: Context,
+    row: &Row,
+    members: &[Member],
+    kinds: Vec<MemberKind>,
+) -> Read<TypeDesc>
+    requires { map row members.now ≡ members_of (row_of row.now) }
+    ensures { IfOk result (λ o. option_map plain_type o ≡ type_of (declared context.entry.scopes.now) context.entry.names.now context.entry.within (row_of row.now) (map plain_kind kinds.items)) }
+{
+    let members = members_of(alloc, context, members, kinds)?;
+    match both(members, owned_text(alloc, row.id))? {
+        Some((members, id)) => Ok(Some(TypeDesc::new(alloc, id, members)?)),
+        None => Ok(None),
+    }
+}
+
+/// Each of these types, of whose members these are the kinds.
+fn types_of<'a>(
+    alloc: Global,
+    scopes: &Scopes,
+    names: &Names,
+    types: &[Row<'a>],
+    members: &[Vec<Member<'a>>],
+    kinds: Vec<Vec<MemberKind>>,
+) -> Read<Vec<TypeDesc>>
+    requires { map (λ v. map row v.items) members.now ≡ map members_of (map row_of types.now) }
+    ensures { IfOk result (λ o. option_map (λ v. map plain_type v.items) o ≡ types_of (declared scopes.now) names.now 0 (map row_of types.now) (map (λ w. map plain_kind w.items) kinds.items)) }
+{
+    let mut kinds = kinds.into_iter();
+    let mut made = Vec::new(alloc);
+    for (within, row) in types.iter().enumerate() {
+        let Some(own) = kinds.next() else {
+            return Ok(None);
+        };
+        let context = Context {
+            scopes,
+            names,
+            within,
+        };
+        let Some(desc) = type_of(alloc, context, row, &members[within], own)? else {
+            return Ok(None);
+        };
+        made.push(desc)?;
+    }
+    Ok(Some(made))
+}
+
+// ---- the whole
+
+/// What is read of all types and enums.
+#[derive(Drop)]
+pub(crate) struct Whole {
+    kinds: Option<Vec<Vec<MemberKind>>>,
+    enums: Option<Vec<EnumDesc>>,
+}
+
+/// The description with these names, of which the first ones are those of members.
+#[tactic(auto, unfolding(crate::specs::Description::described))]
+fn described(
+    alloc: Global,
+    scopes: &Scopes,
+    names: Names,
+    known: usize,
+    kinds: Option<Vec<Vec<MemberKind>>>,
+    enums: Option<Vec<EnumDesc>>,
+) -> Result<Option<Pieces>, AllocError>
+{
+    Ok(None)
+}
+
+/// Reads a description.
+pub fn read(
+    alloc: Global,
+    scopes: &Scopes,
+) -> Result<Result<Option<Pieces>, DescFault>, AllocError>
+{
+    Ok(Ok(None))
+}
