@@ -2,8 +2,9 @@
 pub mod Least
 pub mod Noted
 pub mod Items
-pub mod Along
+pub mod Each
 pub mod Texts
 pub mod Given
 pub mod Limits
 pub mod Named
+pub mod Enums

@@ -1,6 +1,6 @@
 //! The whole description: the names of all members, what is read of each type and enum, and what is put together of it.
 
-ghost use Rattle.std.specs.Prelude.{◌≡◌, true, map, IfOk, option_map, flat_map, None, Some, length};
+ghost use Rattle.std.specs.Prelude.{◌≡◌, true, map, IfOk, IfErr, OnOk, option_map, flat_map, None, Some};
 ghost use Rattle.std.specs.List.{list_all};
 ghost use Rattle.ksv_schema_scope.specs.Table.{declared};
 ghost use Rattle.ksv_schema_scope.specs.Members.{members_of};
@@ -12,7 +12,7 @@ ghost use Rattle.ksv_schema_read.specs.Faults.{noted};
 ghost use Rattle.ksv_schema_read.specs.Reading.{each_from};
 ghost use Rattle.ksv_schema_read.specs.Members.{member};
 ghost use Rattle.ksv_schema_read.specs.Description.{faults_of, members, all_members, all_enums, names_in, are_texts, each_of, member_of, type_of, types_of, described, stated_by};
-ghost use Rattle.ksv_schema_read.specs.Code.{plain, Reads};
+ghost use Rattle.ksv_schema_read.specs.Code.{plain, seen_fault, Reads};
 ghost use Rattle.ksv_schema_read.specs.Plain.{context_of};
 
 use crate::check::{line_past, member_past, note_types, type_past};
@@ -20,7 +20,7 @@ use crate::enumeration::{as_text, enumerations, owned_text};
 use crate::fault::{DescFault, note_past};
 use crate::member::member;
 use crate::number::{Context, number_kind};
-use crate::reader::{Read, Reader, both, pushed};
+use crate::reader::{Read, Reader, both, paired, pushed};
 use ksv_desc::{EnumDesc, MemberDesc, MemberKind, Pieces, TypeDesc};
 use ksv_schema_names::Names;
 use ksv_schema_scope::{Member, Row, Scopes};
@@ -164,8 +164,8 @@ fn type_of(
 /// Each of these types, of whose members these are the kinds.
 fn types_of<'a>(
     alloc: Global,
-    scopes: &Scopes,
-    names: &Names,
+    scopes: &'a Scopes<'a>,
+    names: &'a Names,
     types: &[Row<'a>],
     members: &[Vec<Member<'a>>],
     kinds: Vec<Vec<MemberKind>>,
@@ -197,29 +197,77 @@ fn types_of<'a>(
 /// What is read of all types and enums.
 #[derive(Drop)]
 pub(crate) struct Whole {
-    kinds: Option<Vec<Vec<MemberKind>>>,
-    enums: Option<Vec<EnumDesc>>,
+    pub(crate) kinds: Option<Vec<Vec<MemberKind>>>,
+    pub(crate) enums: Option<Vec<EnumDesc>>,
+}
+
+/// Reads all members and all enums; before them come what is past a limit, and the keys of types.
+#[tactic(auto, using(crate::proofs::Noted::steps, crate::proofs::Enums::all_enums_words), unfolding(crate::specs::Description::faults_of, crate::specs::Description::all_members, crate::specs::Description::all_enums))]
+fn read_all<'a>(reader: &mut Reader, scopes: &'a Scopes<'a>) -> Result<Whole, AllocError>
+    ensures kinds { IfOk result (λ w. option_map (λ v. map (λ w. map plain_kind w.items) v.items) w.kinds ≡ (all_members (declared scopes.now)).value) }
+    ensures enums { IfOk result (λ w. option_map (λ v. map plain_enum v.items) w.enums ≡ (all_enums (declared scopes.now)).value) }
+    ensures faults { OnOk result (seen_fault reader.new.least ≡ noted (seen_fault reader.old.least) (faults_of (declared scopes.now))) }
+    ensures words { OnOk result (reader.new.names ≡ distinct_behind reader.old.names (all_members (declared scopes.now)).words) }
+{
+    let entry_past = line_past(reader.alloc, scopes.enums())?;
+    note_past(&mut reader.least, type_past(scopes.types()));
+    note_past(&mut reader.least, entry_past);
+    note_types(&mut reader.least, scopes.types());
+    let kinds = all_members(reader, scopes, scopes.members())?;
+    let enums = enumerations(reader, scopes.enums())?;
+    Ok(Whole { kinds, enums })
 }
 
 /// The description with these names, of which the first ones are those of members.
 #[tactic(auto, unfolding(crate::specs::Description::described))]
-fn described(
+fn described<'a>(
     alloc: Global,
-    scopes: &Scopes,
+    scopes: &'a Scopes<'a>,
     names: Names,
     known: usize,
-    kinds: Option<Vec<Vec<MemberKind>>>,
-    enums: Option<Vec<EnumDesc>>,
-) -> Result<Option<Pieces>, AllocError>
+    whole: Whole,
+) -> Read<Pieces>
+    requires kinds { option_map (λ v. map (λ w. map plain_kind w.items) v.items) whole.kinds ≡ (all_members (declared scopes.now)).value }
+    requires enums { option_map (λ v. map plain_enum v.items) whole.enums ≡ (all_enums (declared scopes.now)).value }
+    ensures { IfOk result (λ o. option_map plain_pieces o ≡ described (declared scopes.now) names known) }
 {
-    Ok(None)
+    let Some((kinds, enums)) = paired(whole.kinds, whole.enums) else {
+        return Ok(None);
+    };
+    let types = types_of(alloc, scopes, &names, scopes.types(), scopes.members(), kinds)?;
+    match types {
+        Some(types) => Ok(Some(Pieces {
+            types,
+            enums,
+            names,
+            known,
+        })),
+        None => Ok(None),
+    }
 }
 
-/// Reads a description.
-pub fn read(
+/// The description that a tree states, or its least fault.
+#[tactic(auto, unfolding(crate::specs::Description::stated_by, crate::specs::Description::names_of, crate::specs::Description::member_names, ksv_desc::specs::Names::distinct))]
+pub fn read<'a>(
     alloc: Global,
-    scopes: &Scopes,
+    scopes: &'a Scopes<'a>,
 ) -> Result<Result<Option<Pieces>, DescFault>, AllocError>
+    ensures fault { IfOk result (λ r. IfErr r (λ f. noted None (faults_of (declared scopes.now)) ≡ Some (plain f))) }
+    ensures faultless { IfOk result (λ r. OnOk r (noted None (faults_of (declared scopes.now)) ≡ None)) }
+    ensures stated { IfOk result (λ r. IfOk r (λ o. option_map plain_pieces o ≡ stated_by (declared scopes.now))) }
 {
-    Ok(Ok(None))
+    let mut reader = Reader {
+        alloc,
+        names: Names::new(alloc),
+        least: None,
+    };
+    let are_texts = add_all_members(&mut reader.names, scopes.members())?;
+    let known = reader.names.len();
+    let whole = read_all(&mut reader, scopes)?;
+    let Reader { names, least, .. } = reader;
+    match least {
+        Some(fault) => Ok(Err(fault)),
+        None if are_texts => Ok(Ok(described(alloc, scopes, names, known, whole)?)),
+        None => Ok(Ok(None)),
+    }
 }

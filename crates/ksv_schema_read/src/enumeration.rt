@@ -228,7 +228,7 @@ fn constants(reader: &mut Reader, entries: &[Entry]) -> Read<Vec<EnumEntry>>
 }
 
 /// An enum.
-#[tactic(auto, using(crate::proofs::Noted::steps), unfolding(crate::specs::Description::enum))]
+#[tactic(auto, using(crate::proofs::Noted::steps))]
 fn enumeration(reader: &mut Reader, row: &Row) -> Read<EnumDesc>
     ensures { Reads (enum (row_of row.now)) plain_enum reader.old reader.new result }
 {

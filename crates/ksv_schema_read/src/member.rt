@@ -47,7 +47,7 @@ pub(crate) struct Parts {
 /// What such keys state, with this enum and the type whose text is at `type`; the cases of a switch must fit to the keys
 /// beside it.
 #[tactic(auto, using(crate::proofs::Noted::steps, ksv_desc::proofs::Dots::steps), unfolding(crate::specs::Members::parts))]
-fn parts(
+fn read_parts(
     reader: &mut Reader,
     home: Home,
     beside: &[Entry],
@@ -219,7 +219,7 @@ fn field(
     note_needs(&mut reader.least, home, line, &typed, entries);
     note_unsupported(&mut reader.least, home, &typed, entries);
     let terminator = terminator_of(&typed, entries);
-    match parts(reader, home, entries, enumeration, entries, typed)? {
+    match read_parts(reader, home, entries, enumeration, entries, typed)? {
         Some(parts) => Ok(field_of(entries, terminator, parts)),
         None => Ok(None),
     }
@@ -326,7 +326,7 @@ fn placeless(
     drop(perhaps_expression(reader, home, Site::Stream, find(entries, b"io"))?);
     let number = enum_in(own_enum(reader, home, entries)?);
     let typed = own_type(reader.alloc, entries)?;
-    drop(parts(reader, home, &[], number, entries, typed)?);
+    drop(read_parts(reader, home, &[], number, entries, typed)?);
     Ok(None)
 }
 
