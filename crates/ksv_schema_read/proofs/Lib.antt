@@ -1,3 +1,4 @@
 -- Lemmas.
 pub mod Noted
 pub mod Items
+pub mod Each
