@@ -1,6 +1,6 @@
 -- What is read of a whole tree: the faults of its types and what is past a limit, its enums, and the members of its types;
 -- and the description that it states, in which each name has its number.
-use Rattle.std.specs.Prelude.{ℕ, ◌+◌, Bool, not, if◌then◌else◌, ◌&&◌, ◌==◌, nat_lt, nat_le, min, List, [], ◌∷◌, ◌++◌, length, map, filter, take, flat_map, fold, codes, Option, Some, None, is_none, option_map, option_to_list, slice_get}
+use Rattle.std.specs.Prelude.{ℕ, ◌+◌, ℤ, Bool, true, false, not, if◌then◌else◌, ◌&&◌, ◌==◌, nat_lt, nat_le, min, List, [], ◌∷◌, ◌++◌, length, map, filter, take, flat_map, fold, codes, Option, Some, None, is_none, option_map, option_to_list, slice_get}
 use Rattle.std.specs.List.{list_any, list_all}
 use Rattle.std.specs.Option.{option_map_or}
 use Rattle.std.specs.Str.{is_utf8}

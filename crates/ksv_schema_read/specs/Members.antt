@@ -34,7 +34,7 @@ pub record Parts : Type 0 where
 -- with this enum; its cases must fit to the keys beside it
 unfoldable pub parts : Home → List Pair → Option ℕ → List Pair → Reading Parts
 parts h beside enum es =
-    made (λ p. record { condition = p.0; count = p.1; until = p.2; choice = p.3; size = p.4 })
+    made (λ p. record { condition = p.0; count = p.1.0; until = p.1.1.0; choice = p.1.1.1.0; size = p.1.1.1.1 })
     (both (perhaps (expression h sites.Condition) (entry_at (codes "if") es))
     (both (perhaps (expression h sites.Count) (entry_at (codes "repeat-expr") es))
     (both (perhaps (expression h sites.Until) (entry_at (codes "repeat-until") es))
@@ -111,7 +111,7 @@ attribute h line es = made (λ p. desc.Attribute p.1) (both (own_enum h es) (fie
 
 unfoldable pub parse_instance : Home → ℕ → List Pair → Reading MemberKind
 parse_instance h line es =
-    made (λ p. desc.ParseInstance p.0 p.1 p.3)
+    made (λ p. desc.ParseInstance p.0 p.1.0 p.1.1.1)
     (both (must line (expression h sites.Place) (entry_at (codes "pos") es))
     (both (perhaps (expression h sites.Stream) (entry_at (codes "io") es))
     (both (own_enum h es) (field h kinds.ParseInstance line (enum_in (own_enum h es)) (own_type es) es))))
@@ -119,7 +119,7 @@ parse_instance h line es =
 unfoldable pub value_instance : Home → ℕ → List Pair → Reading MemberKind
 value_instance h line es =
     also (together kinds.Value line None es)
-    (made (λ p. desc.ValueInstance p.0 p.1 p.2)
+    (made (λ p. desc.ValueInstance p.0 p.1.0 p.1.1)
     (both (perhaps (expression h sites.Condition) (entry_at (codes "if") es))
     (both (must line (expression h sites.Value) (entry_at (codes "value") es)) (own_enum h es))))
 

@@ -1,6 +1,6 @@
 -- What is read of a part of a tree: its faults, the names after dots in its expressions, and what it states, with names
 -- that have no numbers yet. Where something is missing it states nothing; then it has a fault.
-use Rattle.std.specs.Prelude.{ℕ, List, [], ◌∷◌, ◌++◌, Option, Some, None, option_map, option_and_then}
+use Rattle.std.specs.Prelude.{ℕ, ◌+◌, List, [], ◌∷◌, ◌++◌, Option, Some, None, option_map, option_and_then}
 use Rattle.std.specs.Option.{option_map_or}
 use Rattle.ksv_yaml_tree.specs.Tree.{Pair, text_of, mapping_of}
 use Rattle.ksv_schema_read.specs.Faults.{Fault, fault, missing_key, bad_value}

@@ -64,8 +64,8 @@ least_name line ks = option_to_list (option_map (name_fault line) (least None ks
 
 -- an expression at this place, and the arguments of a type
 unfoldable pub of_expression : Home → Site → ℕ → Option expressions.Tree → Reading expressions.Tree
-of_expression h site line None = wrong line no_expression
-of_expression h site line (Some e) = record { faults = least_name line (name_faults h.declared h.within (position_at h site) e); words = dotted e; value = Some e }
+of_expression h at line None = wrong line no_expression
+of_expression h at line (Some e) = record { faults = least_name line (name_faults h.declared h.within (position_at h at) e); words = dotted e; value = Some e }
 
 unfoldable pub expression : Home → Site → Pair → Reading expressions.Tree
 expression h site p = text (λ line text. of_expression h site line (expression_of text)) p
