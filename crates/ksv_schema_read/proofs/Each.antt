@@ -57,9 +57,9 @@ module _ {X A B : Type 0} (see : X → A) (f : A → Reading B) (xs : List X) (a
       → IsSoFar all (each f (map see (drop i xs))) so_far old now → IsSoFar all (each f (map see (drop (i + 1) xs))) more old new
   each_step i x so_far more next old now new lt is read pushes h =
       let e : each f (map see (drop i xs)) ≡ made (λ p. p.0 ∷ p.1) (both (f (see x)) (each f (map see (drop (i + 1) xs)))) =
-        ap (λ (ys : List X). each f (map see ys)) (drop-cons xs i x lt)
-        ∙ ap (λ (y : X). made (λ p. p.0 ∷ p.1) (both (f (see y)) (each f (map see (drop (suc i) xs))))) (sym is)
-        ∙ ap (λ (j : ℕ). made (λ p. p.0 ∷ p.1) (both (f (see x)) (each f (map see (drop j xs))))) (sym (add-one i)) in
+      ap (λ (ys : List X). each f (map see ys)) (drop-cons xs i x lt)
+      ∙ ap (λ (y : X). made (λ p. p.0 ∷ p.1) (both (f (see y)) (each f (map see (drop (suc i) xs))))) (sym is)
+      ∙ ap (λ (j : ℕ). made (λ p. p.0 ∷ p.1) (both (f (see x)) (each f (map see (drop j xs))))) (sym (add-one i)) in
       so_far_step all (each f (map see (drop (i + 1) xs))) (f (see x)) so_far more next old now new (rw e at h) read pushes
 
   pub each_end : (i : ℕ) (so_far : Option (List B)) (old now : Reader) → length xs ≤ i → IsSoFar all (each f (map see (drop i xs))) so_far old now → IsRead all so_far old now
@@ -73,9 +73,9 @@ module _ {X A B : Type 0} (see : X → A) (f : ℕ → A → Reading B) (xs : Li
       → IsSoFar all (each_from f i (map see (drop i xs))) so_far old now → IsSoFar all (each_from f (i + 1) (map see (drop (i + 1) xs))) more old new
   each_from_step i x so_far more next old now new lt is read pushes h =
       let e : each_from f i (map see (drop i xs)) ≡ made (λ p. p.0 ∷ p.1) (both (f i (see x)) (each_from f (i + 1) (map see (drop (i + 1) xs)))) =
-        ap (λ (ys : List X). each_from f i (map see ys)) (drop-cons xs i x lt)
-        ∙ ap (λ (y : X). made (λ p. p.0 ∷ p.1) (both (f i (see y)) (each_from f (i + 1) (map see (drop (suc i) xs))))) (sym is)
-        ∙ ap (λ (j : ℕ). made (λ p. p.0 ∷ p.1) (both (f i (see x)) (each_from f (i + 1) (map see (drop j xs))))) (sym (add-one i)) in
+      ap (λ (ys : List X). each_from f i (map see ys)) (drop-cons xs i x lt)
+      ∙ ap (λ (y : X). made (λ p. p.0 ∷ p.1) (both (f i (see y)) (each_from f (i + 1) (map see (drop (suc i) xs))))) (sym is)
+      ∙ ap (λ (j : ℕ). made (λ p. p.0 ∷ p.1) (both (f i (see x)) (each_from f (i + 1) (map see (drop j xs))))) (sym (add-one i)) in
       so_far_step all (each_from f (i + 1) (map see (drop (i + 1) xs))) (f i (see x)) so_far more next old now new (rw e at h) read pushes
 
   pub each_from_end : (i : ℕ) (so_far : Option (List B)) (old now : Reader) → length xs ≤ i → IsSoFar all (each_from f i (map see (drop i xs))) so_far old now → IsRead all so_far old now

@@ -69,8 +69,8 @@ seen_home h = record { declared = declared h.scopes.now; within = h.within; in_s
 -- ---- what is read
 
 -- a reading was read with this value: its faults are noted, and its words are among the names
-pub record IsRead {A : Type 0} (r : Reading A) (value : Option A) (old new : Reader) : Type 0 where
-  pub value : value ≡ r.value
+pub record IsRead {A : Type 0} (r : Reading A) (got : Option A) (old new : Reader) : Type 0 where
+  pub value : got ≡ r.value
   pub faults : seen_fault new.least ≡ noted (seen_fault old.least) r.faults
   pub words : new.names ≡ distinct_behind old.names r.words
 

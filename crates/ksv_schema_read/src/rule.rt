@@ -57,10 +57,7 @@ static RULES: [Ruled; 19] = [
     Ruled(Read, Excludes(Has(b"contents"), Has(b"terminator"))),
     Ruled(Read, Excludes(Has(b"contents"), Has(b"enum"))),
     Ruled(Read, Excludes(IsInteger, Has(b"size"))),
-    Ruled(
-        Read,
-        Excludes(IsInteger, Says(b"size-eos", b"true")),
-    ),
+    Ruled(Read, Excludes(IsInteger, Says(b"size-eos", b"true"))),
     Ruled(Read, Excludes(IsInteger, Has(b"terminator"))),
     Ruled(Values, Excludes(Has(b"value"), Has(b"pos"))),
     Ruled(Values, Excludes(Has(b"value"), Has(b"io"))),
@@ -187,7 +184,6 @@ fn note_each(
 }
 
 /// Notes what breaks a rule, in a mapping of this kind with this first line and these keys.
-#[tactic(auto, unfolding(crate::specs::Rules::together))]
 pub(crate) fn note_together(
     least: &mut Least,
     kind: MappingKind,

@@ -30,8 +30,8 @@ use ksv_desc::{Case, CaseValue, Choice, Content};
 use ksv_expr_tree::{Expr, Literal, TypeName};
 use ksv_expr_value::Encoding;
 use ksv_schema_keys::{
-    CaseKey, MappingKind, TypeKind, TypeText, case_key, encoding_named, is_of_kind, read_expression,
-    type_text,
+    CaseKey, MappingKind, TypeKind, TypeText, case_key, encoding_named, is_of_kind,
+    read_expression, type_text,
 };
 use ksv_schema_names::{BuiltIn, Site, argument_fault, given_member};
 use ksv_schema_scope::ByteOrder;
@@ -272,12 +272,7 @@ fn of_case_key(
 
 /// What the text of a key of `cases` is compared with.
 #[tactic(auto, using(crate::proofs::Noted::steps, ksv_desc::proofs::Dots::steps), unfolding(crate::specs::Values::case_value))]
-fn case_value(
-    reader: &mut Reader,
-    home: Home,
-    line: usize,
-    text: &[u8],
-) -> Read<Option<CaseValue>>
+fn case_value(reader: &mut Reader, home: Home, line: usize, text: &[u8]) -> Read<Option<CaseValue>>
     ensures { Reads (case_value (seen_home home.entry) line (expression_of text.now)) (λ o. option_map plain_value o) reader.old reader.new result }
 {
     match read_expression(reader.alloc, text)? {

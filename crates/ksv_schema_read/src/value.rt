@@ -61,12 +61,7 @@ pub(crate) fn expression_in(
 
 /// The expression at a key.
 #[tactic(auto, using(crate::proofs::Noted::steps, ksv_desc::proofs::Dots::steps), unfolding(crate::specs::Values::expression))]
-pub(crate) fn expression(
-    reader: &mut Reader,
-    home: Home,
-    site: Site,
-    entry: &Entry,
-) -> Read<Expr>
+pub(crate) fn expression(reader: &mut Reader, home: Home, site: Site, entry: &Entry) -> Read<Expr>
     ensures { Reads (expression (seen_home home.entry) site (pair entry.now)) view reader.old reader.new result }
 {
     match entry.value().text() {
