@@ -8,3 +8,4 @@ pub mod Given
 pub mod Limits
 pub mod Named
 pub mod Enums
+pub mod Made

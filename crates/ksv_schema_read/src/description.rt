@@ -4,14 +4,14 @@ ghost use Rattle.std.specs.Prelude.{◌≡◌, true, map, IfOk, IfErr, OnOk, opt
 ghost use Rattle.std.specs.List.{list_all};
 ghost use Rattle.ksv_schema_scope.specs.Table.{declared};
 ghost use Rattle.ksv_schema_scope.specs.Members.{members_of};
-ghost use Rattle.ksv_schema_scope.specs.Code.{row_of, member_of as row};
+ghost use Rattle.ksv_schema_scope.specs.Code.{row_of, member_of as seen_member};
 ghost use Rattle.ksv_desc.specs.Names.{distinct_behind};
 ghost use Rattle.ksv_desc.specs.Pieces.{plain_kind, plain_member, plain_type, plain_enum};
 ghost use Rattle.ksv_desc.specs.Whole.{plain_pieces};
 ghost use Rattle.ksv_schema_read.specs.Faults.{noted};
 ghost use Rattle.ksv_schema_read.specs.Reading.{each_from};
-ghost use Rattle.ksv_schema_read.specs.Members.{member};
-ghost use Rattle.ksv_schema_read.specs.Description.{faults_of, members, all_members, all_enums, names_in, are_texts, each_of, member_of, type_of, types_of, described, stated_by};
+ghost use Rattle.ksv_schema_read.specs.Members.{member as stated_member};
+ghost use Rattle.ksv_schema_read.specs.Description.{faults_of, members as stated_members, all_members, all_enums, names_in, are_texts, each_of, member_of, type_of, types_of, described, stated_by};
 ghost use Rattle.ksv_schema_read.specs.Code.{plain, seen_fault, Reads};
 ghost use Rattle.ksv_schema_read.specs.Plain.{context_of};
 
@@ -30,8 +30,8 @@ use std::alloc::{AllocError, Global};
 
 /// Adds the names of members, as far as they are texts, and returns whether all are.
 fn add_members(names: &mut Names, members: &[Member]) -> Result<bool, AllocError>
-    ensures added { IfOk result (λ all. all ≡ true → names.new ≡ distinct_behind names.old (names_in (map row members.now))) }
-    ensures texts { IfOk result (λ all. all ≡ are_texts (map row members.now)) }
+    ensures added { IfOk result (λ all. all ≡ true → names.new ≡ distinct_behind names.old (names_in (map seen_member members.now))) }
+    ensures texts { IfOk result (λ all. all ≡ are_texts (map seen_member members.now)) }
 {
     for member in members {
         match as_text(member.name()) {
@@ -47,8 +47,8 @@ fn add_all_members<'a>(
     names: &mut Names,
     types: &[Vec<Member<'a>>],
 ) -> Result<bool, AllocError>
-    ensures added { IfOk result (λ all. all ≡ true → names.new ≡ distinct_behind names.old (flat_map names_in (map (λ v. map row v.items) types.now))) }
-    ensures texts { IfOk result (λ all. all ≡ list_all are_texts (map (λ v. map row v.items) types.now)) }
+    ensures added { IfOk result (λ all. all ≡ true → names.new ≡ distinct_behind names.old (flat_map names_in (map (λ v. map seen_member v.items) types.now))) }
+    ensures texts { IfOk result (λ all. all ≡ list_all are_texts (map (λ v. map seen_member v.items) types.now)) }
 {
     for members in types {
         if !add_members(names, members)? {
@@ -67,7 +67,7 @@ fn each_member<'a>(
     within: usize,
     members: &[Member],
 ) -> Read<Vec<MemberKind>>
-    ensures { Reads (each_from (member (declared scopes.now) within) 0 (map row members.now)) (λ v. map plain_kind v.items) reader.old reader.new result }
+    ensures { Reads (each_from (stated_member (declared scopes.now) within) 0 (map seen_member members.now)) (λ v. map plain_kind v.items) reader.old reader.new result }
 {
     let mut made = Some(Vec::new(reader.alloc));
     for (number, one) in members.iter().enumerate() {
@@ -85,7 +85,7 @@ fn members<'a>(
     within: usize,
     members: &[Member],
 ) -> Read<Vec<MemberKind>>
-    ensures { Reads (members (declared scopes.now) within (map row members.now)) (λ v. map plain_kind v.items) reader.old reader.new result }
+    ensures { Reads (stated_members (declared scopes.now) within (map seen_member members.now)) (λ v. map plain_kind v.items) reader.old reader.new result }
 {
     note_past(&mut reader.least, member_past(members));
     each_member(reader, scopes, within, members)
@@ -97,7 +97,7 @@ fn all_members<'a>(
     scopes: &'a Scopes<'a>,
     types: &[Vec<Member<'a>>],
 ) -> Read<Vec<Vec<MemberKind>>>
-    ensures { Reads (each_from (members (declared scopes.now)) 0 (map (λ v. map row v.items) types.now)) (λ v. map (λ w. map plain_kind w.items) v.items) reader.old reader.new result }
+    ensures { Reads (each_from (stated_members (declared scopes.now)) 0 (map (λ v. map seen_member v.items) types.now)) (λ v. map (λ w. map plain_kind w.items) v.items) reader.old reader.new result }
 {
     let mut made = Some(Vec::new(reader.alloc));
     for (within, own) in types.iter().enumerate() {
@@ -112,7 +112,7 @@ fn all_members<'a>(
 /// A member of this kind, with the numbers of names.
 #[tactic(auto, unfolding(crate::specs::Description::member_of))]
 fn member_of(context: Context, member: &Member, mut kind: MemberKind) -> Option<MemberDesc>
-    ensures { option_map plain_member result ≡ member_of (context_of context.entry) (row member.now) (plain_kind kind) }
+    ensures { option_map plain_member result ≡ member_of (context_of context.entry) (seen_member member.now) (plain_kind kind) }
 {
     let name = context.names.number_of(as_text(member.name())?)?;
     number_kind(context, &mut kind);
@@ -126,12 +126,12 @@ fn members_of(
     members: &[Member],
     kinds: Vec<MemberKind>,
 ) -> Read<Vec<MemberDesc>>
-    ensures { IfOk result (λ o. option_map (λ v. map plain_member v.items) o ≡ each_of (member_of (context_of context.entry)) (map row members.now) (map plain_kind kinds.items)) }
+    ensures { IfOk result (λ o. option_map (λ v. map plain_member v.items) o ≡ each_of (member_of (context_of context.entry)) (map seen_member members.now) (map plain_kind kinds.items)) }
 {
-    let mut kinds = kinds.into_iter();
+    let mut rest = kinds.into_iter();
     let mut made = Vec::new(alloc);
     for member in members {
-        let Some(kind) = kinds.next() else {
+        let Some(kind) = rest.next() else {
             return Ok(None);
         };
         let Some(desc) = member_of(context, member, kind) else {
@@ -151,7 +151,7 @@ fn type_of(
     members: &[Member],
     kinds: Vec<MemberKind>,
 ) -> Read<TypeDesc>
-    requires { map row members.now ≡ members_of (row_of row.now) }
+    requires { map seen_member members.now ≡ members_of (row_of row.now) }
     ensures { IfOk result (λ o. option_map plain_type o ≡ type_of (declared context.entry.scopes.now) context.entry.names.now context.entry.within (row_of row.now) (map plain_kind kinds.items)) }
 {
     let members = members_of(alloc, context, members, kinds)?;
@@ -170,13 +170,13 @@ fn types_of<'a>(
     members: &[Vec<Member<'a>>],
     kinds: Vec<Vec<MemberKind>>,
 ) -> Read<Vec<TypeDesc>>
-    requires { map (λ v. map row v.items) members.now ≡ map members_of (map row_of types.now) }
+    requires { map (λ v. map seen_member v.items) members.now ≡ map members_of (map row_of types.now) }
     ensures { IfOk result (λ o. option_map (λ v. map plain_type v.items) o ≡ types_of (declared scopes.now) names.now 0 (map row_of types.now) (map (λ w. map plain_kind w.items) kinds.items)) }
 {
-    let mut kinds = kinds.into_iter();
+    let mut rest = kinds.into_iter();
     let mut made = Vec::new(alloc);
     for (within, row) in types.iter().enumerate() {
-        let Some(own) = kinds.next() else {
+        let Some(own) = rest.next() else {
             return Ok(None);
         };
         let context = Context {

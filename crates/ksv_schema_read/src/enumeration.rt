@@ -14,7 +14,7 @@ ghost use Rattle.ksv_schema_read.specs.Faults.{noted};
 ghost use Rattle.ksv_schema_read.specs.Reading.{each, each_from};
 ghost use Rattle.ksv_schema_read.specs.Members.{id_line};
 ghost use Rattle.ksv_schema_read.specs.Description.{whole, id_text, id, entry_id, constant, enum};
-ghost use Rattle.ksv_schema_read.specs.Code.{seen_fault, Reads};
+ghost use Rattle.ksv_schema_read.specs.Code.{seen_fault, paired, Reads};
 ghost use Rattle.ksv_schema_read.specs.Plain.{has_number, has_id, Gives, Adds, AreOf};
 
 use crate::fault::DescFaultKind::{BadValue, KeysAgainst, LeftOut, MissingKey};

@@ -10,7 +10,7 @@ ghost use Rattle.ksv_schema_scope.specs.Code.{member_of};
 ghost use Rattle.ksv_schema_keys.specs.Values.{own_type};
 ghost use Rattle.ksv_schema_keys.specs.Code.{seen_type_at};
 ghost use Rattle.ksv_schema_read.specs.Faults.{noted};
-ghost use Rattle.ksv_schema_read.specs.Members.{parts, repeat_of, extent_of, terminator_of, field_of, needs, unsupported, field, own_field, attribute, parse_instance, value_instance, placeless, by_kind, member_keys, name_line, member};
+ghost use Rattle.ksv_schema_read.specs.Members.{parts, repeat_of, extent_of, terminator_of, field_of, needs, unsupported, field, own_field, attribute, parse_instance, value_instance, placeless, by_kind, member_keys, name_line, is_named_again, member as stated_member};
 ghost use Rattle.ksv_schema_read.specs.Code.{seen_fault, seen_home, Reads};
 ghost use Rattle.ksv_schema_read.specs.Plain.{plain_parts};
 
@@ -407,7 +407,7 @@ pub(crate) fn member<'a>(
     number: usize,
     member: &Member,
 ) -> Read<MemberKind>
-    ensures { Reads (member (declared scopes.now) within number (member_of member.now)) plain_kind reader.old reader.new result }
+    ensures { Reads (stated_member (declared scopes.now) within number (member_of member.now)) plain_kind reader.old reader.new result }
 {
     let is_instance = matches!(member.role, Role::Instance);
     let is_bad = is_instance & !is_id(member.name());
