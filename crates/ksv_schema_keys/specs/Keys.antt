@@ -19,7 +19,6 @@ use Rattle.ksv_schema_keys.specs.declared.keys.Form.TheVariants.{Ignored, NotHer
 abbrev pub is_in : Group → MappingKind → Bool
 is_in groups.Types kinds.Root = true
 is_in groups.Types kinds.Type = true
-is_in groups.Roots kinds.Root = true
 is_in groups.Metas kinds.RootMeta = true
 is_in groups.Metas kinds.Meta = true
 is_in groups.Named kinds.RootMeta = true
@@ -27,9 +26,6 @@ is_in groups.Named kinds.Meta = true
 is_in groups.Named kinds.Parameter = true
 is_in groups.Named kinds.Attribute = true
 is_in groups.Named kinds.Constant = true
-is_in groups.NeedId kinds.RootMeta = true
-is_in groups.NeedId kinds.Parameter = true
-is_in groups.NeedId kinds.Constant = true
 is_in groups.Parameters kinds.Parameter = true
 is_in groups.Places kinds.ParseInstance = true
 is_in groups.Places kinds.Placeless = true

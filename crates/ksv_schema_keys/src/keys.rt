@@ -75,14 +75,10 @@ pub enum MappingKind {
 pub enum Group {
     /// Types.
     Types,
-    /// The root alone.
-    Roots,
     /// Each `meta`.
     Metas,
     /// Mappings that may have an id.
     Named,
-    /// Mappings that must have an id.
-    NeedId,
     /// Parameters.
     Parameters,
     /// Instances that aren't values.
@@ -104,10 +100,8 @@ pub fn is_in(group: Group, kind: MappingKind) -> bool
     use MappingKind::*;
     match group {
         Group::Types => matches!(kind, Root | Type),
-        Group::Roots => matches!(kind, Root),
         Group::Metas => matches!(kind, RootMeta | Meta),
         Group::Named => matches!(kind, RootMeta | Meta | Parameter | Attribute | Constant),
-        Group::NeedId => matches!(kind, RootMeta | Parameter | Constant),
         Group::Parameters => matches!(kind, Parameter),
         Group::Places => matches!(kind, ParseInstance | Placeless),
         Group::Fields => matches!(kind, Attribute | ParseInstance | Placeless),

@@ -1,2 +1,11 @@
--- Lemmas of the crate.
+-- Lemmas.
 pub mod Least
+pub mod Noted
+pub mod Items
+pub mod Each
+pub mod Texts
+pub mod Given
+pub mod Limits
+pub mod Named
+pub mod Enums
+pub mod Made

@@ -5,3 +5,5 @@ pub mod Rules
 pub mod Values
 pub mod Members
 pub mod Description
+pub mod Code
+pub mod Plain

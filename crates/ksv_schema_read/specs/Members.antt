@@ -36,10 +36,10 @@ unfoldable pub parts : Home → List Pair → Option ℕ → List Pair → Readi
 parts h beside enum es =
     made (λ p. record { condition = p.0; count = p.1.0; until = p.1.1.0; choice = p.1.1.1.0; size = p.1.1.1.1 })
     (both (perhaps (expression h sites.Condition) (entry_at (codes "if") es))
-      (both (perhaps (expression h sites.Count) (entry_at (codes "repeat-expr") es))
-        (both (perhaps (expression h sites.Until) (entry_at (codes "repeat-until") es))
-          (both (choice h beside enum es)
-            (perhaps (expression h sites.Size) (entry_at (codes "size") es))))))
+    (both (perhaps (expression h sites.Count) (entry_at (codes "repeat-expr") es))
+    (both (perhaps (expression h sites.Until) (entry_at (codes "repeat-until") es))
+    (both (choice h beside enum es)
+    (perhaps (expression h sites.Size) (entry_at (codes "size") es))))))
 
 -- how often it is read, with these expressions
 unfoldable pub repeat_of : List Pair → Option expressions.Tree → Option expressions.Tree → Option Repeat
@@ -116,22 +116,22 @@ unfoldable pub parse_instance : Home → ℕ → List Pair → Reading MemberKin
 parse_instance h line es =
     made (λ p. desc.ParseInstance p.0 p.1.0 p.1.1.1)
     (both (must line (expression h sites.Place) (entry_at (codes "pos") es))
-      (both (perhaps (expression h sites.Stream) (entry_at (codes "io") es)) (own_field h kinds.ParseInstance line es)))
+    (both (perhaps (expression h sites.Stream) (entry_at (codes "io") es)) (own_field h kinds.ParseInstance line es)))
 
 unfoldable pub value_instance : Home → ℕ → List Pair → Reading MemberKind
 value_instance h line es =
     also (together kinds.Value line None es)
     (made (λ p. desc.ValueInstance p.0 p.1.0 p.1.1)
-      (both (perhaps (expression h sites.Condition) (entry_at (codes "if") es))
-        (both (must line (expression h sites.Value) (entry_at (codes "value") es)) (own_enum h es))))
+    (both (perhaps (expression h sites.Condition) (entry_at (codes "if") es))
+    (both (must line (expression h sites.Value) (entry_at (codes "value") es)) (own_enum h es))))
 
 -- an instance without a place and a value is unsupported, whatever its keys are together
 unfoldable pub placeless : Home → ℕ → List Pair → Reading MemberKind
 placeless h name_line es =
     also (fault name_line left_out)
     (chosen (λ p. None)
-      (both (perhaps (expression h sites.Stream) (entry_at (codes "io") es))
-        (both (own_enum h es) (parts h [] (enum_in (own_enum h es)) es))))
+    (both (perhaps (expression h sites.Stream) (entry_at (codes "io") es))
+    (both (own_enum h es) (parts h [] (enum_in (own_enum h es)) es))))
 
 -- a member whose name is on this line, with this first line and these keys
 unfoldable pub by_kind : Home → MappingKind → ℕ → ℕ → List Pair → Reading MemberKind

@@ -172,15 +172,15 @@ unfoldable pub case : Home → List Pair → Option ℕ → List Pair → Pair �
 case h beside enum es p =
     made (λ p. record { value = p.0; content = p.1 })
     (both (case_value h p.line (expression_of p.key))
-      (text (λ line text. let t = type_text text in also (case_against h beside line t) (of_type h enum es line t)) p))
+    (text (λ line text. let t = type_text text in also (case_against h beside line t) (of_type h enum es line t)) p))
 
 -- the mapping at `type`
 unfoldable pub switch : Home → List Pair → Option ℕ → List Pair → ℕ → List Pair → Reading Choice
 switch h beside enum es line keys =
     also (keys_faults kinds.Switch keys)
     (made (λ p. Switch p.0 p.1)
-      (both (must line (expression h sites.Switch) (entry_at (codes "switch-on") keys))
-        (must line (mapping (each (case h beside enum es))) (entry_at (codes "cases") keys))))
+    (both (must line (expression h sites.Switch) (entry_at (codes "switch-on") keys))
+    (must line (mapping (each (case h beside enum es))) (entry_at (codes "cases") keys))))
 
 -- what is at `type`: a text, or a switch
 unfoldable pub typed : Home → List Pair → Option ℕ → List Pair → Pair → Reading Choice
