@@ -1,6 +1,6 @@
 -- What is read of a member is good: it leads somewhere, and it is a parameter or isn't.
-use Rattle.std.proofs.Common.{◌≡◌, ℕ, Bool, true, false, cond, List, [], ap, ◌∙◌, refl, Option, Some, None}
-use Rattle.std.specs.Prelude.{codes, ◌||◌, is_some, option_map, option_and_then}
+use Rattle.std.proofs.Common.{◌≡◌, ℕ, Bool, true, false, cond, List, [], refl, Option, Some, None}
+use Rattle.std.specs.Prelude.{codes, ◌||◌, is_some, option_map}
 use Rattle.std.specs.Option.{option_map_or}
 use Rattle.ksv_yaml_tree.specs.Tree.{Pair, entry_at}
 use Rattle.ksv_yaml_tree.specs.Keys.{has, says, text_at}
@@ -19,7 +19,7 @@ use Rattle.ksv_schema_keys.specs.declared.keys.MappingKind.{MappingKind}
 use Rattle.ksv_schema_keys.specs.declared.keys.MappingKind.TheVariants as kinds
 use Rattle.ksv_schema_keys.specs.declared.keys.Group.TheVariants as groups
 use Rattle.ksv_schema_keys.specs.Keys.{is_in, kind_of, form_among, form_in, is_ignored}
-use Rattle.ksv_schema_keys.specs.Values.{encoding_named, type_text, is_str, is_strz, type_at, own_type, is_a, is_to_end}
+use Rattle.ksv_schema_keys.specs.Values.{encoding_named, is_str, is_strz, own_type, is_a, is_to_end}
 use Rattle.ksv_schema_read.specs.Faults.{missing_key, left_out}
 use Rattle.ksv_schema_read.specs.Rules.{form_faults, keys_faults}
 use Rattle.ksv_schema_read.specs.Values.{Home, expression, enumeration, encoding_at}
@@ -27,7 +27,7 @@ use Rattle.ksv_schema_read.specs.Members.{Parts, parts, repeat_of, extent_of, fi
 use Rattle.ksv_schema_read.specs.Description.{Context, in_tree, in_extent, in_repeat, in_field, in_kind}
 use Rattle.ksv_schema.proofs.Good.{front, back, implies, there_map, IsGood, gives_good, also_good, chosen_good, made_good, next_good, both_good, weaker, perhaps_good, must_good}
 use Rattle.ksv_schema.proofs.Keys.{text_fits, HasRepeat, has_repeat}
-use Rattle.ksv_schema.proofs.Values.{Leads, any_leads, in_home, IsTree, IsEnumThere, IsChoice, any_enum, expression_good, enumeration_good, HasText, is_text, choice_good}
+use Rattle.ksv_schema.proofs.Values.{Leads, any_leads, in_home, IsTree, IsEnumThere, IsChoice, any_enum, expression_good, enumeration_good, HasText, choice_good}
 
 -- each encoding in force is one of those that there are
 abbrev pub AreEncodings : Declared → Type 0
@@ -48,10 +48,8 @@ module _ (names : List (List ℕ)) (h : Home) where
   is_encoded : (kind : MappingKind) (line : ℕ) (es : List Pair) → AreEncodings h.declared → form_in kind (codes "encoding") ≡ Some forms.Coding → keys_faults kind es ≡ [] → needs h line (own_type es) es ≡ [] → HasText names h es
   unfolding needs encoding_at form_faults is_ignored
   is_encoded kind line es a f k n p text e t b =
-      let same : (is_a is_str (own_type es) || is_a is_strz (own_type es)) ≡ is_text (type_text text)
-      = ap (λ (o : Option Pair). is_a is_str (option_and_then type_at o) || is_a is_strz (option_and_then type_at o)) e ∙ ap (λ (o : Option (List ℕ)). is_a is_str (option_map type_text o) || is_a is_strz (option_map type_text o)) t in
       go (text_at (codes "encoding") es) (encoding_of h.declared.types h.within) (λ text t. text_fits kind (codes "encoding") forms.Coding (λ text. is_some (encoding_named text)) left_out es text (λ p. refl) refl f k t) (a h.within)
-      (implies (is_a is_str (own_type es) || is_a is_strz (own_type es)) (has_encoding h es) line missing_key (back _ _ n) (same ∙ b))
+      (implies (is_a is_str (own_type es) || is_a is_strz (own_type es)) (has_encoding h es) line missing_key (back _ _ n) (rw (e, t) b))
     where
       go : (own outer : Option (List ℕ)) → ((text : List ℕ) → own ≡ Some text → is_some (encoding_named text) ≡ true) → ((text : List ℕ) → outer ≡ Some text → is_some (encoding_named text) ≡ true) → (is_some own || is_some outer) ≡ true → is_some (option_map_or (λ (text : List ℕ). let r : Option (List ℕ) = Some text in r) own outer >>= encoding_named) ≡ true
       go (Some text) outer f g x = f text refl

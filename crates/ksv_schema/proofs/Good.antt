@@ -27,7 +27,7 @@ pub not_if : (b : Bool) (line number : ℕ) → fault_if b line number ≡ [] �
 not_if true line number h = absurd cc
 not_if false line number h = refl
 
-pub no_fault : (line number : ℕ) → fault line number ≡ [] → ⊥
+no_fault : (line number : ℕ) → fault line number ≡ [] → ⊥
 no_fault line number h = cc
 
 -- a fault where one is and the other isn't
@@ -59,9 +59,9 @@ there_both G H None p g h = g
 there_both G H (Some x) None g h = h
 there_both G H (Some x) (Some y) g h = (g, h)
 
-pub is_there : {A : Type 0} (o : Option A) → is_some o ≡ true → (x : A) × (o ≡ Some x)
-is_there None h = absurd cc
-is_there (Some x) h = (x, refl)
+pub is_there : {A : Type 0} (G : A → Type 0) (o : Option A) → IsThere G o → (x : A) × (o ≡ Some x) × G x
+is_there G None g = absurd g
+is_there G (Some x) g = (x, refl, g)
 
 -- ---- readings
 

@@ -8,22 +8,21 @@ use Rattle.std.proofs.lemmas.Slice.Eq.{bytes_eq-Decides}
 use Rattle.ksv_yaml_tree.specs.Tree.{Pair, line_of, text_of, mapping_of, entry_at}
 use Rattle.ksv_yaml_tree.specs.Keys.{entries_at, says, text_at}
 use Rattle.ksv_schema_scope.specs.Rows.{Row, keys_of}
+use Rattle.ksv_schema_names.proofs.Found.{is_bound}
 use Rattle.ksv_schema_keys.specs.declared.keys.Form.{Form}
 use Rattle.ksv_schema_keys.specs.declared.keys.MappingKind.{MappingKind}
 use Rattle.ksv_schema_keys.specs.declared.keys.MappingKind.TheVariants as kinds
 use Rattle.ksv_schema_keys.specs.declared.keys.Group.TheVariants as groups
 use Rattle.ksv_schema_keys.specs.Keys.{is_in, form_in, is_ignored}
 use Rattle.ksv_schema_keys.specs.Values.{TypeText}
-use Rattle.ksv_schema_read.specs.Faults.{Fault, fault, fault_if, unknown_key, missing_key, bad_value}
+use Rattle.ksv_schema_read.specs.Faults.{Fault, fault, fault_if, missing_key, bad_value}
 use Rattle.ksv_schema_read.specs.Rules.{form_faults, key_faults, keys_faults, missing, Has, Says, Needs, claimed, rule_faults, ruled_faults, together}
 use Rattle.ksv_schema_read.specs.Description.{is_root, meta_faults, type_keys_faults, type_faults}
 use Rattle.ksv_schema.proofs.Good.{front, back, not_if, implies}
 
 key_is : (kind : MappingKind) (p : Pair) (form : Form) → is_ignored p.key ≡ false → form_in kind p.key ≡ Some form → key_faults kind p ≡ form_faults p form
 unfolding key_faults
-key_is kind p form i f =
-    ap (λ (b : Bool). cond b [] (option_map_or (form_faults p) (form_in kind p.key) (fault p.line unknown_key))) i
-    ∙ ap (λ (o : Option Form). option_map_or (form_faults p) o (fault p.line unknown_key)) f
+key_is kind p form i f = rw (i, f)
 
 at_key : (kind : MappingKind) (name : List ℕ) (form : Form) (es : List Pair) (p : Pair) → is_ignored name ≡ false → form_in kind name ≡ Some form → keys_faults kind es ≡ [] → entry_at name es ≡ Some p → form_faults p form ≡ []
 at_key kind name form [] p i f k e = absurd cc
@@ -43,15 +42,10 @@ abbrev pub text_unless : (List ℕ → Bool) → ℕ → Pair → List Fault
 text_unless fits number p = option_map_or (λ text. fault_if (not (fits text)) p.line number) (text_of p.value) (fault p.line bad_value)
 
 pub text_fits : (kind : MappingKind) (name : List ℕ) (form : Form) (fits : List ℕ → Bool) (number : ℕ) (es : List Pair) (text : List ℕ) → ((p : Pair) → form_faults p form ≡ text_unless fits number p) → is_ignored name ≡ false → form_in kind name ≡ Some form → keys_faults kind es ≡ [] → text_at name es ≡ Some text → fits text ≡ true
-text_fits kind name form fits number es text a i f k t = at (entry_at name es) refl t
-  where
-    of_text : (p : Pair) (o : Option (List ℕ)) → o ≡ Some text → option_map_or (λ text. fault_if (not (fits text)) p.line number) o (fault p.line bad_value) ≡ [] → fits text ≡ true
-    of_text p None t n = absurd cc
-    of_text p (Some other) t n = let same : other ≡ text = cc in ap fits (sym same) ∙ not-false (fits other) (not_if (not (fits other)) p.line number n)
-
-    at : (o : Option Pair) → entry_at name es ≡ o → option_and_then (λ p. text_of p.value) o ≡ Some text → fits text ≡ true
-    at None e t = absurd cc
-    at (Some p) e t = of_text p (text_of p.value) t (sym (a p) ∙ at_key kind name form es p i f k e)
+text_fits kind name form fits number es text a i f k t =
+    let p = is_bound (λ p. text_of p.value) (entry_at name es) text t in
+    let n : text_unless fits number p.0 ≡ [] = sym (a p.0) ∙ at_key kind name form es p.0 i f k p.1 in
+    not-false (fits text) (not_if (not (fits text)) p.0.line number (rw p.2 at n))
 
 -- the keys at a type's `meta`
 pub meta_faultless : (n : ℕ) (r : Row) → type_faults n r ≡ [] → keys_faults (cond (is_root n) kinds.RootMeta kinds.Meta) (entries_at (codes "meta") (keys_of r)) ≡ []
@@ -75,11 +69,11 @@ meta_faultless n r k = at_type (mapping_of r.value) (front _ _ k)
 
 -- a key that is needed where `repeat` has a text
 needed : (typed : Option TypeText) (text name : List ℕ) (es : List Pair) (line : ℕ) → rule_faults line typed es (Needs (Says (codes "repeat") text) (Has name)) ≡ [] → says (codes "repeat") text es ≡ true → is_some (entry_at name es) ≡ true
-needed typed text name es line k e = implies (is_some (claimed typed es (Says (codes "repeat") text))) (is_some (entry_at name es)) line missing_key k (go (entry_at (codes "repeat") es) e)
+needed typed text name es line k e = implies (is_some (claimed typed es (Says (codes "repeat") text))) (is_some (entry_at name es)) line missing_key k (rw e (go (entry_at (codes "repeat") es) e))
   where
-    go : (o : Option Pair) → option_map_or (bytes_eq text) (option_and_then (λ p. text_of p.value) o) false ≡ true → is_some (cond (option_map_or (bytes_eq text) (option_and_then (λ p. text_of p.value) o) false) o None) ≡ true
+    go : (o : Option Pair) → option_map_or (bytes_eq text) (option_and_then (λ p. text_of p.value) o) false ≡ true → is_some o ≡ true
     go None e = absurd cc
-    go (Some q) e = ap (λ (b : Bool). is_some (cond b (Some q) None)) e
+    go (Some p) e = refl
 
 -- what `repeat` needs is there
 pub record HasRepeat (es : List Pair) : Type 0 where

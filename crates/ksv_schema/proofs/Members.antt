@@ -1,5 +1,5 @@
 -- Without faults each member and type is stated, and leads somewhere.
-use Rattle.std.proofs.Common.{◌≡◌, ℕ, zero, suc, ◌+◌, ◌<◌, Bool, true, false, cond, List, [], ◌∷◌, ◌++◌, length, sym, ap, subst, ◌∙◌, refl, Option, Some, None, append_assoc, arith}
+use Rattle.std.proofs.Common.{◌≡◌, ℕ, zero, suc, ◌+◌, ◌<◌, Bool, true, false, cond, List, [], ◌∷◌, ◌++◌, length, sym, ap, subst, ◌∙◌, refl, Some, None, append_assoc, arith}
 use Rattle.std.specs.Prelude.{is_some, map, flat_map, filter, slice_get}
 use Rattle.std.specs.List.{list_all, list_any, position_from}
 use Rattle.std.specs.Option.{option_map_or}
@@ -7,7 +7,6 @@ use Rattle.std.specs.Str.{bytes_eq, is_utf8}
 use Rattle.std.proofs.lemmas.Bool.{and_parts}
 use Rattle.std.proofs.lemmas.List.{map-append, length-append, append-nil}
 use Rattle.ksv_yaml_tree.specs.Tree.{line_of, mapping_of}
-use Rattle.ksv_expr_syntax.specs.Reading.{◌>>=◌}
 use Rattle.ksv_schema_scope.specs.Rows.{Row, Declared}
 use Rattle.ksv_schema_scope.specs.Members.{Member, members_of, is_in_params, is_parameter, members_within, parameters_within}
 use Rattle.ksv_schema_scope.specs.Members as scope
@@ -16,14 +15,14 @@ use Rattle.ksv_schema_names.proofs.Found.{some_is, place_within}
 use Rattle.ksv_schema_read.specs.Faults.{bad_value}
 use Rattle.ksv_schema_read.specs.Values.{home_of}
 use Rattle.ksv_schema_read.specs.Members.{member_keys, member}
-use Rattle.ksv_schema_read.specs.Description.{Context, in_kind, members, all_members, all_enums, faults_of, names_in, member_names, names_of, each_of, member_of, type_of, types_of, are_texts, described, stated_by}
+use Rattle.ksv_schema_read.specs.Description.{Context, members, all_members, all_enums, faults_of, names_in, member_names, names_of, each_of, member_of, type_of, types_of, are_texts, described, stated_by}
 use Rattle.ksv_desc.specs.Names.{distinct, distinct_behind, number_in, has_names, AreDistinct}
 use Rattle.ksv_desc.specs.Description.{MemberKind, MemberOfType, TypeOfObjects, Enum, Description, as_text}
 use Rattle.ksv_desc.specs.Resolved as resolved
 use Rattle.ksv_desc.specs.Resolved.{Each, IsThere, IsResolvedMember, IsResolved}
 use Rattle.ksv_desc.proofs.Dots.{distinct_append}
 use Rattle.ksv_desc.proofs.Tabled.{is_table}
-use Rattle.ksv_schema.proofs.Good.{front, back, not_if, has_both, there_next, IsGood, wrong_good, also_good, weaker, or_good, EachOf, each_passes, each_from_good, as_many, each_second, each_mapped}
+use Rattle.ksv_schema.proofs.Good.{front, back, not_if, has_both, there_next, is_there, IsGood, wrong_good, also_good, weaker, or_good, EachOf, each_passes, each_from_good, as_many, each_second, each_mapped}
 use Rattle.ksv_schema.proofs.Fields.{AreEncodings, IsKind, kind_good}
 use Rattle.ksv_schema.proofs.OwnNames.{HasOwnName, members_own, name_is_text, AreTyped}
 use Rattle.ksv_schema.proofs.Whole.{are_encodings, HasNumbers, member_stated, enums_there}
@@ -125,17 +124,15 @@ record IsStated (d : Declared) (m : Member) (r : MemberOfType) : Type 0 where
   known : Known d IsResolvedMember r
   given : is_parameter m ≡ resolved.is_parameter r
 
-member_there : (d : Declared) (n : ℕ) (m : Member) (k : MemberKind) → IsMember d n m k → is_some (number_in (member_names d) m.name) ≡ true → IsThere (IsStated d m) (member_of (within d n) m k)
-unfolding member_of as_text
-member_there d n m k g h = go (is_utf8 m.name) g.text
-  where
-    numbered : (o : Option ℕ) → IsThere (λ j. j < length (member_names d)) o → IsThere (IsStated d m) (o >>= λ name. Some (record { name = name; kind = in_kind (within d n) k }))
-    numbered None t = absurd t
-    numbered (Some j) t = record { known = λ y s fits known. (omega (arith, t, known), g.kind.leads y s fits); given = sym (g.kind.given j) }
+as_text_is : (bs : List ℕ) → is_utf8 bs ≡ true → as_text bs ≡ Some bs
+unfolding as_text
+as_text_is bs h = ap (λ (b : Bool). cond b (Some bs) None) h
 
-    go : (b : Bool) → b ≡ true → IsThere (IsStated d m) (cond b (Some m.name) None >>= λ text. number_in (names_of d) text >>= λ name. Some (record { name = name; kind = in_kind (within d n) k }))
-    go true e = numbered (number_in (names_of d) m.name) (kept_number d m.name h)
-    go false e = absurd cc
+member_there : (d : Declared) (n : ℕ) (m : Member) (k : MemberKind) → IsMember d n m k → is_some (number_in (member_names d) m.name) ≡ true → IsThere (IsStated d m) (member_of (within d n) m k)
+unfolding member_of
+member_there d n m k g h = rw (as_text_is m.name g.text) (there_next (λ j. j < length (member_names d)) (IsStated d m) _ (number_in (names_of d) m.name)
+    (λ j t. record { known = λ y s fits known. (omega (arith, t, known), g.kind.leads y s fits); given = sym (g.kind.given j) })
+    (kept_number d m.name h))
 
 record AreStated (d : Declared) (ms : List Member) (rs : List MemberOfType) : Type 0 where
   known : Known d (λ y. Each (IsResolvedMember y)) rs
@@ -155,12 +152,8 @@ members_there d n i (m ∷ ms) (k ∷ ks) g h =
 -- ---- types
 
 type_there : (d : Declared) (n : ℕ) (r : Row) (ks : List MemberKind) → is_utf8 r.id ≡ true → AreMembers d n 0 (members_of r) ks → has_names (member_names d) (names_in (members_of r)) ≡ true → IsThere (λ t. AreStated d (members_of r) t.members) (type_of d (names_of d) n r ks)
-unfolding type_of as_text
-type_there d n r ks v g h = go (is_utf8 r.id) v
-  where
-    go : (b : Bool) → b ≡ true → IsThere (λ (t : TypeOfObjects). AreStated d (members_of r) t.members) (cond b (Some r.id) None >>= λ text. each_of (member_of (within d n)) (members_of r) ks >>= λ ms. Some (record { id = text; members = ms }))
-    go true e = there_next (AreStated d (members_of r)) (λ (t : TypeOfObjects). AreStated d (members_of r) t.members) _ (each_of (member_of (within d n)) (members_of r) ks) (λ ms x. x) (members_there d n 0 (members_of r) ks g h)
-    go false e = absurd cc
+unfolding type_of
+type_there d n r ks v g h = rw (as_text_is r.id v) (there_next (AreStated d (members_of r)) (λ (t : TypeOfObjects). AreStated d (members_of r) t.members) _ (each_of (member_of (within d n)) (members_of r) ks) (λ ms x. x) (members_there d n 0 (members_of r) ks g h))
 
 abbrev AreTypes : Declared → ℕ → List Row → List TypeOfObjects → Type 0
 AreTypes d n rs ts = EachOf (λ n r t. AreStated d (members_of r) t.members) n rs ts
@@ -201,12 +194,9 @@ resolved_with d ts es t e =
 pub declared_good : (d : Declared) → AreTyped d.types → faults_of d ≡ [] → IsThere IsResolved (stated_by d)
 unfolding faults_of stated_by described
 declared_good d v k =
-    go (all_members d).value (all_enums d).value ((all_good d (are_encodings d (back _ _ (front _ _ (front _ _ k))))).is (back _ _ (front _ _ k)) (has_both (names_of d) (own_names d.types) (all_members d).words (has_all_names d).all).1) (enums_there d (back _ _ k))
-  where
-    go : (ks : Option (List (List MemberKind))) (es : Option (List Enum)) → IsThere (EachOf (λ n. AreMembers d n 0) 0 (map members_of d.types)) ks → IsThere (EachOf (λ i. HasNumbers) 0 d.enums) es
-        → IsThere IsResolved (cond (list_all are_texts (map members_of d.types)) (ks >>= λ ks. types_of d (names_of d) 0 d.types ks >>= λ ts. es >>= λ es. Some (record { types = ts; enums = es; names = names_of d; known = length (member_names d) })) None)
-    go None es g h = absurd g
-    go (Some ks) None g h = absurd h
-    go (Some ks) (Some es) g h =
-        subst (λ (b : Bool). IsThere IsResolved (cond b (types_of d (names_of d) 0 d.types ks >>= λ ts. Some (record { types = ts; enums = es; names = names_of d; known = length (member_names d) })) None)) (sym (are_all_texts d (map members_of d.types) ks g))
-        (there_next (AreTypes d 0 d.types) IsResolved _ (types_of d (names_of d) 0 d.types ks) (λ ts t. resolved_with d ts es t h) (types_there d 0 d.types ks v g (has_all_names d).known))
+    let names = has_all_names d in
+    let words = (has_both (names_of d) (own_names d.types) (all_members d).words names.all).1 in
+    let ks = is_there (EachOf (λ n. AreMembers d n 0) 0 (map members_of d.types)) (all_members d).value ((all_good d (are_encodings d (back _ _ (front _ _ (front _ _ k))))).is (back _ _ (front _ _ k)) words) in
+    rw (are_all_texts d (map members_of d.types) ks.0 ks.2, ks.1) (there_next (AreTypes d 0 d.types) IsResolved _ (types_of d (names_of d) 0 d.types ks.0)
+    (λ ts t. there_next (EachOf (λ i. HasNumbers) 0 d.enums) IsResolved _ (all_enums d).value (λ es e. resolved_with d ts es t e) (enums_there d (back _ _ k)))
+    (types_there d 0 d.types ks.0 v ks.2 names.known))

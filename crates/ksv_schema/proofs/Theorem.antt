@@ -10,7 +10,7 @@ use Rattle.ksv_desc.specs.Description.{Description}
 use Rattle.ksv_schema.specs.Outcome.{States, Refuses}
 use Rattle.ksv_desc.specs.Resolved.{IsThere, IsResolved}
 use Rattle.ksv_schema_read.proofs.Least.{nothing_noted, noted_least}
-use Rattle.ksv_schema.proofs.Good.{front, back}
+use Rattle.ksv_schema.proofs.Good.{front, back, is_there}
 use Rattle.ksv_schema.proofs.OwnNames.{ids_are_texts}
 use Rattle.ksv_schema.proofs.Members.{declared_good}
 
@@ -21,11 +21,7 @@ unfolding faults faults_of stated
 tree_good t k = declared_good (declared_in t) (ids_are_texts t (back _ _ (front _ _ (front _ _ k)))) k
 
 pub tree_states : (t : Tree) → faults t ≡ [] → (d : Description) × States t d
-tree_states t k = go (stated t) refl (tree_good t k)
-  where
-    go : (o : Option Description) → stated t ≡ o → IsThere IsResolved o → (d : Description) × States t d
-    go None e g = absurd g
-    go (Some d) e g = (d, record { faultless = k; is = e })
+tree_states t k = let d = is_there IsResolved (stated t) (tree_good t k) in (d.0, record { faultless = k; is = d.1 })
 
 pub states_one : (t : Tree) (d e : Description) → States t d → States t e → d ≡ e
 states_one t d e x y = let same : Some d ≡ Some e = sym x.is ∙ y.is in cc

@@ -1,5 +1,5 @@
 -- What is read at a key is good: it leads somewhere once its names have their numbers.
-use Rattle.std.proofs.Common.{◌≡◌, ℕ, suc, ◌+◌, ◌<◌, Bool, true, List, [], ◌∷◌, ◌++◌, length, sym, ap, subst, ◌∙◌, refl, Option, Some, None, arith}
+use Rattle.std.proofs.Common.{◌≡◌, ℕ, suc, ◌+◌, ◌<◌, Bool, true, List, [], ◌∷◌, ◌++◌, length, sym, ap, ◌∙◌, refl, Option, Some, None, arith}
 use Rattle.std.specs.Prelude.{codes, is_some, not, ◌==◌, ◌&&◌, ◌||◌, option_map, option_to_list, map}
 use Rattle.std.proofs.lemmas.Bool.{not-false, both_ways}
 use Rattle.std.proofs.lemmas.Bool.Decides.{Decides-eqb}
@@ -16,11 +16,10 @@ use Rattle.ksv_schema_names.specs.declared.position.NameFault.TheVariants.{Unkno
 use Rattle.ksv_schema_names.specs.declared.built_ins.BuiltIn.{BuiltIn}
 use Rattle.ksv_schema_names.specs.declared.built_ins.BuiltIn.TheVariants.{Integer, Str, Strz, NotHere}
 use Rattle.ksv_schema_names.specs.Names.{Nothing, name_faults, least}
-use Rattle.ksv_schema_names.specs.Numbered.{numbered, all_numbered, given_member}
+use Rattle.ksv_schema_names.specs.Numbered.{all_numbered, given_member}
 use Rattle.ksv_schema_names.specs.Resolved.{Fits}
 use Rattle.ksv_schema_names.proofs.Found.{is_bound, row_within, nearest_within, type_within}
 use Rattle.ksv_schema_names.proofs.Resolving.{given_leads, resolved, all_resolved}
-use Rattle.ksv_desc.specs.Names.{dotted, all_dotted, has_names}
 use Rattle.ksv_desc.specs.Description.{Description, Content, Number, Characters, Object, EnumValue, Choice, Always, Switch}
 use Rattle.ksv_desc.specs.Resolved.{count, Each, IfAny, IsThere, IsEnum, IsResolvedTree, AreResolvedTrees, IsResolvedContent, IsResolvedValue, IsResolvedCase, IsResolvedChoice}
 use Rattle.ksv_schema_keys.specs.Expressions.{expression_of}
@@ -114,11 +113,7 @@ module _ (names : List (List ℕ)) (h : Home) where
   of_expression_good : (at : Site) (line : ℕ) (o : Option expressions.Tree) → IsGood names (IsTree c) (of_expression h at line o)
   unfolding of_expression name_faults
   of_expression_good at line None = wrong_good line no_expression
-  of_expression_good at line (Some e) = record {
-    is = λ k w y s fits.
-        subst (λ (names : List (List ℕ)). has_names names (dotted e) ≡ true → IsResolvedTree y (numbered h.declared names h.within e)) s
-        (λ (w : has_names y.names (dotted e) ≡ true). resolved h.declared y h.within (position_at h at) fits Nothing e w (no_names line _ k)) w;
-  }
+  of_expression_good at line (Some e) = record { is = λ k w y s fits. rw (← s) (resolved h.declared y h.within (position_at h at) fits Nothing e (rw (← s) at w) (no_names line _ k)) }
 
   pub expression_good : (site : Site) (p : Pair) → IsGood names (IsTree c) (expression h site p)
   unfolding expression
@@ -126,14 +121,7 @@ module _ (names : List (List ℕ)) (h : Home) where
 
   arguments_good : (line : ℕ) (es : expressions.Arguments) → IsGood names (λ fs. (fs ≡ es) × Leads c AreResolvedTrees (all_numbered h.declared names h.within fs)) (arguments h line es)
   unfolding arguments
-  arguments_good line es = record {
-    is = λ k w. (
-      refl,
-      λ y s fits.
-          subst (λ (names : List (List ℕ)). has_names names (all_dotted es) ≡ true → AreResolvedTrees y (all_numbered h.declared names h.within es)) s
-          (λ (w : has_names y.names (all_dotted es) ≡ true). all_resolved h.declared y h.within (position_at h sites.Argument) fits es w (no_names line _ k)) w,
-    );
-  }
+  arguments_good line es = record { is = λ k w. (refl, λ y s fits. rw (← s) (all_resolved h.declared y h.within (position_at h sites.Argument) fits es (rw (← s) at w) (no_names line _ k))) }
 
   -- enums
 
