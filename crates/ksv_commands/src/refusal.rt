@@ -2,7 +2,7 @@
 
 /// Why a line is refused before the command itself is tried.
 #[derive(Clone, Copy)]
-pub(crate) enum LineRefusal {
+pub enum LineRefusal {
     /// C1: no command has the first word for its name.
     UnknownCommand,
     /// C2: the command takes more words, or fewer.

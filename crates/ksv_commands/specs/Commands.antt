@@ -7,13 +7,13 @@ use Rattle.ksv_lines.specs.Lines.{line_limit, without_carriage_return, words_of}
 use Rattle.ksv_desc.specs.Description.{Description}
 use Rattle.ksv_expr_value.specs.Trail.{Trail}
 use Rattle.ksv_paths.specs.PathTexts.{path_named}
-use Rattle.ksv_questions.specs.declared.question.Question.{Question}
-use Rattle.ksv_questions.specs.declared.question.Question.TheVariants as questions
-use Rattle.ksv_session.specs.Numbers.{integer_of, number_of}
-use Rattle.ksv_session.specs.declared.command.Command.{Command}
-use Rattle.ksv_session.specs.declared.command.Command.TheVariants.{App, Ask, Blank, Bytes, Del, Ins, Put, Quit, Refused, Set, Size, Stats}
-use Rattle.ksv_session.specs.declared.refusal.LineRefusal.{LineRefusal}
-use Rattle.ksv_session.specs.declared.refusal.LineRefusal.TheVariants as refusals
+use Rattle.ksv_commands.specs.declared.command.Question.{Question}
+use Rattle.ksv_commands.specs.declared.command.Question.TheVariants as questions
+use Rattle.ksv_commands.specs.Numbers.{integer_of, number_of}
+use Rattle.ksv_commands.specs.declared.command.Command.{Command}
+use Rattle.ksv_commands.specs.declared.command.Command.TheVariants.{App, Ask, Blank, Bytes, Del, Ins, Put, Quit, Refused, Set, Size, Stats}
+use Rattle.ksv_commands.specs.declared.refusal.LineRefusal.{LineRefusal}
+use Rattle.ksv_commands.specs.declared.refusal.LineRefusal.TheVariants as refusals
 
 abbrev pub wrong_arguments : Command
 wrong_arguments = Refused refusals.WrongArguments

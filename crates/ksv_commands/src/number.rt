@@ -1,6 +1,6 @@
 //! Numbers on a command line.
 ghost use Rattle.std.specs.Prelude.{◌≡◌};
-ghost use Rattle.ksv_session.specs.Numbers.{integer_of, number_of};
+ghost use Rattle.ksv_commands.specs.Numbers.{integer_of, number_of};
 
 use ksv_expr_value::Integer;
 use ksv_paths::decimal;

@@ -2,7 +2,7 @@
 ghost use Rattle.std.specs.Prelude.{◌≡◌, ◌≤◌, ◌↔◌, [], length, is_ok, IfOk, IfSome, IsTrue, OnErr, option_copied};
 ghost use Rattle.ksv_desc.specs.Whole.{plain_pieces};
 ghost use Rattle.ksv_lines.specs.Lines.{line_limit, words_of};
-ghost use Rattle.ksv_session.specs.Commands.{alone, app_of, at_of, command_named, command_of, counted, del_of, dump_of, get_of, ins_of, is_question, ls_of, only, pathed, placed, put_of, set_of, shown_of};
+ghost use Rattle.ksv_commands.specs.Commands.{alone, app_of, at_of, command_named, command_of, counted, del_of, dump_of, get_of, ins_of, is_question, ls_of, only, pathed, placed, put_of, set_of, shown_of};
 
 use crate::number::{integer, number};
 use crate::refusal::LineRefusal;
@@ -10,7 +10,6 @@ use ksv_desc::Desc;
 use ksv_expr_value::{Integer, Path};
 use ksv_lines::{EditBytes, edit_bytes, line_text, next_word};
 use ksv_paths::path_of;
-use ksv_questions::Question;
 use std::alloc::{AllocError, Global};
 
 /// The most bytes of a line, its LF aside.
@@ -19,9 +18,22 @@ const LINE_LIMIT: usize = 4096;
 /// The most bytes that one line shows.
 const SHOWN_LIMIT: u64 = 4096;
 
+/// A question about a path.
+#[derive(Drop)]
+pub enum Question {
+    /// `get`: the value there.
+    Value(Path),
+    /// `at`: where it begins and ends.
+    Place(Path),
+    /// `ls`: what an object has, or how many elements a list.
+    Members(Path),
+    /// `dump`: the value there with all that is in it, as JSON.
+    Dump(Path),
+}
+
 /// What a line means.
 #[derive(Drop)]
-pub(crate) enum Command {
+pub enum Command {
     /// Nothing: no word, or a first word that begins with `#`.
     Blank,
     /// A refused line.
@@ -295,7 +307,7 @@ fn command_with(
 }
 
 /// Reads a line, given without its LF. Only the path of a question or of a `put` takes memory.
-pub(crate) fn read_line(alloc: Global, desc: &Desc, line: &[u8]) -> Result<Command, AllocError>
+pub fn read_line(alloc: Global, desc: &Desc, line: &[u8]) -> Result<Command, AllocError>
     ensures command { IfOk result (λ command. command ≡ command_of (plain_pieces desc.now) line.now) }
     ensures refused { OnErr result (IsTrue (is_question (command_of (plain_pieces desc.now) line.now))) }
 {
