@@ -9,9 +9,9 @@ use Rattle.ksv_plan.specs.Plan as plan
 use Rattle.ksv_questions.specs.Answers.{answered as node_answered, asking, outcome, question_text, told}
 use Rattle.ksv_questions.specs.Asking.{Asking, Failure, Heard}
 use Rattle.ksv_questions.specs.Writing.{put_question}
-use Rattle.ksv_questions.specs.declared.question.Question.{Question}
+use Rattle.ksv_commands.specs.declared.command.Question.{Question}
 use Rattle.ksv_rule_meaning.specs.Described.{described}
-use Rattle.ksv_session.specs.Commands.{command_of}
+use Rattle.ksv_commands.specs.Commands.{command_of}
 use Rattle.ksv_session.specs.Replies.{Answer, Event, said, answer_to, answer, is_fair, put_answer}
 use Rattle.ksv_session.specs.Session.{Standing, answered, after_event}
 use Rattle.ksv_session.proofs.QuestionLemmas.{answer_by}

@@ -22,8 +22,8 @@ use Rattle.ksv_rule_meaning.specs.Meaning.{rule_of}
 use Rattle.ksv_questions.specs.Answers.{asking, told}
 use Rattle.ksv_questions.specs.Asking.{Asking, Failure, Heard}
 use Rattle.ksv_questions.specs.Writing.{put_question}
-use Rattle.ksv_questions.specs.declared.question.Question.{Question}
-use Rattle.ksv_session.specs.Commands.{by_asking, command_of}
+use Rattle.ksv_commands.specs.declared.command.Question.{Question}
+use Rattle.ksv_commands.specs.Commands.{by_asking, command_of}
 use Rattle.ksv_session.specs.Replies.{Answer as Replied, Event, Tally, said, answer_to, put_answer}
 use Rattle.ksv_session.specs.Session.{Standing, answered}
 

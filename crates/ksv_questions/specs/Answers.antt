@@ -7,8 +7,8 @@ use Rattle.ksv_questions.specs.Asking.{Asking, Failure, Heard, asks_of, result_o
 use Rattle.ksv_questions.specs.Dumps.{dump_question}
 use Rattle.ksv_questions.specs.Questions.{members_question, place_question, value_question}
 use Rattle.ksv_questions.specs.Texts.{failure_text}
-use Rattle.ksv_questions.specs.declared.question.Question.{Question}
-use Rattle.ksv_questions.specs.declared.question.Question.TheVariants as questions
+use Rattle.ksv_commands.specs.declared.command.Question.{Question}
+use Rattle.ksv_commands.specs.declared.command.Question.TheVariants as questions
 
 -- what a node answers on bytes
 abbrev pub answered : Description → List ℕ → Node → Heard

@@ -23,8 +23,9 @@ mod refusal;
 mod text;
 mod written;
 
+pub use ksv_commands::Question;
 pub use laws::integers_are_read_back;
 pub use put::{Overwrite, overwrite_for};
-pub use question::{Question, answer};
+pub use question::answer;
 pub use refusal::Refusal;
 pub use text::bytes_text;

@@ -13,24 +13,11 @@ use crate::members::members_question;
 use crate::place::place_question;
 use crate::text::{fault_text, refusal_text};
 use ksv_bytes::Buffer;
+use ksv_commands::Question;
 use ksv_desc::Desc;
-use ksv_expr_value::Path;
 use ksv_memo::Engine;
 use ksv_rule_meaning::{Described, NodeRules};
 use std::alloc::{AllocError, Global};
-
-/// A question about a path.
-#[derive(Drop)]
-pub enum Question {
-    /// `get`: the value there.
-    Value(Path),
-    /// `at`: where it begins and ends.
-    Place(Path),
-    /// `ls`: what an object has, or how many elements a list.
-    Members(Path),
-    /// `dump`: the value there with all that is in it, as JSON.
-    Dump(Path),
-}
 
 /// What an engine was asked for a question.
 fn asked<N: NodeRules>(

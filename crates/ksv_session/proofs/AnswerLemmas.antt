@@ -4,7 +4,7 @@ use Rattle.std.specs.Prelude.{IsTrue}
 use Rattle.std.proofs.lemmas.Bool.Decides.{eqb_tells}
 use Rattle.std.proofs.lemmas.List.{append-nil, drop_more, take-append-drop, take_more}
 use Rattle.ksv_session.specs.Code.{Answered, Fed, Stands, Wrote}
-use Rattle.ksv_session.specs.Commands.{command_of}
+use Rattle.ksv_commands.specs.Commands.{command_of}
 use Rattle.ksv_desc.specs.Description.{Description}
 use Rattle.ksv_session.specs.Explored.{Explored, description_of, tally_of}
 use Rattle.ksv_lines.specs.Lines.{is_line_end, lines_of}

@@ -41,11 +41,11 @@ use Rattle.ksv_questions.proofs.Asked.{some_none, some_of}
 use Rattle.ksv_questions.proofs.Fresh.{among_more, fresh_same}
 use Rattle.ksv_questions.specs.Answers.{asking, asks}
 use Rattle.ksv_questions.specs.Writing.{put_question}
-use Rattle.ksv_session.specs.Commands.{is_question}
+use Rattle.ksv_commands.specs.Commands.{is_question}
 use Rattle.ksv_session.specs.Explored.{Explored, description_of}
 use Rattle.ksv_session.specs.Kept.{AreTheSame, Holds, HoldsSome, IsEachOnce, LeftBy, Memory, after_asking, after_edit}
-use Rattle.ksv_session.specs.declared.command.Command.{Command}
-use Rattle.ksv_session.specs.declared.command.Command.TheVariants.{App, Ask, Blank, Bytes, Del, Ins, Put, Quit, Refused, Set, Size, Stats}
+use Rattle.ksv_commands.specs.declared.command.Command.{Command}
+use Rattle.ksv_commands.specs.declared.command.Command.TheVariants.{App, Ask, Blank, Bytes, Del, Ins, Put, Quit, Refused, Set, Size, Stats}
 
 -- ---- lists of nodes, each once
 

@@ -5,11 +5,11 @@ use Rattle.ksv_desc.specs.Description.{Description}
 use Rattle.ksv_expr_value.specs.Trail.{Trail}
 use Rattle.ksv_questions.specs.Answers.{outcome, question_text}
 use Rattle.ksv_questions.specs.Writing.{put_question}
-use Rattle.ksv_questions.specs.declared.question.Question.{Question}
-use Rattle.ksv_session.specs.Commands.{by_asking, is_question}
+use Rattle.ksv_commands.specs.declared.command.Question.{Question}
+use Rattle.ksv_commands.specs.Commands.{by_asking, is_question}
 use Rattle.ksv_session.specs.Replies.{Answer, Tally, answer_to, may_be_refused, put_answer, said}
-use Rattle.ksv_session.specs.declared.command.Command.{Command}
-use Rattle.ksv_session.specs.declared.command.Command.TheVariants.{App, Ask, Blank, Bytes, Del, Ins, Put, Quit, Refused, Set, Size, Stats}
+use Rattle.ksv_commands.specs.declared.command.Command.{Command}
+use Rattle.ksv_commands.specs.declared.command.Command.TheVariants.{App, Ask, Blank, Bytes, Del, Ins, Put, Quit, Refused, Set, Size, Stats}
 
 -- a command that asks the described file may be refused memory
 pub question_may : (b : List ℕ) (command : Command) → IsTrue (is_question command) → may_be_refused b command ≡ true

@@ -5,7 +5,7 @@ use Rattle.std.proofs.lemmas.Bool.{cases_lt, lt-ltb}
 use Rattle.std.proofs.lemmas.List.{append-nil, length-append, length-take, length_push, map-append, take-append-le, drop_at, take_all, take_at, take_min}
 use Rattle.std.proofs.Math.Seq.{take-add}
 use Rattle.std.proofs.lemmas.List.Sums.{fold_push, fold-append}
-use Rattle.ksv_session.specs.Commands.{command_of}
+use Rattle.ksv_commands.specs.Commands.{command_of}
 use Rattle.ksv_desc.specs.Description.{Description}
 use Rattle.ksv_lines.specs.Lines.{is_line_end, lines_of}
 use Rattle.ksv_session.specs.Replies.{Answer, Event, answer, answer_to, is_fair, may_be_refused, no_memory_text, said}

@@ -16,8 +16,8 @@ use Rattle.ksv_questions.specs.Asking.{Failure}
 use Rattle.ksv_questions.specs.Writing.{Overwrite, put_question}
 use Rattle.ksv_rule_meaning.specs.FromNothing.{asks as asks_of_node}
 use Rattle.ksv_session.specs.Explored.{Explored}
-use Rattle.ksv_session.specs.declared.command.Command.{Command}
-use Rattle.ksv_session.specs.declared.command.Command.TheVariants.{App, Ask, Blank, Bytes, Del, Ins, Put, Quit, Refused, Set, Size, Stats}
+use Rattle.ksv_commands.specs.declared.command.Command.{Command}
+use Rattle.ksv_commands.specs.declared.command.Command.TheVariants.{App, Ask, Blank, Bytes, Del, Ins, Put, Quit, Refused, Set, Size, Stats}
 
 -- the kept nodes, and the turns of the last question, where they are known
 pub record Memory : Type 0 where

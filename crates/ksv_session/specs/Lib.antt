@@ -1,6 +1,4 @@
 -- The definitions of sessions.
-pub mod Numbers
-pub mod Commands
 pub mod Replies
 pub mod Session
 pub mod Explored

@@ -3,16 +3,16 @@ use Rattle.std.specs.Prelude.{ℕ, ◌+◌, Bool, true, false, List, [], ◌++�
 use Rattle.ksv_bytes.specs.Edits.{append, delete, insert, overwrite}
 use Rattle.ksv_bytes.specs.declared.edit.EditRefusal.{EditRefusal}
 use Rattle.ksv_bytes.specs.declared.edit.EditRefusal.TheVariants as edits
-use Rattle.ksv_session.specs.Commands.{command_of}
-use Rattle.ksv_session.specs.declared.command.Command.{Command}
-use Rattle.ksv_session.specs.declared.command.Command.TheVariants.{App, Ask, Blank, Bytes, Del, Ins, Put, Quit, Refused, Set, Size, Stats}
+use Rattle.ksv_commands.specs.Commands.{command_of}
+use Rattle.ksv_commands.specs.declared.command.Command.{Command}
+use Rattle.ksv_commands.specs.declared.command.Command.TheVariants.{App, Ask, Blank, Bytes, Del, Ins, Put, Quit, Refused, Set, Size, Stats}
 use Rattle.ksv_desc.specs.Description.{Description}
 use Rattle.ksv_questions.specs.Answers.{outcome, question_text}
 use Rattle.ksv_questions.specs.Asking.{Failure}
 use Rattle.ksv_questions.specs.Texts.{bytes_text, failure_text}
 use Rattle.ksv_questions.specs.Writing.{Overwrite, put_question}
-use Rattle.ksv_session.specs.declared.refusal.LineRefusal.{LineRefusal}
-use Rattle.ksv_session.specs.declared.refusal.LineRefusal.TheVariants as refusals
+use Rattle.ksv_commands.specs.declared.refusal.LineRefusal.{LineRefusal}
+use Rattle.ksv_commands.specs.declared.refusal.LineRefusal.TheVariants as refusals
 
 -- The texts of refusals.
 

@@ -5,9 +5,6 @@
 //! bytes alone, and `Runs.antt` has the headline, which `run` is proved to meet.
 #![tactic(auto)]
 
-mod command;
-mod number;
-mod refusal;
 mod reply;
 mod serve;
 mod session;

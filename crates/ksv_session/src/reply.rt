@@ -3,10 +3,10 @@ ghost use Rattle.std.specs.Prelude.{◌≡◌, ◌<◌, ◌≤◌, ◌++◌, fal
 ghost use Rattle.ksv_session.specs.Replies.{edit_refusal_text, line_refusal_text, no_memory_text, tally_text, turns_text};
 ghost use Rattle.ksv_session.specs.Seen.{is_last, is_refusal, reply_text};
 
-use crate::refusal::LineRefusal;
 use arrayvec::ArrayString;
 use itoa::Buffer as Digits;
 use ksv_bytes::EditRefusal;
+use ksv_commands::LineRefusal;
 
 /// A text of at most 64 bytes, which takes no memory.
 pub type Short = ArrayString<64>;
@@ -51,21 +51,19 @@ impl Reply {
     }
 }
 
-impl LineRefusal {
-    /// The reply to a line that is refused for this reason.
-    fn text(self) -> &'static str
-        ensures text { result.now ≡ line_refusal_text self }
-        ensures short { length result.now ≤ 64 }
-    {
-        match self {
-            LineRefusal::UnknownCommand => "error: unknown command\n",
-            LineRefusal::WrongArguments => "error: wrong arguments\n",
-            LineRefusal::BadNumber => "error: bad number\n",
-            LineRefusal::BadHex => "error: bad hex\n",
-            LineRefusal::BadPath => "error: bad path\n",
-            LineRefusal::LineTooLong => "error: line too long\n",
-            LineRefusal::TooLarge => "error: too large\n",
-        }
+/// The reply to a line that is refused for this reason.
+fn line_refusal(refusal: LineRefusal) -> &'static str
+    ensures text { result.now ≡ line_refusal_text refusal }
+    ensures short { length result.now ≤ 64 }
+{
+    match refusal {
+        LineRefusal::UnknownCommand => "error: unknown command\n",
+        LineRefusal::WrongArguments => "error: wrong arguments\n",
+        LineRefusal::BadNumber => "error: bad number\n",
+        LineRefusal::BadHex => "error: bad hex\n",
+        LineRefusal::BadPath => "error: bad path\n",
+        LineRefusal::LineTooLong => "error: line too long\n",
+        LineRefusal::TooLarge => "error: too large\n",
     }
 }
 
@@ -107,7 +105,7 @@ fn numbered(word: &str, number: usize) -> Short
 pub(crate) fn refused_line(refusal: LineRefusal) -> Short
     ensures { result.bytes ≡ line_refusal_text refusal }
 {
-    short(refusal.text())
+    short(line_refusal(refusal))
 }
 
 /// The reply to `size`.

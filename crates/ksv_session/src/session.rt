@@ -3,8 +3,8 @@ ghost use Rattle.std.specs.Prelude.{◌≡◌, ◌<◌, ◌↔◌, ◌++◌, tru
 ghost use Rattle.ksv_bytes.specs.Edits.{IsRefusedAs, append, delete, file_limit, insert, overwrite};
 ghost use Rattle.ksv_bytes.specs.declared.uses.Change.TheVariants as changes;
 ghost use Rattle.ksv_session.specs.Explored.{description_of, tally_of};
-ghost use Rattle.ksv_session.specs.Commands.{command_of};
-ghost use Rattle.ksv_session.specs.declared.command.Command.TheVariants as commands;
+ghost use Rattle.ksv_commands.specs.Commands.{command_of};
+ghost use Rattle.ksv_commands.specs.declared.command.Command.TheVariants as commands;
 ghost use Rattle.ksv_session.specs.Kept.{Holds, HoldsSome, Memory, Remembers, after_asking, after_edit, nothing_kept};
 ghost use Rattle.ksv_questions.specs.Answers.{asking, asks, outcome, question_text};
 ghost use Rattle.ksv_questions.specs.Writing.{put_question};
@@ -12,13 +12,13 @@ ghost use Rattle.ksv_session.specs.Replies.{answer, has, may_be_refused, no_memo
 ghost use Rattle.ksv_session.specs.Code.{PutSays, edit_text, wants_memory};
 ghost use Rattle.ksv_session.specs.Seen.{answer_seen, is_last, is_refusal, reply_text};
 
-use crate::command::{Command, read_line};
 use crate::reply::{Reply, edit_reply, lined, refused_edit, refused_line, size_reply, stats_reply};
 use ksv_bytes::{Buffer, Change, EditRefusal};
+use ksv_commands::{Command, Question, read_line};
 use ksv_desc::Desc;
 use ksv_expr_value::{Integer, Path};
 use ksv_memo::Engine;
-use ksv_questions::{Overwrite, Question, answer, bytes_text, overwrite_for};
+use ksv_questions::{Overwrite, answer, bytes_text, overwrite_for};
 use ksv_rule_meaning::{Described, NodeRules};
 use std::alloc::{AllocError, Global};
 use std::marker::Model;

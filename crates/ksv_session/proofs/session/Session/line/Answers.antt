@@ -1,7 +1,7 @@
 use Rattle.std.proofs.Common.{subst}
 use Rattle.std.specs.Prelude.{IsTrue}
 use Rattle.ksv_desc.specs.Whole.{plain_pieces}
-use Rattle.ksv_session.specs.Commands.{command_of, is_question}
+use Rattle.ksv_commands.specs.Commands.{command_of, is_question}
 use Rattle.ksv_session.specs.Explored.{Explored, description_of}
 use Rattle.ksv_session.proofs.KeptLemmas.{unread_holds}
 use Rattle.ksv_session.proofs.session.Session.line.Goals as goal

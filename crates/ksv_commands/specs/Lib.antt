@@ -1,0 +1,3 @@
+-- The definitions of command lines.
+pub mod Numbers
+pub mod Commands

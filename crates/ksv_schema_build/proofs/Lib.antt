@@ -1,4 +1,0 @@
--- Lemmas of the crate.
-pub mod Joined
-pub mod Made
-pub mod Named

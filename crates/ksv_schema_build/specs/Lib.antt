@@ -1,3 +1,0 @@
--- What a description states.
-pub mod Stated
-pub mod Code

@@ -1,8 +1,0 @@
-use Rattle.ksv_schema_faults.proofs.Each.{each_step, each_end}
-use Rattle.ksv_schema_faults.proofs.check.note_types.Goals as goal
-
-pub loop-number-preserved : goal.loop-number-preserved
-loop-number-preserved c = each_step _ _ _ _ _ _ _ _ c.loop-number-test.true c.index-types-number.is c.in_ok-note_type.ensures c.loop-number.invariant
-
-pub returns : goal.returns
-returns c = each_end _ _ _ _ _ _ c.loop-number-test.false c.loop-number.invariant
