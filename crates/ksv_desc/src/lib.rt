@@ -1,7 +1,7 @@
 //! What a description is: its types with their members, its enums and its names, each known by its number.
 //!
-//! A [`Desc`] has all its references resolved. Which description a text states is defined above, in
-//! ksv_schema_build.
+//! A [`Desc`] has all its references resolved. Which description a text states is defined above, by the loader
+//! (ksv_schema_read).
 #![tactic(auto)]
 
 mod content;
