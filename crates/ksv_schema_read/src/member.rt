@@ -313,7 +313,7 @@ fn value_instance(
 }
 
 /// An instance without a place and a value, which is unsupported.
-#[tactic(auto, using(crate::proofs::Noted::steps, ksv_desc::proofs::Dots::steps), unfolding(crate::specs::Members::placeless))]
+#[tactic(auto, using(crate::proofs::Noted::steps, ksv_desc::proofs::Dots::steps, crate::proofs::Both::nothing), unfolding(crate::specs::Members::placeless))]
 fn placeless(
     reader: &mut Reader,
     home: Home,
@@ -331,7 +331,7 @@ fn placeless(
 }
 
 /// A member of this kind, whose name is on this line.
-#[tactic(auto, using(crate::proofs::Noted::steps))]
+#[tactic(auto, using(crate::proofs::Noted::steps), unfolding(crate::specs::Members::by_kind))]
 fn by_kind(
     reader: &mut Reader,
     home: Home,
