@@ -88,10 +88,10 @@ pub returns-in-Some : goal.returns-in-Some
 returns-in-Some c =
     read_as _ _ _ _ _ (ap (option_map seen_parts) c.in-Some.is)
     (parts_read (seen_home c.args.home) (map pair c.args.beside.now) c.args.enumeration (map pair c.args.entries.now) _ _ _ _ _ _ _ _ _ _ _ _ _ _ _ _ _ _ _ c.find.ensures c.find-2.ensures c.find-3.ensures c.find-4.ensures
-      c.in_ok-condition.ensures c.perhaps_expression-count.ensures c.in_ok-counted.ensures c.perhaps_expression-until.ensures c.in_ok-repeated.ensures c.choice-choice.ensures c.in_ok-chosen.ensures c.perhaps_expression-size.ensures c.in_ok-condition-2.ensures)
+      c.in_ok-condition.ensures c.perhaps_expression-count.ensures c.in_ok-counted.ensures c.perhaps_expression-until.ensures c.in_ok-repeated.ensures c.choice-choice.ensures c.in_ok-chosen.ensures c.perhaps_expression-size.ensures c.in_ok-read.ensures)
 
 pub returns-in-None : goal.returns-in-None
 returns-in-None c =
     read_as _ _ _ _ _ (ap (option_map seen_parts) c.in-None.is)
     (parts_read (seen_home c.args.home) (map pair c.args.beside.now) c.args.enumeration (map pair c.args.entries.now) _ _ _ _ _ _ _ _ _ _ _ _ _ _ _ _ _ _ _ c.find.ensures c.find-2.ensures c.find-3.ensures c.find-4.ensures
-      c.in_ok-condition.ensures c.perhaps_expression-count.ensures c.in_ok-counted.ensures c.perhaps_expression-until.ensures c.in_ok-repeated.ensures c.choice-choice.ensures c.in_ok-chosen.ensures c.perhaps_expression-size.ensures c.in_ok-condition-2.ensures)
+      c.in_ok-condition.ensures c.perhaps_expression-count.ensures c.in_ok-counted.ensures c.perhaps_expression-until.ensures c.in_ok-repeated.ensures c.choice-choice.ensures c.in_ok-chosen.ensures c.perhaps_expression-size.ensures c.in_ok-read.ensures)
