@@ -1,11 +1,13 @@
 -- Parts that are read one after the other.
-use Rattle.std.proofs.Common.{◌≡◌, List, [], ◌∷◌, ◌++◌, refl, sym, ap, ◌∙◌, append_assoc, subst, Option, Some, None, Result, Ok, Err}
+use Rattle.std.proofs.Common.{◌≡◌, ℕ, List, [], ◌∷◌, ◌++◌, refl, sym, ap, ◌∙◌, append_assoc, subst, Option, Some, None, Result, Ok, Err}
 use Rattle.std.specs.Prelude.{option_map, option_and_then}
+use Rattle.std.specs.Option.{option_map_or}
 use Rattle.ksv_desc.specs.Names.{distinct_behind}
 use Rattle.ksv_desc.proofs.Dots.{distinct_append}
 use Rattle.ksv_schema_read.specs.declared.reader.Reader.{Reader}
 use Rattle.ksv_schema_read.specs.Faults.{Fault, noted}
 use Rattle.ksv_schema_read.specs.Reading.{Reading, made, both}
+use Rattle.ksv_schema_read.specs.Members.{enum_in}
 use Rattle.ksv_schema_read.specs.Code.{seen_fault, IsRead, Reads, paired, both_of}
 use Rattle.ksv_schema_read.proofs.Noted.{noted_append}
 
@@ -65,3 +67,12 @@ read_as r o p old new e h = subst (λ (o : Option _). IsRead r o old new) e h
 pub nothing : {A B : Type 0} (o : Option A) → option_and_then (λ (x : A). let none : Option B = None in none) o ≡ None
 nothing None = refl
 nothing (Some x) = refl
+
+-- ---- the enum that was read, if it was
+
+same_option : {A : Type 0} (o : Option A) → option_map (λ (x : A). x) o ≡ o
+same_option None = refl
+same_option (Some x) = refl
+
+pub enum_is : (o : Option (Option ℕ)) (r : Reading (Option ℕ)) (old new : Reader) → IsRead r (option_map (λ (e : Option ℕ). e) o) old new → option_map_or (λ (e : Option ℕ). e) o None ≡ enum_in r
+enum_is o r old new h = ap (λ (o : Option (Option ℕ)). option_map_or (λ (e : Option ℕ). e) o None) (sym (same_option o) ∙ h.value)
