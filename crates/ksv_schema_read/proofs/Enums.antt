@@ -18,7 +18,7 @@ use Rattle.ksv_schema_read.specs.Description.{whole, id_text, id, entry_id, cons
 no_words : {A : Type 0} (r s : Reading A) → r.words ≡ [] → s.words ≡ [] → r.words ++ s.words ≡ []
 no_words r s h k = ap (λ (ws : List (List ℕ)). ws ++ s.words) h ∙ k
 
-whole_words : (line : ℕ) (n : Numeral) → (whole line n).words ≡ []
+pub whole_words : (line : ℕ) (n : Numeral) → (whole line n).words ≡ []
 whole_words line (Whole n) = refl
 whole_words line LeadingZero = refl
 whole_words line NoNumeral = refl
