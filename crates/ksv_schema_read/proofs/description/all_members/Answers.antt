@@ -1,4 +1,4 @@
-use Rattle.std.proofs.Common.{map, ap, subst, option_map}
+use Rattle.std.proofs.Common.{map, subst, option_map}
 use Rattle.ksv_desc.specs.Pieces.{plain_kind}
 use Rattle.ksv_schema_scope.specs.Table.{declared}
 use Rattle.ksv_schema_scope.specs.Code.{member_of as row}

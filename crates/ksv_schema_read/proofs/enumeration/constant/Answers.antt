@@ -1,4 +1,4 @@
-use Rattle.std.proofs.Common.{◌≡◌, ◌∙◌, ap, sym, arith}
+use Rattle.std.proofs.Common.{◌∙◌, arith}
 use Rattle.std.proofs.lemmas.Grind.{common_steps}
 use Rattle.ksv_yaml_tree.specs.View.{pair}
 use Rattle.ksv_schema_scope.specs.Enums.{number_of, id_of, is_numbered, is_named}

@@ -3,7 +3,7 @@ use Rattle.ksv_yaml_tree.specs.View.{pair}
 use Rattle.ksv_desc.specs.Pieces.{plain_field}
 use Rattle.ksv_schema_keys.specs.Values.{own_type}
 use Rattle.ksv_schema_read.specs.Members.{field, own_enum, enum_in}
-use Rattle.ksv_schema_read.specs.Code.{seen_home, Reads, both_of}
+use Rattle.ksv_schema_read.specs.Code.{seen_home, Reads}
 use Rattle.ksv_schema_read.proofs.Both.{both_is, enum_is}
 use Rattle.ksv_schema_read.proofs.member.own_field.Goals as goal
 

@@ -1,4 +1,4 @@
-use Rattle.std.proofs.Common.{◌≡◌, ◌∙◌, ℕ, List, Option, Some, ap, sym, subst, map, option_map, Ok, Result}
+use Rattle.std.proofs.Common.{◌≡◌, ℕ, List, Option, ap, subst, map, option_map, Ok, Result}
 use Rattle.std.specs.Prelude.{codes}
 use Rattle.ksv_yaml_tree.specs.Tree.{Pair, entry_at}
 use Rattle.ksv_yaml_tree.specs.View.{pair}
@@ -11,7 +11,7 @@ use Rattle.ksv_desc.specs.Pieces.{plain_field}
 use Rattle.ksv_schema_keys.specs.declared.keys.MappingKind.TheVariants as kinds
 use Rattle.ksv_schema_names.specs.declared.position.Site.TheVariants as sites
 use Rattle.ksv_schema_read.specs.declared.reader.Reader.{Reader}
-use Rattle.ksv_schema_read.specs.Reading.{Reading, made, both, perhaps, must}
+use Rattle.ksv_schema_read.specs.Reading.{Reading, both, perhaps, must}
 use Rattle.ksv_schema_read.specs.Values.{Home, expression}
 use Rattle.ksv_schema_read.specs.Members.{own_field, parse_instance}
 use Rattle.ksv_schema_read.specs.Code.{seen_home, IsRead, Reads, both_of}

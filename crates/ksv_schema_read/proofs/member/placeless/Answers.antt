@@ -1,4 +1,4 @@
-use Rattle.std.proofs.Common.{◌≡◌, ◌∙◌, ◌++◌, refl, ℕ, List, [], Option, Some, None, ap, sym, subst, map, option_map}
+use Rattle.std.proofs.Common.{◌≡◌, ◌∙◌, ◌++◌, refl, ℕ, List, [], Option, None, ap, sym, subst, map, option_map}
 use Rattle.std.specs.Prelude.{codes}
 use Rattle.std.specs.Option.{option_map_or}
 use Rattle.ksv_yaml_tree.specs.Tree.{Pair, entry_at}

@@ -1,4 +1,4 @@
-use Rattle.std.proofs.Common.{◌≡◌, ◌∙◌, ℕ, List, Option, Some, None, ap, sym, subst, map, option_map, Ok, Result}
+use Rattle.std.proofs.Common.{◌≡◌, ◌∙◌, ℕ, List, Option, ap, subst, map, option_map, Ok, Result}
 use Rattle.std.specs.Prelude.{codes}
 use Rattle.ksv_yaml_tree.specs.Tree.{Pair, entry_at}
 use Rattle.ksv_yaml_tree.specs.View.{pair}
