@@ -67,13 +67,16 @@ fn read_parts(
     let chosen = both(repeated, choice)?;
     let size = perhaps_expression(reader, home, Site::Size, find(entries, b"size"));
     match both(chosen, size)? {
-        Some(((((condition, count), until), choice), size)) => Ok(Some(Parts {
-            condition,
-            count,
-            until,
-            choice,
-            size,
-        })),
+        Some(read) => {
+            let ((((condition, count), until), choice), size) = read;
+            Ok(Some(Parts {
+                condition,
+                count,
+                until,
+                choice,
+                size,
+            }))
+        }
         None => Ok(None),
     }
 }
@@ -238,6 +241,7 @@ fn enum_in(enumeration: Option<Option<u32>>) -> Option<u32>
 }
 
 /// What an attribute or a parse instance of these keys reads, with its enum.
+#[tactic(auto, using(crate::proofs::Noted::steps, ksv_desc::proofs::Dots::steps))]
 fn own_field(
     reader: &mut Reader,
     home: Home,
@@ -279,11 +283,14 @@ fn parse_instance(
     let at = both(place, stream)?;
     let field = own_field(reader, home, MappingKind::ParseInstance, line, entries);
     match both(at, field)? {
-        Some(((place, stream), (_, field))) => Ok(Some(MemberKind::ParseInstance {
-            place,
-            stream,
-            field,
-        })),
+        Some(read) => {
+            let ((place, stream), (_, field)) = read;
+            Ok(Some(MemberKind::ParseInstance {
+                place,
+                stream,
+                field,
+            }))
+        }
         None => Ok(None),
     }
 }
@@ -313,7 +320,7 @@ fn value_instance(
 }
 
 /// An instance without a place and a value, which is unsupported.
-#[tactic(auto, using(crate::proofs::Noted::steps, ksv_desc::proofs::Dots::steps), unfolding(crate::specs::Members::placeless))]
+#[tactic(auto, using(crate::proofs::Noted::steps, ksv_desc::proofs::Dots::steps, crate::proofs::Both::nothing), unfolding(crate::specs::Members::placeless))]
 fn placeless(
     reader: &mut Reader,
     home: Home,
@@ -331,7 +338,7 @@ fn placeless(
 }
 
 /// A member of this kind, whose name is on this line.
-#[tactic(auto, using(crate::proofs::Noted::steps))]
+#[tactic(auto, using(crate::proofs::Noted::steps), unfolding(crate::specs::Members::by_kind))]
 fn by_kind(
     reader: &mut Reader,
     home: Home,
