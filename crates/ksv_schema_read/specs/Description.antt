@@ -61,7 +61,7 @@ abbrev pub enum : Row → Reading Enum
 enum r =
     made (λ p. record { id = p.0; members = p.1 })
     (both (id_text r.line r.id)
-      (also (fault_if (is_none (mapping_of r.value)) r.line bad_value) (each_from (λ i. constant (take i (keys_of r))) 0 (keys_of r))))
+    (also (fault_if (is_none (mapping_of r.value)) r.line bad_value) (each_from (λ i. constant (take i (keys_of r))) 0 (keys_of r))))
 
 -- ---- types, whose members are read by themselves
 

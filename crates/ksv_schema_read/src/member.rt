@@ -24,9 +24,7 @@ use crate::types::{choice, is_declared};
 use crate::value::{needed_expression, own_enum, perhaps_expression};
 use ksv_desc::{Choice, Extent, Field, MemberKind, Repeat, Terminator};
 use ksv_expr_tree::Expr;
-use ksv_schema_keys::{
-    MappingKind, TypeKind, TypeText, byte_at, is_a, is_id, kind_of, own_type,
-};
+use ksv_schema_keys::{MappingKind, TypeKind, TypeText, byte_at, is_a, is_id, kind_of, own_type};
 use ksv_schema_names::Site;
 use ksv_schema_scope::{Member, Role, Scopes};
 use ksv_yaml_tree::keys::{has, says, text_at};
@@ -254,7 +252,10 @@ fn own_field(
     let enumeration = own_enum(reader, home, entries)?;
     let typed = own_type(reader.alloc, entries)?;
     let number = enum_in(enumeration);
-    both(enumeration, field(reader, home, kind, line, number, entries, typed))
+    both(
+        enumeration,
+        field(reader, home, kind, line, number, entries, typed),
+    )
 }
 
 /// An attribute.
@@ -376,7 +377,14 @@ fn member_keys<'a>(
     let home = home_of(scopes, within, member.role, entries);
     let kind = kind_of(member.role, entries);
     note_keys(&mut reader.least, kind, entries);
-    by_kind(reader, home, kind, member.line, member.value.line(), entries)
+    by_kind(
+        reader,
+        home,
+        kind,
+        member.line,
+        member.value.line(),
+        entries,
+    )
 }
 
 // ---- members, with their names

@@ -12,7 +12,7 @@ returns c =
     let h = seen_home c.args.home in
     let es = map pair c.args.entries.now in
     let n : c.enum_in-number.result ≡ enum_in (own_enum h es) =
-      c.enum_in-number.ensures ∙ enum_is c.in_ok-enumeration.enumeration (own_enum h es) c.args.reader.now c.own_enum.new.reader c.in_ok-enumeration.ensures in
+    c.enum_in-number.ensures ∙ enum_is c.in_ok-enumeration.enumeration (own_enum h es) c.args.reader.now c.own_enum.new.reader c.in_ok-enumeration.ensures in
     both_is (own_enum h es) (field h c.args.kind c.args.line (enum_in (own_enum h es)) (own_type es) es) (λ (e : Option ℕ). e) plain_field c.args.reader.now c.own_enum.new.reader c.field.new.reader c.in_ok-enumeration.enumeration c.field.result c.both.result c.both.ensures
     c.in_ok-enumeration.ensures
     (subst (λ (n : Option ℕ). Reads (field h c.args.kind c.args.line n (own_type es) es) plain_field c.own_enum.new.reader c.field.new.reader c.field.result) n c.field.ensures)

@@ -76,22 +76,22 @@ module _ (h : Home) (beside : List Pair) (enum : Option ℕ) (es : List Pair) wh
       let g3 = both_is (both r1 r2) r3 (λ (p : Option Expr × Option Expr). (seen p.0, seen p.1)) seen m0 m2 m3 o2 s3 (Ok o3) e3 g2 (at_key h sites.Until p3 (entry_at (codes "repeat-until") es) m2 m3 s3 a3 h3) in
       let g4 = both_is (both (both r1 r2) r3) r4 (λ (p : (Option Expr × Option Expr) × Option Expr). ((seen p.0.0, seen p.0.1), seen p.1)) plain_choice m0 m3 m4 o3 s4 (Ok o4) e4 g3 h4 in
       let g5 =
-        both_is (both (both (both r1 r2) r3) r4) r5 (λ (p : ((Option Expr × Option Expr) × Option Expr) × CodeChoice). (((seen p.0.0.0, seen p.0.0.1), seen p.0.1), plain_choice p.1)) seen m0 m4 m5 o4 s5 (Ok o5) e5 g4
-        (at_key h sites.Size p5 (entry_at (codes "size") es) m4 m5 s5 a5 h5) in
+      both_is (both (both (both r1 r2) r3) r4) r5 (λ (p : ((Option Expr × Option Expr) × Option Expr) × CodeChoice). (((seen p.0.0.0, seen p.0.0.1), seen p.0.1), plain_choice p.1)) seen m0 m4 m5 o4 s5 (Ok o5) e5 g4
+      (at_key h sites.Size p5 (entry_at (codes "size") es) m4 m5 s5 a5 h5) in
       let T : Type 0 = Option expressions.Tree in
       let f : T × (T × (T × (Choice × T))) → Parts = λ p. record { condition = p.0; count = p.1.0; until = p.1.1.0; choice = p.1.1.1.0; size = p.1.1.1.1 } in
       subst (λ (r : Reading Parts). IsRead r (option_map seen_parts o5) m0 m5) (regrouped f r1 r2 r3 r4 r5)
       (made_read (λ (p : (((T × T) × T) × Choice) × T). f (p.0.0.0.0, (p.0.0.0.1, (p.0.0.1, (p.0.1, p.1))))) (both (both (both (both r1 r2) r3) r4) r5)
-        (λ (p : (((Option Expr × Option Expr) × Option Expr) × CodeChoice) × Option Expr). ((((seen p.0.0.0.0, seen p.0.0.0.1), seen p.0.0.1), plain_choice p.0.1), seen p.1)) o5 m0 m5 g5)
+      (λ (p : (((Option Expr × Option Expr) × Option Expr) × CodeChoice) × Option Expr). ((((seen p.0.0.0.0, seen p.0.0.0.1), seen p.0.0.1), plain_choice p.0.1), seen p.1)) o5 m0 m5 g5)
 
 pub returns-in-Some : goal.returns-in-Some
 returns-in-Some c =
     read_as _ _ _ _ _ (ap (option_map seen_parts) c.in-Some.is)
     (parts_read (seen_home c.args.home) (map pair c.args.beside.now) c.args.enumeration (map pair c.args.entries.now) _ _ _ _ _ _ _ _ _ _ _ _ _ _ _ _ _ _ _ c.find.ensures c.find-2.ensures c.find-3.ensures c.find-4.ensures
-      c.in_ok-condition.ensures c.perhaps_expression-count.ensures c.in_ok-counted.ensures c.perhaps_expression-until.ensures c.in_ok-repeated.ensures c.choice-choice.ensures c.in_ok-chosen.ensures c.perhaps_expression-size.ensures c.in_ok-read.ensures)
+    c.in_ok-condition.ensures c.perhaps_expression-count.ensures c.in_ok-counted.ensures c.perhaps_expression-until.ensures c.in_ok-repeated.ensures c.choice-choice.ensures c.in_ok-chosen.ensures c.perhaps_expression-size.ensures c.in_ok-read.ensures)
 
 pub returns-in-None : goal.returns-in-None
 returns-in-None c =
     read_as _ _ _ _ _ (ap (option_map seen_parts) c.in-None.is)
     (parts_read (seen_home c.args.home) (map pair c.args.beside.now) c.args.enumeration (map pair c.args.entries.now) _ _ _ _ _ _ _ _ _ _ _ _ _ _ _ _ _ _ _ c.find.ensures c.find-2.ensures c.find-3.ensures c.find-4.ensures
-      c.in_ok-condition.ensures c.perhaps_expression-count.ensures c.in_ok-counted.ensures c.perhaps_expression-until.ensures c.in_ok-repeated.ensures c.choice-choice.ensures c.in_ok-chosen.ensures c.perhaps_expression-size.ensures c.in_ok-read.ensures)
+    c.in_ok-condition.ensures c.perhaps_expression-count.ensures c.in_ok-counted.ensures c.perhaps_expression-until.ensures c.in_ok-repeated.ensures c.choice-choice.ensures c.in_ok-chosen.ensures c.perhaps_expression-size.ensures c.in_ok-read.ensures)
