@@ -1,13 +1,13 @@
 -- A loop that reads each of a list.
-use Rattle.std.proofs.Common.{◌≡◌, ℕ, suc, ◌+◌, ◌<◌, ◌≤◌, List, [], ◌∷◌, ◌++◌, map, length, get_or, drop, refl, sym, ap, ◌∙◌, add-one, drop-cons, Option, Some, None, Vec, Global}
-use Rattle.std.specs.Prelude.{option_map, option_and_then}
+use Rattle.std.proofs.Common.{◌≡◌, ℕ, suc, ◌+◌, ◌<◌, ◌≤◌, List, [], ◌∷◌, map, length, get_or, drop, refl, sym, ap, ◌∙◌, add-one, drop-cons, Option, Some, None, Vec, Global}
+use Rattle.std.specs.Prelude.{option_map}
 use Rattle.std.proofs.lemmas.List.{drop_all, append_assoc, append-nil, map-append}
 use Rattle.ksv_desc.specs.Names.{distinct_behind}
 use Rattle.ksv_desc.proofs.Dots.{distinct_append}
 use Rattle.ksv_schema_read.specs.declared.reader.Reader.{Reader}
 use Rattle.ksv_schema_read.specs.Faults.{Fault, noted}
 use Rattle.ksv_schema_read.specs.Reading.{Reading, made, both, each, each_from}
-use Rattle.ksv_schema_read.specs.Code.{seen_fault, IsRead, items_of, pushed, joined}
+use Rattle.ksv_schema_read.specs.Code.{seen_fault, IsRead, paired, items_of, pushed, joined}
 use Rattle.ksv_schema_read.proofs.Noted.{noted_append, noted_none}
 
 -- what is made so far, with the rest that is still to be read, is all
@@ -25,7 +25,7 @@ joined_end None = refl
 joined_end (Some xs) = ap Some (append-nil xs)
 
 -- one more is made, and fewer are left
-joined_more : {A : Type 0} (so_far : Option (List A)) (x : Option A) (rest : Option (List A)) → joined (pushed so_far x) rest ≡ joined so_far (option_map (λ p. p.0 ∷ p.1) (option_and_then (λ x. option_map (λ y. (x, y)) rest) x))
+joined_more : {A : Type 0} (so_far : Option (List A)) (x : Option A) (rest : Option (List A)) → joined (pushed so_far x) rest ≡ joined so_far (option_map (λ (p : A × List A). p.0 ∷ p.1) (paired x rest))
 joined_more None x rest = refl
 joined_more (Some xs) None rest = refl
 joined_more (Some xs) (Some x) None = refl
@@ -43,8 +43,8 @@ so_far_end all so_far old now h = record {
 
 pub so_far_step : {A : Type 0} (all rest : Reading (List A)) (r : Reading A) (so_far more : Option (List A)) (x : Option A) (old now new : Reader)
     → IsSoFar all (made (λ p. p.0 ∷ p.1) (both r rest)) so_far old now → IsRead r x now new → more ≡ pushed so_far x → IsSoFar all rest more old new
-so_far_step all rest r so_far more x old now new h read is = record {
-  value = ap (λ (o : Option (List _)). joined o rest.value) is ∙ joined_more so_far x rest.value ∙ ap (λ (o : Option _). joined so_far (option_map (λ p. p.0 ∷ p.1) (option_and_then (λ x. option_map (λ y. (x, y)) rest.value) o))) read.value ∙ h.value;
+so_far_step {A} all rest r so_far more x old now new h read is = record {
+  value = ap (λ (o : Option (List A)). joined o rest.value) is ∙ joined_more so_far x rest.value ∙ ap (λ (o : Option A). joined so_far (option_map (λ (p : A × List A). p.0 ∷ p.1) (paired o rest.value))) read.value ∙ h.value;
   faults = ap (λ (o : Option Fault). noted o rest.faults) read.faults ∙ sym (noted_append (seen_fault now.least) r.faults rest.faults) ∙ h.faults;
   words = ap (λ (o : List (List ℕ)). distinct_behind o rest.words) read.words ∙ sym (distinct_append now.names r.words rest.words) ∙ h.words;
 }

@@ -1,5 +1,5 @@
 -- What is read of enums has no names after dots.
-use Rattle.std.proofs.Common.{◌≡◌, ◌+◌, ℕ, Bool, true, false, cond, List, [], ◌∷◌, ◌++◌, sym, ap, ◌∙◌, refl, Option, Some, None}
+use Rattle.std.proofs.Common.{◌≡◌, ◌+◌, ℕ, Bool, true, false, cond, List, [], ◌∷◌, ◌++◌, ap, ◌∙◌, refl, Option, Some, None}
 use Rattle.std.specs.Prelude.{take, codes}
 use Rattle.std.specs.Option.{option_map_or}
 use Rattle.ksv_yaml_tree.specs.Tree.{Pair, line_of, text_of, mapping_of, entry_at}
@@ -9,16 +9,15 @@ use Rattle.ksv_yaml_tree.specs.Numerals.{signed_number}
 use Rattle.ksv_schema_scope.specs.Rows.{Row, keys_of, Declared}
 use Rattle.ksv_schema_keys.specs.declared.keys.MappingKind.TheVariants as kinds
 use Rattle.ksv_schema_keys.specs.Keys.{is_id}
-use Rattle.ksv_desc.specs.Description.{Numbered, Enum}
-use Rattle.ksv_schema_read.specs.Faults.{missing_key, bad_value}
-use Rattle.ksv_schema_read.specs.Reading.{Reading, gives, wrong, also, must, text, mapping, each, each_from}
+use Rattle.ksv_schema_read.specs.Faults.{bad_value}
+use Rattle.ksv_schema_read.specs.Reading.{Reading, gives, wrong, also, must, mapping, each, each_from}
 use Rattle.ksv_schema_read.specs.Rules.{keys_faults}
 use Rattle.ksv_schema_read.specs.Description.{whole, id_text, id, entry_id, constant, enum, all_enums}
 
 no_words : {A : Type 0} (r s : Reading A) → r.words ≡ [] → s.words ≡ [] → r.words ++ s.words ≡ []
 no_words r s h k = ap (λ (ws : List (List ℕ)). ws ++ s.words) h ∙ k
 
-whole_words : (line : ℕ) (n : Numeral) → (whole line n).words ≡ []
+pub whole_words : (line : ℕ) (n : Numeral) → (whole line n).words ≡ []
 whole_words line (Whole n) = refl
 whole_words line LeadingZero = refl
 whole_words line NoNumeral = refl

@@ -33,7 +33,7 @@ pub record AreSoFar (all rest : Reading (List ℕ)) (so_far : Option (List ℕ))
   pub value : joined so_far rest.value ≡ all.value
   pub faults : noted now rest.faults ≡ noted old all.faults
 
-joined_joined : (so_far bs rest : Option (List ℕ)) → joined (joined so_far bs) rest ≡ joined so_far (option_map (λ p. p.0 ++ p.1) (paired bs rest))
+joined_joined : (so_far bs rest : Option (List ℕ)) → joined (joined so_far bs) rest ≡ joined so_far (option_map (λ (p : List ℕ × List ℕ). p.0 ++ p.1) (paired bs rest))
 joined_joined None bs rest = refl
 joined_joined (Some xs) None rest = refl
 joined_joined (Some xs) (Some ys) None = refl

@@ -9,3 +9,4 @@ pub mod Limits
 pub mod Named
 pub mod Enums
 pub mod Made
+pub mod Both

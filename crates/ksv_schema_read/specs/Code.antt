@@ -5,7 +5,7 @@
 -- notes faults has the least fault alone: `seen_fault least.new ≡ noted (seen_fault least.old) faults`; it is called
 -- with `&mut reader.least`.
 use Rattle.std.specs.declared.alloc.Global.{Global}
-use Rattle.std.specs.Prelude.{◌≡◌, ◌++◌, ℕ, Bool, not, ◌&&◌, if◌then◌else◌, List, [], ◌∷◌, Vec, Option, Some, None, option_map, option_and_then, Result, Ok, Err, codes}
+use Rattle.std.specs.Prelude.{◌≡◌, ◌++◌, ℕ, Bool, not, ◌&&◌, if◌then◌else◌, List, [], ◌∷◌, Vec, Option, Some, option_map, option_and_then, Result, Ok, Err, codes}
 use Rattle.ksv_schema_scope.specs.Table.{declared}
 use Rattle.ksv_schema_keys.specs.Values.{looks_like_number}
 use Rattle.ksv_desc.specs.Names.{distinct_behind}

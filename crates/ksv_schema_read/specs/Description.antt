@@ -5,7 +5,6 @@ use Rattle.std.specs.List.{list_any, list_all}
 use Rattle.std.specs.Option.{option_map_or}
 use Rattle.std.specs.Str.{is_utf8}
 use Rattle.ksv_yaml_tree.specs.Tree.{Tree, Pair, line_of, text_of, mapping_of, entry_at}
-use Rattle.ksv_yaml_tree.specs.Keys.{entries_at}
 use Rattle.ksv_yaml_tree.specs.declared.numeral.Numeral.{Numeral}
 use Rattle.ksv_yaml_tree.specs.declared.numeral.Numeral.TheVariants.{Whole, LeadingZero, NoNumeral}
 use Rattle.ksv_yaml_tree.specs.Numerals.{signed_number}
@@ -20,7 +19,7 @@ use Rattle.ksv_desc.specs.Description.{Content, Bytes, Fixed, Number, Characters
 use Rattle.ksv_schema_keys.specs.declared.keys.MappingKind.TheVariants as kinds
 use Rattle.ksv_schema_keys.specs.Keys.{is_id}
 use Rattle.ksv_schema_read.specs.Faults.{Fault, fault, fault_if, keys_against, bad_value, left_out, over_limit}
-use Rattle.ksv_schema_read.specs.Reading.{Reading, gives, wrong, also, chosen, made, both, each, each_from, must, text, mapping}
+use Rattle.ksv_schema_read.specs.Reading.{Reading, gives, wrong, also, made, both, each, each_from, must, text, mapping}
 use Rattle.ksv_schema_read.specs.Rules.{keys_faults, missing, at_if}
 use Rattle.ksv_schema_read.specs.Members.{id_line, member}
 
@@ -62,7 +61,7 @@ abbrev pub enum : Row → Reading Enum
 enum r =
     made (λ p. record { id = p.0; members = p.1 })
     (both (id_text r.line r.id)
-      (also (fault_if (is_none (mapping_of r.value)) r.line bad_value) (each_from (λ i. constant (take i (keys_of r))) 0 (keys_of r))))
+    (also (fault_if (is_none (mapping_of r.value)) r.line bad_value) (each_from (λ i. constant (take i (keys_of r))) 0 (keys_of r))))
 
 -- ---- types, whose members are read by themselves
 

@@ -1,5 +1,5 @@
 -- What is read of a member: a parameter, an attribute, a parse instance or a value instance.
-use Rattle.std.specs.Prelude.{ℕ, Bool, true, false, not, if◌then◌else◌, ◌&&◌, ◌||◌, ◌==◌, List, [], ◌++◌, length, codes, Option, Some, None, is_some, option_map, option_and_then}
+use Rattle.std.specs.Prelude.{ℕ, Bool, true, false, not, if◌then◌else◌, ◌&&◌, ◌||◌, ◌==◌, List, [], ◌++◌, length, codes, Option, Some, None, is_some, option_map}
 use Rattle.std.specs.Option.{option_map_or}
 use Rattle.ksv_yaml_tree.specs.Tree.{Tree, Pair, line_of, mapping_of, entry_at}
 use Rattle.ksv_yaml_tree.specs.Keys.{entries_in, has, says, text_at}
@@ -17,7 +17,7 @@ use Rattle.ksv_schema_keys.specs.declared.keys.MappingKind.TheVariants as kinds
 use Rattle.ksv_schema_keys.specs.Keys.{kind_of, is_id}
 use Rattle.ksv_schema_keys.specs.Values.{TypeText, is_str, is_strz, own_type, is_a, byte_at, is_true, is_not_false, is_to_end}
 use Rattle.ksv_schema_read.specs.Faults.{Fault, fault, fault_if, missing_key, keys_against, bad_value, left_out}
-use Rattle.ksv_schema_read.specs.Reading.{Reading, gives, wrong, also, chosen, made, both, perhaps, must, mapping}
+use Rattle.ksv_schema_read.specs.Reading.{Reading, gives, wrong, also, chosen, made, both, perhaps, must}
 use Rattle.ksv_schema_read.specs.Rules.{keys_faults, missing, at_if, together}
 use Rattle.ksv_schema_read.specs.Values.{Home, home_of, expression, enumeration, is_declared, choice}
 

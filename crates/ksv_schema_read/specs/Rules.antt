@@ -1,7 +1,7 @@
 -- What is wrong with the keys of a mapping: each by the table of keys, and keys together by a table of rules. The line of
 -- a fault is that of the key or list item with the fault. For a missing key it is the first line of the mapping; for two
 -- keys that don't fit together, the lower of their lines.
-use Rattle.std.specs.Prelude.{ℕ, Bool, true, false, not, if◌then◌else◌, ◌&&◌, min, List, [], ◌∷◌, flat_map, codes, Option, Some, None, is_some, is_none, option_map}
+use Rattle.std.specs.Prelude.{ℕ, Bool, true, not, if◌then◌else◌, ◌&&◌, min, List, [], ◌∷◌, flat_map, codes, Option, Some, None, is_some, is_none, option_map}
 use Rattle.std.specs.List.{list_any}
 use Rattle.std.specs.Option.{option_map_or}
 use Rattle.std.specs.Str.{bytes_eq}

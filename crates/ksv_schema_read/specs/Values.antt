@@ -1,9 +1,9 @@
 -- What is read at a key, by the form of its value: an expression, the path of an enum, contents, a type with its
 -- arguments, or a switch over types.
-use Rattle.std.specs.Prelude.{ℕ, ◌+◌, Bool, true, false, not, if◌then◌else◌, ◌&&◌, ◌||◌, ◌==◌, List, [], ◌∷◌, ◌++◌, length, codes, Option, Some, None, is_some, is_none, option_map, option_to_list}
+use Rattle.std.specs.Prelude.{ℕ, Bool, true, false, not, if◌then◌else◌, ◌&&◌, ◌||◌, ◌==◌, List, [], ◌∷◌, ◌++◌, length, codes, Option, Some, None, is_some, option_map, option_to_list}
 use Rattle.std.specs.Option.{option_map_or}
 use Rattle.ksv_yaml_tree.specs.Tree.{Tree, Pair, line_of, text_of, is_quoted, mapping_of, list_of, entry_at}
-use Rattle.ksv_yaml_tree.specs.Keys.{entries_in, has, says, text_at}
+use Rattle.ksv_yaml_tree.specs.Keys.{text_at}
 use Rattle.ksv_expr_syntax.specs.Reading.{◌>>=◌}
 use Rattle.ksv_expr_tree.specs.Tree.{Arguments}
 use Rattle.ksv_expr_tree.specs.Tree as expressions
@@ -30,7 +30,7 @@ use Rattle.ksv_expr_value.specs.declared.encoding.Encoding.{Encoding}
 use Rattle.ksv_schema_keys.specs.declared.keys.MappingKind.TheVariants as kinds
 use Rattle.ksv_schema_keys.specs.Expressions.{expression_of}
 use Rattle.ksv_schema_keys.specs.Values.{encoding_named, TypeText, Unspelled, OfLanguage, OfDescription, type_text, is_integer, is_str, is_strz, looks_like_number, Piece, Bytes as BytesPiece, BadPiece, LeftOutPiece, piece_of, CaseKey, Constant, Negative, Member, Default, NoKey, case_key, ids_of, is_repeated}
-use Rattle.ksv_schema_read.specs.Faults.{Fault, fault, fault_if, unknown_name, no_byte_order, bad_value, wrong_count, left_out, no_expression}
+use Rattle.ksv_schema_read.specs.Faults.{Fault, fault_if, unknown_name, no_byte_order, bad_value, wrong_count, left_out, no_expression}
 use Rattle.ksv_schema_read.specs.Reading.{Reading, gives, wrong, found, also, made, both, each, perhaps, must, text, mapping}
 use Rattle.ksv_schema_read.specs.Rules.{keys_faults, Says, claimed, against, line_of_key, at_if}
 

@@ -43,10 +43,7 @@ fn add_members(names: &mut Names, members: &[Member]) -> Result<bool, AllocError
 }
 
 /// Adds the names of the members of each type, as far as they are texts, and returns whether all are.
-fn add_all_members<'a>(
-    names: &mut Names,
-    types: &[Vec<Member<'a>>],
-) -> Result<bool, AllocError>
+fn add_all_members<'a>(names: &mut Names, types: &[Vec<Member<'a>>]) -> Result<bool, AllocError>
     ensures added { IfOk result (λ all. all ≡ true → names.new ≡ distinct_behind names.old (flat_map names_in (map (λ v. map seen_member v.items) types.now))) }
     ensures texts { IfOk result (λ all. all ≡ list_all are_texts (map (λ v. map seen_member v.items) types.now)) }
 {
@@ -234,7 +231,14 @@ fn described<'a>(
     let Some((kinds, enums)) = paired(whole.kinds, whole.enums) else {
         return Ok(None);
     };
-    let types = types_of(alloc, scopes, &names, scopes.types(), scopes.members(), kinds)?;
+    let types = types_of(
+        alloc,
+        scopes,
+        &names,
+        scopes.types(),
+        scopes.members(),
+        kinds,
+    )?;
     match types {
         Some(types) => Ok(Some(Pieces {
             types,

@@ -16,7 +16,7 @@ use ksv_yaml_tree::{Entry, Numeral};
 
 /// Notes a text that isn't a plain number from 0 to 255.
 #[tactic(auto, using(crate::proofs::Noted::steps))]
-pub(crate) fn note_numeral(least: &mut Least, line: usize, numeral: Numeral)
+fn note_numeral(least: &mut Least, line: usize, numeral: Numeral)
     ensures { seen_fault least.new ≡ noted (seen_fault least.old) (numeral_faults line numeral) }
 {
     match numeral {

@@ -24,9 +24,7 @@ use crate::types::{choice, is_declared};
 use crate::value::{needed_expression, own_enum, perhaps_expression};
 use ksv_desc::{Choice, Extent, Field, MemberKind, Repeat, Terminator};
 use ksv_expr_tree::Expr;
-use ksv_schema_keys::{
-    MappingKind, TypeKind, TypeText, byte_at, is_a, is_id, kind_of, own_type,
-};
+use ksv_schema_keys::{MappingKind, TypeKind, TypeText, byte_at, is_a, is_id, kind_of, own_type};
 use ksv_schema_names::Site;
 use ksv_schema_scope::{Member, Role, Scopes};
 use ksv_yaml_tree::keys::{has, says, text_at};
@@ -67,13 +65,16 @@ fn read_parts(
     let chosen = both(repeated, choice)?;
     let size = perhaps_expression(reader, home, Site::Size, find(entries, b"size"));
     match both(chosen, size)? {
-        Some(((((condition, count), until), choice), size)) => Ok(Some(Parts {
-            condition,
-            count,
-            until,
-            choice,
-            size,
-        })),
+        Some(read) => {
+            let ((((condition, count), until), choice), size) = read;
+            Ok(Some(Parts {
+                condition,
+                count,
+                until,
+                choice,
+                size,
+            }))
+        }
         None => Ok(None),
     }
 }
@@ -238,6 +239,7 @@ fn enum_in(enumeration: Option<Option<u32>>) -> Option<u32>
 }
 
 /// What an attribute or a parse instance of these keys reads, with its enum.
+#[tactic(auto, using(crate::proofs::Noted::steps, ksv_desc::proofs::Dots::steps))]
 fn own_field(
     reader: &mut Reader,
     home: Home,
@@ -250,7 +252,10 @@ fn own_field(
     let enumeration = own_enum(reader, home, entries)?;
     let typed = own_type(reader.alloc, entries)?;
     let number = enum_in(enumeration);
-    both(enumeration, field(reader, home, kind, line, number, entries, typed))
+    both(
+        enumeration,
+        field(reader, home, kind, line, number, entries, typed),
+    )
 }
 
 /// An attribute.
@@ -279,11 +284,14 @@ fn parse_instance(
     let at = both(place, stream)?;
     let field = own_field(reader, home, MappingKind::ParseInstance, line, entries);
     match both(at, field)? {
-        Some(((place, stream), (_, field))) => Ok(Some(MemberKind::ParseInstance {
-            place,
-            stream,
-            field,
-        })),
+        Some(read) => {
+            let ((place, stream), (_, field)) = read;
+            Ok(Some(MemberKind::ParseInstance {
+                place,
+                stream,
+                field,
+            }))
+        }
         None => Ok(None),
     }
 }
@@ -313,7 +321,7 @@ fn value_instance(
 }
 
 /// An instance without a place and a value, which is unsupported.
-#[tactic(auto, using(crate::proofs::Noted::steps, ksv_desc::proofs::Dots::steps), unfolding(crate::specs::Members::placeless))]
+#[tactic(auto, using(crate::proofs::Noted::steps, ksv_desc::proofs::Dots::steps, crate::proofs::Both::nothing), unfolding(crate::specs::Members::placeless))]
 fn placeless(
     reader: &mut Reader,
     home: Home,
@@ -331,7 +339,7 @@ fn placeless(
 }
 
 /// A member of this kind, whose name is on this line.
-#[tactic(auto, using(crate::proofs::Noted::steps))]
+#[tactic(auto, using(crate::proofs::Noted::steps), unfolding(crate::specs::Members::by_kind))]
 fn by_kind(
     reader: &mut Reader,
     home: Home,
@@ -369,7 +377,14 @@ fn member_keys<'a>(
     let home = home_of(scopes, within, member.role, entries);
     let kind = kind_of(member.role, entries);
     note_keys(&mut reader.least, kind, entries);
-    by_kind(reader, home, kind, member.line, member.value.line(), entries)
+    by_kind(
+        reader,
+        home,
+        kind,
+        member.line,
+        member.value.line(),
+        entries,
+    )
 }
 
 // ---- members, with their names

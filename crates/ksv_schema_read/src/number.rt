@@ -134,7 +134,9 @@ pub(crate) fn number_kind(context: Context, kind: &mut MemberKind)
             number_field(context, field);
         }
         MemberKind::ValueInstance {
-            condition, value, ..
+            condition,
+            value,
+            ..
         } => {
             number_optional(context, condition);
             number_tree(context, value);

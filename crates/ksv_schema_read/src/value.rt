@@ -36,7 +36,7 @@ pub(crate) fn note_name(least: &mut Least, line: usize, found: Option<NameFault>
 
 /// The expression that a text spells.
 #[tactic(auto, using(crate::proofs::Noted::steps, ksv_desc::proofs::Dots::steps), unfolding(crate::specs::Values::of_expression))]
-pub(crate) fn expression_in(
+fn expression_in(
     reader: &mut Reader,
     home: Home,
     site: Site,
@@ -199,10 +199,12 @@ fn items(alloc: Global, least: &mut Least, nodes: &[Yaml]) -> Read<Vec<u8>>
 }
 
 /// The bytes of a text at a key; a plain number alone is unsupported.
+#[tactic(auto, using(crate::proofs::Noted::steps, ksv_desc::proofs::Dots::steps))]
 fn text_bytes(reader: &mut Reader, line: usize, is_quoted: bool, text: &[u8]) -> Read<Vec<u8>>
     ensures { Reads (text_bytes line is_quoted text.now) (λ v. v.items) reader.old reader.new result }
 {
-    if !is_quoted && looks_like_number(text) {
+    let is_number = !is_quoted & looks_like_number(text);
+    if is_number {
         note(&mut reader.least, line, LeftOut);
         return Ok(None);
     }

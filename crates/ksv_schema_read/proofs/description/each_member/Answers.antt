@@ -2,15 +2,12 @@ use Rattle.ksv_desc.specs.Pieces.{plain_kind}
 use Rattle.ksv_schema_scope.specs.Table.{declared}
 use Rattle.ksv_schema_scope.specs.Code.{member_of as row}
 use Rattle.ksv_schema_read.specs.Members.{member}
-use Rattle.ksv_schema_read.proofs.Each.{so_far_init, each_from_step, each_from_end, pushed_seen}
+use Rattle.ksv_schema_read.proofs.Each.{each_from_step, each_from_end, pushed_seen}
 use Rattle.ksv_schema_read.proofs.description.each_member.Goals as goal
-
-pub loop-number-init : goal.loop-number-init
-loop-number-init c = so_far_init _ _
 
 pub loop-number-preserved : goal.loop-number-preserved
 loop-number-preserved c =
-    each_from_step row (member (declared c.args.scopes.now) c.args.within) c.args.members.now _ _ _ _ _ _ _ _ _ c.loop-number-test.true c.index-members-number.is c.in_ok-next.ensures (pushed_seen plain_kind _ _ _ c.in_ok-pushed.ensures) c.loop-number.invariant
+    each_from_step row (member (declared c.args.scopes.now) c.args.within) c.args.members.now _ _ _ _ _ _ _ _ _ c.loop-number-test.true c.index-members-number.is c.in_ok-next.ensures (pushed_seen plain_kind _ _ _ c.in_ok-made.ensures) c.loop-number.invariant
 
 pub returns : goal.returns
 returns c = each_from_end row (member (declared c.args.scopes.now) c.args.within) c.args.members.now _ _ _ _ _ c.loop-number-test.false c.loop-number.invariant

@@ -3,7 +3,7 @@ use Rattle.ksv_yaml_tree.specs.View.{pair}
 use Rattle.ksv_desc.specs.Pieces.{plain_entry}
 use Rattle.ksv_schema_read.specs.Description.{constant}
 use Rattle.ksv_schema_read.specs.Plain.{AreOf}
-use Rattle.ksv_schema_read.proofs.Each.{so_far_init, each_from_step, each_from_end, pushed_seen}
+use Rattle.ksv_schema_read.proofs.Each.{each_from_step, each_from_end, pushed_seen}
 use Rattle.ksv_schema_read.proofs.Given.{take_more}
 use Rattle.ksv_schema_read.proofs.enumeration.constants.Goals as goal
 
@@ -13,7 +13,7 @@ loop-number-preserved c =
     record {
       read =
           each_from_step pair (λ i. constant (take i (map pair c.args.entries.now))) c.args.entries.now _ _ _ _ _ _ _ _ _ c.loop-number-test.true c.index-entries-number.is (c.in_ok-next.ensures.read before c.loop-number.invariant.given)
-          (pushed_seen plain_entry _ _ _ c.in_ok-pushed.ensures) c.loop-number.invariant.read;
+          (pushed_seen plain_entry _ _ _ c.in_ok-made.ensures) c.loop-number.invariant.read;
       given = subst (AreOf c.constant.new.seen) (sym (take_more pair c.args.entries.now c.loop-number.number _ c.loop-number-test.true c.index-entries-number.is) ∙ ap (λ n. take n (map pair c.args.entries.now)) (sym (add-one c.loop-number.number))) (c.in_ok-next.ensures.given before c.loop-number.invariant.given);
     }
 

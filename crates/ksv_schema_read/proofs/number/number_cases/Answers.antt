@@ -1,4 +1,4 @@
-use Rattle.std.proofs.Common.{◌≡◌, ◌≢◌, ℕ, zero, suc, ◌+◌, ◌<◌, ◌≤◌, List, [], ◌∷◌, length, get_or, set, map, refl, sym, ap, ◌∙◌, arith, below_more, get_or-set_other, get_or-set_same}
+use Rattle.std.proofs.Common.{◌≡◌, ◌≢◌, ℕ, zero, suc, ◌+◌, ◌<◌, ◌≤◌, List, [], ◌∷◌, length, get_or, set, map, refl, ap, ◌∙◌, arith, below_more, get_or-set_other, get_or-set_same}
 use Rattle.ksv_desc.specs.Pieces.{plain_case}
 use Rattle.ksv_schema_read.specs.Description.{in_case}
 use Rattle.ksv_schema_read.specs.Plain.{context_of}
