@@ -17,7 +17,7 @@ use Rattle.ksv_desc.specs.Names.{distinct, number_in, dotted, all_dotted}
 use Rattle.ksv_schema_read.specs.Rules.{endian_faults, bit_endian_faults, form_faults, key_faults, against, ruled_faults, together}
 use Rattle.ksv_schema_read.specs.Values.{of_expression, expression as read_expression, arguments as read_arguments, enumeration, item as read_item, contents as read_contents, order_at, encoding_at, of_type, of_case_key, case_value, case_against, case as read_case, switch as read_switch, typed as read_typed, choice as read_choice}
 use Rattle.ksv_schema_read.specs.Members.{parts as read_parts, repeat_of, terminator_of, field_of, needs as read_needs, unsupported, field as read_field, attribute as read_attribute, parse_instance, value_instance, placeless, by_kind, member_keys, name_line, is_named_again, member as read_member}
-use Rattle.ksv_schema_read.specs.Description.{entry_id, is_number_again, is_id_again, constant as read_constant, enum as, meta_faults, type_keys_faults, type_faults, line_past, members as read_members, all_members, all_enums, faults_of, faults, member_names, names_of, member_of, type_of as read_type_of, are_texts, described, stated_by, stated}
+use Rattle.ksv_schema_read.specs.Description.{entry_id, is_number_again, is_id_again, constant as read_constant, meta_faults, type_keys_faults, type_faults, line_past, members as read_members, all_members, all_enums, faults_of, faults, member_names, names_of, member_of, type_of as read_type_of, are_texts, described, stated_by, stated}
 use Rattle.ksv_desc.specs.Description.{as_text}
 use Rattle.ksv_schema_keys.specs.Expressions.{tokens_of, expression_of, type_of as type_of_expressions}
 use Rattle.ksv_schema_keys.specs.Keys.{form_among, form_in, is_ignored, is_id}
