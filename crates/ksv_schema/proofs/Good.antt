@@ -11,7 +11,7 @@ use Rattle.ksv_expr_syntax.specs.Reading.{◌>>=◌}
 use Rattle.ksv_desc.specs.Names.{number_in, has_names}
 use Rattle.ksv_desc.specs.Resolved.{Each, IfAny, IsThere}
 use Rattle.ksv_schema_read.specs.Faults.{Fault, fault, fault_if, missing_key, bad_value}
-use Rattle.ksv_schema_read.specs.Reading.{Reading, gives, wrong, found, also, chosen, made, both, each, each_from, perhaps, must}
+use Rattle.ksv_schema_read.specs.Reading.{Reading, gives, wrong, found, also, chosen, made, both, after, each, each_from, perhaps, must}
 
 -- ---- no faults
 
@@ -89,16 +89,20 @@ pub made_good : {A B : Type 0} {names : List (List ℕ)} {G : A → Type 0} {H :
 made_good {G = G} {H = H} {r = r} f g step = record { is = λ k w. there_map G H f r.value step (g.is k w) }
 
 -- one and then another, which may depend on the first one's value
-pub next_good : {A B : Type 0} {names : List (List ℕ)} {G : A → Type 0} {H : B → Type 0} {r : Reading A} {s : Reading B} → IsGood names G r → (IsThere G r.value → IsGood names H s) → IsGood names (λ (p : A × B). G p.0 × H p.1) (both r s)
-next_good {names = names} {G = G} {H = H} {r = r} {s = s} g h = record {
+pub after_good : {A B : Type 0} {names : List (List ℕ)} {G : A → Type 0} {H : B → Type 0} {r : Reading A} {s : Reading B} → IsGood names G r → (IsThere G r.value → IsGood names H s) → IsGood names H (after r s)
+after_good {names = names} {G = G} {H = H} {r = r} {s = s} g h = record {
   is = λ k w.
       let ws = has_both names r.words s.words w in
       let x = g.is (front r.faults s.faults k) ws.0 in
-      there_both G H r.value s.value x ((h x).is (back r.faults s.faults k) ws.1);
+      there_bind G H (λ y. s.value) r.value (λ y z. (h x).is (back r.faults s.faults k) ws.1) x;
 }
 
 pub both_good : {A B : Type 0} {names : List (List ℕ)} {G : A → Type 0} {H : B → Type 0} {r : Reading A} {s : Reading B} → IsGood names G r → IsGood names H s → IsGood names (λ (p : A × B). G p.0 × H p.1) (both r s)
-both_good g h = next_good g (λ x. h)
+both_good {names = names} {G = G} {H = H} {r = r} {s = s} g h = record {
+  is = λ k w.
+      let ws = has_both names r.words s.words w in
+      there_both G H r.value s.value (g.is (front r.faults s.faults k) ws.0) (h.is (back r.faults s.faults k) ws.1);
+}
 
 pub weaker : {A : Type 0} {names : List (List ℕ)} {G H : A → Type 0} {r : Reading A} → IsGood names G r → ((x : A) → G x → H x) → IsGood names H r
 weaker {G = G} {H = H} {r = r} g step = record { is = λ k w. weaken r.value (g.is k w) }

@@ -33,9 +33,17 @@ chosen f r = record { faults = r.faults; words = r.words; value = option_and_the
 abbrev pub made : {A B : Type 0} → (A → B) → Reading A → Reading B
 made f r = record { faults = r.faults; words = r.words; value = option_map f r.value }
 
+-- without its value
+abbrev pub valueless : {A B : Type 0} → Reading A → Reading B
+valueless r = record { faults = r.faults; words = r.words; value = None }
+
 -- one and then another
 abbrev pub both : {A B : Type 0} → Reading A → Reading B → Reading (A × B)
 both r s = record { faults = r.faults ++ s.faults; words = r.words ++ s.words; value = option_and_then (λ x. option_map (λ y. (x, y)) s.value) r.value }
+
+-- one and then another, whose value counts if the first one has one
+abbrev pub after : {A B : Type 0} → Reading A → Reading B → Reading B
+after r s = record { faults = r.faults ++ s.faults; words = r.words ++ s.words; value = option_and_then (λ x. s.value) r.value }
 
 -- each of a list
 abbrev pub each : {A B : Type 0} → (A → Reading B) → List A → Reading (List B)
