@@ -12,7 +12,7 @@ use Rattle.ksv_schema_scope.specs.Members.{is_in_params}
 use Rattle.ksv_schema_scope.specs.Rows.{Declared}
 use Rattle.ksv_schema_scope.specs.Types.{encoding_of}
 use Rattle.ksv_schema_names.specs.declared.position.Site.TheVariants as sites
-use Rattle.ksv_desc.specs.Description.{SizeEos, ByItself, Repeat, Once, Eos, Expr, Until, Field, MemberKind, Parameter}
+use Rattle.ksv_desc.specs.Description.{Extent, SizeEos, ByItself, Repeat, Once, Eos, Expr, Until, Field, MemberKind, Parameter}
 use Rattle.ksv_desc.specs.Resolved.{is_parameter, IfAny, IsThere, IsResolvedTree, IsResolvedExtent, IsResolvedRepeat, IsResolvedField, IsResolvedKind}
 use Rattle.ksv_schema_keys.specs.declared.keys.Form.TheVariants as forms
 use Rattle.ksv_schema_keys.specs.declared.keys.MappingKind.{MappingKind}
@@ -23,7 +23,7 @@ use Rattle.ksv_schema_keys.specs.Values.{encoding_named, is_str, is_strz, own_ty
 use Rattle.ksv_schema_read.specs.Faults.{missing_key, left_out}
 use Rattle.ksv_schema_read.specs.Rules.{form_faults, keys_faults}
 use Rattle.ksv_schema_read.specs.Values.{Home, expression, enumeration, encoding_at}
-use Rattle.ksv_schema_read.specs.Members.{parts, repeat_of, repeated, extent_of, has_encoding, needs, field, own_enum, own_field, attribute, parse_instance, value_instance, placeless, by_kind}
+use Rattle.ksv_schema_read.specs.Members.{parts, repeat_of, repeated, extent_of, extent, has_encoding, needs, field, own_enum, own_field, attribute, parse_instance, value_instance, placeless, by_kind}
 use Rattle.ksv_schema_read.specs.Description.{Context, in_tree, in_extent, in_repeat, in_field, in_kind}
 use Rattle.ksv_schema.proofs.Good.{front, back, implies, there_map, IsGood, gives_good, also_good, chosen_good, made_good, after_good, both_good, weaker, perhaps_good, must_good}
 use Rattle.ksv_schema.proofs.Keys.{text_fits, HasRepeat, has_repeat}
@@ -75,13 +75,19 @@ module _ (names : List (List ℕ)) (h : Home) where
       go count until false false true x y = there_map (IsTree c) IsRepeat Until until (λ e g. g) (y refl)
       go count until false false false x y = λ y s fits. tt
 
-  extent_leads : (es : List Pair) (o : Option expressions.Tree) → IfAny (IsTree c) o → Leads c IsResolvedExtent (in_extent c (extent_of es o))
-  extent_leads es (Some e) g = g
-  extent_leads es None g = go (is_to_end es)
+  abbrev IsExtent : Extent → Type 0
+  IsExtent e = Leads c IsResolvedExtent (in_extent c e)
+
+  extent_good : (es : List Pair) → IsGood names IsExtent (extent h es)
+  extent_good es = made_good (extent_of es) (perhaps_good _ (entry_at (codes "size") es) (λ p e. expression_good names h sites.Size p)) (λ o g. leads o g.0)
     where
-      go : (b : Bool) → Leads c IsResolvedExtent (in_extent c (cond b SizeEos ByItself))
-      go true y s fits = tt
-      go false y s fits = tt
+      at_end : (b : Bool) → IsExtent (cond b SizeEos ByItself)
+      at_end true y s fits = tt
+      at_end false y s fits = tt
+
+      leads : (o : Option expressions.Tree) → IfAny (IsTree c) o → IsExtent (extent_of es o)
+      leads (Some e) g = g
+      leads None g = at_end (is_to_end es)
 
   abbrev IsField : Field → Type 0
   IsField f = Leads c IsResolvedField (in_field c f)
@@ -91,7 +97,7 @@ module _ (names : List (List ℕ)) (h : Home) where
   parts_good enum es e i r =
       made_good _
       (both_good (both_good (both_good (perhaps_good _ (entry_at (codes "if") es) (λ p e. expression_good names h sites.Condition p)) (repeated_good es r)) (choice_good names h es enum es e i))
-      (made_good _ (perhaps_good _ (entry_at (codes "size") es) (λ p e. expression_good names h sites.Size p)) (λ o g. extent_leads es o g.0)))
+      (extent_good es))
       (λ p g y s fits. record { condition = any_leads c IsResolvedTree (in_tree c) p.0.0.0 g.0.0.0.0 y s fits; repeat = g.0.0.1 y s fits; choice = g.0.1 y s fits; extent = g.1 y s fits })
 
   -- ---- fields
