@@ -149,14 +149,17 @@ EachOf G n [] [] = Unit {0}
 EachOf G n (x ∷ xs) (y ∷ ys) = G n x y × EachOf G (n + 1) xs ys
 EachOf G n _ _ = ⊥
 
-pub each_good : {A B : Type 0} {names : List (List ℕ)} {G : A → B → Type 0} (f : A → Reading B) (n : ℕ) (xs : List A) → ((x : A) → IsGood names (G x) (f x)) → IsGood names (EachOf (λ i. G) n xs) (each f xs)
-each_good f n [] g = gives_good [] tt
-each_good f n (x ∷ xs) g = made_good (λ p. p.0 ∷ p.1) (both_good (g x) (each_good f (n + 1) xs g)) (λ p h. h)
-
--- each of a list, of which something is known
+-- each of a list, of which something is known, or nothing
 pub each_from_good : {A B : Type 0} {names : List (List ℕ)} {G : ℕ → A → B → Type 0} (P : A → Type 0) (f : ℕ → A → Reading B) (n : ℕ) (xs : List A) → Each P xs → ((n : ℕ) (x : A) → P x → IsGood names (G n x) (f n x)) → IsGood names (EachOf G n xs) (each_from f n xs)
 each_from_good P f n [] ps g = gives_good [] tt
 each_from_good P f n (x ∷ xs) ps g = made_good (λ p. p.0 ∷ p.1) (both_good (g n x ps.0) (each_from_good P f (n + 1) xs ps.1 g)) (λ p h. h)
+
+pub each_there : {A : Type 0} (xs : List A) → Each (λ x. Unit {0}) xs
+each_there [] = tt
+each_there (x ∷ xs) = (tt, each_there xs)
+
+pub each_good : {A B : Type 0} {names : List (List ℕ)} {G : A → B → Type 0} (f : A → Reading B) (xs : List A) → ((x : A) → IsGood names (G x) (f x)) → IsGood names (EachOf (λ i. G) 0 xs) (each f xs)
+each_good f xs g = each_from_good (λ x. Unit {0}) (λ i. f) 0 xs (each_there xs) (λ n x u. g x)
 
 -- what holds for each one of the second list, and tests that the first one passes
 pub each_second : {A B : Type 0} (G : ℕ → A → B → Type 0) (P : B → Type 0) (n : ℕ) (xs : List A) (ys : List B) → ((i : ℕ) (x : A) (y : B) → G i x y → P y) → EachOf G n xs ys → Each P ys
