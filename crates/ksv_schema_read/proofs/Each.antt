@@ -31,9 +31,6 @@ joined_more (Some xs) None rest = refl
 joined_more (Some xs) (Some x) None = refl
 joined_more (Some xs) (Some x) (Some ys) = ap Some (append_assoc xs (x ∷ []) ys)
 
-pub so_far_init : {A : Type 0} (all : Reading (List A)) (r : Reader) → IsSoFar all all (Some []) r r
-so_far_init all r = record { value = joined_nothing all.value; faults = refl; words = refl }
-
 pub so_far_end : {A : Type 0} (all : Reading (List A)) (so_far : Option (List A)) (old now : Reader) → IsSoFar all (record { faults = []; words = []; value = Some [] }) so_far old now → IsRead all so_far old now
 so_far_end all so_far old now h = record {
   value = sym (joined_end so_far) ∙ h.value;

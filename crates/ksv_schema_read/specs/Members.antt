@@ -121,12 +121,11 @@ value_instance h line es =
     (made (λ p. desc.ValueInstance p.0.0 p.0.1 p.1)
     (both (both (perhaps (expression h sites.Condition) (entry_at (codes "if") es)) (must line (expression h sites.Value) (entry_at (codes "value") es))) (own_enum h es)))
 
-abbrev pub own_parts : Home → List Pair → Reading Field
-own_parts h es = after (own_enum h es) (parts h [] (enum_in (own_enum h es)) es)
-
 -- an instance without a place and a value is unsupported, whatever its keys are together
 unfoldable pub placeless : Home → ℕ → List Pair → Reading MemberKind
-placeless h name_line es = also (fault name_line left_out) (valueless (both (perhaps (expression h sites.Stream) (entry_at (codes "io") es)) (own_parts h es)))
+placeless h name_line es =
+    also (fault name_line left_out)
+    (valueless (both (both (perhaps (expression h sites.Stream) (entry_at (codes "io") es)) (own_enum h es)) (parts h [] (enum_in (own_enum h es)) es)))
 
 -- a member whose name is on this line, with this first line and these keys
 unfoldable pub by_kind : Home → MappingKind → ℕ → ℕ → List Pair → Reading MemberKind

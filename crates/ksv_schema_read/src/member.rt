@@ -9,7 +9,7 @@ ghost use Rattle.ksv_schema_scope.specs.Code.{member_of};
 ghost use Rattle.ksv_schema_keys.specs.Values.{own_type};
 ghost use Rattle.ksv_schema_keys.specs.Code.{seen_type_at};
 ghost use Rattle.ksv_schema_read.specs.Faults.{noted};
-ghost use Rattle.ksv_schema_read.specs.Members.{parts, repeat_of, repeated, timed, extent, terminator_of, needs, unsupported, field, own_field, attribute, parse_instance, value_instance, own_parts, placeless, by_kind, member_keys, name_line, is_named_again, member as stated_member};
+ghost use Rattle.ksv_schema_read.specs.Members.{parts, repeat_of, repeated, timed, extent, terminator_of, needs, unsupported, field, own_field, attribute, parse_instance, value_instance, placeless, by_kind, member_keys, name_line, is_named_again, member as stated_member};
 ghost use Rattle.ksv_schema_read.specs.Code.{seen_fault, seen_home, Reads};
 
 use crate::enumeration::id_line;
@@ -289,21 +289,6 @@ fn value_instance(
     }
 }
 
-/// What the keys of an instance state with its enum, and without keys beside them.
-#[tactic(auto, using(crate::proofs::Noted::steps, ksv_desc::proofs::Dots::steps))]
-fn own_parts(reader: &mut Reader, home: Home, entries: &[Entry]) -> Read<Field>
-    ensures { Reads (own_parts (seen_home home.entry) (map pair entries.now)) plain_field reader.old reader.new result }
-{
-    let typed = own_type(reader.alloc, entries)?;
-    match own_enum(reader, home, entries)? {
-        Some(number) => read_parts(reader, home, &[], number, entries, typed),
-        None => {
-            drop(read_parts(reader, home, &[], None, entries, typed)?);
-            Ok(None)
-        }
-    }
-}
-
 /// An instance without a place and a value, which is unsupported.
 #[tactic(auto, using(crate::proofs::Noted::steps, crate::proofs::Least::noted_cons, ksv_desc::proofs::Dots::steps), unfolding(crate::specs::Members::placeless))]
 fn placeless(
@@ -316,7 +301,11 @@ fn placeless(
 {
     note(&mut reader.least, name_line, LeftOut);
     drop(perhaps_expression(reader, home, Site::Stream, find(entries, b"io"))?);
-    drop(own_parts(reader, home, entries)?);
+    let typed = own_type(reader.alloc, entries)?;
+    match own_enum(reader, home, entries)? {
+        Some(number) => drop(read_parts(reader, home, &[], number, entries, typed)?),
+        None => drop(read_parts(reader, home, &[], None, entries, typed)?),
+    }
     Ok(None)
 }
 
