@@ -1,5 +1,5 @@
 -- Parts that are read one after the other.
-use Rattle.std.proofs.Common.{◌≡◌, List, refl, sym, ap, ◌∙◌, subst, Option, Some, None, Result, Ok, Err}
+use Rattle.std.proofs.Common.{◌≡◌, List, refl, sym, ap, ◌∙◌, Option, Some, None, Result, Ok, Err}
 use Rattle.std.specs.Prelude.{option_map}
 use Rattle.ksv_desc.specs.Names.{distinct_behind}
 use Rattle.ksv_desc.proofs.Dots.{distinct_append}

@@ -9,7 +9,6 @@ use Rattle.ksv_schema_read.specs.Reading.{Reading, made, both}
 use Rattle.ksv_schema_read.specs.Values.{of_piece, item, items}
 use Rattle.ksv_schema_read.specs.Code.{joined, paired}
 use Rattle.ksv_schema_read.proofs.Noted.{noted_append, noted_none}
-use Rattle.ksv_schema_read.proofs.Each.{joined_nothing, joined_end}
 
 piece_words : (line : ℕ) (p : Piece) → (of_piece line p).words ≡ []
 piece_words line (Bytes bs) = refl

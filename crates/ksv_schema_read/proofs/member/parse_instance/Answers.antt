@@ -1,4 +1,4 @@
-use Rattle.std.proofs.Common.{◌≡◌, map, option_map}
+use Rattle.std.proofs.Common.{map, option_map}
 use Rattle.std.specs.Prelude.{codes}
 use Rattle.ksv_yaml_tree.specs.Tree.{entry_at}
 use Rattle.ksv_yaml_tree.specs.View.{pair}
