@@ -24,7 +24,7 @@ use Rattle.ksv_schema_read.specs.Rules.{form_faults}
 use Rattle.ksv_schema_read.specs.Description.{whole, id_text, id, entry_id, constant, enum, is_root, type_faults, all_types_faults, all_enums}
 use Rattle.ksv_desc.specs.Names.{distinct_behind}
 use Rattle.ksv_desc.specs.Description.{Description, Numbered, Enum}
-use Rattle.ksv_desc.specs.Resolved.{Each, IsThere, IsMemberOf}
+use Rattle.ksv_desc.specs.Resolved.{IsThere, IsMemberOf}
 use Rattle.ksv_desc.proofs.Tabled.{is_table}
 use Rattle.ksv_schema.proofs.Good.{front, back, IsGood, gives_good, wrong_good, also_good, made_good, both_good, if_good, or_good, must_good, text_good, mapping_good, there_map, there_bind, EachOf, each_at, each_there, each_good, each_from_good}
 use Rattle.ksv_schema.proofs.Keys.{text_fits, meta_faultless}
