@@ -12,7 +12,7 @@ use Rattle.ksv_schema_scope.specs.Members.{is_in_params}
 use Rattle.ksv_schema_scope.specs.Rows.{Declared}
 use Rattle.ksv_schema_scope.specs.Types.{encoding_of}
 use Rattle.ksv_schema_names.specs.declared.position.Site.TheVariants as sites
-use Rattle.ksv_desc.specs.Description.{SizeEos, ByItself, Repeat, Once, Eos, Expr, Until, Field, MemberKind, Parameter}
+use Rattle.ksv_desc.specs.Description.{Extent, SizeEos, ByItself, Repeat, Once, Eos, Expr, Until, Field, MemberKind, Parameter}
 use Rattle.ksv_desc.specs.Resolved.{is_parameter, IfAny, IsThere, IsResolvedTree, IsResolvedExtent, IsResolvedRepeat, IsResolvedField, IsResolvedKind}
 use Rattle.ksv_schema_keys.specs.declared.keys.Form.TheVariants as forms
 use Rattle.ksv_schema_keys.specs.declared.keys.MappingKind.{MappingKind}
@@ -23,11 +23,11 @@ use Rattle.ksv_schema_keys.specs.Values.{encoding_named, is_str, is_strz, own_ty
 use Rattle.ksv_schema_read.specs.Faults.{missing_key, left_out}
 use Rattle.ksv_schema_read.specs.Rules.{form_faults, keys_faults}
 use Rattle.ksv_schema_read.specs.Values.{Home, expression, enumeration, encoding_at}
-use Rattle.ksv_schema_read.specs.Members.{Parts, parts, repeat_of, extent_of, field_of, has_encoding, needs, field, own_enum, own_field, attribute, parse_instance, value_instance, placeless, by_kind}
+use Rattle.ksv_schema_read.specs.Members.{parts, repeat_of, repeated, extent_of, extent, has_encoding, needs, field, own_enum, own_field, attribute, parse_instance, value_instance, placeless, by_kind}
 use Rattle.ksv_schema_read.specs.Description.{Context, in_tree, in_extent, in_repeat, in_field, in_kind}
-use Rattle.ksv_schema.proofs.Good.{front, back, implies, there_map, IsGood, gives_good, also_good, chosen_good, made_good, next_good, both_good, weaker, perhaps_good, must_good}
+use Rattle.ksv_schema.proofs.Good.{front, back, implies, there_map, IsGood, gives_good, also_good, chosen_good, made_good, after_good, both_good, weaker, perhaps_good, must_good}
 use Rattle.ksv_schema.proofs.Keys.{text_fits, HasRepeat, has_repeat}
-use Rattle.ksv_schema.proofs.Values.{Leads, any_leads, in_home, IsTree, IsEnumThere, IsChoice, any_enum, expression_good, enumeration_good, HasText, choice_good}
+use Rattle.ksv_schema.proofs.Values.{Leads, any_leads, in_home, IsTree, IsEnumThere, any_enum, expression_good, enumeration_good, HasText, choice_good}
 
 -- each encoding in force is one of those that there are
 abbrev pub AreEncodings : Declared → Type 0
@@ -61,47 +61,46 @@ module _ (names : List (List ℕ)) (h : Home) where
   abbrev IsRepeat : Repeat → Type 0
   IsRepeat r = Leads c IsResolvedRepeat (in_repeat c r)
 
-  record IsParts (es : List Pair) (p : Parts) : Type 0 where
-    condition : IfAny (IsTree c) p.condition
-    count : is_some (entry_at (codes "repeat-expr") es) ≡ true → IsThere (IsTree c) p.count
-    until : is_some (entry_at (codes "repeat-until") es) ≡ true → IsThere (IsTree c) p.until
-    choice : IsChoice c p.choice
-    size : IfAny (IsTree c) p.size
-
-  parts_good : (beside : List Pair) (enum : Option ℕ) (es : List Pair) → IfAny (IsEnumThere c) enum → HasText names h es → IsGood names (IsParts es) (parts h beside enum es)
-  unfolding parts
-  parts_good beside enum es e i =
-      made_good _
-      (both_good (perhaps_good _ (entry_at (codes "if") es) (λ p e. expression_good names h sites.Condition p))
-      (both_good (perhaps_good _ (entry_at (codes "repeat-expr") es) (λ p e. expression_good names h sites.Count p))
-      (both_good (perhaps_good _ (entry_at (codes "repeat-until") es) (λ p e. expression_good names h sites.Until p))
-      (both_good (choice_good names h beside enum es e i)
-      (perhaps_good _ (entry_at (codes "size") es) (λ p e. expression_good names h sites.Size p))))))
-      (λ p g. record { condition = g.0.0; count = g.1.0.1; until = g.1.1.0.1; choice = g.1.1.1.0; size = g.1.1.1.1.0 })
-
-  repeat_there : (es : List Pair) (p : Parts) → HasRepeat es → IsParts es p → IsThere IsRepeat (repeat_of es p.count p.until)
-  unfolding repeat_of
-  repeat_there es p r g = go (says (codes "repeat") (codes "eos") es) (says (codes "repeat") (codes "expr") es) (says (codes "repeat") (codes "until") es) r.count r.until
+  repeated_good : (es : List Pair) → HasRepeat es → IsGood names IsRepeat (repeated h es)
+  unfolding repeated repeat_of
+  repeated_good es r =
+      chosen_good _
+      (both_good (perhaps_good _ (entry_at (codes "repeat-expr") es) (λ p e. expression_good names h sites.Count p)) (perhaps_good _ (entry_at (codes "repeat-until") es) (λ p e. expression_good names h sites.Until p)))
+      (λ p g. go p.0 p.1 (says (codes "repeat") (codes "eos") es) (says (codes "repeat") (codes "expr") es) (says (codes "repeat") (codes "until") es) (λ x. g.0.1 (r.count x)) (λ x. g.1.1 (r.until x)))
     where
-      go : (eos expr until : Bool) → (expr ≡ true → is_some (entry_at (codes "repeat-expr") es) ≡ true) → (until ≡ true → is_some (entry_at (codes "repeat-until") es) ≡ true)
-          → IsThere IsRepeat (cond eos (Some Eos) (cond expr (option_map Expr p.count) (cond until (option_map Until p.until) (Some Once))))
-      go true expr until x y = λ y s fits. tt
-      go false true until x y = there_map (IsTree c) IsRepeat Expr p.count (λ e g. g) (g.count (x refl))
-      go false false true x y = there_map (IsTree c) IsRepeat Until p.until (λ e g. g) (g.until (y refl))
-      go false false false x y = λ y s fits. tt
+      go : (count until : Option expressions.Tree) (eos by_count by_end : Bool) → (by_count ≡ true → IsThere (IsTree c) count) → (by_end ≡ true → IsThere (IsTree c) until)
+          → IsThere IsRepeat (cond eos (Some Eos) (cond by_count (option_map Expr count) (cond by_end (option_map Until until) (Some Once))))
+      go count until true by_count by_end x y = λ y s fits. tt
+      go count until false true by_end x y = there_map (IsTree c) IsRepeat Expr count (λ e g. g) (x refl)
+      go count until false false true x y = there_map (IsTree c) IsRepeat Until until (λ e g. g) (y refl)
+      go count until false false false x y = λ y s fits. tt
 
-  extent_leads : (es : List Pair) (o : Option expressions.Tree) → IfAny (IsTree c) o → Leads c IsResolvedExtent (in_extent c (extent_of es o))
-  extent_leads es (Some e) g = g
-  extent_leads es None g = go (is_to_end es)
+  abbrev IsExtent : Extent → Type 0
+  IsExtent e = Leads c IsResolvedExtent (in_extent c e)
+
+  extent_good : (es : List Pair) → IsGood names IsExtent (extent h es)
+  extent_good es = made_good (extent_of es) (perhaps_good _ (entry_at (codes "size") es) (λ p e. expression_good names h sites.Size p)) (λ o g. leads o g.0)
     where
-      go : (b : Bool) → Leads c IsResolvedExtent (in_extent c (cond b SizeEos ByItself))
-      go true y s fits = tt
-      go false y s fits = tt
+      at_end : (b : Bool) → IsExtent (cond b SizeEos ByItself)
+      at_end true y s fits = tt
+      at_end false y s fits = tt
 
-  -- ---- fields
+      leads : (o : Option expressions.Tree) → IfAny (IsTree c) o → IsExtent (extent_of es o)
+      leads (Some e) g = g
+      leads None g = at_end (is_to_end es)
 
   abbrev IsField : Field → Type 0
   IsField f = Leads c IsResolvedField (in_field c f)
+
+  parts_good : (enum : Option ℕ) (es : List Pair) → IfAny (IsEnumThere c) enum → HasText names h es → HasRepeat es → IsGood names IsField (parts h es enum es)
+  unfolding parts
+  parts_good enum es e i r =
+      made_good _
+      (both_good (both_good (both_good (perhaps_good _ (entry_at (codes "if") es) (λ p e. expression_good names h sites.Condition p)) (repeated_good es r)) (choice_good names h es enum es e i))
+      (extent_good es))
+      (λ p g y s fits. record { condition = any_leads c IsResolvedTree (in_tree c) p.0.0.0 g.0.0.0.0 y s fits; repeat = g.0.0.1 y s fits; choice = g.0.1 y s fits; extent = g.1 y s fits })
+
+  -- ---- fields
 
   -- a mapping of what is read
   record HasFieldKeys (kind : MappingKind) : Type 0 where
@@ -109,13 +108,9 @@ module _ (names : List (List ℕ)) (h : Home) where
     read : is_in groups.Read kind ≡ true
 
   field_good : (kind : MappingKind) (line : ℕ) (enum : Option ℕ) (es : List Pair) → HasFieldKeys kind → AreEncodings h.declared → keys_faults kind es ≡ [] → IfAny (IsEnumThere c) enum → IsGood names IsField (field h kind line enum (own_type es) es)
-  unfolding field field_of
+  unfolding field
   field_good kind line enum es f a k e = also_good _ _ (λ n.
-      let r = has_repeat kind line (own_type es) es f.read (front _ _ (front _ _ n)) in
-      chosen_good _ (parts_good es enum es e (is_encoded kind line es a f.encoding k (back _ _ (front _ _ n))))
-      (λ p g. there_map IsRepeat IsField _ (repeat_of es p.count p.until)
-      (λ repeat x y s fits. record { condition = any_leads c IsResolvedTree (in_tree c) p.condition g.condition y s fits; repeat = x y s fits; choice = g.choice y s fits; extent = extent_leads es p.size g.size y s fits })
-      (repeat_there es p r g)))
+      parts_good enum es e (is_encoded kind line es a f.encoding k (back _ _ (front _ _ n))) (has_repeat kind line (own_type es) es f.read (front _ _ (front _ _ n))))
 
   -- ---- kinds of members
 
@@ -126,29 +121,30 @@ module _ (names : List (List ℕ)) (h : Home) where
   enum_there None g = absurd g
   enum_there (Some e) g = g
 
-  own_field_good : (kind : MappingKind) (line : ℕ) (es : List Pair) → HasFieldKeys kind → AreEncodings h.declared → keys_faults kind es ≡ [] → IsGood names (λ p. IfAny (IsEnumThere c) p.0 × IsField p.1) (own_field h kind line es)
-  own_field_good kind line es f a k = next_good (own_enum_good es) (λ e. field_good kind line _ es f a k (enum_there (own_enum h es).value e))
+  own_field_good : (kind : MappingKind) (line : ℕ) (es : List Pair) → HasFieldKeys kind → AreEncodings h.declared → keys_faults kind es ≡ [] → IsGood names IsField (own_field h kind line es)
+  own_field_good kind line es f a k = after_good (own_enum_good es) (λ e. field_good kind line _ es f a k (enum_there (own_enum h es).value e))
 
   attribute_good : (line : ℕ) (es : List Pair) → AreEncodings h.declared → keys_faults kinds.Attribute es ≡ [] → IsGood names (IsKind c false) (attribute h line es)
   unfolding attribute form_in form_among
-  attribute_good line es a k = made_good _ (own_field_good kinds.Attribute line es (record { encoding = refl; read = refl }) a k) (λ p g. record { leads = g.1; given = λ name. refl })
+  attribute_good line es a k = made_good _ (own_field_good kinds.Attribute line es (record { encoding = refl; read = refl }) a k) (λ p g. record { leads = g; given = λ name. refl })
 
   parse_instance_good : (line : ℕ) (es : List Pair) → AreEncodings h.declared → keys_faults kinds.ParseInstance es ≡ [] → IsGood names (IsKind c false) (parse_instance h line es)
   unfolding parse_instance form_in form_among
   parse_instance_good line es a k =
       made_good _
-      (both_good (must_good line (expression h sites.Place) (entry_at (codes "pos") es) (λ p. expression_good names h sites.Place p))
-      (both_good (perhaps_good (expression h sites.Stream) (entry_at (codes "io") es) (λ p e. expression_good names h sites.Stream p))
-      (own_field_good kinds.ParseInstance line es (record { encoding = refl; read = refl }) a k)))
-      (λ p g. record { leads = λ y s fits. (g.0 y s fits, any_leads c IsResolvedTree (in_tree c) p.1.0 g.1.0.0 y s fits, g.1.1.1 y s fits); given = λ name. refl })
+      (both_good
+      (both_good (must_good line (expression h sites.Place) (entry_at (codes "pos") es) (λ p. expression_good names h sites.Place p)) (perhaps_good (expression h sites.Stream) (entry_at (codes "io") es) (λ p e. expression_good names h sites.Stream p)))
+      (own_field_good kinds.ParseInstance line es (record { encoding = refl; read = refl }) a k))
+      (λ p g. record { leads = λ y s fits. (g.0.0 y s fits, any_leads c IsResolvedTree (in_tree c) p.0.1 g.0.1.0 y s fits, g.1 y s fits); given = λ name. refl })
 
   value_instance_good : (line : ℕ) (es : List Pair) → IsGood names (IsKind c false) (value_instance h line es)
   unfolding value_instance
   value_instance_good line es = also_good _ _ (λ k.
       made_good _
-      (both_good (perhaps_good (expression h sites.Condition) (entry_at (codes "if") es) (λ p e. expression_good names h sites.Condition p))
-      (both_good (must_good line (expression h sites.Value) (entry_at (codes "value") es) (λ p. expression_good names h sites.Value p)) (own_enum_good es)))
-      (λ p g. record { leads = λ y s fits. (any_leads c IsResolvedTree (in_tree c) p.0 g.0.0 y s fits, g.1.0 y s fits, any_enum c p.1.1 g.1.1 y s fits); given = λ name. refl }))
+      (both_good
+      (both_good (perhaps_good (expression h sites.Condition) (entry_at (codes "if") es) (λ p e. expression_good names h sites.Condition p)) (must_good line (expression h sites.Value) (entry_at (codes "value") es) (λ p. expression_good names h sites.Value p)))
+      (own_enum_good es))
+      (λ p g. record { leads = λ y s fits. (any_leads c IsResolvedTree (in_tree c) p.0.0 g.0.0.0 y s fits, g.0.1 y s fits, any_enum c p.1 g.1 y s fits); given = λ name. refl }))
 
   placeless_good : (name_line : ℕ) (es : List Pair) → IsGood names (IsKind c false) (placeless h name_line es)
   unfolding placeless

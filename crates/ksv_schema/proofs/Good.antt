@@ -11,7 +11,7 @@ use Rattle.ksv_expr_syntax.specs.Reading.{◌>>=◌}
 use Rattle.ksv_desc.specs.Names.{number_in, has_names}
 use Rattle.ksv_desc.specs.Resolved.{Each, IfAny, IsThere}
 use Rattle.ksv_schema_read.specs.Faults.{Fault, fault, fault_if, missing_key, bad_value}
-use Rattle.ksv_schema_read.specs.Reading.{Reading, gives, wrong, found, also, chosen, made, both, each, each_from, perhaps, must}
+use Rattle.ksv_schema_read.specs.Reading.{Reading, gives, wrong, found, also, chosen, made, both, after, each, each_from, perhaps, must}
 
 -- ---- no faults
 
@@ -89,16 +89,20 @@ pub made_good : {A B : Type 0} {names : List (List ℕ)} {G : A → Type 0} {H :
 made_good {G = G} {H = H} {r = r} f g step = record { is = λ k w. there_map G H f r.value step (g.is k w) }
 
 -- one and then another, which may depend on the first one's value
-pub next_good : {A B : Type 0} {names : List (List ℕ)} {G : A → Type 0} {H : B → Type 0} {r : Reading A} {s : Reading B} → IsGood names G r → (IsThere G r.value → IsGood names H s) → IsGood names (λ (p : A × B). G p.0 × H p.1) (both r s)
-next_good {names = names} {G = G} {H = H} {r = r} {s = s} g h = record {
+pub after_good : {A B : Type 0} {names : List (List ℕ)} {G : A → Type 0} {H : B → Type 0} {r : Reading A} {s : Reading B} → IsGood names G r → (IsThere G r.value → IsGood names H s) → IsGood names H (after r s)
+after_good {names = names} {G = G} {H = H} {r = r} {s = s} g h = record {
   is = λ k w.
       let ws = has_both names r.words s.words w in
       let x = g.is (front r.faults s.faults k) ws.0 in
-      there_both G H r.value s.value x ((h x).is (back r.faults s.faults k) ws.1);
+      there_bind G H (λ y. s.value) r.value (λ y z. (h x).is (back r.faults s.faults k) ws.1) x;
 }
 
 pub both_good : {A B : Type 0} {names : List (List ℕ)} {G : A → Type 0} {H : B → Type 0} {r : Reading A} {s : Reading B} → IsGood names G r → IsGood names H s → IsGood names (λ (p : A × B). G p.0 × H p.1) (both r s)
-both_good g h = next_good g (λ x. h)
+both_good {names = names} {G = G} {H = H} {r = r} {s = s} g h = record {
+  is = λ k w.
+      let ws = has_both names r.words s.words w in
+      there_both G H r.value s.value (g.is (front r.faults s.faults k) ws.0) (h.is (back r.faults s.faults k) ws.1);
+}
 
 pub weaker : {A : Type 0} {names : List (List ℕ)} {G H : A → Type 0} {r : Reading A} → IsGood names G r → ((x : A) → G x → H x) → IsGood names H r
 weaker {G = G} {H = H} {r = r} g step = record { is = λ k w. weaken r.value (g.is k w) }
@@ -145,14 +149,17 @@ EachOf G n [] [] = Unit {0}
 EachOf G n (x ∷ xs) (y ∷ ys) = G n x y × EachOf G (n + 1) xs ys
 EachOf G n _ _ = ⊥
 
-pub each_good : {A B : Type 0} {names : List (List ℕ)} {G : A → B → Type 0} (f : A → Reading B) (n : ℕ) (xs : List A) → ((x : A) → IsGood names (G x) (f x)) → IsGood names (EachOf (λ i. G) n xs) (each f xs)
-each_good f n [] g = gives_good [] tt
-each_good f n (x ∷ xs) g = made_good (λ p. p.0 ∷ p.1) (both_good (g x) (each_good f (n + 1) xs g)) (λ p h. h)
-
--- each of a list, of which something is known
+-- each of a list, of which something is known, or nothing
 pub each_from_good : {A B : Type 0} {names : List (List ℕ)} {G : ℕ → A → B → Type 0} (P : A → Type 0) (f : ℕ → A → Reading B) (n : ℕ) (xs : List A) → Each P xs → ((n : ℕ) (x : A) → P x → IsGood names (G n x) (f n x)) → IsGood names (EachOf G n xs) (each_from f n xs)
 each_from_good P f n [] ps g = gives_good [] tt
 each_from_good P f n (x ∷ xs) ps g = made_good (λ p. p.0 ∷ p.1) (both_good (g n x ps.0) (each_from_good P f (n + 1) xs ps.1 g)) (λ p h. h)
+
+pub each_there : {A : Type 0} (xs : List A) → Each (λ x. Unit {0}) xs
+each_there [] = tt
+each_there (x ∷ xs) = (tt, each_there xs)
+
+pub each_good : {A B : Type 0} {names : List (List ℕ)} {G : A → B → Type 0} (f : A → Reading B) (xs : List A) → ((x : A) → IsGood names (G x) (f x)) → IsGood names (EachOf (λ i. G) 0 xs) (each f xs)
+each_good f xs g = each_from_good (λ x. Unit {0}) (λ i. f) 0 xs (each_there xs) (λ n x u. g x)
 
 -- what holds for each one of the second list, and tests that the first one passes
 pub each_second : {A B : Type 0} (G : ℕ → A → B → Type 0) (P : B → Type 0) (n : ℕ) (xs : List A) (ys : List B) → ((i : ℕ) (x : A) (y : B) → G i x y → P y) → EachOf G n xs ys → Each P ys

@@ -221,7 +221,7 @@ module _ (names : List (List ℕ)) (h : Home) where
       (λ p g y s fits. (g.0 y s fits, g.1 y s fits)))
     where
       has_cases : (ps : List Pair) → IsGood names (λ cs. Leads c (λ y. Each (IsResolvedCase y)) (map (in_case c) cs)) (each (case h beside enum es) ps)
-      has_cases ps = weaker (each_good (case h beside enum es) 0 ps (λ p. case_good beside enum es p e)) (λ cs g. each_leads c IsResolvedCase (in_case c) 0 ps cs g)
+      has_cases ps = weaker (each_good (case h beside enum es) ps (λ p. case_good beside enum es p e)) (λ cs g. each_leads c IsResolvedCase (in_case c) 0 ps cs g)
 
   -- what an attribute reads: if its type is a text, it has an encoding
   typed_good : (beside : List Pair) (enum : Option ℕ) (es : List Pair) (p : Pair) → IfAny (IsEnumThere c) enum → ((text : List ℕ) → text_of p.value ≡ Some text → is_text (type_text text) ≡ true → IsEncoded es) → IsGood names (IsChoice c) (typed h beside enum es p)

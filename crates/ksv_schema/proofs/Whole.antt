@@ -24,9 +24,9 @@ use Rattle.ksv_schema_read.specs.Rules.{form_faults}
 use Rattle.ksv_schema_read.specs.Description.{whole, id_text, id, entry_id, constant, enum, is_root, type_faults, all_types_faults, all_enums}
 use Rattle.ksv_desc.specs.Names.{distinct_behind}
 use Rattle.ksv_desc.specs.Description.{Description, Numbered, Enum}
-use Rattle.ksv_desc.specs.Resolved.{Each, IsThere, IsMemberOf}
+use Rattle.ksv_desc.specs.Resolved.{IsThere, IsMemberOf}
 use Rattle.ksv_desc.proofs.Tabled.{is_table}
-use Rattle.ksv_schema.proofs.Good.{front, back, IsGood, gives_good, wrong_good, also_good, made_good, both_good, if_good, or_good, must_good, text_good, mapping_good, there_map, there_bind, EachOf, each_at, each_good, each_from_good}
+use Rattle.ksv_schema.proofs.Good.{front, back, IsGood, gives_good, wrong_good, also_good, made_good, both_good, if_good, or_good, must_good, text_good, mapping_good, there_map, there_bind, EachOf, each_at, each_there, each_good, each_from_good}
 use Rattle.ksv_schema.proofs.Keys.{text_fits, meta_faultless}
 use Rattle.ksv_schema.proofs.Fields.{AreEncodings}
 
@@ -118,12 +118,8 @@ module _ (names : List (List ℕ)) where
   enum_good : (r : Row) → IsGood names (HasNumbers r) (enum r)
   enum_good r =
       made_good _
-      (both_good (id_good r.line r.id) (also_good _ _ (λ k. each_from_good (λ p. Unit {0}) (λ i. constant (take i (keys_of r))) 0 (keys_of r) (all_there (keys_of r)) (λ i p u. constant_good (take i (keys_of r)) p))))
+      (both_good (id_good r.line r.id) (also_good _ _ (λ k. each_from_good (λ p. Unit {0}) (λ i. constant (take i (keys_of r))) 0 (keys_of r) (each_there (keys_of r)) (λ i p u. constant_good (take i (keys_of r)) p))))
       (λ p g. g.1)
-    where
-      all_there : (ps : List Pair) → Each (λ p. Unit {0}) ps
-      all_there [] = tt
-      all_there (p ∷ ps) = (tt, all_there ps)
 
 -- whatever the names are
 pub enums_there : (d : Declared) → (all_enums d).faults ≡ [] → IsThere (EachOf (λ i. HasNumbers) 0 d.enums) (all_enums d).value
@@ -131,4 +127,4 @@ unfolding all_enums
 enums_there d k =
     let words = (all_enums d).words in
     let names = distinct_behind [] words in
-    (each_good enum 0 d.enums (enum_good names)).is k (is_table [] words).has_added
+    (each_good enum d.enums (enum_good names)).is k (is_table [] words).has_added

@@ -6,7 +6,7 @@ use Rattle.ksv_desc.specs.Names.{distinct_behind}
 use Rattle.ksv_desc.proofs.Dots.{distinct_append}
 use Rattle.ksv_schema_read.specs.declared.reader.Reader.{Reader}
 use Rattle.ksv_schema_read.specs.Faults.{Fault, noted}
-use Rattle.ksv_schema_read.specs.Reading.{Reading, made, both, each, each_from}
+use Rattle.ksv_schema_read.specs.Reading.{Reading, made, both, each_from}
 use Rattle.ksv_schema_read.specs.Code.{seen_fault, IsRead, paired, items_of, pushed, joined}
 use Rattle.ksv_schema_read.proofs.Noted.{noted_append, noted_none}
 
@@ -31,9 +31,6 @@ joined_more (Some xs) None rest = refl
 joined_more (Some xs) (Some x) None = refl
 joined_more (Some xs) (Some x) (Some ys) = ap Some (append_assoc xs (x ∷ []) ys)
 
-pub so_far_init : {A : Type 0} (all : Reading (List A)) (r : Reader) → IsSoFar all all (Some []) r r
-so_far_init all r = record { value = joined_nothing all.value; faults = refl; words = refl }
-
 pub so_far_end : {A : Type 0} (all : Reading (List A)) (so_far : Option (List A)) (old now : Reader) → IsSoFar all (record { faults = []; words = []; value = Some [] }) so_far old now → IsRead all so_far old now
 so_far_end all so_far old now h = record {
   value = sym (joined_end so_far) ∙ h.value;
@@ -50,22 +47,6 @@ so_far_step {A} all rest r so_far more x old now new h read is = record {
 }
 
 -- ---- each of a slice
-
-module _ {X A B : Type 0} (see : X → A) (f : A → Reading B) (xs : List X) (all : Reading (List B)) where
-  pub each_step : (i : ℕ) (x : X) (so_far more : Option (List B)) (next : Option B) (old now new : Reader) → i < length xs → x ≡ get_or xs i x
-      → IsRead (f (see x)) next now new → more ≡ pushed so_far next
-      → IsSoFar all (each f (map see (drop i xs))) so_far old now → IsSoFar all (each f (map see (drop (i + 1) xs))) more old new
-  each_step i x so_far more next old now new lt is read pushes h =
-      let e : each f (map see (drop i xs)) ≡ made (λ p. p.0 ∷ p.1) (both (f (see x)) (each f (map see (drop (i + 1) xs)))) =
-      ap (λ (ys : List X). each f (map see ys)) (drop-cons xs i x lt)
-      ∙ ap (λ (y : X). made (λ p. p.0 ∷ p.1) (both (f (see y)) (each f (map see (drop (suc i) xs))))) (sym is)
-      ∙ ap (λ (j : ℕ). made (λ p. p.0 ∷ p.1) (both (f (see x)) (each f (map see (drop j xs))))) (sym (add-one i)) in
-      so_far_step all (each f (map see (drop (i + 1) xs))) (f (see x)) so_far more next old now new (rw e at h) read pushes
-
-  pub each_end : (i : ℕ) (so_far : Option (List B)) (old now : Reader) → length xs ≤ i → IsSoFar all (each f (map see (drop i xs))) so_far old now → IsRead all so_far old now
-  each_end i so_far old now le h =
-      let e : each f (map see (drop i xs)) ≡ record { faults = []; words = []; value = Some [] } = ap (λ (ys : List X). each f (map see ys)) (drop_all i xs le) in
-      so_far_end all so_far old now (rw e at h)
 
 module _ {X A B : Type 0} (see : X → A) (f : ℕ → A → Reading B) (xs : List X) (all : Reading (List B)) where
   pub each_from_step : (i : ℕ) (x : X) (so_far more : Option (List B)) (next : Option B) (old now new : Reader) → i < length xs → x ≡ get_or xs i x

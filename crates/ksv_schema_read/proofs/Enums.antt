@@ -69,8 +69,7 @@ enum_words r =
     ∙ from_words (λ i. constant (take i (keys_of r))) (λ i. constant_words (take i (keys_of r))) 0 (keys_of r)
 
 pub each_enum_words : (rs : List Row) → (each enum rs).words ≡ []
-each_enum_words [] = refl
-each_enum_words (r ∷ rs) = ap (λ (ws : List (List ℕ)). ws ++ (each enum rs).words) (enum_words r) ∙ each_enum_words rs
+each_enum_words rs = from_words (λ i. enum) (λ i. enum_words) 0 rs
 
 pub all_enums_words : (d : Declared) → (all_enums d).words ≡ []
 unfolding all_enums

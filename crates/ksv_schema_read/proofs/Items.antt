@@ -9,7 +9,6 @@ use Rattle.ksv_schema_read.specs.Reading.{Reading, made, both}
 use Rattle.ksv_schema_read.specs.Values.{of_piece, item, items}
 use Rattle.ksv_schema_read.specs.Code.{joined, paired}
 use Rattle.ksv_schema_read.proofs.Noted.{noted_append, noted_none}
-use Rattle.ksv_schema_read.proofs.Each.{joined_nothing, joined_end}
 
 piece_words : (line : ℕ) (p : Piece) → (of_piece line p).words ≡ []
 piece_words line (Bytes bs) = refl
@@ -39,9 +38,6 @@ joined_joined (Some xs) None rest = refl
 joined_joined (Some xs) (Some ys) None = refl
 joined_joined (Some xs) (Some ys) (Some zs) = ap Some (append_assoc xs ys zs)
 
-pub bytes_init : (all : Reading (List ℕ)) (o : Option Fault) → AreSoFar all all (Some []) o o
-bytes_init all o = record { value = joined_nothing all.value; faults = refl }
-
 bytes_step : (all rest r : Reading (List ℕ)) (so_far more : Option (List ℕ)) (old now new : Option Fault) → more ≡ joined so_far r.value → new ≡ noted now r.faults
     → AreSoFar all (made (λ p. p.0 ++ p.1) (both r rest)) so_far old now → AreSoFar all rest more old new
 bytes_step all rest r so_far more old now new is notes h = record {
@@ -62,9 +58,6 @@ module _ {X : Type 0} (see : X → Tree) (xs : List X) (all : Reading (List ℕ)
   pub items_end : (i : ℕ) (so_far : Option (List ℕ)) (old now : Option Fault) → length xs ≤ i → AreSoFar all (items (map see (drop i xs))) so_far old now → AreSoFar all (items []) so_far old now
   items_end i so_far old now le h =
       let e : items (map see (drop i xs)) ≡ items [] = ap (λ (ys : List X). items (map see ys)) (drop_all i xs le) in rw e at h
-
-pub bytes_value : (all : Reading (List ℕ)) (so_far : Option (List ℕ)) (old now : Option Fault) → AreSoFar all (items []) so_far old now → so_far ≡ all.value
-bytes_value all so_far old now h = sym (joined_end so_far) ∙ h.value
 
 pub bytes_faults : (all : Reading (List ℕ)) (so_far : Option (List ℕ)) (old now : Option Fault) → AreSoFar all (items []) so_far old now → now ≡ noted old all.faults
 bytes_faults all so_far old now h = sym (noted_none now) ∙ h.faults

@@ -10,20 +10,12 @@ use Rattle.ksv_desc.specs.Names.{distinct_behind}
 use Rattle.ksv_schema_read.specs.Description.{are_texts}
 use Rattle.ksv_desc.specs.Description.{as_text}
 
-pub text_is : (name text : List ℕ) → Some text ≡ as_text name → text ≡ name
+text_is : (name text : List ℕ) → Some text ≡ as_text name → (text ≡ name) × (is_utf8 name ≡ true)
 unfolding as_text
 text_is name text h = go (is_utf8 name) h
   where
-    go : (b : Bool) → Some text ≡ cond b (Some name) None → text ≡ name
-    go true h = cc
-    go false h = absurd cc
-
-pub is_text : (name text : List ℕ) → Some text ≡ as_text name → is_utf8 name ≡ true
-unfolding as_text
-is_text name text h = go (is_utf8 name) h
-  where
-    go : (b : Bool) → Some text ≡ cond b (Some name) None → b ≡ true
-    go true h = refl
+    go : (b : Bool) → Some text ≡ cond b (Some name) None → (text ≡ name) × (b ≡ true)
+    go true h = (cc, refl)
     go false h = absurd cc
 
 pub is_no_text : (name : List ℕ) → None ≡ as_text name → is_utf8 name ≡ false
@@ -44,12 +36,12 @@ module _ (ms : List MemberRow) (i : ℕ) (m : MemberRow) (lt : i < length ms) (i
 
   pub added_step : (o p q : List (List ℕ)) (text : List ℕ) → Some text ≡ as_text (row m).name → p ≡ distinct_behind o (text ∷ []) → distinct_behind o (names_in (drop i ms)) ≡ q → distinct_behind p (names_in (drop (i + 1) ms)) ≡ q
   added_step o p q text h new now =
-      ap (λ (p : List (List ℕ)). distinct_behind p (names_in (drop (i + 1) ms))) (new ∙ ap (λ (n : List ℕ). distinct_behind o (n ∷ [])) (text_is (row m).name text h))
+      ap (λ (p : List (List ℕ)). distinct_behind p (names_in (drop (i + 1) ms))) (new ∙ ap (λ (n : List ℕ). distinct_behind o (n ∷ [])) (text_is (row m).name text h).0)
       ∙ sym (ap (λ (xs : List MemberRow). distinct_behind o (names_in xs)) front) ∙ now
 
   pub texts_step : (b : Bool) (text : List ℕ) → Some text ≡ as_text (row m).name → b ≡ are_texts (map row (drop i ms)) → b ≡ are_texts (map row (drop (i + 1) ms))
   unfolding are_texts
-  texts_step b text h now = now ∙ ap (λ (xs : List MemberRow). are_texts (map row xs)) front ∙ ap (λ (c : Bool). c && are_texts (map row (drop (i + 1) ms))) (is_text (row m).name text h)
+  texts_step b text h now = now ∙ ap (λ (xs : List MemberRow). are_texts (map row xs)) front ∙ ap (λ (c : Bool). c && are_texts (map row (drop (i + 1) ms))) (text_is (row m).name text h).1
 
   pub texts_stop : (b : Bool) → None ≡ as_text (row m).name → b ≡ are_texts (map row (drop i ms)) → false ≡ b
   unfolding are_texts

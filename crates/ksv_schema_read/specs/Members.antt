@@ -17,29 +17,11 @@ use Rattle.ksv_schema_keys.specs.declared.keys.MappingKind.TheVariants as kinds
 use Rattle.ksv_schema_keys.specs.Keys.{kind_of, is_id}
 use Rattle.ksv_schema_keys.specs.Values.{TypeText, is_str, is_strz, own_type, is_a, byte_at, is_true, is_not_false, is_to_end}
 use Rattle.ksv_schema_read.specs.Faults.{Fault, fault, fault_if, missing_key, keys_against, bad_value, left_out}
-use Rattle.ksv_schema_read.specs.Reading.{Reading, gives, wrong, also, chosen, made, both, perhaps, must}
+use Rattle.ksv_schema_read.specs.Reading.{Reading, gives, wrong, also, valueless, chosen, made, both, after, perhaps, must}
 use Rattle.ksv_schema_read.specs.Rules.{keys_faults, missing, at_if, together}
 use Rattle.ksv_schema_read.specs.Values.{Home, home_of, expression, enumeration, is_declared, choice}
 
 -- ---- attributes and parse instances
-
--- what the keys of an attribute or a parse instance state, each by itself
-pub record Parts : Type 0 where
-  pub condition : Option expressions.Tree
-  pub count : Option expressions.Tree
-  pub until : Option expressions.Tree
-  pub choice : Choice
-  pub size : Option expressions.Tree
-
--- with this enum; its cases must fit to the keys beside it
-unfoldable pub parts : Home → List Pair → Option ℕ → List Pair → Reading Parts
-parts h beside enum es =
-    made (λ p. record { condition = p.0; count = p.1.0; until = p.1.1.0; choice = p.1.1.1.0; size = p.1.1.1.1 })
-    (both (perhaps (expression h sites.Condition) (entry_at (codes "if") es))
-    (both (perhaps (expression h sites.Count) (entry_at (codes "repeat-expr") es))
-    (both (perhaps (expression h sites.Until) (entry_at (codes "repeat-until") es))
-    (both (choice h beside enum es)
-    (perhaps (expression h sites.Size) (entry_at (codes "size") es))))))
 
 -- how often it is read, with these expressions
 unfoldable pub repeat_of : List Pair → Option expressions.Tree → Option expressions.Tree → Option Repeat
@@ -49,9 +31,22 @@ repeat_of es count until =
     else if says (codes "repeat") (codes "until") es then option_map Until until
     else Some Once
 
+unfoldable pub repeated : Home → List Pair → Reading Repeat
+repeated h es =
+    chosen (λ p. repeat_of es p.0 p.1)
+    (both (perhaps (expression h sites.Count) (entry_at (codes "repeat-expr") es)) (perhaps (expression h sites.Until) (entry_at (codes "repeat-until") es)))
+
+-- whether and how often it is read
+abbrev pub timed : Home → List Pair → Reading (Option expressions.Tree × Repeat)
+timed h es = both (perhaps (expression h sites.Condition) (entry_at (codes "if") es)) (repeated h es)
+
+-- where it ends
 abbrev pub extent_of : List Pair → Option expressions.Tree → Extent
 extent_of es (Some size) = Sized size
 extent_of es None = if is_to_end es then SizeEos else ByItself
+
+abbrev pub extent : Home → List Pair → Reading Extent
+extent h es = made (extent_of es) (perhaps (expression h sites.Size) (entry_at (codes "size") es))
 
 abbrev pub terminated_by : List Pair → ℕ → Terminator
 terminated_by es byte = record {
@@ -65,8 +60,11 @@ terminated_by es byte = record {
 unfoldable pub terminator_of : Option TypeText → List Pair → Option Terminator
 terminator_of typed es = option_map (terminated_by es) (if is_a is_strz typed then Some 0 else byte_at (codes "terminator") es)
 
-unfoldable pub field_of : Option TypeText → List Pair → Parts → Option Field
-field_of typed es p = option_map (λ repeat. record { condition = p.condition; repeat = repeat; choice = p.choice; extent = extent_of es p.size; terminator = terminator_of typed es }) (repeat_of es p.count p.until)
+-- what these keys state, with this enum; its cases must fit to the keys beside it
+unfoldable pub parts : Home → List Pair → Option ℕ → List Pair → Reading Field
+parts h beside enum es =
+    made (λ p. record { condition = p.0.0.0; repeat = p.0.0.1; choice = p.0.1; extent = p.1; terminator = terminator_of (own_type es) es })
+    (both (both (timed h es) (choice h beside enum es)) (extent h es))
 
 -- ---- what an attribute or a parse instance needs
 
@@ -93,8 +91,7 @@ unsupported h typed es =
 
 unfoldable pub field : Home → MappingKind → ℕ → Option ℕ → Option TypeText → List Pair → Reading Field
 field h kind line enum typed es =
-    also (together kind line typed es ++ needs h line typed es ++ unsupported h typed es)
-    (chosen (field_of typed es) (parts h es enum es))
+    also (together kind line typed es ++ needs h line typed es ++ unsupported h typed es) (parts h es enum es)
 
 -- ---- members, by their kinds
 
@@ -106,32 +103,29 @@ own_enum h es = perhaps (enumeration h) (entry_at (codes "enum") es)
 abbrev pub enum_in : Reading (Option ℕ) → Option ℕ
 enum_in r = option_map_or (λ e. e) r.value None
 
-abbrev pub own_field : Home → MappingKind → ℕ → List Pair → Reading (Option ℕ × Field)
-own_field h kind line es = both (own_enum h es) (field h kind line (enum_in (own_enum h es)) (own_type es) es)
+abbrev pub own_field : Home → MappingKind → ℕ → List Pair → Reading Field
+own_field h kind line es = after (own_enum h es) (field h kind line (enum_in (own_enum h es)) (own_type es) es)
 
 unfoldable pub attribute : Home → ℕ → List Pair → Reading MemberKind
-attribute h line es = made (λ p. desc.Attribute p.1) (own_field h kinds.Attribute line es)
+attribute h line es = made desc.Attribute (own_field h kinds.Attribute line es)
 
 unfoldable pub parse_instance : Home → ℕ → List Pair → Reading MemberKind
 parse_instance h line es =
-    made (λ p. desc.ParseInstance p.0 p.1.0 p.1.1.1)
-    (both (must line (expression h sites.Place) (entry_at (codes "pos") es))
-    (both (perhaps (expression h sites.Stream) (entry_at (codes "io") es)) (own_field h kinds.ParseInstance line es)))
+    made (λ p. desc.ParseInstance p.0.0 p.0.1 p.1)
+    (both (both (must line (expression h sites.Place) (entry_at (codes "pos") es)) (perhaps (expression h sites.Stream) (entry_at (codes "io") es)))
+    (own_field h kinds.ParseInstance line es))
 
 unfoldable pub value_instance : Home → ℕ → List Pair → Reading MemberKind
 value_instance h line es =
     also (together kinds.Value line None es)
-    (made (λ p. desc.ValueInstance p.0 p.1.0 p.1.1)
-    (both (perhaps (expression h sites.Condition) (entry_at (codes "if") es))
-    (both (must line (expression h sites.Value) (entry_at (codes "value") es)) (own_enum h es))))
+    (made (λ p. desc.ValueInstance p.0.0 p.0.1 p.1)
+    (both (both (perhaps (expression h sites.Condition) (entry_at (codes "if") es)) (must line (expression h sites.Value) (entry_at (codes "value") es))) (own_enum h es)))
 
 -- an instance without a place and a value is unsupported, whatever its keys are together
 unfoldable pub placeless : Home → ℕ → List Pair → Reading MemberKind
 placeless h name_line es =
     also (fault name_line left_out)
-    (chosen (λ p. None)
-    (both (perhaps (expression h sites.Stream) (entry_at (codes "io") es))
-    (both (own_enum h es) (parts h [] (enum_in (own_enum h es)) es))))
+    (valueless (both (both (perhaps (expression h sites.Stream) (entry_at (codes "io") es)) (own_enum h es)) (parts h [] (enum_in (own_enum h es)) es)))
 
 -- a member whose name is on this line, with this first line and these keys
 unfoldable pub by_kind : Home → MappingKind → ℕ → ℕ → List Pair → Reading MemberKind

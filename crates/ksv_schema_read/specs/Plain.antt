@@ -1,5 +1,5 @@
--- The plain data of what the code reads of members and enums, and what it has given so far.
-use Rattle.std.specs.Prelude.{◌≡◌, ◌||◌, cond, true, ℕ, ℤ, Bool, List, option_map}
+-- The plain data of what the code reads of enums, and what it has given so far.
+use Rattle.std.specs.Prelude.{◌≡◌, ◌||◌, cond, true, ℕ, ℤ, Bool, List}
 use Rattle.std.specs.Borrow.{Bor}
 use Rattle.std.specs.HashSet.{HashSet}
 use Rattle.std.specs.Ordering.{int_eq}
@@ -7,27 +7,11 @@ use Rattle.std.specs.Str.{bytes_eq}
 use Rattle.std.specs.List.{list_any}
 use Rattle.std.specs.List.Sorted.{IsPermutation, IsNonDecreasing}
 use Rattle.ksv_yaml_tree.specs.Tree.{Pair}
-use Rattle.ksv_expr_tree.specs.Tree.{view}
-use Rattle.ksv_desc.specs.Pieces.{plain_choice}
 use Rattle.ksv_schema_scope.specs.Table.{declared}
 use Rattle.ksv_schema_scope.specs.Enums.{is_numbered, is_named}
 use Rattle.ksv_schema_read.specs.declared.enumeration.Seen.{Seen}
-use Rattle.ksv_schema_read.specs.declared.member.Parts.{Parts as CodeParts}
 use Rattle.ksv_schema_read.specs.declared.number.Context.{Context as CodeContext}
-use Rattle.ksv_schema_read.specs.Members.{Parts}
 use Rattle.ksv_schema_read.specs.Description.{Context}
-
--- ---- members
-
--- what the keys of an attribute state
-abbrev pub plain_parts : CodeParts → Parts
-plain_parts p = record {
-  condition = option_map view p.condition;
-  count = option_map view p.count;
-  until = option_map view p.until;
-  choice = plain_choice p.choice;
-  size = option_map view p.size;
-}
 
 -- where names get their numbers
 abbrev pub context_of : CodeContext → Context

@@ -33,19 +33,25 @@ chosen f r = record { faults = r.faults; words = r.words; value = option_and_the
 abbrev pub made : {A B : Type 0} → (A → B) → Reading A → Reading B
 made f r = record { faults = r.faults; words = r.words; value = option_map f r.value }
 
+-- without its value
+abbrev pub valueless : {A B : Type 0} → Reading A → Reading B
+valueless r = record { faults = r.faults; words = r.words; value = None }
+
 -- one and then another
 abbrev pub both : {A B : Type 0} → Reading A → Reading B → Reading (A × B)
 both r s = record { faults = r.faults ++ s.faults; words = r.words ++ s.words; value = option_and_then (λ x. option_map (λ y. (x, y)) s.value) r.value }
 
--- each of a list
-abbrev pub each : {A B : Type 0} → (A → Reading B) → List A → Reading (List B)
-each f [] = gives []
-each f (x ∷ xs) = made (λ p. p.0 ∷ p.1) (both (f x) (each f xs))
+-- one and then another, whose value counts if the first one has one
+abbrev pub after : {A B : Type 0} → Reading A → Reading B → Reading B
+after r s = record { faults = r.faults ++ s.faults; words = r.words ++ s.words; value = option_and_then (λ x. s.value) r.value }
 
 -- each of a list, the first of which has the number n
 abbrev pub each_from : {A B : Type 0} → (ℕ → A → Reading B) → ℕ → List A → Reading (List B)
 each_from f n [] = gives []
 each_from f n (x ∷ xs) = made (λ p. p.0 ∷ p.1) (both (f n x) (each_from f (n + 1) xs))
+
+abbrev pub each : {A B : Type 0} → (A → Reading B) → List A → Reading (List B)
+each f xs = each_from (λ n. f) 0 xs
 
 -- ---- keys
 

@@ -1,7 +1,6 @@
 //! Members: parameters, attributes, parse instances and value instances.
 
 ghost use Rattle.std.specs.Prelude.{◌≡◌, None, map, option_map};
-ghost use Rattle.std.specs.Option.{option_map_or};
 ghost use Rattle.ksv_yaml_tree.specs.View.{pair};
 ghost use Rattle.ksv_expr_tree.specs.Tree.{view};
 ghost use Rattle.ksv_desc.specs.Pieces.{plain_extent, plain_terminator, plain_repeat, plain_field, plain_kind};
@@ -10,9 +9,8 @@ ghost use Rattle.ksv_schema_scope.specs.Code.{member_of};
 ghost use Rattle.ksv_schema_keys.specs.Values.{own_type};
 ghost use Rattle.ksv_schema_keys.specs.Code.{seen_type_at};
 ghost use Rattle.ksv_schema_read.specs.Faults.{noted};
-ghost use Rattle.ksv_schema_read.specs.Members.{parts, repeat_of, extent_of, terminator_of, field_of, needs, unsupported, field, own_field, attribute, parse_instance, value_instance, placeless, by_kind, member_keys, name_line, is_named_again, member as stated_member};
+ghost use Rattle.ksv_schema_read.specs.Members.{parts, repeat_of, repeated, timed, extent, terminator_of, needs, unsupported, field, own_field, attribute, parse_instance, value_instance, placeless, by_kind, member_keys, name_line, is_named_again, member as stated_member};
 ghost use Rattle.ksv_schema_read.specs.Code.{seen_fault, seen_home, Reads};
-ghost use Rattle.ksv_schema_read.specs.Plain.{plain_parts};
 
 use crate::enumeration::id_line;
 use crate::fault::DescFaultKind::{BadValue, KeysAgainst, LeftOut, MissingKey};
@@ -32,53 +30,6 @@ use ksv_yaml_tree::{Entry, find};
 
 // ---- attributes and parse instances
 
-/// What the keys of an attribute or a parse instance state, each by itself.
-#[derive(Drop)]
-pub(crate) struct Parts {
-    pub(crate) condition: Option<Expr>,
-    pub(crate) count: Option<Expr>,
-    pub(crate) until: Option<Expr>,
-    pub(crate) choice: Choice,
-    pub(crate) size: Option<Expr>,
-}
-
-/// What such keys state, with this enum and the type whose text is at `type`; the cases of a switch must fit to the keys
-/// beside it.
-#[tactic(auto, using(crate::proofs::Noted::steps, ksv_desc::proofs::Dots::steps), unfolding(crate::specs::Members::parts))]
-fn read_parts(
-    reader: &mut Reader,
-    home: Home,
-    beside: &[Entry],
-    enumeration: Option<u32>,
-    entries: &[Entry],
-    typed: Option<TypeText>,
-) -> Read<Parts>
-    requires { seen_type_at typed ≡ own_type (map pair entries.now) }
-    ensures { Reads (parts (seen_home home.entry) (map pair beside.now) enumeration (map pair entries.now)) plain_parts reader.old reader.new result }
-{
-    let condition = perhaps_expression(reader, home, Site::Condition, find(entries, b"if"))?;
-    let count = perhaps_expression(reader, home, Site::Count, find(entries, b"repeat-expr"));
-    let counted = both(condition, count)?;
-    let until = perhaps_expression(reader, home, Site::Until, find(entries, b"repeat-until"));
-    let repeated = both(counted, until)?;
-    let choice = choice(reader, home, beside, enumeration, entries, typed);
-    let chosen = both(repeated, choice)?;
-    let size = perhaps_expression(reader, home, Site::Size, find(entries, b"size"));
-    match both(chosen, size)? {
-        Some(read) => {
-            let ((((condition, count), until), choice), size) = read;
-            Ok(Some(Parts {
-                condition,
-                count,
-                until,
-                choice,
-                size,
-            }))
-        }
-        None => Ok(None),
-    }
-}
-
 /// How often an attribute of these keys is read, with these expressions.
 #[tactic(auto, unfolding(crate::specs::Members::repeat_of))]
 fn repeat_of(entries: &[Entry], count: Option<Expr>, until: Option<Expr>) -> Option<Repeat>
@@ -96,14 +47,38 @@ fn repeat_of(entries: &[Entry], count: Option<Expr>, until: Option<Expr>) -> Opt
     Some(Repeat::Once)
 }
 
-/// Where an attribute of these keys ends, with this size.
-fn extent_of(entries: &[Entry], size: Option<Expr>) -> Extent
-    ensures { plain_extent result ≡ extent_of (map pair entries.now) (option_map view size) }
+/// How often an attribute of these keys is read.
+#[tactic(auto, using(crate::proofs::Noted::steps, ksv_desc::proofs::Dots::steps), unfolding(crate::specs::Members::repeated))]
+fn repeated(reader: &mut Reader, home: Home, entries: &[Entry]) -> Read<Repeat>
+    ensures { Reads (repeated (seen_home home.entry) (map pair entries.now)) plain_repeat reader.old reader.new result }
 {
-    match size {
-        Some(size) => Extent::Sized(size),
-        None if says(entries, b"size-eos", b"true") => Extent::SizeEos,
-        None => Extent::ByItself,
+    let count = perhaps_expression(reader, home, Site::Count, find(entries, b"repeat-expr"))?;
+    let until = perhaps_expression(reader, home, Site::Until, find(entries, b"repeat-until"));
+    match both(count, until)? {
+        Some((count, until)) => Ok(repeat_of(entries, count, until)),
+        None => Ok(None),
+    }
+}
+
+/// Whether and how often an attribute of these keys is read.
+#[tactic(auto, using(crate::proofs::Noted::steps, ksv_desc::proofs::Dots::steps))]
+fn timed(reader: &mut Reader, home: Home, entries: &[Entry]) -> Read<(Option<Expr>, Repeat)>
+    ensures { Reads (timed (seen_home home.entry) (map pair entries.now)) (λ p. (option_map view p.0, plain_repeat p.1)) reader.old reader.new result }
+{
+    let condition = perhaps_expression(reader, home, Site::Condition, find(entries, b"if"))?;
+    both(condition, repeated(reader, home, entries))
+}
+
+/// Where an attribute of these keys ends.
+#[tactic(auto, using(crate::proofs::Noted::steps, ksv_desc::proofs::Dots::steps))]
+fn extent(reader: &mut Reader, home: Home, entries: &[Entry]) -> Read<Extent>
+    ensures { Reads (extent (seen_home home.entry) (map pair entries.now)) plain_extent reader.old reader.new result }
+{
+    match perhaps_expression(reader, home, Site::Size, find(entries, b"size"))? {
+        Some(Some(size)) => Ok(Some(Extent::Sized(size))),
+        Some(None) if says(entries, b"size-eos", b"true") => Ok(Some(Extent::SizeEos)),
+        Some(None) => Ok(Some(Extent::ByItself)),
+        None => Ok(None),
     }
 }
 
@@ -132,29 +107,36 @@ fn terminator_of(typed: &Option<TypeText>, entries: &[Entry]) -> Option<Terminat
     }
 }
 
-/// What an attribute of these keys reads, with this terminator and these parts.
-#[tactic(auto, unfolding(crate::specs::Members::field_of))]
-fn field_of(entries: &[Entry], terminator: Option<Terminator>, parts: Parts) -> Option<Field>
-    requires { option_map plain_terminator terminator ≡ terminator_of (own_type (map pair entries.now)) (map pair entries.now) }
-    ensures { option_map plain_field result ≡ field_of (own_type (map pair entries.now)) (map pair entries.now) (plain_parts parts) }
+/// What such keys state, with this enum and the type whose text is at `type`; the cases of a switch must fit to the keys
+/// beside it.
+#[tactic(auto, using(crate::proofs::Noted::steps, ksv_desc::proofs::Dots::steps), unfolding(crate::specs::Members::parts))]
+fn read_parts(
+    reader: &mut Reader,
+    home: Home,
+    beside: &[Entry],
+    enumeration: Option<u32>,
+    entries: &[Entry],
+    typed: Option<TypeText>,
+) -> Read<Field>
+    requires { seen_type_at typed ≡ own_type (map pair entries.now) }
+    ensures { Reads (parts (seen_home home.entry) (map pair beside.now) enumeration (map pair entries.now)) plain_field reader.old reader.new result }
 {
-    let Parts {
-        condition,
-        count,
-        until,
-        choice,
-        size,
-    } = parts;
-    let extent = extent_of(entries, size);
-    match repeat_of(entries, count, until) {
-        Some(repeat) => Some(Field {
-            condition,
-            repeat,
-            choice,
-            extent,
-            terminator,
-        }),
-        None => None,
+    let terminator = terminator_of(&typed, entries);
+    let timed = timed(reader, home, entries)?;
+    let choice = choice(reader, home, beside, enumeration, entries, typed);
+    let chosen = both(timed, choice)?;
+    match both(chosen, extent(reader, home, entries))? {
+        Some(read) => {
+            let (((condition, repeat), choice), extent) = read;
+            Ok(Some(Field {
+                condition,
+                repeat,
+                choice,
+                extent,
+                terminator,
+            }))
+        }
+        None => Ok(None),
     }
 }
 
@@ -219,24 +201,10 @@ fn field(
     note_together(&mut reader.least, kind, line, &typed, entries);
     note_needs(&mut reader.least, home, line, &typed, entries);
     note_unsupported(&mut reader.least, home, &typed, entries);
-    let terminator = terminator_of(&typed, entries);
-    match read_parts(reader, home, entries, enumeration, entries, typed)? {
-        Some(parts) => Ok(field_of(entries, terminator, parts)),
-        None => Ok(None),
-    }
+    read_parts(reader, home, entries, enumeration, entries, typed)
 }
 
 // ---- members, by their kinds
-
-/// The enum that was read, if it was.
-fn enum_in(enumeration: Option<Option<u32>>) -> Option<u32>
-    ensures { result ≡ option_map_or (λ e. e) enumeration None }
-{
-    match enumeration {
-        Some(number) => number,
-        None => None,
-    }
-}
 
 /// What an attribute or a parse instance of these keys reads, with its enum.
 #[tactic(auto, using(crate::proofs::Noted::steps, ksv_desc::proofs::Dots::steps))]
@@ -246,16 +214,17 @@ fn own_field(
     kind: MappingKind,
     line: usize,
     entries: &[Entry],
-) -> Read<(Option<u32>, Field)>
-    ensures { Reads (own_field (seen_home home.entry) kind line (map pair entries.now)) (λ p. (p.0, plain_field p.1)) reader.old reader.new result }
+) -> Read<Field>
+    ensures { Reads (own_field (seen_home home.entry) kind line (map pair entries.now)) plain_field reader.old reader.new result }
 {
-    let enumeration = own_enum(reader, home, entries)?;
     let typed = own_type(reader.alloc, entries)?;
-    let number = enum_in(enumeration);
-    both(
-        enumeration,
-        field(reader, home, kind, line, number, entries, typed),
-    )
+    match own_enum(reader, home, entries)? {
+        Some(number) => field(reader, home, kind, line, number, entries, typed),
+        None => {
+            drop(field(reader, home, kind, line, None, entries, typed)?);
+            Ok(None)
+        }
+    }
 }
 
 /// An attribute.
@@ -264,7 +233,7 @@ fn attribute(reader: &mut Reader, home: Home, line: usize, entries: &[Entry]) ->
     ensures { Reads (attribute (seen_home home.entry) line (map pair entries.now)) plain_kind reader.old reader.new result }
 {
     match own_field(reader, home, MappingKind::Attribute, line, entries)? {
-        Some((_, field)) => Ok(Some(MemberKind::Attribute(field))),
+        Some(field) => Ok(Some(MemberKind::Attribute(field))),
         None => Ok(None),
     }
 }
@@ -285,7 +254,7 @@ fn parse_instance(
     let field = own_field(reader, home, MappingKind::ParseInstance, line, entries);
     match both(at, field)? {
         Some(read) => {
-            let ((place, stream), (_, field)) = read;
+            let ((place, stream), field) = read;
             Ok(Some(MemberKind::ParseInstance {
                 place,
                 stream,
@@ -321,7 +290,7 @@ fn value_instance(
 }
 
 /// An instance without a place and a value, which is unsupported.
-#[tactic(auto, using(crate::proofs::Noted::steps, ksv_desc::proofs::Dots::steps, crate::proofs::Both::nothing), unfolding(crate::specs::Members::placeless))]
+#[tactic(auto, using(crate::proofs::Noted::steps, crate::proofs::Least::noted_cons, ksv_desc::proofs::Dots::steps), unfolding(crate::specs::Members::placeless))]
 fn placeless(
     reader: &mut Reader,
     home: Home,
@@ -332,9 +301,11 @@ fn placeless(
 {
     note(&mut reader.least, name_line, LeftOut);
     drop(perhaps_expression(reader, home, Site::Stream, find(entries, b"io"))?);
-    let number = enum_in(own_enum(reader, home, entries)?);
     let typed = own_type(reader.alloc, entries)?;
-    drop(read_parts(reader, home, &[], number, entries, typed)?);
+    match own_enum(reader, home, entries)? {
+        Some(number) => drop(read_parts(reader, home, &[], number, entries, typed)?),
+        None => drop(read_parts(reader, home, &[], None, entries, typed)?),
+    }
     Ok(None)
 }
 

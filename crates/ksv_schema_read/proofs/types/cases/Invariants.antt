@@ -1,7 +1,7 @@
 use Rattle.std.proofs.Common.{drop, map, option_map}
 use Rattle.ksv_yaml_tree.specs.View.{pair}
 use Rattle.ksv_desc.specs.Pieces.{plain_case}
-use Rattle.ksv_schema_read.specs.Reading.{each}
+use Rattle.ksv_schema_read.specs.Reading.{each, each_from}
 use Rattle.ksv_schema_read.specs.Values.{case}
 use Rattle.ksv_schema_read.specs.Code.{seen_home}
 use Rattle.ksv_schema_read.proofs.Each.{IsSoFar}
@@ -10,4 +10,4 @@ use Rattle.ksv_schema_read.proofs.types.cases.Given as goal
 abbrev pub invariant-loop-case : goal.invariant-loop-case
 invariant-loop-case l =
     let read = case (seen_home l.home) (map pair l.beside) l.enumeration (map pair l.entries) in
-    IsSoFar (each read (map pair l.cases)) (each read (map pair (drop l.case-index l.cases))) (option_map (λ v. map plain_case v.items) l.made) l.fn.reader l.reader
+    IsSoFar (each read (map pair l.cases)) (each_from (λ i. read) l.case-index (map pair (drop l.case-index l.cases))) (option_map (λ v. map plain_case v.items) l.made) l.fn.reader l.reader
