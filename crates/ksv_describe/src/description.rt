@@ -3,7 +3,7 @@ ghost use Rattle.std.specs.Prelude.{◌≡◌, ◌⊎◌, IfOk, IfErr};
 ghost use Rattle.ksv_yaml.specs.declared.fault.YamlKind.TheVariants as yaml_kinds;
 ghost use Rattle.ksv_desc.specs.Description.{Description};
 ghost use Rattle.ksv_desc.specs.Whole.{plain_pieces};
-ghost use Rattle.ksv_schema_read.specs.declared.fault.DescFaultKind.TheVariants as kinds;
+ghost use Rattle.ksv_schema_values.specs.declared.fault.DescFaultKind.TheVariants as kinds;
 ghost use Rattle.ksv_describe.specs.Accepted.{Describes};
 
 use ksv_desc::Desc;

@@ -20,10 +20,10 @@ use Rattle.ksv_schema_keys.specs.declared.keys.MappingKind.TheVariants as kinds
 use Rattle.ksv_schema_keys.specs.declared.keys.Group.TheVariants as groups
 use Rattle.ksv_schema_keys.specs.Keys.{is_in, kind_of, form_among, form_in, is_ignored}
 use Rattle.ksv_schema_keys.specs.Values.{encoding_named, is_str, is_strz, own_type, is_a, is_to_end}
-use Rattle.ksv_schema_read.specs.Faults.{missing_key, left_out}
-use Rattle.ksv_schema_read.specs.Rules.{form_faults, keys_faults}
-use Rattle.ksv_schema_read.specs.Values.{Home, expression, enumeration, encoding_at}
-use Rattle.ksv_schema_read.specs.Members.{parts, repeat_of, repeated, extent_of, extent, has_encoding, needs, field, own_enum, own_field, attribute, parse_instance, value_instance, placeless, by_kind}
+use Rattle.ksv_schema_values.specs.Faults.{missing_key, left_out}
+use Rattle.ksv_schema_values.specs.Rules.{form_faults, keys_faults}
+use Rattle.ksv_schema_values.specs.Values.{Home, expression, enumeration, own_enum, encoding_at}
+use Rattle.ksv_schema_read.specs.Members.{parts, repeat_of, repeated, extent_of, extent, has_encoding, needs, field, own_field, attribute, parse_instance, value_instance, placeless, by_kind}
 use Rattle.ksv_schema_read.specs.Description.{Context, in_tree, in_extent, in_repeat, in_field, in_kind}
 use Rattle.ksv_schema.proofs.Good.{front, back, implies, there_map, IsGood, gives_good, also_good, chosen_good, made_good, after_good, both_good, weaker, perhaps_good, must_good}
 use Rattle.ksv_schema.proofs.Keys.{text_fits, HasRepeat, has_repeat}

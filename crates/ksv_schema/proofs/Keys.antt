@@ -15,8 +15,8 @@ use Rattle.ksv_schema_keys.specs.declared.keys.MappingKind.TheVariants as kinds
 use Rattle.ksv_schema_keys.specs.declared.keys.Group.TheVariants as groups
 use Rattle.ksv_schema_keys.specs.Keys.{is_in, form_in, is_ignored}
 use Rattle.ksv_schema_keys.specs.Values.{TypeText}
-use Rattle.ksv_schema_read.specs.Faults.{Fault, fault, fault_if, missing_key, bad_value}
-use Rattle.ksv_schema_read.specs.Rules.{form_faults, key_faults, keys_faults, missing, Has, Says, Needs, claimed, rule_faults, ruled_faults, together}
+use Rattle.ksv_schema_values.specs.Faults.{Fault, fault, fault_if, missing_key, bad_value}
+use Rattle.ksv_schema_values.specs.Rules.{form_faults, key_faults, keys_faults, missing, Has, Says, Needs, claimed, rule_faults, ruled_faults, together}
 use Rattle.ksv_schema_read.specs.Description.{is_root, meta_faults, type_keys_faults, type_faults}
 use Rattle.ksv_schema.proofs.Good.{front, back, not_if, implies}
 

@@ -12,8 +12,8 @@ use Rattle.ksv_schema_scope.specs.Members.{Member, members_of, is_in_params, is_
 use Rattle.ksv_schema_scope.specs.Members as scope
 use Rattle.ksv_schema_names.specs.Resolved.{Fits}
 use Rattle.ksv_schema_names.proofs.Found.{some_is, place_within}
-use Rattle.ksv_schema_read.specs.Faults.{bad_value}
-use Rattle.ksv_schema_read.specs.Values.{home_of}
+use Rattle.ksv_schema_values.specs.Faults.{bad_value}
+use Rattle.ksv_schema_values.specs.Values.{home_of}
 use Rattle.ksv_schema_read.specs.Members.{member_keys, member}
 use Rattle.ksv_schema_read.specs.Description.{Context, members, all_members, all_enums, faults_of, names_in, member_names, names_of, each_of, member_of, type_of, types_of, are_texts, described, stated_by}
 use Rattle.ksv_desc.specs.Names.{distinct, distinct_behind, number_in, has_names, AreDistinct}

@@ -18,8 +18,8 @@ use Rattle.ksv_schema_keys.specs.declared.keys.MappingKind.{MappingKind}
 use Rattle.ksv_schema_keys.specs.declared.keys.MappingKind.TheVariants as kinds
 use Rattle.ksv_schema_keys.specs.Keys.{kind_of, form_among, form_in, is_ignored, is_id}
 use Rattle.ksv_schema_keys.proofs.Paths.{id_is_utf8}
-use Rattle.ksv_schema_read.specs.Faults.{bad_value}
-use Rattle.ksv_schema_read.specs.Rules.{form_faults, keys_faults}
+use Rattle.ksv_schema_values.specs.Faults.{bad_value}
+use Rattle.ksv_schema_values.specs.Rules.{form_faults, keys_faults}
 use Rattle.ksv_schema_read.specs.Members.{is_instance}
 use Rattle.ksv_schema_read.specs.Description.{type_faults, all_types_faults}
 use Rattle.ksv_desc.specs.Resolved.{Each}

@@ -24,9 +24,9 @@ use Rattle.ksv_desc.specs.Description.{Description, Content, Number, Characters,
 use Rattle.ksv_desc.specs.Resolved.{count, Each, IfAny, IsThere, IsEnum, IsResolvedTree, AreResolvedTrees, IsResolvedContent, IsResolvedValue, IsResolvedCase, IsResolvedChoice}
 use Rattle.ksv_schema_keys.specs.Expressions.{expression_of}
 use Rattle.ksv_schema_keys.specs.Values.{TypeText, Unspelled, OfLanguage, OfDescription, type_text, is_str, is_strz, looks_like_number, Piece, Bytes as BytesPiece, BadPiece, LeftOutPiece, piece_of, CaseKey, Constant, Negative, Member, Default, NoKey, case_key, ids_of}
-use Rattle.ksv_schema_read.specs.Faults.{fault_if, unknown_name, no_byte_order, bad_value, wrong_count, left_out, no_expression}
-use Rattle.ksv_schema_read.specs.Reading.{each}
-use Rattle.ksv_schema_read.specs.Values.{Home, position_at, name_fault, least_name, of_expression, expression, arguments, of_path, enumeration, of_piece, item, items, contents, order_at, encoding_at, of_language, counts_differ, of_type, of_case_key, case_value, case_against, case, switch, typed, content_or_type, choice}
+use Rattle.ksv_schema_values.specs.Faults.{fault_if, unknown_name, no_byte_order, bad_value, wrong_count, left_out, no_expression}
+use Rattle.ksv_schema_values.specs.Reading.{each}
+use Rattle.ksv_schema_values.specs.Values.{Home, position_at, name_fault, least_name, of_expression, expression, arguments, of_path, enumeration, of_piece, item, items, contents, order_at, encoding_at, of_language, counts_differ, of_type, of_case_key, case_value, case_against, case, switch, typed, content_or_type, choice}
 use Rattle.ksv_schema_read.specs.Description.{Context, in_tree, in_content, in_case, in_choice}
 use Rattle.ksv_schema.proofs.Good.{front, not_if, IsGood, gives_good, wrong_good, found_good, also_good, made_good, both_good, if_good, or_good, perhaps_good, must_good, weaker, text_good, mapping_good, EachOf, each_good}
 

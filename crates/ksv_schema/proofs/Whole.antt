@@ -19,8 +19,8 @@ use Rattle.ksv_schema_keys.specs.declared.keys.Form.TheVariants as forms
 use Rattle.ksv_schema_keys.specs.declared.keys.MappingKind.TheVariants as kinds
 use Rattle.ksv_schema_keys.specs.Keys.{form_among, form_in, is_ignored, is_id}
 use Rattle.ksv_schema_keys.specs.Values.{encoding_named}
-use Rattle.ksv_schema_read.specs.Faults.{bad_value, left_out}
-use Rattle.ksv_schema_read.specs.Rules.{form_faults}
+use Rattle.ksv_schema_values.specs.Faults.{bad_value, left_out}
+use Rattle.ksv_schema_values.specs.Rules.{form_faults}
 use Rattle.ksv_schema_read.specs.Description.{whole, id_text, id, entry_id, constant, enum, is_root, type_faults, all_types_faults, all_enums}
 use Rattle.ksv_desc.specs.Names.{distinct_behind}
 use Rattle.ksv_desc.specs.Description.{Description, Numbered, Enum}

@@ -3,11 +3,11 @@ use Rattle.std.proofs.Common.{◌≡◌, List, refl, sym, ap, ◌∙◌, Option,
 use Rattle.std.specs.Prelude.{option_map}
 use Rattle.ksv_desc.specs.Names.{distinct_behind}
 use Rattle.ksv_desc.proofs.Dots.{distinct_append}
-use Rattle.ksv_schema_read.specs.declared.reader.Reader.{Reader}
-use Rattle.ksv_schema_read.specs.Faults.{Fault, noted}
-use Rattle.ksv_schema_read.specs.Reading.{Reading, made, both}
-use Rattle.ksv_schema_read.specs.Code.{seen_fault, IsRead, Reads, paired, both_of}
-use Rattle.ksv_schema_read.proofs.Noted.{noted_append}
+use Rattle.ksv_schema_values.specs.declared.reader.Reader.{Reader}
+use Rattle.ksv_schema_values.specs.Faults.{Fault, noted}
+use Rattle.ksv_schema_values.specs.Reading.{Reading, made, both}
+use Rattle.ksv_schema_values.specs.Code.{seen_fault, IsRead, Reads, paired, both_of}
+use Rattle.ksv_schema_values.proofs.Noted.{noted_append}
 
 paired_seen : {X Y A B : Type 0} (v : X → A) (w : Y → B) (one : Option X) (other : Option Y) → option_map (λ (p : X × Y). (v p.0, w p.1)) (paired one other) ≡ paired (option_map v one) (option_map w other)
 paired_seen v w None other = refl

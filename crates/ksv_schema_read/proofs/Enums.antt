@@ -9,9 +9,9 @@ use Rattle.ksv_yaml_tree.specs.Numerals.{signed_number}
 use Rattle.ksv_schema_scope.specs.Rows.{Row, keys_of, Declared}
 use Rattle.ksv_schema_keys.specs.declared.keys.MappingKind.TheVariants as kinds
 use Rattle.ksv_schema_keys.specs.Keys.{is_id}
-use Rattle.ksv_schema_read.specs.Faults.{bad_value}
-use Rattle.ksv_schema_read.specs.Reading.{Reading, gives, wrong, also, must, mapping, each, each_from}
-use Rattle.ksv_schema_read.specs.Rules.{keys_faults}
+use Rattle.ksv_schema_values.specs.Faults.{bad_value}
+use Rattle.ksv_schema_values.specs.Reading.{Reading, gives, wrong, also, must, mapping, each, each_from}
+use Rattle.ksv_schema_values.specs.Rules.{keys_faults}
 use Rattle.ksv_schema_read.specs.Description.{whole, id_text, id, entry_id, constant, enum, all_enums}
 
 no_words : {A : Type 0} (r s : Reading A) → r.words ≡ [] → s.words ≡ [] → r.words ++ s.words ≡ []

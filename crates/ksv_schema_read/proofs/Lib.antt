@@ -1,8 +1,4 @@
 -- Lemmas.
-pub mod Least
-pub mod Noted
-pub mod Items
-pub mod Each
 pub mod Texts
 pub mod Given
 pub mod Limits

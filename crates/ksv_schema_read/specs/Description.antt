@@ -18,9 +18,9 @@ use Rattle.ksv_desc.specs.Names.{distinct, distinct_behind, number_in}
 use Rattle.ksv_desc.specs.Description.{Content, Bytes, Fixed, Number, Characters, Object, Case, Choice, Always, Switch, Extent, Sized, SizeEos, ByItself, Repeat, Once, Eos, Expr, Until, Field, MemberKind, Parameter, Attribute, ParseInstance, ValueInstance, MemberOfType, TypeOfObjects, Numbered, Enum, Description, as_text}
 use Rattle.ksv_schema_keys.specs.declared.keys.MappingKind.TheVariants as kinds
 use Rattle.ksv_schema_keys.specs.Keys.{is_id}
-use Rattle.ksv_schema_read.specs.Faults.{Fault, fault, fault_if, keys_against, bad_value, left_out, over_limit}
-use Rattle.ksv_schema_read.specs.Reading.{Reading, gives, wrong, also, made, both, each, each_from, must, text, mapping}
-use Rattle.ksv_schema_read.specs.Rules.{keys_faults, missing, at_if}
+use Rattle.ksv_schema_values.specs.Faults.{Fault, fault, fault_if, keys_against, bad_value, left_out, over_limit}
+use Rattle.ksv_schema_values.specs.Reading.{Reading, gives, wrong, also, made, both, each, each_from, must, text, mapping}
+use Rattle.ksv_schema_values.specs.Rules.{keys_faults, missing, at_if}
 use Rattle.ksv_schema_read.specs.Members.{id_line, member}
 
 -- ---- enums

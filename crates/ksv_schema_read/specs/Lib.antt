@@ -1,9 +1,4 @@
 -- What is read of a description's tree: its faults, or what it states.
-pub mod Faults
-pub mod Reading
-pub mod Rules
-pub mod Values
 pub mod Members
 pub mod Description
-pub mod Code
 pub mod Plain

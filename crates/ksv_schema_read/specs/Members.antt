@@ -16,10 +16,10 @@ use Rattle.ksv_schema_keys.specs.declared.keys.MappingKind.{MappingKind}
 use Rattle.ksv_schema_keys.specs.declared.keys.MappingKind.TheVariants as kinds
 use Rattle.ksv_schema_keys.specs.Keys.{kind_of, is_id}
 use Rattle.ksv_schema_keys.specs.Values.{TypeText, is_str, is_strz, own_type, is_a, byte_at, is_true, is_not_false, is_to_end}
-use Rattle.ksv_schema_read.specs.Faults.{Fault, fault, fault_if, missing_key, keys_against, bad_value, left_out}
-use Rattle.ksv_schema_read.specs.Reading.{Reading, gives, wrong, also, valueless, chosen, made, both, after, perhaps, must}
-use Rattle.ksv_schema_read.specs.Rules.{keys_faults, missing, at_if, together}
-use Rattle.ksv_schema_read.specs.Values.{Home, home_of, expression, enumeration, is_declared, choice}
+use Rattle.ksv_schema_values.specs.Faults.{Fault, fault, fault_if, missing_key, keys_against, bad_value, left_out}
+use Rattle.ksv_schema_values.specs.Reading.{Reading, gives, wrong, also, valueless, chosen, made, both, after, perhaps, must}
+use Rattle.ksv_schema_values.specs.Rules.{keys_faults, missing, at_if, together}
+use Rattle.ksv_schema_values.specs.Values.{Home, home_of, expression, own_enum, is_declared, choice}
 
 -- ---- attributes and parse instances
 
@@ -94,10 +94,6 @@ field h kind line enum typed es =
     also (together kind line typed es ++ needs h line typed es ++ unsupported h typed es) (parts h es enum es)
 
 -- ---- members, by their kinds
-
--- the enum at the key `enum`
-abbrev pub own_enum : Home → List Pair → Reading (Option ℕ)
-own_enum h es = perhaps (enumeration h) (entry_at (codes "enum") es)
 
 -- with the enum that was read, if it was
 abbrev pub enum_in : Reading (Option ℕ) → Option ℕ

@@ -4,17 +4,15 @@ ghost use Rattle.std.specs.Prelude.{◌≡◌, ◌++◌, OnOk, IfOk, map, flat_m
 ghost use Rattle.ksv_yaml_tree.specs.View.{pair};
 ghost use Rattle.ksv_schema_scope.specs.Rows.{keys_of};
 ghost use Rattle.ksv_schema_scope.specs.Code.{row_of, member_of};
-ghost use Rattle.ksv_schema_read.specs.Faults.{noted};
-ghost use Rattle.ksv_schema_read.specs.Description.{line_at, line_past, most_types, most_members, most_entries, meta_faults, type_keys_faults, type_faults, all_types_faults};
-ghost use Rattle.ksv_schema_read.specs.Code.{seen_fault};
+ghost use Rattle.ksv_schema_values.specs.Faults.{noted};
+ghost use Rattle.ksv_schema_read.specs.Description.{line_at, line_past, most_types, most_members, most_entries, past, meta_faults, type_keys_faults, type_faults, all_types_faults};
+ghost use Rattle.ksv_schema_values.specs.Code.{seen_fault};
 ghost use Rattle.ksv_schema_read.specs.Plain.{AreRising};
 
-use crate::fault::DescFaultKind::{BadValue, LeftOut};
-use crate::fault::{Least, note, note_if};
-use crate::key::{note_keys, note_missing};
-use crate::rule::note_at_if;
 use ksv_schema_keys::{MappingKind, is_id};
 use ksv_schema_scope::{Member, Row};
+use ksv_schema_values::DescFaultKind::{BadValue, LeftOut, OverLimit};
+use ksv_schema_values::{Least, note, note_at_if, note_if, note_keys, note_missing};
 use ksv_yaml_tree::{Entry, find};
 use std::alloc::{AllocError, Global};
 
@@ -78,10 +76,21 @@ pub(crate) fn line_past(alloc: Global, enums: &[Row]) -> Result<Option<usize>, A
     Ok(past_limit(lines.as_slice()))
 }
 
+/// Notes what is past a limit.
+#[tactic(auto, using(ksv_schema_values::proofs::Noted::steps))]
+pub(crate) fn note_past(least: &mut Least, line: Option<usize>)
+    ensures { seen_fault least.new ≡ noted (seen_fault least.old) (past line) }
+{
+    match line {
+        None => {}
+        Some(line) => note(least, line, OverLimit),
+    }
+}
+
 // ---- types, whose members are read by themselves
 
 /// Notes what is wrong with the `meta` of the type of this number.
-#[tactic(auto, using(crate::proofs::Noted::steps), unfolding(crate::specs::Description::meta_faults))]
+#[tactic(auto, using(ksv_schema_values::proofs::Noted::steps), unfolding(crate::specs::Description::meta_faults))]
 fn note_meta(least: &mut Least, number: usize, meta: &Entry)
     ensures { seen_fault least.new ≡ noted (seen_fault least.old) (meta_faults number (pair meta.now)) }
 {
@@ -100,7 +109,7 @@ fn note_meta(least: &mut Least, number: usize, meta: &Entry)
 }
 
 /// Notes what is wrong with the keys of the type of this number.
-#[tactic(auto, using(crate::proofs::Noted::steps), unfolding(crate::specs::Description::type_keys_faults))]
+#[tactic(auto, using(ksv_schema_values::proofs::Noted::steps), unfolding(crate::specs::Description::type_keys_faults))]
 fn note_type_keys(least: &mut Least, number: usize, line: usize, entries: &[Entry])
     ensures { seen_fault least.new ≡ noted (seen_fault least.old) (type_keys_faults number line (map pair entries.now)) }
 {
@@ -118,7 +127,7 @@ fn note_type_keys(least: &mut Least, number: usize, line: usize, entries: &[Entr
 }
 
 /// Notes what is wrong with the type of this number.
-#[tactic(auto, using(crate::proofs::Noted::steps), unfolding(crate::specs::Description::type_faults))]
+#[tactic(auto, using(ksv_schema_values::proofs::Noted::steps), unfolding(crate::specs::Description::type_faults))]
 fn note_type(least: &mut Least, number: usize, row: &Row)
     ensures { seen_fault least.new ≡ noted (seen_fault least.old) (type_faults number (row_of row.now)) }
 {

@@ -8,22 +8,21 @@ ghost use Rattle.ksv_schema_scope.specs.Code.{row_of, member_of as seen_member};
 ghost use Rattle.ksv_desc.specs.Names.{distinct_behind};
 ghost use Rattle.ksv_desc.specs.Pieces.{plain_kind, plain_member, plain_type, plain_enum};
 ghost use Rattle.ksv_desc.specs.Whole.{plain_pieces};
-ghost use Rattle.ksv_schema_read.specs.Faults.{noted};
-ghost use Rattle.ksv_schema_read.specs.Reading.{each_from};
+ghost use Rattle.ksv_schema_values.specs.Faults.{noted};
+ghost use Rattle.ksv_schema_values.specs.Reading.{each_from};
 ghost use Rattle.ksv_schema_read.specs.Members.{member as stated_member};
 ghost use Rattle.ksv_schema_read.specs.Description.{faults_of, members as stated_members, all_members, all_enums, names_in, are_texts, each_of, member_of, type_of, types_of, described, stated_by};
-ghost use Rattle.ksv_schema_read.specs.Code.{plain, seen_fault, Reads};
+ghost use Rattle.ksv_schema_values.specs.Code.{plain, seen_fault, Reads};
 ghost use Rattle.ksv_schema_read.specs.Plain.{context_of};
 
-use crate::check::{line_past, member_past, note_types, type_past};
+use crate::check::{line_past, member_past, note_past, note_types, type_past};
 use crate::enumeration::{as_text, enumerations, owned_text};
-use crate::fault::{DescFault, note_past};
 use crate::member::member;
 use crate::number::{Context, number_kind};
-use crate::reader::{Read, Reader, both, paired, pushed};
 use ksv_desc::{EnumDesc, MemberDesc, MemberKind, Pieces, TypeDesc};
 use ksv_schema_names::Names;
 use ksv_schema_scope::{Member, Row, Scopes};
+use ksv_schema_values::{DescFault, Read, Reader, both, paired, pushed};
 use std::alloc::{AllocError, Global};
 
 // ---- the names of members
@@ -75,7 +74,7 @@ fn each_member<'a>(
 }
 
 /// The members of the type of this number.
-#[tactic(auto, using(crate::proofs::Noted::steps), unfolding(crate::specs::Description::members))]
+#[tactic(auto, using(ksv_schema_values::proofs::Noted::steps), unfolding(crate::specs::Description::members))]
 fn members<'a>(
     reader: &mut Reader,
     scopes: &'a Scopes<'a>,
@@ -199,7 +198,7 @@ pub(crate) struct Whole {
 }
 
 /// Reads all members and all enums; before them come what is past a limit, and the keys of types.
-#[tactic(auto, using(crate::proofs::Noted::steps, crate::proofs::Enums::all_enums_words), unfolding(crate::specs::Description::faults_of, crate::specs::Description::all_members, crate::specs::Description::all_enums))]
+#[tactic(auto, using(ksv_schema_values::proofs::Noted::steps, crate::proofs::Enums::all_enums_words), unfolding(crate::specs::Description::faults_of, crate::specs::Description::all_members, crate::specs::Description::all_enums))]
 fn read_all<'a>(reader: &mut Reader, scopes: &'a Scopes<'a>) -> Result<Whole, AllocError>
     ensures kinds { IfOk result (λ w. option_map (λ v. map (λ w. map plain_kind w.items) v.items) w.kinds ≡ (all_members (declared scopes.now)).value) }
     ensures enums { IfOk result (λ w. option_map (λ v. map plain_enum v.items) w.enums ≡ (all_enums (declared scopes.now)).value) }

@@ -10,20 +10,18 @@ ghost use Rattle.ksv_desc.specs.Description.{as_text};
 ghost use Rattle.ksv_desc.specs.Pieces.{plain_entry, plain_enum};
 ghost use Rattle.ksv_schema_scope.specs.Code.{row_of};
 ghost use Rattle.ksv_schema_scope.specs.Enums.{number_of, id_of, is_numbered, is_named};
-ghost use Rattle.ksv_schema_read.specs.Faults.{noted};
-ghost use Rattle.ksv_schema_read.specs.Reading.{each, each_from};
+ghost use Rattle.ksv_schema_values.specs.Faults.{noted};
+ghost use Rattle.ksv_schema_values.specs.Reading.{each, each_from};
 ghost use Rattle.ksv_schema_read.specs.Members.{id_line};
 ghost use Rattle.ksv_schema_read.specs.Description.{whole, id_text, id, entry_id, constant, enum};
-ghost use Rattle.ksv_schema_read.specs.Code.{seen_fault, paired, Reads};
+ghost use Rattle.ksv_schema_values.specs.Code.{seen_fault, paired, Reads};
 ghost use Rattle.ksv_schema_read.specs.Plain.{has_number, has_id, Gives, Adds, AreOf};
 
-use crate::fault::DescFaultKind::{BadValue, KeysAgainst, LeftOut, MissingKey};
-use crate::fault::{Least, note, note_if};
-use crate::key::note_keys;
-use crate::reader::{Read, Reader, both, paired, pushed};
 use ksv_desc::{EnumDesc, EnumEntry};
 use ksv_schema_keys::{MappingKind, is_id};
 use ksv_schema_scope::{Row, id_of, number_of};
+use ksv_schema_values::DescFaultKind::{BadValue, KeysAgainst, LeftOut, MissingKey};
+use ksv_schema_values::{Least, Read, Reader, both, note, note_if, note_keys, paired, pushed};
 use ksv_yaml_tree::keys::entries_in;
 use ksv_yaml_tree::{Entry, Numeral, Yaml, find, signed_number};
 use std::alloc::{AllocError, Global};
@@ -55,7 +53,7 @@ pub(crate) fn owned_text(alloc: Global, bytes: &[u8]) -> Read<String>
 // ---- numbers and ids
 
 /// The number of a numeral on this line.
-#[tactic(auto, using(crate::proofs::Noted::steps))]
+#[tactic(auto, using(ksv_schema_values::proofs::Noted::steps))]
 fn whole(least: &mut Least, line: usize, numeral: Numeral) -> Option<i128>
     ensures value { result ≡ (whole line numeral).value }
     ensures faults { seen_fault least.new ≡ noted (seen_fault least.old) (whole line numeral).faults }
@@ -74,7 +72,7 @@ fn whole(least: &mut Least, line: usize, numeral: Numeral) -> Option<i128>
 }
 
 /// A text that must be an id, on this line.
-#[tactic(auto, using(crate::proofs::Noted::steps, crate::proofs::Texts::id_is_text))]
+#[tactic(auto, using(ksv_schema_values::proofs::Noted::steps, crate::proofs::Texts::id_is_text))]
 fn id_text(reader: &mut Reader, line: usize, text: &[u8]) -> Read<String>
     ensures { Reads (id_text line text.now) string_bytes reader.old reader.new result }
 {
@@ -86,7 +84,7 @@ fn id_text(reader: &mut Reader, line: usize, text: &[u8]) -> Read<String>
 }
 
 /// The id at a key.
-#[tactic(auto, using(crate::proofs::Noted::steps))]
+#[tactic(auto, using(ksv_schema_values::proofs::Noted::steps))]
 fn id_at(reader: &mut Reader, entry: &Entry) -> Read<String>
     ensures { Reads (id (pair entry.now)) string_bytes reader.old reader.new result }
 {
@@ -100,7 +98,7 @@ fn id_at(reader: &mut Reader, entry: &Entry) -> Read<String>
 }
 
 /// The id of an entry of an enum: its value, or at a key of it.
-#[tactic(auto, using(crate::proofs::Noted::steps), unfolding(crate::specs::Description::entry_id))]
+#[tactic(auto, using(ksv_schema_values::proofs::Noted::steps), unfolding(crate::specs::Description::entry_id))]
 fn entry_id(reader: &mut Reader, entry: &Entry) -> Read<String>
     ensures { Reads (entry_id (pair entry.now)) string_bytes reader.old reader.new result }
 {
@@ -228,7 +226,7 @@ fn constants(reader: &mut Reader, entries: &[Entry]) -> Read<Vec<EnumEntry>>
 }
 
 /// An enum.
-#[tactic(auto, using(crate::proofs::Noted::steps))]
+#[tactic(auto, using(ksv_schema_values::proofs::Noted::steps))]
 fn enumeration(reader: &mut Reader, row: &Row) -> Read<EnumDesc>
     ensures { Reads (enum (row_of row.now)) plain_enum reader.old reader.new result }
 {

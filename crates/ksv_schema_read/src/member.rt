@@ -8,23 +8,22 @@ ghost use Rattle.ksv_schema_scope.specs.Table.{declared};
 ghost use Rattle.ksv_schema_scope.specs.Code.{member_of};
 ghost use Rattle.ksv_schema_keys.specs.Values.{own_type};
 ghost use Rattle.ksv_schema_keys.specs.Code.{seen_type_at};
-ghost use Rattle.ksv_schema_read.specs.Faults.{noted};
+ghost use Rattle.ksv_schema_values.specs.Faults.{noted};
 ghost use Rattle.ksv_schema_read.specs.Members.{parts, repeat_of, repeated, timed, extent, terminator_of, needs, unsupported, field, own_field, attribute, parse_instance, value_instance, placeless, by_kind, member_keys, name_line, is_named_again, member as stated_member};
-ghost use Rattle.ksv_schema_read.specs.Code.{seen_fault, seen_home, Reads};
+ghost use Rattle.ksv_schema_values.specs.Code.{seen_fault, seen_home, Reads};
 
 use crate::enumeration::id_line;
-use crate::fault::DescFaultKind::{BadValue, KeysAgainst, LeftOut, MissingKey};
-use crate::fault::{Least, note, note_if};
-use crate::key::{note_keys, note_missing};
-use crate::reader::{Home, Read, Reader, both, home_of, paired};
-use crate::rule::{note_at_if, note_together};
-use crate::types::{choice, is_declared};
-use crate::value::{needed_expression, own_enum, perhaps_expression};
 use ksv_desc::{Choice, Extent, Field, MemberKind, Repeat, Terminator};
 use ksv_expr_tree::Expr;
 use ksv_schema_keys::{MappingKind, TypeKind, TypeText, byte_at, is_a, is_id, kind_of, own_type};
 use ksv_schema_names::Site;
 use ksv_schema_scope::{Member, Role, Scopes};
+use ksv_schema_values::DescFaultKind::{BadValue, KeysAgainst, LeftOut, MissingKey};
+use ksv_schema_values::{
+    Home, Least, Read, Reader, both, choice, home_of, is_declared, needed_expression, note,
+    note_at_if, note_if, note_keys, note_missing, note_together, own_enum, paired,
+    perhaps_expression,
+};
 use ksv_yaml_tree::keys::{has, says, text_at};
 use ksv_yaml_tree::{Entry, find};
 
@@ -48,7 +47,7 @@ fn repeat_of(entries: &[Entry], count: Option<Expr>, until: Option<Expr>) -> Opt
 }
 
 /// How often an attribute of these keys is read.
-#[tactic(auto, using(crate::proofs::Noted::steps, ksv_desc::proofs::Dots::steps), unfolding(crate::specs::Members::repeated))]
+#[tactic(auto, using(ksv_schema_values::proofs::Noted::steps, ksv_desc::proofs::Dots::steps), unfolding(crate::specs::Members::repeated))]
 fn repeated(reader: &mut Reader, home: Home, entries: &[Entry]) -> Read<Repeat>
     ensures { Reads (repeated (seen_home home.entry) (map pair entries.now)) plain_repeat reader.old reader.new result }
 {
@@ -61,7 +60,7 @@ fn repeated(reader: &mut Reader, home: Home, entries: &[Entry]) -> Read<Repeat>
 }
 
 /// Whether and how often an attribute of these keys is read.
-#[tactic(auto, using(crate::proofs::Noted::steps, ksv_desc::proofs::Dots::steps))]
+#[tactic(auto, using(ksv_schema_values::proofs::Noted::steps, ksv_desc::proofs::Dots::steps))]
 fn timed(reader: &mut Reader, home: Home, entries: &[Entry]) -> Read<(Option<Expr>, Repeat)>
     ensures { Reads (timed (seen_home home.entry) (map pair entries.now)) (λ p. (option_map view p.0, plain_repeat p.1)) reader.old reader.new result }
 {
@@ -70,7 +69,7 @@ fn timed(reader: &mut Reader, home: Home, entries: &[Entry]) -> Read<(Option<Exp
 }
 
 /// Where an attribute of these keys ends.
-#[tactic(auto, using(crate::proofs::Noted::steps, ksv_desc::proofs::Dots::steps))]
+#[tactic(auto, using(ksv_schema_values::proofs::Noted::steps, ksv_desc::proofs::Dots::steps))]
 fn extent(reader: &mut Reader, home: Home, entries: &[Entry]) -> Read<Extent>
     ensures { Reads (extent (seen_home home.entry) (map pair entries.now)) plain_extent reader.old reader.new result }
 {
@@ -109,7 +108,7 @@ fn terminator_of(typed: &Option<TypeText>, entries: &[Entry]) -> Option<Terminat
 
 /// What such keys state, with this enum and the type whose text is at `type`; the cases of a switch must fit to the keys
 /// beside it.
-#[tactic(auto, using(crate::proofs::Noted::steps, ksv_desc::proofs::Dots::steps), unfolding(crate::specs::Members::parts))]
+#[tactic(auto, using(ksv_schema_values::proofs::Noted::steps, ksv_desc::proofs::Dots::steps), unfolding(crate::specs::Members::parts))]
 fn read_parts(
     reader: &mut Reader,
     home: Home,
@@ -143,7 +142,7 @@ fn read_parts(
 // ---- what an attribute or a parse instance needs
 
 /// Notes what an attribute needs but doesn't have.
-#[tactic(auto, using(crate::proofs::Noted::steps), unfolding(crate::specs::Members::needs))]
+#[tactic(auto, using(ksv_schema_values::proofs::Noted::steps), unfolding(crate::specs::Members::needs))]
 fn note_needs(
     least: &mut Least,
     home: Home,
@@ -166,7 +165,7 @@ fn note_needs(
 }
 
 /// Notes an unsupported terminator: of a type of the description, or of `strz` another one than 0.
-#[tactic(auto, using(crate::proofs::Noted::steps), unfolding(crate::specs::Members::unsupported))]
+#[tactic(auto, using(ksv_schema_values::proofs::Noted::steps), unfolding(crate::specs::Members::unsupported))]
 fn note_unsupported(least: &mut Least, home: Home, typed: &Option<TypeText>, entries: &[Entry])
     ensures { seen_fault least.new ≡ noted (seen_fault least.old) (unsupported (seen_home home.entry) (seen_type_at typed.now) (map pair entries.now)) }
 {
@@ -185,7 +184,7 @@ fn note_unsupported(least: &mut Least, home: Home, typed: &Option<TypeText>, ent
 }
 
 /// What an attribute or a parse instance of these keys reads, with this enum and the type whose text is at `type`.
-#[tactic(auto, using(crate::proofs::Noted::steps, ksv_desc::proofs::Dots::steps), unfolding(crate::specs::Members::field))]
+#[tactic(auto, using(ksv_schema_values::proofs::Noted::steps, ksv_desc::proofs::Dots::steps), unfolding(crate::specs::Members::field))]
 fn field(
     reader: &mut Reader,
     home: Home,
@@ -207,7 +206,7 @@ fn field(
 // ---- members, by their kinds
 
 /// What an attribute or a parse instance of these keys reads, with its enum.
-#[tactic(auto, using(crate::proofs::Noted::steps, ksv_desc::proofs::Dots::steps))]
+#[tactic(auto, using(ksv_schema_values::proofs::Noted::steps, ksv_desc::proofs::Dots::steps))]
 fn own_field(
     reader: &mut Reader,
     home: Home,
@@ -228,7 +227,7 @@ fn own_field(
 }
 
 /// An attribute.
-#[tactic(auto, using(crate::proofs::Noted::steps, ksv_desc::proofs::Dots::steps), unfolding(crate::specs::Members::attribute))]
+#[tactic(auto, using(ksv_schema_values::proofs::Noted::steps, ksv_desc::proofs::Dots::steps), unfolding(crate::specs::Members::attribute))]
 fn attribute(reader: &mut Reader, home: Home, line: usize, entries: &[Entry]) -> Read<MemberKind>
     ensures { Reads (attribute (seen_home home.entry) line (map pair entries.now)) plain_kind reader.old reader.new result }
 {
@@ -239,7 +238,7 @@ fn attribute(reader: &mut Reader, home: Home, line: usize, entries: &[Entry]) ->
 }
 
 /// A parse instance.
-#[tactic(auto, using(crate::proofs::Noted::steps, ksv_desc::proofs::Dots::steps), unfolding(crate::specs::Members::parse_instance))]
+#[tactic(auto, using(ksv_schema_values::proofs::Noted::steps, ksv_desc::proofs::Dots::steps), unfolding(crate::specs::Members::parse_instance))]
 fn parse_instance(
     reader: &mut Reader,
     home: Home,
@@ -266,7 +265,7 @@ fn parse_instance(
 }
 
 /// A value instance.
-#[tactic(auto, using(crate::proofs::Noted::steps, ksv_desc::proofs::Dots::steps), unfolding(crate::specs::Members::value_instance))]
+#[tactic(auto, using(ksv_schema_values::proofs::Noted::steps, ksv_desc::proofs::Dots::steps), unfolding(crate::specs::Members::value_instance))]
 fn value_instance(
     reader: &mut Reader,
     home: Home,
@@ -290,7 +289,7 @@ fn value_instance(
 }
 
 /// An instance without a place and a value, which is unsupported.
-#[tactic(auto, using(crate::proofs::Noted::steps, crate::proofs::Least::noted_cons, ksv_desc::proofs::Dots::steps), unfolding(crate::specs::Members::placeless))]
+#[tactic(auto, using(ksv_schema_values::proofs::Noted::steps, ksv_schema_values::proofs::Least::noted_cons, ksv_desc::proofs::Dots::steps), unfolding(crate::specs::Members::placeless))]
 fn placeless(
     reader: &mut Reader,
     home: Home,
@@ -310,7 +309,7 @@ fn placeless(
 }
 
 /// A member of this kind, whose name is on this line.
-#[tactic(auto, using(crate::proofs::Noted::steps), unfolding(crate::specs::Members::by_kind))]
+#[tactic(auto, using(ksv_schema_values::proofs::Noted::steps), unfolding(crate::specs::Members::by_kind))]
 fn by_kind(
     reader: &mut Reader,
     home: Home,
@@ -335,7 +334,7 @@ fn by_kind(
 }
 
 /// A member of these keys.
-#[tactic(auto, using(crate::proofs::Noted::steps), unfolding(crate::specs::Members::member_keys))]
+#[tactic(auto, using(ksv_schema_values::proofs::Noted::steps), unfolding(crate::specs::Members::member_keys))]
 fn member_keys<'a>(
     reader: &mut Reader,
     scopes: &'a Scopes<'a>,
@@ -385,7 +384,7 @@ fn is_named_again(scopes: &Scopes, within: usize, number: usize, member: &Member
 }
 
 /// The member of this number in its type.
-#[tactic(auto, using(crate::proofs::Noted::steps), unfolding(crate::specs::Members::member))]
+#[tactic(auto, using(ksv_schema_values::proofs::Noted::steps), unfolding(crate::specs::Members::member))]
 pub(crate) fn member<'a>(
     reader: &mut Reader,
     scopes: &'a Scopes<'a>,

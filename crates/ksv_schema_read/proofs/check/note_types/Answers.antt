@@ -2,9 +2,9 @@ use Rattle.std.proofs.Common.{◌≡◌, ℕ, suc, ◌+◌, ◌<◌, ◌≤◌, 
 use Rattle.std.proofs.lemmas.List.{drop_all}
 use Rattle.ksv_schema_scope.specs.declared.row.Row.{Row}
 use Rattle.ksv_schema_scope.specs.Code.{row_of}
-use Rattle.ksv_schema_read.specs.Faults.{Fault, noted}
+use Rattle.ksv_schema_values.specs.Faults.{Fault, noted}
 use Rattle.ksv_schema_read.specs.Description.{type_faults, all_types_faults}
-use Rattle.ksv_schema_read.proofs.Noted.{noted_append, noted_none}
+use Rattle.ksv_schema_values.proofs.Noted.{noted_append, noted_none}
 use Rattle.ksv_schema_read.proofs.check.note_types.Goals as goal
 
 step : (rs : List Row) (i : ℕ) (r : Row) (o p q : Option Fault) → i < length rs → r ≡ get_or rs i r → p ≡ noted o (type_faults i (row_of r))

@@ -1,8 +1,8 @@
 use Rattle.std.proofs.Common.{◌≡◌, drop, map}
 use Rattle.ksv_schema_scope.specs.Code.{row_of}
-use Rattle.ksv_schema_read.specs.Faults.{noted}
+use Rattle.ksv_schema_values.specs.Faults.{noted}
 use Rattle.ksv_schema_read.specs.Description.{all_types_faults}
-use Rattle.ksv_schema_read.specs.Code.{seen_fault}
+use Rattle.ksv_schema_values.specs.Code.{seen_fault}
 use Rattle.ksv_schema_read.proofs.check.note_types.Given as goal
 
 abbrev pub invariant-loop-number : goal.invariant-loop-number

@@ -2,9 +2,9 @@ use Rattle.std.proofs.Common.{map, subst, option_map}
 use Rattle.ksv_desc.specs.Pieces.{plain_kind}
 use Rattle.ksv_schema_scope.specs.Table.{declared}
 use Rattle.ksv_schema_scope.specs.Code.{member_of as row}
-use Rattle.ksv_schema_read.specs.Code.{IsRead}
+use Rattle.ksv_schema_values.specs.Code.{IsRead}
 use Rattle.ksv_schema_read.specs.Description.{members}
-use Rattle.ksv_schema_read.proofs.Each.{each_from_step, each_from_end, pushed_seen}
+use Rattle.ksv_schema_values.proofs.Each.{each_from_step, each_from_end, pushed_seen}
 use Rattle.ksv_schema_read.proofs.description.all_members.Goals as goal
 
 pub loop-within-preserved : goal.loop-within-preserved

@@ -2,7 +2,7 @@ use Rattle.ksv_desc.specs.Pieces.{plain_kind}
 use Rattle.ksv_schema_scope.specs.Table.{declared}
 use Rattle.ksv_schema_scope.specs.Code.{member_of as row}
 use Rattle.ksv_schema_read.specs.Members.{member}
-use Rattle.ksv_schema_read.proofs.Each.{each_from_step, each_from_end, pushed_seen}
+use Rattle.ksv_schema_values.proofs.Each.{each_from_step, each_from_end, pushed_seen}
 use Rattle.ksv_schema_read.proofs.description.each_member.Goals as goal
 
 pub loop-number-preserved : goal.loop-number-preserved

@@ -2,9 +2,9 @@ use Rattle.std.proofs.Common.{drop, map, option_map}
 use Rattle.ksv_desc.specs.Pieces.{plain_kind}
 use Rattle.ksv_schema_scope.specs.Table.{declared}
 use Rattle.ksv_schema_scope.specs.Code.{member_of as row}
-use Rattle.ksv_schema_read.specs.Reading.{each_from}
+use Rattle.ksv_schema_values.specs.Reading.{each_from}
 use Rattle.ksv_schema_read.specs.Members.{member}
-use Rattle.ksv_schema_read.proofs.Each.{IsSoFar}
+use Rattle.ksv_schema_values.proofs.Each.{IsSoFar}
 use Rattle.ksv_schema_read.proofs.description.each_member.Given as goal
 
 abbrev pub invariant-loop-number : goal.invariant-loop-number

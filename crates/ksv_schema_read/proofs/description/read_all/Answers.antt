@@ -2,7 +2,7 @@ use Rattle.std.proofs.Common.{◌∙◌, List, ap}
 use Rattle.ksv_desc.specs.Names.{distinct_behind}
 use Rattle.ksv_schema_scope.specs.Table.{declared}
 use Rattle.ksv_schema_scope.specs.Members.{Member}
-use Rattle.ksv_schema_read.specs.Reading.{each_from}
+use Rattle.ksv_schema_values.specs.Reading.{each_from}
 use Rattle.ksv_schema_read.specs.Description.{members, all_members}
 use Rattle.ksv_schema_read.proofs.Enums.{each_enum_words}
 use Rattle.ksv_schema_read.proofs.description.read_all.Goals as goal

@@ -4,7 +4,7 @@ use Rattle.ksv_yaml_tree.specs.View.{pair}
 use Rattle.ksv_schema_scope.specs.Enums.{number_of, id_of, is_numbered, is_named}
 use Rattle.ksv_schema_read.specs.Description.{is_number_again, is_id_again, constant}
 use Rattle.ksv_schema_read.specs.Plain.{has_number, has_id}
-use Rattle.ksv_schema_read.proofs.Noted.{steps}
+use Rattle.ksv_schema_values.proofs.Noted.{steps}
 use Rattle.ksv_schema_read.proofs.Given.{again_is}
 use Rattle.ksv_schema_read.proofs.Enums.{whole_words}
 use Rattle.ksv_schema_read.proofs.enumeration.constant.Goals as goal

@@ -3,7 +3,7 @@ use Rattle.ksv_yaml_tree.specs.View.{pair}
 use Rattle.ksv_desc.specs.Pieces.{plain_entry}
 use Rattle.ksv_schema_read.specs.Description.{constant}
 use Rattle.ksv_schema_read.specs.Plain.{AreOf}
-use Rattle.ksv_schema_read.proofs.Each.{each_from_step, each_from_end, pushed_seen}
+use Rattle.ksv_schema_values.proofs.Each.{each_from_step, each_from_end, pushed_seen}
 use Rattle.ksv_schema_read.proofs.Given.{take_more}
 use Rattle.ksv_schema_read.proofs.enumeration.constants.Goals as goal
 

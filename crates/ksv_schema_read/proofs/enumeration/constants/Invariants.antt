@@ -3,10 +3,10 @@ use Rattle.ksv_yaml_tree.specs.Tree.{Pair}
 use Rattle.ksv_yaml_tree.specs.View.{pair}
 use Rattle.ksv_desc.specs.Description.{Numbered}
 use Rattle.ksv_desc.specs.Pieces.{plain_entry}
-use Rattle.ksv_schema_read.specs.Reading.{Reading, each_from}
+use Rattle.ksv_schema_values.specs.Reading.{Reading, each_from}
 use Rattle.ksv_schema_read.specs.Description.{constant}
 use Rattle.ksv_schema_read.specs.Plain.{AreOf}
-use Rattle.ksv_schema_read.proofs.Each.{IsSoFar}
+use Rattle.ksv_schema_values.proofs.Each.{IsSoFar}
 use Rattle.ksv_schema_read.proofs.enumeration.constants.Given as goal
 
 abbrev pub invariant-loop-number : goal.invariant-loop-number

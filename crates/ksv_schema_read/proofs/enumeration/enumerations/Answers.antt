@@ -1,7 +1,7 @@
 use Rattle.ksv_desc.specs.Pieces.{plain_enum}
 use Rattle.ksv_schema_scope.specs.Code.{row_of}
 use Rattle.ksv_schema_read.specs.Description.{enum}
-use Rattle.ksv_schema_read.proofs.Each.{each_from_step, each_from_end, pushed_seen}
+use Rattle.ksv_schema_values.proofs.Each.{each_from_step, each_from_end, pushed_seen}
 use Rattle.ksv_schema_read.proofs.enumeration.enumerations.Goals as goal
 
 pub loop-row-preserved : goal.loop-row-preserved

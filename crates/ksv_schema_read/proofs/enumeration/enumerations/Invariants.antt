@@ -1,9 +1,9 @@
 use Rattle.std.proofs.Common.{drop, map, option_map}
 use Rattle.ksv_desc.specs.Pieces.{plain_enum}
 use Rattle.ksv_schema_scope.specs.Code.{row_of}
-use Rattle.ksv_schema_read.specs.Reading.{each, each_from}
+use Rattle.ksv_schema_values.specs.Reading.{each, each_from}
 use Rattle.ksv_schema_read.specs.Description.{enum}
-use Rattle.ksv_schema_read.proofs.Each.{IsSoFar}
+use Rattle.ksv_schema_values.proofs.Each.{IsSoFar}
 use Rattle.ksv_schema_read.proofs.enumeration.enumerations.Given as goal
 
 abbrev pub invariant-loop-row : goal.invariant-loop-row

@@ -7,10 +7,10 @@ use Rattle.ksv_desc.specs.Description.{ParseInstance}
 use Rattle.ksv_desc.specs.Pieces.{plain_field}
 use Rattle.ksv_schema_keys.specs.declared.keys.MappingKind.TheVariants as kinds
 use Rattle.ksv_schema_names.specs.declared.position.Site.TheVariants as sites
-use Rattle.ksv_schema_read.specs.Reading.{perhaps, must}
-use Rattle.ksv_schema_read.specs.Values.{expression}
+use Rattle.ksv_schema_values.specs.Reading.{perhaps, must}
+use Rattle.ksv_schema_values.specs.Values.{expression}
 use Rattle.ksv_schema_read.specs.Members.{own_field, parse_instance}
-use Rattle.ksv_schema_read.specs.Code.{seen_home}
+use Rattle.ksv_schema_values.specs.Code.{seen_home}
 use Rattle.ksv_schema_read.proofs.Both.{three_read}
 use Rattle.ksv_schema_read.proofs.member.parse_instance.Goals as goal
 

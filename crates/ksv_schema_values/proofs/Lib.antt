@@ -1,0 +1,5 @@
+-- Lemmas.
+pub mod Least
+pub mod Noted
+pub mod Items
+pub mod Each
