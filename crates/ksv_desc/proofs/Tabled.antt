@@ -11,11 +11,11 @@ use Rattle.ksv_desc.specs.Names.{has_names, AreDistinct, IsTableOf}
 abbrev has : List (List ℕ) → List ℕ → Bool
 has names w = list_any (bytes_eq w) names
 
-same_is : (w : List ℕ) → bytes_eq w w ≡ true
+pub same_is : (w : List ℕ) → bytes_eq w w ≡ true
 same_is w = (bytes_eq-Decides w w).1 refl
 
 -- a place is found where one element passes
-found_any : {A : Type 0} (t : A → Bool) (i : ℕ) (xs : List A) → is_some (position_from t i xs) ≡ list_any t xs
+pub found_any : {A : Type 0} (t : A → Bool) (i : ℕ) (xs : List A) → is_some (position_from t i xs) ≡ list_any t xs
 found_any t i [] = refl
 found_any {A = A} t i (x ∷ xs) = by_test (t x) (found_any t (i + 1) xs) where
   by_test : (b : Bool) → is_some (position_from t (i + 1) xs) ≡ list_any t xs → is_some (cond b (Some i) (position_from t (i + 1) xs)) ≡ (b || list_any t xs)
@@ -98,7 +98,7 @@ position_append t i k (x ∷ xs) ys h = by_test (t x) h (position_append t (i + 
   by_test true found later = found
   by_test false found later = later found
 
-position_last : {A : Type 0} (t : A → Bool) (i : ℕ) (xs : List A) (y : A) → list_any t xs ≡ false → t y ≡ true → position_from t i (xs ++ y ∷ []) ≡ Some (i + length xs)
+pub position_last : {A : Type 0} (t : A → Bool) (i : ℕ) (xs : List A) (y : A) → list_any t xs ≡ false → t y ≡ true → position_from t i (xs ++ y ∷ []) ≡ Some (i + length xs)
 position_last t i [] y none here = ap (λ (b : Bool). cond b (Some i) None) here ∙ ap Some (omega arith)
 position_last t i (x ∷ xs) y none here = by_test (t x) none (λ h. position_last t (i + 1) xs y h here) where
   by_test : (b : Bool) → (b || list_any t xs) ≡ false → (list_any t xs ≡ false → position_from t (i + 1) (xs ++ y ∷ []) ≡ Some (i + 1 + length xs)) → cond b (Some i) (position_from t (i + 1) (xs ++ y ∷ [])) ≡ Some (i + length (x ∷ xs))

@@ -3,11 +3,11 @@
 ghost use Rattle.std.specs.Prelude.{◌≡◌, ◌↔◌, IsTrue, ◌≤◌, ◌^◌, ℕ, List, [], ◌∷◌, map, length, string_bytes, slice_get, unwrap_or, OnOk, OnErr};
 ghost use Rattle.ksv_expr_tree.specs.Tree.{view, arguments_of};
 ghost use Rattle.ksv_desc.specs.Names.{distinct_behind, number_in, dotted, all_dotted};
-ghost use Rattle.ksv_desc.specs.Code.{dotted_in};
+ghost use Rattle.ksv_desc.specs.Code.{dotted_in, AreNumbered};
 
-use indexmap::IndexSet;
 use ksv_expr_tree::Expr;
 use std::alloc::{AllocError, Global};
+use std::collections::HashMap;
 use std::marker::Model;
 
 /// How many names a table may have at most.
@@ -16,15 +16,18 @@ const MOST: usize = 0x1_0000_0000;
 /// A table of names. Each name is there once, and its place is its number.
 #[derive(Drop)]
 pub struct Names {
-    names: IndexSet<String>,
+    /// The names, by number.
+    texts: Vec<String>,
+    /// The number of each name.
+    numbers: HashMap<String, u32>,
 }
 
 impl Model for Names {
     ghost Value = { List (List ℕ) };
 
-    ghost view = { λ n. map string_bytes n.names.keys };
+    ghost view = { λ n. map string_bytes n.texts.items };
 
-    ghost invariant = { λ n. length n.names.keys ≤ 2 ^ 32 };
+    ghost invariant = { λ n. AreNumbered (map string_bytes n.texts.items) n.numbers };
 }
 
 impl Names {
@@ -33,7 +36,8 @@ impl Names {
         ensures { result ≡ [] }
     {
         Names {
-            names: IndexSet::new(alloc),
+            texts: Vec::new(alloc),
+            numbers: HashMap::new(alloc),
         }
     }
 
@@ -41,7 +45,7 @@ impl Names {
     pub fn len(&self) -> usize
         ensures { result ≡ length self.now }
     {
-        self.names.len()
+        self.texts.len()
     }
 
     /// Whether there are none.
@@ -56,14 +60,20 @@ impl Names {
         ensures added { OnOk result (self.new ≡ distinct_behind self.old (name.now ∷ [])) }
         ensures kept { OnErr result (self.new ≡ self.old) }
     {
-        if self.names.contains(name) {
+        if self.numbers.contains_key(name) {
             return Ok(());
         }
-        if self.len() >= MOST {
+        let number = self.texts.len();
+        if number >= MOST {
             return Err(AllocError);
         }
-        let name = String::from_str(*self.names.allocator(), name)?;
-        self.names.insert(name)?;
+        let alloc = *self.texts.allocator();
+        let key = String::from_str(alloc, name)?;
+        self.texts.push(String::from_str(alloc, name)?)?;
+        if self.numbers.insert(key, number as u32).is_err() {
+            self.texts.pop();
+            return Err(AllocError);
+        }
         Ok(())
     }
 
@@ -83,21 +93,17 @@ impl Names {
     }
 
     /// The number of a name.
-    #[tactic(auto, unfolding(crate::specs::Names::number_in))]
     pub fn number_of(&self, name: &str) -> Option<u32>
         ensures { result ≡ number_in self.now name.now }
     {
-        match self.names.get_index_of(name) {
-            Some(number) => Some(number as u32),
-            None => None,
-        }
+        self.numbers.get(name).copied()
     }
 
     /// The name that has a number, or the empty text.
     pub fn name(&self, number: u32) -> &str
         ensures { result.now ≡ unwrap_or (slice_get self.now number) [] }
     {
-        match self.names.get_index(number as usize) {
+        match self.texts.get(number as usize) {
             Some(name) => name.as_str(),
             None => "",
         }
