@@ -3,6 +3,7 @@
 ghost use Rattle.std.specs.Prelude.{◌≡◌, None, map, option_map};
 ghost use Rattle.ksv_yaml_tree.specs.View.{pair};
 ghost use Rattle.ksv_expr_tree.specs.Tree.{view};
+ghost use Rattle.ksv_desc.specs.Description as desc;
 ghost use Rattle.ksv_desc.specs.Pieces.{plain_extent, plain_terminator, plain_repeat, plain_field, plain_kind};
 ghost use Rattle.ksv_schema_scope.specs.Table.{declared};
 ghost use Rattle.ksv_schema_scope.specs.Code.{member_of};
@@ -20,7 +21,7 @@ use ksv_schema_names::Site;
 use ksv_schema_scope::{Member, Role, Scopes};
 use ksv_schema_values::DescFaultKind::{BadValue, KeysAgainst, LeftOut, MissingKey};
 use ksv_schema_values::{
-    Home, Least, Read, Reader, both, choice, home_of, is_declared, needed_expression, note,
+    Home, Least, Read, Reader, alone, both, choice, home_of, is_declared, needed_expression, note,
     note_at_if, note_if, note_keys, note_missing, note_together, own_enum, paired,
     perhaps_expression,
 };
@@ -29,21 +30,35 @@ use ksv_yaml_tree::{Entry, find};
 
 // ---- attributes and parse instances
 
+/// As often as a count says.
+fn counted(count: Option<Expr>) -> Option<Repeat>
+    ensures { option_map plain_repeat result ≡ option_map desc.Expr (option_map view count) }
+{
+    Some(Repeat::Expr(count?))
+}
+
+/// Until a condition holds.
+fn until(last: Option<Expr>) -> Option<Repeat>
+    ensures { option_map plain_repeat result ≡ option_map desc.Until (option_map view last) }
+{
+    Some(Repeat::Until(last?))
+}
+
 /// How often an attribute of these keys is read, with these expressions.
 #[tactic(auto, unfolding(crate::specs::Members::repeat_of))]
-fn repeat_of(entries: &[Entry], count: Option<Expr>, until: Option<Expr>) -> Option<Repeat>
-    ensures { option_map plain_repeat result ≡ repeat_of (map pair entries.now) (option_map view count) (option_map view until) }
+fn repeat_of(entries: &[Entry], count: Option<Expr>, last: Option<Expr>) -> Option<Repeat>
+    ensures { option_map plain_repeat result ≡ repeat_of (map pair entries.now) (option_map view count) (option_map view last) }
 {
     if says(entries, b"repeat", b"eos") {
-        return Some(Repeat::Eos);
+        return alone(alone(Some(Repeat::Eos), count), last);
     }
     if says(entries, b"repeat", b"expr") {
-        return Some(Repeat::Expr(count?));
+        return alone(counted(count), last);
     }
     if says(entries, b"repeat", b"until") {
-        return Some(Repeat::Until(until?));
+        return alone(until(last), count);
     }
-    Some(Repeat::Once)
+    alone(alone(Some(Repeat::Once), count), last)
 }
 
 /// How often an attribute of these keys is read.
@@ -52,9 +67,9 @@ fn repeated(reader: &mut Reader, home: Home, entries: &[Entry]) -> Read<Repeat>
     ensures { Reads (repeated (seen_home home.entry) (map pair entries.now)) plain_repeat reader.old reader.new result }
 {
     let count = perhaps_expression(reader, home, Site::Count, find(entries, b"repeat-expr"))?;
-    let until = perhaps_expression(reader, home, Site::Until, find(entries, b"repeat-until"));
-    match both(count, until)? {
-        Some((count, until)) => Ok(repeat_of(entries, count, until)),
+    let last = perhaps_expression(reader, home, Site::Until, find(entries, b"repeat-until"));
+    match both(count, last)? {
+        Some((count, last)) => Ok(repeat_of(entries, count, last)),
         None => Ok(None),
     }
 }

@@ -117,6 +117,31 @@ fn number_field(context: Context, field: &mut Field)
     number_extent(context, &mut field.extent);
 }
 
+/// Gives the names in a parse instance their numbers.
+fn number_parse_instance(
+    context: Context,
+    place: &mut Expr,
+    stream: &mut Option<Expr>,
+    field: &mut Field,
+)
+    ensures placed { view place.new ≡ in_tree (context_of context.entry) (view place.old) }
+    ensures streamed { option_map view stream.new ≡ option_map (in_tree (context_of context.entry)) (option_map view stream.old) }
+    ensures read { plain_field field.new ≡ in_field (context_of context.entry) (plain_field field.old) }
+{
+    number_tree(context, place);
+    number_optional(context, stream);
+    number_field(context, field);
+}
+
+/// Gives the names in a value instance their numbers.
+fn number_value_instance(context: Context, condition: &mut Option<Expr>, value: &mut Expr)
+    ensures conditional { option_map view condition.new ≡ option_map (in_tree (context_of context.entry)) (option_map view condition.old) }
+    ensures calculated { view value.new ≡ in_tree (context_of context.entry) (view value.old) }
+{
+    number_optional(context, condition);
+    number_tree(context, value);
+}
+
 /// Gives the names of a member their numbers.
 pub(crate) fn number_kind(context: Context, kind: &mut MemberKind)
     ensures { plain_kind kind.new ≡ in_kind (context_of context.entry) (plain_kind kind.old) }
@@ -128,18 +153,11 @@ pub(crate) fn number_kind(context: Context, kind: &mut MemberKind)
             place,
             stream,
             field,
-        } => {
-            number_tree(context, place);
-            number_optional(context, stream);
-            number_field(context, field);
-        }
+        } => number_parse_instance(context, place, stream, field),
         MemberKind::ValueInstance {
             condition,
             value,
             ..
-        } => {
-            number_optional(context, condition);
-            number_tree(context, value);
-        }
+        } => number_value_instance(context, condition, value),
     }
 }

@@ -14,7 +14,7 @@ mod value;
 
 pub use fault::{DescFault, DescFaultKind, Least, note, note_if};
 pub use key::{note_keys, note_missing};
-pub use reader::{Home, Read, Reader, both, home_of, paired, pushed};
+pub use reader::{Home, Read, Reader, alone, both, home_of, paired, pushed};
 pub use rule::{note_at_if, note_together};
 pub use types::{choice, is_declared};
 pub use value::{needed_expression, own_enum, perhaps_expression};

@@ -85,6 +85,13 @@ pub fn paired<A: Drop, B: Drop>(one: Option<A>, other: Option<B>) -> Option<(A, 
     }
 }
 
+/// A part, without the other one.
+pub fn alone<A, B: Drop>(one: A, _other: B) -> A
+    ensures { result ≡ one }
+{
+    one
+}
+
 /// A part and the next one, if both are there.
 pub fn both<A: Drop, B: Drop>(one: Option<A>, other: Read<B>) -> Read<(A, B)>
     ensures { result ≡ both_of one other }
