@@ -18,10 +18,12 @@ use Rattle.ksv_rule_meaning.specs.Integers.{integer_value}
 use Rattle.ksv_rule_meaning.specs.Meaning.{meaning_of, rule_of}
 use Rattle.ksv_rule_meaning.specs.Values.{argument_at, argument_value, arguments_for, bytes_value, calc_value, calculated, content_value, cut_bytes, fixed_value, instance_value, kept, leaf_value, number_value, parameter_value, plain_value, text_value, value_at, value_of as value_of_of_values}
 use Rattle.ksv_rule_meaning.specs.Wanted.{expression, holds, integer_of, size_of, stream_for, truth_of, wanted}
-use Rattle.ksv_questions.specs.Dumps.{asked_part, begun_part, dump_question, elements_part, failed_part, fault_part, find_list, find_object, find_value, list_part, member_part, members_part, object_part, part, plain_part, unasked, value_part, whole_text}
+use Rattle.ksv_questions.specs.Dumps.{asked_part, begun_part, dump_question, elements_part, find_list, find_object, find_value, list_part, members_part, object_part, part, unasked, value_part, whole_text}
 use Rattle.ksv_questions.specs.Questions.{ask_end, ask_head, ask_value, first_asked, from_place, members_question, of_list, of_object, of_value, place_question, value_question}
-use Rattle.ksv_questions.specs.Texts.{bytes_text, fault_text, fault_words, member_name, member_text, quoted_text}
-use Rattle.ksv_questions.specs.Writing.{holds as holds_integer, integer_bytes, integer_type, little_endian, of_type, put_question}
+use Rattle.ksv_questions.specs.Writing.{of_type, put_question}
+use Rattle.ksv_texts.specs.Integers.{holds as holds_integer, integer_bytes, integer_type, little_endian}
+use Rattle.ksv_texts.specs.Parts.{failed_part, fault_part, member_part, plain_part}
+use Rattle.ksv_texts.specs.Texts.{bytes_text, fault_text, fault_words, member_name, member_text, quoted_text}
 use Rattle.ksv_desc.specs.Description.{Description}
 use Rattle.ksv_session.specs.Session.{Standing, begun}
 use Rattle.ksv_examples.specs.Descriptions.{description}

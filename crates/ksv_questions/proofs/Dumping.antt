@@ -12,9 +12,10 @@ use Rattle.ksv_expr_value.specs.declared.value.Value.TheVariants as values
 use Rattle.ksv_memo_rules.specs.Entry.{Memo}
 use Rattle.ksv_memo_rules.specs.Right.{IsRight}
 use Rattle.ksv_nodes.specs.declared.node.Node.{Node}
+use Rattle.ksv_texts.specs.Parts.{plain_part}
 use Rattle.ksv_questions.specs.Asking.{Asking, Heard}
 use Rattle.ksv_questions.specs.Code.{Runs, dumped, found_of}
-use Rattle.ksv_questions.specs.Dumps.{Found, Part, begun_part, elements_part, inner, members_part, or_written, part, plain_part, unasked, value_part, written}
+use Rattle.ksv_questions.specs.Dumps.{Found, Part, begun_part, elements_part, inner, members_part, or_written, part, unasked, value_part, written}
 use Rattle.ksv_questions.specs.Engines.{world}
 use Rattle.ksv_questions.specs.declared.asking.Untold.{Untold}
 use Rattle.ksv_questions.specs.declared.dump.Dumped.{Dumped}

@@ -18,9 +18,10 @@ use Rattle.ksv_expr_value.specs.declared.value.Value.TheVariants as values
 use Rattle.ksv_nodes.specs.declared.given.Given.TheVariants as givens
 use Rattle.ksv_nodes.specs.declared.given.Head.TheVariants as heads
 use Rattle.ksv_nodes.specs.declared.node.Node.{Node}
+use Rattle.ksv_texts.specs.Parts.{failed_part, fault_part, is_absence, member_part, plain_part}
 use Rattle.ksv_questions.specs.Answers.{answered, outcome}
 use Rattle.ksv_questions.specs.Asking.{Asking, Heard, result_of}
-use Rattle.ksv_questions.specs.Dumps.{Found, Part, asked_part, begin, begun_part, count_in, elements_part, failed_part, fault_part, find_list, find_object, find_value, inner, is_absence, list_part, member_part, members_part, object_in, object_part, or_written, part, plain_part, unasked, value_in, value_part}
+use Rattle.ksv_questions.specs.Dumps.{Found, Part, asked_part, begin, begun_part, count_in, elements_part, find_list, find_object, find_value, inner, list_part, members_part, object_in, object_part, or_written, part, unasked, value_in, value_part}
 
 -- ---- what each end of a question is
 

@@ -2,11 +2,8 @@ pub mod Fresh
 pub mod Asked
 pub mod Bound
 pub mod Steps
-pub mod TextLemmas
 pub mod AskLemmas
 pub mod Cases
-pub mod Json
 pub mod Dumping
 pub mod Exact
-pub mod Digits
 pub mod ReadBack

@@ -3,10 +3,10 @@ use Rattle.std.specs.Prelude.{ℕ, List, [], Result, Ok, Err}
 use Rattle.ksv_desc.specs.Description.{Description}
 use Rattle.ksv_nodes.specs.declared.node.Node.{Node}
 use Rattle.ksv_rule_meaning.specs.FromNothing.{from_nothing}
-use Rattle.ksv_questions.specs.Asking.{Asking, Failure, Heard, asks_of, result_of}
+use Rattle.ksv_texts.specs.Texts.{fault_text, refusal_text}
+use Rattle.ksv_questions.specs.Asking.{Asking, Failure, Faulty, Heard, Refused, asks_of, result_of}
 use Rattle.ksv_questions.specs.Dumps.{dump_question}
 use Rattle.ksv_questions.specs.Questions.{members_question, place_question, value_question}
-use Rattle.ksv_questions.specs.Texts.{failure_text}
 use Rattle.ksv_commands.specs.declared.command.Question.{Question}
 use Rattle.ksv_commands.specs.declared.command.Question.TheVariants as questions
 
@@ -27,6 +27,11 @@ asking d b (questions.Value p) = value_question d b p
 asking d b (questions.Place p) = place_question p
 asking d b (questions.Members p) = members_question d p
 asking d b (questions.Dump p) = dump_question d b p
+
+-- why a question fails
+abbrev pub failure_text : Description → Failure → List ℕ
+failure_text d (Faulty f) = fault_text d f
+failure_text d (Refused refusal) = refusal_text refusal
 
 -- the text that it ends in, or of why it fails
 abbrev pub told : Description → Result (List ℕ) Failure → List ℕ

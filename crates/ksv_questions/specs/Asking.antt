@@ -9,7 +9,7 @@ use Rattle.ksv_expr_value.specs.declared.fault.FaultKind.TheVariants as kinds
 use Rattle.ksv_nodes.specs.declared.given.Given.{Given}
 use Rattle.ksv_nodes.specs.declared.node.Node.{Node}
 use Rattle.ksv_nodes.specs.Turning.{fault_at}
-use Rattle.ksv_questions.specs.declared.refusal.Refusal.{Refusal}
+use Rattle.ksv_texts.specs.declared.refusal.Refusal.{Refusal}
 
 -- what is heard of a node
 abbrev pub Heard : Type 0

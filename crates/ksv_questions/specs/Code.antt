@@ -9,16 +9,13 @@ use Rattle.ksv_memo.specs.declared.engine.Answer.TheVariants as answers
 use Rattle.ksv_nodes.specs.declared.given.Given.{Given}
 use Rattle.ksv_nodes.specs.declared.node.Node.{Node}
 use Rattle.ksv_rule_meaning.specs.FromNothing.{circle}
-use Rattle.ksv_questions.specs.Answers.{asks, outcome}
+use Rattle.ksv_questions.specs.Answers.{asks, failure_text, outcome}
 use Rattle.ksv_questions.specs.Asking.{Asking, Faulty, Heard, Refused}
 use Rattle.ksv_questions.specs.Dumps.{Found, Part}
 use Rattle.ksv_questions.specs.Engines.{HasAsked, HasAskedSome, world}
-use Rattle.ksv_questions.specs.Texts.{failure_text}
 use Rattle.ksv_questions.specs.declared.asking.Untold.{Untold}
 use Rattle.ksv_questions.specs.declared.asking.Untold.TheVariants as untolds
 use Rattle.ksv_questions.specs.declared.dump.Dumped.{Dumped}
-use Rattle.ksv_questions.specs.declared.integer.IntegerType.{IntegerType as CodeType}
-use Rattle.ksv_questions.specs.Writing.{IntegerType}
 use Rattle.serde_json.specs.View.{view}
 use Rattle.serde_json.specs.declared.value.Value.{Value as Json}
 
@@ -50,9 +47,6 @@ dumped x = record { json = view x.json; left = x.left }
 abbrev pub found_of : {X : Type 0} → Result X Json → Found X
 found_of (Ok x) = Ok x
 found_of (Err json) = Err (view json)
-
-abbrev pub type_of : CodeType → IntegerType
-type_of t = record { is_signed = t.is_signed; size = t.size; order = t.order }
 
 -- the fault that prevents an answer is this one, unless memory ran out
 abbrev pub IsFault : Fault → Untold → Type 0

@@ -1,29 +1,22 @@
 -- What `dump P` asks, and the JSON that it writes: a part for P, and in an object or a list a part for each attribute of `seq`
 -- or each element, and so on. A fault is a part's text, and the dump goes on; only a fault of P's own value is the whole reply.
-use Rattle.std.specs.Prelude.{ℕ, zero, suc, ◌+◌, ◌-◌, ℤ, Bool, true, false, ◌&&◌, List, [], ◌∷◌, ◌++◌, codes, slice_range, Option, Some, None, Result, Ok, Err, if◌then◌else◌}
-use Rattle.hex.specs.Hex.{encode_lower}
-use Rattle.serde_json.specs.Data.{Data, null, boolean, number, string, array, object, Members, no_members, member, put}
-use Rattle.serde_json.specs.Find.{of_integer}
+use Rattle.std.specs.Prelude.{ℕ, zero, suc, ◌+◌, ◌-◌, List, [], ◌∷◌, ◌++◌, Option, Some, None, Result, Ok, Err}
+use Rattle.serde_json.specs.Data.{Data, array, object, Members, no_members, put}
 use Rattle.serde_json.specs.View.{items_of}
 use Rattle.serde_json.specs.Written.{compact_text}
 use Rattle.ksv_plan.specs.Plan.{Answer, Fail, ◌>>=◌}
 use Rattle.ksv_desc.specs.Description.{Description, fields, name}
 use Rattle.ksv_expr_value.specs.Trail.{Trail, child}
-use Rattle.ksv_expr_value.specs.contracts.path.PathPartialEq.TheImpl.{ghosts as path_tests}
-use Rattle.ksv_expr_value.specs.declared.fault.Fault.{Fault}
-use Rattle.ksv_expr_value.specs.declared.fault.FaultKind.{FaultKind}
-use Rattle.ksv_expr_value.specs.declared.fault.FaultKind.TheVariants as kinds
 use Rattle.ksv_expr_value.specs.declared.step.Step.TheVariants.{Index, Name}
 use Rattle.ksv_expr_value.specs.declared.value.Value.{Value}
 use Rattle.ksv_expr_value.specs.declared.value.Value.TheVariants as values
 use Rattle.ksv_nodes.specs.Rule.{head_node, rest_node, value_node}
-use Rattle.ksv_nodes.specs.Turning.{fault_at}
 use Rattle.ksv_nodes.specs.declared.given.Given.TheVariants as givens
 use Rattle.ksv_nodes.specs.declared.given.Head.TheVariants as heads
+use Rattle.ksv_texts.specs.Parts.{failed_part, fault_part, misfit_part, plain_part, too_long_part}
+use Rattle.ksv_texts.specs.declared.refusal.Refusal.TheVariants as refusals
 use Rattle.ksv_questions.specs.Asking.{Asking, Heard, Refused, hear}
 use Rattle.ksv_questions.specs.Questions.{ask_value}
-use Rattle.ksv_questions.specs.Texts.{fault_words, member_name}
-use Rattle.ksv_questions.specs.declared.refusal.Refusal.TheVariants as refusals
 
 -- the most parts of a dump, and how deep parts nest: a path has at most 64 steps
 abbrev pub part_limit : ℕ
@@ -31,44 +24,6 @@ part_limit = 10000
 
 abbrev pub depth_limit : ℕ
 depth_limit = 64
-
--- ---- parts that ask nothing
-
--- an object of one member
-abbrev pub one_member : List ℕ → Data → Data
-one_member key d = object (member key d no_members)
-
--- a fault by its words
-unfoldable pub fault_part : Description → Fault → Data
-fault_part d f = one_member (codes "fault") (string (fault_words d f))
-
-abbrev pub is_absence : FaultKind → Bool
-is_absence kinds.Absent = true
-is_absence _ = false
-
--- what is absent at the part's own path is null
-unfoldable pub failed_part : Description → Trail → Fault → Data
-failed_part d p f = if is_absence f.kind && path_tests.eq f.path p then null else fault_part d f
-
--- an answer that doesn't fit its node, which never occurs
-abbrev pub misfit_part : Description → Trail → Data
-misfit_part d p = fault_part d (fault_at p kinds.BadType)
-
-abbrev pub too_long_part : Description → Trail → Data
-too_long_part d p = fault_part d (fault_at p kinds.PathTooLong)
-
--- a number of an enum, by its enum's id and its own
-unfoldable pub member_part : Description → ℕ → ℤ → Data
-member_part d e n = object (member (codes "enum") (string (member_name d e n)) (member (codes "value") (number (of_integer n)) no_members))
-
--- a value that is neither an object nor a list
-unfoldable pub plain_part : Description → List ℕ → Trail → Value → Data
-plain_part d b p (values.Int n) = number (of_integer n)
-plain_part d b p (values.Bool truth) = boolean truth
-plain_part d b p (values.Text text) = string text
-plain_part d b p (values.Bytes from to) = one_member (codes "hex") (string (encode_lower (slice_range b from to)))
-plain_part d b p (values.Member e n) = member_part d e n
-plain_part d b p _ = misfit_part d p
 
 -- ---- what is found at a path
 

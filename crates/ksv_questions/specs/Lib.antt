@@ -1,6 +1,5 @@
 -- The definitions of questions.
 pub mod Asking
-pub mod Texts
 pub mod Questions
 pub mod Dumps
 pub mod Writing

@@ -1,9 +1,8 @@
 -- What `get`, `at` and `ls` ask about a path P, and the text that each ends in.
 use Rattle.std.specs.Fmt.{signed_decimal}
-use Rattle.std.specs.List.{flat_map}
 use Rattle.std.specs.Prelude.{ℕ, List, ◌++◌, codes, decimal, Option, Some, None}
 use Rattle.ksv_plan.specs.Plan.{Answer, ◌>>=◌}
-use Rattle.ksv_desc.specs.Description.{Description, members, name, type_id}
+use Rattle.ksv_desc.specs.Description.{Description, members, type_id}
 use Rattle.ksv_expr_value.specs.Trail.{Trail, child}
 use Rattle.ksv_expr_value.specs.declared.fault.FaultKind.TheVariants as kinds
 use Rattle.ksv_expr_value.specs.declared.step.Step.TheVariants.{Index}
@@ -14,8 +13,8 @@ use Rattle.ksv_nodes.specs.declared.given.Given.{Given}
 use Rattle.ksv_nodes.specs.declared.given.Given.TheVariants as givens
 use Rattle.ksv_nodes.specs.declared.given.Head.{Head}
 use Rattle.ksv_nodes.specs.declared.given.Head.TheVariants as heads
+use Rattle.ksv_texts.specs.Texts.{bytes_text, member_text, names_text, quoted_text, truth_text}
 use Rattle.ksv_questions.specs.Asking.{Asking, ask, fault_of_kind, misfit}
-use Rattle.ksv_questions.specs.Texts.{bytes_text, member_text, quoted_text, truth_text}
 
 -- what is at a path
 abbrev pub in_head : Trail → Given → Asking Head
@@ -117,9 +116,6 @@ place_question p = do
   of_head p h
 
 -- ---- `ls P`: what an object at P has, or how many elements a list
-
-abbrev pub names_text : Description → List ℕ → List ℕ
-names_text d names = flat_map (λ x. codes " " ++ name d x) names
 
 abbrev pub parts_of : Description → Trail → Head → Asking (List ℕ)
 parts_of d p (heads.Absent at) = Answer (codes "absent")

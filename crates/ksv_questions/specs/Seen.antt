@@ -2,8 +2,8 @@
 use Rattle.std.specs.Prelude.{◌≡◌, Result, Ok, Err, String, string_bytes}
 use Rattle.std.specs.declared.alloc.Global.{Global}
 use Rattle.ksv_desc.specs.Description.{Description}
+use Rattle.ksv_questions.specs.Answers.{failure_text}
 use Rattle.ksv_questions.specs.Asking.{Failure}
-use Rattle.ksv_questions.specs.Texts.{failure_text}
 use Rattle.ksv_questions.specs.Writing.{Overwrite}
 use Rattle.ksv_questions.specs.declared.put.Overwrite.{Overwrite as CodeOverwrite}
 

@@ -7,12 +7,12 @@ ghost use Rattle.ksv_questions.specs.Asking.{ask, hear, passed};
 ghost use Rattle.ksv_questions.specs.Code.{IsFault, Runs, Settles, plain_answer};
 ghost use Rattle.ksv_questions.specs.Engines.{world};
 
-use crate::refusal::Refusal;
 use ksv_bytes::Buffer;
 use ksv_expr_value::{Fault, FaultKind, Path};
 use ksv_memo::{Answer, Engine};
 use ksv_nodes::{Given, Node, NodeKind};
 use ksv_rule_meaning::{Described, NodeRules};
+use ksv_texts::Refusal;
 use std::alloc::{AllocError, Global};
 
 /// What is heard of a node.

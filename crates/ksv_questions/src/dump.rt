@@ -12,13 +12,12 @@ ghost use Rattle.ksv_questions.specs.Engines.{world};
 use crate::asking::Untold;
 use crate::found::{find_list, find_object, find_value};
 use crate::parts::ask_value;
-use crate::refusal::Refusal;
-use crate::written::{kind_part, plain_part, push_element, put_member};
 use ksv_bytes::Buffer;
 use ksv_desc::Desc;
 use ksv_expr_value::{FaultKind, Path, Value};
 use ksv_memo::Engine;
 use ksv_rule_meaning::{Described, NodeRules};
+use ksv_texts::{Refusal, kind_part, plain_part, push_element, put_member};
 use serde_json::{Map, Value as Json};
 use std::alloc::Global;
 

@@ -10,13 +10,13 @@ ghost use Rattle.ksv_questions.specs.Dumps.{count_in, find_list, find_object, fi
 ghost use Rattle.ksv_questions.specs.Engines.{world};
 
 use crate::asking::{Heard, Untold, hear};
-use crate::written::{failed_part, fault_part, kind_part};
 use ksv_bytes::Buffer;
 use ksv_desc::Desc;
 use ksv_expr_value::{FaultKind, Path, Value};
 use ksv_memo::Engine;
 use ksv_nodes::{Given, Head, NodeKind};
 use ksv_rule_meaning::{Described, NodeRules};
+use ksv_texts::{failed_part, fault_part, kind_part};
 use serde_json::Value as Json;
 use std::alloc::Global;
 

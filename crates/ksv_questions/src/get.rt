@@ -9,13 +9,13 @@ ghost use Rattle.ksv_questions.specs.Questions.{object_text, of_object, of_value
 use crate::asking::{Untold, fault_at};
 use crate::list::of_list;
 use crate::parts::{ask_head, ask_value};
-use crate::text::{bytes_text, integer_text, member_text, quoted_text, truth_text};
 use ksv_bytes::Buffer;
 use ksv_desc::Desc;
 use ksv_expr_value::{FaultKind, Path, Value};
 use ksv_memo::Engine;
 use ksv_nodes::Head;
 use ksv_rule_meaning::{Described, NodeRules};
+use ksv_texts::{bytes_text, integer_text, member_text, quoted_text, truth_text};
 use std::alloc::Global;
 
 /// An object by its type's id; any other head doesn't fit.

@@ -6,13 +6,12 @@ ghost use Rattle.ksv_questions.specs.Answers.{asks, outcome};
 ghost use Rattle.ksv_questions.specs.Code.{Runs, Settles};
 ghost use Rattle.ksv_questions.specs.Engines.{HasAsked, HasAskedSome, world};
 ghost use Rattle.ksv_questions.specs.Seen.{PutTells, overwrite_of};
-ghost use Rattle.ksv_questions.specs.Writing.{integer_type, of_type, over_head, put_question};
+ghost use Rattle.ksv_questions.specs.Writing.{of_type, over_head, put_question};
+ghost use Rattle.ksv_texts.specs.Integers.{integer_type};
 
 use crate::asking::Untold;
-use crate::integer::{holds, integer_bytes, integer_type};
 use crate::parts::ask_head;
 use crate::question::failure_text;
-use crate::refusal::Refusal;
 use arrayvec::ArrayVec;
 use ksv_bytes::Buffer;
 use ksv_desc::Desc;
@@ -20,6 +19,7 @@ use ksv_expr_value::{Integer, Path};
 use ksv_memo::Engine;
 use ksv_nodes::{Head, Leaf};
 use ksv_rule_meaning::{Described, NodeRules};
+use ksv_texts::{Refusal, holds, integer_bytes, integer_type};
 use std::alloc::{AllocError, Global};
 
 /// Bytes that are written over others.

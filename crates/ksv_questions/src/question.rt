@@ -11,12 +11,12 @@ use crate::dump::dump_question;
 use crate::get::value_question;
 use crate::members::members_question;
 use crate::place::place_question;
-use crate::text::{fault_text, refusal_text};
 use ksv_bytes::Buffer;
 use ksv_commands::Question;
 use ksv_desc::Desc;
 use ksv_memo::Engine;
 use ksv_rule_meaning::{Described, NodeRules};
+use ksv_texts::{fault_text, refusal_text};
 use std::alloc::{AllocError, Global};
 
 /// What an engine was asked for a question.

@@ -6,9 +6,9 @@ use Rattle.ksv_bytes.specs.declared.edit.EditRefusal.TheVariants as edits
 use Rattle.ksv_desc.specs.Description.{Description}
 use Rattle.ksv_lines.specs.Lines.{line_room, lines_of}
 use Rattle.ksv_lines.specs.declared.device.Failed.{Failed}
+use Rattle.ksv_questions.specs.Answers.{failure_text}
 use Rattle.ksv_questions.specs.Asking.{Failure}
 use Rattle.ksv_questions.specs.Seen.{overwrite_of}
-use Rattle.ksv_questions.specs.Texts.{failure_text}
 use Rattle.ksv_questions.specs.Writing.{Overwrite}
 use Rattle.ksv_questions.specs.declared.put.Overwrite.{Overwrite as CodeOverwrite}
 use Rattle.ksv_session.specs.Explored.{Explored, description_of}

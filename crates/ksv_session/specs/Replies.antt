@@ -7,9 +7,9 @@ use Rattle.ksv_commands.specs.Commands.{command_of}
 use Rattle.ksv_commands.specs.declared.command.Command.{Command}
 use Rattle.ksv_commands.specs.declared.command.Command.TheVariants.{App, Ask, Blank, Bytes, Del, Ins, Put, Quit, Refused, Set, Size, Stats}
 use Rattle.ksv_desc.specs.Description.{Description}
-use Rattle.ksv_questions.specs.Answers.{outcome, question_text}
+use Rattle.ksv_questions.specs.Answers.{failure_text, outcome, question_text}
 use Rattle.ksv_questions.specs.Asking.{Failure}
-use Rattle.ksv_questions.specs.Texts.{bytes_text, failure_text}
+use Rattle.ksv_texts.specs.Texts.{bytes_text}
 use Rattle.ksv_questions.specs.Writing.{Overwrite, put_question}
 use Rattle.ksv_commands.specs.declared.refusal.LineRefusal.{LineRefusal}
 use Rattle.ksv_commands.specs.declared.refusal.LineRefusal.TheVariants as refusals

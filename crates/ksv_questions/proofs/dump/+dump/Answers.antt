@@ -9,10 +9,10 @@ use Rattle.ksv_desc.specs.Description.{fields, name}
 use Rattle.ksv_desc.specs.Whole.{plain_pieces}
 use Rattle.ksv_expr_value.specs.Trail.{child}
 use Rattle.ksv_expr_value.specs.declared.step.Step.TheVariants.{Index, Name}
+use Rattle.ksv_texts.proofs.Json.{array_view, object_view}
 use Rattle.ksv_questions.specs.Code.{Runs, dumped, found_of}
 use Rattle.ksv_questions.specs.Dumps.{Part, asked_part, begin, begun_part, elements_part, find_list, find_object, find_value, inner, list_part, members_part, object_part, or_written, part, unasked, value_part, written}
 use Rattle.ksv_questions.proofs.Dumping.{at_bottom, at_level, drop_end, drop_step, elements_begin, elements_end, elements_step, found_inside, found_written, is_deeper, members_end, members_step, pending_as, pending_same, plain_is}
-use Rattle.ksv_questions.proofs.Json.{array_view, object_view}
 use Rattle.ksv_questions.proofs.Steps.{pending_on, pending_run, pending_short, runs_failed, runs_first, runs_settled, settled_failed}
 use Rattle.ksv_questions.proofs.dump.+dump.Goals as goal
 

@@ -2,7 +2,8 @@ use Rattle.std.proofs.Common.{◌∙◌, ◌++◌, Global, Ok, String, ap, codes
 use Rattle.ksv_plan.specs.Plan.{Answer}
 use Rattle.ksv_desc.specs.Description.{members}
 use Rattle.ksv_desc.specs.Whole.{plain_pieces}
-use Rattle.ksv_questions.specs.Questions.{names_text, parts_of}
+use Rattle.ksv_texts.specs.Texts.{names_text}
+use Rattle.ksv_questions.specs.Questions.{parts_of}
 use Rattle.ksv_questions.proofs.Cases.{no_members}
 use Rattle.ksv_questions.proofs.Steps.{runs_settled}
 use Rattle.ksv_questions.proofs.members.parts_of.Goals as goal

@@ -1,7 +1,0 @@
-use Rattle.std.proofs.Common.{◌≡◌, ◌++◌, ◌-◌, length}
-use Rattle.ksv_questions.specs.Writing.{little_endian}
-use Rattle.ksv_questions.proofs.integer.little_endian.Given as goal
-
--- the digits so far, with those of what is left, are all
-abbrev pub invariant-loop-index : goal.invariant-loop-index
-invariant-loop-index l = (l.digits.items ++ little_endian (l.size - l._index) l.rest ≡ little_endian l.size l.number) × (length l.digits.items ≡ l._index)

@@ -1,0 +1,4 @@
+pub mod TextLemmas
+pub mod Json
+pub mod Digits
+pub mod Powers
