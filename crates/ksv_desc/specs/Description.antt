@@ -1,6 +1,6 @@
 -- What a description is: its types with their members, its enums, and the names of all members. Types, enums and names are
 -- known by their numbers.
-use Rattle.std.specs.Prelude.{ℕ, Bool, true, false, if◌then◌else◌, ℤ, List, [], ◌∷◌, map, filter, find, take, Option, Some, None, option_map, option_and_then, unwrap_or, slice_get}
+use Rattle.std.specs.Prelude.{ℕ, Bool, true, false, if◌then◌else◌, ℤ, List, [], map, filter, find, take, Option, Some, None, option_map, option_and_then, unwrap_or, slice_get}
 use Rattle.std.specs.List.{position_from}
 use Rattle.std.specs.Option.{option_map_or}
 use Rattle.std.specs.Ordering.{int_eq}

@@ -37,12 +37,7 @@ pub struct Home<'a> {
 pub type Read<T> = Result<Option<T>, AllocError>;
 
 /// The place of a member's mapping, in the type of this number.
-pub fn home_of<'a>(
-    scopes: &'a Scopes<'a>,
-    within: usize,
-    role: Role,
-    entries: &[Entry],
-) -> Home<'a>
+pub fn home_of<'a>(scopes: &'a Scopes<'a>, within: usize, role: Role, entries: &[Entry]) -> Home<'a>
     ensures { seen_home result ≡ home_of (declared scopes.now) within role (map pair entries.now) }
 {
     let is_eos = says(entries, b"repeat", b"eos");

@@ -107,12 +107,7 @@ pub(crate) fn note_against(least: &mut Least, one: Option<usize>, other: Option<
 
 /// Notes a key, if there is one with which something is wrong.
 #[tactic(auto, using(crate::proofs::Noted::steps))]
-pub fn note_at_if(
-    least: &mut Least,
-    is_wrong: bool,
-    key: Option<&Entry>,
-    kind: DescFaultKind,
-)
+pub fn note_at_if(least: &mut Least, is_wrong: bool, key: Option<&Entry>, kind: DescFaultKind)
     ensures { seen_fault least.new ≡ noted (seen_fault least.old) (at_if is_wrong (seen_entry key.entry) (number_of kind)) }
 {
     match key {

@@ -1,5 +1,5 @@
 -- A name is there, or it goes last.
-use Rattle.std.proofs.Common.{◌≡◌, List, ℕ, [], ◌∷◌, sym, ap, ◌∙◌, arith}
+use Rattle.std.proofs.Common.{List, ℕ, [], ◌∷◌, sym, ap, ◌∙◌, arith}
 use Rattle.ksv_desc.specs.Names.{distinct_behind}
 use Rattle.ksv_desc.proofs.Table.{stays, goes_last, longer, numbered, on_ok}
 use Rattle.ksv_desc.proofs.names.Names.add.Goals as goal

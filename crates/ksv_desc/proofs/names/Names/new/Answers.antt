@@ -1,6 +1,4 @@
 -- A table of no names has no number.
-use Rattle.std.proofs.Common.{List, ℕ, refl, ap, ◌∙◌, arith, map, string_bytes}
-use Rattle.ksv_desc.specs.Names.{number_in}
 use Rattle.ksv_desc.proofs.Table.{none_yet}
 use Rattle.ksv_desc.proofs.names.Names.new.Goals as goal
 
