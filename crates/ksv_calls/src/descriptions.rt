@@ -2,7 +2,7 @@
 
 use crate::nodes::{LIST, described};
 use ksv_schema::{DescFault, DescFaultKind};
-use ksv_yaml::{Yaml, find, read};
+use ksv_yaml::{Entry, Yaml, find, read};
 use std::test::Fail;
 
 /// Whether the second of two items is quoted, and the first a text.
@@ -18,18 +18,26 @@ fn are_items(list: &Yaml) -> bool {
     }
 }
 
+/// Whether the entry `a` is a list of two items on the first line, and there is no entry `c`.
+fn are_entries(entries: &[Entry]) -> bool {
+    let Some(list) = find(entries, b"a") else {
+        return false;
+    };
+    let is_list = list.line() == 1 && list.key() == b"a".as_slice() && are_items(list.value());
+    is_list && find(entries, b"c").is_none()
+}
+
+/// Whether a tree is a mapping with such entries.
+fn is_mapping(tree: &Yaml) -> bool {
+    let is_plain = tree.text().is_none() && tree.items().is_none() && !tree.is_quoted();
+    is_plain && are_entries(tree.entries().unwrap_or(&[]))
+}
+
 #[test]
 fn a_tree_answers_what_is_asked(rt: HostRuntime) -> Result<(), Fail> {
     let tree = read(rt.alloc(), b"a: [1, '2']\nb: {c: 3}")?;
-    let is_mapping = tree.text().is_none() && tree.items().is_none() && !tree.is_quoted();
-    let entries = tree.entries().unwrap_or(&[]);
-    let is_found = match find(entries, b"a") {
-        Some(list) => {
-            list.line() == 1 && list.key() == b"a".as_slice() && are_items(list.value())
-        }
-        None => false,
-    };
-    assert!(rt; is_mapping && is_found && find(entries, b"c").is_none());
+    let is_mapping = is_mapping(&tree);
+    assert!(rt; is_mapping);
     Ok(())
 }
 

@@ -2,7 +2,7 @@
 
 use ksv::{Desc, End, Failed, Memory, Sink, Std, describe, run};
 use ksv_bytes::{Buffer, Window};
-use std::alloc::Global;
+use std::alloc::{AllocError, Global};
 use std::io;
 use std::test::Fail;
 
@@ -83,7 +83,7 @@ pub(crate) fn accepted(alloc: Global, ksy: &[u8]) -> Result<Desc, Fail> {
 }
 
 /// The bytes of a buffer, in a vector of their own.
-fn bytes_of(alloc: Global, buffer: &Buffer) -> Result<Vec<u8>, Fail> {
+pub(crate) fn bytes_of(alloc: Global, buffer: &Buffer) -> Result<Vec<u8>, AllocError> {
     let window = Window {
         from: 0,
         to: buffer.len(),

@@ -1,11 +1,12 @@
 //! What a session keeps across random lines, beside a slow program that evaluates each node from nothing.
 
+use crate::devices::bytes_of;
 use crate::plain::{File, Plain};
 use crate::random::Random;
 use ksv::Session;
-use ksv_bytes::{Buffer, Change, Window};
+use ksv_bytes::{Buffer, Change};
 use ksv_rules::{Described, Node, NodeKind, path_of};
-use ksv_schema::{Desc, load};
+use ksv_schema::load;
 use ksv_yaml::{Yaml, read};
 use std::alloc::{AllocError, Global};
 use std::test::Fail;
@@ -43,24 +44,12 @@ const PATHS: [&str; 14] = [
     "/that",
 ];
 
-/// The description that a tree states.
-fn loaded(alloc: Global, tree: &Yaml) -> Result<Desc, Fail> {
-    match load(alloc, tree) {
-        Ok(desc) => Ok(desc),
-        Err(_) => Err(Fail::from("the description is refused")),
+/// One of the paths.
+fn random_path(random: &mut Random) -> &'static str {
+    match PATHS.get(random.below(14) as usize) {
+        Some(text) => *text,
+        None => "/",
     }
-}
-
-/// The bytes of a buffer, in a vector of their own.
-fn bytes_of(alloc: Global, buffer: &Buffer) -> Result<Vec<u8>, AllocError> {
-    let window = Window {
-        from: 0,
-        to: buffer.len(),
-    };
-    let (front, back) = buffer.parts(window);
-    let mut bytes = front.to_vec(alloc)?;
-    bytes.extend_from_slice(back)?;
-    Ok(bytes)
 }
 
 /// Some random bytes, so few that many of them are equal.
@@ -72,37 +61,37 @@ fn random_bytes(alloc: Global, random: &mut Random, count: u8) -> Result<Vec<u8>
     Ok(bytes)
 }
 
-/// Makes a random edit of some bytes: its line, and what it changes if it is accepted.
-fn random_edit(
-    alloc: Global,
-    bytes: &mut Buffer,
-    random: &mut Random,
-) -> Result<(String, Option<Change>), AllocError> {
+/// A random change, and the byte that it writes.
+fn random_change(random: &mut Random) -> (Change, u8) {
     let (at, n) = (random.below(24) as usize, random.below(3) as usize);
     let byte = random.below(9);
-    let (line, change, outcome) = match random.below(4) {
-        0 => (
-            format!(in alloc; "set {at} {byte:02x}")?,
-            Change::Overwrite { at, n: 1 },
-            bytes.overwrite(at, &[byte]),
-        ),
-        1 => (
-            format!(in alloc; "ins {at} {byte:02x}")?,
-            Change::Insert { at, n: 1 },
-            bytes.insert(at, &[byte]),
-        ),
-        2 => (
-            format!(in alloc; "del {at} {n}")?,
-            Change::Delete { at, n },
-            bytes.delete(at, n),
-        ),
-        _ => (
-            format!(in alloc; "app {byte:02x}")?,
-            Change::Append,
-            bytes.append(&[byte]),
-        ),
+    let change = match random.below(4) {
+        0 => Change::Overwrite { at, n: 1 },
+        1 => Change::Insert { at, n: 1 },
+        2 => Change::Delete { at, n },
+        _ => Change::Append,
     };
-    Ok((line, if outcome.is_ok() { Some(change) } else { None }))
+    (change, byte)
+}
+
+/// The line that makes a change.
+fn line_of(alloc: Global, change: Change, byte: u8) -> Result<String, AllocError> {
+    match change {
+        Change::Overwrite { at, .. } => format!(in alloc; "set {at} {byte:02x}"),
+        Change::Insert { at, .. } => format!(in alloc; "ins {at} {byte:02x}"),
+        Change::Delete { at, n } => format!(in alloc; "del {at} {n}"),
+        Change::Append => format!(in alloc; "app {byte:02x}"),
+    }
+}
+
+/// Makes a change of some bytes. Whether it is accepted.
+fn is_made(bytes: &mut Buffer, change: Change, byte: u8) -> bool {
+    match change {
+        Change::Overwrite { at, .. } => bytes.overwrite(at, &[byte]).is_ok(),
+        Change::Insert { at, .. } => bytes.insert(at, &[byte]).is_ok(),
+        Change::Delete { at, n } => bytes.delete(at, n).is_ok(),
+        Change::Append => bytes.append(&[byte]).is_ok(),
+    }
 }
 
 /// A session, and the slow program beside it with the bytes that both should have.
@@ -116,16 +105,22 @@ struct Pair<'a> {
     session: Session,
 }
 
-/// A pair over random bytes.
-fn random_pair<'a>(alloc: Global, tree: &'a Yaml, random: &mut Random) -> Result<Pair<'a>, Fail> {
-    let count = 8 + random.below(13);
-    let bytes = random_bytes(alloc, random, count)?;
-    let session = Session::new(alloc, loaded(alloc, tree)?, bytes.as_slice().to_vec(alloc)?)?;
+/// A session over the description that a tree states, and these bytes.
+fn session_over(alloc: Global, tree: &Yaml, bytes: &Buffer) -> Result<Session, Fail> {
+    let bytes = bytes_of(alloc, bytes)?;
+    let desc = load(alloc, tree)?;
+    Ok(Session::new(alloc, desc, bytes)?)
+}
+
+/// A pair over these bytes.
+fn pair_over<'a>(alloc: Global, tree: &'a Yaml, bytes: Buffer) -> Result<Pair<'a>, Fail> {
+    let desc = load(alloc, tree)?;
+    let session = session_over(alloc, tree, &bytes)?;
     Ok(Pair {
         alloc,
         tree,
-        rules: Described::new(loaded(alloc, tree)?),
-        bytes: Buffer::new(bytes)?,
+        rules: Described::new(desc),
+        bytes,
         plain: Plain {
             kept: Vec::new(alloc),
             turns: Some(0),
@@ -134,37 +129,56 @@ fn random_pair<'a>(alloc: Global, tree: &'a Yaml, random: &mut Random) -> Result
     })
 }
 
+/// A pair over random bytes.
+fn random_pair<'a>(alloc: Global, tree: &'a Yaml, random: &mut Random) -> Result<Pair<'a>, Fail> {
+    let count = 8 + random.below(13);
+    let bytes = random_bytes(alloc, random, count)?;
+    pair_over(alloc, tree, Buffer::new(bytes)?)
+}
+
 impl<'a> Pair<'a> {
-    /// Whether `stats` tells what the slow program keeps.
-    fn is_told(&mut self) -> Result<bool, AllocError> {
+    /// What `stats` should tell: what the slow program keeps.
+    fn stats(&self) -> Result<String, AllocError> {
         let kept = self.plain.kept.len();
-        let wanted = match self.plain.turns {
-            Some(turns) => format!(in self.alloc; "kept {kept} turns {turns}\n")?,
-            None => format!(in self.alloc; "kept {kept} turns -\n")?,
-        };
+        match self.plain.turns {
+            Some(turns) => format!(in self.alloc; "kept {kept} turns {turns}\n"),
+            None => format!(in self.alloc; "kept {kept} turns -\n"),
+        }
+    }
+
+    /// Whether the session tells so.
+    fn is_told(&mut self) -> Result<bool, AllocError> {
+        let wanted = self.stats()?;
         Ok(self.session.line(b"stats").as_bytes() == wanted.as_bytes())
+    }
+
+    /// Asks the slow program for what is at a path, if it is one.
+    fn get_plain(&mut self, text: &str) -> Result<(), AllocError> {
+        let Some(path) = path_of(self.alloc, self.rules.desc(), text.as_bytes())? else {
+            return Ok(());
+        };
+        let file = File {
+            alloc: self.alloc,
+            rules: &self.rules,
+            bytes: &self.bytes,
+        };
+        let kind = NodeKind::Value;
+        self.plain.get(file, Node { kind, path })
+    }
+
+    /// Whether the session answers a line as a new one over the same bytes does.
+    fn answers_as_new(&mut self, line: &[u8]) -> Result<bool, Fail> {
+        let mut new = session_over(self.alloc, self.tree, &self.bytes)?;
+        let reply = self.session.line(line);
+        Ok(reply.as_bytes() == new.line(line).as_bytes())
     }
 
     /// Asks both for what is at a random path. Whether the session answers as a new one over the same bytes does.
     fn get(&mut self, random: &mut Random) -> Result<bool, Fail> {
-        let text = match PATHS.get(random.below(14) as usize) {
-            Some(text) => *text,
-            None => "/",
-        };
+        let text = random_path(random);
+        self.get_plain(text)?;
         let line = format!(in self.alloc; "get {text}")?;
-        if let Some(path) = path_of(self.alloc, self.rules.desc(), text.as_bytes())? {
-            let file = File {
-                alloc: self.alloc,
-                rules: &self.rules,
-                bytes: &self.bytes,
-            };
-            let kind = NodeKind::Value;
-            self.plain.get(file, Node { kind, path })?;
-        }
-        let bytes = bytes_of(self.alloc, &self.bytes)?;
-        let mut fresh = Session::new(self.alloc, loaded(self.alloc, self.tree)?, bytes)?;
-        let reply = self.session.line(line.as_bytes());
-        Ok(reply.as_bytes() == fresh.line(line.as_bytes()).as_bytes())
+        self.answers_as_new(line.as_bytes())
     }
 
     /// Makes a change that was accepted: what the slow program keeps is looked at on the bytes before.
@@ -177,31 +191,48 @@ impl<'a> Pair<'a> {
         self.plain.forget(file, change)
     }
 
-    /// Makes a random edit in both. Whether the session takes or refuses it as a buffer does.
-    fn edit(&mut self, random: &mut Random) -> Result<bool, Fail> {
+    /// Makes a change for the slow program. Whether it is accepted.
+    fn change(&mut self, change: Change, byte: u8) -> Result<bool, Fail> {
         let before = Buffer::new(bytes_of(self.alloc, &self.bytes)?)?;
-        let (line, change) = random_edit(self.alloc, &mut self.bytes, random)?;
-        if let Some(change) = change {
+        let is_made = is_made(&mut self.bytes, change, byte);
+        if is_made {
             self.forget(&before, change)?;
         }
+        Ok(is_made)
+    }
+
+    /// Whether the session takes the line of a change.
+    fn takes(&mut self, line: &[u8]) -> Result<bool, AllocError> {
         let done = format!(in self.alloc; "ok {}\n", self.bytes.len())?;
-        let reply = self.session.line(line.as_bytes());
-        Ok((reply.as_bytes() == done.as_bytes()) == change.is_some())
+        Ok(self.session.line(line).as_bytes() == done.as_bytes())
+    }
+
+    /// Makes a random edit in both. Whether the session takes or refuses it as a buffer does.
+    fn edit(&mut self, random: &mut Random) -> Result<bool, Fail> {
+        let (change, byte) = random_change(random);
+        let is_made = self.change(change, byte)?;
+        let line = line_of(self.alloc, change, byte)?;
+        Ok(self.takes(line.as_bytes())? == is_made)
+    }
+
+    /// Whether the session keeps and tells what the slow program does, after each of 40 random lines.
+    fn are_lines_right(&mut self, random: &mut Random) -> Result<bool, Fail> {
+        let mut are_right = true;
+        for _ in 0..40 {
+            are_right &= match random.below(2) {
+                0 => self.get(random)?,
+                _ => self.edit(random)?,
+            };
+            are_right &= self.is_told()?;
+        }
+        Ok(are_right)
     }
 }
 
-/// Whether a session keeps and tells what the slow program does, after each of 40 random lines.
+/// Whether a session over random bytes is right after each of 40 random lines.
 fn is_list_right(alloc: Global, tree: &Yaml, random: &mut Random) -> Result<bool, Fail> {
     let mut pair = random_pair(alloc, tree, random)?;
-    let mut is_right = true;
-    for _ in 0..40 {
-        is_right &= match random.below(2) {
-            0 => pair.get(random)?,
-            _ => pair.edit(random)?,
-        };
-        is_right &= pair.is_told()?;
-    }
-    Ok(is_right)
+    pair.are_lines_right(random)
 }
 
 /// Whether 2,000 random lists of lines are right that follow from this number.

@@ -1,9 +1,10 @@
 //! Which path a text names, what nodes of a described file answer, and numbers in decimal.
 
+use crate::plain::File;
 use ksv_bytes::Buffer;
 use ksv_expr_value::{Fault, Path, Step};
 use ksv_memo::{Answer, Engine};
-use ksv_rules::{Described, Given, Head, Node, NodeKind, decimal, path_of};
+use ksv_rules::{Described, Given, Head, Leaf, List, Node, NodeKind, Object, decimal, path_of};
 use ksv_schema::{Desc, load};
 use ksv_yaml::read;
 use std::alloc::{AllocError, Global};
@@ -37,18 +38,24 @@ const PATHS: &str = "/|/n|/items|/items/3/len|/len/body|/0|/0/0|/1048575";
 const NO_PATHS: &str =
     "/1048576|/4294967296|/99999999999999999999999|/00|/007|/+1|/-1|/x|/N|/item|/n/|//n|//|n||/n ";
 
-/// Nodes of `LIST` over the bytes 2, 1, 97, 0, and what each answers.
-const ANSWERS: &str = "head / => object 0 at 0
-head /n => leaf 0 to 1, end 1
-value /n => a value
-end /n => end 1, false
-head /items => list at 1
-rest /items/0 => 2 elements, end 4
-head /items/1 => object 1 at 3
-end /items/0 => end 3, false
-end /items/1 => end 4, true
-value /items/0/body => a value
-value /len => no-such at /len";
+/// Heads of `LIST` over the bytes 2, 1, 97, 0 at some paths, and what each answers.
+const HEADS: &str = "/ => object 0 at 0
+/n => leaf 0 to 1, end 1
+/items => list at 1
+/items/1 => object 1 at 3";
+
+/// Values of the same file.
+const VALUES: &str = "/n => a value
+/items/0/body => a value
+/len => no-such at /len";
+
+/// Ends in the same file.
+const ENDS: &str = "/n => end 1, false
+/items/0 => end 3, false
+/items/1 => end 4, true";
+
+/// What comes from an element on in the same file.
+const RESTS: &str = "/items/0 => 2 elements, end 4";
 
 /// An attribute whose size needs its own end.
 const CIRCLE: &str = "meta:\n  id: t\nseq:\n  - id: a\n    size: b\n  - id: b\n    type: u1\n";
@@ -58,10 +65,8 @@ pub(crate) const BYTES: &str = "meta:\n  id: t\nseq:\n  - id: xs\n    type: u1\n
 
 /// The description that a text states.
 pub(crate) fn described(alloc: Global, text: &str) -> Result<Desc, Fail> {
-    match load(alloc, &read(alloc, text.as_bytes())?) {
-        Ok(desc) => Ok(desc),
-        Err(_) => Err(Fail::from("a description is refused")),
-    }
+    let tree = read(alloc, text.as_bytes())?;
+    Ok(load(alloc, &tree)?)
 }
 
 /// Adds a path as it is written.
@@ -143,27 +148,52 @@ fn paths_of_64_steps_are_named(rt: HostRuntime) -> Result<(), Fail> {
     Ok(())
 }
 
+/// Adds where bytes are.
+fn add_leaf(leaf: &Leaf, out: &mut String) -> Result<(), AllocError> {
+    let (from, to, end) = (leaf.from.byte(), leaf.to.byte(), leaf.end.byte());
+    write!(out, "leaf {from} to {to}, end {end}")
+}
+
+/// Adds which type an object has, and where it begins.
+fn add_object(object: &Object, out: &mut String) -> Result<(), AllocError> {
+    let (number, start) = (object.type_number, object.start.byte());
+    write!(out, "object {number} at {start}")
+}
+
+/// Adds where a list begins.
+fn add_list(list: &List, out: &mut String) -> Result<(), AllocError> {
+    let start = list.start.byte();
+    write!(out, "list at {start}")
+}
+
+/// Adds what is there.
+fn add_head(head: &Head, out: &mut String) -> Result<(), AllocError> {
+    match head {
+        Head::Leaf(leaf) => add_leaf(leaf, out),
+        Head::Object(object) => add_object(object, out),
+        Head::List(list) => add_list(list, out),
+        Head::Absent(_) => out.push_str("gone"),
+        Head::Calc(_) => out.push_str("calculated"),
+    }
+}
+
+/// Adds where something ends.
+fn add_end(end: u32, last: bool, out: &mut String) -> Result<(), AllocError> {
+    write!(out, "end {end}, {last}")
+}
+
+/// Adds how many elements there are, and where they end.
+fn add_rest(count: u32, end: u32, out: &mut String) -> Result<(), AllocError> {
+    write!(out, "{count} elements, end {end}")
+}
+
 /// Adds what a node answers, except a value.
 fn add_given(given: &Given, out: &mut String) -> Result<(), AllocError> {
     match given {
-        Given::Head(Head::Leaf(leaf)) => {
-            let (from, to) = (leaf.from.byte(), leaf.to.byte());
-            write!(out, "leaf {from} to {to}, end {}", leaf.end.byte())
-        }
-        Given::Head(Head::Object(object)) => {
-            write!(
-                out,
-                "object {} at {}",
-                object.type_number,
-                object.start.byte()
-            )
-        }
-        Given::Head(Head::List(list)) => write!(out, "list at {}", list.start.byte()),
-        Given::Head(Head::Absent(_)) => out.push_str("gone"),
-        Given::Head(Head::Calc(_)) => out.push_str("calculated"),
+        Given::Head(head) => add_head(head, out),
         Given::Value(_) => out.push_str("a value"),
-        Given::End { place, last } => write!(out, "end {}, {last}", place.byte()),
-        Given::Rest { count, place } => write!(out, "{count} elements, end {}", place.byte()),
+        Given::End { place, last } => add_end(place.byte(), *last, out),
+        Given::Rest { count, place } => add_rest(*count, place.byte(), out),
     }
 }
 
@@ -179,21 +209,29 @@ fn add_circle(desc: &Desc, path: &Path, out: &mut String) -> Result<(), AllocErr
     add_path(desc, path, out)
 }
 
-/// Adds what a node of a file answers.
-fn answer(
-    alloc: Global,
-    rules: &Described,
-    bytes: &Buffer,
-    node: Node,
+/// Adds an answer as it is written.
+fn add_written(
+    desc: &Desc,
+    answer: Answer<Node, Given, Fault>,
     out: &mut String,
-) -> Result<(), Fail> {
-    let mut engine = Engine::new(alloc);
-    match engine.ask(rules, bytes, node)? {
-        Answer::Value(given) => add_given(&given, out)?,
-        Answer::Fault(fault) => add_fault(rules.desc(), &fault, out)?,
-        Answer::Circle(node) => add_circle(rules.desc(), &node.path, out)?,
+) -> Result<(), AllocError> {
+    match answer {
+        Answer::Value(given) => add_given(&given, out),
+        Answer::Fault(fault) => add_fault(desc, &fault, out),
+        Answer::Circle(node) => add_circle(desc, &node.path, out),
     }
-    Ok(())
+}
+
+/// Adds what a node of a file answers.
+fn add_answer(file: File<'_>, node: Node, out: &mut String) -> Result<(), AllocError> {
+    let mut engine = Engine::new(file.alloc);
+    let answer = engine.ask(file.rules, file.bytes, node)?;
+    add_written(file.rules.desc(), answer, out)
+}
+
+/// Whether a question has an answer.
+pub(crate) fn is_told(told: Result<Answer<Node, Given, Fault>, AllocError>) -> bool {
+    told.is_ok()
 }
 
 /// The node of this kind at a path.
@@ -209,38 +247,31 @@ pub(crate) fn node_at(
     }
 }
 
-/// The kind of nodes that a word means.
-fn kind_of(word: &str) -> NodeKind {
-    match word {
-        "head" => NodeKind::Head,
-        "value" => NodeKind::Value,
-        "end" => NodeKind::End,
-        _ => NodeKind::Rest,
-    }
-}
-
-/// Whether a node answers as a row `KIND PATH => ANSWER` says.
-fn is_answered(alloc: Global, rules: &Described, bytes: &Buffer, row: &str) -> Result<bool, Fail> {
-    let (node, wanted) = row.split_once(" => ").unwrap_or((row, ""));
-    let (kind, path) = node.split_once(' ').unwrap_or((node, ""));
-    let node = node_at(alloc, rules, kind_of(kind), path)?;
-    let mut found = String::new(alloc);
-    answer(alloc, rules, bytes, node, &mut found)?;
+/// Whether the node of this kind answers as a row `PATH => ANSWER` says.
+fn is_answered(file: File<'_>, kind: NodeKind, row: &str) -> Result<bool, Fail> {
+    let (path, wanted) = row.split_once(" => ").unwrap_or((row, ""));
+    let node = node_at(file.alloc, file.rules, kind, path)?;
+    let mut found = String::new(file.alloc);
+    add_answer(file, node, &mut found)?;
     Ok(found.as_str() == wanted)
 }
 
-/// Whether the nodes of a described file answer as these rows say.
-fn are_answered(
-    alloc: Global,
-    rules: &Described,
-    bytes: &Buffer,
-    rows: &str,
-) -> Result<bool, Fail> {
+/// Whether the nodes of this kind answer as these rows say.
+fn are_answered(file: File<'_>, kind: NodeKind, rows: &str) -> Result<bool, Fail> {
     let mut are_right = true;
     for row in rows.split('\n') {
-        are_right &= is_answered(alloc, rules, bytes, row)?;
+        are_right &= is_answered(file, kind, row)?;
     }
     Ok(are_right)
+}
+
+/// Whether the nodes of `LIST` answer so.
+fn is_list_answered(file: File<'_>) -> Result<bool, Fail> {
+    let are_heads = are_answered(file, NodeKind::Head, HEADS)?;
+    let are_values = are_answered(file, NodeKind::Value, VALUES)?;
+    let are_ends = are_answered(file, NodeKind::End, ENDS)?;
+    let are_rests = are_answered(file, NodeKind::Rest, RESTS)?;
+    Ok(are_heads && are_values && are_ends && are_rests)
 }
 
 #[test]
@@ -248,7 +279,12 @@ fn nodes_answer(rt: HostRuntime) -> Result<(), Fail> {
     let alloc = rt.alloc();
     let bytes = Buffer::new(b"\x02\x01\x61\x00".to_vec(alloc)?)?;
     let rules = Described::new(described(alloc, LIST)?);
-    let are_right = are_answered(alloc, &rules, &bytes, ANSWERS)?;
+    let file = File {
+        alloc,
+        rules: &rules,
+        bytes: &bytes,
+    };
+    let are_right = is_list_answered(file)?;
     assert!(rt; are_right);
     Ok(())
 }
@@ -258,30 +294,29 @@ fn a_size_behind_is_a_circle(rt: HostRuntime) -> Result<(), Fail> {
     let alloc = rt.alloc();
     let bytes = Buffer::new(b"\x01\x01".to_vec(alloc)?)?;
     let rules = Described::new(described(alloc, CIRCLE)?);
-    let is_circle = is_answered(alloc, &rules, &bytes, "value /a => circle at /a")?;
+    let file = File {
+        alloc,
+        rules: &rules,
+        bytes: &bytes,
+    };
+    let is_circle = is_answered(file, NodeKind::Value, "/a => circle at /a")?;
     assert!(rt; is_circle);
     Ok(())
 }
 
 /// Whether an engine keeps 18 nodes after two questions, which took 49 turns.
-fn kept_and_turns(
-    alloc: Global,
-    rules: &Described,
-    bytes: &Buffer,
-    first: Node,
-    second: Node,
-) -> Result<bool, Fail> {
-    let mut engine = Engine::new(alloc);
-    engine.ask(rules, bytes, first)?;
-    engine.ask(rules, bytes, second)?;
-    Ok(engine.kept() == 18 && engine.turns() == Some(49))
+fn kept_and_turns(file: File<'_>, first: Node, second: Node) -> bool {
+    let mut engine = Engine::new(file.alloc);
+    let is_first = is_told(engine.ask(file.rules, file.bytes, first));
+    let is_second = is_told(engine.ask(file.rules, file.bytes, second));
+    is_first && is_second && engine.kept() == 18 && engine.turns() == Some(49)
 }
 
 /// Whether the nodes that `get /xs` asks of an engine are counted.
-fn are_counted(alloc: Global, rules: &Described, bytes: &Buffer) -> Result<bool, Fail> {
-    let list = node_at(alloc, rules, NodeKind::Value, "/xs")?;
-    let rest = node_at(alloc, rules, NodeKind::Rest, "/xs/0")?;
-    kept_and_turns(alloc, rules, bytes, list, rest)
+fn are_counted(file: File<'_>) -> Result<bool, Fail> {
+    let list = node_at(file.alloc, file.rules, NodeKind::Value, "/xs")?;
+    let rest = node_at(file.alloc, file.rules, NodeKind::Rest, "/xs/0")?;
+    Ok(kept_and_turns(file, list, rest))
 }
 
 #[test]
@@ -289,7 +324,12 @@ fn an_engine_keeps_and_counts(rt: HostRuntime) -> Result<(), Fail> {
     let alloc = rt.alloc();
     let bytes = Buffer::new(b"\x01\x02\x03\x04\x05".to_vec(alloc)?)?;
     let rules = Described::new(described(alloc, BYTES)?);
-    let are_right = are_counted(alloc, &rules, &bytes)?;
+    let file = File {
+        alloc,
+        rules: &rules,
+        bytes: &bytes,
+    };
+    let are_right = are_counted(file)?;
     assert!(rt; are_right);
     Ok(())
 }

@@ -45,19 +45,31 @@ fn a_file_may_have_16_mib_and_no_more(rt: HostRuntime) -> Result<(), Fail> {
     Ok(())
 }
 
+/// Whether a session answers a line with this.
+fn is_answered(session: &mut Session, line: &[u8], wanted: &[u8]) -> bool {
+    session.line(line).as_bytes() == wanted
+}
+
+/// Whether a session over three bytes answers one line after the other, as it should.
+fn are_answered(session: &mut Session) -> bool {
+    let mut are_right = is_answered(session, b"stats", b"kept 0 turns 0\n");
+    are_right &= is_answered(session, b"get /b", b"-2\n");
+    are_right &= is_answered(session, b"app 00", b"ok 4\n");
+    are_right &= is_answered(session, b"stats", b"kept 5 turns 10\n");
+    are_right &= is_answered(session, b"", b"");
+    are_right &= is_answered(session, b"quit", b"bye\n");
+    are_right
+}
+
 #[test]
 fn a_session_answers_line_by_line(rt: HostRuntime) -> Result<(), Fail> {
     let alloc = rt.alloc();
     let desc = accepted(alloc, FIRST)?;
-    assert!(rt; desc.type_id(0) == "p" && desc.number_of("b") == Some(1));
+    let is_named = desc.type_id(0) == "p" && desc.number_of("b") == Some(1);
     let mut session = Session::new(alloc, desc, b"\x07\xfe\xff".to_vec(alloc)?)?;
-    let is_answered = session.line(b"stats").as_bytes() == b"kept 0 turns 0\n".as_slice()
-        && session.line(b"get /b").as_bytes() == b"-2\n".as_slice()
-        && session.line(b"app 00").as_bytes() == b"ok 4\n".as_slice()
-        && session.line(b"stats").as_bytes() == b"kept 5 turns 10\n".as_slice()
-        && session.line(b"").as_bytes() == b"".as_slice()
-        && session.line(b"quit").as_bytes() == b"bye\n".as_slice();
-    assert!(rt; is_answered && session.into_buffer().len() == 4);
+    let are_answered = are_answered(&mut session);
+    let length = session.into_buffer().len();
+    assert!(rt; is_named && are_answered && length == 4);
     Ok(())
 }
 

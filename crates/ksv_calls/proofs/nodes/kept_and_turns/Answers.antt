@@ -2,4 +2,4 @@ use Rattle.ksv_calls.proofs.nodes.kept_and_turns.Goals as goal
 
 -- an engine that keeps nothing is right
 pub ask-requires : goal.ask-requires
-ask-requires c = c.new-engine.ensures.right c.args.rules.now c.args.bytes.now
+ask-requires c = c.new-engine.ensures.right c.args.file.rules.now c.args.file.bytes.now

@@ -1,0 +1,5 @@
+use Rattle.ksv_calls.proofs.near.is_asked_near.Goals as goal
+
+-- an engine that keeps nothing is right
+pub ask-requires : goal.ask-requires
+ask-requires c = c.new-engine.ensures.right c.args.file.rules.now c.args.file.bytes.now
