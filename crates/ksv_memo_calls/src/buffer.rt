@@ -4,21 +4,30 @@ use ksv_bytes::{Buffer, Change, EditRefusal, FILE_LIMIT, Use, Window, touches};
 use std::alloc::{AllocError, Global};
 use std::test::Fail;
 
+/// Whether a refused edit is out of the file.
+fn is_outside(edited: Result<(), EditRefusal>) -> bool {
+    matches!(edited, Err(EditRefusal::Outside))
+}
+
+/// Whether a refused edit has nothing to do.
+fn is_nothing(edited: Result<(), EditRefusal>) -> bool {
+    matches!(edited, Err(EditRefusal::NothingToDo))
+}
+
 #[test]
 fn edits_or_refuses(rt: HostRuntime) -> Result<(), Fail> {
     let mut buffer = Buffer::new(b"abcd".to_vec(rt.alloc())?)?;
-    let is_edited = !buffer.is_empty()
-        && buffer.overwrite(1, b"XY") == Ok(())
-        && buffer.overwrite(3, b"xy") == Err(EditRefusal::Outside)
-        && buffer.overwrite(5, b"") == Err(EditRefusal::Outside)
-        && buffer.overwrite(4, b"") == Err(EditRefusal::NothingToDo)
-        && buffer.overwrite(usize::MAX, b"x") == Err(EditRefusal::Outside)
-        && buffer.append(b"e") == Ok(())
-        && buffer.append(b"") == Err(EditRefusal::NothingToDo)
-        && buffer.len() == 5;
+    let mut is_edited = !buffer.is_empty();
+    is_edited &= buffer.overwrite(1, b"XY").is_ok();
+    is_edited &= is_outside(buffer.overwrite(3, b"xy"));
+    is_edited &= is_outside(buffer.overwrite(5, b""));
+    is_edited &= is_nothing(buffer.overwrite(4, b""));
+    is_edited &= is_outside(buffer.overwrite(usize::MAX, b"x"));
+    is_edited &= buffer.append(b"e").is_ok();
+    is_edited &= is_nothing(buffer.append(b""));
+    is_edited &= buffer.len() == 5;
+    is_edited &= is_cut(&buffer, Window { from: 0, to: 5 }, b"aXYde", b"");
     assert!(rt; is_edited);
-    let (front, back) = buffer.parts(Window { from: 0, to: 5 });
-    assert!(rt; front == b"aXYde".as_slice() && back.is_empty());
     Ok(())
 }
 
@@ -46,37 +55,34 @@ fn has(buffer: &Buffer, wanted: &[u8]) -> bool {
 #[test]
 fn inserts_anywhere(rt: HostRuntime) -> Result<(), Fail> {
     let mut buffer = Buffer::new(b"bd".to_vec(rt.alloc())?)?;
-    let is_put = buffer.insert(0, b"a") == Ok(())
-        && buffer.insert(2, b"cC") == Ok(())
-        && buffer.insert(5, b"e") == Ok(())
-        && has(&buffer, b"abcCde");
+    let mut is_put = buffer.insert(0, b"a").is_ok();
+    is_put &= buffer.insert(2, b"cC").is_ok();
+    is_put &= buffer.insert(5, b"e").is_ok();
+    is_put &= has(&buffer, b"abcCde");
+    is_put &= is_outside(buffer.insert(7, b"x"));
+    is_put &= is_outside(buffer.insert(7, b""));
+    is_put &= is_outside(buffer.insert(usize::MAX, b"x"));
+    is_put &= is_nothing(buffer.insert(6, b""));
+    is_put &= has(&buffer, b"abcCde");
     assert!(rt; is_put);
-    let is_refused = buffer.insert(7, b"x") == Err(EditRefusal::Outside)
-        && buffer.insert(7, b"") == Err(EditRefusal::Outside)
-        && buffer.insert(usize::MAX, b"x") == Err(EditRefusal::Outside)
-        && buffer.insert(6, b"") == Err(EditRefusal::NothingToDo)
-        && has(&buffer, b"abcCde");
-    assert!(rt; is_refused);
     Ok(())
 }
 
 #[test]
 fn deletes_anywhere(rt: HostRuntime) -> Result<(), Fail> {
     let mut buffer = Buffer::new(b"abcdef".to_vec(rt.alloc())?)?;
-    let is_refused = buffer.delete(7, 0) == Err(EditRefusal::Outside)
-        && buffer.delete(3, 4) == Err(EditRefusal::Outside)
-        && buffer.delete(1, usize::MAX) == Err(EditRefusal::Outside)
-        && buffer.delete(6, 0) == Err(EditRefusal::NothingToDo)
-        && has(&buffer, b"abcdef");
-    assert!(rt; is_refused);
-    let is_cut = buffer.delete(0, 1) == Ok(())
-        && buffer.delete(1, 2) == Ok(())
-        && has(&buffer, b"bef")
-        && buffer.delete(2, 1) == Ok(())
-        && has(&buffer, b"be")
-        && buffer.delete(0, 2) == Ok(())
-        && buffer.is_empty();
-    assert!(rt; is_cut);
+    let mut is_cut = is_outside(buffer.delete(7, 0));
+    is_cut &= is_outside(buffer.delete(3, 4));
+    is_cut &= is_outside(buffer.delete(1, usize::MAX));
+    is_cut &= is_nothing(buffer.delete(6, 0));
+    is_cut &= has(&buffer, b"abcdef");
+    is_cut &= buffer.delete(0, 1).is_ok();
+    is_cut &= buffer.delete(1, 2).is_ok();
+    is_cut &= has(&buffer, b"bef");
+    is_cut &= buffer.delete(2, 1).is_ok();
+    is_cut &= has(&buffer, b"be");
+    is_cut &= buffer.delete(0, 2).is_ok();
+    assert!(rt; is_cut && buffer.is_empty());
     Ok(())
 }
 
@@ -86,12 +92,13 @@ fn is_cut_at(alloc: Global, bytes: &[u8], place: usize) -> Result<bool, Fail> {
         return Ok(false);
     }
     let mut buffer = Buffer::new(bytes.to_vec(alloc)?)?;
-    let is_made = buffer.insert(place, b"xyz") == Ok(()) && buffer.delete(place, 3) == Ok(());
+    let is_put = buffer.insert(place, b"xyz").is_ok();
+    let is_cut_out = buffer.delete(place, 3).is_ok();
     let whole = Window {
         from: 0,
         to: bytes.len(),
     };
-    Ok(is_made && is_cut(&buffer, whole, &bytes[..place], &bytes[place..]))
+    Ok(is_put && is_cut_out && is_cut(&buffer, whole, &bytes[..place], &bytes[place..]))
 }
 
 #[test]
@@ -102,12 +109,12 @@ fn lends_a_window_in_two_parts(rt: HostRuntime) -> Result<(), Fail> {
     }
     assert!(rt; are_cut);
     let mut buffer = Buffer::new(b"abcdef".to_vec(rt.alloc())?)?;
-    let is_made = buffer.delete(3, 1) == Ok(()) && buffer.insert(3, b"D") == Ok(());
-    assert!(rt; is_made);
-    let is_lent = is_cut(&buffer, Window { from: 1, to: 3 }, b"bc", b"")
-        && is_cut(&buffer, Window { from: 2, to: 5 }, b"c", b"De")
-        && is_cut(&buffer, Window { from: 3, to: 5 }, b"", b"De")
-        && is_cut(&buffer, Window { from: 6, to: 6 }, b"", b"");
+    let mut is_lent = buffer.delete(3, 1).is_ok();
+    is_lent &= buffer.insert(3, b"D").is_ok();
+    is_lent &= is_cut(&buffer, Window { from: 1, to: 3 }, b"bc", b"");
+    is_lent &= is_cut(&buffer, Window { from: 2, to: 5 }, b"c", b"De");
+    is_lent &= is_cut(&buffer, Window { from: 3, to: 5 }, b"", b"De");
+    is_lent &= is_cut(&buffer, Window { from: 6, to: 6 }, b"", b"");
     assert!(rt; is_lent);
     Ok(())
 }
@@ -115,19 +122,18 @@ fn lends_a_window_in_two_parts(rt: HostRuntime) -> Result<(), Fail> {
 #[test]
 fn edits_around_the_gap(rt: HostRuntime) -> Result<(), Fail> {
     let mut buffer = Buffer::new(b"abcdef".to_vec(rt.alloc())?)?;
-    let is_written = buffer.delete(3, 1) == Ok(())
-        && buffer.overwrite(2, b"CE") == Ok(())
-        && has(&buffer, b"abCEf")
-        && buffer.overwrite(0, b"AB") == Ok(())
-        && buffer.overwrite(4, b"F") == Ok(())
-        && has(&buffer, b"ABCEF");
+    let mut is_written = buffer.delete(3, 1).is_ok();
+    is_written &= buffer.overwrite(2, b"CE").is_ok();
+    is_written &= has(&buffer, b"abCEf");
+    is_written &= buffer.overwrite(0, b"AB").is_ok();
+    is_written &= buffer.overwrite(4, b"F").is_ok();
+    is_written &= has(&buffer, b"ABCEF");
+    is_written &= buffer.insert(3, b"D").is_ok();
+    is_written &= buffer.append(b"G").is_ok();
+    is_written &= buffer.insert(0, b"_").is_ok();
+    is_written &= buffer.append(b"H").is_ok();
+    is_written &= has(&buffer, b"_ABCDEFGH");
     assert!(rt; is_written);
-    let is_put = buffer.insert(3, b"D") == Ok(())
-        && buffer.append(b"G") == Ok(())
-        && buffer.insert(0, b"_") == Ok(())
-        && buffer.append(b"H") == Ok(())
-        && has(&buffer, b"_ABCDEFGH");
-    assert!(rt; is_put);
     Ok(())
 }
 
@@ -136,7 +142,7 @@ fn grows_at_one_place(rt: HostRuntime) -> Result<(), Fail> {
     let mut buffer = Buffer::new(Vec::new(rt.alloc()))?;
     let mut is_put = true;
     for count in 0..2_000usize {
-        is_put &= buffer.insert(0, &[(count % 251) as u8]) == Ok(());
+        is_put &= buffer.insert(0, &[(count % 251) as u8]).is_ok();
     }
     let last = is_cut(&buffer, Window { from: 0, to: 1 }, b"", &[242]);
     let first = is_cut(

@@ -56,11 +56,17 @@ fn rows(alloc: Global, told: &[&[u8]]) -> Result<Rows, AllocError> {
 
 /// The row that one of [`ROWS`], [`LINKED`] or [`DOUBLED`] tells.
 fn told_row(alloc: Global, told: &[u8]) -> Result<Row, AllocError> {
-    match told {
-        [b'n', number] => Ok(Row::Number(u32::from(*number))),
-        [b'b', place] => Ok(Row::Named(u32::from(*place))),
-        [_, numbers @ ..] => told_sum(alloc, numbers),
-        [] => told_sum(alloc, &[]),
+    let Some((letter, numbers)) = told.split_first() else {
+        return told_sum(alloc, told);
+    };
+    let number = match numbers.first() {
+        Some(number) => u32::from(*number),
+        None => 0,
+    };
+    match *letter {
+        b'n' => Ok(Row::Number(number)),
+        b'b' => Ok(Row::Named(number)),
+        _ => told_sum(alloc, numbers),
     }
 }
 
@@ -85,15 +91,37 @@ fn chain_engine(alloc: Global, _bytes: &Buffer) -> Engine<Chain>
     Engine::new(alloc)
 }
 
-/// What a row answers by plain recursion: a reply, or the number of a row that depends on itself.
-type Plain = Result<Result<u32, Missing>, u8>;
+/// What a row answers by plain recursion: a number, that a row isn't there, or the number of a row that depends on itself.
+#[derive(Clone, Copy)]
+enum Plain {
+    Value(u32),
+    Missing,
+    Circle(u8),
+}
+
+impl Plain {
+    /// What a sum answers that so far answers this, and whose next row answers that.
+    fn plus(self, next: Plain) -> Plain {
+        match self {
+            Plain::Value(sum) => next.added_to(sum),
+            _ => self,
+        }
+    }
+
+    /// What a sum answers whose next row answers this, after rows that answer a number.
+    fn added_to(self, sum: u32) -> Plain {
+        match self {
+            Plain::Value(value) => Plain::Value(sum.saturating_add(value)),
+            _ => self,
+        }
+    }
+}
 
 fn agrees(answer: &RowAnswer, plain: Plain) -> bool {
-    match (answer, plain) {
-        (Answer::Value(value), Ok(Ok(wanted))) => *value == wanted,
-        (Answer::Fault(Missing), Ok(Err(Missing))) => true,
-        (Answer::Circle(node), Err(wanted)) => node.number == wanted,
-        _ => false,
+    match answer {
+        Answer::Value(value) => matches!(plain, Plain::Value(wanted) if *value == wanted),
+        Answer::Fault(Missing) => matches!(plain, Plain::Missing),
+        Answer::Circle(node) => matches!(plain, Plain::Circle(wanted) if node.number == wanted),
     }
 }
 
@@ -134,9 +162,9 @@ fn keeps_answers(
     requires { IsRight (on (rows_meaning rules.now.rows.items) bytes.now) engine.old.kept }
 {
     let is_new = counts(engine, 0, Some(0));
-    let is_sum = answers(engine, rules, bytes, 1, Ok(Ok(14)))?;
+    let is_sum = answers(engine, rules, bytes, 1, Plain::Value(14))?;
     let is_counted = counts(engine, 3, Some(6));
-    let is_same = answers(engine, rules, bytes, 1, Ok(Ok(14)))?;
+    let is_same = answers(engine, rules, bytes, 1, Plain::Value(14))?;
     Ok(is_new && is_sum && is_counted && is_same && counts(engine, 3, Some(6)))
 }
 
@@ -149,10 +177,10 @@ fn counts_and_forgets(
 ) -> Result<bool, AllocError>
     requires { IsRight (on (rows_meaning rules.now.rows.items) bytes.now) engine.old.kept }
 {
-    let is_sum = answers(engine, rules, bytes, 1, Ok(Ok(14)))?;
+    let is_sum = answers(engine, rules, bytes, 1, Plain::Value(14))?;
     begin(engine, rules, bytes);
     let is_begun = counts(engine, 3, Some(0));
-    let is_fault = answers(engine, rules, bytes, 5, Ok(Err(Missing)))?;
+    let is_fault = answers(engine, rules, bytes, 5, Plain::Missing)?;
     let is_counted = counts(engine, 5, Some(4));
     engine.forget(Change::Append);
     untouched_answers_stay_right(rules, Change::Append);
@@ -170,14 +198,14 @@ fn ends_around(
 ) -> Result<bool, AllocError>
     requires { IsRight (on (rows_meaning rules.now.rows.items) bytes.now) engine.old.kept }
 {
-    let is_circle = answers(engine, rules, bytes, first, Err(first))?;
-    let is_other = answers(engine, rules, bytes, second, Err(second))?;
+    let is_circle = answers(engine, rules, bytes, first, Plain::Circle(first))?;
+    let is_other = answers(engine, rules, bytes, second, Plain::Circle(second))?;
     let is_uncounted = counts(engine, 3, None);
     begin(engine, rules, bytes);
     Ok(is_circle && is_other && is_uncounted && counts(engine, 3, Some(0)))
 }
 
-/// What is tried with the rows and a new engine.
+/// What is tried with some rows and a new engine.
 #[derive(Clone, Copy)]
 enum Trial {
     /// The same question twice.
@@ -186,75 +214,108 @@ enum Trial {
     Forgets,
     /// Two rows that depend on each other, in this order.
     Around(u8, u8),
+    /// A question, an edit and the same question.
+    Leaves(Leaving),
+    /// An overwrite of the byte in this place, and the fewest and most looks that it takes.
+    Looks(usize, u64, u64),
+    /// Edits after each other, each with a question.
+    Refills,
 }
 
-/// Whether a trial ends as it should, over a file of one zero byte.
-fn ends_well(alloc: Global, trial: Trial) -> Result<bool, Fail> {
-    let rules = rows(alloc, &ROWS)?;
-    let bytes = Buffer::new(b"\0".to_vec(alloc)?)?;
+/// Whether a trial ends as it should.
+fn is_tried(
+    engine: &mut Engine<Rows>,
+    rules: &Rows,
+    bytes: &mut Buffer,
+    trial: Trial,
+) -> Result<bool, AllocError>
+    requires { IsRight (on (rows_meaning rules.now.rows.items) bytes.old) engine.old.kept }
+{
+    match trial {
+        Trial::Twice => keeps_answers(engine, rules, bytes),
+        Trial::Forgets => counts_and_forgets(engine, rules, bytes),
+        Trial::Around(first, second) => ends_around(engine, rules, bytes, first, second),
+        Trial::Leaves(leaving) => leaves(engine, rules, bytes, leaving),
+        Trial::Looks(place, least, most) => looks(engine, rules, bytes, place, least, most),
+        Trial::Refills => fills_slots_again(engine, rules, bytes),
+    }
+}
+
+/// Whether a trial ends as it should with a new engine, over the rows that are told and a file of so many zero bytes.
+fn ends_well(alloc: Global, told: &[&[u8]], size: usize, trial: Trial) -> Result<bool, Fail> {
+    let rules = rows(alloc, told)?;
+    let mut bytes = Buffer::new(vec![in alloc; 0u8; size]?)?;
     let mut engine = rows_engine(alloc, &rules, &bytes);
-    let ended = match trial {
-        Trial::Twice => keeps_answers(&mut engine, &rules, &bytes),
-        Trial::Forgets => counts_and_forgets(&mut engine, &rules, &bytes),
-        Trial::Around(first, second) => ends_around(&mut engine, &rules, &bytes, first, second),
-    };
-    Ok(ended?)
+    Ok(is_tried(&mut engine, &rules, &mut bytes, trial)?)
 }
 
 #[test]
 fn answers_rows_and_keeps_them(rt: HostRuntime) -> Result<(), Fail> {
-    let is_right = ends_well(rt.alloc(), Trial::Twice)?;
+    let is_right = ends_well(rt.alloc(), &ROWS, 1, Trial::Twice)?;
     assert!(rt; is_right);
     Ok(())
 }
 
 #[test]
 fn counts_each_question_and_forgets(rt: HostRuntime) -> Result<(), Fail> {
-    let is_right = ends_well(rt.alloc(), Trial::Forgets)?;
+    let is_right = ends_well(rt.alloc(), &ROWS, 1, Trial::Forgets)?;
     assert!(rt; is_right);
     Ok(())
 }
 
 #[test]
 fn ends_at_a_circle_and_keeps_what_was_completed(rt: HostRuntime) -> Result<(), Fail> {
-    let is_right = ends_well(rt.alloc(), Trial::Around(3, 4))?;
-    let is_other = ends_well(rt.alloc(), Trial::Around(4, 3))?;
+    let is_right = ends_well(rt.alloc(), &ROWS, 1, Trial::Around(3, 4))?;
+    let is_other = ends_well(rt.alloc(), &ROWS, 1, Trial::Around(4, 3))?;
     assert!(rt; is_right && is_other);
     Ok(())
 }
 
-/// The value of a link of a new engine's chain.
-fn chain_value(
+/// Whether a link of a chain has this value.
+fn has_value(
     engine: &mut Engine<Chain>,
     bytes: &Buffer,
     number: u32,
-) -> Result<Option<u32>, AllocError>
+    wanted: u32,
+) -> Result<bool, AllocError>
     requires { IsRight (on chain_meaning bytes.now) engine.old.kept }
 {
     match engine.ask(&Chain, bytes, Link { number })? {
-        Answer::Value(value) => Ok(Some(value)),
-        _ => Ok(None),
+        Answer::Value(value) => Ok(value == wanted),
+        _ => Ok(false),
     }
 }
 
-/// Whether a link of a new engine's chain has this value, after which so many links are kept and turns counted.
+/// Whether a link of a chain has a value, after which so many links are kept and turns counted.
 fn is_chained(
+    engine: &mut Engine<Chain>,
+    bytes: &Buffer,
+    number: u32,
+    kept: usize,
+    turns: u64,
+) -> Result<bool, AllocError>
+    requires { IsRight (on chain_meaning bytes.now) engine.old.kept }
+{
+    let has_value = has_value(engine, bytes, number, number.saturating_add(2))?;
+    Ok(has_value && engine.kept() == kept && engine.turns() == Some(turns))
+}
+
+/// The same of a new engine's chain.
+fn is_new_chained(
     alloc: Global,
     bytes: &Buffer,
     number: u32,
-    value: u32,
     kept: usize,
     turns: u64,
 ) -> Result<bool, AllocError> {
     let mut engine = chain_engine(alloc, bytes);
-    let last = chain_value(&mut engine, bytes, number)?;
-    Ok(last == Some(value) && engine.kept() == kept && engine.turns() == Some(turns))
+    is_chained(&mut engine, bytes, number, kept, turns)
 }
 
 #[test]
 fn goes_a_hundred_thousand_nodes_deep(rt: HostRuntime) -> Result<(), Fail> {
     let bytes = Buffer::new(b"ab".to_vec(rt.alloc())?)?;
-    let is_right = is_chained(rt.alloc(), &bytes, 99_999, 100_001, 100_000, 199_999)?;
+    let is_right = is_new_chained(rt.alloc(), &bytes, 99_999, 100_000, 199_999)?;
     assert!(rt; is_right);
     Ok(())
 }
@@ -281,18 +342,23 @@ impl Random {
     }
 }
 
+/// The sum of up to three rows below a number.
+fn random_sum(alloc: Global, random: &mut Random, bound: u8) -> Result<Row, AllocError>
+    requires { 0 < bound }
+{
+    let mut numbers = Vec::new(alloc);
+    for _ in 0..random.below(4) {
+        numbers.push(row(random.below(bound)))?;
+    }
+    Ok(Row::Sum(numbers))
+}
+
 /// A number, a sum of up to three rows or a row that a byte names; row 8 is never there.
 fn random_row(alloc: Global, random: &mut Random) -> Result<Row, AllocError> {
     match random.below(4) {
         0 => Ok(Row::Number(u32::from(random.below(10)))),
         1 => Ok(Row::Named(u32::from(random.below(8)))),
-        _ => {
-            let mut numbers = Vec::new(alloc);
-            for _ in 0..random.below(4) {
-                numbers.push(row(random.below(9)))?;
-            }
-            Ok(Row::Sum(numbers))
-        }
+        _ => random_sum(alloc, random, 9),
     }
 }
 
@@ -313,25 +379,22 @@ fn bit_of(number: u8) -> u16 {
 fn plainly(rows: &[Row], bytes: &[u8], open: u16, number: u8, depth: u8) -> Plain {
     let bit = bit_of(number);
     if depth == 0 || open & bit != 0 {
-        return Err(number);
+        return Plain::Circle(number);
     }
     let (open, depth) = (open | bit, depth - 1);
     match rows.get(number as usize) {
-        None => Ok(Err(Missing)),
-        Some(Row::Number(value)) => Ok(Ok(*value)),
+        None => Plain::Missing,
+        Some(Row::Number(value)) => Plain::Value(*value),
         Some(Row::Named(place)) => match bytes.get(*place as usize) {
-            None => Ok(Err(Missing)),
+            None => Plain::Missing,
             Some(byte) => plainly(rows, bytes, open, *byte, depth),
         },
         Some(Row::Sum(numbers)) => {
-            let mut sum = 0u32;
+            let mut sum = Plain::Value(0);
             for part in numbers {
-                match plainly(rows, bytes, open, part.number, depth)? {
-                    Ok(value) => sum = sum.saturating_add(value),
-                    Err(Missing) => return Ok(Err(Missing)),
-                }
+                sum = sum.plus(plainly(rows, bytes, open, part.number, depth));
             }
-            Ok(Ok(sum))
+            sum
         }
     }
 }
@@ -438,65 +501,90 @@ const TWICE: Asked = Asked {
     turns: 6,
 };
 
-/// Whether, of the rows that a question keeps, so many are kept after an edit, and the next question takes so many
-/// turns.
-fn leaves(
-    alloc: Global,
-    rules: &Rows,
+/// What an edit leaves of the rows that a question keeps, and how many turns the same question takes then.
+#[derive(Clone, Copy)]
+struct Leaving {
     asked: Asked,
     edited: Edit,
     kept: usize,
     turns: u64,
-) -> Result<bool, Fail> {
-    let mut bytes = Buffer::new(b"\0\0".to_vec(alloc)?)?;
-    let mut engine = rows_engine(alloc, rules, &bytes);
-    let is_sum = answers(&mut engine, rules, &bytes, asked.number, Ok(Ok(14)))?;
-    let is_counted = counts(&engine, asked.kept, Some(asked.turns));
-    make_edit(&mut engine, rules, &mut bytes, edited);
-    let is_left = counts(&engine, kept, Some(asked.turns));
-    begin(&mut engine, rules, &bytes);
-    let is_same = answers(&mut engine, rules, &bytes, asked.number, Ok(Ok(14)))?;
-    Ok(is_sum && is_counted && is_left && is_same && counts(&engine, asked.kept, Some(turns)))
+}
+
+/// Whether so many of the rows that a question keeps are kept after an edit, and the next question takes so many turns.
+fn leaves(
+    engine: &mut Engine<Rows>,
+    rules: &Rows,
+    bytes: &mut Buffer,
+    leaving: Leaving,
+) -> Result<bool, AllocError>
+    requires { IsRight (on (rows_meaning rules.now.rows.items) bytes.old) engine.old.kept }
+{
+    let Leaving {
+        asked,
+        edited,
+        kept,
+        turns,
+    } = leaving;
+    let is_sum = answers(engine, rules, bytes, asked.number, Plain::Value(14))?;
+    let is_counted = counts(engine, asked.kept, Some(asked.turns));
+    make_edit(engine, rules, bytes, edited);
+    let is_left = counts(engine, kept, Some(asked.turns));
+    begin(engine, rules, bytes);
+    let is_same = answers(engine, rules, bytes, asked.number, Plain::Value(14))?;
+    Ok(is_sum && is_counted && is_left && is_same && counts(engine, asked.kept, Some(turns)))
+}
+
+/// What an edit leaves of the rows of a question, in these numbers.
+const fn after(asked: Asked, edited: Edit, kept: usize, turns: u64) -> Trial {
+    Trial::Leaves(Leaving {
+        asked,
+        edited,
+        kept,
+        turns,
+    })
 }
 
 #[test]
 fn forgets_a_row_and_its_users_alone(rt: HostRuntime) -> Result<(), Fail> {
-    let rules = rows(rt.alloc(), &LINKED)?;
     // Row 4 and row 5, and then rows 1, 2, 3 and 5.
-    let is_right = leaves(rt.alloc(), &rules, LAST, Edit::At(1), 4, 5)?
-        && leaves(rt.alloc(), &rules, LAST, Edit::At(0), 2, 9)?
-        && leaves(rt.alloc(), &rules, LAST, Edit::Between, 4, 5)?;
-    assert!(rt; is_right);
+    let is_last = ends_well(rt.alloc(), &LINKED, 2, after(LAST, Edit::At(1), 4, 5))?;
+    let is_first = ends_well(rt.alloc(), &LINKED, 2, after(LAST, Edit::At(0), 2, 9))?;
+    let is_between = ends_well(rt.alloc(), &LINKED, 2, after(LAST, Edit::Between, 4, 5))?;
+    assert!(rt; is_last && is_first && is_between);
     Ok(())
 }
 
 #[test]
 fn forgets_nothing_that_an_edit_leaves_alone(rt: HostRuntime) -> Result<(), Fail> {
-    let rules = rows(rt.alloc(), &LINKED)?;
-    let is_right = leaves(rt.alloc(), &rules, LAST, Edit::After, 6, 0)?;
+    let is_right = ends_well(rt.alloc(), &LINKED, 2, after(LAST, Edit::After, 6, 0))?;
     assert!(rt; is_right);
     Ok(())
 }
 
 #[test]
 fn forgets_a_row_that_asks_another_twice(rt: HostRuntime) -> Result<(), Fail> {
-    let rules = rows(rt.alloc(), &DOUBLED)?;
     // Nothing, and then rows 1 and 2.
-    let is_right = leaves(rt.alloc(), &rules, TWICE, Edit::At(1), 3, 0)?
-        && leaves(rt.alloc(), &rules, TWICE, Edit::At(0), 1, 5)?;
-    assert!(rt; is_right);
+    let is_beside = ends_well(rt.alloc(), &DOUBLED, 2, after(TWICE, Edit::At(1), 3, 0))?;
+    let is_both = ends_well(rt.alloc(), &DOUBLED, 2, after(TWICE, Edit::At(0), 1, 5))?;
+    assert!(rt; is_beside && is_both);
     Ok(())
 }
 
 /// Whether an overwrite of the byte in a place, after the last row of [`DOUBLED`] was asked, takes at least so many looks
 /// and no more than so many.
-fn looks(alloc: Global, place: usize, least: u64, most: u64) -> Result<bool, Fail> {
-    let rules = rows(alloc, &DOUBLED)?;
-    let mut bytes = Buffer::new(b"\0\0".to_vec(alloc)?)?;
-    let mut engine = rows_engine(alloc, &rules, &bytes);
+fn looks(
+    engine: &mut Engine<Rows>,
+    rules: &Rows,
+    bytes: &mut Buffer,
+    place: usize,
+    least: u64,
+    most: u64,
+) -> Result<bool, AllocError>
+    requires { IsRight (on (rows_meaning rules.now.rows.items) bytes.old) engine.old.kept }
+{
     let is_none = engine.looked() == 0;
-    let is_sum = answers(&mut engine, &rules, &bytes, 2, Ok(Ok(14)))?;
-    make_edit(&mut engine, &rules, &mut bytes, Edit::At(place));
+    let is_sum = answers(engine, rules, bytes, TWICE.number, Plain::Value(14))?;
+    make_edit(engine, rules, bytes, Edit::At(place));
     let looked = engine.looked();
     Ok(is_none && is_sum && least <= looked && looked <= most)
 }
@@ -504,8 +592,14 @@ fn looks(alloc: Global, place: usize, least: u64, most: u64) -> Result<bool, Fai
 #[test]
 fn looks_near_an_overwrite_alone(rt: HostRuntime) -> Result<(), Fail> {
     // The page and the use that meets it, and then with them two rows, three asks and the page of a use.
-    let is_right = looks(rt.alloc(), 1, 0, 8 * 2)? && looks(rt.alloc(), 0, 2, 8 * (2 + 2 + 3 + 1))?;
-    assert!(rt; is_right);
+    let is_beside = ends_well(rt.alloc(), &DOUBLED, 2, Trial::Looks(1, 0, 8 * 2))?;
+    let is_both = ends_well(
+        rt.alloc(),
+        &DOUBLED,
+        2,
+        Trial::Looks(0, 2, 8 * (2 + 2 + 3 + 1)),
+    )?;
+    assert!(rt; is_beside && is_both);
     Ok(())
 }
 
@@ -522,34 +616,47 @@ fn refills(
 {
     make_edit(engine, rules, bytes, edited);
     let is_left = engine.kept() == kept;
-    Ok(
-        answers(engine, rules, bytes, LAST.number, Ok(Ok(14)))?
-            && is_left
-            && engine.kept() == LAST.kept,
-    )
+    let is_sum = answers(engine, rules, bytes, LAST.number, Plain::Value(14))?;
+    Ok(is_sum && is_left && engine.kept() == LAST.kept)
 }
 
-/// Whether rows are taken and asked again, 20 times: by an insert, a delete, and overwrites of both bytes. The last one
-/// takes rows 1, 2, 3 and 5 with no more looks than near: a page and the two uses of it, four rows, five asks and the page
-/// of a use.
-fn fills_slots_again(alloc: Global) -> Result<bool, Fail> {
-    let rules = rows(alloc, &LINKED)?;
-    let mut bytes = Buffer::new(b"\0\0".to_vec(alloc)?)?;
-    let mut engine = rows_engine(alloc, &rules, &bytes);
-    let mut is_right = answers(&mut engine, &rules, &bytes, LAST.number, Ok(Ok(14)))?;
+/// Whether rows are taken and asked again: by an insert, a delete, and overwrites of both bytes. The last one takes rows 1,
+/// 2, 3 and 5 with no more looks than near: a page and the two uses of it, four rows, five asks and the page of a use.
+fn fills_slots(
+    engine: &mut Engine<Rows>,
+    rules: &Rows,
+    bytes: &mut Buffer,
+) -> Result<bool, AllocError>
+    requires { IsRight (on (rows_meaning rules.now.rows.items) bytes.old) engine.old.kept }
+    ensures { IsRight (on (rows_meaning rules.now.rows.items) bytes.new) engine.new.kept }
+{
+    let is_put = refills(engine, rules, bytes, Edit::Between, 4)?;
+    let is_cut = refills(engine, rules, bytes, Edit::Without, 4)?;
+    let is_last = refills(engine, rules, bytes, Edit::At(1), 4)?;
+    let is_first = refills(engine, rules, bytes, Edit::At(0), 2)?;
+    let looked = engine.looked();
+    let is_near = 4 <= looked && looked <= 8 * (1 + 2 + 4 + 5 + 1);
+    Ok(is_put && is_cut && is_last && is_first && is_near)
+}
+
+/// The same 20 times.
+fn fills_slots_again(
+    engine: &mut Engine<Rows>,
+    rules: &Rows,
+    bytes: &mut Buffer,
+) -> Result<bool, AllocError>
+    requires { IsRight (on (rows_meaning rules.now.rows.items) bytes.old) engine.old.kept }
+{
+    let mut is_right = answers(engine, rules, bytes, LAST.number, Plain::Value(14))?;
     for _ in 0..20 {
-        is_right &= refills(&mut engine, &rules, &mut bytes, Edit::Between, 4)?;
-        is_right &= refills(&mut engine, &rules, &mut bytes, Edit::Without, 4)?;
-        is_right &= refills(&mut engine, &rules, &mut bytes, Edit::At(1), 4)?;
-        is_right &= refills(&mut engine, &rules, &mut bytes, Edit::At(0), 2)?;
-        is_right &= 4 <= engine.looked() && engine.looked() <= 8 * (1 + 2 + 4 + 5 + 1);
+        is_right &= fills_slots(engine, rules, bytes)?;
     }
     Ok(is_right)
 }
 
 #[test]
 fn fills_slots_again_after_inserts_and_deletes(rt: HostRuntime) -> Result<(), Fail> {
-    let is_right = fills_slots_again(rt.alloc())?;
+    let is_right = ends_well(rt.alloc(), &LINKED, 2, Trial::Refills)?;
     assert!(rt; is_right);
     Ok(())
 }
@@ -650,11 +757,7 @@ fn random_lower_row(alloc: Global, random: &mut Random, number: u8) -> Result<Ro
     if random.below(2) == 0 {
         return Ok(Row::Named(u32::from(random.below(8))));
     }
-    let mut numbers = Vec::new(alloc);
-    for _ in 0..random.below(4) {
-        numbers.push(row(random.below(number)))?;
-    }
-    Ok(Row::Sum(numbers))
+    random_sum(alloc, random, number)
 }
 
 /// 16 rows, of which each asks lower ones, as long as no byte names another than rows 0 and 1.
@@ -769,19 +872,32 @@ fn random_overwrite(
     }
 }
 
-/// Five random questions and overwrites over random rows.
-fn random_overwrites(alloc: Global, random: &mut Random) -> Result<bool, Fail> {
-    let rules = random_lower_rows(alloc, random)?;
-    let mut bytes = Buffer::new(b"\0\x01\0\x01\0\x01\0\x01".to_vec(alloc)?)?;
-    let mut engine = rows_engine(alloc, &rules, &bytes);
+/// Five random questions and overwrites.
+fn five_overwrites(
+    alloc: Global,
+    engine: &mut Engine<Rows>,
+    rules: &Rows,
+    bytes: &mut Buffer,
+    random: &mut Random,
+) -> Result<bool, AllocError>
+    requires { IsRight (on (rows_meaning rules.now.rows.items) bytes.old) engine.old.kept }
+{
     let mut kept = 0u16;
     for _ in 0..5 {
-        match random_overwrite(alloc, &mut engine, &rules, &mut bytes, random, kept)? {
+        match random_overwrite(alloc, engine, rules, bytes, random, kept)? {
             Some(left) => kept = left,
             None => return Ok(false),
         }
     }
     Ok(true)
+}
+
+/// Five random questions and overwrites over random rows.
+fn random_overwrites(alloc: Global, random: &mut Random) -> Result<bool, Fail> {
+    let rules = random_lower_rows(alloc, random)?;
+    let mut bytes = Buffer::new(b"\0\x01\0\x01\0\x01\0\x01".to_vec(alloc)?)?;
+    let mut engine = rows_engine(alloc, &rules, &bytes);
+    Ok(five_overwrites(alloc, &mut engine, &rules, &mut bytes, random)?)
 }
 
 #[test]

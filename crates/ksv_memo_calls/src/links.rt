@@ -19,28 +19,41 @@ fn asked_twice(alloc: Global) -> Result<Links, AllocError>
 
 /// Whether an overwrite within the third page takes both slots, in no more looks than near: one page and use that meet,
 /// two slots, two asks, and four pages of a use.
-fn takes_both(alloc: Global) -> Result<bool, AllocError> {
-    let mut links = asked_twice(alloc)?;
+fn takes_both(links: &mut Links) -> bool
+    requires { links.old.waits ≡ [] }
+{
     let are_kept = links.count() == 2;
     links.forget(Change::Overwrite { at: 150, n: 1 });
     let is_second = links.take() == Some(1);
     let is_first = links.take() == Some(0);
     let is_all = links.take().is_none();
     let are_near = links.looks() >= 2 && links.looks() <= 8 * (1 + 1 + 2 + 2 + 4);
-    Ok(are_kept && is_second && is_first && is_all && are_near && links.count() == 0)
+    are_kept && is_second && is_first && is_all && are_near && links.count() == 0
 }
 
 /// Whether an overwrite next to the used bytes, in a page that they meet, takes nothing.
-fn takes_none(alloc: Global) -> Result<bool, AllocError> {
-    let mut links = asked_twice(alloc)?;
+fn takes_none(links: &mut Links) -> bool
+    requires { links.old.waits ≡ [] }
+{
     links.forget(Change::Overwrite { at: 200, n: 9 });
     let is_none = links.take().is_none();
-    Ok(is_none && links.looks() <= 8 * (1 + 1) && links.count() == 2)
+    is_none && links.looks() <= 8 * (1 + 1) && links.count() == 2
+}
+
+/// Whether an overwrite of two new slots takes both, or none.
+fn takes(alloc: Global, both: bool) -> Result<bool, AllocError> {
+    let mut links = asked_twice(alloc)?;
+    Ok(if both {
+        takes_both(&mut links)
+    } else {
+        takes_none(&mut links)
+    })
 }
 
 #[test]
 fn takes_a_use_over_several_pages(rt: HostRuntime) -> Result<(), Fail> {
-    let is_right = takes_both(rt.alloc())? && takes_none(rt.alloc())?;
-    assert!(rt; is_right);
+    let are_both = takes(rt.alloc(), true)?;
+    let are_none = takes(rt.alloc(), false)?;
+    assert!(rt; are_both && are_none);
     Ok(())
 }

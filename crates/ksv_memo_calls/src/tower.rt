@@ -173,14 +173,25 @@ fn falls_by_an_append(engine: &mut Engine<Tower>) -> bool {
 
 /// Asks a link of a tower over two bytes. Whether it falls by an overwrite of the first byte alone, and, asked again, by an
 /// append.
+fn falls_twice(
+    engine: &mut Engine<Tower>,
+    bytes: &mut Buffer,
+    number: u32,
+) -> Result<bool, AllocError>
+    requires { IsRight (on tower_meaning bytes.old) engine.old.kept }
+{
+    let stood = stands(engine, bytes, number)?;
+    let fell = falls_by_overwrites(engine, bytes, number);
+    let stands_again = stands(engine, bytes, number)?;
+    let fell_again = falls_by_an_append(engine);
+    Ok(stood && fell && stands_again && fell_again)
+}
+
+/// The same of a new engine.
 fn falls(alloc: Global, number: u32) -> Result<bool, Fail> {
     let mut bytes = Buffer::new(b"aa".to_vec(alloc)?)?;
     let mut engine = tower_engine(alloc, &bytes);
-    let stood = stands(&mut engine, &bytes, number)?;
-    let fell = falls_by_overwrites(&mut engine, &mut bytes, number);
-    let stands_again = stands(&mut engine, &bytes, number)?;
-    let fell_again = falls_by_an_append(&mut engine);
-    Ok(stood && fell && stands_again && fell_again)
+    Ok(falls_twice(&mut engine, &mut bytes, number)?)
 }
 
 #[test]
