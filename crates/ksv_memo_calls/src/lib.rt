@@ -5,8 +5,14 @@
 #[cfg(test)]
 mod buffer;
 #[cfg(test)]
+mod chain;
+#[cfg(test)]
 mod engine;
 #[cfg(test)]
 mod links;
+#[cfg(test)]
+mod random;
+#[cfg(test)]
+mod rows;
 #[cfg(test)]
 mod tower;

@@ -1,4 +1,4 @@
-use Rattle.ksv_memo_calls.proofs.engine.+tree_of.Given as goal
+use Rattle.ksv_memo_calls.proofs.random.+tree_of.Given as goal
 
 abbrev pub decreases-tree_of : goal.decreases-tree_of
 decreases-tree_of l = l.depth
