@@ -13,6 +13,7 @@ mod members;
 mod names;
 mod order;
 mod pieces;
+mod text;
 mod type_desc;
 
 pub use content::{Case, CaseValue, Choice, Content};
@@ -24,4 +25,5 @@ pub use members::{MemberDesc, MemberKind};
 pub use names::Names;
 pub use order::ByteOrder;
 pub use pieces::Pieces;
+pub use text::as_text;
 pub use type_desc::TypeDesc;

@@ -7,7 +7,7 @@ ghost use Rattle.ksv_schema_values.specs.declared.fault.DescFaultKind.TheVariant
 ghost use Rattle.ksv_describe.specs.Accepted.{Describes};
 
 use ksv_desc::Desc;
-use ksv_expr_syntax::{ExprFault, ExprFaultKind};
+use ksv_expr_syntax::ExprFault;
 use ksv_lines::Stop;
 use ksv_schema::{DescFault, DescFaultKind, load};
 use ksv_yaml::{YamlFault, YamlKind, read};
@@ -16,51 +16,6 @@ use std::alloc::Global;
 /// A line or a place as messages have it.
 fn shown(number: usize) -> u32 {
     u32::try_from(number).unwrap_or(u32::MAX)
-}
-
-/// What is wrong with a text that has no tree.
-fn yaml_text(kind: YamlKind) -> &'static str {
-    match kind {
-        YamlKind::NotUtf8 => "not UTF-8",
-        YamlKind::TooLong => "too long",
-        YamlKind::Tab => "tab in the indentation",
-        YamlKind::Indentation => "indentation fits no level",
-        YamlKind::KeyTwice => "key twice",
-        YamlKind::LeftOut => "left-out form",
-        YamlKind::NotClosed => "not closed",
-        YamlKind::ValueForKey => "value in a key's place",
-        YamlKind::TooDeep => "nested too deeply",
-        YamlKind::NoMemory => "no memory",
-    }
-}
-
-/// What is wrong with a text that is no expression, with its code.
-fn expression_text(kind: ExprFaultKind) -> &'static str {
-    match kind {
-        ExprFaultKind::UnexpectedCharacter => "expression: X1 unexpected character",
-        ExprFaultKind::UnexpectedEnd => "expression: X2 unexpected end",
-        ExprFaultKind::LeftOutForm => "expression: X3 left-out form",
-        ExprFaultKind::NumberOutsideRange => "expression: X4 number outside the range",
-        ExprFaultKind::TooLarge => "expression: X5 too large",
-        ExprFaultKind::NoMemory => "expression: X6 no memory",
-    }
-}
-
-/// What is wrong with a tree that states no description.
-fn description_text(kind: DescFaultKind) -> &'static str {
-    match kind {
-        DescFaultKind::UnknownKey => "unknown key",
-        DescFaultKind::MissingKey => "missing key",
-        DescFaultKind::KeysAgainst => "keys against each other",
-        DescFaultKind::UnknownName => "unknown name",
-        DescFaultKind::NoByteOrder => "no byte order",
-        DescFaultKind::BadValue => "bad name or value",
-        DescFaultKind::WrongCount => "wrong count of arguments",
-        DescFaultKind::LeftOut => "left-out feature",
-        DescFaultKind::OverLimit => "over a limit",
-        DescFaultKind::NoExpression(fault) => expression_text(fault.kind),
-        DescFaultKind::NoMemory => "no memory",
-    }
 }
 
 /// The place of the fault in an expression.
@@ -80,7 +35,7 @@ fn of_yaml(fault: YamlFault) -> Stop
         kind => Stop::Line {
             line: shown(fault.line),
             code: kind.code(),
-            text: yaml_text(kind),
+            text: kind.text(),
             at: None,
         },
     }
@@ -95,7 +50,7 @@ fn of_description(fault: DescFault) -> Stop
         kind => Stop::Line {
             line: shown(fault.line),
             code: kind.code(),
-            text: description_text(kind),
+            text: kind.text(),
             at: place(kind),
         },
     }

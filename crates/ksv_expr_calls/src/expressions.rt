@@ -128,9 +128,9 @@ fn parts<'a>(front: &'a [u8], back: &'a [u8]) -> Parts<'a> {
 #[test]
 fn encodings_decode(rt: HostRuntime) -> Result<(), Fail> {
     let alloc = rt.alloc();
-    let is_named = Encoding::named("utf-8") == Some(Encoding::Utf8)
-        && Encoding::named("Ascii") == Some(Encoding::Ascii)
-        && Encoding::named("utf8").is_none();
+    let is_named = Encoding::named(b"utf-8") == Some(Encoding::Utf8)
+        && Encoding::named(b"Ascii") == Some(Encoding::Ascii)
+        && Encoding::named(b"utf8").is_none();
     let whole = parts(b"h\xc3", b"\xa9");
     let is_text = match Encoding::Utf8.decode(alloc, whole)? {
         Some(text) => text.as_str() == "hé" && text.copy()?.as_str() == "hé",
@@ -160,7 +160,7 @@ fn texts_are_refused(rt: HostRuntime) -> Result<(), Fail> {
         && is_refused(alloc, "1.5", ExprFaultKind::LeftOutForm, 0);
     let kind = ExprFaultKind::NoMemory;
     let shown = format!(in alloc; "{kind}")?;
-    let has_text = kind.code() == "X6" && shown.as_str() == "no memory";
+    let has_text = kind.code() == "X6" && shown.as_str() == "expression: X6 no memory";
     let count = parse_type(alloc, b"a::b(1, c)")?.arguments.len();
     assert!(rt; are_refused && has_text && count == 2);
     Ok(())

@@ -281,7 +281,11 @@ pub(crate) fn text_in(
     ensures { Runs (text_in from to encoding.now) (λ v. v) replies.old replies.new result }
 {
     let parts = replies.bytes(Want::Bytes { from, to })?;
-    decoded_by(replies, Encoding::named(encoding.as_str()), parts)
+    decoded_by(
+        replies,
+        Encoding::named(encoding.as_str().as_bytes()),
+        parts,
+    )
 }
 
 fn first_byte(replies: &mut Replies, parts: Parts) -> Result<Value, Halt>

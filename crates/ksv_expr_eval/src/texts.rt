@@ -1,13 +1,14 @@
 //! The methods of texts.
 
-ghost use Rattle.std.specs.Prelude.{◌≡◌, ◌+◌, ◌<◌, ◌≤◌, ◌^◌, IfOk, string_bytes, length, reverse, ℤ, pos, option_map, map, min, Some, None, if◌then◌else◌, MatchOption, IsTrue, IsFalse};
+ghost use Rattle.std.specs.Prelude.{◌≡◌, ◌+◌, ◌<◌, ◌≤◌, ◌^◌, IfOk, string_bytes, length, reverse, ℤ, pos, option_map, map, Some, None, if◌then◌else◌};
 ghost use Rattle.std.specs.Str.{chars, encode_utf8_all, bytes_eq};
 ghost use Rattle.std.specs.Cmp.Lexicographic.{slice_cmp};
 ghost use Rattle.std.specs.Ordering.{nat_cmp};
 ghost use Rattle.std.specs.Fmt.{signed_decimal};
-ghost use Rattle.ksv_expr_meaning.specs.Texts.{joined, char_count, reversed, between, substring, text_number, number_of, written, numeral, opposite, is_numeral, worth};
+ghost use Rattle.ksv_expr_meaning.specs.Texts.{joined, char_count, reversed, between, substring, text_number, number_of, written, numeral, opposite};
 
 use ksv_expr_value::{FaultKind, Integer, Text};
+use ksv_numerals::numeral;
 use std::alloc::{AllocError, Global};
 use std::cmp::Ordering;
 
@@ -127,27 +128,6 @@ pub(crate) fn number(text: &Text, radix: Integer) -> Result<Integer, FaultKind>
         None => Err(FaultKind::BadNumber),
         Some(number) => Integer::new(number).ok_or(FaultKind::Overflow),
     }
-}
-
-/// A bound above every integer's size.
-const LIMIT: u128 = 0x1_0000_0000_0000_0000;
-
-/// The number of a numeral, at most the limit.
-#[tactic(auto, using(crate::proofs::Numerals::digits_more, crate::proofs::Numerals::number_more))]
-fn numeral(digits: &[u8], radix: u32) -> Option<u128>
-    requires lower { 2 ≤ radix }
-    requires upper { radix ≤ 36 }
-    ensures { MatchOption result (IsFalse (is_numeral radix digits.now)) (λ n. IsTrue (is_numeral radix digits.now) × (n ≡ min (worth radix 0 digits.now) (2 ^ 64))) }
-{
-    if digits.is_empty() {
-        return None;
-    }
-    let mut number = 0u128;
-    for digit in digits {
-        let value = char::from(*digit).to_digit(radix)?;
-        number = (number * u128::from(radix) + u128::from(value)).min(LIMIT);
-    }
-    Some(number)
 }
 
 /// The number of a numeral, or one outside the integers' range if the numeral's number is outside it.

@@ -1,8 +1,8 @@
 -- Texts of expressions: what their methods mean. A text is the bytes of its UTF-8; `chars` are the characters that they spell.
 -- The methods are those of the Kaitai Struct User Guide; the limit on a text's size is this project's own.
 use Rattle.std.specs.Prelude.{ℕ, ◌+◌, ◌-◌, ◌*◌, Bool, false, ◌&&◌, nat_lt, nat_le, ℤ, pos, negsuc, neg_ℤ, List, [], ◌∷◌, ◌++◌, length, take, drop, reverse, Option, Some, None, if◌then◌else◌, ◌==◌, Result, Ok, Err}
-use Rattle.std.specs.List.{list_all}
-use Rattle.std.specs.Char.{digit_value}
+use Rattle.std.specs.Str.Parse.{digits_value}
+use Rattle.ksv_numerals.specs.Numerals.{is_numeral}
 use Rattle.ksv_expr_value.specs.declared.fault.FaultKind.{FaultKind}
 use Rattle.ksv_expr_value.specs.declared.fault.FaultKind.TheVariants as kinds
 use Rattle.ksv_expr_value.specs.Range.{in_range}
@@ -34,23 +34,9 @@ substring t (pos i) (pos j) = between t i j
 substring t (pos i) (negsuc j) = None
 substring t (negsuc i) j = None
 
--- the number of digits in a radix, after a number n in front of them
-abbrev pub worth : ℕ → ℕ → List ℕ → ℕ
-worth radix n [] = n
-worth radix n (d ∷ ds) = worth radix (n * radix + digit_value d) ds
-
--- a byte is a digit of the radix: 0 to 9, and then letters of either case
-abbrev pub is_digit : ℕ → ℕ → Bool
-is_digit radix d = nat_lt (digit_value d) radix
-
--- one digit or more
-abbrev pub is_numeral : ℕ → List ℕ → Bool
-is_numeral radix [] = false
-is_numeral radix (d ∷ ds) = list_all (is_digit radix) (d ∷ ds)
-
 -- a numeral's number
 abbrev pub numeral : ℕ → List ℕ → Option ℤ
-numeral radix ds = if is_numeral radix ds then Some (pos (worth radix 0 ds)) else None
+numeral radix ds = if is_numeral radix ds then Some (pos (digits_value radix ds)) else None
 
 -- the negative of an integer
 abbrev pub opposite : Option ℤ → Option ℤ

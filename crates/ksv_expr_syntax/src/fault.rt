@@ -2,31 +2,26 @@
 
 ghost use Rattle.ksv_expr_syntax.specs.declared.fault.ExprFaultKind.TheVariants.{NoMemory};
 ghost use Rattle.std.specs.Prelude.{◌≡◌};
-ghost use Rattle.ksv_expr_syntax.specs.Faults.{code_of};
+ghost use Rattle.ksv_expr_syntax.specs.Faults.{code_of, text_of};
 
 use std::alloc::{AllocError, AllocFailed};
 use thiserror::Error;
 
 /// What is wrong with a text.
 #[derive(Clone, Copy, PartialEq, Eq, Debug, Error)]
+#[error("{}", self.text())]
 pub enum ExprFaultKind {
     /// A character that begins no token, or a token that can't come here.
-    #[error("unexpected character")]
     UnexpectedCharacter,
     /// The text ends in the middle of a token or of an expression.
-    #[error("unexpected end")]
     UnexpectedEnd,
     /// An unsupported form of Kaitai's language, such as a float or an array.
-    #[error("left-out form")]
     LeftOutForm,
     /// A number above 2^64 - 1.
-    #[error("number outside the range")]
     NumberOutsideRange,
     /// More than 256 parts, or more than 32 nested levels.
-    #[error("too large")]
     TooLarge,
     /// Memory was refused.
-    #[error("no memory")]
     NoMemory,
 }
 
@@ -42,6 +37,20 @@ impl ExprFaultKind {
             ExprFaultKind::NumberOutsideRange => "X4",
             ExprFaultKind::TooLarge => "X5",
             ExprFaultKind::NoMemory => "X6",
+        }
+    }
+
+    /// What is wrong, in words, after the code.
+    pub fn text(self) -> &'static str
+        ensures { result.now ≡ text_of self }
+    {
+        match self {
+            ExprFaultKind::UnexpectedCharacter => "expression: X1 unexpected character",
+            ExprFaultKind::UnexpectedEnd => "expression: X2 unexpected end",
+            ExprFaultKind::LeftOutForm => "expression: X3 left-out form",
+            ExprFaultKind::NumberOutsideRange => "expression: X4 number outside the range",
+            ExprFaultKind::TooLarge => "expression: X5 too large",
+            ExprFaultKind::NoMemory => "expression: X6 no memory",
         }
     }
 }

@@ -20,12 +20,12 @@ pub enum Encoding {
 
 impl Encoding {
     /// The encoding of this name, in any letter case.
-    pub fn named(name: &str) -> Option<Encoding>
+    pub fn named(name: &[u8]) -> Option<Encoding>
         ensures { result ≡ encoding_named name.now }
     {
-        if name.eq_ignore_ascii_case("ASCII") {
+        if name.eq_ignore_ascii_case(b"ASCII") {
             Some(Encoding::Ascii)
-        } else if name.eq_ignore_ascii_case("UTF-8") {
+        } else if name.eq_ignore_ascii_case(b"UTF-8") {
             Some(Encoding::Utf8)
         } else {
             None

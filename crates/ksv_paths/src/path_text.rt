@@ -1,13 +1,12 @@
 //! Which path a text names.
-ghost use Rattle.std.specs.Prelude.{◌≡◌, ◌≤◌, ◌<◌, ◌++◌, ◌↔◌, true, IsTrue, List, [], ◌∷◌, length, reverse, option_map, Some, None, MatchOption, IfOk, IfSome, IfNone, OnErr, IsSome, position};
+ghost use Rattle.std.specs.Prelude.{◌≡◌, ◌≤◌, ◌<◌, ◌++◌, ◌↔◌, true, IsTrue, List, [], ◌∷◌, length, reverse, Some, None, MatchOption, IfOk, IfSome, IfNone, OnErr, IsSome, position};
 ghost use Rattle.std.specs.Char.{is_ascii_digit};
 ghost use Rattle.std.specs.List.{list_all, slice_split};
 ghost use Rattle.ksv_expr_value.specs.Trail.{element_limit, fits, step_fits};
-ghost use Rattle.ksv_desc.specs.Description.{as_text};
 ghost use Rattle.ksv_desc.specs.Whole.{plain_pieces};
 ghost use Rattle.ksv_paths.specs.PathTexts.{decimal_of, index_of, name_of, step_of, steps_of, is_slash, path_of_steps, path_behind, path_named};
 
-use ksv_desc::Desc;
+use ksv_desc::{Desc, as_text};
 use ksv_expr_value::{Path, Step};
 use std::alloc::{AllocError, Global};
 use std::marker::Model;
@@ -99,22 +98,11 @@ fn index(text: &[u8]) -> Option<u32>
     }
 }
 
-/// The text that these bytes are, where they are one.
-#[tactic(auto, unfolding(ksv_desc::specs::Description::as_text))]
-fn text_in(bytes: &[u8]) -> Option<&str>
-    ensures { option_map (λ text. text.now) result ≡ as_text bytes.now }
-{
-    match str::from_utf8(bytes) {
-        Ok(text) => Some(text),
-        Err(_) => None,
-    }
-}
-
 /// The number of the member's name that a text is.
 fn name(desc: &Desc, text: &[u8]) -> Option<u32>
     ensures { result ≡ name_of (plain_pieces desc.now) text.now }
 {
-    match text_in(text) {
+    match as_text(text) {
         Some(text) => desc.number_of(text),
         None => None,
     }

@@ -14,10 +14,11 @@ use Rattle.ksv_schema_names.specs.Resolved.{Fits}
 use Rattle.ksv_schema_names.proofs.Found.{some_is, place_within}
 use Rattle.ksv_schema_values.specs.Faults.{bad_value}
 use Rattle.ksv_schema_values.specs.Values.{home_of}
+use Rattle.ksv_schema_read.proofs.Texts.{as_text_is}
 use Rattle.ksv_schema_read.specs.Members.{member_keys, member}
 use Rattle.ksv_schema_read.specs.Description.{Context, members, all_members, all_enums, faults_of, names_in, member_names, names_of, each_of, member_of, type_of, types_of, are_texts, described, stated_by}
 use Rattle.ksv_desc.specs.Names.{distinct, distinct_behind, number_in, has_names, AreDistinct}
-use Rattle.ksv_desc.specs.Description.{MemberKind, MemberOfType, TypeOfObjects, Enum, Description, as_text}
+use Rattle.ksv_desc.specs.Description.{MemberKind, MemberOfType, TypeOfObjects, Enum, Description}
 use Rattle.ksv_desc.specs.Resolved as resolved
 use Rattle.ksv_desc.specs.Resolved.{Each, IsThere, IsResolvedMember, IsResolved}
 use Rattle.ksv_desc.proofs.Dots.{distinct_append}
@@ -123,10 +124,6 @@ Known d Q x = (y : Description) → y.names ≡ names_of d → Fits d y → y.kn
 record IsStated (d : Declared) (m : Member) (r : MemberOfType) : Type 0 where
   known : Known d IsResolvedMember r
   given : is_parameter m ≡ resolved.is_parameter r
-
-as_text_is : (bs : List ℕ) → is_utf8 bs ≡ true → as_text bs ≡ Some bs
-unfolding as_text
-as_text_is bs h = ap (λ (b : Bool). cond b (Some bs) None) h
 
 member_there : (d : Declared) (n : ℕ) (m : Member) (k : MemberKind) → IsMember d n m k → is_some (number_in (member_names d) m.name) ≡ true → IsThere (IsStated d m) (member_of (within d n) m k)
 unfolding member_of

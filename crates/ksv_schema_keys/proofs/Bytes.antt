@@ -5,7 +5,8 @@ use Rattle.std.specs.Str.Parse.{digits_value}
 use Rattle.std.proofs.lemmas.Bool.Decides.{nat_tests}
 use Rattle.ksv_yaml_tree.specs.Tree.{Tree, Text, Seq, Map, text_of, is_quoted}
 use Rattle.ksv_yaml_tree.specs.declared.numeral.Numeral.TheVariants.{Whole, LeadingZero, NoNumeral}
-use Rattle.ksv_yaml_tree.specs.Numerals.{is_numeral, whole_to, decimal_to, hexadecimal_to, plain_number}
+use Rattle.ksv_numerals.specs.Numerals.{is_numeral}
+use Rattle.ksv_yaml_tree.specs.Numerals.{whole_to, decimal_to, hexadecimal_to, plain_number}
 use Rattle.ksv_schema_keys.specs.Code.{IsUpTo}
 use Rattle.ksv_schema_keys.specs.Values.{byte_number, looks_like_number, number_piece, Bytes, BadPiece, piece_of}
 

@@ -10,7 +10,8 @@ use Rattle.ksv_expr_tree.specs.Tree as expressions
 use Rattle.ksv_yaml_tree.specs.Keys.{text_at, says}
 use Rattle.ksv_yaml_tree.specs.declared.numeral.Numeral.{Numeral}
 use Rattle.ksv_yaml_tree.specs.declared.numeral.Numeral.TheVariants.{Whole, LeadingZero, NoNumeral}
-use Rattle.ksv_yaml_tree.specs.Numerals.{is_numeral, plain_number}
+use Rattle.ksv_numerals.specs.Numerals.{is_numeral}
+use Rattle.ksv_yaml_tree.specs.Numerals.{plain_number}
 use Rattle.ksv_schema_names.specs.declared.built_ins.BuiltIn.{BuiltIn}
 use Rattle.ksv_schema_names.specs.declared.built_ins.BuiltIn.TheVariants.{Integer, Str, Strz}
 use Rattle.ksv_schema_names.specs.BuiltIn.{built_in_at}

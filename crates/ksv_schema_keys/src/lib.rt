@@ -15,6 +15,6 @@ pub use keys::{Form, Group, MappingKind, form_in, is_id, is_in, kind_of};
 pub use laws::texts_are_spelled;
 pub use read::read_expression;
 pub use values::{
-    CaseKey, Piece, TypeKind, TypeText, byte_at, byte_number, case_key, encoding_named, is_a,
-    is_of_kind, looks_like_number, own_type, piece_of, type_text,
+    CaseKey, Piece, TypeKind, TypeText, byte_at, byte_number, case_key, is_a, is_of_kind,
+    looks_like_number, own_type, piece_of, type_text,
 };

@@ -4,14 +4,13 @@ ghost use Rattle.std.specs.Prelude.{◌≡◌, ◌≤◌, nat_abs, IfOk, map, sl
 ghost use Rattle.ksv_yaml_tree.specs.View.{view, pair, seen_entry, seen_text};
 ghost use Rattle.std.specs.List.{list_all};
 ghost use Rattle.ksv_expr_tree.specs.Tree.{view as view_expression, literal_of};
-ghost use Rattle.ksv_yaml_tree.specs.Numerals.{is_digit, is_numeral};
-ghost use Rattle.ksv_schema_keys.specs.Values.{encoding_named, type_text, is_a, type_at, own_type, byte_number, byte_at, looks_like_number, number_piece, piece_of, case_key};
+ghost use Rattle.ksv_schema_keys.specs.Values.{type_text, is_a, type_at, own_type, byte_number, byte_at, looks_like_number, number_piece, piece_of, case_key};
 ghost use Rattle.ksv_schema_keys.specs.Code.{seen_type_text, seen_type_at, kind_test, IsUpTo, seen_piece, seen_case_key, negative_constant, negative_key};
 
 use crate::read::read_type;
 use ksv_expr_syntax::ExprFault;
 use ksv_expr_tree::{Expr, Literal, Member, SpecialName, TypeName, TypeRef, UnaryOperator};
-use ksv_expr_value::Encoding;
+use ksv_numerals::is_numeral;
 use ksv_schema_names::{BuiltIn, built_in_at};
 use ksv_yaml_tree::keys::text_at;
 use ksv_yaml_tree::{Entry, Numeral, Yaml, find, plain_number};
@@ -19,20 +18,6 @@ use std::alloc::{AllocError, Global};
 
 /// The greatest number that may come after `-` in a key of `cases`.
 const MOST_NEGATIVE: u64 = 0x8000_0000_0000_0000;
-
-/// The encoding of a name, in any letter case.
-#[tactic(auto, unfolding(crate::specs::Values::encoding_named))]
-pub fn encoding_named(name: &[u8]) -> Option<Encoding>
-    ensures { result ≡ encoding_named name.now }
-{
-    if name.eq_ignore_ascii_case(b"ASCII") {
-        Some(Encoding::Ascii)
-    } else if name.eq_ignore_ascii_case(b"UTF-8") {
-        Some(Encoding::Utf8)
-    } else {
-        None
-    }
-}
 
 /// What the text of a type is.
 #[derive(Drop)]
@@ -138,42 +123,14 @@ pub fn byte_at(entries: &[Entry], key: &[u8]) -> Option<u8>
     }
 }
 
-fn is_digit(radix: u32, byte: u8) -> bool
-    requires lower { 2 ≤ radix }
-    requires upper { radix ≤ 36 }
-    ensures { result ≡ is_digit radix byte }
-{
-    char::from(byte).is_digit(radix)
-}
-
-fn are_digits(radix: u32, text: &[u8]) -> bool
-    requires lower { 2 ≤ radix }
-    requires upper { radix ≤ 36 }
-    ensures { result ≡ list_all (is_digit radix) text.now }
-{
-    text.iter().all(|byte| is_digit(radix, *byte))
-}
-
-/// Whether a text is one digit or more, and nothing else.
-fn is_numeral(radix: u32, text: &[u8]) -> bool
-    requires lower { 2 ≤ radix }
-    requires upper { radix ≤ 36 }
-    ensures { result ≡ is_numeral radix text.now }
-{
-    match text {
-        [] => false,
-        [_, ..] => are_digits(radix, text),
-    }
-}
-
 /// Whether a text has the form of a plain number.
 #[tactic(auto, unfolding(crate::specs::Values::looks_like_number))]
 pub fn looks_like_number(text: &[u8]) -> bool
     ensures { result ≡ looks_like_number text.now }
 {
     match text {
-        [b'0', b'x', digits @ ..] => is_numeral(16, digits),
-        _ => is_numeral(10, text),
+        [b'0', b'x', digits @ ..] => is_numeral(digits, 16),
+        _ => is_numeral(text, 10),
     }
 }
 

@@ -16,10 +16,10 @@ ghost use Rattle.ksv_schema_values.specs.Code.{plain, seen_fault, Reads};
 ghost use Rattle.ksv_schema_read.specs.Plain.{context_of};
 
 use crate::check::{line_past, member_past, note_past, note_types, type_past};
-use crate::enumeration::{as_text, enumerations, owned_text};
+use crate::enumeration::{enumerations, owned_text};
 use crate::member::member;
 use crate::number::{Context, number_kind};
-use ksv_desc::{EnumDesc, MemberDesc, MemberKind, Pieces, TypeDesc};
+use ksv_desc::{EnumDesc, MemberDesc, MemberKind, Pieces, TypeDesc, as_text};
 use ksv_schema_names::Names;
 use ksv_schema_scope::{Member, Row, Scopes};
 use ksv_schema_values::{DescFault, Read, Reader, both, paired, pushed};

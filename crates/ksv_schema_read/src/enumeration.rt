@@ -17,7 +17,7 @@ ghost use Rattle.ksv_schema_read.specs.Description.{whole, id_text, id, entry_id
 ghost use Rattle.ksv_schema_values.specs.Code.{seen_fault, paired, Reads};
 ghost use Rattle.ksv_schema_read.specs.Plain.{has_number, has_id, Gives, Adds, AreOf};
 
-use ksv_desc::{EnumDesc, EnumEntry};
+use ksv_desc::{EnumDesc, EnumEntry, as_text};
 use ksv_schema_keys::{MappingKind, is_id};
 use ksv_schema_scope::{Row, id_of, number_of};
 use ksv_schema_values::DescFaultKind::{BadValue, KeysAgainst, LeftOut, MissingKey};
@@ -28,17 +28,6 @@ use std::alloc::{AllocError, Global};
 use std::collections::HashSet;
 
 // ---- texts
-
-/// The text of these bytes, if they are one.
-#[tactic(auto, unfolding(ksv_desc::specs::Description::as_text))]
-pub(crate) fn as_text(bytes: &[u8]) -> Option<&str>
-    ensures { option_map (λ s. s.now) result ≡ as_text bytes.now }
-{
-    match str::from_utf8(bytes) {
-        Ok(text) => Some(text),
-        Err(_) => None,
-    }
-}
 
 /// An owned text, if these bytes are one.
 pub(crate) fn owned_text(alloc: Global, bytes: &[u8]) -> Read<String>

@@ -6,6 +6,7 @@
 -- with `&mut reader.least`.
 use Rattle.std.specs.declared.alloc.Global.{Global}
 use Rattle.std.specs.Prelude.{◌≡◌, ◌++◌, ℕ, Bool, not, ◌&&◌, if◌then◌else◌, List, [], ◌∷◌, Vec, Option, Some, option_map, option_and_then, Result, Ok, Err, codes}
+use Rattle.ksv_expr_syntax.specs.Faults as expressions
 use Rattle.ksv_schema_scope.specs.Table.{declared}
 use Rattle.ksv_schema_keys.specs.Values.{looks_like_number}
 use Rattle.ksv_desc.specs.Names.{distinct_behind}
@@ -53,6 +54,20 @@ code_of kinds.LeftOut = codes "S8"
 code_of kinds.OverLimit = codes "S9"
 code_of (kinds.NoExpression f) = codes "S10"
 code_of kinds.NoMemory = codes "S11"
+
+-- what a fault says in words
+abbrev pub text_of : DescFaultKind → List ℕ
+text_of kinds.UnknownKey = codes "unknown key"
+text_of kinds.MissingKey = codes "missing key"
+text_of kinds.KeysAgainst = codes "keys against each other"
+text_of kinds.UnknownName = codes "unknown name"
+text_of kinds.NoByteOrder = codes "no byte order"
+text_of kinds.BadValue = codes "bad name or value"
+text_of kinds.WrongCount = codes "wrong count of arguments"
+text_of kinds.LeftOut = codes "left-out feature"
+text_of kinds.OverLimit = codes "over a limit"
+text_of (kinds.NoExpression f) = expressions.text_of f.kind
+text_of kinds.NoMemory = codes "no memory"
 
 -- a fault as a line and the number of a code, without what is wrong with an expression's text
 abbrev pub plain : DescFault → Fault

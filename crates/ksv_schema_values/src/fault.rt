@@ -2,46 +2,37 @@
 
 ghost use Rattle.std.specs.Prelude.{◌≡◌};
 ghost use Rattle.ksv_schema_values.specs.Faults.{is_below, noted, fault, fault_if};
-ghost use Rattle.ksv_schema_values.specs.Code.{number_of, code_of, plain, seen_fault};
+ghost use Rattle.ksv_schema_values.specs.Code.{number_of, code_of, text_of, plain, seen_fault};
 
 use ksv_expr_syntax::ExprFault;
 use thiserror::Error;
 
 /// What is wrong with a description.
 #[derive(Clone, Copy, PartialEq, Eq, Debug, Error)]
+#[error("{}", self.text())]
 pub enum DescFaultKind {
     /// S1: the mapping has no such key.
-    #[error("unknown key")]
     UnknownKey,
     /// S2: a required key is missing; the line is the first one of the mapping.
-    #[error("missing key")]
     MissingKey,
     /// S3: keys that don't fit together, or a name or number that is given twice.
-    #[error("keys against each other")]
     KeysAgainst,
     /// S4: nothing has this name here.
-    #[error("unknown name")]
     UnknownName,
     /// S5: an integer of several bytes without a byte order.
-    #[error("no byte order")]
     NoByteOrder,
     /// S6: a name or a value that isn't allowed here, or a node of the wrong kind.
-    #[error("bad name or value")]
     BadValue,
     /// S7: a type has another count of arguments than of parameters.
-    #[error("wrong count of arguments")]
     WrongCount,
     /// S8: an unsupported feature of Kaitai Struct.
-    #[error("left-out feature")]
     LeftOut,
     /// S9: more than 1,024 types, 256 members of a type, or 65,536 entries of enums.
-    #[error("over a limit")]
     OverLimit,
     /// S10: a text is no expression or no type.
-    #[error("expression: {} {} at {}", .0.kind.code(), .0.kind, .0.at)]
+    #[error("{} at {}", .0.kind, .0.at)]
     NoExpression(ExprFault),
     /// S11: memory was refused.
-    #[error("no memory")]
     NoMemory,
 }
 
@@ -62,6 +53,25 @@ impl DescFaultKind {
             DescFaultKind::OverLimit => "S9",
             DescFaultKind::NoExpression(_) => "S10",
             DescFaultKind::NoMemory => "S11",
+        }
+    }
+
+    /// What is wrong, in words.
+    pub fn text(self) -> &'static str
+        ensures { result.now ≡ text_of self }
+    {
+        match self {
+            DescFaultKind::UnknownKey => "unknown key",
+            DescFaultKind::MissingKey => "missing key",
+            DescFaultKind::KeysAgainst => "keys against each other",
+            DescFaultKind::UnknownName => "unknown name",
+            DescFaultKind::NoByteOrder => "no byte order",
+            DescFaultKind::BadValue => "bad name or value",
+            DescFaultKind::WrongCount => "wrong count of arguments",
+            DescFaultKind::LeftOut => "left-out feature",
+            DescFaultKind::OverLimit => "over a limit",
+            DescFaultKind::NoExpression(fault) => fault.kind.text(),
+            DescFaultKind::NoMemory => "no memory",
         }
     }
 

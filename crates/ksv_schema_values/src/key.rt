@@ -9,7 +9,8 @@ ghost use Rattle.ksv_schema_values.specs.Code.{seen_fault};
 
 use crate::fault::DescFaultKind::{BadValue, LeftOut, MissingKey, UnknownKey};
 use crate::fault::{Least, note, note_if};
-use ksv_schema_keys::{Form, MappingKind, byte_number, encoding_named, form_in, is_id};
+use ksv_expr_value::Encoding;
+use ksv_schema_keys::{Form, MappingKind, byte_number, form_in, is_id};
 use ksv_schema_scope::order_named;
 use ksv_yaml_tree::keys::{entries_in, has};
 use ksv_yaml_tree::{Entry, Numeral};
@@ -56,6 +57,7 @@ fn note_bit_endian(least: &mut Least, line: usize, text: &[u8])
 }
 
 /// Whether a text is allowed at a key of this form, as far as the text alone decides.
+#[tactic(auto, unfolding(ksv_schema_keys::specs::Values::encoding_named))]
 fn fits(form: Form, text: &[u8]) -> bool
     ensures { result ≡ fits form text.now }
 {
@@ -65,7 +67,7 @@ fn fits(form: Form, text: &[u8]) -> bool
         Form::Repeat => {
             text == b"eos".as_slice() || text == b"expr".as_slice() || text == b"until".as_slice()
         }
-        Form::Coding => encoding_named(text).is_some(),
+        Form::Coding => Encoding::named(text).is_some(),
         Form::ParameterType => text != b"io".as_slice(),
         _ => true,
     }

@@ -30,8 +30,7 @@ use ksv_desc::{Case, CaseValue, Choice, Content};
 use ksv_expr_tree::{Expr, Literal, TypeName};
 use ksv_expr_value::Encoding;
 use ksv_schema_keys::{
-    CaseKey, MappingKind, TypeKind, TypeText, case_key, encoding_named, is_of_kind,
-    read_expression, type_text,
+    CaseKey, MappingKind, TypeKind, TypeText, case_key, is_of_kind, read_expression, type_text,
 };
 use ksv_schema_names::{BuiltIn, Site, argument_fault, given_member};
 use ksv_schema_scope::ByteOrder;
@@ -67,13 +66,13 @@ fn order_at(home: Home, size: u8, stated: Option<ByteOrder>) -> Option<ByteOrder
 }
 
 /// The encoding of an attribute of these keys, its own or the one in force.
-#[tactic(auto, unfolding(crate::specs::Values::encoding_at))]
+#[tactic(auto, unfolding(crate::specs::Values::encoding_at, ksv_schema_keys::specs::Values::encoding_named))]
 fn encoding_at(home: Home, entries: &[Entry]) -> Option<Encoding>
     ensures { result ≡ encoding_at (seen_home home.entry) (map pair entries.now) }
 {
     match text_at(entries, b"encoding") {
-        Some(name) => encoding_named(name),
-        None => encoding_named(home.scopes.encoding_of(home.within)?),
+        Some(name) => Encoding::named(name),
+        None => Encoding::named(home.scopes.encoding_of(home.within)?),
     }
 }
 

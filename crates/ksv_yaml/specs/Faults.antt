@@ -22,6 +22,19 @@ code_of ValueForKey = codes "Y8"
 code_of TooDeep = codes "Y9"
 code_of NoMemory = codes "Y10"
 
+-- what a kind says in words
+abbrev pub text_of : YamlKind → List ℕ
+text_of NotUtf8 = codes "not UTF-8"
+text_of TooLong = codes "too long"
+text_of Tab = codes "tab in the indentation"
+text_of Indentation = codes "indentation fits no level"
+text_of KeyTwice = codes "key twice"
+text_of LeftOut = codes "left-out form"
+text_of NotClosed = codes "not closed"
+text_of ValueForKey = codes "value in a key's place"
+text_of TooDeep = codes "nested too deeply"
+text_of NoMemory = codes "no memory"
+
 -- The text is short enough and UTF-8, the number is that of one of its lines (1 for the empty text), and it spells no tree.
 pub record IsUnspelled (text : List ℕ) (line : ℕ) : Type 0 where
   pub small : length text ≤ text_limit

@@ -2,7 +2,7 @@
 
 ghost use Rattle.std.specs.Prelude.{◌≡◌, true, false};
 ghost use Rattle.ksv_yaml.specs.Code.{public_kind, wants_memory, lines_want};
-ghost use Rattle.ksv_yaml.specs.Faults.{code_of};
+ghost use Rattle.ksv_yaml.specs.Faults.{code_of, text_of};
 
 use ksv_yaml_scan::fault::{LineError, LineFault, ScanFault};
 use std::alloc::{AllocError, AllocFailed};
@@ -13,36 +13,27 @@ use thiserror::Error;
 /// Y2 and Y1 are checked first, in this order. Of the others that are true of the line that is named, the first of
 /// Y3, Y5, Y9, Y7, Y4, Y8 and Y6 is given.
 #[derive(Debug, Clone, Copy, Error)]
+#[error("{}", self.text())]
 pub enum YamlKind {
     /// Y1: the text isn't UTF-8; the line is that of the first bad byte.
-    #[error("not UTF-8")]
     NotUtf8,
     /// Y2: the text has more than 1,048,576 bytes; the line is 1.
-    #[error("too long")]
     TooLong,
     /// Y3: a tab is in the white space at the front of the line, or between a dash and a block.
-    #[error("tab in the indentation")]
     Tab,
     /// Y4: the line's indentation is that of no open block, and nothing deeper is allowed there.
-    #[error("indentation fits no level")]
     Indentation,
     /// Y5: the mapping has this key already.
-    #[error("key twice")]
     KeyTwice,
     /// Y6: a form of YAML that the subset doesn't support, or none at all.
-    #[error("left-out form")]
     LeftOut,
     /// Y7: a quote isn't closed on its line, or a bracket at the end of the text.
-    #[error("not closed")]
     NotClosed,
     /// Y8: a plain scalar with a key's colon inside, or a line that is no entry of the block at its indentation.
-    #[error("value in a key's place")]
     ValueForKey,
     /// Y9: a mapping or sequence is nested in 64 others.
-    #[error("nested too deeply")]
     TooDeep,
     /// Y10: memory was refused.
-    #[error("no memory")]
     NoMemory,
 }
 
@@ -62,6 +53,24 @@ impl YamlKind {
             YamlKind::ValueForKey => "Y8",
             YamlKind::TooDeep => "Y9",
             YamlKind::NoMemory => "Y10",
+        }
+    }
+
+    /// What is wrong, in words.
+    pub fn text(self) -> &'static str
+        ensures { result.now ≡ text_of self }
+    {
+        match self {
+            YamlKind::NotUtf8 => "not UTF-8",
+            YamlKind::TooLong => "too long",
+            YamlKind::Tab => "tab in the indentation",
+            YamlKind::Indentation => "indentation fits no level",
+            YamlKind::KeyTwice => "key twice",
+            YamlKind::LeftOut => "left-out form",
+            YamlKind::NotClosed => "not closed",
+            YamlKind::ValueForKey => "value in a key's place",
+            YamlKind::TooDeep => "nested too deeply",
+            YamlKind::NoMemory => "no memory",
         }
     }
 }

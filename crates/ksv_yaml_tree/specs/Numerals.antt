@@ -1,19 +1,9 @@
 -- Plain numbers: decimal, or hexadecimal after `0x`; where a sign is allowed, `-` before a decimal.
-use Rattle.std.specs.Prelude.{ℕ, ◌^◌, ◌-◌, Bool, false, nat_lt, nat_le, ◌==◌, ◌&&◌, if◌then◌else◌, pos, neg_ℤ, List, [], ◌∷◌, length, drop, slice_index}
-use Rattle.std.specs.List.{list_all}
-use Rattle.std.specs.Char.{digit_value}
+use Rattle.std.specs.Prelude.{ℕ, ◌^◌, ◌-◌, nat_lt, nat_le, ◌==◌, ◌&&◌, if◌then◌else◌, pos, neg_ℤ, List, [], ◌∷◌, length, drop, slice_index}
 use Rattle.std.specs.Str.Parse.{digits_value}
+use Rattle.ksv_numerals.specs.Numerals.{is_numeral}
 use Rattle.ksv_yaml_tree.specs.declared.numeral.Numeral.{Numeral}
 use Rattle.ksv_yaml_tree.specs.declared.numeral.Numeral.TheVariants.{Whole, LeadingZero, NoNumeral}
-
--- whether a byte is a digit in a radix
-abbrev pub is_digit : ℕ → ℕ → Bool
-is_digit radix c = nat_lt (digit_value c) radix
-
--- one digit or more, and nothing else
-abbrev pub is_numeral : ℕ → List ℕ → Bool
-is_numeral radix [] = false
-is_numeral radix (c ∷ cs) = list_all (is_digit radix) (c ∷ cs)
 
 -- a number of at most `most`
 abbrev pub whole_to : ℕ → ℕ → Numeral

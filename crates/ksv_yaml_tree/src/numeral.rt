@@ -1,8 +1,9 @@
 //! Plain numbers.
 
-ghost use Rattle.std.specs.Prelude.{◌≡◌, ◌≤◌, ◌^◌, min, IsTrue, IsFalse, MatchOption, slice_index, length, nat_lt, ◌==◌, ◌&&◌};
-ghost use Rattle.std.specs.Str.Parse.{digits_value};
-ghost use Rattle.ksv_yaml_tree.specs.Numerals.{is_numeral, decimal_to, hexadecimal_to, opposite, plain_number, signed_number};
+ghost use Rattle.std.specs.Prelude.{◌≡◌, slice_index, length, nat_lt, ◌==◌, ◌&&◌};
+ghost use Rattle.ksv_yaml_tree.specs.Numerals.{decimal_to, hexadecimal_to, opposite, plain_number, signed_number};
+
+use ksv_numerals::numeral;
 
 /// What a text means where a plain number is wanted.
 #[derive(Clone, Copy, Debug)]
@@ -15,28 +16,8 @@ pub enum Numeral {
     NoNumeral,
 }
 
-/// A bound above every number of a description.
-const LIMIT: u128 = 0x1_0000_0000_0000_0000;
-
 /// The lowest number of a description, without its sign.
 const LOWEST: u64 = 0x8000_0000_0000_0000;
-
-/// The number of some digits, at most the limit.
-fn worth(digits: &[u8], radix: u32) -> Option<u128>
-    requires lower { 2 ≤ radix }
-    requires upper { radix ≤ 36 }
-    ensures { MatchOption result (IsFalse (is_numeral radix digits.now)) (λ n. IsTrue (is_numeral radix digits.now) × (n ≡ min (digits_value radix digits.now) (2 ^ 64))) }
-{
-    if digits.is_empty() {
-        return None;
-    }
-    let mut number = 0u128;
-    for digit in digits {
-        let value = char::from(*digit).to_digit(radix)?;
-        number = (number * u128::from(radix) + u128::from(value)).min(LIMIT);
-    }
-    Some(number)
-}
 
 /// Whether a decimal has a leading zero.
 fn has_leading_zero(digits: &[u8]) -> bool
@@ -49,7 +30,7 @@ fn has_leading_zero(digits: &[u8]) -> bool
 fn decimal_to(most: u64, digits: &[u8]) -> Numeral
     ensures { result ≡ decimal_to most digits.now }
 {
-    match worth(digits, 10) {
+    match numeral(digits, 10) {
         None => Numeral::NoNumeral,
         Some(number) => {
             if has_leading_zero(digits) {
@@ -67,7 +48,7 @@ fn decimal_to(most: u64, digits: &[u8]) -> Numeral
 fn negative_to(most: u64, digits: &[u8]) -> Numeral
     ensures { result ≡ opposite (decimal_to most digits.now) }
 {
-    match worth(digits, 10) {
+    match numeral(digits, 10) {
         None => Numeral::NoNumeral,
         Some(number) => {
             if has_leading_zero(digits) {
@@ -85,7 +66,7 @@ fn negative_to(most: u64, digits: &[u8]) -> Numeral
 fn hexadecimal_to(most: u64, digits: &[u8]) -> Numeral
     ensures { result ≡ hexadecimal_to most digits.now }
 {
-    match worth(digits, 16) {
+    match numeral(digits, 16) {
         None => Numeral::NoNumeral,
         Some(number) => {
             if number <= u128::from(most) {

@@ -2,7 +2,7 @@ use Rattle.std.proofs.Common.{◌≡◌, ℕ, List, Some, None, Bool, true, fals
 use Rattle.std.specs.Str.{IsUtf8, is_utf8}
 use Rattle.std.proofs.lemmas.Str.{IsUtf8-from_is_utf8, is_utf8-from_IsUtf8}
 use Rattle.ksv_desc.specs.Description.{as_text}
-use Rattle.ksv_schema_read.proofs.enumeration.as_text.Goals as goal
+use Rattle.ksv_desc.proofs.text.as_text.Goals as goal
 
 some : (t bs : List ℕ) → t ≡ bs → IsUtf8 bs → Some t ≡ as_text bs
 unfolding as_text

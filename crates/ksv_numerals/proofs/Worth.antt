@@ -7,7 +7,7 @@ use Rattle.std.proofs.lemmas.List.{take_more}
 use Rattle.std.proofs.lemmas.List.Folds.{list_all_more}
 use Rattle.std.proofs.lemmas.Bool.Decides.{nat_tests}
 use Rattle.std.proofs.Math.Nat.{mul-le-mul_left}
-use Rattle.ksv_yaml_tree.specs.Numerals.{is_digit}
+use Rattle.ksv_numerals.specs.Numerals.{is_digit}
 
 -- one digit more
 pub digits_more : (radix : ℕ) (ds : List ℕ) (i : ℕ) → i < length ds → list_all (is_digit radix) (take i ds) ≡ true → digit_value (get_or ds i 0) < radix → list_all (is_digit radix) (take (i + 1) ds) ≡ true
