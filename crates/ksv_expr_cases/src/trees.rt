@@ -26,11 +26,19 @@ pub(crate) fn add_type(alloc: Global, text: &[u8], out: &mut String) -> Result<(
     }
 }
 
-/// Adds the code of a refusal, its text, and its place.
+/// What a text says after some front, or all of it where it begins otherwise.
+fn after<'a>(text: &'a str, front: &str) -> &'a str {
+    match text.strip_prefix(front) {
+        Some(rest) => rest,
+        None => text,
+    }
+}
+
+/// Adds the code of a refusal, what its text says after that code, and its place.
 fn show_refusal(fault: &ExprFault, out: &mut String) -> Result<(), AllocError> {
-    out.push_str(fault.kind.code())?;
-    out.push_str(" ")?;
-    add(fault, out)?;
+    let code = fault.kind.code();
+    out.push_str(code)?;
+    out.push_str(after(after(fault.kind.text(), "expression: "), code))?;
     out.push_str(" at ")?;
     add(&fault.at, out)
 }

@@ -1,4 +1,4 @@
-use Rattle.ksv_calls.proofs.near.is_asked_near.Goals as goal
+use Rattle.ksv_rule_calls.proofs.near.is_asked_near.Goals as goal
 
 -- an engine that keeps nothing is right
 pub ask-requires : goal.ask-requires

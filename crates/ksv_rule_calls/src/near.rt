@@ -1,7 +1,6 @@
 //! How many looks an overwrite takes where the nodes of a described file are kept.
 
-use crate::nodes::{BYTES, described, is_told, node_at};
-use crate::plain::File;
+use crate::nodes::{BYTES, File, described, is_told, node_at};
 use ksv_bytes::{Buffer, Change};
 use ksv_memo::Engine;
 use ksv_rules::{Described, Node, NodeKind};

@@ -1,6 +1,5 @@
 //! Which path a text names, what nodes of a described file answer, and numbers in decimal.
 
-use crate::plain::File;
 use ksv_bytes::Buffer;
 use ksv_expr_value::{Fault, Path, Step};
 use ksv_memo::{Answer, Engine};
@@ -10,6 +9,14 @@ use ksv_yaml::read;
 use std::alloc::{AllocError, Global};
 use std::fmt::Write;
 use std::test::Fail;
+
+/// A file and the rules of its description.
+#[derive(Clone, Copy)]
+pub(crate) struct File<'a> {
+    pub(crate) alloc: Global,
+    pub(crate) rules: &'a Described,
+    pub(crate) bytes: &'a Buffer,
+}
 
 /// A list of items, each with a size.
 pub(crate) const LIST: &str = "meta:

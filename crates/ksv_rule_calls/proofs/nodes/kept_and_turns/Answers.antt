@@ -1,4 +1,4 @@
-use Rattle.ksv_calls.proofs.near.is_behind_near.Goals as goal
+use Rattle.ksv_rule_calls.proofs.nodes.kept_and_turns.Goals as goal
 
 -- an engine that keeps nothing is right
 pub ask-requires : goal.ask-requires
