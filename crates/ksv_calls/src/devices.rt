@@ -106,6 +106,15 @@ fn is_changed(alloc: Global, buffer: &Buffer) -> Result<bool, Fail> {
 
 /// Whether a writer that fails after so many calls has the beginning of the output, and is the first to have all
 /// of it after 26 calls; the change comes with the seventh.
+fn is_right(calls: usize, written: &[u8], changed: bool, end: End) -> bool {
+    if calls < 26 {
+        let is_front = OUTPUT.starts_with(written);
+        return is_front && end == End::WriteFailed && changed == (calls >= 7);
+    }
+    written == OUTPUT && end == End::Quit
+}
+
+/// Whether a session over a writer that fails after so many calls is right.
 fn is_right_after(alloc: Global, calls: usize) -> Result<bool, Fail> {
     let mut reader = Memory::new(INPUT.to_vec(alloc)?);
     let mut writer = Brittle {
@@ -119,11 +128,7 @@ fn is_right_after(alloc: Global, calls: usize) -> Result<bool, Fail> {
     let (buffer, end) = run(alloc, &mut reader, &mut writer, desc, file)?;
     let changed = is_changed(alloc, &buffer)?;
     let written = writer.memory.bytes.as_slice();
-    if calls < 26 {
-        let is_front = OUTPUT.starts_with(written);
-        return Ok(is_front && end == End::WriteFailed && changed == (calls >= 7));
-    }
-    Ok(written == OUTPUT && end == End::Quit)
+    Ok(is_right(calls, written, changed, end))
 }
 
 #[test]

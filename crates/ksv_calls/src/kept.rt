@@ -170,7 +170,9 @@ impl<'a> Pair<'a> {
     fn answers_as_new(&mut self, line: &[u8]) -> Result<bool, Fail> {
         let mut new = session_over(self.alloc, self.tree, &self.bytes)?;
         let reply = self.session.line(line);
-        Ok(reply.as_bytes() == new.line(line).as_bytes())
+        let is_same = reply.as_bytes() == new.line(line).as_bytes();
+        new.into_buffer();
+        Ok(is_same)
     }
 
     /// Asks both for what is at a random path. Whether the session answers as a new one over the same bytes does.
@@ -232,7 +234,10 @@ impl<'a> Pair<'a> {
 /// Whether a session over random bytes is right after each of 40 random lines.
 fn is_list_right(alloc: Global, tree: &Yaml, random: &mut Random) -> Result<bool, Fail> {
     let mut pair = random_pair(alloc, tree, random)?;
-    pair.are_lines_right(random)
+    let are_right = pair.are_lines_right(random);
+    let Pair { session, .. } = pair;
+    session.into_buffer();
+    are_right
 }
 
 /// Whether 2,000 random lists of lines are right that follow from this number.

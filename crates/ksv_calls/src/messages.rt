@@ -81,8 +81,8 @@ fn add_taken(alloc: Global, words: &[&str], out: &mut String) -> Result<(), Allo
         }
         Err(error) => {
             let text = format!(in alloc; "{error}")?;
-            let has_usage = text.as_str().contains("Usage: ksv ")
-                && text.as_str().contains("<FILE> <KSY>");
+            let mut has_usage = text.as_str().contains("Usage: ksv ");
+            has_usage &= text.as_str().contains("<FILE> <KSY>");
             write!(out, "{:?} {} {has_usage}", error.kind(), error.exit_code())
         }
     }

@@ -1,7 +1,7 @@
 //! A file of the greatest size, and a session line by line.
 
 use crate::devices::{FIRST, accepted};
-use ksv::{End, Memory, NewFault, Session, run};
+use ksv::{Desc, End, Memory, NewFault, Session, run};
 use ksv_bytes::{Buffer, FILE_LIMIT, Window};
 use std::alloc::Global;
 use std::test::Fail;
@@ -33,7 +33,10 @@ fn is_refused(alloc: Global) -> Result<bool, Fail> {
     let large = vec![in alloc; 7u8; FILE_LIMIT + 1]?;
     let desc = accepted(alloc, FIRST)?;
     match Session::new(alloc, desc, large) {
-        Ok(_) => Ok(false),
+        Ok(session) => {
+            session.into_buffer();
+            Ok(false)
+        }
         Err(fault) => is_told(alloc, fault),
     }
 }
@@ -61,15 +64,21 @@ fn are_answered(session: &mut Session) -> bool {
     are_right
 }
 
+/// Whether the first dialogue's description has its names.
+fn is_named(desc: &Desc) -> bool {
+    desc.type_id(0) == "p" && desc.number_of("b") == Some(1)
+}
+
 #[test]
 fn a_session_answers_line_by_line(rt: HostRuntime) -> Result<(), Fail> {
     let alloc = rt.alloc();
+    let file = b"\x07\xfe\xff".to_vec(alloc)?;
     let desc = accepted(alloc, FIRST)?;
-    let is_named = desc.type_id(0) == "p" && desc.number_of("b") == Some(1);
-    let mut session = Session::new(alloc, desc, b"\x07\xfe\xff".to_vec(alloc)?)?;
-    let are_answered = are_answered(&mut session);
-    let length = session.into_buffer().len();
-    assert!(rt; is_named && are_answered && length == 4);
+    let mut is_right = is_named(&desc);
+    let mut session = Session::new(alloc, desc, file)?;
+    is_right &= are_answered(&mut session);
+    is_right &= session.into_buffer().len() == 4;
+    assert!(rt; is_right);
     Ok(())
 }
 
@@ -82,14 +91,16 @@ const FILE: &[u8] = b"KS\x02\x01\xaa\x02\xbb\xcc";
 
 /// Whether a buffer lends the file in two parts, cut at a place.
 fn is_cut(buffer: &Buffer, place: usize) -> bool {
-    if place > FILE.len() {
+    let Some((front, back)) = FILE.split_at_checked(place) else {
         return false;
-    }
-    let (front, back) = buffer.parts(Window {
+    };
+    let (lent_front, lent_back) = buffer.parts(Window {
         from: 0,
         to: buffer.len(),
     });
-    front == &FILE[..place] && back == &FILE[place..]
+    let is_front = lent_front == front;
+    let is_back = lent_back == back;
+    is_front && is_back
 }
 
 /// Whether a session that inserts a byte at a place and deletes it answers as before, and hands the bytes back with
@@ -100,10 +111,14 @@ fn is_answered_around(alloc: Global, place: usize) -> Result<bool, Fail> {
     )?;
     let mut reader = Memory::new(input.into_bytes());
     let mut writer = Memory::new(Vec::with_capacity(alloc, 100)?);
+    let file = FILE.to_vec(alloc)?;
     let desc = accepted(alloc, ITEMS)?;
-    let (buffer, end) = run(alloc, &mut reader, &mut writer, desc, FILE.to_vec(alloc)?)?;
-    let is_written = writer.bytes.as_slice() == b"ok 9\nok 8\nhex bbcc\nhex 4b53\nbye\n".as_slice();
-    Ok(is_written && end == End::Quit && is_cut(&buffer, place))
+    let (buffer, end) = run(alloc, &mut reader, &mut writer, desc, file)?;
+    let mut is_right = writer.bytes.as_slice()
+        == b"ok 9\nok 8\nhex bbcc\nhex 4b53\nbye\n".as_slice();
+    is_right &= end == End::Quit;
+    is_right &= is_cut(&buffer, place);
+    Ok(is_right)
 }
 
 #[test]

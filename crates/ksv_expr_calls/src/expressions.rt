@@ -43,20 +43,36 @@ fn faults_have_names(rt: HostRuntime) -> Result<(), Fail> {
     Ok(())
 }
 
-#[test]
-fn paths_have_limits(rt: HostRuntime) -> Result<(), Fail> {
-    let alloc = rt.alloc();
+/// A path of as many steps as a path may have.
+fn deepest(alloc: Global) -> Result<Path, Fail> {
     let mut deep = Path::root(alloc);
     for _ in 0..Path::MAX_STEPS {
         deep = deep.child_name(alloc, 0)?.ok_or(FaultKind::PathTooLong)?;
     }
-    let is_full = deep.len() == 64
-        && deep.child_name(alloc, 0)?.is_none()
-        && deep.child_index(alloc, 0)?.is_none();
-    let root = Path::root(alloc);
-    let is_far = root.child_index(alloc, 1_048_575)?.is_some()
-        && root.child_index(alloc, Path::MAX_INDEX)?.is_none();
-    assert!(rt; is_full && is_far && root.last().is_none());
+    Ok(deep)
+}
+
+/// Whether a path has 64 steps, and can have no further one.
+fn is_full(alloc: Global, path: &Path) -> Result<bool, AllocError> {
+    let has_no_name = path.child_name(alloc, 0)?.is_none();
+    let has_no_index = path.child_index(alloc, 0)?.is_none();
+    Ok(path.len() == 64 && has_no_name && has_no_index)
+}
+
+/// Whether the root has no last step, and an element of the last index but none of the one after it.
+fn is_far(alloc: Global, root: &Path) -> Result<bool, AllocError> {
+    let has_last = root.child_index(alloc, 1_048_575)?.is_some();
+    let has_next = root.child_index(alloc, Path::MAX_INDEX)?.is_some();
+    Ok(has_last && !has_next && root.last().is_none())
+}
+
+#[test]
+fn paths_have_limits(rt: HostRuntime) -> Result<(), Fail> {
+    let alloc = rt.alloc();
+    let deep = deepest(alloc)?;
+    let is_full = is_full(alloc, &deep)?;
+    let is_far = is_far(alloc, &Path::root(alloc))?;
+    assert!(rt; is_full && is_far);
     Ok(())
 }
 
@@ -65,25 +81,58 @@ fn third_of_three(alloc: Global) -> Result<Path, AllocError> {
     Path::from_steps(alloc, [Step::Name(3), Step::Index(3)].as_slice())
 }
 
+/// Whether a path has the steps of the third of three, and is equal to its copy but not to another.
+fn is_third(alloc: Global, path: &Path, other: &Path) -> Result<bool, AllocError> {
+    let steps = [Step::Name(3), Step::Index(3)];
+    let has_steps = path.steps() == steps.as_slice();
+    let has_last = path.last() == Some(Step::Index(3));
+    let is_unlike = *path != *other;
+    let is_same = path.copy(alloc)? == *path;
+    Ok(has_steps && has_last && path.len() == 2 && is_unlike && is_same)
+}
+
+/// Whether a map that has a path finds the same path, and no other.
+fn is_found(alloc: Global, given: Path, path: &Path, other: &Path) -> Result<bool, AllocError> {
+    let mut known: HashMap<Path, u8> = HashMap::new(alloc);
+    known.insert(given, 1)?;
+    let is_known = known.get(path) == Some(&1);
+    let is_other_known = known.get(other).is_some();
+    Ok(is_known && !is_other_known)
+}
+
+/// Whether the path of these steps is equal to a path, and a map that has it finds that path, and not another.
+fn is_given(alloc: Global, path: &Path, other: &Path) -> Result<bool, AllocError> {
+    let given = third_of_three(alloc)?;
+    let is_equal = given == *path;
+    let is_found = is_found(alloc, given, path, other)?;
+    Ok(is_equal && is_found)
+}
+
+/// The path of an element of a list.
+fn element(alloc: Global, list: &Path, index: u32) -> Result<Path, Fail> {
+    match list.child_index(alloc, index)? {
+        Some(path) => Ok(path),
+        None => Err(Fail::from(FaultKind::NoSuch)),
+    }
+}
+
+/// Whether the paths of elements of a list are right.
+fn are_right(alloc: Global, list: &Path) -> Result<bool, Fail> {
+    let path = element(alloc, list, 3)?;
+    let other = element(alloc, list, 4)?;
+    let is_third = is_third(alloc, &path, &other)?;
+    let is_given = is_given(alloc, &path, list)?;
+    Ok(is_third && is_given)
+}
+
 #[test]
 fn paths_have_steps(rt: HostRuntime) -> Result<(), Fail> {
     let alloc = rt.alloc();
     let list = Path::root(alloc)
         .child_name(alloc, 3)?
         .ok_or(FaultKind::NoSuch)?;
-    let path = list.child_index(alloc, 3)?.ok_or(FaultKind::NoSuch)?;
-    let other = list.child_index(alloc, 4)?.ok_or(FaultKind::NoSuch)?;
-    let given = third_of_three(alloc)?;
-    let is_right = path.steps() == [Step::Name(3), Step::Index(3)].as_slice()
-        && path.last() == Some(Step::Index(3))
-        && path.len() == 2
-        && path != other
-        && path.copy(alloc)? == path
-        && given == path;
-    assert!(rt; is_right);
-    let mut known: HashMap<Path, u8> = HashMap::new(alloc);
-    known.insert(given, 1)?;
-    assert!(rt; known.get(&path) == Some(&1) && known.get(&list).is_none());
+    let are_right = are_right(alloc, &list)?;
+    assert!(rt; are_right);
     Ok(())
 }
 
@@ -152,16 +201,26 @@ fn is_refused(alloc: Global, text: &str, kind: ExprFaultKind, at: usize) -> bool
     }
 }
 
+/// Whether a fault of memory has its code, and prints its text.
+fn has_text(alloc: Global) -> Result<bool, AllocError> {
+    let kind = ExprFaultKind::NoMemory;
+    let shown = format!(in alloc; "{kind}")?;
+    Ok(kind.code() == "X6" && shown.as_str() == "expression: X6 no memory")
+}
+
+/// How many arguments the text of a type has.
+fn count_of_arguments(alloc: Global, text: &[u8]) -> Result<usize, ExprFault> {
+    Ok(parse_type(alloc, text)?.arguments.len())
+}
+
 #[test]
 fn texts_are_refused(rt: HostRuntime) -> Result<(), Fail> {
     let alloc = rt.alloc();
     let are_refused = is_refused(alloc, "1 < 2 < 3", ExprFaultKind::UnexpectedCharacter, 6)
         && is_refused(alloc, "1 +", ExprFaultKind::UnexpectedEnd, 3)
         && is_refused(alloc, "1.5", ExprFaultKind::LeftOutForm, 0);
-    let kind = ExprFaultKind::NoMemory;
-    let shown = format!(in alloc; "{kind}")?;
-    let has_text = kind.code() == "X6" && shown.as_str() == "expression: X6 no memory";
-    let count = parse_type(alloc, b"a::b(1, c)")?.arguments.len();
+    let has_text = has_text(alloc)?;
+    let count = count_of_arguments(alloc, b"a::b(1, c)")?;
     assert!(rt; are_refused && has_text && count == 2);
     Ok(())
 }

@@ -14,9 +14,8 @@ fn is_nothing(edited: Result<(), EditRefusal>) -> bool {
     matches!(edited, Err(EditRefusal::NothingToDo))
 }
 
-#[test]
-fn edits_or_refuses(rt: HostRuntime) -> Result<(), Fail> {
-    let mut buffer = Buffer::new(b"abcd".to_vec(rt.alloc())?)?;
+/// Whether a buffer of the bytes `abcd` is edited, or refuses an edit.
+fn is_edited(buffer: &mut Buffer) -> bool {
     let mut is_edited = !buffer.is_empty();
     is_edited &= buffer.overwrite(1, b"XY").is_ok();
     is_edited &= is_outside(buffer.overwrite(3, b"xy"));
@@ -26,7 +25,15 @@ fn edits_or_refuses(rt: HostRuntime) -> Result<(), Fail> {
     is_edited &= buffer.append(b"e").is_ok();
     is_edited &= is_nothing(buffer.append(b""));
     is_edited &= buffer.len() == 5;
-    is_edited &= is_cut(&buffer, Window { from: 0, to: 5 }, b"aXYde", b"");
+    is_edited &= is_cut(buffer, Window { from: 0, to: 5 }, b"aXYde", b"");
+    is_edited
+}
+
+#[test]
+fn edits_or_refuses(rt: HostRuntime) -> Result<(), Fail> {
+    let mut buffer = Buffer::new(b"abcd".to_vec(rt.alloc())?)?;
+    let is_edited = is_edited(&mut buffer);
+    drop(buffer);
     assert!(rt; is_edited);
     Ok(())
 }
@@ -52,37 +59,51 @@ fn has(buffer: &Buffer, wanted: &[u8]) -> bool {
     }
 }
 
-#[test]
-fn inserts_anywhere(rt: HostRuntime) -> Result<(), Fail> {
-    let mut buffer = Buffer::new(b"bd".to_vec(rt.alloc())?)?;
+/// Whether bytes are put anywhere into a buffer of the bytes `bd`, and nowhere else.
+fn is_put_in(buffer: &mut Buffer) -> bool {
     let mut is_put = buffer.insert(0, b"a").is_ok();
     is_put &= buffer.insert(2, b"cC").is_ok();
     is_put &= buffer.insert(5, b"e").is_ok();
-    is_put &= has(&buffer, b"abcCde");
+    is_put &= has(buffer, b"abcCde");
     is_put &= is_outside(buffer.insert(7, b"x"));
     is_put &= is_outside(buffer.insert(7, b""));
     is_put &= is_outside(buffer.insert(usize::MAX, b"x"));
     is_put &= is_nothing(buffer.insert(6, b""));
-    is_put &= has(&buffer, b"abcCde");
+    is_put &= has(buffer, b"abcCde");
+    is_put
+}
+
+#[test]
+fn inserts_anywhere(rt: HostRuntime) -> Result<(), Fail> {
+    let mut buffer = Buffer::new(b"bd".to_vec(rt.alloc())?)?;
+    let is_put = is_put_in(&mut buffer);
+    drop(buffer);
     assert!(rt; is_put);
     Ok(())
+}
+
+/// Whether bytes are taken out anywhere of a buffer of the bytes `abcdef`, and nowhere else.
+fn is_taken_out(buffer: &mut Buffer) -> bool {
+    let mut is_cut = is_outside(buffer.delete(7, 0));
+    is_cut &= is_outside(buffer.delete(3, 4));
+    is_cut &= is_outside(buffer.delete(1, usize::MAX));
+    is_cut &= is_nothing(buffer.delete(6, 0));
+    is_cut &= has(buffer, b"abcdef");
+    is_cut &= buffer.delete(0, 1).is_ok();
+    is_cut &= buffer.delete(1, 2).is_ok();
+    is_cut &= has(buffer, b"bef");
+    is_cut &= buffer.delete(2, 1).is_ok();
+    is_cut &= has(buffer, b"be");
+    is_cut &= buffer.delete(0, 2).is_ok();
+    is_cut && buffer.is_empty()
 }
 
 #[test]
 fn deletes_anywhere(rt: HostRuntime) -> Result<(), Fail> {
     let mut buffer = Buffer::new(b"abcdef".to_vec(rt.alloc())?)?;
-    let mut is_cut = is_outside(buffer.delete(7, 0));
-    is_cut &= is_outside(buffer.delete(3, 4));
-    is_cut &= is_outside(buffer.delete(1, usize::MAX));
-    is_cut &= is_nothing(buffer.delete(6, 0));
-    is_cut &= has(&buffer, b"abcdef");
-    is_cut &= buffer.delete(0, 1).is_ok();
-    is_cut &= buffer.delete(1, 2).is_ok();
-    is_cut &= has(&buffer, b"bef");
-    is_cut &= buffer.delete(2, 1).is_ok();
-    is_cut &= has(&buffer, b"be");
-    is_cut &= buffer.delete(0, 2).is_ok();
-    assert!(rt; is_cut && buffer.is_empty());
+    let is_cut = is_taken_out(&mut buffer);
+    drop(buffer);
+    assert!(rt; is_cut);
     Ok(())
 }
 
@@ -101,6 +122,17 @@ fn is_cut_at(alloc: Global, bytes: &[u8], place: usize) -> Result<bool, Fail> {
     Ok(is_put && is_cut_out && is_cut(&buffer, whole, &bytes[..place], &bytes[place..]))
 }
 
+/// Whether windows of a buffer of the bytes `abcdef`, once one of them was replaced, are lent in two parts.
+fn is_lent(buffer: &mut Buffer) -> bool {
+    let mut is_lent = buffer.delete(3, 1).is_ok();
+    is_lent &= buffer.insert(3, b"D").is_ok();
+    is_lent &= is_cut(buffer, Window { from: 1, to: 3 }, b"bc", b"");
+    is_lent &= is_cut(buffer, Window { from: 2, to: 5 }, b"c", b"De");
+    is_lent &= is_cut(buffer, Window { from: 3, to: 5 }, b"", b"De");
+    is_lent &= is_cut(buffer, Window { from: 6, to: 6 }, b"", b"");
+    is_lent
+}
+
 #[test]
 fn lends_a_window_in_two_parts(rt: HostRuntime) -> Result<(), Fail> {
     let mut are_cut = true;
@@ -109,30 +141,33 @@ fn lends_a_window_in_two_parts(rt: HostRuntime) -> Result<(), Fail> {
     }
     assert!(rt; are_cut);
     let mut buffer = Buffer::new(b"abcdef".to_vec(rt.alloc())?)?;
-    let mut is_lent = buffer.delete(3, 1).is_ok();
-    is_lent &= buffer.insert(3, b"D").is_ok();
-    is_lent &= is_cut(&buffer, Window { from: 1, to: 3 }, b"bc", b"");
-    is_lent &= is_cut(&buffer, Window { from: 2, to: 5 }, b"c", b"De");
-    is_lent &= is_cut(&buffer, Window { from: 3, to: 5 }, b"", b"De");
-    is_lent &= is_cut(&buffer, Window { from: 6, to: 6 }, b"", b"");
+    let is_lent = is_lent(&mut buffer);
+    drop(buffer);
     assert!(rt; is_lent);
     Ok(())
+}
+
+/// Whether edits on both sides of the gap and across it are written into a buffer of the bytes `abcdef`.
+fn is_written(buffer: &mut Buffer) -> bool {
+    let mut is_written = buffer.delete(3, 1).is_ok();
+    is_written &= buffer.overwrite(2, b"CE").is_ok();
+    is_written &= has(buffer, b"abCEf");
+    is_written &= buffer.overwrite(0, b"AB").is_ok();
+    is_written &= buffer.overwrite(4, b"F").is_ok();
+    is_written &= has(buffer, b"ABCEF");
+    is_written &= buffer.insert(3, b"D").is_ok();
+    is_written &= buffer.append(b"G").is_ok();
+    is_written &= buffer.insert(0, b"_").is_ok();
+    is_written &= buffer.append(b"H").is_ok();
+    is_written &= has(buffer, b"_ABCDEFGH");
+    is_written
 }
 
 #[test]
 fn edits_around_the_gap(rt: HostRuntime) -> Result<(), Fail> {
     let mut buffer = Buffer::new(b"abcdef".to_vec(rt.alloc())?)?;
-    let mut is_written = buffer.delete(3, 1).is_ok();
-    is_written &= buffer.overwrite(2, b"CE").is_ok();
-    is_written &= has(&buffer, b"abCEf");
-    is_written &= buffer.overwrite(0, b"AB").is_ok();
-    is_written &= buffer.overwrite(4, b"F").is_ok();
-    is_written &= has(&buffer, b"ABCEF");
-    is_written &= buffer.insert(3, b"D").is_ok();
-    is_written &= buffer.append(b"G").is_ok();
-    is_written &= buffer.insert(0, b"_").is_ok();
-    is_written &= buffer.append(b"H").is_ok();
-    is_written &= has(&buffer, b"_ABCDEFGH");
+    let is_written = is_written(&mut buffer);
+    drop(buffer);
     assert!(rt; is_written);
     Ok(())
 }

@@ -53,7 +53,9 @@ fn is_new_chained(
     turns: u64,
 ) -> Result<bool, AllocError> {
     let mut engine = chain_engine(alloc, bytes);
-    is_chained(&mut engine, bytes, number, kept, turns)
+    let is_right = is_chained(&mut engine, bytes, number, kept, turns);
+    drop(engine);
+    is_right
 }
 
 #[test]

@@ -173,12 +173,27 @@ fn is_tried(
     }
 }
 
-/// Whether a trial ends as it should with a new engine, over the rows that are told and a file of so many zero bytes.
+/// The same with a new engine.
+fn is_newly_tried(
+    alloc: Global,
+    rules: &Rows,
+    bytes: &mut Buffer,
+    trial: Trial,
+) -> Result<bool, AllocError> {
+    let mut engine = rows_engine(alloc, rules, bytes);
+    let is_right = is_tried(&mut engine, rules, bytes, trial);
+    drop(engine);
+    is_right
+}
+
+/// The same over the rows that are told and a file of so many zero bytes.
 fn ends_well(alloc: Global, told: &[&[u8]], size: usize, trial: Trial) -> Result<bool, Fail> {
     let rules = rows(alloc, told)?;
     let mut bytes = Buffer::new(vec![in alloc; 0u8; size]?)?;
-    let mut engine = rows_engine(alloc, &rules, &bytes);
-    Ok(is_tried(&mut engine, &rules, &mut bytes, trial)?)
+    let is_right = is_newly_tried(alloc, &rules, &mut bytes, trial);
+    drop(bytes);
+    drop(rules);
+    Ok(is_right?)
 }
 
 #[test]

@@ -1,5 +1,8 @@
 //! Tests that call a buffer and the engine directly: edits and what they touch, worked questions over two small
 //! sets of rules, a tower of a million links, and random questions between random edits.
+//!
+//! A function that owns an engine lends it to another one, and then drops it by name: so what a drop does is proved
+//! once, and not in each function and for each way out of it.
 #![tactic(auto)]
 
 #[cfg(test)]

@@ -1,20 +1,20 @@
 //! Links between slots: what an overwrite takes along them, and how many looks it takes.
-ghost use Rattle.std.specs.Prelude.{◌≡◌, [], IfOk};
+ghost use Rattle.std.specs.Prelude.{◌≡◌, [], OnOk};
 
 use ksv_bytes::{Change, Use};
 use ksv_memo_links::Links;
 use std::alloc::{AllocError, Global};
 use std::test::Fail;
 
-/// Two slots, of which the first uses four pages and the second asked it twice.
-fn asked_twice(alloc: Global) -> Result<Links, AllocError>
-    ensures { IfOk result (λ links. links.waits ≡ []) }
+/// Keeps two slots, of which the first uses four pages and the second asked it twice.
+fn ask_twice(links: &mut Links) -> Result<(), AllocError>
+    requires none { links.old.kept ≡ [] }
+    requires idle { links.old.waits ≡ [] }
+    ensures { OnOk result (links.new.waits ≡ []) }
 {
-    let mut links = Links::new(alloc);
     links.reach(2)?;
     links.keep(0, &[], &[Use::Bytes(10, 200)])?;
-    links.keep(1, &[0, 0], &[])?;
-    Ok(links)
+    links.keep(1, &[0, 0], &[])
 }
 
 /// Whether an overwrite within the third page takes both slots, in no more looks than near: one page and use that meet,
@@ -40,20 +40,31 @@ fn takes_none(links: &mut Links) -> bool
     is_none && links.looks() <= 8 * (1 + 1) && links.count() == 2
 }
 
-/// Whether an overwrite of two new slots takes both, or none.
-fn takes(alloc: Global, both: bool) -> Result<bool, AllocError> {
-    let mut links = asked_twice(alloc)?;
+/// Whether an overwrite of two slots takes both, or none.
+fn takes(links: &mut Links, both: bool) -> Result<bool, AllocError>
+    requires none { links.old.kept ≡ [] }
+    requires idle { links.old.waits ≡ [] }
+{
+    ask_twice(links)?;
     Ok(if both {
-        takes_both(&mut links)
+        takes_both(links)
     } else {
-        takes_none(&mut links)
+        takes_none(links)
     })
+}
+
+/// The same of two new slots.
+fn takes_new(alloc: Global, both: bool) -> Result<bool, AllocError> {
+    let mut links = Links::new(alloc);
+    let are_taken = takes(&mut links, both);
+    drop(links);
+    are_taken
 }
 
 #[test]
 fn takes_a_use_over_several_pages(rt: HostRuntime) -> Result<(), Fail> {
-    let are_both = takes(rt.alloc(), true)?;
-    let are_none = takes(rt.alloc(), false)?;
+    let are_both = takes_new(rt.alloc(), true)?;
+    let are_none = takes_new(rt.alloc(), false)?;
     assert!(rt; are_both && are_none);
     Ok(())
 }

@@ -135,7 +135,9 @@ fn answers_anew(
     wanted: Plain,
 ) -> Result<bool, AllocError> {
     let mut fresh = rows_engine(alloc, rules, bytes);
-    answers(&mut fresh, rules, bytes, number, wanted)
+    let is_right = answers(&mut fresh, rules, bytes, number, wanted);
+    drop(fresh);
+    is_right
 }
 
 /// Asks a random row of an engine that has answered others before, of a new engine and by plain recursion.
@@ -158,26 +160,44 @@ fn random_question(
 /// Whether an engine answers 20 random questions as a new one and plain recursion do, with random edits between them.
 fn random_questions(
     alloc: Global,
+    engine: &mut Engine<Rows>,
+    rules: &Rows,
+    bytes: &mut Buffer,
+    random: &mut Random,
+) -> Result<bool, AllocError>
+    requires { IsRight (on (rows_meaning rules.now.rows.items) bytes.old) engine.old.kept }
+{
+    let mut are_same = true;
+    for _ in 0..20 {
+        are_same &= random_question(alloc, engine, rules, bytes, random)?;
+        if random.below(3) == 0 {
+            random_edit(engine, rules, bytes, random);
+        }
+    }
+    Ok(are_same)
+}
+
+/// The same of a new engine.
+fn new_random_questions(
+    alloc: Global,
     rules: &Rows,
     bytes: &mut Buffer,
     random: &mut Random,
 ) -> Result<bool, AllocError> {
     let mut engine = rows_engine(alloc, rules, bytes);
-    let mut are_same = true;
-    for _ in 0..20 {
-        are_same &= random_question(alloc, &mut engine, rules, bytes, random)?;
-        if random.below(3) == 0 {
-            random_edit(&mut engine, rules, bytes, random);
-        }
-    }
-    Ok(are_same)
+    let are_same = random_questions(alloc, &mut engine, rules, bytes, random);
+    drop(engine);
+    are_same
 }
 
 /// A round of random questions over random rows and a file whose first byte depends on the round.
 fn random_round(alloc: Global, round: u8, random: &mut Random) -> Result<bool, Fail> {
     let rules = random_rows(alloc, random)?;
     let mut bytes = Buffer::new(Vec::from_slice(alloc, &[round % 9, 1, 4])?)?;
-    Ok(random_questions(alloc, &rules, &mut bytes, random)?)
+    let are_same = new_random_questions(alloc, &rules, &mut bytes, random);
+    drop(bytes);
+    drop(rules);
+    Ok(are_same?)
 }
 
 #[test]
@@ -335,12 +355,27 @@ fn five_overwrites(
     Ok(true)
 }
 
+/// The same of a new engine.
+fn five_new_overwrites(
+    alloc: Global,
+    rules: &Rows,
+    bytes: &mut Buffer,
+    random: &mut Random,
+) -> Result<bool, AllocError> {
+    let mut engine = rows_engine(alloc, rules, bytes);
+    let is_right = five_overwrites(alloc, &mut engine, rules, bytes, random);
+    drop(engine);
+    is_right
+}
+
 /// Five random questions and overwrites over random rows.
 fn random_overwrites(alloc: Global, random: &mut Random) -> Result<bool, Fail> {
     let rules = random_lower_rows(alloc, random)?;
     let mut bytes = Buffer::new(b"\0\x01\0\x01\0\x01\0\x01".to_vec(alloc)?)?;
-    let mut engine = rows_engine(alloc, &rules, &bytes);
-    Ok(five_overwrites(alloc, &mut engine, &rules, &mut bytes, random)?)
+    let is_right = five_new_overwrites(alloc, &rules, &mut bytes, random);
+    drop(bytes);
+    drop(rules);
+    Ok(is_right?)
 }
 
 #[test]

@@ -191,7 +191,10 @@ fn falls_twice(
 fn falls(alloc: Global, number: u32) -> Result<bool, Fail> {
     let mut bytes = Buffer::new(b"aa".to_vec(alloc)?)?;
     let mut engine = tower_engine(alloc, &bytes);
-    Ok(falls_twice(&mut engine, &mut bytes, number)?)
+    let has_fallen = falls_twice(&mut engine, &mut bytes, number);
+    drop(engine);
+    drop(bytes);
+    Ok(has_fallen?)
 }
 
 #[test]

@@ -83,26 +83,47 @@ enum Seen {
 }
 
 fn read(turn: &mut Turn, reading: Reading<'_>) -> Result<Seen, Halt> {
-    let stream = reading.stream;
     match reading.word {
-        "reach" => {
-            turn.reach(stream, Place::of_byte(0), u64::from(reading.first))?;
-            Ok(Seen::Reached)
-        }
-        "finish" => Ok(Seen::Place(turn.finish(stream)?.byte())),
-        "done" => Ok(Seen::Done(turn.done(stream, Place::of_byte(reading.first))?)),
-        "peek" => {
-            let to = Place::of_byte(reading.second);
-            let parts = turn.peek(Place::of_byte(reading.first), to)?;
-            Ok(Seen::First(parts.first()))
-        }
-        _ => {
-            let byte = u8::try_from(reading.second).unwrap_or(0);
-            match turn.find(stream, Place::of_byte(reading.first), byte)? {
-                Found::At(place) => Ok(Seen::At(place.byte())),
-                Found::Missing(end) => Ok(Seen::Missing(end.byte())),
-            }
-        }
+        "reach" => reach(turn, reading),
+        "finish" => finish(turn, reading),
+        "done" => is_done(turn, reading),
+        "peek" => peek(turn, reading),
+        _ => find(turn, reading),
+    }
+}
+
+fn reach(turn: &mut Turn, reading: Reading<'_>) -> Result<Seen, Halt> {
+    let size = u64::from(reading.first);
+    turn.reach(reading.stream, Place::of_byte(0), size)?;
+    Ok(Seen::Reached)
+}
+
+fn finish(turn: &mut Turn, reading: Reading<'_>) -> Result<Seen, Halt> {
+    let end = turn.finish(reading.stream)?;
+    Ok(Seen::Place(end.byte()))
+}
+
+fn is_done(turn: &mut Turn, reading: Reading<'_>) -> Result<Seen, Halt> {
+    let is_done = turn.done(reading.stream, Place::of_byte(reading.first))?;
+    Ok(Seen::Done(is_done))
+}
+
+fn peek(turn: &mut Turn, reading: Reading<'_>) -> Result<Seen, Halt> {
+    let to = Place::of_byte(reading.second);
+    let parts = turn.peek(Place::of_byte(reading.first), to)?;
+    Ok(Seen::First(parts.first()))
+}
+
+fn find(turn: &mut Turn, reading: Reading<'_>) -> Result<Seen, Halt> {
+    let byte = u8::try_from(reading.second).unwrap_or(0);
+    let found = turn.find(reading.stream, Place::of_byte(reading.first), byte)?;
+    Ok(seen_of(found))
+}
+
+fn seen_of(found: Found) -> Seen {
+    match found {
+        Found::At(place) => Seen::At(place.byte()),
+        Found::Missing(end) => Seen::Missing(end.byte()),
     }
 }
 
@@ -118,29 +139,45 @@ fn add_seen(text: &mut String, seen: Seen) -> Result<(), AllocError> {
     }
 }
 
-/// Adds what a reading gives, or the kind of its fault.
-fn add_outcome(turn: &mut Turn, reading: Reading<'_>, text: &mut String) -> Result<(), AllocError> {
-    match read(turn, reading) {
-        Ok(seen) => add_seen(text, seen),
+/// Adds what a reading gave, or the kind of its fault.
+fn add_outcome(outcome: &Result<Seen, Halt>, text: &mut String) -> Result<(), AllocError> {
+    match outcome {
+        Ok(seen) => add_seen(text, *seen),
         Err(Halt::Fault(fault)) => text.push_str(fault.kind.name()),
         Err(_) => text.push_str("no memory, or a node was needed"),
     }
 }
 
-/// Whether the reading of a row gives this, or a fault of this kind, and depends on this.
-fn is_seen(alloc: Global, bytes: &Buffer, row: &str, wanted: &str) -> Result<bool, AllocError> {
+/// Adds what a reading of a turn gives, and what it depends on.
+fn add_reading(turn: &mut Turn, reading: Reading<'_>, text: &mut String) -> Result<(), AllocError> {
+    let outcome = read(turn, reading);
+    let added = add_outcome(&outcome, text);
+    drop(outcome);
+    added?;
+    write!(text, " {:?}", turn.uses())
+}
+
+/// The same of a new turn.
+fn add_new_reading(
+    alloc: Global,
+    bytes: &Buffer,
+    reading: Reading<'_>,
+    text: &mut String,
+) -> Result<(), AllocError> {
     let here = Path::root(alloc);
     let none = Replies::new(&[], &[]);
     let mut turn = Turn::new(alloc, &here, bytes, &none);
-    let mut seen = String::new(alloc);
-    add_outcome(&mut turn, reading_of(row), &mut seen)?;
-    add_uses(turn, &mut seen)?;
-    Ok(seen.as_str() == wanted)
+    let added = add_reading(&mut turn, reading, text);
+    drop(turn);
+    drop(here);
+    added
 }
 
-/// Adds what the readings of a turn depend on.
-fn add_uses(turn: Turn, seen: &mut String) -> Result<(), AllocError> {
-    write!(seen, " {:?}", turn.uses())
+/// Whether the reading of a row gives this, or a fault of this kind, and depends on this.
+fn is_seen(alloc: Global, bytes: &Buffer, row: &str, wanted: &str) -> Result<bool, AllocError> {
+    let mut seen = String::new(alloc);
+    add_new_reading(alloc, bytes, reading_of(row), &mut seen)?;
+    Ok(seen.as_str() == wanted)
 }
 
 /// Whether each row of [`READINGS`] tells what is seen.
@@ -185,13 +222,15 @@ fn given(form: u8) -> Given {
     }
 }
 
-/// Slots with one reply of each form.
-fn each_form(alloc: Global) -> Result<Slots, AllocError> {
-    let mut slots = Vec::new(alloc);
+/// Adds slots with one reply of each form.
+fn add_each_form(alloc: Global, slots: &mut Slots) -> Result<(), AllocError> {
     for form in 0..4u8 {
-        add(alloc, &mut slots, &given(form))?;
+        let given = given(form);
+        let added = add(alloc, slots, &given);
+        drop(given);
+        added?;
     }
-    Ok(slots)
+    Ok(())
 }
 
 /// The kind of the fault by which a call ended.
@@ -202,52 +241,75 @@ fn kind_of<T: Drop>(ended: Result<T, Halt>) -> Option<FaultKind> {
     }
 }
 
-/// Whether a turn gives the head that was replied.
-fn gives_head(here: &Path, turn: &mut Turn) -> bool {
-    match turn.head(here) {
-        Ok(Head::Absent(Some(place))) => place.byte() == 3,
+/// Whether it is the head that was replied.
+fn is_head(head: Option<&Head>) -> bool {
+    match head {
+        Some(Head::Absent(Some(place))) => place.byte() == 3,
         _ => false,
     }
 }
 
+/// Whether it is the value that was replied.
+fn is_value(value: Option<&Value>) -> bool {
+    matches!(value, Some(Value::Bool(true)))
+}
+
+/// Whether a turn gives the head that was replied.
+fn gives_head(here: &Path, turn: &mut Turn) -> bool {
+    is_head(turn.head(here).ok())
+}
+
 /// Whether a turn gives the value that was replied.
 fn gives_value(here: &Path, turn: &mut Turn) -> bool {
-    let given = turn.value(here);
-    matches!(given, Ok(Value::Bool(true)))
+    is_value(turn.value(here).ok())
 }
 
 /// Whether it is the end that was replied.
-fn is_ended(ended: &Ended) -> bool {
-    let place = ended.place.byte();
-    place == 5 && ended.last
+fn is_ended(ended: Option<Ended>) -> bool {
+    match ended {
+        Some(ended) => ended.place.byte() == 5 && ended.last,
+        None => false,
+    }
 }
 
 /// Whether it is the rest that was replied.
-fn is_rested(rested: &Rested) -> bool {
-    let place = rested.place.byte();
-    place == 9 && rested.count == 2
+fn is_rested(rested: Option<Rested>) -> bool {
+    match rested {
+        Some(rested) => rested.place.byte() == 9 && rested.count == 2,
+        None => false,
+    }
 }
 
 /// Whether a turn gives the end that was replied.
 fn gives_end(here: &Path, turn: &mut Turn) -> bool {
-    let Ok(ended) = turn.end(here) else {
-        return false;
-    };
-    is_ended(&ended)
+    is_ended(turn.end(here).ok())
 }
 
 /// Whether a turn gives the rest that was replied.
 fn gives_rest(here: &Path, turn: &mut Turn) -> bool {
-    let Ok(rested) = turn.rest(here) else {
-        return false;
-    };
-    is_rested(&rested)
+    is_rested(turn.rest(here).ok())
+}
+
+/// Whether a rest was asked for that is needed, at this path.
+fn is_rest_needed(asked: &Result<Rested, Halt>, here: &Path) -> bool {
+    match asked {
+        Err(Halt::Need(node)) => node.kind == NodeKind::Rest && node.path == *here,
+        _ => false,
+    }
 }
 
 /// Whether a turn needs the rest at a path, since no reply is left.
 fn needs_rest(here: &Path, turn: &mut Turn) -> bool {
-    match turn.rest(here) {
-        Err(Halt::Need(node)) => node.kind == NodeKind::Rest && node.path == *here,
+    let asked = turn.rest(here);
+    let is_needed = is_rest_needed(&asked, here);
+    drop(asked);
+    is_needed
+}
+
+/// Whether a node was asked for that is needed: of this kind, at a path with this last step.
+fn is_part_needed<T: Drop>(asked: &Result<T, Halt>, kind: NodeKind, step: Step) -> bool {
+    match asked {
+        Err(Halt::Need(node)) => node.kind == kind && node.path.last() == Some(step),
         _ => false,
     }
 }
@@ -273,133 +335,85 @@ fn are_bad(here: &Path, turn: &mut Turn) -> bool {
 
 /// Whether a turn whose next reply is an end takes it for the end of a part, and then needs that of another.
 fn gives_end_of_part(path: &Path, turn: &mut Turn) -> bool {
-    let Ok(ended) = turn.end_of_part(path, Step::Index(7)) else {
-        return false;
-    };
-    let is_end = is_ended(&ended);
+    let is_end = is_ended(turn.end_of_part(path, Step::Index(7)).ok());
     needs_end_of_part(path, turn) && is_end
 }
 
 /// Whether a turn needs the end of a part, since no reply is left.
 fn needs_end_of_part(path: &Path, turn: &mut Turn) -> bool {
-    match turn.end_of_part(path, Step::Name(4)) {
-        Err(Halt::Need(node)) => {
-            node.kind == NodeKind::End && node.path.last() == Some(Step::Name(4))
-        }
-        _ => false,
-    }
-}
-
-/// Whether a turn over one reply, an end, asks well for the ends of parts.
-fn ends_parts(alloc: Global) -> Result<bool, Fail> {
-    let here = Path::root(alloc);
-    let bytes = Buffer::new(Vec::new(alloc))?;
-    let slots = each_form(alloc)?;
-    let Some(replies) = Replies::checked(&slots, &[2]) else {
-        return Ok(false);
-    };
-    let mut turn = Turn::new(alloc, &here, &bytes, &replies);
-    Ok(gives_end_of_part(&here, &mut turn))
+    let asked = turn.end_of_part(path, Step::Name(4));
+    let is_needed = is_part_needed(&asked, NodeKind::End, Step::Name(4));
+    drop(asked);
+    is_needed
 }
 
 /// Whether a turn whose next reply is a value takes it for the value of a part, and then needs that of another.
 fn gives_value_of_part(path: &Path, turn: &mut Turn) -> bool {
-    let given = turn.value_of_part(path, Step::Index(7));
-    let is_value = matches!(given, Ok(Value::Bool(true)));
+    let is_value = is_value(turn.value_of_part(path, Step::Index(7)).ok());
     needs_value_of_part(path, turn) && is_value
 }
 
 /// Whether a turn needs the value of a part, since no reply is left.
 fn needs_value_of_part(path: &Path, turn: &mut Turn) -> bool {
-    match turn.value_of_part(path, Step::Name(4)) {
-        Err(Halt::Need(node)) => {
-            node.kind == NodeKind::Value && node.path.last() == Some(Step::Name(4))
-        }
-        _ => false,
-    }
+    let asked = turn.value_of_part(path, Step::Name(4));
+    let is_needed = is_part_needed(&asked, NodeKind::Value, Step::Name(4));
+    drop(asked);
+    is_needed
 }
 
-/// Whether a turn over one reply, a value, asks well for the values of parts.
-fn values_parts(alloc: Global) -> Result<bool, Fail> {
-    let here = Path::root(alloc);
-    let bytes = Buffer::new(Vec::new(alloc))?;
-    let slots = each_form(alloc)?;
-    let Some(replies) = Replies::checked(&slots, &[1]) else {
-        return Ok(false);
-    };
-    let mut turn = Turn::new(alloc, &here, &bytes, &replies);
-    Ok(gives_value_of_part(&here, &mut turn))
-}
-
-#[test]
-fn values_of_parts_are_asked_by_their_place(rt: HostRuntime) -> Result<(), Fail> {
-    let is_right = values_parts(rt.alloc())?;
-    assert!(rt; is_right);
-    Ok(())
-}
-
-/// Whether a turn needs the head above a path, since no reply is left.
-fn needs_above(path: &Path, turn: &mut Turn) -> bool {
-    match turn.head_above(path) {
+/// Whether a head was asked for that is needed, at a root.
+fn is_head_needed(asked: &Result<&Head, Halt>) -> bool {
+    match asked {
         Err(Halt::Need(node)) => node.kind == NodeKind::Head && node.path.len() == 0,
         _ => false,
     }
 }
 
+/// Whether a turn needs the head above a path, since no reply is left.
+fn needs_above(path: &Path, turn: &mut Turn) -> bool {
+    let asked = turn.head_above(path);
+    let is_needed = is_head_needed(&asked);
+    drop(asked);
+    is_needed
+}
+
 /// Whether a turn needs the end of a part beside a path, since no reply is left.
 fn needs_beside(path: &Path, turn: &mut Turn) -> bool {
-    match turn.end_beside(path, Step::Index(2)) {
-        Err(Halt::Need(node)) => {
-            node.kind == NodeKind::End && node.path.last() == Some(Step::Index(2))
-        }
-        _ => false,
-    }
+    let asked = turn.end_beside(path, Step::Index(2));
+    let is_needed = is_part_needed(&asked, NodeKind::End, Step::Index(2));
+    drop(asked);
+    is_needed
 }
 
 /// Whether a turn gives the head that was replied for the path above.
 fn gives_above(path: &Path, turn: &mut Turn) -> bool {
-    match turn.head_above(path) {
-        Ok(Head::Absent(Some(place))) => place.byte() == 3,
-        _ => false,
-    }
+    is_head(turn.head_above(path).ok())
 }
 
 /// Whether a turn gives the end that was replied for a part beside a path.
 fn gives_beside(path: &Path, turn: &mut Turn) -> bool {
-    let Ok(ended) = turn.end_beside(path, Step::Name(4)) else {
-        return false;
-    };
-    is_ended(&ended)
+    is_ended(turn.end_beside(path, Step::Name(4)).ok())
 }
 
-/// Whether a turn over two replies, a head and an end, asks well for what is above and beside a path.
-fn asks_above(alloc: Global) -> Result<bool, Fail> {
-    let here = Path::root(alloc);
-    let bytes = Buffer::new(Vec::new(alloc))?;
-    let slots = each_form(alloc)?;
-    let Some(below) = here.child_name(alloc, 5)? else {
-        return Ok(false);
-    };
-    let Some(replies) = Replies::checked(&slots, &[0, 2]) else {
-        return Ok(false);
-    };
-    let mut turn = Turn::new(alloc, &here, &bytes, &replies);
-    let is_given = gives_above(&below, &mut turn) && gives_beside(&below, &mut turn);
-    Ok(is_given && needs_above(&below, &mut turn) && needs_beside(&below, &mut turn))
+/// Whether a turn gives the head and the end that were replied for what is above and beside a path, and then needs
+/// others.
+fn gives_around(path: &Path, turn: &mut Turn) -> bool {
+    let is_head = gives_above(path, turn);
+    let is_end = gives_beside(path, turn);
+    let is_head_needed = needs_above(path, turn);
+    let is_end_needed = needs_beside(path, turn);
+    is_head && is_end && is_head_needed && is_end_needed
 }
 
-#[test]
-fn what_is_above_and_beside_is_asked_by_a_path_below(rt: HostRuntime) -> Result<(), Fail> {
-    let is_right = asks_above(rt.alloc())?;
-    assert!(rt; is_right);
-    Ok(())
-}
-
-#[test]
-fn ends_of_parts_are_asked_by_their_place(rt: HostRuntime) -> Result<(), Fail> {
-    let is_right = ends_parts(rt.alloc())?;
-    assert!(rt; is_right);
-    Ok(())
+/// The same of the path one step below another.
+fn gives_around_below(alloc: Global, path: &Path, turn: &mut Turn) -> Result<bool, AllocError> {
+    let below = path.child_name(alloc, 5)?;
+    let is_right = match &below {
+        Some(below) => gives_around(below, turn),
+        None => false,
+    };
+    drop(below);
+    Ok(is_right)
 }
 
 /// Whether a turn raises a fault of a kind.
@@ -407,73 +421,181 @@ fn is_raised(turn: &Turn) -> bool {
     kind_of(turn.raise::<u32>(FaultKind::BadSize)) == Some(FaultKind::BadSize)
 }
 
-/// Whether a turn over one reply of each form, of a file of no bytes, asks for them in order or for other forms.
-fn ends_well(alloc: Global, is_in_order: bool) -> Result<bool, Fail> {
-    let here = Path::root(alloc);
-    let bytes = Buffer::new(Vec::new(alloc))?;
-    let slots = each_form(alloc)?;
-    let Some(replies) = Replies::checked(&slots, &[0, 1, 2, 3]) else {
+/// What a turn is asked for.
+#[derive(Clone, Copy)]
+enum Trial {
+    /// Each reply in its order.
+    InOrder,
+    /// Other forms than those of the replies.
+    OtherForms,
+    /// The ends of parts, over one reply, an end.
+    EndsOfParts,
+    /// The values of parts, over one reply, a value.
+    ValuesOfParts,
+    /// What is above and beside a path below, over two replies, a head and an end.
+    AboveAndBeside,
+}
+
+/// Whether a turn at a path gives what it is asked for.
+fn gives(alloc: Global, here: &Path, turn: &mut Turn, trial: Trial) -> Result<bool, AllocError> {
+    match trial {
+        Trial::InOrder => Ok(gives_each(here, turn)),
+        Trial::OtherForms => Ok(are_bad(here, turn)),
+        Trial::EndsOfParts => Ok(gives_end_of_part(here, turn)),
+        Trial::ValuesOfParts => Ok(gives_value_of_part(here, turn)),
+        Trial::AboveAndBeside => gives_around_below(alloc, here, turn),
+    }
+}
+
+/// The same with a fault that is raised, and without a reading that the turn depends on.
+fn is_tried(alloc: Global, here: &Path, turn: &mut Turn, trial: Trial) -> Result<bool, AllocError> {
+    let is_right = gives(alloc, here, turn, trial)?;
+    let is_fault = is_raised(turn);
+    Ok(is_right && is_fault && turn.uses().is_empty())
+}
+
+/// The same of a new turn over these replies.
+fn is_newly_tried(
+    alloc: Global,
+    here: &Path,
+    bytes: &Buffer,
+    replies: &Replies<Given, Fault>,
+    trial: Trial,
+) -> Result<bool, AllocError> {
+    let mut turn = Turn::new(alloc, here, bytes, replies);
+    let is_right = is_tried(alloc, here, &mut turn, trial);
+    drop(turn);
+    is_right
+}
+
+/// The same over the replies in these places, of one reply of each form.
+fn is_tried_over(
+    alloc: Global,
+    bytes: &Buffer,
+    slots: &mut Slots,
+    places: &[u32],
+    trial: Trial,
+) -> Result<bool, AllocError> {
+    add_each_form(alloc, slots)?;
+    let Some(replies) = Replies::checked(slots, places) else {
         return Ok(false);
     };
-    let mut turn = Turn::new(alloc, &here, &bytes, &replies);
-    let is_right = if is_in_order {
-        gives_each(&here, &mut turn)
-    } else {
-        are_bad(&here, &mut turn)
-    };
-    Ok(is_right && is_raised(&turn) && turn.uses().is_empty())
+    let here = Path::root(alloc);
+    let is_right = is_newly_tried(alloc, &here, bytes, &replies, trial);
+    drop(here);
+    is_right
+}
+
+/// The same of a file of no bytes.
+fn ends_well(alloc: Global, places: &[u32], trial: Trial) -> Result<bool, Fail> {
+    let bytes = Buffer::new(Vec::new(alloc))?;
+    let mut slots = Vec::new(alloc);
+    let is_right = is_tried_over(alloc, &bytes, &mut slots, places, trial);
+    drop(slots);
+    drop(bytes);
+    Ok(is_right?)
 }
 
 #[test]
 fn nodes_are_answered_in_order(rt: HostRuntime) -> Result<(), Fail> {
-    let is_right = ends_well(rt.alloc(), true)?;
+    let is_right = ends_well(rt.alloc(), &[0, 1, 2, 3], Trial::InOrder)?;
     assert!(rt; is_right);
     Ok(())
 }
 
 #[test]
 fn another_form_is_a_fault(rt: HostRuntime) -> Result<(), Fail> {
-    let is_right = ends_well(rt.alloc(), false)?;
+    let is_right = ends_well(rt.alloc(), &[0, 1, 2, 3], Trial::OtherForms)?;
     assert!(rt; is_right);
     Ok(())
 }
 
-/// A slot with one reply, a fault at a path.
-fn fault_at(alloc: Global, there: &Path) -> Result<Slots, AllocError> {
-    let mut slots: Slots = Vec::new(alloc);
+#[test]
+fn ends_of_parts_are_asked_by_their_place(rt: HostRuntime) -> Result<(), Fail> {
+    let is_right = ends_well(rt.alloc(), &[2], Trial::EndsOfParts)?;
+    assert!(rt; is_right);
+    Ok(())
+}
+
+#[test]
+fn values_of_parts_are_asked_by_their_place(rt: HostRuntime) -> Result<(), Fail> {
+    let is_right = ends_well(rt.alloc(), &[1], Trial::ValuesOfParts)?;
+    assert!(rt; is_right);
+    Ok(())
+}
+
+#[test]
+fn what_is_above_and_beside_is_asked_by_a_path_below(rt: HostRuntime) -> Result<(), Fail> {
+    let is_right = ends_well(rt.alloc(), &[0, 2], Trial::AboveAndBeside)?;
+    assert!(rt; is_right);
+    Ok(())
+}
+
+/// Adds a slot with a reply, a fault at a path.
+fn add_fault(alloc: Global, there: &Path, slots: &mut Slots) -> Result<(), AllocError> {
     let kind = FaultKind::Contents;
     let path = there.copy(alloc)?;
     slots.push(Slot::Fault(Fault { kind, path }))?;
-    Ok(slots)
+    Ok(())
 }
 
-/// Whether a turn that asks for a node has the fault that the node has.
-fn is_handed_on(there: &Path, turn: &mut Turn) -> bool {
-    match turn.head(there) {
-        Err(Halt::Fault(fault)) => fault.kind == FaultKind::Contents && fault.path == *there,
+/// Whether it ended by a fault of this kind, at this path.
+fn is_fault<T: Drop>(ended: &Result<T, Halt>, kind: FaultKind, path: &Path) -> bool {
+    match ended {
+        Err(Halt::Fault(fault)) => fault.kind == kind && fault.path == *path,
         _ => false,
     }
 }
 
-/// Whether a turn at a root hands on the fault of a node at another path.
-fn hands_on(alloc: Global, bytes: &Buffer, there: &Path) -> Result<bool, AllocError> {
-    let here = Path::root(alloc);
-    let slots = fault_at(alloc, there)?;
-    let Some(replies) = Replies::checked(&slots, &[0]) else {
-        return Ok(false);
+/// Whether a turn that asks for a node has the fault that the node has.
+fn is_handed_on(there: &Path, turn: &mut Turn) -> bool {
+    let asked = turn.head(there);
+    let is_right = is_fault(&asked, FaultKind::Contents, there);
+    drop(asked);
+    is_right
+}
+
+/// Whether a turn at a root hands on the fault of a node at another path, the first of these replies.
+fn hands_on(alloc: Global, bytes: &Buffer, there: &Path, slots: &Slots) -> bool {
+    let Some(replies) = Replies::checked(slots, &[0]) else {
+        return false;
     };
+    let here = Path::root(alloc);
     let mut turn = Turn::new(alloc, &here, bytes, &replies);
-    Ok(is_handed_on(there, &mut turn))
+    let is_right = is_handed_on(there, &mut turn);
+    drop(turn);
+    drop(here);
+    is_right
+}
+
+/// The same with the reply added.
+fn hands_on_fault(
+    alloc: Global,
+    bytes: &Buffer,
+    there: &Path,
+    slots: &mut Slots,
+) -> Result<bool, AllocError> {
+    add_fault(alloc, there, slots)?;
+    Ok(hands_on(alloc, bytes, there, slots))
+}
+
+/// The same of the path one step on from a root.
+fn hands_on_part(alloc: Global, bytes: &Buffer) -> Result<bool, AllocError> {
+    let mut there = Path::root(alloc);
+    let is_part = goes_on(alloc, bytes, &mut there, Step::Name(1));
+    let mut slots = Vec::new(alloc);
+    let is_right = hands_on_fault(alloc, bytes, &there, &mut slots);
+    drop(slots);
+    drop(there);
+    Ok(is_right? && is_part)
 }
 
 #[test]
 fn a_fault_of_an_asked_node_is_handed_on(rt: HostRuntime) -> Result<(), Fail> {
-    let alloc = rt.alloc();
-    let bytes = Buffer::new(Vec::new(alloc))?;
-    let mut there = Path::root(alloc);
-    let is_part = goes_on(alloc, &bytes, &mut there, Step::Name(1));
-    let is_right = hands_on(alloc, &bytes, &there)?;
-    assert!(rt; is_part && is_right);
+    let bytes = Buffer::new(Vec::new(rt.alloc()))?;
+    let is_right = hands_on_part(rt.alloc(), &bytes);
+    drop(bytes);
+    assert!(rt; is_right?);
     Ok(())
 }
 
@@ -481,10 +603,9 @@ fn a_fault_of_an_asked_node_is_handed_on(rt: HostRuntime) -> Result<(), Fail> {
 fn part(alloc: Global, bytes: &Buffer, path: &Path, step: Step) -> Option<Path> {
     let none = Replies::new(&[], &[]);
     let turn = Turn::new(alloc, path, bytes, &none);
-    match turn.part(path, step) {
-        Ok(part) => Some(part),
-        Err(_) => None,
-    }
+    let part = turn.part(path, step).ok();
+    drop(turn);
+    part
 }
 
 /// Goes one step on, and answers whether that was possible.
@@ -502,10 +623,11 @@ fn goes_on(alloc: Global, bytes: &Buffer, path: &mut Path, step: Step) -> bool {
 fn is_too_long(alloc: Global, bytes: &Buffer, path: &Path, step: Step) -> bool {
     let none = Replies::new(&[], &[]);
     let turn = Turn::new(alloc, path, bytes, &none);
-    match turn.part(path, step) {
-        Err(Halt::Fault(fault)) => fault.kind == FaultKind::PathTooLong && fault.path == *path,
-        _ => false,
-    }
+    let part = turn.part(path, step);
+    drop(turn);
+    let is_refused = is_fault(&part, FaultKind::PathTooLong, path);
+    drop(part);
+    is_refused
 }
 
 /// Goes 64 steps on from a root. Answers whether each path's last step is the one that was taken.
@@ -520,33 +642,54 @@ fn goes_far(alloc: Global, bytes: &Buffer, path: &mut Path) -> bool {
     are_right && path.last() == last
 }
 
+/// Whether a path has 64 steps at most, each of them within its bound.
+fn is_bounded(alloc: Global, bytes: &Buffer) -> bool {
+    let mut path = Path::root(alloc);
+    let is_far = is_too_long(alloc, bytes, &path, Step::Index(1_048_576));
+    let are_right = goes_far(alloc, bytes, &mut path);
+    let is_full = is_too_long(alloc, bytes, &path, Step::Index(0));
+    drop(path);
+    are_right && is_full && is_far
+}
+
 #[test]
 fn parts_have_paths_that_fit(rt: HostRuntime) -> Result<(), Fail> {
-    let alloc = rt.alloc();
-    let bytes = Buffer::new(Vec::new(alloc))?;
-    let mut path = Path::root(alloc);
-    let is_far = is_too_long(alloc, &bytes, &path, Step::Index(1_048_576));
-    let are_right = goes_far(alloc, &bytes, &mut path);
-    let is_full = is_too_long(alloc, &bytes, &path, Step::Index(0));
-    assert!(rt; are_right && is_full && is_far);
+    let bytes = Buffer::new(Vec::new(rt.alloc()))?;
+    let is_right = is_bounded(rt.alloc(), &bytes);
+    drop(bytes);
+    assert!(rt; is_right);
     Ok(())
+}
+
+/// Whether a node has an equal copy.
+fn has_copy(alloc: Global, node: &Node) -> Result<bool, AllocError> {
+    let copy = node.copy(alloc)?;
+    Ok(copy == *node)
 }
 
 /// Whether a node at a path has an equal copy.
 fn is_copied(alloc: Global, path: Path) -> Result<bool, AllocError> {
     let kind = NodeKind::Rest;
     let node = Node { kind, path };
-    Ok(node.copy(alloc)? == node)
+    let is_same = has_copy(alloc, &node);
+    drop(node);
+    is_same
+}
+
+/// The same of the path one step on from a root.
+fn is_part_copied(alloc: Global, bytes: &Buffer) -> Result<bool, AllocError> {
+    let mut path = Path::root(alloc);
+    let is_part = goes_on(alloc, bytes, &mut path, Step::Index(7));
+    let is_same = is_copied(alloc, path)?;
+    Ok(is_part && is_same)
 }
 
 #[test]
 fn a_copy_of_a_node_is_the_same(rt: HostRuntime) -> Result<(), Fail> {
-    let alloc = rt.alloc();
-    let bytes = Buffer::new(Vec::new(alloc))?;
-    let mut path = Path::root(alloc);
-    let is_part = goes_on(alloc, &bytes, &mut path, Step::Index(7));
-    let is_same = is_copied(alloc, path)?;
-    assert!(rt; is_part && is_same);
+    let bytes = Buffer::new(Vec::new(rt.alloc()))?;
+    let is_same = is_part_copied(rt.alloc(), &bytes);
+    drop(bytes);
+    assert!(rt; is_same?);
     Ok(())
 }
 

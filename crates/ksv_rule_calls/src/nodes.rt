@@ -1,8 +1,9 @@
 //! Which path a text names, what nodes of a described file answer, and numbers in decimal.
 
+use crate::near::counts_of_list;
 use ksv_bytes::Buffer;
 use ksv_expr_value::{Fault, Path, Step};
-use ksv_memo::{Answer, Engine};
+use ksv_memo::{Answer, Engine, Rules};
 use ksv_rules::{Described, Given, Head, Leaf, List, Node, NodeKind, Object, decimal, path_of};
 use ksv_schema::{Desc, load};
 use ksv_yaml::read;
@@ -155,10 +156,16 @@ fn paths_of_64_steps_are_named(rt: HostRuntime) -> Result<(), Fail> {
     Ok(())
 }
 
+/// Adds a word and a number.
+fn add_number(word: &str, number: u32, out: &mut String) -> Result<(), AllocError> {
+    write!(out, "{word}{number}")
+}
+
 /// Adds where bytes are.
 fn add_leaf(leaf: &Leaf, out: &mut String) -> Result<(), AllocError> {
-    let (from, to, end) = (leaf.from.byte(), leaf.to.byte(), leaf.end.byte());
-    write!(out, "leaf {from} to {to}, end {end}")
+    add_number("leaf ", leaf.from.byte(), out)?;
+    add_number(" to ", leaf.to.byte(), out)?;
+    add_number(", end ", leaf.end.byte(), out)
 }
 
 /// Adds which type an object has, and where it begins.
@@ -219,26 +226,33 @@ fn add_circle(desc: &Desc, path: &Path, out: &mut String) -> Result<(), AllocErr
 /// Adds an answer as it is written.
 fn add_written(
     desc: &Desc,
-    answer: Answer<Node, Given, Fault>,
+    answer: &Answer<Node, Given, Fault>,
     out: &mut String,
 ) -> Result<(), AllocError> {
     match answer {
-        Answer::Value(given) => add_given(&given, out),
-        Answer::Fault(fault) => add_fault(desc, &fault, out),
+        Answer::Value(given) => add_given(given, out),
+        Answer::Fault(fault) => add_fault(desc, fault, out),
         Answer::Circle(node) => add_circle(desc, &node.path, out),
     }
 }
 
-/// Adds what a node of a file answers.
-fn add_answer(file: File<'_>, node: Node, out: &mut String) -> Result<(), AllocError> {
-    let mut engine = Engine::new(file.alloc);
-    let answer = engine.ask(file.rules, file.bytes, node)?;
-    add_written(file.rules.desc(), answer, out)
+/// What a node answers by rules to an engine that keeps nothing.
+fn answer_of<R: Rules>(
+    alloc: Global,
+    rules: &R,
+    bytes: &Buffer,
+    node: R::Node,
+) -> Result<Answer<R::Node, R::Value, R::Fault>, AllocError> {
+    let mut engine = Engine::new(alloc);
+    let answer = engine.ask(rules, bytes, node);
+    drop(engine);
+    answer
 }
 
-/// Whether a question has an answer.
-pub(crate) fn is_told(told: Result<Answer<Node, Given, Fault>, AllocError>) -> bool {
-    told.is_ok()
+/// Adds what a node of a file answers.
+fn add_answer(file: File<'_>, node: Node, out: &mut String) -> Result<(), AllocError> {
+    let answer = answer_of(file.alloc, file.rules, file.bytes, node)?;
+    add_written(file.rules.desc(), &answer, out)
 }
 
 /// The node of this kind at a path.
@@ -311,19 +325,11 @@ fn a_size_behind_is_a_circle(rt: HostRuntime) -> Result<(), Fail> {
     Ok(())
 }
 
-/// Whether an engine keeps 18 nodes after two questions, which took 49 turns.
-fn kept_and_turns(file: File<'_>, first: Node, second: Node) -> bool {
-    let mut engine = Engine::new(file.alloc);
-    let is_first = is_told(engine.ask(file.rules, file.bytes, first));
-    let is_second = is_told(engine.ask(file.rules, file.bytes, second));
-    is_first && is_second && engine.kept() == 18 && engine.turns() == Some(49)
-}
-
-/// Whether the nodes that `get /xs` asks of an engine are counted.
+/// Whether an engine keeps 18 nodes after the two questions of `get /xs`, which took 49 turns.
 fn are_counted(file: File<'_>) -> Result<bool, Fail> {
-    let list = node_at(file.alloc, file.rules, NodeKind::Value, "/xs")?;
-    let rest = node_at(file.alloc, file.rules, NodeKind::Rest, "/xs/0")?;
-    Ok(kept_and_turns(file, list, rest))
+    let counts = counts_of_list(file, "/xs/4")?;
+    let is_kept = counts.kept_of_list == 18 && counts.turns_of_list == Some(49);
+    Ok(counts.are_told && is_kept)
 }
 
 #[test]

@@ -1,5 +1,0 @@
-use Rattle.ksv_rule_calls.proofs.near.is_last_near.Goals as goal
-
--- an engine that keeps nothing is right
-pub ask-requires : goal.ask-requires
-ask-requires c = c.new-engine.ensures.right c.args.file.rules.now c.args.file.bytes.now
