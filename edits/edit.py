@@ -1,0 +1,121 @@
+"""Must-fail edits: the form of their files, what they change, and which functions want one."""
+import os
+import re
+from dataclasses import dataclass, field
+
+from source import functions_in, functions_of, read
+
+
+@dataclass
+class Edit:
+    """An edit of a crate: its file, the function that it changes and that it is named after, and the file of that function with pairs of
+    an old text and a new one. `why`: why it is no edit, if so."""
+
+    path: str
+    name: str
+    crate: str
+    file: str = ""
+    pairs: list = field(default_factory=list)
+    function: str = ""
+    why: str = ""
+
+    def applied(self, text):
+        """A text of its file after this edit, and why it can't be applied, if so."""
+        for old, new in self.pairs:
+            if text.count(old) != 1:
+                return text, f"`{old}` is there {text.count(old)} times, and not once"
+            text = text.replace(old, new)
+        return text, ""
+
+
+def parsed(path, name, crate):
+    """What is written in the file of an edit."""
+    edit, old = Edit(path, name, crate), None
+    for row in read(path).split("\n"):
+        word, _, text = row.partition(": ")
+        if word == "file":
+            edit.why = edit.why or ("it names two files" if edit.file else "")
+            edit.file = text.strip()
+        elif word == "old":
+            edit.why = edit.why or ("an `old:` has no `new:`" if old is not None else "")
+            old = text
+        elif word.startswith("new") and old is not None:
+            edit.pairs.append((old, text))
+            old = None
+    if not edit.why and (not edit.pairs or old is not None):
+        edit.why = "it has no pair of `old:` and `new:`"
+    return edit
+
+
+def changed_functions(edit, text):
+    """The functions in whose bodies an edit's old texts are; None stands for what is in no body."""
+    found, changed = set(), text
+    for old, new in edit.pairs:
+        place = changed.find(old)
+        first = changed.count("\n", 0, place)
+        last = first + old.count("\n")
+        found.add(next((it for it in functions_in(edit.file, changed) if it.has(first, last)), None))
+        changed = changed.replace(old, new)
+    return {it and it.name for it in found}
+
+
+def edit_of(path, folder, top):
+    """The edit that a file has, of the crate in this folder. It changes the body of one function in src/, after which its file is named."""
+    edit = parsed(path, os.path.relpath(path, top), os.path.basename(folder))
+    where = f"{folder}/{edit.file}"
+    if edit.why:
+        return edit
+    if not re.fullmatch(r"src/[\w/]+\.rt", edit.file):
+        edit.why = f"it changes {edit.file or 'no file'}, which is no source"
+    elif not os.path.isfile(where):
+        edit.why = f"there is no file {edit.file}"
+    else:
+        text = read(where)
+        changed, edit.why = edit.applied(text)
+        names = set() if edit.why else changed_functions(edit, text)
+        named = os.path.basename(path).partition("--")[0]
+        if edit.why:
+            pass
+        elif changed == text:
+            edit.why = "it changes nothing"
+        elif None in names or len(names) != 1:
+            edit.why = "it changes something else than the body of one function"
+        else:
+            edit.function = names.pop()
+            if edit.function.split("::")[-1] != named:
+                edit.why = f"it changes {edit.function}, and is named after {named}"
+    return edit
+
+
+def files_of(top, crate, is_gate=False):
+    """The files in the folders of a crate's edits, in the order of their names; of those alone that the gate tries, or of all."""
+    folders = [f"{top}/crates/{crate}/must-fail", *([] if is_gate else [f"{top}/edits/{crate}"])]
+    return [f"{at}/{name}" for at in folders if os.path.isdir(at) for name in sorted(os.listdir(at))]
+
+
+def edits_of(top, crate, is_gate=False):
+    """The edits of a crate, as `files_of` has them."""
+    folder = f"{top}/crates/{crate}"
+    return [edit_of(path, folder, top) for path in files_of(top, crate, is_gate) if path.endswith(".edit")]
+
+
+def exceptions(top):
+    """The public functions that have no edit, by crate and name, each with its reason: rows `CRATE FUNCTION: REASON`."""
+    rows = [row for row in read(f"{top}/edits/exceptions.txt").split("\n") if row and not row.startswith("#")]
+    return {tuple(row.partition(": ")[0].split()): row.partition(": ")[2] for row in rows}
+
+
+def misplaced(top, crate, known):
+    """What is wrong with a crate's edits as a whole: files that are none, names that are there twice, and public functions of a library
+    without an edit in must-fail/ that have no reason for that, or have both."""
+    wrong = [f"{os.path.relpath(it, top)}: it is no edit" for it in files_of(top, crate) if not it.endswith(".edit")]
+    names = [os.path.basename(it) for it in files_of(top, crate)]
+    wrong += [f"crates/{crate}: {it} is in must-fail/ and in edits/" for it in sorted({it for it in names if names.count(it) > 1})]
+    if not os.path.isfile(f"{top}/crates/{crate}/src/lib.rt"):
+        return wrong
+    edited = {it.function for it in edits_of(top, crate, True) if not it.why}
+    public = {it.name for it in functions_of(f"{top}/crates/{crate}") if it.is_open and not it.is_law}
+    reasons = {function for of, function in known if of == crate}
+    wrong += [f"crates/{crate}: {it} is public and has no must-fail edit" for it in sorted(public - edited - reasons)]
+    wrong += [f"edits/exceptions.txt: {crate} {it} is no public function without an edit" for it in sorted(reasons - (public - edited))]
+    return wrong

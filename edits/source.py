@@ -1,0 +1,125 @@
+"""Functions of a crate's source files, as the prover names them, and stubs for their bodies."""
+import os
+import re
+import shutil
+from dataclasses import dataclass
+
+# The row on which a function begins, and the last row of a signature that has no clauses.
+FUNCTION = re.compile(r"( *)(pub(?:\([\w:]+\))? )?(?:const )?(?:unsafe )?fn (\w+)")
+SIGNATURE = re.compile(r"(?:(?:pub(?:\([\w:]+\))? )?(?:const )?(?:unsafe )?fn \w+.*|\).*) \{$")
+BLOCK = re.compile(r"impl|(pub(\([\w:]+\))? )?trait ")
+
+
+@dataclass(frozen=True)
+class Function:
+    """A function that has a body: its name without its crate's, its file, and the rows of its signature's begin, of the `{` of its
+    body and of the `}`. `is_open`: it is public, and no method of a trait. `is_law`: its body is empty. `is_bound`: a method of a trait, or one
+    of functions that call each other, which have one proof."""
+
+    name: str
+    path: str
+    head: int
+    begin: int
+    end: int
+    is_open: bool
+    is_law: bool
+    is_bound: bool
+
+    def has(self, first, last):
+        """Whether these rows are in its body."""
+        return self.begin < first and last < self.end
+
+
+def read(path):
+    """The text of a file."""
+    with open(path, encoding="utf-8") as file:
+        return file.read()
+
+
+def write(path, text):
+    """Writes a file."""
+    with open(path, "w", encoding="utf-8") as file:
+        file.write(text)
+
+
+def module_of(path):
+    """The module that a file of src/ is, as the prover names it."""
+    return re.sub(r"(^|/)(lib|main|mod)$", "", path[len("src/") : -len(".rt")]).replace("/", "::")
+
+
+def owner_of(block):
+    """What the prover calls an `impl`: its type, and its trait if it has one, as `IntegerFromU64`."""
+    parts = re.match(r"impl(?:<.*?>)? (?:(.*) for )?(\w+)", block)
+    if not parts:
+        return ""
+    words = re.findall(r"\w+", re.sub(r"\w+::", "", parts[1] or ""))
+    return parts[2] + "".join(word[0].upper() + word[1:] for word in words)
+
+
+def body_of(rows, at, indent):
+    """The rows of a function's `{` and `}`, where it has a body; the same row twice where the body is empty."""
+    for begin in range(at, len(rows)):
+        row = rows[begin]
+        if row == f"{indent}{{}}" or begin == at and row.endswith("{}"):
+            return begin, begin
+        if row == f"{indent}{{" or SIGNATURE.match(row, len(indent)):
+            end = next((it for it in range(begin, len(rows)) if rows[it] == f"{indent}}}"), None)
+            return None if end is None else (begin, end)
+        if begin > at and FUNCTION.match(row):
+            return None
+    return None
+
+
+def functions_in(path, text):
+    """The functions with a body of a file of src/, in their order."""
+    rows, found, block, marks = text.split("\n"), [], "", []
+    for at, row in enumerate(rows):
+        block = row if BLOCK.match(row) else "" if row == "}" else block
+        head = FUNCTION.match(row)
+        marks = [*marks, row] if row.lstrip().startswith("#[") else marks
+        if not head:
+            marks = marks if row.lstrip().startswith(("#[", "//")) else []
+            continue
+        indent, mark, name = head.groups()
+        body = body_of(rows, at, indent)
+        if body:
+            in_trait = bool(indent) and (" for " in block or not block.startswith("impl"))
+            full = "::".join(filter(None, (module_of(path), owner_of(block) if indent else "", name)))
+            in_cycle = any("cycle(" in it for it in marks)
+            found.append(Function(full, path, at, *body, mark == "pub " and not in_trait, body[0] == body[1], in_trait or in_cycle))
+        marks = []
+    return found
+
+
+def sources_of(folder):
+    """The files of a crate's src/, by their paths from the crate's folder."""
+    found = (f"{at}/{name}" for at, _, names in os.walk(f"{folder}/src") for name in names if name.endswith(".rt"))
+    return sorted(os.path.relpath(it, folder) for it in found)
+
+
+def functions_of(folder):
+    """The functions with a body of a crate."""
+    return [it for path in sources_of(folder) for it in functions_in(path, read(f"{folder}/{path}"))]
+
+
+def stubbed(path, text, kept):
+    """A file's text in which all functions but these have a stub for their bodies, and the names of those that have. Functions that are
+    bound to others stay as they are."""
+    rows, names = text.split("\n"), []
+    for it in reversed(functions_in(path, text)):
+        if not (it.is_bound or it.is_law or it.name in kept):
+            indent = re.match(" *", rows[it.end])[0]
+            rows[it.begin + 1 : it.end] = [f"{indent}    loop {{}}"]
+            names.append(it.name)
+    return "\n".join(rows), names
+
+
+def stub(folder, kept):
+    """Gives all functions of a copied crate but these a stub, and a proof that isn't one, so that nothing is searched for them."""
+    for path in sources_of(folder):
+        text, names = stubbed(path, read(f"{folder}/{path}"), kept)
+        write(f"{folder}/{path}", text)
+        for proof in (f"{folder}/proofs/{it.replace('::', '/')}" for it in names):
+            shutil.rmtree(proof, ignore_errors=True)
+            os.makedirs(proof)
+            write(f"{proof}/Proof.antt", "")
