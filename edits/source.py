@@ -102,12 +102,24 @@ def functions_of(folder):
     return [it for path in sources_of(folder) for it in functions_in(path, read(f"{folder}/{path}"))]
 
 
+def has_stub(it, kept):
+    """Whether a function gets a stub where only these are kept: one that is bound to others doesn't."""
+    return not (it.is_bound or it.is_law or it.name in kept)
+
+
+def callers(folder, kept):
+    """Those of a crate's functions that name, in their bodies, one that gets a stub where they alone are kept: no stub is before the others."""
+    functions = functions_of(folder)
+    names = {it.name.split("::")[-1] for it in functions if has_stub(it, kept)}
+    body = lambda it: "\n".join(read(f"{folder}/{it.path}").split("\n")[it.begin + 1 : it.end])
+    return {it.name for it in functions if it.name in kept and names & {*re.findall(r"\w+", body(it))}}
+
+
 def stubbed(path, text, kept):
-    """A file's text in which all functions but these have a stub for their bodies, and the names of those that have. Functions that are
-    bound to others stay as they are."""
+    """A file's text in which all functions but these have a stub for their bodies, and the names of those that have."""
     rows, names = text.split("\n"), []
     for it in reversed(functions_in(path, text)):
-        if not (it.is_bound or it.is_law or it.name in kept):
+        if has_stub(it, kept):
             indent = re.match(" *", rows[it.end])[0]
             rows[it.begin + 1 : it.end] = [f"{indent}    loop {{}}"]
             names.append(it.name)
