@@ -3,6 +3,7 @@ pub mod Open
 pub mod Layout
 pub mod Slotted
 pub mod Moves
+pub mod Calls
 pub mod Sweep
 pub mod Emptying
 pub mod Nodes

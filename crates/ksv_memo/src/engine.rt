@@ -62,6 +62,7 @@ impl<R: Rules> Engine<R> {
     pub fn new(alloc: Global) -> Self
         ensures kept { result.kept ≡ [] }
         ensures turns { result.turns ≡ Some 0 }
+        ensures looked { result.looked ≡ 0 }
         ensures right { (rules : R) (bytes : List ℕ) → IsRight (on (R.meaning rules) bytes) result.kept }
     {
         Engine {
@@ -74,6 +75,7 @@ impl<R: Rules> Engine<R> {
     pub fn begin(&mut self)
         ensures kept { self.new.kept ≡ self.old.kept }
         ensures turns { self.new.turns ≡ Some 0 }
+        ensures looked { self.new.looked ≡ self.old.looked }
     {
         self.machine.turns = Some(0);
     }
@@ -100,6 +102,7 @@ impl<R: Rules> Engine<R> {
 
         // Each node that wasn't kept took a turn, and one more after each of its asks.
         ensures turns { self.new.turns ≡ turns_after (costs (on (R.meaning rules.now) bytes.now) (fresh (R.meaning rules.now).number (nodes_of self.old.kept) (done (on (R.meaning rules.now) bytes.now) [] node))) self.old.turns result }
+        ensures looked { self.new.looked ≡ self.old.looked }
     {
         match self.machine.ask(rules, bytes, node) {
             Ok(Outcome::Answered(answer)) => Ok(answer_of(Outcome::Answered(answer))),

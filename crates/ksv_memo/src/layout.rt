@@ -14,8 +14,8 @@ use std::hash::Hash;
 #[derive(Clone, Copy)]
 pub struct Frame {
     pub slot: u32,
-    pub asked: u32,
-    pub uses: u32,
+    pub asked: usize,
+    pub uses: usize,
 }
 
 /// The open nodes, the one that is run last; the slots that they asked, and the uses of their calls, with repeats.
@@ -26,7 +26,7 @@ pub struct Frames {
     pub uses: Vec<Use>,
 }
 
-/// A number in 32 bits. A larger one is refused, as memory for so many nodes would be.
+/// The number of a slot in 32 bits. A larger one is refused, as memory for so many nodes would be.
 #[inline(always)]
 pub(crate) fn number(count: usize) -> Result<u32, AllocError>
     ensures { IfOk result (λ number. number ≡ count) }
@@ -55,8 +55,8 @@ impl Frames {
     {
         Ok(Frame {
             slot: number(place)?,
-            asked: number(self.asked.len())?,
-            uses: number(self.uses.len())?,
+            asked: self.asked.len(),
+            uses: self.uses.len(),
         })
     }
 
@@ -76,8 +76,8 @@ impl Frames {
         ensures { Popped frame self.old self.new }
     {
         self.frames.pop();
-        self.asked.truncate(frame.asked as usize);
-        self.uses.truncate(frame.uses as usize);
+        self.asked.truncate(frame.asked);
+        self.uses.truncate(frame.uses);
     }
 
     /// Takes out the last open node, if there is one, with what it asked and used.
@@ -87,8 +87,8 @@ impl Frames {
         ensures empty { IfNone result (self.new.frames.items ≡ []) }
     {
         let frame = self.frames.pop()?;
-        self.asked.truncate(frame.asked as usize);
-        self.uses.truncate(frame.uses as usize);
+        self.asked.truncate(frame.asked);
+        self.uses.truncate(frame.uses);
         Some(frame)
     }
 }

@@ -13,17 +13,6 @@ use ksv_bytes::Buffer;
 use ksv_memo_rules::{Next, Outcome, Reply, Rules};
 use std::alloc::{AllocError, Global};
 
-/// The count after one more call.
-#[inline(always)]
-fn one_more(turns: Option<u64>) -> Option<u64>
-    ensures { result ≡ counted 1 turns }
-{
-    match turns {
-        None => None,
-        Some(turns) => Some(turns.saturating_add(1)),
-    }
-}
-
 /// An answer, lent.
 fn lend<V, F>(answer: &Result<V, F>) -> Result<&V, &F>
     ensures { lent result ≡ answer.now }
@@ -63,9 +52,7 @@ impl<R: Rules> Machine<R> {
         ensures kept { self.new.table.kept ≡ self.old.table.kept }
         ensures turns { OnOk result (self.new.turns ≡ counted 1 self.old.turns) }
     {
-        let step = self.table.turn(self.alloc, rules, bytes)?;
-        self.turns = one_more(self.turns);
-        Ok(step)
+        self.table.turn(self.alloc, rules, bytes, &mut self.turns)
     }
 
     /// Runs the last open node for one turn. The outcome, if that ends the question.

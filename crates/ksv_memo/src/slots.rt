@@ -1,14 +1,20 @@
-//! The slots of nodes, each reaching of one counted.
-ghost use Rattle.std.specs.Prelude.{◌≡◌, ◌<◌, ◌^◌, ◌++◌, ◌∷◌, [], length, false, Some, None, OnOk, OnErr, IfSome, IfNone};
-ghost use Rattle.std.specs.List.{list_any, IsDistinct};
+//! The slots of nodes, each reaching of one counted, and calls of rules, which alone are lent them.
+ghost use Rattle.std.specs.Prelude.{◌≡◌, ◌<◌, ◌≤◌, ◌^◌, ◌++◌, ◌∷◌, [], length, drop, true, false, is_some, Some, None, IfOk, OnOk, OnErr, IfSome, IfNone};
+ghost use Rattle.std.specs.List.{AllByRecursion, list_any, IsDistinct};
 ghost use Rattle.std.specs.Map.{keys_of};
 ghost use Rattle.indexmap.specs.IndexMap.{set_value_at};
 ghost use Rattle.ksv_memo_links.specs.Shelved.{ticked};
 ghost use Rattle.ksv_memo.specs.Layout.{node_at, slots_of};
 ghost use Rattle.ksv_memo.specs.Moves.{Knows};
+ghost use Rattle.ksv_memo.specs.Calls.{Runs, after_call};
+ghost use Rattle.ksv_memo_rules.specs.Meaning.{IsAddedTo, on};
+ghost use Rattle.ksv_memo_rules.specs.Right.{counted};
+ghost use Rattle.ksv_memo_rules.specs.Slots.{HasAnswer, answer_at};
 
+use crate::layout::{Frame, Frames};
 use indexmap::IndexMap;
-use ksv_memo_rules::Slot;
+use ksv_bytes::Buffer;
+use ksv_memo_rules::{Next, Replies, Reply, Rules, Slot, answer_at};
 use std::alloc::{AllocError, Global};
 use std::hash::Hash;
 use std::marker::Model;
@@ -28,8 +34,8 @@ pub enum Known {
 
 /// The slots of nodes. A node's slot has the number of its place in a map, which never changes.
 ///
-/// Each call that looks a node up, adds one or writes a slot is one look, and none does more. What is lent to rules, which
-/// read replies, isn't counted.
+/// Each call that looks a node up, adds one or writes a slot is one look, and none does more. The slots are lent to rules
+/// alone, which isn't counted: by [`copy_at`] and [`call`], which no code can call that has no rules, as forgetting.
 #[derive(Drop)]
 pub(crate) struct Slots<N: Eq + Hash + Drop, V: Drop, F: Drop> {
     map: IndexMap<N, Slot<V, F>>,
@@ -122,9 +128,9 @@ impl<N: Eq + Hash + Drop, V: Drop, F: Drop> Slots<N, V, F> {
         Ok(())
     }
 
-    /// The node of the slot of a number, lent.
+    /// The node of the slot of a number, lent to rules.
     #[inline(always)]
-    pub(crate) fn node(&self, place: usize) -> Option<&N>
+    fn node(&self, place: usize) -> Option<&N>
         ensures some { IfSome result (λ n. node_at self.now.entries place ≡ Some n.now) }
         ensures none { IfNone result (node_at self.now.entries place ≡ None) }
     {
@@ -134,7 +140,7 @@ impl<N: Eq + Hash + Drop, V: Drop, F: Drop> Slots<N, V, F> {
 
     /// The slots by their numbers, lent to rules.
     #[inline(always)]
-    pub(crate) fn lend(&self) -> &[Slot<V, F>]
+    fn lend(&self) -> &[Slot<V, F>]
         ensures { result.now ≡ slots_of self.now.entries }
     {
         self.map.values().as_slice()
@@ -159,4 +165,63 @@ fn look_up<N: Eq + Hash + Drop, V: Drop, F: Drop>(map: &IndexMap<N, Slot<V, F>>,
             Slot::Fault(_) => Known::Kept(place),
         },
     }
+}
+
+/// A copy by the rules of the answer in the slot of a number, if there is one.
+pub(crate) fn copy_at<R: Rules>(
+    alloc: Global,
+    rules: &R,
+    slots: &Slots<R::Node, R::Value, R::Fault>,
+    place: usize,
+) -> Result<Option<Reply<R>>, AllocError>
+    ensures { IfOk result (λ copy. copy ≡ answer_at (slots_of slots.now.entries) place) }
+{
+    match answer_at(slots.lend(), place) {
+        Some(answer) => Ok(Some(rules.copy_answer(alloc, answer)?)),
+        None => Ok(None),
+    }
+}
+
+/// The count after one more call.
+#[inline(always)]
+fn one_more(turns: Option<u64>) -> Option<u64>
+    ensures { result ≡ counted 1 turns }
+{
+    match turns {
+        None => None,
+        Some(turns) => Some(turns.saturating_add(1)),
+    }
+}
+
+/// One call of the rules for the node of a frame, with the replies that it got, which is counted unless memory is refused. No
+/// other function calls `next`.
+#[inline(always)]
+pub(crate) fn call<R: Rules>(
+    slots: &Slots<R::Node, R::Value, R::Fault>,
+    frames: &mut Frames,
+    frame: Frame,
+    alloc: Global,
+    rules: &R,
+    bytes: &Buffer,
+    turns: &mut Option<u64>,
+) -> Result<Next<R::Node, Reply<R>>, AllocError>
+    requires there { is_some (node_at slots.now.entries frame.slot) ≡ true }
+    requires begins { frame.asked ≤ length frames.old.asked.items }
+    requires kept { AllByRecursion (HasAnswer (slots_of slots.now.entries)) (drop frame.asked frames.old.asked.items) }
+    ensures step { IfOk result (λ step. Runs (on (R.meaning rules.now) bytes.now) slots.now.entries frame frames.old frames.new step) }
+    ensures frames { frames.new.frames ≡ frames.old.frames }
+    ensures asked { frames.new.asked ≡ frames.old.asked }
+    ensures refused { OnErr result (IsAddedTo frames.old.uses.items frames.new.uses.items) }
+
+    // One more, exactly where memory wasn't refused.
+    ensures turns { turns.new ≡ after_call turns.old result }
+{
+    let Some(node) = slots.node(frame.slot as usize) else {
+        unreachable!()
+    };
+    let asked = &frames.asked[frame.asked..];
+    let replies = Replies::new(slots.lend(), asked);
+    let step = rules.next(alloc, node, bytes, &replies, &mut frames.uses)?;
+    *turns = one_more(*turns);
+    Ok(step)
 }

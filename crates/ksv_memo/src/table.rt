@@ -3,16 +3,17 @@ ghost use Rattle.std.specs.List.{All, AllPairs};
 ghost use Rattle.std.specs.Prelude.{◌≡◌, ◌≢◌, ◌<◌, ◌≤◌, ℕ, [], Some, length, true, option_map, nat_lt, IfOk, IfSome, IfNone, OnOk, OnErr};
 ghost use Rattle.ksv_memo_rules.specs.Meaning.{on};
 ghost use Rattle.ksv_memo.specs.Nodes.{Asks, Closes, Finds, MayKeep, Steps, TakesFirst, is_there};
-ghost use Rattle.ksv_memo_rules.specs.Slots.{answer_at, answer_in};
+ghost use Rattle.ksv_memo_rules.specs.Slots.{answer_in};
+ghost use Rattle.ksv_memo.specs.Calls.{after_call};
 ghost use Rattle.ksv_memo.specs.Sweep.{Sweeps};
 ghost use Rattle.ksv_memo.specs.Emptying.{IsEmptied};
 
 use crate::layout::{Frames, number, open_new, reopen};
-use crate::slots::{Known, Slots};
+use crate::slots::{Known, Slots, call, copy_at};
 use crate::uses::keep_once;
 use ksv_bytes::{Buffer, Change};
 use ksv_memo_links::Links;
-use ksv_memo_rules::{Next, Replies, Reply, Rules, Slot, answer_at};
+use ksv_memo_rules::{Next, Reply, Rules, Slot};
 use std::alloc::{AllocError, Global};
 use std::hash::Hash;
 use std::marker::Model;
@@ -36,21 +37,6 @@ fn slot_of<V, F>(answer: Result<V, F>) -> Slot<V, F>
     match answer {
         Ok(value) => Slot::Value(value),
         Err(fault) => Slot::Fault(fault),
-    }
-}
-
-/// A copy of the answer in the slot of a number, if there is one.
-fn copy_at<R: Rules>(
-    alloc: Global,
-    rules: &R,
-    slots: &[Slot<R::Value, R::Fault>],
-    place: usize,
-) -> Result<Option<Reply<R>>, AllocError>
-    ensures { IfOk result (λ copy. copy ≡ answer_at slots.now place) }
-{
-    match answer_at(slots, place) {
-        Some(answer) => Ok(Some(rules.copy_answer(alloc, answer)?)),
-        None => Ok(None),
     }
 }
 
@@ -120,7 +106,7 @@ impl<R: Rules> Table<R> {
         ensures same { self.new ≡ self.old }
     {
         match self.slots.find(node) {
-            Known::Kept(place) => copy_at(alloc, rules, self.slots.lend(), place),
+            Known::Kept(place) => copy_at(alloc, rules, &self.slots, place),
             Known::New => Ok(None),
             Known::Empty(_) => Ok(None),
             Known::Open => Ok(None),
@@ -152,28 +138,32 @@ impl<R: Rules> Table<R> {
         }
     }
 
-    /// One call of the rules for the last open node. No other function calls `next`.
+    /// One call of the rules for the last open node, which is counted unless memory is refused.
     #[inline(always)]
     pub(crate) fn turn(
         &mut self,
         alloc: Global,
         rules: &R,
         bytes: &Buffer,
+        turns: &mut Option<u64>,
     ) -> Result<Next<R::Node, Reply<R>>, AllocError>
         requires { is_there self.old.opened ≡ true }
         ensures step { IfOk result (λ step. Steps (on (R.meaning rules.now) bytes.now) self.old.opened self.new.opened step) }
         ensures kept { self.new.kept ≡ self.old.kept }
+        ensures turns { turns.new ≡ after_call turns.old result }
     {
         let Some(frame) = self.frames.last() else {
             unreachable!()
         };
-        let Some(node) = self.slots.node(frame.slot as usize) else {
-            unreachable!()
-        };
-        let asked = &self.frames.asked[frame.asked as usize..];
-        let replies = Replies::new(self.slots.lend(), asked);
-        let step = rules.next(alloc, node, bytes, &replies, &mut self.frames.uses)?;
-        Ok(step)
+        call(
+            &self.slots,
+            &mut self.frames,
+            frame,
+            alloc,
+            rules,
+            bytes,
+            turns,
+        )
     }
 
     /// Keeps the last open node with its answer, which the one below gets. Whether there is one below.
@@ -186,8 +176,8 @@ impl<R: Rules> Table<R> {
         let Some(frame) = self.frames.last() else {
             unreachable!()
         };
-        let uses = &self.frames.uses[frame.uses as usize..];
-        let asked = &self.frames.asked[frame.asked as usize..];
+        let uses = &self.frames.uses[frame.uses..];
+        let asked = &self.frames.asked[frame.asked..];
         keep_once(alloc, &mut self.links, frame.slot, asked, uses)?;
         let slot = frame.slot as usize;
         self.slots.set(slot, slot_of(answer));

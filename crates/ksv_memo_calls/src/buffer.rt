@@ -1,4 +1,9 @@
 //! Edits of a buffer, its limit, and what an edit touches.
+//!
+//! Where the values are from: by hand. The bytes after an edit, and the parts of a window, were written down by cutting the text in
+//! the test at the edit's place, with the gap where the last insert or delete ended. A refusal is the first that holds of: a range
+//! that isn't in the file, nothing to do, a file over the limit. Of the touched uses: an overwrite touches a range of bytes that it
+//! meets; a shift one that ends behind its place, a reach over its place and the size; an append the size alone.
 
 use ksv_bytes::{Buffer, Change, EditRefusal, FILE_LIMIT, Use, Window, touches};
 use std::alloc::{AllocError, Global};

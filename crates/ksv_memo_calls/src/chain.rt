@@ -1,4 +1,7 @@
 //! A chain of nodes that is a hundred thousand deep.
+//!
+//! Where the values are from: by hand. Link 0 answers the file's size, which is 2, each other link one more than the link before it:
+//! link n answers n + 2 and keeps n + 1 links. Link 0 takes a call, each other one two: 2n + 1 turns.
 ghost use Rattle.ksv_memo_rules.specs.Meaning.{on};
 ghost use Rattle.ksv_memo_rules.specs.Right.{IsRight};
 ghost use Rattle.ksv_memo_samples.specs.Chain.{chain_meaning};

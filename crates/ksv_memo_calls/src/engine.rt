@@ -1,5 +1,10 @@
 //! The engine with a small set of rules: worked questions, what edits take from what is kept, and how many looks that
 //! takes.
+//!
+//! Where the values are from: by hand, from the rows that the tables below tell. A row's call is counted once for itself and once
+//! more for each row that it asks, kept or not; a row is run once while it is kept. What an edit takes is the rows that read a byte
+//! that it touches, and all that asked them. The most looks are 8 times what is near: pages met, uses that meet them, rows that go,
+//! their asks, and the pages of their uses; the fewest are the rows that go.
 ghost use Rattle.std.specs.Prelude.{◌≡◌};
 ghost use Rattle.ksv_memo_rules.specs.Meaning.{on};
 ghost use Rattle.ksv_memo_rules.specs.Right.{IsRight};

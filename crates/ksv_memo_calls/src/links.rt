@@ -1,4 +1,7 @@
 //! Links between slots: what an overwrite takes along them, and how many looks it takes.
+//!
+//! Where the values are from: by hand. Slot 0 uses bytes 10 to 199, which are in pages 0 to 3 of 64 bytes; slot 1 asked it twice. The
+//! most looks are 8 times what is near, as the terms in each test count it; the fewest are the slots that go.
 ghost use Rattle.std.specs.Prelude.{◌≡◌, [], OnOk};
 
 use ksv_bytes::{Change, Use};

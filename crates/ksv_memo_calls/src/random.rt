@@ -1,4 +1,9 @@
 //! Random questions about random rows between random edits, beside plain recursion and a plain pass.
+//!
+//! Where the values are from: `plainly` answers a row by recursion over the rows and the bytes, with no engine; `touched_of` says
+//! which rows an overwrite takes by a pass over all of them, each with its whole tree. Neither calls the engine or its links. The
+//! most looks are 8 times a bound of what is near: of each row that goes itself, up to three asks and a page of its use; a use of
+//! each kept row; and a page.
 ghost use Rattle.std.specs.Prelude.{◌≡◌, ◌<◌, ◌≤◌, ◌^◌, OnOk};
 ghost use Rattle.ksv_memo_rules.specs.Meaning.{on};
 ghost use Rattle.ksv_memo_rules.specs.Right.{IsRight};

@@ -1,4 +1,5 @@
-//! The engine over rows: rules, edits and answers that are told beside it.
+//! The engine over rows: rules, edits and answers that are told beside it. It has no expected values: `Plain` is what a test
+//! expects, by hand (`engine`) or by recursion (`random`).
 ghost use Rattle.std.specs.Prelude.{◌≡◌};
 ghost use Rattle.ksv_memo_rules.specs.Meaning.{on};
 ghost use Rattle.ksv_memo_rules.specs.Right.{IsRight};

@@ -1,5 +1,9 @@
 //! A tower of links, of which the lowest alone reads the file: an edit that touches what it reads takes all links, and
 //! another one looks at none of them.
+//!
+//! Where the values are from: by hand. Link n answers n more than the file's size and keeps n + 1 links. An overwrite of byte 0, which
+//! link 0 reads, takes all of them; one of byte 1, in the same page, takes none; an append changes the size, so it takes all. The
+//! most looks are 8 times what is near: a page, a use that meets it, and of the links that go themselves and their asks.
 ghost use Rattle.std.specs.Prelude.{◌≡◌, ◌<◌, ◌≤◌, ◌^◌, ◌==◌, ◌++◌, length, OnOk, OnErr};
 ghost use Rattle.ksv_memo_rules.specs.Meaning.{on};
 ghost use Rattle.ksv_memo_rules.specs.Right.{IsRight};

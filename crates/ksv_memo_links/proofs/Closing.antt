@@ -206,5 +206,8 @@ module _ (p q r : Parts) (change : Change) (w : IsWhole p) (idle : p.marks.work 
       let z = ap (λ (ws : List ℕ). length ws) idle in
       omega arith
 
+  pub rises : looks p ≤ looks r
+  rises = to_r.rises
+
   pub least : length r.marks.work ≤ r.marks.looks
   least = let z = ap (λ (ws : List ℕ). length ws) idle in to_r.least (omega arith)

@@ -50,7 +50,7 @@ slots-more p q r change i h k = record {
 
 pub slots-none : (p : Parts) (change : Change) → HitsSlots p p change 0
 slots-none p change = record {
-  more = no-mark p p (IsEdit change) (record { users = refl; user_lists = refl; pages = refl; page_lists = refl; uses = refl }) refl refl (λ c. c);
+  more = no-mark p p (IsEdit change) (record { users = refl; user_lists = refl; pages = refl; page_lists = refl; uses = refl }) refl refl (λ c. c) (omega arith);
   out = λ s lt. absurd (omega arith);
 }
 
@@ -59,19 +59,20 @@ pub record Peeks (q q1 : Parts) : Type 0 where
   pub same : SameLinks q q1
   pub kept : q1.marks.kept ≡ q.marks.kept
   pub work : q1.marks.work ≡ q.marks.work
+  pub rises : looks q ≤ looks q1
   pub looks : looks q1 ≤ looks q + 1
   pub least : length q.marks.work ≤ q.marks.looks → length q1.marks.work ≤ q1.marks.looks
 
 pub page-none : (p : Parts) (change : Change) (page : ℕ) → HitsPage p p change page 0 0
 page-none p change page = record {
-  more = no-mark p p (IsEdit change) (record { users = refl; user_lists = refl; pages = refl; page_lists = refl; uses = refl }) refl refl (λ c. c);
+  more = no-mark p p (IsEdit change) (record { users = refl; user_lists = refl; pages = refl; page_lists = refl; uses = refl }) refl refl (λ c. c) (omega arith);
   out = λ s lt. absurd (omega arith);
   within = omega arith;
   looks = omega arith;
 }
 
 pub peek-more : (p q q1 : Parts) (P : List Bool → Change → Type 0) → MarksMore p q P → Peeks q q1 → MarksMore p q1 P
-peek-more p q q1 P h k = more-trans p q q1 P (λ first x. Unit {0}) h (no-mark q q1 (λ first x. Unit {0}) k.same k.kept k.work k.least) (λ first x w m. tt)
+peek-more p q q1 P h k = more-trans p q q1 P (λ first x. Unit {0}) h (no-mark q q1 (λ first x. Unit {0}) k.same k.kept k.work k.least k.rises) (λ first x w m. tt)
 
 pub page-more : (p q q1 r : Parts) (change : Change) (page i : ℕ) (item : Pin) → HitsPage p q change page i 0 → Peeks q q1 → i < length (row q.pages.lists page) → item ≡ get_or (row q.pages.lists page) i item → HitsSlot q1 r change item.row → HitsPage p r change page (i + 1) 0
 page-more p q q1 r change page i item h k lt e u = record {
@@ -109,7 +110,7 @@ page-end p q q1 change page i h k le =
 
 pub pages-none : (p : Parts) (change : Change) (a : ℕ) → HitsPages p p change a a
 pages-none p change a = record {
-  more = no-mark p p (IsEdit change) (record { users = refl; user_lists = refl; pages = refl; page_lists = refl; uses = refl }) refl refl (λ c. c);
+  more = no-mark p p (IsEdit change) (record { users = refl; user_lists = refl; pages = refl; page_lists = refl; uses = refl }) refl refl (λ c. c) (omega arith);
   out = λ g i le lt k t. absurd (omega arith);
   looks = let m : max a a ≡ a = omega arith in let e = ap (λ n. sizes p.pages.lists n) m in omega arith;
 }

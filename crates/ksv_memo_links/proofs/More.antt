@@ -1,5 +1,5 @@
 -- Marks upon marks.
-use Rattle.std.proofs.Common.{◌≡◌, ◌≢◌, ◌⊎◌, inl, inr, Bool, true, false, eqb, ℕ, ◌+◌, ◌<◌, List, [], ◌++◌, length, set, sym, ◌∙◌, ap, subst, arith, append_assoc}
+use Rattle.std.proofs.Common.{◌≡◌, ◌≢◌, ◌⊎◌, inl, inr, Bool, true, false, eqb, ℕ, ◌+◌, ◌<◌, ◌≤◌, List, [], ◌++◌, length, set, sym, ◌∙◌, ap, subst, arith, append_assoc}
 use Rattle.std.proofs.lemmas.List.{length-set, append-nil}
 use Rattle.std.proofs.lemmas.Bool.Decides.{eqb_tells}
 use Rattle.ksv_bytes.specs.declared.uses.Use.{Use}
@@ -10,7 +10,7 @@ use Rattle.ksv_memo_links.specs.Shelved.{row}
 use Rattle.ksv_memo_links.specs.Linked.{named}
 use Rattle.ksv_memo_links.specs.Links.{IsHit, Reaches}
 use Rattle.ksv_memo_links.specs.Marking.{is_kept, marked_work, IsMarking, IsCounted}
-use Rattle.ksv_memo_links.specs.Forgetting.{IsShaped, SameLinks, Why, MarksMore}
+use Rattle.ksv_memo_links.specs.Forgetting.{IsShaped, SameLinks, looks, Why, MarksMore}
 use Rattle.ksv_memo_links.proofs.Mark.{kept-fewer, kept-marked, stays-out, marked-grows, mark-step}
 
 pub same-trans : (p q r : Parts) → SameLinks p q → SameLinks q r → SameLinks p r
@@ -51,6 +51,7 @@ more-trans p q r P Q h k f = record {
   marking = λ first x w m. (let n = h.marking first x w m in why-back p q first x (λ why. IsMarking first why r.marks.kept r.marks.work) h.same (k.marking first x (f first x w n) (why-along p q first x (λ why. IsMarking first why q.marks.kept q.marks.work) h.same n)));
   grows = (h.grows.0 ++ k.grows.0, k.grows.1 ∙ ap (λ (ws : List ℕ). ws ++ k.grows.0) h.grows.1 ∙ append_assoc p.marks.work h.grows.0 k.grows.0);
   least = λ c. k.least (h.least c);
+  rises = let a = h.rises in let b = k.rises in omega arith;
 }
 
 -- what one call marks
@@ -59,6 +60,7 @@ pub record MarksOne (p q : Parts) (s : ℕ) : Type 0 where
   pub kept : q.marks.kept ≡ set p.marks.kept s false
   pub work : q.marks.work ≡ marked_work p.marks.kept p.marks.work s
   pub least : IsCounted p.marks → IsCounted q.marks
+  pub rises : looks p ≤ looks q
 
 pub one-mark : (p q : Parts) (P : List Bool → Change → Type 0) (s : ℕ) → MarksOne p q s → ((first : List Bool) (x : Change) → P first x → is_kept first s ≡ true → Why p first x s) → MarksMore p q P
 one-mark p q P s h why = record {
@@ -69,10 +71,11 @@ one-mark p q P s h why = record {
       subst (λ ks. F ks q.marks.work) (sym h.kept) (subst (F (set p.marks.kept s false)) (sym h.work) (mark-step first (Why p first x) p.marks.kept p.marks.work s m (λ e. why first x w (m.less s e)))));
   grows = let g = marked-grows p.marks.kept p.marks.work s in (g.0, h.work ∙ g.1);
   least = h.least;
+  rises = h.rises;
 }
 
-pub no-mark : (p q : Parts) (P : List Bool → Change → Type 0) → SameLinks p q → q.marks.kept ≡ p.marks.kept → q.marks.work ≡ p.marks.work → (IsCounted p.marks → IsCounted q.marks) → MarksMore p q P
-no-mark p q P s e f least = record {
+pub no-mark : (p q : Parts) (P : List Bool → Change → Type 0) → SameLinks p q → q.marks.kept ≡ p.marks.kept → q.marks.work ≡ p.marks.work → (IsCounted p.marks → IsCounted q.marks) → looks p ≤ looks q → MarksMore p q P
+no-mark p q P s e f least rises = record {
   same = s;
   same_length = ap (λ (bs : List Bool). length bs) e;
   fewer = λ t k. ap (λ (bs : List Bool). is_kept bs t) (sym e) ∙ k;
@@ -80,6 +83,7 @@ no-mark p q P s e f least = record {
       subst (λ ks. F ks q.marks.work) (sym e) (subst (F p.marks.kept) (sym f) m));
   grows = ([], f ∙ sym (append-nil p.marks.work));
   least = least;
+  rises = rises;
 }
 
 pub one-out : (p q : Parts) (s : ℕ) → MarksOne p q s → is_kept q.marks.kept s ≡ false

@@ -43,6 +43,7 @@ pub record MarksMore (p q : Parts) (P : List Bool → Change → Type 0) : Type 
   pub marking : (first : List Bool) (x : Change) → P first x → IsMarking first (Why p first x) p.marks.kept p.marks.work → IsMarking first (Why p first x) q.marks.kept q.marks.work
   pub grows : (more : List ℕ) × (q.marks.work ≡ p.marks.work ++ more)
   pub least : IsCounted p.marks → IsCounted q.marks
+  pub rises : looks p ≤ looks q
 
 abbrev pub IsEdit : Change → List Bool → Change → Type 0
 IsEdit change first x = x ≡ change
@@ -138,6 +139,7 @@ pub record Clears (p q : Parts) (slot : ℕ) : Type 0 where
   pub page_lists : length q.pages.lists ≡ length p.pages.lists
   pub marks : q.marks ≡ p.marks
   pub most : looks q ≤ looks p + 3 + 4 * length (row (named p.users.notes) slot) + 4 * length (row (named p.pages.notes) slot)
+  pub rises : looks p ≤ looks q
   pub least : q.marks.looks ≡ p.marks.looks
 
 -- as before, but for the order of items in lists, the number of lists of pages, and the looks

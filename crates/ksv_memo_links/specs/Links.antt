@@ -72,6 +72,7 @@ pub record Takes (old new : Linked) (slot : ℕ) : Type 0 where
   pub waits : old.waits ≡ new.waits ++ slot ∷ []
   pub inside : slot < length old.kept
   pub most : new.looks ≤ old.looks + 4 + 4 * length (row old.asked slot) + 4 * length (pages_in (row old.uses slot))
+  pub grows : old.looks ≤ new.looks
   pub least : old.marked ≤ new.marked
 
 -- nothing was to be taken
@@ -82,6 +83,7 @@ pub record IsDone (old new : Linked) : Type 0 where
   pub waits : old.waits ≡ []
   pub done : new.waits ≡ []
   pub most : new.looks ≤ old.looks + 1
+  pub grows : old.looks ≤ new.looks
   pub least : old.marked ≤ new.marked
 
 -- there are as many slots or more, and each is as it was; a new one has nothing

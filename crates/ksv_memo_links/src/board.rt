@@ -62,6 +62,7 @@ impl Board {
         ensures named { named self.new.notes ≡ pop_row (named self.old.notes) owner }
         ensures lists { length self.new.lists ≡ length self.old.lists }
         ensures looks { self.new.looks ≤ self.old.looks + 4 }
+        ensures grows { self.old.looks ≤ self.new.looks }
         ensures idle { result ≡ false → self.new.looks ≤ self.old.looks + 1 }
     {
         match self.notes.pop(owner) {
@@ -84,6 +85,7 @@ impl Board {
         ensures lists { self.new.lists ≡ self.old.lists }
         ensures notes { self.new.notes ≡ self.old.notes }
         ensures looks { self.new.looks ≤ self.old.looks + 1 }
+        ensures grows { self.old.looks ≤ self.new.looks }
         ensures fits { IfSome result (λ x. i + 1 < 2 ^ 64) }
         ensures board { IsBoard self.old.lists self.old.notes }
     {
@@ -136,6 +138,7 @@ impl Board {
         ensures named { named self.new.notes ≡ slice_set (named self.old.notes) owner [] }
         ensures lists { length self.new.lists ≡ length self.old.lists }
         ensures looks { self.new.looks ≤ self.old.looks + 1 + 4 * length (row (named self.old.notes) owner) }
+        ensures grows { self.old.looks ≤ self.new.looks }
     {
         while self.unlink(owner) {}
     }

@@ -63,6 +63,7 @@ impl<T: Copy + Drop> Cells<T> {
         ensures items { self.new.items ≡ self.old.items }
         ensures room { self.new.room ≡ self.old.room }
         ensures looks { self.new.looks ≡ ticked self.old.looks }
+        ensures grows { self.old.looks ≤ self.new.looks }
     {
         self.looks = self.looks.saturating_add(1);
         self.items[i as usize]
@@ -75,6 +76,7 @@ impl<T: Copy + Drop> Cells<T> {
         ensures items { self.new.items ≡ self.old.items }
         ensures room { self.new.room ≡ self.old.room }
         ensures looks { self.new.looks ≡ ticked self.old.looks }
+        ensures grows { self.old.looks ≤ self.new.looks }
     {
         self.looks = self.looks.saturating_add(1);
         if i < self.items.len() {
@@ -89,6 +91,7 @@ impl<T: Copy + Drop> Cells<T> {
         ensures items { self.new.items ≡ slice_set self.old.items i item }
         ensures room { self.new.room ≡ self.old.room }
         ensures looks { self.new.looks ≡ ticked self.old.looks }
+        ensures grows { self.old.looks ≤ self.new.looks }
     {
         self.looks = self.looks.saturating_add(1);
         self.items[i as usize] = item;
@@ -111,6 +114,7 @@ impl<T: Copy + Drop> Cells<T> {
         ensures items { self.new.items ≡ self.old.items ++ item ∷ [] }
         ensures room { self.old.room ≤ self.new.room }
         ensures looks { self.new.looks ≡ ticked self.old.looks }
+        ensures grows { self.old.looks ≤ self.new.looks }
     {
         self.looks = self.looks.saturating_add(1);
         self.items.push_reserved(item);

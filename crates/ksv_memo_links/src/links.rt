@@ -46,7 +46,7 @@ impl Links {
     pub fn count(&self) -> usize
         ensures { result ≡ count_by (λ b. b) self.now.kept }
     {
-        self.parts.marks.count()
+        self.parts.count()
     }
 
     /// At least so many slots. The new ones aren't kept.
@@ -55,7 +55,7 @@ impl Links {
         ensures same { Grows self.old self.new }
         ensures ok { OnOk result (count ≤ length self.new.kept) }
     {
-        if count as usize <= self.parts.marks.slots() {
+        if count as usize <= self.parts.slots() {
             return Ok(());
         }
         self.parts.reach(count.saturating_add(MORE))
@@ -88,7 +88,7 @@ impl Links {
     {
         self.parts.reset();
         self.parts.forget(change);
-        self.parts.marks.few();
+        self.parts.few();
     }
 
     /// Takes a slot that goes, with all that it asked and uses. It takes no memory.

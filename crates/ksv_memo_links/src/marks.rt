@@ -106,6 +106,7 @@ impl Marks {
         ensures kept { self.new.kept ≡ slice_set self.old.kept slot false }
         ensures work { self.new.work ≡ marked_work self.old.kept self.old.work slot }
         ensures looks { self.new.looks + 2 * length self.old.work ≤ self.old.looks + 1 + 2 * length self.new.work }
+        ensures grows { self.old.looks ≤ self.new.looks }
         ensures least { IsCounted self.old → IsCounted self.new }
     {
         if self.kept.get(slot) {
@@ -125,6 +126,7 @@ impl Marks {
         ensures kept { self.new.kept ≡ self.old.kept }
         ensures work { self.new.work ≡ self.old.work }
         ensures looks { self.new.looks ≤ self.old.looks + 1 }
+        ensures grows { self.old.looks ≤ self.new.looks }
         ensures least { IsCounted self.old → IsCounted self.new }
     {
         self.work.at(i)

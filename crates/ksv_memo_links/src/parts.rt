@@ -1,5 +1,5 @@
 //! The parts of the links, and the steps of forgetting.
-ghost use Rattle.std.specs.Prelude.{◌≡◌, ℕ, ◌+◌, ◌-◌, ◌^◌, ◌/◌, ◌<◌, ◌≤◌, max, min, length, slice_set, [], ◌∷◌, ◌++◌, OnOk, OnErr, IfSome, IfNone, true, false};
+ghost use Rattle.std.specs.Prelude.{◌≡◌, ℕ, ◌+◌, ◌-◌, ◌^◌, ◌/◌, ◌<◌, ◌≤◌, max, min, length, slice_set, count_by, [], ◌∷◌, ◌++◌, OnOk, OnErr, IfSome, IfNone, true, false};
 ghost use Rattle.std.specs.List.{All};
 ghost use Rattle.std.specs.Option.{option_to_list};
 ghost use Rattle.ksv_memo_links.specs.Shelved.{row};
@@ -21,10 +21,10 @@ const PAGE: u32 = 64;
 /// What each slot asked and its users, its uses and the pages that they meet, and whether it is kept.
 #[derive(Drop)]
 pub(crate) struct Parts {
-    pub(crate) users: Board,
-    pub(crate) pages: Board,
-    pub(crate) uses: Uses,
-    pub(crate) marks: Marks,
+    users: Board,
+    pages: Board,
+    uses: Uses,
+    marks: Marks,
 }
 
 impl Parts {
@@ -63,6 +63,27 @@ impl Parts {
             .saturating_add(self.pages.looks())
             .saturating_add(self.uses.looks())
             .saturating_add(self.marks.looks())
+    }
+
+    /// How many slots are kept.
+    pub(crate) fn count(&self) -> usize
+        ensures { result ≡ count_by (λ b. b) self.now.marks.kept }
+    {
+        self.marks.count()
+    }
+
+    /// The number of slots, which isn't counted.
+    pub(crate) fn slots(&self) -> usize
+        ensures { result ≡ length self.now.marks.kept }
+    {
+        self.marks.slots()
+    }
+
+    /// There are fewer slots that wait than numbers of slots.
+    pub(crate) fn few(&self)
+        ensures { length self.now.marks.work < 2 ^ 32 }
+    {
+        self.marks.few();
     }
 
     /// Marks a slot, if a change touches one of its uses.
@@ -168,6 +189,7 @@ impl Parts {
         ensures forgets { Forgets (linked_of self.old) (linked_of self.new) change }
         ensures whole { IsWhole self.new }
         ensures near { IsNear change self.old self.new }
+        ensures grows { looks self.old ≤ looks self.new }
         ensures least { length self.new.marks.work ≤ self.new.marks.looks }
         ensures vacant { (s : ℕ) → is_kept self.old.marks.kept s ≡ false → row self.old.uses.rows s ≡ [] }
     {

@@ -60,6 +60,7 @@ impl Shelf {
     fn look(&mut self)
         ensures rows { self.new.rows ≡ self.old.rows }
         ensures looks { self.new.looks ≡ ticked self.old.looks }
+        ensures grows { self.old.looks ≤ self.new.looks }
     {
         self.looks = self.looks.saturating_add(1);
     }
@@ -77,6 +78,7 @@ impl Shelf {
         ensures result { result ≡ length (row self.old.rows r) }
         ensures rows { self.new.rows ≡ self.old.rows }
         ensures looks { self.new.looks ≡ ticked self.old.looks }
+        ensures grows { self.old.looks ≤ self.new.looks }
     {
         self.look();
         self.rows.len(r)
@@ -90,6 +92,7 @@ impl Shelf {
         ensures fits { IfSome result (λ x. i + 1 < 2 ^ 64) }
         ensures rows { self.new.rows ≡ self.old.rows }
         ensures looks { self.new.looks ≡ ticked self.old.looks }
+        ensures grows { self.old.looks ≤ self.new.looks }
     {
         self.look();
         self.rows.get(r, i)
@@ -100,6 +103,7 @@ impl Shelf {
         requires item_in { i < length (row self.old.rows r) }
         ensures rows { self.new.rows ≡ put_row self.old.rows r i pin }
         ensures looks { self.new.looks ≡ ticked self.old.looks }
+        ensures grows { self.old.looks ≤ self.new.looks }
     {
         self.look();
         self.rows.set(r, i, pin);
@@ -111,6 +115,7 @@ impl Shelf {
         ensures none { IfNone result (length (row self.old.rows r) ≡ 0) }
         ensures rows { self.new.rows ≡ pop_row self.old.rows r }
         ensures looks { self.new.looks ≡ ticked self.old.looks }
+        ensures grows { self.old.looks ≤ self.new.looks }
     {
         self.look();
         self.rows.pop(r)
@@ -122,6 +127,7 @@ impl Shelf {
         requires item_in { i < length (row self.old.rows r) }
         ensures rows { self.new.rows ≡ cut_row self.old.rows r i result }
         ensures looks { self.new.looks ≡ ticked self.old.looks }
+        ensures grows { self.old.looks ≤ self.new.looks }
     {
         self.look();
         self.rows.swap_remove(r, i)

@@ -107,6 +107,7 @@ impl Uses {
         ensures result { result ≡ list_any (is_use_touched change) (row self.old.rows slot) }
         ensures rows { self.new.rows ≡ self.old.rows }
         ensures looks { self.new.looks ≡ ticked self.old.looks }
+        ensures grows { self.old.looks ≤ self.new.looks }
     {
         self.looks = self.looks.saturating_add(1);
         is_noted_touched(change, &self.rows[slot as usize])
@@ -139,6 +140,7 @@ impl Uses {
         requires { slot < length self.old.rows }
         ensures rows { self.new.rows ≡ slice_set self.old.rows slot [] }
         ensures looks { self.new.looks ≡ ticked self.old.looks }
+        ensures grows { self.old.looks ≤ self.new.looks }
     {
         self.looks = self.looks.saturating_add(1);
         self.rows[slot as usize] = Noted::Nothing;

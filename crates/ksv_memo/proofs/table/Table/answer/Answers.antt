@@ -1,6 +1,5 @@
-use Rattle.std.proofs.Common.{◌∙◌, ap, sym, subst, refl, IfOk}
+use Rattle.std.proofs.Common.{◌∙◌, sym, subst, refl, IfOk}
 use Rattle.ksv_memo.specs.Layout.{entries_of}
-use Rattle.ksv_memo_rules.specs.Slots.{answer_at}
 use Rattle.ksv_memo.specs.Nodes.{Finds, HasNoEntry}
 use Rattle.ksv_memo.proofs.Tabling.{found, new_out, empty_out, open_out, looked-laid, looked-view, told}
 use Rattle.ksv_memo.proofs.table.Table.answer.Goals as goal
@@ -21,7 +20,7 @@ returns-clause-answer g c =
           subst (λ r. IfOk r (λ answer. Finds eq c.args.self.now.kept n answer)) (sym w.result-is)
           (told _ _
           (λ copy is. subst (λ v. Finds eq v.kept n copy) view
-          (subst (Finds eq (entries_of ps t.links) n) (sym (is ∙ ap (λ ss. answer_at ss w.in-Kept.place) w.lend.ensures ∙ one.answer)) (one.entry, one.is, refl)))
+          (subst (Finds eq (entries_of ps t.links) n) (sym (is ∙ one.answer)) (one.entry, one.is, refl)))
           w.copy_at.result w.copy_at.ensures)
       | in-New w ↦
           subst (λ r. IfOk r (λ answer. Finds eq c.args.self.now.kept n answer)) (sym w.result-is)

@@ -14,6 +14,7 @@ loop-init c = record {
   cut = cut-none (named c.args.self.now.notes) c.args.owner (let n = wide c.args.self.now.notes in let k = c.requires in omega arith);
   lists = cc;
   looks = omega arith;
+  grows = omega arith;
 }
 
 pub unlink-requires : goal.unlink-requires
@@ -34,6 +35,7 @@ loop-preserved c =
       cut = cut-more (named c.args.self.now.notes) (named c.loop.self.notes) (named c.unlink.new.self.notes) c.args.owner c.loop.invariant.cut c.unlink.ensures.named;
       lists = c.unlink.ensures.lists ∙ c.loop.invariant.lists;
       looks = let a = c.loop.invariant.looks in let b = c.unlink.ensures.looks in omega arith;
+      grows = let a = c.loop.invariant.grows in let b = c.unlink.ensures.grows in omega arith;
     }
 
 pub loop-smaller : goal.loop-smaller
@@ -54,6 +56,9 @@ returns-clause-named c =
 
 pub returns-clause-lists : goal.returns-clause-lists
 returns-clause-lists c = c.unlink.ensures.lists ∙ c.loop.invariant.lists
+
+pub returns-clause-grows : goal.returns-clause-grows
+returns-clause-grows c = let a = c.loop.invariant.grows in let b = c.unlink.ensures.grows in omega arith
 
 pub returns-clause-looks : goal.returns-clause-looks
 returns-clause-looks c = let a = c.loop.invariant.looks in let b = c.unlink.ensures.idle c.loop-test.false in omega arith

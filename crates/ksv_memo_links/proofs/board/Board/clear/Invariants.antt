@@ -9,6 +9,7 @@ invariant-loop l = record {
   cut : IsCutTo (named l.fn.self.notes) (named l.self.notes) l.owner;
   lists : length l.self.lists ≡ length l.fn.self.lists;
   looks : l.self.looks + 4 * length (row (named l.self.notes) l.owner) ≤ l.fn.self.looks + 4 * length (row (named l.fn.self.notes) l.owner);
+  grows : l.fn.self.looks ≤ l.self.looks;
 }
 
 abbrev pub decreases-loop : goal.decreases-loop

@@ -16,6 +16,7 @@ loop-item-preserved c =
       work = refl;
       looks = let l = c.item.ensures.looks in omega arith;
       least = λ h. h;
+      rises = let l = c.item.ensures.grows in omega arith;
     } in
     page-more c.args.self.now q q1 c.hit.new.self c.args.change c.args.page c.loop-item.i c.in-Some.item c.loop-item.invariant k c.in-Some.ensures.some.0 c.in-Some.ensures.some.1 c.hit.ensures
 
@@ -29,5 +30,6 @@ returns c =
       work = refl;
       looks = let l = c.item.ensures.looks in omega arith;
       least = λ h. h;
+      rises = let l = c.item.ensures.grows in omega arith;
     } in
     page-end c.args.self.now q q1 c.args.change c.args.page c.loop-item.i c.loop-item.invariant k c.in_default.ensures.none

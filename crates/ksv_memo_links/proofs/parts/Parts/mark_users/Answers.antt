@@ -19,12 +19,14 @@ loop-item-preserved c =
       work = refl;
       looks = let l = c.item.ensures.looks in omega arith;
       least = λ h. h;
+      rises = let l = c.item.ensures.grows in omega arith;
     } in
     let one : MarksOne q1 r c.in-Some.item.row = record {
       same = record { users = refl; user_lists = refl; pages = refl; page_lists = refl; uses = refl };
       kept = c.mark.ensures.kept;
       work = c.mark.ensures.work;
       least = c.mark.ensures.least;
+      rises = let l = c.mark.ensures.grows in omega arith;
     } in
     users-more c.args.self.now q q1 r c.args.slot c.loop-item.i c.in-Some.item c.loop-item.invariant k c.item.ensures.board.linked c.in-Some.ensures.some.0 c.in-Some.ensures.some.1 one (let l = c.mark.ensures.looks in omega arith)
 
@@ -38,5 +40,6 @@ returns c =
       work = refl;
       looks = let l = c.item.ensures.looks in omega arith;
       least = λ h. h;
+      rises = let l = c.item.ensures.grows in omega arith;
     } in
     users-end c.args.self.now q q1 c.args.slot c.loop-item.i c.loop-item.invariant k c.in_default.ensures.none

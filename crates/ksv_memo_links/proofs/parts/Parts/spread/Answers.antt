@@ -17,6 +17,7 @@ loop-slot-preserved c =
       work = c.at.ensures.work;
       looks = let l = c.at.ensures.looks in omega arith;
       least = c.at.ensures.least;
+      rises = let l = c.at.ensures.grows in omega arith;
     } in
     spread-more c.args.self.now q q1 c.mark_users.new.self c.loop-slot.i c.in-Some.slot c.loop-slot.invariant k c.in-Some.ensures.some.0 c.in-Some.ensures.some.1 c.mark_users.ensures
 
@@ -30,5 +31,6 @@ returns c =
       work = c.at.ensures.work;
       looks = let l = c.at.ensures.looks in omega arith;
       least = c.at.ensures.least;
+      rises = let l = c.at.ensures.grows in omega arith;
     } in
     spread-end c.args.self.now q q1 c.loop-slot.i c.loop-slot.invariant k c.in_default.ensures.none
