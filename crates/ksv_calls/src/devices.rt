@@ -1,4 +1,7 @@
 //! Writers that fail, and sessions over them.
+//!
+//! Values are by hand: the output has 21 bytes in five lines, so a writer that takes one byte at once is called 21 times
+//! to write and 5 times to flush; the third line changes the file once the replies to the first two were written, in seven calls.
 
 use ksv::{Desc, End, Failed, Memory, Sink, Std, describe, run};
 use ksv_bytes::{Buffer, Window};

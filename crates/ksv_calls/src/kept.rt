@@ -1,4 +1,7 @@
 //! What a session keeps across random lines, beside a slow program that evaluates each node from nothing.
+//!
+//! Values are from that program (`plain`): what it keeps and how many turns it counts; a reply is that of a new session
+//! over the same bytes.
 
 use crate::devices::bytes_of;
 use crate::plain::{File, Plain};

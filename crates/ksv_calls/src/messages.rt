@@ -1,4 +1,7 @@
 //! The program's messages, and the words that it takes.
+//!
+//! Values are by hand: messages and statuses as docs/REFERENCE.md lists them, under "The program"; the kinds of errors are
+//! those of `clap`, of which each has its status.
 
 use ksv::{Memory, Stop, arguments, say};
 use std::alloc::{AllocError, Global};

@@ -1,4 +1,7 @@
 //! A file of the greatest size, and a session line by line.
+//!
+//! Values are by hand: the greatest size is the limit that docs/REFERENCE.md states, and the replies are those of its
+//! first dialogue, read from three bytes; a session keeps five nodes for a second field, and takes ten turns.
 
 use crate::devices::{FIRST, accepted};
 use ksv::{Desc, End, Memory, NewFault, Session, run};

@@ -1,4 +1,7 @@
 //! Paths, integers, bytes in parts, faults and refused texts, by their public calls.
+//!
+//! Values are by hand: the names of faults as docs/REFERENCE.md lists them, the limits of paths and of integers that it
+//! states, é in UTF-8 as the bytes c3 a9, and refusals by the grammar, with the byte at which a reader stops.
 
 use ksv_expr::{
     Encoding, ExprFault, ExprFaultKind, FaultKind, Integer, Parts, Path, Step, parse, parse_type,

@@ -1,7 +1,9 @@
 //! Takes the rows of tables, and compares the result of each with the one beside it: `ksv_expr_cases TABLE..`.
 //!
-//! It prints the rows that have another result, and for each table how many rows it has. A row is a line
-//! `INPUT => WANTED`, and belongs to the heading above it, `== KIND`, which defines what the input is:
+//! It prints the rows that have another result, and for each table how many rows it has. Above its first heading a table
+//! has lines that begin with `#`, which say what it holds, and in one that begins with `# Values: ` where its values are
+//! from. A row is a line `INPUT => WANTED`, and belongs to the heading above it, `== KIND`, which defines what the input
+//! is. Between rows only blank lines may stand, and lines that begin with `#`. The kinds are:
 //!
 //! - `tree`: the text of an expression; wanted is its tree, or its refusal with the place;
 //! - `type`: the text of a type with its arguments, in the same way;
@@ -41,9 +43,11 @@ fn add_answer(
 ) -> Result<(), AllocError> {
     let (kind, told) = heading.split_once(' ').unwrap_or((heading, ""));
     match kind {
-        "tree" | "type" => add_syntax(alloc, kind == "type", input, found),
+        "tree" => add_syntax(alloc, false, input, found),
+        "type" => add_syntax(alloc, true, input, found),
         "path" => add_around(alloc, input, found),
-        _ => add_end(alloc, told, input, found),
+        "ask" => add_end(alloc, told, input, found),
+        _ => found.push_str("no such kind"),
     }
 }
 
@@ -75,35 +79,116 @@ fn is_right(
     Ok(found.as_bytes() == wanted.as_slice())
 }
 
-/// How many rows there are, and how many of them have another result.
+/// How many rows there are, and how many things are wrong.
 #[derive(Clone, Copy)]
 struct Tally {
     rows: usize,
     wrong: usize,
 }
 
-/// Takes the rows of a heading, which is in front of them, and counts them; prints the results that differ.
-fn take(rt: &HostRuntime, part: &str, tally: &mut Tally) -> io::Result<()> {
-    let (heading, lines) = part.split_once('\n').unwrap_or((part, ""));
+/// Where something stands: a table, a line of it, and the heading above.
+#[derive(Clone, Copy)]
+struct Place<'a> {
+    path: &'a str,
+    line: usize,
+    heading: &'a str,
+}
+
+impl<'a> Place<'a> {
+    /// The place this many lines below.
+    fn below(self, count: usize) -> Place<'a> {
+        Place {
+            path: self.path,
+            line: self.line.saturating_add(count),
+            heading: self.heading,
+        }
+    }
+}
+
+/// Counts and prints what is wrong with a place of a table.
+fn blame(rt: &HostRuntime, tally: &mut Tally, place: Place<'_>, what: &str) -> io::Result<()> {
+    tally.wrong = tally.wrong.saturating_add(1);
+    println!(rt; "{}: line {}: {what}", place.path, place.line)
+}
+
+/// Takes a row, and counts it; prints its result if it differs.
+fn take_row(
+    rt: &HostRuntime,
+    tally: &mut Tally,
+    place: Place<'_>,
+    row: &str,
+    wanted: &str,
+) -> io::Result<()> {
+    let mut found = String::new(rt.alloc());
+    tally.rows = tally.rows.saturating_add(1);
+    if is_right(rt.alloc(), place.heading, row, wanted, &mut found)? {
+        return Ok(());
+    }
+    blame(rt, tally, place, "another result")?;
+    println!(rt; "{}: {row} => {found}", place.heading)
+}
+
+/// Takes the lines below a heading, each of which is a row, or blank, or begins with `#`.
+fn take(rt: &HostRuntime, tally: &mut Tally, place: Place<'_>, lines: &str) -> io::Result<()> {
+    let mut place = place;
     for line in lines.split('\n') {
-        if let Some((row, wanted)) = line.split_once(" => ") {
-            let mut found = String::new(rt.alloc());
-            tally.rows = tally.rows.saturating_add(1);
-            if !is_right(rt.alloc(), heading, row, wanted, &mut found)? {
-                tally.wrong = tally.wrong.saturating_add(1);
-                println!(rt; "{heading}: {row} => {found}")?;
-            }
+        place = place.below(1);
+        if line.is_empty() || line.starts_with('#') {
+            continue;
+        }
+        match line.split_once(" => ") {
+            Some((row, wanted)) => take_row(rt, tally, place, row, wanted)?,
+            None => blame(rt, tally, place, "no ` => `")?,
         }
     }
     Ok(())
 }
 
-/// Takes the rows of a table; whether all have the wanted result. Text above the first heading has no meaning.
+/// Reads the lines above the first heading: each is blank or begins with `#`, and one says where the values are from.
+fn read_head(rt: &HostRuntime, tally: &mut Tally, path: &str, head: &str) -> io::Result<()> {
+    let mut place = Place {
+        path,
+        line: 1,
+        heading: "",
+    };
+    let mut says_source = false;
+    for line in head.split('\n') {
+        says_source |= line.starts_with("# Values: ");
+        if !line.is_empty() && !line.starts_with('#') {
+            blame(rt, tally, place, "no line that begins with `#`")?;
+        }
+        place = place.below(1);
+    }
+    if says_source {
+        return Ok(());
+    }
+    blame(
+        rt,
+        tally,
+        place,
+        "no line `# Values: ` above the first heading",
+    )
+}
+
+/// Takes the rows of a table; whether all is right with it.
 fn is_right_table(rt: &HostRuntime, path: &str) -> io::Result<bool> {
     let table = fs::read_to_string(rt, path)?;
     let mut tally = Tally { rows: 0, wrong: 0 };
-    for part in table.split("\n== ") {
-        take(rt, part, &mut tally)?;
+    let (head, parts) = table
+        .as_str()
+        .split_once("\n== ")
+        .unwrap_or((table.as_str(), ""));
+    read_head(rt, &mut tally, path, head)?;
+    let mut line = head.split('\n').count().saturating_add(1);
+    for part in parts.split("\n== ") {
+        let (heading, lines) = part.split_once('\n').unwrap_or((part, ""));
+        let place = Place {
+            path,
+            line,
+            heading,
+        };
+        take(rt, &mut tally, place, lines)?;
+        line = line.saturating_add(part.split('\n').count());
     }
     println!(rt; "{path}: {} rows, {} wrong", tally.rows, tally.wrong)?;
     Ok(tally.wrong == 0)

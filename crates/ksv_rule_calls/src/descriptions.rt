@@ -1,6 +1,8 @@
 //! What is asked of a tree of YAML, and what a description holds.
+//!
+//! Values are by hand: the tree of a text of two lines is written down beside it, and messages are those of
+//! docs/REFERENCE.md.
 
-use crate::nodes::{LIST, described};
 use ksv_schema::{DescFault, DescFaultKind};
 use ksv_yaml::{Entry, Yaml, find, read};
 use std::test::Fail;
@@ -46,12 +48,5 @@ fn a_fault_of_memory_has_a_text(rt: HostRuntime) -> Result<(), Fail> {
     let kind = DescFaultKind::NoMemory;
     let text = format!(in rt.alloc(); "{}", DescFault { line: 7, kind })?;
     assert!(rt; kind.code() == "S11" && text.as_str() == "line 7: no memory");
-    Ok(())
-}
-
-#[test]
-fn references_are_resolved(rt: HostRuntime) -> Result<(), Fail> {
-    let desc = described(rt.alloc(), LIST)?;
-    desc.references_are_resolved();
     Ok(())
 }

@@ -1,4 +1,7 @@
 //! How many looks an overwrite takes where the nodes of a described file are kept.
+//!
+//! Values are by hand: which nodes stay follows from what each reads (a list of n bytes keeps 3n + 3 nodes, and the value
+//! of an element one more); the most looks are eight times the sum that an overwrite is allowed, whose parts stand beside it.
 
 use crate::nodes::{BYTES, File, described, node_at};
 use ksv_bytes::{Buffer, Change};

@@ -1,0 +1,60 @@
+//! Runs the rows of dialogues: `ksv_rows_dialogues TABLE..`.
+//!
+//! How a table is written, and what is printed, ksv_rows explains. A row's kind is a word for how its lines are read,
+//! and then words for the bytes of a file, each hexadecimal digits, or `N*HEX` for N times these:
+//!
+//! - `file`: the lines are the input of one session;
+//! - `cut`: the same, from readers that give few bytes at once;
+//! - `inputs`: each line is the whole input of a session of its own;
+//! - `broken`: the input, from readers that fail after each number of bytes.
+#![tactic(auto)]
+
+mod reader;
+mod sessions;
+
+use crate::sessions::{Given, add_broken, add_cut, add_inputs, add_session};
+use ksv_rows::{Answers, Row, bytes_of, run_tables};
+use std::alloc::{AllocError, Global};
+use std::io;
+use std::process::ExitCode;
+
+/// The answers of this program.
+struct Kinds;
+
+impl Answers for Kinds {
+    fn answer(&self, alloc: Global, row: Row<'_>, found: &mut String) -> Result<bool, AllocError> {
+        let (word, words) = row.kind.split_once(' ').unwrap_or((row.kind, ""));
+        match bytes_of(alloc, words)? {
+            Some(file) => {
+                let given = Given {
+                    ksy: row.text,
+                    file: file.as_slice(),
+                };
+                add_dialogue(alloc, word, given, row.questions, found)
+            }
+            None => Ok(false),
+        }
+    }
+}
+
+/// Adds what sessions write, by the word for how their lines are read; whether it is one.
+fn add_dialogue(
+    alloc: Global,
+    word: &str,
+    given: Given<'_>,
+    lines: &str,
+    found: &mut String,
+) -> Result<bool, AllocError> {
+    match word {
+        "file" => add_session(alloc, given, lines, found)?,
+        "cut" => add_cut(alloc, given, lines, found)?,
+        "inputs" => add_inputs(alloc, given, lines, found)?,
+        "broken" => add_broken(alloc, given, lines, found)?,
+        _ => return Ok(false),
+    }
+    Ok(true)
+}
+
+fn main(rt: HostRuntime) -> io::Result<ExitCode> {
+    run_tables(&rt, &Kinds)
+}
