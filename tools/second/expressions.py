@@ -4,6 +4,7 @@ The trees are ("int", n), ("text", s), ("bool", b), ("name", n), ("special", wor
 ("binary", sign, x, y), ("and", x, y), ("or", x, y), ("choice", c, x, y), ("field", x, name), ("call", x, name, arguments),
 ("cast", x, names) and ("item", x, i)."""
 
+import functools
 import re
 
 MESSAGES = {
@@ -41,6 +42,7 @@ class ExpressionFault(Exception):
         self.code, self.place = code, place
 
 
+@functools.lru_cache(4096)
 def parse(text):
     """The tree of an expression, of text or bytes."""
     parser = Parser(text)
@@ -49,6 +51,7 @@ def parse(text):
     return tree
 
 
+@functools.lru_cache(4096)
 def parse_type(text):
     """The names of a type and the trees of its arguments, None where there are no parentheses."""
     parser = Parser(text)

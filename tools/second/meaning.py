@@ -58,9 +58,9 @@ class Path:
         return isinstance(self.step, int)
 
     def holder(self):
-        """The path without its last name and the index behind it; None for the root."""
+        """The path without its last name and the index behind it; None where there is no such name."""
         path = self.parent if self.is_element() else self
-        return None if path is None else path.parent
+        return None if path.is_element() else path.parent
 
 
 class Bytes:

@@ -8,15 +8,16 @@ from meaning import (LONGEST_PATH, MOST_ELEMENTS, Bytes, Context, Fault, ListVal
 
 HEAD, VALUE, END, REST = range(4)
 KINDS = {"head": HEAD, "value": VALUE, "end": END, "rest": REST}
+NEW, OPEN, DONE = range(3)
 
 
 class Node:
-    """A node with what its evaluation found. The state is "new", "open" or "done"."""
+    """A node with what its evaluation found."""
 
     __slots__ = ("kind", "path", "state", "answer", "fault", "asks", "uses")
 
     def __init__(self, kind, path):
-        self.kind, self.path, self.state = kind, path, "new"
+        self.kind, self.path, self.state = kind, path, NEW
         self.answer = self.fault = None
         self.asks = self.uses = ()
 
@@ -42,14 +43,6 @@ class End:
         self.place, self.last = place, last
 
 
-class Circle(Exception):
-    """A node was asked while it was open."""
-
-    def __init__(self, path):
-        super().__init__()
-        self.path = path
-
-
 class Evaluation:
     """Evaluates nodes of a description on bytes that don't change while it lives. Completed nodes are remembered; `made` is
     the list of those that were completed, in this order."""
@@ -57,6 +50,7 @@ class Evaluation:
     def __init__(self, description, data):
         self.description, self.data, self.size = description, data, len(data)
         self.made = []
+        self.rules = [self.head, self.value, self.end, self.rest]
 
     def node(self, kind, path):
         """The node of a kind and a path: one object for each."""
@@ -68,63 +62,53 @@ class Evaluation:
         return found
 
     def ask(self, kind, path):
-        """The answer of a node, evaluated from nothing: rules are run on a stack of their own, each until it asks."""
+        """The answer of a node, evaluated from nothing; a circle is a fault at the path of the node that was open."""
         node = self.node(KINDS[kind], path)
-        if node.state == "new":
-            try:
-                self.run(node)
-            except Circle as circle:
-                raise Fault("circle", circle.path) from None
+        if node.state == NEW:
+            self.run(node)
         if node.fault is not None:
             raise node.fault
         return node.answer
 
-    def run(self, first):
-        """Completes a node and all that it needs; a circle leaves the open ones new again."""
-        stack, reply = [(first, self.begin(first))], None
-        while stack:
-            node, rule = stack[-1]
-            wanted = None
+    def run(self, node):
+        """Completes a node and all that it needs. Rules are run on a stack of their own, each until it asks."""
+        made, rules = self.made, self.rules
+        node.state, rule, reply = OPEN, rules[node.kind](node, node.path), None
+        stack = []
+        while True:
             try:
                 wanted = rule.send(reply)
             except StopIteration as done:
                 node.answer = done.value
             except Fault as fault:
                 node.fault = fault.with_traceback(None)
-            if wanted is not None:
-                node.asks.append(wanted)
-                if wanted.state == "new":
-                    stack.append((wanted, self.begin(wanted)))
-                    reply = None
+            else:
+                node.asks += (wanted,)
+                if wanted.state == NEW:
+                    stack.append((node, rule))
+                    node, rule, reply = wanted, rules[wanted.kind](wanted, wanted.path), None
+                    node.state = OPEN
                     continue
-                if wanted.state == "open":
+                if wanted.state == OPEN:
+                    stack.append((node, rule))
                     for one, _ in stack:
-                        one.state = "new"
-                    raise Circle(wanted.path)
+                        one.state, one.asks, one.uses = NEW, (), ()
+                    raise Fault("circle", wanted.path)
+                reply = wanted.answer
                 if wanted.fault is None:
-                    reply = wanted.answer
                     continue
                 node.fault = wanted.fault
-            stack.pop()
-            self.complete(node)
+            node.state = DONE
+            made.append(node)
             while stack and node.fault is not None:
-                user, _ = stack.pop()
-                user.fault = node.fault
-                node = user
-                self.complete(node)
+                fault = node.fault
+                node, _ = stack.pop()
+                node.state, node.fault = DONE, fault
+                made.append(node)
+            if not stack:
+                return
             reply = node.answer
-
-    def begin(self, node):
-        """Opens a node; its rule."""
-        node.state, node.asks, node.uses, node.fault = "open", [], [], None
-        return RULES[node.kind](self, node, node.path)
-
-    def complete(self, node):
-        """A node has its answer."""
-        node.state = "done"
-        node.asks = tuple(node.asks)
-        node.uses = tuple(node.uses) if node.uses else ()
-        self.made.append(node)
+            node, rule = stack.pop()
 
     # Readings, with what they use.
 
@@ -140,15 +124,15 @@ class Evaluation:
         if stream.end is not None and stream.end < place:
             raise Fault("end-of-bytes", node.path)
         if place > self.size:
-            node.uses.append(("size",))
+            node.uses += (("size",),)
             raise Fault("end-of-bytes", node.path)
-        node.uses.append(("reach", place))
+        node.uses += (("reach", place),)
 
     def finish(self, node, stream):
         """The stream's end."""
         if stream.end is not None:
             return stream.end
-        node.uses.append(("size",))
+        node.uses += (("size",),)
         return self.size
 
     def is_done(self, node, stream, place):
@@ -156,9 +140,9 @@ class Evaluation:
         if stream.end is not None:
             return place >= stream.end
         if place < self.size:
-            node.uses.append(("reach", place + 1))
+            node.uses += (("reach", place + 1),)
             return False
-        node.uses.append(("size",))
+        node.uses += (("size",),)
         return True
 
     def peek(self, node, start, end):
@@ -166,11 +150,11 @@ class Evaluation:
         if start == end:
             return b""
         if end > self.size or start > end:
-            node.uses.append(("size",))
+            node.uses += (("size",),)
             if start < self.size:
-                node.uses.append(("bytes", start, self.size))
+                node.uses += (("bytes", start, self.size),)
             raise Fault("end-of-bytes", node.path)
-        node.uses.append(("bytes", start, end))
+        node.uses += (("bytes", start, end),)
         return self.data[start:end]
 
     def evaluate(self, node, tree, context):
@@ -186,7 +170,7 @@ class Evaluation:
             elif wanted[0] == "bytes":
                 reply = self.peek(node, wanted[1], wanted[2])
             elif wanted[0] == "size":
-                node.uses.append(("size",))
+                node.uses += (("size",),)
                 reply = self.size
             else:
                 reply = yield self.node(KINDS[wanted[0]], wanted[1])
@@ -248,7 +232,11 @@ class Evaluation:
             context.place = start
         head.start, head.stream = start, stream
         if attribute.repeat is None:
-            return (yield from self.shape(node, head, context))
+            if attribute.switch is None and attribute.size is None:
+                self.placed(node, head, attribute.case, None)
+            else:
+                yield from self.shape(node, head, context)
+            return head
         head.form = "list"
         if attribute.repeat == "expr":
             head.count = yield from self.count_from(node, attribute.count, context)
@@ -277,30 +265,39 @@ class Evaluation:
             start = before.place
         head = Head("calc", whole.attribute, whole.home, whole.home_stream, start)
         head.stream = whole.stream
-        return (yield from self.shape(node, head, Context(whole.home, whole.home_stream, path, start, index)))
+        attribute = whole.attribute
+        if attribute.switch is None and attribute.size is None:
+            self.placed(node, head, attribute.case, None)
+        else:
+            yield from self.shape(node, head, Context(whole.home, whole.home_stream, path, start, index))
+        return head
 
     def shape(self, node, head, context):
-        """The head of one attribute or element that begins at the head's start, in its stream: the switch, then the size."""
-        attribute, start, stream = head.attribute, head.start, head.stream
-        case = attribute.case
+        """What the head of one attribute or element asks: the switch, then the size."""
+        attribute, case, size = head.attribute, head.attribute.case, None
         if attribute.switch is not None:
             case = yield from self.chosen(node, attribute.switch, context)
-        head.case = case
+        if attribute.size is not None:
+            size = yield from self.count_from(node, attribute.size, context)
+        self.placed(node, head, case, size)
+
+    def placed(self, node, head, case, size):
+        """Completes the head of one attribute or element that begins at the head's start, in its stream."""
+        attribute, start, stream = head.attribute, head.start, head.stream
         kind = case.kind if case else None
-        head.form, head.first = "leaf", start
+        head.form, head.case, head.first = "leaf", case, start
         if kind == "integer" or attribute.contents is not None:
             length = case.size if kind == "integer" else len(attribute.contents)
             self.reach(node, stream, start + length)
             head.last = head.end = start + length
-            return head
+            return
         if kind == "user":
             head.form, head.type = "object", case.type
-        if attribute.size is not None:
-            end = start + (yield from self.count_from(node, attribute.size, context))
-            self.reach(node, stream, end)
-            head.last = head.end = end
+        if size is not None:
+            self.reach(node, stream, start + size)
+            head.last = head.end = start + size
             if kind == "user":
-                head.stream = Stream(start, end)
+                head.stream = Stream(start, start + size)
         elif kind == "user":
             head.end = "fields"
             if attribute.size_eos:
@@ -311,7 +308,6 @@ class Evaluation:
             self.terminated(node, head)
         else:
             head.form = "gone"
-        return head
 
     def terminator(self, head):
         """The byte that ends the value, or None."""
@@ -323,7 +319,7 @@ class Evaluation:
         bound = self.size if stream.end is None else min(stream.end, self.size)
         found = self.data.find(self.terminator(head), start, max(start, bound))
         if found >= 0:
-            node.uses.append(("bytes", start, found + 1))
+            node.uses += (("bytes", start, found + 1),)
             head.last = found + 1 if attribute.include else found
             head.end = found + 1 if attribute.consume else found
             return
@@ -447,6 +443,3 @@ class Evaluation:
         if path.step + 1 == MOST_ELEMENTS:
             raise Fault("too-many", path)
         return (yield self.node(REST, path.parent.child(path.step + 1)))
-
-
-RULES = [Evaluation.head, Evaluation.value, Evaluation.end, Evaluation.rest]

@@ -1,14 +1,17 @@
 """The tables of tests: their rows are read, and each wanted reply is compared with the own one."""
 
+import gc
 import glob
 import os
+import pickle
 import re
 
-import expressions
+import expression_tables
 import yaml_reader
 from session import Session, describe, message, run
 
 ESCAPED = re.compile(rb"\\(x[0-9a-fA-F]{2}|.)", re.S)
+MUCH = 20_000  # bytes of a file or description whose row is judged apart
 LETTERS = {b"n": b"\n", b"r": b"\r", b"t": b"\t", b"\\": b"\\"}
 
 
@@ -28,6 +31,14 @@ class Result:
             self.alike += 1
         else:
             self.differences.append((line, wanted, own))
+
+    def add(self, other):
+        """What was found of one row apart."""
+        self.replies += other.replies
+        self.alike += other.alike
+        self.differences += other.differences
+        for what, count in other.unjudged.items():
+            self.unjudged[what] = self.unjudged.get(what, 0) + count
 
     def cannot(self, what, replies=1):
         """Replies of a kind that isn't judged."""
@@ -85,8 +96,9 @@ def expanded(lines):
 
 
 def text_of(row):
-    """The text of a row's description."""
-    return "".join(line + "\n" for line in expanded(row.description)).encode("utf-8")
+    """The text of a row's description. Where it is only loaded, the line end before the kind line isn't a part of it."""
+    lines = expanded(row.description)
+    return ("\n".join(lines) if row.kind == "load" else "".join(line + "\n" for line in lines)).encode("utf-8")
 
 
 def bytes_of(words):
@@ -239,6 +251,32 @@ JUDGES = {
 }
 
 
+def is_large(row):
+    """Whether a row makes many objects."""
+    return max(len(bytes_of(row.words)) if row.kind == "file" else 0, sum(map(len, expanded(row.description)))) > MUCH
+
+
+def judge_apart(result, row):
+    """Judges a large row in a process of its own, which ends without taking its objects apart."""
+    reader, writer = os.pipe()
+    child = os.fork()
+    if child == 0:
+        try:
+            own = Result(result.name)
+            JUDGES[row.kind](own, row)
+            with os.fdopen(writer, "wb") as out:
+                pickle.dump(own, out)
+            os._exit(0)
+        finally:
+            os._exit(1)
+    os.close(writer)
+    with os.fdopen(reader, "rb") as found:
+        data = found.read()
+    if os.waitpid(child, 0)[1] != 0:
+        raise RuntimeError(f"the row {row.title} of {result.name} can't be judged")
+    result.add(pickle.loads(data))
+
+
 def judge_table(path, root):
     """All rows of one table."""
     result = Result(os.path.relpath(path, root))
@@ -246,13 +284,19 @@ def judge_table(path, root):
         lines = table.read().split("\n")
     if lines[-1] == "":
         lines.pop()
+    if not any(line.startswith("-- ") for line in lines):
+        expression_tables.judge(result, lines)
+        return result
     for row in rows_of(lines):
         result.rows += 1
         judge = JUDGES.get(row.kind)
         if judge is None:
             result.cannot(f"kind {row.kind}", sum(len(wanted) for _, _, wanted in row.questions))
+        elif is_large(row):
+            judge_apart(result, row)
         else:
             judge(result, row)
+    gc.collect()
     return result
 
 
