@@ -1,0 +1,321 @@
+"""The tables of tests: their rows are read, and each wanted reply is compared with the own one."""
+
+import gc
+import glob
+import os
+import pickle
+import re
+
+import expression_tables
+import yaml_reader
+from session import Session, describe, message, run
+
+ESCAPED = re.compile(rb"\\(x[0-9a-fA-F]{2}|.)", re.S)
+MUCH = 20_000  # bytes of a file or description whose row is judged apart
+LETTERS = {b"n": b"\n", b"r": b"\r", b"t": b"\t", b"\\": b"\\"}
+
+
+class Result:
+    """What was found of one table."""
+
+    def __init__(self, name):
+        self.name = name
+        self.rows = self.replies = self.alike = 0
+        self.unjudged = {}
+        self.differences = []
+
+    def compare(self, line, wanted, own):
+        """One wanted reply and the own one."""
+        self.replies += 1
+        if wanted == own:
+            self.alike += 1
+        else:
+            self.differences.append((line, wanted, own))
+
+    def add(self, other):
+        """What was found of one row apart."""
+        self.replies += other.replies
+        self.alike += other.alike
+        self.differences += other.differences
+        for what, count in other.unjudged.items():
+            self.unjudged[what] = self.unjudged.get(what, 0) + count
+
+    def cannot(self, what, replies=1):
+        """Replies of a kind that isn't judged."""
+        self.replies += replies
+        self.unjudged[what] = self.unjudged.get(what, 0) + replies
+
+
+class Row:
+    """A row: its title, a description, a kind with its words, and questions with wanted replies: (line, question, replies),
+    a reply being (line, text). What stands before the first question has None as its question."""
+
+    def __init__(self, title):
+        self.title, self.description, self.kind, self.words, self.questions = title, [], None, "", []
+
+
+def rows_of(lines):
+    """The rows of a table with kind lines."""
+    row, rows = None, []
+    for number, line in enumerate(lines, 1):
+        if line.startswith("== "):
+            row = Row(line[3:])
+            rows.append(row)
+        elif row is None:
+            continue
+        elif row.kind is None:
+            if line.startswith("-- "):
+                row.kind, _, row.words = line[3:].partition(" ")
+            else:
+                row.description.append(line)
+        elif line.startswith("> ") or line == ">":
+            if not row.questions:
+                row.questions.append((number, None, []))
+            row.questions[-1][2].append((number, line[2:]))
+        else:
+            row.questions.append((number, line, []))
+    return rows
+
+
+def expanded(lines):
+    """The lines of a shortened description: `*N LINE` is N lines, and those between `**N` and `**` stand there N times."""
+    out, block = [], None
+    for line in lines:
+        many = re.match(r"\*\*(\d+)$", line)
+        one = re.match(r"\*(\d+) (.*)", line)
+        if many:
+            block = int(many[1]), []
+        elif line == "**" and block:
+            count, inner = block
+            out += [each.replace("#", str(copy)) for copy in range(count) for each in inner]
+            block = None
+        else:
+            taken = [one[2].replace("#", str(copy)) for copy in range(int(one[1]))] if one else [line]
+            (block[1] if block else out).extend(taken)
+    return out
+
+
+def text_of(row):
+    """The text of a row's description. Where it is only loaded, the line end before the kind line isn't a part of it."""
+    lines = expanded(row.description)
+    return ("\n".join(lines) if row.kind == "load" else "".join(line + "\n" for line in lines)).encode("utf-8")
+
+
+def bytes_of(words):
+    """Bytes written in hex, `N*HEX` being N times the same."""
+    out = bytearray()
+    for word in words.split():
+        count, star, digits = word.rpartition("*")
+        out += bytes.fromhex(digits) * (int(count) if star else 1)
+    return bytes(out)
+
+
+def unescaped(text):
+    """The bytes of a text with escapes."""
+    def letter(found):
+        sign = found[1]
+        return bytes([int(sign[1:], 16)]) if sign[:1] == b"x" and len(sign) == 3 else LETTERS.get(sign, found[0])
+
+    return ESCAPED.sub(letter, text.encode("utf-8"))
+
+
+def quoted(text):
+    """A text in double quotes, with escapes for what can't be printed."""
+    short = {"\0": "\\0", "\t": "\\t", "\n": "\\n", "\r": "\\r", '"': '\\"', "'": "\\'", "\\": "\\\\"}
+    out = []
+    for letter in text:
+        if letter in short:
+            out.append(short[letter])
+        elif letter.isprintable() or letter == " ":
+            out.append(letter)
+        elif ord(letter) < 128:
+            out.append(f"\\x{ord(letter):02x}")
+        else:
+            out.append(f"\\u{{{ord(letter):x}}}")
+    return '"' + "".join(out) + '"'
+
+
+def tree_text(node):
+    """A tree of YAML, each node and key behind its line."""
+    if isinstance(node, yaml_reader.Text):
+        return f"{node.line} {'quoted ' if node.quoted else ''}{quoted(node.text)}"
+    if isinstance(node, yaml_reader.List):
+        return f"{node.line} [{''.join(tree_text(item) + ', ' for item in node.items)}]"
+    entries = "".join(f"{line} {key}: {tree_text(inner)}, " for line, key, inner in node.entries)
+    return f"{node.line} {{{entries}}}"
+
+
+def tree_reply(data, shape=tree_text):
+    """The tree that a text spells, or its refusal."""
+    try:
+        return shape(yaml_reader.read(data))
+    except yaml_reader.YamlFault as fault:
+        return f"{fault.kind} line {fault.line}: {yaml_reader.MESSAGES[fault.kind]}"
+
+
+def compare_lines(result, questions, replies):
+    """The wanted replies of all questions in order, and the own ones."""
+    wanted = [reply for _, _, some in questions for reply in some]
+    for number in range(max(len(wanted), len(replies))):
+        line, text = wanted[number] if number < len(wanted) else (wanted[-1][0] if wanted else 0, None)
+        result.compare(line, text, replies[number] if number < len(replies) else None)
+
+
+def judge_file(result, row):
+    """A dialogue."""
+    found, refusal = describe(text_of(row))
+    if refusal is not None:
+        compare_lines(result, row.questions, [message(refusal)])
+        return
+    session = Session(found, bytes_of(row.words))
+    for line, question, wanted in row.questions:
+        own = None if session.ended or question is None else session.line(unescaped(question))
+        if len(wanted) == 1:
+            result.compare(wanted[0][0], wanted[0][1], own)
+        elif wanted or own is not None:
+            result.compare(line, [text for _, text in wanted] or None, own)
+    complaints(result, row, session)
+
+
+def complaints(result, row, session):
+    """What came out otherwise from nothing although it was kept."""
+    for complaint in session.complaints:
+        result.differences.append((row.title, "kept", complaint))
+
+
+def judge_cut(result, row):
+    """A dialogue, and how it ends."""
+    found, refusal = describe(text_of(row))
+    if refusal is not None:
+        compare_lines(result, row.questions, [message(refusal)])
+        return
+    session = Session(found, bytes_of(row.words))
+    lines = b"".join(unescaped(question) + b"\n" for _, question, _ in row.questions if question is not None)
+    replies, end = run(session, lines)
+    compare_lines(result, row.questions, [*replies, f"ends by {end}"])
+    complaints(result, row, session)
+
+
+def judge_inputs(result, row):
+    """Each line is a whole input."""
+    for _, question, wanted in row.questions:
+        session = Session(describe(text_of(row))[0], bytes_of(row.words))
+        compare_lines(result, [(0, question, wanted)], run(session, unescaped(question))[0])
+
+
+def judge_broken(result, row):
+    """A reader that fails after each number of bytes: the whole lines before it are answered."""
+    lines = b"".join(unescaped(question) + b"\n" for _, question, _ in row.questions if question is not None)
+    for line, wanted in [reply for _, _, some in row.questions for reply in some]:
+        count = int(re.match(r"after (\d+):", wanted)[1])
+        session = Session(describe(text_of(row))[0], bytes_of(row.words))
+        replies, end = run(session, lines[:lines.rfind(b"\n", 0, count) + 1])
+        ends = "Quit" if end == "Quit" else "ReadFailed"
+        result.compare(line, wanted, f"after {count}: {len(replies)} lines of the output, ends by {ends}")
+
+
+def judge_load(result, row):
+    """Whether a description is accepted; further questions are those of `readers`."""
+    _, refusal = describe(text_of(row))
+    own = "ok" if refusal is None else "{1} line {0}: {2}".format(*refusal)
+    for line, question, wanted in row.questions:
+        for number, text in wanted:
+            if question is None:
+                result.compare(number, text, own)
+            else:
+                result.cannot(f"load: {question.split(' ')[0].split(':')[0]}")
+
+
+def judge_trees(result, row):
+    """Texts with their trees."""
+    for line, question, wanted in row.questions:
+        word, _, text = question.partition(" ")
+        for number, reply in wanted:
+            if word == "read":
+                result.compare(number, reply, tree_reply(unescaped(text)))
+            elif word in ("once", "once:hex"):
+                data = bytes_of(text) if word == "once:hex" else unescaped(text)
+                result.compare(number, reply, tree_reply(data, lambda tree: "a tree"))
+            else:
+                result.cannot(f"trees: {word}")
+
+
+def judge_tree(result, row):
+    """A description as a tree."""
+    compare_lines(result, row.questions, [tree_reply(text_of(row))])
+
+
+JUDGES = {
+    "file": judge_file, "cut": judge_cut, "inputs": judge_inputs, "broken": judge_broken, "load": judge_load,
+    "trees": judge_trees, "tree": judge_tree,
+}
+
+
+def is_large(row):
+    """Whether a row makes many objects."""
+    return max(len(bytes_of(row.words)) if row.kind == "file" else 0, sum(map(len, expanded(row.description)))) > MUCH
+
+
+def judge_apart(result, row):
+    """Judges a large row in a process of its own, which ends without taking its objects apart."""
+    reader, writer = os.pipe()
+    child = os.fork()
+    if child == 0:
+        try:
+            own = Result(result.name)
+            JUDGES[row.kind](own, row)
+            with os.fdopen(writer, "wb") as out:
+                pickle.dump(own, out)
+            os._exit(0)
+        finally:
+            os._exit(1)
+    os.close(writer)
+    with os.fdopen(reader, "rb") as found:
+        data = found.read()
+    if os.waitpid(child, 0)[1] != 0:
+        raise RuntimeError(f"the row {row.title} of {result.name} can't be judged")
+    result.add(pickle.loads(data))
+
+
+def judge_table(path, root):
+    """All rows of one table."""
+    result = Result(os.path.relpath(path, root))
+    with open(path, encoding="utf-8", newline="\n") as table:
+        lines = table.read().split("\n")
+    if lines[-1] == "":
+        lines.pop()
+    if not any(line.startswith("-- ") for line in lines):
+        expression_tables.judge(result, lines)
+        return result
+    for row in rows_of(lines):
+        result.rows += 1
+        judge = JUDGES.get(row.kind)
+        if judge is None:
+            result.cannot(f"kind {row.kind}", sum(len(wanted) for _, _, wanted in row.questions))
+        elif is_large(row):
+            judge_apart(result, row)
+        else:
+            judge(result, row)
+    gc.collect()
+    return result
+
+
+def judge_example(path, root):
+    """An example: a description, a file, commands and replies."""
+    result = Result(os.path.relpath(path, root))
+    result.rows = 1
+    base = path[:-len(".ksy")]
+    data = {}
+    for ending in ("ksy", "bin", "cmd", "out"):
+        with open(f"{base}.{ending}", "rb") as part:
+            data[ending] = part.read()
+    found, refusal = describe(data["ksy"])
+    replies = [message(refusal)] if refusal else run(Session(found, data["bin"]), data["cmd"])[0]
+    wanted = data["out"].decode("utf-8").split("\n")[:-1]
+    compare_lines(result, [(0, None, list(enumerate(wanted, 1)))], replies)
+    return result
+
+
+def all_paths(root):
+    """The tables and the examples of a repository."""
+    return sorted(glob.glob(f"{root}/crates/*/data/*.txt")), sorted(glob.glob(f"{root}/examples/*.ksy"))
