@@ -1,11 +1,11 @@
 //! What a session reads from and writes to.
-ghost use Rattle.std.specs.Prelude.{◌≡◌, ◌≤◌, ◌<◌, ◌++◌, ◌||◌, List, ℕ, Bool, [], length, take, IfOk, OnErr, OnOk, IsTrue, is_err};
+ghost use Rattle.std.specs.Prelude.{◌≡◌, ◌≤◌, ◌<◌, ◌++◌, List, ℕ, Bool, false, [], length, take, IfOk, OnErr, OnOk, IsTrue, is_err};
 
 /// A device failed to do what it was asked.
 #[derive(Clone, Copy)]
 pub struct Failed;
 
-/// Where bytes come from.
+/// Where bytes come from. Nobody reads from a source again once a read has failed.
 pub trait Source {
     // Whether contracts know its bytes, those that it has left, and whether a call has failed.
     ghost tells: { Bool };
@@ -17,14 +17,15 @@ pub trait Source {
     /// Fills the front of the buffer and returns how many bytes it wrote there: 0 only at the end, or if the buffer
     /// has no room. A call that fails takes no bytes.
     fn read(&mut self, buf: &mut [u8]) -> Result<usize, Failed>
+        requires { failed self.old ≡ false }
         ensures within { IfOk result (λ n. n ≤ length buf.new) }
         ensures given { IsTrue tells → IfOk result (λ n. bytes self.old ≡ take n buf.new ++ bytes self.new) }
         ensures end { IsTrue tells → result ≡ Ok 0 → 0 < length buf.old → bytes self.new ≡ [] }
         ensures kept { IsTrue tells → OnErr result (bytes self.new ≡ bytes self.old) }
-        ensures fault { failed self.new ≡ (failed self.old || is_err result) };
+        ensures fault { failed self.new ≡ is_err result };
 }
 
-/// Where bytes go.
+/// Where bytes go. Nobody writes to a sink or flushes it again once a call has failed.
 pub trait Sink {
     // Whether contracts know its bytes, those that it has taken, and whether a call has failed.
     ghost tells: { Bool };
@@ -36,23 +37,26 @@ pub trait Sink {
     /// Takes bytes from the front of the buffer and returns how many: 0 only if the buffer is empty. A call that
     /// fails takes no bytes.
     fn write(&mut self, buf: &[u8]) -> Result<usize, Failed>
+        requires { failed self.old ≡ false }
         ensures within { IfOk result (λ n. n ≤ length buf.now) }
         ensures some { IfOk result (λ n. 0 < length buf.now → 0 < n) }
         ensures taken { IsTrue tells → IfOk result (λ n. bytes self.new ≡ bytes self.old ++ take n buf.now) }
         ensures kept { IsTrue tells → OnErr result (bytes self.new ≡ bytes self.old) }
-        ensures fault { failed self.new ≡ (failed self.old || is_err result) };
+        ensures fault { failed self.new ≡ is_err result };
 
     /// Passes on what it has taken.
     fn flush(&mut self) -> Result<(), Failed>
+        requires { failed self.old ≡ false }
         ensures kept { IsTrue tells → bytes self.new ≡ bytes self.old }
-        ensures fault { failed self.new ≡ (failed self.old || is_err result) };
+        ensures fault { failed self.new ≡ is_err result };
 }
 
 /// Writes all of a text, in as many writes as it takes.
 pub(crate) fn write_all<W: Sink>(writer: &mut W, text: &[u8]) -> Result<(), Failed>
+    requires { W.failed writer.old ≡ false }
     ensures ok { IsTrue W.tells → OnOk result (W.bytes writer.new ≡ W.bytes writer.old ++ text.now) }
     ensures err { IsTrue W.tells → OnErr result ((n : ℕ) × (W.bytes writer.new ≡ W.bytes writer.old ++ take n text.now)) }
-    ensures fault { W.failed writer.new ≡ (W.failed writer.old || is_err result) }
+    ensures fault { W.failed writer.new ≡ is_err result }
 {
     let mut done = 0;
     while done < text.len() {
@@ -63,9 +67,10 @@ pub(crate) fn write_all<W: Sink>(writer: &mut W, text: &[u8]) -> Result<(), Fail
 
 /// Writes all of a text, and flushes.
 pub fn send<W: Sink>(writer: &mut W, text: &[u8]) -> Result<(), Failed>
+    requires { W.failed writer.old ≡ false }
     ensures ok { IsTrue W.tells → OnOk result (W.bytes writer.new ≡ W.bytes writer.old ++ text.now) }
     ensures err { IsTrue W.tells → OnErr result ((n : ℕ) × (W.bytes writer.new ≡ W.bytes writer.old ++ take n text.now)) }
-    ensures fault { W.failed writer.new ≡ (W.failed writer.old || is_err result) }
+    ensures fault { W.failed writer.new ≡ is_err result }
 {
     write_all(writer, text)?;
     writer.flush()

@@ -1,5 +1,5 @@
 //! Why the program stops before a session, or after it, and its message.
-ghost use Rattle.std.specs.Prelude.{◌≡◌, ◌++◌, ◌||◌, IsTrue, OnOk, codes, decimal, is_err, map};
+ghost use Rattle.std.specs.Prelude.{◌≡◌, ◌++◌, false, IsTrue, OnOk, codes, decimal, is_err, map};
 ghost use Rattle.ksv_lines.specs.Messages.{message, place_text, status_of};
 
 use crate::device::{Failed, Sink, write_all};
@@ -49,8 +49,9 @@ impl Stop {
 
 /// Writes three texts one after the other.
 fn write_three<W: Sink>(first: &str, second: &str, third: &str, sink: &mut W) -> Result<(), Failed>
+    requires { W.failed sink.old ≡ false }
     ensures ok { IsTrue W.tells → OnOk result (W.bytes sink.new ≡ W.bytes sink.old ++ (first.now ++ second.now ++ third.now)) }
-    ensures fault { W.failed sink.new ≡ (W.failed sink.old || is_err result) }
+    ensures fault { W.failed sink.new ≡ is_err result }
 {
     write_all(sink, first.as_bytes())?;
     write_all(sink, second.as_bytes())?;
@@ -59,8 +60,9 @@ fn write_three<W: Sink>(first: &str, second: &str, third: &str, sink: &mut W) ->
 
 /// Writes what ends the message of a refused description: the place in an expression, if there is one.
 fn write_place<W: Sink>(place: Option<u32>, sink: &mut W) -> Result<(), Failed>
+    requires { W.failed sink.old ≡ false }
     ensures ok { IsTrue W.tells → OnOk result (W.bytes sink.new ≡ W.bytes sink.old ++ place_text place) }
-    ensures fault { W.failed sink.new ≡ (W.failed sink.old || is_err result) }
+    ensures fault { W.failed sink.new ≡ is_err result }
 {
     match place {
         Some(place) => write_three(" at ", Digits::new().format(place), "\n", sink),
@@ -77,8 +79,9 @@ fn say_line<W: Sink>(
     place: Option<u32>,
     sink: &mut W,
 ) -> Result<(), Failed>
+    requires { W.failed sink.old ≡ false }
     ensures ok { IsTrue W.tells → OnOk result (W.bytes sink.new ≡ W.bytes sink.old ++ (codes "ksv: " ++ ksy.now ++ codes ": line " ++ (decimal line ++ codes ": " ++ code.now) ++ codes " " ++ text.now ++ place_text place)) }
-    ensures fault { W.failed sink.new ≡ (W.failed sink.old || is_err result) }
+    ensures fault { W.failed sink.new ≡ is_err result }
 {
     write_three("ksv: ", ksy, ": line ", sink)?;
     write_three(Digits::new().format(line), ": ", code, sink)?;
@@ -90,8 +93,9 @@ fn say_line<W: Sink>(
 /// Writes the message for a stop, one line. The names are those that the words gave to the file, to its description
 /// and to the file for the bytes.
 pub fn say<W: Sink>(stop: &Stop, names: [&str; 3], sink: &mut W) -> Result<(), Failed>
+    requires { W.failed sink.old ≡ false }
     ensures ok { IsTrue W.tells → OnOk result (W.bytes sink.new ≡ W.bytes sink.old ++ message (map (λ name. name.now) names.entry) stop.now) }
-    ensures fault { W.failed sink.new ≡ (W.failed sink.old || is_err result) }
+    ensures fault { W.failed sink.new ≡ is_err result }
 {
     let file = names[0];
     let ksy = names[1];

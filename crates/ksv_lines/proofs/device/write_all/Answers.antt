@@ -1,7 +1,6 @@
 use Rattle.std.proofs.Common.{◌≡◌, ◌-◌, ◌++◌, List, ℕ, length, take, drop, sym, ◌∙◌, ap, arith, length-drop, append_assoc, ◌+◌}
 use Rattle.std.proofs.lemmas.List.{take_all}
 use Rattle.std.proofs.Math.Seq.{take-add}
-use Rattle.std.proofs.Math.Bool.{or-false}
 use Rattle.ksv_lines.proofs.device.write_all.Goals as goal
 
 -- all that is left of a text
@@ -20,5 +19,5 @@ loop-done-preserved g c =
     let e = c.in_ok-done.ensures in (
       omega (arith, e.within, so_far.0, ap length (rest_is c.args.text.now c.loop-done.done), length-drop c.loop-done.done c.args.text.now),
       (λ tells. more_written c.args.text.now _ _ _ c.loop-done.done c.in_ok-done.field-0 (so_far.1 tells) (e.taken tells)),
-      e.fault ∙ or-false _ ∙ so_far.2,
+      e.fault,
     )
