@@ -5,7 +5,8 @@
 
 use ksv::{Desc, End, Failed, Memory, Sink, Std, describe, run};
 use ksv_bytes::{Buffer, Window};
-use std::alloc::{AllocError, Global};
+use ksv_expr_value::Parts;
+use std::alloc::Global;
 use std::io;
 use std::test::Fail;
 
@@ -85,26 +86,23 @@ pub(crate) fn accepted(alloc: Global, ksy: &[u8]) -> Result<Desc, Fail> {
     }
 }
 
-/// The bytes of a buffer, in a vector of their own.
-pub(crate) fn bytes_of(alloc: Global, buffer: &Buffer) -> Result<Vec<u8>, AllocError> {
-    let window = Window {
-        from: 0,
-        to: buffer.len(),
-    };
-    let (front, back) = buffer.parts(window);
-    let mut bytes = front.to_vec(alloc)?;
-    bytes.extend_from_slice(back)?;
-    Ok(bytes)
-}
-
 const INPUT: &[u8] = b"get /a\nget /b\nset 1 0080\nsize\nquit\n";
 
 const OUTPUT: &[u8] = b"7\n-2\nok 3\nsize 3\nbye\n";
 
-/// Whether the file is as the input changes it.
-fn is_changed(alloc: Global, buffer: &Buffer) -> Result<bool, Fail> {
-    let bytes = bytes_of(alloc, buffer)?;
-    Ok(bytes.as_slice() == b"\x07\x00\x80".as_slice())
+/// The file as the input changes it.
+const CHANGED: Parts<'static> = Parts {
+    front: b"\x07\x00\x80",
+    back: b"",
+};
+
+/// Whether the file is so.
+fn is_changed(buffer: &Buffer) -> bool {
+    let (front, back) = buffer.parts(Window {
+        from: 0,
+        to: buffer.len(),
+    });
+    Parts { front, back }.equals(CHANGED)
 }
 
 /// Whether a writer that fails after so many calls has the beginning of the output, and is the first to have all
@@ -129,7 +127,7 @@ fn is_right_after(alloc: Global, calls: usize) -> Result<bool, Fail> {
     let file = b"\x07\xfe\xff".to_vec(alloc)?;
     let desc = accepted(alloc, FIRST)?;
     let (buffer, end) = run(alloc, &mut reader, &mut writer, desc, file)?;
-    let changed = is_changed(alloc, &buffer)?;
+    let changed = is_changed(&buffer);
     let written = writer.memory.bytes.as_slice();
     Ok(is_right(calls, written, changed, end))
 }

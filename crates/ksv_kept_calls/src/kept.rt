@@ -3,11 +3,10 @@
 //! Values are from that program (`plain`): what it keeps and how many turns it counts; a reply is that of a new session
 //! over the same bytes.
 
-use crate::devices::bytes_of;
 use crate::plain::{File, Plain};
 use crate::random::Random;
 use ksv::Session;
-use ksv_bytes::{Buffer, Change};
+use ksv_bytes::{Buffer, Change, Window};
 use ksv_rules::{Described, Node, NodeKind, path_of};
 use ksv_schema::load;
 use ksv_yaml::{Yaml, read};
@@ -106,6 +105,18 @@ struct Pair<'a> {
     bytes: Buffer,
     plain: Plain,
     session: Session,
+}
+
+/// The bytes of a buffer, in a vector of their own.
+fn bytes_of(alloc: Global, buffer: &Buffer) -> Result<Vec<u8>, AllocError> {
+    let window = Window {
+        from: 0,
+        to: buffer.len(),
+    };
+    let (front, back) = buffer.parts(window);
+    let mut bytes = front.to_vec(alloc)?;
+    bytes.extend_from_slice(back)?;
+    Ok(bytes)
 }
 
 /// A session over the description that a tree states, and these bytes.

@@ -1,4 +1,4 @@
-use Rattle.ksv_calls.proofs.plain.+evaluate.Given as goal
+use Rattle.ksv_kept_calls.proofs.plain.+evaluate.Given as goal
 
 abbrev pub decreases-evaluate : goal.decreases-evaluate
 decreases-evaluate l = l.depth
