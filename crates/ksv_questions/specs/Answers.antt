@@ -4,6 +4,7 @@ use Rattle.ksv_desc.specs.Description.{Description}
 use Rattle.ksv_nodes.specs.declared.node.Node.{Node}
 use Rattle.ksv_rule_meaning.specs.FromNothing.{from_nothing}
 use Rattle.ksv_texts.specs.Texts.{fault_text, refusal_text}
+use Rattle.ksv_texts.specs.declared.refusal.Refusal.{Refusal}
 use Rattle.ksv_questions.specs.Asking.{Asking, Failure, Faulty, Heard, Refused, asks_of, result_of}
 use Rattle.ksv_questions.specs.Dumps.{dump_question}
 use Rattle.ksv_questions.specs.Questions.{members_question, place_question, value_question}
@@ -28,15 +29,30 @@ asking d b (questions.Place p) = place_question p
 asking d b (questions.Members p) = members_question d p
 asking d b (questions.Dump p) = dump_question d b p
 
--- why a question fails
+-- What is told of a question: a text, or a refusal as it is, since its text is fixed. Why a question fails is told so:
+abbrev pub failure_told : Description → Failure → Result (List ℕ) Refusal
+failure_told d (Faulty f) = Ok (fault_text d f)
+failure_told d (Refused refusal) = Err refusal
+
+-- and so what it ends in
+abbrev pub outcome_told : Description → Result (List ℕ) Failure → Result (List ℕ) Refusal
+outcome_told d (Ok text) = Ok text
+outcome_told d (Err e) = failure_told d e
+
+unfoldable pub question_told : Description → List ℕ → Question → Result (List ℕ) Refusal
+question_told d b q = outcome_told d (outcome d b (asking d b q))
+
+-- the text of what is told
+abbrev pub text_of : Result (List ℕ) Refusal → List ℕ
+text_of (Ok text) = text
+text_of (Err refusal) = refusal_text refusal
+
 abbrev pub failure_text : Description → Failure → List ℕ
-failure_text d (Faulty f) = fault_text d f
-failure_text d (Refused refusal) = refusal_text refusal
+failure_text d e = text_of (failure_told d e)
 
--- the text that it ends in, or of why it fails
 abbrev pub told : Description → Result (List ℕ) Failure → List ℕ
-told d (Ok text) = text
-told d (Err e) = failure_text d e
+told d r = text_of (outcome_told d r)
 
+-- the text of a question's reply, its LF aside
 unfoldable pub question_text : Description → List ℕ → Question → List ℕ
 question_text d b q = told d (outcome d b (asking d b q))

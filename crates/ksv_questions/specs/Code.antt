@@ -9,13 +9,14 @@ use Rattle.ksv_memo.specs.declared.engine.Answer.TheVariants as answers
 use Rattle.ksv_nodes.specs.declared.given.Given.{Given}
 use Rattle.ksv_nodes.specs.declared.node.Node.{Node}
 use Rattle.ksv_rule_meaning.specs.FromNothing.{circle}
-use Rattle.ksv_questions.specs.Answers.{asks, failure_text, outcome}
+use Rattle.ksv_questions.specs.Answers.{asks, failure_told, outcome}
 use Rattle.ksv_questions.specs.Asking.{Asking, Faulty, Heard, Refused}
 use Rattle.ksv_questions.specs.Dumps.{Found, Part}
 use Rattle.ksv_questions.specs.Engines.{HasAsked, HasAskedSome, world}
 use Rattle.ksv_questions.specs.declared.asking.Untold.{Untold}
 use Rattle.ksv_questions.specs.declared.asking.Untold.TheVariants as untolds
 use Rattle.ksv_questions.specs.declared.dump.Dumped.{Dumped}
+use Rattle.ksv_texts.specs.declared.refusal.Refusal.{Refusal}
 use Rattle.serde_json.specs.View.{view}
 use Rattle.serde_json.specs.declared.value.Value.{Value as Json}
 
@@ -54,8 +55,8 @@ IsFault f untolds.NoMemory = Unit {0}
 IsFault f (untolds.Fault e) = e ≡ f
 IsFault f (untolds.Refused r) = ⊥
 
--- the text tells why a question fails, unless memory ran out
-abbrev pub Tells : Description → Untold → List ℕ → Type 0
-Tells d untolds.NoMemory text = ⊥
-Tells d (untolds.Fault f) text = text ≡ failure_text d (Faulty f)
-Tells d (untolds.Refused r) text = text ≡ failure_text d (Refused r)
+-- this is told of why a question fails, unless memory ran out
+abbrev pub Tells : Description → Untold → Result (List ℕ) Refusal → Type 0
+Tells d untolds.NoMemory told = ⊥
+Tells d (untolds.Fault f) told = told ≡ failure_told d (Faulty f)
+Tells d (untolds.Refused r) told = told ≡ failure_told d (Refused r)

@@ -4,7 +4,8 @@
 //! specs/ (`Questions`, `Dumps`, `Writing`) knows no engine. The function of the same name here asks an engine and comes to the
 //! same result, and the engine keeps what evaluating the asked nodes completes.
 //!
-//! [`answer`] is the text of any question; [`overwrite_for`] is what writing an integer over another means in bytes.
+//! [`answer`] is what is told of any question, a text or a refusal; [`overwrite_for`] is what writing an integer over another means in
+//! bytes.
 #![tactic(auto)]
 
 mod asking;
@@ -18,9 +19,11 @@ mod parts;
 mod place;
 mod put;
 mod question;
+mod told;
 
 pub use ksv_commands::Question;
-pub use ksv_texts::{Refusal, bytes_text};
+pub use ksv_texts::{Refusal, bytes_text, refusal_text};
 pub use laws::integers_are_read_back;
 pub use put::{Overwrite, overwrite_for};
 pub use question::answer;
+pub use told::Told;

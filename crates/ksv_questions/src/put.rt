@@ -11,7 +11,8 @@ ghost use Rattle.ksv_texts.specs.Integers.{integer_type};
 
 use crate::asking::Untold;
 use crate::parts::ask_head;
-use crate::question::failure_text;
+use crate::question::failure_told;
+use crate::told::Told;
 use arrayvec::ArrayVec;
 use ksv_bytes::Buffer;
 use ksv_desc::Desc;
@@ -76,7 +77,7 @@ fn put_question<N: NodeRules>(
     over_head(&described.desc, head, number)
 }
 
-/// What writing an integer over the one at a path means: the bytes to write, or the reply to a `put` that isn't done, its LF aside.
+/// What writing an integer over the one at a path means: the bytes to write, or what is told of a `put` that isn't done.
 /// The engine, which must be right for the bytes, keeps what was evaluated for it.
 pub fn overwrite_for<N: NodeRules>(
     alloc: Global,
@@ -85,7 +86,7 @@ pub fn overwrite_for<N: NodeRules>(
     buffer: &Buffer,
     path: &Path,
     number: Integer,
-) -> Result<Result<Overwrite, String>, AllocError>
+) -> Result<Result<Overwrite, Told>, AllocError>
     requires { IsRight (world (plain_pieces described.now.desc) buffer.now) engine.old.kept }
     ensures told { IfOk result (PutTells (plain_pieces described.now.desc) (outcome (plain_pieces described.now.desc) buffer.now (put_question (plain_pieces described.now.desc) path.now number))) }
 
@@ -95,6 +96,6 @@ pub fn overwrite_for<N: NodeRules>(
 {
     match put_question(alloc, engine, described, buffer, path, number) {
         Ok(overwrite) => Ok(Ok(overwrite)),
-        Err(why) => Ok(Err(failure_text(alloc, described.desc(), &why)?)),
+        Err(why) => Ok(Err(failure_told(alloc, described.desc(), &why)?)),
     }
 }

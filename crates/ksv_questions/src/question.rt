@@ -2,21 +2,23 @@
 ghost use Rattle.std.specs.Prelude.{◌≡◌, string_bytes, IfOk, OnErr, OnOk};
 ghost use Rattle.ksv_desc.specs.Whole.{plain_pieces};
 ghost use Rattle.ksv_memo_rules.specs.Right.{IsRight};
-ghost use Rattle.ksv_questions.specs.Answers.{asking, asks, question_text};
+ghost use Rattle.ksv_questions.specs.Answers.{asking, asks, question_text, question_told, text_of};
 ghost use Rattle.ksv_questions.specs.Code.{Runs, Tells};
 ghost use Rattle.ksv_questions.specs.Engines.{HasAsked, HasAskedSome, world};
+ghost use Rattle.ksv_questions.specs.Seen.{told_of};
 
 use crate::asking::Untold;
 use crate::dump::dump_question;
 use crate::get::value_question;
 use crate::members::members_question;
 use crate::place::place_question;
+use crate::told::Told;
 use ksv_bytes::Buffer;
 use ksv_commands::Question;
 use ksv_desc::Desc;
 use ksv_memo::Engine;
 use ksv_rule_meaning::{Described, NodeRules};
-use ksv_texts::{fault_text, refusal_text};
+use ksv_texts::fault_text;
 use std::alloc::{AllocError, Global};
 
 /// What an engine was asked for a question.
@@ -38,36 +40,37 @@ fn asked<N: NodeRules>(
     }
 }
 
-/// Why a question fails, as its reply tells it.
-pub(crate) fn failure_text(alloc: Global, desc: &Desc, why: &Untold) -> Result<String, AllocError>
-    ensures { IfOk result (λ text. Tells (plain_pieces desc.now) why.now (string_bytes text)) }
+/// Why a question fails, as it is told.
+pub(crate) fn failure_told(alloc: Global, desc: &Desc, why: &Untold) -> Result<Told, AllocError>
+    ensures { IfOk result (λ told. Tells (plain_pieces desc.now) why.now (told_of told)) }
 {
     match why {
-        Untold::Fault(fault) => fault_text(alloc, desc, fault),
-        Untold::Refused(refusal) => String::from_str(alloc, refusal_text(*refusal)),
+        Untold::Fault(fault) => Ok(Told::Text(fault_text(alloc, desc, fault)?)),
+        Untold::Refused(refusal) => Ok(Told::Refused(*refusal)),
         Untold::NoMemory => Err(AllocError),
     }
 }
 
-/// The reply to a question, its LF aside: the text of what evaluating the description from nothing on the current bytes gives.
-/// The engine, which must be right for these bytes, keeps what was evaluated for it.
-#[tactic(auto, unfolding(crate::specs::Answers::question_text))]
+/// The reply to a question, its LF aside: what is told of what evaluating the description from nothing on the current bytes gives,
+/// a text, or a refusal where the question is refused. The engine, which must be right for these bytes, keeps what was evaluated for it.
+#[tactic(auto, unfolding(crate::specs::Answers::question_told, crate::specs::Answers::question_text))]
 pub fn answer<N: NodeRules>(
     alloc: Global,
     engine: &mut Engine<Described<N>>,
     described: &Described<N>,
     buffer: &Buffer,
     question: &Question,
-) -> Result<String, AllocError>
+) -> Result<Told, AllocError>
     requires { IsRight (world (plain_pieces described.now.desc) buffer.now) engine.old.kept }
-    ensures text { IfOk result (λ text. string_bytes text ≡ question_text (plain_pieces described.now.desc) buffer.now question.now) }
+    ensures told { IfOk result (λ told. told_of told ≡ question_told (plain_pieces described.now.desc) buffer.now question.now) }
+    ensures text { IfOk result (λ told. text_of (told_of told) ≡ question_text (plain_pieces described.now.desc) buffer.now question.now) }
 
     // Which nodes are kept afterwards, and the turns.
     ensures asked { OnOk result (HasAsked (world (plain_pieces described.now.desc) buffer.now) (asks (plain_pieces described.now.desc) buffer.now (asking (plain_pieces described.now.desc) buffer.now question.now)) engine.old engine.new) }
     ensures refused { OnErr result (HasAskedSome (world (plain_pieces described.now.desc) buffer.now) (asks (plain_pieces described.now.desc) buffer.now (asking (plain_pieces described.now.desc) buffer.now question.now)) engine.old engine.new) }
 {
     match asked(alloc, engine, described, buffer, question) {
-        Ok(text) => Ok(text),
-        Err(why) => failure_text(alloc, described.desc(), &why),
+        Ok(text) => Ok(Told::Text(text)),
+        Err(why) => failure_told(alloc, described.desc(), &why),
     }
 }

@@ -1,3 +1,4 @@
+pub mod TallyLemmas
 pub mod RunLemmas
 pub mod AnswerLemmas
 pub mod QuestionLemmas

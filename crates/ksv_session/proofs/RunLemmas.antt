@@ -1,5 +1,5 @@
 -- One step of a run, from what stands before it, and what a whole run comes to.
-use Rattle.std.proofs.Common.{◌≡◌, ◌∙◌, ◌&&◌, ◌+◌, min, ℕ, suc, Bool, true, false, None, List, [], ◌∷◌, ◌++◌, length, map, fold, take, ap, ap₂, sym, refl, arith, append_assoc, if◌then◌else◌, inl, inr}
+use Rattle.std.proofs.Common.{◌≡◌, ◌∙◌, ◌&&◌, ◌+◌, min, ℕ, suc, Bool, true, false, None, List, [], ◌∷◌, ◌++◌, length, map, fold, take, ap, ap₂, sym, refl, arith, append_assoc, if◌then◌else◌, inl, inr, subst}
 use Rattle.std.specs.Prelude.{IsTrue}
 use Rattle.std.proofs.lemmas.Bool.{cases_lt, lt-ltb}
 use Rattle.std.proofs.lemmas.List.{append-nil, length-append, length-take, length_push, map-append, take-append-le, drop_at, take_all, take_at, take_min}
@@ -10,9 +10,13 @@ use Rattle.ksv_desc.specs.Description.{Description}
 use Rattle.ksv_lines.specs.Lines.{is_line_end, lines_of}
 use Rattle.ksv_session.specs.Replies.{Answer, Event, answer, answer_to, is_fair, may_be_refused, no_memory_text, said}
 use Rattle.ksv_session.specs.Code.{Stands}
+use Rattle.ksv_session.specs.Explored.{Explored}
+use Rattle.ksv_session.specs.Kept.{Holds, Memory, Remembers, nothing_kept}
 use Rattle.ksv_session.specs.Runs.{Breaks, Serves, Stops}
 use Rattle.ksv_session.specs.Session.{Standing, after_event, answered, begun, lines_in, session}
+use Rattle.ksv_session.specs.Tallies.{Keeps, Tells, tally_in}
 use Rattle.ksv_lines.proofs.CutLemmas.{split_at, split_more}
+use Rattle.ksv_session.proofs.TallyLemmas.{keeps_append, keeps_end, keeps_line}
 
 -- A line of more than 4,096 bytes is told by its first 4,097.
 
@@ -101,7 +105,7 @@ session_more : (d : Description) (begin : List ℕ) (front more : List Event) �
 session_more d begin front more = fold-append (after_event d) (begun begin) front more
 
 -- A byte that ends no line.
-pub pushed : (d : Description) (begin taken now line before written : List ℕ) (tells : Bool) (byte : ℕ) → is_line_end byte ≡ false
+pub pushed : (d : Description) (begin taken : List ℕ) (now : Explored) (line before written : List ℕ) (tells : Bool) (byte : ℕ) → is_line_end byte ≡ false
     → Stands d begin taken now line tells before written
     → Stands d begin (taken ++ byte ∷ []) now (take 4097 (line ++ byte ∷ [])) tells before written
 pushed d begin taken now line before written tells byte other s = record {
@@ -113,6 +117,9 @@ pushed d begin taken now line before written tells byte other s = record {
   bytes = s.bytes;
   output = s.output;
   goes_on = s.goes_on;
+  kept = s.kept;
+  holds = s.holds;
+  stats = s.stats;
 }
 
 -- The session with one more line, by its answer.
@@ -121,23 +128,74 @@ pub record Next (d : Description) (begin : List ℕ) (events : List Event) (e : 
   pub output : (session d begin (events ++ e ∷ [])).output ≡ (session d begin events).output ++ a.text
   pub ended : (session d begin (events ++ e ∷ [])).ended ≡ a.ends
   pub fair : (session d begin (events ++ e ∷ [])).fair ≡ true
+  pub same : answer d (session d begin events).bytes e ≡ a
 
-pub next : (d : Description) (begin taken now line before written : List ℕ) (tells : Bool) (s : Stands d begin taken now line tells before written)
-    (event : Event) → event.line ≡ line → is_fair d now event ≡ true → Next d begin s.events (whole s.rest event) (answer d now event)
+pub next : (d : Description) (begin taken : List ℕ) (now : Explored) (line before written : List ℕ) (tells : Bool) (s : Stands d begin taken now line tells before written)
+    (event : Event) → event.line ≡ line → is_fair d now.bytes event ≡ true → Next d begin s.events (whole s.rest event) (answer d now.bytes event)
 next d begin taken now line before written tells s event line_is fair =
     let e = whole s.rest event in
     let gathered : event.line ≡ take 4097 s.rest = line_is ∙ s.gathered in
-    let same : answer d (session d begin s.events).bytes e ≡ answer d now event =
-    sym (same_answer d now s.rest event gathered ∙ ap (λ b. answer d b e) s.bytes) in
+    let same : answer d (session d begin s.events).bytes e ≡ answer d now.bytes event =
+    sym (same_answer d now.bytes s.rest event gathered ∙ ap (λ b. answer d b e) s.bytes) in
     let fair_too : is_fair d (session d begin s.events).bytes e ≡ true =
-    sym (same_fair d now s.rest event gathered ∙ ap (λ b. is_fair d b e) s.bytes) ∙ fair in
+    sym (same_fair d now.bytes s.rest event gathered ∙ ap (λ b. is_fair d b e) s.bytes) ∙ fair in
     let push = session_push d begin s.events e s.goes_on in
     record {
       bytes = ap (λ (t : Standing). t.bytes) push ∙ ap (λ (a : Answer). a.bytes) same;
       output = ap (λ (t : Standing). t.output) push ∙ ap (λ (a : Answer). (session d begin s.events).output ++ a.text) same;
       ended = ap (λ (t : Standing). t.ended) push ∙ ap (λ (a : Answer). a.ends) same;
       fair = ap (λ (t : Standing). t.fair) push ∙ ap₂ (λ a b. a && b) s.fair fair_too;
+      same = same;
     }
+
+-- What a line has told and left, by what is kept before it.
+abbrev pub KeepsOne : Description → Explored → Event → Explored → Type 0
+KeepsOne d now event now' = (m : Memory) → Holds now m → (event.tally ≡ tally_in m) × Remembers d now.bytes (command_of d event.line) event.refused m now'
+
+-- What is kept with one more line.
+pub record Kept (d : Description) (begin : List ℕ) (events : List Event) (e : Event) (ends : Bool) (now : Explored) : Type 0 where
+  pub last : Memory
+  pub stats : Keeps d begin nothing_kept (events ++ e ∷ []) last
+  pub holds : ends ≡ false → Holds now last
+
+-- (the line is the same, gathered as a whole)
+told_whole : (d : Description) (begin taken : List ℕ) (now : Explored) (line before written : List ℕ) (tells : Bool) (s : Stands d begin taken now line tells before written)
+    (event : Event) (now' : Explored) → event.line ≡ line → KeepsOne d now event now'
+    → ((whole s.rest event).tally ≡ tally_in s.kept) × Remembers d (session d begin s.events).bytes (command_of d s.rest) event.refused s.kept now'
+told_whole d begin taken now line before written tells s event now' line_is keeps =
+    let told = keeps s.kept s.holds in (
+      told.0,
+      subst (λ b. Remembers d b (command_of d s.rest) event.refused s.kept now') s.bytes
+          (subst (λ k. Remembers d now.bytes k event.refused s.kept now') (ap (command_of d) (line_is ∙ s.gathered) ∙ cut_reads d s.rest) told.1),
+    )
+
+pub kept_next : (d : Description) (begin taken : List ℕ) (now : Explored) (line before written : List ℕ) (tells : Bool) (s : Stands d begin taken now line tells before written)
+    (event : Event) (now' : Explored) → event.line ≡ line → is_fair d now.bytes event ≡ true → KeepsOne d now event now'
+    → Kept d begin s.events (whole s.rest event) (answer d now.bytes event).ends now'
+kept_next d begin taken now line before written tells s event now' line_is fair keeps =
+    let e = whole s.rest event in
+    let n = next d begin taken now line before written tells s event line_is fair in
+    let told = told_whole d begin taken now line before written tells s event now' line_is keeps in
+    let one = keeps_line d (session d begin s.events).bytes s.kept e now' told.0 told.1 in
+    record {
+      last = one.0;
+      stats = keeps_append d (begun begin) nothing_kept s.events (e ∷ []) s.kept one.0 refl s.stats s.goes_on one.1;
+      holds = λ ends. one.2 (ap (λ (a : Answer). a.ends) n.same ∙ ends);
+    }
+
+-- The same where the line ends the session, whatever stands behind it.
+pub kept_end : (d : Description) (begin taken : List ℕ) (now : Explored) (line before written : List ℕ) (tells : Bool) (s : Stands d begin taken now line tells before written)
+    (event : Event) (now' : Explored) (tail : List Event) → event.line ≡ line → is_fair d now.bytes event ≡ true → KeepsOne d now event now' → (answer d now.bytes event).ends ≡ true
+    → Tells d begin ((s.events ++ whole s.rest event ∷ []) ++ tail)
+kept_end d begin taken now line before written tells s event now' tail line_is fair keeps ends =
+    let e = whole s.rest event in
+    let n = next d begin taken now line before written tells s event line_is fair in
+    let told = told_whole d begin taken now line before written tells s event now' line_is keeps in
+    let end = keeps_end d (session d begin s.events).bytes s.kept e tail told.0 (ap (λ (a : Answer). a.ends) n.same ∙ ends) in (
+      s.kept,
+      subst (λ events. Keeps d begin nothing_kept events s.kept) (sym (append_assoc s.events (e ∷ []) tail))
+          (keeps_append d (begun begin) nothing_kept s.events (e ∷ tail) s.kept s.kept refl s.stats s.goes_on end),
+    )
 
 -- The output behind that line.
 written_next : (d : Description) (begin before written written' : List ℕ) (events : List Event) (e : Event) (a : Answer) → Next d begin events e a
@@ -146,13 +204,14 @@ written_next d begin before written written' events e a n is more =
     more ∙ ap (λ w. w ++ a.text) is ∙ append_assoc before (session d begin events).output a.text ∙ ap (λ o. before ++ o) (sym n.output)
 
 -- An LF behind a line that is answered.
-pub answered_line : (d : Description) (begin taken now line before written now' written' : List ℕ) (tells : Bool) (s : Stands d begin taken now line tells before written)
-    (event : Event) → event.line ≡ line → is_fair d now event ≡ true → (answer d now event).ends ≡ false
-    → now' ≡ (answer d now event).bytes → (IsTrue tells → written' ≡ written ++ (answer d now event).text)
+pub answered_line : (d : Description) (begin taken : List ℕ) (now : Explored) (line before written : List ℕ) (now' : Explored) (written' : List ℕ) (tells : Bool) (s : Stands d begin taken now line tells before written)
+    (event : Event) → event.line ≡ line → is_fair d now.bytes event ≡ true → (answer d now.bytes event).ends ≡ false
+    → now'.bytes ≡ (answer d now.bytes event).bytes → KeepsOne d now event now' → (IsTrue tells → written' ≡ written ++ (answer d now.bytes event).text)
     → Stands d begin (taken ++ 10 ∷ []) now' [] tells before written'
-answered_line d begin taken now line before written now' written' tells s event line_is fair ends is more =
+answered_line d begin taken now line before written now' written' tells s event line_is fair ends is keeps more =
     let e = whole s.rest event in
     let n = next d begin taken now line before written tells s event line_is fair in
+    let k = kept_next d begin taken now line before written tells s event now' line_is fair keeps in
     record {
       events = s.events ++ e ∷ [];
       rest = [];
@@ -162,21 +221,24 @@ answered_line d begin taken now line before written now' written' tells s event 
       bytes = is ∙ sym n.bytes;
       output = λ told. written_next d begin before written written' s.events e _ n (s.output told) (more told);
       goes_on = n.ended ∙ ends;
+      kept = k.last;
+      holds = k.holds ends;
+      stats = k.stats;
     }
 
 -- The lines of an input that goes on behind an LF.
-pub lines_behind : (d : Description) (begin taken now line before written more : List ℕ) (tells : Bool) (s : Stands d begin taken now line tells before written)
+pub lines_behind : (d : Description) (begin taken : List ℕ) (now : Explored) (line before written more : List ℕ) (tells : Bool) (s : Stands d begin taken now line tells before written)
     → lines_of (taken ++ 10 ∷ more) ≡ (lines_in s.events ++ s.rest ∷ []) ++ lines_of more
 lines_behind d begin taken now line before written more tells s =
     split_at is_line_end taken 10 more refl ∙ ap (λ ls. ls ++ lines_of more) (sym s.lines)
 
 -- A line that ends the session, whatever stands behind it.
-pub quit_line : (d : Description) (begin taken now line before written now' written' input : List ℕ) (tail : List (List ℕ)) (tells : Bool)
+pub quit_line : (d : Description) (begin taken : List ℕ) (now : Explored) (line before written : List ℕ) (now' : Explored) (written' input : List ℕ) (tail : List (List ℕ)) (tells : Bool)
     (s : Stands d begin taken now line tells before written) → lines_of input ≡ (lines_in s.events ++ s.rest ∷ []) ++ tail
-    → (event : Event) → event.line ≡ line → is_fair d now event ≡ true → (answer d now event).ends ≡ true
-    → now' ≡ (answer d now event).bytes → (IsTrue tells → written' ≡ written ++ (answer d now event).text)
-    → Serves d begin input now' tells before written' true
-quit_line d begin taken now line before written now' written' input tail tells s cut event line_is fair ends is more =
+    → (event : Event) → event.line ≡ line → is_fair d now.bytes event ≡ true → (answer d now.bytes event).ends ≡ true
+    → now'.bytes ≡ (answer d now.bytes event).bytes → KeepsOne d now event now' → (IsTrue tells → written' ≡ written ++ (answer d now.bytes event).text)
+    → Serves d begin input now'.bytes tells before written' true
+quit_line d begin taken now line before written now' written' input tail tells s cut event line_is fair ends is keeps more =
     let e = whole s.rest event in
     let n = next d begin taken now line before written tells s event line_is fair in
     let over : session d begin ((s.events ++ e ∷ []) ++ unrefused tail) ≡ session d begin (s.events ++ e ∷ []) =
@@ -188,16 +250,18 @@ quit_line d begin taken now line before written now' written' input tail tells s
       bytes = is ∙ sym n.bytes ∙ sym (ap (λ (t : Standing). t.bytes) over);
       output = λ told. written_next d begin before written written' s.events e _ n (s.output told) (more told) ∙ sym (ap (λ (t : Standing). before ++ t.output) over);
       ends = ap (λ (t : Standing). t.ended) over ∙ n.ended ∙ ends;
+      stats = kept_end d begin taken now line before written tells s event now' (unrefused tail) line_is fair keeps ends;
     }
 
 -- The line at the end of the input.
-pub last_line : (d : Description) (begin taken now line before written now' written' : List ℕ) (tells : Bool)
-    (s : Stands d begin taken now line tells before written) (event : Event) → event.line ≡ line → is_fair d now event ≡ true
-    → now' ≡ (answer d now event).bytes → (IsTrue tells → written' ≡ written ++ (answer d now event).text)
-    → Serves d begin taken now' tells before written' (answer d now event).ends
-last_line d begin taken now line before written now' written' tells s event line_is fair is more =
+pub last_line : (d : Description) (begin taken : List ℕ) (now : Explored) (line before written : List ℕ) (now' : Explored) (written' : List ℕ) (tells : Bool)
+    (s : Stands d begin taken now line tells before written) (event : Event) → event.line ≡ line → is_fair d now.bytes event ≡ true
+    → now'.bytes ≡ (answer d now.bytes event).bytes → KeepsOne d now event now' → (IsTrue tells → written' ≡ written ++ (answer d now.bytes event).text)
+    → Serves d begin taken now'.bytes tells before written' (answer d now.bytes event).ends
+last_line d begin taken now line before written now' written' tells s event line_is fair is keeps more =
     let e = whole s.rest event in
     let n = next d begin taken now line before written tells s event line_is fair in
+    let k = kept_next d begin taken now line before written tells s event now' line_is fair keeps in
     record {
       events = s.events ++ e ∷ [];
       lines = lines_push s.events e ∙ s.lines;
@@ -205,6 +269,7 @@ last_line d begin taken now line before written now' written' tells s event line
       bytes = is ∙ sym n.bytes;
       output = λ told. written_next d begin before written written' s.events e _ n (s.output told) (more told);
       ends = n.ended;
+      stats = (k.last, k.stats);
     }
 
 front_events : (events : List Event) (e : Event) (more : List Event) → take (suc (length events)) ((events ++ e ∷ []) ++ more) ≡ events ++ e ∷ []
@@ -224,15 +289,16 @@ front_text out text more count =
     ∙ take_past out text n ∙ ap (λ t. out ++ t) (take_min count text))
 
 -- A write that fails in the reply to a line.
-pub broken_line : (d : Description) (begin taken now line before written now' written' input : List ℕ) (tail : List (List ℕ)) (tells : Bool)
+pub broken_line : (d : Description) (begin taken : List ℕ) (now : Explored) (line before written : List ℕ) (now' : Explored) (written' input : List ℕ) (tail : List (List ℕ)) (tells : Bool)
     (s : Stands d begin taken now line tells before written) → lines_of input ≡ (lines_in s.events ++ s.rest ∷ []) ++ tail
-    → (event : Event) → event.line ≡ line → is_fair d now event ≡ true
-    → now' ≡ (answer d now event).bytes → (IsTrue tells → (count : ℕ) × (written' ≡ written ++ take count (answer d now event).text))
-    → Breaks d begin input now' tells before written'
-broken_line d begin taken now line before written now' written' input tail tells s cut event line_is fair is more =
+    → (event : Event) → event.line ≡ line → is_fair d now.bytes event ≡ true
+    → now'.bytes ≡ (answer d now.bytes event).bytes → KeepsOne d now event now' → (IsTrue tells → (count : ℕ) × (written' ≡ written ++ take count (answer d now.bytes event).text))
+    → Breaks d begin input now'.bytes tells before written'
+broken_line d begin taken now line before written now' written' input tail tells s cut event line_is fair is keeps more =
     let e = whole s.rest event in
-    let a = answer d now event in
+    let a = answer d now.bytes event in
     let n = next d begin taken now line before written tells s event line_is fair in
+    let k = kept_next d begin taken now line before written tells s event now' line_is fair keeps in
     let out = (session d begin s.events).output in
     let all = (s.events ++ e ∷ []) ++ unrefused tail in
     let over = session_more d begin (s.events ++ e ∷ []) (unrefused tail) in
@@ -244,6 +310,8 @@ broken_line d begin taken now line before written now' written' input tail tells
       fair = ap (λ (t : Standing). t.fair) over ∙ later.fair n.fair;
       place = length s.events;
       is_line = omega (arith, length-append (s.events ++ e ∷ []) (unrefused tail), length_push s.events e);
+      goes_on = ap (λ es. (session d begin es).ended) (earlier_events s.events e (unrefused tail)) ∙ s.goes_on;
+      stats = subst (Tells d begin) (sym (front_events s.events e (unrefused tail))) (k.last, k.stats);
       bytes = is ∙ sym n.bytes ∙ sym (ap (λ es. (session d begin es).bytes) (front_events s.events e (unrefused tail)));
       taken = λ told. length out + min (more told).0 (length a.text);
       output = λ told.
@@ -256,8 +324,9 @@ broken_line d begin taken now line before written now' written' input tail tells
     }
 
 -- The beginning.
-pub begun_stands : (d : Description) (begin before : List ℕ) (tells : Bool) → Stands d begin [] begin [] tells before before
-begun_stands d begin before tells = record {
+pub begun_stands : (d : Description) (now : Explored) (before : List ℕ) (tells : Bool) → Holds now nothing_kept → Stands d now.bytes [] now [] tells before before
+unfolding Keeps
+begun_stands d now before tells holds = record {
   events = [];
   rest = [];
   lines = refl;
@@ -266,11 +335,14 @@ begun_stands d begin before tells = record {
   bytes = refl;
   output = λ told. sym (append-nil before);
   goes_on = refl;
+  kept = nothing_kept;
+  holds = holds;
+  stats = refl;
 }
 
 -- A read that fails.
-pub stopped : (d : Description) (begin input taken left now line before written : List ℕ) (tells : Bool) → input ≡ taken ++ left
-    → Stands d begin taken now line tells before written → Stops d begin input left now tells before written
+pub stopped : (d : Description) (begin input taken left : List ℕ) (now : Explored) (line before written : List ℕ) (tells : Bool) → input ≡ taken ++ left
+    → Stands d begin taken now line tells before written → Stops d begin input left now.bytes tells before written
 stopped d begin input taken left now line before written tells split s = record {
   taken = taken;
   split = split;
@@ -281,10 +353,11 @@ stopped d begin input taken left now line before written tells split s = record 
   bytes = s.bytes;
   output = s.output;
   goes_on = s.goes_on;
+  stats = (s.kept, s.stats);
 }
 
 -- The same, by equal values.
-pub moved : (d : Description) (begin taken taken' now now' line line' before written written' : List ℕ) (tells : Bool)
+pub moved : (d : Description) (begin taken taken' : List ℕ) (now now' : Explored) (line line' before written written' : List ℕ) (tells : Bool)
     → taken' ≡ taken → now' ≡ now → line' ≡ line → written' ≡ written
     → Stands d begin taken now line tells before written → Stands d begin taken' now' line' tells before written'
 moved d begin taken taken' now now' line line' before written written' tells t n l w s = record {
@@ -293,7 +366,10 @@ moved d begin taken taken' now now' line line' before written written' tells t n
   lines = s.lines ∙ sym (ap lines_of t);
   gathered = l ∙ s.gathered;
   fair = s.fair;
-  bytes = n ∙ s.bytes;
+  bytes = ap (λ (x : Explored). x.bytes) n ∙ s.bytes;
   output = λ told. w ∙ s.output told;
   goes_on = s.goes_on;
+  kept = s.kept;
+  holds = subst (λ x. Holds x s.kept) (sym n) s.holds;
+  stats = s.stats;
 }

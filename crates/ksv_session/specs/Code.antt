@@ -11,10 +11,13 @@ use Rattle.ksv_questions.specs.Asking.{Failure}
 use Rattle.ksv_questions.specs.Seen.{overwrite_of}
 use Rattle.ksv_questions.specs.Writing.{Overwrite}
 use Rattle.ksv_questions.specs.declared.put.Overwrite.{Overwrite as CodeOverwrite}
+use Rattle.ksv_commands.specs.Commands.{command_of}
 use Rattle.ksv_session.specs.Explored.{Explored, description_of}
+use Rattle.ksv_session.specs.Kept.{Holds, Memory, Remembers, nothing_kept}
 use Rattle.ksv_session.specs.Replies.{Answer, Event, answer, edit_refusal_text, is_fair}
 use Rattle.ksv_session.specs.Runs.{Breaks, Serves}
 use Rattle.ksv_session.specs.Session.{lines_in, session}
+use Rattle.ksv_session.specs.Tallies.{Keeps, tally_in}
 
 -- ---- edits
 
@@ -54,24 +57,28 @@ pub record Answered (old : Explored) (line : List ℕ) (new : Explored) (tells :
   pub fair : is_fair (description_of old) old.bytes event ≡ true
   pub description : description_of new ≡ description_of old
   pub bytes : new.bytes ≡ (answer (description_of old) old.bytes event).bytes
+  pub keeps : (m : Memory) → Holds old m → (event.tally ≡ tally_in m) × Remembers (description_of old) old.bytes (command_of (description_of old) event.line) event.refused m new
   pub wrote : Wrote (answer (description_of old) old.bytes event) tells before written result
 
 -- ---- the lines of an input that is taken in pieces
 
 -- While the session goes on: of what was taken the whole lines are answered, and of the line after them the first
 -- `line_room` bytes are gathered, which show whether it is too long.
-pub record Stands (d : Description) (begin taken now line : List ℕ) (tells : Bool) (before written : List ℕ) : Type 0 where
+pub record Stands (d : Description) (begin taken : List ℕ) (now : Explored) (line : List ℕ) (tells : Bool) (before written : List ℕ) : Type 0 where
   pub events : List Event
   pub rest : List ℕ
   pub lines : lines_in events ++ rest ∷ [] ≡ lines_of taken
   pub gathered : line ≡ take line_room rest
   pub fair : (session d begin events).fair ≡ true
-  pub bytes : now ≡ (session d begin events).bytes
+  pub bytes : now.bytes ≡ (session d begin events).bytes
   pub output : IsTrue tells → written ≡ before ++ (session d begin events).output
   pub goes_on : (session d begin events).ended ≡ false
+  pub kept : Memory
+  pub holds : Holds now kept
+  pub stats : Keeps d begin nothing_kept events kept
 
 -- After a piece of the input: a line in it ended the session, or all of it was taken, or a write failed.
-abbrev pub Fed : Description → List ℕ → List ℕ → List ℕ → List ℕ → List ℕ → Bool → List ℕ → List ℕ → Result Bool Failed → Type 0
-Fed d begin taken input now line tells before written (Ok true) = Serves d begin input now tells before written true
+abbrev pub Fed : Description → List ℕ → List ℕ → List ℕ → Explored → List ℕ → Bool → List ℕ → List ℕ → Result Bool Failed → Type 0
+Fed d begin taken input now line tells before written (Ok true) = Serves d begin input now.bytes tells before written true
 Fed d begin taken input now line tells before written (Ok false) = Stands d begin taken now line tells before written
-Fed d begin taken input now line tells before written (Err f) = Breaks d begin input now tells before written
+Fed d begin taken input now line tells before written (Err f) = Breaks d begin input now.bytes tells before written

@@ -4,12 +4,13 @@ use Rattle.ksv_desc.specs.Description.{Description}
 use Rattle.ksv_lines.specs.Lines.{lines_of}
 use Rattle.ksv_session.specs.Replies.{Event}
 use Rattle.ksv_session.specs.Session.{lines_in, session}
+use Rattle.ksv_session.specs.Tallies.{Tells}
 use Rattle.ksv_session.specs.declared.serve.End.{End}
 use Rattle.ksv_session.specs.declared.serve.End.TheVariants as ends
 
 -- The headline. Each line of the whole input has a mark whether memory was refused in it, and only lines that may
 -- be refused memory were. The bytes are those of the session over these lines. What was written is the session's
--- output, after what the writer held before.
+-- output, after what the writer held before. Which numbers `stats` told in it is a fold beside that of the bytes.
 pub record Serves (d : Description) (begin input now : List ℕ) (tells : Bool) (before written : List ℕ) (ended : Bool) : Type 0 where
   pub events : List Event
   pub lines : lines_in events ≡ lines_of input
@@ -17,15 +18,18 @@ pub record Serves (d : Description) (begin input now : List ℕ) (tells : Bool) 
   pub bytes : now ≡ (session d begin events).bytes
   pub output : IsTrue tells → written ≡ before ++ (session d begin events).output
   pub ends : (session d begin events).ended ≡ ended
+  pub stats : Tells d begin events
 
--- A write failed in the reply to one of the lines. What was written is a beginning of the session's output, which
--- has all replies before that line; the bytes are those after that line.
+-- A write failed in the reply to one of the lines, before which the session had not ended. What was written is a
+-- beginning of the session's output, which has all replies before that line; the bytes are those after that line.
 pub record Breaks (d : Description) (begin input now : List ℕ) (tells : Bool) (before written : List ℕ) : Type 0 where
   pub events : List Event
   pub lines : lines_in events ≡ lines_of input
   pub fair : (session d begin events).fair ≡ true
   pub place : ℕ
   pub is_line : place < length events
+  pub goes_on : (session d begin (take place events)).ended ≡ false
+  pub stats : Tells d begin (take (suc place) events)
   pub bytes : now ≡ (session d begin (take (suc place) events)).bytes
   pub taken : IsTrue tells → ℕ
   pub output : (told : IsTrue tells) → written ≡ before ++ take (taken told) (session d begin events).output
@@ -44,6 +48,7 @@ pub record Stops (d : Description) (begin input left now : List ℕ) (tells : Bo
   pub bytes : now ≡ (session d begin events).bytes
   pub output : IsTrue tells → written ≡ before ++ (session d begin events).output
   pub goes_on : (session d begin events).ended ≡ false
+  pub stats : Tells d begin events
 
 -- The session ended at a line `quit` or at the end of the input, or a device failed.
 abbrev pub Ended : End → Description → List ℕ → List ℕ → List ℕ → List ℕ → Bool → List ℕ → List ℕ → Type 0

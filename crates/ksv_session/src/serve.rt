@@ -5,6 +5,7 @@ ghost use Rattle.ksv_session.specs.Code.{Answered, Fed, Stands};
 ghost use Rattle.ksv_desc.specs.Description.{Description};
 ghost use Rattle.ksv_desc.specs.Whole.{plain_pieces};
 ghost use Rattle.ksv_session.specs.Explored.{description_of};
+ghost use Rattle.ksv_session.specs.Kept.{Holds, nothing_kept};
 ghost use Rattle.ksv_session.specs.Runs.{Ended};
 
 use crate::session::{NewFault, Session};
@@ -56,8 +57,8 @@ fn feed<N: NodeRules, W: Sink>(
 ) -> Result<bool, Failed>
     requires { W.failed writer.old ≡ false }
     ensures goes { (d : Description) (begin taken before left : List ℕ) → description_of session.old ≡ d
-        → Stands d begin taken session.old.bytes line.old W.tells before (W.bytes writer.old)
-        → Fed d begin (taken ++ piece.now) (taken ++ (piece.now ++ left)) session.new.bytes line.new W.tells before (W.bytes writer.new) result }
+        → Stands d begin taken session.old line.old W.tells before (W.bytes writer.old)
+        → Fed d begin (taken ++ piece.now) (taken ++ (piece.now ++ left)) session.new line.new W.tells before (W.bytes writer.new) result }
     ensures kept { description_of session.new ≡ description_of session.old }
     ensures fault { W.failed writer.new ≡ is_err result }
 {
@@ -79,7 +80,7 @@ fn feed<N: NodeRules, W: Sink>(
 fn finish<N: NodeRules, W: Sink>(session: &mut Session<N>, line: &LineBuffer, writer: &mut W) -> End
     requires { W.failed writer.old ≡ false }
     ensures goes { (d : Description) (begin taken before : List ℕ) → description_of session.old ≡ d
-        → Stands d begin taken session.old.bytes line.now W.tells before (W.bytes writer.old)
+        → Stands d begin taken session.old line.now W.tells before (W.bytes writer.old)
         → Ended result d begin taken [] session.new.bytes W.tells before (W.bytes writer.new) }
     ensures fault { IsTrue (W.failed writer.new) ↔ (result ≡ End.WriteFailed) }
     ensures reads { result ≢ End.ReadFailed }
@@ -97,6 +98,7 @@ fn serve<N: NodeRules, R: Source, W: Sink>(
     writer: &mut W,
     session: &mut Session<N>,
 ) -> End
+    requires begun { Holds session.old nothing_kept }
     requires reads { R.failed reader.old ≡ false }
     requires writes { W.failed writer.old ≡ false }
     ensures served { IsTrue R.tells →

@@ -77,9 +77,10 @@ pub fn fault_text(alloc: Global, desc: &Desc, fault: &Fault) -> Result<String, A
     Ok(text)
 }
 
-/// The reply to a question that is refused.
+/// The reply to a question that is refused, its LF aside. It takes no memory, and with its LF it fits in 64 bytes.
 pub fn refusal_text(refusal: Refusal) -> &'static str
-    ensures { result.now ≡ refusal_text refusal }
+    ensures refusal_text { result.now ≡ refusal_text refusal }
+    ensures short { length result.now ≤ 62 }
 {
     match refusal {
         Refusal::NotAnInteger => "error: not an integer",

@@ -6,7 +6,7 @@ use Rattle.ksv_session.proofs.serve.feed.Given as goal
 
 abbrev pub invariant-loop-byte : goal.invariant-loop-byte
 invariant-loop-byte g l = ((d : Description) (begin taken before : List ℕ) → description_of l.fn.session ≡ d
-    → Stands d begin taken l.fn.session.bytes l.fn.line g.W.Sink.tells before (g.W.Sink.bytes l.fn.writer)
-    → Stands d begin (taken ++ take l.byte-index l.piece) l.session.bytes l.line g.W.Sink.tells before (g.W.Sink.bytes l.writer))
+    → Stands d begin taken l.fn.session l.fn.line g.W.Sink.tells before (g.W.Sink.bytes l.fn.writer)
+    → Stands d begin (taken ++ take l.byte-index l.piece) l.session l.line g.W.Sink.tells before (g.W.Sink.bytes l.writer))
     × (g.W.Sink.failed l.writer ≡ false)
     × (description_of l.session ≡ description_of l.fn.session)

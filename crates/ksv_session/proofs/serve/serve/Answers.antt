@@ -1,6 +1,5 @@
 use Rattle.std.proofs.Common.{◌≡◌, ◌≤◌, ◌+◌, ◌∙◌, ◌++◌, List, ℕ, [], ap, append_assoc, arith, length, refl, subst, sym, take, true}
 use Rattle.std.proofs.lemmas.List.{length-append, length-take-le}
-use Rattle.std.proofs.Math.Bool.{or-false}
 use Rattle.ksv_session.specs.Explored.{description_of}
 use Rattle.ksv_session.specs.Code.{Stands}
 use Rattle.ksv_session.specs.Runs.{Serves}
@@ -19,8 +18,8 @@ loop-turn-init g c = (
     [],
     refl,
     omega arith,
-    subst (λ line. Stands (description_of c.args.session.now) c.args.session.now.bytes [] c.args.session.now.bytes line g.W.Sink.tells (g.W.Sink.bytes c.args.writer.now) (g.W.Sink.bytes c.args.writer.now))
-        (sym c.new-line.ensures) (begun_stands (description_of c.args.session.now) c.args.session.now.bytes (g.W.Sink.bytes c.args.writer.now) g.W.Sink.tells),
+    subst (λ line. Stands (description_of c.args.session.now) c.args.session.now.bytes [] c.args.session.now line g.W.Sink.tells (g.W.Sink.bytes c.args.writer.now) (g.W.Sink.bytes c.args.writer.now))
+        (sym c.new-line.ensures) (begun_stands (description_of c.args.session.now) c.args.session.now (g.W.Sink.bytes c.args.writer.now) g.W.Sink.tells c.requires.begun),
   )),
   c.requires.reads,
   c.requires.writes,
@@ -52,7 +51,7 @@ loop-turn-preserved g c = (
         longer inv.0 c.read.new.buf c.loop-turn.turn c.in-Ok.count inv.2 c.if-count-eq0.false c.in-Ok.ensures.within,
         fed_false _ _ _ _ _ _ _ _ _ c.in-Ok-false.field-0 c.in-Ok-false.field-0-test fed,
       )),
-  c.in-Ok.ensures.fault ∙ or-false _ ∙ c.loop-turn.invariant.1,
+  c.in-Ok.ensures.fault,
   c.in-Ok-false.ensures.fault,
   c.in-Ok-false.ensures.kept ∙ c.loop-turn.invariant.3,
 )
