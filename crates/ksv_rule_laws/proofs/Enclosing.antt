@@ -14,6 +14,8 @@ use Rattle.ksv_expr_value.specs.declared.fault.FaultKind.TheVariants as kinds
 use Rattle.ksv_expr_value.specs.declared.step.Step.{Step}
 use Rattle.ksv_expr_value.specs.declared.step.Step.TheVariants as steps
 use Rattle.ksv_expr_value.specs.declared.value.Stream.{Stream}
+use Rattle.ksv_expr_value.specs.declared.value.Value.{Value}
+use Rattle.ksv_expr_value.specs.declared.value.Value.TheVariants as values
 use Rattle.ksv_desc.specs.Description.{Description, MemberOfType, MemberKind, Parameter, Attribute, ParseInstance, ValueInstance, Field, Content, Extent, Sized, SizeEos, ByItself, Repeat, Once, Eos, Expr, Until, Terminator}
 use Rattle.ksv_desc.specs.Description as contents
 use Rattle.ksv_nodes.specs.declared.node.Node.{Node}
@@ -37,18 +39,34 @@ use Rattle.ksv_nodes.specs.Reading.{reach_file, reach_within, finish_of, peek_at
 use Rattle.ksv_nodes.specs.Rule.{Rule, part, in_rest, ask_head, ask_end, ask_rest, head_node, end_node, rest_node, reach, finish, done, find}
 use Rattle.ksv_nodes.specs.Truth.{answer_of, with_given, with_seen}
 use Rattle.ksv_nodes.proofs.First.{first_at_below}
-use Rattle.ksv_rule_meaning.specs.Wanted.{in_object, holds, size_of, stream_for}
+use Rattle.ksv_rule_meaning.specs.Wanted.{expression, in_object, in_stream, holds, size_of, stream_for}
 use Rattle.ksv_rule_meaning.specs.Choosing.{Chosen, choose}
 use Rattle.ksv_rule_meaning.specs.Fields.{members_of, is_attribute, behind, Sought, sought, in_sought, member_named, last_attribute, field_of}
 use Rattle.ksv_rule_meaning.specs.Heads.{leaf, leaf_to_end, terminated_at, terminated, run_of, sized_leaf, bytes_at, sized_object, object_at, content_at, unchosen_at, chosen_at, shape_at, count_of, counted, until_eos, repeated, attribute_at, part_end, attribute_start, setting, origin_of, attribute_head, instance_setting, positioned_in, positioned, instance_head, calc, value_head, member_at, member_head, in_list, is_past, in_next, next_start, element_start, within, element_head, root_head, head_at, head_of}
 use Rattle.ksv_rule_meaning.specs.Ends.{fields_end, object_end, part_rest, list_end, place_of, is_last, not_empty, element_end, end_at, end_of, next_rest, rest_behind, rest_from, in_whole_list, first_rest, whole_rest, rest_at, rest_of}
 use Rattle.ksv_rule_meaning.specs.Meaning.{meaning_of}
 use Rattle.ksv_rule_meaning.specs.FromNothing.{answer_within, from_nothing}
-use Rattle.ksv_rule_laws.specs.Laws.{IsBetween, LiesIn, IsStreamOf, HasIo, IsElsewhere, IsHeld, AreNamesDistinct, HasDistinctNames, HeadsLieInStreams, EndsLieInStreams}
-use Rattle.ksv_rule_laws.proofs.Forms.{ok_is, goes_on, asked_head, refused, put_in, meaning_is, ruled, no_depth, stays_within, among_more}
+use Rattle.ksv_rule_laws.specs.Laws.{IsBetween, LiesIn, IsStreamFor, IsReadIn, IsHeld, AreNamesDistinct, HasDistinctNames, HeadsLieInStreams, EndsLieInStreams}
+use Rattle.ksv_rule_laws.proofs.Forms.{ok_is, goes_on, same_answer, asked_head, refused, put_in, meaning_is, ruled, no_depth, stays_within, among_more}
 use Rattle.ksv_rule_laws.proofs.Touching.{asked_end, part_is}
 
 -- ---- streams
+
+-- the stream of an object or a list
+abbrev IsStreamOf : Head → Stream → Type 0
+IsStreamOf (heads.Object o) w = o.stream ≡ w
+IsStreamOf (heads.List g) w = g.stream ≡ w
+IsStreamOf _ w = ⊥
+
+-- a parse instance that is read in the stream that its `io` names
+abbrev HasIo : MemberKind → Type 0
+HasIo (ParseInstance e (Some io) f) = Unit {0}
+HasIo _ = ⊥
+
+-- a step leads to such an instance of an object
+abbrev IsElsewhere : Description → Head → Option Step → Type 0
+IsElsewhere d (heads.Object o) (Some (steps.Name x)) = (s : Sought) × (sought x 0 None (members_of d o.type_number) ≡ Some s) × HasIo s.kind
+IsElsewhere d _ step = ⊥
 
 same_stream : (k : Head) (w w' : Stream) → IsStreamOf k w → IsStreamOf k w' → w ≡ w'
 same_stream (heads.Object o) w w' a b = sym a ∙ b
@@ -70,10 +88,50 @@ no_io : (k : MemberKind) → is_attribute k ≡ true → HasIo k → ⊥
 no_io (Attribute f) a io = io
 no_io _ a io = absurd (cc)
 
--- an element is no instance
-no_element : (d : Description) (k : Head) (i : ℕ) → IsElsewhere d k (Some (steps.Index i)) → ⊥
-no_element d (heads.Object o) i e = e
-no_element d _ i e = e
+-- other members are read in the stream of their object
+for_own : (met : Node → Result Given Fault) (bytes : List ℕ) (p : Trail) (o : Object) (k : MemberKind) (w : Stream) → (HasIo k → ⊥) → IsStreamFor met bytes p o k w → o.stream ≡ w
+for_own met bytes p o Parameter w own is = is
+for_own met bytes p o (Attribute f) w own is = is
+for_own met bytes p o (ParseInstance e None f) w own is = is
+for_own met bytes p o (ParseInstance e (Some io) f) w own is = absurd (own tt)
+for_own met bytes p o (ValueInstance condition e enum) w own is = is
+
+-- what isn't read in another stream is read in that of its holder
+read_own : (d : Description) (met : Node → Result Given Fault) (bytes : List ℕ) (p : Trail) (k : Head) (step : Step) (w : Stream) → (IsElsewhere d k (Some step) → ⊥) → IsReadIn d met bytes p k (Some step) w → IsStreamOf k w
+read_own d met bytes p (heads.Object o) (steps.Name x) w apart is = for_own met bytes p o is.0.kind w (λ io. apart (is.0, is.1, io)) is.2
+read_own d met bytes p (heads.Object o) (steps.Index i) w apart is = absurd is
+read_own d met bytes p (heads.List g) (steps.Name x) w apart is = absurd is
+read_own d met bytes p (heads.List g) (steps.Index i) w apart is = is
+read_own d met bytes p (heads.Absent at) step w apart is = absurd is
+read_own d met bytes p (heads.Calc c) step w apart is = absurd is
+read_own d met bytes p (heads.Leaf l) step w apart is = absurd is
+
+-- all elements of a list are read in one stream
+read_beside : (d : Description) (met : Node → Result Given Fault) (bytes : List ℕ) (r p : Trail) (k : Head) (i j : ℕ) (w : Stream) → IsReadIn d met bytes r k (Some (steps.Index i)) w → IsReadIn d met bytes p k (Some (steps.Index j)) w
+read_beside d met bytes r p (heads.Object o) i j w is = absurd is
+read_beside d met bytes r p (heads.List g) i j w is = is
+read_beside d met bytes r p (heads.Absent at) i j w is = absurd is
+read_beside d met bytes r p (heads.Calc c) i j w is = absurd is
+read_beside d met bytes r p (heads.Leaf l) i j w is = absurd is
+
+-- where all that answered still does, it is read in the stream in which it was
+for_still : (met met' : Node → Result Given Fault) (bytes : List ℕ) (p : Trail) (o : Object) (k : MemberKind) (w : Stream) → ((m : Node) (g : Given) → met m ≡ Ok g → met' m ≡ Ok g) → IsStreamFor met bytes p o k w → IsStreamFor met' bytes p o k w
+for_still met met' bytes p o Parameter w same is = is
+for_still met met' bytes p o (Attribute f) w same is = is
+for_still met met' bytes p o (ParseInstance e None f) w same is = is
+for_still met met' bytes p o (ParseInstance e (Some io) f) w same is = same_answer met met' p bytes same (expression (instance_setting p (parent p) o) io) (values.Stream w) is
+for_still met met' bytes p o (ValueInstance condition e enum) w same is = is
+
+read_still : (d : Description) (met met' : Node → Result Given Fault) (bytes : List ℕ) (p : Trail) (k : Head) (step : Option Step) (w : Stream) → ((m : Node) (g : Given) → met m ≡ Ok g → met' m ≡ Ok g) → IsReadIn d met bytes p k step w → IsReadIn d met' bytes p k step w
+read_still d met met' bytes p (heads.Object o) (Some (steps.Name x)) w same is = (is.0, is.1, for_still met met' bytes p o is.0.kind w same is.2)
+read_still d met met' bytes p (heads.Object o) (Some (steps.Index i)) w same is = absurd is
+read_still d met met' bytes p (heads.Object o) None w same is = absurd is
+read_still d met met' bytes p (heads.List g) (Some (steps.Index i)) w same is = is
+read_still d met met' bytes p (heads.List g) (Some (steps.Name x)) w same is = absurd is
+read_still d met met' bytes p (heads.List g) None w same is = absurd is
+read_still d met met' bytes p (heads.Absent at) step w same is = absurd is
+read_still d met met' bytes p (heads.Calc c) step w same is = absurd is
+read_still d met met' bytes p (heads.Leaf l) step w same is = absurd is
 
 -- this names an attribute of the members
 abbrev IsOfAttribute : ℕ → List MemberOfType → Type 0
@@ -171,21 +229,22 @@ module _ (d : Description) (bytes : List ℕ) where
   -- what a head, an end and a rest are in the stream of what holds them; nothing holds the root
   abbrev pub HeadLies : (Node → Result Given Fault) → Trail → Option Step → Head → Type 0
   HeadLies met p None h = BeginsIn bytes h
-  HeadLies met p (Some step) h = IsHeld d met p (λ w. LiesIn bytes w h)
+  HeadLies met p (Some step) h = (h ≡ heads.Absent None) ⊎ IsHeld d bytes met p (λ w. LiesIn bytes w h)
 
   abbrev pub EndLies : (Node → Result Given Fault) → Trail → Option Step → ℕ → Type 0
   EndLies met p None place = Unit {0}
-  EndLies met p (Some step) place = IsHeld d met p (λ w. IsBetween bytes w place)
+  EndLies met p (Some step) place = IsHeld d bytes met p (λ w. IsBetween bytes w place)
 
   abbrev pub Lies : (Node → Result Given Fault) → NodeKind → Trail → Given → Type 0
   Lies met nodes.Head p (givens.Head h) = HeadLies met p (last p) h
   Lies met nodes.End p (givens.End place is_last) = EndLies met p (last p) place
-  Lies met nodes.Rest p (givens.Rest count place) = IsHeld d met p (λ w. IsBetween bytes w place)
+  Lies met nodes.Rest p (givens.Rest count place) = IsHeld d bytes met p (λ w. IsBetween bytes w place)
   Lies met _ p g = Unit {0}
 
   head_begins : (met : Node → Result Given Fault) (p : Trail) (o : Option Step) (h : Head) → HeadLies met p o h → BeginsIn bytes h
   head_begins met p None h is = is
-  head_begins met p (Some step) h is = begins_in bytes is.stream h is.lies
+  head_begins met p (Some step) h (inl none) = subst (BeginsIn bytes) (sym none) tt
+  head_begins met p (Some step) h (inr is) = begins_in bytes is.stream h is.lies
 
 -- what the nodes that are asked answer lies so
 module _ (d : Description) (distinct : HasDistinctNames d) (met : Node → Result Given Fault) (here : Trail) (bytes : List ℕ) (lies : (m : Node) (g : Given) → met m ≡ Ok g → Lies d bytes met m.kind m.path g) where
@@ -244,13 +303,11 @@ module _ (d : Description) (distinct : HasDistinctNames d) (met : Node → Resul
       (same_trail (parent r) q (ap all_but_last (sym up)), ap first_step (sym up))
 
   -- what holds a part that isn't read in another stream is known where its head was asked
-  held_at : (P : Stream → Type 0) (r q : Trail) (step : Step) (k : Head) (w : Stream) → (parent r ≡ q) × (last r ≡ Some step) → (IsElsewhere d k (Some step) → ⊥) → met (head_node q) ≡ Ok (givens.Head k) → IsStreamOf k w → IsHeld d met r P → P w
+  held_at : (P : Stream → Type 0) (r q : Trail) (step : Step) (k : Head) (w : Stream) → (parent r ≡ q) × (last r ≡ Some step) → (IsElsewhere d k (Some step) → ⊥) → met (head_node q) ≡ Ok (givens.Head k) → IsStreamOf k w → IsHeld d bytes met r P → P w
   held_at P r q step k w up apart asked own held =
       let same : held.holder ≡ k = head_of_given held.holder k (sym held.answered ∙ ap (λ p. met (head_node p)) up.0 ∙ asked) in
-      elim held.own [
-        | inl is ↦ subst P (same_stream k held.stream w (subst (λ x. IsStreamOf x held.stream) same is) own) held.lies
-        | inr other ↦ absurd (apart (subst (λ x. IsElsewhere d x (Some step)) same (subst (λ o. IsElsewhere d held.holder o) up.1 other)))
-      ]
+      let read : IsReadIn d met bytes r k (Some step) held.stream = subst (λ x. IsReadIn d met bytes r x (Some step) held.stream) same (subst (λ o. IsReadIn d met bytes r held.holder o held.stream) up.1 held.read) in
+      subst P (same_stream k held.stream w (read_own d met bytes r k step held.stream apart read) own) held.lies
 
   part_end_in : (q : Trail) (step : Step) (x : Ended) (k : Head) (w : Stream) → (IsElsewhere d k (Some step) → ⊥) → met (head_node q) ≡ Ok (givens.Head k) → IsStreamOf k w → answer (part_end q step) ≡ Ok x → Between w x.place
   unfolding part_end
@@ -268,7 +325,7 @@ module _ (d : Description) (distinct : HasDistinctNames d) (met : Node → Resul
       by_given (Ok _) is e' = absurd (cc)
       by_given (Err f) is e' = absurd (cc)
 
-  part_rest_held : (q : Trail) (step : Step) (x : Rested) → answer (part_rest q step) ≡ Ok x → (r : Trail) × ((parent r ≡ q) × (last r ≡ Some step)) × IsHeld d met r (λ v. Between v x.place)
+  part_rest_held : (q : Trail) (step : Step) (x : Rested) → answer (part_rest q step) ≡ Ok x → (r : Trail) × ((parent r ≡ q) × (last r ≡ Some step)) × IsHeld d bytes met r (λ v. Between v x.place)
   unfolding part_rest
   part_rest_held q step x e =
       let b = goes_on met here bytes (part q step) (λ p. ask_rest p) x e in
@@ -382,13 +439,13 @@ module _ (d : Description) (distinct : HasDistinctNames d) (met : Node → Resul
       let b = goes_on met here bytes (part_end q (steps.Name y)) (λ x. Answer x.place) s e in
       subst (Between o.stream) (ok_is b.first.place s b.gave) (part_end_in q (steps.Name y) b.first (heads.Object o) o.stream apart asked refl b.was)
 
-  -- what lies in an own stream, or in the one of an `io`
-  abbrev LiesFor : Stream → MemberKind → Head → Type 0
-  LiesFor own k h = (w : Stream) × ((own ≡ w) ⊎ HasIo k) × LiesIn bytes w h
+  -- what lies in the stream in which a member at a path is read, unless it lies nowhere
+  abbrev LiesFor : Trail → Object → MemberKind → Head → Type 0
+  LiesFor p o k h = (h ≡ heads.Absent None) ⊎ ((w : Stream) × IsStreamFor met bytes p o k w × LiesIn bytes w h)
 
-  -- what lies in the own stream
-  anywhere : (own : Stream) (k : MemberKind) (x h : Head) → LiesIn bytes own x → ◌≡◌ {A = Result Head Fault} (Ok x) (Ok h) → LiesFor own k h
-  anywhere own k x h kept e = (own, inl refl, subst (LiesIn bytes own) (ok_is x h e) kept)
+  -- what lies nowhere
+  nowhere : (p : Trail) (o : Object) (k : MemberKind) (h : Head) → ◌≡◌ {A = Result Head Fault} (Ok (heads.Absent None)) (Ok h) → LiesFor p o k h
+  nowhere p o k h e = inl (sym (ok_is (heads.Absent None) h e))
 
   -- a parse instance begins behind the first byte of its stream, whichever that is
   positioned_lies : (at : Setting) (origin : Origin) (w : Stream) (e : Tree) (f : Field) (h : Head) → answer (positioned_in at origin w e f) ≡ Ok h → LiesIn bytes w h
@@ -398,41 +455,57 @@ module _ (d : Description) (distinct : HasDistinctNames d) (met : Node → Resul
       let r = goes_on met here bytes (reach w (w.from + n.first)) _ h n.gave in
       repeated_in w (w.from + n.first) (omega arith, reached w (w.from + n.first) r.first r.was) h _ origin f f.repeat r.gave
 
-  own_or_io : (at : Setting) (e : Tree) (io : Option Tree) (f : Field) (w : Stream) → answer (stream_for at io) ≡ Ok w → (at.stream ≡ w) ⊎ HasIo (ParseInstance e io f)
-  unfolding stream_for
-  own_or_io at e None f w z = inl (ok_is at.stream w z)
-  own_or_io at e (Some io) f w z = inr tt
+  -- the value of an `io` is its stream
+  stream_is : (v : Value) (w : Stream) → answer (in_stream v) ≡ Ok w → v ≡ values.Stream w
+  stream_is (values.Stream s) w z = ap values.Stream (ok_is s w z)
+  stream_is (values.Int n) w z = absurd (cc)
+  stream_is (values.Bool b) w z = absurd (cc)
+  stream_is (values.Text t) w z = absurd (cc)
+  stream_is (values.Bytes from to) w z = absurd (cc)
+  stream_is (values.Member e n) w z = absurd (cc)
+  stream_is (values.Object q) w z = absurd (cc)
+  stream_is (values.List q) w z = absurd (cc)
 
-  instance_in : (at : Setting) (origin : Origin) (e : Tree) (io : Option Tree) (f : Field) (h : Head) → answer (instance_head at origin e io f) ≡ Ok h → LiesFor at.stream (ParseInstance e io f) h
+  own_or_io : (o : Object) (e : Tree) (io : Option Tree) (f : Field) (w : Stream) → answer (stream_for (instance_setting here (parent here) o) io) ≡ Ok w → IsStreamFor met bytes here o (ParseInstance e io f) w
+  unfolding stream_for
+  own_or_io o e None f w z = ok_is o.stream w z
+  own_or_io o e (Some io) f w z =
+      let v = goes_on met here bytes (expression (instance_setting here (parent here) o) io) _ w z in
+      v.was ∙ ap Ok (stream_is v.first w v.gave)
+
+  instance_in : (o : Object) (origin : Origin) (e : Tree) (io : Option Tree) (f : Field) (h : Head) → answer (instance_head (instance_setting here (parent here) o) origin e io f) ≡ Ok h → LiesFor here o (ParseInstance e io f) h
   unfolding instance_head positioned
-  instance_in at origin e io f h z =
-      let b = goes_on met here bytes (holds at f.condition) _ h z in
+  instance_in o origin e io f h z =
+      let b = goes_on met here bytes (holds (instance_setting here (parent here) o) f.condition) _ h z in
       by_condition b.first b.gave
     where
-      by_condition : (there : Bool) → answer_of met here bytes (if there then positioned at origin e io f else Answer (heads.Absent None)) ≡ Ok h → LiesFor at.stream (ParseInstance e io f) h
+      by_condition : (there : Bool) → answer_of met here bytes (if there then positioned (instance_setting here (parent here) o) origin e io f else Answer (heads.Absent None)) ≡ Ok h → LiesFor here o (ParseInstance e io f) h
       by_condition true g =
-          let w = goes_on met here bytes (stream_for at io) _ h g in
-          (w.first, own_or_io at e io f w.first w.was, positioned_lies at origin w.first e f h w.gave)
-      by_condition false g = anywhere at.stream (ParseInstance e io f) (heads.Absent None) h tt g
+          let w = goes_on met here bytes (stream_for (instance_setting here (parent here) o) io) _ h g in
+          inr (w.first, own_or_io o e io f w.first w.was, positioned_lies (instance_setting here (parent here) o) origin w.first e f h w.gave)
+      by_condition false g = nowhere here o (ParseInstance e io f) h g
 
-  value_in : (at : Setting) (o : Object) (x : Sought) (condition : Option Tree) (k : MemberKind) (h : Head) → answer (value_head at o x condition) ≡ Ok h → LiesFor o.stream k h
+  calc_in : (o : Object) (x : Sought) (h : Head) → ◌≡◌ {A = Result Head Fault} (Ok (calc o x)) (Ok h) → LiesIn bytes o.stream h
+  calc_in o x h e = subst (LiesIn bytes o.stream) (ok_is (calc o x) h e) tt
+
+  value_in : (at : Setting) (o : Object) (x : Sought) (condition : Option Tree) (e : Tree) (enum : Option ℕ) (h : Head) → answer (value_head at o x condition) ≡ Ok h → LiesFor here o (ValueInstance condition e enum) h
   unfolding value_head
-  value_in at o x condition k h z =
+  value_in at o x condition e enum h z =
       let b = goes_on met here bytes (holds at condition) _ h z in
       by_condition b.first b.gave
     where
-      by_condition : (there : Bool) → answer_of met here bytes (if there then Answer (calc o x) else Answer (heads.Absent None)) ≡ Ok h → LiesFor o.stream k h
-      by_condition true g = anywhere o.stream k (calc o x) h tt g
-      by_condition false g = anywhere o.stream k (heads.Absent None) h tt g
+      by_condition : (there : Bool) → answer_of met here bytes (if there then Answer (calc o x) else Answer (heads.Absent None)) ≡ Ok h → LiesFor here o (ValueInstance condition e enum) h
+      by_condition true g = inr (o.stream, refl, calc_in o x h g)
+      by_condition false g = nowhere here o (ValueInstance condition e enum) h g
 
-  member_in : (p q : Trail) (o : Object) (x : Sought) (k : MemberKind) (h : Head) → IsHere d o x.before → met (head_node q) ≡ Ok (givens.Head (heads.Object o)) → Between o.stream o.start → answer (member_at p q o x k) ≡ Ok h → LiesFor o.stream k h
+  member_in : (o : Object) (x : Sought) (k : MemberKind) (h : Head) → IsHere d o x.before → met (head_node (parent here)) ≡ Ok (givens.Head (heads.Object o)) → Between o.stream o.start → answer (member_at here (parent here) o x k) ≡ Ok h → LiesFor here o k h
   unfolding member_at attribute_head
-  member_in p q o x Parameter h apart asked begins e = anywhere o.stream Parameter (calc o x) h tt e
-  member_in p q o x (Attribute f) h apart asked begins e =
-      let b = goes_on met here bytes (attribute_start q o x.before) _ h e in
-      (o.stream, inl refl, attribute_in o.stream b.first (start_in q o x.before b.first apart asked begins b.was) h _ _ f b.gave)
-  member_in p q o x (ParseInstance e io f) h apart asked begins z = instance_in (instance_setting p q o) (origin_of o x) e io f h z
-  member_in p q o x (ValueInstance condition e enum) h apart asked begins z = value_in (instance_setting p q o) o x condition (ValueInstance condition e enum) h z
+  member_in o x Parameter h apart asked begins e = inr (o.stream, refl, calc_in o x h e)
+  member_in o x (Attribute f) h apart asked begins e =
+      let b = goes_on met here bytes (attribute_start (parent here) o x.before) _ h e in
+      inr (o.stream, refl, attribute_in o.stream b.first (start_in (parent here) o x.before b.first apart asked begins b.was) h _ _ f b.gave)
+  member_in o x (ParseInstance e io f) h apart asked begins z = instance_in o (origin_of o x) e io f h z
+  member_in o x (ValueInstance condition e enum) h apart asked begins z = value_in (instance_setting here (parent here) o) o x condition e enum h z
 
   -- the member of a name
   member_is : (t x : ℕ) (m : Sought) → answer (member_named d t x) ≡ Ok m → sought x 0 None (members_of d t) ≡ Some m
@@ -443,25 +516,30 @@ module _ (d : Description) (distinct : HasDistinctNames d) (met : Node → Resul
       by_sought None h = absurd (cc)
       by_sought (Some s) h = ap Some (ok_is s m h)
 
-  member_head_in : (p : Trail) (x : ℕ) (h : Head) → last p ≡ Some (steps.Name x) → answer (member_head d p (parent p) x) ≡ Ok h → IsHeld d met p (λ w. LiesIn bytes w h)
+  member_head_in : (x : ℕ) (h : Head) → last here ≡ Some (steps.Name x) → answer (member_head d here (parent here) x) ≡ Ok h → (h ≡ heads.Absent None) ⊎ IsHeld d bytes met here (λ w. LiesIn bytes w h)
   unfolding member_head
-  member_head_in p x h step e =
-      let k = goes_on met here bytes (ask_head (parent p)) _ h e in
-      let o = goes_on met here bytes (in_object (parent p) k.first) _ h k.gave in
+  member_head_in x h step e =
+      let k = goes_on met here bytes (ask_head (parent here)) _ h e in
+      let o = goes_on met here bytes (in_object (parent here) k.first) _ h k.gave in
       let m = goes_on met here bytes (member_named d o.first.type_number x) _ h o.gave in
-      by_head k.first o.first m.first (asked_head met here bytes (parent p) k.first k.was) (head_begins d bytes met (parent p) (last (parent p)) k.first (head_lies (parent p) k.first k.was)) o.was (member_is o.first.type_number x m.first m.was) m.gave
+      by_head k.first o.first m.first (asked_head met here bytes (parent here) k.first k.was) (head_begins d bytes met (parent here) (last (parent here)) k.first (head_lies (parent here) k.first k.was)) o.was (member_is o.first.type_number x m.first m.was) m.gave
     where
-      by_head : (k : Head) (o : Object) (m : Sought) → met (head_node (parent p)) ≡ Ok (givens.Head k) → BeginsIn bytes k → answer_of met here bytes (in_object (parent p) k) ≡ Ok o → sought x 0 None (members_of d o.type_number) ≡ Some m
-          → answer_of met here bytes (member_at p (parent p) o m m.kind) ≡ Ok h → IsHeld d met p (λ w. LiesIn bytes w h)
+      by_head : (k : Head) (o : Object) (m : Sought) → met (head_node (parent here)) ≡ Ok (givens.Head k) → BeginsIn bytes k → answer_of met here bytes (in_object (parent here) k) ≡ Ok o → sought x 0 None (members_of d o.type_number) ≡ Some m
+          → answer_of met here bytes (member_at here (parent here) o m m.kind) ≡ Ok h → (h ≡ heads.Absent None) ⊎ IsHeld d bytes met here (λ w. LiesIn bytes w h)
       by_head (heads.Object o') o m asked begins is of g =
           let same : o' ≡ o = ok_is o' o is in
-          let now : met (head_node (parent p)) ≡ Ok (givens.Head (heads.Object o)) = asked ∙ ap (λ y. Ok (givens.Head (heads.Object y))) same in
-          let l = member_in p (parent p) o m m.kind h (before_here d distinct o x m m.before of refl) now (subst (λ (y : Object). IsBetween bytes y.stream y.start) same begins) g in
-          let own : (o.stream ≡ l.0) ⊎ IsElsewhere d (heads.Object o) (last p) = elim l.1 [
-            | inl is ↦ inl is
-            | inr io ↦ inr (subst (λ z. IsElsewhere d (heads.Object o) z) (sym step) (m, of, io))
-          ] in
-          record { holder = heads.Object o; answered = now; stream = l.0; own = own; lies = l.2 }
+          let now : met (head_node (parent here)) ≡ Ok (givens.Head (heads.Object o)) = asked ∙ ap (λ y. Ok (givens.Head (heads.Object y))) same in
+          let l = member_in o m m.kind h (before_here d distinct o x m m.before of refl) now (subst (λ (y : Object). IsBetween bytes y.stream y.start) same begins) g in
+          elim l [
+            | inl none ↦ inl none
+            | inr there ↦ inr (record {
+              holder = heads.Object o;
+              answered = now;
+              stream = there.0;
+              read = subst (λ z. IsReadIn d met bytes here (heads.Object o) z there.0) (sym step) (m, of, there.1);
+              lies = there.2;
+            })
+          ]
       by_head _ o m asked begins is of g = absurd (cc)
 
   next_in : (l : Trail) (g : lists.List) (i s : ℕ) → met (head_node l) ≡ Ok (givens.Head (heads.List g)) → answer (next_start l i) ≡ Ok s → Between g.stream s
@@ -478,9 +556,9 @@ module _ (d : Description) (distinct : HasDistinctNames d) (met : Node → Resul
       by_first true e' = subst (λ n. IsBetween bytes g.stream n) (ok_is g.start s e') begins
       by_first false e' = next_in l g (i - 1) s asked e'
 
-  element_in : (p q : Trail) (i : ℕ) (h : Head) → answer (element_head d p (parent p) q i) ≡ Ok h → IsHeld d met p (λ w. LiesIn bytes w h)
+  element_in : (p q : Trail) (i : ℕ) (h : Head) → last p ≡ Some (steps.Index i) → answer (element_head d p (parent p) q i) ≡ Ok h → IsHeld d bytes met p (λ w. LiesIn bytes w h)
   unfolding element_head
-  element_in p q i h e =
+  element_in p q i h step e =
       let k = goes_on met here bytes (ask_head (parent p)) _ h e in
       let g = goes_on met here bytes (in_list (parent p) k.first) _ h k.gave in
       let s = goes_on met here bytes (element_start (parent p) g.first i) _ h g.gave in
@@ -489,17 +567,17 @@ module _ (d : Description) (distinct : HasDistinctNames d) (met : Node → Resul
       (λ begins. shape_in g.first.stream s.first begins h (within (setting q g.first.origin.home s.first p) i) g.first.origin f.first f.gave)
     where
       by_head : (k : Head) (g : lists.List) (s : ℕ) → met (head_node (parent p)) ≡ Ok (givens.Head k) → BeginsIn bytes k → answer_of met here bytes (in_list (parent p) k) ≡ Ok g → answer_of met here bytes (element_start (parent p) g i) ≡ Ok s
-          → (IsBetween bytes g.stream s → LiesIn bytes g.stream h) → IsHeld d met p (λ w. LiesIn bytes w h)
+          → (IsBetween bytes g.stream s → LiesIn bytes g.stream h) → IsHeld d bytes met p (λ w. LiesIn bytes w h)
       by_head (heads.List g') g s asked begins is start shape =
           let same : g' ≡ g = ok_is g' g is in
           let now : met (head_node (parent p)) ≡ Ok (givens.Head (heads.List g)) = asked ∙ ap (λ y. Ok (givens.Head (heads.List y))) same in
-          record { holder = heads.List g; answered = now; stream = g.stream; own = inl refl; lies = shape (element_start_in (parent p) g i s now (subst (λ (y : lists.List). IsBetween bytes y.stream y.start) same begins) start) }
+          record { holder = heads.List g; answered = now; stream = g.stream; read = subst (λ z. IsReadIn d met bytes p (heads.List g) z g.stream) (sym step) refl; lies = shape (element_start_in (parent p) g i s now (subst (λ (y : lists.List). IsBetween bytes y.stream y.start) same begins) start) }
       by_head _ g s asked begins is start shape = absurd (cc)
 
-  head_in : (p : Trail) (o : Option Step) (h : Head) → last p ≡ o → answer (head_at d p o) ≡ Ok h → HeadLies d bytes met p o h
-  head_in p None h is e = subst (BeginsIn bytes) (ok_is root_head h e) (omega arith, omega arith)
-  head_in p (Some (steps.Name x)) h is e = member_head_in p x h is e
-  head_in p (Some (steps.Index i)) h is e = element_in p (parent (parent p)) i h e
+  head_in : (o : Option Step) (h : Head) → last here ≡ o → answer (head_at d here o) ≡ Ok h → HeadLies d bytes met here o h
+  head_in None h is e = subst (BeginsIn bytes) (ok_is root_head h e) (omega arith, omega arith)
+  head_in (Some (steps.Name x)) h is e = member_head_in x h is e
+  head_in (Some (steps.Index i)) h is e = inr (element_in here (parent (parent here)) i h is e)
 
   -- ---- ends
 
@@ -534,6 +612,11 @@ module _ (d : Description) (distinct : HasDistinctNames d) (met : Node → Resul
       let r = part_rest_held p (steps.Index 0) b.first b.was in
       place_is w b.first.place e (held_at (λ v. Between v b.first.place) r.0 p (steps.Index 0) (heads.List g) w r.1 (λ x. x) asked is.1 r.2) b.gave
 
+  -- what lies nowhere has no end
+  no_end : (p : Trail) (h : Head) (e : ℕ) → h ≡ heads.Absent None → answer (place_of d p h) ≡ Ok e → ⊥
+  unfolding place_of
+  no_end p h e none z = let gone : answer (place_of d p (heads.Absent None)) ≡ Ok e = subst (λ k. answer (place_of d p k) ≡ Ok e) none z in cc
+
   -- the end of an element is its place
   place_was : (e : ℕ) (b : Bool) (x : Ended) → ◌≡◌ {A = Result Ended Fault} (Ok (record { place = e; last = b })) (Ok x) → e ≡ x.place
   place_was e b x z = ap (λ (y : Ended). y.place) (ok_is (record { place = e; last = b }) x z)
@@ -558,44 +641,43 @@ module _ (d : Description) (distinct : HasDistinctNames d) (met : Node → Resul
     where
       by_step : (o : Option Step) (h : Head) (e : ℕ) → met (head_node p) ≡ Ok (givens.Head h) → HeadLies d bytes met p o h → answer_of met here bytes (place_of d p h) ≡ Ok e → e ≡ x.place → EndLies d bytes met p o x.place
       by_step None h e asked is was same = tt
-      by_step (Some step) h e asked is was same = record { holder = is.holder; answered = is.answered; stream = is.stream; own = is.own; lies = subst (λ n. IsBetween bytes is.stream n) same (place_in p h is.stream e asked is.lies was) }
+      by_step (Some step) h e asked (inl none) was same = absurd (no_end p h e none was)
+      by_step (Some step) h e asked (inr is) was same = record { holder = is.holder; answered = is.answered; stream = is.stream; read = is.read; lies = subst (λ n. IsBetween bytes is.stream n) same (place_in p h is.stream e asked is.lies was) }
 
   -- ---- rests
 
   -- a place in the stream of the list of an element
   abbrev RestLies : Trail → ℕ → Type 0
-  RestLies p place = IsHeld d met p (λ w. IsBetween bytes w place)
+  RestLies p place = IsHeld d bytes met p (λ w. IsBetween bytes w place)
 
-  rest_of_part : (p : Trail) (i : ℕ) (x : Rested) → answer (part_rest (parent p) (steps.Index i)) ≡ Ok x → RestLies p x.place
-  rest_of_part p i x e =
+  rest_of_part : (p : Trail) (i j : ℕ) (x : Rested) → last p ≡ Some (steps.Index j) → answer (part_rest (parent p) (steps.Index i)) ≡ Ok x → RestLies p x.place
+  rest_of_part p i j x is e =
       let r = part_rest_held (parent p) (steps.Index i) x e in
       let a = r.2 in
-      let own : IsStreamOf a.holder a.stream = elim a.own [
-        | inl is ↦ is
-        | inr other ↦ absurd (no_element d a.holder i (subst (λ o. IsElsewhere d a.holder o) r.1.1 other))
-      ] in
-      record { holder = a.holder; answered = ap (λ q. met (head_node q)) (sym r.1.0) ∙ a.answered; stream = a.stream; own = inl own; lies = a.lies }
+      let read : IsReadIn d met bytes p a.holder (last p) a.stream =
+      subst (λ o. IsReadIn d met bytes p a.holder o a.stream) (sym is) (read_beside d met bytes r.0 p a.holder i j a.stream (subst (λ o. IsReadIn d met bytes r.0 a.holder o a.stream) r.1.1 a.read)) in
+      record { holder = a.holder; answered = ap (λ q. met (head_node q)) (sym r.1.0) ∙ a.answered; stream = a.stream; read = read; lies = a.lies }
 
-  rest_from_in : (p : Trail) (i : ℕ) (step : Step) (x : Rested) → last p ≡ Some step → answer (rest_from p (parent p) i) ≡ Ok x → RestLies p x.place
+  rest_from_in : (p : Trail) (i j : ℕ) (x : Rested) → last p ≡ Some (steps.Index j) → answer (rest_from p (parent p) i) ≡ Ok x → RestLies p x.place
   unfolding rest_from next_rest
-  rest_from_in p i step x is z =
+  rest_from_in p i j x is z =
       let e = goes_on met here bytes (ask_end p) (λ y. rest_behind (parent p) i y) x z in
       by_last e.first.last e.first.place (subst (λ o. EndLies d bytes met p o e.first.place) is (lies (end_node p) (givens.End e.first.place e.first.last) (asked_end met here bytes p e.first e.was))) e.gave
     where
       by_last : (b : Bool) (place : ℕ) → RestLies p place → answer_of met here bytes (if b then Answer (record { count = i + 1; place = place }) else next_rest (parent p) i) ≡ Ok x → RestLies p x.place
       by_last true place held z' = subst (λ (y : Rested). RestLies p y.place) (ok_is (record { count = i + 1; place = place }) x z') held
-      by_last false place held z' = rest_of_part p (i + 1) x (refused met here bytes _ (part_rest (parent p) (steps.Index (i + 1))) kinds.TooMany x z')
+      by_last false place held z' = rest_of_part p (i + 1) j x is (refused met here bytes _ (part_rest (parent p) (steps.Index (i + 1))) kinds.TooMany x z')
 
-  whole_rest_in : (p : Trail) (step : Step) (x : Rested) → last p ≡ Some step → answer (whole_rest p (parent p)) ≡ Ok x → RestLies p x.place
+  whole_rest_in : (p : Trail) (j : ℕ) (x : Rested) → last p ≡ Some (steps.Index j) → answer (whole_rest p (parent p)) ≡ Ok x → RestLies p x.place
   unfolding whole_rest
-  whole_rest_in p step x is z =
+  whole_rest_in p j x is z =
       let h = goes_on met here bytes (ask_head (parent p)) _ x z in
       let g = goes_on met here bytes (in_whole_list (parent p) h.first) _ x h.gave in
       by_head h.first g.first (asked_head met here bytes (parent p) h.first h.was) (head_begins d bytes met (parent p) (last (parent p)) h.first (head_lies (parent p) h.first h.was)) g.was g.gave
     where
       by_empty : (b : Bool) (g : lists.List) → met (head_node (parent p)) ≡ Ok (givens.Head (heads.List g)) → IsBetween bytes g.stream g.start → answer_of met here bytes (if b then Answer (record { count = 0; place = g.start }) else rest_from p (parent p) 0) ≡ Ok x → RestLies p x.place
-      by_empty true g asked begins z' = subst (λ (y : Rested). RestLies p y.place) (ok_is (record { count = 0; place = g.start }) x z') (record { holder = heads.List g; answered = asked; stream = g.stream; own = inl refl; lies = begins })
-      by_empty false g asked begins z' = rest_from_in p 0 step x is z'
+      by_empty true g asked begins z' = subst (λ (y : Rested). RestLies p y.place) (ok_is (record { count = 0; place = g.start }) x z') (record { holder = heads.List g; answered = asked; stream = g.stream; read = subst (λ o. IsReadIn d met bytes p (heads.List g) o g.stream) (sym is) refl; lies = begins })
+      by_empty false g asked begins z' = rest_from_in p 0 j x is z'
 
       by_head : (k : Head) (g : lists.List) → met (head_node (parent p)) ≡ Ok (givens.Head k) → BeginsIn bytes k → answer_of met here bytes (in_whole_list (parent p) k) ≡ Ok g → answer_of met here bytes (first_rest p (parent p) g) ≡ Ok x → RestLies p x.place
       by_head (heads.List g') g asked begins was z' =
@@ -608,43 +690,44 @@ module _ (d : Description) (distinct : HasDistinctNames d) (met : Node → Resul
   rest_of_in p x z = by_step (last p) refl z
     where
       by_zero : (b : Bool) (i : ℕ) → last p ≡ Some (steps.Index i) → answer_of met here bytes (if b then whole_rest p (parent p) else rest_from p (parent p) i) ≡ Ok x → RestLies p x.place
-      by_zero true i is z' = whole_rest_in p (steps.Index i) x is z'
-      by_zero false i is z' = rest_from_in p i (steps.Index i) x is z'
+      by_zero true i is z' = whole_rest_in p i x is z'
+      by_zero false i is z' = rest_from_in p i i x is z'
 
       by_step : (o : Option Step) → last p ≡ o → answer_of met here bytes (rest_at p o) ≡ Ok x → RestLies p x.place
       by_step None is z' = absurd (cc)
       by_step (Some (steps.Name n)) is z' = absurd (cc)
       by_step (Some (steps.Index i)) is z' = by_zero (i == 0) i is z'
 
-  meaning_in : (k : NodeKind) (p : Trail) (g : Given) → answer (meaning_of d k p) ≡ Ok g → Lies d bytes met k p g
+  meaning_in : (k : NodeKind) (g : Given) → answer (meaning_of d k here) ≡ Ok g → Lies d bytes met k here g
   unfolding meaning_of head_of
-  meaning_in nodes.Head p g e = put_in met here bytes (head_of d p) (λ x. givens.Head x) (Lies d bytes met nodes.Head p) g (λ x e'. head_in p (last p) x refl e') e
-  meaning_in nodes.Value p g e = value_lies g
+  meaning_in nodes.Head g e = put_in met here bytes (head_of d here) (λ x. givens.Head x) (Lies d bytes met nodes.Head here) g (λ x e'. head_in (last here) x refl e') e
+  meaning_in nodes.Value g e = value_lies g
     where
-      value_lies : (x : Given) → Lies d bytes met nodes.Value p x
+      value_lies : (x : Given) → Lies d bytes met nodes.Value here x
       value_lies (givens.Head h) = tt
       value_lies _ = tt
-  meaning_in nodes.End p g e = put_in met here bytes (end_of d p) (λ x. givens.End x.place x.last) (Lies d bytes met nodes.End p) g (λ x e'. end_of_in p x e') e
-  meaning_in nodes.Rest p g e = put_in met here bytes (rest_of d p) (λ x. givens.Rest x.count x.place) (Lies d bytes met nodes.Rest p) g (λ x e'. rest_of_in p x e') e
+  meaning_in nodes.End g e = put_in met here bytes (end_of d here) (λ x. givens.End x.place x.last) (Lies d bytes met nodes.End here) g (λ x e'. end_of_in here x e') e
+  meaning_in nodes.Rest g e = put_in met here bytes (rest_of d here) (λ x. givens.Rest x.count x.place) (Lies d bytes met nodes.Rest here) g (λ x e'. rest_of_in here x e') e
 
 -- ---- evaluation from nothing
 
 -- where all that answered still does, it lies as it did
-still_held : (d : Description) (met met' : Node → Result Given Fault) (p : Trail) (P : Stream → Type 0) → ((m : Node) (g : Given) → met m ≡ Ok g → met' m ≡ Ok g) → IsHeld d met p P → IsHeld d met' p P
-still_held d met met' p P same i = record { holder = i.holder; answered = same (head_node (parent p)) (givens.Head i.holder) i.answered; stream = i.stream; own = i.own; lies = i.lies }
+still_held : (d : Description) (bytes : List ℕ) (met met' : Node → Result Given Fault) (p : Trail) (P : Stream → Type 0) → ((m : Node) (g : Given) → met m ≡ Ok g → met' m ≡ Ok g) → IsHeld d bytes met p P → IsHeld d bytes met' p P
+still_held d bytes met met' p P same i = record { holder = i.holder; answered = same (head_node (parent p)) (givens.Head i.holder) i.answered; stream = i.stream; read = read_still d met met' bytes p i.holder (last p) i.stream same i.read; lies = i.lies }
 
 still_lies : (d : Description) (bytes : List ℕ) (met met' : Node → Result Given Fault) (k : NodeKind) (p : Trail) (g : Given) → ((m : Node) (g : Given) → met m ≡ Ok g → met' m ≡ Ok g) → Lies d bytes met k p g → Lies d bytes met' k p g
 still_lies d bytes met met' nodes.Head p (givens.Head h) same is = by_step (last p) is
   where
     by_step : (o : Option Step) → HeadLies d bytes met p o h → HeadLies d bytes met' p o h
     by_step None i = i
-    by_step (Some step) i = still_held d met met' p (λ w. LiesIn bytes w h) same i
+    by_step (Some step) (inl none) = inl none
+    by_step (Some step) (inr i) = inr (still_held d bytes met met' p (λ w. LiesIn bytes w h) same i)
 still_lies d bytes met met' nodes.End p (givens.End place is_last) same is = by_step (last p) is
   where
     by_step : (o : Option Step) → EndLies d bytes met p o place → EndLies d bytes met' p o place
     by_step None i = tt
-    by_step (Some step) i = still_held d met met' p (λ w. IsBetween bytes w place) same i
-still_lies d bytes met met' nodes.Rest p (givens.Rest count place) same is = still_held d met met' p (λ w. IsBetween bytes w place) same is
+    by_step (Some step) i = still_held d bytes met met' p (λ w. IsBetween bytes w place) same i
+still_lies d bytes met met' nodes.Rest p (givens.Rest count place) same is = still_held d bytes met met' p (λ w. IsBetween bytes w place) same is
 still_lies d bytes met met' _ p _ same is = tt
 
 module _ (d : Description) (distinct : HasDistinctNames d) (bytes : List ℕ) where
@@ -654,7 +737,7 @@ module _ (d : Description) (distinct : HasDistinctNames d) (bytes : List ℕ) wh
       let met = answer_within d bytes depth (n ∷ opened) in
       still_lies d bytes met (answer_within d bytes (suc depth) opened) n.kind n.path g
       (λ m g' e. stays_within d bytes depth (suc depth) (n ∷ opened) opened m g' (omega arith) (among_more n opened) e)
-      (meaning_in d distinct met n.path bytes (λ m g' e. lies_within depth (n ∷ opened) m g' e) n.kind n.path g (meaning_is met n.path bytes d n g (ruled d bytes depth opened n g h).1))
+      (meaning_in d distinct met n.path bytes (λ m g' e. lies_within depth (n ∷ opened) m g' e) n.kind g (meaning_is met n.path bytes d n g (ruled d bytes depth opened n g h).1))
 
 pub heads_lie_in_streams : HeadsLieInStreams
 unfolding from_nothing

@@ -284,7 +284,7 @@ answers_have_forms d bytes opened n g h = forms_within d bytes node_bound opened
 -- ---- fewer open nodes
 
 -- a rule answers the same where each node that answered still does
-same_answer : (met met' : Node → Result Given Fault) (here : Trail) (bytes : List ℕ) → ((m : Node) (g : Given) → met m ≡ Ok g → met' m ≡ Ok g)
+pub same_answer : (met met' : Node → Result Given Fault) (here : Trail) (bytes : List ℕ) → ((m : Node) (g : Given) → met m ≡ Ok g → met' m ≡ Ok g)
     → {A : Type 0} (p : Rule A) (a : A) → answer_of met here bytes p ≡ Ok a → answer_of met' here bytes p ≡ Ok a
 same_answer met met' here bytes same (Answer x) a h = h
 same_answer met met' here bytes same (Fail e) a h = absurd (cc)

@@ -35,6 +35,8 @@ use Rattle.ksv_nodes.specs.Truth.{answer_of, asks_of}
 use Rattle.ksv_nodes.specs.Turning.{fault_at}
 use Rattle.ksv_rule_meaning.specs.Ends.{start_of}
 use Rattle.ksv_rule_meaning.specs.Fields.{members_of, is_attribute, Sought, sought}
+use Rattle.ksv_rule_meaning.specs.Heads.{instance_setting}
+use Rattle.ksv_rule_meaning.specs.Wanted.{expression}
 use Rattle.ksv_rule_meaning.specs.Meaning.{rule_of}
 use Rattle.ksv_rule_meaning.specs.FromNothing.{from_nothing, asks}
 use Rattle.ksv_rule_meaning.specs.Described.{described}
@@ -334,28 +336,24 @@ LiesIn bytes w (heads.Leaf l) = IsBetween bytes w l.from × IsBetween bytes w l.
 LiesIn bytes w (heads.Object o) = IsBetween bytes w o.start × IsBetween bytes w o.stream.from × (end_in bytes o.stream.to ≤ end_in bytes w.to) × IsBetween bytes o.stream o.start
 LiesIn bytes w (heads.List g) = IsBetween bytes w g.start × (g.stream ≡ w)
 
--- the stream in which the attributes of an object, or the elements of a list, are read
-abbrev pub IsStreamOf : Head → Stream → Type 0
-IsStreamOf (heads.Object o) w = o.stream ≡ w
-IsStreamOf (heads.List g) w = g.stream ≡ w
-IsStreamOf _ w = ⊥
+-- The stream in which a member of an object, at the path p, is read: of a parse instance with `io` the one that its `io` answers,
+-- evaluated where its object begins; of any other member the object's own.
+abbrev pub IsStreamFor : (Node → Result Given Fault) → List ℕ → Trail → Object → MemberKind → Stream → Type 0
+IsStreamFor met bytes p o (ParseInstance e (Some io) f) w = answer_of met p bytes (expression (instance_setting p (parent p) o) io) ≡ Ok (values.Stream w)
+IsStreamFor met bytes p o _ w = o.stream ≡ w
 
--- a parse instance that is read in the stream that its `io` names
-abbrev pub HasIo : MemberKind → Type 0
-HasIo (ParseInstance e (Some io) f) = Unit {0}
-HasIo _ = ⊥
+-- the stream in which what a step of an object or a list leads to is read: an element in its list's
+abbrev pub IsReadIn : Description → (Node → Result Given Fault) → List ℕ → Trail → Head → Option Step → Stream → Type 0
+IsReadIn d met bytes p (heads.Object o) (Some (Name x)) w = (s : Sought) × (sought x 0 None (members_of d o.type_number) ≡ Some s) × IsStreamFor met bytes p o s.kind w
+IsReadIn d met bytes p (heads.List g) (Some (Index i)) w = g.stream ≡ w
+IsReadIn d met bytes p _ step w = ⊥
 
--- a step leads to such an instance of an object
-abbrev pub IsElsewhere : Description → Head → Option Step → Type 0
-IsElsewhere d (heads.Object o) (Some (Name x)) = (s : Sought) × (sought x 0 None (members_of d o.type_number) ≡ Some s) × HasIo s.kind
-IsElsewhere d _ step = ⊥
-
--- this is true of the stream of the object or list that holds a path, or, where its `io` names another, of a stream
-pub record IsHeld (d : Description) (met : Node → Result Given Fault) (p : Trail) (P : Stream → Type 0) : Type 0 where
+-- this is true of the stream in which what is at a path is read
+pub record IsHeld (d : Description) (bytes : List ℕ) (met : Node → Result Given Fault) (p : Trail) (P : Stream → Type 0) : Type 0 where
   pub holder : Head
   pub answered : met (head_node (parent p)) ≡ Ok (givens.Head holder)
   pub stream : Stream
-  pub own : IsStreamOf holder stream ⊎ IsElsewhere d holder (last p)
+  pub read : IsReadIn d met bytes p holder (last p) stream
   pub lies : P stream
 
 -- no two members of a type have one name: `load` accepts no other descriptions
@@ -366,11 +364,12 @@ AreNamesDistinct (m ∷ ms) = AllByRecursion (λ n. (n.name == m.name) ≡ false
 abbrev pub HasDistinctNames : Description → Type 0
 HasDistinctNames d = (t : ℕ) → AreNamesDistinct (members_of d t)
 
--- What is at a path, and where it ends, lies in the stream of the object or list that holds it, or in the one of its `io`.
+-- What is at a path, and where it ends, lies in the stream of the object or list that holds it; a parse instance with `io` in the one
+-- that its `io` answers. An instance whose `if` is false lies nowhere.
 abbrev pub HeadsLieInStreams : Type 0
 HeadsLieInStreams = (d : Description) (bytes : List ℕ) (opened : List Node) (p : Trail) (step : Step) (h : Head) → HasDistinctNames d → last p ≡ Some step → from_nothing d bytes opened (head_node p) ≡ Ok (givens.Head h)
-    → IsHeld d (from_nothing d bytes opened) p (λ w. LiesIn bytes w h)
+    → (h ≡ heads.Absent None) ⊎ IsHeld d bytes (from_nothing d bytes opened) p (λ w. LiesIn bytes w h)
 
 abbrev pub EndsLieInStreams : Type 0
 EndsLieInStreams = (d : Description) (bytes : List ℕ) (opened : List Node) (p : Trail) (step : Step) (place : ℕ) (is_last : Bool) → HasDistinctNames d → last p ≡ Some step → from_nothing d bytes opened (end_node p) ≡ Ok (givens.End place is_last)
-    → IsHeld d (from_nothing d bytes opened) p (λ w. IsBetween bytes w place)
+    → IsHeld d bytes (from_nothing d bytes opened) p (λ w. IsBetween bytes w place)
