@@ -19,14 +19,15 @@ class Result:
     """What was found of one table."""
 
     def __init__(self, name):
-        self.name = name
+        self.name, self.kind = name, None  # the kind is that of the present row
         self.rows = self.replies = self.alike = 0
-        self.unjudged = {}
+        self.judged, self.unjudged = {}, {}
         self.differences = []
 
     def compare(self, line, wanted, own):
         """One wanted reply and the own one."""
         self.replies += 1
+        self.judged[self.kind] = self.judged.get(self.kind, 0) + 1
         if wanted == own:
             self.alike += 1
         else:
@@ -37,8 +38,9 @@ class Result:
         self.replies += other.replies
         self.alike += other.alike
         self.differences += other.differences
-        for what, count in other.unjudged.items():
-            self.unjudged[what] = self.unjudged.get(what, 0) + count
+        for mine, others in ((self.judged, other.judged), (self.unjudged, other.unjudged)):
+            for what, count in others.items():
+                mine[what] = mine.get(what, 0) + count
 
     def cannot(self, what, replies=1):
         """Replies of a kind that isn't judged."""
@@ -53,27 +55,28 @@ class Row:
     def __init__(self, title):
         self.title, self.description, self.kind, self.words, self.questions = title, [], None, "", []
 
+    def take(self, number, line):
+        """One line more: of the description before the kind is known, then a question or a reply."""
+        if self.kind is None:
+            self.description.append(line)
+        elif line.startswith("> ") or line == ">":
+            if not self.questions:
+                self.questions.append((number, None, []))
+            self.questions[-1][2].append((number, line[2:]))
+        else:
+            self.questions.append((number, line, []))
+
 
 def rows_of(lines):
     """The rows of a table with kind lines."""
-    row, rows = None, []
+    rows = []
     for number, line in enumerate(lines, 1):
         if line.startswith("== "):
-            row = Row(line[3:])
-            rows.append(row)
-        elif row is None:
-            continue
-        elif row.kind is None:
-            if line.startswith("-- "):
-                row.kind, _, row.words = line[3:].partition(" ")
-            else:
-                row.description.append(line)
-        elif line.startswith("> ") or line == ">":
-            if not row.questions:
-                row.questions.append((number, None, []))
-            row.questions[-1][2].append((number, line[2:]))
-        else:
-            row.questions.append((number, line, []))
+            rows.append(Row(line[3:]))
+        elif rows and rows[-1].kind is None and line.startswith("-- "):
+            rows[-1].kind, _, rows[-1].words = line[3:].partition(" ")
+        elif rows:
+            rows[-1].take(number, line)
     return rows
 
 
@@ -246,7 +249,7 @@ def judge_tree(result, row):
 
 
 JUDGES = {
-    "file": judge_file, "cut": judge_cut, "inputs": judge_inputs, "broken": judge_broken, "load": judge_load,
+    "file": judge_file, "reference": judge_file, "cut": judge_cut, "inputs": judge_inputs, "broken": judge_broken, "load": judge_load,
     "trees": judge_trees, "tree": judge_tree,
 }
 
@@ -263,6 +266,7 @@ def judge_apart(result, row):
     if child == 0:
         try:
             own = Result(result.name)
+            own.kind = row.kind
             JUDGES[row.kind](own, row)
             with os.fdopen(writer, "wb") as out:
                 pickle.dump(own, out)
@@ -277,18 +281,11 @@ def judge_apart(result, row):
     result.add(pickle.loads(data))
 
 
-def judge_table(path, root):
-    """All rows of one table."""
-    result = Result(os.path.relpath(path, root))
-    with open(path, encoding="utf-8", newline="\n") as table:
-        lines = table.read().split("\n")
-    if lines[-1] == "":
-        lines.pop()
-    if not any(line.startswith("-- ") for line in lines):
-        expression_tables.judge(result, lines)
-        return result
-    for row in rows_of(lines):
+def judge_rows(result, rows):
+    """All rows of a table."""
+    for row in rows:
         result.rows += 1
+        result.kind = row.kind
         judge = JUDGES.get(row.kind)
         if judge is None:
             result.cannot(f"kind {row.kind}", sum(len(wanted) for _, _, wanted in row.questions))
@@ -300,22 +297,58 @@ def judge_table(path, root):
     return result
 
 
-def judge_example(path, root):
+def lines_of(path):
+    """The lines of a file."""
+    with open(path, encoding="utf-8", newline="\n") as table:
+        return table.read().removesuffix("\n").split("\n")
+
+
+def judge_table(path):
+    """A table of rows: one of expressions has no line that tells a row's kind."""
+    result, lines = Result(path), lines_of(path)
+    if any(line.startswith("-- ") for line in lines):
+        return judge_rows(result, rows_of(lines))
+    result.kind = "expressions"
+    expression_tables.judge(result, lines)
+    return result
+
+
+def judge_example(path):
     """An example: a description, a file, commands and replies."""
-    result = Result(os.path.relpath(path, root))
-    result.rows = 1
-    base = path[:-len(".ksy")]
+    result = Result(path)
+    result.rows, result.kind = 1, "example"
     data = {}
     for ending in ("ksy", "bin", "cmd", "out"):
-        with open(f"{base}.{ending}", "rb") as part:
+        with open(f"{path.removesuffix('ksy')}{ending}", "rb") as part:
             data[ending] = part.read()
     found, refusal = describe(data["ksy"])
     replies = [message(refusal)] if refusal else run(Session(found, data["bin"]), data["cmd"])[0]
-    wanted = data["out"].decode("utf-8").split("\n")[:-1]
+    wanted = data["out"].decode("utf-8").removesuffix("\n").split("\n")
     compare_lines(result, [(0, None, list(enumerate(wanted, 1)))], replies)
     return result
 
 
-def all_paths(root):
-    """The tables and the examples of a repository."""
-    return sorted(glob.glob(f"{root}/crates/*/data/*.txt")), sorted(glob.glob(f"{root}/examples/*.ksy"))
+def judge_reference(path):
+    """The blocks of a reference: each is a dialogue."""
+    lines, rows, inside = lines_of(path), [], False
+    for number, line in enumerate(lines, 1):
+        if line == "```ksv":
+            inside = True
+            row = Row(f"block at line {number}")
+            rows.append(row)
+        elif line == "```":
+            inside = False
+        elif inside and row.kind is None and (line == "--" or line.startswith("-- ")):
+            row.kind, row.words = "reference", line[3:]
+        elif inside:
+            row.take(number, line)
+    return judge_rows(Result(path), rows)
+
+
+def all_tables(root):
+    """The tables, examples and the reference of a repository, each with who judges it."""
+    for path in sorted(glob.glob(f"{root}/crates/*/data/*.txt")):
+        yield judge_table, path
+    for path in sorted(glob.glob(f"{root}/examples/*.ksy")):
+        yield judge_example, path
+    yield judge_reference, f"{root}/docs/REFERENCE.md"
