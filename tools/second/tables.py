@@ -7,6 +7,7 @@ import pickle
 import re
 
 import expression_tables
+import name_tables
 import yaml_reader
 from session import Session, describe, message, run
 
@@ -217,16 +218,38 @@ def judge_broken(result, row):
         result.compare(line, wanted, f"after {count}: {len(replies)} lines of the output, ends by {ends}")
 
 
-def judge_load(result, row):
-    """Whether a description is accepted; further questions are those of `readers`."""
-    _, refusal = describe(text_of(row))
-    own = "ok" if refusal is None else "{1} line {0}: {2}".format(*refusal)
-    for line, question, wanted in row.questions:
-        for number, text in wanted:
-            if question is None:
-                result.compare(number, text, own)
+def judge_names(result, row):
+    """Names and declarations; of a description that is loaded also whether it is accepted. A reply begins with its question's
+    first word, save that to the load itself."""
+    declared = None
+    for _, question, wanted in row.questions:
+        if question is None:
+            _, refusal = describe(text_of(row))
+            own = "ok" if refusal is None else "{1} line {0}: {2}".format(*refusal)
+        else:
+            first, _, rest = question.partition(" ")
+            word, _, number = first.partition(":")
+            declared = declared or name_tables.Declared(text_of(row))
+            own = name_tables.answer(declared, row.kind, word, int(number) if number else None, rest)
+            own = own and f"{word} {own}"
+        for line, reply in wanted:
+            if own is None:
+                result.cannot(f"kind {row.kind}, question {word}")
             else:
-                result.cannot(f"load: {question.split(' ')[0].split(':')[0]}")
+                result.compare(line, reply, own)
+
+
+def judge_lines(result, row):
+    """Lines of YAML."""
+    for _, question, wanted in row.questions:
+        first, _, text = question.partition(" ")
+        word, _, argument = first.partition(":")
+        own = name_tables.line_answer(word, argument, unescaped(text), quoted)
+        for line, reply in wanted:
+            if own is None:
+                result.cannot(f"kind lines, question {word}")
+            else:
+                result.compare(line, reply, f"{word} {own}")
 
 
 def judge_trees(result, row):
@@ -249,8 +272,8 @@ def judge_tree(result, row):
 
 
 JUDGES = {
-    "file": judge_file, "reference": judge_file, "cut": judge_cut, "inputs": judge_inputs, "broken": judge_broken, "load": judge_load,
-    "trees": judge_trees, "tree": judge_tree,
+    "file": judge_file, "reference": judge_file, "cut": judge_cut, "inputs": judge_inputs, "broken": judge_broken, "load": judge_names,
+    "names": judge_names, "scopes": judge_names, "lines": judge_lines, "trees": judge_trees, "tree": judge_tree,
 }
 
 
