@@ -7,6 +7,7 @@ import pickle
 import re
 
 import expression_tables
+import name_tables
 import yaml_reader
 from session import Session, describe, message, run
 
@@ -19,14 +20,15 @@ class Result:
     """What was found of one table."""
 
     def __init__(self, name):
-        self.name = name
+        self.name, self.kind = name, None  # the kind is that of the present row
         self.rows = self.replies = self.alike = 0
-        self.unjudged = {}
+        self.judged, self.unjudged = {}, {}
         self.differences = []
 
     def compare(self, line, wanted, own):
         """One wanted reply and the own one."""
         self.replies += 1
+        self.judged[self.kind] = self.judged.get(self.kind, 0) + 1
         if wanted == own:
             self.alike += 1
         else:
@@ -37,8 +39,9 @@ class Result:
         self.replies += other.replies
         self.alike += other.alike
         self.differences += other.differences
-        for what, count in other.unjudged.items():
-            self.unjudged[what] = self.unjudged.get(what, 0) + count
+        for mine, others in ((self.judged, other.judged), (self.unjudged, other.unjudged)):
+            for what, count in others.items():
+                mine[what] = mine.get(what, 0) + count
 
     def cannot(self, what, replies=1):
         """Replies of a kind that isn't judged."""
@@ -53,27 +56,28 @@ class Row:
     def __init__(self, title):
         self.title, self.description, self.kind, self.words, self.questions = title, [], None, "", []
 
+    def take(self, number, line):
+        """One line more: of the description before the kind is known, then a question or a reply."""
+        if self.kind is None:
+            self.description.append(line)
+        elif line.startswith("> ") or line == ">":
+            if not self.questions:
+                self.questions.append((number, None, []))
+            self.questions[-1][2].append((number, line[2:]))
+        else:
+            self.questions.append((number, line, []))
+
 
 def rows_of(lines):
     """The rows of a table with kind lines."""
-    row, rows = None, []
+    rows = []
     for number, line in enumerate(lines, 1):
         if line.startswith("== "):
-            row = Row(line[3:])
-            rows.append(row)
-        elif row is None:
-            continue
-        elif row.kind is None:
-            if line.startswith("-- "):
-                row.kind, _, row.words = line[3:].partition(" ")
-            else:
-                row.description.append(line)
-        elif line.startswith("> ") or line == ">":
-            if not row.questions:
-                row.questions.append((number, None, []))
-            row.questions[-1][2].append((number, line[2:]))
-        else:
-            row.questions.append((number, line, []))
+            rows.append(Row(line[3:]))
+        elif rows and rows[-1].kind is None and line.startswith("-- "):
+            rows[-1].kind, _, rows[-1].words = line[3:].partition(" ")
+        elif rows:
+            rows[-1].take(number, line)
     return rows
 
 
@@ -214,16 +218,38 @@ def judge_broken(result, row):
         result.compare(line, wanted, f"after {count}: {len(replies)} lines of the output, ends by {ends}")
 
 
-def judge_load(result, row):
-    """Whether a description is accepted; further questions are those of `readers`."""
-    _, refusal = describe(text_of(row))
-    own = "ok" if refusal is None else "{1} line {0}: {2}".format(*refusal)
-    for line, question, wanted in row.questions:
-        for number, text in wanted:
-            if question is None:
-                result.compare(number, text, own)
+def judge_names(result, row):
+    """Names and declarations; of a description that is loaded also whether it is accepted. A reply begins with its question's
+    first word, save that to the load itself."""
+    declared = None
+    for _, question, wanted in row.questions:
+        if question is None:
+            _, refusal = describe(text_of(row))
+            own = "ok" if refusal is None else "{1} line {0}: {2}".format(*refusal)
+        else:
+            first, _, rest = question.partition(" ")
+            word, _, number = first.partition(":")
+            declared = declared or name_tables.Declared(text_of(row))
+            own = name_tables.answer(declared, row.kind, word, int(number) if number else None, rest)
+            own = own and f"{word} {own}"
+        for line, reply in wanted:
+            if own is None:
+                result.cannot(f"kind {row.kind}, question {word}")
             else:
-                result.cannot(f"load: {question.split(' ')[0].split(':')[0]}")
+                result.compare(line, reply, own)
+
+
+def judge_lines(result, row):
+    """Lines of YAML."""
+    for _, question, wanted in row.questions:
+        first, _, text = question.partition(" ")
+        word, _, argument = first.partition(":")
+        own = name_tables.line_answer(word, argument, unescaped(text), quoted)
+        for line, reply in wanted:
+            if own is None:
+                result.cannot(f"kind lines, question {word}")
+            else:
+                result.compare(line, reply, f"{word} {own}")
 
 
 def judge_trees(result, row):
@@ -246,8 +272,8 @@ def judge_tree(result, row):
 
 
 JUDGES = {
-    "file": judge_file, "cut": judge_cut, "inputs": judge_inputs, "broken": judge_broken, "load": judge_load,
-    "trees": judge_trees, "tree": judge_tree,
+    "file": judge_file, "reference": judge_file, "cut": judge_cut, "inputs": judge_inputs, "broken": judge_broken, "load": judge_names,
+    "names": judge_names, "scopes": judge_names, "lines": judge_lines, "trees": judge_trees, "tree": judge_tree,
 }
 
 
@@ -263,6 +289,7 @@ def judge_apart(result, row):
     if child == 0:
         try:
             own = Result(result.name)
+            own.kind = row.kind
             JUDGES[row.kind](own, row)
             with os.fdopen(writer, "wb") as out:
                 pickle.dump(own, out)
@@ -277,18 +304,11 @@ def judge_apart(result, row):
     result.add(pickle.loads(data))
 
 
-def judge_table(path, root):
-    """All rows of one table."""
-    result = Result(os.path.relpath(path, root))
-    with open(path, encoding="utf-8", newline="\n") as table:
-        lines = table.read().split("\n")
-    if lines[-1] == "":
-        lines.pop()
-    if not any(line.startswith("-- ") for line in lines):
-        expression_tables.judge(result, lines)
-        return result
-    for row in rows_of(lines):
+def judge_rows(result, rows):
+    """All rows of a table."""
+    for row in rows:
         result.rows += 1
+        result.kind = row.kind
         judge = JUDGES.get(row.kind)
         if judge is None:
             result.cannot(f"kind {row.kind}", sum(len(wanted) for _, _, wanted in row.questions))
@@ -300,22 +320,58 @@ def judge_table(path, root):
     return result
 
 
-def judge_example(path, root):
+def lines_of(path):
+    """The lines of a file."""
+    with open(path, encoding="utf-8", newline="\n") as table:
+        return table.read().removesuffix("\n").split("\n")
+
+
+def judge_table(path):
+    """A table of rows: one of expressions has no line that tells a row's kind."""
+    result, lines = Result(path), lines_of(path)
+    if any(line.startswith("-- ") for line in lines):
+        return judge_rows(result, rows_of(lines))
+    result.kind = "expressions"
+    expression_tables.judge(result, lines)
+    return result
+
+
+def judge_example(path):
     """An example: a description, a file, commands and replies."""
-    result = Result(os.path.relpath(path, root))
-    result.rows = 1
-    base = path[:-len(".ksy")]
+    result = Result(path)
+    result.rows, result.kind = 1, "example"
     data = {}
     for ending in ("ksy", "bin", "cmd", "out"):
-        with open(f"{base}.{ending}", "rb") as part:
+        with open(f"{path.removesuffix('ksy')}{ending}", "rb") as part:
             data[ending] = part.read()
     found, refusal = describe(data["ksy"])
     replies = [message(refusal)] if refusal else run(Session(found, data["bin"]), data["cmd"])[0]
-    wanted = data["out"].decode("utf-8").split("\n")[:-1]
+    wanted = data["out"].decode("utf-8").removesuffix("\n").split("\n")
     compare_lines(result, [(0, None, list(enumerate(wanted, 1)))], replies)
     return result
 
 
-def all_paths(root):
-    """The tables and the examples of a repository."""
-    return sorted(glob.glob(f"{root}/crates/*/data/*.txt")), sorted(glob.glob(f"{root}/examples/*.ksy"))
+def judge_reference(path):
+    """The blocks of a reference: each is a dialogue."""
+    lines, rows, inside = lines_of(path), [], False
+    for number, line in enumerate(lines, 1):
+        if line == "```ksv":
+            inside = True
+            row = Row(f"block at line {number}")
+            rows.append(row)
+        elif line == "```":
+            inside = False
+        elif inside and row.kind is None and (line == "--" or line.startswith("-- ")):
+            row.kind, row.words = "reference", line[3:]
+        elif inside:
+            row.take(number, line)
+    return judge_rows(Result(path), rows)
+
+
+def all_tables(root):
+    """The tables, examples and the reference of a repository, each with who judges it."""
+    for path in sorted(glob.glob(f"{root}/crates/*/data/*.txt")):
+        yield judge_table, path
+    for path in sorted(glob.glob(f"{root}/examples/*.ksy")):
+        yield judge_example, path
+    yield judge_reference, f"{root}/docs/REFERENCE.md"
