@@ -27,10 +27,12 @@ pub trait Source {
 
 /// Where bytes go. Nobody writes to a sink or flushes it again once a call has failed.
 pub trait Sink {
-    // Whether contracts know its bytes, those that it has taken, and whether a call has failed.
+    // Whether contracts know its bytes, those that it has taken, how many of them it has passed on, and whether a call has failed.
     ghost tells: { Bool };
 
     ghost bytes: { Self → List ℕ };
+
+    ghost flushed: { Self → ℕ };
 
     ghost failed: { Self → Bool };
 
@@ -42,12 +44,15 @@ pub trait Sink {
         ensures some { IfOk result (λ n. 0 < length buf.now → 0 < n) }
         ensures taken { IsTrue tells → IfOk result (λ n. bytes self.new ≡ bytes self.old ++ take n buf.now) }
         ensures kept { IsTrue tells → OnErr result (bytes self.new ≡ bytes self.old) }
+        ensures held { IsTrue tells → flushed self.new ≡ flushed self.old }
         ensures fault { failed self.new ≡ is_err result };
 
     /// Passes on what it has taken.
     fn flush(&mut self) -> Result<(), Failed>
         requires { failed self.old ≡ false }
         ensures kept { IsTrue tells → bytes self.new ≡ bytes self.old }
+        ensures passed { IsTrue tells → OnOk result (flushed self.new ≡ length (bytes self.old)) }
+        ensures held { IsTrue tells → OnErr result (flushed self.new ≡ flushed self.old) }
         ensures fault { failed self.new ≡ is_err result };
 }
 
@@ -56,6 +61,7 @@ pub(crate) fn write_all<W: Sink>(writer: &mut W, text: &[u8]) -> Result<(), Fail
     requires { W.failed writer.old ≡ false }
     ensures ok { IsTrue W.tells → OnOk result (W.bytes writer.new ≡ W.bytes writer.old ++ text.now) }
     ensures err { IsTrue W.tells → OnErr result ((n : ℕ) × (W.bytes writer.new ≡ W.bytes writer.old ++ take n text.now)) }
+    ensures held { IsTrue W.tells → W.flushed writer.new ≡ W.flushed writer.old }
     ensures fault { W.failed writer.new ≡ is_err result }
 {
     let mut done = 0;
@@ -70,6 +76,8 @@ pub fn send<W: Sink>(writer: &mut W, text: &[u8]) -> Result<(), Failed>
     requires { W.failed writer.old ≡ false }
     ensures ok { IsTrue W.tells → OnOk result (W.bytes writer.new ≡ W.bytes writer.old ++ text.now) }
     ensures err { IsTrue W.tells → OnErr result ((n : ℕ) × (W.bytes writer.new ≡ W.bytes writer.old ++ take n text.now)) }
+    ensures passed { IsTrue W.tells → OnOk result (W.flushed writer.new ≡ length (W.bytes writer.new)) }
+    ensures held { IsTrue W.tells → OnErr result (W.flushed writer.new ≡ W.flushed writer.old) }
     ensures fault { W.failed writer.new ≡ is_err result }
 {
     write_all(writer, text)?;

@@ -11,6 +11,8 @@ pub struct Memory {
     pub bytes: Vec<u8>,
     /// How many of them were read.
     pub read: usize,
+    /// How many there were at the last flush.
+    pub flushed: usize,
     /// Whether a call has failed.
     pub failed: bool,
     ghost within: { read ≤ length bytes.items },
@@ -20,12 +22,13 @@ impl Memory {
     /// A device over the bytes of a vector. What is written to it goes into the room that the vector has left.
     pub fn new(bytes: Vec<u8>) -> Memory
         ensures bytes { result.bytes ≡ bytes }
-        ensures start { result.read ≡ 0 }
+        ensures start { (result.read ≡ 0) × (result.flushed ≡ 0) }
         ensures works { result.failed ≡ false }
     {
         Memory {
             bytes,
             read: 0,
+            flushed: 0,
             failed: false,
         }
     }
@@ -52,6 +55,8 @@ impl Sink for Memory {
 
     ghost bytes = { λ m. m.bytes.items };
 
+    ghost flushed = { λ m. m.flushed };
+
     ghost failed = { λ m. m.failed };
 
     fn write(&mut self, buf: &[u8]) -> Result<usize, Failed> {
@@ -66,6 +71,7 @@ impl Sink for Memory {
     }
 
     fn flush(&mut self) -> Result<(), Failed> {
+        self.flushed = self.bytes.len();
         Ok(())
     }
 }

@@ -48,6 +48,8 @@ impl<T: Write> Sink for Std<T> {
 
     ghost bytes = { λ _. [] };
 
+    ghost flushed = { λ _. 0 };
+
     ghost failed = { λ s. s.failed };
 
     fn write(&mut self, buf: &[u8]) -> Result<usize, Failed> {

@@ -2,6 +2,5 @@ pub mod TallyLemmas
 pub mod RunLemmas
 pub mod AnswerLemmas
 pub mod QuestionLemmas
-pub mod PutLemmas
 pub mod KeptLemmas
 pub mod EditLemmas

@@ -1,12 +1,11 @@
 -- Words that only private contracts cite: a reader of the public contracts may skip this file.
-use Rattle.std.specs.Prelude.{◌≡◌, ℕ, Bool, true, false, List, [], ◌∷◌, ◌++◌, length, codes, decimal, take, IsTrue, Result, Ok, Err, String, string_bytes}
-use Rattle.std.specs.declared.alloc.Global.{Global}
+use Rattle.std.specs.Prelude.{◌≡◌, ℕ, Bool, true, false, List, [], ◌∷◌, ◌++◌, length, codes, decimal, take, IsTrue, Result, Ok, Err}
 use Rattle.ksv_bytes.specs.declared.edit.EditRefusal.{EditRefusal}
 use Rattle.ksv_bytes.specs.declared.edit.EditRefusal.TheVariants as edits
 use Rattle.ksv_desc.specs.Description.{Description}
 use Rattle.ksv_lines.specs.Lines.{line_room, lines_of}
 use Rattle.ksv_lines.specs.declared.device.Failed.{Failed}
-use Rattle.ksv_questions.specs.Answers.{failure_text}
+use Rattle.ksv_questions.specs.Answers.{failure_text, failure_told}
 use Rattle.ksv_questions.specs.Asking.{Failure}
 use Rattle.ksv_questions.specs.Seen.{overwrite_of}
 use Rattle.ksv_questions.specs.Writing.{Overwrite}
@@ -14,8 +13,10 @@ use Rattle.ksv_questions.specs.declared.put.Overwrite.{Overwrite as CodeOverwrit
 use Rattle.ksv_commands.specs.Commands.{command_of}
 use Rattle.ksv_session.specs.Explored.{Explored, description_of}
 use Rattle.ksv_session.specs.Kept.{Holds, Memory, Remembers, nothing_kept}
-use Rattle.ksv_session.specs.Replies.{Answer, Event, answer, edit_refusal_text, is_fair}
+use Rattle.ksv_session.specs.Replies.{Answer, Event, Form, answer, edit_refusal_text, is_fair, told_form}
 use Rattle.ksv_session.specs.Runs.{Breaks, Serves}
+use Rattle.ksv_session.specs.Seen.{form_of, is_last, is_refusal, reply_text}
+use Rattle.ksv_session.specs.declared.reply.Reply.{Reply}
 use Rattle.ksv_session.specs.Session.{lines_in, session}
 use Rattle.ksv_session.specs.Tallies.{Keeps, tally_in}
 
@@ -36,11 +37,18 @@ wants_memory (Err edits.TooLarge) = false
 
 -- ---- a `put`
 
--- what a `put` comes to: the bytes to write, or the text of the reply
-abbrev pub PutSays : Description → Result Overwrite Failure → Result CodeOverwrite (String Global) → Type 0
+-- a reply of this text and form, which tells of no refused memory and isn't the last
+pub record IsReply (text : List ℕ) (form : Form) (reply : Reply) : Type 0 where
+  pub text_is : reply_text reply ≡ text
+  pub form_is : form_of reply ≡ form
+  pub answers : is_refusal reply ≡ false
+  pub goes_on : is_last reply ≡ false
+
+-- what a `put` comes to: the bytes to write, or the reply
+abbrev pub PutSays : Description → Result Overwrite Failure → Result CodeOverwrite Reply → Type 0
 PutSays d (Ok o) (Ok x) = o ≡ overwrite_of x
-PutSays d (Err e) (Err text) = string_bytes text ≡ failure_text d e ++ codes "\n"
-PutSays d (Ok o) (Err text) = ⊥
+PutSays d (Err e) (Err reply) = IsReply (failure_text d e ++ codes "\n") (told_form (failure_told d e)) reply
+PutSays d (Ok o) (Err reply) = ⊥
 PutSays d (Err e) (Ok x) = ⊥
 
 -- ---- a line over a device

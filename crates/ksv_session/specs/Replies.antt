@@ -7,9 +7,10 @@ use Rattle.ksv_commands.specs.Commands.{command_of}
 use Rattle.ksv_commands.specs.declared.command.Command.{Command}
 use Rattle.ksv_commands.specs.declared.command.Command.TheVariants.{App, Ask, Blank, Bytes, Del, Ins, Put, Quit, Refused, Set, Size, Stats}
 use Rattle.ksv_desc.specs.Description.{Description}
-use Rattle.ksv_questions.specs.Answers.{failure_text, outcome, question_text}
+use Rattle.ksv_questions.specs.Answers.{failure_text, failure_told, outcome, question_text, question_told}
 use Rattle.ksv_questions.specs.Asking.{Failure}
 use Rattle.ksv_texts.specs.Texts.{bytes_text}
+use Rattle.ksv_texts.specs.declared.refusal.Refusal.{Refusal}
 use Rattle.ksv_questions.specs.Writing.{Overwrite, put_question}
 use Rattle.ksv_commands.specs.declared.refusal.LineRefusal.{LineRefusal}
 use Rattle.ksv_commands.specs.declared.refusal.LineRefusal.TheVariants as refusals
@@ -89,8 +90,40 @@ answer_to d b t Size = said b (codes "size " ++ decimal (length b) ++ codes "\n"
 answer_to d b t Stats = said b (tally_text t)
 answer_to d b t Quit = record { bytes = b; text = codes "bye\n"; ends = true }
 
--- whether a command may be refused memory: a question, a `put` and `bytes` for what they ask and for the reply, an edit that is
--- accepted for its growth
+-- The form of a reply. A short one has at most 64 bytes, and takes no memory.
+pub data Form : Type 0 where
+  Nothing : Form
+  ShortText : Form
+  LongText : Form
+  OutOfMemory : Form
+  Bye : Form
+
+-- a text of any length that is told, or a refusal, which is short
+abbrev pub told_form : Result (List ℕ) Refusal → Form
+told_form (Ok text) = LongText
+told_form (Err refusal) = ShortText
+
+-- an edit's reply is short, whether it was done or refused, and so is that to an integer that isn't written, unless it tells a fault
+abbrev pub put_form : Description → Result Overwrite Failure → Form
+put_form d (Ok o) = ShortText
+put_form d (Err e) = told_form (failure_told d e)
+
+abbrev pub form_to : Description → List ℕ → Command → Form
+form_to d b Blank = Nothing
+form_to d b (Refused refusal) = ShortText
+form_to d b (Ask question) = told_form (question_told d b question)
+form_to d b (Put path n) = put_form d (outcome d b (put_question d path n))
+form_to d b (Set at bytes) = ShortText
+form_to d b (Ins at bytes) = ShortText
+form_to d b (Del at count) = ShortText
+form_to d b (App bytes) = ShortText
+form_to d b (Bytes at count) = if has b at count then LongText else ShortText
+form_to d b Size = ShortText
+form_to d b Stats = ShortText
+form_to d b Quit = Bye
+
+-- Whether a command may be refused memory: a question and a `put` for the nodes that they ask and for a reply that isn't short, `bytes`
+-- for its reply unless that is short, and an edit that is accepted for its growth.
 abbrev pub may_be_refused : List ℕ → Command → Bool
 may_be_refused b Blank = false
 may_be_refused b (Refused refusal) = false
@@ -114,6 +147,10 @@ pub record Event : Type 0 where
 -- the reply to a line; if memory was refused it is `error: no memory`, and nothing changes
 abbrev pub answer : Description → List ℕ → Event → Answer
 answer d b event = if event.refused then said b no_memory_text else answer_to d b event.tally (command_of d event.line)
+
+-- the form of that reply
+abbrev pub form : Description → List ℕ → Event → Form
+form d b event = if event.refused then OutOfMemory else form_to d b (command_of d event.line)
 
 -- a line that was refused memory is one that may be
 abbrev pub is_fair : Description → List ℕ → Event → Bool

@@ -1,6 +1,6 @@
 -- What values of the code mean, in the words of the other files.
 use Rattle.std.specs.Prelude.{ℕ, Bool, true, false, List, [], codes, string_bytes}
-use Rattle.ksv_session.specs.Replies.{Answer, no_memory_text}
+use Rattle.ksv_session.specs.Replies.{Answer, Bye, Form, LongText, Nothing, OutOfMemory, ShortText, no_memory_text}
 use Rattle.ksv_session.specs.declared.reply.Reply.{Reply}
 use Rattle.ksv_session.specs.declared.reply.Reply.TheVariants as replies
 
@@ -11,6 +11,14 @@ reply_text (replies.Short text) = text.bytes
 reply_text (replies.Text text) = string_bytes text
 reply_text replies.NoMemory = no_memory_text
 reply_text replies.Bye = codes "bye\n"
+
+-- its form
+abbrev pub form_of : Reply → Form
+form_of replies.None = Nothing
+form_of (replies.Short text) = ShortText
+form_of (replies.Text text) = LongText
+form_of replies.NoMemory = OutOfMemory
+form_of replies.Bye = Bye
 
 -- whether a reply is that memory was refused
 abbrev pub is_refusal : Reply → Bool

@@ -1,12 +1,18 @@
 //! Replies, and those that take no memory.
-ghost use Rattle.std.specs.Prelude.{◌≡◌, ◌<◌, ◌≤◌, ◌++◌, false, codes, decimal, length, string_bytes, if◌then◌else◌};
-ghost use Rattle.ksv_session.specs.Replies.{edit_refusal_text, line_refusal_text, no_memory_text, tally_text, turns_text};
-ghost use Rattle.ksv_session.specs.Seen.{is_last, is_refusal, reply_text};
+ghost use Rattle.std.specs.Prelude.{◌≡◌, ◌<◌, ◌≤◌, ◌++◌, IfOk, codes, decimal, length, string_bytes};
+ghost use Rattle.ksv_questions.specs.Answers.{text_of};
+ghost use Rattle.ksv_questions.specs.Seen.{told_of};
+ghost use Rattle.ksv_session.specs.Code.{IsReply};
+ghost use Rattle.ksv_session.specs.Replies.{edit_refusal_text, line_refusal_text, tally_text, told_form, turns_text};
+ghost use Rattle.ksv_session.specs.Seen.{is_last, reply_text};
+ghost use Rattle.ksv_texts.specs.Texts.{refusal_text};
 
 use arrayvec::ArrayString;
 use itoa::Buffer as Digits;
 use ksv_bytes::EditRefusal;
 use ksv_commands::LineRefusal;
+use ksv_questions::{Refusal, Told, refusal_text};
+use std::alloc::AllocError;
 
 /// A text of at most 64 bytes, which takes no memory.
 pub type Short = ArrayString<64>;
@@ -154,12 +160,28 @@ pub(crate) fn refused_edit(refusal: EditRefusal) -> Short
 }
 
 /// A text of any length and its LF, for which memory may be refused.
-pub(crate) fn lined(mut text: String) -> Reply
-    ensures text { reply_text result ≡ (if is_refusal result then no_memory_text else string_bytes text ++ codes "\n") }
-    ensures last { is_last result ≡ false }
+pub(crate) fn lined(mut text: String) -> Result<String, AllocError>
+    ensures { IfOk result (λ lined. string_bytes lined ≡ string_bytes text ++ codes "\n") }
 {
-    match text.push_str("\n") {
-        Ok(()) => Reply::Text(text),
-        Err(_) => Reply::NoMemory,
+    text.push_str("\n")?;
+    Ok(text)
+}
+
+/// The reply to a question that is refused.
+fn refused_question(refusal: Refusal) -> Short
+    ensures { result.bytes ≡ refusal_text refusal ++ codes "\n" }
+{
+    let mut text = short(refusal_text(refusal));
+    text.push_str("\n");
+    text
+}
+
+/// The reply to a question, by what is told of it. A refusal takes no memory.
+pub(crate) fn told_reply(told: Told) -> Result<Reply, AllocError>
+    ensures { IfOk result (λ reply. IsReply (text_of (told_of told) ++ codes "\n") (told_form (told_of told)) reply) }
+{
+    match told {
+        Told::Text(text) => Ok(Reply::Text(lined(text)?)),
+        Told::Refused(refusal) => Ok(Reply::Short(refused_question(refusal))),
     }
 }

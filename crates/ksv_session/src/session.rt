@@ -1,18 +1,20 @@
 //! A session: the current bytes, what is kept of answers, and the reply to each line.
-ghost use Rattle.std.specs.Prelude.{◌≡◌, ◌<◌, ◌↔◌, ◌++◌, true, false, Some, codes, length, string_bytes, if◌then◌else◌, IsTrue, IfOk, IfErr, IsErr, MatchResult, OnErr, OnOk};
+ghost use Rattle.std.specs.Prelude.{◌≡◌, ◌<◌, ◌↔◌, ◌++◌, true, false, Some, codes, length, if◌then◌else◌, IsTrue, IfOk, IfErr, IsErr, MatchResult, OnErr, OnOk};
 ghost use Rattle.ksv_bytes.specs.Edits.{IsRefusedAs, append, delete, file_limit, insert, overwrite};
 ghost use Rattle.ksv_bytes.specs.declared.uses.Change.TheVariants as changes;
 ghost use Rattle.ksv_session.specs.Explored.{description_of, tally_of};
 ghost use Rattle.ksv_commands.specs.Commands.{command_of};
 ghost use Rattle.ksv_commands.specs.declared.command.Command.TheVariants as commands;
 ghost use Rattle.ksv_session.specs.Kept.{Holds, HoldsSome, Memory, Remembers, after_asking, after_edit, nothing_kept};
-ghost use Rattle.ksv_questions.specs.Answers.{asking, asks, outcome, question_text};
+ghost use Rattle.ksv_questions.specs.Answers.{asking, asks, outcome, question_text, question_told};
 ghost use Rattle.ksv_questions.specs.Writing.{put_question};
-ghost use Rattle.ksv_session.specs.Replies.{answer, has, may_be_refused, no_memory_text, put_answer, said, shown_text};
-ghost use Rattle.ksv_session.specs.Code.{PutSays, edit_text, wants_memory};
-ghost use Rattle.ksv_session.specs.Seen.{answer_seen, is_last, is_refusal, reply_text};
+ghost use Rattle.ksv_session.specs.Replies.{LongText, OutOfMemory, ShortText, answer, form, has, may_be_refused, no_memory_text, put_answer, put_form, said, shown_text, told_form};
+ghost use Rattle.ksv_session.specs.Code.{IsReply, PutSays, edit_text, wants_memory};
+ghost use Rattle.ksv_session.specs.Seen.{answer_seen, form_of, is_last, is_refusal, reply_text};
 
-use crate::reply::{Reply, edit_reply, lined, refused_edit, refused_line, size_reply, stats_reply};
+use crate::reply::{
+    Reply, edit_reply, lined, refused_edit, refused_line, size_reply, stats_reply, told_reply,
+};
 use ksv_bytes::{Buffer, Change, EditRefusal};
 use ksv_commands::{Command, Question, read_line};
 use ksv_desc::Desc;
@@ -98,6 +100,7 @@ impl<N: NodeRules> Session<N> {
     pub fn line(&mut self, line: &[u8]) -> Reply
         ensures answer { answer_seen self.new.bytes result ≡ answer (description_of self.old) self.old.bytes (record { line = line.now; refused = is_refusal result; tally = tally_of self.old }) }
         ensures fair { IsTrue (is_refusal result) → may_be_refused self.old.bytes (command_of (description_of self.old) line.now) ≡ true }
+        ensures form { form_of result ≡ form (description_of self.old) self.old.bytes (record { line = line.now; refused = is_refusal result; tally = tally_of self.old }) }
         ensures kept { description_of self.new ≡ description_of self.old }
 
         // What is kept across lines: after a list of lines, the fold of `memory_after` over them.
@@ -135,49 +138,50 @@ impl<N: NodeRules> Session<N> {
         }
     }
 
-    /// The text of a question's reply, LF included. The turns aren't known before it is whole.
+    /// The reply to a question, unless memory is refused. The turns aren't known before it is whole.
     #[tactic(auto, unfolding(crate::specs::Explored::description_of))]
-    fn asked(&mut self, question: &Question) -> Result<String, AllocError>
-        ensures text { IfOk result (λ text. string_bytes text ≡ question_text (description_of self.old) self.old.bytes question.now ++ codes "\n") }
+    fn asked(&mut self, question: &Question) -> Result<Reply, AllocError>
+        ensures says { IfOk result (IsReply (question_text (description_of self.old) self.old.bytes question.now ++ codes "\n") (told_form (question_told (description_of self.old) self.old.bytes question.now))) }
         ensures kept { (description_of self.new ≡ description_of self.old) × (self.new.bytes ≡ self.old.bytes) }
         ensures memory { (m : Memory) → Holds self.old m → OnOk result (Holds self.new (after_asking (description_of self.old) self.old.bytes (asks (description_of self.old) self.old.bytes (asking (description_of self.old) self.old.bytes question.now)) m)) }
         ensures refused { (m : Memory) → Holds self.old m → OnErr result (HoldsSome (description_of self.old) self.old.bytes (asks (description_of self.old) self.old.bytes (asking (description_of self.old) self.old.bytes question.now)) m self.new) }
     {
         self.turns = None;
         self.engine.begin();
-        let mut text = answer(
+        let told = answer(
             self.alloc,
             &mut self.engine,
             &self.described,
             &self.buffer,
             question,
         )?;
-        text.push_str("\n")?;
+        let reply = told_reply(told)?;
         self.turns = self.engine.turns();
-        Ok(text)
+        Ok(reply)
     }
 
     /// The reply to a question.
     #[tactic(auto, unfolding(crate::specs::Explored::description_of))]
     fn answered(&mut self, question: &Question) -> Reply
         ensures answer { answer_seen self.new.bytes result ≡ said self.old.bytes (if is_refusal result then no_memory_text else question_text (description_of self.old) self.old.bytes question.now ++ codes "\n") }
+        ensures form { form_of result ≡ (if is_refusal result then OutOfMemory else told_form (question_told (description_of self.old) self.old.bytes question.now)) }
         ensures kept { description_of self.new ≡ description_of self.old }
         ensures memory { (m : Memory) → Holds self.old m → Remembers (description_of self.old) self.old.bytes (commands.Ask question.now) (is_refusal result) m self.new }
     {
         match self.asked(question) {
-            Ok(text) => Reply::Text(text),
+            Ok(reply) => reply,
             Err(_) => Reply::NoMemory,
         }
     }
 
-    /// What writing an integer over the one at a path means: an overwrite, or the text of the reply, LF included. The turns aren't
+    /// What writing an integer over the one at a path means: an overwrite, or the reply, unless memory is refused. The turns aren't
     /// known before it is whole.
     #[tactic(auto, unfolding(crate::specs::Explored::description_of))]
     fn meant(
         &mut self,
         path: &Path,
         number: Integer,
-    ) -> Result<Result<Overwrite, String>, AllocError>
+    ) -> Result<Result<Overwrite, Reply>, AllocError>
         ensures says { IfOk result (PutSays (description_of self.old) (outcome (description_of self.old) self.old.bytes (put_question (description_of self.old) path.now number))) }
         ensures kept { (description_of self.new ≡ description_of self.old) × (self.new.bytes ≡ self.old.bytes) }
         ensures memory { (m : Memory) → Holds self.old m → OnOk result (Holds self.new (after_asking (description_of self.old) self.old.bytes (asks (description_of self.old) self.old.bytes (put_question (description_of self.old) path.now number)) m)) }
@@ -195,10 +199,7 @@ impl<N: NodeRules> Session<N> {
         )?;
         let meant = match told {
             Ok(overwrite) => Ok(overwrite),
-            Err(mut text) => {
-                text.push_str("\n")?;
-                Err(text)
-            }
+            Err(told) => Err(told_reply(told)?),
         };
         self.turns = self.engine.turns();
         Ok(meant)
@@ -208,6 +209,7 @@ impl<N: NodeRules> Session<N> {
     #[tactic(auto, unfolding(crate::specs::Explored::description_of))]
     fn put(&mut self, path: &Path, number: Integer) -> Reply
         ensures answer { answer_seen self.new.bytes result ≡ (if is_refusal result then said self.old.bytes no_memory_text else put_answer (description_of self.old) self.old.bytes (outcome (description_of self.old) self.old.bytes (put_question (description_of self.old) path.now number))) }
+        ensures form { form_of result ≡ (if is_refusal result then OutOfMemory else put_form (description_of self.old) (outcome (description_of self.old) self.old.bytes (put_question (description_of self.old) path.now number))) }
         ensures kept { description_of self.new ≡ description_of self.old }
         ensures memory { (m : Memory) → Holds self.old m → Remembers (description_of self.old) self.old.bytes (commands.Put path.now number) (is_refusal result) m self.new }
     {
@@ -219,7 +221,7 @@ impl<N: NodeRules> Session<N> {
                 let outcome = self.overwrite(overwrite.at as usize, overwrite.bytes.as_slice());
                 self.edited(outcome)
             }
-            Err(text) => Reply::Text(text),
+            Err(reply) => reply,
         }
     }
 
@@ -282,6 +284,7 @@ impl<N: NodeRules> Session<N> {
     /// The bytes from a place on, at most 4,096.
     fn shown(&self, at: u64, count: u64) -> Reply
         ensures answer { reply_text result ≡ (if is_refusal result then no_memory_text else shown_text self.now.bytes at count) }
+        ensures form { form_of result ≡ (if is_refusal result then OutOfMemory else if has self.now.bytes at count then LongText else ShortText) }
         ensures fair { IsTrue (is_refusal result) → has self.now.bytes at count ≡ true }
         ensures last { is_last result ≡ false }
     {
@@ -290,7 +293,10 @@ impl<N: NodeRules> Session<N> {
             return Reply::Short(refused_edit(EditRefusal::Outside));
         }
         match bytes_text(self.alloc, &self.buffer, at as u32, (at + count) as u32) {
-            Ok(text) => lined(text),
+            Ok(text) => match lined(text) {
+                Ok(text) => Reply::Text(text),
+                Err(_) => Reply::NoMemory,
+            },
             Err(_) => Reply::NoMemory,
         }
     }
@@ -298,6 +304,7 @@ impl<N: NodeRules> Session<N> {
     /// The reply to an edit that was tried.
     fn edited(&self, outcome: Result<(), EditRefusal>) -> Reply
         ensures text { reply_text result ≡ edit_text self.now.bytes outcome }
+        ensures form { form_of result ≡ (if is_refusal result then OutOfMemory else ShortText) }
         ensures refusal { is_refusal result ≡ wants_memory outcome }
         ensures last { is_last result ≡ false }
     {

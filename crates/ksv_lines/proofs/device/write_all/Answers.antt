@@ -19,5 +19,6 @@ loop-done-preserved g c =
     let e = c.in_ok-done.ensures in (
       omega (arith, e.within, so_far.0, ap length (rest_is c.args.text.now c.loop-done.done), length-drop c.loop-done.done c.args.text.now),
       (λ tells. more_written c.args.text.now _ _ _ c.loop-done.done c.in_ok-done.field-0 (so_far.1 tells) (e.taken tells)),
+      (λ tells. e.held tells ∙ so_far.2 tells),
       e.fault,
     )

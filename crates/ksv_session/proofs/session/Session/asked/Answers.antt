@@ -3,20 +3,20 @@ use Rattle.ksv_questions.specs.Answers.{asking, asks}
 use Rattle.ksv_session.proofs.KeptLemmas.{answered_holds, refused_holds, unknown_holds}
 use Rattle.ksv_session.proofs.session.Session.asked.Goals as goal
 
-pub returns-in_err-text-clause-refused : goal.returns-in_err-text-clause-refused
-returns-in_err-text-clause-refused g c m h =
+pub returns-in_err-told-clause-refused : goal.returns-in_err-told-clause-refused
+returns-in_err-told-clause-refused g c m h =
     on_err_always c.from_residual.result
     (refused_holds c.self.inside.described.desc c.self.inside.buffer c.self.inside.engine c.self.inside.turns c.args.self.now c.self.view_is m h
-    (λ d b. asks d b (asking d b c.args.question.now)) c.begin.new.self c.answer.new.engine c.begin.ensures.kept c.in_err-text.ensures.refused)
+    (λ d b. asks d b (asking d b c.args.question.now)) c.begin.new.self c.answer.new.engine c.begin.ensures.kept c.in_err-told.ensures.refused)
 
 -- all was asked, which is some of it
-pub returns-in_err-push_str-clause-refused : goal.returns-in_err-push_str-clause-refused
-returns-in_err-push_str-clause-refused g c m h =
-    on_err_always c.from_residual-in_err-push_str.result
+pub returns-in_err-reply-clause-refused : goal.returns-in_err-reply-clause-refused
+returns-in_err-reply-clause-refused g c m h =
+    on_err_always c.from_residual-in_err-reply.result
     (unknown_holds c.self.inside.described.desc c.self.inside.buffer c.self.inside.engine c.self.inside.turns c.args.self.now c.self.view_is m h
-    (λ d b. asks d b (asking d b c.args.question.now)) c.begin.new.self c.answer.new.engine c.begin.ensures.kept c.in_ok-text.ensures.asked)
+    (λ d b. asks d b (asking d b c.args.question.now)) c.begin.new.self c.answer.new.engine c.begin.ensures.kept c.in_ok-told.ensures.asked)
 
 pub returns-clause-memory : goal.returns-clause-memory
 returns-clause-memory g c m h =
     answered_holds c.self.inside.described.desc c.self.inside.buffer c.self.inside.engine c.self.inside.turns c.args.self.now c.self.view_is m h
-    (λ d b. asks d b (asking d b c.args.question.now)) c.begin.new.self c.answer.new.engine c.turns-self-inside.result c.begin.ensures.kept c.begin.ensures.turns c.in_ok-text.ensures.asked c.turns-self-inside.ensures
+    (λ d b. asks d b (asking d b c.args.question.now)) c.begin.new.self c.answer.new.engine c.turns-self-inside.result c.begin.ensures.kept c.begin.ensures.turns c.in_ok-told.ensures.asked c.turns-self-inside.ensures
