@@ -63,8 +63,8 @@ pub fn places_are_in_file()
     ensures { PlacesAreInFile }
 {}
 
-/// What is at a path, and where it ends, lies in the stream of the object or list that holds it, and bytes don't end before they
-/// begin.
+/// What is at a path, and where it ends, lies in the stream of the object or list that holds it, of a parse instance with `io` in
+/// the one that its `io` answers; and bytes don't end before they begin.
 pub fn parts_lie_in_streams()
     ensures heads { HeadsLieInStreams }
     ensures ends { EndsLieInStreams }
