@@ -95,7 +95,7 @@ node_numbered a b = agree (same_node a b) (nat_eq (node_number a) (node_number b
     (λ h. eq-eqb (node_number a) (node_number b) (ap node_number (node_exact a b h)))
     (λ h. subst (λ m. same_node a m ≡ true) (node_number-one a b (eqb-true (node_number a) (node_number b) h)) (node_self a))
 
-open_numbered : (opened : List Node) (n : Node) → is_open opened n ≡ is_among node_number opened n
+pub open_numbered : (opened : List Node) (n : Node) → is_open opened n ≡ is_among node_number opened n
 open_numbered [] n = refl
 open_numbered (m ∷ ms) n = rw (node_numbered n m, open_numbered ms n) refl
 
@@ -123,7 +123,7 @@ rule_is f g each here bytes (Ask (See s) k) r e = look_is here (look s bytes).se
 -- ---- nodes
 
 -- an open node is a circle at every depth
-opened_at : (d : Description) (bytes : List ℕ) (depth : ℕ) (opened : List Node) (n : Node) → is_among node_number opened n ≡ true → answer_within d bytes depth opened n ≡ circle n
+pub opened_at : (d : Description) (bytes : List ℕ) (depth : ℕ) (opened : List Node) (n : Node) → is_among node_number opened n ≡ true → answer_within d bytes depth opened n ≡ circle n
 unfolding answer_within
 opened_at d bytes zero opened n h = refl
 opened_at d bytes (suc depth) opened n h = rw h refl

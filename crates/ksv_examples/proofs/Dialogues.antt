@@ -25,12 +25,16 @@ use Rattle.ksv_texts.specs.Integers.{holds as holds_integer, integer_bytes, inte
 use Rattle.ksv_texts.specs.Parts.{failed_part, fault_part, member_part, plain_part}
 use Rattle.ksv_texts.specs.Texts.{bytes_text, fault_text, fault_words, member_name, member_text, quoted_text}
 use Rattle.ksv_desc.specs.Description.{Description}
+use Rattle.ksv_session.specs.Kept.{nothing_kept}
 use Rattle.ksv_session.specs.Session.{Standing, begun}
 use Rattle.ksv_examples.specs.Descriptions.{description}
 use Rattle.ksv_examples.specs.Depth.{answer_at, outcome_to, session_to}
 use Rattle.ksv_examples.specs.Dialogues.{Dialogue, left_by, typed, GoesSo, Goes, edited_size, later_bytes, circle, up_to_a_comma, terminators, elements, conditional, streams, parents, faults, too_deep, line_ends, places, first, bitmap, picture, instances, windows, parameters, chosen, led_back, around, FairlyGo, AreUnfair}
+use Rattle.ksv_examples.specs.Stats.{Tells, TellsSo, circle_told, deleted_around, list_grows, told_to, written_behind}
+use Rattle.ksv_examples.specs.Walks.{walk_at}
 use Rattle.ksv_examples.proofs.Stating.{text_states}
 use Rattle.ksv_examples.proofs.Sessions.{session_is}
+use Rattle.ksv_examples.proofs.Stats.{told_is}
 
 -- in none of the dialogues do more nodes wait for one another
 abbrev depth : ℕ
@@ -39,10 +43,18 @@ depth = 300
 abbrev over : Dialogue → Option Description → Option Standing
 over r o = option_and_then (λ d. session_to d depth (begun r.file) (typed r)) o
 
+-- the same where lines `stats` tell what is kept
+abbrev told_over : Dialogue → Option Description → Option Standing
+told_over r o = option_and_then (λ d. told_to d depth (begun r.file) nothing_kept (typed r)) o
+
 -- the session of a dialogue, so that it computes: every definition on the way is opened
 unfoldable computed : Dialogue → Option Standing
 unfolding session_to outcome_to answer_at text_states digits chars is_utf8 decode_pairs encode_with escape_byte encode as_text at_end binary_of byte_at byte_from bytes_and bytes_at bytes_call bytes_with call_one call_two cast_to element_count element_path element_value field_of integer_and item_at last_element list_at list_method list_size member_and member_path member_value method_of object_of_type same_bytes special_of special_value stream_method stream_of stream_size text_and text_in truth_and truth_value value_of fits trail_of trail_when cut_uses done_at find_at finish_of found_from found_none peek_at reach_file reach_within bind element_end end_of fields_end is_last list_end next_rest not_empty object_end part_rest place_of rest_from rest_of whole_rest field_of_of_fields member_named members_of sought attribute_at attribute_head attribute_start bytes_at_of_heads content_at count_of counted element_head element_start head_of leaf leaf_to_end member_at member_head next_start object_at part_end repeated run_of shape_at sized_leaf sized_object terminated until_eos integer_value meaning_of rule_of bytes_value content_value cut_bytes fixed_value kept leaf_value number_value text_value value_at value_of_of_values expression holds integer_of size_of truth_of wanted ask_end ask_head ask_value first_asked from_place members_question of_list of_object of_value place_question value_question bytes_text fault_text fault_words member_name member_text quoted_text asked_part begun_part dump_question elements_part failed_part fault_part find_list find_object find_value list_part member_part members_part object_part part plain_part unasked value_part whole_text holds_integer integer_bytes integer_type little_endian of_type put_question case_for choose content_of first_case switched kind_of parameters_before instance_head positioned positioned_in unchosen_at value_head argument_at argument_value arguments_for calc_value calculated instance_value parameter_value plain_value stream_for
 computed r = over r (description r.lines)
+
+unfoldable told : Dialogue → Option Standing
+unfolding computed told_to walk_at
+told r = told_over r (description r.lines)
 
 goes_so : (r : Dialogue) (o : Option Description) → over r o ≡ Some (left_by r) → GoesSo r o
 goes_so r None e = absurd (cc)
@@ -50,6 +62,13 @@ goes_so r (Some d) e = session_is d depth (begun r.file) (typed r) (left_by r) e
 
 goes : (r : Dialogue) → over r (description r.lines) ≡ Some (left_by r) → Goes r
 goes r e = goes_so r (description r.lines) e
+
+tells_so : (r : Dialogue) (o : Option Description) → told_over r o ≡ Some (left_by r) → TellsSo r o
+tells_so r None e = absurd (cc)
+tells_so r (Some d) e = told_is d depth (begun r.file) nothing_kept (typed r) (left_by r) e
+
+tells : (r : Dialogue) → told_over r (description r.lines) ≡ Some (left_by r) → Tells r
+tells r e = tells_so r (description r.lines) e
 
 -- ---- each of the dialogues goes as it is written
 
@@ -140,6 +159,24 @@ led_back_goes = goes led_back refl
 pub around_goes : Goes around
 unfolding computed
 around_goes = goes around refl
+
+-- ---- what `stats` tells
+
+pub list_grows_tells : Tells list_grows
+unfolding told
+list_grows_tells = tells list_grows refl
+
+pub deleted_around_tells : Tells deleted_around
+unfolding told
+deleted_around_tells = tells deleted_around refl
+
+pub written_behind_tells : Tells written_behind
+unfolding told
+written_behind_tells = tells written_behind refl
+
+pub circle_told_tells : Tells circle_told
+unfolding told
+circle_told_tells = tells circle_told refl
 
 -- ---- lines that are refused memory
 

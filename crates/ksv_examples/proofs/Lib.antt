@@ -3,3 +3,5 @@ pub mod Depth
 pub mod Sessions
 pub mod Stating
 pub mod Dialogues
+pub mod Walks
+pub mod Stats

@@ -12,18 +12,18 @@ use Rattle.ksv_questions.specs.Writing.{put_question}
 use Rattle.ksv_commands.specs.declared.command.Question.{Question}
 use Rattle.ksv_rule_meaning.specs.Described.{described}
 use Rattle.ksv_commands.specs.Commands.{command_of}
-use Rattle.ksv_session.specs.Replies.{Answer, Event, said, answer_to, answer, is_fair, put_answer}
+use Rattle.ksv_session.specs.Replies.{Answer, Event, Tally, said, answer_to, answer, is_fair, put_answer}
 use Rattle.ksv_session.specs.Session.{Standing, answered, after_event}
 use Rattle.ksv_session.proofs.QuestionLemmas.{answer_by}
 use Rattle.ksv_examples.specs.Depth.{answer_at, ends_in, line_answer, outcome_to, question_answer, session_to, spoken, untold, writing_answer}
 use Rattle.ksv_examples.proofs.Depth.{some_is, answer_is}
 
 -- what is made of something that is there
-mapped : {A B : Type 0} (f : A → B) (o : Option A) (b : B) → option_map f o ≡ Some b → (a : A) × (o ≡ Some a) × (f a ≡ b)
+pub mapped : {A B : Type 0} (f : A → B) (o : Option A) (b : B) → option_map f o ≡ Some b → (a : A) × (o ≡ Some a) × (f a ≡ b)
 mapped f None b e = absurd (cc)
 mapped f (Some a) b e = (a, refl, some_is (f a) b e)
 
-bound : {A B : Type 0} (f : A → Option B) (o : Option A) (b : B) → option_and_then f o ≡ Some b → (a : A) × (o ≡ Some a) × (f a ≡ Some b)
+pub bound : {A B : Type 0} (f : A → Option B) (o : Option A) (b : B) → option_and_then f o ≡ Some b → (a : A) × (o ≡ Some a) × (f a ≡ Some b)
 bound f None b e = absurd (cc)
 bound f (Some a) b e = (a, refl, e)
 
@@ -32,10 +32,10 @@ module _ (d : Description) (s : Standing) (event : Event) where
   abbrev by_end : Bool → Standing
   by_end ended = if ended then s else answered s (answer d s.bytes event) (is_fair d s.bytes event)
 
-  ended_event : s.ended ≡ true → after_event d s event ≡ s
+  pub ended_event : s.ended ≡ true → after_event d s event ≡ s
   ended_event e = ap by_end e
 
-  open_event : s.ended ≡ false → after_event d s event ≡ answered s (answer d s.bytes event) (is_fair d s.bytes event)
+  pub open_event : s.ended ≡ false → after_event d s event ≡ answered s (answer d s.bytes event) (is_fair d s.bytes event)
   open_event e = ap by_end e
 
 -- the event of a line for which no memory is refused
@@ -77,19 +77,19 @@ written_is d depth b path n a e =
     let m = mapped (put_answer d b) (outcome_to d depth b (put_question d path n)) a e in
     ap (put_answer d b) (outcome_is d depth b (put_question d path n) m.0 m.1) ∙ m.2
 
-line_is : (d : Description) (depth : ℕ) (b line : List ℕ) (a : Answer) → line_answer d depth b line ≡ Some a → answer_to d b untold (command_of d line) ≡ a
-line_is d depth b line a e = answer_by d b untold (question_answer d depth b) (writing_answer d depth b) a (λ question. asked_is d depth b question a) (λ path n. written_is d depth b path n a) (command_of d line) e
+pub line_is : (d : Description) (depth : ℕ) (b : List ℕ) (t : Tally) (line : List ℕ) (a : Answer) → line_answer d depth b t line ≡ Some a → answer_to d b t (command_of d line) ≡ a
+line_is d depth b t line a e = answer_by d b t (question_answer d depth b) (writing_answer d depth b) a (λ question. asked_is d depth b question a) (λ path n. written_is d depth b path n a) (command_of d line) e
 
 -- ---- the session
 
 -- the session after one line more
 after_line : (d : Description) (depth : ℕ) (s : Standing) (line : List ℕ) (lines : List (List ℕ)) (t : Standing) → ((a : Answer) → session_to d depth (answered s a true) lines ≡ Some t → fold (after_event d) (answered s a true) (spoken lines) ≡ t)
-    → (b : Bool) → s.ended ≡ b → elim b as (λ _. Option Standing) [ true ↦ Some s | false ↦ option_and_then (λ a. session_to d depth (answered s a true) lines) (line_answer d depth s.bytes line) ] ≡ Some t
+    → (b : Bool) → s.ended ≡ b → elim b as (λ _. Option Standing) [ true ↦ Some s | false ↦ option_and_then (λ a. session_to d depth (answered s a true) lines) (line_answer d depth s.bytes untold line) ] ≡ Some t
     → fold (after_event d) s (spoken (line ∷ lines)) ≡ t
 after_line d depth s line lines t rest true ended e = stays d s (line ∷ lines) ended ∙ some_is s t e
 after_line d depth s line lines t rest false ended e =
-    let b = bound (λ a. session_to d depth (answered s a true) lines) (line_answer d depth s.bytes line) t e in
-    ap (λ x. fold (after_event d) x (spoken lines)) (open_event d s (said_line line) ended ∙ ap (λ a. answered s a true) (line_is d depth s.bytes line b.0 b.1)) ∙ rest b.0 b.2
+    let b = bound (λ a. session_to d depth (answered s a true) lines) (line_answer d depth s.bytes untold line) t e in
+    ap (λ x. fold (after_event d) x (spoken lines)) (open_event d s (said_line line) ended ∙ ap (λ a. answered s a true) (line_is d depth s.bytes untold line b.0 b.1)) ∙ rest b.0 b.2
 
 -- a session of lines for which no memory is refused
 pub session_is : (d : Description) (depth : ℕ) (s : Standing) (lines : List (List ℕ)) (t : Standing) → session_to d depth s lines ≡ Some t → fold (after_event d) s (spoken lines) ≡ t

@@ -101,13 +101,13 @@ question_answer d depth bytes question = option_map (λ r. said bytes (told d r 
 abbrev pub writing_answer : Description → ℕ → List ℕ → Trail → ℤ → Option Replied
 writing_answer d depth bytes path n = option_map (put_answer d bytes) (outcome_to d depth bytes (put_question d path n))
 
--- the examples have no line `stats`, so that what it would tell doesn't matter
+-- the examples of `Dialogues` have no line `stats`, so that what it would tell doesn't matter
 abbrev pub untold : Tally
 untold = record { kept = 0; turns = None }
 
--- the answer to a line
-abbrev pub line_answer : Description → ℕ → List ℕ → List ℕ → Option Replied
-line_answer d depth bytes line = by_asking (question_answer d depth bytes) (writing_answer d depth bytes) (Some (answer_to d bytes untold (command_of d line))) (command_of d line)
+-- the answer to a line, where `stats` tells this
+abbrev pub line_answer : Description → ℕ → List ℕ → Tally → List ℕ → Option Replied
+line_answer d depth bytes tally line = by_asking (question_answer d depth bytes) (writing_answer d depth bytes) (Some (answer_to d bytes tally (command_of d line))) (command_of d line)
 
 -- the lines of a session in which no memory is refused
 abbrev pub spoken : List (List ℕ) → List Event
@@ -118,5 +118,5 @@ unfoldable pub session_to : Description → ℕ → Standing → List (List ℕ)
 session_to d depth s [] = Some s
 session_to d depth s (line ∷ lines) = elim (s.ended) [
   | true ↦ Some s
-  | false ↦ option_and_then (λ a. session_to d depth (answered s a true) lines) (line_answer d depth s.bytes line)
+  | false ↦ option_and_then (λ a. session_to d depth (answered s a true) lines) (line_answer d depth s.bytes untold line)
 ]

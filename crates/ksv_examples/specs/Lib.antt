@@ -4,3 +4,5 @@ pub mod Expressions
 pub mod Descriptions
 pub mod Depth
 pub mod Dialogues
+pub mod Walks
+pub mod Stats
