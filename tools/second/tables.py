@@ -229,9 +229,11 @@ def judge_names(result, row):
         else:
             first, _, rest = question.partition(" ")
             word, _, number = first.partition(":")
-            declared = declared or name_tables.Declared(text_of(row))
-            own = name_tables.answer(declared, row.kind, word, int(number) if number else None, rest)
-            own = own and f"{word} {own}"
+            own = None
+            if word in name_tables.KNOWN[row.kind]:
+                declared = declared or name_tables.Declared(text_of(row))
+                own = name_tables.answer(declared, row.kind, word, int(number) if number else None, rest)
+                own = own and f"{word} {own}"
         for line, reply in wanted:
             if own is None:
                 result.cannot(f"kind {row.kind}, question {word}")
