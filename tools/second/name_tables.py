@@ -60,6 +60,7 @@ def arguments(declared, number, text):
     place = Place(declared.types[number], True, True)
 
     def check(loader):
+        """Looks up the names of each argument."""
         for argument in expressions.parse_type(text)[1] or []:
             Names(loader, 1, "argument", place).resolve(argument, None)
 

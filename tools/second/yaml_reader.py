@@ -268,6 +268,7 @@ class Reader:
         items = []
 
         def is_item(content):
+            """Whether an item stands here; under a key another key may."""
             if is_dash(content):
                 return True
             if under_key:
