@@ -45,6 +45,7 @@ class Type:
         self.name, self.outer, self.tree = name, outer, tree
         self.types, self.enums, self.members = {}, {}, {}
         self.parameters, self.fields = [], []
+        self.order = []  # all members in the order of the text, those with bad or equal ids too
         self.endian, self.encoding = (outer.endian, outer.encoding) if outer else (None, None)
 
 
@@ -66,6 +67,7 @@ class Attribute:
         self.contents = self.terminator = self.encoding = self.enum = self.case = self.switch = None
         self.size_eos = self.include = False
         self.consume = self.eos_error = True
+        self.case_lines = []  # of a switch: the line of each case, with what it chooses
 
 
 class Case:
@@ -151,8 +153,6 @@ class Loader:
     def declare(self, tree, name, outer, line):
         """Makes a type with the names of all that it declares, in the order of the text."""
         made = Type(name, outer, tree)
-        made.ids = []
-        made.count = 0
         self.types.append(made)
         if len(self.types) > MOST_TYPES:
             self.fault(line, "S9")
@@ -205,10 +205,9 @@ class Loader:
 
     def member(self, made, attribute, line, name_line):
         """One member more of a type."""
-        made.count += 1
-        if made.count > MOST_MEMBERS:
+        made.order.append(attribute)
+        if len(made.order) > MOST_MEMBERS:
             self.fault(line, "S9")
-        made.ids.append(attribute)
         if attribute.name in made.members:
             self.fault(name_line, "S3")
         elif attribute.name is not None:
@@ -371,7 +370,7 @@ class Loader:
 
     def check_instances(self, tree, one):
         """Value instances, positioned ones, and those that are neither."""
-        attributes = [member for member in one.ids if member.kind in ("value", "positioned")]
+        attributes = [member for member in one.order if member.kind in ("value", "positioned")]
         for (line, name, node), attribute in zip(tree.entries, attributes):
             if not IDENTIFIER.match(name) or not isinstance(node, Map):
                 self.fault(line, "S6")
@@ -409,7 +408,6 @@ class Loader:
         attribute.encoding = attribute.owner.encoding
         place = Place(attribute.owner, is_seq, attribute.repeat is not None)
         keys = FIELD_KEYS | ({"id"} if is_seq else {"pos", "io"})
-        attribute.case_lines = []
         for line, key, node in self.entries(tree, keys, FIELD_LEFT_OUT):
             self.check_key(line, key, node, attribute, place)
         if together:

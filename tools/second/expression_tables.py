@@ -1,7 +1,7 @@
 """The tables of expressions: trees and refusals, evaluations with each question and reply, and paths.
 
-A row is `LEFT => RIGHT`. A heading `== KIND WORDS` begins rows of a kind, an empty line ends them. `{N*TEXT}` is N times a text,
-`{HH}` a byte."""
+A row is `LEFT => RIGHT`. A heading `== KIND WORDS` begins rows of a kind, an empty line ends them. `{N*TEXT}` is N times a
+text, `{HH}` a byte."""
 
 import re
 

@@ -18,6 +18,7 @@ class Fault(Exception):
         self.kind, self.path = kind, path
 
     def __str__(self):
+        """The fault as replies tell it."""
         return f"{self.kind} at {self.path.text()}"
 
 

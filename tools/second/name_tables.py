@@ -9,6 +9,11 @@ YAML_KINDS = {"Y3": "Tab", "Y4": "Indentation", "Y5": "KeyTwice", "Y6": "LeftOut
               "Y9": "TooDeep"}
 
 
+# The questions that are answered, by the kinds of their rows.
+KNOWN = {"names": {"fault", "arguments", "member", "built_in"}, "load": {"enum", "number", "name"},
+         "scopes": {"path", "inherited", "named", "id", "value", "plain", "signed"}}
+
+
 def some(value):
     """A value that may be missing."""
     return "None" if value is None else f"Some({value})"
@@ -22,7 +27,7 @@ class Declared:
         self.loader = Loader()
         self.loader.declare(yaml_reader.read(text), None, None, 1)
         self.types = self.loader.types
-        self.members = [member for one in self.types for member in one.ids]
+        self.members = [member for one in self.types for member in one.order]
         self.enums = [enum for one in self.types for enum in one.enums.values()]
         self.names = []
         for name in (member.name for member in self.members):
@@ -55,6 +60,7 @@ def arguments(declared, number, text):
     place = Place(declared.types[number], True, True)
 
     def check(loader):
+        """Looks up the names of each argument."""
         for argument in expressions.parse_type(text)[1] or []:
             Names(loader, 1, "argument", place).resolve(argument, None)
 

@@ -117,6 +117,7 @@ def bytes_of(words):
 def unescaped(text):
     """The bytes of a text with escapes."""
     def letter(found):
+        """What one escape stands for; one that isn't known stands for itself."""
         sign = found[1]
         return bytes([int(sign[1:], 16)]) if sign[:1] == b"x" and len(sign) == 3 else LETTERS.get(sign, found[0])
 
@@ -229,9 +230,11 @@ def judge_names(result, row):
         else:
             first, _, rest = question.partition(" ")
             word, _, number = first.partition(":")
-            declared = declared or name_tables.Declared(text_of(row))
-            own = name_tables.answer(declared, row.kind, word, int(number) if number else None, rest)
-            own = own and f"{word} {own}"
+            own = None
+            if word in name_tables.KNOWN[row.kind]:
+                declared = declared or name_tables.Declared(text_of(row))
+                own = name_tables.answer(declared, row.kind, word, int(number) if number else None, rest)
+                own = own and f"{word} {own}"
         for line, reply in wanted:
             if own is None:
                 result.cannot(f"kind {row.kind}, question {word}")
@@ -272,8 +275,9 @@ def judge_tree(result, row):
 
 
 JUDGES = {
-    "file": judge_file, "reference": judge_file, "cut": judge_cut, "inputs": judge_inputs, "broken": judge_broken, "load": judge_names,
-    "names": judge_names, "scopes": judge_names, "lines": judge_lines, "trees": judge_trees, "tree": judge_tree,
+    "file": judge_file, "reference": judge_file, "cut": judge_cut, "inputs": judge_inputs, "broken": judge_broken,
+    "load": judge_names, "names": judge_names, "scopes": judge_names, "lines": judge_lines, "trees": judge_trees,
+    "tree": judge_tree,
 }
 
 

@@ -178,9 +178,7 @@ class Reader:
     def misplaced(self):
         """The refusal of a line at an indentation where nothing can stand."""
         content = self.lines[self.at].lstrip(" \t")
-        if content[0] in "'\"" and self.quoted(content, self.at, True) is None:
-            return self.fault(self.at, "Y7")
-        return self.fault(self.at, "Y4")
+        return self.fault(self.at, "Y7" if begins_open_quote(content) else "Y4")
 
     def block_node(self, outer):
         """The node that begins at the present line, inside a block of indentation `outer`."""
@@ -270,13 +268,12 @@ class Reader:
         items = []
 
         def is_item(content):
+            """Whether an item stands here; under a key another key may."""
             if is_dash(content):
                 return True
             if under_key:
                 return False
-            if content[0] in "'\"":
-                self.quoted(content, self.at)
-            raise self.fault(self.at, "Y8")
+            raise self.fault(self.at, "Y7" if begins_open_quote(content) else "Y8")
 
         while self.block_goes_on(column, is_item):
             items.append(self.item(column))
@@ -320,19 +317,13 @@ class Reader:
         if rest.strip(" \t") != "" and not (rest[0] in " \t" and is_quiet(rest)):
             raise self.fault(self.at, "Y6")
 
-    def quoted(self, content, at, may_be_open=False):
-        """The text of a quoted scalar and what stands behind it. An open one is refused, or None."""
+    def quoted(self, content, at):
+        """The text of a quoted scalar and what stands behind it. One that isn't closed on its line is refused."""
         end = quote_end(content)
         if end is None:
-            if may_be_open:
-                return None
             raise self.fault(at, "Y7")
-        if content[0] == "'":
-            return content[1:end].replace("''", "'"), content[end + 1:]
-        text = unescape(content[1:end])
+        text = content[1:end].replace("''", "'") if content[0] == "'" else unescape(content[1:end])
         if text is None:
-            if may_be_open:
-                return "", content[end + 1:]
             raise self.fault(at, "Y6")
         return text, content[end + 1:]
 
@@ -421,6 +412,11 @@ def quote_end(content):
     return None
 
 
+def begins_open_quote(content):
+    """Whether a quote at the front isn't closed on its line."""
+    return content[0] in "'\"" and quote_end(content) is None
+
+
 def unescape(text):
     """The text inside double quotes with its escapes replaced; None where one is no escape of the subset."""
     out, at = [], 0
@@ -492,7 +488,7 @@ class Flow:
         reader = self.reader
         column = indentation(line)
         content = line[column:]
-        if content[0] in "'\"" and quote_end(content) is None:
+        if begins_open_quote(content):
             return self.fault("Y7")
         kinds = [kind for other, kind in reader.open if other == column]
         if not kinds:
