@@ -1,7 +1,7 @@
 """The tables of expressions: trees and refusals, evaluations with each question and reply, and paths.
 
-A row is `LEFT => RIGHT`. A heading `== KIND WORDS` begins rows of a kind, an empty line ends them. `{N*TEXT}` is N times a
-text, `{HH}` a byte."""
+A row is `LEFT => RIGHT`. A heading `== KIND WORDS` begins rows of a kind; a line that begins with `#` is a comment. `{N*TEXT}`
+is N times a text, `{HH}` a byte."""
 
 import re
 
@@ -208,9 +208,7 @@ def judge(result, lines):
             kind, _, words = line[3:].partition(" ")
             words = widened(words).decode()
             continue
-        if line == "":
-            kind = None
-        if kind is None or " => " not in line:
+        if kind is None or line.startswith("#") or " => " not in line:
             continue
         result.rows += 1
         left, _, right = line.rpartition(" => ")
