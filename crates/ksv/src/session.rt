@@ -2,7 +2,7 @@
 ghost use Rattle.std.specs.Prelude.{◌≡◌, ◌≤◌, ◌<◌, ◌+◌, ◌-◌, ◌^◌, ◌↔◌, false, length, IsTrue, IsErr, IfOk, OnErr};
 ghost use Rattle.ksv_bytes.specs.Edits.{file_limit};
 ghost use Rattle.ksv_desc.specs.Whole.{plain_pieces};
-ghost use Rattle.ksv_session.specs.Runs.{Ended};
+ghost use Rattle.ksv_session.specs.Runs.{Ended, took};
 
 use ksv_bytes::Buffer;
 use ksv_desc::Desc;
@@ -29,7 +29,7 @@ pub fn run<R: Source, W: Sink>(
     requires reads { R.failed reader.old ≡ false }
     requires writes { W.failed writer.old ≡ false }
     ensures served { IsTrue R.tells → IfOk result (λ done.
-        Ended done.1 (plain_pieces desc) bytes.items (R.bytes reader.old) (R.bytes reader.new) done.0 W.tells (W.bytes writer.old) (W.bytes writer.new)) }
+        Ended done.1 (plain_pieces desc) bytes.items (R.bytes reader.old) (R.bytes reader.new) done.0 W.tells (took (W.bytes writer.old) (W.flushed writer.old)) (took (W.bytes writer.new) (W.flushed writer.new))) }
     ensures read_fault { IfOk result (λ done. IsTrue (R.failed reader.new) → done.1 ≡ End.ReadFailed) }
     ensures read_end { IsTrue R.tells → IfOk result (λ done. done.1 ≡ End.ReadFailed → R.failed reader.new ≡ false
         → 2 ^ 64 - 1 + length (R.bytes reader.new) ≤ length (R.bytes reader.old)) }

@@ -5,12 +5,13 @@ use clap::Error;
 use clap::error::ErrorKind as WordsKind;
 use ksv::{Args, End, NewFault, Std, Stop, arguments, describe, run, say};
 use ksv_bytes::{Buffer, FILE_LIMIT, Window};
+use ksv_yaml_scan::cut::MAX_LENGTH as DESCRIPTION_LIMIT;
 use std::alloc::{AllocError, Global};
 use std::fs::File;
 use std::io::{self, ErrorKind, Read, Write};
 use std::process::ExitCode;
 
-/// The bytes of a file, up to a limit.
+/// The bytes of a file, at most so many of them.
 fn read_file(rt: &HostRuntime, path: &str, limit: u64) -> io::Result<Vec<u8>> {
     let mut bytes = Vec::new(rt.alloc());
     File::open(rt, path)?.take(limit).read_to_end(&mut bytes)?;
@@ -49,7 +50,8 @@ fn save(rt: &HostRuntime, out: Option<&str>, buffer: &Buffer) -> Result<(), Stop
     }
 }
 
-/// Reads the file and its description, in this order, serves the session, and keeps the bytes if it went well.
+/// Reads the file and its description, in this order, and of each at most one byte more than it may have. Then serves the session, and
+/// keeps the bytes if it went well.
 fn explore(rt: &HostRuntime, args: Args) -> Result<(), Stop> {
     let bytes = match read_file(rt, args.file, FILE_LIMIT as u64 + 1) {
         Ok(bytes) => bytes,
@@ -58,7 +60,7 @@ fn explore(rt: &HostRuntime, args: Args) -> Result<(), Stop> {
     if bytes.len() > FILE_LIMIT {
         return Err(Stop::FileTooLarge);
     }
-    let ksy = match read_file(rt, args.ksy, u64::MAX) {
+    let ksy = match read_file(rt, args.ksy, DESCRIPTION_LIMIT as u64 + 1) {
         Ok(ksy) => ksy,
         Err(error) => return Err(unread(error, Stop::DescriptionUnreadable)),
     };

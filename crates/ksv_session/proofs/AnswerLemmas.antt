@@ -10,7 +10,7 @@ use Rattle.ksv_session.specs.Explored.{Explored, description_of, tally_of}
 use Rattle.ksv_session.specs.Kept.{Holds, Memory, Remembers}
 use Rattle.ksv_lines.specs.Lines.{is_line_end, lines_of}
 use Rattle.ksv_session.specs.Replies.{Answer, Event, answer, is_fair, may_be_refused}
-use Rattle.ksv_session.specs.Runs.{Breaks, Serves}
+use Rattle.ksv_session.specs.Runs.{Breaks, Serves, Taken}
 use Rattle.ksv_session.specs.Seen.{answer_seen, is_refusal}
 use Rattle.ksv_lines.specs.declared.device.Failed.{Failed}
 use Rattle.ksv_session.specs.declared.reply.Reply.{Reply}
@@ -23,7 +23,7 @@ fair_if true fair h = h refl
 fair_if false fair h = refl
 
 -- What `line` says of its reply.
-pub answers : (old new : Explored) (line : List ℕ) (tells : Bool) (before written : List ℕ) (reply : Reply) (result : Result Bool Failed)
+pub answers : (old new : Explored) (line : List ℕ) (tells : Bool) (before written : Taken) (reply : Reply) (result : Result Bool Failed)
     → answer_seen new.bytes reply ≡ answer (description_of old) old.bytes (record { line = line; refused = is_refusal reply; tally = tally_of old })
     → (IsTrue (is_refusal reply) → may_be_refused old.bytes (command_of (description_of old) line) ≡ true)
     → description_of new ≡ description_of old
@@ -41,7 +41,7 @@ answers old new line tells before written reply result is fair kept remembers wr
 }
 
 -- The same by a description of the run.
-pub record Answers (d : Description) (now : Explored) (line : List ℕ) (now' : Explored) (tells : Bool) (before written : List ℕ) (result : Result Bool Failed) : Type 0 where
+pub record Answers (d : Description) (now : Explored) (line : List ℕ) (now' : Explored) (tells : Bool) (before written : Taken) (result : Result Bool Failed) : Type 0 where
   pub event : Event
   pub line_is : event.line ≡ line
   pub fair : is_fair d now.bytes event ≡ true
@@ -49,7 +49,7 @@ pub record Answers (d : Description) (now : Explored) (line : List ℕ) (now' : 
   pub keeps : KeepsOne d now event now'
   pub wrote : Wrote (answer d now.bytes event) tells before written result
 
-pub in_run : (d : Description) (old new : Explored) (line line' : List ℕ) (tells : Bool) (before written : List ℕ) (result : Result Bool Failed)
+pub in_run : (d : Description) (old new : Explored) (line line' : List ℕ) (tells : Bool) (before written : Taken) (result : Result Bool Failed)
     → description_of old ≡ d → line ≡ line' → Answered old line new tells before written result → Answers d old line' new tells before written result
 in_run d old new line line' tells before written result is same a = subst (λ d. Answers d old line' new tells before written result) is (record {
   event = a.event;
@@ -69,7 +69,7 @@ split_input taken piece left i lt is =
     ∙ sym (append_assoc taken (take i piece) (10 ∷ (drop (i + 1) piece ++ left)))
 
 -- An LF in a piece: the session goes on, or ends, or a write fails.
-pub at_line_end : (d : Description) (begin taken : List ℕ) (now : Explored) (line before written : List ℕ) (now' : Explored) (written' piece left : List ℕ) (i : ℕ) (tells : Bool)
+pub at_line_end : (d : Description) (begin taken : List ℕ) (now : Explored) (line : List ℕ) (before written : Taken) (now' : Explored) (written' : Taken) (piece left : List ℕ) (i : ℕ) (tells : Bool)
     → i < length piece → get_or piece i 0 ≡ 10
     → Stands d begin (taken ++ take i piece) now line tells before written
     → (result : Result Bool Failed) → Answers d now line now' tells written written' result
@@ -86,7 +86,7 @@ at_line_end d begin taken now line before written now' written' piece left i tel
     a.event a.line_is a.fair a.bytes a.keeps a.wrote
 
 -- The same by what `answer_line` says.
-pub fed_at : (d : Description) (begin taken line line' before written written' piece left : List ℕ) (i : ℕ) (tells : Bool) (old new : Explored)
+pub fed_at : (d : Description) (begin taken line line' : List ℕ) (before written written' : Taken) (piece left : List ℕ) (i : ℕ) (tells : Bool) (old new : Explored)
     → i < length piece → get_or piece i 0 ≡ 10 → description_of old ≡ d → line' ≡ line
     → Stands d begin (taken ++ take i piece) old line tells before written
     → (result : Result Bool Failed) → Answered old line' new tells written written' result
@@ -95,12 +95,12 @@ fed_at d begin taken line line' before written written' piece left i tells old n
     at_line_end d begin taken old line before written new written' piece left i tells lt is s result
     (in_run d old new line' line tells written written' result kept same a)
 
-pub fed_true : (d : Description) (begin taken input : List ℕ) (now : Explored) (line before written : List ℕ) (tells b : Bool) → b ≡ true
+pub fed_true : (d : Description) (begin taken input : List ℕ) (now : Explored) (line : List ℕ) (before written : Taken) (tells b : Bool) → b ≡ true
     → Fed d begin taken input now line tells before written (Ok b) → Serves d begin input now.bytes tells before written true
 fed_true d begin taken input now line before written tells true is fed = fed
 fed_true d begin taken input now line before written tells false is fed = absurd (true≢false (sym is))
 
-pub fed_false : (d : Description) (begin taken input : List ℕ) (now : Explored) (line before written : List ℕ) (tells b : Bool) → b ≡ false
+pub fed_false : (d : Description) (begin taken input : List ℕ) (now : Explored) (line : List ℕ) (before written : Taken) (tells b : Bool) → b ≡ false
     → Fed d begin taken input now line tells before written (Ok b) → Stands d begin taken now line tells before written
 fed_false d begin taken input now line before written tells true is fed = absurd (true≢false is)
 fed_false d begin taken input now line before written tells false is fed = fed
@@ -113,7 +113,7 @@ pub not_line_end : (byte : ℕ) → (byte ≡ 10 → ⊥) → is_line_end byte �
 not_line_end byte other = elim (eqb_tells byte 10) [ inl p ↦ absurd (other p.1) | inr p ↦ p.0 ]
 
 -- The end of the input: the session has ended or not, or a write fails.
-pub at_input_end : (d : Description) (begin taken line line' before written written' : List ℕ) (tells : Bool) (old new : Explored)
+pub at_input_end : (d : Description) (begin taken line line' : List ℕ) (before written written' : Taken) (tells : Bool) (old new : Explored)
     → description_of old ≡ d → line' ≡ line → Stands d begin taken old line tells before written
     → (b ended : Bool) → ended ≡ b → Answered old line' new tells written written' (Ok ended) → Serves d begin taken new.bytes tells before written' b
 at_input_end d begin taken line line' before written written' tells old new kept same s b ended is answered =
@@ -121,7 +121,7 @@ at_input_end d begin taken line line' before written written' tells old new kept
     subst (λ e. Serves d begin taken new.bytes tells before written' e) (sym a.wrote.0 ∙ is)
     (last_line d begin taken old line before written new written' tells s a.event a.line_is a.fair a.bytes a.keeps a.wrote.1)
 
-pub at_input_broken : (d : Description) (begin taken line line' before written written' : List ℕ) (tells : Bool) (old new : Explored)
+pub at_input_broken : (d : Description) (begin taken line line' : List ℕ) (before written written' : Taken) (tells : Bool) (old new : Explored)
     → description_of old ≡ d → line' ≡ line → Stands d begin taken old line tells before written
     → (failed : Failed) → Answered old line' new tells written written' (Err failed) → Breaks d begin taken new.bytes tells before written'
 at_input_broken d begin taken line line' before written written' tells old new kept same s failed answered =

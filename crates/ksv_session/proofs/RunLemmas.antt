@@ -12,7 +12,7 @@ use Rattle.ksv_session.specs.Replies.{Answer, Event, answer, answer_to, is_fair,
 use Rattle.ksv_session.specs.Code.{Stands}
 use Rattle.ksv_session.specs.Explored.{Explored}
 use Rattle.ksv_session.specs.Kept.{Holds, Memory, Remembers, nothing_kept}
-use Rattle.ksv_session.specs.Runs.{Breaks, Serves, Stops}
+use Rattle.ksv_session.specs.Runs.{Breaks, Serves, Stops, Taken, flushed_by}
 use Rattle.ksv_session.specs.Session.{Standing, after_event, answered, begun, lines_in, session}
 use Rattle.ksv_session.specs.Tallies.{Keeps, Tells, tally_in}
 use Rattle.ksv_lines.proofs.CutLemmas.{split_at, split_more}
@@ -105,7 +105,7 @@ session_more : (d : Description) (begin : List ℕ) (front more : List Event) �
 session_more d begin front more = fold-append (after_event d) (begun begin) front more
 
 -- A byte that ends no line.
-pub pushed : (d : Description) (begin taken : List ℕ) (now : Explored) (line before written : List ℕ) (tells : Bool) (byte : ℕ) → is_line_end byte ≡ false
+pub pushed : (d : Description) (begin taken : List ℕ) (now : Explored) (line : List ℕ) (before written : Taken) (tells : Bool) (byte : ℕ) → is_line_end byte ≡ false
     → Stands d begin taken now line tells before written
     → Stands d begin (taken ++ byte ∷ []) now (take 4097 (line ++ byte ∷ [])) tells before written
 pushed d begin taken now line before written tells byte other s = record {
@@ -116,6 +116,7 @@ pushed d begin taken now line before written tells byte other s = record {
   fair = s.fair;
   bytes = s.bytes;
   output = s.output;
+  flushed = s.flushed;
   goes_on = s.goes_on;
   kept = s.kept;
   holds = s.holds;
@@ -130,7 +131,7 @@ pub record Next (d : Description) (begin : List ℕ) (events : List Event) (e : 
   pub fair : (session d begin (events ++ e ∷ [])).fair ≡ true
   pub same : answer d (session d begin events).bytes e ≡ a
 
-pub next : (d : Description) (begin taken : List ℕ) (now : Explored) (line before written : List ℕ) (tells : Bool) (s : Stands d begin taken now line tells before written)
+pub next : (d : Description) (begin taken : List ℕ) (now : Explored) (line : List ℕ) (before written : Taken) (tells : Bool) (s : Stands d begin taken now line tells before written)
     (event : Event) → event.line ≡ line → is_fair d now.bytes event ≡ true → Next d begin s.events (whole s.rest event) (answer d now.bytes event)
 next d begin taken now line before written tells s event line_is fair =
     let e = whole s.rest event in
@@ -159,7 +160,7 @@ pub record Kept (d : Description) (begin : List ℕ) (events : List Event) (e : 
   pub holds : ends ≡ false → Holds now last
 
 -- (the line is the same, gathered as a whole)
-told_whole : (d : Description) (begin taken : List ℕ) (now : Explored) (line before written : List ℕ) (tells : Bool) (s : Stands d begin taken now line tells before written)
+told_whole : (d : Description) (begin taken : List ℕ) (now : Explored) (line : List ℕ) (before written : Taken) (tells : Bool) (s : Stands d begin taken now line tells before written)
     (event : Event) (now' : Explored) → event.line ≡ line → KeepsOne d now event now'
     → ((whole s.rest event).tally ≡ tally_in s.kept) × Remembers d (session d begin s.events).bytes (command_of d s.rest) event.refused s.kept now'
 told_whole d begin taken now line before written tells s event now' line_is keeps =
@@ -169,7 +170,7 @@ told_whole d begin taken now line before written tells s event now' line_is keep
           (subst (λ k. Remembers d now.bytes k event.refused s.kept now') (ap (command_of d) (line_is ∙ s.gathered) ∙ cut_reads d s.rest) told.1),
     )
 
-pub kept_next : (d : Description) (begin taken : List ℕ) (now : Explored) (line before written : List ℕ) (tells : Bool) (s : Stands d begin taken now line tells before written)
+pub kept_next : (d : Description) (begin taken : List ℕ) (now : Explored) (line : List ℕ) (before written : Taken) (tells : Bool) (s : Stands d begin taken now line tells before written)
     (event : Event) (now' : Explored) → event.line ≡ line → is_fair d now.bytes event ≡ true → KeepsOne d now event now'
     → Kept d begin s.events (whole s.rest event) (answer d now.bytes event).ends now'
 kept_next d begin taken now line before written tells s event now' line_is fair keeps =
@@ -184,7 +185,7 @@ kept_next d begin taken now line before written tells s event now' line_is fair 
     }
 
 -- The same where the line ends the session, whatever stands behind it.
-pub kept_end : (d : Description) (begin taken : List ℕ) (now : Explored) (line before written : List ℕ) (tells : Bool) (s : Stands d begin taken now line tells before written)
+pub kept_end : (d : Description) (begin taken : List ℕ) (now : Explored) (line : List ℕ) (before written : Taken) (tells : Bool) (s : Stands d begin taken now line tells before written)
     (event : Event) (now' : Explored) (tail : List Event) → event.line ≡ line → is_fair d now.bytes event ≡ true → KeepsOne d now event now' → (answer d now.bytes event).ends ≡ true
     → Tells d begin ((s.events ++ whole s.rest event ∷ []) ++ tail)
 kept_end d begin taken now line before written tells s event now' tail line_is fair keeps ends =
@@ -203,10 +204,14 @@ written_next : (d : Description) (begin before written written' : List ℕ) (eve
 written_next d begin before written written' events e a n is more =
     more ∙ ap (λ w. w ++ a.text) is ∙ append_assoc before (session d begin events).output a.text ∙ ap (λ o. before ++ o) (sym n.output)
 
+-- how much is passed on behind that line
+flushed_next : (before : Taken) (output bytes : List ℕ) (f n k : ℕ) → n ≡ suc k → f ≡ length bytes → bytes ≡ before.bytes ++ output → f ≡ flushed_by before output n
+flushed_next before output bytes f n k is all same = all ∙ ap length same ∙ length-append before.bytes output ∙ sym (ap (flushed_by before output) is)
+
 -- An LF behind a line that is answered.
-pub answered_line : (d : Description) (begin taken : List ℕ) (now : Explored) (line before written : List ℕ) (now' : Explored) (written' : List ℕ) (tells : Bool) (s : Stands d begin taken now line tells before written)
+pub answered_line : (d : Description) (begin taken : List ℕ) (now : Explored) (line : List ℕ) (before written : Taken) (now' : Explored) (written' : Taken) (tells : Bool) (s : Stands d begin taken now line tells before written)
     (event : Event) → event.line ≡ line → is_fair d now.bytes event ≡ true → (answer d now.bytes event).ends ≡ false
-    → now'.bytes ≡ (answer d now.bytes event).bytes → KeepsOne d now event now' → (IsTrue tells → written' ≡ written ++ (answer d now.bytes event).text)
+    → now'.bytes ≡ (answer d now.bytes event).bytes → KeepsOne d now event now' → (IsTrue tells → (written'.bytes ≡ written.bytes ++ (answer d now.bytes event).text) × (written'.flushed ≡ length written'.bytes))
     → Stands d begin (taken ++ 10 ∷ []) now' [] tells before written'
 answered_line d begin taken now line before written now' written' tells s event line_is fair ends is keeps more =
     let e = whole s.rest event in
@@ -219,7 +224,10 @@ answered_line d begin taken now line before written now' written' tells s event 
       gathered = refl;
       fair = n.fair;
       bytes = is ∙ sym n.bytes;
-      output = λ told. written_next d begin before written written' s.events e _ n (s.output told) (more told);
+      output = λ told. written_next d begin before.bytes written.bytes written'.bytes s.events e _ n (s.output told) (more told).0;
+      flushed = λ told.
+          flushed_next before (session d begin (s.events ++ e ∷ [])).output written'.bytes written'.flushed (length (s.events ++ e ∷ [])) (length s.events) (omega (arith, length_push s.events e))
+          (more told).1 (written_next d begin before.bytes written.bytes written'.bytes s.events e _ n (s.output told) (more told).0);
       goes_on = n.ended ∙ ends;
       kept = k.last;
       holds = k.holds ends;
@@ -227,16 +235,16 @@ answered_line d begin taken now line before written now' written' tells s event 
     }
 
 -- The lines of an input that goes on behind an LF.
-pub lines_behind : (d : Description) (begin taken : List ℕ) (now : Explored) (line before written more : List ℕ) (tells : Bool) (s : Stands d begin taken now line tells before written)
+pub lines_behind : (d : Description) (begin taken : List ℕ) (now : Explored) (line : List ℕ) (before written : Taken) (more : List ℕ) (tells : Bool) (s : Stands d begin taken now line tells before written)
     → lines_of (taken ++ 10 ∷ more) ≡ (lines_in s.events ++ s.rest ∷ []) ++ lines_of more
 lines_behind d begin taken now line before written more tells s =
     split_at is_line_end taken 10 more refl ∙ ap (λ ls. ls ++ lines_of more) (sym s.lines)
 
 -- A line that ends the session, whatever stands behind it.
-pub quit_line : (d : Description) (begin taken : List ℕ) (now : Explored) (line before written : List ℕ) (now' : Explored) (written' input : List ℕ) (tail : List (List ℕ)) (tells : Bool)
+pub quit_line : (d : Description) (begin taken : List ℕ) (now : Explored) (line : List ℕ) (before written : Taken) (now' : Explored) (written' : Taken) (input : List ℕ) (tail : List (List ℕ)) (tells : Bool)
     (s : Stands d begin taken now line tells before written) → lines_of input ≡ (lines_in s.events ++ s.rest ∷ []) ++ tail
     → (event : Event) → event.line ≡ line → is_fair d now.bytes event ≡ true → (answer d now.bytes event).ends ≡ true
-    → now'.bytes ≡ (answer d now.bytes event).bytes → KeepsOne d now event now' → (IsTrue tells → written' ≡ written ++ (answer d now.bytes event).text)
+    → now'.bytes ≡ (answer d now.bytes event).bytes → KeepsOne d now event now' → (IsTrue tells → (written'.bytes ≡ written.bytes ++ (answer d now.bytes event).text) × (written'.flushed ≡ length written'.bytes))
     → Serves d begin input now'.bytes tells before written' true
 quit_line d begin taken now line before written now' written' input tail tells s cut event line_is fair ends is keeps more =
     let e = whole s.rest event in
@@ -248,15 +256,16 @@ quit_line d begin taken now line before written now' written' input tail tells s
       lines = all_lines s.events e s.rest tail input refl cut;
       fair = ap (λ (t : Standing). t.fair) over ∙ n.fair;
       bytes = is ∙ sym n.bytes ∙ sym (ap (λ (t : Standing). t.bytes) over);
-      output = λ told. written_next d begin before written written' s.events e _ n (s.output told) (more told) ∙ sym (ap (λ (t : Standing). before ++ t.output) over);
+      output = λ told. written_next d begin before.bytes written.bytes written'.bytes s.events e _ n (s.output told) (more told).0 ∙ sym (ap (λ (t : Standing). before.bytes ++ t.output) over);
+      flushed = λ told. (more told).1;
       ends = ap (λ (t : Standing). t.ended) over ∙ n.ended ∙ ends;
       stats = kept_end d begin taken now line before written tells s event now' (unrefused tail) line_is fair keeps ends;
     }
 
 -- The line at the end of the input.
-pub last_line : (d : Description) (begin taken : List ℕ) (now : Explored) (line before written : List ℕ) (now' : Explored) (written' : List ℕ) (tells : Bool)
+pub last_line : (d : Description) (begin taken : List ℕ) (now : Explored) (line : List ℕ) (before written : Taken) (now' : Explored) (written' : Taken) (tells : Bool)
     (s : Stands d begin taken now line tells before written) (event : Event) → event.line ≡ line → is_fair d now.bytes event ≡ true
-    → now'.bytes ≡ (answer d now.bytes event).bytes → KeepsOne d now event now' → (IsTrue tells → written' ≡ written ++ (answer d now.bytes event).text)
+    → now'.bytes ≡ (answer d now.bytes event).bytes → KeepsOne d now event now' → (IsTrue tells → (written'.bytes ≡ written.bytes ++ (answer d now.bytes event).text) × (written'.flushed ≡ length written'.bytes))
     → Serves d begin taken now'.bytes tells before written' (answer d now.bytes event).ends
 last_line d begin taken now line before written now' written' tells s event line_is fair is keeps more =
     let e = whole s.rest event in
@@ -267,7 +276,8 @@ last_line d begin taken now line before written now' written' tells s event line
       lines = lines_push s.events e ∙ s.lines;
       fair = n.fair;
       bytes = is ∙ sym n.bytes;
-      output = λ told. written_next d begin before written written' s.events e _ n (s.output told) (more told);
+      output = λ told. written_next d begin before.bytes written.bytes written'.bytes s.events e _ n (s.output told) (more told).0;
+      flushed = λ told. (more told).1;
       ends = n.ended;
       stats = (k.last, k.stats);
     }
@@ -289,10 +299,10 @@ front_text out text more count =
     ∙ take_past out text n ∙ ap (λ t. out ++ t) (take_min count text))
 
 -- A write that fails in the reply to a line.
-pub broken_line : (d : Description) (begin taken : List ℕ) (now : Explored) (line before written : List ℕ) (now' : Explored) (written' input : List ℕ) (tail : List (List ℕ)) (tells : Bool)
+pub broken_line : (d : Description) (begin taken : List ℕ) (now : Explored) (line : List ℕ) (before written : Taken) (now' : Explored) (written' : Taken) (input : List ℕ) (tail : List (List ℕ)) (tells : Bool)
     (s : Stands d begin taken now line tells before written) → lines_of input ≡ (lines_in s.events ++ s.rest ∷ []) ++ tail
     → (event : Event) → event.line ≡ line → is_fair d now.bytes event ≡ true
-    → now'.bytes ≡ (answer d now.bytes event).bytes → KeepsOne d now event now' → (IsTrue tells → (count : ℕ) × (written' ≡ written ++ take count (answer d now.bytes event).text))
+    → now'.bytes ≡ (answer d now.bytes event).bytes → KeepsOne d now event now' → (IsTrue tells → (count : ℕ) × (written'.bytes ≡ written.bytes ++ take count (answer d now.bytes event).text) × (written'.flushed ≡ written.flushed))
     → Breaks d begin input now'.bytes tells before written'
 broken_line d begin taken now line before written now' written' input tail tells s cut event line_is fair is keeps more =
     let e = whole s.rest event in
@@ -315,16 +325,17 @@ broken_line d begin taken now line before written now' written' input tail tells
       bytes = is ∙ sym n.bytes ∙ sym (ap (λ es. (session d begin es).bytes) (front_events s.events e (unrefused tail)));
       taken = λ told. length out + min (more told).0 (length a.text);
       output = λ told.
-          (more told).1 ∙ ap (λ w. w ++ take (more told).0 a.text) (s.output told) ∙ append_assoc before out (take (more told).0 a.text)
-          ∙ ap (λ o. before ++ o) (front_text out a.text later.more (more told).0
+          (more told).1 ∙ ap (λ w. w ++ take (more told).0 a.text) (s.output told) ∙ append_assoc before.bytes out (take (more told).0 a.text)
+          ∙ ap (λ o. before.bytes ++ o) (front_text out a.text later.more (more told).0
           ∙ ap (λ o. take (length out + min (more told).0 (length a.text)) (o ++ later.more)) (sym n.output)
           ∙ ap (take (length out + min (more told).0 (length a.text))) (sym later.output ∙ sym (ap (λ (t : Standing). t.output) over)));
       whole = λ told. omega (arith, ap (λ es. length (session d begin es).output) (earlier_events s.events e (unrefused tail)));
       part = λ told. omega (arith, size, ap (λ es. length (session d begin es).output) (front_events s.events e (unrefused tail)));
+      flushed = λ told. (more told).2 ∙ s.flushed told ∙ ap (λ es. flushed_by before (session d begin es).output (length s.events)) (sym (earlier_events s.events e (unrefused tail)));
     }
 
 -- The beginning.
-pub begun_stands : (d : Description) (now : Explored) (before : List ℕ) (tells : Bool) → Holds now nothing_kept → Stands d now.bytes [] now [] tells before before
+pub begun_stands : (d : Description) (now : Explored) (before : Taken) (tells : Bool) → Holds now nothing_kept → Stands d now.bytes [] now [] tells before before
 unfolding Keeps
 begun_stands d now before tells holds = record {
   events = [];
@@ -333,7 +344,8 @@ begun_stands d now before tells holds = record {
   gathered = refl;
   fair = refl;
   bytes = refl;
-  output = λ told. sym (append-nil before);
+  output = λ told. sym (append-nil before.bytes);
+  flushed = λ told. refl;
   goes_on = refl;
   kept = nothing_kept;
   holds = holds;
@@ -341,7 +353,7 @@ begun_stands d now before tells holds = record {
 }
 
 -- A read that fails.
-pub stopped : (d : Description) (begin input taken left : List ℕ) (now : Explored) (line before written : List ℕ) (tells : Bool) → input ≡ taken ++ left
+pub stopped : (d : Description) (begin input taken left : List ℕ) (now : Explored) (line : List ℕ) (before written : Taken) (tells : Bool) → input ≡ taken ++ left
     → Stands d begin taken now line tells before written → Stops d begin input left now.bytes tells before written
 stopped d begin input taken left now line before written tells split s = record {
   taken = taken;
@@ -352,12 +364,13 @@ stopped d begin input taken left now line before written tells split s = record 
   fair = s.fair;
   bytes = s.bytes;
   output = s.output;
+  flushed = s.flushed;
   goes_on = s.goes_on;
   stats = (s.kept, s.stats);
 }
 
 -- The same, by equal values.
-pub moved : (d : Description) (begin taken taken' : List ℕ) (now now' : Explored) (line line' before written written' : List ℕ) (tells : Bool)
+pub moved : (d : Description) (begin taken taken' : List ℕ) (now now' : Explored) (line line' : List ℕ) (before written written' : Taken) (tells : Bool)
     → taken' ≡ taken → now' ≡ now → line' ≡ line → written' ≡ written
     → Stands d begin taken now line tells before written → Stands d begin taken' now' line' tells before written'
 moved d begin taken taken' now now' line line' before written written' tells t n l w s = record {
@@ -367,7 +380,8 @@ moved d begin taken taken' now now' line line' before written written' tells t n
   gathered = l ∙ s.gathered;
   fair = s.fair;
   bytes = ap (λ (x : Explored). x.bytes) n ∙ s.bytes;
-  output = λ told. w ∙ s.output told;
+  output = λ told. ap (λ (x : Taken). x.bytes) w ∙ s.output told;
+  flushed = λ told. ap (λ (x : Taken). x.flushed) w ∙ s.flushed told;
   goes_on = s.goes_on;
   kept = s.kept;
   holds = subst (λ x. Holds x s.kept) (sym n) s.holds;

@@ -14,7 +14,7 @@ use Rattle.ksv_commands.specs.Commands.{command_of}
 use Rattle.ksv_session.specs.Explored.{Explored, description_of}
 use Rattle.ksv_session.specs.Kept.{Holds, Memory, Remembers, nothing_kept}
 use Rattle.ksv_session.specs.Replies.{Answer, Event, Form, answer, edit_refusal_text, is_fair, told_form}
-use Rattle.ksv_session.specs.Runs.{Breaks, Serves}
+use Rattle.ksv_session.specs.Runs.{Breaks, Serves, Taken, flushed_by}
 use Rattle.ksv_session.specs.Seen.{form_of, is_last, is_refusal, reply_text}
 use Rattle.ksv_session.specs.declared.reply.Reply.{Reply}
 use Rattle.ksv_session.specs.Session.{lines_in, session}
@@ -53,13 +53,13 @@ PutSays d (Err e) (Ok x) = ⊥
 
 -- ---- a line over a device
 
--- of a reply's text all was written, and it says whether the session ends; or a beginning was
-abbrev pub Wrote : Answer → Bool → List ℕ → List ℕ → Result Bool Failed → Type 0
-Wrote a tells before written (Ok ended) = (ended ≡ a.ends) × (IsTrue tells → written ≡ before ++ a.text)
-Wrote a tells before written (Err failed) = IsTrue tells → (count : ℕ) × (written ≡ before ++ take count a.text)
+-- of a reply's text all was written and flushed, and it says whether the session ends; or a beginning was
+abbrev pub Wrote : Answer → Bool → Taken → Taken → Result Bool Failed → Type 0
+Wrote a tells before written (Ok ended) = (ended ≡ a.ends) × (IsTrue tells → (written.bytes ≡ before.bytes ++ a.text) × (written.flushed ≡ length written.bytes))
+Wrote a tells before written (Err failed) = IsTrue tells → (count : ℕ) × (written.bytes ≡ before.bytes ++ take count a.text) × (written.flushed ≡ before.flushed)
 
 -- a line was answered as it must be, whether or not memory was refused, and the reply written
-pub record Answered (old : Explored) (line : List ℕ) (new : Explored) (tells : Bool) (before written : List ℕ) (result : Result Bool Failed) : Type 0 where
+pub record Answered (old : Explored) (line : List ℕ) (new : Explored) (tells : Bool) (before written : Taken) (result : Result Bool Failed) : Type 0 where
   pub event : Event
   pub line_is : event.line ≡ line
   pub fair : is_fair (description_of old) old.bytes event ≡ true
@@ -72,21 +72,22 @@ pub record Answered (old : Explored) (line : List ℕ) (new : Explored) (tells :
 
 -- While the session goes on: of what was taken the whole lines are answered, and of the line after them the first
 -- `line_room` bytes are gathered, which show whether it is too long.
-pub record Stands (d : Description) (begin taken : List ℕ) (now : Explored) (line : List ℕ) (tells : Bool) (before written : List ℕ) : Type 0 where
+pub record Stands (d : Description) (begin taken : List ℕ) (now : Explored) (line : List ℕ) (tells : Bool) (before written : Taken) : Type 0 where
   pub events : List Event
   pub rest : List ℕ
   pub lines : lines_in events ++ rest ∷ [] ≡ lines_of taken
   pub gathered : line ≡ take line_room rest
   pub fair : (session d begin events).fair ≡ true
   pub bytes : now.bytes ≡ (session d begin events).bytes
-  pub output : IsTrue tells → written ≡ before ++ (session d begin events).output
+  pub output : IsTrue tells → written.bytes ≡ before.bytes ++ (session d begin events).output
+  pub flushed : IsTrue tells → written.flushed ≡ flushed_by before (session d begin events).output (length events)
   pub goes_on : (session d begin events).ended ≡ false
   pub kept : Memory
   pub holds : Holds now kept
   pub stats : Keeps d begin nothing_kept events kept
 
 -- After a piece of the input: a line in it ended the session, or all of it was taken, or a write failed.
-abbrev pub Fed : Description → List ℕ → List ℕ → List ℕ → Explored → List ℕ → Bool → List ℕ → List ℕ → Result Bool Failed → Type 0
+abbrev pub Fed : Description → List ℕ → List ℕ → List ℕ → Explored → List ℕ → Bool → Taken → Taken → Result Bool Failed → Type 0
 Fed d begin taken input now line tells before written (Ok true) = Serves d begin input now.bytes tells before written true
 Fed d begin taken input now line tells before written (Ok false) = Stands d begin taken now line tells before written
 Fed d begin taken input now line tells before written (Err f) = Breaks d begin input now.bytes tells before written

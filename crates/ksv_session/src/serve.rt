@@ -6,7 +6,7 @@ ghost use Rattle.ksv_desc.specs.Description.{Description};
 ghost use Rattle.ksv_desc.specs.Whole.{plain_pieces};
 ghost use Rattle.ksv_session.specs.Explored.{description_of};
 ghost use Rattle.ksv_session.specs.Kept.{Holds, nothing_kept};
-ghost use Rattle.ksv_session.specs.Runs.{Ended};
+ghost use Rattle.ksv_session.specs.Runs.{Ended, Taken, took};
 
 use crate::session::{NewFault, Session};
 use ksv_bytes::Buffer;
@@ -38,7 +38,7 @@ fn answer_line<N: NodeRules, W: Sink>(
     writer: &mut W,
 ) -> Result<bool, Failed>
     requires { W.failed writer.old ≡ false }
-    ensures answered { Answered session.old line.now session.new W.tells (W.bytes writer.old) (W.bytes writer.new) result }
+    ensures answered { Answered session.old line.now session.new W.tells (took (W.bytes writer.old) (W.flushed writer.old)) (took (W.bytes writer.new) (W.flushed writer.new)) result }
     ensures fault { W.failed writer.new ≡ is_err result }
 {
     let reply = session.line(line);
@@ -56,9 +56,9 @@ fn feed<N: NodeRules, W: Sink>(
     writer: &mut W,
 ) -> Result<bool, Failed>
     requires { W.failed writer.old ≡ false }
-    ensures goes { (d : Description) (begin taken before left : List ℕ) → description_of session.old ≡ d
-        → Stands d begin taken session.old line.old W.tells before (W.bytes writer.old)
-        → Fed d begin (taken ++ piece.now) (taken ++ (piece.now ++ left)) session.new line.new W.tells before (W.bytes writer.new) result }
+    ensures goes { (d : Description) (begin taken : List ℕ) (before : Taken) (left : List ℕ) → description_of session.old ≡ d
+        → Stands d begin taken session.old line.old W.tells before (took (W.bytes writer.old) (W.flushed writer.old))
+        → Fed d begin (taken ++ piece.now) (taken ++ (piece.now ++ left)) session.new line.new W.tells before (took (W.bytes writer.new) (W.flushed writer.new)) result }
     ensures kept { description_of session.new ≡ description_of session.old }
     ensures fault { W.failed writer.new ≡ is_err result }
 {
@@ -79,9 +79,9 @@ fn feed<N: NodeRules, W: Sink>(
 /// Answers what comes after the last LF.
 fn finish<N: NodeRules, W: Sink>(session: &mut Session<N>, line: &LineBuffer, writer: &mut W) -> End
     requires { W.failed writer.old ≡ false }
-    ensures goes { (d : Description) (begin taken before : List ℕ) → description_of session.old ≡ d
-        → Stands d begin taken session.old line.now W.tells before (W.bytes writer.old)
-        → Ended result d begin taken [] session.new.bytes W.tells before (W.bytes writer.new) }
+    ensures goes { (d : Description) (begin taken : List ℕ) (before : Taken) → description_of session.old ≡ d
+        → Stands d begin taken session.old line.now W.tells before (took (W.bytes writer.old) (W.flushed writer.old))
+        → Ended result d begin taken [] session.new.bytes W.tells before (took (W.bytes writer.new) (W.flushed writer.new)) }
     ensures fault { IsTrue (W.failed writer.new) ↔ (result ≡ End.WriteFailed) }
     ensures reads { result ≢ End.ReadFailed }
 {
@@ -102,7 +102,7 @@ fn serve<N: NodeRules, R: Source, W: Sink>(
     requires reads { R.failed reader.old ≡ false }
     requires writes { W.failed writer.old ≡ false }
     ensures served { IsTrue R.tells →
-        Ended result (description_of session.old) session.old.bytes (R.bytes reader.old) (R.bytes reader.new) session.new.bytes W.tells (W.bytes writer.old) (W.bytes writer.new) }
+        Ended result (description_of session.old) session.old.bytes (R.bytes reader.old) (R.bytes reader.new) session.new.bytes W.tells (took (W.bytes writer.old) (W.flushed writer.old)) (took (W.bytes writer.new) (W.flushed writer.new)) }
     ensures read_fault { IsTrue (R.failed reader.new) → result ≡ End.ReadFailed }
     ensures read_end { result ≡ End.ReadFailed → R.failed reader.new ≡ false → IsTrue R.tells
         → 2 ^ 64 - 1 + length (R.bytes reader.new) ≤ length (R.bytes reader.old) }
@@ -143,7 +143,7 @@ pub fn run<N: NodeRules, R: Source, W: Sink>(
     requires reads { R.failed reader.old ≡ false }
     requires writes { W.failed writer.old ≡ false }
     ensures served { IsTrue R.tells → IfOk result (λ done.
-        Ended done.1 (plain_pieces desc) bytes.items (R.bytes reader.old) (R.bytes reader.new) done.0 W.tells (W.bytes writer.old) (W.bytes writer.new)) }
+        Ended done.1 (plain_pieces desc) bytes.items (R.bytes reader.old) (R.bytes reader.new) done.0 W.tells (took (W.bytes writer.old) (W.flushed writer.old)) (took (W.bytes writer.new) (W.flushed writer.new))) }
     ensures read_fault { IfOk result (λ done. IsTrue (R.failed reader.new) → done.1 ≡ End.ReadFailed) }
     ensures read_end { IsTrue R.tells → IfOk result (λ done. done.1 ≡ End.ReadFailed → R.failed reader.new ≡ false
         → 2 ^ 64 - 1 + length (R.bytes reader.new) ≤ length (R.bytes reader.old)) }

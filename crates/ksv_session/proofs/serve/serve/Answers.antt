@@ -2,7 +2,7 @@ use Rattle.std.proofs.Common.{◌≡◌, ◌≤◌, ◌+◌, ◌∙◌, ◌++◌
 use Rattle.std.proofs.lemmas.List.{length-append, length-take-le}
 use Rattle.ksv_session.specs.Explored.{description_of}
 use Rattle.ksv_session.specs.Code.{Stands}
-use Rattle.ksv_session.specs.Runs.{Serves}
+use Rattle.ksv_session.specs.Runs.{Serves, took}
 use Rattle.ksv_session.proofs.AnswerLemmas.{fed_false, fed_true}
 use Rattle.ksv_session.proofs.RunLemmas.{begun_stands}
 use Rattle.ksv_session.proofs.serve.serve.Goals as goal
@@ -18,8 +18,8 @@ loop-turn-init g c = (
     [],
     refl,
     omega arith,
-    subst (λ line. Stands (description_of c.args.session.now) c.args.session.now.bytes [] c.args.session.now line g.W.Sink.tells (g.W.Sink.bytes c.args.writer.now) (g.W.Sink.bytes c.args.writer.now))
-        (sym c.new-line.ensures) (begun_stands (description_of c.args.session.now) c.args.session.now (g.W.Sink.bytes c.args.writer.now) g.W.Sink.tells c.requires.begun),
+    subst (λ line. Stands (description_of c.args.session.now) c.args.session.now.bytes [] c.args.session.now line g.W.Sink.tells (took (g.W.Sink.bytes c.args.writer.now) (g.W.Sink.flushed c.args.writer.now)) (took (g.W.Sink.bytes c.args.writer.now) (g.W.Sink.flushed c.args.writer.now)))
+        (sym c.new-line.ensures) (begun_stands (description_of c.args.session.now) c.args.session.now (took (g.W.Sink.bytes c.args.writer.now) (g.W.Sink.flushed c.args.writer.now)) g.W.Sink.tells c.requires.begun),
   )),
   c.requires.reads,
   c.requires.writes,
@@ -30,10 +30,10 @@ pub returns-in-Ok-true-clause-served : goal.returns-in-Ok-true-clause-served
 returns-in-Ok-true-clause-served g c tells =
     let d = description_of c.args.session.now in
     let begin = c.args.session.now.bytes in
-    let before = g.W.Sink.bytes c.args.writer.now in
+    let before = took (g.W.Sink.bytes c.args.writer.now) (g.W.Sink.flushed c.args.writer.now) in
     let inv = c.loop-turn.invariant.0 tells in
     let fed = c.in-Ok-true.ensures.goes d begin inv.0 before (g.R.Source.bytes c.read.new.self) c.loop-turn.invariant.3 inv.3 in
-    subst (λ input. Serves d begin input c.feed.new.session.bytes g.W.Sink.tells before (g.W.Sink.bytes c.feed.new.writer) true)
+    subst (λ input. Serves d begin input c.feed.new.session.bytes g.W.Sink.tells before (took (g.W.Sink.bytes c.feed.new.writer) (g.W.Sink.flushed c.feed.new.writer)) true)
     (sym (inv.1 ∙ ap (λ t. inv.0 ++ t) (c.in-Ok.ensures.given tells)))
     (fed_true _ _ _ _ _ _ _ _ _ c.in-Ok-true.field-0 c.in-Ok-true.field-0-test fed)
 
@@ -42,7 +42,7 @@ loop-turn-preserved g c = (
   (λ tells.
       let d = description_of c.args.session.now in
       let begin = c.args.session.now.bytes in
-      let before = g.W.Sink.bytes c.args.writer.now in
+      let before = took (g.W.Sink.bytes c.args.writer.now) (g.W.Sink.flushed c.args.writer.now) in
       let left = g.R.Source.bytes c.read.new.self in
       let inv = c.loop-turn.invariant.0 tells in
       let fed = c.in-Ok-false.ensures.goes d begin inv.0 before left c.loop-turn.invariant.3 inv.3 in (
