@@ -1,5 +1,5 @@
 -- What is kept by evaluations to a depth is what is kept by the definitions, and so `stats` tells it.
-use Rattle.std.proofs.Common.{◌≡◌, ℕ, zero, suc, ◌+◌, ◌-◌, ◌^◌, min, ◌||◌, Bool, true, false, not, List, [], ◌∷◌, ◌++◌, length, fold, filter, if◌then◌else◌, Option, Some, None, option_map, option_and_then, Result, Ok, Err, refl, ap, sym, ◌∙◌, subst}
+use Rattle.std.proofs.Common.{◌≡◌, ℕ, ◌+◌, ◌-◌, ◌^◌, min, ◌||◌, Bool, true, false, not, List, [], ◌∷◌, ◌++◌, length, fold, filter, if◌then◌else◌, Option, Some, None, option_map, option_and_then, Result, Ok, Err, refl, ap, sym, ◌∙◌, subst}
 use Rattle.std.specs.List.{flat_map, list_any}
 use Rattle.ksv_bytes.specs.declared.edit.EditRefusal.{EditRefusal}
 use Rattle.ksv_bytes.specs.declared.uses.Change.{Change}
@@ -17,10 +17,10 @@ use Rattle.ksv_nodes.specs.Numbers.{node_number}
 use Rattle.ksv_nodes.specs.declared.given.Given.{Given}
 use Rattle.ksv_nodes.specs.declared.node.Node.{Node}
 use Rattle.ksv_plan.specs.Plan as plan
-use Rattle.ksv_questions.specs.Answers.{answered as node_answered, asking, asks}
-use Rattle.ksv_questions.specs.Asking.{Asking, Failure, asks_of}
+use Rattle.ksv_questions.specs.Answers.{asking, asks}
+use Rattle.ksv_questions.specs.Asking.{Asking, Failure}
 use Rattle.ksv_session.specs.Kept.{Memory, after_asking, after_edit, memory_after}
-use Rattle.ksv_session.specs.Replies.{Answer, Event}
+use Rattle.ksv_session.specs.Replies.{Event}
 use Rattle.ksv_session.specs.Session.{Standing, after_event, answered}
 use Rattle.ksv_examples.specs.Depth.{is_open, line_answer}
 use Rattle.ksv_examples.specs.Stats.{event_of, events_from, tally_of, told_to}

@@ -2,13 +2,12 @@
 use Rattle.std.proofs.Common.{◌≡◌, ℕ, zero, suc, ◌+◌, ◌≤◌, ◌||◌, Bool, true, false, List, [], ◌∷◌, ◌++◌, length, if◌then◌else◌, Option, Some, None, option_map, Result, Ok, Err, refl, ap, sym, ◌∙◌, subst, arith}
 use Rattle.std.specs.List.{flat_map, list_any}
 use Rattle.ksv_plan.specs.Plan.{Answer, Fail, Ask}
-use Rattle.ksv_bytes.specs.declared.uses.Use.{Use}
 use Rattle.ksv_desc.specs.Description.{Description}
 use Rattle.ksv_expr_value.specs.Trail.{Trail}
 use Rattle.ksv_expr_value.specs.declared.fault.Fault.{Fault}
 use Rattle.ksv_expr_value.specs.declared.fault.FaultKind.TheVariants as kinds
 use Rattle.ksv_kept.specs.Completed.{circles_within, completed, completed_within, meets_circle}
-use Rattle.ksv_memo_rules.specs.Meaning.{IsSettled, Standing, on}
+use Rattle.ksv_memo_rules.specs.Meaning.{Standing, on}
 use Rattle.ksv_memo_rules.specs.Evaluation.{is_among}
 use Rattle.ksv_memo_rules.specs.Right.{AreDistinct}
 use Rattle.ksv_memo_rules.proofs.Evals.{AreDistinct-cons, few}
@@ -17,12 +16,12 @@ use Rattle.ksv_memo_rules.proofs.Standing.{law_on}
 use Rattle.ksv_nodes.specs.Numbers.{node_number, node_bound}
 use Rattle.ksv_nodes.specs.Reading.{Reading, Seen, look}
 use Rattle.ksv_nodes.specs.Rule.{Rule, Of, See}
-use Rattle.ksv_nodes.specs.Truth.{answer_of, asks_of, behind_given, behind_seen, uses_of, with_given, with_seen}
+use Rattle.ksv_nodes.specs.Truth.{answer_of, asks_of, uses_of}
 use Rattle.ksv_nodes.specs.Turning.{fault_at, raised}
 use Rattle.ksv_nodes.specs.declared.given.Given.{Given}
 use Rattle.ksv_nodes.specs.declared.node.Node.{Node}
 use Rattle.ksv_rule_meaning.specs.Described.{described}
-use Rattle.ksv_rule_meaning.specs.FromNothing.{asks, circle, from_nothing, uses}
+use Rattle.ksv_rule_meaning.specs.FromNothing.{asks, from_nothing, uses}
 use Rattle.ksv_rule_meaning.specs.Lawful.{described_lawful}
 use Rattle.ksv_rule_meaning.specs.Meaning.{rule_of}
 use Rattle.ksv_rule_meaning.proofs.Direct.{answers_follow_rules}

@@ -1,6 +1,6 @@
 -- Whole sessions with lines `stats`: what such a line tells is what is kept before it by the definitions, and the turns of the last
 -- question.
-use Rattle.std.specs.Prelude.{◌≡◌, ℕ, zero, suc, Bool, true, false, List, [], ◌∷◌, codes, length, Option, Some, None, option_and_then}
+use Rattle.std.specs.Prelude.{◌≡◌, ℕ, true, false, List, [], ◌∷◌, codes, length, Option, Some, None, option_and_then}
 use Rattle.ksv_commands.specs.Commands.{command_of}
 use Rattle.ksv_desc.specs.Description.{Description}
 use Rattle.ksv_session.specs.Kept.{Memory, memory_after, nothing_kept}
