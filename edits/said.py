@@ -27,13 +27,13 @@ def places_of(function):
 
 
 def errors_of(said, function):
-    """The errors in a function's proof files: each the goal, where it names one, and the text."""
+    """The errors in a function's proof files: each the goal, where it names one, and the text, of which further rows are indented."""
     found = []
     for place, start in places_of(function):
-        for row in re.findall(rf"^\./proofs/{place}:\d+:\d+: error: (.*)$", said, re.M):
-            goal = re.match(r"`([^`]+)`: ", row)
+        for text in re.findall(rf"^\./proofs/{place}:\d+:\d+: error: (.*(?:\n  .*)*)", said, re.M):
+            goal = re.match(r"`([^`]+)`: ", text)
             if not start or goal and goal[1].startswith(start):
-                found.append((goal[1] if goal else "", row))
+                found.append((goal[1] if goal else "", re.sub(r"\s+", " ", text)))
     return found
 
 
