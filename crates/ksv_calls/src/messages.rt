@@ -41,17 +41,26 @@ ksv: output failed
 ksv: o: cannot write
 ";
 
+/// Adds the message of a stop.
+fn add_message(alloc: Global, stop: &Stop, messages: &mut Vec<u8>) -> Result<(), Fail> {
+    let mut sink = Memory::new(Vec::with_capacity(alloc, 100)?);
+    if say(stop, ["f", "k", "o"], &mut sink).is_err() {
+        return Err(Fail::from("a message isn't written"));
+    }
+    messages.extend_from_slice(sink.bytes.as_slice())?;
+    Ok(())
+}
+
 #[test]
 fn each_stop_has_its_message_and_status(rt: HostRuntime) -> Result<(), Fail> {
-    let mut sink = Memory::new(Vec::with_capacity(rt.alloc(), 1000)?);
+    let mut messages = Vec::new(rt.alloc());
     let mut statuses = String::new(rt.alloc());
-    let mut are_said = true;
     for stop in &STOPS {
-        are_said &= say(stop, ["f", "k", "o"], &mut sink).is_ok();
+        add_message(rt.alloc(), stop, &mut messages)?;
         statuses.push_str(if stop.status() == 3 { "3" } else { "-" })?;
         statuses.push_str(if stop.status() == 1 { "1" } else { "-" })?;
     }
-    assert!(rt; are_said && sink.bytes.as_slice() == MESSAGES);
+    assert!(rt; messages.as_slice() == MESSAGES);
     assert!(rt; statuses.as_str() == "-1-1-1-1-1-13-3-3-");
     let mut full = Memory::new(Vec::with_capacity(rt.alloc(), 3)?);
     assert!(rt; say(&Stop::NoMemory, ["f", "k", "o"], &mut full).is_err());
