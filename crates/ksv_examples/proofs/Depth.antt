@@ -2,7 +2,7 @@
 use Rattle.std.proofs.Common.{◌≡◌, ℕ, zero, suc, ◌==◌, nat_eq, Bool, true, false, List, [], ◌∷◌, Option, Some, None, Result, Ok, Err, refl, ap, sym, ◌∙◌, subst}
 use Rattle.std.proofs.lemmas.Bool.{eqb-true, eq-eqb}
 use Rattle.std.specs.Cmp.{first_so, second_so}
-use Rattle.ksv_plan.specs.Plan.{Answer, Fail, Ask}
+use Rattle.ksv_basics.specs.Plan.{Answer, Fail, Ask}
 use Rattle.ksv_desc.specs.Description.{Description}
 use Rattle.ksv_expr_value.specs.Trail.{Trail, same_trail}
 use Rattle.ksv_expr_value.specs.declared.fault.Fault.{Fault}

@@ -9,7 +9,7 @@ use Rattle.ksv_desc.specs.Description.{as_text}
 use Rattle.ksv_expr_meaning.specs.Meaning.{at_end, binary_of, byte_at, byte_from, bytes_and, bytes_at, bytes_call, bytes_with, call_one, call_two, cast_to, element_count, element_path, element_value, field_of, integer_and, item_at, last_element, list_at, list_method, list_size, member_and, member_path, member_value, method_of, object_of_type, same_bytes, special_of, special_value, stream_method, stream_of, stream_size, text_and, text_in, truth_and, truth_value, value_of}
 use Rattle.ksv_expr_value.specs.Trail.{fits, trail_of, trail_when}
 use Rattle.ksv_nodes.specs.Reading.{cut_uses, done_at, find_at, finish_of, found_from, found_none, peek_at, reach_file, reach_within}
-use Rattle.ksv_plan.specs.Plan.{bind}
+use Rattle.ksv_basics.specs.Plan.{bind}
 use Rattle.ksv_rule_meaning.specs.Choosing.{case_for, choose, content_of, first_case, switched}
 use Rattle.ksv_rule_meaning.specs.Ends.{element_end, end_of, fields_end, is_last, list_end, next_rest, not_empty, object_end, part_rest, place_of, rest_from, rest_of, whole_rest}
 use Rattle.ksv_rule_meaning.specs.Fields.{field_of as field_of_of_fields, kind_of, member_named, members_of, parameters_before, sought}

@@ -5,7 +5,7 @@ use Rattle.ksv_expr_value.specs.Trail.{Trail}
 use Rattle.ksv_memo_rules.specs.Meaning.{on}
 use Rattle.ksv_memo_rules.proofs.Keeping.{AreDistinct-none}
 use Rattle.ksv_nodes.specs.declared.node.Node.{Node}
-use Rattle.ksv_plan.specs.Plan as plan
+use Rattle.ksv_basics.specs.Plan as plan
 use Rattle.ksv_questions.specs.Answers.{answered as node_answered, asking, outcome, question_text, told}
 use Rattle.ksv_questions.specs.Asking.{Asking, Failure, Heard}
 use Rattle.ksv_questions.specs.Writing.{put_question}

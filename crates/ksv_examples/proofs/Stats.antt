@@ -8,15 +8,15 @@ use Rattle.ksv_commands.specs.declared.command.Command.{Command}
 use Rattle.ksv_commands.specs.declared.command.Command.TheVariants as commands
 use Rattle.ksv_desc.specs.Description.{Description}
 use Rattle.ksv_expr_value.specs.declared.fault.Fault.{Fault}
-use Rattle.ksv_kept.specs.Completed.{completed, meets_circle}
-use Rattle.ksv_kept.specs.Kept.{calls, is_hit, is_touched, kept_after, kept_with, turns_of}
+use Rattle.ksv_rule_meaning.specs.Completed.{completed, meets_circle}
+use Rattle.ksv_rule_meaning.specs.Kept.{calls, is_hit, is_touched, kept_after, kept_with, turns_of}
 use Rattle.ksv_memo_rules.specs.Evaluation.{is_among}
 use Rattle.ksv_memo_rules.specs.Right.{fresh}
 use Rattle.ksv_memo_rules.specs.Touched.{is_use_touched}
 use Rattle.ksv_nodes.specs.Numbers.{node_number}
 use Rattle.ksv_nodes.specs.declared.given.Given.{Given}
 use Rattle.ksv_nodes.specs.declared.node.Node.{Node}
-use Rattle.ksv_plan.specs.Plan as plan
+use Rattle.ksv_basics.specs.Plan as plan
 use Rattle.ksv_questions.specs.Answers.{asking, asks}
 use Rattle.ksv_questions.specs.Asking.{Asking, Failure}
 use Rattle.ksv_session.specs.Kept.{Memory, after_asking, after_edit, memory_after}

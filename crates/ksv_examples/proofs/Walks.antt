@@ -1,12 +1,12 @@
 -- What evaluating a node comes to, to a depth, is what the definitions say of it.
 use Rattle.std.proofs.Common.{◌≡◌, ℕ, zero, suc, ◌+◌, ◌≤◌, ◌||◌, Bool, true, false, List, [], ◌∷◌, ◌++◌, length, if◌then◌else◌, Option, Some, None, option_map, Result, Ok, Err, refl, ap, sym, ◌∙◌, subst, arith}
 use Rattle.std.specs.List.{flat_map, list_any}
-use Rattle.ksv_plan.specs.Plan.{Answer, Fail, Ask}
+use Rattle.ksv_basics.specs.Plan.{Answer, Fail, Ask}
 use Rattle.ksv_desc.specs.Description.{Description}
 use Rattle.ksv_expr_value.specs.Trail.{Trail}
 use Rattle.ksv_expr_value.specs.declared.fault.Fault.{Fault}
 use Rattle.ksv_expr_value.specs.declared.fault.FaultKind.TheVariants as kinds
-use Rattle.ksv_kept.specs.Completed.{circles_within, completed, completed_within, meets_circle}
+use Rattle.ksv_rule_meaning.specs.Completed.{circles_within, completed, completed_within, meets_circle}
 use Rattle.ksv_memo_rules.specs.Meaning.{Standing, on}
 use Rattle.ksv_memo_rules.specs.Evaluation.{is_among}
 use Rattle.ksv_memo_rules.specs.Right.{AreDistinct}

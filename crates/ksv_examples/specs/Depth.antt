@@ -3,7 +3,7 @@
 -- there is no answer. Where there is one, it is that of evaluation from nothing (proofs/Depth), and what a session writes by such
 -- answers is what the session writes (proofs/Sessions).
 use Rattle.std.specs.Prelude.{ℕ, ℤ, zero, suc, ◌==◌, ◌&&◌, ◌||◌, Bool, true, false, List, [], ◌∷◌, ◌++◌, map, codes, Option, Some, None, option_map, option_and_then, Result, Ok, Err}
-use Rattle.ksv_plan.specs.Plan.{Answer, Fail, Ask}
+use Rattle.ksv_basics.specs.Plan.{Answer, Fail, Ask}
 use Rattle.ksv_desc.specs.Description.{Description}
 use Rattle.ksv_expr_value.specs.Trail.{Trail}
 use Rattle.ksv_expr_value.specs.declared.fault.Fault.{Fault}

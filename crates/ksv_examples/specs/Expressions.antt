@@ -9,13 +9,13 @@ use Rattle.ksv_desc.specs.Names.{number_in}
 use Rattle.ksv_expr_meaning.specs.Meaning.{at_end, binary_of, byte_at, byte_from, bytes_and, bytes_at, bytes_call, bytes_with, call_one, call_two, cast_to, element_count, element_path, element_value, field_of, integer_and, item_at, last_element, list_at, list_method, list_size, member_and, member_path, member_value, method_of, object_of_type, same_bytes, special_of, special_value, stream_method, stream_of, stream_size, text_and, text_in, truth_and, truth_value, value_of}
 use Rattle.ksv_expr_syntax.specs.Reading.{read, read_list, place_on, select_on}
 use Rattle.ksv_expr_value.specs.Trail.{fits, trail_of, trail_when}
-use Rattle.ksv_plan.specs.Plan.{bind}
-use Rattle.ksv_schema_keys.specs.Expressions.{expression_of, tokens_of}
+use Rattle.ksv_basics.specs.Plan.{bind}
+use Rattle.ksv_schema.specs.Expressions.{expression_of, tokens_of}
 use Rattle.ksv_schema_names.specs.Names.{enum_at}
 use Rattle.ksv_schema_names.specs.Numbered.{all_numbered, given_member, numbered}
-use Rattle.ksv_schema_scope.specs.Enums.{number_of, id_of, number_of_id}
+use Rattle.ksv_schema_names.specs.Enums.{number_of, id_of, number_of_id}
 use Rattle.ksv_yaml_tree.specs.Numerals.{plain_number, signed_number}
-use Rattle.ksv_schema_scope.specs.Types.{keys_at, outer_of, from, nearest_row, type_named, enum_behind}
+use Rattle.ksv_schema_names.specs.Types.{keys_at, outer_of, from, nearest_row, type_named, enum_behind}
 use Rattle.ksv_expr_tree.specs.Tree.{Tree}
 use Rattle.ksv_expr_value.specs.Faults.{name_of}
 use Rattle.ksv_expr_value.specs.Trail.{root}
@@ -31,7 +31,7 @@ use Rattle.ksv_expr_meaning.specs.Heard.{Heard, Valued}
 use Rattle.ksv_expr_value.specs.Setting.{Setting}
 use Rattle.ksv_expr_meaning.specs.Replying.{fault_at}
 use Rattle.ksv_expr_meaning.specs.Evaluation.{Ev, wants_made}
-use Rattle.ksv_schema_scope.specs.Rows.{Declared, row_in}
+use Rattle.ksv_schema_names.specs.Rows.{Declared, row_in}
 
 -- an expression of the root, which is no element of a list
 abbrev pub at_root : Setting

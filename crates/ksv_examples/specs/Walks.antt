@@ -4,7 +4,7 @@
 -- definitions say (proofs/Walks), and so is what is kept by it (proofs/Stats).
 use Rattle.std.specs.Prelude.{ℕ, zero, suc, ◌+◌, ◌-◌, ◌^◌, min, ◌||◌, Bool, true, false, List, [], ◌∷◌, ◌++◌, length, if◌then◌else◌, Option, Some, None, option_map, option_and_then, Result, Ok, Err}
 use Rattle.std.specs.List.{list_any}
-use Rattle.ksv_plan.specs.Plan.{Answer, Fail, Ask}
+use Rattle.ksv_basics.specs.Plan.{Answer, Fail, Ask}
 use Rattle.ksv_bytes.specs.Edits.{append, delete, insert, overwrite}
 use Rattle.ksv_bytes.specs.declared.edit.EditRefusal.{EditRefusal}
 use Rattle.ksv_bytes.specs.declared.uses.Change.{Change}

@@ -1,8 +1,12 @@
 //! Values of a described file, and expressions over them: their text, their tree and their evaluation.
 //!
 //! The parser (ksv_expr_syntax) and the evaluation (ksv_expr_eval) don't depend on each other, so that what only
-//! evaluates doesn't wait for the parser's proof.
+//! evaluates doesn't wait for the parser's proof. The tests call directly what expressions depend on: paths, integers, bytes
+//! in parts, encodings, refused texts.
 #![tactic(auto)]
+
+#[cfg(test)]
+mod expressions;
 
 pub use ksv_expr_eval::{
     Ctx, Encoding, EvalStep, Expr, Fault, FaultKind, Got, Integer, Parts, Path, Place, Step,

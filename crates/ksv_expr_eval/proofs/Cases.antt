@@ -2,7 +2,7 @@
 -- proof that cites these needn't unfold the definition, which is long.
 use Rattle.std.proofs.Common.{◌≡◌, ℕ, ◌<◌, ◌≤◌, ◌⊎◌, inl, inr, length, get_or, arith, List, [], ◌∷◌, map, if◌then◌else◌, refl, ap, sym, ◌∙◌, string_bytes, Box, String, Vec, Global, box_value}
 use mathlib.Core.Path.{fun_ext}
-use Rattle.ksv_plan.specs.Plan.{Answer, Fail, Ask, bind}
+use Rattle.ksv_basics.specs.Plan.{Answer, Fail, Ask, bind}
 use Rattle.ksv_expr_tree.specs.Tree.{Tree, arguments_of, call, view, view_layer, literal_of, name_of}
 use Rattle.ksv_expr_tree.specs.declared.tree.Expr.{Expr, Unary', Binary', Logical', Choice', Field', SpecialField', Index', Cast'}
 use Rattle.ksv_expr_tree.specs.declared.tree.Expr as opened

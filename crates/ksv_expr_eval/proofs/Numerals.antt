@@ -4,7 +4,7 @@ use Rattle.std.specs.Str.Parse.{digits_value}
 use Rattle.std.proofs.lemmas.Bool.Decides.{nat_tests}
 use Rattle.ksv_expr_meaning.specs.Texts.{numeral, opposite, number_of, exact}
 use Rattle.ksv_expr_value.specs.Range.{in_range}
-use Rattle.ksv_numerals.specs.Numerals.{is_numeral}
+use Rattle.ksv_basics.specs.Numerals.{is_numeral}
 use Rattle.ksv_expr_value.specs.declared.fault.FaultKind.TheVariants as kinds
 
 outside : (z : ℤ) → in_range z ≡ false → exact z ≡ Err kinds.Overflow

@@ -1,7 +1,7 @@
 -- The clauses of the evaluation's functions: they run a plan on the replies.
 use Rattle.std.specs.Prelude.{◌≡◌, Result, Ok, Err}
 use Rattle.std.specs.Borrow.{Bor}
-use Rattle.ksv_plan.specs.Plan.{Ran, Need, Failed, Done, run}
+use Rattle.ksv_basics.specs.Plan.{Ran, Need, Failed, Done, run}
 use Rattle.ksv_expr_meaning.specs.Heard.{Heard, heard}
 use Rattle.ksv_expr_meaning.specs.Asked.{Eval, State, want_for}
 use Rattle.ksv_expr_meaning.specs.Replying.{replying}

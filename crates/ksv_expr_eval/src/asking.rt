@@ -1,5 +1,5 @@
 //! Questions about the values of other places, and what is done with the answers.
-#![tactic(auto, using(ksv_plan::proofs::Running::run_bind))]
+#![tactic(auto, using(ksv_basics::proofs::Running::run_bind))]
 
 ghost use Rattle.std.specs.Prelude.{◌≡◌, ◌+◌, ◌<◌, ◌^◌, pos, Some, option_copied};
 ghost use Rattle.ksv_expr_value.specs.Bytes.{content};
@@ -23,7 +23,7 @@ fn in_path(replies: &mut Replies, path: Option<Path>) -> Result<Path, Halt>
     }
 }
 
-#[tactic(auto, using(ksv_plan::proofs::Running::run_bind), unfolding(ksv_expr_meaning::specs::Meaning::member_path))]
+#[tactic(auto, using(ksv_basics::proofs::Running::run_bind), unfolding(ksv_expr_meaning::specs::Meaning::member_path))]
 fn member_path(replies: &mut Replies, object: &Path, name: Option<u32>) -> Result<Path, Halt>
     ensures { Runs (member_path object.now name) (λ p. p) replies.old replies.new result }
 {
@@ -37,7 +37,7 @@ fn member_path(replies: &mut Replies, object: &Path, name: Option<u32>) -> Resul
 }
 
 /// The value of a member of an object.
-#[tactic(auto, using(ksv_plan::proofs::Running::run_bind), unfolding(ksv_expr_meaning::specs::Meaning::member_value))]
+#[tactic(auto, using(ksv_basics::proofs::Running::run_bind), unfolding(ksv_expr_meaning::specs::Meaning::member_value))]
 pub(crate) fn member_value(
     replies: &mut Replies,
     object: &Path,
@@ -50,7 +50,7 @@ pub(crate) fn member_value(
     Ok(value.copy(replies.alloc())?)
 }
 
-#[tactic(auto, using(ksv_plan::proofs::Running::run_bind), unfolding(ksv_expr_meaning::specs::Meaning::element_path))]
+#[tactic(auto, using(ksv_basics::proofs::Running::run_bind), unfolding(ksv_expr_meaning::specs::Meaning::element_path))]
 fn element_path(replies: &mut Replies, list: &Path, index: Integer) -> Result<Path, Halt>
     ensures { Runs (element_path list.now index) (λ p. p) replies.old replies.new result }
 {
@@ -63,7 +63,7 @@ fn element_path(replies: &mut Replies, list: &Path, index: Integer) -> Result<Pa
 }
 
 /// The value of an element of a list.
-#[tactic(auto, using(ksv_plan::proofs::Running::run_bind), unfolding(ksv_expr_meaning::specs::Meaning::element_value))]
+#[tactic(auto, using(ksv_basics::proofs::Running::run_bind), unfolding(ksv_expr_meaning::specs::Meaning::element_value))]
 pub(crate) fn element_value(
     replies: &mut Replies,
     list: &Path,
@@ -76,7 +76,7 @@ pub(crate) fn element_value(
     Ok(value.copy(replies.alloc())?)
 }
 
-#[tactic(auto, using(ksv_plan::proofs::Running::run_bind), unfolding(ksv_expr_meaning::specs::Meaning::element_count))]
+#[tactic(auto, using(ksv_basics::proofs::Running::run_bind), unfolding(ksv_expr_meaning::specs::Meaning::element_count))]
 fn element_count(replies: &mut Replies, list: &Path) -> Result<u64, Halt>
     ensures { Runs (element_count list.now) (λ n. n) replies.old replies.new result }
 {
@@ -86,7 +86,7 @@ fn element_count(replies: &mut Replies, list: &Path) -> Result<u64, Halt>
 }
 
 /// How many elements a list has.
-#[tactic(auto, using(ksv_plan::proofs::Running::run_bind), unfolding(ksv_expr_meaning::specs::Meaning::list_size))]
+#[tactic(auto, using(ksv_basics::proofs::Running::run_bind), unfolding(ksv_expr_meaning::specs::Meaning::list_size))]
 pub(crate) fn list_size(replies: &mut Replies, list: &Path) -> Result<Value, Halt>
     ensures { Runs (list_size list.now) (λ v. v) replies.old replies.new result }
 {
@@ -95,7 +95,7 @@ pub(crate) fn list_size(replies: &mut Replies, list: &Path) -> Result<Value, Hal
 }
 
 /// The last element of a list.
-#[tactic(auto, using(ksv_plan::proofs::Running::run_bind), unfolding(ksv_expr_meaning::specs::Meaning::last_element))]
+#[tactic(auto, using(ksv_basics::proofs::Running::run_bind), unfolding(ksv_expr_meaning::specs::Meaning::last_element))]
 pub(crate) fn last_element(replies: &mut Replies, list: &Path) -> Result<Value, Halt>
     ensures { Runs (last_element list.now) (λ v. v) replies.old replies.new result }
 {
@@ -114,7 +114,7 @@ pub(crate) fn holder_of(replies: &mut Replies, object: &Path) -> Result<Value, H
 }
 
 /// The stream of an object.
-#[tactic(auto, using(ksv_plan::proofs::Running::run_bind), unfolding(ksv_expr_meaning::specs::Meaning::stream_of))]
+#[tactic(auto, using(ksv_basics::proofs::Running::run_bind), unfolding(ksv_expr_meaning::specs::Meaning::stream_of))]
 pub(crate) fn stream_of(replies: &mut Replies, object: &Path) -> Result<Value, Halt>
     ensures { Runs (stream_of object.now) (λ v. v) replies.old replies.new result }
 {
@@ -146,7 +146,7 @@ fn element_read(replies: &mut Replies, element: Option<&Path>) -> Result<Value, 
 }
 
 /// The value of a name to which the language gives a meaning.
-#[tactic(auto, using(ksv_plan::proofs::Running::run_bind), unfolding(ksv_expr_meaning::specs::Meaning::special_value))]
+#[tactic(auto, using(ksv_basics::proofs::Running::run_bind), unfolding(ksv_expr_meaning::specs::Meaning::special_value))]
 pub(crate) fn special_value(
     replies: &mut Replies,
     ctx: &Ctx,
@@ -189,7 +189,7 @@ fn distance(replies: &mut Replies, end: u64, start: u32) -> Result<Value, Halt>
 }
 
 /// The size of a stream.
-#[tactic(auto, using(ksv_plan::proofs::Running::run_bind), unfolding(ksv_expr_meaning::specs::Meaning::stream_size))]
+#[tactic(auto, using(ksv_basics::proofs::Running::run_bind), unfolding(ksv_expr_meaning::specs::Meaning::stream_size))]
 pub(crate) fn stream_size(replies: &mut Replies, stream: Stream) -> Result<Value, Halt>
     ensures { Runs (stream_size stream) (λ v. v) replies.old replies.new result }
 {
@@ -210,7 +210,7 @@ pub(crate) fn place_in(replies: &mut Replies, place: Place, stream: Stream) -> R
 }
 
 /// Whether the current place is the end of the home's stream.
-#[tactic(auto, using(ksv_plan::proofs::Running::run_bind), unfolding(ksv_expr_meaning::specs::Meaning::at_end))]
+#[tactic(auto, using(ksv_basics::proofs::Running::run_bind), unfolding(ksv_expr_meaning::specs::Meaning::at_end))]
 pub(crate) fn at_end(replies: &mut Replies) -> Result<Value, Halt>
     ensures { Runs at_end (λ v. v) replies.old replies.new result }
 {
@@ -218,7 +218,7 @@ pub(crate) fn at_end(replies: &mut Replies) -> Result<Value, Halt>
     Ok(Value::Bool(done))
 }
 
-#[tactic(auto, using(ksv_plan::proofs::Running::run_bind), unfolding(ksv_expr_meaning::specs::Meaning::object_of_type))]
+#[tactic(auto, using(ksv_basics::proofs::Running::run_bind), unfolding(ksv_expr_meaning::specs::Meaning::object_of_type))]
 fn object_of_type(replies: &mut Replies, object: &Path, type_number: u32) -> Result<Value, Halt>
     ensures { Runs (object_of_type object.now type_number) (λ v. v) replies.old replies.new result }
 {
@@ -271,7 +271,7 @@ fn decoded_by(
 }
 
 /// The text that bytes spell in an encoding.
-#[tactic(auto, using(ksv_plan::proofs::Running::run_bind), unfolding(ksv_expr_meaning::specs::Meaning::text_in))]
+#[tactic(auto, using(ksv_basics::proofs::Running::run_bind), unfolding(ksv_expr_meaning::specs::Meaning::text_in))]
 pub(crate) fn text_in(
     replies: &mut Replies,
     from: u32,
@@ -297,7 +297,7 @@ fn first_byte(replies: &mut Replies, parts: Parts) -> Result<Value, Halt>
     }
 }
 
-#[tactic(auto, using(ksv_plan::proofs::Running::run_bind), unfolding(ksv_expr_meaning::specs::Meaning::byte_from))]
+#[tactic(auto, using(ksv_basics::proofs::Running::run_bind), unfolding(ksv_expr_meaning::specs::Meaning::byte_from))]
 fn byte_from(replies: &mut Replies, place: u32) -> Result<Value, Halt>
     requires { place + 1 < 2 ^ 32 }
     ensures { Runs (byte_from place) (λ v. v) replies.old replies.new result }
@@ -310,7 +310,7 @@ fn byte_from(replies: &mut Replies, place: u32) -> Result<Value, Halt>
 }
 
 /// The byte at a place of a range.
-#[tactic(auto, using(ksv_plan::proofs::Running::run_bind), unfolding(ksv_expr_meaning::specs::Meaning::byte_at))]
+#[tactic(auto, using(ksv_basics::proofs::Running::run_bind), unfolding(ksv_expr_meaning::specs::Meaning::byte_at))]
 pub(crate) fn byte_at(
     replies: &mut Replies,
     from: u32,

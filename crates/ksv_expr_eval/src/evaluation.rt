@@ -1,7 +1,7 @@
 //! The value of an expression, by replies to its questions.
 
 ghost use Rattle.std.specs.Prelude.{◌≡◌, ◌≤◌, pos, IfOk, map, length, if◌then◌else◌};
-ghost use Rattle.ksv_plan.specs.Plan.{Answer, bind};
+ghost use Rattle.ksv_basics.specs.Plan.{Answer, bind};
 ghost use Rattle.ksv_expr_tree.specs.Tree.{view, literal_of, name_of};
 ghost use Rattle.ksv_expr_value.specs.declared.value.Value.TheVariants as values;
 ghost use Rattle.ksv_expr_meaning.specs.Heard.{heard};
@@ -57,7 +57,7 @@ fn decides(operator: LogicalOperator, left: bool) -> bool
 }
 
 #[cycle(value)]
-#[tactic(auto, using(ksv_plan::proofs::Running::run_bind))]
+#[tactic(auto, using(ksv_basics::proofs::Running::run_bind))]
 fn unary_expr(
     replies: &mut Replies,
     ctx: &Ctx,
@@ -72,7 +72,7 @@ fn unary_expr(
 
 /// The left operand, the right operand, and then the operator.
 #[cycle(value)]
-#[tactic(auto, using(ksv_plan::proofs::Running::run_bind))]
+#[tactic(auto, using(ksv_basics::proofs::Running::run_bind))]
 fn binary_expr(
     replies: &mut Replies,
     ctx: &Ctx,
@@ -89,7 +89,7 @@ fn binary_expr(
 
 /// The truth value that an expression gives.
 #[cycle(value)]
-#[tactic(auto, using(ksv_plan::proofs::Running::run_bind))]
+#[tactic(auto, using(ksv_basics::proofs::Running::run_bind))]
 fn truth_of(replies: &mut Replies, ctx: &Ctx, expr: &Expr) -> Result<bool, Halt>
     ensures { Runs (bind (meaning ctx.now expr.now) in_truth_value) (λ b. b) replies.old replies.new result }
 {
@@ -99,7 +99,7 @@ fn truth_of(replies: &mut Replies, ctx: &Ctx, expr: &Expr) -> Result<bool, Halt>
 
 /// The result that the left operand decides, or the right operand's.
 #[cycle(value)]
-#[tactic(auto, using(ksv_plan::proofs::Running::run_bind))]
+#[tactic(auto, using(ksv_basics::proofs::Running::run_bind))]
 fn logical_expr(
     replies: &mut Replies,
     ctx: &Ctx,
@@ -119,7 +119,7 @@ fn logical_expr(
 
 /// The result of one of two expressions, as a truth value says.
 #[cycle(value)]
-#[tactic(auto, using(ksv_plan::proofs::Running::run_bind))]
+#[tactic(auto, using(ksv_basics::proofs::Running::run_bind))]
 fn choice_expr(
     replies: &mut Replies,
     ctx: &Ctx,
@@ -137,7 +137,7 @@ fn choice_expr(
 }
 
 #[cycle(value)]
-#[tactic(auto, using(ksv_plan::proofs::Running::run_bind))]
+#[tactic(auto, using(ksv_basics::proofs::Running::run_bind))]
 fn field_expr(replies: &mut Replies, ctx: &Ctx, object: &Expr, name: &Name) -> Result<Value, Halt>
     ensures { Runs (bind (meaning ctx.now object.now) (λ v. field_of ctx.now (is_own_stream (view object.now)) v (name_of name.now))) (λ v. v) replies.old replies.new result }
 {
@@ -147,7 +147,7 @@ fn field_expr(replies: &mut Replies, ctx: &Ctx, object: &Expr, name: &Name) -> R
 }
 
 #[cycle(value)]
-#[tactic(auto, using(ksv_plan::proofs::Running::run_bind))]
+#[tactic(auto, using(ksv_basics::proofs::Running::run_bind))]
 fn special_field_expr(
     replies: &mut Replies,
     ctx: &Ctx,
@@ -162,7 +162,7 @@ fn special_field_expr(
 
 /// The value before a method, its one argument, and then the method.
 #[cycle(value)]
-#[tactic(auto, using(ksv_plan::proofs::Running::run_bind))]
+#[tactic(auto, using(ksv_basics::proofs::Running::run_bind))]
 fn call_with_one(
     replies: &mut Replies,
     ctx: &Ctx,
@@ -179,7 +179,7 @@ fn call_with_one(
 
 /// Two arguments, and then the method.
 #[cycle(value)]
-#[tactic(auto, using(ksv_plan::proofs::Running::run_bind))]
+#[tactic(auto, using(ksv_basics::proofs::Running::run_bind))]
 fn call_behind(
     replies: &mut Replies,
     ctx: &Ctx,
@@ -197,7 +197,7 @@ fn call_behind(
 
 /// The value before a method, its two arguments, and then the method.
 #[cycle(value)]
-#[tactic(auto, using(ksv_plan::proofs::Running::run_bind))]
+#[tactic(auto, using(ksv_basics::proofs::Running::run_bind))]
 fn call_with_two(
     replies: &mut Replies,
     ctx: &Ctx,
@@ -214,7 +214,7 @@ fn call_with_two(
 
 /// The list, the index, and then the item there.
 #[cycle(value)]
-#[tactic(auto, using(ksv_plan::proofs::Running::run_bind))]
+#[tactic(auto, using(ksv_basics::proofs::Running::run_bind))]
 fn index_expr(replies: &mut Replies, ctx: &Ctx, list: &Expr, place: &Expr) -> Result<Value, Halt>
     ensures { Runs (bind (meaning ctx.now list.now) (λ v. bind (meaning ctx.now place.now) (λ w. item_at v w))) (λ v. v) replies.old replies.new result }
 {
@@ -224,7 +224,7 @@ fn index_expr(replies: &mut Replies, ctx: &Ctx, list: &Expr, place: &Expr) -> Re
 }
 
 #[cycle(value)]
-#[tactic(auto, using(ksv_plan::proofs::Running::run_bind))]
+#[tactic(auto, using(ksv_basics::proofs::Running::run_bind))]
 fn cast_expr(
     replies: &mut Replies,
     ctx: &Ctx,

@@ -1,5 +1,5 @@
 //! What each form of expression gives, from the values of its parts.
-#![tactic(auto, using(ksv_plan::proofs::Running::run_bind))]
+#![tactic(auto, using(ksv_basics::proofs::Running::run_bind))]
 
 ghost use Rattle.std.specs.Prelude.{◌≡◌, pos};
 ghost use Rattle.ksv_expr_eval.specs.Runs.{Runs};
@@ -25,7 +25,7 @@ pub(crate) fn in_truth_value(replies: &mut Replies, value: &Value) -> Result<boo
 }
 
 /// A truth value as a value; another value is bad-type.
-#[tactic(auto, using(ksv_plan::proofs::Running::run_bind), unfolding(ksv_expr_meaning::specs::Meaning::truth_value))]
+#[tactic(auto, using(ksv_basics::proofs::Running::run_bind), unfolding(ksv_expr_meaning::specs::Meaning::truth_value))]
 pub(crate) fn truth_value(replies: &mut Replies, value: &Value) -> Result<Value, Halt>
     ensures { Runs (truth_value value.now) (λ v. v) replies.old replies.new result }
 {
@@ -33,7 +33,7 @@ pub(crate) fn truth_value(replies: &mut Replies, value: &Value) -> Result<Value,
     Ok(Value::Bool(truth))
 }
 
-#[tactic(auto, using(ksv_plan::proofs::Running::run_bind), unfolding(ksv_expr_meaning::specs::Meaning::same_bytes))]
+#[tactic(auto, using(ksv_basics::proofs::Running::run_bind), unfolding(ksv_expr_meaning::specs::Meaning::same_bytes))]
 fn same_bytes(
     replies: &mut Replies,
     from: u32,
@@ -55,7 +55,7 @@ fn same_bytes(
     }
 }
 
-#[tactic(auto, using(ksv_plan::proofs::Running::run_bind), unfolding(ksv_expr_meaning::specs::Meaning::bytes_with))]
+#[tactic(auto, using(ksv_basics::proofs::Running::run_bind), unfolding(ksv_expr_meaning::specs::Meaning::bytes_with))]
 fn bytes_with(
     replies: &mut Replies,
     operator: BinaryOperator,
@@ -79,7 +79,7 @@ fn bytes_with(
     }
 }
 
-#[tactic(auto, using(ksv_plan::proofs::Running::run_bind), unfolding(ksv_expr_meaning::specs::Meaning::integer_and))]
+#[tactic(auto, using(ksv_basics::proofs::Running::run_bind), unfolding(ksv_expr_meaning::specs::Meaning::integer_and))]
 fn integer_and(
     replies: &mut Replies,
     operator: BinaryOperator,
@@ -94,7 +94,7 @@ fn integer_and(
     }
 }
 
-#[tactic(auto, using(ksv_plan::proofs::Running::run_bind), unfolding(ksv_expr_meaning::specs::Meaning::truth_and))]
+#[tactic(auto, using(ksv_basics::proofs::Running::run_bind), unfolding(ksv_expr_meaning::specs::Meaning::truth_and))]
 fn truth_and(
     replies: &mut Replies,
     operator: BinaryOperator,
@@ -109,7 +109,7 @@ fn truth_and(
     }
 }
 
-#[tactic(auto, using(ksv_plan::proofs::Running::run_bind), unfolding(ksv_expr_meaning::specs::Meaning::text_and))]
+#[tactic(auto, using(ksv_basics::proofs::Running::run_bind), unfolding(ksv_expr_meaning::specs::Meaning::text_and))]
 fn text_and(
     replies: &mut Replies,
     operator: BinaryOperator,
@@ -127,7 +127,7 @@ fn text_and(
     }
 }
 
-#[tactic(auto, using(ksv_plan::proofs::Running::run_bind), unfolding(ksv_expr_meaning::specs::Meaning::bytes_and))]
+#[tactic(auto, using(ksv_basics::proofs::Running::run_bind), unfolding(ksv_expr_meaning::specs::Meaning::bytes_and))]
 fn bytes_and(
     replies: &mut Replies,
     operator: BinaryOperator,
@@ -146,7 +146,7 @@ fn bytes_and(
     }
 }
 
-#[tactic(auto, using(ksv_plan::proofs::Running::run_bind), unfolding(ksv_expr_meaning::specs::Meaning::member_and))]
+#[tactic(auto, using(ksv_basics::proofs::Running::run_bind), unfolding(ksv_expr_meaning::specs::Meaning::member_and))]
 fn member_and(
     replies: &mut Replies,
     operator: BinaryOperator,
@@ -166,7 +166,7 @@ fn member_and(
 }
 
 /// An operator between two values.
-#[tactic(auto, using(ksv_plan::proofs::Running::run_bind), unfolding(ksv_expr_meaning::specs::Meaning::binary_of))]
+#[tactic(auto, using(ksv_basics::proofs::Running::run_bind), unfolding(ksv_expr_meaning::specs::Meaning::binary_of))]
 pub(crate) fn binary(
     replies: &mut Replies,
     operator: BinaryOperator,
@@ -188,7 +188,7 @@ pub(crate) fn binary(
     }
 }
 
-#[tactic(auto, using(ksv_plan::proofs::Running::run_bind), unfolding(ksv_expr_meaning::specs::Meaning::stream_method))]
+#[tactic(auto, using(ksv_basics::proofs::Running::run_bind), unfolding(ksv_expr_meaning::specs::Meaning::stream_method))]
 fn stream_method(
     replies: &mut Replies,
     ctx: &Ctx,
@@ -218,7 +218,7 @@ fn stream_method(
     }
 }
 
-#[tactic(auto, using(ksv_plan::proofs::Running::run_bind), unfolding(ksv_expr_meaning::specs::Meaning::list_method))]
+#[tactic(auto, using(ksv_basics::proofs::Running::run_bind), unfolding(ksv_expr_meaning::specs::Meaning::list_method))]
 fn list_method(replies: &mut Replies, list: &Path, method: Method) -> Result<Value, Halt>
     ensures { Runs (list_method list.now method) (λ v. v) replies.old replies.new result }
 {
@@ -230,7 +230,7 @@ fn list_method(replies: &mut Replies, list: &Path, method: Method) -> Result<Val
     }
 }
 
-#[tactic(auto, using(ksv_plan::proofs::Running::run_bind), unfolding(ksv_expr_meaning::specs::Meaning::method_of))]
+#[tactic(auto, using(ksv_basics::proofs::Running::run_bind), unfolding(ksv_expr_meaning::specs::Meaning::method_of))]
 fn method_of(
     replies: &mut Replies,
     ctx: &Ctx,
@@ -287,7 +287,7 @@ fn method_behind(
 }
 
 /// What a name after a value gives. `own` means that the value is the home's own stream, `_io`.
-#[tactic(auto, using(ksv_plan::proofs::Running::run_bind), unfolding(ksv_expr_meaning::specs::Meaning::field_of))]
+#[tactic(auto, using(ksv_basics::proofs::Running::run_bind), unfolding(ksv_expr_meaning::specs::Meaning::field_of))]
 pub(crate) fn field(
     replies: &mut Replies,
     ctx: &Ctx,
@@ -315,7 +315,7 @@ fn object_special(replies: &mut Replies, object: &Path, name: SpecialName) -> Re
 }
 
 /// What a special name after a value gives.
-#[tactic(auto, using(ksv_plan::proofs::Running::run_bind), unfolding(ksv_expr_meaning::specs::Meaning::special_of))]
+#[tactic(auto, using(ksv_basics::proofs::Running::run_bind), unfolding(ksv_expr_meaning::specs::Meaning::special_of))]
 pub(crate) fn special_field(
     replies: &mut Replies,
     value: &Value,
@@ -329,7 +329,7 @@ pub(crate) fn special_field(
     }
 }
 
-#[tactic(auto, using(ksv_plan::proofs::Running::run_bind), unfolding(ksv_expr_meaning::specs::Meaning::bytes_call))]
+#[tactic(auto, using(ksv_basics::proofs::Running::run_bind), unfolding(ksv_expr_meaning::specs::Meaning::bytes_call))]
 fn bytes_call(
     replies: &mut Replies,
     method: Method,
@@ -349,7 +349,7 @@ fn bytes_call(
 }
 
 /// A method with one value in parentheses.
-#[tactic(auto, using(ksv_plan::proofs::Running::run_bind), unfolding(ksv_expr_meaning::specs::Meaning::call_one))]
+#[tactic(auto, using(ksv_basics::proofs::Running::run_bind), unfolding(ksv_expr_meaning::specs::Meaning::call_one))]
 pub(crate) fn call_one(
     replies: &mut Replies,
     value: &Value,
@@ -369,7 +369,7 @@ pub(crate) fn call_one(
 }
 
 /// A method with two values in parentheses.
-#[tactic(auto, using(ksv_plan::proofs::Running::run_bind), unfolding(ksv_expr_meaning::specs::Meaning::call_two))]
+#[tactic(auto, using(ksv_basics::proofs::Running::run_bind), unfolding(ksv_expr_meaning::specs::Meaning::call_two))]
 pub(crate) fn call_two(
     replies: &mut Replies,
     value: &Value,
@@ -397,7 +397,7 @@ pub(crate) fn call_two(
     }
 }
 
-#[tactic(auto, using(ksv_plan::proofs::Running::run_bind), unfolding(ksv_expr_meaning::specs::Meaning::list_at))]
+#[tactic(auto, using(ksv_basics::proofs::Running::run_bind), unfolding(ksv_expr_meaning::specs::Meaning::list_at))]
 fn list_at(replies: &mut Replies, list: &Path, place: &Value) -> Result<Value, Halt>
     ensures { Runs (list_at list.now place.now) (λ v. v) replies.old replies.new result }
 {
@@ -407,7 +407,7 @@ fn list_at(replies: &mut Replies, list: &Path, place: &Value) -> Result<Value, H
     }
 }
 
-#[tactic(auto, using(ksv_plan::proofs::Running::run_bind), unfolding(ksv_expr_meaning::specs::Meaning::bytes_at))]
+#[tactic(auto, using(ksv_basics::proofs::Running::run_bind), unfolding(ksv_expr_meaning::specs::Meaning::bytes_at))]
 fn bytes_at(replies: &mut Replies, from: u32, to: u32, place: &Value) -> Result<Value, Halt>
     ensures { Runs (bytes_at from to place.now) (λ v. v) replies.old replies.new result }
 {
@@ -418,7 +418,7 @@ fn bytes_at(replies: &mut Replies, from: u32, to: u32, place: &Value) -> Result<
 }
 
 /// The item of a value at an index.
-#[tactic(auto, using(ksv_plan::proofs::Running::run_bind), unfolding(ksv_expr_meaning::specs::Meaning::item_at))]
+#[tactic(auto, using(ksv_basics::proofs::Running::run_bind), unfolding(ksv_expr_meaning::specs::Meaning::item_at))]
 pub(crate) fn item_at(replies: &mut Replies, value: &Value, place: &Value) -> Result<Value, Halt>
     ensures { Runs (item_at value.now place.now) (λ v. v) replies.old replies.new result }
 {
@@ -430,7 +430,7 @@ pub(crate) fn item_at(replies: &mut Replies, value: &Value, place: &Value) -> Re
 }
 
 /// An object, if it has this type.
-#[tactic(auto, using(ksv_plan::proofs::Running::run_bind), unfolding(ksv_expr_meaning::specs::Meaning::cast_to))]
+#[tactic(auto, using(ksv_basics::proofs::Running::run_bind), unfolding(ksv_expr_meaning::specs::Meaning::cast_to))]
 pub(crate) fn cast_to(
     replies: &mut Replies,
     value: &Value,

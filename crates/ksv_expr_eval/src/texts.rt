@@ -7,8 +7,8 @@ ghost use Rattle.std.specs.Ordering.{nat_cmp};
 ghost use Rattle.std.specs.Fmt.{signed_decimal};
 ghost use Rattle.ksv_expr_meaning.specs.Texts.{joined, char_count, reversed, between, substring, text_number, number_of, written, numeral, opposite};
 
+use ksv_basics::numeral;
 use ksv_expr_value::{FaultKind, Integer, Text};
-use ksv_numerals::numeral;
 use std::alloc::{AllocError, Global};
 use std::cmp::Ordering;
 

@@ -1,10 +1,10 @@
 -- The laws of evaluation.
 use Rattle.std.proofs.Common.{◌≡◌, ◌≤◌, List, length, map, Bool, true, false, if◌then◌else◌, Result, Ok, Err, IfOk, arith, subst, refl, sym, ap, ◌∙◌}
 use Rattle.std.proofs.lemmas.List.{length-map}
-use Rattle.ksv_plan.specs.Plan.{Answer, bind, Ran, Need, Failed, Done, IsEnded}
-use Rattle.ksv_plan.specs.Asking.{and_then, ended}
-use Rattle.ksv_plan.proofs.Truth.{answer_bind, ends, needs}
-use Rattle.ksv_plan.proofs.Bounds.{enough}
+use Rattle.ksv_basics.specs.Plan.{Answer, bind, Ran, Need, Failed, Done, IsEnded}
+use Rattle.ksv_basics.specs.Asking.{and_then, ended}
+use Rattle.ksv_basics.proofs.Truth.{answer_bind, ends, needs}
+use Rattle.ksv_basics.proofs.Bounds.{enough}
 use Rattle.ksv_expr_tree.specs.Tree.{Tree}
 use Rattle.ksv_expr_value.specs.declared.fault.Fault.{Fault}
 use Rattle.ksv_expr_value.specs.declared.value.Value.{Value}

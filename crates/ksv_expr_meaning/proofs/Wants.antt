@@ -1,7 +1,7 @@
 -- How many wants an expression makes.
 use Rattle.std.proofs.Common.{ℕ, ◌+◌, ◌-◌, List, [], ◌∷◌, Option, Some, None, Bool, true, false, nat_lt, ◌==◌, if◌then◌else◌, ℤ, pos, negsuc, Result, Ok, Err, arith}
-use Rattle.ksv_plan.specs.Plan.{Answer, AsksAtMost}
-use Rattle.ksv_plan.proofs.Bounds.{asks_more, asks_bind, asks_join, asks_if}
+use Rattle.ksv_basics.specs.Plan.{Answer, AsksAtMost}
+use Rattle.ksv_basics.proofs.Bounds.{asks_more, asks_bind, asks_join, asks_if}
 use Rattle.ksv_expr_tree.specs.Tree.{Tree, Word, no_arguments, argument, literal, named, special, member, unary, binary, logical, choice, field, special_field, call, index, cast}
 use Rattle.ksv_expr_tree.specs.declared.tree.BinaryOperator.{BinaryOperator}
 use Rattle.ksv_expr_tree.specs.declared.tree.BinaryOperator.TheVariants as operators

@@ -1,7 +1,7 @@
 -- What expressions ask, and the plans of single questions.
 use Rattle.std.specs.Prelude.{ℕ, Bool, List, Result, Ok, Err}
-use Rattle.ksv_plan.specs.Plan.{Plan, Answer, Fail, Ask}
-use Rattle.ksv_plan.specs.Asking.{Replies}
+use Rattle.ksv_basics.specs.Plan.{Plan, Answer, Fail, Ask}
+use Rattle.ksv_basics.specs.Asking.{Replies}
 use Rattle.ksv_expr_value.specs.Trail.{Trail}
 use Rattle.ksv_expr_meaning.specs.Heard.{Heard, Valued, Opened, Numbered, Decided, Read}
 use Rattle.ksv_expr_value.specs.declared.fault.Fault.{Fault}

@@ -1,7 +1,7 @@
 -- The value of an expression: over any map from wants to answers, and resumed from replies. The first doesn't use replies.
 use Rattle.std.specs.Prelude.{◌≡◌, ℕ, ◌+◌, ◌≤◌, ◌<◌, List, ◌++◌, length, map, take, slice_get, Some, Result, Ok, Err, if◌then◌else◌}
-use Rattle.ksv_plan.specs.Plan.{Ran, Need, Failed, Done, run}
-use Rattle.ksv_plan.specs.Asking.{and_then, answer_of, asks_of}
+use Rattle.ksv_basics.specs.Plan.{Ran, Need, Failed, Done, run}
+use Rattle.ksv_basics.specs.Asking.{and_then, answer_of, asks_of}
 use Rattle.ksv_expr_tree.specs.Tree.{Tree, Constant, Word, TypePath, MemberPath, no_arguments, argument, literal, named, special, member, unary, binary, logical, choice, field, special_field, call, index, cast}
 use Rattle.ksv_expr_tree.specs.declared.tree.UnaryOperator.{UnaryOperator}
 use Rattle.ksv_expr_tree.specs.declared.tree.BinaryOperator.{BinaryOperator}

@@ -1,6 +1,6 @@
 -- Replies answer the questions of an expression.
-use Rattle.ksv_plan.specs.Plan.{Handler}
-use Rattle.ksv_plan.specs.Asking.{by_replies}
+use Rattle.ksv_basics.specs.Plan.{Handler}
+use Rattle.ksv_basics.specs.Asking.{by_replies}
 use Rattle.ksv_expr_value.specs.Trail.{Trail}
 use Rattle.ksv_expr_meaning.specs.Heard.{Heard}
 use Rattle.ksv_expr_meaning.specs.Asked.{State}

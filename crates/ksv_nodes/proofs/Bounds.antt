@@ -1,6 +1,6 @@
 -- How many nodes rules ask, and that a run with as many replies has no open question.
 use Rattle.std.proofs.Common.{◌≡◌, ℕ, zero, suc, ◌+◌, ◌≤◌, Bool, true, false, if◌then◌else◌, List, [], ◌∷◌, ◌++◌, length, Option, Some, None, Result, Ok, Err, sym, subst, arith}
-use Rattle.ksv_plan.specs.Plan.{Plan, Answer, Fail, Ask, bind, translate, AsksAtMost, next, run, IsEnded}
+use Rattle.ksv_basics.specs.Plan.{Plan, Answer, Fail, Ask, bind, translate, AsksAtMost, next, run, IsEnded}
 use Rattle.ksv_expr_value.specs.Trail.{Trail, child}
 use Rattle.ksv_expr_value.specs.declared.fault.Fault.{Fault}
 use Rattle.ksv_expr_value.specs.declared.step.Step.{Step}

@@ -1,8 +1,8 @@
 -- What rules behind one another answer, ask and use, where each node has its answer.
 use Rattle.std.proofs.Common.{◌≡◌, ℕ, List, ◌∷◌, ◌++◌, Option, Some, None, Result, Ok, Err, Bool, true, false, if◌then◌else◌, refl, sym, ap, ◌∙◌, append_assoc}
-use Rattle.ksv_plan.specs.Plan.{Plan, Answer, Fail, Ask, bind, translate}
-use Rattle.ksv_plan.specs.Asking.{and_then, asks_behind}
-use Rattle.ksv_plan.specs.Asking as plans
+use Rattle.ksv_basics.specs.Plan.{Plan, Answer, Fail, Ask, bind, translate}
+use Rattle.ksv_basics.specs.Asking.{and_then, asks_behind}
+use Rattle.ksv_basics.specs.Asking as plans
 use Rattle.ksv_bytes.specs.declared.uses.Use.{Use}
 use Rattle.ksv_expr_value.specs.Trail.{Trail}
 use Rattle.ksv_expr_value.specs.declared.fault.Fault.{Fault}

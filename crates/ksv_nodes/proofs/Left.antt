@@ -1,6 +1,6 @@
 -- What is left of a rule behind the replies that it had.
 use Rattle.std.proofs.Common.{◌≡◌, ℕ, List, [], ◌∷◌, ◌++◌, Option, Some, None, Result, Ok, Err, refl, sym, ap, ◌∙◌, append_assoc, append-nil}
-use Rattle.ksv_plan.specs.Plan.{Answer, Fail, Ask, Need, next, run}
+use Rattle.ksv_basics.specs.Plan.{Answer, Fail, Ask, Need, next, run}
 use Rattle.ksv_bytes.specs.declared.uses.Use.{Use}
 use Rattle.ksv_expr_value.specs.Trail.{Trail}
 use Rattle.ksv_expr_value.specs.declared.fault.Fault.{Fault}

@@ -1,6 +1,6 @@
 -- A run on bytes that agree on all that it used comes to the same, with the same uses.
 use Rattle.std.proofs.Common.{◌≡◌, List, [], ◌∷◌, ◌++◌, Option, Some, None, Result, Ok, Err, ℕ, refl, ap, subst, ◌∙◌}
-use Rattle.ksv_plan.specs.Plan.{Answer, Fail, Ask, next, run, behind}
+use Rattle.ksv_basics.specs.Plan.{Answer, Fail, Ask, next, run, behind}
 use Rattle.ksv_bytes.specs.declared.uses.Use.{Use}
 use Rattle.ksv_bytes.specs.Uses.{AgreeOn}
 use Rattle.ksv_expr_value.specs.declared.fault.Fault.{Fault}

@@ -2,8 +2,8 @@
 use Rattle.std.proofs.Common.{◌≡◌, ℕ, ◌<◌, ◌≤◌, ◌^◌, nat_lt, Bool, true, false, List, [], ◌∷◌, length, Some, None, Result, Ok, Err, is_some, Option, refl, sym, ap, ◌∙◌, arith}
 use Rattle.std.proofs.lemmas.Bool.{ltb-true}
 use Rattle.std.proofs.lemmas.Bool.Decides.{nat_tests}
-use Rattle.ksv_plan.specs.Plan.{Fail, Ask, Ran, Done, Failed, Need, next, run, ◌>>=◌}
-use Rattle.ksv_plan.proofs.Running.{run_bind}
+use Rattle.ksv_basics.specs.Plan.{Fail, Ask, Ran, Done, Failed, Need, next, run, ◌>>=◌}
+use Rattle.ksv_basics.proofs.Running.{run_bind}
 use Rattle.ksv_expr_value.specs.Trail.{Trail, all_but_last, child, parent, fits, step_fits, trail_of-true, trail_of-false, fits-more, fits-over, fits-wide, length-fits}
 use Rattle.ksv_expr_value.specs.declared.step.Step.{Step}
 use Rattle.ksv_expr_value.specs.declared.step.Step.TheVariants.{Name, Index}

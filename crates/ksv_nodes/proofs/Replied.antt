@@ -1,7 +1,7 @@
 -- The next of the replies that are left.
 use Rattle.std.proofs.Common.{◌≡◌, ℕ, zero, suc, ◌+◌, List, [], ◌∷◌, Some, None, Result, Ok, Err, refl, ap, ◌∙◌, drop, arith}
 use Rattle.std.specs.Prelude.{slice_get}
-use Rattle.ksv_plan.specs.Plan.{Need, Done, next}
+use Rattle.ksv_basics.specs.Plan.{Need, Done, next}
 use Rattle.ksv_bytes.specs.declared.uses.Use.{Use}
 use Rattle.ksv_expr_value.specs.Trail.{Trail}
 use Rattle.ksv_expr_value.specs.declared.fault.Fault.{Fault}

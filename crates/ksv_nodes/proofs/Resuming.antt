@@ -1,7 +1,7 @@
 -- The laws of runs, for a run from its beginning.
 use Rattle.std.proofs.Common.{◌≡◌, ℕ, ◌≤◌, ◌<◌, List, [], length, Result}
 use Rattle.std.specs.List.{AllByRecursion}
-use Rattle.ksv_plan.specs.Plan.{IsEnded}
+use Rattle.ksv_basics.specs.Plan.{IsEnded}
 use Rattle.ksv_bytes.specs.Uses.{AgreeOn, CanUse}
 use Rattle.ksv_expr_value.specs.Trail.{Trail}
 use Rattle.ksv_expr_value.specs.declared.fault.Fault.{Fault}

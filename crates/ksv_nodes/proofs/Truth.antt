@@ -1,8 +1,8 @@
 -- With true replies a rule asks what it asks where each node has its answer, uses what it uses there, and answers what it
 -- answers there.
 use Rattle.std.proofs.Common.{◌≡◌, ℕ, zero, suc, ◌<◌, List, [], ◌∷◌, ◌++◌, length, map, take, slice_get, Result, Ok, Err, Option, Some, None, refl, sym, ap, ◌∙◌, arith, append_assoc, append-nil}
-use Rattle.ksv_plan.specs.Plan.{Answer, Fail, Ask, Need, next, run}
-use Rattle.ksv_plan.specs.Asking.{ended}
+use Rattle.ksv_basics.specs.Plan.{Answer, Fail, Ask, Need, next, run}
+use Rattle.ksv_basics.specs.Asking.{ended}
 use Rattle.ksv_bytes.specs.declared.uses.Use.{Use}
 use Rattle.ksv_expr_value.specs.Trail.{Trail}
 use Rattle.ksv_expr_value.specs.declared.fault.Fault.{Fault}

@@ -1,6 +1,6 @@
 -- What turns keep, and what they add.
 use Rattle.std.proofs.Common.{◌≡◌, List, [], ◌∷◌, ◌++◌, Result, Ok, Err, Option, Some, None, refl, sym, ap, ◌∙◌, append_assoc, append-nil}
-use Rattle.ksv_plan.specs.Plan.{Answer, Fail, Ask, Ran, Need, Failed, Done, next, run, behind}
+use Rattle.ksv_basics.specs.Plan.{Answer, Fail, Ask, Ran, Need, Failed, Done, next, run, behind}
 use Rattle.ksv_bytes.specs.declared.uses.Use.{Use}
 use Rattle.ksv_expr_value.specs.declared.fault.Fault.{Fault}
 use Rattle.ksv_nodes.specs.declared.given.Given.{Given}

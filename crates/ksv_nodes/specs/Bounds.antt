@@ -1,6 +1,6 @@
 -- How many nodes a rule asks.
 use Rattle.std.specs.Prelude.{ℕ, zero, suc}
-use Rattle.ksv_plan.specs.Plan.{Answer, Fail, Ask}
+use Rattle.ksv_basics.specs.Plan.{Answer, Fail, Ask}
 use Rattle.ksv_nodes.specs.declared.given.Given.{Given}
 use Rattle.ksv_nodes.specs.Reading.{Seen}
 use Rattle.ksv_nodes.specs.Rule.{Rule, Of, See}

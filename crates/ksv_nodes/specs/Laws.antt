@@ -2,8 +2,8 @@
 -- bytes, and it has an end. These laws are this project's own; because of them an engine may keep answers.
 use Rattle.std.specs.Prelude.{◌≡◌, ℕ, ◌≤◌, ◌<◌, List, [], ◌++◌, length, map, take, slice_get, Some, Result}
 use Rattle.std.specs.List.{AllByRecursion}
-use Rattle.ksv_plan.specs.Plan.{Ran, Need, Failed, Done, run, behind, IsEnded}
-use Rattle.ksv_plan.specs.Asking.{ended}
+use Rattle.ksv_basics.specs.Plan.{Ran, Need, Failed, Done, run, behind, IsEnded}
+use Rattle.ksv_basics.specs.Asking.{ended}
 use Rattle.ksv_bytes.specs.declared.uses.Use.{Use}
 use Rattle.ksv_bytes.specs.Uses.{AgreeOn, CanUse}
 use Rattle.ksv_expr_value.specs.Trail.{Trail}

@@ -1,6 +1,6 @@
 -- Rules: what a node asks of other nodes, how it reads the bytes, and what it does with each answer.
 use Rattle.std.specs.Prelude.{ℕ, List, Bool, Option, Some, None}
-use Rattle.ksv_plan.specs.Plan.{Plan, Answer, Fail, Ask, ◌>>=◌}
+use Rattle.ksv_basics.specs.Plan.{Plan, Answer, Fail, Ask, ◌>>=◌}
 use Rattle.ksv_expr_value.specs.Trail.{Trail, child}
 use Rattle.ksv_expr_value.specs.declared.fault.FaultKind.{FaultKind}
 use Rattle.ksv_expr_value.specs.declared.fault.FaultKind.TheVariants as kinds

@@ -1,7 +1,7 @@
 -- What a rule answers, asks and uses where each node that it asks has an answer: by direct recursion on the rule.
 -- It has no list of replies, and no turn.
 use Rattle.std.specs.Prelude.{ℕ, List, [], ◌∷◌, ◌++◌, Option, Some, None, Result, Ok, Err}
-use Rattle.ksv_plan.specs.Plan.{Answer, Fail, Ask}
+use Rattle.ksv_basics.specs.Plan.{Answer, Fail, Ask}
 use Rattle.ksv_bytes.specs.declared.uses.Use.{Use}
 use Rattle.ksv_expr_value.specs.Trail.{Trail}
 use Rattle.ksv_expr_value.specs.declared.fault.Fault.{Fault}

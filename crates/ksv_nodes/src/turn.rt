@@ -1,9 +1,8 @@
 //! One turn of a node's rule: what it asks is answered by the replies, in their order.
 
-ghost use Rattle.std.specs.Prelude.{◌≡◌, ◌≤◌, ◌<◌, ◌++◌, length, [], IfErr, IsErr, IfOk, is_some};
+ghost use Rattle.std.specs.Prelude.{◌≡◌, ◌≤◌, ◌<◌, ◌++◌, length, [], IfErr, IsErr, IfOk, is_some, ◌+◌, slice_range, IfSome};
 ghost use Rattle.ksv_bytes.specs.Edits.{file_limit};
 ghost use Rattle.ksv_expr_value.specs.Bytes.{content};
-ghost use Rattle.std.specs.Prelude.{◌+◌, slice_range, IfSome};
 ghost use Rattle.ksv_nodes.specs.Reading.{first_at, end_in};
 ghost use Rattle.ksv_expr_value.specs.Trail.{child, parent};
 ghost use Rattle.ksv_nodes.specs.Rule.{raise, in_end, ask_head, ask_value, ask_end, ask_rest, part, value_of_part, end_of_part, reach, finish, done, peek, find};

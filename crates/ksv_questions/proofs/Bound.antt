@@ -1,7 +1,7 @@
 -- One question after another.
 use Rattle.std.proofs.Common.{◌≡◌, ◌∷◌, ◌++◌, refl, ap}
-use Rattle.ksv_plan.specs.Plan.{Answer, Fail, Ask, bind}
-use Rattle.ksv_plan.specs.Asking.{and_then, asks_behind}
+use Rattle.ksv_basics.specs.Plan.{Answer, Fail, Ask, bind}
+use Rattle.ksv_basics.specs.Asking.{and_then, asks_behind}
 use Rattle.ksv_nodes.specs.declared.node.Node.{Node}
 use Rattle.ksv_questions.specs.Asking.{Asking, Failure, Heard, asks_of, result_of}
 

@@ -1,6 +1,6 @@
 -- Questions by what was found, where it needs no further ask.
 use Rattle.std.proofs.Common.{◌≡◌, ℕ, List, codes, Option, refl}
-use Rattle.ksv_plan.specs.Plan.{Answer}
+use Rattle.ksv_basics.specs.Plan.{Answer}
 use Rattle.ksv_desc.specs.Description.{Description}
 use Rattle.ksv_expr_value.specs.Trail.{Trail}
 use Rattle.ksv_expr_value.specs.declared.value.Value.{Value}

@@ -3,7 +3,7 @@ use Rattle.std.proofs.Common.{◌≡◌, ℕ, zero, suc, ◌+◌, ◌-◌, ◌<�
 use Rattle.serde_json.specs.Data.{Data, Members, array, object, put}
 use Rattle.serde_json.specs.View.{items_of, view}
 use Rattle.serde_json.specs.declared.value.Value.{Value as Json}
-use Rattle.ksv_plan.specs.Plan.{Answer, bind}
+use Rattle.ksv_basics.specs.Plan.{Answer, bind}
 use Rattle.ksv_desc.specs.Description.{Description, name}
 use Rattle.ksv_expr_value.specs.Trail.{Trail, child}
 use Rattle.ksv_expr_value.specs.declared.step.Step.TheVariants.{Index, Name}

@@ -1,7 +1,7 @@
 -- What running one question after another comes to.
 use Rattle.std.proofs.Common.{◌≡◌, ℕ, List, [], ◌++◌, Result, Ok, Err, append_assoc, refl, sym, ◌∙◌, ap, subst}
-use Rattle.ksv_plan.specs.Plan.{Fail, bind}
-use Rattle.ksv_plan.specs.Asking.{and_then, asks_behind}
+use Rattle.ksv_basics.specs.Plan.{Fail, bind}
+use Rattle.ksv_basics.specs.Asking.{and_then, asks_behind}
 use Rattle.ksv_desc.specs.Description.{Description}
 use Rattle.ksv_expr_value.specs.declared.fault.Fault.{Fault}
 use Rattle.ksv_memo_rules.specs.Entry.{Memo}

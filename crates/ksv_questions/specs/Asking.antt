@@ -1,7 +1,7 @@
 -- Questions about a described file. A question is a plan: nodes that it asks, and what it does with what it hears of each, an
 -- answer or the fault that prevents it. It ends in an A, or fails. Nothing here depends on who answers.
 use Rattle.std.specs.Prelude.{List, [], ◌∷◌, Result, Ok, Err}
-use Rattle.ksv_plan.specs.Plan.{Plan, Answer, Fail, Ask, ◌>>=◌}
+use Rattle.ksv_basics.specs.Plan.{Plan, Answer, Fail, Ask, ◌>>=◌}
 use Rattle.ksv_expr_value.specs.Trail.{Trail}
 use Rattle.ksv_expr_value.specs.declared.fault.Fault.{Fault}
 use Rattle.ksv_expr_value.specs.declared.fault.FaultKind.{FaultKind}

@@ -1,6 +1,6 @@
 -- Words that only private contracts cite: a reader of the public contracts may skip this file.
 use Rattle.std.specs.Prelude.{◌≡◌, ℕ, List, Result, Ok, Err}
-use Rattle.ksv_plan.specs.Plan.{Answer, Fail}
+use Rattle.ksv_basics.specs.Plan.{Answer, Fail}
 use Rattle.ksv_desc.specs.Description.{Description}
 use Rattle.ksv_expr_value.specs.declared.fault.Fault.{Fault}
 use Rattle.ksv_memo_rules.specs.Entry.{Memo}

@@ -4,7 +4,7 @@ use Rattle.std.specs.Prelude.{ℕ, zero, suc, ◌+◌, ◌-◌, List, [], ◌∷
 use Rattle.serde_json.specs.Data.{Data, array, object, Members, no_members, put}
 use Rattle.serde_json.specs.View.{items_of}
 use Rattle.serde_json.specs.Written.{compact_text}
-use Rattle.ksv_plan.specs.Plan.{Answer, Fail, ◌>>=◌}
+use Rattle.ksv_basics.specs.Plan.{Answer, Fail, ◌>>=◌}
 use Rattle.ksv_desc.specs.Description.{Description, fields, name}
 use Rattle.ksv_expr_value.specs.Trail.{Trail, child}
 use Rattle.ksv_expr_value.specs.declared.step.Step.TheVariants.{Index, Name}

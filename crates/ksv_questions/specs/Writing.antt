@@ -1,6 +1,6 @@
 -- What `put P N` asks, and the bytes that it writes: those of an integer of P's width and byte order. Only integers are written.
 use Rattle.std.specs.Prelude.{◌≡◌, true, ℕ, ℤ, List, Option, Some, None, if◌then◌else◌}
-use Rattle.ksv_plan.specs.Plan.{Answer, Fail, ◌>>=◌}
+use Rattle.ksv_basics.specs.Plan.{Answer, Fail, ◌>>=◌}
 use Rattle.ksv_desc.specs.Description.{Description}
 use Rattle.ksv_expr_value.specs.Trail.{Trail}
 use Rattle.ksv_nodes.specs.declared.given.Head.{Head}

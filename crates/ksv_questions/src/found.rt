@@ -4,7 +4,7 @@ ghost use Rattle.ksv_desc.specs.Whole.{plain_pieces};
 ghost use Rattle.ksv_expr_value.specs.Trail.{child};
 ghost use Rattle.ksv_expr_value.specs.declared.step.Step.TheVariants.{Index};
 ghost use Rattle.ksv_memo_rules.specs.Right.{IsRight};
-ghost use Rattle.ksv_plan.specs.Plan.{Answer};
+ghost use Rattle.ksv_basics.specs.Plan.{Answer};
 ghost use Rattle.ksv_questions.specs.Code.{Runs, Settles, found_of};
 ghost use Rattle.ksv_questions.specs.Dumps.{count_in, find_list, find_object, find_value, object_in, value_in};
 ghost use Rattle.ksv_questions.specs.Engines.{world};

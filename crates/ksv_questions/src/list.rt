@@ -1,7 +1,7 @@
 //! The text of a list.
 ghost use Rattle.std.specs.Prelude.{◌≡◌, string_bytes};
 ghost use Rattle.ksv_desc.specs.Whole.{plain_pieces};
-ghost use Rattle.ksv_plan.specs.Plan.{Answer};
+ghost use Rattle.ksv_basics.specs.Plan.{Answer};
 ghost use Rattle.ksv_memo_rules.specs.Right.{IsRight};
 ghost use Rattle.ksv_questions.specs.Code.{Runs, Settles};
 ghost use Rattle.ksv_questions.specs.Engines.{world};

@@ -13,10 +13,9 @@ use crate::trees::add_refusal;
 use ksv_expr_syntax::{parse, parse_type};
 use ksv_expr_tree::{Expr, Name, TypeRef};
 use ksv_schema_names::{
-    NameFault, Names, Position, Site, argument_fault, built_in, built_in_at, given_member,
+    NameFault, Names, Position, Scopes, Site, argument_fault, built_in, built_in_at, given_member,
     name_fault, number_arguments, number_expr, number_type,
 };
-use ksv_schema_scope::Scopes;
 use ksv_yaml::read;
 use std::alloc::{AllocError, Global};
 

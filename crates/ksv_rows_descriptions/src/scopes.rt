@@ -12,7 +12,7 @@ use crate::question::{Question, question_of};
 use crate::shown::{add, add_debug, add_unknown, add_word};
 use crate::trees::add_refusal;
 use ksv_expr_syntax::parse_type;
-use ksv_schema_scope::{Member, Row, Scopes, id_of, number_of, order_named};
+use ksv_schema_names::{Member, Row, Scopes, id_of, number_of, order_named};
 use ksv_yaml::read;
 use ksv_yaml_tree::keys::{entries_at, entries_in, has, items_at, items_in, says, text_at};
 use ksv_yaml_tree::{Entry, Numeral, plain_number, signed_number};

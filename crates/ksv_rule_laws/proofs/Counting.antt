@@ -2,7 +2,7 @@
 use Rattle.std.proofs.Common.{◌≡◌, ◌∙◌, ℕ, zero, suc, ◌+◌, ◌==◌, ◌<◌, Bool, true, false, if◌then◌else◌, List, [], ◌∷◌, Option, Some, None, Result, Ok, Err, ◌⊎◌, inl, inr, refl, sym, ap, subst, arith}
 use Rattle.std.proofs.lemmas.Bool.{cases_lt}
 use Rattle.std.proofs.lemmas.Bool.Decides.{nat_tests}
-use Rattle.ksv_plan.specs.Plan.{Answer}
+use Rattle.ksv_basics.specs.Plan.{Answer}
 use Rattle.ksv_expr_tree.specs.Tree.{Tree}
 use Rattle.ksv_expr_value.specs.Trail.{Trail, child, parent, last, first_step, all_but_last, same_trail, trail_of, trail_of-steps, trail_of-true}
 use Rattle.ksv_expr_value.specs.declared.fault.Fault.{Fault}

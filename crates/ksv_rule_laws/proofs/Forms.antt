@@ -4,8 +4,8 @@ use Rattle.std.specs.Prelude.{nat_le, nat_eq}
 use Rattle.std.specs.Str.{bytes_eq}
 use Rattle.std.proofs.lemmas.Bool.Decides.{nat_tests}
 use Rattle.std.proofs.lemmas.Grind.{common_steps}
-use Rattle.ksv_plan.specs.Plan.{Answer, Fail, Ask, bind}
-use Rattle.ksv_plan.specs.Asking.{and_then}
+use Rattle.ksv_basics.specs.Plan.{Answer, Fail, Ask, bind}
+use Rattle.ksv_basics.specs.Asking.{and_then}
 use Rattle.ksv_expr_tree.specs.Tree.{Tree}
 use Rattle.ksv_expr_value.specs.Setting.{Setting}
 use Rattle.ksv_expr_value.specs.Trail.{Trail, parent}

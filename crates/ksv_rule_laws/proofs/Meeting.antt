@@ -1,8 +1,8 @@
 -- What an expression answers in a rule, where each node that it asks has an answer.
 use Rattle.std.proofs.Common.{◌≡◌, ℕ, List, [], ◌∷◌, ◌++◌, flat_map, Result, Ok, Err, Option, Some, None, refl, sym, ap, ◌∙◌, append_assoc, append-nil}
-use Rattle.ksv_plan.specs.Plan.{Answer, Fail, Ask, bind, translate}
-use Rattle.ksv_plan.specs.Asking.{and_then, asks_behind}
-use Rattle.ksv_plan.specs.Asking.{answer_of as plan_answer, asks_of as plan_asks}
+use Rattle.ksv_basics.specs.Plan.{Answer, Fail, Ask, bind, translate}
+use Rattle.ksv_basics.specs.Asking.{and_then, asks_behind}
+use Rattle.ksv_basics.specs.Asking.{answer_of as plan_answer, asks_of as plan_asks}
 use Rattle.ksv_bytes.specs.declared.uses.Use.{Use}
 use Rattle.ksv_expr_value.specs.Trail.{Trail}
 use Rattle.ksv_expr_meaning.specs.Heard.{Heard}

@@ -2,7 +2,7 @@
 use Rattle.std.proofs.Common.{codes, bytes_eq, ℕ, ◌-◌, ◌+◌, Bool, true, false, ◌==◌, nat_lt, if◌then◌else◌, ℤ, pos, negsuc, List, [], ◌∷◌, Option, Some, None, Result, Ok, Err}
 use Rattle.std.specs.Ordering.{int_eq}
 use Rattle.std.specs.declared.cmp.Ordering.{Ordering}
-use Rattle.ksv_plan.specs.Plan.{Plan, Answer, Fail, Ask, bind, translate}
+use Rattle.ksv_basics.specs.Plan.{Plan, Answer, Fail, Ask, bind, translate}
 use Rattle.ksv_expr_tree.specs.Tree.{Tree, Word, no_arguments, argument, literal, named, special, member, unary, binary, logical, choice, field, special_field, call, index, cast}
 use Rattle.ksv_expr_tree.specs.declared.tree.UnaryOperator.{UnaryOperator}
 use Rattle.ksv_expr_tree.specs.declared.tree.UnaryOperator.TheVariants as signs

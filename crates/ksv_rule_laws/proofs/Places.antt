@@ -3,7 +3,7 @@ use Rattle.std.proofs.Common.{◌≡◌, ℕ, zero, suc, ◌+◌, ◌-◌, ◌==
 use Rattle.std.specs.Prelude.{slice_range}
 use Rattle.std.proofs.lemmas.Bool.Decides.{nat_tests}
 use Rattle.std.proofs.lemmas.Grind.{common_steps}
-use Rattle.ksv_plan.specs.Plan.{Answer}
+use Rattle.ksv_basics.specs.Plan.{Answer}
 use Rattle.ksv_expr_tree.specs.Tree.{Tree}
 use Rattle.ksv_expr_value.specs.Setting.{Setting}
 use Rattle.ksv_expr_value.specs.Trail.{Trail, parent, last}

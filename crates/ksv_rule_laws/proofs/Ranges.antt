@@ -1,7 +1,7 @@
 -- The value of an expression lies in the file, where its stream does and all that it is told.
 use Rattle.std.proofs.Common.{◌≡◌, codes, ℕ, ◌+◌, ◌-◌, ◌==◌, ◌≤◌, Bool, true, false, nat_lt, if◌then◌else◌, ℤ, pos, negsuc, List, [], ◌∷◌, Option, Some, None, Result, Ok, Err, refl, subst, length}
 use Rattle.std.specs.Ordering.{int_eq}
-use Rattle.ksv_plan.specs.Plan.{Plan, Answer, Fail, Ask, bind, translate}
+use Rattle.ksv_basics.specs.Plan.{Plan, Answer, Fail, Ask, bind, translate}
 use Rattle.ksv_expr_tree.specs.Tree.{Tree, Word, Constant, integer, truth, string, no_arguments, argument, literal, named, special, member, unary, binary, logical, choice, field, special_field, call, index, cast}
 use Rattle.ksv_expr_tree.specs.declared.tree.UnaryOperator.{UnaryOperator}
 use Rattle.ksv_expr_tree.specs.declared.tree.UnaryOperator.TheVariants as signs

@@ -3,8 +3,8 @@ use Rattle.std.proofs.Common.{◌≡◌, inl, inr, ℕ, zero, suc, ◌+◌, ◌�
 use mathlib.Core.Path.{fun_ext}
 use Rattle.std.specs.Prelude.{Contains}
 use Rattle.std.proofs.lemmas.List.Elements.{Contains-append_left, Contains-append_right, Contains-append_cases}
-use Rattle.ksv_plan.specs.Plan.{Answer, Fail, Ask, Ran, next, run, behind}
-use Rattle.ksv_plan.specs.Asking.{ended}
+use Rattle.ksv_basics.specs.Plan.{Answer, Fail, Ask, Ran, next, run, behind}
+use Rattle.ksv_basics.specs.Asking.{ended}
 use Rattle.ksv_bytes.specs.declared.uses.Use.{Use}
 use Rattle.ksv_expr_value.specs.declared.fault.Fault.{Fault}
 use Rattle.ksv_expr_value.specs.declared.fault.FaultKind.TheVariants as kinds

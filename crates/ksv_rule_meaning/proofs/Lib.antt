@@ -1,3 +1,6 @@
 -- The lemmas of this crate.
+-- The lemmas of this crate.
 pub mod Direct
 pub mod Integers
+pub mod Answering
+pub mod Completing

@@ -4,7 +4,7 @@ use Rattle.std.specs.Prelude.{ℕ, ◌+◌, ◌==◌, Bool, true, false, ◌&&�
 use Rattle.std.specs.Option.{option_map_or}
 use Rattle.std.specs.Ordering.{int_eq}
 use Rattle.std.specs.Str.{bytes_eq}
-use Rattle.ksv_plan.specs.Plan.{Answer, ◌>>=◌}
+use Rattle.ksv_basics.specs.Plan.{Answer, ◌>>=◌}
 use Rattle.ksv_expr_tree.specs.Tree.{Tree, Constant, integer, truth, string}
 use Rattle.ksv_expr_tree.specs.declared.tree.EnumMember.{EnumMember}
 use Rattle.ksv_expr_value.specs.Setting.{Setting}

@@ -1,7 +1,7 @@
 -- What the rules of a description mean to an engine: a node's rule is run from its beginning on the replies that it had.
 use Rattle.std.specs.Prelude.{ℕ, ◌+◌, List, Option, Some, None, Result, Ok, Err}
 use Rattle.std.specs.List.{sum_by}
-use Rattle.ksv_plan.specs.Plan.{Ran, Need, Failed, Done, run, behind}
+use Rattle.ksv_basics.specs.Plan.{Ran, Need, Failed, Done, run, behind}
 use Rattle.ksv_expr_tree.specs.Tree.{Tree, Arguments, no_arguments, argument}
 use Rattle.ksv_expr_meaning.specs.Evaluation.{most_wants}
 use Rattle.ksv_expr_value.specs.declared.fault.Fault.{Fault}

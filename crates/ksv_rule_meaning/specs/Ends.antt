@@ -1,6 +1,6 @@
 -- Where something ends, and how a list goes on to its last element.
 use Rattle.std.specs.Prelude.{ℕ, ◌+◌, ◌==◌, Bool, true, false, Option, Some, None, if◌then◌else◌}
-use Rattle.ksv_plan.specs.Plan.{Answer, Fail, ◌>>=◌}
+use Rattle.ksv_basics.specs.Plan.{Answer, Fail, ◌>>=◌}
 use Rattle.ksv_expr_value.specs.Trail.{Trail, element_limit, parent, last}
 use Rattle.ksv_expr_value.specs.Setting.{Setting}
 use Rattle.ksv_expr_value.specs.declared.fault.FaultKind.TheVariants as kinds

@@ -1,7 +1,7 @@
 -- What a description says of the members of its types.
 use Rattle.std.specs.Prelude.{ℕ, zero, suc, ◌+◌, ◌==◌, Bool, true, false, List, [], ◌∷◌, Option, Some, None, slice_get, if◌then◌else◌}
 use Rattle.std.specs.Option.{option_map_or}
-use Rattle.ksv_plan.specs.Plan.{Answer, ◌>>=◌}
+use Rattle.ksv_basics.specs.Plan.{Answer, ◌>>=◌}
 use Rattle.ksv_expr_value.specs.declared.fault.FaultKind.TheVariants as kinds
 use Rattle.ksv_desc.specs.Description.{Description, MemberOfType, Field, MemberKind, Parameter, Attribute, ParseInstance, ValueInstance}
 use Rattle.ksv_nodes.specs.declared.given.MemberRef.{MemberRef}

@@ -2,7 +2,7 @@
 -- repeated ones, and what each reads. The rules are those of the Kaitai Struct User Guide on `seq`, `instances`, sizes,
 -- terminators, `if`, `switch-on` and `repeat`; that all of it is looked for only when it is asked is this project's own.
 use Rattle.std.specs.Prelude.{ℕ, ◌+◌, ◌-◌, ◌==◌, nat_lt, nat_le, Bool, false, ◌||◌, length, Option, Some, None, if◌then◌else◌}
-use Rattle.ksv_plan.specs.Plan.{Answer, Fail, ◌>>=◌, ◌>>◌}
+use Rattle.ksv_basics.specs.Plan.{Answer, Fail, ◌>>=◌, ◌>>◌}
 use Rattle.ksv_expr_tree.specs.Tree.{Tree}
 use Rattle.ksv_expr_value.specs.Trail.{Trail, element_limit, parent, last}
 use Rattle.ksv_expr_value.specs.Setting.{Setting}

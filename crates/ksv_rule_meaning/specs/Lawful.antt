@@ -1,7 +1,7 @@
 -- The rules of a description keep the laws that an engine asks of rules.
 use Rattle.std.proofs.Common.{◌≡◌, ℕ, List, Result, refl, ap, ◌∙◌}
 use Rattle.std.specs.List.{AllByRecursion}
-use Rattle.ksv_plan.specs.Plan.{Ran, Need, Failed, Done, behind}
+use Rattle.ksv_basics.specs.Plan.{Ran, Need, Failed, Done, behind}
 use Rattle.ksv_bytes.specs.Uses.{AgreeOn}
 use Rattle.ksv_expr_value.specs.declared.fault.Fault.{Fault}
 use Rattle.ksv_desc.specs.Description.{Description}

@@ -1,4 +1,5 @@
 -- The definitions of node rules.
+-- The definitions of what is kept.
 pub mod Fields
 pub mod Wanted
 pub mod Choosing
@@ -12,3 +13,6 @@ pub mod Described
 pub mod Bounds
 pub mod Lawful
 pub mod Direct
+pub mod Completed
+pub mod Kept
+pub mod Laws

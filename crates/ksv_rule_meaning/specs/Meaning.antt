@@ -1,5 +1,5 @@
 -- The meaning of a node: its rule.
-use Rattle.ksv_plan.specs.Plan.{Answer, ◌>>=◌}
+use Rattle.ksv_basics.specs.Plan.{Answer, ◌>>=◌}
 use Rattle.ksv_expr_value.specs.Trail.{Trail}
 use Rattle.ksv_desc.specs.Description.{Description}
 use Rattle.ksv_nodes.specs.declared.node.Node.{Node}

@@ -2,7 +2,7 @@
 -- has them, objects and lists by their path.
 use Rattle.std.specs.Prelude.{ℕ, zero, suc, ◌+◌, nat_le, Bool, ℤ, List, length, take, Option, Some, None, if◌then◌else◌}
 use Rattle.std.specs.Str.{bytes_eq}
-use Rattle.ksv_plan.specs.Plan.{Answer, ◌>>=◌}
+use Rattle.ksv_basics.specs.Plan.{Answer, ◌>>=◌}
 use Rattle.ksv_desc.specs.declared.order.ByteOrder.{ByteOrder}
 use Rattle.ksv_expr_tree.specs.Tree.{Tree, Arguments, no_arguments, argument}
 use Rattle.ksv_expr_value.specs.Setting.{Setting}

@@ -1,7 +1,7 @@
 -- Expressions in rules: what an expression wants is asked of nodes and read from the bytes. Expressions are those of the
 -- Kaitai Struct User Guide; their meaning is ksv_expr_eval's.
 use Rattle.std.specs.Prelude.{ℕ, Bool, true, ℤ, pos, negsuc, Option, Some, None}
-use Rattle.ksv_plan.specs.Plan.{Answer, Fail, ◌>>=◌, translate}
+use Rattle.ksv_basics.specs.Plan.{Answer, Fail, ◌>>=◌, translate}
 use Rattle.ksv_expr_tree.specs.Tree.{Tree}
 use Rattle.ksv_expr_value.specs.Trail.{Trail}
 use Rattle.ksv_expr_meaning.specs.Heard.{Heard, Valued, Opened, Numbered, Decided, Read}

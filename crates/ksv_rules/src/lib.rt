@@ -1,11 +1,23 @@
 //! The rules of a description's nodes: what is at a path of a file, its value, and where it ends.
 //!
-//! Each rule is a definition of `ksv_rule_meaning` (`Heads`, `Values`, `Ends`) and a function of the same name that runs it on the
-//! replies that it had (`ksv_rule_heads`, `ksv_rule_values`); here is the rule of a node. An engine (`ksv_memo`) calls the rules and
-//! keeps what they answer.
+//! Each rule is a definition of `ksv_rule_meaning` (`Heads`, `Values`, `Ends`, and `Fields`, `Choosing`, `Wanted` below them) and a
+//! function of the same name here that runs it on the replies that it had; [`DescriptionRules`] runs the rule of any node. An
+//! engine (`ksv_memo`) calls the rules and keeps what they answer.
 #![tactic(auto)]
 
+mod calculated;
+mod choosing;
+mod ends;
+mod evaluation;
+mod fields;
+mod heads;
+mod integer;
+mod lent;
+mod parts;
 mod rules;
+mod shapes;
+mod values;
+mod wanted;
 
 pub use ksv_nodes::{
     Calc, Given, Head, Leaf, List, MemberRef, Node, NodeKind, Object, ObjectEnd, Origin,

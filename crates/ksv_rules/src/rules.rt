@@ -1,15 +1,16 @@
 //! A node's rule, as code that an engine's rules run.
-#![tactic(auto, using(ksv_plan::proofs::Running::run_bind), unfolding(ksv_rule_meaning::specs::Meaning::meaning_of, ksv_rule_meaning::specs::Meaning::rule_of))]
+#![tactic(auto, using(ksv_basics::proofs::Running::run_bind), unfolding(ksv_rule_meaning::specs::Meaning::meaning_of, ksv_rule_meaning::specs::Meaning::rule_of))]
 
 ghost use Rattle.ksv_desc.specs.Whole.{plain_pieces};
 ghost use Rattle.ksv_nodes.specs.Turning.{Runs};
 ghost use Rattle.ksv_rule_meaning.specs.Meaning.{rule_of};
 
+use crate::ends::{end_of, rest_of};
+use crate::heads::head_of;
+use crate::values::value_of;
 use ksv_desc::Desc;
 use ksv_nodes::{Given, Halt, Node, NodeKind, Turn};
-use ksv_rule_heads::head_of;
 use ksv_rule_meaning::NodeRules;
-use ksv_rule_values::{end_of, rest_of, value_of};
 
 /// A node's rule.
 #[inline(always)]

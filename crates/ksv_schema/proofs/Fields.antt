@@ -6,25 +6,25 @@ use Rattle.ksv_yaml_tree.specs.Tree.{Pair, entry_at}
 use Rattle.ksv_yaml_tree.specs.Keys.{has, says, text_at}
 use Rattle.ksv_expr_syntax.specs.Reading.{◌>>=◌}
 use Rattle.ksv_expr_tree.specs.Tree as expressions
-use Rattle.ksv_schema_scope.specs.declared.members.Role.{Role}
-use Rattle.ksv_schema_scope.specs.declared.members.Role.TheVariants as roles
-use Rattle.ksv_schema_scope.specs.Members.{is_in_params}
-use Rattle.ksv_schema_scope.specs.Rows.{Declared}
-use Rattle.ksv_schema_scope.specs.Types.{encoding_of}
+use Rattle.ksv_schema_names.specs.declared.members.Role.{Role}
+use Rattle.ksv_schema_names.specs.declared.members.Role.TheVariants as roles
+use Rattle.ksv_schema_names.specs.Members.{is_in_params}
+use Rattle.ksv_schema_names.specs.Rows.{Declared}
+use Rattle.ksv_schema_names.specs.Types.{encoding_of}
 use Rattle.ksv_schema_names.specs.declared.position.Site.TheVariants as sites
 use Rattle.ksv_desc.specs.Description.{Extent, SizeEos, ByItself, Repeat, Once, Eos, Expr, Until, Field, MemberKind, Parameter}
 use Rattle.ksv_desc.specs.Resolved.{is_parameter, IfAny, IsThere, IsResolvedTree, IsResolvedExtent, IsResolvedRepeat, IsResolvedField, IsResolvedKind}
-use Rattle.ksv_schema_keys.specs.declared.keys.Form.TheVariants as forms
-use Rattle.ksv_schema_keys.specs.declared.keys.MappingKind.{MappingKind}
-use Rattle.ksv_schema_keys.specs.declared.keys.MappingKind.TheVariants as kinds
-use Rattle.ksv_schema_keys.specs.declared.keys.Group.TheVariants as groups
-use Rattle.ksv_schema_keys.specs.Keys.{is_in, kind_of, form_among, form_in, is_ignored}
-use Rattle.ksv_schema_keys.specs.Values.{encoding_named, is_str, is_strz, own_type, is_a, is_to_end}
-use Rattle.ksv_schema_values.specs.Faults.{missing_key, left_out}
-use Rattle.ksv_schema_values.specs.Rules.{form_faults, keys_faults}
-use Rattle.ksv_schema_values.specs.Values.{Home, expression, enumeration, own_enum, encoding_at}
-use Rattle.ksv_schema_read.specs.Members.{parts, repeat_of, repeated, extent_of, extent, has_encoding, needs, field, own_field, attribute, parse_instance, value_instance, placeless, by_kind}
-use Rattle.ksv_schema_read.specs.Description.{Context, in_tree, in_extent, in_repeat, in_field, in_kind}
+use Rattle.ksv_schema.specs.declared.keys.forms.Form.TheVariants as forms
+use Rattle.ksv_schema.specs.declared.keys.forms.MappingKind.{MappingKind}
+use Rattle.ksv_schema.specs.declared.keys.forms.MappingKind.TheVariants as kinds
+use Rattle.ksv_schema.specs.declared.keys.forms.Group.TheVariants as groups
+use Rattle.ksv_schema.specs.Keys.{is_in, kind_of, form_among, form_in, is_ignored}
+use Rattle.ksv_schema.specs.KeyTexts.{encoding_named, is_str, is_strz, own_type, is_a, is_to_end}
+use Rattle.ksv_schema.specs.Faults.{missing_key, left_out}
+use Rattle.ksv_schema.specs.Rules.{form_faults, keys_faults}
+use Rattle.ksv_schema.specs.Values.{Home, expression, enumeration, own_enum, encoding_at}
+use Rattle.ksv_schema.specs.Members.{parts, repeat_of, repeated, extent_of, extent, has_encoding, needs, field, own_field, attribute, parse_instance, value_instance, placeless, by_kind}
+use Rattle.ksv_schema.specs.Description.{Context, in_tree, in_extent, in_repeat, in_field, in_kind}
 use Rattle.ksv_schema.proofs.Good.{front, back, implies, there_map, IsGood, gives_good, also_good, chosen_good, made_good, after_good, both_good, weaker, perhaps_good, must_good}
 use Rattle.ksv_schema.proofs.Keys.{text_fits, HasRepeat, has_repeat}
 use Rattle.ksv_schema.proofs.Values.{Leads, any_leads, in_home, IsTree, IsEnumThere, any_enum, expression_good, enumeration_good, HasText, choice_good}

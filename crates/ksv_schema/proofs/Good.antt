@@ -10,8 +10,8 @@ use Rattle.ksv_yaml_tree.specs.Tree.{Pair, text_of, mapping_of}
 use Rattle.ksv_expr_syntax.specs.Reading.{◌>>=◌}
 use Rattle.ksv_desc.specs.Names.{number_in, has_names}
 use Rattle.ksv_desc.specs.Resolved.{Each, IfAny, IsThere}
-use Rattle.ksv_schema_values.specs.Faults.{Fault, fault, fault_if, missing_key, bad_value}
-use Rattle.ksv_schema_values.specs.Reading.{Reading, gives, wrong, found, also, chosen, made, both, after, each, each_from, perhaps, must}
+use Rattle.ksv_schema.specs.Faults.{Fault, fault, fault_if, missing_key, bad_value}
+use Rattle.ksv_schema.specs.Reading.{Reading, gives, wrong, found, also, chosen, made, both, after, each, each_from, perhaps, must}
 
 -- ---- no faults
 

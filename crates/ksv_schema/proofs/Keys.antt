@@ -7,17 +7,17 @@ use Rattle.std.proofs.lemmas.Bool.{not-false}
 use Rattle.std.proofs.lemmas.Slice.Eq.{bytes_eq-Decides}
 use Rattle.ksv_yaml_tree.specs.Tree.{Pair, line_of, text_of, mapping_of, entry_at}
 use Rattle.ksv_yaml_tree.specs.Keys.{entries_at, says, text_at}
-use Rattle.ksv_schema_scope.specs.Rows.{Row, keys_of}
+use Rattle.ksv_schema_names.specs.Rows.{Row, keys_of}
 use Rattle.ksv_schema_names.proofs.Found.{is_bound}
-use Rattle.ksv_schema_keys.specs.declared.keys.Form.{Form}
-use Rattle.ksv_schema_keys.specs.declared.keys.MappingKind.{MappingKind}
-use Rattle.ksv_schema_keys.specs.declared.keys.MappingKind.TheVariants as kinds
-use Rattle.ksv_schema_keys.specs.declared.keys.Group.TheVariants as groups
-use Rattle.ksv_schema_keys.specs.Keys.{is_in, form_in, is_ignored}
-use Rattle.ksv_schema_keys.specs.Values.{TypeText}
-use Rattle.ksv_schema_values.specs.Faults.{Fault, fault, fault_if, missing_key, bad_value}
-use Rattle.ksv_schema_values.specs.Rules.{form_faults, key_faults, keys_faults, missing, Has, Says, Needs, claimed, rule_faults, ruled_faults, together}
-use Rattle.ksv_schema_read.specs.Description.{is_root, meta_faults, type_keys_faults, type_faults}
+use Rattle.ksv_schema.specs.declared.keys.forms.Form.{Form}
+use Rattle.ksv_schema.specs.declared.keys.forms.MappingKind.{MappingKind}
+use Rattle.ksv_schema.specs.declared.keys.forms.MappingKind.TheVariants as kinds
+use Rattle.ksv_schema.specs.declared.keys.forms.Group.TheVariants as groups
+use Rattle.ksv_schema.specs.Keys.{is_in, form_in, is_ignored}
+use Rattle.ksv_schema.specs.KeyTexts.{TypeText}
+use Rattle.ksv_schema.specs.Faults.{Fault, fault, fault_if, missing_key, bad_value}
+use Rattle.ksv_schema.specs.Rules.{form_faults, key_faults, keys_faults, missing, Has, Says, Needs, claimed, rule_faults, ruled_faults, together}
+use Rattle.ksv_schema.specs.Description.{is_root, meta_faults, type_keys_faults, type_faults}
 use Rattle.ksv_schema.proofs.Good.{front, back, not_if, implies}
 
 key_is : (kind : MappingKind) (p : Pair) (form : Form) → is_ignored p.key ≡ false → form_in kind p.key ≡ Some form → key_faults kind p ≡ form_faults p form

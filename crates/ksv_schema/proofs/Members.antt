@@ -7,16 +7,16 @@ use Rattle.std.specs.Str.{bytes_eq, is_utf8}
 use Rattle.std.proofs.lemmas.Bool.{and_parts}
 use Rattle.std.proofs.lemmas.List.{map-append, length-append, append-nil}
 use Rattle.ksv_yaml_tree.specs.Tree.{line_of, mapping_of}
-use Rattle.ksv_schema_scope.specs.Rows.{Row, Declared}
-use Rattle.ksv_schema_scope.specs.Members.{Member, members_of, is_in_params, is_parameter, members_within, parameters_within}
-use Rattle.ksv_schema_scope.specs.Members as scope
+use Rattle.ksv_schema_names.specs.Rows.{Row, Declared}
+use Rattle.ksv_schema_names.specs.Members.{Member, members_of, is_in_params, is_parameter, members_within, parameters_within}
+use Rattle.ksv_schema_names.specs.Members as scope
 use Rattle.ksv_schema_names.specs.Resolved.{Fits}
 use Rattle.ksv_schema_names.proofs.Found.{some_is, place_within}
-use Rattle.ksv_schema_values.specs.Faults.{bad_value}
-use Rattle.ksv_schema_values.specs.Values.{home_of}
-use Rattle.ksv_schema_read.proofs.Texts.{as_text_is}
-use Rattle.ksv_schema_read.specs.Members.{member_keys, member}
-use Rattle.ksv_schema_read.specs.Description.{Context, members, all_members, all_enums, faults_of, names_in, member_names, names_of, each_of, member_of, type_of, types_of, are_texts, described, stated_by}
+use Rattle.ksv_schema.specs.Faults.{bad_value}
+use Rattle.ksv_schema.specs.Values.{home_of}
+use Rattle.ksv_schema.proofs.Texts.{as_text_is}
+use Rattle.ksv_schema.specs.Members.{member_keys, member}
+use Rattle.ksv_schema.specs.Description.{Context, members, all_members, all_enums, faults_of, names_in, member_names, names_of, each_of, member_of, type_of, types_of, are_texts, described, stated_by}
 use Rattle.ksv_desc.specs.Names.{distinct, distinct_behind, number_in, has_names, AreDistinct}
 use Rattle.ksv_desc.specs.Description.{MemberKind, MemberOfType, TypeOfObjects, Enum, Description}
 use Rattle.ksv_desc.specs.Resolved as resolved

@@ -9,19 +9,19 @@ use Rattle.std.proofs.lemmas.Str.Ascii.{IsAscii-nil, IsAscii-from_all}
 use Rattle.std.proofs.DigitsParse.{digits-IsUtf8}
 use Rattle.ksv_yaml_tree.specs.Tree.{Tree, Map, Entries, no_entries, entry, Pair, mapping_of, list_of}
 use Rattle.ksv_yaml_tree.specs.Keys.{entries_in, text_at, entries_at}
-use Rattle.ksv_schema_scope.specs.declared.members.Role.{Role}
-use Rattle.ksv_schema_scope.specs.declared.members.Role.TheVariants.{Parameter, Attribute, Instance}
-use Rattle.ksv_schema_scope.specs.Rows.{Row, keys_of, with_types, with_key, with_named, with_each, root_row, types_of}
-use Rattle.ksv_schema_scope.specs.Members.{Member, unnamed, items_from, instance, members_at_key, members_of}
-use Rattle.ksv_schema_keys.specs.declared.keys.Form.TheVariants as forms
-use Rattle.ksv_schema_keys.specs.declared.keys.MappingKind.{MappingKind}
-use Rattle.ksv_schema_keys.specs.declared.keys.MappingKind.TheVariants as kinds
-use Rattle.ksv_schema_keys.specs.Keys.{kind_of, form_among, form_in, is_ignored, is_id}
-use Rattle.ksv_schema_keys.proofs.Paths.{id_is_utf8}
-use Rattle.ksv_schema_values.specs.Faults.{bad_value}
-use Rattle.ksv_schema_values.specs.Rules.{form_faults, keys_faults}
-use Rattle.ksv_schema_read.specs.Members.{is_instance}
-use Rattle.ksv_schema_read.specs.Description.{type_faults, all_types_faults}
+use Rattle.ksv_schema_names.specs.declared.members.Role.{Role}
+use Rattle.ksv_schema_names.specs.declared.members.Role.TheVariants.{Parameter, Attribute, Instance}
+use Rattle.ksv_schema_names.specs.Rows.{Row, keys_of, with_types, with_key, with_named, with_each, root_row, types_of}
+use Rattle.ksv_schema_names.specs.Members.{Member, unnamed, items_from, instance, members_at_key, members_of}
+use Rattle.ksv_schema.specs.declared.keys.forms.Form.TheVariants as forms
+use Rattle.ksv_schema.specs.declared.keys.forms.MappingKind.{MappingKind}
+use Rattle.ksv_schema.specs.declared.keys.forms.MappingKind.TheVariants as kinds
+use Rattle.ksv_schema.specs.Keys.{kind_of, form_among, form_in, is_ignored, is_id}
+use Rattle.ksv_schema.proofs.Paths.{id_is_utf8}
+use Rattle.ksv_schema.specs.Faults.{bad_value}
+use Rattle.ksv_schema.specs.Rules.{form_faults, keys_faults}
+use Rattle.ksv_schema.specs.Members.{is_instance}
+use Rattle.ksv_schema.specs.Description.{type_faults, all_types_faults}
 use Rattle.ksv_desc.specs.Resolved.{Each}
 use Rattle.ksv_schema.proofs.Good.{front, back, not_if, each_and, each_mapped}
 use Rattle.ksv_schema.proofs.Keys.{text_fits, meta_faultless}

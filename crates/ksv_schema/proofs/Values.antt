@@ -6,9 +6,9 @@ use Rattle.std.proofs.lemmas.Bool.Decides.{Decides-eqb}
 use Rattle.ksv_yaml_tree.specs.Tree.{Tree, Pair, line_of, text_of, is_quoted, mapping_of, list_of, entry_at}
 use Rattle.ksv_expr_tree.specs.Tree as expressions
 use Rattle.ksv_expr_value.specs.declared.encoding.Encoding.{Encoding}
-use Rattle.ksv_schema_scope.specs.Rows.{Row, row_in}
-use Rattle.ksv_schema_scope.specs.Types.{type_named, enum_behind, enum_from}
-use Rattle.ksv_schema_scope.specs.Members.{parameters_within}
+use Rattle.ksv_schema_names.specs.Rows.{Row, row_in}
+use Rattle.ksv_schema_names.specs.Types.{type_named, enum_behind, enum_from}
+use Rattle.ksv_schema_names.specs.Members.{parameters_within}
 use Rattle.ksv_schema_names.specs.declared.position.Site.{Site}
 use Rattle.ksv_schema_names.specs.declared.position.Site.TheVariants as sites
 use Rattle.ksv_schema_names.specs.declared.position.NameFault.{NameFault}
@@ -22,12 +22,12 @@ use Rattle.ksv_schema_names.proofs.Found.{is_bound, row_within, nearest_within, 
 use Rattle.ksv_schema_names.proofs.Resolving.{given_leads, resolved, all_resolved}
 use Rattle.ksv_desc.specs.Description.{Description, Content, Number, Characters, Object, EnumValue, Choice, Always, Switch}
 use Rattle.ksv_desc.specs.Resolved.{count, Each, IfAny, IsThere, IsEnum, IsResolvedTree, AreResolvedTrees, IsResolvedContent, IsResolvedValue, IsResolvedCase, IsResolvedChoice}
-use Rattle.ksv_schema_keys.specs.Expressions.{expression_of}
-use Rattle.ksv_schema_keys.specs.Values.{TypeText, Unspelled, OfLanguage, OfDescription, type_text, is_str, is_strz, looks_like_number, Piece, Bytes as BytesPiece, BadPiece, LeftOutPiece, piece_of, CaseKey, Constant, Negative, Member, Default, NoKey, case_key, ids_of}
-use Rattle.ksv_schema_values.specs.Faults.{fault_if, unknown_name, no_byte_order, bad_value, wrong_count, left_out, no_expression}
-use Rattle.ksv_schema_values.specs.Reading.{each}
-use Rattle.ksv_schema_values.specs.Values.{Home, position_at, name_fault, least_name, of_expression, expression, arguments, of_path, enumeration, of_piece, item, items, contents, order_at, encoding_at, of_language, counts_differ, of_type, of_case_key, case_value, case_against, case, switch, typed, content_or_type, choice}
-use Rattle.ksv_schema_read.specs.Description.{Context, in_tree, in_content, in_case, in_choice}
+use Rattle.ksv_schema.specs.Expressions.{expression_of}
+use Rattle.ksv_schema.specs.KeyTexts.{TypeText, Unspelled, OfLanguage, OfDescription, type_text, is_str, is_strz, looks_like_number, Piece, Bytes as BytesPiece, BadPiece, LeftOutPiece, piece_of, CaseKey, Constant, Negative, Member, Default, NoKey, case_key, ids_of}
+use Rattle.ksv_schema.specs.Faults.{fault_if, unknown_name, no_byte_order, bad_value, wrong_count, left_out, no_expression}
+use Rattle.ksv_schema.specs.Reading.{each}
+use Rattle.ksv_schema.specs.Values.{Home, position_at, name_fault, least_name, of_expression, expression, arguments, of_path, enumeration, of_piece, item, items, contents, order_at, encoding_at, of_language, counts_differ, of_type, of_case_key, case_value, case_against, case, switch, typed, content_or_type, choice}
+use Rattle.ksv_schema.specs.Description.{Context, in_tree, in_content, in_case, in_choice}
 use Rattle.ksv_schema.proofs.Good.{front, not_if, IsGood, gives_good, wrong_good, found_good, also_good, made_good, both_good, if_good, or_good, perhaps_good, must_good, weaker, text_good, mapping_good, EachOf, each_good}
 
 -- ---- what leads somewhere

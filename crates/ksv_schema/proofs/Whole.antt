@@ -10,18 +10,18 @@ use Rattle.ksv_yaml_tree.specs.declared.numeral.Numeral.{Numeral}
 use Rattle.ksv_yaml_tree.specs.declared.numeral.Numeral.TheVariants.{Whole, LeadingZero, NoNumeral}
 use Rattle.ksv_yaml_tree.specs.Numerals.{signed_number}
 use Rattle.ksv_yaml_tree.specs.Keys.{text_at, entries_at}
-use Rattle.ksv_schema_scope.specs.Rows.{Row, keys_of, Declared}
-use Rattle.ksv_schema_scope.specs.Types.{keys_at, setting, encoding_of}
-use Rattle.ksv_schema_scope.specs.Enums.{whole_of, number_of, is_named, number_of_id}
+use Rattle.ksv_schema_names.specs.Rows.{Row, keys_of, Declared}
+use Rattle.ksv_schema_names.specs.Types.{keys_at, setting, encoding_of}
+use Rattle.ksv_schema_names.specs.Enums.{whole_of, number_of, is_named, number_of_id}
 use Rattle.ksv_schema_names.specs.Numbered.{enum_member}
 use Rattle.ksv_schema_names.proofs.Found.{is_bound}
-use Rattle.ksv_schema_keys.specs.declared.keys.Form.TheVariants as forms
-use Rattle.ksv_schema_keys.specs.declared.keys.MappingKind.TheVariants as kinds
-use Rattle.ksv_schema_keys.specs.Keys.{form_among, form_in, is_ignored, is_id}
-use Rattle.ksv_schema_keys.specs.Values.{encoding_named}
-use Rattle.ksv_schema_values.specs.Faults.{bad_value, left_out}
-use Rattle.ksv_schema_values.specs.Rules.{form_faults}
-use Rattle.ksv_schema_read.specs.Description.{whole, id_text, id, entry_id, constant, enum, is_root, type_faults, all_types_faults, all_enums}
+use Rattle.ksv_schema.specs.declared.keys.forms.Form.TheVariants as forms
+use Rattle.ksv_schema.specs.declared.keys.forms.MappingKind.TheVariants as kinds
+use Rattle.ksv_schema.specs.Keys.{form_among, form_in, is_ignored, is_id}
+use Rattle.ksv_schema.specs.KeyTexts.{encoding_named}
+use Rattle.ksv_schema.specs.Faults.{bad_value, left_out}
+use Rattle.ksv_schema.specs.Rules.{form_faults}
+use Rattle.ksv_schema.specs.Description.{whole, id_text, id, entry_id, constant, enum, is_root, type_faults, all_types_faults, all_enums}
 use Rattle.ksv_desc.specs.Names.{distinct_behind}
 use Rattle.ksv_desc.specs.Description.{Description, Numbered, Enum}
 use Rattle.ksv_desc.specs.Resolved.{IsThere, IsMemberOf}

@@ -1,8 +1,8 @@
 -- What the loader makes of a tree: a description, or the least of its faults.
 use Rattle.std.specs.Prelude.{◌≡◌, [], Some}
 use Rattle.ksv_yaml_tree.specs.Tree.{Tree}
-use Rattle.ksv_schema_values.specs.Faults.{Fault, IsLeast}
-use Rattle.ksv_schema_read.specs.Description.{faults, stated}
+use Rattle.ksv_schema.specs.Faults.{Fault, IsLeast}
+use Rattle.ksv_schema.specs.Description.{faults, stated}
 use Rattle.ksv_desc.specs.Description.{Description}
 
 -- a tree without a fault states this description

@@ -2,15 +2,15 @@
 
 ghost use Rattle.std.specs.Prelude.{◌≡◌, ◌≢◌, IfOk, IfErr};
 ghost use Rattle.ksv_yaml_tree.specs.View.{view};
-ghost use Rattle.ksv_schema_values.specs.Code.{plain};
+ghost use Rattle.ksv_schema.specs.Code.{plain};
 ghost use Rattle.ksv_schema.specs.Outcome.{States, Refuses};
 ghost use Rattle.ksv_desc.specs.Whole.{plain_pieces};
-ghost use Rattle.ksv_schema_values.specs.declared.fault.DescFaultKind.TheVariants.{NoMemory};
+ghost use Rattle.ksv_schema.specs.declared.values.fault.DescFaultKind.TheVariants.{NoMemory};
 
+use crate::members::description::read;
+use crate::values::fault::{DescFault, DescFaultKind};
 use ksv_desc::Desc;
-use ksv_schema_read::read;
-use ksv_schema_scope::Scopes;
-use ksv_schema_values::{DescFault, DescFaultKind};
+use ksv_schema_names::Scopes;
 use ksv_yaml_tree::Yaml;
 use std::alloc::{AllocError, Global};
 

@@ -2,8 +2,8 @@
 
 ghost use Rattle.std.specs.Prelude.{◌≡◌, ◌≢◌, []};
 ghost use Rattle.ksv_yaml_tree.specs.Tree.{Tree as Yaml};
-ghost use Rattle.ksv_schema_values.specs.Faults.{Fault};
-ghost use Rattle.ksv_schema_read.specs.Description.{faults};
+ghost use Rattle.ksv_schema.specs.Faults.{Fault};
+ghost use Rattle.ksv_schema.specs.Description.{faults};
 ghost use Rattle.ksv_desc.specs.Description.{Description};
 ghost use Rattle.ksv_desc.specs.Resolved.{IsResolved};
 ghost use Rattle.ksv_schema.specs.Outcome.{States, Refuses};

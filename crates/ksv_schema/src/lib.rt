@@ -1,15 +1,20 @@
 //! Descriptions: what the tree of a description states, with all names resolved, or the least of its faults.
 //!
-//! Which keys a mapping may have and what their values mean is defined in ksv_schema_keys, what is read at a key in
-//! ksv_schema_values, and in ksv_schema_read which faults a tree has and which description a tree without faults states.
-//! `specs/Outcome` puts them together.
+//! Each form of value has one definition, its reading (`specs/Reading`): the faults there, the names after dots in its
+//! expressions, and the value. Three folders hold what is read, from small to large: `keys` (which keys each mapping may
+//! have, and what the texts at them mean), `values` (what is read at a key, by the form of its value) and `members` (what is
+//! read of members, types and enums). `specs/Outcome` puts them together: [`load`] answers the description, or the least
+//! fault.
 #![tactic(auto)]
 
 mod description;
+mod keys;
 mod laws;
+mod members;
+mod values;
 
 pub use description::load;
+pub use keys::spelling::texts_are_spelled;
 pub use ksv_desc::Desc;
-pub use ksv_schema_keys::texts_are_spelled;
-pub use ksv_schema_values::{DescFault, DescFaultKind};
 pub use laws::{descriptions_are_resolved, faultless_trees_state, faulty_trees_are_refused};
+pub use values::fault::{DescFault, DescFaultKind};

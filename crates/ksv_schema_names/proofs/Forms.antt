@@ -12,8 +12,8 @@ use Rattle.ksv_expr_tree.specs.declared.tree.UnaryOperator.{UnaryOperator}
 use Rattle.ksv_expr_tree.specs.declared.tree.BinaryOperator.{BinaryOperator}
 use Rattle.ksv_expr_tree.specs.declared.tree.LogicalOperator.{LogicalOperator}
 use Rattle.ksv_expr_tree.specs.Tree.{Tree, view, path_of, member_of, arguments_of}
-use Rattle.ksv_schema_scope.specs.Rows.{Declared}
-use Rattle.ksv_schema_scope.specs.Members.{member_named}
+use Rattle.ksv_schema_names.specs.Rows.{Declared}
+use Rattle.ksv_schema_names.specs.Members.{member_named}
 use Rattle.ksv_schema_names.specs.declared.position.NameFault.{NameFault}
 use Rattle.ksv_schema_names.specs.declared.position.NameFault.TheVariants.{Unknown}
 use Rattle.ksv_schema_names.specs.declared.position.Position.{Position}

@@ -6,8 +6,8 @@ use Rattle.std.specs.Str.{bytes_eq}
 use Rattle.std.proofs.lemmas.Bool.{and_parts}
 use Rattle.std.proofs.lemmas.Option.{slice_get_within}
 use Rattle.std.proofs.lemmas.Slice.Eq.{bytes_eq-Decides}
-use Rattle.ksv_schema_scope.specs.Rows.{Row, is_within, row_in}
-use Rattle.ksv_schema_scope.specs.Types.{nearest_row, root_named, type_along, type_named}
+use Rattle.ksv_schema_names.specs.Rows.{Row, is_within, row_in}
+use Rattle.ksv_schema_names.specs.Types.{nearest_row, root_named, type_along, type_named}
 
 -- ---- options and lists
 

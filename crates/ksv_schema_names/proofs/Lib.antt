@@ -1,4 +1,7 @@
+-- Lemmas.
 -- Lemmas by subject.
+pub mod Weight
+pub mod Lookup
 pub mod Noted
 pub mod Forms
 pub mod Numbers

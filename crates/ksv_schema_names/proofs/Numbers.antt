@@ -14,7 +14,7 @@ use Rattle.ksv_expr_tree.specs.declared.tree.BinaryOperator.{BinaryOperator}
 use Rattle.ksv_expr_tree.specs.declared.tree.LogicalOperator.{LogicalOperator}
 use Rattle.ksv_expr_tree.specs.declared.tree.EnumMember.{EnumMember}
 use Rattle.ksv_expr_tree.specs.Tree.{Tree, MemberPath, view, name_of, path_of, member_of, arguments_of, argument, named, member, unary, binary, logical, choice, field, special_field, call, index, cast}
-use Rattle.ksv_schema_scope.specs.Rows.{Declared}
+use Rattle.ksv_schema_names.specs.Rows.{Declared}
 use Rattle.ksv_schema_names.specs.Numbered.{numbered, all_numbered, numbered_word, numbered_type, numbered_member, given_member}
 use Rattle.ksv_desc.proofs.Views.{view_literal, view_name, view_special, view_member, view_unary, view_binary, view_logical, view_choice, view_field, view_special_field, view_call, view_index, view_cast}
 

@@ -7,10 +7,10 @@ use Rattle.std.specs.Str.{bytes_eq}
 use Rattle.std.proofs.lemmas.Bool.{and_parts}
 use Rattle.std.proofs.lemmas.List.Folds.{list_all-append}
 use Rattle.ksv_expr_tree.specs.Tree.{Tree, literal, named, special, member, unary, binary, logical, choice, field, special_field, call, index, cast, Arguments, no_arguments, argument, Word, MemberPath, TypePath}
-use Rattle.ksv_schema_scope.specs.Members.{Member, members_of, all_members, members_within, member_named}
-use Rattle.ksv_schema_scope.specs.Types.{type_named}
-use Rattle.ksv_schema_scope.specs.Enums.{number_of_id}
-use Rattle.ksv_schema_scope.specs.Rows.{Row, Declared}
+use Rattle.ksv_schema_names.specs.Members.{Member, members_of, all_members, members_within, member_named}
+use Rattle.ksv_schema_names.specs.Types.{type_named}
+use Rattle.ksv_schema_names.specs.Enums.{number_of_id}
+use Rattle.ksv_schema_names.specs.Rows.{Row, Declared}
 use Rattle.ksv_schema_names.specs.declared.position.NameFault.{NameFault}
 use Rattle.ksv_schema_names.specs.declared.position.NameFault.TheVariants.{Unknown, LeftOut}
 use Rattle.ksv_schema_names.specs.declared.position.Position.{Position}

@@ -5,7 +5,7 @@ use Rattle.std.specs.Char.{is_ascii_digit}
 use Rattle.std.specs.Str.{bytes_eq}
 use Rattle.std.specs.Str.Parse.{digits_value}
 use Rattle.ksv_desc.specs.declared.order.ByteOrder.{ByteOrder}
-use Rattle.ksv_schema_scope.specs.Types.{order_named}
+use Rattle.ksv_schema_names.specs.Types.{order_named}
 pub use Rattle.ksv_schema_names.specs.declared.built_ins.BuiltIn.{BuiltIn}
 pub use Rattle.ksv_schema_names.specs.declared.built_ins.BuiltIn.TheVariants.{Integer, Str, Strz, NotHere}
 

@@ -2,7 +2,7 @@
 use Rattle.std.specs.Prelude.{ℕ, List}
 use Rattle.ksv_expr_tree.specs.declared.tree.Expr.{Expr}
 use Rattle.ksv_expr_tree.specs.Tree.{view}
-use Rattle.ksv_schema_scope.specs.Rows.{Declared}
+use Rattle.ksv_schema_names.specs.Rows.{Declared}
 use Rattle.ksv_schema_names.specs.declared.faults.Behind.{Behind as Seen}
 use Rattle.ksv_schema_names.specs.declared.faults.Behind.TheVariants as seen
 use Rattle.ksv_schema_names.specs.declared.position.NameFault.{NameFault}

@@ -8,10 +8,10 @@ use Rattle.std.specs.Str.{bytes_eq}
 use Rattle.ksv_expr_tree.specs.declared.tree.SpecialName.{SpecialName}
 use Rattle.ksv_expr_tree.specs.declared.tree.SpecialName.TheVariants as specials
 use Rattle.ksv_expr_tree.specs.Tree.{Tree, literal, named, special, member, unary, binary, logical, choice, field, special_field, call, index, cast, Arguments, no_arguments, argument, MemberPath, TypePath}
-use Rattle.ksv_schema_scope.specs.Types.{type_named, enum_from}
-use Rattle.ksv_schema_scope.specs.Members.{member_named}
-use Rattle.ksv_schema_scope.specs.Enums.{number_of_id}
-use Rattle.ksv_schema_scope.specs.Rows.{Declared}
+use Rattle.ksv_schema_names.specs.Types.{type_named, enum_from}
+use Rattle.ksv_schema_names.specs.Members.{member_named}
+use Rattle.ksv_schema_names.specs.Enums.{number_of_id}
+use Rattle.ksv_schema_names.specs.Rows.{Declared}
 use Rattle.ksv_desc.specs.Resolved.{count}
 use Rattle.ksv_schema_names.specs.declared.position.Site.{Site}
 use Rattle.ksv_schema_names.specs.declared.position.Site.TheVariants as sites

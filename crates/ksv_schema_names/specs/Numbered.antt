@@ -5,9 +5,9 @@
 use Rattle.std.specs.Prelude.{ℕ, ℤ, List, Option, option_and_then, option_map}
 use Rattle.ksv_expr_tree.specs.declared.tree.EnumMember.{EnumMember}
 use Rattle.ksv_expr_tree.specs.Tree.{Tree, literal, named, special, member, unary, binary, logical, choice, field, special_field, call, index, cast, Arguments, no_arguments, argument, Word, MemberPath, TypePath}
-use Rattle.ksv_schema_scope.specs.Types.{type_named}
-use Rattle.ksv_schema_scope.specs.Enums.{number_of_id}
-use Rattle.ksv_schema_scope.specs.Rows.{Declared}
+use Rattle.ksv_schema_names.specs.Types.{type_named}
+use Rattle.ksv_schema_names.specs.Enums.{number_of_id}
+use Rattle.ksv_schema_names.specs.Rows.{Declared}
 use Rattle.ksv_desc.specs.Names.{number_in}
 use Rattle.ksv_schema_names.specs.Names.{enum_at}
 

@@ -2,9 +2,9 @@
 use Rattle.std.specs.Prelude.{◌≡◌, ℕ, ◌<◌, Bool, true, false, if◌then◌else◌, IsTrue, ℤ, List, [], ◌∷◌, map, length, Option, Some, None}
 use Rattle.std.specs.List.{list_any}
 use Rattle.ksv_expr_tree.specs.Tree.{Tree, Arguments}
-use Rattle.ksv_schema_scope.specs.Members.{all_members, parameters_within}
-use Rattle.ksv_schema_scope.specs.Enums.{number_of_id}
-use Rattle.ksv_schema_scope.specs.Rows.{Declared}
+use Rattle.ksv_schema_names.specs.Members.{all_members, parameters_within}
+use Rattle.ksv_schema_names.specs.Enums.{number_of_id}
+use Rattle.ksv_schema_names.specs.Rows.{Declared}
 use Rattle.ksv_schema_names.specs.declared.position.NameFault.{NameFault}
 use Rattle.ksv_schema_names.specs.declared.position.NameFault.TheVariants.{Unknown, LeftOut}
 use Rattle.ksv_schema_names.specs.declared.position.Position.{Position}

@@ -3,7 +3,8 @@
 ghost use Rattle.std.specs.Prelude.{◌≡◌, map, string_bytes};
 ghost use Rattle.ksv_schema_names.specs.BuiltIn.{has_size, of_kind, order_suffix, number_type, is_width, before_order, is_bits, built_in, built_in_at};
 
-use ksv_schema_scope::{ByteOrder, order_named};
+use crate::outwards::order_named;
+use ksv_desc::ByteOrder;
 
 /// A type of the language.
 #[derive(Clone, Copy, Debug)]

@@ -2,14 +2,14 @@
 
 ghost use Rattle.std.specs.Prelude.{◌≡◌, None, map, string_bytes};
 ghost use Rattle.ksv_expr_tree.specs.Tree.{view, path_of, member_of, arguments_of};
-ghost use Rattle.ksv_schema_scope.specs.Table.{declared};
+ghost use Rattle.ksv_schema_names.specs.Table.{declared};
 ghost use Rattle.ksv_schema_names.specs.Names.{has_place, is_own_stream_fit, is_stream_fit, special_faults, special_field_faults, is_member, cast_faults, is_call, part_faults, list_faults, name_faults, wrong_if, lesser, least};
 ghost use Rattle.ksv_schema_names.specs.Code.{behind_of, faults_at};
 
 use crate::built_ins::built_in_at;
 use crate::position::{NameFault, Position, Site};
+use crate::scopes::Scopes;
 use ksv_expr_tree::{Expr, Member, SpecialName, TypeName};
-use ksv_schema_scope::Scopes;
 
 /// What follows a part of an expression.
 #[derive(Clone, Copy)]

@@ -2,12 +2,12 @@
 
 ghost use Rattle.std.specs.Prelude.{◌≡◌, map};
 ghost use Rattle.ksv_expr_tree.specs.Tree.{view, view_type, name_of, path_of, member_of, arguments_of};
-ghost use Rattle.ksv_schema_scope.specs.Table.{declared};
+ghost use Rattle.ksv_schema_names.specs.Table.{declared};
 ghost use Rattle.ksv_schema_names.specs.Numbered.{numbered, all_numbered, numbered_word, numbered_type, numbered_member, given_member};
 
+use crate::scopes::Scopes;
 use ksv_desc::Names;
 use ksv_expr_tree::{EnumMember, Expr, Member, Name, TypeName};
-use ksv_schema_scope::Scopes;
 
 /// What the path of an enum's member means, where it is used in the type `within`.
 #[tactic(auto, unfolding(crate::specs::Numbered::given_member, crate::specs::Names::enum_at))]

@@ -12,9 +12,9 @@ use Rattle.ksv_bytes.specs.declared.edit.EditRefusal.{EditRefusal}
 use Rattle.ksv_desc.specs.declared.pieces.Pieces.{Pieces}
 use Rattle.ksv_desc.specs.Description.{Description}
 use Rattle.ksv_desc.specs.Whole.{plain_pieces}
-use Rattle.ksv_kept.specs.Completed.{meets_circle}
-use Rattle.ksv_kept.specs.Kept.{all_completed, calls, kept_after, kept_with, turns_of}
-use Rattle.ksv_kept.proofs.Completing.{answered_direct, cost_is_direct, done_direct, touch_direct}
+use Rattle.ksv_rule_meaning.specs.Completed.{meets_circle}
+use Rattle.ksv_rule_meaning.specs.Kept.{all_completed, calls, kept_after, kept_with, turns_of}
+use Rattle.ksv_rule_meaning.proofs.Completing.{answered_direct, cost_is_direct, done_direct, touch_direct}
 use Rattle.ksv_memo_rules.specs.Entry.{Entry, Memo}
 use Rattle.ksv_memo_rules.specs.Evaluation.{IsAnswered, done, is_among, tells}
 use Rattle.ksv_memo_rules.specs.Meaning.{IsSettled, Standing}

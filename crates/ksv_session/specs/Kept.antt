@@ -7,7 +7,7 @@ use Rattle.ksv_bytes.specs.declared.edit.EditRefusal.{EditRefusal}
 use Rattle.ksv_bytes.specs.declared.uses.Change.{Change}
 use Rattle.ksv_bytes.specs.declared.uses.Change.TheVariants as changes
 use Rattle.ksv_desc.specs.Description.{Description}
-use Rattle.ksv_kept.specs.Kept.{kept_after, kept_with, turns_of}
+use Rattle.ksv_rule_meaning.specs.Kept.{kept_after, kept_with, turns_of}
 use Rattle.ksv_memo_rules.specs.Evaluation.{is_among}
 use Rattle.ksv_nodes.specs.Numbers.{node_number}
 use Rattle.ksv_nodes.specs.declared.node.Node.{Node}

@@ -1,7 +1,7 @@
 -- Plain numbers: decimal, or hexadecimal after `0x`; where a sign is allowed, `-` before a decimal.
 use Rattle.std.specs.Prelude.{ℕ, ◌^◌, ◌-◌, nat_lt, nat_le, ◌==◌, ◌&&◌, if◌then◌else◌, pos, neg_ℤ, List, [], ◌∷◌, length, drop, slice_index}
 use Rattle.std.specs.Str.Parse.{digits_value}
-use Rattle.ksv_numerals.specs.Numerals.{is_numeral}
+use Rattle.ksv_basics.specs.Numerals.{is_numeral}
 use Rattle.ksv_yaml_tree.specs.declared.numeral.Numeral.{Numeral}
 use Rattle.ksv_yaml_tree.specs.declared.numeral.Numeral.TheVariants.{Whole, LeadingZero, NoNumeral}
 

@@ -3,7 +3,7 @@
 ghost use Rattle.std.specs.Prelude.{◌≡◌, slice_index, length, nat_lt, ◌==◌, ◌&&◌};
 ghost use Rattle.ksv_yaml_tree.specs.Numerals.{decimal_to, hexadecimal_to, opposite, plain_number, signed_number};
 
-use ksv_numerals::numeral;
+use ksv_basics::numeral;
 
 /// What a text means where a plain number is wanted.
 #[derive(Clone, Copy, Debug)]

@@ -4,7 +4,7 @@ use Rattle.std.proofs.lemmas.Result.{err_from_is_err_and}
 use Rattle.serde_json.specs.Data.{no_members, put}
 use Rattle.serde_json.specs.View.{members_view, view}
 use Rattle.serde_json.specs.declared.value.Value.{Array, Object}
-use Rattle.ksv_plan.specs.Plan.{bind}
+use Rattle.ksv_basics.specs.Plan.{bind}
 use Rattle.ksv_desc.specs.Description.{fields, name}
 use Rattle.ksv_desc.specs.Whole.{plain_pieces}
 use Rattle.ksv_expr_value.specs.Trail.{child}

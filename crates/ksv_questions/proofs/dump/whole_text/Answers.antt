@@ -2,7 +2,7 @@ use Rattle.std.proofs.Common.{◌-◌, String, Global, string_bytes}
 use Rattle.std.proofs.lemmas.Result.{err_from_is_err_and}
 use Rattle.ksv_desc.specs.Whole.{plain_pieces}
 use Rattle.serde_json.specs.Written.{compact_text}
-use Rattle.ksv_plan.specs.Plan.{Answer}
+use Rattle.ksv_basics.specs.Plan.{Answer}
 use Rattle.ksv_questions.specs.Code.{dumped}
 use Rattle.ksv_questions.specs.Dumps.{Part, depth_limit, part, part_limit, value_part, whole_text}
 use Rattle.ksv_questions.proofs.Exact.{whole_exact}

@@ -1,6 +1,6 @@
 use Rattle.std.proofs.lemmas.Result.{err_from_is_err_and}
 use Rattle.ksv_desc.specs.Whole.{plain_pieces}
-use Rattle.ksv_plan.specs.Plan.{Answer}
+use Rattle.ksv_basics.specs.Plan.{Answer}
 use Rattle.ksv_nodes.specs.Rule.{head_node}
 use Rattle.ksv_questions.specs.Asking.{hear}
 use Rattle.ksv_questions.specs.Code.{found_of}

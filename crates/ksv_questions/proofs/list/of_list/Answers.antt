@@ -1,7 +1,7 @@
 use Rattle.std.proofs.Common.{String, Global, string_bytes}
 use Rattle.std.proofs.lemmas.Result.{err_from_is_err_and}
 use Rattle.ksv_desc.specs.Whole.{plain_pieces}
-use Rattle.ksv_plan.specs.Plan.{Answer}
+use Rattle.ksv_basics.specs.Plan.{Answer}
 use Rattle.ksv_expr_value.specs.Trail.{child}
 use Rattle.ksv_expr_value.specs.declared.step.Step.TheVariants.{Index}
 use Rattle.ksv_questions.specs.Questions.{first_asked, list_text, of_list}

@@ -1,7 +1,7 @@
 use Rattle.std.proofs.Common.{String, Global, string_bytes, codes, decimal, ◌++◌}
 use Rattle.std.proofs.lemmas.Result.{err_from_is_err_and}
 use Rattle.ksv_desc.specs.Whole.{plain_pieces}
-use Rattle.ksv_plan.specs.Plan.{Answer}
+use Rattle.ksv_basics.specs.Plan.{Answer}
 use Rattle.ksv_questions.specs.Questions.{ask_end, from_place}
 use Rattle.ksv_questions.proofs.Steps.{runs_ended, runs_failed}
 use Rattle.ksv_questions.proofs.place.from_place.Goals as goal

@@ -1,5 +1,5 @@
 use Rattle.std.proofs.Common.{◌∙◌, Global, Ok, String, ap, string_bytes, sym}
-use Rattle.ksv_plan.specs.Plan.{Answer}
+use Rattle.ksv_basics.specs.Plan.{Answer}
 use Rattle.ksv_desc.specs.Whole.{plain_pieces}
 use Rattle.ksv_questions.specs.Questions.{of_head}
 use Rattle.ksv_questions.proofs.Steps.{runs_settled}

@@ -1,7 +1,7 @@
 -- Each form by its own equation; arguments are noted one after the other, and a call's parts likewise.
 use Rattle.std.proofs.Common.{◌∙◌, sym, ap, arith}
 use Rattle.ksv_expr_tree.specs.Tree.{view}
-use Rattle.ksv_schema_scope.specs.Table.{declared}
+use Rattle.ksv_schema_names.specs.Table.{declared}
 use Rattle.ksv_schema_names.specs.Names.{Other, part_faults, least}
 use Rattle.ksv_schema_names.specs.Code.{behind_of, faults_at}
 use Rattle.ksv_schema_names.proofs.Noted.{least_step, least_end, steps}

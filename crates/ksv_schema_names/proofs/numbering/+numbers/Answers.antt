@@ -2,7 +2,7 @@
 use Rattle.std.proofs.Common.{arith}
 use Rattle.ksv_expr_tree.specs.declared.tree.Expr as opened
 use Rattle.ksv_expr_tree.specs.Tree.{name_of, path_of, member_of}
-use Rattle.ksv_schema_scope.specs.Table.{declared}
+use Rattle.ksv_schema_names.specs.Table.{declared}
 use Rattle.ksv_schema_names.specs.Numbered.{numbered_word, numbered_type, numbered_member}
 use Rattle.ksv_schema_names.proofs.Numbers.{part, piece, literal_numbered, name_numbered, special_numbered, member_numbered, unary_numbered, binary_numbered, logical_numbered, choice_numbered, field_numbered, special_field_numbered, call_numbered, index_numbered, cast_numbered, each_numbered, refilled}
 use Rattle.ksv_schema_names.proofs.numbering.+numbers.Goals as goal

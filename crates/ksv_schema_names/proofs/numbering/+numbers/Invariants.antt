@@ -1,7 +1,7 @@
 use Rattle.std.proofs.Common.{◌≡◌, ℕ, ◌<◌, get_or}
 use Rattle.ksv_expr_tree.specs.declared.tree.Expr.{Expr}
 use Rattle.ksv_expr_tree.specs.Tree.{view}
-use Rattle.ksv_schema_scope.specs.Table.{declared}
+use Rattle.ksv_schema_names.specs.Table.{declared}
 use Rattle.ksv_schema_names.specs.Numbered.{numbered}
 use Rattle.ksv_schema_names.proofs.numbering.+numbers.Given as goal
 

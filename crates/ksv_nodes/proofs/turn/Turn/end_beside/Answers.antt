@@ -1,5 +1,5 @@
 use Rattle.std.proofs.Common.{◌≡◌, ◌∙◌, sym, ap}
-use Rattle.ksv_plan.specs.Plan.{Done, run}
+use Rattle.ksv_basics.specs.Plan.{Done, run}
 use Rattle.ksv_expr_value.specs.Trail.{Trail, parent}
 use Rattle.ksv_memo_rules.specs.Slots.{lent}
 use Rattle.ksv_nodes.specs.Rule.{in_end, part}

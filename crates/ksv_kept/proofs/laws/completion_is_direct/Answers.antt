@@ -1,5 +1,0 @@
-use Rattle.ksv_kept.proofs.Completing.{completion_is_direct}
-use Rattle.ksv_kept.proofs.laws.completion_is_direct.Goals as goal
-
-pub returns : goal.returns
-returns c = completion_is_direct

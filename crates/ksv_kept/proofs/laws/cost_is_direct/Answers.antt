@@ -1,5 +1,0 @@
-use Rattle.ksv_kept.proofs.Completing.{cost_is_direct}
-use Rattle.ksv_kept.proofs.laws.cost_is_direct.Goals as goal
-
-pub returns : goal.returns
-returns c = cost_is_direct

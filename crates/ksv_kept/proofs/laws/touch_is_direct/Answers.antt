@@ -1,5 +1,0 @@
-use Rattle.ksv_kept.proofs.Completing.{touch_is_direct}
-use Rattle.ksv_kept.proofs.laws.touch_is_direct.Goals as goal
-
-pub returns : goal.returns
-returns c = touch_is_direct

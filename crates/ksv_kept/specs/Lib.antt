@@ -1,4 +1,0 @@
--- The definitions of what is kept.
-pub mod Completed
-pub mod Kept
-pub mod Laws

@@ -1,7 +1,0 @@
-use Rattle.ksv_memo_rules.specs.Meaning.{on}
-use Rattle.ksv_memo_rules.specs.Right.{IsRight}
-use Rattle.ksv_memo_samples.specs.Rows.{rows_meaning}
-use Rattle.ksv_memo_calls.proofs.engine.fills_slots_again.Given as goal
-
-abbrev pub invariant-loop : goal.invariant-loop
-invariant-loop l = IsRight (on (rows_meaning l.rules.rows.items) l.bytes) l.engine.kept

@@ -1,6 +1,0 @@
-use Rattle.std.proofs.Common.{arith}
-use Rattle.ksv_numerals.proofs.Worth.{digits_more, number_more}
-use Rattle.ksv_numerals.proofs.digits.numeral.Goals as goal
-
-pub loop-digit-preserved : goal.loop-digit-preserved
-loop-digit-preserved c = record { digits = grind (arith, digits_more); number = grind (arith, number_more) }

@@ -1,4 +1,0 @@
--- The lemmas on plans.
-pub mod Running
-pub mod Bounds
-pub mod Truth

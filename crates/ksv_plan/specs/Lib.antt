@@ -1,3 +1,0 @@
--- The definitions of plans.
-pub mod Plan
-pub mod Asking

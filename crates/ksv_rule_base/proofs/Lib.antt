@@ -1,4 +1,0 @@
--- The lemmas of this crate.
-pub mod Evaluating
-pub mod Parameters
-pub mod Naming

@@ -1,3 +1,0 @@
--- The lemmas of this crate.
-pub mod Peeked
-pub mod Arguments

@@ -1,0 +1,7 @@
+-- The lemmas of this crate.
+-- The lemmas of this crate.
+pub mod Evaluating
+pub mod Parameters
+pub mod Naming
+pub mod Peeked
+pub mod Arguments

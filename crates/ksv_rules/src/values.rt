@@ -1,0 +1,274 @@
+//! The value of what is at a path.
+#![tactic(auto)]
+
+ghost use Rattle.std.specs.Option.{option_map_or};
+ghost use Rattle.std.specs.Prelude.{◌≡◌, ◌≤◌, ◌<◌, ◌+◌, IfOk, length, option_map};
+ghost use Rattle.ksv_expr_value.specs.Bytes.{content};
+ghost use Rattle.ksv_desc.specs.Description.{Bytes};
+ghost use Rattle.ksv_desc.specs.Pieces.{plain_content, plain_extent, plain_field, plain_terminator};
+ghost use Rattle.ksv_desc.specs.Whole.{plain_pieces};
+ghost use Rattle.ksv_nodes.specs.Rule.{peek};
+ghost use Rattle.ksv_nodes.specs.Turning.{Runs};
+ghost use Rattle.ksv_rule_meaning.specs.Values.{as_member, in_number, number_in, number_value, fixed_value, cut_by, kept, cut_bytes, bytes_value, in_text, cut_text, text_value, content_value, leaf_value, value_at, value_of};
+
+use crate::calculated::calculated;
+use crate::choosing::content_of;
+use crate::fields::field_of;
+use crate::integer::integer_value;
+use crate::lent::{are, cut, len_of};
+use ksv_desc::{ByteOrder, Content, Desc, Extent, Field, Terminator};
+use ksv_expr_eval::{Encoding, FaultKind, Integer, Parts, Path, Text, Value};
+use ksv_nodes::{Halt, Head, Leaf, Turn, first_in_parts};
+
+/// The bytes of a leaf.
+#[tactic(auto, using(crate::proofs::Peeked::peeked_length))]
+fn bytes_of<'a>(turn: &mut Turn<'a>, leaf: &Leaf) -> Result<Parts<'a>, Halt>
+    ensures runs { Runs (peek leaf.now.from leaf.now.to) content turn.old turn.new result }
+    ensures fits { IfOk result (λ parts. leaf.now.from + length (content parts) ≡ leaf.now.to) }
+{
+    let parts = turn.peek(leaf.from, leaf.to)?;
+    Ok(parts)
+}
+
+/// An integer, as a member of an enum where it is one.
+fn as_member(enumeration: Option<u32>, number: Integer) -> Value
+    ensures { result ≡ as_member enumeration number }
+{
+    match enumeration {
+        None => Value::Int(number),
+        Some(enum_number) => Value::Member {
+            enum_number,
+            number,
+        },
+    }
+}
+
+/// The same, where it is in the range of integers.
+fn in_number(
+    turn: &mut Turn,
+    enumeration: Option<u32>,
+    number: Option<Integer>,
+) -> Result<Value, Halt>
+    ensures { Runs (in_number enumeration number) (λ value. value) turn.old turn.new result }
+{
+    match number {
+        None => turn.raise(FaultKind::Overflow),
+        Some(number) => Ok(as_member(enumeration, number)),
+    }
+}
+
+/// The integer that bytes say; none has more than 8.
+fn number_in(
+    turn: &mut Turn,
+    is_signed: bool,
+    order: ByteOrder,
+    enumeration: Option<u32>,
+    parts: Parts,
+) -> Result<Value, Halt>
+    requires { length (content parts) < 4294967296 }
+    ensures { Runs (number_in is_signed order enumeration (content parts.entry)) (λ value. value) turn.old turn.new result }
+{
+    if len_of(parts) > 8 {
+        return turn.raise(FaultKind::BadType);
+    }
+    let number = Integer::new(integer_value(is_signed, order, parts));
+    in_number(turn, enumeration, number)
+}
+
+/// The integer of a leaf.
+#[tactic(auto, using(ksv_basics::proofs::Running::run_bind), unfolding(ksv_rule_meaning::specs::Values::number_value))]
+fn number_value(
+    turn: &mut Turn,
+    leaf: Leaf,
+    is_signed: bool,
+    order: ByteOrder,
+    enumeration: Option<u32>,
+) -> Result<Value, Halt>
+    ensures { Runs (number_value leaf is_signed order enumeration) (λ value. value) turn.old turn.new result }
+{
+    let bytes = bytes_of(turn, &leaf)?;
+    number_in(turn, is_signed, order, enumeration, bytes)
+}
+
+/// Certain bytes and no others.
+#[tactic(auto, using(ksv_basics::proofs::Running::run_bind), unfolding(ksv_rule_meaning::specs::Values::fixed_value))]
+fn fixed_value(turn: &mut Turn, leaf: Leaf, wanted: &[u8]) -> Result<Value, Halt>
+    ensures { Runs (fixed_value leaf wanted.now) (λ value. value) turn.old turn.new result }
+{
+    let bytes = bytes_of(turn, &leaf)?;
+    if !are(bytes, wanted) {
+        return turn.raise(FaultKind::Contents);
+    }
+    Ok(Value::Bytes {
+        from: leaf.from.byte(),
+        to: leaf.to.byte(),
+    })
+}
+
+/// The terminator that cuts bytes. Without a size of their own they end at it already.
+fn cut_by(extent: &Extent, terminator: Option<Terminator>) -> Option<Terminator>
+    ensures { option_map plain_terminator result ≡ cut_by (plain_extent extent.now) (option_map plain_terminator terminator) }
+{
+    match extent {
+        Extent::Sized(_) => terminator,
+        Extent::SizeEos => terminator,
+        Extent::ByItself => None,
+    }
+}
+
+/// How many of the bytes are kept.
+#[tactic(auto, unfolding(ksv_rule_meaning::specs::Values::kept))]
+fn kept(terminator: Terminator, parts: Parts) -> usize
+    requires { length (content parts) < 4294967296 }
+    ensures kept { result ≡ kept (plain_terminator terminator) (content parts.entry) }
+    ensures inside { result ≤ length (content parts.entry) }
+{
+    match first_in_parts(parts, terminator.byte) {
+        None => len_of(parts),
+        Some(place) => {
+            if terminator.is_included {
+                place + 1
+            } else {
+                place
+            }
+        }
+    }
+}
+
+/// The range of bytes, up to a terminator.
+#[tactic(auto, using(ksv_basics::proofs::Running::run_bind), unfolding(ksv_rule_meaning::specs::Values::cut_bytes))]
+fn cut_bytes(turn: &mut Turn, leaf: Leaf, terminator: Terminator) -> Result<Value, Halt>
+    ensures { Runs (cut_bytes leaf (plain_terminator terminator)) (λ value. value) turn.old turn.new result }
+{
+    let bytes = bytes_of(turn, &leaf)?;
+    let kept = kept(terminator, bytes);
+    let from = leaf.from.byte();
+    Ok(Value::Bytes {
+        from,
+        to: from + kept as u32,
+    })
+}
+
+/// The range of bytes; where they may be cut they are read.
+#[tactic(auto, unfolding(ksv_rule_meaning::specs::Values::bytes_value))]
+fn bytes_value(turn: &mut Turn, leaf: Leaf, terminator: Option<Terminator>) -> Result<Value, Halt>
+    ensures { Runs (bytes_value leaf (option_map plain_terminator terminator)) (λ value. value) turn.old turn.new result }
+{
+    match terminator {
+        None => Ok(Value::Bytes {
+            from: leaf.from.byte(),
+            to: leaf.to.byte(),
+        }),
+        Some(terminator) => cut_bytes(turn, leaf, terminator),
+    }
+}
+
+/// A text; bytes that spell none are a fault.
+fn in_text(turn: &mut Turn, text: Option<Text>) -> Result<Value, Halt>
+    ensures { Runs (in_text text) (λ value. value) turn.old turn.new result }
+{
+    match text {
+        None => turn.raise(FaultKind::BadText),
+        Some(text) => Ok(Value::Text(text)),
+    }
+}
+
+/// The bytes of a text, up to a terminator.
+fn cut_text(terminator: Option<Terminator>, parts: Parts) -> Parts
+    requires { length (content parts) < 4294967296 }
+    ensures { content result ≡ cut_text (option_map plain_terminator terminator) (content parts.entry) }
+{
+    match terminator {
+        None => parts,
+        Some(terminator) => cut(parts, kept(terminator, parts)),
+    }
+}
+
+/// The text of a leaf.
+#[tactic(auto, using(ksv_basics::proofs::Running::run_bind), unfolding(ksv_rule_meaning::specs::Values::text_value))]
+fn text_value(
+    turn: &mut Turn,
+    leaf: Leaf,
+    encoding: Encoding,
+    terminator: Option<Terminator>,
+) -> Result<Value, Halt>
+    ensures { Runs (text_value leaf encoding (option_map plain_terminator terminator)) (λ value. value) turn.old turn.new result }
+{
+    let bytes = bytes_of(turn, &leaf)?;
+    let text = encoding.decode(turn.alloc(), cut_text(terminator, bytes))?;
+    in_text(turn, text)
+}
+
+#[tactic(auto, unfolding(ksv_rule_meaning::specs::Values::content_value))]
+fn content_value(
+    turn: &mut Turn,
+    leaf: Leaf,
+    field: &Field,
+    content: &Content,
+) -> Result<Value, Halt>
+    ensures { Runs (content_value leaf (plain_field field.now) (plain_content content.now)) (λ value. value) turn.old turn.new result }
+{
+    match content {
+        Content::Bytes => bytes_value(turn, leaf, cut_by(&field.extent, field.terminator)),
+        Content::Fixed(bytes) => fixed_value(turn, leaf, bytes),
+        Content::Number {
+            is_signed,
+            order,
+            enumeration,
+            ..
+        } => number_value(turn, leaf, *is_signed, *order, *enumeration),
+        Content::Characters(encoding) => {
+            let terminator = cut_by(&field.extent, field.terminator);
+            text_value(turn, leaf, *encoding, terminator)
+        }
+        Content::Object { .. } => turn.raise(FaultKind::NoSuch),
+    }
+}
+
+/// The value of what was read by a case; without one it is bytes.
+#[tactic(auto, unfolding(ksv_rule_meaning::specs::Values::content_value))]
+fn known_value(
+    turn: &mut Turn,
+    leaf: Leaf,
+    field: &Field,
+    content: Option<&Content>,
+) -> Result<Value, Halt>
+    ensures { Runs (content_value leaf (plain_field field.now) (option_map_or (λ c. plain_content c.now) content.entry Bytes)) (λ value. value) turn.old turn.new result }
+{
+    match content {
+        None => bytes_value(turn, leaf, cut_by(&field.extent, field.terminator)),
+        Some(content) => content_value(turn, leaf, field, content),
+    }
+}
+
+/// The value of a leaf, by the attribute that reads it and its case.
+#[tactic(auto, using(ksv_basics::proofs::Running::run_bind), unfolding(ksv_rule_meaning::specs::Values::leaf_value))]
+fn leaf_value(turn: &mut Turn, desc: &Desc, leaf: &Leaf) -> Result<Value, Halt>
+    ensures { Runs (leaf_value (plain_pieces desc.now) leaf.now) (λ value. value) turn.old turn.new result }
+{
+    let field = field_of(turn, desc, leaf.origin.member)?;
+    let content = content_of(turn, &field.choice, leaf.origin.case)?;
+    known_value(turn, *leaf, field, content)
+}
+
+#[tactic(auto, unfolding(ksv_rule_meaning::specs::Values::value_at))]
+fn value_at(turn: &mut Turn, desc: &Desc, path: &Path, head: &Head) -> Result<Value, Halt>
+    ensures { Runs (value_at (plain_pieces desc.now) path.now head.now) (λ value. value) turn.old turn.new result }
+{
+    match head {
+        Head::Absent(_) => turn.raise(FaultKind::Absent),
+        Head::Calc(calc) => calculated(turn, desc, path, *calc),
+        Head::Leaf(leaf) => leaf_value(turn, desc, leaf),
+        Head::Object(_) => Ok(Value::Object(path.copy(turn.alloc())?)),
+        Head::List(_) => Ok(Value::List(path.copy(turn.alloc())?)),
+    }
+}
+
+/// The value of what is at a path; objects and lists by their path.
+#[tactic(auto, using(ksv_basics::proofs::Running::run_bind), unfolding(ksv_rule_meaning::specs::Values::value_of))]
+pub(crate) fn value_of(turn: &mut Turn, desc: &Desc, path: &Path) -> Result<Value, Halt>
+    ensures { Runs (value_of (plain_pieces desc.now) path.now) (λ value. value) turn.old turn.new result }
+{
+    let head = turn.head(path)?;
+    value_at(turn, desc, path, head)
+}

@@ -1,0 +1,13 @@
+use Rattle.std.proofs.Common.{◌≡◌, drop, map}
+use Rattle.std.specs.Vec.Iter.{into_iter_items}
+use Rattle.ksv_desc.specs.Pieces.{plain_kind, plain_type}
+use Rattle.ksv_schema_names.specs.Table.{declared}
+use Rattle.ksv_schema_names.specs.View.{row_of}
+use Rattle.ksv_schema.specs.Description.{types_of}
+use Rattle.ksv_schema.proofs.Made.{onto}
+use Rattle.ksv_schema.proofs.members.description.types_of.Given as goal
+
+abbrev pub invariant-loop-within : goal.invariant-loop-within
+invariant-loop-within l =
+    onto (map plain_type l.made.items) (types_of (declared l.scopes) l.names l.within (map row_of (drop l.within l.types)) (map (λ w. map plain_kind w.items) (into_iter_items l.rest)))
+    ≡ types_of (declared l.scopes) l.names 0 (map row_of l.types) (map (λ w. map plain_kind w.items) l.fn.kinds.items)

@@ -1,0 +1,531 @@
+//! What an attribute reads: the type at `type`, a switch over types there, or contents.
+
+ghost use Rattle.std.specs.Prelude.{◌≡◌, IfOk, OnOk, codes, map, option_map};
+ghost use Rattle.ksv_yaml_tree.specs.View.{pair, seen_entry};
+ghost use Rattle.ksv_yaml_tree.specs.Tree.{entry_at};
+ghost use Rattle.ksv_expr_tree.specs.Tree.{view, arguments_of, literal_of, path_of};
+ghost use Rattle.ksv_desc.specs.Names.{distinct_behind, all_dotted};
+ghost use Rattle.ksv_schema_names.specs.Table.{declared};
+ghost use Rattle.ksv_schema_names.specs.Types.{type_named};
+ghost use Rattle.ksv_desc.specs.Description.{Always};
+ghost use Rattle.ksv_schema.specs.KeyTexts.{OfLanguage, OfDescription, type_at, own_type, type_text};
+ghost use Rattle.ksv_desc.specs.Pieces.{plain_content, plain_value, plain_case, plain_choice};
+ghost use Rattle.ksv_schema.specs.Expressions.{expression_of};
+ghost use Rattle.ksv_schema.specs.KeyCode.{seen_type_text, seen_type_at, seen_case_key};
+ghost use Rattle.ksv_schema.specs.Faults.{noted};
+ghost use Rattle.ksv_schema.specs.Reading.{also, made, each, perhaps, must, mapping, text};
+ghost use Rattle.ksv_schema.specs.Values.{content_or_type, arguments, order_at, encoding_at, of_language, counts_differ, of_type, of_case_key, case_value, is_declared, case_against, case, switch, typed, choice};
+ghost use Rattle.ksv_schema.specs.Code.{seen_fault, seen_home, Reads};
+
+use crate::keys::expressions::read_expression;
+use crate::keys::forms::MappingKind;
+use crate::keys::texts::{CaseKey, TypeKind, TypeText, case_key, is_of_kind, type_text};
+use crate::values::fault::DescFaultKind::{
+    BadValue, LeftOut, MissingKey, NoByteOrder, NoExpression, UnknownName, WrongCount,
+};
+use crate::values::fault::{Least, note, note_if};
+use crate::values::key::note_keys;
+use crate::values::reader::{Home, Read, Reader, both, kept, position_at, pushed};
+use crate::values::rule::{key_if, line_of_key, note_against, note_at_if};
+use crate::values::value::{needed_expression, note_name, perhaps_contents};
+use ksv_desc::{Case, CaseValue, Choice, Content};
+use ksv_expr_tree::{Expr, Literal, TypeName};
+use ksv_expr_value::Encoding;
+use ksv_schema_names::{BuiltIn, ByteOrder, Site, argument_fault, given_member};
+use ksv_yaml_tree::keys::{says, text_at};
+use ksv_yaml_tree::{Entry, find};
+use std::alloc::{AllocError, Global};
+
+// ---- types
+
+/// Whether a type is one that the description declares.
+pub(crate) fn is_declared(home: Home, text: &TypeText) -> bool
+    ensures { result ≡ is_declared (seen_home home.entry) (seen_type_text text.now) }
+{
+    match text {
+        TypeText::OfDescription(name, _) => home
+            .scopes
+            .type_named(home.within, name.path.as_slice())
+            .is_some(),
+        TypeText::OfLanguage(..) | TypeText::Unspelled(_) => false,
+    }
+}
+
+/// The order of an integer, its own or the one in force; one byte has any.
+#[tactic(auto, unfolding(crate::specs::Values::order_at))]
+fn order_at(home: Home, size: u8, stated: Option<ByteOrder>) -> Option<ByteOrder>
+    ensures { result ≡ order_at (seen_home home.entry) size stated }
+{
+    match stated {
+        Some(order) => Some(order),
+        None if size == 1 => Some(ByteOrder::Little),
+        None => home.scopes.order_of(home.within),
+    }
+}
+
+/// The encoding of an attribute of these keys, its own or the one in force.
+#[tactic(auto, unfolding(crate::specs::Values::encoding_at, crate::specs::KeyTexts::encoding_named))]
+fn encoding_at(home: Home, entries: &[Entry]) -> Option<Encoding>
+    ensures { result ≡ encoding_at (seen_home home.entry) (map pair entries.now) }
+{
+    match text_at(entries, b"encoding") {
+        Some(name) => Encoding::named(name),
+        None => Encoding::named(home.scopes.encoding_of(home.within)?),
+    }
+}
+
+/// What a type of the language means.
+#[tactic(auto, using(crate::proofs::Noted::steps, ksv_desc::proofs::Dots::steps))]
+fn of_language(
+    reader: &mut Reader,
+    home: Home,
+    enumeration: Option<u32>,
+    entries: &[Entry],
+    line: usize,
+    built_in: BuiltIn,
+) -> Read<Content>
+    ensures { Reads (of_language (seen_home home.entry) enumeration (map pair entries.now) line built_in) plain_content reader.old reader.new result }
+{
+    match built_in {
+        BuiltIn::Integer {
+            is_signed,
+            size,
+            order,
+        } => match order_at(home, size, order) {
+            Some(order) => Ok(Some(Content::Number {
+                is_signed,
+                size,
+                order,
+                enumeration,
+            })),
+            None => {
+                note(&mut reader.least, line, NoByteOrder);
+                Ok(None)
+            }
+        },
+        BuiltIn::Str | BuiltIn::Strz => match encoding_at(home, entries) {
+            Some(encoding) => Ok(Some(Content::Characters(encoding))),
+            None => Ok(None),
+        },
+        BuiltIn::NotHere => {
+            note(&mut reader.least, line, LeftOut);
+            Ok(None)
+        }
+    }
+}
+
+/// Notes the names in the arguments of a type, and adds those after dots.
+#[tactic(auto, unfolding(crate::specs::Values::arguments))]
+fn read_arguments(
+    reader: &mut Reader,
+    home: Home,
+    line: usize,
+    given: &[Expr],
+) -> Result<(), AllocError>
+    ensures faults { seen_fault reader.new.least ≡ noted (seen_fault reader.old.least) (arguments (seen_home home.entry) line (arguments_of (map view given.now))).faults }
+    ensures words { OnOk result (reader.new.names ≡ distinct_behind reader.old.names (all_dotted (arguments_of (map view given.now)))) }
+{
+    let position = position_at(home, Site::Argument);
+    let found = argument_fault(home.scopes, home.within, position, given);
+    note_name(&mut reader.least, line, found);
+    reader.names.add_all_dotted(given)
+}
+
+/// What a type of the language with these arguments means: it has none.
+#[tactic(auto, using(crate::proofs::Noted::steps, ksv_desc::proofs::Dots::steps, ksv_schema_names::proofs::Forms::count_map), unfolding(crate::specs::Values::of_type, crate::specs::Values::arguments))]
+fn given_language(
+    reader: &mut Reader,
+    home: Home,
+    enumeration: Option<u32>,
+    entries: &[Entry],
+    line: usize,
+    built_in: BuiltIn,
+    given: &[Expr],
+) -> Read<Content>
+    ensures { Reads (of_type (seen_home home.entry) enumeration (map pair entries.now) line (OfLanguage built_in (arguments_of (map view given.now)))) plain_content reader.old reader.new result }
+{
+    note_if(&mut reader.least, given.len() != 0, line, WrongCount);
+    read_arguments(reader, home, line, given)?;
+    of_language(reader, home, enumeration, entries, line, built_in)
+}
+
+/// The number of a type of the description.
+fn type_number(home: Home, name: &TypeName) -> Option<u32>
+    ensures { result ≡ type_named (declared home.entry.scopes.now).types home.entry.within (path_of name.now).path }
+{
+    match home.scopes.type_named(home.within, name.path.as_slice()) {
+        Some(number) => Some(number as u32),
+        None => None,
+    }
+}
+
+/// Whether a type has other parameters than this many arguments; an unknown type has a fault of its own.
+fn counts_differ(home: Home, given: usize, number: Option<u32>) -> bool
+    ensures { result ≡ counts_differ (seen_home home.entry) given number }
+{
+    match number {
+        Some(number) => home.scopes.count_of_parameters(number as usize) != given,
+        None => false,
+    }
+}
+
+/// What a type of the description with these arguments means: it has as many as the type has parameters.
+#[tactic(auto, using(crate::proofs::Noted::steps, ksv_desc::proofs::Dots::steps, ksv_schema_names::proofs::Forms::count_map), unfolding(crate::specs::Values::of_type, crate::specs::Values::arguments))]
+fn object(
+    reader: &mut Reader,
+    home: Home,
+    enumeration: Option<u32>,
+    entries: &[Entry],
+    line: usize,
+    name: &TypeName,
+    given: Vec<Expr>,
+) -> Read<Content>
+    ensures { Reads (of_type (seen_home home.entry) enumeration (map pair entries.now) line (OfDescription (path_of name.now) (arguments_of (map view given.items)))) plain_content reader.old reader.new result }
+{
+    let number = type_number(home, name);
+    let differ = counts_differ(home, given.len(), number);
+    note_if(&mut reader.least, differ, line, WrongCount);
+    note_if(&mut reader.least, number.is_none(), line, UnknownName);
+    let done = read_arguments(reader, home, line, given.as_slice());
+    match both(number, kept(given, done))? {
+        Some((type_number, arguments)) => Ok(Some(Content::Object {
+            type_number,
+            arguments,
+        })),
+        None => Ok(None),
+    }
+}
+
+/// What the text of a type means, in an attribute of these keys with this enum.
+#[tactic(auto, using(crate::proofs::Noted::steps, ksv_desc::proofs::Dots::steps), unfolding(crate::specs::Values::of_type))]
+fn of_type(
+    reader: &mut Reader,
+    home: Home,
+    enumeration: Option<u32>,
+    entries: &[Entry],
+    line: usize,
+    text: TypeText,
+) -> Read<Content>
+    ensures { Reads (of_type (seen_home home.entry) enumeration (map pair entries.now) line (seen_type_text text)) plain_content reader.old reader.new result }
+{
+    match text {
+        TypeText::Unspelled(fault) => {
+            note(&mut reader.least, line, NoExpression(fault));
+            Ok(None)
+        }
+        TypeText::OfLanguage(built_in, given) => {
+            let given = given.as_slice();
+            given_language(reader, home, enumeration, entries, line, built_in, given)
+        }
+        TypeText::OfDescription(name, given) => {
+            object(reader, home, enumeration, entries, line, &name, given)
+        }
+    }
+}
+
+// ---- switches
+
+/// A copy of a value written in the text.
+fn copied(alloc: Global, literal: &Literal) -> Result<Literal, AllocError>
+    ensures { IfOk result (λ l. literal_of l ≡ literal_of literal.now) }
+{
+    match literal {
+        Literal::Number(number) => Ok(Literal::Number(*number)),
+        Literal::Truth(truth) => Ok(Literal::Truth(*truth)),
+        Literal::Text(text) => Ok(Literal::Text(String::from_str(alloc, text.as_str())?)),
+    }
+}
+
+/// What a key of `cases` is compared with; nothing for `_`.
+#[tactic(auto, using(crate::proofs::Noted::steps, ksv_desc::proofs::Dots::steps), unfolding(crate::specs::Values::of_case_key))]
+fn of_case_key(
+    reader: &mut Reader,
+    home: Home,
+    line: usize,
+    key: CaseKey,
+) -> Read<Option<CaseValue>>
+    ensures { Reads (of_case_key (seen_home home.entry) line (seen_case_key key.entry)) (λ o. option_map plain_value o) reader.old reader.new result }
+{
+    match key {
+        CaseKey::Constant(literal) => {
+            let literal = copied(reader.alloc, literal)?;
+            Ok(Some(Some(CaseValue::Literal(literal))))
+        }
+        CaseKey::Negative(number) => Ok(Some(Some(CaseValue::Negated(number)))),
+        CaseKey::Member(member) => match given_member(home.scopes, home.within, member) {
+            Some(given) => Ok(Some(Some(CaseValue::Member(given)))),
+            None => {
+                note(&mut reader.least, line, UnknownName);
+                Ok(None)
+            }
+        },
+        CaseKey::Default => Ok(Some(None)),
+        CaseKey::NoKey => {
+            note(&mut reader.least, line, BadValue);
+            Ok(None)
+        }
+    }
+}
+
+/// What the text of a key of `cases` is compared with.
+#[tactic(auto, using(crate::proofs::Noted::steps, ksv_desc::proofs::Dots::steps), unfolding(crate::specs::Values::case_value))]
+fn case_value(reader: &mut Reader, home: Home, line: usize, text: &[u8]) -> Read<Option<CaseValue>>
+    ensures { Reads (case_value (seen_home home.entry) line (expression_of text.now)) (λ o. option_map plain_value o) reader.old reader.new result }
+{
+    match read_expression(reader.alloc, text)? {
+        Ok(expr) => of_case_key(reader, home, line, case_key(&expr)),
+        Err(fault) => {
+            note(&mut reader.least, line, NoExpression(fault));
+            Ok(None)
+        }
+    }
+}
+
+/// Notes what doesn't fit to a type of a case on this line, in an attribute of these keys.
+#[tactic(auto, using(crate::proofs::Noted::steps), unfolding(crate::specs::Values::case_against))]
+fn note_case_against(least: &mut Least, home: Home, entries: &[Entry], line: usize, text: &TypeText)
+    ensures { seen_fault least.new ≡ noted (seen_fault least.old) (case_against (seen_home home.entry) (map pair entries.now) line (seen_type_text text.now)) }
+{
+    let is_text = is_of_kind(TypeKind::Str, text) | is_of_kind(TypeKind::Strz, text);
+    let is_object = is_declared(home, text);
+    let case = if is_of_kind(TypeKind::Integer, text) {
+        Some(line)
+    } else {
+        None
+    };
+    let to_end = key_if(says(entries, b"size-eos", b"true"), entries, b"size-eos");
+    let terminator = find(entries, b"terminator");
+    note_if(least, is_text, line, LeftOut);
+    note_against(least, case, line_of_key(find(entries, b"size")));
+    note_against(least, case, line_of_key(to_end));
+    note_against(least, case, line_of_key(terminator));
+    note_at_if(least, is_object, terminator, LeftOut);
+}
+
+/// What the type of a case means; it must fit to the keys beside it.
+#[tactic(auto, using(crate::proofs::Noted::steps, ksv_desc::proofs::Dots::steps))]
+fn case_content(
+    reader: &mut Reader,
+    home: Home,
+    beside: &[Entry],
+    enumeration: Option<u32>,
+    entries: &[Entry],
+    case: &Entry,
+) -> Read<Content>
+    ensures { Reads (text (λ line text. let t = type_text text in also (case_against (seen_home home.entry) (map pair beside.now) line t) (of_type (seen_home home.entry) enumeration (map pair entries.now) line t)) (pair case.now)) plain_content reader.old reader.new result }
+{
+    let line = case.line();
+    match case.value().text() {
+        Some(text) => {
+            let text = type_text(reader.alloc, text)?;
+            note_case_against(&mut reader.least, home, beside, line, &text);
+            of_type(reader, home, enumeration, entries, line, text)
+        }
+        None => {
+            note(&mut reader.least, line, BadValue);
+            Ok(None)
+        }
+    }
+}
+
+/// A case.
+#[tactic(auto, using(crate::proofs::Noted::steps, ksv_desc::proofs::Dots::steps), unfolding(crate::specs::Values::case))]
+fn read_case(
+    reader: &mut Reader,
+    home: Home,
+    beside: &[Entry],
+    enumeration: Option<u32>,
+    entries: &[Entry],
+    entry: &Entry,
+) -> Read<Case>
+    ensures { Reads (case (seen_home home.entry) (map pair beside.now) enumeration (map pair entries.now) (pair entry.now)) plain_case reader.old reader.new result }
+{
+    let value = case_value(reader, home, entry.line(), entry.key())?;
+    let content = case_content(reader, home, beside, enumeration, entries, entry);
+    match both(value, content)? {
+        Some((value, content)) => Ok(Some(Case { value, content })),
+        None => Ok(None),
+    }
+}
+
+/// The cases of a switch.
+fn cases(
+    reader: &mut Reader,
+    home: Home,
+    beside: &[Entry],
+    enumeration: Option<u32>,
+    entries: &[Entry],
+    cases: &[Entry],
+) -> Read<Vec<Case>>
+    ensures { Reads (each (case (seen_home home.entry) (map pair beside.now) enumeration (map pair entries.now)) (map pair cases.now)) (λ v. map plain_case v.items) reader.old reader.new result }
+{
+    let mut made = Some(Vec::new(reader.alloc));
+    for case in cases {
+        let read = read_case(reader, home, beside, enumeration, entries, case)?;
+        made = pushed(made, read)?;
+    }
+    Ok(made)
+}
+
+/// The cases at a key that must be in a mapping of this line.
+#[tactic(auto, using(crate::proofs::Noted::steps, ksv_desc::proofs::Dots::steps))]
+fn needed_cases(
+    reader: &mut Reader,
+    home: Home,
+    beside: &[Entry],
+    enumeration: Option<u32>,
+    entries: &[Entry],
+    line: usize,
+    at: Option<&Entry>,
+) -> Read<Vec<Case>>
+    ensures { Reads (must line (mapping (each (case (seen_home home.entry) (map pair beside.now) enumeration (map pair entries.now)))) (seen_entry at.entry)) (λ v. map plain_case v.items) reader.old reader.new result }
+{
+    let Some(entry) = at else {
+        note(&mut reader.least, line, MissingKey);
+        return Ok(None);
+    };
+    match entry.value().entries() {
+        Some(keys) => cases(reader, home, beside, enumeration, entries, keys),
+        None => {
+            note(&mut reader.least, entry.line(), BadValue);
+            Ok(None)
+        }
+    }
+}
+
+/// The switch with these keys.
+#[tactic(auto, using(crate::proofs::Noted::steps, ksv_desc::proofs::Dots::steps), unfolding(crate::specs::Values::switch))]
+fn switch(
+    reader: &mut Reader,
+    home: Home,
+    beside: &[Entry],
+    enumeration: Option<u32>,
+    entries: &[Entry],
+    line: usize,
+    keys: &[Entry],
+) -> Read<Choice>
+    ensures { Reads (switch (seen_home home.entry) (map pair beside.now) enumeration (map pair entries.now) line (map pair keys.now)) plain_choice reader.old reader.new result }
+{
+    note_keys(&mut reader.least, MappingKind::Switch, keys);
+    let on = needed_expression(reader, home, Site::Switch, line, find(keys, b"switch-on"))?;
+    let at = find(keys, b"cases");
+    let cases = needed_cases(reader, home, beside, enumeration, entries, line, at);
+    match both(on, cases)? {
+        Some((on, cases)) => Ok(Some(Choice::Switch { on, cases })),
+        None => Ok(None),
+    }
+}
+
+// ---- what an attribute reads
+
+/// The type whose text is at `type`.
+#[tactic(auto, using(crate::proofs::Noted::steps, ksv_desc::proofs::Dots::steps))]
+fn always(
+    reader: &mut Reader,
+    home: Home,
+    enumeration: Option<u32>,
+    entries: &[Entry],
+    entry: &Entry,
+    typed: Option<TypeText>,
+) -> Read<Choice>
+    requires { seen_type_at typed ≡ type_at (pair entry.now) }
+    ensures { Reads (made Always (text (λ line text. of_type (seen_home home.entry) enumeration (map pair entries.now) line (type_text text)) (pair entry.now))) plain_choice reader.old reader.new result }
+{
+    let line = entry.line();
+    match typed {
+        Some(text) => match of_type(reader, home, enumeration, entries, line, text)? {
+            Some(content) => Ok(Some(Choice::Always(content))),
+            None => Ok(None),
+        },
+        None => {
+            note(&mut reader.least, line, BadValue);
+            Ok(None)
+        }
+    }
+}
+
+/// What is at `type`: a text, or a switch.
+#[tactic(auto, using(crate::proofs::Noted::steps, ksv_desc::proofs::Dots::steps), unfolding(crate::specs::Values::typed))]
+fn typed(
+    reader: &mut Reader,
+    home: Home,
+    beside: &[Entry],
+    enumeration: Option<u32>,
+    entries: &[Entry],
+    entry: &Entry,
+    text: Option<TypeText>,
+) -> Read<Choice>
+    requires { seen_type_at text ≡ type_at (pair entry.now) }
+    ensures { Reads (typed (seen_home home.entry) (map pair beside.now) enumeration (map pair entries.now) (pair entry.now)) plain_choice reader.old reader.new result }
+{
+    let value = entry.value();
+    match value.entries() {
+        Some(keys) => switch(
+            reader,
+            home,
+            beside,
+            enumeration,
+            entries,
+            value.line(),
+            keys,
+        ),
+        None => always(reader, home, enumeration, entries, entry, text),
+    }
+}
+
+/// What is at `type`, which may be absent.
+#[tactic(auto, using(crate::proofs::Noted::steps, ksv_desc::proofs::Dots::steps))]
+fn perhaps_typed(
+    reader: &mut Reader,
+    home: Home,
+    beside: &[Entry],
+    enumeration: Option<u32>,
+    entries: &[Entry],
+    text: Option<TypeText>,
+) -> Read<Option<Choice>>
+    requires { seen_type_at text ≡ own_type (map pair entries.now) }
+    ensures { Reads (perhaps (typed (seen_home home.entry) (map pair beside.now) enumeration (map pair entries.now)) (entry_at (codes "type") (map pair entries.now))) (λ o. option_map plain_choice o) reader.old reader.new result }
+{
+    match find(entries, b"type") {
+        None => Ok(Some(None)),
+        Some(entry) => match typed(reader, home, beside, enumeration, entries, entry, text)? {
+            Some(choice) => Ok(Some(Some(choice))),
+            None => Ok(None),
+        },
+    }
+}
+
+/// What is read: these contents, or what is at `type`, or bytes.
+fn content_or_type(contents: Option<Vec<u8>>, choice: Option<Choice>) -> Choice
+    ensures { plain_choice result ≡ content_or_type (option_map (λ v. v.items) contents, option_map plain_choice choice) }
+{
+    match contents {
+        Some(bytes) => Choice::Always(Content::Fixed(bytes)),
+        None => match choice {
+            Some(choice) => choice,
+            None => Choice::Always(Content::Bytes),
+        },
+    }
+}
+
+/// What an attribute of these keys reads, with this enum and the type whose text is at `type`; a case must fit to the
+/// keys beside it.
+#[tactic(auto, using(crate::proofs::Noted::steps, ksv_desc::proofs::Dots::steps), unfolding(crate::specs::Values::choice))]
+pub(crate) fn choice(
+    reader: &mut Reader,
+    home: Home,
+    beside: &[Entry],
+    enumeration: Option<u32>,
+    entries: &[Entry],
+    typed: Option<TypeText>,
+) -> Read<Choice>
+    requires { seen_type_at typed ≡ own_type (map pair entries.now) }
+    ensures { Reads (choice (seen_home home.entry) (map pair beside.now) enumeration (map pair entries.now)) plain_choice reader.old reader.new result }
+{
+    let contents = perhaps_contents(reader, find(entries, b"contents"))?;
+    let choice = perhaps_typed(reader, home, beside, enumeration, entries, typed);
+    match both(contents, choice)? {
+        Some((contents, choice)) => Ok(Some(content_or_type(contents, choice))),
+        None => Ok(None),
+    }
+}

@@ -1,6 +1,0 @@
-use Rattle.std.proofs.Common.{◌≡◌, [], take, drop}
-use Rattle.ksv_schema_keys.specs.Values.{names_in}
-use Rattle.ksv_schema_keys.proofs.ids.first_name.Given as goal
-
-abbrev pub invariant-loop-at : goal.invariant-loop-at
-invariant-loop-at l = names_in (take l.at l.text) (drop l.at l.text) ≡ names_in [] l.text

@@ -1,7 +1,0 @@
--- An id is ASCII.
-use Rattle.std.proofs.Common.{sym, ◌∙◌}
-use Rattle.ksv_schema_keys.proofs.Paths.{id_is_utf8}
-use Rattle.ksv_schema_keys.proofs.ids.id.Goals as goal
-
-pub unreachable-requires : goal.unreachable-requires
-unreachable-requires c = c.in-Err.ensures.cases.0 (id_is_utf8 c.args.text.now (sym c.is_id.ensures ∙ c.if-not-is_id.false))

@@ -1,7 +1,0 @@
-use Rattle.std.proofs.Common.{◌≡◌, drop, map}
-use Rattle.ksv_schema_keys.specs.Keys.{form_among}
-use Rattle.ksv_schema_keys.specs.Code.{seen_key}
-use Rattle.ksv_schema_keys.proofs.keys.form_among.Given as goal
-
-abbrev pub invariant-loop-key : goal.invariant-loop-key
-invariant-loop-key l = form_among (map seen_key (drop l.key-index l.keys)) l.kind l.name ≡ form_among (map seen_key l.keys) l.kind l.name

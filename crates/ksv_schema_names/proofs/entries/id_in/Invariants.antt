@@ -1,0 +1,8 @@
+use Rattle.std.proofs.Common.{◌≡◌, drop, map}
+use Rattle.std.specs.Prelude.{find}
+use Rattle.ksv_yaml_tree.specs.View.{pair}
+use Rattle.ksv_schema_names.specs.Enums.{is_numbered}
+use Rattle.ksv_schema_names.proofs.entries.id_in.Given as goal
+
+abbrev pub invariant-loop-entry : goal.invariant-loop-entry
+invariant-loop-entry l = find (is_numbered l.number) (map pair (drop l.entry-index l.entries)) ≡ find (is_numbered l.number) (map pair l.entries)

@@ -1,0 +1,8 @@
+use Rattle.std.proofs.Common.{◌≡◌, drop, map}
+use Rattle.std.specs.Prelude.{find}
+use Rattle.ksv_yaml_tree.specs.View.{pair}
+use Rattle.ksv_schema_names.specs.Enums.{is_named}
+use Rattle.ksv_schema_names.proofs.entries.number_in.Given as goal
+
+abbrev pub invariant-loop-entry : goal.invariant-loop-entry
+invariant-loop-entry l = find (is_named l.id) (map pair (drop l.entry-index l.entries)) ≡ find (is_named l.id) (map pair l.entries)

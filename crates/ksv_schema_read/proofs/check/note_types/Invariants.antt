@@ -1,9 +1,0 @@
-use Rattle.std.proofs.Common.{◌≡◌, drop, map}
-use Rattle.ksv_schema_scope.specs.Code.{row_of}
-use Rattle.ksv_schema_values.specs.Faults.{noted}
-use Rattle.ksv_schema_read.specs.Description.{all_types_faults}
-use Rattle.ksv_schema_values.specs.Code.{seen_fault}
-use Rattle.ksv_schema_read.proofs.check.note_types.Given as goal
-
-abbrev pub invariant-loop-number : goal.invariant-loop-number
-invariant-loop-number l = noted (seen_fault l.least) (all_types_faults l.number (map row_of (drop l.number l.types))) ≡ noted (seen_fault l.fn.least) (all_types_faults 0 (map row_of l.types))

@@ -1,3 +1,0 @@
--- Lemmas.
-pub mod Weight
-pub mod Lookup

@@ -1,8 +1,0 @@
-use Rattle.std.proofs.Common.{◌≡◌, ◌++◌, map, drop}
-use Rattle.ksv_yaml_tree.specs.View.{pair}
-use Rattle.ksv_schema_scope.specs.Members.{instance}
-use Rattle.ksv_schema_scope.specs.Code.{member_of}
-use Rattle.ksv_schema_scope.proofs.members.add_instances.Given as goal
-
-abbrev pub invariant-loop-entry : goal.invariant-loop-entry
-invariant-loop-entry l = map member_of l.members.items ++ map instance (map pair (drop l.entry-index l.entries)) ≡ map member_of l.fn.members.items ++ map instance (map pair l.entries)

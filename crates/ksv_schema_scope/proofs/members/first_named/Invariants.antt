@@ -1,8 +1,0 @@
-use Rattle.std.proofs.Common.{◌≡◌, map, drop}
-use Rattle.std.specs.List.{position_from}
-use Rattle.std.specs.Str.{bytes_eq}
-use Rattle.ksv_schema_scope.specs.Code.{member_of}
-use Rattle.ksv_schema_scope.proofs.members.first_named.Given as goal
-
-abbrev pub invariant-loop-place : goal.invariant-loop-place
-invariant-loop-place l = position_from (λ m. bytes_eq m.name l.name) l.place (map member_of (drop l.place l.members)) ≡ position_from (λ m. bytes_eq m.name l.name) 0 (map member_of l.members)

@@ -1,9 +1,0 @@
-use Rattle.std.proofs.Common.{◌≡◌, ◌++◌, map, drop}
-use Rattle.std.specs.Prelude.{flat_map}
-use Rattle.ksv_yaml_tree.specs.View.{pair}
-use Rattle.ksv_schema_scope.specs.Members.{members_of, members_at_key}
-use Rattle.ksv_schema_scope.specs.Code.{member_of, row_of}
-use Rattle.ksv_schema_scope.proofs.members.members_of.Given as goal
-
-abbrev pub invariant-loop-entry : goal.invariant-loop-entry
-invariant-loop-entry l = map member_of l.members.items ++ flat_map members_at_key (map pair (drop l.entry-index l.entry-items)) ≡ members_of (row_of l.row)

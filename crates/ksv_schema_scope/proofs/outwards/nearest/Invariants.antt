@@ -1,9 +1,0 @@
-use Rattle.std.proofs.Common.{◌≡◌, ℕ, ◌+◌, length, map}
-use Rattle.std.specs.Prelude.{find}
-use Rattle.ksv_schema_scope.specs.Types.{around, from}
-use Rattle.ksv_schema_scope.specs.Code.{row_of, has_sought}
-use Rattle.ksv_schema_scope.proofs.outwards.nearest.Given as goal
-
--- from here at most this many types are left
-abbrev pub invariant-loop-step : goal.invariant-loop-step
-invariant-loop-step l = (left : ℕ) × (left + l.step ≡ length l.types) × (find (has_sought (map row_of l.types) l.sought) (around left (map row_of l.types) l.at) ≡ find (has_sought (map row_of l.types) l.sought) (from (map row_of l.types) l.n))

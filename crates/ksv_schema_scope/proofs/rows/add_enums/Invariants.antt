@@ -1,8 +1,0 @@
-use Rattle.std.proofs.Common.{◌≡◌, ◌++◌, map, drop}
-use Rattle.ksv_yaml_tree.specs.View.{pair}
-use Rattle.ksv_schema_scope.specs.Rows.{named_row}
-use Rattle.ksv_schema_scope.specs.Code.{row_of}
-use Rattle.ksv_schema_scope.proofs.rows.add_enums.Given as goal
-
-abbrev pub invariant-loop-name : goal.invariant-loop-name
-invariant-loop-name l = map row_of l.rows.items ++ map (named_row l.n) (map pair (drop l.name-index l.names)) ≡ map row_of l.fn.rows.items ++ map (named_row l.n) (map pair l.names)

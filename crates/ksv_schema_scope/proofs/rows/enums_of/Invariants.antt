@@ -1,7 +1,0 @@
-use Rattle.std.proofs.Common.{◌≡◌, ◌++◌, map, drop}
-use Rattle.ksv_schema_scope.specs.Rows.{enums_from}
-use Rattle.ksv_schema_scope.specs.Code.{row_of}
-use Rattle.ksv_schema_scope.proofs.rows.enums_of.Given as goal
-
-abbrev pub invariant-loop-n : goal.invariant-loop-n
-invariant-loop-n l = map row_of l.rows.items ++ enums_from l.n (map row_of (drop l.n l.types)) ≡ enums_from 0 (map row_of l.types)

@@ -1,0 +1,76 @@
+//! A chain of nodes, each of which asks the one before it.
+ghost use Rattle.std.specs.Prelude.{◌≡◌, ◌<◌, ◌+◌, ◌-◌, ◌^◌, ◌++◌, min, length, IfOk, OnOk, OnErr};
+ghost use Rattle.ksv_test_engine.specs.Chain as spec;
+
+use crate::samples::link::Link;
+use crate::samples::row::Missing;
+use ksv_bytes::{Buffer, Use};
+use ksv_memo_rules::{Next, Replies, Rules};
+use std::alloc::{AllocError, Global};
+
+/// A chain: link 0 answers the file's size, and each other link one more than the link before it. Each of them
+/// reads the size.
+#[derive(Drop)]
+pub struct Chain;
+
+type Reply = Result<u32, Missing>;
+
+/// The link before another than link 0.
+fn link_before(link: Link) -> Link
+    requires { 0 < link.number }
+    ensures { result ≡ spec.link_before link }
+{
+    Link {
+        number: link.number - 1,
+    }
+}
+
+/// What a link does next.
+fn linked(link: Link, size: u32, replies: &Replies<u32, Missing>) -> Next<Link, Reply>
+    ensures { result ≡ spec.linked link size replies.now }
+{
+    match replies.get(0) {
+        None if link.number == 0 => Next::Done(Ok(size)),
+        None => Next::Need(link_before(link)),
+        Some(Ok(before)) => Next::Done(Ok(before.saturating_add(1))),
+        Some(Err(missing)) => Next::Done(Err(*missing)),
+    }
+}
+
+impl Rules for Chain {
+    type Node = Link;
+
+    type Value = u32;
+
+    type Fault = Missing;
+
+    ghost meaning = { λ _. spec.chain_meaning };
+
+    fn next(
+        &self,
+        _alloc: Global,
+        node: &Link,
+        bytes: &Buffer,
+        replies: &Replies<u32, Missing>,
+        uses: &mut Vec<Use>,
+    ) -> Result<Next<Link, Reply>, AllocError> {
+        uses.push(Use::Size)?;
+        let size = bytes.len();
+        Ok(linked(*node, size as u32, replies))
+    }
+
+    fn copy_answer(
+        &self,
+        _alloc: Global,
+        answer: Result<&u32, &Missing>,
+    ) -> Result<Reply, AllocError> {
+        Ok(match answer {
+            Ok(number) => Ok(*number),
+            Err(missing) => Err(*missing),
+        })
+    }
+
+    ghost exact = { spec.same_if_equal };
+
+    ghost lawful = { λ _. spec.chain_lawful };
+}
