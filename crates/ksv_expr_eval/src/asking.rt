@@ -3,6 +3,7 @@
 
 ghost use Rattle.std.specs.Prelude.{◌≡◌, ◌+◌, ◌<◌, ◌^◌, pos, Some, option_copied};
 ghost use Rattle.ksv_expr_value.specs.Bytes.{content};
+ghost use Rattle.ksv_expr_value.specs.Places.{byte_of};
 ghost use Rattle.ksv_expr_value.specs.Trail.{holder};
 ghost use Rattle.ksv_expr_eval.specs.Runs.{Runs};
 ghost use Rattle.ksv_expr_meaning.specs.Asked.{bytes_for};
@@ -204,7 +205,7 @@ pub(crate) fn stream_size(replies: &mut Replies, stream: Stream) -> Result<Value
 
 /// The current place, counted from a stream's start.
 pub(crate) fn place_in(replies: &mut Replies, place: Place, stream: Stream) -> Result<Value, Halt>
-    ensures { Runs (distance place stream.from) (λ v. v) replies.old replies.new result }
+    ensures { Runs (distance (byte_of place) stream.from) (λ v. v) replies.old replies.new result }
 {
     distance(replies, u64::from(place.byte()), stream.from)
 }

@@ -26,6 +26,7 @@ use Rattle.ksv_expr_value.specs.Encodings.{encoding_named, decoded}
 use Rattle.ksv_expr_meaning.specs.Operators.{matched, unary_of}
 use Rattle.ksv_expr_meaning.specs.Heard.{Valued, Opened, Numbered, Decided, Read}
 use Rattle.ksv_expr_value.specs.Setting.{Setting}
+use Rattle.ksv_expr_value.specs.Places.{byte_of}
 use Rattle.ksv_expr_meaning.specs.Asked.{Eval, raise, given, value_for, opened_for, number_for, truth_for, bytes_for}
 use Rattle.ksv_expr_meaning.specs.Meaning.{in_path, member_path, member_value, element_path, element_value, element_count, holder_of, stream_of, index_value, element_read, special_value, ranged_member, enum_member, in_truth_value, truth_value, decides, same_bytes, bytes_with, integer_and, truth_and, text_and, bytes_and, member_and, binary_of, distance, size_to, stream_size, at_end, stream_method, list_size, last_element, list_method, method_of, method_by, field_of, is_own_stream, object_special, special_of, decoded_text, decoded_by, text_in, bytes_call, call_one, call_two, first_byte, byte_from, byte_at, list_at, bytes_at, item_at, object_of_type, object_as, cast_to, value_of}
 use Rattle.ksv_expr_meaning.specs.Evaluation.{most_wants}
@@ -187,7 +188,7 @@ end_asks = asks_join _ _ 1 1 0 (omega arith) (truth_for_asks wants.Done) (λ b. 
 stream_method_asks : (s : Setting) (own : Bool) (w : Stream) (m : Method) → AsksAtMost 1 (stream_method s own w m)
 unfolding stream_method
 stream_method_asks s own w methods.Size = stream_size_asks w
-stream_method_asks s own w methods.Place = asks_if own 1 _ _ (distance_asks 1 s.place w.from) tt
+stream_method_asks s own w methods.Place = asks_if own 1 _ _ (distance_asks 1 (byte_of s.place) w.from) tt
 stream_method_asks s own w methods.IsAtEnd = asks_if own 1 _ _ end_asks tt
 stream_method_asks s own w _ = tt
 

@@ -28,6 +28,7 @@ use Rattle.ksv_expr_meaning.specs.Methods.{method_named}
 use Rattle.ksv_expr_value.specs.Encodings.{encoding_named, decoded}
 use Rattle.ksv_expr_meaning.specs.Operators.{exactly, matched, integers_of, same_truth, texts_of, members_of, unary_of, integer_method, truth_method, text_method, bytes_method, member_method, text_call_one, text_call_two}
 use Rattle.ksv_expr_value.specs.Setting.{Setting}
+use Rattle.ksv_expr_value.specs.Places.{byte_of}
 use Rattle.ksv_expr_meaning.specs.Asked.{Eval, raise, given, value_for, opened_for, number_for, truth_for, bytes_for}
 
 -- ---- paths
@@ -201,7 +202,7 @@ at_end = do
 -- a stream; only the home's own stream has a current place
 unfoldable pub stream_method : Setting → Bool → Stream → Method → Eval Value
 stream_method s own w methods.Size = stream_size w
-stream_method s own w methods.Place = if own then distance s.place w.from else raise kinds.BadType
+stream_method s own w methods.Place = if own then distance (byte_of s.place) w.from else raise kinds.BadType
 stream_method s own w methods.IsAtEnd = if own then at_end else raise kinds.BadType
 stream_method s own w _ = raise kinds.BadType
 

@@ -4,16 +4,17 @@
 use Rattle.std.specs.Prelude.{ℕ, suc, ◌+◌, List, [], ◌∷◌, ◌++◌, length, slice_range, Bool, true, false, ◌&&◌, nat_lt, nat_le, ◌==◌, Option, Some, None, option_map, if◌then◌else◌}
 use Rattle.ksv_bytes.specs.declared.uses.Use.{Use}
 use Rattle.ksv_bytes.specs.declared.uses.Use.TheVariants as uses
+use Rattle.ksv_expr_value.specs.Places.{Place, byte_of}
 use Rattle.ksv_expr_value.specs.declared.value.Stream.{Stream}
 use Rattle.ksv_nodes.specs.declared.turn.Found.{Found}
 use Rattle.ksv_nodes.specs.declared.turn.Found.TheVariants as founds
 
--- A reading: that a stream goes on to a place; where a stream ends; whether a place is at the end of a stream;
--- the bytes of a range; the first byte of a value from a place of a stream on.
+-- A reading: that a stream goes on to a byte's number; with which it ends; whether a place is at the end of a stream;
+-- the bytes of a range; the first byte of a value from a byte of a stream on.
 pub data Reading : Type 0 where
   Reach : Stream → ℕ → Reading
   Finish : Stream → Reading
-  Done : Stream → ℕ → Reading
+  Done : Stream → Place → Reading
   Peek : (from to : ℕ) → Reading
   Find : Stream → ℕ → (byte : ℕ) → Reading
 
@@ -92,6 +93,6 @@ find_at bytes to s b = found_from bytes to s (end_in bytes to) (first_at b (slic
 abbrev pub look : (r : Reading) → List ℕ → Look (Seen r)
 look (Reach w t) bytes = reach_within bytes w.to t
 look (Finish w) bytes = finish_of bytes w.to
-look (Done w t) bytes = done_at bytes w.to t
+look (Done w p) bytes = done_at bytes w.to (byte_of p)
 look (Peek f t) bytes = peek_at bytes f t
 look (Find w s b) bytes = find_at bytes w.to s b

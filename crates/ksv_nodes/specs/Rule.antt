@@ -5,6 +5,7 @@ use Rattle.ksv_expr_value.specs.Trail.{Trail, child}
 use Rattle.ksv_expr_value.specs.declared.fault.FaultKind.{FaultKind}
 use Rattle.ksv_expr_value.specs.declared.fault.FaultKind.TheVariants as kinds
 use Rattle.ksv_expr_value.specs.declared.step.Step.{Step}
+use Rattle.ksv_expr_value.specs.Places.{Place}
 use Rattle.ksv_expr_value.specs.declared.value.Stream.{Stream}
 use Rattle.ksv_expr_value.specs.declared.value.Value.{Value}
 use Rattle.ksv_nodes.specs.declared.node.Node.{Node}
@@ -104,8 +105,8 @@ reach w t = Ask (See (Reach w t)) (λ x. Answer x)
 abbrev pub finish : Stream → Rule ℕ
 finish w = Ask (See (Finish w)) (λ x. Answer x)
 
-abbrev pub done : Stream → ℕ → Rule Bool
-done w t = Ask (See (Done w t)) (λ x. Answer x)
+abbrev pub done : Stream → Place → Rule Bool
+done w p = Ask (See (Done w p)) (λ x. Answer x)
 
 abbrev pub peek : ℕ → ℕ → Rule (List ℕ)
 peek f t = Ask (See (Peek f t)) (λ x. Answer x)

@@ -25,10 +25,10 @@ const INLINE_USES: usize = 2;
 /// Where the first byte of a value is in a stream.
 #[derive(Clone, Copy, Debug)]
 pub enum Found {
-    /// At this place.
-    At(Place),
-    /// Nowhere before the stream's end, which is this place.
-    Missing(Place),
+    /// It is the byte of this number.
+    At(u32),
+    /// Nowhere; the byte of this number is the first after the stream.
+    Missing(u32),
 }
 
 /// Why a rule halts before its end.
@@ -419,15 +419,15 @@ impl<'a> Turn<'a> {
         }
     }
 
-    /// The place a number of bytes after another. It requires that the stream and the file go on to it.
+    /// The number of the byte that lies a size behind another one. The stream and the file must go on to it.
     #[tactic(auto, unfolding(crate::specs::Reading::reach_within, crate::specs::Reading::reach_file))]
     #[inline(always)]
-    pub fn reach(&mut self, stream: Stream, from: Place, size: u64) -> Result<Place, Halt>
+    pub fn reach(&mut self, stream: Stream, from: u32, size: u64) -> Result<u32, Halt>
         ensures runs { Runs (reach stream (from + size)) (λ _. tt) self.old self.new result }
-        ensures place { IfOk result (λ place. place ≡ from + size) }
-        ensures fits { IfOk result (λ place. place ≤ file_limit) }
+        ensures byte { IfOk result (λ to. to ≡ from + size) }
+        ensures fits { IfOk result (λ to. to ≤ file_limit) }
     {
-        let to = u128::from(from.byte()) + u128::from(size);
+        let to = u128::from(from) + u128::from(size);
         if let Some(end) = stream.to {
             if u128::from(end) < to {
                 return self.raise(FaultKind::EndOfBytes);
@@ -435,23 +435,23 @@ impl<'a> Turn<'a> {
         }
         if to <= self.bytes.len() as u128 {
             self.uses.push(Use::Reach(to as u32))?;
-            Ok(Place::of_byte(to as u32))
+            Ok(to as u32)
         } else {
             self.uses.push(Use::Size)?;
             self.raise(FaultKind::EndOfBytes)
         }
     }
 
-    /// Where a stream ends.
+    /// The number of the byte after a stream's last one.
     #[tactic(auto, unfolding(crate::specs::Reading::finish_of))]
-    pub fn finish(&mut self, stream: Stream) -> Result<Place, Halt>
-        ensures { Runs (finish stream) (λ place. place) self.old self.new result }
+    pub fn finish(&mut self, stream: Stream) -> Result<u32, Halt>
+        ensures { Runs (finish stream) (λ end. end) self.old self.new result }
     {
         match stream.to {
-            Some(end) => Ok(Place::of_byte(end)),
+            Some(end) => Ok(end),
             None => {
                 self.uses.push(Use::Size)?;
-                Ok(Place::of_byte(self.bytes.len() as u32))
+                Ok(self.bytes.len() as u32)
             }
         }
     }
@@ -475,12 +475,11 @@ impl<'a> Turn<'a> {
         }
     }
 
-    /// The bytes of a range.
+    /// The bytes from one of a number on and before another.
     #[tactic(auto, unfolding(crate::specs::Reading::peek_at, crate::specs::Reading::cut_uses))]
-    pub fn peek(&mut self, from: Place, to: Place) -> Result<Parts<'a>, Halt>
+    pub fn peek(&mut self, from: u32, to: u32) -> Result<Parts<'a>, Halt>
         ensures { Runs (peek from to) content self.old self.new result }
     {
-        let (from, to) = (from.byte(), to.byte());
         if from == to {
             return Ok(Parts {
                 front: &[],
@@ -530,23 +529,22 @@ impl<'a> Turn<'a> {
         Some(place as u32)
     }
 
-    /// The first byte of a value from a place on, before the stream's end.
+    /// The first byte of a value from one of this number on, before the stream's end.
     #[tactic(auto, unfolding(crate::specs::Reading::find_at, crate::specs::Reading::found_from, crate::specs::Reading::found_none, crate::specs::Reading::finish_of))]
-    pub fn find(&mut self, stream: Stream, start: Place, byte: u8) -> Result<Found, Halt>
+    pub fn find(&mut self, stream: Stream, start: u32, byte: u8) -> Result<Found, Halt>
         ensures runs { Runs (find stream start byte) (λ found. found) self.old self.new result }
         ensures fits { IfOk result (StandsBelow file_limit) }
     {
-        let start = start.byte();
         let end = self.end_in(stream);
         match self.first_in(start, end, byte) {
             Some(place) => {
                 self.uses.push(Use::Bytes(start, start + place + 1))?;
-                Ok(Found::At(Place::of_byte(start + place)))
+                Ok(Found::At(start + place))
             }
             None => {
                 self.finish(stream)?;
-                self.peek(Place::of_byte(start), Place::of_byte(end))?;
-                Ok(Found::Missing(Place::of_byte(end)))
+                self.peek(start, end)?;
+                Ok(Found::Missing(end))
             }
         }
     }

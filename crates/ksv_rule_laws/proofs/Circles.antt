@@ -6,6 +6,7 @@ use Rattle.std.proofs.lemmas.List.Elements.{Contains-append_left, Contains-appen
 use Rattle.ksv_basics.specs.Plan.{Answer, Fail, Ask, bind}
 use Rattle.ksv_expr_tree.specs.Tree.{Tree, Arguments, no_arguments, argument}
 use Rattle.ksv_desc.specs.declared.order.ByteOrder.{ByteOrder}
+use Rattle.ksv_expr_value.specs.Places.{Place, at_byte, byte_of, is_same}
 use Rattle.ksv_expr_value.specs.Setting.{Setting}
 use Rattle.ksv_expr_meaning.specs.Meaning.{value_of as value_in}
 use Rattle.ksv_expr_meaning.specs.declared.want.Want.{Want}
@@ -54,7 +55,7 @@ use Rattle.ksv_rule_meaning.specs.Wanted.{whole, in_object, wanted, expression, 
 use Rattle.ksv_rule_meaning.specs.Choosing.{Chosen, switched, choose, in_case, content_of}
 use Rattle.ksv_rule_meaning.specs.Integers.{integer_value}
 use Rattle.ksv_rule_meaning.specs.Values.{in_number, number_value, fixed_value, cut_by, cut_bytes, bytes_value, in_text, cut_text, text_value, content_value, leaf_value, in_no_stream, in_enum, instance_value, given_by, arguments_for, argument_at, plain_value, argument_value, parameter_value, calc_value, calculated, value_at, value_of}
-use Rattle.ksv_rule_meaning.specs.Ends.{fields_end, object_end, part_rest, list_end, absent_end, place_of, start_of, behind_element, is_last, is_by_bytes, not_empty, element_end, end_at, end_of, next_rest, rest_from, in_whole_list, whole_rest, rest_at, rest_of}
+use Rattle.ksv_rule_meaning.specs.Ends.{stream_end, fields_end, object_end, part_rest, list_end, absent_end, place_of, start_of, behind_element, is_last, is_by_bytes, not_empty, element_end, end_at, end_of, next_rest, rest_from, in_whole_list, whole_rest, rest_at, rest_of}
 use Rattle.ksv_rule_meaning.specs.Heads.{leaf, leaf_to_end, terminated_at, terminated, run_of, sized_leaf, bytes_at, sized_object, object_at, content_at, unchosen_at, chosen_at, shape_at, in_count, count_of, counted, until_eos, repeated, attribute_at, part_end, attribute_start, origin_of, attribute_head, instance_setting, positioned_in, positioned, instance_head, value_head, member_at, member_head, in_list, is_past, next_start, element_start, element_head, head_at, head_of}
 use Rattle.ksv_rule_meaning.specs.Meaning.{meaning_of, rule_of}
 use Rattle.ksv_rule_meaning.specs.FromNothing.{circle, answer_within, from_nothing}
@@ -206,36 +207,36 @@ content_of_own (Switch on cases) (Some i) = in_case_own (slice_get cases i)
 
 -- ---- heads
 
-leaf_own : (origin : Origin) (w : Stream) (s n : ℕ) → Own (leaf origin w s n)
+leaf_own : (origin : Origin) (w : Stream) (s : Place) (n : ℕ) → Own (leaf origin w s n)
 unfolding leaf
-leaf_own origin w s n = join (reach w (s + n)) _ (λ x. tt) (λ x. tt)
+leaf_own origin w s n = join (reach w (byte_of s + n)) _ (λ x. tt) (λ x. tt)
 
-leaf_to_end_own : (origin : Origin) (w : Stream) (s : ℕ) → Own (leaf_to_end origin w s)
+leaf_to_end_own : (origin : Origin) (w : Stream) (s : Place) → Own (leaf_to_end origin w s)
 unfolding leaf_to_end
 leaf_to_end_own origin w s = join (finish w) _ (λ e. tt) (λ e. tt)
 
-terminated_at_own : (origin : Origin) (s : ℕ) (t : Terminator) (q : Found) → Own (terminated_at origin s t q)
+terminated_at_own : (origin : Origin) (s : Place) (t : Terminator) (q : Found) → Own (terminated_at origin s t q)
 terminated_at_own origin s t (founds.At q) = tt
 terminated_at_own origin s t (founds.Missing e) = either t.is_required _ _ tt tt
 
-run_own : (origin : Origin) (w : Stream) (s : ℕ) (t : Option Terminator) → Own (run_of origin w s t)
+run_own : (origin : Origin) (w : Stream) (s : Place) (t : Option Terminator) → Own (run_of origin w s t)
 unfolding run_of terminated
 run_own origin w s None = tt
-run_own origin w s (Some t) = join (find w s t.byte) _ (λ q. tt) (λ q. terminated_at_own origin s t q)
+run_own origin w s (Some t) = join (find w (byte_of s) t.byte) _ (λ q. tt) (λ q. terminated_at_own origin s t q)
 
-bytes_own : (at : Setting) (origin : Origin) (w : Stream) (s : ℕ) (x : Extent) (t : Option Terminator) → Own (bytes_at at origin w s x t)
+bytes_own : (at : Setting) (origin : Origin) (w : Stream) (s : Place) (x : Extent) (t : Option Terminator) → Own (bytes_at at origin w s x t)
 unfolding bytes_at sized_leaf
 bytes_own at origin w s (Sized e) t = join _ _ (size_own at e) (λ n. leaf_own origin w s n)
 bytes_own at origin w s SizeEos t = leaf_to_end_own origin w s
 bytes_own at origin w s ByItself t = run_own origin w s t
 
-object_own : (at : Setting) (origin : Origin) (t : ℕ) (w : Stream) (s : ℕ) (x : Extent) → Own (object_at at origin t w s x)
+object_own : (at : Setting) (origin : Origin) (t : ℕ) (w : Stream) (s : Place) (x : Extent) → Own (object_at at origin t w s x)
 unfolding object_at sized_object
-object_own at origin t w s (Sized e) = join _ _ (size_own at e) (λ n. join (reach w (s + n)) _ (λ x. tt) (λ x. tt))
+object_own at origin t w s (Sized e) = join _ _ (size_own at e) (λ n. join (reach w (byte_of s + n)) _ (λ x. tt) (λ x. tt))
 object_own at origin t w s SizeEos = tt
 object_own at origin t w s ByItself = tt
 
-content_own : (at : Setting) (origin : Origin) (w : Stream) (s : ℕ) (f : Field) (c : Content) → Own (content_at at origin w s f c)
+content_own : (at : Setting) (origin : Origin) (w : Stream) (s : Place) (f : Field) (c : Content) → Own (content_at at origin w s f c)
 unfolding content_at
 content_own at origin w s f contents.Bytes = bytes_own at origin w s f.extent f.terminator
 content_own at origin w s f (contents.Fixed bs) = leaf_own origin w s (length bs)
@@ -243,17 +244,17 @@ content_own at origin w s f (contents.Number signed size order enum) = leaf_own 
 content_own at origin w s f (contents.Characters encoding) = bytes_own at origin w s f.extent f.terminator
 content_own at origin w s f (contents.Object t given) = object_own at origin t w s f.extent
 
-unchosen_own : (at : Setting) (origin : Origin) (w : Stream) (s : ℕ) (x : Extent) → Own (unchosen_at at origin w s x)
+unchosen_own : (at : Setting) (origin : Origin) (w : Stream) (s : Place) (x : Extent) → Own (unchosen_at at origin w s x)
 unfolding unchosen_at sized_leaf
 unchosen_own at origin w s (Sized e) = join _ _ (size_own at e) (λ n. leaf_own origin w s n)
 unchosen_own at origin w s SizeEos = leaf_to_end_own origin w s
 unchosen_own at origin w s ByItself = tt
 
-chosen_own : (at : Setting) (origin : Origin) (w : Stream) (s : ℕ) (f : Field) (c : Option Chosen) → Own (chosen_at at origin w s f c)
+chosen_own : (at : Setting) (origin : Origin) (w : Stream) (s : Place) (f : Field) (c : Option Chosen) → Own (chosen_at at origin w s f c)
 chosen_own at origin w s f None = unchosen_own at origin w s f.extent
 chosen_own at origin w s f (Some c) = content_own at _ w s f c.content
 
-shape_own : (at : Setting) (origin : Origin) (w : Stream) (s : ℕ) (f : Field) → Own (shape_at at origin w s f)
+shape_own : (at : Setting) (origin : Origin) (w : Stream) (s : Place) (f : Field) → Own (shape_at at origin w s f)
 unfolding shape_at
 shape_own at origin w s f = join _ _ (choose_own at f.choice) (λ c. chosen_own at origin w s f c)
 
@@ -264,14 +265,14 @@ count_own : (at : Setting) (e : Tree) → Own (count_of at e)
 unfolding count_of
 count_own at e = join _ _ (size_own at e) (λ n. in_count_own n)
 
-repeated_own : (at : Setting) (origin : Origin) (w : Stream) (s : ℕ) (f : Field) (r : Repeat) → Own (repeated at origin w s f r)
+repeated_own : (at : Setting) (origin : Origin) (w : Stream) (s : Place) (f : Field) (r : Repeat) → Own (repeated at origin w s f r)
 unfolding repeated counted until_eos
 repeated_own at origin w s f Once = shape_own at origin w s f
 repeated_own at origin w s f (Expr e) = join _ _ (count_own at e) (λ n. tt)
 repeated_own at origin w s f Eos = join (done w s) _ (λ b. tt) (λ b. tt)
 repeated_own at origin w s f (Until e) = tt
 
-attribute_own : (at : Setting) (origin : Origin) (w : Stream) (s : ℕ) (f : Field) → Own (attribute_at at origin w s f)
+attribute_own : (at : Setting) (origin : Origin) (w : Stream) (s : Place) (f : Field) → Own (attribute_at at origin w s f)
 unfolding attribute_at
 attribute_own at origin w s f = join _ _ (holds_own at f.condition) (λ there. either there _ _ (repeated_own at origin w s f f.repeat) tt)
 
@@ -290,7 +291,7 @@ attribute_head_own p q o x f = join _ _ (start_own q o x.before) (λ s. attribut
 
 positioned_in_own : (at : Setting) (origin : Origin) (w : Stream) (e : Tree) (f : Field) → Own (positioned_in at origin w e f)
 unfolding positioned_in
-positioned_in_own at origin w e f = join _ _ (size_own at e) (λ n. join (reach w (w.from + n)) _ (λ x. tt) (λ x. repeated_own _ origin w (w.from + n) f f.repeat))
+positioned_in_own at origin w e f = join _ _ (size_own at e) (λ n. join (reach w (w.from + n)) _ (λ x. tt) (λ x. repeated_own _ origin w (at_byte (w.from + n)) f f.repeat))
 
 positioned_own : (at : Setting) (origin : Origin) (e : Tree) (io : Option Tree) (f : Field) → Own (positioned at origin e io f)
 unfolding positioned
@@ -351,16 +352,16 @@ in_number_own enum (Some n) = tt
 
 number_own : (l : Leaf) (signed : Bool) (order : ByteOrder) (enum : Option ℕ) → Own (number_value l signed order enum)
 unfolding number_value
-number_own l signed order enum = join (peek l.from l.to) _ (λ bs. tt) (λ bs. either (nat_le (length bs) 8) _ _ (in_number_own enum (ranged (integer_value signed order bs))) tt)
+number_own l signed order enum = join (peek (byte_of l.from) (byte_of l.to)) _ (λ bs. tt) (λ bs. either (nat_le (length bs) 8) _ _ (in_number_own enum (ranged (integer_value signed order bs))) tt)
 
 fixed_own : (l : Leaf) (expected : List ℕ) → Own (fixed_value l expected)
 unfolding fixed_value
-fixed_own l expected = join (peek l.from l.to) _ (λ bs. tt) (λ bs. either (bytes_eq bs expected) _ _ tt tt)
+fixed_own l expected = join (peek (byte_of l.from) (byte_of l.to)) _ (λ bs. tt) (λ bs. either (bytes_eq bs expected) _ _ tt tt)
 
 bytes_value_own : (l : Leaf) (t : Option Terminator) → Own (bytes_value l t)
 unfolding bytes_value cut_bytes
 bytes_value_own l None = tt
-bytes_value_own l (Some t) = join (peek l.from l.to) _ (λ bs. tt) (λ bs. tt)
+bytes_value_own l (Some t) = join (peek (byte_of l.from) (byte_of l.to)) _ (λ bs. tt) (λ bs. tt)
 
 in_text_own : (t : Option (List ℕ)) → Own (in_text t)
 in_text_own None = tt
@@ -368,7 +369,7 @@ in_text_own (Some t) = tt
 
 text_own : (l : Leaf) (encoding : Encoding) (t : Option Terminator) → Own (text_value l encoding t)
 unfolding text_value
-text_own l encoding t = join (peek l.from l.to) _ (λ bs. tt) (λ bs. in_text_own (decoded encoding (cut_text t bs)))
+text_own l encoding t = join (peek (byte_of l.from) (byte_of l.to)) _ (λ bs. tt) (λ bs. in_text_own (decoded encoding (cut_text t bs)))
 
 content_value_own : (l : Leaf) (f : Field) (c : Content) → Own (content_value l f c)
 unfolding content_value
@@ -446,14 +447,18 @@ value_of_own d p = join _ _ (head_own p) (λ h. value_at_own d p h)
 
 -- ---- ends
 
-fields_end_own : (p : Trail) (start : ℕ) (z : Option ℕ) → Own (fields_end p start z)
+fields_end_own : (p : Trail) (start : Place) (z : Option ℕ) → Own (fields_end p start z)
 unfolding fields_end
 fields_end_own p start None = tt
 fields_end_own p start (Some z) = join _ _ (part_end_own p (steps.Name z)) (λ e. tt)
 
+stream_end_own : (w : Stream) → Own (stream_end w)
+unfolding stream_end
+stream_end_own w = join (finish w) _ (λ e. tt) (λ e. tt)
+
 object_end_own : (d : Description) (p : Trail) (o : Object) (e : ObjectEnd) → Own (object_end d p o e)
 unfolding object_end
-object_end_own d p o endings.OfStream = λ n. tt
+object_end_own d p o endings.OfStream = stream_end_own o.stream
 object_end_own d p o endings.ByFields = fields_end_own p o.start (last_attribute None (members_of d o.type_number))
 
 part_rest_own : (p : Trail) (step : Step) → Own (part_rest p step)
@@ -464,7 +469,7 @@ list_end_own : (p : Trail) → Own (list_end p)
 unfolding list_end
 list_end_own p = join _ _ (part_rest_own p (steps.Index 0)) (λ r. tt)
 
-absent_end_own : (at : Option ℕ) → Own (absent_end at)
+absent_end_own : (at : Option Place) → Own (absent_end at)
 absent_end_own None = tt
 absent_end_own (Some s) = tt
 
@@ -476,24 +481,24 @@ place_own d p (heads.Leaf l) = tt
 place_own d p (heads.Object o) = object_end_own d p o o.ending
 place_own d p (heads.List g) = list_end_own p
 
-is_last_own : (q : Trail) (g : lists.List) (p : Trail) (i e : ℕ) (r : Repeat) → Own (is_last q g p i e r)
+is_last_own : (q : Trail) (g : lists.List) (p : Trail) (i : ℕ) (e : Place) (r : Repeat) → Own (is_last q g p i e r)
 unfolding is_last
 is_last_own q g p i e Once = tt
 is_last_own q g p i e (Expr n) = tt
 is_last_own q g p i e Eos = λ b. tt
 is_last_own q g p i e (Until c) = truth_own (behind_element q g p i e) c
 
-not_empty_own : (r : Repeat) (start e : ℕ) → Own (not_empty r start e)
+not_empty_own : (r : Repeat) (start e : Place) → Own (not_empty r start e)
 unfolding not_empty
-not_empty_own r start e = either (is_by_bytes r) _ _ (either (e == start) _ _ tt tt) tt
+not_empty_own r start e = either (is_by_bytes r) _ _ (either (is_same e start) _ _ tt tt) tt
 
-element_end_own : (d : Description) (p l q : Trail) (i : ℕ) (h : Head) (e : ℕ) → Own (element_end d p l q i h e)
+element_end_own : (d : Description) (p l q : Trail) (i : ℕ) (h : Head) (e : Place) → Own (element_end d p l q i h e)
 unfolding element_end
 element_end_own d p l q i h e =
     join _ _ (head_own l) (λ k. join _ _ (in_list_own l k) (λ g. join _ _ (field_own d g.origin.member) (λ f.
     join _ _ (not_empty_own f.repeat (start_of h) e) (λ u. join _ _ (is_last_own q g p i e f.repeat) (λ b. tt)))))
 
-end_at_own : (d : Description) (p : Trail) (step : Option Step) (h : Head) (e : ℕ) → Own (end_at d p step h e)
+end_at_own : (d : Description) (p : Trail) (step : Option Step) (h : Head) (e : Place) → Own (end_at d p step h e)
 end_at_own d p (Some (steps.Index i)) h e = element_end_own d p (parent p) (parent (parent p)) i h e
 end_at_own d p _ h e = tt
 

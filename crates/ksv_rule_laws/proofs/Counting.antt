@@ -4,6 +4,7 @@ use Rattle.std.proofs.lemmas.Bool.{cases_lt}
 use Rattle.std.proofs.lemmas.Bool.Decides.{nat_tests}
 use Rattle.ksv_basics.specs.Plan.{Answer}
 use Rattle.ksv_expr_tree.specs.Tree.{Tree}
+use Rattle.ksv_expr_value.specs.Places.{Place}
 use Rattle.ksv_expr_value.specs.Trail.{Trail, child, parent, last, first_step, all_but_last, same_trail, trail_of, trail_of-steps, trail_of-true}
 use Rattle.ksv_expr_value.specs.declared.fault.Fault.{Fault}
 use Rattle.ksv_expr_value.specs.declared.fault.FaultKind.TheVariants as kinds
@@ -62,13 +63,13 @@ module _ (met : Node → Result Given Fault) (here : Trail) (bytes : List ℕ) w
   is_other : (m n : ℕ) → m < n → (m == n) ≡ false
   is_other m n lt = grind (arith, nat_tests)
 
-  last_one : (l p : Trail) (i place : ℕ) → child l (steps.Index i) ≡ Some p → met (end_node p) ≡ Ok (givens.End place true) → AreElements met l i (i + 1) place
+  last_one : (l p : Trail) (i : ℕ) (place : Place) → child l (steps.Index i) ≡ Some p → met (end_node p) ≡ Ok (givens.End place true) → AreElements met l i (i + 1) place
   last_one l p i place is ended = record { some = omega arith; each = λ j low high. (let same : i ≡ j = omega arith in subst (λ k. EndsAsOf met l k (i + 1) place) same one) }
     where
       one : EndsAsOf met l i (i + 1) place
       one = record { path = p; is = is; ends = place; ended = ended ∙ ap (λ b. Ok (givens.End place b)) (sym (is_same (i + 1))); last_ends = λ e. refl }
 
-  one_more : (l p : Trail) (i ends c place : ℕ) → child l (steps.Index i) ≡ Some p → met (end_node p) ≡ Ok (givens.End ends false) → AreElements met l (i + 1) c place → AreElements met l i c place
+  one_more : (l p : Trail) (i : ℕ) (ends : Place) (c : ℕ) (place : Place) → child l (steps.Index i) ≡ Some p → met (end_node p) ≡ Ok (givens.End ends false) → AreElements met l (i + 1) c place → AreElements met l i c place
   one_more l p i ends c place is ended more = record {
     some = low_more;
     each = λ j low high. elim (cases_lt i j) [
@@ -83,14 +84,14 @@ module _ (met : Node → Result Given Fault) (here : Trail) (bytes : List ℕ) w
       one : EndsAsOf met l i c place
       one = let some = more.some in record { path = p; is = is; ends = ends; ended = ended ∙ ap (λ b. Ok (givens.End ends b)) (sym (is_other (i + 1) c some)); last_ends = λ e. absurd (omega arith) }
 
-  rest_counts : (p l : Trail) (i : ℕ) (x : Rested) → child l (steps.Index i) ≡ Some p → ((r : Trail) (c place : ℕ) → child l (steps.Index (i + 1)) ≡ Some r → met (rest_node r) ≡ Ok (givens.Rest c place) → AreElements met l (i + 1) c place)
+  rest_counts : (p l : Trail) (i : ℕ) (x : Rested) → child l (steps.Index i) ≡ Some p → ((r : Trail) (c : ℕ) (place : Place) → child l (steps.Index (i + 1)) ≡ Some r → met (rest_node r) ≡ Ok (givens.Rest c place) → AreElements met l (i + 1) c place)
       → answer (rest_from p l i) ≡ Ok x → AreElements met l i x.count x.place
   unfolding rest_from next_rest part_rest
   rest_counts p l i x is later z =
       let e = goes_on met here bytes (ask_end p) (λ y. rest_behind l i y) x z in
       by_last e.first.last e.first.place (asked_end met here bytes p e.first e.was) e.gave
     where
-      by_last : (b : Bool) (place : ℕ) → met (end_node p) ≡ Ok (givens.End place b) → answer_of met here bytes (if b then Answer (record { count = i + 1; place = place }) else next_rest l i) ≡ Ok x → AreElements met l i x.count x.place
+      by_last : (b : Bool) (place : Place) → met (end_node p) ≡ Ok (givens.End place b) → answer_of met here bytes (if b then Answer (record { count = i + 1; place = place }) else next_rest l i) ≡ Ok x → AreElements met l i x.count x.place
       by_last true place ended z' = subst (λ (y : Rested). AreElements met l i y.count y.place) (ok_is (record { count = i + 1; place = place }) x z') (last_one l p i place is ended)
       by_last false place ended z' =
           let b = goes_on met here bytes (part l (steps.Index (i + 1))) (λ r. ask_rest r) x (refused met here bytes _ (part_rest l (steps.Index (i + 1))) kinds.TooMany x z') in
@@ -98,10 +99,10 @@ module _ (met : Node → Result Given Fault) (here : Trail) (bytes : List ℕ) w
 
   -- ---- from the first element on
 
-  abbrev pub Counts : Trail → ℕ → ℕ → Type 0
+  abbrev pub Counts : Trail → ℕ → Place → Type 0
   Counts l c place = IsEmptyList met l c place ⊎ AreElements met l 0 c place
 
-  whole_counts : (p l : Trail) (x : Rested) → child l (steps.Index 0) ≡ Some p → ((r : Trail) (c place : ℕ) → child l (steps.Index (0 + 1)) ≡ Some r → met (rest_node r) ≡ Ok (givens.Rest c place) → AreElements met l (0 + 1) c place)
+  whole_counts : (p l : Trail) (x : Rested) → child l (steps.Index 0) ≡ Some p → ((r : Trail) (c : ℕ) (place : Place) → child l (steps.Index (0 + 1)) ≡ Some r → met (rest_node r) ≡ Ok (givens.Rest c place) → AreElements met l (0 + 1) c place)
       → answer (whole_rest p l) ≡ Ok x → Counts l x.count x.place
   unfolding whole_rest
   whole_counts p l x is later z =
@@ -121,7 +122,7 @@ module _ (met : Node → Result Given Fault) (here : Trail) (bytes : List ℕ) w
 
 -- ---- evaluation from nothing
 
-rest_is : (x : Rested) (c place : ℕ) → givens.Rest x.count x.place ≡ givens.Rest c place → (x.count ≡ c) × (x.place ≡ place)
+rest_is : (x : Rested) (c : ℕ) (place : Place) → givens.Rest x.count x.place ≡ givens.Rest c place → (x.count ≡ c) × (x.place ≡ place)
 rest_is x c place e = (cc, cc)
 
 -- a part's last step, and what it is a part of
@@ -131,10 +132,10 @@ part_of q r step e =
     (same_trail (parent r) q (ap all_but_last (sym up)), ap first_step (sym up))
 
 module _ (met met' : Node → Result Given Fault) (same : (m : Node) (g : Given) → met m ≡ Ok g → met' m ≡ Ok g) where
-  still_elements : (l : Trail) (i c place : ℕ) → AreElements met l i c place → AreElements met' l i c place
+  still_elements : (l : Trail) (i c : ℕ) (place : Place) → AreElements met l i c place → AreElements met' l i c place
   still_elements l i c place a = record { some = a.some; each = λ j low high. (let e = a.each j low high in record { path = e.path; is = e.is; ends = e.ends; ended = same (end_node e.path) (givens.End e.ends (j + 1 == c)) e.ended; last_ends = e.last_ends }) }
 
-  still_empty : (l : Trail) (c place : ℕ) → IsEmptyList met l c place → IsEmptyList met' l c place
+  still_empty : (l : Trail) (c : ℕ) (place : Place) → IsEmptyList met l c place → IsEmptyList met' l c place
   still_empty l c place e = record { list = e.list; answered = same (head_node l) (givens.Head (heads.List e.list)) e.answered; empty = e.empty; none = e.none; start = e.start }
 
 module _ (d : Description) (bytes : List ℕ) where
@@ -145,13 +146,13 @@ module _ (d : Description) (bytes : List ℕ) where
   lifted depth opened n m g e = stays_within d bytes depth (suc depth) (n ∷ opened) opened m g (omega arith) (among_more n opened) e
 
   -- what the rule of a rest answered
-  record Rests (depth : ℕ) (opened : List Node) (p : Trail) (c place : ℕ) : Type 0 where
+  record Rests (depth : ℕ) (opened : List Node) (p : Trail) (c : ℕ) (place : Place) : Type 0 where
     rested : Rested
     count_is : rested.count ≡ c
     place_is : rested.place ≡ place
     was : answer_of (at depth (rest_node p ∷ opened)) p bytes (rest_of d p) ≡ Ok rested
 
-  rests : (depth : ℕ) (opened : List Node) (p : Trail) (c place : ℕ) → at (suc depth) opened (rest_node p) ≡ Ok (givens.Rest c place) → Rests depth opened p c place
+  rests : (depth : ℕ) (opened : List Node) (p : Trail) (c : ℕ) (place : Place) → at (suc depth) opened (rest_node p) ≡ Ok (givens.Rest c place) → Rests depth opened p c place
   unfolding meaning_of
   rests depth opened p c place e =
       let met = at depth (rest_node p ∷ opened) in
@@ -160,7 +161,7 @@ module _ (d : Description) (bytes : List ℕ) where
       let same = rest_is b.first c place (ok_is (givens.Rest b.first.count b.first.place) (givens.Rest c place) b.gave) in
       record { rested = b.first; count_is = same.0; place_is = same.1; was = b.was }
 
-  later_counts : (depth : ℕ) (opened : List Node) (l p : Trail) (i c place : ℕ) → child l (steps.Index (i + 1)) ≡ Some p → at depth opened (rest_node p) ≡ Ok (givens.Rest c place) → AreElements (at depth opened) l (i + 1) c place
+  later_counts : (depth : ℕ) (opened : List Node) (l p : Trail) (i c : ℕ) (place : Place) → child l (steps.Index (i + 1)) ≡ Some p → at depth opened (rest_node p) ≡ Ok (givens.Rest c place) → AreElements (at depth opened) l (i + 1) c place
   unfolding rest_of
   later_counts zero opened l p i c place is e = absurd (no_depth d bytes opened (rest_node p) (givens.Rest c place) e)
   later_counts (suc depth) opened l p i c place is e =
@@ -174,7 +175,7 @@ module _ (d : Description) (bytes : List ℕ) where
       let counted = rest_counts met p bytes p l (i + 1) r.rested is (λ q c' place' is' e'. later_counts depth (rest_node p ∷ opened) l q (i + 1) c' place' is' e') from in
       still_elements met (at (suc depth) opened) (lifted depth opened (rest_node p)) l (i + 1) c place (subst (λ n. AreElements met l (i + 1) n place) r.count_is (subst (λ n. AreElements met l (i + 1) r.rested.count n) r.place_is counted))
 
-  first_counts : (depth : ℕ) (opened : List Node) (p : Trail) (c place : ℕ) → last p ≡ Some (steps.Index 0) → at depth opened (rest_node p) ≡ Ok (givens.Rest c place) → Counts (at depth opened) p bytes (parent p) c place
+  first_counts : (depth : ℕ) (opened : List Node) (p : Trail) (c : ℕ) (place : Place) → last p ≡ Some (steps.Index 0) → at depth opened (rest_node p) ≡ Ok (givens.Rest c place) → Counts (at depth opened) p bytes (parent p) c place
   unfolding rest_of
   first_counts zero opened p c place is e = absurd (no_depth d bytes opened (rest_node p) (givens.Rest c place) e)
   first_counts (suc depth) opened p c place is e =
@@ -208,7 +209,7 @@ module _ (d : Description) (bytes : List ℕ) where
         by_kind _ is e' = absurd is
 
     -- the last element has the number that the list's count tells
-    told_at : (p : Trail) (i n : ℕ) (h : Head) (e : ℕ) (x : Ended) (g : lists.List) (f : Field) (c : Tree) → answer_of met here bytes (element_end d p (parent p) (parent (parent p)) i h e) ≡ Ok x
+    told_at : (p : Trail) (i n : ℕ) (h : Head) (e : Place) (x : Ended) (g : lists.List) (f : Field) (c : Tree) → answer_of met here bytes (element_end d p (parent p) (parent (parent p)) i h e) ≡ Ok x
         → ((k : lists.List) → met (head_node (parent p)) ≡ Ok (givens.Head (heads.List k)) → k ≡ g) → IsFieldOf d g.origin.member f → f.repeat ≡ Expr c → g.count ≡ Some n → x.last ≡ (n == i + 1)
     unfolding element_end is_last
     told_at p i n h e x g f c z one own repeat count =
@@ -226,10 +227,10 @@ module _ (d : Description) (bytes : List ℕ) where
         by_head (heads.List k) g' asked was = sym (ok_is k g' was) ∙ one k asked
         by_head _ g' asked was = absurd (cc)
 
-  end_is : (x : Ended) (place : ℕ) (b : Bool) → givens.End x.place x.last ≡ givens.End place b → x.last ≡ b
+  end_is : (x : Ended) (place : Place) (b : Bool) → givens.End x.place x.last ≡ givens.End place b → x.last ≡ b
   end_is x place b e = cc
 
-  told_within : (depth : ℕ) (opened : List Node) (p : Trail) (i n place : ℕ) (b : Bool) (g : lists.List) (f : Field) (c : Tree) → last p ≡ Some (steps.Index i) → at depth opened (end_node p) ≡ Ok (givens.End place b)
+  told_within : (depth : ℕ) (opened : List Node) (p : Trail) (i n : ℕ) (place : Place) (b : Bool) (g : lists.List) (f : Field) (c : Tree) → last p ≡ Some (steps.Index i) → at depth opened (end_node p) ≡ Ok (givens.End place b)
       → at depth opened (head_node (parent p)) ≡ Ok (givens.Head (heads.List g)) → IsFieldOf d g.origin.member f → f.repeat ≡ Expr c → g.count ≡ Some n → b ≡ (n == i + 1)
   unfolding meaning_of end_of
   told_within zero opened p i n place b g f c is e holder own repeat count = absurd (no_depth d bytes opened (end_node p) (givens.End place b) e)

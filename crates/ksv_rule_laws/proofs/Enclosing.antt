@@ -7,6 +7,7 @@ use Rattle.std.proofs.lemmas.Bool.Decides.{nat_tests}
 use Rattle.std.proofs.lemmas.Grind.{common_steps}
 use Rattle.ksv_basics.specs.Plan.{Answer}
 use Rattle.ksv_expr_tree.specs.Tree.{Tree}
+use Rattle.ksv_expr_value.specs.Places.{Place, at_byte, byte_of}
 use Rattle.ksv_expr_value.specs.Setting.{Setting}
 use Rattle.ksv_expr_value.specs.Trail.{Trail, child, parent, last, first_step, all_but_last, same_trail, trail_of-steps}
 use Rattle.ksv_expr_value.specs.declared.fault.Fault.{Fault}
@@ -43,10 +44,10 @@ use Rattle.ksv_rule_meaning.specs.Wanted.{expression, in_object, in_stream, hold
 use Rattle.ksv_rule_meaning.specs.Choosing.{Chosen, choose}
 use Rattle.ksv_rule_meaning.specs.Fields.{members_of, is_attribute, behind, Sought, sought, in_sought, member_named, last_attribute, field_of}
 use Rattle.ksv_rule_meaning.specs.Heads.{leaf, leaf_to_end, terminated_at, terminated, run_of, sized_leaf, bytes_at, sized_object, object_at, content_at, unchosen_at, chosen_at, shape_at, count_of, counted, until_eos, repeated, attribute_at, part_end, attribute_start, setting, origin_of, attribute_head, instance_setting, positioned_in, positioned, instance_head, calc, value_head, member_at, member_head, in_list, is_past, in_next, next_start, element_start, within, element_head, root_head, head_at, head_of}
-use Rattle.ksv_rule_meaning.specs.Ends.{fields_end, object_end, part_rest, list_end, place_of, is_last, not_empty, element_end, end_at, end_of, next_rest, rest_behind, rest_from, in_whole_list, first_rest, whole_rest, rest_at, rest_of}
+use Rattle.ksv_rule_meaning.specs.Ends.{stream_end, fields_end, object_end, part_rest, list_end, place_of, is_last, not_empty, element_end, end_at, end_of, next_rest, rest_behind, rest_from, in_whole_list, first_rest, whole_rest, rest_at, rest_of}
 use Rattle.ksv_rule_meaning.specs.Meaning.{meaning_of}
 use Rattle.ksv_rule_meaning.specs.FromNothing.{answer_within, from_nothing}
-use Rattle.ksv_rule_laws.specs.Laws.{IsBetween, LiesIn, IsStreamFor, IsReadIn, IsHeld, AreNamesDistinct, HasDistinctNames, HeadsLieInStreams, EndsLieInStreams}
+use Rattle.ksv_rule_laws.specs.Laws.{IsBetween, LiesIn, IsStreamFor, IsReadIn, IsHeld, AreNamesDistinct, HasDistinctNames, HeadsLieInStreams, EndsLieInStreams, IsUnmet, IsUnmetAt, IsLeftOut}
 use Rattle.ksv_rule_laws.proofs.Forms.{ok_is, goes_on, same_answer, asked_head, refused, put_in, meaning_is, ruled, no_depth, stays_within, among_more}
 use Rattle.ksv_rule_laws.proofs.Touching.{asked_end, part_is}
 
@@ -214,13 +215,13 @@ module _ (d : Description) (distinct : HasDistinctNames d) (o : Object) where
 module _ (bytes : List ℕ) where
   -- an object begins in its own stream, and so does a list
   abbrev pub BeginsIn : Head → Type 0
-  BeginsIn (heads.Object o) = IsBetween bytes o.stream o.start
-  BeginsIn (heads.List g) = IsBetween bytes g.stream g.start
+  BeginsIn (heads.Object o) = IsBetween bytes o.stream (byte_of o.start)
+  BeginsIn (heads.List g) = IsBetween bytes g.stream (byte_of g.start)
   BeginsIn _ = Unit {0}
 
   begins_in : (w : Stream) (h : Head) → LiesIn bytes w h → BeginsIn h
   begins_in w (heads.Object o) is = is.3
-  begins_in w (heads.List g) is = subst (λ v. IsBetween bytes v g.start) (sym is.1) is.0
+  begins_in w (heads.List g) is = subst (λ v. IsBetween bytes v (byte_of g.start)) (sym is.1) is.0
   begins_in w (heads.Absent at) is = tt
   begins_in w (heads.Calc c) is = tt
   begins_in w (heads.Leaf l) is = tt
@@ -229,21 +230,21 @@ module _ (d : Description) (bytes : List ℕ) where
   -- what a head, an end and a rest are in the stream of what holds them; nothing holds the root
   abbrev pub HeadLies : (Node → Result Given Fault) → Trail → Option Step → Head → Type 0
   HeadLies met p None h = BeginsIn bytes h
-  HeadLies met p (Some step) h = (h ≡ heads.Absent None) ⊎ IsHeld d bytes met p (λ w. LiesIn bytes w h)
+  HeadLies met p (Some step) h = IsLeftOut d bytes met p h ⊎ IsHeld d bytes met p (λ w. LiesIn bytes w h)
 
-  abbrev pub EndLies : (Node → Result Given Fault) → Trail → Option Step → ℕ → Type 0
+  abbrev pub EndLies : (Node → Result Given Fault) → Trail → Option Step → Place → Type 0
   EndLies met p None place = Unit {0}
-  EndLies met p (Some step) place = IsHeld d bytes met p (λ w. IsBetween bytes w place)
+  EndLies met p (Some step) place = IsHeld d bytes met p (λ w. IsBetween bytes w (byte_of place))
 
   abbrev pub Lies : (Node → Result Given Fault) → NodeKind → Trail → Given → Type 0
   Lies met nodes.Head p (givens.Head h) = HeadLies met p (last p) h
   Lies met nodes.End p (givens.End place is_last) = EndLies met p (last p) place
-  Lies met nodes.Rest p (givens.Rest count place) = IsHeld d bytes met p (λ w. IsBetween bytes w place)
+  Lies met nodes.Rest p (givens.Rest count place) = IsHeld d bytes met p (λ w. IsBetween bytes w (byte_of place))
   Lies met _ p g = Unit {0}
 
   head_begins : (met : Node → Result Given Fault) (p : Trail) (o : Option Step) (h : Head) → HeadLies met p o h → BeginsIn bytes h
   head_begins met p None h is = is
-  head_begins met p (Some step) h (inl none) = subst (BeginsIn bytes) (sym none) tt
+  head_begins met p (Some step) h (inl out) = subst (BeginsIn bytes) (sym out.nowhere) tt
   head_begins met p (Some step) h (inr is) = begins_in bytes is.stream h is.lies
 
 -- what the nodes that are asked answer lies so
@@ -309,13 +310,13 @@ module _ (d : Description) (distinct : HasDistinctNames d) (met : Node → Resul
       let read : IsReadIn d met bytes r k (Some step) held.stream = subst (λ x. IsReadIn d met bytes r x (Some step) held.stream) same (subst (λ o. IsReadIn d met bytes r held.holder o held.stream) up.1 held.read) in
       subst P (same_stream k held.stream w (read_own d met bytes r k step held.stream apart read) own) held.lies
 
-  part_end_in : (q : Trail) (step : Step) (x : Ended) (k : Head) (w : Stream) → (IsElsewhere d k (Some step) → ⊥) → met (head_node q) ≡ Ok (givens.Head k) → IsStreamOf k w → answer (part_end q step) ≡ Ok x → Between w x.place
+  part_end_in : (q : Trail) (step : Step) (x : Ended) (k : Head) (w : Stream) → (IsElsewhere d k (Some step) → ⊥) → met (head_node q) ≡ Ok (givens.Head k) → IsStreamOf k w → answer (part_end q step) ≡ Ok x → Between w (byte_of x.place)
   unfolding part_end
   part_end_in q step x k w apart asked own e =
       let b = goes_on met here bytes (part q step) (λ p. ask_end p) x e in
       let up = part_of q b.first step b.was in
       let is = lies (end_node b.first) (givens.End x.place x.last) (asked_end met here bytes b.first x b.gave) in
-      held_at (λ v. Between v x.place) b.first q step k w up apart asked own (subst (λ o. EndLies d bytes met b.first o x.place) up.1 is)
+      held_at (λ v. Between v (byte_of x.place)) b.first q step k w up apart asked own (subst (λ o. EndLies d bytes met b.first o x.place) up.1 is)
 
   asked_rest : (p : Trail) (x : Rested) → answer (ask_rest p) ≡ Ok x → met (rest_node p) ≡ Ok (givens.Rest x.count x.place)
   asked_rest p x e = by_given (met (rest_node p)) refl e
@@ -325,7 +326,7 @@ module _ (d : Description) (distinct : HasDistinctNames d) (met : Node → Resul
       by_given (Ok _) is e' = absurd (cc)
       by_given (Err f) is e' = absurd (cc)
 
-  part_rest_held : (q : Trail) (step : Step) (x : Rested) → answer (part_rest q step) ≡ Ok x → (r : Trail) × ((parent r ≡ q) × (last r ≡ Some step)) × IsHeld d bytes met r (λ v. Between v x.place)
+  part_rest_held : (q : Trail) (step : Step) (x : Rested) → answer (part_rest q step) ≡ Ok x → (r : Trail) × ((parent r ≡ q) × (last r ≡ Some step)) × IsHeld d bytes met r (λ v. Between v (byte_of x.place))
   unfolding part_rest
   part_rest_held q step x e =
       let b = goes_on met here bytes (part q step) (λ p. ask_rest p) x e in
@@ -337,33 +338,33 @@ module _ (d : Description) (distinct : HasDistinctNames d) (met : Node → Resul
 
   -- ---- what is read at a place of a stream
 
-  module _ (w : Stream) (s : ℕ) (begins : IsBetween bytes w s) (h : Head) where
+  module _ (w : Stream) (s : Place) (begins : IsBetween bytes w (byte_of s)) (h : Head) where
     is_in : (k : Head) → LiesIn bytes w k → ◌≡◌ {A = Result Head Fault} (Ok k) (Ok h) → LiesIn bytes w h
     is_in k kept e = subst (LiesIn bytes w) (ok_is k h e) kept
 
     -- a place of the stream that isn't before s
-    after : (n : ℕ) → s ≤ n → n ≤ end_in bytes w.to → Between w n
+    after : (n : ℕ) → byte_of s ≤ n → n ≤ end_in bytes w.to → Between w n
     after n le low = let a = begins.0 in (omega arith, low)
 
     leaf_in : (origin : Origin) (n : ℕ) → answer (leaf origin w s n) ≡ Ok h → LiesIn bytes w h
     unfolding leaf
     leaf_in origin n e =
-        let b = goes_on met here bytes (reach w (s + n)) _ h e in
-        let end = after (s + n) (omega arith) (reached w (s + n) b.first b.was) in
+        let b = goes_on met here bytes (reach w (byte_of s + n)) _ h e in
+        let end = after (byte_of s + n) (omega arith) (reached w (byte_of s + n) b.first b.was) in
         is_in _ (begins, end, end, omega arith) b.gave
 
-    to_end_in : (origin : Origin) (e : ℕ) → e ≡ end_in bytes w.to → ◌≡◌ {A = Result Head Fault} (Ok (heads.Leaf (record { origin = origin; from = s; to = e; end = e }))) (Ok h) → LiesIn bytes w h
+    to_end_in : (origin : Origin) (e : ℕ) → e ≡ end_in bytes w.to → ◌≡◌ {A = Result Head Fault} (Ok (heads.Leaf (record { origin = origin; from = s; to = at_byte e; end = at_byte e }))) (Ok h) → LiesIn bytes w h
     to_end_in origin e is z =
         let low = begins.1 in
-        let le : s ≤ e = omega arith in
+        let le : byte_of s ≤ e = omega arith in
         let end = after e le (omega arith) in
         is_in _ (begins, end, end, le) z
 
-    either : (b : Bool) (q : ℕ) → s ≤ q → q + 1 ≤ end_in bytes w.to → Between w (if b then q + 1 else q) × (s ≤ (if b then q + 1 else q))
+    either : (b : Bool) (q : ℕ) → byte_of s ≤ q → q + 1 ≤ end_in bytes w.to → Between w (if b then q + 1 else q) × (byte_of s ≤ (if b then q + 1 else q))
     either true q le low = (after (q + 1) (omega arith) low, omega arith)
     either false q le low = (after q le (omega arith), le)
 
-    found_in : (origin : Origin) (t : Terminator) (q : Found) → IsFoundIn w s q → answer (terminated_at origin s t q) ≡ Ok h → LiesIn bytes w h
+    found_in : (origin : Origin) (t : Terminator) (q : Found) → IsFoundIn w (byte_of s) q → answer (terminated_at origin s t q) ≡ Ok h → LiesIn bytes w h
     found_in origin t (founds.At q) is e =
         let to = either t.is_included q is.0 is.1 in
         let end = either t.is_consumed q is.0 is.1 in
@@ -373,7 +374,7 @@ module _ (d : Description) (distinct : HasDistinctNames d) (met : Node → Resul
     run_in : (origin : Origin) (t : Option Terminator) → answer (run_of origin w s t) ≡ Ok h → LiesIn bytes w h
     unfolding run_of terminated
     run_in origin None e = is_in (heads.Absent (Some s)) begins e
-    run_in origin (Some t) e = let b = goes_on met here bytes (find w s t.byte) _ h e in found_in origin t b.first (found w s t.byte b.first b.was) b.gave
+    run_in origin (Some t) e = let b = goes_on met here bytes (find w (byte_of s) t.byte) _ h e in found_in origin t b.first (found w (byte_of s) t.byte b.first b.was) b.gave
 
     bytes_in : (at : Setting) (origin : Origin) (x : Extent) (t : Option Terminator) → answer (bytes_at at origin w s x t) ≡ Ok h → LiesIn bytes w h
     unfolding bytes_at sized_leaf leaf_to_end
@@ -385,8 +386,8 @@ module _ (d : Description) (distinct : HasDistinctNames d) (met : Node → Resul
     unfolding object_at sized_object
     object_in at origin t (Sized e) z =
         let b = goes_on met here bytes (size_of at e) _ h z in
-        let c = goes_on met here bytes (reach w (s + b.first)) _ h b.gave in
-        let low = reached w (s + b.first) c.first c.was in
+        let c = goes_on met here bytes (reach w (byte_of s + b.first)) _ h b.gave in
+        let low = reached w (byte_of s + b.first) c.first c.was in
         is_in _ (begins, begins, low, (omega arith, omega arith)) c.gave
     object_in at origin t SizeEos z = let low = begins.1 in is_in _ (begins, begins, omega arith, (omega arith, low)) z
     object_in at origin t ByItself z = let a = begins.0 in let low = begins.1 in is_in _ (begins, (omega arith, omega arith), omega arith, begins) z
@@ -432,20 +433,20 @@ module _ (d : Description) (distinct : HasDistinctNames d) (met : Node → Resul
 
   -- ---- heads
 
-  start_in : (q : Trail) (o : Object) (before : Option ℕ) (s : ℕ) → IsHere d o before → met (head_node q) ≡ Ok (givens.Head (heads.Object o)) → Between o.stream o.start → answer (attribute_start q o before) ≡ Ok s → Between o.stream s
+  start_in : (q : Trail) (o : Object) (before : Option ℕ) (s : Place) → IsHere d o before → met (head_node q) ≡ Ok (givens.Head (heads.Object o)) → Between o.stream (byte_of o.start) → answer (attribute_start q o before) ≡ Ok s → Between o.stream (byte_of s)
   unfolding attribute_start
-  start_in q o None s apart asked begins e = subst (Between o.stream) (ok_is o.start s e) begins
+  start_in q o None s apart asked begins e = subst (λ n. Between o.stream (byte_of n)) (ok_is o.start s e) begins
   start_in q o (Some y) s apart asked begins e =
       let b = goes_on met here bytes (part_end q (steps.Name y)) (λ x. Answer x.place) s e in
-      subst (Between o.stream) (ok_is b.first.place s b.gave) (part_end_in q (steps.Name y) b.first (heads.Object o) o.stream apart asked refl b.was)
+      subst (λ n. Between o.stream (byte_of n)) (ok_is b.first.place s b.gave) (part_end_in q (steps.Name y) b.first (heads.Object o) o.stream apart asked refl b.was)
 
   -- what lies in the stream in which a member at a path is read, unless it lies nowhere
   abbrev LiesFor : Trail → Object → MemberKind → Head → Type 0
-  LiesFor p o k h = (h ≡ heads.Absent None) ⊎ ((w : Stream) × IsStreamFor met bytes p o k w × LiesIn bytes w h)
+  LiesFor p o k h = ((h ≡ heads.Absent None) × IsUnmet met bytes p o k) ⊎ ((w : Stream) × IsStreamFor met bytes p o k w × LiesIn bytes w h)
 
   -- what lies nowhere
-  nowhere : (p : Trail) (o : Object) (k : MemberKind) (h : Head) → ◌≡◌ {A = Result Head Fault} (Ok (heads.Absent None)) (Ok h) → LiesFor p o k h
-  nowhere p o k h e = inl (sym (ok_is (heads.Absent None) h e))
+  nowhere : (p : Trail) (o : Object) (k : MemberKind) (h : Head) → IsUnmet met bytes p o k → ◌≡◌ {A = Result Head Fault} (Ok (heads.Absent None)) (Ok h) → LiesFor p o k h
+  nowhere p o k h unmet e = inl (sym (ok_is (heads.Absent None) h e), unmet)
 
   -- a parse instance begins behind the first byte of its stream, whichever that is
   positioned_lies : (at : Setting) (origin : Origin) (w : Stream) (e : Tree) (f : Field) (h : Head) → answer (positioned_in at origin w e f) ≡ Ok h → LiesIn bytes w h
@@ -453,7 +454,7 @@ module _ (d : Description) (distinct : HasDistinctNames d) (met : Node → Resul
   positioned_lies at origin w e f h z =
       let n = goes_on met here bytes (size_of at e) _ h z in
       let r = goes_on met here bytes (reach w (w.from + n.first)) _ h n.gave in
-      repeated_in w (w.from + n.first) (omega arith, reached w (w.from + n.first) r.first r.was) h _ origin f f.repeat r.gave
+      repeated_in w (at_byte (w.from + n.first)) (omega arith, reached w (w.from + n.first) r.first r.was) h _ origin f f.repeat r.gave
 
   -- the value of an `io` is its stream
   stream_is : (v : Value) (w : Stream) → answer (in_stream v) ≡ Ok w → v ≡ values.Stream w
@@ -477,35 +478,35 @@ module _ (d : Description) (distinct : HasDistinctNames d) (met : Node → Resul
   unfolding instance_head positioned
   instance_in o origin e io f h z =
       let b = goes_on met here bytes (holds (instance_setting here (parent here) o) f.condition) _ h z in
-      by_condition b.first b.gave
+      by_condition b.first b.was b.gave
     where
-      by_condition : (there : Bool) → answer_of met here bytes (if there then positioned (instance_setting here (parent here) o) origin e io f else Answer (heads.Absent None)) ≡ Ok h → LiesFor here o (ParseInstance e io f) h
-      by_condition true g =
+      by_condition : (there : Bool) → answer_of met here bytes (holds (instance_setting here (parent here) o) f.condition) ≡ Ok there → answer_of met here bytes (if there then positioned (instance_setting here (parent here) o) origin e io f else Answer (heads.Absent None)) ≡ Ok h → LiesFor here o (ParseInstance e io f) h
+      by_condition true was g =
           let w = goes_on met here bytes (stream_for (instance_setting here (parent here) o) io) _ h g in
           inr (w.first, own_or_io o e io f w.first w.was, positioned_lies (instance_setting here (parent here) o) origin w.first e f h w.gave)
-      by_condition false g = nowhere here o (ParseInstance e io f) h g
+      by_condition false was g = nowhere here o (ParseInstance e io f) h was g
 
   calc_in : (o : Object) (x : Sought) (h : Head) → ◌≡◌ {A = Result Head Fault} (Ok (calc o x)) (Ok h) → LiesIn bytes o.stream h
   calc_in o x h e = subst (LiesIn bytes o.stream) (ok_is (calc o x) h e) tt
 
-  value_in : (at : Setting) (o : Object) (x : Sought) (condition : Option Tree) (e : Tree) (enum : Option ℕ) (h : Head) → answer (value_head at o x condition) ≡ Ok h → LiesFor here o (ValueInstance condition e enum) h
+  value_in : (o : Object) (x : Sought) (condition : Option Tree) (e : Tree) (enum : Option ℕ) (h : Head) → answer (value_head (instance_setting here (parent here) o) o x condition) ≡ Ok h → LiesFor here o (ValueInstance condition e enum) h
   unfolding value_head
-  value_in at o x condition e enum h z =
-      let b = goes_on met here bytes (holds at condition) _ h z in
-      by_condition b.first b.gave
+  value_in o x condition e enum h z =
+      let b = goes_on met here bytes (holds (instance_setting here (parent here) o) condition) _ h z in
+      by_condition b.first b.was b.gave
     where
-      by_condition : (there : Bool) → answer_of met here bytes (if there then Answer (calc o x) else Answer (heads.Absent None)) ≡ Ok h → LiesFor here o (ValueInstance condition e enum) h
-      by_condition true g = inr (o.stream, refl, calc_in o x h g)
-      by_condition false g = nowhere here o (ValueInstance condition e enum) h g
+      by_condition : (there : Bool) → answer_of met here bytes (holds (instance_setting here (parent here) o) condition) ≡ Ok there → answer_of met here bytes (if there then Answer (calc o x) else Answer (heads.Absent None)) ≡ Ok h → LiesFor here o (ValueInstance condition e enum) h
+      by_condition true was g = inr (o.stream, refl, calc_in o x h g)
+      by_condition false was g = nowhere here o (ValueInstance condition e enum) h was g
 
-  member_in : (o : Object) (x : Sought) (k : MemberKind) (h : Head) → IsHere d o x.before → met (head_node (parent here)) ≡ Ok (givens.Head (heads.Object o)) → Between o.stream o.start → answer (member_at here (parent here) o x k) ≡ Ok h → LiesFor here o k h
+  member_in : (o : Object) (x : Sought) (k : MemberKind) (h : Head) → IsHere d o x.before → met (head_node (parent here)) ≡ Ok (givens.Head (heads.Object o)) → Between o.stream (byte_of o.start) → answer (member_at here (parent here) o x k) ≡ Ok h → LiesFor here o k h
   unfolding member_at attribute_head
   member_in o x Parameter h apart asked begins e = inr (o.stream, refl, calc_in o x h e)
   member_in o x (Attribute f) h apart asked begins e =
       let b = goes_on met here bytes (attribute_start (parent here) o x.before) _ h e in
       inr (o.stream, refl, attribute_in o.stream b.first (start_in (parent here) o x.before b.first apart asked begins b.was) h _ _ f b.gave)
   member_in o x (ParseInstance e io f) h apart asked begins z = instance_in o (origin_of o x) e io f h z
-  member_in o x (ValueInstance condition e enum) h apart asked begins z = value_in (instance_setting here (parent here) o) o x condition e enum h z
+  member_in o x (ValueInstance condition e enum) h apart asked begins z = value_in o x condition e enum h z
 
   -- the member of a name
   member_is : (t x : ℕ) (m : Sought) → answer (member_named d t x) ≡ Ok m → sought x 0 None (members_of d t) ≡ Some m
@@ -516,7 +517,7 @@ module _ (d : Description) (distinct : HasDistinctNames d) (met : Node → Resul
       by_sought None h = absurd (cc)
       by_sought (Some s) h = ap Some (ok_is s m h)
 
-  member_head_in : (x : ℕ) (h : Head) → last here ≡ Some (steps.Name x) → answer (member_head d here (parent here) x) ≡ Ok h → (h ≡ heads.Absent None) ⊎ IsHeld d bytes met here (λ w. LiesIn bytes w h)
+  member_head_in : (x : ℕ) (h : Head) → last here ≡ Some (steps.Name x) → answer (member_head d here (parent here) x) ≡ Ok h → IsLeftOut d bytes met here h ⊎ IsHeld d bytes met here (λ w. LiesIn bytes w h)
   unfolding member_head
   member_head_in x h step e =
       let k = goes_on met here bytes (ask_head (parent here)) _ h e in
@@ -525,13 +526,18 @@ module _ (d : Description) (distinct : HasDistinctNames d) (met : Node → Resul
       by_head k.first o.first m.first (asked_head met here bytes (parent here) k.first k.was) (head_begins d bytes met (parent here) (last (parent here)) k.first (head_lies (parent here) k.first k.was)) o.was (member_is o.first.type_number x m.first m.was) m.gave
     where
       by_head : (k : Head) (o : Object) (m : Sought) → met (head_node (parent here)) ≡ Ok (givens.Head k) → BeginsIn bytes k → answer_of met here bytes (in_object (parent here) k) ≡ Ok o → sought x 0 None (members_of d o.type_number) ≡ Some m
-          → answer_of met here bytes (member_at here (parent here) o m m.kind) ≡ Ok h → (h ≡ heads.Absent None) ⊎ IsHeld d bytes met here (λ w. LiesIn bytes w h)
+          → answer_of met here bytes (member_at here (parent here) o m m.kind) ≡ Ok h → IsLeftOut d bytes met here h ⊎ IsHeld d bytes met here (λ w. LiesIn bytes w h)
       by_head (heads.Object o') o m asked begins is of g =
           let same : o' ≡ o = ok_is o' o is in
           let now : met (head_node (parent here)) ≡ Ok (givens.Head (heads.Object o)) = asked ∙ ap (λ y. Ok (givens.Head (heads.Object y))) same in
-          let l = member_in o m m.kind h (before_here d distinct o x m m.before of refl) now (subst (λ (y : Object). IsBetween bytes y.stream y.start) same begins) g in
+          let l = member_in o m m.kind h (before_here d distinct o x m m.before of refl) now (subst (λ (y : Object). IsBetween bytes y.stream (byte_of y.start)) same begins) g in
           elim l [
-            | inl none ↦ inl none
+            | inl none ↦ inl (record {
+              nowhere = none.0;
+              object = o;
+              answered = now;
+              unmet = subst (λ z. IsUnmetAt d met bytes here o z) (sym step) (m, of, none.1);
+            })
             | inr there ↦ inr (record {
               holder = heads.Object o;
               answered = now;
@@ -542,18 +548,18 @@ module _ (d : Description) (distinct : HasDistinctNames d) (met : Node → Resul
           ]
       by_head _ o m asked begins is of g = absurd (cc)
 
-  next_in : (l : Trail) (g : lists.List) (i s : ℕ) → met (head_node l) ≡ Ok (givens.Head (heads.List g)) → answer (next_start l i) ≡ Ok s → Between g.stream s
+  next_in : (l : Trail) (g : lists.List) (i : ℕ) (s : Place) → met (head_node l) ≡ Ok (givens.Head (heads.List g)) → answer (next_start l i) ≡ Ok s → Between g.stream (byte_of s)
   unfolding next_start
   next_in l g i s asked e =
       let b = goes_on met here bytes (part_end l (steps.Index i)) (λ x. in_next x) s e in
-      subst (Between g.stream) (ok_is b.first.place s (refused met here bytes b.first.last (Answer b.first.place) kinds.BadIndex s b.gave)) (part_end_in l (steps.Index i) b.first (heads.List g) g.stream (λ x. x) asked refl b.was)
+      subst (λ n. Between g.stream (byte_of n)) (ok_is b.first.place s (refused met here bytes b.first.last (Answer b.first.place) kinds.BadIndex s b.gave)) (part_end_in l (steps.Index i) b.first (heads.List g) g.stream (λ x. x) asked refl b.was)
 
-  element_start_in : (l : Trail) (g : lists.List) (i s : ℕ) → met (head_node l) ≡ Ok (givens.Head (heads.List g)) → Between g.stream g.start → answer (element_start l g i) ≡ Ok s → Between g.stream s
+  element_start_in : (l : Trail) (g : lists.List) (i : ℕ) (s : Place) → met (head_node l) ≡ Ok (givens.Head (heads.List g)) → Between g.stream (byte_of g.start) → answer (element_start l g i) ≡ Ok s → Between g.stream (byte_of s)
   unfolding element_start
   element_start_in l g i s asked begins e = by_first (i == 0) (refused met here bytes (g.is_empty || is_past g.count i) (if i == 0 then Answer g.start else next_start l (i - 1)) kinds.BadIndex s e)
     where
-      by_first : (b : Bool) → answer_of met here bytes (if b then Answer g.start else next_start l (i - 1)) ≡ Ok s → IsBetween bytes g.stream s
-      by_first true e' = subst (λ n. IsBetween bytes g.stream n) (ok_is g.start s e') begins
+      by_first : (b : Bool) → answer_of met here bytes (if b then Answer g.start else next_start l (i - 1)) ≡ Ok s → IsBetween bytes g.stream (byte_of s)
+      by_first true e' = subst (λ n. IsBetween bytes g.stream (byte_of n)) (ok_is g.start s e') begins
       by_first false e' = next_in l g (i - 1) s asked e'
 
   element_in : (p q : Trail) (i : ℕ) (h : Head) → last p ≡ Some (steps.Index i) → answer (element_head d p (parent p) q i) ≡ Ok h → IsHeld d bytes met p (λ w. LiesIn bytes w h)
@@ -566,12 +572,12 @@ module _ (d : Description) (distinct : HasDistinctNames d) (met : Node → Resul
       by_head k.first g.first s.first (asked_head met here bytes (parent p) k.first k.was) (head_begins d bytes met (parent p) (last (parent p)) k.first (head_lies (parent p) k.first k.was)) g.was s.was
       (λ begins. shape_in g.first.stream s.first begins h (within (setting q g.first.origin.home s.first p) i) g.first.origin f.first f.gave)
     where
-      by_head : (k : Head) (g : lists.List) (s : ℕ) → met (head_node (parent p)) ≡ Ok (givens.Head k) → BeginsIn bytes k → answer_of met here bytes (in_list (parent p) k) ≡ Ok g → answer_of met here bytes (element_start (parent p) g i) ≡ Ok s
-          → (IsBetween bytes g.stream s → LiesIn bytes g.stream h) → IsHeld d bytes met p (λ w. LiesIn bytes w h)
+      by_head : (k : Head) (g : lists.List) (s : Place) → met (head_node (parent p)) ≡ Ok (givens.Head k) → BeginsIn bytes k → answer_of met here bytes (in_list (parent p) k) ≡ Ok g → answer_of met here bytes (element_start (parent p) g i) ≡ Ok s
+          → (IsBetween bytes g.stream (byte_of s) → LiesIn bytes g.stream h) → IsHeld d bytes met p (λ w. LiesIn bytes w h)
       by_head (heads.List g') g s asked begins is start shape =
           let same : g' ≡ g = ok_is g' g is in
           let now : met (head_node (parent p)) ≡ Ok (givens.Head (heads.List g)) = asked ∙ ap (λ y. Ok (givens.Head (heads.List y))) same in
-          record { holder = heads.List g; answered = now; stream = g.stream; read = subst (λ z. IsReadIn d met bytes p (heads.List g) z g.stream) (sym step) refl; lies = shape (element_start_in (parent p) g i s now (subst (λ (y : lists.List). IsBetween bytes y.stream y.start) same begins) start) }
+          record { holder = heads.List g; answered = now; stream = g.stream; read = subst (λ z. IsReadIn d met bytes p (heads.List g) z g.stream) (sym step) refl; lies = shape (element_start_in (parent p) g i s now (subst (λ (y : lists.List). IsBetween bytes y.stream (byte_of y.start)) same begins) start) }
       by_head _ g s asked begins is start shape = absurd (cc)
 
   head_in : (o : Option Step) (h : Head) → last here ≡ o → answer (head_at d here o) ≡ Ok h → HeadLies d bytes met here o h
@@ -581,18 +587,19 @@ module _ (d : Description) (distinct : HasDistinctNames d) (met : Node → Resul
 
   -- ---- ends
 
-  place_is : (w : Stream) (n e : ℕ) → Between w n → ◌≡◌ {A = Result ℕ Fault} (Ok n) (Ok e) → Between w e
-  place_is w n e is h = subst (Between w) (ok_is n e h) is
+  place_is : (w : Stream) (n e : Place) → Between w (byte_of n) → ◌≡◌ {A = Result Place Fault} (Ok n) (Ok e) → Between w (byte_of e)
+  place_is w n e is h = subst (λ k. Between w (byte_of k)) (ok_is n e h) is
 
-  object_end_in : (p : Trail) (o : Object) (x : ObjectEnd) (w : Stream) (e : ℕ) → met (head_node p) ≡ Ok (givens.Head (heads.Object o)) → LiesIn bytes w (heads.Object o) → answer (object_end d p o x) ≡ Ok e → Between w e
-  unfolding object_end fields_end
+  object_end_in : (p : Trail) (o : Object) (x : ObjectEnd) (w : Stream) (e : Place) → met (head_node p) ≡ Ok (givens.Head (heads.Object o)) → LiesIn bytes w (heads.Object o) → answer (object_end d p o x) ≡ Ok e → Between w (byte_of e)
+  unfolding object_end fields_end stream_end
   object_end_in p o endings.OfStream w e asked is h =
-      let end = finished o.stream e h in
+      let n = goes_on met here bytes (finish o.stream) (λ k. Answer (at_byte k)) e h in
+      let end = finished o.stream n.first n.was in
       let a = is.1.0 in let b = is.2 in let c = is.3.0 in let f = is.3.1 in
-      (omega arith, omega arith)
+      place_is w (at_byte n.first) e (omega arith, omega arith) n.gave
   object_end_in p o endings.ByFields w e asked is h = by_last (last_attribute None (members_of d o.type_number)) (last_here d distinct o _ refl) h
     where
-      by_last : (z : Option ℕ) → IsHere d o z → answer_of met here bytes (fields_end p o.start z) ≡ Ok e → IsBetween bytes w e
+      by_last : (z : Option ℕ) → IsHere d o z → answer_of met here bytes (fields_end p o.start z) ≡ Ok e → IsBetween bytes w (byte_of e)
       by_last None apart h' = place_is w o.start e is.0 h'
       by_last (Some z) apart h' =
           let b = goes_on met here bytes (part_end p (steps.Name z)) (λ x. Answer x.place) e h' in
@@ -600,9 +607,9 @@ module _ (d : Description) (distinct : HasDistinctNames d) (met : Node → Resul
           let low = i.0 in let high = i.1 in let a = is.1.0 in let c = is.2 in
           place_is w b.first.place e (omega arith, omega arith) b.gave
 
-  place_in : (p : Trail) (h : Head) (w : Stream) (e : ℕ) → met (head_node p) ≡ Ok (givens.Head h) → LiesIn bytes w h → answer (place_of d p h) ≡ Ok e → Between w e
+  place_in : (p : Trail) (h : Head) (w : Stream) (e : Place) → met (head_node p) ≡ Ok (givens.Head h) → LiesIn bytes w h → answer (place_of d p h) ≡ Ok e → Between w (byte_of e)
   unfolding place_of list_end
-  place_in p (heads.Absent None) w e asked is z = absurd (cc)
+  place_in p (heads.Absent None) w e asked is z = absurd is
   place_in p (heads.Absent (Some s)) w e asked is z = place_is w s e is z
   place_in p (heads.Calc c) w e asked is z = absurd (cc)
   place_in p (heads.Leaf l) w e asked is z = place_is w l.end e is.2 z
@@ -610,18 +617,18 @@ module _ (d : Description) (distinct : HasDistinctNames d) (met : Node → Resul
   place_in p (heads.List g) w e asked is z =
       let b = goes_on met here bytes (part_rest p (steps.Index 0)) (λ r. Answer r.place) e z in
       let r = part_rest_held p (steps.Index 0) b.first b.was in
-      place_is w b.first.place e (held_at (λ v. Between v b.first.place) r.0 p (steps.Index 0) (heads.List g) w r.1 (λ x. x) asked is.1 r.2) b.gave
+      place_is w b.first.place e (held_at (λ v. Between v (byte_of b.first.place)) r.0 p (steps.Index 0) (heads.List g) w r.1 (λ x. x) asked is.1 r.2) b.gave
 
   -- what lies nowhere has no end
-  no_end : (p : Trail) (h : Head) (e : ℕ) → h ≡ heads.Absent None → answer (place_of d p h) ≡ Ok e → ⊥
+  no_end : (p : Trail) (h : Head) (e : Place) → h ≡ heads.Absent None → answer (place_of d p h) ≡ Ok e → ⊥
   unfolding place_of
   no_end p h e none z = let gone : answer (place_of d p (heads.Absent None)) ≡ Ok e = subst (λ k. answer (place_of d p k) ≡ Ok e) none z in cc
 
   -- the end of an element is its place
-  place_was : (e : ℕ) (b : Bool) (x : Ended) → ◌≡◌ {A = Result Ended Fault} (Ok (record { place = e; last = b })) (Ok x) → e ≡ x.place
+  place_was : (e : Place) (b : Bool) (x : Ended) → ◌≡◌ {A = Result Ended Fault} (Ok (record { place = e; last = b })) (Ok x) → e ≡ x.place
   place_was e b x z = ap (λ (y : Ended). y.place) (ok_is (record { place = e; last = b }) x z)
 
-  end_at_is : (p : Trail) (step : Option Step) (h : Head) (e : ℕ) (x : Ended) → answer (end_at d p step h e) ≡ Ok x → e ≡ x.place
+  end_at_is : (p : Trail) (step : Option Step) (h : Head) (e : Place) (x : Ended) → answer (end_at d p step h e) ≡ Ok x → e ≡ x.place
   unfolding element_end
   end_at_is p (Some (steps.Index i)) h e x z =
       let k = goes_on met here bytes (ask_head (parent p)) _ x z in
@@ -639,16 +646,16 @@ module _ (d : Description) (distinct : HasDistinctNames d) (met : Node → Resul
       let e = goes_on met here bytes (place_of d p h.first) _ x h.gave in
       by_step (last p) h.first e.first (asked_head met here bytes p h.first h.was) (head_lies p h.first h.was) e.was (end_at_is p (last p) h.first e.first x e.gave)
     where
-      by_step : (o : Option Step) (h : Head) (e : ℕ) → met (head_node p) ≡ Ok (givens.Head h) → HeadLies d bytes met p o h → answer_of met here bytes (place_of d p h) ≡ Ok e → e ≡ x.place → EndLies d bytes met p o x.place
+      by_step : (o : Option Step) (h : Head) (e : Place) → met (head_node p) ≡ Ok (givens.Head h) → HeadLies d bytes met p o h → answer_of met here bytes (place_of d p h) ≡ Ok e → e ≡ x.place → EndLies d bytes met p o x.place
       by_step None h e asked is was same = tt
-      by_step (Some step) h e asked (inl none) was same = absurd (no_end p h e none was)
-      by_step (Some step) h e asked (inr is) was same = record { holder = is.holder; answered = is.answered; stream = is.stream; read = is.read; lies = subst (λ n. IsBetween bytes is.stream n) same (place_in p h is.stream e asked is.lies was) }
+      by_step (Some step) h e asked (inl out) was same = absurd (no_end p h e out.nowhere was)
+      by_step (Some step) h e asked (inr is) was same = record { holder = is.holder; answered = is.answered; stream = is.stream; read = is.read; lies = subst (λ n. IsBetween bytes is.stream (byte_of n)) same (place_in p h is.stream e asked is.lies was) }
 
   -- ---- rests
 
   -- a place in the stream of the list of an element
-  abbrev RestLies : Trail → ℕ → Type 0
-  RestLies p place = IsHeld d bytes met p (λ w. IsBetween bytes w place)
+  abbrev RestLies : Trail → Place → Type 0
+  RestLies p place = IsHeld d bytes met p (λ w. IsBetween bytes w (byte_of place))
 
   rest_of_part : (p : Trail) (i j : ℕ) (x : Rested) → last p ≡ Some (steps.Index j) → answer (part_rest (parent p) (steps.Index i)) ≡ Ok x → RestLies p x.place
   rest_of_part p i j x is e =
@@ -664,7 +671,7 @@ module _ (d : Description) (distinct : HasDistinctNames d) (met : Node → Resul
       let e = goes_on met here bytes (ask_end p) (λ y. rest_behind (parent p) i y) x z in
       by_last e.first.last e.first.place (subst (λ o. EndLies d bytes met p o e.first.place) is (lies (end_node p) (givens.End e.first.place e.first.last) (asked_end met here bytes p e.first e.was))) e.gave
     where
-      by_last : (b : Bool) (place : ℕ) → RestLies p place → answer_of met here bytes (if b then Answer (record { count = i + 1; place = place }) else next_rest (parent p) i) ≡ Ok x → RestLies p x.place
+      by_last : (b : Bool) (place : Place) → RestLies p place → answer_of met here bytes (if b then Answer (record { count = i + 1; place = place }) else next_rest (parent p) i) ≡ Ok x → RestLies p x.place
       by_last true place held z' = subst (λ (y : Rested). RestLies p y.place) (ok_is (record { count = i + 1; place = place }) x z') held
       by_last false place held z' = rest_of_part p (i + 1) j x is (refused met here bytes _ (part_rest (parent p) (steps.Index (i + 1))) kinds.TooMany x z')
 
@@ -675,14 +682,14 @@ module _ (d : Description) (distinct : HasDistinctNames d) (met : Node → Resul
       let g = goes_on met here bytes (in_whole_list (parent p) h.first) _ x h.gave in
       by_head h.first g.first (asked_head met here bytes (parent p) h.first h.was) (head_begins d bytes met (parent p) (last (parent p)) h.first (head_lies (parent p) h.first h.was)) g.was g.gave
     where
-      by_empty : (b : Bool) (g : lists.List) → met (head_node (parent p)) ≡ Ok (givens.Head (heads.List g)) → IsBetween bytes g.stream g.start → answer_of met here bytes (if b then Answer (record { count = 0; place = g.start }) else rest_from p (parent p) 0) ≡ Ok x → RestLies p x.place
+      by_empty : (b : Bool) (g : lists.List) → met (head_node (parent p)) ≡ Ok (givens.Head (heads.List g)) → IsBetween bytes g.stream (byte_of g.start) → answer_of met here bytes (if b then Answer (record { count = 0; place = g.start }) else rest_from p (parent p) 0) ≡ Ok x → RestLies p x.place
       by_empty true g asked begins z' = subst (λ (y : Rested). RestLies p y.place) (ok_is (record { count = 0; place = g.start }) x z') (record { holder = heads.List g; answered = asked; stream = g.stream; read = subst (λ o. IsReadIn d met bytes p (heads.List g) o g.stream) (sym is) refl; lies = begins })
       by_empty false g asked begins z' = rest_from_in p 0 j x is z'
 
       by_head : (k : Head) (g : lists.List) → met (head_node (parent p)) ≡ Ok (givens.Head k) → BeginsIn bytes k → answer_of met here bytes (in_whole_list (parent p) k) ≡ Ok g → answer_of met here bytes (first_rest p (parent p) g) ≡ Ok x → RestLies p x.place
       by_head (heads.List g') g asked begins was z' =
           let same : g' ≡ g = ok_is g' g was in
-          by_empty g.is_empty g (asked ∙ ap (λ y. Ok (givens.Head (heads.List y))) same) (subst (λ (y : lists.List). IsBetween bytes y.stream y.start) same begins) z'
+          by_empty g.is_empty g (asked ∙ ap (λ y. Ok (givens.Head (heads.List y))) same) (subst (λ (y : lists.List). IsBetween bytes y.stream (byte_of y.start)) same begins) z'
       by_head _ g asked begins was z' = absurd (cc)
 
   rest_of_in : (p : Trail) (x : Rested) → answer (rest_of d p) ≡ Ok x → RestLies p x.place
@@ -715,12 +722,27 @@ module _ (d : Description) (distinct : HasDistinctNames d) (met : Node → Resul
 still_held : (d : Description) (bytes : List ℕ) (met met' : Node → Result Given Fault) (p : Trail) (P : Stream → Type 0) → ((m : Node) (g : Given) → met m ≡ Ok g → met' m ≡ Ok g) → IsHeld d bytes met p P → IsHeld d bytes met' p P
 still_held d bytes met met' p P same i = record { holder = i.holder; answered = same (head_node (parent p)) (givens.Head i.holder) i.answered; stream = i.stream; read = read_still d met met' bytes p i.holder (last p) i.stream same i.read; lies = i.lies }
 
+-- where all that answered still does, it is left out as it was
+unmet_still : (met met' : Node → Result Given Fault) (bytes : List ℕ) (p : Trail) (o : Object) (k : MemberKind) → ((m : Node) (g : Given) → met m ≡ Ok g → met' m ≡ Ok g) → IsUnmet met bytes p o k → IsUnmet met' bytes p o k
+unmet_still met met' bytes p o Parameter same is = absurd is
+unmet_still met met' bytes p o (Attribute f) same is = absurd is
+unmet_still met met' bytes p o (ParseInstance e io f) same is = same_answer met met' p bytes same (holds (instance_setting p (parent p) o) f.condition) false is
+unmet_still met met' bytes p o (ValueInstance condition e enum) same is = same_answer met met' p bytes same (holds (instance_setting p (parent p) o) condition) false is
+
+unmet_at_still : (d : Description) (met met' : Node → Result Given Fault) (bytes : List ℕ) (p : Trail) (o : Object) (step : Option Step) → ((m : Node) (g : Given) → met m ≡ Ok g → met' m ≡ Ok g) → IsUnmetAt d met bytes p o step → IsUnmetAt d met' bytes p o step
+unmet_at_still d met met' bytes p o (Some (steps.Name x)) same is = (is.0, is.1, unmet_still met met' bytes p o is.0.kind same is.2)
+unmet_at_still d met met' bytes p o (Some (steps.Index i)) same is = absurd is
+unmet_at_still d met met' bytes p o None same is = absurd is
+
+left_still : (d : Description) (bytes : List ℕ) (met met' : Node → Result Given Fault) (p : Trail) (h : Head) → ((m : Node) (g : Given) → met m ≡ Ok g → met' m ≡ Ok g) → IsLeftOut d bytes met p h → IsLeftOut d bytes met' p h
+left_still d bytes met met' p h same i = record { nowhere = i.nowhere; object = i.object; answered = same (head_node (parent p)) (givens.Head (heads.Object i.object)) i.answered; unmet = unmet_at_still d met met' bytes p i.object (last p) same i.unmet }
+
 still_lies : (d : Description) (bytes : List ℕ) (met met' : Node → Result Given Fault) (k : NodeKind) (p : Trail) (g : Given) → ((m : Node) (g : Given) → met m ≡ Ok g → met' m ≡ Ok g) → Lies d bytes met k p g → Lies d bytes met' k p g
 still_lies d bytes met met' nodes.Head p (givens.Head h) same is = by_step (last p) is
   where
     by_step : (o : Option Step) → HeadLies d bytes met p o h → HeadLies d bytes met' p o h
     by_step None i = i
-    by_step (Some step) (inl none) = inl none
+    by_step (Some step) (inl out) = inl (left_still d bytes met met' p h same out)
     by_step (Some step) (inr i) = inr (still_held d bytes met met' p (λ w. LiesIn bytes w h) same i)
 still_lies d bytes met met' nodes.End p (givens.End place is_last) same is = by_step (last p) is
   where

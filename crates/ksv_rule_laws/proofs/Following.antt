@@ -3,6 +3,7 @@ use Rattle.std.proofs.Common.{◌≡◌, ◌∙◌, ℕ, zero, suc, ◌+◌, ◌
 use Rattle.std.specs.List.{AllByRecursion}
 use Rattle.std.proofs.lemmas.Bool.Decides.{nat_tests}
 use Rattle.ksv_basics.specs.Plan.{Answer}
+use Rattle.ksv_expr_value.specs.Places.{Place}
 use Rattle.ksv_expr_value.specs.Setting.{Setting}
 use Rattle.ksv_expr_value.specs.Trail.{Trail, child, parent, last}
 use Rattle.ksv_expr_value.specs.declared.fault.Fault.{Fault}
@@ -64,14 +65,14 @@ module _ (met : Node → Result Given Fault) (here : Trail) (bytes : List ℕ) w
 
   -- ---- where an attribute begins
 
-  repeated_at : (s : ℕ) (h : Head) (at : Setting) (origin : Origin) (w : Stream) (f : Field) (r : Repeat) → answer (repeated at origin w s f r) ≡ Ok h → start_of h ≡ s
+  repeated_at : (s : Place) (h : Head) (at : Setting) (origin : Origin) (w : Stream) (f : Field) (r : Repeat) → answer (repeated at origin w s f r) ≡ Ok h → start_of h ≡ s
   unfolding repeated counted until_eos
   repeated_at s h at origin w f Once e = shape_is_at met here bytes s h at origin w f e
   repeated_at s h at origin w f (Expr n) e = let b = goes_on met here bytes (count_of at n) _ h e in is_at met here bytes s h _ refl b.gave
   repeated_at s h at origin w f Eos e = let b = goes_on met here bytes (done w s) _ h e in is_at met here bytes s h _ refl b.gave
   repeated_at s h at origin w f (Until c) e = is_at met here bytes s h _ refl e
 
-  begins_at : (s : ℕ) (h : Head) (at : Setting) (origin : Origin) (w : Stream) (f : Field) → answer (attribute_at at origin w s f) ≡ Ok h → start_of h ≡ s
+  begins_at : (s : Place) (h : Head) (at : Setting) (origin : Origin) (w : Stream) (f : Field) → answer (attribute_at at origin w s f) ≡ Ok h → start_of h ≡ s
   unfolding attribute_at
   begins_at s h at origin w f e =
       let b = goes_on met here bytes (holds at f.condition) _ h e in
@@ -82,7 +83,7 @@ module _ (met : Node → Result Given Fault) (here : Trail) (bytes : List ℕ) w
       by_condition false e' = is_at met here bytes s h (heads.Absent (Some s)) refl e'
 
   -- the place from which an attribute is read
-  abbrev pub StartsAt : Trail → Object → Option ℕ → ℕ → Type 0
+  abbrev pub StartsAt : Trail → Object → Option ℕ → Place → Type 0
   StartsAt q o before s = answer (attribute_start q o before) ≡ Ok s
 
   member_starts : (p q : Trail) (o : Object) (m : Sought) (k : MemberKind) (h : Head) → is_attribute k ≡ true → answer (member_at p q o m k) ≡ Ok h → StartsAt q o m.before (start_of h)
@@ -126,11 +127,11 @@ module _ (met : Node → Result Given Fault) (here : Trail) (bytes : List ℕ) w
   unfolding head_of
   head_begun d p x h is e = begun d p x h (ap (λ o. answer_of met here bytes (head_at d p o)) (sym is) ∙ e)
 
-  first_at : (q : Trail) (o : Object) (s : ℕ) → StartsAt q o None s → s ≡ o.start
+  first_at : (q : Trail) (o : Object) (s : Place) → StartsAt q o None s → s ≡ o.start
   unfolding attribute_start
   first_at q o s e = sym (ok_is o.start s e)
 
-  next_at : (q : Trail) (o : Object) (y s : ℕ) → StartsAt q o (Some y) s → EndsAt met q (steps.Name y) s
+  next_at : (q : Trail) (o : Object) (y : ℕ) (s : Place) → StartsAt q o (Some y) s → EndsAt met q (steps.Name y) s
   unfolding attribute_start part_end
   next_at q o y s e =
       let b = goes_on met here bytes (part_end q (steps.Name y)) (λ x. Answer x.place) s e in
@@ -153,7 +154,7 @@ one_object a b e = cc
 one_head : (a b : Head) → givens.Head a ≡ givens.Head b → a ≡ b
 one_head a b e = cc
 
-still_ends : (met met' : Node → Result Given Fault) (q : Trail) (step : Step) (s : ℕ) → ((m : Node) (g : Given) → met m ≡ Ok g → met' m ≡ Ok g) → EndsAt met q step s → EndsAt met' q step s
+still_ends : (met met' : Node → Result Given Fault) (q : Trail) (step : Step) (s : Place) → ((m : Node) (g : Given) → met m ≡ Ok g → met' m ≡ Ok g) → EndsAt met q step s → EndsAt met' q step s
 still_ends met met' q step s same i = record { path = i.path; is = i.is; is_last = i.is_last; ended = same (end_node i.path) (givens.End s i.is_last) i.ended }
 
 module _ (d : Description) (bytes : List ℕ) where

@@ -7,6 +7,7 @@ use Rattle.std.proofs.lemmas.Grind.{common_steps}
 use Rattle.ksv_basics.specs.Plan.{Answer, Fail, Ask, bind}
 use Rattle.ksv_basics.specs.Asking.{and_then}
 use Rattle.ksv_expr_tree.specs.Tree.{Tree}
+use Rattle.ksv_expr_value.specs.Places.{byte_of}
 use Rattle.ksv_expr_value.specs.Setting.{Setting}
 use Rattle.ksv_expr_value.specs.Trail.{Trail, parent}
 use Rattle.ksv_expr_value.specs.Range.{ranged}
@@ -108,15 +109,15 @@ module _ (met : Node → Result Given Fault) (here : Trail) (bytes : List ℕ) w
     number_fits : (signed : Bool) (order : ByteOrder) (enum : Option ℕ) → answer_of met here bytes (number_value l signed order enum) ≡ Ok v → IsOfLeaf l v
     unfolding number_value
     number_fits signed order enum h =
-        let b = goes_on (peek l.from l.to) (λ bs. number_in signed order enum bs) v h in
+        let b = goes_on (peek (byte_of l.from) (byte_of l.to)) (λ bs. number_in signed order enum bs) v h in
         let n : Option ℤ = ranged (integer_value signed order b.first) in
         in_number_fits enum n (passed (nat_le (length b.first) 8) (in_number enum n) kinds.BadType v b.gave)
 
     fixed_fits : (wanted : List ℕ) → answer_of met here bytes (fixed_value l wanted) ≡ Ok v → IsOfLeaf l v
     unfolding fixed_value
     fixed_fits wanted h =
-        let b = goes_on (peek l.from l.to) (λ bs. if bytes_eq bs wanted then Answer (values.Bytes l.from l.to) else raise kinds.Contents) v h in
-        is_value (values.Bytes l.from l.to) (refl, omega arith) (passed (bytes_eq b.first wanted) (Answer (values.Bytes l.from l.to)) kinds.Contents v b.gave)
+        let b = goes_on (peek (byte_of l.from) (byte_of l.to)) (λ bs. if bytes_eq bs wanted then Answer (values.Bytes (byte_of l.from) (byte_of l.to)) else raise kinds.Contents) v h in
+        is_value (values.Bytes (byte_of l.from) (byte_of l.to)) (refl, omega arith) (passed (bytes_eq b.first wanted) (Answer (values.Bytes (byte_of l.from) (byte_of l.to))) kinds.Contents v b.gave)
 
     kept_below : (t : Terminator) (bs : List ℕ) → kept t bs ≤ length bs
     unfolding kept
@@ -129,11 +130,11 @@ module _ (met : Node → Result Given Fault) (here : Trail) (bytes : List ℕ) w
 
     bytes_fit : (t : Option Terminator) → answer_of met here bytes (bytes_value l t) ≡ Ok v → IsOfLeaf l v
     unfolding bytes_value cut_bytes
-    bytes_fit None h = is_value (values.Bytes l.from l.to) (refl, omega arith) h
+    bytes_fit None h = is_value (values.Bytes (byte_of l.from) (byte_of l.to)) (refl, omega arith) h
     bytes_fit (Some t) h =
-        let b = goes_on (peek l.from l.to) (λ bs. Answer (values.Bytes l.from (l.from + kept t bs))) v h in
-        let end : l.from + kept t b.first ≤ l.to = omega (arith, kept_below t b.first, peeked l.from l.to b.first b.was) in
-        is_value (values.Bytes l.from (l.from + kept t b.first)) (refl, end) b.gave
+        let b = goes_on (peek (byte_of l.from) (byte_of l.to)) (λ bs. Answer (values.Bytes (byte_of l.from) (byte_of l.from + kept t bs))) v h in
+        let end : byte_of l.from + kept t b.first ≤ byte_of l.to = omega (arith, kept_below t b.first, peeked (byte_of l.from) (byte_of l.to) b.first b.was) in
+        is_value (values.Bytes (byte_of l.from) (byte_of l.from + kept t b.first)) (refl, end) b.gave
 
     in_text_fits : (t : Option (List ℕ)) → answer_of met here bytes (in_text t) ≡ Ok v → IsOfLeaf l v
     in_text_fits None h = absurd (cc)
@@ -142,7 +143,7 @@ module _ (met : Node → Result Given Fault) (here : Trail) (bytes : List ℕ) w
     text_fits : (encoding : Encoding) (t : Option Terminator) → answer_of met here bytes (text_value l encoding t) ≡ Ok v → IsOfLeaf l v
     unfolding text_value
     text_fits encoding t h =
-        let b = goes_on (peek l.from l.to) (λ bs. in_text (decoded encoding (cut_text t bs))) v h in
+        let b = goes_on (peek (byte_of l.from) (byte_of l.to)) (λ bs. in_text (decoded encoding (cut_text t bs))) v h in
         in_text_fits (decoded encoding (cut_text t b.first)) b.gave
 
     content_fits : (f : Field) (c : Content) → answer_of met here bytes (content_value l f c) ≡ Ok v → IsOfLeaf l v

@@ -5,6 +5,7 @@ use Rattle.std.proofs.lemmas.Bool.Decides.{nat_tests}
 use Rattle.std.proofs.lemmas.Grind.{common_steps}
 use Rattle.ksv_basics.specs.Plan.{Answer}
 use Rattle.ksv_expr_tree.specs.Tree.{Tree}
+use Rattle.ksv_expr_value.specs.Places.{Place, at_byte, byte_of}
 use Rattle.ksv_expr_value.specs.Setting.{Setting}
 use Rattle.ksv_expr_value.specs.Trail.{Trail, parent, last}
 use Rattle.ksv_expr_value.specs.declared.fault.Fault.{Fault}
@@ -45,7 +46,7 @@ use Rattle.ksv_rule_meaning.specs.Wanted.{in_object, expression, holds, size_of,
 use Rattle.ksv_rule_meaning.specs.Fields.{members_of, Sought, member_named, last_attribute, kind_of, field_of}
 use Rattle.ksv_rule_meaning.specs.Heads.{leaf, leaf_to_end, terminated_at, terminated, run_of, sized_leaf, bytes_at, sized_object, object_at, content_at, unchosen_at, chosen_at, shape_at, count_of, counted, until_eos, repeated, attribute_at, part_end, attribute_start, setting, origin_of, attribute_head, instance_setting, positioned_in, positioned, instance_head, calc, value_head, member_at, member_head, in_list, is_past, in_next, next_start, element_start, element_head, root_head, head_at, head_of}
 use Rattle.ksv_rule_meaning.specs.Values.{in_no_stream, in_enum, instance_value, arguments_for, argument_at, setting_of_holder, argument_setting, plain_value, argument_value, parameter_value, calc_value, calculated, value_at, value_of}
-use Rattle.ksv_rule_meaning.specs.Ends.{fields_end, object_end, part_rest, list_end, place_of, is_last, not_empty, element_end, end_at, end_of, next_rest, rest_behind, rest_from, in_whole_list, whole_rest, rest_at, rest_of}
+use Rattle.ksv_rule_meaning.specs.Ends.{stream_end, fields_end, object_end, part_rest, list_end, place_of, is_last, not_empty, element_end, end_at, end_of, next_rest, rest_behind, rest_from, in_whole_list, whole_rest, rest_at, rest_of}
 use Rattle.ksv_rule_meaning.specs.Meaning.{meaning_of}
 use Rattle.ksv_rule_meaning.specs.FromNothing.{answer_within, from_nothing}
 use Rattle.ksv_rule_laws.specs.Laws.{IsOfLeaf, IsOfHead, IsEndIn, IsStreamIn, IsHomeIn, IsHeadIn, IsValueIn, IsIn, PlacesAreInFile}
@@ -105,19 +106,19 @@ module _ (met : Node → Result Given Fault) (here : Trail) (bytes : List ℕ) (
   head_lies : (p : Trail) (h : Head) → answer (ask_head p) ≡ Ok h → IsHeadIn size h
   head_lies p h e = lies (head_node p) (givens.Head h) (asked_head met here bytes p h e)
 
-  end_lies : (p : Trail) (x : Ended) → answer (ask_end p) ≡ Ok x → x.place ≤ size
+  end_lies : (p : Trail) (x : Ended) → answer (ask_end p) ≡ Ok x → byte_of x.place ≤ size
   end_lies p x e = by_given (met (end_node p)) refl e
     where
-      by_given : (r : Result Given Fault) → met (end_node p) ≡ r → with_given r (λ g. answer_of met here bytes (in_end g)) ≡ Ok x → x.place ≤ length bytes
-      by_given (Ok (givens.End place last)) is e' = subst (λ (y : Ended). y.place ≤ length bytes) (ok_is (record { place = place; last = last }) x e') (lies (end_node p) (givens.End place last) is)
+      by_given : (r : Result Given Fault) → met (end_node p) ≡ r → with_given r (λ g. answer_of met here bytes (in_end g)) ≡ Ok x → byte_of x.place ≤ length bytes
+      by_given (Ok (givens.End place last)) is e' = subst (λ (y : Ended). byte_of y.place ≤ length bytes) (ok_is (record { place = place; last = last }) x e') (lies (end_node p) (givens.End place last) is)
       by_given (Ok _) is e' = absurd (cc)
       by_given (Err f) is e' = absurd (cc)
 
-  rest_lies : (p : Trail) (x : Rested) → answer (ask_rest p) ≡ Ok x → x.place ≤ size
+  rest_lies : (p : Trail) (x : Rested) → answer (ask_rest p) ≡ Ok x → byte_of x.place ≤ size
   rest_lies p x e = by_given (met (rest_node p)) refl e
     where
-      by_given : (r : Result Given Fault) → met (rest_node p) ≡ r → with_given r (λ g. answer_of met here bytes (in_rest g)) ≡ Ok x → x.place ≤ length bytes
-      by_given (Ok (givens.Rest count place)) is e' = subst (λ (y : Rested). y.place ≤ length bytes) (ok_is (record { count = count; place = place }) x e') (lies (rest_node p) (givens.Rest count place) is)
+      by_given : (r : Result Given Fault) → met (rest_node p) ≡ r → with_given r (λ g. answer_of met here bytes (in_rest g)) ≡ Ok x → byte_of x.place ≤ length bytes
+      by_given (Ok (givens.Rest count place)) is e' = subst (λ (y : Rested). byte_of y.place ≤ length bytes) (ok_is (record { count = count; place = place }) x e') (lies (rest_node p) (givens.Rest count place) is)
       by_given (Ok _) is e' = absurd (cc)
       by_given (Err f) is e' = absurd (cc)
 
@@ -138,17 +139,17 @@ module _ (met : Node → Result Given Fault) (here : Trail) (bytes : List ℕ) (
   whole_list_lies l (heads.List g') g within e = subst IsListIn (ok_is g' g e) within
   whole_list_lies l _ g within e = absurd (cc)
 
-  part_end_lies : (q : Trail) (step : Step) (x : Ended) → answer (part_end q step) ≡ Ok x → x.place ≤ size
+  part_end_lies : (q : Trail) (step : Step) (x : Ended) → answer (part_end q step) ≡ Ok x → byte_of x.place ≤ size
   unfolding part_end
   part_end_lies q step x e = let b = goes_on met here bytes (part q step) (λ p. ask_end p) x e in end_lies b.first x b.gave
 
-  part_rest_lies : (q : Trail) (step : Step) (x : Rested) → answer (part_rest q step) ≡ Ok x → x.place ≤ size
+  part_rest_lies : (q : Trail) (step : Step) (x : Rested) → answer (part_rest q step) ≡ Ok x → byte_of x.place ≤ size
   unfolding part_rest
   part_rest_lies q step x e = let b = goes_on met here bytes (part q step) (λ p. ask_rest p) x e in rest_lies b.first x b.gave
 
   -- ---- heads
 
-  module _ (w : Stream) (s : ℕ) (within : IsStreamIn (length bytes) w) (begins : s ≤ length bytes) (h : Head) where
+  module _ (w : Stream) (s : Place) (within : IsStreamIn (length bytes) w) (begins : byte_of s ≤ length bytes) (h : Head) where
     is_in : (k : Head) → IsHeadIn size k → ◌≡◌ {A = Result Head Fault} (Ok k) (Ok h) → IsHeadIn size h
     is_in k kept e = subst (IsHeadIn size) (ok_is k h e) kept
 
@@ -161,8 +162,8 @@ module _ (met : Node → Result Given Fault) (here : Trail) (bytes : List ℕ) (
       leaf_in : (n : ℕ) → answer (leaf origin w s n) ≡ Ok h → IsHeadIn size h
       unfolding leaf
       leaf_in n e =
-          let b = goes_on met here bytes (reach w (s + n)) _ h e in
-          let end = reached w (s + n) b.first b.was in
+          let b = goes_on met here bytes (reach w (byte_of s + n)) _ h e in
+          let end = reached w (byte_of s + n) b.first b.was in
           is_in _ (begins, end, end, home) b.gave
 
       to_end_in : answer (leaf_to_end origin w s) ≡ Ok h → IsHeadIn size h
@@ -180,8 +181,8 @@ module _ (met : Node → Result Given Fault) (here : Trail) (bytes : List ℕ) (
       unfolding run_of terminated
       run_in None e = is_in (heads.Absent (Some s)) begins e
       run_in (Some t) e =
-          let b = goes_on met here bytes (find w s t.byte) _ h e in
-          found_in t b.first (found w s t.byte b.first within.1 b.was) b.gave
+          let b = goes_on met here bytes (find w (byte_of s) t.byte) _ h e in
+          found_in t b.first (found w (byte_of s) t.byte b.first within.1 b.was) b.gave
 
       sized_in : (at : Setting) (e : Tree) → answer (sized_leaf at origin w s e) ≡ Ok h → IsHeadIn size h
       unfolding sized_leaf
@@ -197,8 +198,8 @@ module _ (met : Node → Result Given Fault) (here : Trail) (bytes : List ℕ) (
       unfolding object_at sized_object
       object_in at t (Sized e) z =
           let b = goes_on met here bytes (size_of at e) _ h z in
-          let c = goes_on met here bytes (reach w (s + b.first)) _ h b.gave in
-          let end = reached w (s + b.first) c.first c.was in
+          let c = goes_on met here bytes (reach w (byte_of s + b.first)) _ h b.gave in
+          let end = reached w (byte_of s + b.first) c.first c.was in
           is_in _ (begins, (begins, end), home) c.gave
       object_in at t SizeEos z = is_in _ (begins, (begins, within.1), home) z
       object_in at t ByItself z = is_in _ (begins, within, home) z
@@ -252,9 +253,9 @@ module _ (met : Node → Result Given Fault) (here : Trail) (bytes : List ℕ) (
     positioned_lies origin e io f home z =
         let w = goes_on met here bytes (stream_for at io) (λ w. positioned_in at origin w e f) h z in
         let n = goes_on met here bytes (size_of at e) _ h w.gave in
-        let place = w.first.from + n.first in
-        let r = goes_on met here bytes (reach w.first place) _ h n.gave in
-        repeated_in w.first place (stream_in met here bytes lies at io w.first there w.was) (reached w.first place r.first r.was) h origin home (record at { place = place }) f f.repeat r.gave
+        let byte = w.first.from + n.first in
+        let r = goes_on met here bytes (reach w.first byte) _ h n.gave in
+        repeated_in w.first (at_byte byte) (stream_in met here bytes lies at io w.first there w.was) (reached w.first byte r.first r.was) h origin home (record at { place = at_byte byte }) f f.repeat r.gave
 
     instance_in : (origin : Origin) (e : Tree) (io : Option Tree) (f : Field) → IsStreamIn size origin.home → answer (instance_head at origin e io f) ≡ Ok h → IsHeadIn size h
     unfolding instance_head
@@ -278,12 +279,12 @@ module _ (met : Node → Result Given Fault) (here : Trail) (bytes : List ℕ) (
 
   -- ---- members
 
-  start_in : (q : Trail) (o : Object) (before : Option ℕ) (s : ℕ) → IsObjectIn o → answer (attribute_start q o before) ≡ Ok s → s ≤ size
+  start_in : (q : Trail) (o : Object) (before : Option ℕ) (s : Place) → IsObjectIn o → answer (attribute_start q o before) ≡ Ok s → byte_of s ≤ size
   unfolding attribute_start
-  start_in q o None s within e = subst (λ (n : ℕ). n ≤ size) (ok_is o.start s e) within.0
+  start_in q o None s within e = subst (λ (n : Place). byte_of n ≤ size) (ok_is o.start s e) within.0
   start_in q o (Some y) s within e =
       let b = goes_on met here bytes (part_end q (steps.Name y)) (λ x. Answer x.place) s e in
-      subst (λ (n : ℕ). n ≤ size) (ok_is b.first.place s b.gave) (part_end_lies q (steps.Name y) b.first b.was)
+      subst (λ (n : Place). byte_of n ≤ size) (ok_is b.first.place s b.gave) (part_end_lies q (steps.Name y) b.first b.was)
 
   member_in : (p q : Trail) (o : Object) (x : Sought) (k : MemberKind) (h : Head) → IsObjectIn o → answer (member_at p q o x k) ≡ Ok h → IsHeadIn size h
   unfolding member_at attribute_head
@@ -302,18 +303,18 @@ module _ (met : Node → Result Given Fault) (here : Trail) (bytes : List ℕ) (
       let m = goes_on met here bytes (member_named d o.first.type_number x) _ h o.gave in
       member_in p q o.first m.first m.first.kind h (object_lies q k.first o.first (head_lies q k.first k.was) o.was) m.gave
 
-  next_in : (l : Trail) (i s : ℕ) → answer (next_start l i) ≡ Ok s → s ≤ size
+  next_in : (l : Trail) (i : ℕ) (s : Place) → answer (next_start l i) ≡ Ok s → byte_of s ≤ size
   unfolding next_start
   next_in l i s e =
       let b = goes_on met here bytes (part_end l (steps.Index i)) (λ x. in_next x) s e in
-      subst (λ (n : ℕ). n ≤ size) (ok_is b.first.place s (refused met here bytes b.first.last (Answer b.first.place) kinds.BadIndex s b.gave)) (part_end_lies l (steps.Index i) b.first b.was)
+      subst (λ (n : Place). byte_of n ≤ size) (ok_is b.first.place s (refused met here bytes b.first.last (Answer b.first.place) kinds.BadIndex s b.gave)) (part_end_lies l (steps.Index i) b.first b.was)
 
-  element_start_in : (l : Trail) (g : lists.List) (i s : ℕ) → IsListIn g → answer (element_start l g i) ≡ Ok s → s ≤ size
+  element_start_in : (l : Trail) (g : lists.List) (i : ℕ) (s : Place) → IsListIn g → answer (element_start l g i) ≡ Ok s → byte_of s ≤ size
   unfolding element_start
   element_start_in l g i s within e = by_first (i == 0) (refused met here bytes (g.is_empty || is_past g.count i) (if i == 0 then Answer g.start else next_start l (i - 1)) kinds.BadIndex s e)
     where
-      by_first : (b : Bool) → answer_of met here bytes (if b then Answer g.start else next_start l (i - 1)) ≡ Ok s → s ≤ length bytes
-      by_first true e' = subst (λ (n : ℕ). n ≤ length bytes) (ok_is g.start s e') within.0
+      by_first : (b : Bool) → answer_of met here bytes (if b then Answer g.start else next_start l (i - 1)) ≡ Ok s → byte_of s ≤ length bytes
+      by_first true e' = subst (λ (n : Place). byte_of n ≤ length bytes) (ok_is g.start s e') within.0
       by_first false e' = next_in l (i - 1) s e'
 
   element_in : (d : Description) (p l q : Trail) (i : ℕ) (h : Head) → answer (element_head d p l q i) ≡ Ok h → IsHeadIn size h
@@ -334,21 +335,23 @@ module _ (met : Node → Result Given Fault) (here : Trail) (bytes : List ℕ) (
 
   -- ---- ends
 
-  place_is : (n e : ℕ) → n ≤ size → ◌≡◌ {A = Result ℕ Fault} (Ok n) (Ok e) → e ≤ size
-  place_is n e le h = subst (λ (k : ℕ). k ≤ size) (ok_is n e h) le
+  place_is : (n e : Place) → byte_of n ≤ size → ◌≡◌ {A = Result Place Fault} (Ok n) (Ok e) → byte_of e ≤ size
+  place_is n e le h = subst (λ (k : Place). byte_of k ≤ size) (ok_is n e h) le
 
-  object_end_in : (d : Description) (p : Trail) (o : Object) (x : ObjectEnd) (e : ℕ) → IsObjectIn o → answer (object_end d p o x) ≡ Ok e → e ≤ size
-  unfolding object_end fields_end
-  object_end_in d p o endings.OfStream e within h = finished o.stream e within.1.1 h
+  object_end_in : (d : Description) (p : Trail) (o : Object) (x : ObjectEnd) (e : Place) → IsObjectIn o → answer (object_end d p o x) ≡ Ok e → byte_of e ≤ size
+  unfolding object_end fields_end stream_end
+  object_end_in d p o endings.OfStream e within h =
+      let b = goes_on met here bytes (finish o.stream) (λ n. Answer (at_byte n)) e h in
+      place_is (at_byte b.first) e (finished o.stream b.first within.1.1 b.was) b.gave
   object_end_in d p o endings.ByFields e within h = by_last (last_attribute None (members_of d o.type_number)) h
     where
-      by_last : (z : Option ℕ) → answer_of met here bytes (fields_end p o.start z) ≡ Ok e → e ≤ length bytes
+      by_last : (z : Option ℕ) → answer_of met here bytes (fields_end p o.start z) ≡ Ok e → byte_of e ≤ length bytes
       by_last None h' = place_is o.start e within.0 h'
       by_last (Some z) h' =
           let b = goes_on met here bytes (part_end p (steps.Name z)) (λ x. Answer x.place) e h' in
           place_is b.first.place e (part_end_lies p (steps.Name z) b.first b.was) b.gave
 
-  place_in : (d : Description) (p : Trail) (h : Head) (e : ℕ) → IsHeadIn size h → answer (place_of d p h) ≡ Ok e → e ≤ size
+  place_in : (d : Description) (p : Trail) (h : Head) (e : Place) → IsHeadIn size h → answer (place_of d p h) ≡ Ok e → byte_of e ≤ size
   unfolding place_of list_end
   place_in d p (heads.Absent None) e within z = absurd (cc)
   place_in d p (heads.Absent (Some s)) e within z = place_is s e within z
@@ -359,7 +362,7 @@ module _ (met : Node → Result Given Fault) (here : Trail) (bytes : List ℕ) (
       let b = goes_on met here bytes (part_rest p (steps.Index 0)) (λ r. Answer r.place) e z in
       place_is b.first.place e (part_rest_lies p (steps.Index 0) b.first b.was) b.gave
 
-  end_at_in : (d : Description) (p : Trail) (step : Option Step) (h : Head) (e : ℕ) (x : Ended) → e ≤ size → answer (end_at d p step h e) ≡ Ok x → x.place ≤ size
+  end_at_in : (d : Description) (p : Trail) (step : Option Step) (h : Head) (e : Place) (x : Ended) → byte_of e ≤ size → answer (end_at d p step h e) ≡ Ok x → byte_of x.place ≤ size
   unfolding element_end
   end_at_in d p (Some (steps.Index i)) h e x le z =
       let k = goes_on met here bytes (ask_head (parent p)) _ x z in
@@ -367,10 +370,10 @@ module _ (met : Node → Result Given Fault) (here : Trail) (bytes : List ℕ) (
       let f = goes_on met here bytes (field_of d g.first.origin.member) _ x g.gave in
       let u = goes_on met here bytes (not_empty f.first.repeat _ e) _ x f.gave in
       let b = goes_on met here bytes (is_last _ g.first p i e f.first.repeat) _ x u.gave in
-      subst (λ (y : Ended). y.place ≤ size) {x = record { place = e; last = b.first }} (ok_is (record { place = e; last = b.first }) x b.gave) le
-  end_at_in d p _ h e x le z = subst (λ (y : Ended). y.place ≤ size) (ok_is (record { place = e; last = false }) x z) le
+      subst (λ (y : Ended). byte_of y.place ≤ size) {x = record { place = e; last = b.first }} (ok_is (record { place = e; last = b.first }) x b.gave) le
+  end_at_in d p _ h e x le z = subst (λ (y : Ended). byte_of y.place ≤ size) (ok_is (record { place = e; last = false }) x z) le
 
-  end_of_in : (d : Description) (p : Trail) (x : Ended) → answer (end_of d p) ≡ Ok x → x.place ≤ size
+  end_of_in : (d : Description) (p : Trail) (x : Ended) → answer (end_of d p) ≡ Ok x → byte_of x.place ≤ size
   unfolding end_of
   end_of_in d p x z =
       let h = goes_on met here bytes (ask_head p) _ x z in
@@ -379,34 +382,34 @@ module _ (met : Node → Result Given Fault) (here : Trail) (bytes : List ℕ) (
 
   -- ---- rests
 
-  rested_is : (n : Rested) (x : Rested) → n.place ≤ size → ◌≡◌ {A = Result Rested Fault} (Ok n) (Ok x) → x.place ≤ size
-  rested_is n x le h = subst (λ (y : Rested). y.place ≤ size) (ok_is n x h) le
+  rested_is : (n : Rested) (x : Rested) → byte_of n.place ≤ size → ◌≡◌ {A = Result Rested Fault} (Ok n) (Ok x) → byte_of x.place ≤ size
+  rested_is n x le h = subst (λ (y : Rested). byte_of y.place ≤ size) (ok_is n x h) le
 
-  rest_from_in : (p l : Trail) (i : ℕ) (x : Rested) → answer (rest_from p l i) ≡ Ok x → x.place ≤ size
+  rest_from_in : (p l : Trail) (i : ℕ) (x : Rested) → answer (rest_from p l i) ≡ Ok x → byte_of x.place ≤ size
   unfolding rest_from next_rest
   rest_from_in p l i x z =
       let e = goes_on met here bytes (ask_end p) (λ y. rest_behind l i y) x z in
       by_last e.first.last (end_lies p e.first e.was) e.gave
     where
-      by_last : (b : Bool) {place : ℕ} → place ≤ length bytes → answer_of met here bytes (if b then Answer (record { count = i + 1; place = place }) else next_rest l i) ≡ Ok x → x.place ≤ length bytes
+      by_last : (b : Bool) {place : Place} → byte_of place ≤ length bytes → answer_of met here bytes (if b then Answer (record { count = i + 1; place = place }) else next_rest l i) ≡ Ok x → byte_of x.place ≤ length bytes
       by_last true {place} le z' = rested_is (record { count = i + 1; place = place }) x le z'
       by_last false {place} le z' = part_rest_lies l (steps.Index (i + 1)) x (refused met here bytes _ (part_rest l (steps.Index (i + 1))) kinds.TooMany x z')
 
-  whole_rest_in : (p l : Trail) (x : Rested) → answer (whole_rest p l) ≡ Ok x → x.place ≤ size
+  whole_rest_in : (p l : Trail) (x : Rested) → answer (whole_rest p l) ≡ Ok x → byte_of x.place ≤ size
   unfolding whole_rest
   whole_rest_in p l x z =
       let h = goes_on met here bytes (ask_head l) _ x z in
       let g = goes_on met here bytes (in_whole_list l h.first) _ x h.gave in
       by_empty g.first.is_empty g.first.start (whole_list_lies l h.first g.first (head_lies l h.first h.was) g.was).0 g.gave
     where
-      by_empty : (b : Bool) (start : ℕ) → start ≤ length bytes → answer_of met here bytes (if b then Answer (record { count = 0; place = start }) else rest_from p l 0) ≡ Ok x → x.place ≤ length bytes
+      by_empty : (b : Bool) (start : Place) → byte_of start ≤ length bytes → answer_of met here bytes (if b then Answer (record { count = 0; place = start }) else rest_from p l 0) ≡ Ok x → byte_of x.place ≤ length bytes
       by_empty true start le z' = rested_is (record { count = 0; place = start }) x le z'
       by_empty false start le z' = rest_from_in p l 0 x z'
 
-  rest_at_in : (p : Trail) (step : Option Step) (x : Rested) → answer (rest_at p step) ≡ Ok x → x.place ≤ size
+  rest_at_in : (p : Trail) (step : Option Step) (x : Rested) → answer (rest_at p step) ≡ Ok x → byte_of x.place ≤ size
   rest_at_in p (Some (steps.Index i)) x z = by_first (i == 0) z
     where
-      by_first : (b : Bool) → answer_of met here bytes (if b then whole_rest p (parent p) else rest_from p (parent p) i) ≡ Ok x → x.place ≤ length bytes
+      by_first : (b : Bool) → answer_of met here bytes (if b then whole_rest p (parent p) else rest_from p (parent p) i) ≡ Ok x → byte_of x.place ≤ length bytes
       by_first true z' = whole_rest_in p (parent p) x z'
       by_first false z' = rest_from_in p (parent p) i x z'
   rest_at_in p _ x z = absurd (cc)
@@ -424,7 +427,7 @@ module _ (met : Node → Result Given Fault) (here : Trail) (bytes : List ℕ) (
   enum_in (Some e) (values.Int n) v within h = subst (IsValueIn size) (ok_is (values.Member e n) v h) tt
   enum_in (Some e) w v within h = absurd (cc)
 
-  argument_stream : (p q : Trail) (step : Option Step) (g : Origin) (start : ℕ) → IsStreamIn size g.home → IsStreamIn size (setting_of_holder p q step g start).stream
+  argument_stream : (p q : Trail) (step : Option Step) (g : Origin) (start : Place) → IsStreamIn size g.home → IsStreamIn size (setting_of_holder p q step g start).stream
   argument_stream p q (Some (steps.Index i)) g start home = home
   argument_stream p q _ g start home = home
 

@@ -2,6 +2,7 @@
 use Rattle.std.proofs.Common.{◌≡◌, ◌∙◌, ℕ, zero, suc, ◌+◌, ◌==◌, Bool, true, false, if◌then◌else◌, List, [], ◌∷◌, length, slice_get, Option, Some, None, Result, Ok, refl, sym, ap, subst, arith}
 use Rattle.ksv_basics.specs.Plan.{Answer}
 use Rattle.ksv_expr_tree.specs.Tree.{Tree}
+use Rattle.ksv_expr_value.specs.Places.{Place, byte_of}
 use Rattle.ksv_expr_value.specs.Setting.{Setting}
 use Rattle.ksv_expr_value.specs.Trail.{Trail, parent, last}
 use Rattle.ksv_expr_value.specs.declared.fault.Fault.{Fault}
@@ -144,15 +145,15 @@ module _ (met : Node → Result Given Fault) (here : Trail) (bytes : List ℕ) w
     so_read : (k : Head) → IsReadSo d k → ◌≡◌ {A = Result Head Fault} (Ok k) (Ok h) → IsReadSo d h
     so_read k is e = subst (IsReadSo d) (ok_is k h e) is
 
-    absent_read : (place : Option ℕ) → ◌≡◌ {A = Result Head Fault} (Ok (heads.Absent place)) (Ok h) → IsReadSo d h
+    absent_read : (place : Option Place) → ◌≡◌ {A = Result Head Fault} (Ok (heads.Absent place)) (Ok h) → IsReadSo d h
     absent_read place e = so_read (heads.Absent place) (tt, tt) e
 
-    module _ (origin : Origin) (w : Stream) (s : ℕ) where
+    module _ (origin : Origin) (w : Stream) (s : Place) where
       -- bytes, where its member reads bytes by its case
       module _ (own : IsReadBy d origin.member (IsLeafOf origin.case)) where
         leaf_read : (n : ℕ) → answer (leaf origin w s n) ≡ Ok h → IsReadSo d h
         unfolding leaf
-        leaf_read n e = let b = goes_on met here bytes (reach w (s + n)) _ h e in so_read _ (own, tt) b.gave
+        leaf_read n e = let b = goes_on met here bytes (reach w (byte_of s + n)) _ h e in so_read _ (own, tt) b.gave
 
         sized_read : (at : Setting) (e : Tree) → answer (sized_leaf at origin w s e) ≡ Ok h → IsReadSo d h
         unfolding sized_leaf
@@ -171,7 +172,7 @@ module _ (met : Node → Result Given Fault) (here : Trail) (bytes : List ℕ) w
         bytes_read at (Sized e) t z = sized_read at e z
         bytes_read at SizeEos t z = to_end_read z
         bytes_read at ByItself None z = absent_read (Some s) z
-        bytes_read at ByItself (Some t) z = let b = goes_on met here bytes (find w s t.byte) _ h z in found_read t b.first b.gave
+        bytes_read at ByItself (Some t) z = let b = goes_on met here bytes (find w (byte_of s) t.byte) _ h z in found_read t b.first b.gave
 
         unchosen_read : (at : Setting) (x : Extent) → answer (unchosen_at at origin w s x) ≡ Ok h → IsReadSo d h
         unfolding unchosen_at
@@ -183,7 +184,7 @@ module _ (met : Node → Result Given Fault) (here : Trail) (bytes : List ℕ) w
       unfolding object_at sized_object
       object_read at t (Sized e) own z =
           let b = goes_on met here bytes (size_of at e) _ h z in
-          let c = goes_on met here bytes (reach w (s + b.first)) _ h b.gave in
+          let c = goes_on met here bytes (reach w (byte_of s + b.first)) _ h b.gave in
           so_read (heads.Object _) (own, tt) c.gave
       object_read at t SizeEos own z = so_read (heads.Object _) (own, tt) z
       object_read at t ByItself own z = so_read (heads.Object _) (own, tt) z
@@ -197,7 +198,7 @@ module _ (met : Node → Result Given Fault) (here : Trail) (bytes : List ℕ) w
       content_read at f (contents.Object t given) own is e = object_read at t f.extent (record { field = f; is = own; so = (given, is) }) e
 
     -- the case isn't chosen beforehand
-    shape_read : (at : Setting) (origin : Origin) (w : Stream) (s : ℕ) (f : Field) → IsFieldOf d origin.member f → origin.case ≡ None → answer (shape_at at origin w s f) ≡ Ok h → IsReadSo d h
+    shape_read : (at : Setting) (origin : Origin) (w : Stream) (s : Place) (f : Field) → IsFieldOf d origin.member f → origin.case ≡ None → answer (shape_at at origin w s f) ≡ Ok h → IsReadSo d h
     unfolding shape_at
     shape_read at origin w s f own none e =
         let b = goes_on met here bytes (choose at f.choice) (λ c. chosen_at at origin w s f c) h e in
@@ -213,7 +214,7 @@ module _ (met : Node → Result Given Fault) (here : Trail) (bytes : List ℕ) w
 
     module _ (origin : Origin) (f : Field) (own : IsFieldOf d origin.member f) (none : origin.case ≡ None) where
       -- the list of a count
-      abbrev listed : Stream → ℕ → Option ℕ → Bool → lists.List
+      abbrev listed : Stream → Place → Option ℕ → Bool → lists.List
       listed w s count is_empty = record { origin = origin; stream = w; start = s; count = count; is_empty = is_empty }
 
       list_read : (g : lists.List) (r : Repeat) → g.origin ≡ origin → f.repeat ≡ r → IsCountedBy r g → ◌≡◌ {A = Result Head Fault} (Ok (heads.List g)) (Ok h) → IsReadSo d h
@@ -221,7 +222,7 @@ module _ (met : Node → Result Given Fault) (here : Trail) (bytes : List ℕ) w
           let by : IsReadBy d g.origin.member (λ k. IsCountedBy k.repeat g) = subst (λ (o : Origin). IsReadBy d o.member (λ k. IsCountedBy k.repeat g)) (sym same) (record { field = f; is = own; so = subst (λ q. IsCountedBy q g) (sym is) so }) in
           so_read (heads.List g) (by, ap (λ (o : Origin). o.case) same ∙ none) e
 
-      repeated_read : (at : Setting) (w : Stream) (s : ℕ) (r : Repeat) → f.repeat ≡ r → answer (repeated at origin w s f r) ≡ Ok h → IsReadSo d h
+      repeated_read : (at : Setting) (w : Stream) (s : Place) (r : Repeat) → f.repeat ≡ r → answer (repeated at origin w s f r) ≡ Ok h → IsReadSo d h
       unfolding repeated counted until_eos
       repeated_read at w s Once is e = shape_read at origin w s f own none e
       repeated_read at w s (Expr n) is e =
@@ -232,7 +233,7 @@ module _ (met : Node → Result Given Fault) (here : Trail) (bytes : List ℕ) w
           list_read (listed w s None b.first) Eos refl is refl b.gave
       repeated_read at w s (Until c) is e = list_read (listed w s None false) (Until c) refl is refl e
 
-      attribute_read : (at : Setting) (w : Stream) (s : ℕ) → answer (attribute_at at origin w s f) ≡ Ok h → IsReadSo d h
+      attribute_read : (at : Setting) (w : Stream) (s : Place) → answer (attribute_at at origin w s f) ≡ Ok h → IsReadSo d h
       unfolding attribute_at
       attribute_read at w s e =
           let b = goes_on met here bytes (holds at f.condition) _ h e in

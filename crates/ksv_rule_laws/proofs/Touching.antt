@@ -2,6 +2,7 @@
 use Rattle.std.proofs.Common.{◌≡◌, ◌∙◌, ℕ, zero, suc, ◌+◌, ◌-◌, ◌==◌, Bool, true, false, if◌then◌else◌, ◌||◌, List, ◌∷◌, length, Option, Some, None, Result, Ok, Err, refl, sym, ap, subst, arith}
 use Rattle.std.proofs.lemmas.Bool.Decides.{nat_tests}
 use Rattle.ksv_basics.specs.Plan.{Answer}
+use Rattle.ksv_expr_value.specs.Places.{Place, byte_of}
 use Rattle.ksv_expr_value.specs.Setting.{Setting}
 use Rattle.ksv_expr_value.specs.Trail.{Trail, child, parent, last}
 use Rattle.ksv_expr_value.specs.declared.fault.Fault.{Fault}
@@ -35,13 +36,13 @@ use Rattle.ksv_rule_laws.proofs.Forms.{ok_is, goes_on, refused, meaning_is, rule
 module _ (met : Node → Result Given Fault) (here : Trail) (bytes : List ℕ) where
   -- ---- where something begins that is read at a place
 
-  module _ (s : ℕ) (h : Head) where
+  module _ (s : Place) (h : Head) where
     pub is_at : (k : Head) → start_of k ≡ s → ◌≡◌ {A = Result Head Fault} (Ok k) (Ok h) → start_of h ≡ s
     is_at k start e = sym (ap start_of (ok_is k h e)) ∙ start
 
     leaf_at : (origin : Origin) (w : Stream) (n : ℕ) → answer_of met here bytes (leaf origin w s n) ≡ Ok h → start_of h ≡ s
     unfolding leaf
-    leaf_at origin w n e = let b = goes_on met here bytes (reach w (s + n)) _ h e in is_at _ refl b.gave
+    leaf_at origin w n e = let b = goes_on met here bytes (reach w (byte_of s + n)) _ h e in is_at _ refl b.gave
 
     to_end_at : (origin : Origin) (w : Stream) → answer_of met here bytes (leaf_to_end origin w s) ≡ Ok h → start_of h ≡ s
     unfolding leaf_to_end
@@ -54,7 +55,7 @@ module _ (met : Node → Result Given Fault) (here : Trail) (bytes : List ℕ) w
     run_at : (origin : Origin) (w : Stream) (t : Option Terminator) → answer_of met here bytes (run_of origin w s t) ≡ Ok h → start_of h ≡ s
     unfolding run_of terminated
     run_at origin w None e = is_at _ refl e
-    run_at origin w (Some t) e = let b = goes_on met here bytes (find w s t.byte) _ h e in found_at origin t b.first b.gave
+    run_at origin w (Some t) e = let b = goes_on met here bytes (find w (byte_of s) t.byte) _ h e in found_at origin t b.first b.gave
 
     bytes_are_at : (at : Setting) (origin : Origin) (w : Stream) (x : Extent) (t : Option Terminator) → answer_of met here bytes (bytes_at at origin w s x t) ≡ Ok h → start_of h ≡ s
     unfolding bytes_at sized_leaf
@@ -66,7 +67,7 @@ module _ (met : Node → Result Given Fault) (here : Trail) (bytes : List ℕ) w
     unfolding object_at sized_object
     object_is_at at origin t w (Sized e) z =
         let b = goes_on met here bytes (size_of at e) _ h z in
-        let c = goes_on met here bytes (reach w (s + b.first)) _ h b.gave in
+        let c = goes_on met here bytes (reach w (byte_of s + b.first)) _ h b.gave in
         is_at _ refl c.gave
     object_is_at at origin t w SizeEos z = is_at _ refl z
     object_is_at at origin t w ByItself z = is_at _ refl z
@@ -108,12 +109,12 @@ module _ (met : Node → Result Given Fault) (here : Trail) (bytes : List ℕ) w
   part_is (Some p) q e = ap Some (ok_is p q e)
 
   -- the end of the element i of l is this place, and it isn't the last
-  record EndsAt (l : Trail) (i s : ℕ) : Type 0 where
+  record EndsAt (l : Trail) (i : ℕ) (s : Place) : Type 0 where
     path : Trail
     is : child l (steps.Index i) ≡ Some path
     ended : met (end_node path) ≡ Ok (givens.End s false)
 
-  next_at : (l : Trail) (i s : ℕ) → answer_of met here bytes (next_start l i) ≡ Ok s → EndsAt l i s
+  next_at : (l : Trail) (i : ℕ) (s : Place) → answer_of met here bytes (next_start l i) ≡ Ok s → EndsAt l i s
   unfolding next_start part_end
   next_at l i s e =
       let b = goes_on met here bytes (part_end l (steps.Index i)) (λ x. in_next x) s e in
@@ -121,11 +122,11 @@ module _ (met : Node → Result Given Fault) (here : Trail) (bytes : List ℕ) w
       let x : met (end_node c.first) ≡ Ok (givens.End b.first.place b.first.last) = asked_end c.first b.first c.gave in
       by_last b.first.place b.first.last c.first (part_is (child l (steps.Index i)) c.first c.was) x b.gave
     where
-      by_last : (place : ℕ) (last : Bool) (p : Trail) → child l (steps.Index i) ≡ Some p → met (end_node p) ≡ Ok (givens.End place last) → answer_of met here bytes (in_next (record { place = place; last = last })) ≡ Ok s → EndsAt l i s
+      by_last : (place : Place) (last : Bool) (p : Trail) → child l (steps.Index i) ≡ Some p → met (end_node p) ≡ Ok (givens.End place last) → answer_of met here bytes (in_next (record { place = place; last = last })) ≡ Ok s → EndsAt l i s
       by_last place true p is x g = absurd (cc)
       by_last place false p is x g = record { path = p; is = is; ended = x ∙ ap (λ z. Ok (givens.End z false)) (ok_is place s g) }
 
-  start_is : (l : Trail) (g : lists.List) (i s : ℕ) → answer_of met here bytes (element_start l g (i + 1)) ≡ Ok s → EndsAt l i s
+  start_is : (l : Trail) (g : lists.List) (i : ℕ) (s : Place) → answer_of met here bytes (element_start l g (i + 1)) ≡ Ok s → EndsAt l i s
   unfolding element_start
   start_is l g i s e =
       let later : (i + 1 == 0) ≡ false = grind (arith, nat_tests) in

@@ -2,6 +2,7 @@
 -- them. These laws are this project's own.
 use Rattle.std.specs.Prelude.{◌≡◌, ◌↔◌, ℕ, ◌+◌, ◌==◌, ◌<◌, ◌≤◌, ◌⊎◌, slice_get, Bool, true, false, List, [], ◌∷◌, ◌++◌, Contains, length, Option, Some, None, Result, Ok, Err}
 use Rattle.std.specs.List.{AllByRecursion}
+use Rattle.ksv_expr_value.specs.Places.{Place, byte_of}
 use Rattle.ksv_expr_value.specs.Trail.{Trail, child, parent, last}
 use Rattle.ksv_expr_value.specs.declared.step.Step.{Step}
 use Rattle.ksv_expr_value.specs.declared.step.Step.TheVariants.{Index, Name}
@@ -36,7 +37,7 @@ use Rattle.ksv_nodes.specs.Turning.{fault_at}
 use Rattle.ksv_rule_meaning.specs.Ends.{start_of}
 use Rattle.ksv_rule_meaning.specs.Fields.{members_of, is_attribute, Sought, sought}
 use Rattle.ksv_rule_meaning.specs.Heads.{instance_setting}
-use Rattle.ksv_rule_meaning.specs.Wanted.{expression}
+use Rattle.ksv_rule_meaning.specs.Wanted.{expression, holds}
 use Rattle.ksv_rule_meaning.specs.Meaning.{rule_of}
 use Rattle.ksv_rule_meaning.specs.FromNothing.{from_nothing, asks}
 use Rattle.ksv_rule_meaning.specs.Described.{described}
@@ -77,7 +78,7 @@ abbrev pub IsOfLeaf : Leaf → Value → Type 0
 IsOfLeaf l (values.Int n) = Unit {0}
 IsOfLeaf l (values.Member e n) = Unit {0}
 IsOfLeaf l (values.Text t) = Unit {0}
-IsOfLeaf l (values.Bytes from to) = (from ≡ l.from) × (to ≤ l.to)
+IsOfLeaf l (values.Bytes from to) = (from ≡ byte_of l.from) × (to ≤ byte_of l.to)
 IsOfLeaf l _ = ⊥
 
 -- the value of what is at a path: of an object and of a list it is that path, what is absent has none, and what is calculated is
@@ -219,7 +220,7 @@ pub record Follows (ms : List MemberOfType) (y x : ℕ) : Type 0 where
   pub apart : AllByRecursion (λ m. (m.name == x) ≡ false) (front ++ first ∷ between)
 
 -- the part of q to which this step leads ends here
-pub record EndsAt (met : Node → Result Given Fault) (q : Trail) (step : Step) (place : ℕ) : Type 0 where
+pub record EndsAt (met : Node → Result Given Fault) (q : Trail) (step : Step) (place : Place) : Type 0 where
   pub path : Trail
   pub is : child q step ≡ Some path
   pub is_last : Bool
@@ -249,20 +250,20 @@ ElementsTouch = (d : Description) (bytes : List ℕ) (opened : List Node) (p : T
 -- ---- counts
 
 -- the element j of l ends; it is the last just where j + 1 is c, and then it ends at this place
-pub record EndsAsOf (met : Node → Result Given Fault) (l : Trail) (j c place : ℕ) : Type 0 where
+pub record EndsAsOf (met : Node → Result Given Fault) (l : Trail) (j c : ℕ) (place : Place) : Type 0 where
   pub path : Trail
   pub is : child l (Index j) ≡ Some path
-  pub ends : ℕ
+  pub ends : Place
   pub ended : met (end_node path) ≡ Ok (givens.End ends (j + 1 == c))
   pub last_ends : j + 1 ≡ c → ends ≡ place
 
 -- l has the elements i to c - 1, the last of which ends at this place
-pub record AreElements (met : Node → Result Given Fault) (l : Trail) (i c place : ℕ) : Type 0 where
+pub record AreElements (met : Node → Result Given Fault) (l : Trail) (i c : ℕ) (place : Place) : Type 0 where
   pub some : i < c
   pub each : (j : ℕ) → i ≤ j → j < c → EndsAsOf met l j c place
 
 -- l is a list without elements, which ends where it begins
-pub record IsEmptyList (met : Node → Result Given Fault) (l : Trail) (c place : ℕ) : Type 0 where
+pub record IsEmptyList (met : Node → Result Given Fault) (l : Trail) (c : ℕ) (place : Place) : Type 0 where
   pub list : lists.List
   pub answered : met (head_node l) ≡ Ok (givens.Head (heads.List list))
   pub empty : list.is_empty ≡ true
@@ -271,12 +272,12 @@ pub record IsEmptyList (met : Node → Result Given Fault) (l : Trail) (c place 
 
 -- What is answered of a list from its first element on: it has so many elements, each of which ends, and it ends with the last.
 abbrev pub RestsCount : Type 0
-RestsCount = (d : Description) (bytes : List ℕ) (opened : List Node) (p : Trail) (c place : ℕ) → last p ≡ Some (Index 0) → from_nothing d bytes opened (rest_node p) ≡ Ok (givens.Rest c place)
+RestsCount = (d : Description) (bytes : List ℕ) (opened : List Node) (p : Trail) (c : ℕ) (place : Place) → last p ≡ Some (Index 0) → from_nothing d bytes opened (rest_node p) ≡ Ok (givens.Rest c place)
     → IsEmptyList (from_nothing d bytes opened) (parent p) c place ⊎ AreElements (from_nothing d bytes opened) (parent p) 0 c place
 
 -- A list has as many elements as it is told to have.
 abbrev pub ToldCounts : Type 0
-ToldCounts = (d : Description) (bytes : List ℕ) (opened : List Node) (p : Trail) (c place : ℕ) (g : lists.List) (n : ℕ) → last p ≡ Some (Index 0) → from_nothing d bytes opened (rest_node p) ≡ Ok (givens.Rest c place)
+ToldCounts = (d : Description) (bytes : List ℕ) (opened : List Node) (p : Trail) (c : ℕ) (place : Place) (g : lists.List) (n : ℕ) → last p ≡ Some (Index 0) → from_nothing d bytes opened (rest_node p) ≡ Ok (givens.Rest c place)
     → from_nothing d bytes opened (head_node (parent p)) ≡ Ok (givens.Head (heads.List g)) → g.count ≡ Some n → c ≡ n
 
 -- ---- places
@@ -285,6 +286,11 @@ ToldCounts = (d : Description) (bytes : List ℕ) (opened : List Node) (p : Trai
 abbrev pub IsEndIn : ℕ → Option ℕ → Type 0
 IsEndIn size None = Unit {0}
 IsEndIn size (Some t) = t ≤ size
+
+-- a place, where there is one
+abbrev pub IsPlaceIn : ℕ → Option Place → Type 0
+IsPlaceIn size None = Unit {0}
+IsPlaceIn size (Some s) = byte_of s ≤ size
 
 -- a stream
 abbrev pub IsStreamIn : ℕ → Stream → Type 0
@@ -297,14 +303,14 @@ IsHomeIn size (Some g) = IsStreamIn size g.home
 
 -- each place in an object, in a head, in a value and in any answer: it is a place of a byte, or the end of the file
 abbrev pub IsObjectIn : ℕ → Object → Type 0
-IsObjectIn size o = (o.start ≤ size) × IsStreamIn size o.stream × IsHomeIn size o.origin
+IsObjectIn size o = (byte_of o.start ≤ size) × IsStreamIn size o.stream × IsHomeIn size o.origin
 
 abbrev pub IsHeadIn : ℕ → Head → Type 0
-IsHeadIn size (heads.Absent at) = IsEndIn size at
+IsHeadIn size (heads.Absent at) = IsPlaceIn size at
 IsHeadIn size (heads.Calc c) = IsObjectIn size c.object
-IsHeadIn size (heads.Leaf l) = (l.from ≤ size) × (l.to ≤ size) × (l.end ≤ size) × IsStreamIn size l.origin.home
+IsHeadIn size (heads.Leaf l) = (byte_of l.from ≤ size) × (byte_of l.to ≤ size) × (byte_of l.end ≤ size) × IsStreamIn size l.origin.home
 IsHeadIn size (heads.Object o) = IsObjectIn size o
-IsHeadIn size (heads.List g) = (g.start ≤ size) × IsStreamIn size g.stream × IsStreamIn size g.origin.home
+IsHeadIn size (heads.List g) = (byte_of g.start ≤ size) × IsStreamIn size g.stream × IsStreamIn size g.origin.home
 
 abbrev pub IsValueIn : ℕ → Value → Type 0
 IsValueIn size (values.Bytes from to) = (from ≤ size) × (to ≤ size)
@@ -313,8 +319,8 @@ IsValueIn size _ = Unit {0}
 abbrev pub IsIn : ℕ → Given → Type 0
 IsIn size (givens.Head h) = IsHeadIn size h
 IsIn size (givens.Value v) = IsValueIn size v
-IsIn size (givens.End place last) = place ≤ size
-IsIn size (givens.Rest count place) = place ≤ size
+IsIn size (givens.End place last) = byte_of place ≤ size
+IsIn size (givens.Rest count place) = byte_of place ≤ size
 
 -- Each place in an answer lies in the file: nothing begins or ends after its last byte.
 abbrev pub PlacesAreInFile : Type 0
@@ -329,12 +335,12 @@ IsBetween bytes w n = (w.from ≤ n) × (n ≤ end_in bytes w.to)
 -- What is read lies in a stream. Bytes don't end before they begin; an object begins in a stream of its own, which lies in the other;
 -- elements are read in the stream of their list.
 abbrev pub LiesIn : List ℕ → Stream → Head → Type 0
-LiesIn bytes w (heads.Absent None) = Unit {0}
-LiesIn bytes w (heads.Absent (Some s)) = IsBetween bytes w s
+LiesIn bytes w (heads.Absent None) = ⊥
+LiesIn bytes w (heads.Absent (Some s)) = IsBetween bytes w (byte_of s)
 LiesIn bytes w (heads.Calc c) = Unit {0}
-LiesIn bytes w (heads.Leaf l) = IsBetween bytes w l.from × IsBetween bytes w l.to × IsBetween bytes w l.end × (l.from ≤ l.to)
-LiesIn bytes w (heads.Object o) = IsBetween bytes w o.start × IsBetween bytes w o.stream.from × (end_in bytes o.stream.to ≤ end_in bytes w.to) × IsBetween bytes o.stream o.start
-LiesIn bytes w (heads.List g) = IsBetween bytes w g.start × (g.stream ≡ w)
+LiesIn bytes w (heads.Leaf l) = IsBetween bytes w (byte_of l.from) × IsBetween bytes w (byte_of l.to) × IsBetween bytes w (byte_of l.end) × (byte_of l.from ≤ byte_of l.to)
+LiesIn bytes w (heads.Object o) = IsBetween bytes w (byte_of o.start) × IsBetween bytes w o.stream.from × (end_in bytes o.stream.to ≤ end_in bytes w.to) × IsBetween bytes o.stream (byte_of o.start)
+LiesIn bytes w (heads.List g) = IsBetween bytes w (byte_of g.start) × (g.stream ≡ w)
 
 -- The stream in which a member of an object, at the path p, is read: of a parse instance with `io` the one that its `io` answers,
 -- evaluated where its object begins; of any other member the object's own.
@@ -356,6 +362,24 @@ pub record IsHeld (d : Description) (bytes : List ℕ) (met : Node → Result Gi
   pub read : IsReadIn d met bytes p holder (last p) stream
   pub lies : P stream
 
+-- the condition of an instance of an object, evaluated where the object begins, is false
+abbrev pub IsUnmet : (Node → Result Given Fault) → List ℕ → Trail → Object → MemberKind → Type 0
+IsUnmet met bytes p o (ParseInstance e io f) = answer_of met p bytes (holds (instance_setting p (parent p) o) f.condition) ≡ Ok false
+IsUnmet met bytes p o (ValueInstance condition e enum) = answer_of met p bytes (holds (instance_setting p (parent p) o) condition) ≡ Ok false
+IsUnmet met bytes p o _ = ⊥
+
+-- this step of an object leads to such an instance
+abbrev pub IsUnmetAt : Description → (Node → Result Given Fault) → List ℕ → Trail → Object → Option Step → Type 0
+IsUnmetAt d met bytes p o (Some (Name x)) = (s : Sought) × (sought x 0 None (members_of d o.type_number) ≡ Some s) × IsUnmet met bytes p o s.kind
+IsUnmetAt d met bytes p o _ = ⊥
+
+-- what is at a path is an instance, of the object above, whose condition is false: it lies nowhere
+pub record IsLeftOut (d : Description) (bytes : List ℕ) (met : Node → Result Given Fault) (p : Trail) (h : Head) : Type 0 where
+  pub nowhere : h ≡ heads.Absent None
+  pub object : Object
+  pub answered : met (head_node (parent p)) ≡ Ok (givens.Head (heads.Object object))
+  pub unmet : IsUnmetAt d met bytes p object (last p)
+
 -- no two members of a type have one name: `load` accepts no other descriptions
 abbrev pub AreNamesDistinct : List MemberOfType → Type 0
 AreNamesDistinct [] = Unit {0}
@@ -365,11 +389,11 @@ abbrev pub HasDistinctNames : Description → Type 0
 HasDistinctNames d = (t : ℕ) → AreNamesDistinct (members_of d t)
 
 -- What is at a path, and where it ends, lies in the stream of the object or list that holds it; a parse instance with `io` in the one
--- that its `io` answers. An instance whose `if` is false lies nowhere.
+-- that its `io` answers. An instance whose `if` is false lies nowhere, and nothing else does.
 abbrev pub HeadsLieInStreams : Type 0
 HeadsLieInStreams = (d : Description) (bytes : List ℕ) (opened : List Node) (p : Trail) (step : Step) (h : Head) → HasDistinctNames d → last p ≡ Some step → from_nothing d bytes opened (head_node p) ≡ Ok (givens.Head h)
-    → (h ≡ heads.Absent None) ⊎ IsHeld d bytes (from_nothing d bytes opened) p (λ w. LiesIn bytes w h)
+    → IsLeftOut d bytes (from_nothing d bytes opened) p h ⊎ IsHeld d bytes (from_nothing d bytes opened) p (λ w. LiesIn bytes w h)
 
 abbrev pub EndsLieInStreams : Type 0
-EndsLieInStreams = (d : Description) (bytes : List ℕ) (opened : List Node) (p : Trail) (step : Step) (place : ℕ) (is_last : Bool) → HasDistinctNames d → last p ≡ Some step → from_nothing d bytes opened (end_node p) ≡ Ok (givens.End place is_last)
-    → IsHeld d bytes (from_nothing d bytes opened) p (λ w. IsBetween bytes w place)
+EndsLieInStreams = (d : Description) (bytes : List ℕ) (opened : List Node) (p : Trail) (step : Step) (place : Place) (is_last : Bool) → HasDistinctNames d → last p ≡ Some step → from_nothing d bytes opened (end_node p) ≡ Ok (givens.End place is_last)
+    → IsHeld d bytes (from_nothing d bytes opened) p (λ w. IsBetween bytes w (byte_of place))

@@ -13,6 +13,7 @@ use Rattle.ksv_memo_rules.specs.Meaning.{IsDone}
 use Rattle.ksv_expr_meaning.proofs.Wants.{value_asks}
 use Rattle.ksv_expr_meaning.specs.Evaluation.{most_wants}
 use Rattle.ksv_expr_value.specs.Trail.{Trail, element_limit, parent, last}
+use Rattle.ksv_expr_value.specs.Places.{Place, at_byte, byte_of, is_same}
 use Rattle.ksv_expr_value.specs.Setting.{Setting}
 use Rattle.ksv_expr_meaning.specs.Meaning.{value_of as value_in}
 use Rattle.ksv_expr_value.specs.Range.{ranged}
@@ -55,7 +56,7 @@ use Rattle.ksv_rule_meaning.specs.Choosing.{Chosen, switched, choose, in_case, c
 use Rattle.ksv_rule_meaning.specs.Wanted.{whole, in_object, wanted, expression, in_integer, in_truth, integer_of, truth_of, holds, in_size, size_of, in_stream, stream_for}
 use Rattle.ksv_rule_meaning.specs.Integers.{integer_value}
 use Rattle.ksv_rule_meaning.specs.Values.{in_number, number_in, number_value, fixed_value, cut_by, cut_bytes, bytes_value, in_text, cut_text, text_value, content_value, leaf_value, in_no_stream, in_enum, instance_value, given_by, arguments_for, argument_at, argument_setting, plain_value, argument_value, parameter_value, calc_value, calculated, value_at, value_of}
-use Rattle.ksv_rule_meaning.specs.Ends.{fields_end, object_end, part_rest, list_end, absent_end, place_of, start_of, behind_element, is_last, is_by_bytes, not_empty, element_end, end_at, end_of, next_rest, rest_behind, rest_from, in_whole_list, first_rest, whole_rest, rest_at, rest_of}
+use Rattle.ksv_rule_meaning.specs.Ends.{stream_end, fields_end, object_end, part_rest, list_end, absent_end, place_of, start_of, behind_element, is_last, is_by_bytes, not_empty, element_end, end_at, end_of, next_rest, rest_behind, rest_from, in_whole_list, first_rest, whole_rest, rest_at, rest_of}
 use Rattle.ksv_rule_meaning.specs.Meaning.{meaning_of, rule_of}
 use Rattle.ksv_rule_meaning.specs.Heads.{leaf, leaf_to_end, terminated_at, terminated, run_of, sized_leaf, bytes_at, sized_object, object_at, content_at, unchosen_at, chosen_at, shape_at, in_count, count_of, counted, until_eos, repeated, attribute_at, part_end, attribute_start, attribute_head, positioned_in, positioned, instance_head, value_head, member_at, member_head, in_list, is_past, in_next, next_start, element_start, element_head, head_at, head_of}
 
@@ -250,44 +251,44 @@ stream_nodes s (Some e) = nodes_join _ _ (most_wants e) (most_wants e) 0 (omega 
 
 -- ---- heads
 
-leaf_nodes : (n : ℕ) (origin : Origin) (w : Stream) (s size : ℕ) → NodesAtMost n (leaf origin w s size)
+leaf_nodes : (n : ℕ) (origin : Origin) (w : Stream) (s : Place) (size : ℕ) → NodesAtMost n (leaf origin w s size)
 unfolding leaf
-leaf_nodes n origin w s size = nodes_join (reach w (s + size)) _ n 0 0 (omega arith) (λ x. tt) (λ x. tt)
+leaf_nodes n origin w s size = nodes_join (reach w (byte_of s + size)) _ n 0 0 (omega arith) (λ x. tt) (λ x. tt)
 
-leaf_to_end_nodes : (origin : Origin) (w : Stream) (s : ℕ) → NodesAtMost 0 (leaf_to_end origin w s)
+leaf_to_end_nodes : (origin : Origin) (w : Stream) (s : Place) → NodesAtMost 0 (leaf_to_end origin w s)
 unfolding leaf_to_end
 leaf_to_end_nodes origin w s = nodes_join (finish w) _ 0 0 0 (omega arith) (λ e. tt) (λ e. tt)
 
-terminated_at_nodes : (origin : Origin) (s : ℕ) (t : Terminator) (q : Found) → NodesAtMost 0 (terminated_at origin s t q)
+terminated_at_nodes : (origin : Origin) (s : Place) (t : Terminator) (q : Found) → NodesAtMost 0 (terminated_at origin s t q)
 terminated_at_nodes origin s t (founds.At q) = tt
 terminated_at_nodes origin s t (founds.Missing e) = nodes_if t.is_required 0 _ _ tt tt
 
-run_nodes : (origin : Origin) (w : Stream) (s : ℕ) (t : Option Terminator) → NodesAtMost 0 (run_of origin w s t)
+run_nodes : (origin : Origin) (w : Stream) (s : Place) (t : Option Terminator) → NodesAtMost 0 (run_of origin w s t)
 unfolding run_of terminated
 run_nodes origin w s None = tt
-run_nodes origin w s (Some t) = nodes_join (find w s t.byte) _ 0 0 0 (omega arith) (λ q. tt) (λ q. terminated_at_nodes origin s t q)
+run_nodes origin w s (Some t) = nodes_join (find w (byte_of s) t.byte) _ 0 0 0 (omega arith) (λ q. tt) (λ q. terminated_at_nodes origin s t q)
 
-sized_leaf_nodes : (at : Setting) (origin : Origin) (w : Stream) (s : ℕ) (e : Tree) → NodesAtMost (most_wants e) (sized_leaf at origin w s e)
+sized_leaf_nodes : (at : Setting) (origin : Origin) (w : Stream) (s : Place) (e : Tree) → NodesAtMost (most_wants e) (sized_leaf at origin w s e)
 unfolding sized_leaf
 sized_leaf_nodes at origin w s e = nodes_join _ _ (most_wants e) (most_wants e) 0 (omega arith) (size_nodes at e) (λ n. leaf_nodes 0 origin w s n)
 
-bytes_nodes : (at : Setting) (origin : Origin) (w : Stream) (s : ℕ) (x : Extent) (t : Option Terminator) → NodesAtMost (extent_wants x) (bytes_at at origin w s x t)
+bytes_nodes : (at : Setting) (origin : Origin) (w : Stream) (s : Place) (x : Extent) (t : Option Terminator) → NodesAtMost (extent_wants x) (bytes_at at origin w s x t)
 unfolding bytes_at
 bytes_nodes at origin w s (Sized e) t = sized_leaf_nodes at origin w s e
 bytes_nodes at origin w s SizeEos t = leaf_to_end_nodes origin w s
 bytes_nodes at origin w s ByItself t = run_nodes origin w s t
 
-sized_object_nodes : (at : Setting) (origin : Origin) (t : ℕ) (w : Stream) (s : ℕ) (e : Tree) → NodesAtMost (most_wants e) (sized_object at origin t w s e)
+sized_object_nodes : (at : Setting) (origin : Origin) (t : ℕ) (w : Stream) (s : Place) (e : Tree) → NodesAtMost (most_wants e) (sized_object at origin t w s e)
 unfolding sized_object
-sized_object_nodes at origin t w s e = nodes_join _ _ (most_wants e) (most_wants e) 0 (omega arith) (size_nodes at e) (λ n. nodes_join (reach w (s + n)) _ 0 0 0 (omega arith) (λ x. tt) (λ x. tt))
+sized_object_nodes at origin t w s e = nodes_join _ _ (most_wants e) (most_wants e) 0 (omega arith) (size_nodes at e) (λ n. nodes_join (reach w (byte_of s + n)) _ 0 0 0 (omega arith) (λ x. tt) (λ x. tt))
 
-object_nodes : (at : Setting) (origin : Origin) (t : ℕ) (w : Stream) (s : ℕ) (x : Extent) → NodesAtMost (extent_wants x) (object_at at origin t w s x)
+object_nodes : (at : Setting) (origin : Origin) (t : ℕ) (w : Stream) (s : Place) (x : Extent) → NodesAtMost (extent_wants x) (object_at at origin t w s x)
 unfolding object_at
 object_nodes at origin t w s (Sized e) = sized_object_nodes at origin t w s e
 object_nodes at origin t w s SizeEos = tt
 object_nodes at origin t w s ByItself = tt
 
-content_nodes : (at : Setting) (origin : Origin) (w : Stream) (s : ℕ) (f : Field) (c : Content) → NodesAtMost (extent_wants f.extent) (content_at at origin w s f c)
+content_nodes : (at : Setting) (origin : Origin) (w : Stream) (s : Place) (f : Field) (c : Content) → NodesAtMost (extent_wants f.extent) (content_at at origin w s f c)
 unfolding content_at
 content_nodes at origin w s f contents.Bytes = bytes_nodes at origin w s f.extent f.terminator
 content_nodes at origin w s f (contents.Fixed bs) = leaf_nodes (extent_wants f.extent) origin w s (length bs)
@@ -295,13 +296,13 @@ content_nodes at origin w s f (contents.Number signed size order enum) = leaf_no
 content_nodes at origin w s f (contents.Characters encoding) = bytes_nodes at origin w s f.extent f.terminator
 content_nodes at origin w s f (contents.Object t given) = object_nodes at origin t w s f.extent
 
-unchosen_nodes : (at : Setting) (origin : Origin) (w : Stream) (s : ℕ) (x : Extent) → NodesAtMost (extent_wants x) (unchosen_at at origin w s x)
+unchosen_nodes : (at : Setting) (origin : Origin) (w : Stream) (s : Place) (x : Extent) → NodesAtMost (extent_wants x) (unchosen_at at origin w s x)
 unfolding unchosen_at
 unchosen_nodes at origin w s (Sized e) = sized_leaf_nodes at origin w s e
 unchosen_nodes at origin w s SizeEos = leaf_to_end_nodes origin w s
 unchosen_nodes at origin w s ByItself = tt
 
-chosen_nodes : (at : Setting) (origin : Origin) (w : Stream) (s : ℕ) (f : Field) (c : Option Chosen) → NodesAtMost (extent_wants f.extent) (chosen_at at origin w s f c)
+chosen_nodes : (at : Setting) (origin : Origin) (w : Stream) (s : Place) (f : Field) (c : Option Chosen) → NodesAtMost (extent_wants f.extent) (chosen_at at origin w s f c)
 chosen_nodes at origin w s f None = unchosen_nodes at origin w s f.extent
 chosen_nodes at origin w s f (Some c) = content_nodes at (record origin { case = c.case }) w s f c.content
 
@@ -313,7 +314,7 @@ choose_nodes at (Switch on cases) = nodes_join _ _ (choice_wants (Switch on case
 abbrev shape_wants : Field → ℕ
 shape_wants f = choice_wants f.choice + extent_wants f.extent
 
-shape_nodes : (at : Setting) (origin : Origin) (w : Stream) (s : ℕ) (f : Field) → NodesAtMost (shape_wants f) (shape_at at origin w s f)
+shape_nodes : (at : Setting) (origin : Origin) (w : Stream) (s : Place) (f : Field) → NodesAtMost (shape_wants f) (shape_at at origin w s f)
 unfolding shape_at
 shape_nodes at origin w s f = nodes_join _ _ (shape_wants f) (choice_wants f.choice) (extent_wants f.extent) (omega arith) (choose_nodes at f.choice) (λ c. chosen_nodes at origin w s f c)
 
@@ -324,22 +325,22 @@ count_nodes : (at : Setting) (e : Tree) → NodesAtMost (most_wants e) (count_of
 unfolding count_of
 count_nodes at e = nodes_join _ _ (most_wants e) (most_wants e) 0 (omega arith) (size_nodes at e) (λ n. in_count_nodes n)
 
-counted_nodes : (at : Setting) (origin : Origin) (w : Stream) (s : ℕ) (e : Tree) → NodesAtMost (most_wants e) (counted at origin w s e)
+counted_nodes : (at : Setting) (origin : Origin) (w : Stream) (s : Place) (e : Tree) → NodesAtMost (most_wants e) (counted at origin w s e)
 unfolding counted
 counted_nodes at origin w s e = nodes_join _ _ (most_wants e) (most_wants e) 0 (omega arith) (count_nodes at e) (λ n. tt)
 
-until_eos_nodes : (n : ℕ) (at : Setting) (origin : Origin) (w : Stream) (s : ℕ) → NodesAtMost n (until_eos at origin w s)
+until_eos_nodes : (n : ℕ) (at : Setting) (origin : Origin) (w : Stream) (s : Place) → NodesAtMost n (until_eos at origin w s)
 unfolding until_eos
 until_eos_nodes n at origin w s = nodes_join (done w s) _ n 0 0 (omega arith) (λ b. tt) (λ b. tt)
 
-repeated_nodes : (at : Setting) (origin : Origin) (w : Stream) (s : ℕ) (f : Field) (r : Repeat) → NodesAtMost (repeat_wants r + shape_wants f) (repeated at origin w s f r)
+repeated_nodes : (at : Setting) (origin : Origin) (w : Stream) (s : Place) (f : Field) (r : Repeat) → NodesAtMost (repeat_wants r + shape_wants f) (repeated at origin w s f r)
 unfolding repeated
 repeated_nodes at origin w s f Once = nodes_more (shape_wants f) _ _ (omega arith) (shape_nodes at origin w s f)
 repeated_nodes at origin w s f (Expr e) = nodes_more (most_wants e) _ _ (omega arith) (counted_nodes at origin w s e)
 repeated_nodes at origin w s f Eos = until_eos_nodes _ at origin w s
 repeated_nodes at origin w s f (Until e) = tt
 
-attribute_nodes : (at : Setting) (origin : Origin) (w : Stream) (s : ℕ) (f : Field) → NodesAtMost (field_wants f) (attribute_at at origin w s f)
+attribute_nodes : (at : Setting) (origin : Origin) (w : Stream) (s : Place) (f : Field) → NodesAtMost (field_wants f) (attribute_at at origin w s f)
 unfolding attribute_at
 attribute_nodes at origin w s f =
     nodes_join _ _ (field_wants f) (condition_wants f.condition) (repeat_wants f.repeat + shape_wants f) (omega arith) (holds_nodes at f.condition) (λ there.
@@ -367,7 +368,7 @@ unfolding positioned_in
 positioned_in_nodes at origin w e f =
     let more : ℕ = repeat_wants f.repeat + shape_wants f in
     nodes_join _ _ (positioned_wants e f) (most_wants e) more (omega arith) (size_nodes at e) (λ n.
-    nodes_join (reach w (w.from + n)) _ more 0 more (omega arith) (λ x. tt) (λ x. repeated_nodes (record at { place = w.from + n }) origin w (w.from + n) f f.repeat))
+    nodes_join (reach w (w.from + n)) _ more 0 more (omega arith) (λ x. tt) (λ x. repeated_nodes (record at { place = at_byte (w.from + n) }) origin w (at_byte (w.from + n)) f f.repeat))
 
 positioned_nodes : (at : Setting) (origin : Origin) (e : Tree) (io : Option Tree) (f : Field) → NodesAtMost (condition_wants io + positioned_wants e f) (positioned at origin e io f)
 unfolding positioned
@@ -444,15 +445,15 @@ number_in_nodes signed order enum bytes = nodes_if (nat_le (length bytes) 8) 0 _
 
 number_nodes : (l : Leaf) (signed : Bool) (order : ByteOrder) (enum : Option ℕ) → NodesAtMost 0 (number_value l signed order enum)
 unfolding number_value
-number_nodes l signed order enum = nodes_join (peek l.from l.to) _ 0 0 0 (omega arith) (λ bs. tt) (λ bs. number_in_nodes signed order enum bs)
+number_nodes l signed order enum = nodes_join (peek (byte_of l.from) (byte_of l.to)) _ 0 0 0 (omega arith) (λ bs. tt) (λ bs. number_in_nodes signed order enum bs)
 
 fixed_nodes : (l : Leaf) (expected : List ℕ) → NodesAtMost 0 (fixed_value l expected)
 unfolding fixed_value
-fixed_nodes l expected = nodes_join (peek l.from l.to) _ 0 0 0 (omega arith) (λ bs. tt) (λ bs. nodes_if (bytes_eq bs expected) 0 _ _ tt tt)
+fixed_nodes l expected = nodes_join (peek (byte_of l.from) (byte_of l.to)) _ 0 0 0 (omega arith) (λ bs. tt) (λ bs. nodes_if (bytes_eq bs expected) 0 _ _ tt tt)
 
 cut_nodes : (l : Leaf) (t : Terminator) → NodesAtMost 0 (cut_bytes l t)
 unfolding cut_bytes
-cut_nodes l t = nodes_join (peek l.from l.to) _ 0 0 0 (omega arith) (λ bs. tt) (λ bs. tt)
+cut_nodes l t = nodes_join (peek (byte_of l.from) (byte_of l.to)) _ 0 0 0 (omega arith) (λ bs. tt) (λ bs. tt)
 
 bytes_value_nodes : (l : Leaf) (t : Option Terminator) → NodesAtMost 0 (bytes_value l t)
 unfolding bytes_value
@@ -465,7 +466,7 @@ in_text_nodes (Some t) = tt
 
 text_nodes : (l : Leaf) (encoding : Encoding) (t : Option Terminator) → NodesAtMost 0 (text_value l encoding t)
 unfolding text_value
-text_nodes l encoding t = nodes_join (peek l.from l.to) _ 0 0 0 (omega arith) (λ bs. tt) (λ bs. in_text_nodes (decoded encoding (cut_text t bs)))
+text_nodes l encoding t = nodes_join (peek (byte_of l.from) (byte_of l.to)) _ 0 0 0 (omega arith) (λ bs. tt) (λ bs. in_text_nodes (decoded encoding (cut_text t bs)))
 
 content_value_nodes : (l : Leaf) (f : Field) (c : Content) → NodesAtMost 0 (content_value l f c)
 unfolding content_value
@@ -536,14 +537,18 @@ value_of_nodes d p = nodes_join _ _ (1 + all_wants d) 1 (all_wants d) (omega ari
 
 -- ---- ends
 
-fields_end_nodes : (p : Trail) (start : ℕ) (z : Option ℕ) → NodesAtMost 1 (fields_end p start z)
+fields_end_nodes : (p : Trail) (start : Place) (z : Option ℕ) → NodesAtMost 1 (fields_end p start z)
 unfolding fields_end
 fields_end_nodes p start None = tt
 fields_end_nodes p start (Some z) = nodes_join _ _ 1 1 0 (omega arith) (part_end_nodes p (steps.Name z)) (λ e. tt)
 
+stream_end_nodes : (w : Stream) → NodesAtMost 1 (stream_end w)
+unfolding stream_end
+stream_end_nodes w = nodes_join (finish w) _ 1 0 1 (omega arith) (λ e. tt) (λ e. tt)
+
 object_end_nodes : (d : Description) (p : Trail) (o : Object) (e : ObjectEnd) → NodesAtMost 1 (object_end d p o e)
 unfolding object_end
-object_end_nodes d p o endings.OfStream = λ n. tt
+object_end_nodes d p o endings.OfStream = stream_end_nodes o.stream
 object_end_nodes d p o endings.ByFields = fields_end_nodes p o.start (last_attribute None (members_of d o.type_number))
 
 part_rest_nodes : (p : Trail) (step : Step) → NodesAtMost 1 (part_rest p step)
@@ -554,7 +559,7 @@ list_end_nodes : (p : Trail) → NodesAtMost 1 (list_end p)
 unfolding list_end
 list_end_nodes p = nodes_join _ _ 1 1 0 (omega arith) (part_rest_nodes p (steps.Index 0)) (λ r. tt)
 
-absent_end_nodes : (at : Option ℕ) → NodesAtMost 1 (absent_end at)
+absent_end_nodes : (at : Option Place) → NodesAtMost 1 (absent_end at)
 absent_end_nodes None = tt
 absent_end_nodes (Some s) = tt
 
@@ -566,18 +571,18 @@ place_nodes d p (heads.Leaf l) = tt
 place_nodes d p (heads.Object o) = object_end_nodes d p o o.ending
 place_nodes d p (heads.List g) = list_end_nodes p
 
-is_last_nodes : (q : Trail) (g : lists.List) (p : Trail) (i e : ℕ) (r : Repeat) → NodesAtMost (repeat_wants r) (is_last q g p i e r)
+is_last_nodes : (q : Trail) (g : lists.List) (p : Trail) (i : ℕ) (e : Place) (r : Repeat) → NodesAtMost (repeat_wants r) (is_last q g p i e r)
 unfolding is_last
 is_last_nodes q g p i e Once = tt
 is_last_nodes q g p i e (Expr n) = tt
 is_last_nodes q g p i e Eos = λ b. tt
 is_last_nodes q g p i e (Until c) = truth_nodes (behind_element q g p i e) c
 
-not_empty_nodes : (r : Repeat) (start e : ℕ) → NodesAtMost 0 (not_empty r start e)
+not_empty_nodes : (r : Repeat) (start e : Place) → NodesAtMost 0 (not_empty r start e)
 unfolding not_empty
-not_empty_nodes r start e = nodes_if (is_by_bytes r) 0 _ _ (nodes_if (e == start) 0 _ _ tt tt) tt
+not_empty_nodes r start e = nodes_if (is_by_bytes r) 0 _ _ (nodes_if (is_same e start) 0 _ _ tt tt) tt
 
-element_end_nodes : (d : Description) (p l q : Trail) (i : ℕ) (h : Head) (e : ℕ) → NodesAtMost (1 + all_wants d) (element_end d p l q i h e)
+element_end_nodes : (d : Description) (p l q : Trail) (i : ℕ) (h : Head) (e : Place) → NodesAtMost (1 + all_wants d) (element_end d p l q i h e)
 unfolding element_end
 element_end_nodes d p l q i h e =
     nodes_join _ _ (1 + all_wants d) 1 (all_wants d) (omega arith) (head_nodes l) (λ k.
@@ -586,7 +591,7 @@ element_end_nodes d p l q i h e =
     nodes_join _ _ (all_wants d) 0 (repeat_wants f.repeat) (omega arith) (not_empty_nodes f.repeat (start_of h) e) (λ u.
     nodes_join _ _ (repeat_wants f.repeat) (repeat_wants f.repeat) 0 (omega arith) (is_last_nodes q g p i e f.repeat) (λ b. tt)))))
 
-end_at_nodes : (d : Description) (p : Trail) (step : Option Step) (h : Head) (e : ℕ) → NodesAtMost (1 + all_wants d) (end_at d p step h e)
+end_at_nodes : (d : Description) (p : Trail) (step : Option Step) (h : Head) (e : Place) → NodesAtMost (1 + all_wants d) (end_at d p step h e)
 end_at_nodes d p None h e = tt
 end_at_nodes d p (Some (steps.Name x)) h e = tt
 end_at_nodes d p (Some (steps.Index i)) h e = element_end_nodes d p (parent p) (parent (parent p)) i h e

@@ -2,10 +2,12 @@
 use Rattle.std.specs.Prelude.{ℕ, ◌+◌, ◌==◌, Bool, true, false, Option, Some, None, if◌then◌else◌}
 use Rattle.ksv_basics.specs.Plan.{Answer, Fail, ◌>>=◌}
 use Rattle.ksv_expr_value.specs.Trail.{Trail, element_limit, parent, last}
+use Rattle.ksv_expr_value.specs.Places.{Place, at_byte, is_same}
 use Rattle.ksv_expr_value.specs.Setting.{Setting}
 use Rattle.ksv_expr_value.specs.declared.fault.FaultKind.TheVariants as kinds
 use Rattle.ksv_expr_value.specs.declared.step.Step.{Step}
 use Rattle.ksv_expr_value.specs.declared.step.Step.TheVariants as steps
+use Rattle.ksv_expr_value.specs.declared.value.Stream.{Stream}
 use Rattle.ksv_desc.specs.Description.{Description, Repeat, Once, Eos, Expr, Until}
 use Rattle.ksv_nodes.specs.declared.given.ObjectEnd.{ObjectEnd}
 use Rattle.ksv_nodes.specs.declared.given.ObjectEnd.TheVariants as endings
@@ -23,14 +25,20 @@ use Rattle.ksv_rule_meaning.specs.Heads.{part_end, in_list}
 -- ---- ends
 
 -- an object that ends with its fields ends with the last attribute of `seq`; without one it ends where it begins
-unfoldable pub fields_end : Trail → ℕ → Option ℕ → Rule ℕ
+unfoldable pub fields_end : Trail → Place → Option ℕ → Rule Place
 fields_end p start None = Answer start
 fields_end p start (Some z) = do
   e ← part_end p (steps.Name z)
   Answer e.place
 
-unfoldable pub object_end : Description → Trail → Object → ObjectEnd → Rule ℕ
-object_end d p o endings.OfStream = finish o.stream
+-- where a stream ends
+unfoldable pub stream_end : Stream → Rule Place
+stream_end w = do
+  e ← finish w
+  Answer (at_byte e)
+
+unfoldable pub object_end : Description → Trail → Object → ObjectEnd → Rule Place
+object_end d p o endings.OfStream = stream_end o.stream
 object_end d p o endings.ByFields = fields_end p o.start (last_attribute None (members_of d o.type_number))
 
 -- a list ends where its last element does
@@ -39,17 +47,17 @@ part_rest p step = do
   q ← part p step
   ask_rest q
 
-unfoldable pub list_end : Trail → Rule ℕ
+unfoldable pub list_end : Trail → Rule Place
 list_end p = do
   r ← part_rest p (steps.Index 0)
   Answer r.place
 
 -- what is absent ends at its place; without a place it has no end, and so does what is calculated
-abbrev pub absent_end : Option ℕ → Rule ℕ
+abbrev pub absent_end : Option Place → Rule Place
 absent_end None = raise kinds.NoSuch
 absent_end (Some s) = Answer s
 
-unfoldable pub place_of : Description → Trail → Head → Rule ℕ
+unfoldable pub place_of : Description → Trail → Head → Rule Place
 place_of d p (heads.Absent at) = absent_end at
 place_of d p (heads.Calc c) = raise kinds.NoSuch
 place_of d p (heads.Leaf l) = Answer l.end
@@ -59,10 +67,10 @@ place_of d p (heads.List g) = list_end p
 -- ---- elements
 
 -- where something begins
-abbrev pub start_of : Head → ℕ
-start_of (heads.Absent None) = 0
+abbrev pub start_of : Head → Place
+start_of (heads.Absent None) = at_byte 0
 start_of (heads.Absent (Some s)) = s
-start_of (heads.Calc c) = 0
+start_of (heads.Calc c) = at_byte 0
 start_of (heads.Leaf l) = l.from
 start_of (heads.Object o) = o.start
 start_of (heads.List g) = g.start
@@ -74,10 +82,10 @@ is_counted None i = false
 is_counted (Some n) i = n == i + 1
 
 -- where `repeat-until` is evaluated: in the object q at the end of the element i of a list in it, with faults at p
-abbrev pub behind_element : Trail → lists.List → Trail → ℕ → ℕ → Setting
+abbrev pub behind_element : Trail → lists.List → Trail → ℕ → Place → Setting
 behind_element q g p i e = record { home = q; stream = g.origin.home; place = e; index = Some i; element = Some p; here = p }
 
-unfoldable pub is_last : Trail → lists.List → Trail → ℕ → ℕ → Repeat → Rule Bool
+unfoldable pub is_last : Trail → lists.List → Trail → ℕ → Place → Repeat → Rule Bool
 is_last q g p i e Once = raise kinds.NoSuch
 is_last q g p i e (Expr n) = Answer (is_counted g.count i)
 is_last q g p i e Eos = done g.stream e
@@ -89,11 +97,11 @@ is_by_bytes Eos = true
 is_by_bytes (Until c) = true
 is_by_bytes _ = false
 
-unfoldable pub not_empty : Repeat → ℕ → ℕ → Rule (Unit {0})
-not_empty r start e = if is_by_bytes r then (if e == start then raise kinds.NoBytes else Answer tt) else Answer tt
+unfoldable pub not_empty : Repeat → Place → Place → Rule (Unit {0})
+not_empty r start e = if is_by_bytes r then (if is_same e start then raise kinds.NoBytes else Answer tt) else Answer tt
 
 -- the element i of a list l in the object q, which is p
-unfoldable pub element_end : Description → Trail → Trail → Trail → ℕ → Head → ℕ → Rule Ended
+unfoldable pub element_end : Description → Trail → Trail → Trail → ℕ → Head → Place → Rule Ended
 element_end d p l q i h e = do
   k ← ask_head l
   g ← in_list l k
@@ -102,7 +110,7 @@ element_end d p l q i h e = do
   b ← is_last q g p i e f.repeat
   Answer (record { place = e; last = b })
 
-abbrev pub end_at : Description → Trail → Option Step → Head → ℕ → Rule Ended
+abbrev pub end_at : Description → Trail → Option Step → Head → Place → Rule Ended
 end_at d p (Some (steps.Index i)) h e = element_end d p (parent p) (parent (parent p)) i h e
 end_at d p _ h e = Answer (record { place = e; last = false })
 

@@ -5,6 +5,7 @@ use Rattle.std.specs.Prelude.{ℕ, ◌+◌, ◌-◌, ◌==◌, nat_lt, nat_le, B
 use Rattle.ksv_basics.specs.Plan.{Answer, Fail, ◌>>=◌, ◌>>◌}
 use Rattle.ksv_expr_tree.specs.Tree.{Tree}
 use Rattle.ksv_expr_value.specs.Trail.{Trail, element_limit, parent, last}
+use Rattle.ksv_expr_value.specs.Places.{Place, at_byte, byte_of}
 use Rattle.ksv_expr_value.specs.Setting.{Setting}
 use Rattle.ksv_expr_value.specs.declared.fault.FaultKind.TheVariants as kinds
 use Rattle.ksv_expr_value.specs.declared.step.Step.{Step}
@@ -29,58 +30,58 @@ use Rattle.ksv_rule_meaning.specs.Wanted.{whole, in_object, holds, size_of, stre
 -- ---- what is read at a place
 
 -- n bytes from a place on
-unfoldable pub leaf : Origin → Stream → ℕ → ℕ → Rule Head
+unfoldable pub leaf : Origin → Stream → Place → ℕ → Rule Head
 leaf origin w s n = do
-  reach w (s + n)
-  Answer (heads.Leaf (record { origin = origin; from = s; to = s + n; end = s + n }))
+  reach w (byte_of s + n)
+  Answer (heads.Leaf (record { origin = origin; from = s; to = at_byte (byte_of s + n); end = at_byte (byte_of s + n) }))
 
 -- all bytes to the stream's end
-unfoldable pub leaf_to_end : Origin → Stream → ℕ → Rule Head
+unfoldable pub leaf_to_end : Origin → Stream → Place → Rule Head
 leaf_to_end origin w s = do
   e ← finish w
-  Answer (heads.Leaf (record { origin = origin; from = s; to = e; end = e }))
+  Answer (heads.Leaf (record { origin = origin; from = s; to = at_byte e; end = at_byte e }))
 
 -- Bytes up to a terminator. It is a part of them where it is included, and what follows begins at it where it isn't consumed.
 -- Without one the bytes go on to the stream's end, unless it must be there.
-abbrev pub terminated_at : Origin → ℕ → Terminator → Found → Rule Head
-terminated_at origin s t (founds.At q) = Answer (heads.Leaf (record { origin = origin; from = s; to = if t.is_included then q + 1 else q; end = if t.is_consumed then q + 1 else q }))
-terminated_at origin s t (founds.Missing e) = if t.is_required then raise kinds.NoTerminator else Answer (heads.Leaf (record { origin = origin; from = s; to = e; end = e }))
+abbrev pub terminated_at : Origin → Place → Terminator → Found → Rule Head
+terminated_at origin s t (founds.At q) = Answer (heads.Leaf (record { origin = origin; from = s; to = at_byte (if t.is_included then q + 1 else q); end = at_byte (if t.is_consumed then q + 1 else q) }))
+terminated_at origin s t (founds.Missing e) = if t.is_required then raise kinds.NoTerminator else Answer (heads.Leaf (record { origin = origin; from = s; to = at_byte e; end = at_byte e }))
 
-unfoldable pub terminated : Origin → Stream → ℕ → Terminator → Rule Head
+unfoldable pub terminated : Origin → Stream → Place → Terminator → Rule Head
 terminated origin w s t = do
-  q ← find w s t.byte
+  q ← find w (byte_of s) t.byte
   terminated_at origin s t q
 
 -- what goes as far as it goes by itself; where nothing says how far, nothing is there
-unfoldable pub run_of : Origin → Stream → ℕ → Option Terminator → Rule Head
+unfoldable pub run_of : Origin → Stream → Place → Option Terminator → Rule Head
 run_of origin w s None = Answer (heads.Absent (Some s))
 run_of origin w s (Some t) = terminated origin w s t
 
 -- bytes or a text
-unfoldable pub sized_leaf : Setting → Origin → Stream → ℕ → Tree → Rule Head
+unfoldable pub sized_leaf : Setting → Origin → Stream → Place → Tree → Rule Head
 sized_leaf at origin w s e = do
   n ← size_of at e
   leaf origin w s n
 
-unfoldable pub bytes_at : Setting → Origin → Stream → ℕ → Extent → Option Terminator → Rule Head
+unfoldable pub bytes_at : Setting → Origin → Stream → Place → Extent → Option Terminator → Rule Head
 bytes_at at origin w s (Sized e) t = sized_leaf at origin w s e
 bytes_at at origin w s SizeEos t = leaf_to_end origin w s
 bytes_at at origin w s ByItself t = run_of origin w s t
 
 -- an object with a size has a stream of its own, with which it ends
-unfoldable pub sized_object : Setting → Origin → ℕ → Stream → ℕ → Tree → Rule Head
+unfoldable pub sized_object : Setting → Origin → ℕ → Stream → Place → Tree → Rule Head
 sized_object at origin t w s e = do
   n ← size_of at e
-  reach w (s + n)
-  Answer (heads.Object (record { origin = Some origin; type_number = t; stream = record { from = s; to = Some (s + n) }; start = s; ending = endings.OfStream }))
+  reach w (byte_of s + n)
+  Answer (heads.Object (record { origin = Some origin; type_number = t; stream = record { from = byte_of s; to = Some (byte_of s + n) }; start = s; ending = endings.OfStream }))
 
 -- an object to the stream's end, and one that ends with its fields
-unfoldable pub object_at : Setting → Origin → ℕ → Stream → ℕ → Extent → Rule Head
+unfoldable pub object_at : Setting → Origin → ℕ → Stream → Place → Extent → Rule Head
 object_at at origin t w s (Sized e) = sized_object at origin t w s e
-object_at at origin t w s SizeEos = Answer (heads.Object (record { origin = Some origin; type_number = t; stream = record { from = s; to = w.to }; start = s; ending = endings.OfStream }))
+object_at at origin t w s SizeEos = Answer (heads.Object (record { origin = Some origin; type_number = t; stream = record { from = byte_of s; to = w.to }; start = s; ending = endings.OfStream }))
 object_at at origin t w s ByItself = Answer (heads.Object (record { origin = Some origin; type_number = t; stream = w; start = s; ending = endings.ByFields }))
 
-unfoldable pub content_at : Setting → Origin → Stream → ℕ → Field → Content → Rule Head
+unfoldable pub content_at : Setting → Origin → Stream → Place → Field → Content → Rule Head
 content_at at origin w s f contents.Bytes = bytes_at at origin w s f.extent f.terminator
 content_at at origin w s f (contents.Fixed bs) = leaf origin w s (length bs)
 content_at at origin w s f (contents.Number signed size order enum) = leaf origin w s size
@@ -88,17 +89,17 @@ content_at at origin w s f (contents.Characters encoding) = bytes_at at origin w
 content_at at origin w s f (contents.Object t given) = object_at at origin t w s f.extent
 
 -- what is read where a switch chose no case: bytes of a size, and without one nothing
-unfoldable pub unchosen_at : Setting → Origin → Stream → ℕ → Extent → Rule Head
+unfoldable pub unchosen_at : Setting → Origin → Stream → Place → Extent → Rule Head
 unchosen_at at origin w s (Sized e) = sized_leaf at origin w s e
 unchosen_at at origin w s SizeEos = leaf_to_end origin w s
 unchosen_at at origin w s ByItself = Answer (heads.Absent (Some s))
 
-abbrev pub chosen_at : Setting → Origin → Stream → ℕ → Field → Option Chosen → Rule Head
+abbrev pub chosen_at : Setting → Origin → Stream → Place → Field → Option Chosen → Rule Head
 chosen_at at origin w s f None = unchosen_at at origin w s f.extent
 chosen_at at origin w s f (Some c) = content_at at (record origin { case = c.case }) w s f c.content
 
 -- what an attribute or instance, or one of its elements, reads at a place of a stream: first its case is chosen
-unfoldable pub shape_at : Setting → Origin → Stream → ℕ → Field → Rule Head
+unfoldable pub shape_at : Setting → Origin → Stream → Place → Field → Rule Head
 shape_at at origin w s f = do
   c ← choose at f.choice
   chosen_at at origin w s f c
@@ -115,24 +116,24 @@ count_of at e = do
   in_count n
 
 -- the elements of an attribute
-unfoldable pub counted : Setting → Origin → Stream → ℕ → Tree → Rule Head
+unfoldable pub counted : Setting → Origin → Stream → Place → Tree → Rule Head
 counted at origin w s e = do
   n ← count_of at e
   Answer (heads.List (record { origin = origin; stream = w; start = s; count = Some n; is_empty = n == 0 }))
 
-unfoldable pub until_eos : Setting → Origin → Stream → ℕ → Rule Head
+unfoldable pub until_eos : Setting → Origin → Stream → Place → Rule Head
 until_eos at origin w s = do
   b ← done w s
   Answer (heads.List (record { origin = origin; stream = w; start = s; count = None; is_empty = b }))
 
-unfoldable pub repeated : Setting → Origin → Stream → ℕ → Field → Repeat → Rule Head
+unfoldable pub repeated : Setting → Origin → Stream → Place → Field → Repeat → Rule Head
 repeated at origin w s f Once = shape_at at origin w s f
 repeated at origin w s f (Expr e) = counted at origin w s e
 repeated at origin w s f Eos = until_eos at origin w s
 repeated at origin w s f (Until e) = Answer (heads.List (record { origin = origin; stream = w; start = s; count = None; is_empty = false }))
 
 -- an attribute whose condition is false takes no bytes
-unfoldable pub attribute_at : Setting → Origin → Stream → ℕ → Field → Rule Head
+unfoldable pub attribute_at : Setting → Origin → Stream → Place → Field → Rule Head
 attribute_at at origin w s f = do
   there ← holds at f.condition
   if there then repeated at origin w s f f.repeat else Answer (heads.Absent (Some s))
@@ -143,14 +144,14 @@ part_end q step = do
   p ← part q step
   ask_end p
 
-unfoldable pub attribute_start : Trail → Object → Option ℕ → Rule ℕ
+unfoldable pub attribute_start : Trail → Object → Option ℕ → Rule Place
 attribute_start q o None = Answer o.start
 attribute_start q o (Some y) = do
   e ← part_end q (steps.Name y)
   Answer e.place
 
 -- where expressions of a member are evaluated: in the object q, at the place s, with faults at p
-abbrev pub setting : Trail → Stream → ℕ → Trail → Setting
+abbrev pub setting : Trail → Stream → Place → Trail → Setting
 setting q w s p = record { home = q; stream = w; place = s; index = None; element = None; here = p }
 
 -- how a member of an object is read; its case isn't chosen yet
@@ -174,7 +175,7 @@ unfoldable pub positioned_in : Setting → Origin → Stream → Tree → Field 
 positioned_in at origin w e f = do
   n ← size_of at e
   reach w (w.from + n)
-  repeated (record at { place = w.from + n }) origin w (w.from + n) f f.repeat
+  repeated (record at { place = at_byte (w.from + n) }) origin w (at_byte (w.from + n)) f f.repeat
 
 unfoldable pub positioned : Setting → Origin → Tree → Option Tree → Field → Rule Head
 positioned at origin e io f = do
@@ -227,16 +228,16 @@ is_past None i = false
 is_past (Some n) i = nat_le n i
 
 -- after the last element there is none
-abbrev pub in_next : Ended → Rule ℕ
+abbrev pub in_next : Ended → Rule Place
 in_next e = if e.last then raise kinds.BadIndex else Answer e.place
 
 -- an element begins where its list does, or where the element before it ends
-unfoldable pub next_start : Trail → ℕ → Rule ℕ
+unfoldable pub next_start : Trail → ℕ → Rule Place
 next_start l i = do
   e ← part_end l (steps.Index i)
   in_next e
 
-unfoldable pub element_start : Trail → lists.List → ℕ → Rule ℕ
+unfoldable pub element_start : Trail → lists.List → ℕ → Rule Place
 element_start l g i = if g.is_empty || is_past g.count i then raise kinds.BadIndex
     else if i == 0 then Answer g.start
     else next_start l (i - 1)
@@ -258,7 +259,7 @@ element_head d p l q i = do
 
 -- the root is an object of the first type, in the whole file
 abbrev pub root_head : Head
-root_head = heads.Object (record { origin = None; type_number = 0; stream = whole; start = 0; ending = endings.ByFields })
+root_head = heads.Object (record { origin = None; type_number = 0; stream = whole; start = at_byte 0; ending = endings.ByFields })
 
 abbrev pub head_at : Description → Trail → Option Step → Rule Head
 head_at d p None = Answer root_head

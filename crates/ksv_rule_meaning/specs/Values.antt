@@ -5,6 +5,7 @@ use Rattle.std.specs.Str.{bytes_eq}
 use Rattle.ksv_basics.specs.Plan.{Answer, ◌>>=◌}
 use Rattle.ksv_desc.specs.declared.order.ByteOrder.{ByteOrder}
 use Rattle.ksv_expr_tree.specs.Tree.{Tree, Arguments, no_arguments, argument}
+use Rattle.ksv_expr_value.specs.Places.{Place, byte_of}
 use Rattle.ksv_expr_value.specs.Setting.{Setting}
 use Rattle.ksv_expr_value.specs.Trail.{Trail, parent, last}
 use Rattle.ksv_expr_value.specs.Range.{ranged}
@@ -48,14 +49,14 @@ number_in signed order enum bytes =
 
 unfoldable pub number_value : Leaf → Bool → ByteOrder → Option ℕ → Rule Value
 number_value l signed order enum = do
-  bs ← peek l.from l.to
+  bs ← peek (byte_of l.from) (byte_of l.to)
   number_in signed order enum bs
 
 -- certain bytes and no others
 unfoldable pub fixed_value : Leaf → List ℕ → Rule Value
 fixed_value l wanted = do
-  bs ← peek l.from l.to
-  if bytes_eq bs wanted then Answer (values.Bytes l.from l.to) else raise kinds.Contents
+  bs ← peek (byte_of l.from) (byte_of l.to)
+  if bytes_eq bs wanted then Answer (values.Bytes (byte_of l.from) (byte_of l.to)) else raise kinds.Contents
 
 -- Bytes with a size of their own are cut before the first terminator, or after it where it is included; without one they
 -- aren't cut. Without a size the terminator isn't among the bytes, or is their last.
@@ -75,11 +76,11 @@ kept t bytes = kept_of t bytes (first_at t.byte bytes)
 -- the range of bytes; where they may be cut they are read
 unfoldable pub cut_bytes : Leaf → Terminator → Rule Value
 cut_bytes l t = do
-  bs ← peek l.from l.to
-  Answer (values.Bytes l.from (l.from + kept t bs))
+  bs ← peek (byte_of l.from) (byte_of l.to)
+  Answer (values.Bytes (byte_of l.from) (byte_of l.from + kept t bs))
 
 unfoldable pub bytes_value : Leaf → Option Terminator → Rule Value
-bytes_value l None = Answer (values.Bytes l.from l.to)
+bytes_value l None = Answer (values.Bytes (byte_of l.from) (byte_of l.to))
 bytes_value l (Some t) = cut_bytes l t
 
 -- a text; bytes that spell none are the fault bad-text
@@ -93,7 +94,7 @@ cut_text (Some t) bytes = take (kept t bytes) bytes
 
 unfoldable pub text_value : Leaf → Encoding → Option Terminator → Rule Value
 text_value l encoding t = do
-  bs ← peek l.from l.to
+  bs ← peek (byte_of l.from) (byte_of l.to)
   in_text (decoded encoding (cut_text t bs))
 
 unfoldable pub content_value : Leaf → Field → Content → Rule Value
@@ -147,11 +148,11 @@ argument_at (argument e es) (suc i) = argument_at es i
 
 -- Where the arguments of the object q are evaluated: in the object that holds the attribute by which q is read, with the number of q
 -- where it is an element. Their faults are at p, the parameter.
-abbrev pub setting_of_holder : Trail → Trail → Option Step → Origin → ℕ → Setting
+abbrev pub setting_of_holder : Trail → Trail → Option Step → Origin → Place → Setting
 setting_of_holder p q (Some (steps.Index i)) g start = within (setting (parent (parent q)) g.home start p) i
 setting_of_holder p q _ g start = setting (parent q) g.home start p
 
-abbrev pub argument_setting : Trail → Trail → Origin → ℕ → Setting
+abbrev pub argument_setting : Trail → Trail → Origin → Place → Setting
 argument_setting p q g start = setting_of_holder p q (last q) g start
 
 -- the value of an argument isn't converted

@@ -8,13 +8,13 @@ ghost use Rattle.ksv_expr_tree.specs.Tree.{view};
 ghost use Rattle.ksv_expr_value.specs.Trail.{element_limit, parent};
 ghost use Rattle.ksv_nodes.specs.Turning.{Runs};
 ghost use Rattle.ksv_rule_meaning.specs.Wanted.{truth_of};
-ghost use Rattle.ksv_rule_meaning.specs.Ends.{fields_end, object_end, part_rest, list_end, absent_end, place_of, start_of, is_counted, behind_element, is_last, is_by_bytes, not_empty, element_end, end_at, end_of, next_rest, rest_behind, rest_from, in_whole_list, first_rest, whole_rest, rest_at, rest_of};
+ghost use Rattle.ksv_rule_meaning.specs.Ends.{stream_end, fields_end, object_end, part_rest, list_end, absent_end, place_of, start_of, is_counted, behind_element, is_last, is_by_bytes, not_empty, element_end, end_at, end_of, next_rest, rest_behind, rest_from, in_whole_list, first_rest, whole_rest, rest_at, rest_of};
 
 use crate::fields::{field_of, last_attribute, members_of};
 use crate::parts::{in_list_above, part_end};
 use crate::wanted::{missing, truth_of};
 use ksv_desc::{Desc, Repeat};
-use ksv_expr_eval::{Ctx, Expr, FaultKind, Path, Place, Step};
+use ksv_expr_eval::{Ctx, Expr, FaultKind, Path, Place, Step, Stream};
 use ksv_nodes::{Ended, Halt, Head, List, Object, ObjectEnd, Rested, Turn};
 
 /// The end of an object that ends with its last attribute; without one it ends where it begins.
@@ -31,6 +31,16 @@ fn fields_end(turn: &mut Turn, path: &Path, start: Place, last: Option<u32>) -> 
     }
 }
 
+/// Where a stream ends.
+#[tactic(auto, using(ksv_basics::proofs::Running::run_bind), unfolding(ksv_rule_meaning::specs::Ends::stream_end))]
+fn stream_end(turn: &mut Turn, stream: Stream) -> Result<Place, Halt>
+    ensures { Runs (stream_end stream) (λ place. place) turn.old turn.new result }
+{
+    let end = turn.finish(stream)?;
+    Ok(Place::at_byte(end))
+}
+
+/// Where an object ends.
 #[tactic(auto, unfolding(ksv_rule_meaning::specs::Ends::object_end))]
 fn object_end(
     turn: &mut Turn,
@@ -42,7 +52,7 @@ fn object_end(
     ensures { Runs (object_end (plain_pieces desc.now) path.now object.now ending) (λ place. place) turn.old turn.new result }
 {
     match ending {
-        ObjectEnd::OfStream => turn.finish(object.stream),
+        ObjectEnd::OfStream => stream_end(turn, object.stream),
         ObjectEnd::ByFields => {
             let last = last_attribute(members_of(desc, object.type_number));
             fields_end(turn, path, object.start, last)
@@ -96,9 +106,9 @@ fn start_of(head: &Head) -> Place
     ensures { result ≡ start_of head.now }
 {
     match head {
-        Head::Absent(None) => Place::of_byte(0),
+        Head::Absent(None) => Place::at_byte(0),
         Head::Absent(Some(place)) => *place,
-        Head::Calc(_) => Place::of_byte(0),
+        Head::Calc(_) => Place::at_byte(0),
         Head::Leaf(leaf) => leaf.from,
         Head::Object(object) => object.start,
         Head::List(list) => list.start,

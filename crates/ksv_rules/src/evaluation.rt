@@ -10,7 +10,7 @@ ghost use Rattle.ksv_rule_meaning.specs.Wanted.{wanted, expression};
 
 use crate::wanted::in_object;
 use ksv_expr_eval::{
-    Ctx, EvalStep, Expr, FaultKind, Got, Path, Place, Step, Stream, Value, Want, eval,
+    Ctx, EvalStep, Expr, FaultKind, Got, Path, Step, Stream, Value, Want, eval,
 };
 use ksv_expr_tree::Name;
 use ksv_nodes::{Halt, Turn};
@@ -54,14 +54,14 @@ fn answer<'a>(turn: &mut Turn<'a>, ctx: &Ctx, want: Want) -> Result<Got<'a>, Hal
         }
         Want::Size => {
             let size = turn.finish(Stream { from: 0, to: None })?;
-            Ok(Got::Number(u64::from(size.byte())))
+            Ok(Got::Number(u64::from(size)))
         }
         Want::Done => {
             let is_done = turn.done(ctx.stream, ctx.place)?;
             Ok(Got::Truth(is_done))
         }
         Want::Bytes { from, to } => {
-            let bytes = turn.peek(Place::of_byte(from), Place::of_byte(to))?;
+            let bytes = turn.peek(from, to)?;
             Ok(Got::Slices(bytes.front, bytes.back))
         }
     }

@@ -199,7 +199,8 @@ fn positioned_in(
     ensures { Runs (positioned_in ctx.now origin stream (view position.now) (plain_field field.now)) (λ head. head) turn.old turn.new result }
 {
     let position = size_of(turn, ctx, position)?;
-    let place = turn.reach(stream, Place::of_byte(stream.from), position)?;
+    let byte = turn.reach(stream, stream.from, position)?;
+    let place = Place::at_byte(byte);
     let ctx = Ctx {
         home: ctx.home,
         stream: ctx.stream,
@@ -431,7 +432,7 @@ fn root_head() -> Head
         origin: None,
         type_number: 0,
         stream: Stream { from: 0, to: None },
-        start: Place::of_byte(0),
+        start: Place::at_byte(0),
         ending: ObjectEnd::ByFields,
     })
 }

@@ -28,7 +28,8 @@ fn leaf(
 ) -> Result<Head, Halt>
     ensures { Runs (leaf origin stream start size) (λ head. head) turn.old turn.new result }
 {
-    let to = turn.reach(stream, start, size)?;
+    let to = turn.reach(stream, start.byte(), size)?;
+    let to = Place::at_byte(to);
     Ok(Head::Leaf(Leaf {
         origin,
         from: start,
@@ -43,6 +44,7 @@ fn leaf_to_end(turn: &mut Turn, origin: Origin, stream: Stream, start: Place) ->
     ensures { Runs (leaf_to_end origin stream start) (λ head. head) turn.old turn.new result }
 {
     let end = turn.finish(stream)?;
+    let end = Place::at_byte(end);
     Ok(Head::Leaf(Leaf {
         origin,
         from: start,
@@ -57,19 +59,19 @@ fn unterminated(
     origin: Origin,
     start: Place,
     terminator: Terminator,
-    end: Place,
+    end: u32,
 ) -> Result<Head, Halt>
     ensures { Runs (terminated_at origin start (plain_terminator terminator) (Missing end)) (λ head. head) turn.old turn.new result }
 {
     if terminator.is_required {
         return turn.raise(FaultKind::NoTerminator);
     }
-    let end = end.byte();
+    let end = Place::at_byte(end);
     Ok(Head::Leaf(Leaf {
         origin,
         from: start,
-        to: Place::of_byte(end),
-        end: Place::of_byte(end),
+        to: end,
+        end,
     }))
 }
 
@@ -84,18 +86,18 @@ fn terminated_at(
     requires { StandsBelow file_limit found }
     ensures { Runs (terminated_at origin start (plain_terminator terminator) found) (λ head. head) turn.old turn.new result }
 {
-    let place = match found {
-        Found::At(place) => place.byte(),
+    let byte = match found {
+        Found::At(byte) => byte,
         Found::Missing(end) => return unterminated(turn, origin, start, terminator, end),
     };
-    let after = place + 1;
-    let to = if terminator.is_included { after } else { place };
-    let end = if terminator.is_consumed { after } else { place };
+    let after = byte + 1;
+    let to = if terminator.is_included { after } else { byte };
+    let end = if terminator.is_consumed { after } else { byte };
     Ok(Head::Leaf(Leaf {
         origin,
         from: start,
-        to: Place::of_byte(to),
-        end: Place::of_byte(end),
+        to: Place::at_byte(to),
+        end: Place::at_byte(end),
     }))
 }
 
@@ -110,7 +112,7 @@ fn terminated(
 ) -> Result<Head, Halt>
     ensures { Runs (terminated origin stream start (plain_terminator terminator)) (λ head. head) turn.old turn.new result }
 {
-    let found = turn.find(stream, start, terminator.byte)?;
+    let found = turn.find(stream, start.byte(), terminator.byte)?;
     terminated_at(turn, origin, start, terminator, found)
 }
 
@@ -180,13 +182,13 @@ fn sized_object(
 {
     let size = size_of(turn, ctx, size)?;
     let start = ctx.place;
-    let end = turn.reach(stream, start, size)?;
+    let end = turn.reach(stream, start.byte(), size)?;
     Ok(Head::Object(Object {
         origin: Some(origin),
         type_number,
         stream: Stream {
             from: start.byte(),
-            to: Some(end.byte()),
+            to: Some(end),
         },
         start,
         ending: ObjectEnd::OfStream,

@@ -4,6 +4,7 @@
 ghost use Rattle.std.specs.Option.{option_map_or};
 ghost use Rattle.std.specs.Prelude.{◌≡◌, ◌≤◌, ◌<◌, ◌+◌, IfOk, length, option_map};
 ghost use Rattle.ksv_expr_value.specs.Bytes.{content};
+ghost use Rattle.ksv_expr_value.specs.Places.{byte_of};
 ghost use Rattle.ksv_desc.specs.Description.{Bytes};
 ghost use Rattle.ksv_desc.specs.Pieces.{plain_content, plain_extent, plain_field, plain_terminator};
 ghost use Rattle.ksv_desc.specs.Whole.{plain_pieces};
@@ -23,10 +24,10 @@ use ksv_nodes::{Halt, Head, Leaf, Turn, first_in_parts};
 /// The bytes of a leaf.
 #[tactic(auto, using(crate::proofs::Peeked::peeked_length))]
 fn bytes_of<'a>(turn: &mut Turn<'a>, leaf: &Leaf) -> Result<Parts<'a>, Halt>
-    ensures runs { Runs (peek leaf.now.from leaf.now.to) content turn.old turn.new result }
-    ensures fits { IfOk result (λ parts. leaf.now.from + length (content parts) ≡ leaf.now.to) }
+    ensures runs { Runs (peek (byte_of leaf.now.from) (byte_of leaf.now.to)) content turn.old turn.new result }
+    ensures fits { IfOk result (λ parts. byte_of leaf.now.from + length (content parts) ≡ byte_of leaf.now.to) }
 {
-    let parts = turn.peek(leaf.from, leaf.to)?;
+    let parts = turn.peek(leaf.from.byte(), leaf.to.byte())?;
     Ok(parts)
 }
 
