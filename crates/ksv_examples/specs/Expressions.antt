@@ -8,6 +8,7 @@ use lib.Utf8.{encode}
 use Rattle.ksv_desc.specs.Names.{number_in}
 use Rattle.ksv_expr_meaning.specs.Meaning.{at_end, binary_of, byte_at, byte_from, bytes_and, bytes_at, bytes_call, bytes_with, call_one, call_two, cast_to, element_count, element_path, element_value, field_of, integer_and, item_at, last_element, list_at, list_method, list_size, member_and, member_path, member_value, method_of, object_of_type, same_bytes, special_of, special_value, stream_method, stream_of, stream_size, text_and, text_in, truth_and, truth_value, value_of}
 use Rattle.ksv_expr_syntax.specs.Reading.{read, read_list, place_on, select_on}
+use Rattle.ksv_expr_value.specs.Places.{at_byte}
 use Rattle.ksv_expr_value.specs.Trail.{fits, trail_of, trail_when}
 use Rattle.ksv_basics.specs.Plan.{bind}
 use Rattle.ksv_schema.specs.Expressions.{expression_of, tokens_of}
@@ -35,7 +36,7 @@ use Rattle.ksv_schema_names.specs.Rows.{Declared, row_in}
 
 -- an expression of the root, which is no element of a list
 abbrev pub at_root : Setting
-at_root = record { home = root; stream = record { from = 0; to = None }; place = 0; index = None; element = None; here = root }
+at_root = record { home = root; stream = record { from = 0; to = None }; place = at_byte 0; index = None; element = None; here = root }
 
 -- an integer, a truth value, a text between quotes, and a fault by its name
 abbrev pub shown : Result Value Fault → List ℕ

@@ -3,6 +3,7 @@ use Rattle.std.specs.Fmt.{signed_decimal}
 use Rattle.std.specs.Prelude.{ℕ, List, ◌++◌, codes, decimal, Option, Some, None}
 use Rattle.ksv_basics.specs.Plan.{Answer, ◌>>=◌}
 use Rattle.ksv_desc.specs.Description.{Description, members, type_id}
+use Rattle.ksv_expr_value.specs.Places.{Place, byte_of}
 use Rattle.ksv_expr_value.specs.Trail.{Trail, child}
 use Rattle.ksv_expr_value.specs.declared.fault.FaultKind.TheVariants as kinds
 use Rattle.ksv_expr_value.specs.declared.step.Step.TheVariants.{Index}
@@ -88,19 +89,19 @@ value_question d b p = do
 
 -- ---- `at P`: where what is at P begins and ends
 
-abbrev pub in_end : Trail → Given → Asking ℕ
+abbrev pub in_end : Trail → Given → Asking Place
 in_end p (givens.End place last) = Answer place
 in_end p _ = misfit p
 
-unfoldable pub ask_end : Trail → Asking ℕ
+unfoldable pub ask_end : Trail → Asking Place
 ask_end p = do
   g ← ask (end_node p)
   in_end p g
 
-unfoldable pub from_place : Trail → ℕ → Asking (List ℕ)
+unfoldable pub from_place : Trail → Place → Asking (List ℕ)
 from_place p from = do
   to ← ask_end p
-  Answer (codes "at " ++ decimal from ++ codes " " ++ decimal to)
+  Answer (codes "at " ++ decimal (byte_of from) ++ codes " " ++ decimal (byte_of to))
 
 -- what is calculated has no place
 abbrev pub of_head : Trail → Head → Asking (List ℕ)

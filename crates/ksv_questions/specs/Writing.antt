@@ -2,6 +2,7 @@
 use Rattle.std.specs.Prelude.{◌≡◌, true, ℕ, ℤ, List, Option, Some, None, if◌then◌else◌}
 use Rattle.ksv_basics.specs.Plan.{Answer, Fail, ◌>>=◌}
 use Rattle.ksv_desc.specs.Description.{Description}
+use Rattle.ksv_expr_value.specs.Places.{byte_of}
 use Rattle.ksv_expr_value.specs.Trail.{Trail}
 use Rattle.ksv_nodes.specs.declared.given.Head.{Head}
 use Rattle.ksv_nodes.specs.declared.given.Head.TheVariants as heads
@@ -19,7 +20,7 @@ pub record Overwrite : Type 0 where
 
 unfoldable pub of_type : Option IntegerType → Leaf → ℤ → Asking Overwrite
 of_type None l n = Fail (Refused refusals.NotAnInteger)
-of_type (Some t) l n = if holds t n then Answer (record { at = l.from; bytes = integer_bytes t n }) else Fail (Refused refusals.OutOfRange)
+of_type (Some t) l n = if holds t n then Answer (record { at = byte_of l.from; bytes = integer_bytes t n }) else Fail (Refused refusals.OutOfRange)
 
 abbrev pub over_head : Description → Head → ℤ → Asking Overwrite
 over_head d (heads.Leaf l) n = of_type (integer_type d l) l n

@@ -10,7 +10,7 @@ ghost use Rattle.ksv_questions.specs.Questions.{ask_end, ask_head, ask_value, fi
 
 use crate::asking::{Untold, ask, fault_at};
 use ksv_bytes::Buffer;
-use ksv_expr_value::{FaultKind, Path, Value};
+use ksv_expr_value::{FaultKind, Path, Place, Value};
 use ksv_memo::Engine;
 use ksv_nodes::{Given, Head, NodeKind};
 use ksv_rule_meaning::{Described, NodeRules};
@@ -47,11 +47,11 @@ fn in_value(alloc: Global, path: &Path, given: Given) -> Result<Value, Untold>
 }
 
 /// The place of an end; another form doesn't fit.
-fn in_end(alloc: Global, path: &Path, given: &Given) -> Result<u32, Untold>
+fn in_end(alloc: Global, path: &Path, given: &Given) -> Result<Place, Untold>
     ensures { Settles (in_end path.now given.now) (λ place. place) result }
 {
     match given {
-        Given::End { place, .. } => Ok(place.byte()),
+        Given::End { place, .. } => Ok(*place),
         _ => Err(fault_at(alloc, path, FaultKind::BadType)),
     }
 }
@@ -117,7 +117,7 @@ pub(crate) fn ask_end<N: NodeRules>(
     described: &Described<N>,
     buffer: &Buffer,
     path: &Path,
-) -> Result<u32, Untold>
+) -> Result<Place, Untold>
     requires { IsRight (world (plain_pieces described.now.desc) buffer.now) engine.old.kept }
     ensures { Runs (plain_pieces described.now.desc) buffer.now (ask_end path.now) (λ place. place) engine.old engine.new result }
 {

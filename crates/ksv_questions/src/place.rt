@@ -2,6 +2,7 @@
 ghost use Rattle.std.specs.Prelude.{◌≡◌, ◌++◌, codes, decimal, string_bytes};
 ghost use Rattle.ksv_desc.specs.Whole.{plain_pieces};
 ghost use Rattle.ksv_basics.specs.Plan.{Answer};
+ghost use Rattle.ksv_expr_value.specs.Places.{byte_of};
 ghost use Rattle.ksv_memo_rules.specs.Right.{IsRight};
 ghost use Rattle.ksv_questions.specs.Code.{Runs, Settles};
 ghost use Rattle.ksv_questions.specs.Engines.{world};
@@ -11,20 +12,20 @@ use crate::asking::Untold;
 use crate::parts::{ask_end, ask_head};
 use itoa::Buffer as Digits;
 use ksv_bytes::Buffer;
-use ksv_expr_value::Path;
+use ksv_expr_value::{Path, Place};
 use ksv_memo::Engine;
 use ksv_nodes::Head;
 use ksv_rule_meaning::{Described, NodeRules};
 use std::alloc::Global;
 
 /// Where something begins and ends.
-fn places_text(alloc: Global, from: u32, to: u32) -> Result<String, Untold>
-    ensures { Settles (Answer (codes "at " ++ decimal from ++ codes " " ++ decimal to)) (λ text. string_bytes text) result }
+fn places_text(alloc: Global, from: Place, to: Place) -> Result<String, Untold>
+    ensures { Settles (Answer (codes "at " ++ decimal (byte_of from) ++ codes " " ++ decimal (byte_of to))) (λ text. string_bytes text) result }
 {
     let mut text = String::from_str(alloc, "at ")?;
-    text.push_str(Digits::new().format(from))?;
+    text.push_str(Digits::new().format(from.byte()))?;
     text.push_str(" ")?;
-    text.push_str(Digits::new().format(to))?;
+    text.push_str(Digits::new().format(to.byte()))?;
     Ok(text)
 }
 
@@ -36,7 +37,7 @@ fn from_place<N: NodeRules>(
     described: &Described<N>,
     buffer: &Buffer,
     path: &Path,
-    from: u32,
+    from: Place,
 ) -> Result<String, Untold>
     requires { IsRight (world (plain_pieces described.now.desc) buffer.now) engine.old.kept }
     ensures { Runs (plain_pieces described.now.desc) buffer.now (from_place path.now from) (λ text. string_bytes text) engine.old engine.new result }
@@ -61,16 +62,13 @@ fn of_head<N: NodeRules>(
         Head::Absent(_) => Ok(String::from_str(alloc, "absent")?),
         Head::Calc(_) => Ok(String::from_str(alloc, "calculated")?),
         Head::Leaf(leaf) => {
-            let from = leaf.from.byte();
-            from_place(alloc, engine, described, buffer, path, from)
+            from_place(alloc, engine, described, buffer, path, leaf.from)
         }
         Head::Object(object) => {
-            let from = object.start.byte();
-            from_place(alloc, engine, described, buffer, path, from)
+            from_place(alloc, engine, described, buffer, path, object.start)
         }
         Head::List(list) => {
-            let from = list.start.byte();
-            from_place(alloc, engine, described, buffer, path, from)
+            from_place(alloc, engine, described, buffer, path, list.start)
         }
     }
 }

@@ -98,36 +98,35 @@ fn read(turn: &mut Turn, reading: Reading<'_>) -> Result<Seen, Halt> {
 
 fn reach(turn: &mut Turn, reading: Reading<'_>) -> Result<Seen, Halt> {
     let size = u64::from(reading.first);
-    turn.reach(reading.stream, Place::of_byte(0), size)?;
+    turn.reach(reading.stream, 0, size)?;
     Ok(Seen::Reached)
 }
 
 fn finish(turn: &mut Turn, reading: Reading<'_>) -> Result<Seen, Halt> {
     let end = turn.finish(reading.stream)?;
-    Ok(Seen::Place(end.byte()))
+    Ok(Seen::Place(end))
 }
 
 fn is_done(turn: &mut Turn, reading: Reading<'_>) -> Result<Seen, Halt> {
-    let is_done = turn.done(reading.stream, Place::of_byte(reading.first))?;
+    let is_done = turn.done(reading.stream, Place::at_byte(reading.first))?;
     Ok(Seen::Done(is_done))
 }
 
 fn peek(turn: &mut Turn, reading: Reading<'_>) -> Result<Seen, Halt> {
-    let to = Place::of_byte(reading.second);
-    let parts = turn.peek(Place::of_byte(reading.first), to)?;
+    let parts = turn.peek(reading.first, reading.second)?;
     Ok(Seen::First(parts.first()))
 }
 
 fn find(turn: &mut Turn, reading: Reading<'_>) -> Result<Seen, Halt> {
     let byte = u8::try_from(reading.second).unwrap_or(0);
-    let found = turn.find(reading.stream, Place::of_byte(reading.first), byte)?;
+    let found = turn.find(reading.stream, reading.first, byte)?;
     Ok(seen_of(found))
 }
 
 fn seen_of(found: Found) -> Seen {
     match found {
-        Found::At(place) => Seen::At(place.byte()),
-        Found::Missing(end) => Seen::Missing(end.byte()),
+        Found::At(byte) => Seen::At(byte),
+        Found::Missing(end) => Seen::Missing(end),
     }
 }
 
@@ -213,15 +212,15 @@ fn add(alloc: Global, slots: &mut Slots, given: &Given) -> Result<(), AllocError
 /// A reply of one of four forms.
 fn given(form: u8) -> Given {
     match form {
-        0 => Given::Head(Head::Absent(Some(Place::of_byte(3)))),
+        0 => Given::Head(Head::Absent(Some(Place::at_byte(3)))),
         1 => Given::Value(Value::Bool(true)),
         2 => Given::End {
-            place: Place::of_byte(5),
+            place: Place::at_byte(5),
             last: true,
         },
         _ => Given::Rest {
             count: 2,
-            place: Place::of_byte(9),
+            place: Place::at_byte(9),
         },
     }
 }
