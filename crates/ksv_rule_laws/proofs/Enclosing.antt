@@ -748,8 +748,8 @@ still_lies d bytes met met' nodes.End p (givens.End place is_last) same is = by_
   where
     by_step : (o : Option Step) → EndLies d bytes met p o place → EndLies d bytes met' p o place
     by_step None i = tt
-    by_step (Some step) i = still_held d bytes met met' p (λ w. IsBetween bytes w place) same i
-still_lies d bytes met met' nodes.Rest p (givens.Rest count place) same is = still_held d bytes met met' p (λ w. IsBetween bytes w place) same is
+    by_step (Some step) i = still_held d bytes met met' p (λ w. IsBetween bytes w (byte_of place)) same i
+still_lies d bytes met met' nodes.Rest p (givens.Rest count place) same is = still_held d bytes met met' p (λ w. IsBetween bytes w (byte_of place)) same is
 still_lies d bytes met met' _ p _ same is = tt
 
 module _ (d : Description) (distinct : HasDistinctNames d) (bytes : List ℕ) where

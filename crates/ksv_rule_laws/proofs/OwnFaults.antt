@@ -11,6 +11,7 @@ use Rattle.ksv_expr_tree.specs.declared.tree.BinaryOperator.TheVariants as opera
 use Rattle.ksv_expr_tree.specs.declared.tree.SpecialName.{SpecialName}
 use Rattle.ksv_expr_tree.specs.declared.tree.SpecialName.TheVariants as specials
 use Rattle.ksv_expr_tree.specs.declared.tree.EnumMember.{EnumMember}
+use Rattle.ksv_expr_value.specs.Places.{byte_of}
 use Rattle.ksv_expr_value.specs.Trail.{Trail, element_limit, child, holder}
 use Rattle.ksv_expr_value.specs.Range.{ranged, in_range}
 use Rattle.ksv_expr_value.specs.Encodings.{encoding_named, decoded}
@@ -351,7 +352,7 @@ method_own s own (values.Bytes f t) name = by_method (λ m. Own (method_by s own
 method_own s own (values.Member e n) name = by_method (λ m. Own (method_by s own (values.Member e n) m)) name tt tt tt tt tt tt tt tt tt tt tt
 method_own s own (values.Object q) name = by_method (λ m. Own (method_by s own (values.Object q) m)) name tt tt tt tt tt tt tt tt tt tt tt
 method_own s own (values.List l) name = by_method (λ m. Own (method_by s own (values.List l) m)) name tt (element_own l (pos 0)) (last_own l) (list_size_own l) tt tt tt tt tt tt tt
-method_own s own (values.Stream w) name = by_method (λ m. Own (method_by s own (values.Stream w) m)) name tt tt tt (stream_size_own w) tt tt tt tt tt (choose own _ _ (distance_own s.place w.from) tt) (choose own _ _ end_own tt)
+method_own s own (values.Stream w) name = by_method (λ m. Own (method_by s own (values.Stream w) m)) name tt tt tt (stream_size_own w) tt tt tt tt tt (choose own _ _ (distance_own (byte_of s.place) w.from) tt) (choose own _ _ end_own tt)
 
 field_own : (s : Setting) (own : Bool) (v : Value) (n : Word) → Own (field_of s own v n)
 unfolding field_of

@@ -10,6 +10,7 @@ use Rattle.ksv_expr_tree.specs.declared.tree.BinaryOperator.TheVariants as opera
 use Rattle.ksv_expr_tree.specs.declared.tree.SpecialName.{SpecialName}
 use Rattle.ksv_expr_tree.specs.declared.tree.SpecialName.TheVariants as specials
 use Rattle.ksv_expr_tree.specs.declared.tree.EnumMember.{EnumMember}
+use Rattle.ksv_expr_value.specs.Places.{byte_of}
 use Rattle.ksv_expr_value.specs.Trail.{Trail, holder}
 use Rattle.ksv_expr_value.specs.Range.{ranged}
 use Rattle.ksv_expr_value.specs.Setting.{Setting}
@@ -296,7 +297,7 @@ module _ (size : ℕ) where
   method_ranges s own (values.Member e n) name = by_method (λ m. Ranges (method_by s own (values.Member e n) m)) name tt tt tt tt tt tt tt tt tt tt tt
   method_ranges s own (values.Object q) name = by_method (λ m. Ranges (method_by s own (values.Object q) m)) name tt tt tt tt tt tt tt tt tt tt tt
   method_ranges s own (values.List l) name = by_method (λ m. Ranges (method_by s own (values.List l) m)) name tt (element_ranges l (pos 0)) (last_ranges l) (list_size_ranges l) tt tt tt tt tt tt tt
-  method_ranges s own (values.Stream w) name = by_method (λ m. Ranges (method_by s own (values.Stream w) m)) name tt tt tt (stream_size_ranges w) tt tt tt tt tt (choose own _ _ (distance_ranges s.place w.from) tt) (choose own _ _ end_ranges tt)
+  method_ranges s own (values.Stream w) name = by_method (λ m. Ranges (method_by s own (values.Stream w) m)) name tt tt tt (stream_size_ranges w) tt tt tt tt tt (choose own _ _ (distance_ranges (byte_of s.place) w.from) tt) (choose own _ _ end_ranges tt)
 
   field_ranges : (s : Setting) (own : Bool) (v : Value) (n : Word) → Ranges (field_of s own v n)
   unfolding field_of

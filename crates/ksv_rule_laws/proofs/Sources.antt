@@ -2,7 +2,7 @@
 use Rattle.std.proofs.Common.{◌≡◌, ◌∙◌, ℕ, zero, suc, ◌+◌, ◌==◌, Bool, true, false, if◌then◌else◌, List, [], ◌∷◌, length, slice_get, Option, Some, None, Result, Ok, refl, sym, ap, subst, arith}
 use Rattle.ksv_basics.specs.Plan.{Answer}
 use Rattle.ksv_expr_tree.specs.Tree.{Tree}
-use Rattle.ksv_expr_value.specs.Places.{Place, byte_of}
+use Rattle.ksv_expr_value.specs.Places.{Place, at_byte, byte_of}
 use Rattle.ksv_expr_value.specs.Setting.{Setting}
 use Rattle.ksv_expr_value.specs.Trail.{Trail, parent, last}
 use Rattle.ksv_expr_value.specs.declared.fault.Fault.{Fault}
@@ -249,7 +249,7 @@ module _ (met : Node → Result Given Fault) (here : Trail) (bytes : List ℕ) w
           let w = goes_on met here bytes (stream_for at io) (λ x. positioned_in at origin x e f) h z in
           let n = goes_on met here bytes (size_of at e) _ h w.gave in
           let b = goes_on met here bytes (reach w.first (w.first.from + n.first)) _ h n.gave in
-          repeated_read _ w.first (w.first.from + n.first) f.repeat refl b.gave
+          repeated_read _ w.first (at_byte (w.first.from + n.first)) f.repeat refl b.gave
 
       instance_read : (at : Setting) (e : Tree) (io : Option Tree) → answer (instance_head at origin e io f) ≡ Ok h → IsReadSo d h
       unfolding instance_head
@@ -357,7 +357,7 @@ module _ (met : Node → Result Given Fault) (here : Trail) (bytes : List ℕ) w
         let none = by_head k.first g.first (lies l k.first (asked_head met here bytes l k.first k.was)) g.was in
         shape_read d h (at g.first s.first) g.first.origin g.first.stream s.first f.first (field_found d g.first.origin.member f.first f.was) none f.gave
       where
-        at : lists.List → ℕ → Setting
+        at : lists.List → Place → Setting
         at g s = within (setting q g.origin.home s p) i
 
         by_head : (k : Head) (g : lists.List) → IsReadSo d k → answer_of met here bytes (in_list l k) ≡ Ok g → g.origin.case ≡ None
