@@ -66,13 +66,18 @@ pub record Field : Type 0 where
   pub extent : Extent
   pub terminator : Option Terminator
 
--- a parameter; an attribute of `seq`; a parse instance, with its place and perhaps a stream of its own; a value
--- instance, with its condition, and as a member of which enum
+-- what a value instance calculates: its condition, its value, and as a member of which enum
+pub record Calculation : Type 0 where
+  pub condition : Option expressions.Tree
+  pub value : expressions.Tree
+  pub enum : Option ℕ
+
+-- a parameter; an attribute of `seq`; a parse instance, with its place and perhaps a stream of its own; a value instance
 pub data MemberKind : Type 0 where
   Parameter : MemberKind
   Attribute : Field → MemberKind
   ParseInstance : expressions.Tree → Option expressions.Tree → Field → MemberKind
-  ValueInstance : Option expressions.Tree → expressions.Tree → Option ℕ → MemberKind
+  ValueInstance : Calculation → MemberKind
 
 -- a member, by the number of its name
 pub record MemberOfType : Type 0 where
@@ -112,7 +117,7 @@ abbrev pub type_id : Description → ℕ → List ℕ
 type_id d t = option_map_or (λ x. x.id) (slice_get d.types t) []
 
 abbrev pub is_attribute : MemberOfType → Bool
-is_attribute m = elim m.kind [ Parameter ↦ false | Attribute f ↦ true | ParseInstance p s f ↦ false | ValueInstance c v e ↦ false ]
+is_attribute m = elim m.kind [ Parameter ↦ false | Attribute f ↦ true | ParseInstance p s f ↦ false | ValueInstance v ↦ false ]
 
 abbrev pub members : Description → ℕ → List ℕ
 members d t = option_map_or (λ x. map (λ m. m.name) x.members) (slice_get d.types t) []

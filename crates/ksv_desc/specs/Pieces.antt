@@ -74,7 +74,7 @@ abbrev pub plain_kind : CodeKind → MemberKind
 plain_kind kinds.Parameter = Parameter
 plain_kind (kinds.Attribute field) = Attribute (plain_field field)
 plain_kind (kinds.ParseInstance place stream field) = ParseInstance (view place) (option_map view stream) (plain_field field)
-plain_kind (kinds.ValueInstance condition value enumeration) = ValueInstance (option_map view condition) (view value) enumeration
+plain_kind (kinds.ValueInstance condition value enumeration) = ValueInstance (record { condition = option_map view condition; value = view value; enum = enumeration })
 
 abbrev pub plain_member : MemberDesc → MemberOfType
 plain_member m = record { name = m.name; kind = plain_kind m.kind }

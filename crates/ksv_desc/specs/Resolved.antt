@@ -66,7 +66,7 @@ abbrev mutual
 
 -- the parameters of a type
 abbrev pub is_parameter : MemberOfType → Bool
-is_parameter m = elim m.kind [ Parameter ↦ true | Attribute f ↦ false | ParseInstance p s f ↦ false | ValueInstance c v e ↦ false ]
+is_parameter m = elim m.kind [ Parameter ↦ true | Attribute f ↦ false | ParseInstance p s f ↦ false | ValueInstance v ↦ false ]
 
 abbrev pub parameters : Description → ℕ → List MemberOfType
 parameters d t = option_map_or (λ x. filter is_parameter x.members) (slice_get d.types t) []
@@ -117,7 +117,7 @@ abbrev pub IsResolvedKind : Description → MemberKind → Type 0
 IsResolvedKind d Parameter = Unit {0}
 IsResolvedKind d (Attribute f) = IsResolvedField d f
 IsResolvedKind d (ParseInstance place stream f) = IsResolvedTree d place × IfAny (IsResolvedTree d) stream × IsResolvedField d f
-IsResolvedKind d (ValueInstance condition value enum) = IfAny (IsResolvedTree d) condition × IsResolvedTree d value × IfAny (IsEnum d) enum
+IsResolvedKind d (ValueInstance v) = IfAny (IsResolvedTree d) v.condition × IsResolvedTree d v.value × IfAny (IsEnum d) v.enum
 
 -- a member has one of the names of members
 abbrev pub IsResolvedMember : Description → MemberOfType → Type 0

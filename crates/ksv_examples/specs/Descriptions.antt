@@ -316,7 +316,7 @@ k_states : description (codes "meta:" ∷ codes "  id: k" ∷ codes "seq:" ∷ c
             record { name = 0; kind = Attribute (record byte { choice = Always (Fixed (75 ∷ 83 ∷ [])) }) } ∷
             record { name = 1; kind = Attribute byte } ∷
             record { name = 2; kind = Attribute (record byte { repeat = Expr (named (word (codes "n") 1)); choice = Always (Object 1 no_arguments) }) } ∷
-            record { name = 3; kind = ValueInstance None (field (index (named (word (codes "items") 2)) (literal (integer 0))) (word (codes "len") 5)) None } ∷
+            record { name = 3; kind = ValueInstance (record { condition = None; value = field (index (named (word (codes "items") 2)) (literal (integer 0))) (word (codes "len") 5); enum = None }) } ∷
             record { name = 4; kind = ParseInstance (binary binaries.Subtract (field (special specials.Io) (word (codes "size") 7)) (literal (integer 1))) None byte } ∷ [];
       } ∷
       record {

@@ -310,7 +310,7 @@ unfolding member_at
 member_at_own p q o x Parameter = tt
 member_at_own p q o x (Attribute f) = attribute_head_own p q o x f
 member_at_own p q o x (ParseInstance e io f) = instance_own (instance_setting p q o) (origin_of o x) e io f
-member_at_own p q o x (ValueInstance condition e enum) = value_head_own (instance_setting p q o) o x condition
+member_at_own p q o x (ValueInstance v) = value_head_own (instance_setting p q o) o x v.condition
 
 member_head_own : (d : Description) (p q : Trail) (x : ℕ) → Own (member_head d p q x)
 unfolding member_head
@@ -426,7 +426,7 @@ parameter_own d p q member o (Some g) = argument_own d p q member o g
 calc_own : (d : Description) (p q : Trail) (c : Calc) (k : MemberKind) → Own (calc_value d p q c k)
 unfolding calc_value
 calc_own d p q c Parameter = parameter_own d p q c.member c.object c.object.origin
-calc_own d p q c (ValueInstance condition e enum) = instance_value_own (instance_setting p q c.object) e enum
+calc_own d p q c (ValueInstance v) = instance_value_own (instance_setting p q c.object) v.value v.enum
 calc_own d p q c _ = tt
 
 calculated_own : (d : Description) (p q : Trail) (c : Calc) → Own (calculated d p q c)

@@ -17,7 +17,7 @@ use Rattle.ksv_expr_value.specs.declared.step.Step.TheVariants as steps
 use Rattle.ksv_expr_value.specs.declared.value.Stream.{Stream}
 use Rattle.ksv_expr_value.specs.declared.value.Value.{Value}
 use Rattle.ksv_expr_value.specs.declared.value.Value.TheVariants as values
-use Rattle.ksv_desc.specs.Description.{Description, MemberOfType, MemberKind, Parameter, Attribute, ParseInstance, ValueInstance, Field, Content, Extent, Sized, SizeEos, ByItself, Repeat, Once, Eos, Expr, Until, Terminator}
+use Rattle.ksv_desc.specs.Description.{Calculation, Description, MemberOfType, MemberKind, Parameter, Attribute, ParseInstance, ValueInstance, Field, Content, Extent, Sized, SizeEos, ByItself, Repeat, Once, Eos, Expr, Until, Terminator}
 use Rattle.ksv_desc.specs.Description as contents
 use Rattle.ksv_nodes.specs.declared.node.Node.{Node}
 use Rattle.ksv_nodes.specs.declared.node.NodeKind.{NodeKind}
@@ -95,7 +95,7 @@ for_own met bytes p o Parameter w own is = is
 for_own met bytes p o (Attribute f) w own is = is
 for_own met bytes p o (ParseInstance e None f) w own is = is
 for_own met bytes p o (ParseInstance e (Some io) f) w own is = absurd (own tt)
-for_own met bytes p o (ValueInstance condition e enum) w own is = is
+for_own met bytes p o (ValueInstance v) w own is = is
 
 -- what isn't read in another stream is read in that of its holder
 read_own : (d : Description) (met : Node → Result Given Fault) (bytes : List ℕ) (p : Trail) (k : Head) (step : Step) (w : Stream) → (IsElsewhere d k (Some step) → ⊥) → IsReadIn d met bytes p k (Some step) w → IsStreamOf k w
@@ -121,7 +121,7 @@ for_still met met' bytes p o Parameter w same is = is
 for_still met met' bytes p o (Attribute f) w same is = is
 for_still met met' bytes p o (ParseInstance e None f) w same is = is
 for_still met met' bytes p o (ParseInstance e (Some io) f) w same is = same_answer met met' p bytes same (expression (instance_setting p (parent p) o) io) (values.Stream w) is
-for_still met met' bytes p o (ValueInstance condition e enum) w same is = is
+for_still met met' bytes p o (ValueInstance v) w same is = is
 
 read_still : (d : Description) (met met' : Node → Result Given Fault) (bytes : List ℕ) (p : Trail) (k : Head) (step : Option Step) (w : Stream) → ((m : Node) (g : Given) → met m ≡ Ok g → met' m ≡ Ok g) → IsReadIn d met bytes p k step w → IsReadIn d met' bytes p k step w
 read_still d met met' bytes p (heads.Object o) (Some (steps.Name x)) w same is = (is.0, is.1, for_still met met' bytes p o is.0.kind w same is.2)
@@ -489,15 +489,15 @@ module _ (d : Description) (distinct : HasDistinctNames d) (met : Node → Resul
   calc_in : (o : Object) (x : Sought) (h : Head) → ◌≡◌ {A = Result Head Fault} (Ok (calc o x)) (Ok h) → LiesIn bytes o.stream h
   calc_in o x h e = subst (LiesIn bytes o.stream) (ok_is (calc o x) h e) tt
 
-  value_in : (o : Object) (x : Sought) (condition : Option Tree) (e : Tree) (enum : Option ℕ) (h : Head) → answer (value_head (instance_setting here (parent here) o) o x condition) ≡ Ok h → LiesFor here o (ValueInstance condition e enum) h
+  value_in : (o : Object) (x : Sought) (v : Calculation) (h : Head) → answer (value_head (instance_setting here (parent here) o) o x v.condition) ≡ Ok h → LiesFor here o (ValueInstance v) h
   unfolding value_head
-  value_in o x condition e enum h z =
-      let b = goes_on met here bytes (holds (instance_setting here (parent here) o) condition) _ h z in
+  value_in o x v h z =
+      let b = goes_on met here bytes (holds (instance_setting here (parent here) o) v.condition) _ h z in
       by_condition b.first b.was b.gave
     where
-      by_condition : (there : Bool) → answer_of met here bytes (holds (instance_setting here (parent here) o) condition) ≡ Ok there → answer_of met here bytes (if there then Answer (calc o x) else Answer (heads.Absent None)) ≡ Ok h → LiesFor here o (ValueInstance condition e enum) h
+      by_condition : (there : Bool) → answer_of met here bytes (holds (instance_setting here (parent here) o) v.condition) ≡ Ok there → answer_of met here bytes (if there then Answer (calc o x) else Answer (heads.Absent None)) ≡ Ok h → LiesFor here o (ValueInstance v) h
       by_condition true was g = inr (o.stream, refl, calc_in o x h g)
-      by_condition false was g = nowhere here o (ValueInstance condition e enum) h was g
+      by_condition false was g = nowhere here o (ValueInstance v) h was g
 
   member_in : (o : Object) (x : Sought) (k : MemberKind) (h : Head) → IsHere d o x.before → met (head_node (parent here)) ≡ Ok (givens.Head (heads.Object o)) → Between o.stream (byte_of o.start) → answer (member_at here (parent here) o x k) ≡ Ok h → LiesFor here o k h
   unfolding member_at attribute_head
@@ -506,7 +506,7 @@ module _ (d : Description) (distinct : HasDistinctNames d) (met : Node → Resul
       let b = goes_on met here bytes (attribute_start (parent here) o x.before) _ h e in
       inr (o.stream, refl, attribute_in o.stream b.first (start_in (parent here) o x.before b.first apart asked begins b.was) h _ _ f b.gave)
   member_in o x (ParseInstance e io f) h apart asked begins z = instance_in o (origin_of o x) e io f h z
-  member_in o x (ValueInstance condition e enum) h apart asked begins z = value_in o x condition e enum h z
+  member_in o x (ValueInstance v) h apart asked begins z = value_in o x v h z
 
   -- the member of a name
   member_is : (t x : ℕ) (m : Sought) → answer (member_named d t x) ≡ Ok m → sought x 0 None (members_of d t) ≡ Some m
@@ -727,7 +727,7 @@ unmet_still : (met met' : Node → Result Given Fault) (bytes : List ℕ) (p : T
 unmet_still met met' bytes p o Parameter same is = absurd is
 unmet_still met met' bytes p o (Attribute f) same is = absurd is
 unmet_still met met' bytes p o (ParseInstance e io f) same is = same_answer met met' p bytes same (holds (instance_setting p (parent p) o) f.condition) false is
-unmet_still met met' bytes p o (ValueInstance condition e enum) same is = same_answer met met' p bytes same (holds (instance_setting p (parent p) o) condition) false is
+unmet_still met met' bytes p o (ValueInstance v) same is = same_answer met met' p bytes same (holds (instance_setting p (parent p) o) v.condition) false is
 
 unmet_at_still : (d : Description) (met met' : Node → Result Given Fault) (bytes : List ℕ) (p : Trail) (o : Object) (step : Option Step) → ((m : Node) (g : Given) → met m ≡ Ok g → met' m ≡ Ok g) → IsUnmetAt d met bytes p o step → IsUnmetAt d met' bytes p o step
 unmet_at_still d met met' bytes p o (Some (steps.Name x)) same is = (is.0, is.1, unmet_still met met' bytes p o is.0.kind same is.2)

@@ -192,7 +192,7 @@ module _ (met : Node → Result Given Fault) (here : Trail) (bytes : List ℕ) w
     calc_is : (d : Description) (p q : Trail) (c : Calc) (k : MemberKind) → answer_of met here bytes (calc_value d p q c k) ≡ Ok v → IsNoStream v
     unfolding calc_value
     calc_is d p q c Parameter h = parameter_is d p q c.member c.object c.object.origin h
-    calc_is d p q c (ValueInstance condition e enum) h = instance_is (instance_setting p q c.object) e enum h
+    calc_is d p q c (ValueInstance v) h = instance_is (instance_setting p q c.object) v.value v.enum h
     calc_is d p q c _ h = absurd (cc)
 
     calculated_is : (d : Description) (p q : Trail) (c : Calc) → answer_of met here bytes (calculated d p q c) ≡ Ok v → IsNoStream v

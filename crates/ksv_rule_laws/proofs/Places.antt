@@ -293,7 +293,7 @@ module _ (met : Node → Result Given Fault) (here : Trail) (bytes : List ℕ) (
       attribute_in o.stream b.first within.1 (start_in q o x.before b.first within b.was) h (origin_of o x) within.1 _ f b.gave
   member_in p q o x Parameter h within e = subst (IsHeadIn size) (ok_is (calc o x) h e) within
   member_in p q o x (ParseInstance e io f) h within z = instance_in (instance_setting p q o) within.1 h (origin_of o x) e io f within.1 z
-  member_in p q o x (ValueInstance condition e enum) h within z = calc_in (instance_setting p q o) within.1 h o x condition within z
+  member_in p q o x (ValueInstance v) h within z = calc_in (instance_setting p q o) within.1 h o x v.condition within z
 
   member_head_in : (d : Description) (p q : Trail) (x : ℕ) (h : Head) → answer (member_head d p q x) ≡ Ok h → IsHeadIn size h
   unfolding member_head
@@ -450,7 +450,7 @@ module _ (met : Node → Result Given Fault) (here : Trail) (bytes : List ℕ) (
   calc_value_in : (d : Description) (p q : Trail) (c : Calc) (k : MemberKind) (v : Value) → IsObjectIn c.object → answer (calc_value d p q c k) ≡ Ok v → IsValueIn size v
   unfolding calc_value
   calc_value_in d p q c Parameter v within h = parameter_in d p q c.member c.object c.object.origin v within.2 h
-  calc_value_in d p q c (ValueInstance condition e enum) v within h = instance_value_in (instance_setting p q c.object) e enum v within.1 h
+  calc_value_in d p q c (ValueInstance i) v within h = instance_value_in (instance_setting p q c.object) i.value i.enum v within.1 h
   calc_value_in d p q c _ v within h = absurd (cc)
 
   calculated_in : (d : Description) (p q : Trail) (c : Calc) (v : Value) → IsObjectIn c.object → answer (calculated d p q c) ≡ Ok v → IsValueIn size v

@@ -324,7 +324,7 @@ module _ (met : Node → Result Given Fault) (here : Trail) (bytes : List ℕ) w
           let b = goes_on met here bytes (attribute_start q o m.before) _ h e' in
           attribute_read d h (origin_of o m) f (field (Attribute f) f is refl) refl _ o.stream b.first b.gave
       by_kind (ParseInstance at io f) is e' = instance_read d h (origin_of o m) f (field (ParseInstance at io f) f is refl) refl _ at io e'
-      by_kind (ValueInstance condition v enum) is e' = value_read d h o m (calculated (ValueInstance condition v enum) is tt) object _ condition e'
+      by_kind (ValueInstance v) is e' = value_read d h o m (calculated (ValueInstance v) is tt) object _ v.condition e'
 
   -- ---- heads
 

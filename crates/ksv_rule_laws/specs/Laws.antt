@@ -172,7 +172,7 @@ IsObjectRead d (Some g) t = IsReadBy d g.member (IsObjectOf t g.case)
 -- a member whose value isn't read at a place of its own
 abbrev pub IsCalculated : MemberKind → Type 0
 IsCalculated Parameter = Unit {0}
-IsCalculated (ValueInstance condition e enum) = Unit {0}
+IsCalculated (ValueInstance v) = Unit {0}
 IsCalculated _ = ⊥
 
 -- the member of this place of a type is such a one
@@ -365,7 +365,7 @@ pub record IsHeld (d : Description) (bytes : List ℕ) (met : Node → Result Gi
 -- the condition of an instance of an object, evaluated where the object begins, is false
 abbrev pub IsUnmet : (Node → Result Given Fault) → List ℕ → Trail → Object → MemberKind → Type 0
 IsUnmet met bytes p o (ParseInstance e io f) = answer_of met p bytes (holds (instance_setting p (parent p) o) f.condition) ≡ Ok false
-IsUnmet met bytes p o (ValueInstance condition e enum) = answer_of met p bytes (holds (instance_setting p (parent p) o) condition) ≡ Ok false
+IsUnmet met bytes p o (ValueInstance v) = answer_of met p bytes (holds (instance_setting p (parent p) o) v.condition) ≡ Ok false
 IsUnmet met bytes p o _ = ⊥
 
 -- this step of an object leads to such an instance

@@ -146,7 +146,7 @@ read_gives : (n : ℕ) (k : MemberKind) → kind_wants k ≤ n → Gives (λ f. 
 read_gives n (Attribute f) h = h
 read_gives n (ParseInstance e io f) h = omega arith
 read_gives n Parameter h = tt
-read_gives n (ValueInstance c e enum) h = tt
+read_gives n (ValueInstance v) h = tt
 
 field_gives : (d : Description) (r : MemberRef) → Gives (λ f. field_wants f ≤ all_wants d) (field_of d r)
 unfolding field_of
@@ -390,7 +390,7 @@ unfolding member_at
 member_nodes p q o x Parameter = tt
 member_nodes p q o x (Attribute f) = attribute_head_nodes p q o x f
 member_nodes p q o x (ParseInstance e io f) = nodes_more (kind_wants (ParseInstance e io f)) _ _ (omega arith) (instance_head_nodes _ _ e io f)
-member_nodes p q o x (ValueInstance condition e enum) = nodes_more (condition_wants condition) _ _ (omega arith) (value_head_nodes _ o x condition)
+member_nodes p q o x (ValueInstance v) = nodes_more (condition_wants v.condition) _ _ (omega arith) (value_head_nodes _ o x v.condition)
 
 member_head_nodes : (d : Description) (p q : Trail) (x : ℕ) → NodesAtMost (2 + all_wants d) (member_head d p q x)
 unfolding member_head
@@ -515,7 +515,7 @@ parameter_value_nodes d p q member o (Some g) = argument_value_nodes d p q membe
 calc_value_nodes : (d : Description) (p q : Trail) (c : Calc) (k : MemberKind) → kind_wants k ≤ all_wants d → NodesAtMost (all_wants d) (calc_value d p q c k)
 unfolding calc_value
 calc_value_nodes d p q c Parameter le = parameter_value_nodes d p q c.member c.object c.object.origin
-calc_value_nodes d p q c (ValueInstance condition e enum) le = nodes_more (most_wants e) _ _ (omega arith) (instance_value_nodes _ e enum)
+calc_value_nodes d p q c (ValueInstance v) le = nodes_more (most_wants v.value) _ _ (omega arith) (instance_value_nodes _ v.value v.enum)
 calc_value_nodes d p q c (Attribute f) le = tt
 calc_value_nodes d p q c (ParseInstance e io f) le = tt
 

@@ -54,7 +54,7 @@ abbrev pub kind_wants : MemberKind → ℕ
 kind_wants Parameter = 0
 kind_wants (Attribute f) = field_wants f
 kind_wants (ParseInstance e io f) = most_wants e + (condition_wants io + field_wants f)
-kind_wants (ValueInstance condition e enum) = condition_wants condition + most_wants e
+kind_wants (ValueInstance v) = condition_wants v.condition + most_wants v.value
 
 abbrev pub type_wants : TypeOfObjects → ℕ
 type_wants t = sum_by (λ m. kind_wants m.kind) t.members

@@ -67,7 +67,7 @@ field_of d r = do
 -- ---- parameters
 
 abbrev pub is_parameter : MemberOfType → Bool
-is_parameter m = elim m.kind [ Parameter ↦ true | Attribute f ↦ false | ParseInstance e io f ↦ false | ValueInstance c e enum ↦ false ]
+is_parameter m = elim m.kind [ Parameter ↦ true | Attribute f ↦ false | ParseInstance e io f ↦ false | ValueInstance v ↦ false ]
 
 -- how many parameters are among the first of some members: this many arguments are those of others
 unfoldable pub parameters_before : ℕ → List MemberOfType → ℕ

@@ -204,7 +204,7 @@ unfoldable pub member_at : Trail → Trail → Object → Sought → MemberKind 
 member_at p q o x Parameter = Answer (calc o x)
 member_at p q o x (Attribute f) = attribute_head p q o x f
 member_at p q o x (ParseInstance e io f) = instance_head (instance_setting p q o) (origin_of o x) e io f
-member_at p q o x (ValueInstance condition e enum) = value_head (instance_setting p q o) o x condition
+member_at p q o x (ValueInstance v) = value_head (instance_setting p q o) o x v.condition
 
 -- the member x of q, which is p
 unfoldable pub member_head : Description → Trail → Trail → ℕ → Rule Head

@@ -174,7 +174,7 @@ parameter_value d p q member o (Some g) = argument_value d p q member o g
 
 unfoldable pub calc_value : Description → Trail → Trail → Calc → MemberKind → Rule Value
 calc_value d p q c Parameter = parameter_value d p q c.member c.object c.object.origin
-calc_value d p q c (ValueInstance condition e enum) = instance_value (instance_setting p q c.object) e enum
+calc_value d p q c (ValueInstance v) = instance_value (instance_setting p q c.object) v.value v.enum
 calc_value d p q c _ = raise kinds.NoSuch
 
 -- the value of a member that is calculated, at the path p, of the object q

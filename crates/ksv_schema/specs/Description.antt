@@ -182,7 +182,7 @@ abbrev pub in_kind : Context → MemberKind → MemberKind
 in_kind c Parameter = Parameter
 in_kind c (Attribute f) = Attribute (in_field c f)
 in_kind c (ParseInstance place stream f) = ParseInstance (in_tree c place) (option_map (in_tree c) stream) (in_field c f)
-in_kind c (ValueInstance condition value enum) = ValueInstance (option_map (in_tree c) condition) (in_tree c value) enum
+in_kind c (ValueInstance v) = ValueInstance (record { condition = option_map (in_tree c) v.condition; value = in_tree c v.value; enum = v.enum })
 
 -- ---- a description
 

@@ -114,7 +114,7 @@ parse_instance h line es =
 unfoldable pub value_instance : Home → ℕ → List Pair → Reading MemberKind
 value_instance h line es =
     also (together kinds.Value line None es)
-    (made (λ p. desc.ValueInstance p.0.0 p.0.1 p.1)
+    (made (λ p. desc.ValueInstance (record { condition = p.0.0; value = p.0.1; enum = p.1 }))
     (both (both (perhaps (expression h sites.Condition) (entry_at (codes "if") es)) (must line (expression h sites.Value) (entry_at (codes "value") es))) (own_enum h es)))
 
 -- an instance without a place and a value is unsupported, whatever its keys are together
