@@ -47,6 +47,12 @@ def module_of(path):
     return re.sub(r"(^|/)(lib|main|mod)$", "", path[len("src/") : -len(".rt")]).replace("/", "::")
 
 
+def home_of(path, text, owner):
+    """The module of a type for which a file has an `impl`, as the prover names its methods: the file's own, or the one that the type is from."""
+    brought = re.search(rf"^use crate::((?:\w+::)*\w+)::(?:\{{[^}}]*\b{owner}\b[^}}]*\}}|{owner});", text, re.M)
+    return brought[1] if brought else module_of(path)
+
+
 def owner_of(block):
     """What the prover calls an `impl`: its type, and its trait if it has one, as `IntegerFromU64`."""
     parts = re.match(r"impl(?:<.*?>)? (?:(.*) for )?(\w+)", block)
@@ -84,7 +90,9 @@ def functions_in(path, text):
         body = body_of(rows, at, indent)
         if body:
             in_trait = bool(indent) and (" for " in block or not block.startswith("impl"))
-            full = "::".join(filter(None, (module_of(path), owner_of(block) if indent else "", name)))
+            owner = owner_of(block) if indent else ""
+            home = home_of(path, text, owner) if owner and " for " not in block else module_of(path)
+            full = "::".join(filter(None, (home, owner, name)))
             in_cycle = any("cycle(" in it for it in marks)
             found.append(Function(full, path, at, *body, mark == "pub " and not in_trait, body[0] == body[1], in_trait or in_cycle))
         marks = []

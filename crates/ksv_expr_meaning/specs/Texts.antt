@@ -1,6 +1,6 @@
 -- Texts of expressions: what their methods mean. A text is the bytes of its UTF-8; `chars` are the characters that they spell.
 -- The methods are those of the Kaitai Struct User Guide; the limit on a text's size is this project's own.
-use Rattle.std.specs.Prelude.{ℕ, ◌+◌, ◌-◌, ◌*◌, Bool, false, ◌&&◌, nat_lt, nat_le, ℤ, pos, negsuc, neg_ℤ, List, [], ◌∷◌, ◌++◌, length, take, drop, reverse, Option, Some, None, if◌then◌else◌, ◌==◌, Result, Ok, Err}
+use Rattle.std.specs.Prelude.{ℕ, ◌+◌, ◌-◌, Bool, ◌&&◌, nat_le, ℤ, pos, negsuc, neg_ℤ, List, [], ◌∷◌, ◌++◌, length, take, drop, reverse, Option, Some, None, if◌then◌else◌, ◌==◌, Result, Ok, Err}
 use Rattle.std.specs.Str.Parse.{digits_value}
 use Rattle.ksv_basics.specs.Numerals.{is_numeral}
 use Rattle.ksv_expr_value.specs.declared.fault.FaultKind.{FaultKind}

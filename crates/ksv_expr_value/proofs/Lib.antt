@@ -2,3 +2,4 @@
 pub mod Paths
 pub mod Halves
 pub mod Encodings
+pub mod Room

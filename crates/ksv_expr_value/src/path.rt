@@ -1,5 +1,5 @@
 //! Where a value is in a described file: the steps that lead to it from the root.
-ghost use Rattle.std.specs.Prelude.{◌≡◌, ℕ, ◌+◌, ◌<◌, ◌≤◌, ◌++◌, [], ◌∷◌, length, reverse, true, IsTrue, IfOk, IfSome, IsSome, ◌↔◌, slice_get};
+ghost use Rattle.std.specs.Prelude.{◌≡◌, ℕ, ◌+◌, ◌<◌, ◌≤◌, ◌++◌, [], ◌∷◌, length, reverse, true, IsTrue, IfOk, IfSome, IsSome, is_some, ◌↔◌, slice_get};
 ghost use Rattle.ksv_expr_value.specs.Trail.{Trail, fits, root, child, parent, last, holder, list_holder, step_fits, InRange};
 ghost use Rattle.std.specs.Hash as fed;
 ghost use Rattle.ksv_expr_value.specs.contracts.step.StepPartialEq.TheImpl.Laws.{laws-law as step_partial_laws};
@@ -169,6 +169,60 @@ impl Path {
             return Ok(None);
         }
         self.child(alloc, Step::Index(index))
+    }
+
+    /// Whether the path to a member fits.
+    #[inline(always)]
+    fn has_member(&self, _name: u32) -> bool
+        ensures { result ≡ is_some (child self.now (Step.Name _name)) }
+    {
+        self.len() < Path::MAX_STEPS
+    }
+
+    /// Whether the path to an element fits.
+    #[inline(always)]
+    fn has_element(&self, index: u32) -> bool
+        ensures { result ≡ is_some (child self.now (Step.Index index)) }
+    {
+        index < Path::MAX_INDEX && self.len() < Path::MAX_STEPS
+    }
+
+    /// Whether the path one step further fits.
+    #[inline(always)]
+    pub fn has_part(&self, step: Step) -> bool
+        ensures { result ≡ is_some (child self.now step) }
+    {
+        match step {
+            Step::Name(name) => self.has_member(name),
+            Step::Index(index) => self.has_element(index),
+        }
+    }
+
+    /// Whether the path to a member of what is above fits; the path above has a step less.
+    #[inline(always)]
+    fn has_member_beside(&self, _name: u32) -> bool
+        ensures { result ≡ is_some (child (parent self.now) (Step.Name _name)) }
+    {
+        true
+    }
+
+    /// Whether the path to an element of what is above fits.
+    #[inline(always)]
+    fn has_element_beside(&self, index: u32) -> bool
+        ensures { result ≡ is_some (child (parent self.now) (Step.Index index)) }
+    {
+        index < Path::MAX_INDEX
+    }
+
+    /// Whether the path to a part of what is above fits.
+    #[inline(always)]
+    pub fn has_part_beside(&self, step: Step) -> bool
+        ensures { result ≡ is_some (child (parent self.now) step) }
+    {
+        match step {
+            Step::Name(name) => self.has_member_beside(name),
+            Step::Index(index) => self.has_element_beside(index),
+        }
     }
 }
 

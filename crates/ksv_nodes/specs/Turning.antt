@@ -12,8 +12,8 @@ use Rattle.ksv_memo_rules.specs.Slots.{lent}
 use Rattle.ksv_expr_value.specs.declared.value.Value.{Value}
 use Rattle.ksv_nodes.specs.declared.node.Node.{Node}
 use Rattle.ksv_nodes.specs.declared.given.Given.{Given}
-use Rattle.ksv_nodes.specs.declared.turn.Found.{Found}
-use Rattle.ksv_nodes.specs.declared.turn.Found.TheVariants as founds
+use Rattle.ksv_nodes.specs.declared.turn.readings.Found.{Found}
+use Rattle.ksv_nodes.specs.declared.turn.readings.Found.TheVariants as founds
 use Rattle.ksv_nodes.specs.declared.turn.Halt.{Halt}
 use Rattle.ksv_nodes.specs.declared.turn.Halt.TheVariants as halts
 use Rattle.ksv_nodes.specs.Reading.{Look, look}

@@ -1,7 +1,7 @@
 //! Nodes of a described file: what can be asked of one, what is answered, and how a node's rule reads the bytes and
 //! goes on with the replies to its questions.
 //!
-//! A rule is a plan (`ksv_plan`) of two kinds of question: other nodes, and readings of the bytes. Nothing here
+//! A rule is a plan (`ksv_basics`) of two kinds of question: other nodes, and readings of the bytes. Nothing here
 //! depends on descriptions.
 #![tactic(auto)]
 
@@ -20,4 +20,5 @@ pub use laws::{
 };
 pub use node::{Node, NodeKind};
 pub use search::first_in_parts;
-pub use turn::{Found, Halt, Turn};
+pub use turn::readings::Found;
+pub use turn::{Halt, Turn};

@@ -39,8 +39,8 @@ use Rattle.ksv_nodes.specs.declared.given.Object.{Object}
 use Rattle.ksv_nodes.specs.declared.given.List as lists
 use Rattle.ksv_nodes.specs.declared.given.Head.{Head}
 use Rattle.ksv_nodes.specs.declared.given.Head.TheVariants as heads
-use Rattle.ksv_nodes.specs.declared.turn.Found.{Found}
-use Rattle.ksv_nodes.specs.declared.turn.Found.TheVariants as founds
+use Rattle.ksv_nodes.specs.declared.turn.readings.Found.{Found}
+use Rattle.ksv_nodes.specs.declared.turn.readings.Found.TheVariants as founds
 use Rattle.ksv_nodes.specs.Reading.{Seen, look}
 use Rattle.ksv_nodes.specs.Rule.{Rule, Raised, Here, There, Of, See, in_path, ask_head, ask_value, ask_end, ask_rest, part, reach, finish, done, peek, find}
 use Rattle.ksv_nodes.specs.Truth.{answer_of, asks_of, with_given, with_seen, behind_given, behind_seen}

@@ -33,8 +33,8 @@ use Rattle.ksv_nodes.specs.declared.given.Head.{Head}
 use Rattle.ksv_nodes.specs.declared.given.Head.TheVariants as heads
 use Rattle.ksv_nodes.specs.declared.given.Ended.{Ended}
 use Rattle.ksv_nodes.specs.declared.given.Rested.{Rested}
-use Rattle.ksv_nodes.specs.declared.turn.Found.{Found}
-use Rattle.ksv_nodes.specs.declared.turn.Found.TheVariants as founds
+use Rattle.ksv_nodes.specs.declared.turn.readings.Found.{Found}
+use Rattle.ksv_nodes.specs.declared.turn.readings.Found.TheVariants as founds
 use Rattle.ksv_nodes.specs.Numbers.{node_bound}
 use Rattle.ksv_nodes.specs.Reading.{reach_file, reach_within, finish_of, peek_at, first_at, end_in, found_none, found_from, find_at}
 use Rattle.ksv_nodes.specs.Rule.{Rule, part, in_end, in_rest, ask_head, ask_end, ask_rest, head_node, end_node, rest_node, reach, finish, done, find}

@@ -22,8 +22,8 @@ use Rattle.ksv_nodes.specs.declared.given.Origin.{Origin}
 use Rattle.ksv_nodes.specs.declared.given.List as lists
 use Rattle.ksv_nodes.specs.declared.given.Head.{Head}
 use Rattle.ksv_nodes.specs.declared.given.Head.TheVariants as heads
-use Rattle.ksv_nodes.specs.declared.turn.Found.{Found}
-use Rattle.ksv_nodes.specs.declared.turn.Found.TheVariants as founds
+use Rattle.ksv_nodes.specs.declared.turn.readings.Found.{Found}
+use Rattle.ksv_nodes.specs.declared.turn.readings.Found.TheVariants as founds
 use Rattle.ksv_nodes.specs.Numbers.{node_bound}
 use Rattle.ksv_nodes.specs.Rule.{Rule, ask_head, head_node, reach, finish, done, find}
 use Rattle.ksv_nodes.specs.Truth.{answer_of}

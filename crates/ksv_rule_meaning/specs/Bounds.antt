@@ -47,8 +47,8 @@ use Rattle.ksv_nodes.specs.declared.given.List as lists
 use Rattle.ksv_nodes.specs.declared.given.Head.{Head}
 use Rattle.ksv_nodes.specs.declared.given.Head.TheVariants as heads
 use Rattle.ksv_nodes.specs.declared.given.Ended.{Ended}
-use Rattle.ksv_nodes.specs.declared.turn.Found.{Found}
-use Rattle.ksv_nodes.specs.declared.turn.Found.TheVariants as founds
+use Rattle.ksv_nodes.specs.declared.turn.readings.Found.{Found}
+use Rattle.ksv_nodes.specs.declared.turn.readings.Found.TheVariants as founds
 use Rattle.ksv_nodes.specs.Rule.{Rule, Here, finish, done, reach, peek, find}
 use Rattle.ksv_rule_meaning.specs.Described.{condition_wants, repeat_wants, extent_wants, arguments_wants, content_wants, choice_wants, field_wants, kind_wants, type_wants, most_asks, resumed, step_of}
 use Rattle.ksv_rule_meaning.specs.Fields.{members_of, behind, Sought, sought, in_sought, member_named, last_attribute, read_by, in_kind, kind_of, field_of, parameters_before}

@@ -6,7 +6,7 @@ ghost use Rattle.ksv_bytes.specs.Edits.{file_limit};
 ghost use Rattle.ksv_expr_tree.specs.Tree.{view};
 ghost use Rattle.ksv_desc.specs.Pieces.{plain_content, plain_extent, plain_terminator, plain_field};
 ghost use Rattle.ksv_nodes.specs.Turning.{Runs, StandsBelow};
-ghost use Rattle.ksv_nodes.specs.declared.turn.Found.TheVariants.{Missing};
+ghost use Rattle.ksv_nodes.specs.declared.turn.readings.Found.TheVariants.{Missing};
 ghost use Rattle.ksv_rule_meaning.specs.Heads.{leaf, leaf_to_end, terminated_at, terminated, run_of, sized_leaf, bytes_at, sized_object, object_at, content_at, unchosen_at, chosen_at, shape_at};
 ghost use Rattle.ksv_rules.specs.Members.{plain_chosen};
 
