@@ -1,10 +1,20 @@
 //! A session of line commands over a file and its description.
 //!
-//! [`describe`] reads the text of a description, and answers the description or the reason why the program stops;
+//! [`describe`] reads the text of a description, and returns the description or the reason why the program stops.
 //! [`Session::line`] answers one line, and [`run`] serves a whole session over a [`Source`] and a [`Sink`]. The headline that
-//! [`run`] is proved to meet is in `specs/Runs` of ksv_session. Beside these two, this crate only re-exports what is below it:
-//! lines and devices (ksv_lines), descriptions (ksv_schema), and the session (ksv_session), with the code of the rules
-//! (ksv_rules).
+//! [`run`] is proved to meet is in `specs/Runs` of ksv_session.
+//!
+//! [`Session`] and [`run`] are those of ksv_session, run by the code of the rules (ksv_rules). The rest is re-exported from
+//! below: lines and devices (ksv_lines), descriptions (ksv_desc), and replies (ksv_session).
+//!
+//! Modules:
+//!
+//! - `description`: reads a description
+//! - `session`: the session of the program, over the code of the rules
+//!
+//! Definitions (`specs/`):
+//!
+//! - `Accepted`: which texts describe files
 #![tactic(auto)]
 
 mod description;

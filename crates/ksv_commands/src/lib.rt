@@ -1,6 +1,17 @@
 //! Command lines: what each means.
 //!
 //! A line is nothing, a command with its values, or refused. What a command does to a session, and each reply, is in ksv_session.
+//!
+//! Modules:
+//!
+//! - `command`: reads a line: nothing, a command with its values, or a refusal
+//! - `number`: numbers on a command line
+//! - `refusal`: why a line is no command
+//!
+//! Definitions (`specs/`):
+//!
+//! - `Commands`: what a line means, with the checks in their order
+//! - `Numbers`: numbers of a command line, in decimal
 #![tactic(auto)]
 
 mod command;

@@ -1,8 +1,11 @@
 //! Values of a described file, and expressions over them: their text, their tree and their evaluation.
 //!
-//! The parser (ksv_expr_syntax) and the evaluation (ksv_expr_eval) don't depend on each other, so that what only
-//! evaluates doesn't wait for the parser's proof. The tests call directly what expressions depend on: paths, integers, bytes
-//! in parts, encodings, refused texts.
+//! This crate only re-exports. The parser (ksv_expr_syntax) and the evaluation (ksv_expr_eval) don't depend on each other,
+//! so a crate that only evaluates doesn't wait for the parser's proof. The tests here call what expressions depend on.
+//!
+//! Modules:
+//!
+//! - `expressions`: tests of paths, integers, bytes in parts, encodings, faults and refused texts
 #![tactic(auto)]
 
 #[cfg(test)]

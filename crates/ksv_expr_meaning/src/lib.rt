@@ -1,4 +1,31 @@
 //! The meaning of expressions: what they ask for, what they get, and their values over any answers.
+//!
+//! Modules:
+//!
+//! - `laws`: the laws of evaluation
+//! - `method`: the methods of values
+//! - `want`: what an expression asks for, and what it gets
+//!
+//! Definitions (`specs/`):
+//!
+//! - `Arithmetic`: operators of integers in mathematical terms: division by its equation, bits one by one
+//! - `Asked`: what expressions ask, and the plans of single questions
+//! - `Evaluation`: the value over a map from wants to answers, and the evaluation on replies
+//! - `Heard`: what replies mean
+//! - `Integers`: the operators of integers
+//! - `Meaning`: what an expression means: what it asks, and what it does with the answers
+//! - `Methods`: the names of methods
+//! - `Operators`: operators and methods that ask nothing
+//! - `Replying`: a map that answers as some replies do
+//! - `Texts`: the methods of texts
+//!
+//! Lemmas (`proofs/`):
+//!
+//! - `Bits`: the bits of two's complement in 128 bits
+//! - `Division`: floored quotients and remainders by a divisor below 0
+//! - `Truths`: the laws of evaluation
+//! - `Wants`: how many wants an expression has
+//! - `Whole`: floored division, and bits
 #![tactic(auto)]
 
 mod laws;

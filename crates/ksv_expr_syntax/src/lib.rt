@@ -1,8 +1,46 @@
 //! The expression language of a description: its tokens, its grammar, and the trees that texts spell.
 //!
 //! `parse` reads an expression and `parse_type` a type with its arguments, both within two limits: 256 parts, and
-//! 32 nested levels. What a text spells is defined in specs/ apart from the code: specs/Tokens.antt defines what a
-//! token is and which one is the longest at a place, specs/Grammar.antt which tokens are which tree.
+//! 32 nested levels. What a text spells is defined apart from the code: `specs/Tokens` defines what a token is
+//! and which one is the longest at a place, `specs/Grammar` which tokens are which tree.
+//!
+//! Modules:
+//!
+//! - `cursor`: a place among tokens, and the steps forward from it
+//! - `fault`: why a text is no expression
+//! - `laws`: the laws of the language
+//! - `lexer`: cuts a text into tokens, each as long as possible
+//! - `make`: expressions as the parser makes them, each with its plain tree
+//! - `operator`: operators: which tokens they are, and how tightly they bind
+//! - `outcome`: expressions from the results of reading their parts, a fault included
+//! - `parser`: reads an expression from front to back, one token ahead
+//! - `read`: the crate's two readers: `parse` and `parse_type`
+//! - `token`: tokens of the expression language
+//!
+//! Definitions (`specs/`):
+//!
+//! - `Code`: the results of the parser's functions, for private contracts
+//! - `Cutting`: how the lexer finds the longest token
+//! - `Faults`: the codes and texts of refusals
+//! - `Grammar`: which tokens are which tree, one case a rule
+//! - `Lexemes`: tokens as plain data
+//! - `Reading`: reading one token ahead, with a bound on nested calls
+//! - `Text`: what a text spells: its tokens, and their tree within the limits
+//! - `Tokens`: what a token is, which is the longest at a place, and the tokens of a text
+//!
+//! Lemmas (`proofs/`):
+//!
+//! - `Complete`: what is spelled is read
+//! - `Exits`: what each exit of the parser's functions means for reading
+//! - `Flow`: reading as equations without the bound on calls
+//! - `Lexing`: facts about cutting a text
+//! - `Longest`: what is cut is the longest token
+//! - `Loops`: the invariants of the parser's loops
+//! - `Same`: any bound that is large enough reads the same
+//! - `Scan`: cutting a text from front to back gives its tokens
+//! - `Sound`: what is read is spelled
+//! - `Steps`: what follows from a step of reading that found something
+//! - `Theorem`: tokens spell one tree, the one that is read
 #![tactic(auto)]
 
 mod cursor;

@@ -1,4 +1,37 @@
 //! Values of a described file: paths, integers, texts, encodings, values and faults.
+//!
+//! Modules:
+//!
+//! - `context`: the context in which an expression is evaluated
+//! - `encoding`: the encodings of texts
+//! - `fault`: kinds of faults, and the path of each
+//! - `integer`: integers of expressions, from -2^63 to 2^64 - 1
+//! - `laws`: the laws of paths
+//! - `parts`: bytes that are lent in two slices
+//! - `path`: paths: the steps from the root to something in a described file
+//! - `place`: places in a described file
+//! - `step`: one step of a path
+//! - `steps`: the steps of a path
+//! - `text`: texts of expressions
+//! - `value`: values of a described file
+//!
+//! Definitions (`specs/`):
+//!
+//! - `Bytes`: bytes that are lent in two slices
+//! - `Encodings`: the encodings of texts: ASCII, of bytes below 128, and UTF-8
+//! - `Exact`: a lemma that a reader may skip: paths that `==` finds equal are the same
+//! - `Faults`: the names of faults, as replies write them
+//! - `Kept`: where the steps of a path are: in an array, or on the heap
+//! - `Numbers`: numbers of paths, with lemmas that a reader may skip
+//! - `Range`: the range of expressions' integers
+//! - `Setting`: the context in which an expression is evaluated
+//! - `Trail`: paths as contracts see them: their steps, the last one first
+//!
+//! Lemmas (`proofs/`):
+//!
+//! - `Encodings`: which bytes are texts
+//! - `Halves`: bytes that are cut in two, compared
+//! - `Paths`: steps in the code's order and in that of the definitions
 #![tactic(auto)]
 
 mod context;

@@ -1,7 +1,32 @@
-//! Lines, the words on them, the devices that they come from and go to, and the program's messages: all that is
-//! independent of descriptions.
+//! Lines, the words on them, the devices that they come from and go to, and the program's messages. Nothing here depends
+//! on descriptions.
 //!
-//! How bytes are cut into lines and words is defined in `specs/Lines.antt`, and a device is a [`Source`] or a [`Sink`].
+//! How bytes are cut into lines and words is defined in `specs/Lines`. A device is a [`Source`] or a [`Sink`].
+//!
+//! Modules:
+//!
+//! - `command_line`: the program's arguments, by `clap`
+//! - `device`: `Source` and `Sink`: what a session reads from and writes to
+//! - `digits`: the bytes of hexadecimal digits on a line
+//! - `line`: a line as it is gathered
+//! - `memory`: a device over memory
+//! - `standard`: devices over the readers and writers of std
+//! - `stop`: the program's messages and exit statuses
+//! - `words`: the words of a line
+//!
+//! Definitions (`specs/`):
+//!
+//! - `Digits`: the bytes of hexadecimal digits on a line
+//! - `Lines`: how bytes are cut: an input into lines, a line into words
+//! - `Messages`: the program's message where it stops, and its exit status
+//! - `Words`: the program's arguments as `clap` reads them
+//!
+//! Lemmas (`proofs/`):
+//!
+//! - `CommandLineLemmas`: the command with one option and two arguments, and its matches
+//! - `CutLemmas`: bytes that are cut into parts, piece by piece
+//! - `WordLemmas`: the words of a text, one after the other
+//! - `Written`: texts that are written one after the other
 #![tactic(auto)]
 
 mod command_line;

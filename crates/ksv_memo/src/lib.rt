@@ -2,9 +2,54 @@
 //!
 //! [`Rules`] define what a node does next after some replies: it needs the answer of another node, or it is done.
 //! An [`Engine`] runs a node by them on an explicit stack and never runs a node twice while its answer is kept.
-//! Each of its answers is what evaluation from nothing gives (`specs/Evaluation.antt`). After an edit it forgets the
-//! nodes with a touched use in their tree, and no others (`specs/Touched.antt`). It doesn't depend on what nodes and
-//! answers mean.
+//! Each of its answers is what evaluation from nothing gives (`specs/Evaluation` of ksv_memo_rules). After an edit it
+//! forgets the nodes with a touched use in their tree, and no others (`specs/Touched` of ksv_memo_rules). It doesn't
+//! depend on what nodes and answers mean.
+//!
+//! Modules:
+//!
+//! - `engine`: `Engine`, the public face
+//! - `laws`: the laws of all rules
+//! - `layout`: a frame for each open node, with what it asked and used
+//! - `machine`: one turn, what follows it, the loop, and the look-up before it
+//! - `slots`: the map from node to slot, each look counted; `call`, the only caller of `next`
+//! - `table`: the table of kept and open nodes
+//! - `uses`: uses, each once
+//!
+//! Definitions (`specs/`):
+//!
+//! - `Answers`: the answer to a question, and the turns that are counted for it
+//! - `Calls`: what one call of the rules does to frames and the count of turns, for private contracts
+//! - `Emptying`: how slots that are taken are emptied, for private contracts
+//! - `Layout`: how the table keeps nodes, and the lists that this stands for, for private contracts
+//! - `Moves`: what each call of the table does to slots and frames, for private contracts
+//! - `Near`: how few looks an overwrite takes
+//! - `Nodes`: the table as the machine sees it, for private contracts
+//! - `Open`: the open nodes, as contracts see them
+//! - `Running`: the invariants of the machine, for private contracts
+//! - `Slotted`: the slots as contracts see them, for private contracts
+//! - `Sweep`: what an edit takes, entry by entry, for private contracts
+//!
+//! Lemmas (`proofs/`):
+//!
+//! - `Change`: what is still right when the bytes change
+//! - `Changing`: links and frames after one slot has changed
+//! - `Emptying`: slots are emptied one after another
+//! - `Finding`: what a look-up in the map says of the slots
+//! - `Forgetting`: what forgetting takes is what an edit takes, and the rest is right
+//! - `Knowing`: which nodes are kept or open, read from the slots
+//! - `Laying`: the lists of kept and open nodes when one slot changes
+//! - `Moves`: what each move of the machine does to the invariants
+//! - `Once`: the members of a list, each once
+//! - `Places`: an entry among others is as one after them
+//! - `Questions`: what a question keeps, as sets
+//! - `Resting`: frames when no node is open
+//! - `Sums`: sums over different slots
+//! - `Sweeping`: the emptied slots are those of the entries that an edit takes
+//! - `Tabling`: what a look-up says of kept and open nodes
+//! - `Taking`: what the table's moves mean for a question
+//! - `Topping`: the last open node: run, kept, taken out
+//! - `Turns`: tests and moves on kept and open nodes, and the measure
 #![tactic(auto)]
 
 mod engine;

@@ -2,7 +2,54 @@
 //!
 //! A kept node has a slot. [`Links`] hold, for each slot, the slots that its node asked and its users, its uses of the
 //! bytes, and for each page of 64 bytes the uses that meet it. So an overwrite finds what it touches, and all that
-//! asked it, without a look at anything else. They know nothing of nodes and answers.
+//! asked it, without a look at anything else. Links know nothing of nodes and answers.
+//!
+//! Modules:
+//!
+//! - `board`: lists, and notes of where an owner's items are in them: `link` and `unlink`
+//! - `cells`: a list, each look counted
+//! - `links`: `Links`, the public face
+//! - `lists`: lists of pins, each found by its number
+//! - `marks`: which slots are kept, and which are to be taken
+//! - `parts`: users, uses and pages of each slot; the steps of forgetting, taking and keeping
+//! - `pins`: one row of pins, the first three in the row itself
+//! - `rows`: the rows of a shelf, of which short ones take no memory of their own
+//! - `shelf`: rows of pins, each look counted
+//! - `used`: the uses of each slot, each look counted
+//!
+//! Definitions (`specs/`):
+//!
+//! - `Forgetting`: what forgetting does to the links, for private contracts
+//! - `Linked`: rows of pins that lead to each other, for private contracts
+//! - `Links`: the links as the engine sees them, and what a change reaches along them
+//! - `Marking`: which slots are kept, and which wait to be taken, for private contracts
+//! - `Placed`: the pins of a row and the uses of a slot as lists, for private contracts
+//! - `Shelved`: rows of items, for private contracts
+//! - `Touching`: which pages of 64 bytes a use meets
+//!
+//! Lemmas (`proofs/`):
+//!
+//! - `Adding`: one more note, and its item
+//! - `Clearing`: a row that is shortened from its end
+//! - `Closing`: what is marked is what has to go
+//! - `Counting`: users of slots that go are no more than what these slots asked
+//! - `Counts`: how many notes name a list after `link` and `unlink`
+//! - `Edits`: what each call on rows of pins does
+//! - `Few`: no list has more items than notes name it
+//! - `Grids`: rows of pins as functions; what a removal leaves
+//! - `Hits`: why a mark is right
+//! - `Keeping`: the links stay whole when a slot is taken or kept
+//! - `Mark`: one more mark
+//! - `Members`: members of lists of slots
+//! - `More`: marks one after another
+//! - `Moving`: long rows have lists of their own
+//! - `Padding`: more empty rows at the end
+//! - `Reaching`: the links stay whole when empty rows are added
+//! - `Removal`: a note and its item are taken out
+//! - `Spreading`: the users of marked slots, one slot after another
+//! - `Tallies`: the items of pages are no more than the pages that uses meet
+//! - `Touches`: a use that is touched meets a page that the overwrite meets
+//! - `Writing`: a write to one row
 #![tactic(auto)]
 
 mod board;

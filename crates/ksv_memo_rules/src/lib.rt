@@ -1,9 +1,31 @@
 //! Rules by which the answers of nodes follow from the answers of other nodes, and what evaluation by them means.
 //!
 //! [`Rules`] define what a node does next after some replies: it needs the answer of another node, or it is done. The
-//! replies are lent ([`Replies`]). `specs/Evaluation.antt` defines what a node answers from nothing, and what it asks and
-//! uses; `specs/Right.antt` what is right to keep, `specs/Touched.antt` what an edit takes. There is no engine here: what
-//! depends on rules alone doesn't wait for one.
+//! replies are lent ([`Replies`]). `specs/Evaluation` defines what a node answers from nothing, and what it asks and
+//! uses; `specs/Right` what is right to keep, `specs/Touched` what an edit takes. There is no engine here, so what depends
+//! on rules alone doesn't wait for the proof of one.
+//!
+//! Modules:
+//!
+//! - `replies`: `Replies`, the answers that an engine lends to rules
+//! - `rules`: `trait Rules`: what a node does next, with the laws of rules
+//!
+//! Definitions (`specs/`):
+//!
+//! - `Entry`: kept nodes as contracts see them
+//! - `Evaluation`: evaluation from nothing by rules alone: no table, no stack
+//! - `Meaning`: what rules mean, and their laws
+//! - `Right`: what is right to keep, what a question keeps, and its turns
+//! - `Slots`: the answers that slots lend
+//! - `Touched`: what an edit takes from the kept nodes
+//!
+//! Lemmas (`proofs/`):
+//!
+//! - `Evals`: an answer is the same whatever is open outside its tree; the depth doesn't matter
+//! - `Keeping`: the tree of a kept node is kept, and its answer is right whatever is open
+//! - `Lists`: what holds of each element of a list
+//! - `Replying`: lent replies are the answers in the asked slots
+//! - `Standing`: the laws of rules over one list of bytes
 #![tactic(auto)]
 
 mod replies;

@@ -1,8 +1,43 @@
 //! Nodes of a described file: what can be asked of one, what is answered, and how a node's rule reads the bytes and
 //! goes on with the replies to its questions.
 //!
-//! A rule is a plan (`ksv_basics`) of two kinds of question: other nodes, and readings of the bytes. Nothing here
-//! depends on descriptions.
+//! A rule is a plan (`specs/Plan` of ksv_basics) of two kinds of question: other nodes, and readings of the bytes.
+//! Nothing here depends on descriptions.
+//!
+//! Modules:
+//!
+//! - `given`: the answers of nodes: head, value, end, rest
+//! - `laws`: the laws of readings, turns and nodes
+//! - `node`: nodes: a kind of question and a path
+//! - `search`: where a byte is first in bytes that are lent
+//! - `turn`: `Turn`: a rule while it runs; it takes replies in order and reads the bytes
+//!
+//! Definitions (`specs/`):
+//!
+//! - `Bounds`: how many nodes a rule asks
+//! - `Digest`: the number by which a table finds a node
+//! - `Exact`: a lemma that a reader may skip: nodes that `==` finds equal are the same
+//! - `Laws`: the laws of every rule: true replies, locality, uses within the bytes, an end
+//! - `Numbers`: each node has a number of its own, with lemmas that a reader may skip
+//! - `Reading`: the five readings, and what each depends on
+//! - `Rule`: rules as plans over nodes and readings
+//! - `Truth`: what a rule answers, asks and uses where each node has an answer
+//! - `Turning`: a rule run on the replies so far
+//!
+//! Lemmas (`proofs/`):
+//!
+//! - `Bounds`: a run with as many replies as its bound has no open question
+//! - `Direct`: what one rule after another answers, asks and uses
+//! - `First`: the first byte of a value in two slices
+//! - `Left`: what is left of a rule after some replies
+//! - `Local`: a run is the same on bytes that agree on its uses
+//! - `Looks`: readings on bytes that agree on their uses
+//! - `Parts`: the path one step further
+//! - `Ranges`: the uses of a run fit the bytes
+//! - `Replied`: the next reply
+//! - `Resuming`: the laws of a run from its beginning
+//! - `Truth`: with true replies a rule asks, uses and answers what it does over a map
+//! - `Turns`: what turns keep and add
 #![tactic(auto)]
 
 mod given;

@@ -1,6 +1,24 @@
-//! What a description says before a byte is read: which path a text names.
+//! Paths as texts: which path a text names in a description ([`path_of`]), and the text of a path.
 //!
-//! A text is a path's in one way only ([`path_of`], `specs/PathTexts.antt`).
+//! Both are defined in `specs/PathTexts`. A text names at most one path.
+//!
+//! Modules:
+//!
+//! - `laws`: the laws of the texts of paths
+//! - `path_text`: which path a text names
+//!
+//! Definitions (`specs/`):
+//!
+//! - `Laws`: the laws: read after written, and written after read
+//! - `PathTexts`: how a path is written, and which one a text names
+//!
+//! Lemmas (`proofs/`):
+//!
+//! - `Cuts`: where the first part of a text ends
+//! - `Digits`: decimal digits, and what `parse` reads of them
+//! - `PathReading`: the text of a path, read, gives the path
+//! - `PathSpelling`: a text that names a path is that path's text
+//! - `PathTexts`: paths read step by step
 #![tactic(auto)]
 
 mod laws;

@@ -1,11 +1,49 @@
 //! Questions about a described file: what each asks, and the text that it ends in.
 //!
 //! A question is a plan (`specs/Asking.antt`): nodes that it asks, and what it does with what it hears of each. Its definition in
-//! specs/ (`Questions`, `Dumps`, `Writing`) knows no engine. The function of the same name here asks an engine and comes to the
+//! specs/ (`Questions`, `Dumps`, `Writing`) knows no engine. The function of the same name here asks an engine and gives the
 //! same result, and the engine keeps what evaluating the asked nodes completes.
 //!
-//! [`answer`] is what is told of any question, a text or a refusal; [`overwrite_for`] is what writing an integer over another means in
-//! bytes.
+//! [`answer`] tells the end of any question, a text or a refusal. [`overwrite_for`] is what writing an integer over another
+//! means in bytes.
+//!
+//! Modules:
+//!
+//! - `asking`: asks an engine
+//! - `dump`: `dump`: the value at a path with all its parts, as JSON
+//! - `found`: what `dump` finds at a path, or writes in its place
+//! - `get`: `get`: the text of the value at a path
+//! - `laws`: the law that written integers are read back
+//! - `list`: the text of a list
+//! - `members`: `ls`: the members of an object, or the length of a list
+//! - `parts`: an answer of the form that is needed
+//! - `place`: `at`: where something begins and ends
+//! - `put`: `put`: writing an integer over another
+//! - `question`: any question about a path, on one engine
+//! - `told`: what is told of a question
+//!
+//! Definitions (`specs/`):
+//!
+//! - `Answers`: what a question ends in over evaluation from nothing
+//! - `Asking`: questions as plans over nodes
+//! - `Code`: words of private contracts
+//! - `Dumps`: what `dump` asks, and its JSON
+//! - `Engines`: what an engine keeps, and its turns, after a question
+//! - `Questions`: what `get`, `at` and `ls` ask, and their texts
+//! - `Seen`: the plain data of the code's values
+//! - `Writing`: what `put` asks, and the bytes that it writes
+//!
+//! Lemmas (`proofs/`):
+//!
+//! - `AskLemmas`: an engine answers what evaluation from nothing gives
+//! - `Asked`: asking one list of nodes and then another
+//! - `Bound`: one question after another
+//! - `Cases`: questions that need no further ask
+//! - `Dumping`: the steps of a dump
+//! - `Exact`: a dump has no float
+//! - `Fresh`: what two questions complete one after the other, and their costs
+//! - `ReadBack`: the bytes of an integer read as that integer
+//! - `Steps`: what running one question after another gives
 #![tactic(auto)]
 
 mod asking;

@@ -1,12 +1,22 @@
 //! Runs the rows of tables that need no session: `ksv_rows_descriptions TABLE..`.
 //!
-//! How a table is written, and what is printed, ksv_rows explains. The kinds of rows are:
+//! ksv_rows explains how a table is written and what is printed. The kinds of rows are:
 //!
 //! - `load`: loads the description, and asks what it has (`descriptions`);
 //! - `tree`: the tree of the lines of the description (`trees`), `trees`: those of the texts in the questions;
 //! - `lines`: lines of YAML (`lines`);
 //! - `scopes`: what the description declares (`scopes`);
-//! - `names`: names in expressions that stand in it (`names`).
+//! - `names`: names in expressions at places in it (`names`).
+//!
+//! Modules:
+//!
+//! - `descriptions`: descriptions: the answer to loading one, and what one has
+//! - `lines`: what begins on a line, and what is on several
+//! - `names`: names in expressions, and their numbers
+//! - `question`: a question of a table: a verb and a text
+//! - `scopes`: the types, members and enums of a description, and the lookup of names
+//! - `shown`: how values are written in a reply
+//! - `trees`: trees of texts
 #![tactic(auto)]
 
 mod descriptions;

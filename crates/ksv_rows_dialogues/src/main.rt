@@ -1,12 +1,17 @@
 //! Runs the rows of dialogues: `ksv_rows_dialogues TABLE..`.
 //!
-//! How a table is written, and what is printed, ksv_rows explains. A row's kind is a word for how its lines are read,
-//! and then words for the bytes of a file, each hexadecimal digits, or `N*HEX` for N times these:
+//! ksv_rows explains how a table is written and what is printed. A row's kind is a word for how its lines are read, and
+//! then words for the bytes of a file, each hexadecimal digits, or `N*HEX` for N times these:
 //!
 //! - `file`: the lines are the input of one session;
 //! - `cut`: the same, from readers that give few bytes at once;
 //! - `inputs`: each line is the whole input of a session of its own;
 //! - `broken`: the input, from readers that fail after each number of bytes.
+//!
+//! Modules:
+//!
+//! - `reader`: a reader that gives few bytes at once, and may fail
+//! - `sessions`: sessions over memory, over readers that give few bytes at once, and over readers that fail
 #![tactic(auto)]
 
 mod reader;

@@ -1,9 +1,10 @@
-//! Takes the rows of tables, and compares the result of each with the one beside it: `ksv_expr_cases TABLE..`.
+//! Runs the rows of tables of expressions and paths, and compares each result with the one in the table:
+//! `ksv_rows_expressions TABLE..`.
 //!
 //! It prints the rows that have another result, and for each table how many rows it has. Above its first heading a table
 //! has lines that begin with `#`, which say what it holds, and in one that begins with `# Values: ` where its values are
-//! from. A row is a line `INPUT => WANTED`, and belongs to the heading above it, `== KIND`, which defines what the input
-//! is. Between rows only blank lines may stand, and lines that begin with `#`. The kinds are:
+//! from. A row is a line `INPUT => WANTED`. The heading above it, `== KIND`, defines what the input is. Between rows there
+//! may be blank lines and lines that begin with `#`. The kinds are:
 //!
 //! - `tree`: the text of an expression; wanted is its tree, or its refusal with the place;
 //! - `type`: the text of a type with its arguments, in the same way;
@@ -15,6 +16,17 @@
 //!
 //! `{HEX}` means these bytes, and `{N*TEXT}` N times this text: in what is wanted, in inputs of the first two
 //! kinds, and in the paths and texts of the others.
+//!
+//! Modules:
+//!
+//! - `ask`: expressions, the questions that they ask, and their ends
+//! - `names`: the numbers of names, as a description would give them
+//! - `paths`: paths as texts
+//! - `replies`: the replies of rows
+//! - `shown`: how results are written
+//! - `spelled`: the bytes that a row spells
+//! - `trees`: trees as texts, operators first
+//! - `values`: values, faults and questions as texts
 #![tactic(auto)]
 
 mod ask;

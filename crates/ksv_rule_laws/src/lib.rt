@@ -1,7 +1,30 @@
 //! Laws of what the nodes of a file answer.
 //!
-//! They speak of the definitions of ksv_rule_meaning alone: an error that a rule and its function had in common would
-//! break them. No program stands on this crate.
+//! They are about the definitions of ksv_rule_meaning alone. An error that is made twice, in a rule and in the function of
+//! its name, would break them. No program uses this crate.
+//!
+//! Modules:
+//!
+//! - `laws`: the laws, as contracts
+//!
+//! Definitions (`specs/`):
+//!
+//! - `Expressions`: what an expression means in a rule
+//! - `Laws`: the laws of what nodes answer
+//!
+//! Lemmas (`proofs/`):
+//!
+//! - `Circles`: a circle comes from nodes that ask for each other, and from no rule
+//! - `Counting`: the count of a list is that of the elements that end
+//! - `Enclosing`: what is read is in the stream of the object or list that holds it
+//! - `Following`: an attribute begins where the one before it ends
+//! - `Forms`: an answer has its node's form, and a value fits its head
+//! - `Meeting`: what an expression answers in a rule where each node has an answer
+//! - `OwnFaults`: no expression fails as a circle
+//! - `Places`: each place in an answer is in the file
+//! - `Ranges`: places in the value of an expression are in the file
+//! - `Sources`: what is at a path is read by a member of the description
+//! - `Touching`: an element begins where the one before it ends
 #![tactic(auto)]
 
 mod laws;

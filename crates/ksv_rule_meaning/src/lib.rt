@@ -2,11 +2,43 @@
 //!
 //! A rule (`specs/`: `Heads`, `Values` and `Ends`, and `Fields`, `Wanted`, `Choosing` and `Integers`, which they use) is a plan
 //! over nodes and readings of the bytes. [`NodeRules`] is code that runs the rule of any node, and [`Described`] is a description
-//! with such code, as an engine (`ksv_memo`) sees it. What stands on these waits for no body of a rule.
+//! with such code, as an engine (ksv_memo) sees it. So what depends on these doesn't wait for the proof of any rule's code.
 //!
 //! Which nodes evaluation from nothing completes, which of them an edit touches, and how many calls of rules they take
-//! (`specs/Completed`, `specs/Kept`) are direct recursions on the rules too, and know no engine. The laws of `kept` say that they
-//! are the same as those by which an engine's contracts tell what it keeps and counts.
+//! (`specs/Completed`, `specs/Kept`) are direct recursions on the rules too, and know no engine. The laws of `kept` state that an
+//! engine's contracts, in their own words, say the same.
+//!
+//! Modules:
+//!
+//! - `described`: `NodeRules` and `Described`: the rules as an engine sees them
+//! - `kept`: laws of what is kept: the engine's words are those of the direct definitions
+//! - `laws`: laws of evaluation: the engine's is the direct one; how many nodes a rule asks
+//!
+//! Definitions (`specs/`):
+//!
+//! - `Bounds`: how many nodes each rule asks, with lemmas that a reader may skip
+//! - `Choosing`: the case that a switch chooses
+//! - `Completed`: what evaluation from nothing completes, by direct recursion
+//! - `Described`: what the rules mean to an engine, and how many nodes a rule asks at most
+//! - `Direct`: laws: evaluation by replies is the direct one
+//! - `Ends`: where something ends; what a list is from an element on
+//! - `Fields`: the members of types
+//! - `FromNothing`: evaluation from nothing
+//! - `Heads`: what is at a path, and where
+//! - `Integers`: the integer that some bytes are
+//! - `Kept`: what is kept across questions and edits, and the turns
+//! - `Lawful`: the rules keep the laws of `Rules`, with lemmas that a reader may skip
+//! - `Laws`: laws: an engine's words for what it keeps are the direct ones
+//! - `Meaning`: the rule of a node
+//! - `Values`: the value of what is at a path
+//! - `Wanted`: expressions in rules: which nodes and readings answer their wants
+//!
+//! Lemmas (`proofs/`):
+//!
+//! - `Answering`: a node has an answer by replies if each node that it asks has one, and only then
+//! - `Completing`: what an engine completes, touches and counts is what the direct definitions say
+//! - `Direct`: evaluation by replies is the direct one
+//! - `Integers`: integers of bytes one by one, and of two slices
 #![tactic(auto)]
 
 mod described;

@@ -1,8 +1,38 @@
 //! The rules of a description's nodes: what is at a path of a file, its value, and where it ends.
 //!
-//! Each rule is a definition of `ksv_rule_meaning` (`Heads`, `Values`, `Ends`, and `Fields`, `Choosing`, `Wanted` below them) and a
-//! function of the same name here that runs it on the replies that it had; [`DescriptionRules`] runs the rule of any node. An
-//! engine (`ksv_memo`) calls the rules and keeps what they answer.
+//! Each rule is a definition of ksv_rule_meaning (`Heads`, `Values`, `Ends`, and `Fields`, `Choosing`, `Wanted` below them) and
+//! a function of the same name here that runs it on the replies so far. [`DescriptionRules`] runs the rule of any node. An engine
+//! (ksv_memo) calls it and keeps what it answers.
+//!
+//! Modules:
+//!
+//! - `calculated`: the values of value instances and parameters
+//! - `choosing`: the case that a switch chooses
+//! - `ends`: where something ends, and how a list goes on to its last element
+//! - `evaluation`: the value of an expression in a rule: `eval` with one more answer each time
+//! - `fields`: the members of types
+//! - `heads`: what is at a path, and where
+//! - `integer`: integers of the file's bytes
+//! - `lent`: bytes that are lent in two slices
+//! - `parts`: where a member or an element ends, and the list that has it
+//! - `rules`: the rule of a node, and `DescriptionRules`, the code of all rules
+//! - `shapes`: what is read at a place in the bytes
+//! - `values`: the value of what is at a path
+//! - `wanted`: integers, truth values, sizes and objects that expressions give
+//!
+//! Definitions (`specs/`):
+//!
+//! - `Code`: words of private contracts
+//! - `Members`: the plain data of a member and of a case that the code has found
+//! - `Told`: the plain data of an answer to a want
+//!
+//! Lemmas (`proofs/`):
+//!
+//! - `Arguments`: an argument by its number
+//! - `Evaluating`: an expression whose wants are answered one after another
+//! - `Naming`: an expression that is one name asks for that member
+//! - `Parameters`: how many parameters are among the first members
+//! - `Peeked`: how many bytes a reading of a range gives
 #![tactic(auto)]
 
 mod calculated;

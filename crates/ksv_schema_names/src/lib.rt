@@ -3,8 +3,46 @@
 //!
 //! A name is looked up in the type where it is used and then in the types around it, the nearest first; the byte
 //! order and the encoding in force are found in the same way. A bare name in an expression is a member of the type that the
-//! expression is in. Some names of the language are allowed only at certain keys: [`Position`] has the key of an
-//! expression.
+//! expression is in. Some names of the language are allowed only at certain keys, so a [`Position`] has the key of
+//! its expression.
+//!
+//! Modules:
+//!
+//! - `built_ins`: the types of the language
+//! - `entries`: the numbers and ids of an enum
+//! - `faults`: what is wrong with the names of an expression
+//! - `laws`: the laws of expressions and tables
+//! - `members`: the members of each type
+//! - `numbering`: the numbers of an expression's names, set in place
+//! - `outwards`: names, byte order and encoding, looked up from a type outwards
+//! - `position`: where an expression is, and what is wrong with a name there
+//! - `row`: a type or an enum as a row
+//! - `rows`: types and enums as rows in the order of the text, each with the type that it is in
+//! - `scopes`: `Scopes`, the table of what a tree declares
+//!
+//! Definitions (`specs/`):
+//!
+//! - `BuiltIn`: the types of the language
+//! - `Code`: the plain data of the code's values, for private contracts
+//! - `Enums`: the numbers and ids of enums
+//! - `Members`: the members of each type, in the order of the text
+//! - `Names`: what is wrong with the names of an expression at its place
+//! - `Numbered`: an expression with the numbers of its names
+//! - `Resolved`: laws: the least fault, and expressions whose names are resolved
+//! - `Rows`: types and enums as rows, and the rows that a tree declares
+//! - `Table`: what the table of a tree holds
+//! - `Types`: lookup of names, byte order and encoding from a type outwards
+//! - `View`: the plain data of the code's rows
+//!
+//! Lemmas (`proofs/`):
+//!
+//! - `Forms`: the faults of an expression, form by form
+//! - `Found`: what is found is there: types, names, members of enums
+//! - `Lookup`: lookup of names
+//! - `Noted`: the least fault, part after part
+//! - `Numbers`: the numbers of an expression are those of its parts
+//! - `Resolving`: in an expression without faults each numbered name leads somewhere
+//! - `Weight`: the types in a type are smaller than it
 #![tactic(auto)]
 
 mod built_ins;

@@ -1,11 +1,37 @@
 //! Tests that call a buffer and the engine directly: edits and what they touch, worked questions over two small
 //! sets of rules, a tower of a million links, and random questions between random edits.
 //!
-//! The two small sets of rules are in `samples`. [`Rows`] are numbers, sums of rows and rows that a byte names, with circles. A
-//! [`Chain`] is as deep as one likes.
+//! The two small sets of rules are in `samples`. [`Rows`] are numbers, sums of rows, and rows that a byte names, with circles.
+//! A [`Chain`] is as deep as one likes.
 //!
-//! A function that owns an engine lends it to another one, and then drops it by name: so what a drop does is proved
-//! once, and not in each function and for each way out of it.
+//! A function that owns an engine lends it to another function and then drops it by name. So the drop is proved once, and
+//! not in each function and for each way out of it.
+//!
+//! Modules:
+//!
+//! - `buffer`: edits of a buffer, its limit, and what an edit touches
+//! - `chain`: a chain of nodes that is a hundred thousand deep
+//! - `engine`: the engine over rows: worked questions, what edits take, how many looks that takes
+//! - `links`: links between slots: what an overwrite takes along them
+//! - `random`: random questions between random edits, beside plain recursion
+//! - `rows`: rows and their expected answers, for the tests of the engine
+//! - `samples`: the two sets of rules
+//! - `samples/chain`: a chain of nodes, each of which asks the one before it
+//! - `samples/link`: a link of a chain
+//! - `samples/row`: a row and its number
+//! - `samples/rows`: rows that depend on rows and on bytes
+//! - `tower`: a tower of links of which only the lowest reads the file
+//!
+//! Definitions (`specs/`):
+//!
+//! - `Chain`: a chain of nodes, and its laws
+//! - `Rows`: rows, and their laws
+//! - `Tower`: a tower of links, and its laws
+//!
+//! Lemmas (`proofs/`):
+//!
+//! - `Reading`: a byte in the two slices of a window
+//! - `Totals`: the total of replies
 #![tactic(auto)]
 
 #[cfg(test)]

@@ -1,8 +1,15 @@
-//! Tests that call what is below sessions: a node's turn, nodes of a described file, how many looks an overwrite takes where
-//! they are kept, trees and descriptions.
+//! Tests that call what is below sessions: a node's turn, nodes of a described file, how many looks an overwrite takes,
+//! trees and descriptions.
 //!
-//! A function that owns a turn or what a turn reads lends it to another one, and then drops it by name: so what a drop does
+//! A function that owns a turn, or what a turn reads, lends it to another function and then drops it by name. So the drop
 //! is proved once, and not in each function and for each way out of it.
+//!
+//! Modules:
+//!
+//! - `descriptions`: trees of YAML, and what a description holds
+//! - `near`: how many looks an overwrite takes where the nodes of a described file are kept
+//! - `nodes`: paths from texts, answers of nodes, decimal numbers
+//! - `turns`: each call of a turn, with and without a fault, and what each reading depends on
 #![tactic(auto)]
 
 #[cfg(test)]

@@ -1,5 +1,14 @@
-//! Tests that call what no table's row and no dialogue reaches: writers that fail, a file of the greatest size, messages, and
-//! what sessions keep across random lines, beside a slow program that evaluates each node from nothing.
+//! Tests of what no row of a table reaches: writers that fail, a file of the greatest size, messages, and what sessions
+//! keep across random lines, compared with a slow program that evaluates each node from nothing.
+//!
+//! Modules:
+//!
+//! - `devices`: writers that fail
+//! - `kept`: what a session keeps across random lines
+//! - `messages`: the program's messages, and the words that it takes
+//! - `plain`: a slow program that evaluates each node from nothing
+//! - `random`: numbers that look random
+//! - `sessions`: a file of the greatest size; a session line by line
 #![tactic(auto)]
 
 #[cfg(test)]

@@ -1,8 +1,29 @@
-//! What needs no engine of a question's answer: the texts of values, names, faults and refusals, the parts of a dump that ask
-//! nothing, and the integers that a file holds, with their bytes.
+//! The parts of a question's answer that need no engine: the texts of values, names, faults and refusals, the parts of a dump
+//! that ask nothing, and the integers that a file holds, with their bytes.
 //!
 //! Each function is the definition of the same name in `specs/` (`Texts`, `Parts`, `Integers`). What a question asks is in
 //! ksv_questions.
+//!
+//! Modules:
+//!
+//! - `integer`: the integers that a file holds: their types, and their bytes
+//! - `refusal`: why a question about a path is refused
+//! - `text`: the texts of values, names, faults and refusals
+//! - `written`: the parts of a dump that ask nothing
+//!
+//! Definitions (`specs/`):
+//!
+//! - `Integers`: the integer that a leaf holds, which numbers it can hold, and their bytes
+//! - `Parts`: the JSON of the parts of a dump that ask nothing
+//! - `Seen`: the plain data of the code's values
+//! - `Texts`: the texts of values, names, faults and refusals
+//!
+//! Lemmas (`proofs/`):
+//!
+//! - `Digits`: the digits of a number, one by one
+//! - `Json`: values of JSON as data
+//! - `Powers`: how many values an integer has
+//! - `TextLemmas`: digits and other texts one after the other
 #![tactic(auto)]
 
 mod integer;

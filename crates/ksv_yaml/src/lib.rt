@@ -7,6 +7,45 @@
 //! The subset has block and flow mappings and sequences, compact items, plain and quoted scalars, block scalars,
 //! comments and one mark `---`. Anchors, aliases, tags, complex keys, directives and several documents are
 //! unsupported.
+//!
+//! Modules:
+//!
+//! - `block`: blocks that are open, and the fault of a line that fits none of them
+//! - `document`: `read`: cutting, the mark `---`, control characters, the reported fault
+//! - `fault`: why a text has no tree
+//! - `flow`: flow nodes, from their parts
+//! - `keys`: the keys of a mapping so far
+//! - `make`: nodes and entries as the reader makes them, each with its plain tree
+//! - `reader`: blocks: node, mapping, value, sequence and item
+//! - `scalar`: scalars and flow nodes that begin on a line
+//!
+//! Definitions (`specs/`):
+//!
+//! - `Code`: words of private contracts
+//! - `Faults`: codes and texts of refusals, and what a refusal means
+//! - `Flow`: flow nodes from their parts
+//! - `Grammar`: blocks, by cases on whole blocks of lines
+//! - `Keys`: the keys that a set holds
+//! - `Reading`: reading from front to back, with a bound on nested calls
+//! - `Text`: the tree that a text spells
+//!
+//! Lemmas (`proofs/`):
+//!
+//! - `Answering`: what a step of the code answers, in the words of its contract
+//! - `BlockLoops`: a lemma for each step of the reader of blocks
+//! - `Complete`: what is spelled is read
+//! - `Distinct`: keys read one after another are distinct
+//! - `FlowComplete`: the same for flow nodes
+//! - `FlowLoops`: a lemma for each step of the reader of flow nodes
+//! - `FlowSound`: a flow node that is read is spelled
+//! - `InlineComplete`: the same for scalars and flow nodes on lines
+//! - `InlineSound`: a scalar or flow node that is read is spelled
+//! - `Joins`: items and entries added one by one
+//! - `Sound`: what is read is spelled
+//! - `Steps`: what follows from a step of reading that found something
+//! - `TextTheorem`: no text spells two trees, and a refused text spells none
+//! - `Theorem`: lines spell the tree that is read
+//! - `Whole`: what `read` answers
 #![tactic(auto)]
 
 mod block;

@@ -2,6 +2,23 @@
 //!
 //! A node is a text, a sequence or a mapping, each with the line on which it begins. Contracts see it as a plain
 //! tree (`specs/Tree`), by `view` of `specs/View`.
+//!
+//! Modules:
+//!
+//! - `keys`: what a mapping has at its keys
+//! - `numeral`: plain numbers
+//! - `tree`: `Yaml` and `Entry`, and how they are read
+//!
+//! Definitions (`specs/`):
+//!
+//! - `Keys`: what a mapping has at its keys
+//! - `Numerals`: plain numbers
+//! - `Tree`: the tree as plain data
+//! - `View`: the plain trees of the code's values
+//!
+//! Lemmas (`proofs/`):
+//!
+//! - `Views`: what the code reads of a tree
 #![tactic(auto)]
 
 pub mod keys;
