@@ -27,7 +27,7 @@ pub enum Question {
     Value(Path),
     /// `at`: where it begins and ends.
     Place(Path),
-    /// `ls`: what an object has, or how many elements a list.
+    /// `ls`: the members of an object, or the number of elements of a list.
     Members(Path),
     /// `dump`: the value there with all that is in it, as JSON.
     Dump(Path),
@@ -48,9 +48,9 @@ pub enum Command {
     Set(u64, EditBytes),
     /// `ins POS HEX`: bytes put before the byte at a place, or after the last one.
     Ins(u64, EditBytes),
-    /// `del POS COUNT`: so many bytes from a place on, taken out.
+    /// `del POS COUNT`: this many bytes removed, from a place on.
     Del(u64, u64),
-    /// `bytes POS COUNT`: the bytes from a place on, at most 4,096.
+    /// `bytes POS COUNT`: this many bytes shown, from a place on, at most 4,096.
     Bytes(u64, u64),
     /// `app HEX`: bytes added at the end.
     App(EditBytes),
@@ -113,7 +113,7 @@ fn about_path<F: FnOnce(Path) -> Question>(
     }
 }
 
-/// Reads the arguments of `put`. A path that is refused memory is valid, so that the integer is still what is wrong.
+/// Reads the arguments of `put`. Only a valid path takes memory, so a bad integer is refused even if memory runs out.
 fn put(alloc: Global, desc: &Desc, arguments: &[u8]) -> Result<Command, AllocError>
     ensures command { IfOk result (λ command. command ≡ put_of (plain_pieces desc.now) (words_of arguments.now)) }
     ensures refused { OnErr result (IsTrue (is_question (put_of (plain_pieces desc.now) (words_of arguments.now)))) }
