@@ -2,8 +2,10 @@
 use Rattle.std.specs.Prelude.{◌≡◌, ℕ, List, Result, Ok, Err}
 use Rattle.ksv_basics.specs.Plan.{Answer, Fail}
 use Rattle.ksv_desc.specs.Description.{Description}
+use Rattle.ksv_desc.specs.Whole.{plain_pieces}
 use Rattle.ksv_expr_value.specs.declared.fault.Fault.{Fault}
 use Rattle.ksv_memo_rules.specs.Entry.{Memo}
+use Rattle.ksv_memo_rules.specs.Right.{IsRight}
 use Rattle.ksv_memo.specs.declared.engine.Answer.{Answer as EngineAnswer}
 use Rattle.ksv_memo.specs.declared.engine.Answer.TheVariants as answers
 use Rattle.ksv_nodes.specs.declared.given.Given.{Given}
@@ -16,6 +18,7 @@ use Rattle.ksv_questions.specs.Engines.{HasAsked, HasAskedSome, world}
 use Rattle.ksv_questions.specs.declared.asking.Untold.{Untold}
 use Rattle.ksv_questions.specs.declared.asking.Untold.TheVariants as untolds
 use Rattle.ksv_questions.specs.declared.dump.Dumped.{Dumped}
+use Rattle.ksv_questions.specs.declared.file.File.{File}
 use Rattle.ksv_texts.specs.declared.refusal.Refusal.{Refusal}
 use Rattle.serde_json.specs.View.{view}
 use Rattle.serde_json.specs.declared.value.Value.{Value as Json}
@@ -39,6 +42,24 @@ Runs d b q view old new (Ok x) = (outcome d b q ≡ Ok (view x)) × HasAsked (wo
 Runs d b q view old new (Err untolds.NoMemory) = HasAskedSome (world d b) (asks d b q) old new
 Runs d b q view old new (Err (untolds.Fault f)) = (outcome d b q ≡ Err (Faulty f)) × HasAsked (world d b) (asks d b q) old new
 Runs d b q view old new (Err (untolds.Refused r)) = (outcome d b q ≡ Err (Refused r)) × HasAsked (world d b) (asks d b q) old new
+
+-- ---- a file under its description
+
+abbrev pub desc_of : {N : Type 0} → File N → Description
+desc_of f = plain_pieces f.described.now.desc
+
+abbrev pub bytes_of : {N : Type 0} → File N → List ℕ
+bytes_of f = f.buffer.now
+
+-- an engine is right for it
+abbrev pub IsRightFor : {N : Type 0} → File N → Memo Node Heard → Type 0
+IsRightFor f engine = IsRight (world (desc_of f) (bytes_of f)) engine.kept
+
+-- an engine was asked what a question about it asks; the question may depend on the description and the bytes
+abbrev pub RunsOn : {N X A : Type 0} → File N → (Description → List ℕ → Asking A) → (X → A) → Memo Node Heard → Memo Node Heard → Result X Untold → Type 0
+RunsOn f q view old new r = Runs (desc_of f) (bytes_of f) (q (desc_of f) (bytes_of f)) view old new r
+
+-- ---- dumps
 
 -- what was written, and how many parts may still begin
 abbrev pub dumped : Dumped → Part

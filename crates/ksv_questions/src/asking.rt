@@ -1,13 +1,10 @@
 //! Asking an engine: what the nodes of a described file answer.
 ghost use Rattle.std.specs.Prelude.{◌≡◌};
-ghost use Rattle.ksv_desc.specs.Whole.{plain_pieces};
-ghost use Rattle.ksv_memo_rules.specs.Right.{IsRight};
 ghost use Rattle.ksv_nodes.specs.Turning.{fault_at};
 ghost use Rattle.ksv_questions.specs.Asking.{ask, hear, passed};
-ghost use Rattle.ksv_questions.specs.Code.{IsFault, Runs, Settles, plain_answer};
-ghost use Rattle.ksv_questions.specs.Engines.{world};
+ghost use Rattle.ksv_questions.specs.Code.{IsFault, IsRightFor, RunsOn, Settles, plain_answer};
 
-use ksv_bytes::Buffer;
+use crate::file::File;
 use ksv_expr_value::{Fault, FaultKind, Path};
 use ksv_memo::{Answer, Engine};
 use ksv_nodes::{Given, Node, NodeKind};
@@ -66,18 +63,16 @@ fn of_answer(answer: Answer<Node, Given, Fault>) -> Heard
 
 /// Hears the node of a kind at a path, by an engine that is right for the bytes.
 pub(crate) fn hear<N: NodeRules>(
-    alloc: Global,
+    file: &File<N>,
     engine: &mut Engine<Described<N>>,
-    described: &Described<N>,
-    buffer: &Buffer,
     kind: NodeKind,
     path: &Path,
 ) -> Result<Heard, Untold>
-    requires { IsRight (world (plain_pieces described.now.desc) buffer.now) engine.old.kept }
-    ensures { Runs (plain_pieces described.now.desc) buffer.now (hear (record { kind = kind; path = path.now })) (λ heard. heard) engine.old engine.new result }
+    requires { IsRightFor file.now engine.old }
+    ensures { RunsOn file.now (λ _ _. hear (record { kind = kind; path = path.now })) (λ heard. heard) engine.old engine.new result }
 {
-    let path = path.copy(alloc)?;
-    let answer = engine.ask(described, buffer, Node { kind, path })?;
+    let path = path.copy(file.alloc)?;
+    let answer = engine.ask(file.described, file.buffer, Node { kind, path })?;
     Ok(of_answer(answer))
 }
 
@@ -93,16 +88,14 @@ fn passed(heard: Heard) -> Result<Given, Untold>
 
 /// What the node of a kind at a path answers.
 pub(crate) fn ask<N: NodeRules>(
-    alloc: Global,
+    file: &File<N>,
     engine: &mut Engine<Described<N>>,
-    described: &Described<N>,
-    buffer: &Buffer,
     kind: NodeKind,
     path: &Path,
 ) -> Result<Given, Untold>
-    requires { IsRight (world (plain_pieces described.now.desc) buffer.now) engine.old.kept }
-    ensures { Runs (plain_pieces described.now.desc) buffer.now (ask (record { kind = kind; path = path.now })) (λ given. given) engine.old engine.new result }
+    requires { IsRightFor file.now engine.old }
+    ensures { RunsOn file.now (λ _ _. ask (record { kind = kind; path = path.now })) (λ given. given) engine.old engine.new result }
 {
-    let heard = hear(alloc, engine, described, buffer, kind, path)?;
+    let heard = hear(file, engine, kind, path)?;
     passed(heard)
 }

@@ -10,6 +10,7 @@
 
 mod asking;
 mod dump;
+mod file;
 mod found;
 mod get;
 mod laws;

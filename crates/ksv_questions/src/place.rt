@@ -1,16 +1,13 @@
 //! `at`: where what is at a path begins and ends.
-ghost use Rattle.std.specs.Prelude.{◌≡◌, ◌++◌, codes, decimal, string_bytes};
-ghost use Rattle.ksv_desc.specs.Whole.{plain_pieces};
+ghost use Rattle.std.specs.Prelude.{◌++◌, codes, decimal, string_bytes};
 ghost use Rattle.ksv_basics.specs.Plan.{Answer};
-ghost use Rattle.ksv_memo_rules.specs.Right.{IsRight};
-ghost use Rattle.ksv_questions.specs.Code.{Runs, Settles};
-ghost use Rattle.ksv_questions.specs.Engines.{world};
+ghost use Rattle.ksv_questions.specs.Code.{IsRightFor, RunsOn, Settles};
 ghost use Rattle.ksv_questions.specs.Questions.{from_place, of_head, place_question};
 
 use crate::asking::Untold;
+use crate::file::File;
 use crate::parts::{ask_end, ask_head};
 use itoa::Buffer as Digits;
-use ksv_bytes::Buffer;
 use ksv_expr_value::Path;
 use ksv_memo::Engine;
 use ksv_nodes::Head;
@@ -31,46 +28,42 @@ fn places_text(alloc: Global, from: u32, to: u32) -> Result<String, Untold>
 /// What begins at a place: it is asked where it ends.
 #[tactic(auto, unfolding(crate::specs::Questions::from_place))]
 fn from_place<N: NodeRules>(
-    alloc: Global,
+    file: &File<N>,
     engine: &mut Engine<Described<N>>,
-    described: &Described<N>,
-    buffer: &Buffer,
     path: &Path,
     from: u32,
 ) -> Result<String, Untold>
-    requires { IsRight (world (plain_pieces described.now.desc) buffer.now) engine.old.kept }
-    ensures { Runs (plain_pieces described.now.desc) buffer.now (from_place path.now from) (λ text. string_bytes text) engine.old engine.new result }
+    requires { IsRightFor file.now engine.old }
+    ensures { RunsOn file.now (λ _ _. from_place path.now from) (λ text. string_bytes text) engine.old engine.new result }
 {
-    let to = ask_end(alloc, engine, described, buffer, path)?;
-    places_text(alloc, from, to)
+    let to = ask_end(file, engine, path)?;
+    places_text(file.alloc, from, to)
 }
 
 /// Where what is there is.
 fn of_head<N: NodeRules>(
-    alloc: Global,
+    file: &File<N>,
     engine: &mut Engine<Described<N>>,
-    described: &Described<N>,
-    buffer: &Buffer,
     path: &Path,
     head: Head,
 ) -> Result<String, Untold>
-    requires { IsRight (world (plain_pieces described.now.desc) buffer.now) engine.old.kept }
-    ensures { Runs (plain_pieces described.now.desc) buffer.now (of_head path.now head) (λ text. string_bytes text) engine.old engine.new result }
+    requires { IsRightFor file.now engine.old }
+    ensures { RunsOn file.now (λ _ _. of_head path.now head) (λ text. string_bytes text) engine.old engine.new result }
 {
     match head {
-        Head::Absent(_) => Ok(String::from_str(alloc, "absent")?),
-        Head::Calc(_) => Ok(String::from_str(alloc, "calculated")?),
+        Head::Absent(_) => Ok(String::from_str(file.alloc, "absent")?),
+        Head::Calc(_) => Ok(String::from_str(file.alloc, "calculated")?),
         Head::Leaf(leaf) => {
             let from = leaf.from.byte();
-            from_place(alloc, engine, described, buffer, path, from)
+            from_place(file, engine, path, from)
         }
         Head::Object(object) => {
             let from = object.start.byte();
-            from_place(alloc, engine, described, buffer, path, from)
+            from_place(file, engine, path, from)
         }
         Head::List(list) => {
             let from = list.start.byte();
-            from_place(alloc, engine, described, buffer, path, from)
+            from_place(file, engine, path, from)
         }
     }
 }
@@ -78,15 +71,13 @@ fn of_head<N: NodeRules>(
 /// Where what is at a path is.
 #[tactic(auto, unfolding(crate::specs::Questions::place_question))]
 pub(crate) fn place_question<N: NodeRules>(
-    alloc: Global,
+    file: &File<N>,
     engine: &mut Engine<Described<N>>,
-    described: &Described<N>,
-    buffer: &Buffer,
     path: &Path,
 ) -> Result<String, Untold>
-    requires { IsRight (world (plain_pieces described.now.desc) buffer.now) engine.old.kept }
-    ensures { Runs (plain_pieces described.now.desc) buffer.now (place_question path.now) (λ text. string_bytes text) engine.old engine.new result }
+    requires { IsRightFor file.now engine.old }
+    ensures { RunsOn file.now (λ _ _. place_question path.now) (λ text. string_bytes text) engine.old engine.new result }
 {
-    let head = ask_head(alloc, engine, described, buffer, path, path)?;
-    of_head(alloc, engine, described, buffer, path, head)
+    let head = ask_head(file, engine, path, path)?;
+    of_head(file, engine, path, head)
 }
