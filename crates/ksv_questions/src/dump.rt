@@ -54,7 +54,7 @@ fn unasked(alloc: Global, desc: &Desc, path: &Path, left: u32) -> Result<Dumped,
     Ok(Dumped { json, left })
 }
 
-/// The part of a path, so many deep at most.
+/// The part of a path. The parts in it nest at most `depth` deep.
 #[cycle(dump)]
 fn dump_part<N: NodeRules>(
     file: &File<N>,
@@ -128,7 +128,7 @@ fn object_part<N: NodeRules>(
 {
     match find_object(file, engine, object)? {
         Ok(type_number) => {
-            let names = file.described.desc().fields(type_number);
+            let names = file.described.desc.fields(type_number);
             members_part(file, engine, depth, left, object, names)
         }
         Err(json) => Ok(Dumped { json, left }),
@@ -157,7 +157,7 @@ fn members_part<N: NodeRules>(
         put_member(
             file.alloc,
             &mut members,
-            file.described.desc().name(*name),
+            file.described.desc.name(*name),
             written.json,
         )?;
     }
@@ -212,7 +212,7 @@ fn elements_part<N: NodeRules>(
     })
 }
 
-/// The part of a member or element; without a path, one that would be too long.
+/// The part of a member or element. It has no path if that would be too long.
 #[cycle(dump)]
 fn inner_part<N: NodeRules>(
     file: &File<N>,

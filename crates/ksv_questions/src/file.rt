@@ -2,9 +2,10 @@
 
 use ksv_bytes::Buffer;
 use ksv_rule_meaning::Described;
-use std::alloc::{AllocError, Global};
+use std::alloc::Global;
 
 /// A file under its description: what a question needs beside an engine.
+#[derive(Drop)]
 pub(crate) struct File<'a, N> {
     /// Where memory comes from.
     pub(crate) alloc: Global,
@@ -13,11 +14,3 @@ pub(crate) struct File<'a, N> {
     /// The bytes.
     pub(crate) buffer: &'a Buffer,
 }
-
-impl<'a, N> Clone for File<'a, N> {
-    fn clone(&self) -> Result<Self, AllocError> {
-        Ok(*self)
-    }
-}
-
-impl<'a, N> Copy for File<'a, N> {}

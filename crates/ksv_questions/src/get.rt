@@ -17,7 +17,7 @@ use ksv_rule_meaning::{Described, NodeRules};
 use ksv_texts::{bytes_text, integer_text, member_text, quoted_text, truth_text};
 use std::alloc::Global;
 
-/// An object by its type's id; any other head doesn't fit.
+/// The text of an object: its type's id. Another head is a fault.
 fn object_text(alloc: Global, desc: &Desc, path: &Path, head: Head) -> Result<String, Untold>
     ensures { Settles (object_text (plain_pieces desc.now) path.now head) (λ text. string_bytes text) result }
 {
@@ -46,7 +46,7 @@ fn of_object<N: NodeRules>(
     object_text(file.alloc, &file.described.desc, path, head)
 }
 
-/// The text of a value that asks nothing; an object, a list and a stream don't fit.
+/// The text of a value that asks nothing. An object, a list or a stream is a fault.
 fn plain_text(
     alloc: Global,
     desc: &Desc,

@@ -13,7 +13,7 @@ use ksv_memo::Engine;
 use ksv_rule_meaning::{Described, NodeRules};
 use std::alloc::Global;
 
-/// A list by the number of its elements.
+/// The text of a list: the number of its elements.
 fn list_text(alloc: Global, count: u32) -> Result<String, Untold>
     ensures { Settles (Answer (list_text count)) (λ text. string_bytes text) result }
 {

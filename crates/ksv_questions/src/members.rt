@@ -1,4 +1,4 @@
-//! `ls`: what the object at a path has, or how many elements the list.
+//! `ls`: the members of the object at a path, or the number of elements of the list.
 ghost use Rattle.std.specs.Prelude.{string_bytes};
 ghost use Rattle.ksv_questions.specs.Code.{IsRightFor, RunsOn};
 ghost use Rattle.ksv_questions.specs.Questions.{members_question, parts_of};
@@ -13,7 +13,7 @@ use ksv_nodes::Head;
 use ksv_rule_meaning::{Described, NodeRules};
 use ksv_texts::names_text;
 
-/// What the thing there has.
+/// The members of an object, or the number of elements of a list.
 fn parts_of<N: NodeRules>(
     file: &File<N>,
     engine: &mut Engine<Described<N>>,
@@ -26,7 +26,7 @@ fn parts_of<N: NodeRules>(
     match head {
         Head::Absent(_) => Ok(String::from_str(file.alloc, "absent")?),
         Head::Object(object) => {
-            let desc = file.described.desc();
+            let desc = &file.described.desc;
             Ok(names_text(file.alloc, desc, desc.members(object.type_number))?)
         }
         Head::List(_) => of_list(file, engine, path, path),
@@ -34,7 +34,7 @@ fn parts_of<N: NodeRules>(
     }
 }
 
-/// What is in the thing at a path.
+/// The members of the object at a path, or the number of elements of the list.
 #[tactic(auto, unfolding(crate::specs::Questions::members_question))]
 pub(crate) fn members_question<N: NodeRules>(
     file: &File<N>,

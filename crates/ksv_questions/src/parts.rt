@@ -12,7 +12,7 @@ use ksv_nodes::{Given, Head, NodeKind};
 use ksv_rule_meaning::{Described, NodeRules};
 use std::alloc::Global;
 
-/// What is at a path; another form doesn't fit.
+/// What is at a path. An answer of another form is a fault.
 fn in_head(alloc: Global, path: &Path, given: &Given) -> Result<Head, Untold>
     ensures { Settles (in_head path.now given.now) (λ head. head) result }
 {
@@ -22,7 +22,7 @@ fn in_head(alloc: Global, path: &Path, given: &Given) -> Result<Head, Untold>
     }
 }
 
-/// The number of elements; another form doesn't fit.
+/// The number of elements. An answer of another form is a fault.
 fn in_rest(alloc: Global, path: &Path, given: &Given) -> Result<u32, Untold>
     ensures { Settles (in_rest path.now given.now) (λ count. count) result }
 {
@@ -32,7 +32,7 @@ fn in_rest(alloc: Global, path: &Path, given: &Given) -> Result<u32, Untold>
     }
 }
 
-/// A value; another form doesn't fit.
+/// A value. An answer of another form is a fault.
 fn in_value(alloc: Global, path: &Path, given: Given) -> Result<Value, Untold>
     ensures { Settles (in_value path.now given) (λ value. value) result }
 {
@@ -42,7 +42,7 @@ fn in_value(alloc: Global, path: &Path, given: Given) -> Result<Value, Untold>
     }
 }
 
-/// The place of an end; another form doesn't fit.
+/// The place of an end. An answer of another form is a fault.
 fn in_end(alloc: Global, path: &Path, given: &Given) -> Result<u32, Untold>
     ensures { Settles (in_end path.now given.now) (λ place. place) result }
 {

@@ -25,7 +25,7 @@ fn places_text(alloc: Global, from: u32, to: u32) -> Result<String, Untold>
     Ok(text)
 }
 
-/// What begins at a place: it is asked where it ends.
+/// Where the thing at a path begins and ends; where it begins is known.
 #[tactic(auto, unfolding(crate::specs::Questions::from_place))]
 fn from_place<N: NodeRules>(
     file: &File<N>,
@@ -40,7 +40,7 @@ fn from_place<N: NodeRules>(
     places_text(file.alloc, from, to)
 }
 
-/// Where what is there is.
+/// Where the thing at a path begins and ends, by its head.
 fn of_head<N: NodeRules>(
     file: &File<N>,
     engine: &mut Engine<Described<N>>,
@@ -68,7 +68,7 @@ fn of_head<N: NodeRules>(
     }
 }
 
-/// Where what is at a path is.
+/// Where the thing at a path begins and ends.
 #[tactic(auto, unfolding(crate::specs::Questions::place_question))]
 pub(crate) fn place_question<N: NodeRules>(
     file: &File<N>,

@@ -33,7 +33,7 @@ pub struct Overwrite {
     pub bytes: ArrayVec<u8, 8>,
 }
 
-/// What writing an integer over a leaf means.
+/// The bytes to write for an integer over a leaf.
 #[tactic(auto, unfolding(crate::specs::Writing::of_type))]
 fn over_leaf(desc: &Desc, leaf: Leaf, number: Integer) -> Result<Overwrite, Untold>
     ensures { Settles (of_type (integer_type (plain_pieces desc.now) leaf) leaf number) overwrite_of result }
@@ -51,7 +51,7 @@ fn over_leaf(desc: &Desc, leaf: Leaf, number: Integer) -> Result<Overwrite, Unto
     })
 }
 
-/// What writing an integer over what is there means.
+/// The bytes to write for an integer, by the head of what is there.
 fn over_head(desc: &Desc, head: Head, number: Integer) -> Result<Overwrite, Untold>
     ensures { Settles (over_head (plain_pieces desc.now) head number) overwrite_of result }
 {
@@ -61,7 +61,7 @@ fn over_head(desc: &Desc, head: Head, number: Integer) -> Result<Overwrite, Unto
     }
 }
 
-/// What writing an integer over what is at a path means.
+/// The bytes to write for an integer at a path.
 #[tactic(auto, unfolding(crate::specs::Writing::put_question))]
 fn put_question<N: NodeRules>(
     file: &File<N>,
@@ -76,8 +76,8 @@ fn put_question<N: NodeRules>(
     over_head(&file.described.desc, head, number)
 }
 
-/// What writing an integer over the one at a path means: the bytes to write, or what is told of a `put` that isn't done.
-/// The engine, which must be right for the bytes, keeps what was evaluated for it.
+/// The bytes that `put` writes for an integer at a path, or its reply if it writes none. The engine must be right for the
+/// current bytes, and keeps what was evaluated.
 pub fn overwrite_for<N: NodeRules>(
     alloc: Global,
     engine: &mut Engine<Described<N>>,

@@ -22,7 +22,7 @@ use ksv_rule_meaning::{Described, NodeRules};
 use ksv_texts::fault_text;
 use std::alloc::{AllocError, Global};
 
-/// What an engine was asked for a question.
+/// The text that answers a question.
 fn asked<N: NodeRules>(
     file: &File<N>,
     engine: &mut Engine<Described<N>>,
@@ -50,8 +50,8 @@ pub(crate) fn failure_told(alloc: Global, desc: &Desc, why: &Untold) -> Result<T
     }
 }
 
-/// The reply to a question, its LF aside: what is told of what evaluating the description from nothing on the current bytes gives,
-/// a text, or a refusal where the question is refused. The engine, which must be right for these bytes, keeps what was evaluated for it.
+/// The reply to a question, its LF aside: what a fresh evaluation of the description on the current bytes would answer, or a
+/// refusal. The engine must be right for these bytes, and keeps what was evaluated.
 #[tactic(auto, unfolding(crate::specs::Answers::question_told, crate::specs::Answers::question_text))]
 pub fn answer<N: NodeRules>(
     alloc: Global,

@@ -5,8 +5,7 @@ use Rattle.serde_json.specs.Data.{no_members, put}
 use Rattle.serde_json.specs.View.{members_view, view}
 use Rattle.serde_json.specs.declared.value.Value.{Array, Object}
 use Rattle.ksv_basics.specs.Plan.{bind}
-use Rattle.ksv_desc.specs.Description.{fields, name}
-use Rattle.ksv_desc.specs.Whole.{plain_pieces}
+use Rattle.ksv_desc.specs.Description.{fields}
 use Rattle.ksv_expr_value.specs.Trail.{child}
 use Rattle.ksv_expr_value.specs.declared.step.Step.TheVariants.{Index}
 use Rattle.ksv_texts.proofs.Json.{array_view, object_view}
@@ -58,7 +57,10 @@ object_part-returns-in-Ok g t c =
     let d = desc_of c.args.file.now in
     let b = bytes_of c.args.file.now in
     let each = part d b c.args.depth in
-    found_inside d b (find_object d c.args.object.now) (λ n. members_part d each c.args.object.now c.args.left (fields d n) no_members) c.args.left c.args.engine.now c.find_object.new.engine c.members_part.new.engine c.in_ok-type_number.field-0 c.in-Ok.type_number c.members_part.result c.in_ok-type_number.ensures c.in-Ok.is (subst (λ names. Runs d b (members_part d each c.args.object.now c.args.left names no_members) dumped c.find_object.new.engine c.members_part.new.engine c.members_part.result) (c.fields-names.ensures ∙ ap (λ pieces. fields (plain_pieces pieces) c.in-Ok.type_number) c.desc.ensures) c.members_part.ensures)
+    found_inside d b (find_object d c.args.object.now) (λ n. members_part d each c.args.object.now c.args.left (fields d n) no_members) c.args.left
+    c.args.engine.now c.find_object.new.engine c.members_part.new.engine c.in_ok-type_number.field-0 c.in-Ok.type_number c.members_part.result c.in_ok-type_number.ensures c.in-Ok.is
+    (subst (λ names. Runs d b (members_part d each c.args.object.now c.args.left names no_members) dumped c.find_object.new.engine c.members_part.new.engine c.members_part.result)
+    c.fields-names.ensures c.members_part.ensures)
 
 pub object_part-returns-in-Err : goal.object_part-returns-in-Err
 unfolding object_part
@@ -271,8 +273,7 @@ members_part-loop-name-preserved g t c =
     let i = c.loop-name.name-index in
     let ms = members_view c.loop-name.members.entries in
     pending_as d b whole _ _ c.args.engine.now c.inner_part.new.engine
-    (ap (λ after. members_part d each c.args.object.now c.in_ok-written.written.left (drop (i + 1) c.args.names.now) after) (sym (c.in_ok-put_member.ensures
-    ∙ ap (λ key. put key (view c.in_ok-written.written.json) ms) (c.name.ensures ∙ ap (λ pieces. name (plain_pieces pieces) (get_or c.args.names.now i 0)) c.desc.ensures)))) (
+    (ap (λ after. members_part d each c.args.object.now c.in_ok-written.written.left (drop (i + 1) c.args.names.now) after) (sym (c.in_ok-put_member.ensures ∙ ap (λ key. put key (view c.in_ok-written.written.json) ms) c.name.ensures))) (
     members_on d b each c.args.object.now whole c.args.engine.now c.loop-name.engine c.inner_part.new.engine
     c.loop-name.left (get_or c.args.names.now i 0) (drop i c.args.names.now) (drop (i + 1) c.args.names.now) ms _ c.in_ok-written.written
     (drop_step c.args.names.now i 0 c.loop-name-test.true) c.in_ok-path.ensures c.loop-name.invariant c.in_ok-written.ensures)

@@ -1,7 +1,6 @@
 use Rattle.std.proofs.Common.{◌∙◌, ◌++◌, Global, Ok, String, ap, codes, string_bytes, sym}
 use Rattle.ksv_basics.specs.Plan.{Answer}
 use Rattle.ksv_desc.specs.Description.{members}
-use Rattle.ksv_desc.specs.Whole.{plain_pieces}
 use Rattle.ksv_texts.specs.Texts.{names_text}
 use Rattle.ksv_questions.specs.Code.{desc_of, bytes_of}
 use Rattle.ksv_questions.specs.Questions.{parts_of}
@@ -24,8 +23,7 @@ returns-in_ok-names_text-in-Object g c =
     runs_settled d b (parts_of d c.args.path.now c.args.head) (λ (text : String Global). string_bytes text)
     c.args.engine.now (Ok c.in_ok-names_text-in-Object.field-0) c.requires
     (ap (λ h. parts_of d c.args.path.now h) c.in-Object.is ∙ ap Answer (sym (c.in_ok-names_text-in-Object.ensures
-    ∙ ap (λ names. codes "members" ++ names_text (plain_pieces c.desc-desc.result.now) names) c.members.ensures
-    ∙ ap (λ pieces. codes "members" ++ names_text (plain_pieces pieces) (members (plain_pieces pieces) c.in-Object.object.type_number)) c.desc-desc.ensures)))
+    ∙ ap (λ names. codes "members" ++ names_text d names) c.members.ensures)))
 
 pub returns-in_ok-from_str-in_default : goal.returns-in_ok-from_str-in_default
 returns-in_ok-from_str-in_default g c =
