@@ -43,25 +43,10 @@ abbrev pub pathed : Description → Option (List ℕ) → Result Trail LineRefus
 pathed d (Some path) = valid_path (path_named d path)
 pathed d None = Err refusals.WrongArguments
 
--- `get PATH`
-abbrev pub get_of : Result Trail LineRefusal → Command
-get_of (Ok path) = Ask (questions.Value path)
-get_of (Err refusal) = Refused refusal
-
--- `at PATH`
-abbrev pub at_of : Result Trail LineRefusal → Command
-at_of (Ok path) = Ask (questions.Place path)
-at_of (Err refusal) = Refused refusal
-
--- `ls PATH`
-abbrev pub ls_of : Result Trail LineRefusal → Command
-ls_of (Ok path) = Ask (questions.Members path)
-ls_of (Err refusal) = Refused refusal
-
--- `dump PATH`
-abbrev pub dump_of : Result Trail LineRefusal → Command
-dump_of (Ok path) = Ask (questions.Dump path)
-dump_of (Err refusal) = Refused refusal
+-- a question about the argument `PATH`
+abbrev pub about_path : (Trail → Question) → Result Trail LineRefusal → Command
+about_path question (Ok path) = Ask (question path)
+about_path question (Err refusal) = Refused refusal
 
 abbrev pub put_number : Trail → Option ℤ → Command
 put_number path (Some n) = Put path n
@@ -80,66 +65,49 @@ abbrev pub put_of : Description → List (List ℕ) → Command
 put_of d [] = wrong_arguments
 put_of d (path ∷ words) = put_words d path (only words)
 
-abbrev pub hex_at : ℕ → Option (List ℕ) → Result (ℕ × List ℕ) LineRefusal
-hex_at at (Some bytes) = Ok (at, bytes)
-hex_at at None = Err refusals.BadHex
+abbrev pub word_at : Option ℕ → List ℕ → Result (ℕ × List ℕ) LineRefusal
+word_at (Some at) word = Ok (at, word)
+word_at None word = Err refusals.BadNumber
 
-abbrev pub digits_at : Option ℕ → List ℕ → Result (ℕ × List ℕ) LineRefusal
-digits_at (Some at) digits = hex_at at (bytes_of digits)
-digits_at None digits = Err refusals.BadNumber
+abbrev pub word_after : List ℕ → Option (List ℕ) → Result (ℕ × List ℕ) LineRefusal
+word_after place (Some word) = word_at (number_of place) word
+word_after place None = Err refusals.WrongArguments
 
-abbrev pub word_at : List ℕ → Option (List ℕ) → Result (ℕ × List ℕ) LineRefusal
-word_at at (Some digits) = digits_at (number_of at) digits
-word_at at None = Err refusals.WrongArguments
+-- the argument `POS`, and the one word after it
+abbrev pub place_and_word : List (List ℕ) → Result (ℕ × List ℕ) LineRefusal
+place_and_word [] = Err refusals.WrongArguments
+place_and_word (place ∷ words) = word_after place (only words)
+
+abbrev pub bytes_at : ℕ → Option (List ℕ) → Result (ℕ × List ℕ) LineRefusal
+bytes_at at (Some bytes) = Ok (at, bytes)
+bytes_at at None = Err refusals.BadHex
 
 -- the arguments `POS HEX`
-abbrev pub placed : List (List ℕ) → Result (ℕ × List ℕ) LineRefusal
-placed [] = Err refusals.WrongArguments
-placed (at ∷ words) = word_at at (only words)
+abbrev pub place_and_bytes : Result (ℕ × List ℕ) LineRefusal → Result (ℕ × List ℕ) LineRefusal
+place_and_bytes (Ok (at, digits)) = bytes_at at (bytes_of digits)
+place_and_bytes (Err refusal) = Err refusal
 
--- `set POS HEX`
-abbrev pub set_of : Result (ℕ × List ℕ) LineRefusal → Command
-set_of (Ok (at, bytes)) = Set at bytes
-set_of (Err refusal) = Refused refusal
-
--- `ins POS HEX`
-abbrev pub ins_of : Result (ℕ × List ℕ) LineRefusal → Command
-ins_of (Ok (at, bytes)) = Ins at bytes
-ins_of (Err refusal) = Refused refusal
-
-abbrev pub count_from : ℕ → Option ℕ → Result (ℕ × ℕ) LineRefusal
-count_from at (Some count) = Ok (at, count)
-count_from at None = Err refusals.BadNumber
-
-abbrev pub count_at : Option ℕ → List ℕ → Result (ℕ × ℕ) LineRefusal
-count_at (Some at) count = count_from at (number_of count)
-count_at None count = Err refusals.BadNumber
-
-abbrev pub count_word : List ℕ → Option (List ℕ) → Result (ℕ × ℕ) LineRefusal
-count_word at (Some count) = count_at (number_of at) count
-count_word at None = Err refusals.WrongArguments
+abbrev pub count_at : ℕ → Option ℕ → Result (ℕ × ℕ) LineRefusal
+count_at at (Some count) = Ok (at, count)
+count_at at None = Err refusals.BadNumber
 
 -- the arguments `POS COUNT`
-abbrev pub counted : List (List ℕ) → Result (ℕ × ℕ) LineRefusal
-counted [] = Err refusals.WrongArguments
-counted (at ∷ words) = count_word at (only words)
-
--- `del POS COUNT`
-abbrev pub del_of : Result (ℕ × ℕ) LineRefusal → Command
-del_of (Ok (at, count)) = Del at count
-del_of (Err refusal) = Refused refusal
+abbrev pub place_and_count : Result (ℕ × List ℕ) LineRefusal → Result (ℕ × ℕ) LineRefusal
+place_and_count (Ok (at, digits)) = count_at at (number_of digits)
+place_and_count (Err refusal) = Err refusal
 
 -- the most bytes that one line shows
 abbrev pub shown_limit : ℕ
 shown_limit = 4096
 
+-- bytes are shown, if they aren't too many
 abbrev pub shown : ℕ → ℕ → Command
 shown at count = if nat_lt shown_limit count then Refused refusals.TooLarge else Bytes at count
 
--- `bytes POS COUNT`
-abbrev pub shown_of : Result (ℕ × ℕ) LineRefusal → Command
-shown_of (Ok (at, count)) = shown at count
-shown_of (Err refusal) = Refused refusal
+-- a command with a place and one more argument
+abbrev pub at_place : {A : Type 0} → (ℕ → A → Command) → Result (ℕ × A) LineRefusal → Command
+at_place command (Ok (at, value)) = command at value
+at_place command (Err refusal) = Refused refusal
 
 abbrev pub app_bytes : Option (List ℕ) → Command
 app_bytes (Some bytes) = App bytes
@@ -157,16 +125,16 @@ alone command (word ∷ words) = wrong_arguments
 
 abbrev pub command_named : Description → List ℕ → List (List ℕ) → Command
 command_named d name arguments =
-    if bytes_eq name (codes "get") then get_of (pathed d (only arguments))
-    else if bytes_eq name (codes "at") then at_of (pathed d (only arguments))
-    else if bytes_eq name (codes "ls") then ls_of (pathed d (only arguments))
-    else if bytes_eq name (codes "dump") then dump_of (pathed d (only arguments))
+    if bytes_eq name (codes "get") then about_path questions.Value (pathed d (only arguments))
+    else if bytes_eq name (codes "at") then about_path questions.Place (pathed d (only arguments))
+    else if bytes_eq name (codes "ls") then about_path questions.Members (pathed d (only arguments))
+    else if bytes_eq name (codes "dump") then about_path questions.Dump (pathed d (only arguments))
     else if bytes_eq name (codes "put") then put_of d arguments
-    else if bytes_eq name (codes "set") then set_of (placed arguments)
-    else if bytes_eq name (codes "ins") then ins_of (placed arguments)
-    else if bytes_eq name (codes "del") then del_of (counted arguments)
+    else if bytes_eq name (codes "set") then at_place Set (place_and_bytes (place_and_word arguments))
+    else if bytes_eq name (codes "ins") then at_place Ins (place_and_bytes (place_and_word arguments))
+    else if bytes_eq name (codes "del") then at_place Del (place_and_count (place_and_word arguments))
     else if bytes_eq name (codes "app") then app_of (only arguments)
-    else if bytes_eq name (codes "bytes") then shown_of (counted arguments)
+    else if bytes_eq name (codes "bytes") then at_place shown (place_and_count (place_and_word arguments))
     else if bytes_eq name (codes "size") then alone Size arguments
     else if bytes_eq name (codes "stats") then alone Stats arguments
     else if bytes_eq name (codes "quit") then alone Quit arguments

@@ -1,8 +1,10 @@
 //! Reads a line: nothing, a command with its values, or a refusal.
-ghost use Rattle.std.specs.Prelude.{◌≡◌, ◌≤◌, ◌↔◌, [], length, is_ok, IfOk, IfSome, IsTrue, OnErr, option_copied};
+ghost use Rattle.std.specs.Prelude.{◌≡◌, ◌≤◌, ◌↔◌, [], length, is_ok, Err, IfOk, IfSome, IsTrue, MatchResult, Ok, OnErr, option_copied};
 ghost use Rattle.ksv_desc.specs.Whole.{plain_pieces};
 ghost use Rattle.ksv_lines.specs.Lines.{line_limit, words_of};
-ghost use Rattle.ksv_commands.specs.Commands.{alone, app_of, at_of, command_named, command_of, counted, del_of, dump_of, get_of, ins_of, is_question, ls_of, only, pathed, placed, put_of, set_of, shown_of};
+ghost use Rattle.ksv_commands.specs.Commands.{alone, app_of, command_named, command_of, is_question, only, pathed, place_and_bytes, place_and_count, place_and_word, put_of, shown};
+ghost use Rattle.ksv_commands.specs.declared.command.Command.TheVariants.{Ask, Refused};
+ghost use Rattle.ksv_commands.specs.declared.command.Question.{Question};
 
 use crate::number::{integer, number};
 use crate::refusal::LineRefusal;
@@ -25,7 +27,7 @@ pub enum Question {
     Value(Path),
     /// `at`: where it begins and ends.
     Place(Path),
-    /// `ls`: what an object has, or how many elements a list.
+    /// `ls`: the members of an object, or the number of elements of a list.
     Members(Path),
     /// `dump`: the value there with all that is in it, as JSON.
     Dump(Path),
@@ -46,9 +48,9 @@ pub enum Command {
     Set(u64, EditBytes),
     /// `ins POS HEX`: bytes put before the byte at a place, or after the last one.
     Ins(u64, EditBytes),
-    /// `del POS COUNT`: so many bytes from a place on, taken out.
+    /// `del POS COUNT`: this many bytes removed, from a place on.
     Del(u64, u64),
-    /// `bytes POS COUNT`: the bytes from a place on, at most 4,096.
+    /// `bytes POS COUNT`: this many bytes shown, from a place on, at most 4,096.
     Bytes(u64, u64),
     /// `app HEX`: bytes added at the end.
     App(EditBytes),
@@ -94,59 +96,32 @@ fn only_path(
     }
 }
 
-/// Reads the arguments of `get`.
-fn get(alloc: Global, desc: &Desc, arguments: &[u8]) -> Result<Command, AllocError>
-    ensures command { IfOk result (λ command. command ≡ get_of (pathed (plain_pieces desc.now) (only (words_of arguments.now)))) }
-    ensures refused { OnErr result (IsTrue (is_question (get_of (pathed (plain_pieces desc.now) (only (words_of arguments.now)))))) }
+/// Reads the argument of a question.
+fn about_path<F: FnOnce(Path) -> Question>(
+    alloc: Global,
+    desc: &Desc,
+    arguments: &[u8],
+    question: F,
+) -> Result<Command, AllocError>
+    requires { F.IsAlwaysCallable question }
+    ensures command { IfOk result (λ command. MatchResult (pathed (plain_pieces desc.now) (only (words_of arguments.now))) (λ path. (asks : Question) × F.post question path asks × (command ≡ Ask asks)) (λ refusal. command ≡ Refused refusal)) }
+    ensures refused { OnErr result (IsTrue (is_ok (pathed (plain_pieces desc.now) (only (words_of arguments.now))))) }
 {
     match only_path(alloc, desc, arguments)? {
-        Ok(path) => Ok(Command::Ask(Question::Value(path))),
+        Ok(path) => Ok(Command::Ask(question(path))),
         Err(refusal) => Ok(Command::Refused(refusal)),
     }
 }
 
-/// Reads the arguments of `at`.
-fn at(alloc: Global, desc: &Desc, arguments: &[u8]) -> Result<Command, AllocError>
-    ensures command { IfOk result (λ command. command ≡ at_of (pathed (plain_pieces desc.now) (only (words_of arguments.now)))) }
-    ensures refused { OnErr result (IsTrue (is_question (at_of (pathed (plain_pieces desc.now) (only (words_of arguments.now)))))) }
-{
-    match only_path(alloc, desc, arguments)? {
-        Ok(path) => Ok(Command::Ask(Question::Place(path))),
-        Err(refusal) => Ok(Command::Refused(refusal)),
-    }
-}
-
-/// Reads the arguments of `ls`.
-fn ls(alloc: Global, desc: &Desc, arguments: &[u8]) -> Result<Command, AllocError>
-    ensures command { IfOk result (λ command. command ≡ ls_of (pathed (plain_pieces desc.now) (only (words_of arguments.now)))) }
-    ensures refused { OnErr result (IsTrue (is_question (ls_of (pathed (plain_pieces desc.now) (only (words_of arguments.now)))))) }
-{
-    match only_path(alloc, desc, arguments)? {
-        Ok(path) => Ok(Command::Ask(Question::Members(path))),
-        Err(refusal) => Ok(Command::Refused(refusal)),
-    }
-}
-
-/// Reads the arguments of `dump`.
-fn dump(alloc: Global, desc: &Desc, arguments: &[u8]) -> Result<Command, AllocError>
-    ensures command { IfOk result (λ command. command ≡ dump_of (pathed (plain_pieces desc.now) (only (words_of arguments.now)))) }
-    ensures refused { OnErr result (IsTrue (is_question (dump_of (pathed (plain_pieces desc.now) (only (words_of arguments.now)))))) }
-{
-    match only_path(alloc, desc, arguments)? {
-        Ok(path) => Ok(Command::Ask(Question::Dump(path))),
-        Err(refusal) => Ok(Command::Refused(refusal)),
-    }
-}
-
-/// Reads the arguments of `put`. A path that is refused memory is valid, so that the integer is still what is wrong.
+/// Reads the arguments of `put`. Only a valid path takes memory, so a bad integer is refused even if memory runs out.
 fn put(alloc: Global, desc: &Desc, arguments: &[u8]) -> Result<Command, AllocError>
     ensures command { IfOk result (λ command. command ≡ put_of (plain_pieces desc.now) (words_of arguments.now)) }
     ensures refused { OnErr result (IsTrue (is_question (put_of (plain_pieces desc.now) (words_of arguments.now)))) }
 {
-    let Some((path, behind)) = next_word(arguments) else {
+    let Some((path, rest)) = next_word(arguments) else {
         return Ok(Command::Refused(LineRefusal::WrongArguments));
     };
-    let Some(digits) = only_word(behind) else {
+    let Some(digits) = only_word(rest) else {
         return Ok(Command::Refused(LineRefusal::WrongArguments));
     };
     match (path_of(alloc, desc, path), integer(digits)) {
@@ -157,85 +132,68 @@ fn put(alloc: Global, desc: &Desc, arguments: &[u8]) -> Result<Command, AllocErr
     }
 }
 
+/// Reads the argument `POS`, and finds the one word after it.
+fn place_and_word(arguments: &[u8]) -> Result<(u64, &[u8]), LineRefusal>
+    ensures read { MatchResult result (λ read. place_and_word (words_of arguments.now) ≡ Ok (read.0, read.1.now)) (λ refusal. place_and_word (words_of arguments.now) ≡ Err refusal) }
+    ensures within { IfOk result (λ read. length read.1.now ≤ length arguments.now) }
+{
+    let Some((place, rest)) = next_word(arguments) else {
+        return Err(LineRefusal::WrongArguments);
+    };
+    let Some(word) = only_word(rest) else {
+        return Err(LineRefusal::WrongArguments);
+    };
+    match number(place) {
+        Some(at) => Ok((at, word)),
+        None => Err(LineRefusal::BadNumber),
+    }
+}
+
 /// Reads the arguments `POS HEX`.
 fn place_and_bytes(arguments: &[u8]) -> Result<(u64, EditBytes), LineRefusal>
     requires { length arguments.now ≤ line_limit }
-    ensures { result ≡ placed (words_of arguments.now) }
+    ensures { result ≡ place_and_bytes (place_and_word (words_of arguments.now)) }
 {
-    let Some((place, behind)) = next_word(arguments) else {
-        return Err(LineRefusal::WrongArguments);
-    };
-    let Some(digits) = only_word(behind) else {
-        return Err(LineRefusal::WrongArguments);
-    };
-    let Some(at) = number(place) else {
-        return Err(LineRefusal::BadNumber);
-    };
+    let (at, digits) = place_and_word(arguments)?;
     match edit_bytes(digits) {
         Some(bytes) => Ok((at, bytes)),
         None => Err(LineRefusal::BadHex),
     }
 }
 
-/// Reads the arguments of `set`.
-fn set(arguments: &[u8]) -> Command
-    requires { length arguments.now ≤ line_limit }
-    ensures { result ≡ set_of (placed (words_of arguments.now)) }
-{
-    match place_and_bytes(arguments) {
-        Ok((at, bytes)) => Command::Set(at, bytes),
-        Err(refusal) => Command::Refused(refusal),
-    }
-}
-
-/// Reads the arguments of `ins`.
-fn ins(arguments: &[u8]) -> Command
-    requires { length arguments.now ≤ line_limit }
-    ensures { result ≡ ins_of (placed (words_of arguments.now)) }
-{
-    match place_and_bytes(arguments) {
-        Ok((at, bytes)) => Command::Ins(at, bytes),
-        Err(refusal) => Command::Refused(refusal),
-    }
-}
-
 /// Reads the arguments `POS COUNT`.
 fn place_and_count(arguments: &[u8]) -> Result<(u64, u64), LineRefusal>
-    ensures { result ≡ counted (words_of arguments.now) }
+    ensures { result ≡ place_and_count (place_and_word (words_of arguments.now)) }
 {
-    let Some((place, behind)) = next_word(arguments) else {
-        return Err(LineRefusal::WrongArguments);
-    };
-    let Some(digits) = only_word(behind) else {
-        return Err(LineRefusal::WrongArguments);
-    };
-    let Some(at) = number(place) else {
-        return Err(LineRefusal::BadNumber);
-    };
+    let (at, digits) = place_and_word(arguments)?;
     match number(digits) {
         Some(count) => Ok((at, count)),
         None => Err(LineRefusal::BadNumber),
     }
 }
 
-/// Reads the arguments of `del`.
-fn del(arguments: &[u8]) -> Command
-    ensures { result ≡ del_of (counted (words_of arguments.now)) }
+/// The command for a place and what comes after it, or the refusal of these arguments.
+fn at_place<T: Drop, F: FnOnce(u64, T) -> Command>(
+    arguments: Result<(u64, T), LineRefusal>,
+    command: F,
+) -> Command
+    requires { F.IsAlwaysCallable command }
+    ensures { MatchResult arguments (λ read. F.post command read.0 read.1 result) (λ refusal. result ≡ Refused refusal) }
 {
-    match place_and_count(arguments) {
-        Ok((at, count)) => Command::Del(at, count),
+    match arguments {
+        Ok((at, value)) => command(at, value),
         Err(refusal) => Command::Refused(refusal),
     }
 }
 
-/// Reads the arguments of `bytes`.
-fn bytes(arguments: &[u8]) -> Command
-    ensures { result ≡ shown_of (counted (words_of arguments.now)) }
+/// Shows bytes from a place on, if they aren't too many.
+fn shown(at: u64, count: u64) -> Command
+    ensures { result ≡ shown at count }
 {
-    match place_and_count(arguments) {
-        Ok((_, count)) if count > SHOWN_LIMIT => Command::Refused(LineRefusal::TooLarge),
-        Ok((at, count)) => Command::Bytes(at, count),
-        Err(refusal) => Command::Refused(refusal),
+    if count > SHOWN_LIMIT {
+        Command::Refused(LineRefusal::TooLarge)
+    } else {
+        Command::Bytes(at, count)
     }
 }
 
@@ -276,25 +234,25 @@ fn command_with(
     ensures refused { OnErr result (IsTrue (is_question (command_named (plain_pieces desc.now) name.now (words_of arguments.now)))) }
 {
     if name == b"get".as_slice() {
-        get(alloc, desc, arguments)
+        about_path(alloc, desc, arguments, Question::Value)
     } else if name == b"at".as_slice() {
-        at(alloc, desc, arguments)
+        about_path(alloc, desc, arguments, Question::Place)
     } else if name == b"ls".as_slice() {
-        ls(alloc, desc, arguments)
+        about_path(alloc, desc, arguments, Question::Members)
     } else if name == b"dump".as_slice() {
-        dump(alloc, desc, arguments)
+        about_path(alloc, desc, arguments, Question::Dump)
     } else if name == b"put".as_slice() {
         put(alloc, desc, arguments)
     } else if name == b"set".as_slice() {
-        Ok(set(arguments))
+        Ok(at_place(place_and_bytes(arguments), Command::Set))
     } else if name == b"ins".as_slice() {
-        Ok(ins(arguments))
+        Ok(at_place(place_and_bytes(arguments), Command::Ins))
     } else if name == b"del".as_slice() {
-        Ok(del(arguments))
+        Ok(at_place(place_and_count(arguments), Command::Del))
     } else if name == b"app".as_slice() {
         Ok(app(arguments))
     } else if name == b"bytes".as_slice() {
-        Ok(bytes(arguments))
+        Ok(at_place(place_and_count(arguments), shown))
     } else if name == b"size".as_slice() {
         Ok(without_arguments(Command::Size, arguments))
     } else if name == b"stats".as_slice() {

@@ -9,7 +9,7 @@ use std::alloc::{AllocError, Global};
 /// What a command line names.
 #[derive(Clone, Copy)]
 pub struct Args<'a> {
-    /// The path of the file for the bytes at the session's end, if they are to be kept.
+    /// Where the bytes are saved at the end of the session, if they are.
     pub save: Option<&'a str>,
     /// The path of the file.
     pub file: &'a str,
@@ -17,7 +17,7 @@ pub struct Args<'a> {
     pub ksy: &'a str,
 }
 
-/// What help says at its end: the command lines, and an example.
+/// The end of the help: the commands, and an example.
 const COMMAND_LINES: &str = "\
 Command lines are read from standard input, and each is answered in one line:
   get PATH         the value at a path, such as /items/0/name; / is the whole file
@@ -36,7 +36,7 @@ Command lines are read from standard input, and each is answered in one line:
 
 Example: echo 'get /' | ksv picture.png png.ksy";
 
-/// A required word, with the name that usage shows and what help says of it.
+/// A required argument: its name in the usage, and its line of the help.
 fn demanded<'a>(alloc: Global, id: &'a str, shown: &'a str, help: &'a str) -> Arg<'a>
     ensures { IsDemanded id.now result }
 {
@@ -47,7 +47,7 @@ fn demanded<'a>(alloc: Global, id: &'a str, shown: &'a str, help: &'a str) -> Ar
         .action(ArgAction::Set)
 }
 
-/// A word that may be given after `--ID`, with the name that usage shows and what help says of it.
+/// An optional `--ID VALUE`: the name of the value in the usage, and its line of the help.
 fn optional<'a>(alloc: Global, id: &'a str, shown: &'a str, help: &'a str) -> Arg<'a>
     ensures { IsOption id.now result }
 {
@@ -58,7 +58,7 @@ fn optional<'a>(alloc: Global, id: &'a str, shown: &'a str, help: &'a str) -> Ar
         .action(ArgAction::Set)
 }
 
-/// The program's name and its help, without words yet.
+/// The program's name and its help, before any argument is added.
 fn named<'a>(alloc: Global) -> Command<'a>
     ensures { IsNamed result }
 {
@@ -87,8 +87,8 @@ fn command<'a>(alloc: Global) -> Result<Command<'a>, AllocError>
     Ok(with_both)
 }
 
-/// Reads the words of a command line; the first is the program's name. The errors are `clap`'s: they hold the texts
-/// of usage and help, and their exit codes. Valid arguments fail only when memory runs out.
+/// Reads the words of a command line; the first is the program's name. An error is `clap`'s: it has the text to print,
+/// which may be the help, and the exit code. Valid arguments fail only when memory runs out.
 pub fn arguments<'a>(alloc: Global, words: &'a [&'a str]) -> Result<Args<'a>, Error>
     ensures save { IfOk result (λ args. option_map (λ s. s.now) args.save ≡ found (map (λ w. w.now) words.entry.now) (codes "save")) }
     ensures file { IfOk result (λ args. Some args.file.now ≡ found (map (λ w. w.now) words.entry.now) (codes "file")) }

@@ -5,7 +5,7 @@ ghost use Rattle.ksv_lines.specs.Lines.{line_limit};
 
 use std::marker::Model;
 
-/// The most bytes that one line can carry: half as many as it has bytes.
+/// The most bytes that one line can write: two digits make one.
 const EDIT_LIMIT: usize = 2048;
 
 /// The bytes of an edit, in an array, so that reading them takes no memory.

@@ -58,7 +58,7 @@ fn write_three<W: Sink>(first: &str, second: &str, third: &str, sink: &mut W) ->
     write_all(sink, third.as_bytes())
 }
 
-/// Writes what ends the message of a refused description: the place in an expression, if there is one.
+/// Writes the end of the message for a refused description: the place in an expression, if there is one.
 fn write_place<W: Sink>(place: Option<u32>, sink: &mut W) -> Result<(), Failed>
     requires { W.failed sink.old ≡ false }
     ensures ok { IsTrue W.tells → OnOk result (W.bytes sink.new ≡ W.bytes sink.old ++ place_text place) }
@@ -90,8 +90,7 @@ fn say_line<W: Sink>(
     write_place(place, sink)
 }
 
-/// Writes the message for a stop, one line. The names are those that the words gave to the file, to its description
-/// and to the file for the bytes.
+/// Writes the message for a stop, one line. It names a file as the command line does.
 pub fn say<W: Sink>(stop: &Stop, names: [&str; 3], sink: &mut W) -> Result<(), Failed>
     requires { W.failed sink.old ≡ false }
     ensures ok { IsTrue W.tells → OnOk result (W.bytes sink.new ≡ W.bytes sink.old ++ message (map (λ name. name.now) names.entry) stop.now) }

@@ -2,7 +2,7 @@
 ghost use Rattle.std.specs.Prelude.{◌≡◌, ◌≤◌, ◌<◌, [], ◌∷◌, length, MatchOption, IfSome, position, not, true};
 ghost use Rattle.ksv_lines.specs.Lines.{BeginsWord, is_blank, is_word_start, without_carriage_return, words_of};
 
-/// Where the first byte is that is neither a space nor a tab.
+/// The place of the first byte that is neither a space nor a tab.
 fn filled_place(text: &[u8]) -> Option<usize>
     ensures { result ≡ position (λ c. not (is_blank c)) text.now }
 {
@@ -10,7 +10,7 @@ fn filled_place(text: &[u8]) -> Option<usize>
         .position(|byte| !(*byte == b' ' || *byte == b'\t'))
 }
 
-/// Where the first space or tab is.
+/// The place of the first space or tab.
 fn blank_place(text: &[u8]) -> Option<usize>
     ensures { result ≡ position is_blank text.now }
 {

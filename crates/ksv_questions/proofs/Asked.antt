@@ -1,6 +1,8 @@
 -- An engine that is asked one list of nodes and then another.
 use Rattle.std.proofs.Common.{◌≡◌, ℕ, ◌+◌, Bool, true, false, List, [], ◌∷◌, ◌++◌, Option, None, refl, sym, ◌∙◌, ap, ◌||◌, append_assoc, subst}
 use Rattle.std.specs.Prelude.{if◌then◌else◌}
+use Rattle.std.proofs.Math.Bool.{or_assoc}
+use Rattle.std.proofs.lemmas.Bool.{or_left}
 use Rattle.std.proofs.lemmas.Grind.{flat_map-append}
 use Rattle.ksv_memo_rules.specs.Entry.{Memo}
 use Rattle.ksv_memo_rules.specs.Evaluation.{done, is_among, tells}
@@ -17,15 +19,8 @@ pub circle_append : {N A : Type 0} (w : Standing N A) (ms ns : List N) → meets
 unfolding meets_circle
 circle_append w [] ns = refl
 circle_append w (m ∷ ms) ns = ap (λ b. is_circle (tells w [] m).outcome || b) (circle_append w ms ns) ∙ sym (or_assoc (is_circle (tells w [] m).outcome) (meets_circle w ms) (meets_circle w ns))
-  where
-    or_assoc : (a b c : Bool) → ((a || b) || c) ≡ (a || (b || c))
-    or_assoc true b c = refl
-    or_assoc false b c = refl
 
 -- ---- lists of nodes
-
-pub exactly_none : {N A : Type 0} (w : Standing N A) (ns : List N) (is : AreExactly w ns ns) → AreExactly w ns (ns ++ [])
-exactly_none w ns is = record { once = is.once; same = λ x. ap (λ ms. is_among w.number ms x) (sym (++-nil ns)) }
 
 module _ {N A : Type 0} (w : Standing N A) where
   pub exactly_then : (old mid new xs ys : List N) → AreExactly w mid (old ++ xs) → AreExactly w new (mid ++ ys) → AreExactly w new (old ++ (xs ++ ys))
@@ -34,11 +29,8 @@ module _ {N A : Type 0} (w : Standing N A) where
     same = λ x. k.same x ∙ among_more w.number mid (old ++ xs) ys h.same x ∙ ap (λ ms. is_among w.number ms x) (append_assoc old xs ys);
   }
 
-  or_first : (a b : Bool) → a ≡ true → (a || b) ≡ true
-  or_first a b e = ap (λ c. c || b) e
-
   in_longer : (ms ns : List N) (x : N) → is_among w.number ms x ≡ true → is_among w.number (ms ++ ns) x ≡ true
-  in_longer ms ns x h = is_among-append w.number ms ns x ∙ or_first (is_among w.number ms x) (is_among w.number ns x) h
+  in_longer ms ns x h = is_among-append w.number ms ns x ∙ or_left (is_among w.number ms x) (is_among w.number ns x) h
 
   -- what lies between two lists does so with more behind the second
   pub between_more : (old new xs ys : List N) → AreBetween w old new (old ++ xs) → AreBetween w old new (old ++ (xs ++ ys))
@@ -95,10 +87,6 @@ module _ {N A : Type 0} (w : Standing N A) where
     kept = record { once = right.once; same = λ x. ap (λ ms. is_among w.number ms x) (sym (++-nil (nodes_of old.kept))) };
     turns = sym (ap (λ ns. counted (costs w ns) old.turns) (fresh-nil w.number (nodes_of old.kept)));
   }
-
-  -- the same for a list that turns out to be empty
-  pub asked_nothing : (old : Memo N A) (ns : List N) → ns ≡ [] → IsRight w old.kept → HasAsked w ns old old
-  asked_nothing old ns none right = subst (λ ms. HasAsked w ms old old) (sym none) (asked_none old right)
 
   pub asked_then : (old mid new : Memo N A) (ms ns : List N) → HasAsked w ms old mid → HasAsked w ns mid new → HasAsked w (ms ++ ns) old new
   asked_then old mid new ms ns h k = record {

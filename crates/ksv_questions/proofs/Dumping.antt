@@ -1,5 +1,5 @@
 -- The steps of a dump.
-use Rattle.std.proofs.Common.{◌≡◌, ℕ, zero, suc, ◌+◌, ◌-◌, ◌<◌, ◌≤◌, List, [], ◌∷◌, ◌++◌, drop, get_or, length, map, Result, Ok, Err, refl, sym, ◌∙◌, ap, subst, arith}
+use Rattle.std.proofs.Common.{◌≡◌, ℕ, zero, suc, ◌+◌, ◌-◌, ◌<◌, ◌≤◌, List, [], ◌∷◌, ◌++◌, drop, get_or, length, map, Option, Result, Ok, Err, refl, sym, ◌∙◌, ap, subst, arith}
 use Rattle.serde_json.specs.Data.{Data, Members, array, object, put}
 use Rattle.serde_json.specs.View.{items_of, view}
 use Rattle.serde_json.specs.declared.value.Value.{Value as Json}
@@ -19,7 +19,7 @@ use Rattle.ksv_questions.specs.Dumps.{Found, Part, begun_part, elements_part, in
 use Rattle.ksv_questions.specs.Engines.{world}
 use Rattle.ksv_questions.specs.declared.asking.Untold.{Untold}
 use Rattle.ksv_questions.specs.declared.dump.Dumped.{Dumped}
-use Rattle.ksv_questions.proofs.Steps.{Pending, pending_start, runs_ended, runs_on}
+use Rattle.ksv_questions.proofs.Steps.{Pending, pending_on, pending_run, pending_start, runs_ended, runs_failed, runs_on, runs_settled}
 
 module _ (d : Description) (b : List ℕ) where
   -- what was found is gone into
@@ -78,6 +78,50 @@ module _ (d : Description) (b : List ℕ) where
   pub members_end : (each : ℕ → Trail → Asking Part) (q : Trail) (left : ℕ) (names : List ℕ) (ms : Members) → names ≡ [] → members_part d each q left names ms ≡ written (object ms) left
   unfolding members_part
   members_end each q left names ms is = ap (λ ns. members_part d each q left ns ms) is
+
+  -- a loop's next part was written
+  pub loop_on : (whole rest p : Asking Part) (f : Part → Asking Part) (old mid new : Memo Node Heard) (x : Dumped)
+      → rest ≡ bind p f → Pending d b whole old rest mid → Runs d b p dumped mid new (Ok x) → Pending d b whole old (f (dumped x)) new
+  loop_on whole rest p f old mid new x same h k = pending_on d b whole p f dumped old mid new x (pending_as whole rest (bind p f) old mid same h) k
+
+  -- or it failed
+  pub loop_failed : (whole rest p : Asking Part) (f : Part → Asking Part) (old mid new : Memo Node Heard) (e : Untold)
+      → rest ≡ bind p f → Pending d b whole old rest mid → Runs d b p dumped mid new (Err e) → Runs d b whole dumped old new (Err e)
+  loop_failed whole rest p f old mid new e same h k =
+      pending_run d b whole (bind p f) dumped old mid new (Err e) (pending_as whole rest (bind p f) old mid same h) (runs_failed d b p f dumped dumped mid new e k)
+
+  -- nothing is left
+  pub loop_done : (whole rest : Asking Part) (old mid : Memo Node Heard) (x : Dumped) → rest ≡ Answer (dumped x) → Pending d b whole old rest mid → Runs d b whole dumped old mid (Ok x)
+  loop_done whole rest old mid x same h = pending_run d b whole rest dumped old mid mid (Ok x) h (runs_settled d b rest dumped mid (Ok x) h.went.right same)
+
+  module _ (each : ℕ → Trail → Asking Part) (q : Trail) (whole : Asking Part) (old mid new : Memo Node Heard) where
+    pub elements_on : (left i count : ℕ) (vs : List Json) (path : Option Trail) (x : Dumped) → i < count → path ≡ child q (Index i)
+        → Pending d b whole old (elements_part d each q left i (count - i) (map view vs)) mid → Runs d b (inner d each q left path) dumped mid new (Ok x)
+        → Pending d b whole old (elements_part d each q x.left (i + 1) (count - (i + 1)) (map view vs ++ view x.json ∷ [])) new
+    elements_on left i count vs path x more is h k =
+        loop_on whole (elements_part d each q left i (count - i) (map view vs)) (inner d each q left (child q (Index i))) (λ y. elements_part d each q y.left (i + 1) (count - (i + 1)) (map view vs ++ y.json ∷ [])) old mid new x
+        (elements_step each q left i count (map view vs) more) h (subst (λ o. Runs d b (inner d each q left o) dumped mid new (Ok x)) is k)
+
+    pub elements_failed : (left i count : ℕ) (vs : List Json) (path : Option Trail) (e : Untold) → i < count → path ≡ child q (Index i)
+        → Pending d b whole old (elements_part d each q left i (count - i) (map view vs)) mid → Runs d b (inner d each q left path) dumped mid new (Err e)
+        → Runs d b whole dumped old new (Err e)
+    elements_failed left i count vs path e more is h k =
+        loop_failed whole (elements_part d each q left i (count - i) (map view vs)) (inner d each q left (child q (Index i))) (λ y. elements_part d each q y.left (i + 1) (count - (i + 1)) (map view vs ++ y.json ∷ [])) old mid new e
+        (elements_step each q left i count (map view vs) more) h (subst (λ o. Runs d b (inner d each q left o) dumped mid new (Err e)) is k)
+
+    pub members_on : (left x : ℕ) (names rest : List ℕ) (ms : Members) (path : Option Trail) (y : Dumped) → names ≡ x ∷ rest → path ≡ child q (Name x)
+        → Pending d b whole old (members_part d each q left names ms) mid → Runs d b (inner d each q left path) dumped mid new (Ok y)
+        → Pending d b whole old (members_part d each q y.left rest (put (name d x) (view y.json) ms)) new
+    members_on left x names rest ms path y more is h k =
+        loop_on whole (members_part d each q left names ms) (inner d each q left (child q (Name x))) (λ z. members_part d each q z.left rest (put (name d x) z.json ms)) old mid new y
+        (members_step each q left x names rest ms more) h (subst (λ o. Runs d b (inner d each q left o) dumped mid new (Ok y)) is k)
+
+    pub members_failed : (left x : ℕ) (names rest : List ℕ) (ms : Members) (path : Option Trail) (e : Untold) → names ≡ x ∷ rest → path ≡ child q (Name x)
+        → Pending d b whole old (members_part d each q left names ms) mid → Runs d b (inner d each q left path) dumped mid new (Err e)
+        → Runs d b whole dumped old new (Err e)
+    members_failed left x names rest ms path e more is h k =
+        loop_failed whole (members_part d each q left names ms) (inner d each q left (child q (Name x))) (λ z. members_part d each q z.left rest (put (name d x) z.json ms)) old mid new e
+        (members_step each q left x names rest ms more) h (subst (λ o. Runs d b (inner d each q left o) dumped mid new (Err e)) is k)
 
   pub plain_is : (each : ℕ → Trail → Asking Part) (p : Trail) (left : ℕ) (v : Value) → ((q : Trail) → v ≡ values.Object q → ⊥) → ((q : Trail) → v ≡ values.List q → ⊥) → value_part d b each p left v ≡ written (plain_part d b p v) left
   unfolding value_part

@@ -1,5 +1,6 @@
 -- A dump has no float: its integers are written digit for digit.
-use Rattle.std.proofs.Common.{◌≡◌, ℕ, zero, suc, ◌+◌, ℤ, pos, negsuc, Bool, true, false, ◌||◌, ◌&&◌, List, [], ◌∷◌, ◌++◌, Option, Some, None, Ok, Err, Ordering, Less, Equal, Greater, refl, ◌∙◌, ap, subst}
+use Rattle.std.proofs.Common.{◌≡◌, ℕ, zero, suc, ◌+◌, ℤ, pos, negsuc, Bool, true, false, ◌||◌, ◌&&◌, List, [], ◌∷◌, ◌++◌, Option, Some, None, Ok, Err, Ordering, Less, Equal, Greater, refl, ap, subst}
+use Rattle.std.proofs.lemmas.Bool.{or_from, or_parts}
 use Rattle.std.specs.Prelude.{if◌then◌else◌}
 use Rattle.std.specs.Ordering.{match_ordering, nat_cmp}
 use Rattle.std.specs.Cmp.Lexicographic.{slice_cmp}
@@ -80,29 +81,18 @@ plain_exact d b p (values.Stream w) = fault_exact d _
 plain_exact d b p (values.Object q) = fault_exact d _
 plain_exact d b p (values.List q) = fault_exact d _
 
-or_both : (a b : Bool) → a ≡ false → b ≡ false → (a || b) ≡ false
-or_both a b h k = ap (λ x. x || b) h ∙ k
-
-or_first : (a b : Bool) → (a || b) ≡ false → a ≡ false
-or_first true b h = h
-or_first false b h = refl
-
-or_second : (a b : Bool) → (a || b) ≡ false → b ≡ false
-or_second true b h = absurd (let no : true ≡ false = h in cc)
-or_second false b h = h
-
 put_exact : (k : List ℕ) (json : Data) (ms : Members) → IsExact json → members_have_float ms ≡ false → members_have_float (put k json ms) ≡ false
-put_exact k json no_members h m = or_both (has_float json) false h refl
-put_exact k json (member l e ms) h m = by (slice_cmp nat_cmp k l) (put_exact k json ms h (or_second (has_float e) (members_have_float ms) m))
+put_exact k json no_members h m = or_from (has_float json) false h refl
+put_exact k json (member l e ms) h m = by (slice_cmp nat_cmp k l) (put_exact k json ms h (or_parts (has_float e) (members_have_float ms) m).1)
   where
     by : (o : Ordering) → members_have_float (put k json ms) ≡ false → members_have_float (match_ordering o (member k json (member l e ms)) (member l json ms) (member l e (put k json ms))) ≡ false
-    by Less more = or_both (has_float json) (members_have_float (member l e ms)) h m
-    by Equal more = or_both (has_float json) (members_have_float ms) h (or_second (has_float e) (members_have_float ms) m)
-    by Greater more = or_both (has_float e) (members_have_float (put k json ms)) (or_first (has_float e) (members_have_float ms) m) more
+    by Less more = or_from (has_float json) (members_have_float (member l e ms)) h m
+    by Equal more = or_from (has_float json) (members_have_float ms) h (or_parts (has_float e) (members_have_float ms) m).1
+    by Greater more = or_from (has_float e) (members_have_float (put k json ms)) (or_parts (has_float e) (members_have_float ms) m).0 more
 
 items_exact : (ds : List Data) (json : Data) → items_have_float (items_of ds) ≡ false → IsExact json → items_have_float (items_of (ds ++ json ∷ [])) ≡ false
-items_exact [] json h k = or_both (has_float json) false k refl
-items_exact (e ∷ ds) json h k = or_both (has_float e) (items_have_float (items_of (ds ++ json ∷ []))) (or_first (has_float e) (items_have_float (items_of ds)) h) (items_exact ds json (or_second (has_float e) (items_have_float (items_of ds)) h) k)
+items_exact [] json h k = or_from (has_float json) false k refl
+items_exact (e ∷ ds) json h k = or_from (has_float e) (items_have_float (items_of (ds ++ json ∷ []))) (or_parts (has_float e) (items_have_float (items_of ds)) h).0 (items_exact ds json (or_parts (has_float e) (items_have_float (items_of ds)) h).1 k)
 
 -- ---- parts
 

@@ -50,13 +50,6 @@ module _ (d : Description) (b : List ℕ) where
   runs_on p f view then old mid new x (Err untolds.NoMemory) h k =
       subst (λ ns. HasAskedSome (world d b) ns old new) (asks_on p f (view x) h.0) (some_then (world d b) old mid new (asks d b p) (asks d b (f (view x))) h.1 k)
 
-  -- memory was refused between the two, or in the second before it asked anything
-  pub runs_short : {X A B : Type 0} (p : Asking A) (f : A → Asking B) (view : X → A) (old mid : Memo Node Heard) (x : X)
-      → Runs d b p view old mid (Ok x) → HasAskedSome (world d b) (asks d b (bind p f)) old mid
-  runs_short p f view old mid x h =
-      subst (λ ns. HasAskedSome (world d b) ns old mid) (sym (asks_bind (answered d b) p f))
-      (some_before (world d b) old mid (asks d b p) (asks_behind (outcome d b p) (λ a. asks d b (f a))) (some_of (world d b) old mid (asks d b p) h.1))
-
   -- the first had none
   pub runs_failed : {X Y A B : Type 0} (p : Asking A) (f : A → Asking B) (view : X → A) (then : Y → B) (old new : Memo Node Heard) (e : Untold)
       → Runs d b p view old new (Err e) → Runs d b (bind p f) then old new (Err e)

@@ -1,22 +1,15 @@
 //! Asking an engine: what the nodes of a described file answer.
 ghost use Rattle.std.specs.Prelude.{◌≡◌};
-ghost use Rattle.ksv_desc.specs.Whole.{plain_pieces};
-ghost use Rattle.ksv_memo_rules.specs.Right.{IsRight};
 ghost use Rattle.ksv_nodes.specs.Turning.{fault_at};
-ghost use Rattle.ksv_questions.specs.Asking.{ask, hear, passed};
-ghost use Rattle.ksv_questions.specs.Code.{IsFault, Runs, Settles, plain_answer};
-ghost use Rattle.ksv_questions.specs.Engines.{world};
+ghost use Rattle.ksv_questions.specs.Code.{Hears, IsFault, IsHeard, IsRightFor, bytes_of, desc_of, plain_answer};
 
-use ksv_bytes::Buffer;
+use crate::file::File;
 use ksv_expr_value::{Fault, FaultKind, Path};
 use ksv_memo::{Answer, Engine};
 use ksv_nodes::{Given, Node, NodeKind};
 use ksv_rule_meaning::{Described, NodeRules};
 use ksv_texts::Refusal;
 use std::alloc::{AllocError, Global};
-
-/// What is heard of a node.
-pub(crate) type Heard = Result<Given, Fault>;
 
 /// Why a question has no answer.
 #[derive(Drop)]
@@ -50,59 +43,31 @@ pub(crate) fn fault_at(alloc: Global, path: &Path, kind: FaultKind) -> Untold
     }
 }
 
-/// What an engine's answer means; a circle is the fault at the path of the node that was open.
-fn of_answer(answer: Answer<Node, Given, Fault>) -> Heard
-    ensures { result ≡ plain_answer answer }
+/// What is heard by an engine's answer. A circle is a fault, at the path of the node that was open.
+fn heard(answer: Answer<Node, Given, Fault>) -> Result<Given, Untold>
+    ensures { IsHeard (plain_answer answer) result }
 {
     match answer {
         Answer::Value(given) => Ok(given),
-        Answer::Fault(fault) => Err(fault),
-        Answer::Circle(open) => Err(Fault {
+        Answer::Fault(fault) => Err(Untold::Fault(fault)),
+        Answer::Circle(open) => Err(Untold::Fault(Fault {
             kind: FaultKind::Circle,
             path: open.path,
-        }),
+        })),
     }
 }
 
-/// Hears the node of a kind at a path, by an engine that is right for the bytes.
-pub(crate) fn hear<N: NodeRules>(
-    alloc: Global,
-    engine: &mut Engine<Described<N>>,
-    described: &Described<N>,
-    buffer: &Buffer,
-    kind: NodeKind,
-    path: &Path,
-) -> Result<Heard, Untold>
-    requires { IsRight (world (plain_pieces described.now.desc) buffer.now) engine.old.kept }
-    ensures { Runs (plain_pieces described.now.desc) buffer.now (hear (record { kind = kind; path = path.now })) (λ heard. heard) engine.old engine.new result }
-{
-    let path = path.copy(alloc)?;
-    let answer = engine.ask(described, buffer, Node { kind, path })?;
-    Ok(of_answer(answer))
-}
-
-/// An answer; a fault is passed on.
-fn passed(heard: Heard) -> Result<Given, Untold>
-    ensures { Settles (passed heard) (λ given. given) result }
-{
-    match heard {
-        Ok(given) => Ok(given),
-        Err(fault) => Err(Untold::Fault(fault)),
-    }
-}
-
-/// What the node of a kind at a path answers.
+/// What the node of a kind at a path answers, or the fault that prevents it.
 pub(crate) fn ask<N: NodeRules>(
-    alloc: Global,
+    file: &File<N>,
     engine: &mut Engine<Described<N>>,
-    described: &Described<N>,
-    buffer: &Buffer,
     kind: NodeKind,
     path: &Path,
 ) -> Result<Given, Untold>
-    requires { IsRight (world (plain_pieces described.now.desc) buffer.now) engine.old.kept }
-    ensures { Runs (plain_pieces described.now.desc) buffer.now (ask (record { kind = kind; path = path.now })) (λ given. given) engine.old engine.new result }
+    requires { IsRightFor file.now engine.old }
+    ensures { Hears (desc_of file.now) (bytes_of file.now) (record { kind = kind; path = path.now }) engine.old engine.new result }
 {
-    let heard = hear(alloc, engine, described, buffer, kind, path)?;
-    passed(heard)
+    let path = path.copy(file.alloc)?;
+    let answer = engine.ask(file.described, file.buffer, Node { kind, path })?;
+    heard(answer)
 }

@@ -1,16 +1,14 @@
 //! What a dump finds at a path, or what it writes in its place.
-ghost use Rattle.std.specs.Prelude.{◌≡◌, None, Some};
+ghost use Rattle.std.specs.Prelude.{None, Some};
 ghost use Rattle.ksv_desc.specs.Whole.{plain_pieces};
 ghost use Rattle.ksv_expr_value.specs.Trail.{child};
 ghost use Rattle.ksv_expr_value.specs.declared.step.Step.TheVariants.{Index};
-ghost use Rattle.ksv_memo_rules.specs.Right.{IsRight};
 ghost use Rattle.ksv_basics.specs.Plan.{Answer};
-ghost use Rattle.ksv_questions.specs.Code.{Runs, Settles, found_of};
+ghost use Rattle.ksv_questions.specs.Code.{IsRightFor, RunsOn, Settles, SettlesHeard, found_of};
 ghost use Rattle.ksv_questions.specs.Dumps.{count_in, find_list, find_object, find_value, object_in, value_in};
-ghost use Rattle.ksv_questions.specs.Engines.{world};
 
-use crate::asking::{Heard, Untold, hear};
-use ksv_bytes::Buffer;
+use crate::asking::{Untold, ask};
+use crate::file::File;
 use ksv_desc::Desc;
 use ksv_expr_value::{FaultKind, Path, Value};
 use ksv_memo::Engine;
@@ -20,100 +18,101 @@ use ksv_texts::{failed_part, fault_part, kind_part};
 use serde_json::Value as Json;
 use std::alloc::Global;
 
-/// The value that was heard of.
+/// The value, by what was heard of its node.
 fn value_in(
     alloc: Global,
     desc: &Desc,
     path: &Path,
-    heard: Heard,
+    asked: Result<Given, Untold>,
 ) -> Result<Result<Value, Json>, Untold>
-    ensures { Settles (Answer (value_in (plain_pieces desc.now) path.now heard)) found_of result }
+    ensures { SettlesHeard (λ heard. Answer (value_in (plain_pieces desc.now) path.now heard)) found_of asked result }
 {
-    match heard {
+    match asked {
         Ok(Given::Value(value)) => Ok(Ok(value)),
         Ok(_) => Ok(Err(kind_part(alloc, desc, path, FaultKind::BadType)?)),
-        Err(fault) => Ok(Err(failed_part(alloc, desc, path, &fault)?)),
+        Err(Untold::Fault(fault)) => Ok(Err(failed_part(alloc, desc, path, &fault)?)),
+        Err(untold) => Err(untold),
     }
 }
 
 /// The value at a path.
 #[tactic(auto, unfolding(crate::specs::Dumps::find_value))]
 pub(crate) fn find_value<N: NodeRules>(
-    alloc: Global,
+    file: &File<N>,
     engine: &mut Engine<Described<N>>,
-    described: &Described<N>,
-    buffer: &Buffer,
     path: &Path,
 ) -> Result<Result<Value, Json>, Untold>
-    requires { IsRight (world (plain_pieces described.now.desc) buffer.now) engine.old.kept }
-    ensures { Runs (plain_pieces described.now.desc) buffer.now (find_value (plain_pieces described.now.desc) path.now) found_of engine.old engine.new result }
+    requires { IsRightFor file.now engine.old }
+    ensures { RunsOn file.now (λ d _. find_value d path.now) found_of engine.old engine.new result }
 {
-    let heard = hear(alloc, engine, described, buffer, NodeKind::Value, path)?;
-    value_in(alloc, &described.desc, path, heard)
+    let asked = ask(file, engine, NodeKind::Value, path);
+    value_in(file.alloc, &file.described.desc, path, asked)
 }
 
-/// The type of the object that was heard of.
+/// The type of the object, by what was heard of its node.
 fn object_in(
     alloc: Global,
     desc: &Desc,
     object: &Path,
-    heard: &Heard,
+    asked: Result<Given, Untold>,
 ) -> Result<Result<u32, Json>, Untold>
-    ensures { Settles (Answer (object_in (plain_pieces desc.now) object.now heard.now)) found_of result }
+    ensures { SettlesHeard (λ heard. Answer (object_in (plain_pieces desc.now) object.now heard)) found_of asked result }
 {
-    match heard {
-        Ok(Given::Head(Head::Object(found))) => Ok(Ok(found.type_number)),
-        Ok(_) => Ok(Err(kind_part(alloc, desc, object, FaultKind::BadType)?)),
-        Err(fault) => Ok(Err(fault_part(alloc, desc, fault)?)),
+    match asked {
+        Ok(given) => match &given {
+            Given::Head(Head::Object(found)) => Ok(Ok(found.type_number)),
+            _ => Ok(Err(kind_part(alloc, desc, object, FaultKind::BadType)?)),
+        },
+        Err(Untold::Fault(fault)) => Ok(Err(fault_part(alloc, desc, &fault)?)),
+        Err(untold) => Err(untold),
     }
 }
 
 /// The type of the object at a path.
 #[tactic(auto, unfolding(crate::specs::Dumps::find_object))]
 pub(crate) fn find_object<N: NodeRules>(
-    alloc: Global,
+    file: &File<N>,
     engine: &mut Engine<Described<N>>,
-    described: &Described<N>,
-    buffer: &Buffer,
     object: &Path,
 ) -> Result<Result<u32, Json>, Untold>
-    requires { IsRight (world (plain_pieces described.now.desc) buffer.now) engine.old.kept }
-    ensures { Runs (plain_pieces described.now.desc) buffer.now (find_object (plain_pieces described.now.desc) object.now) found_of engine.old engine.new result }
+    requires { IsRightFor file.now engine.old }
+    ensures { RunsOn file.now (λ d _. find_object d object.now) found_of engine.old engine.new result }
 {
-    let heard = hear(alloc, engine, described, buffer, NodeKind::Head, object)?;
-    object_in(alloc, &described.desc, object, &heard)
+    let asked = ask(file, engine, NodeKind::Head, object);
+    object_in(file.alloc, &file.described.desc, object, asked)
 }
 
-/// The number of elements that was heard of.
+/// The number of elements, by what was heard of their node.
 fn count_in(
     alloc: Global,
     desc: &Desc,
     list: &Path,
-    heard: &Heard,
+    asked: Result<Given, Untold>,
 ) -> Result<Result<u32, Json>, Untold>
-    ensures { Settles (Answer (count_in (plain_pieces desc.now) list.now heard.now)) found_of result }
+    ensures { SettlesHeard (λ heard. Answer (count_in (plain_pieces desc.now) list.now heard)) found_of asked result }
 {
-    match heard {
-        Ok(Given::Rest { count, .. }) => Ok(Ok(*count)),
-        Ok(_) => Ok(Err(kind_part(alloc, desc, list, FaultKind::BadType)?)),
-        Err(fault) => Ok(Err(fault_part(alloc, desc, fault)?)),
+    match asked {
+        Ok(given) => match &given {
+            Given::Rest { count, .. } => Ok(Ok(*count)),
+            _ => Ok(Err(kind_part(alloc, desc, list, FaultKind::BadType)?)),
+        },
+        Err(Untold::Fault(fault)) => Ok(Err(fault_part(alloc, desc, &fault)?)),
+        Err(untold) => Err(untold),
     }
 }
 
-/// The number of elements of the list at a path, whose first element has this one.
+/// The number of elements of the list at a path, by the path of its first element.
 fn counted<N: NodeRules>(
-    alloc: Global,
+    file: &File<N>,
     engine: &mut Engine<Described<N>>,
-    described: &Described<N>,
-    buffer: &Buffer,
     list: &Path,
     first: &Path,
 ) -> Result<Result<u32, Json>, Untold>
-    requires { IsRight (world (plain_pieces described.now.desc) buffer.now) engine.old.kept }
-    ensures { Runs (plain_pieces described.now.desc) buffer.now (find_list (plain_pieces described.now.desc) list.now (Some first.now)) found_of engine.old engine.new result }
+    requires { IsRightFor file.now engine.old }
+    ensures { RunsOn file.now (λ d _. find_list d list.now (Some first.now)) found_of engine.old engine.new result }
 {
-    let heard = hear(alloc, engine, described, buffer, NodeKind::Rest, first)?;
-    count_in(alloc, &described.desc, list, &heard)
+    let asked = ask(file, engine, NodeKind::Rest, first);
+    count_in(file.alloc, &file.described.desc, list, asked)
 }
 
 /// A list whose elements' paths would be too long.
@@ -126,17 +125,15 @@ fn uncounted(alloc: Global, desc: &Desc, list: &Path) -> Result<Result<u32, Json
 
 /// The number of elements of the list at a path.
 pub(crate) fn find_list<N: NodeRules>(
-    alloc: Global,
+    file: &File<N>,
     engine: &mut Engine<Described<N>>,
-    described: &Described<N>,
-    buffer: &Buffer,
     list: &Path,
 ) -> Result<Result<u32, Json>, Untold>
-    requires { IsRight (world (plain_pieces described.now.desc) buffer.now) engine.old.kept }
-    ensures { Runs (plain_pieces described.now.desc) buffer.now (find_list (plain_pieces described.now.desc) list.now (child list.now (Index 0))) found_of engine.old engine.new result }
+    requires { IsRightFor file.now engine.old }
+    ensures { RunsOn file.now (λ d _. find_list d list.now (child list.now (Index 0))) found_of engine.old engine.new result }
 {
-    match list.child_index(alloc, 0)? {
-        Some(first) => counted(alloc, engine, described, buffer, list, &first),
-        None => uncounted(alloc, &described.desc, list),
+    match list.child_index(file.alloc, 0)? {
+        Some(first) => counted(file, engine, list, &first),
+        None => uncounted(file.alloc, &file.described.desc, list),
     }
 }

@@ -1,12 +1,11 @@
 //! `get`: the text of the value at a path.
-ghost use Rattle.std.specs.Prelude.{◌≡◌, string_bytes};
+ghost use Rattle.std.specs.Prelude.{string_bytes};
 ghost use Rattle.ksv_desc.specs.Whole.{plain_pieces};
-ghost use Rattle.ksv_memo_rules.specs.Right.{IsRight};
-ghost use Rattle.ksv_questions.specs.Code.{Runs, Settles};
-ghost use Rattle.ksv_questions.specs.Engines.{world};
+ghost use Rattle.ksv_questions.specs.Code.{IsRightFor, RunsOn, Settles};
 ghost use Rattle.ksv_questions.specs.Questions.{object_text, of_object, of_value, plain_value, value_question};
 
 use crate::asking::{Untold, fault_at};
+use crate::file::File;
 use crate::list::of_list;
 use crate::parts::{ask_head, ask_value};
 use ksv_bytes::Buffer;
@@ -18,7 +17,7 @@ use ksv_rule_meaning::{Described, NodeRules};
 use ksv_texts::{bytes_text, integer_text, member_text, quoted_text, truth_text};
 use std::alloc::Global;
 
-/// An object by its type's id; any other head doesn't fit.
+/// The text of an object: its type's id. Another head is a fault.
 fn object_text(alloc: Global, desc: &Desc, path: &Path, head: Head) -> Result<String, Untold>
     ensures { Settles (object_text (plain_pieces desc.now) path.now head) (λ text. string_bytes text) result }
 {
@@ -35,21 +34,19 @@ fn object_text(alloc: Global, desc: &Desc, path: &Path, head: Head) -> Result<St
 /// The text of the object of a path.
 #[tactic(auto, unfolding(crate::specs::Questions::of_object))]
 fn of_object<N: NodeRules>(
-    alloc: Global,
+    file: &File<N>,
     engine: &mut Engine<Described<N>>,
-    described: &Described<N>,
-    buffer: &Buffer,
     path: &Path,
     object: &Path,
 ) -> Result<String, Untold>
-    requires { IsRight (world (plain_pieces described.now.desc) buffer.now) engine.old.kept }
-    ensures { Runs (plain_pieces described.now.desc) buffer.now (of_object (plain_pieces described.now.desc) path.now object.now) (λ text. string_bytes text) engine.old engine.new result }
+    requires { IsRightFor file.now engine.old }
+    ensures { RunsOn file.now (λ d _. of_object d path.now object.now) (λ text. string_bytes text) engine.old engine.new result }
 {
-    let head = ask_head(alloc, engine, described, buffer, path, object)?;
-    object_text(alloc, &described.desc, path, head)
+    let head = ask_head(file, engine, path, object)?;
+    object_text(file.alloc, &file.described.desc, path, head)
 }
 
-/// The text of a value that asks nothing; an object, a list and a stream don't fit.
+/// The text of a value that asks nothing. An object, a list or a stream is a fault.
 fn plain_text(
     alloc: Global,
     desc: &Desc,
@@ -75,35 +72,31 @@ fn plain_text(
 /// The text of a value.
 #[tactic(auto, unfolding(crate::specs::Questions::of_value))]
 fn of_value<N: NodeRules>(
-    alloc: Global,
+    file: &File<N>,
     engine: &mut Engine<Described<N>>,
-    described: &Described<N>,
-    buffer: &Buffer,
     path: &Path,
     value: &Value,
 ) -> Result<String, Untold>
-    requires { IsRight (world (plain_pieces described.now.desc) buffer.now) engine.old.kept }
-    ensures { Runs (plain_pieces described.now.desc) buffer.now (of_value (plain_pieces described.now.desc) buffer.now path.now value.now) (λ text. string_bytes text) engine.old engine.new result }
+    requires { IsRightFor file.now engine.old }
+    ensures { RunsOn file.now (λ d b. of_value d b path.now value.now) (λ text. string_bytes text) engine.old engine.new result }
 {
     match value {
-        Value::Object(object) => of_object(alloc, engine, described, buffer, path, object),
-        Value::List(list) => of_list(alloc, engine, described, buffer, path, list),
-        _ => plain_text(alloc, &described.desc, buffer, path, value),
+        Value::Object(object) => of_object(file, engine, path, object),
+        Value::List(list) => of_list(file, engine, path, list),
+        _ => plain_text(file.alloc, &file.described.desc, file.buffer, path, value),
     }
 }
 
 /// The text of the value at a path.
 #[tactic(auto, unfolding(crate::specs::Questions::value_question))]
 pub(crate) fn value_question<N: NodeRules>(
-    alloc: Global,
+    file: &File<N>,
     engine: &mut Engine<Described<N>>,
-    described: &Described<N>,
-    buffer: &Buffer,
     path: &Path,
 ) -> Result<String, Untold>
-    requires { IsRight (world (plain_pieces described.now.desc) buffer.now) engine.old.kept }
-    ensures { Runs (plain_pieces described.now.desc) buffer.now (value_question (plain_pieces described.now.desc) buffer.now path.now) (λ text. string_bytes text) engine.old engine.new result }
+    requires { IsRightFor file.now engine.old }
+    ensures { RunsOn file.now (λ d b. value_question d b path.now) (λ text. string_bytes text) engine.old engine.new result }
 {
-    let value = ask_value(alloc, engine, described, buffer, path)?;
-    of_value(alloc, engine, described, buffer, path, &value)
+    let value = ask_value(file, engine, path)?;
+    of_value(file, engine, path, &value)
 }

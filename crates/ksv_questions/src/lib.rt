@@ -4,8 +4,7 @@
 //! specs/ (`Questions`, `Dumps`, `Writing`) knows no engine. The function of the same name here asks an engine and gives the
 //! same result, and the engine keeps what evaluating the asked nodes completes.
 //!
-//! [`answer`] tells the end of any question, a text or a refusal. [`overwrite_for`] is what writing an integer over another
-//! means in bytes.
+//! [`answer`] gives the reply to any question, a text or a refusal; [`overwrite_for`] gives the bytes that `put` writes.
 //!
 //! Modules:
 //!
@@ -48,6 +47,7 @@
 
 mod asking;
 mod dump;
+mod file;
 mod found;
 mod get;
 mod laws;

@@ -1,22 +1,18 @@
 //! What a question needs of a node, by the form of its answer.
-ghost use Rattle.std.specs.Prelude.{◌≡◌};
-ghost use Rattle.ksv_desc.specs.Whole.{plain_pieces};
 ghost use Rattle.ksv_expr_value.specs.Trail.{child};
 ghost use Rattle.ksv_expr_value.specs.declared.step.Step.TheVariants.{Index};
-ghost use Rattle.ksv_memo_rules.specs.Right.{IsRight};
-ghost use Rattle.ksv_questions.specs.Code.{Runs, Settles};
-ghost use Rattle.ksv_questions.specs.Engines.{world};
+ghost use Rattle.ksv_questions.specs.Code.{IsRightFor, RunsOn, Settles};
 ghost use Rattle.ksv_questions.specs.Questions.{ask_end, ask_head, ask_value, first_asked, in_end, in_head, in_rest, in_value};
 
 use crate::asking::{Untold, ask, fault_at};
-use ksv_bytes::Buffer;
+use crate::file::File;
 use ksv_expr_value::{FaultKind, Path, Place, Value};
 use ksv_memo::Engine;
 use ksv_nodes::{Given, Head, NodeKind};
 use ksv_rule_meaning::{Described, NodeRules};
 use std::alloc::Global;
 
-/// What is at a path; another form doesn't fit.
+/// What is at a path. An answer of another form is a fault.
 fn in_head(alloc: Global, path: &Path, given: &Given) -> Result<Head, Untold>
     ensures { Settles (in_head path.now given.now) (λ head. head) result }
 {
@@ -26,7 +22,7 @@ fn in_head(alloc: Global, path: &Path, given: &Given) -> Result<Head, Untold>
     }
 }
 
-/// The number of elements; another form doesn't fit.
+/// The number of elements. An answer of another form is a fault.
 fn in_rest(alloc: Global, path: &Path, given: &Given) -> Result<u32, Untold>
     ensures { Settles (in_rest path.now given.now) (λ count. count) result }
 {
@@ -36,7 +32,7 @@ fn in_rest(alloc: Global, path: &Path, given: &Given) -> Result<u32, Untold>
     }
 }
 
-/// A value; another form doesn't fit.
+/// A value. An answer of another form is a fault.
 fn in_value(alloc: Global, path: &Path, given: Given) -> Result<Value, Untold>
     ensures { Settles (in_value path.now given) (λ value. value) result }
 {
@@ -46,7 +42,7 @@ fn in_value(alloc: Global, path: &Path, given: Given) -> Result<Value, Untold>
     }
 }
 
-/// The place of an end; another form doesn't fit.
+/// The place of an end. An answer of another form is a fault.
 fn in_end(alloc: Global, path: &Path, given: &Given) -> Result<Place, Untold>
     ensures { Settles (in_end path.now given.now) (λ place. place) result }
 {
@@ -59,68 +55,60 @@ fn in_end(alloc: Global, path: &Path, given: &Given) -> Result<Place, Untold>
 /// What is at a path; `path` is the one that the question is about.
 #[tactic(auto, unfolding(crate::specs::Questions::ask_head))]
 pub(crate) fn ask_head<N: NodeRules>(
-    alloc: Global,
+    file: &File<N>,
     engine: &mut Engine<Described<N>>,
-    described: &Described<N>,
-    buffer: &Buffer,
     path: &Path,
     asked: &Path,
 ) -> Result<Head, Untold>
-    requires { IsRight (world (plain_pieces described.now.desc) buffer.now) engine.old.kept }
-    ensures { Runs (plain_pieces described.now.desc) buffer.now (ask_head path.now asked.now) (λ head. head) engine.old engine.new result }
+    requires { IsRightFor file.now engine.old }
+    ensures { RunsOn file.now (λ _ _. ask_head path.now asked.now) (λ head. head) engine.old engine.new result }
 {
-    let given = ask(alloc, engine, described, buffer, NodeKind::Head, asked)?;
-    in_head(alloc, path, &given)
+    let given = ask(file, engine, NodeKind::Head, asked)?;
+    in_head(file.alloc, path, &given)
 }
 
 /// The number of elements of a list.
 #[tactic(auto, unfolding(crate::specs::Questions::first_asked))]
 pub(crate) fn first_asked<N: NodeRules>(
-    alloc: Global,
+    file: &File<N>,
     engine: &mut Engine<Described<N>>,
-    described: &Described<N>,
-    buffer: &Buffer,
     path: &Path,
     list: &Path,
 ) -> Result<u32, Untold>
-    requires { IsRight (world (plain_pieces described.now.desc) buffer.now) engine.old.kept }
-    ensures { Runs (plain_pieces described.now.desc) buffer.now (first_asked path.now list.now (child list.now (Index 0))) (λ count. count) engine.old engine.new result }
+    requires { IsRightFor file.now engine.old }
+    ensures { RunsOn file.now (λ _ _. first_asked path.now list.now (child list.now (Index 0))) (λ count. count) engine.old engine.new result }
 {
-    let Some(first) = list.child_index(alloc, 0)? else {
-        return Err(fault_at(alloc, list, FaultKind::PathTooLong));
+    let Some(first) = list.child_index(file.alloc, 0)? else {
+        return Err(fault_at(file.alloc, list, FaultKind::PathTooLong));
     };
-    let given = ask(alloc, engine, described, buffer, NodeKind::Rest, &first)?;
-    in_rest(alloc, path, &given)
+    let given = ask(file, engine, NodeKind::Rest, &first)?;
+    in_rest(file.alloc, path, &given)
 }
 
 /// The value at a path.
 #[tactic(auto, unfolding(crate::specs::Questions::ask_value))]
 pub(crate) fn ask_value<N: NodeRules>(
-    alloc: Global,
+    file: &File<N>,
     engine: &mut Engine<Described<N>>,
-    described: &Described<N>,
-    buffer: &Buffer,
     path: &Path,
 ) -> Result<Value, Untold>
-    requires { IsRight (world (plain_pieces described.now.desc) buffer.now) engine.old.kept }
-    ensures { Runs (plain_pieces described.now.desc) buffer.now (ask_value path.now) (λ value. value) engine.old engine.new result }
+    requires { IsRightFor file.now engine.old }
+    ensures { RunsOn file.now (λ _ _. ask_value path.now) (λ value. value) engine.old engine.new result }
 {
-    let given = ask(alloc, engine, described, buffer, NodeKind::Value, path)?;
-    in_value(alloc, path, given)
+    let given = ask(file, engine, NodeKind::Value, path)?;
+    in_value(file.alloc, path, given)
 }
 
 /// The place where what is at a path ends.
 #[tactic(auto, unfolding(crate::specs::Questions::ask_end))]
 pub(crate) fn ask_end<N: NodeRules>(
-    alloc: Global,
+    file: &File<N>,
     engine: &mut Engine<Described<N>>,
-    described: &Described<N>,
-    buffer: &Buffer,
     path: &Path,
 ) -> Result<Place, Untold>
-    requires { IsRight (world (plain_pieces described.now.desc) buffer.now) engine.old.kept }
-    ensures { Runs (plain_pieces described.now.desc) buffer.now (ask_end path.now) (λ place. place) engine.old engine.new result }
+    requires { IsRightFor file.now engine.old }
+    ensures { RunsOn file.now (λ _ _. ask_end path.now) (λ place. place) engine.old engine.new result }
 {
-    let given = ask(alloc, engine, described, buffer, NodeKind::End, path)?;
-    in_end(alloc, path, &given)
+    let given = ask(file, engine, NodeKind::End, path)?;
+    in_end(file.alloc, path, &given)
 }

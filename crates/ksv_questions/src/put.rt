@@ -1,15 +1,16 @@
 //! `put`: writing an integer over another.
-ghost use Rattle.std.specs.Prelude.{◌≡◌, IfOk, OnErr, OnOk};
+ghost use Rattle.std.specs.Prelude.{IfOk, OnErr, OnOk};
 ghost use Rattle.ksv_desc.specs.Whole.{plain_pieces};
 ghost use Rattle.ksv_memo_rules.specs.Right.{IsRight};
 ghost use Rattle.ksv_questions.specs.Answers.{asks, outcome};
-ghost use Rattle.ksv_questions.specs.Code.{Runs, Settles};
+ghost use Rattle.ksv_questions.specs.Code.{IsRightFor, RunsOn, Settles};
 ghost use Rattle.ksv_questions.specs.Engines.{HasAsked, HasAskedSome, world};
 ghost use Rattle.ksv_questions.specs.Seen.{PutTells, overwrite_of};
 ghost use Rattle.ksv_questions.specs.Writing.{of_type, over_head, put_question};
 ghost use Rattle.ksv_texts.specs.Integers.{integer_type};
 
 use crate::asking::Untold;
+use crate::file::File;
 use crate::parts::ask_head;
 use crate::question::failure_told;
 use crate::told::Told;
@@ -32,7 +33,7 @@ pub struct Overwrite {
     pub bytes: ArrayVec<u8, 8>,
 }
 
-/// What writing an integer over a leaf means.
+/// The bytes to write for an integer over a leaf.
 #[tactic(auto, unfolding(crate::specs::Writing::of_type))]
 fn over_leaf(desc: &Desc, leaf: Leaf, number: Integer) -> Result<Overwrite, Untold>
     ensures { Settles (of_type (integer_type (plain_pieces desc.now) leaf) leaf number) overwrite_of result }
@@ -50,7 +51,7 @@ fn over_leaf(desc: &Desc, leaf: Leaf, number: Integer) -> Result<Overwrite, Unto
     })
 }
 
-/// What writing an integer over what is there means.
+/// The bytes to write for an integer, by the head of what is there.
 fn over_head(desc: &Desc, head: Head, number: Integer) -> Result<Overwrite, Untold>
     ensures { Settles (over_head (plain_pieces desc.now) head number) overwrite_of result }
 {
@@ -60,25 +61,23 @@ fn over_head(desc: &Desc, head: Head, number: Integer) -> Result<Overwrite, Unto
     }
 }
 
-/// What writing an integer over what is at a path means.
+/// The bytes to write for an integer at a path.
 #[tactic(auto, unfolding(crate::specs::Writing::put_question))]
 fn put_question<N: NodeRules>(
-    alloc: Global,
+    file: &File<N>,
     engine: &mut Engine<Described<N>>,
-    described: &Described<N>,
-    buffer: &Buffer,
     path: &Path,
     number: Integer,
 ) -> Result<Overwrite, Untold>
-    requires { IsRight (world (plain_pieces described.now.desc) buffer.now) engine.old.kept }
-    ensures { Runs (plain_pieces described.now.desc) buffer.now (put_question (plain_pieces described.now.desc) path.now number) overwrite_of engine.old engine.new result }
+    requires { IsRightFor file.now engine.old }
+    ensures { RunsOn file.now (λ d _. put_question d path.now number) overwrite_of engine.old engine.new result }
 {
-    let head = ask_head(alloc, engine, described, buffer, path, path)?;
-    over_head(&described.desc, head, number)
+    let head = ask_head(file, engine, path, path)?;
+    over_head(&file.described.desc, head, number)
 }
 
-/// What writing an integer over the one at a path means: the bytes to write, or what is told of a `put` that isn't done.
-/// The engine, which must be right for the bytes, keeps what was evaluated for it.
+/// The bytes that `put` writes for an integer at a path, or its reply if it writes none. The engine must be right for the
+/// current bytes, and keeps what was evaluated.
 pub fn overwrite_for<N: NodeRules>(
     alloc: Global,
     engine: &mut Engine<Described<N>>,
@@ -94,7 +93,12 @@ pub fn overwrite_for<N: NodeRules>(
     ensures asked { OnOk result (HasAsked (world (plain_pieces described.now.desc) buffer.now) (asks (plain_pieces described.now.desc) buffer.now (put_question (plain_pieces described.now.desc) path.now number)) engine.old engine.new) }
     ensures refused { OnErr result (HasAskedSome (world (plain_pieces described.now.desc) buffer.now) (asks (plain_pieces described.now.desc) buffer.now (put_question (plain_pieces described.now.desc) path.now number)) engine.old engine.new) }
 {
-    match put_question(alloc, engine, described, buffer, path, number) {
+    let file = File {
+        alloc,
+        described,
+        buffer,
+    };
+    match put_question(&file, engine, path, number) {
         Ok(overwrite) => Ok(Ok(overwrite)),
         Err(why) => Ok(Err(failure_told(alloc, described.desc(), &why)?)),
     }

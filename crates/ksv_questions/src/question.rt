@@ -3,12 +3,13 @@ ghost use Rattle.std.specs.Prelude.{◌≡◌, string_bytes, IfOk, OnErr, OnOk};
 ghost use Rattle.ksv_desc.specs.Whole.{plain_pieces};
 ghost use Rattle.ksv_memo_rules.specs.Right.{IsRight};
 ghost use Rattle.ksv_questions.specs.Answers.{asking, asks, question_text, question_told, text_of};
-ghost use Rattle.ksv_questions.specs.Code.{Runs, Tells};
+ghost use Rattle.ksv_questions.specs.Code.{IsRightFor, RunsOn, Tells};
 ghost use Rattle.ksv_questions.specs.Engines.{HasAsked, HasAskedSome, world};
 ghost use Rattle.ksv_questions.specs.Seen.{told_of};
 
 use crate::asking::Untold;
 use crate::dump::dump_question;
+use crate::file::File;
 use crate::get::value_question;
 use crate::members::members_question;
 use crate::place::place_question;
@@ -21,22 +22,20 @@ use ksv_rule_meaning::{Described, NodeRules};
 use ksv_texts::fault_text;
 use std::alloc::{AllocError, Global};
 
-/// What an engine was asked for a question.
+/// The text that answers a question.
 fn asked<N: NodeRules>(
-    alloc: Global,
+    file: &File<N>,
     engine: &mut Engine<Described<N>>,
-    described: &Described<N>,
-    buffer: &Buffer,
     question: &Question,
 ) -> Result<String, Untold>
-    requires { IsRight (world (plain_pieces described.now.desc) buffer.now) engine.old.kept }
-    ensures { Runs (plain_pieces described.now.desc) buffer.now (asking (plain_pieces described.now.desc) buffer.now question.now) (λ text. string_bytes text) engine.old engine.new result }
+    requires { IsRightFor file.now engine.old }
+    ensures { RunsOn file.now (λ d b. asking d b question.now) (λ text. string_bytes text) engine.old engine.new result }
 {
     match question {
-        Question::Value(path) => value_question(alloc, engine, described, buffer, path),
-        Question::Place(path) => place_question(alloc, engine, described, buffer, path),
-        Question::Members(path) => members_question(alloc, engine, described, buffer, path),
-        Question::Dump(path) => dump_question(alloc, engine, described, buffer, path),
+        Question::Value(path) => value_question(file, engine, path),
+        Question::Place(path) => place_question(file, engine, path),
+        Question::Members(path) => members_question(file, engine, path),
+        Question::Dump(path) => dump_question(file, engine, path),
     }
 }
 
@@ -51,8 +50,8 @@ pub(crate) fn failure_told(alloc: Global, desc: &Desc, why: &Untold) -> Result<T
     }
 }
 
-/// The reply to a question, its LF aside: what is told of what evaluating the description from nothing on the current bytes gives,
-/// a text, or a refusal where the question is refused. The engine, which must be right for these bytes, keeps what was evaluated for it.
+/// The reply to a question, its LF aside: what a fresh evaluation of the description on the current bytes would answer, or a
+/// refusal. The engine must be right for these bytes, and keeps what was evaluated.
 #[tactic(auto, unfolding(crate::specs::Answers::question_told, crate::specs::Answers::question_text))]
 pub fn answer<N: NodeRules>(
     alloc: Global,
@@ -69,7 +68,12 @@ pub fn answer<N: NodeRules>(
     ensures asked { OnOk result (HasAsked (world (plain_pieces described.now.desc) buffer.now) (asks (plain_pieces described.now.desc) buffer.now (asking (plain_pieces described.now.desc) buffer.now question.now)) engine.old engine.new) }
     ensures refused { OnErr result (HasAskedSome (world (plain_pieces described.now.desc) buffer.now) (asks (plain_pieces described.now.desc) buffer.now (asking (plain_pieces described.now.desc) buffer.now question.now)) engine.old engine.new) }
 {
-    match asked(alloc, engine, described, buffer, question) {
+    let file = File {
+        alloc,
+        described,
+        buffer,
+    };
+    match asked(&file, engine, question) {
         Ok(text) => Ok(Told::Text(text)),
         Err(why) => failure_told(alloc, described.desc(), &why),
     }

@@ -1,5 +1,6 @@
 -- Commands by what they ask.
 use Rattle.std.proofs.Common.{◌≡◌, ℕ, ℤ, true, List, ◌++◌, codes, Option, Some, refl}
+use Rattle.std.proofs.lemmas.Option.{same_Some}
 use Rattle.std.specs.Prelude.{IsTrue}
 use Rattle.ksv_desc.specs.Description.{Description}
 use Rattle.ksv_expr_value.specs.Trail.{Trail}
@@ -26,9 +27,6 @@ question_may b Size h = absurd (cc)
 question_may b Stats h = absurd (cc)
 question_may b Quit h = absurd (cc)
 
-some_is : {A : Type 0} {x y : A} → Some x ≡ Some y → x ≡ y
-some_is e = cc
-
 -- An answer that is the right one for each question, and for each integer that is written, is the right one for each command. (The
 -- examples of ksv_examples cite it.)
 pub answer_by : (d : Description) (b : List ℕ) (t : Tally) (ask : Question → Option Answer) (put : Trail → ℤ → Option Answer) (a : Answer)
@@ -37,13 +35,13 @@ pub answer_by : (d : Description) (b : List ℕ) (t : Tally) (ask : Question →
     → (command : Command) → by_asking ask put (Some (answer_to d b t command)) command ≡ Some a → answer_to d b t command ≡ a
 answer_by d b t ask put a asked written (Ask question) e = asked question e
 answer_by d b t ask put a asked written (Put path n) e = written path n e
-answer_by d b t ask put a asked written Blank e = some_is e
-answer_by d b t ask put a asked written (Refused refusal) e = some_is e
-answer_by d b t ask put a asked written (Set at bytes) e = some_is e
-answer_by d b t ask put a asked written (Ins at bytes) e = some_is e
-answer_by d b t ask put a asked written (Del at count) e = some_is e
-answer_by d b t ask put a asked written (App bytes) e = some_is e
-answer_by d b t ask put a asked written (Bytes at count) e = some_is e
-answer_by d b t ask put a asked written Size e = some_is e
-answer_by d b t ask put a asked written Stats e = some_is e
-answer_by d b t ask put a asked written Quit e = some_is e
+answer_by d b t ask put a asked written Blank e = same_Some _ _ e
+answer_by d b t ask put a asked written (Refused refusal) e = same_Some _ _ e
+answer_by d b t ask put a asked written (Set at bytes) e = same_Some _ _ e
+answer_by d b t ask put a asked written (Ins at bytes) e = same_Some _ _ e
+answer_by d b t ask put a asked written (Del at count) e = same_Some _ _ e
+answer_by d b t ask put a asked written (App bytes) e = same_Some _ _ e
+answer_by d b t ask put a asked written (Bytes at count) e = same_Some _ _ e
+answer_by d b t ask put a asked written Size e = same_Some _ _ e
+answer_by d b t ask put a asked written Stats e = same_Some _ _ e
+answer_by d b t ask put a asked written Quit e = same_Some _ _ e

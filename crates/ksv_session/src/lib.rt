@@ -1,8 +1,8 @@
 //! A session of line commands over a file and its description.
 //!
 //! [`Session::line`] answers one line, and [`run`] serves a whole session over a source of bytes and a sink. The
-//! reply to each line is defined in `specs/Replies`. `specs/Session` is a fold over the lines whose state is the file's
-//! bytes alone, and `specs/Runs` has the headline, which `run` is proved to meet.
+//! reply to each line is defined in `specs/`: `Session` is a fold over the lines, with the
+//! file's bytes as its only state, and `Runs` has the headline, which `run` is proved to meet.
 //!
 //! Modules:
 //!

@@ -121,7 +121,7 @@ pub(crate) fn size_reply(size: usize) -> Short
     numbered("size ", size)
 }
 
-/// The turns of a question, or a `-` where they aren't known, at the end of a text.
+/// Appends the turns of a question, or a `-` if they aren't known.
 fn push_turns(text: &mut Short, turns: Option<u64>)
     requires { length text.old.bytes ≤ 40 }
     ensures text { text.new.bytes ≡ text.old.bytes ++ turns_text turns }

@@ -18,9 +18,9 @@ use std::alloc::Global;
 /// Why a session ended.
 #[derive(Clone, Copy, Debug, PartialEq, Eq)]
 pub enum End {
-    /// A line `quit` came.
+    /// The line `quit` was read.
     Quit,
-    /// The input came to its end.
+    /// The input ended.
     Input,
     /// A read failed.
     ReadFailed,
@@ -128,7 +128,7 @@ fn serve<N: NodeRules, R: Source, W: Sink>(
 }
 
 /// Runs a session over the bytes of a file: reads command lines from the reader to the end of the input or to a
-/// line `quit`, and writes the reply to each. Returns the current bytes and the reason of the end.
+/// line `quit`, and writes the reply to each. Returns the current bytes, and why the session ended.
 ///
 /// [`End::ReadFailed`] means that a read failed, or that 2^64 - 1 reads gave bytes; [`End::WriteFailed`] that a
 /// write or a flush failed. The one error, of a file that is too large, comes before anything is read.

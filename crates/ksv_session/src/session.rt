@@ -138,7 +138,7 @@ impl<N: NodeRules> Session<N> {
         }
     }
 
-    /// The reply to a question, unless memory is refused. The turns aren't known before it is whole.
+    /// The reply to a question, unless memory is refused. The turns are unknown until it is complete.
     #[tactic(auto, unfolding(crate::specs::Explored::description_of))]
     fn asked(&mut self, question: &Question) -> Result<Reply, AllocError>
         ensures says { IfOk result (IsReply (question_text (description_of self.old) self.old.bytes question.now ++ codes "\n") (told_form (question_told (description_of self.old) self.old.bytes question.now))) }
@@ -174,8 +174,8 @@ impl<N: NodeRules> Session<N> {
         }
     }
 
-    /// What writing an integer over the one at a path means: an overwrite, or the reply, unless memory is refused. The turns aren't
-    /// known before it is whole.
+    /// The bytes that `put` writes for an integer at a path, or its reply if it writes none, unless memory is refused. The turns are
+    /// unknown until it is complete.
     #[tactic(auto, unfolding(crate::specs::Explored::description_of))]
     fn meant(
         &mut self,
@@ -253,7 +253,7 @@ impl<N: NodeRules> Session<N> {
         Ok(())
     }
 
-    /// Takes out so many bytes from a place on, and forgets what that touches.
+    /// Removes this many bytes from a place on, and forgets what that touches.
     #[tactic(auto, unfolding(crate::specs::Explored::description_of))]
     fn delete(&mut self, at: usize, count: usize) -> Result<(), EditRefusal>
         ensures edit { MatchResult result

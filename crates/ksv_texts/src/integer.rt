@@ -23,7 +23,7 @@ pub struct IntegerType {
 
 // ---- the integer that a leaf holds
 
-/// The type of what is read, where that is an integer; none has more than 8 bytes.
+/// The type of an integer that is read, at most 8 bytes long; None if no integer is read.
 fn type_in(content: &Content) -> Option<IntegerType>
     ensures found { option_map type_of result ≡ type_in (plain_content content.now) }
     ensures small { IfSome result (λ found. found.size ≤ 8) }
@@ -49,7 +49,7 @@ fn type_in(content: &Content) -> Option<IntegerType>
     }
 }
 
-/// What was read, by the case that a switch chose.
+/// What was read; of a switch, by the case that it chose.
 fn content_in(choice: &Choice, case: Option<u32>) -> Option<&Content>
     ensures { option_map (λ content. plain_content content.now) result ≡ content_in (plain_choice choice.now) case }
 {
@@ -62,7 +62,7 @@ fn content_in(choice: &Choice, case: Option<u32>) -> Option<&Content>
     }
 }
 
-/// How a member reads, where it is one that reads.
+/// How a member is read; None for a value instance, which is calculated.
 fn field_in(kind: &MemberKind) -> Option<&Field>
     ensures { option_map (λ field. plain_field field.now) result ≡ field_in (plain_kind kind.now) }
 {
@@ -73,7 +73,7 @@ fn field_in(kind: &MemberKind) -> Option<&Field>
     }
 }
 
-/// How the member reads by which a leaf is there.
+/// How the member was read that a leaf belongs to.
 fn field_at(desc: &Desc, leaf: Leaf) -> Option<&Field>
     ensures { option_map (λ field. plain_field field.now) result ≡ field_at (plain_pieces desc.now) leaf }
 {
@@ -95,7 +95,7 @@ pub fn integer_type(desc: &Desc, leaf: Leaf) -> Option<IntegerType>
 
 // ---- the bytes of an integer
 
-/// How many values an integer of a type has.
+/// The number of integers that fit a type.
 #[tactic(auto, using(crate::proofs::Powers::values_shifted, crate::proofs::Powers::values_small))]
 fn value_count(kind: IntegerType) -> i128
     requires { kind.size ≤ 8 }
@@ -106,7 +106,7 @@ fn value_count(kind: IntegerType) -> i128
     values as i128
 }
 
-/// Whether a type has an integer.
+/// Whether an integer fits a type.
 #[tactic(auto, unfolding(crate::specs::Integers::holds))]
 pub fn holds(kind: IntegerType, number: Integer) -> bool
     requires { kind.size ≤ 8 }
@@ -122,7 +122,7 @@ pub fn holds(kind: IntegerType, number: Integer) -> bool
     }
 }
 
-/// An integer that a type has, in two's complement.
+/// An integer that fits a type, in two's complement.
 #[tactic(auto, unfolding(crate::specs::Integers::holds))]
 fn as_unsigned(kind: IntegerType, number: Integer) -> u64
     requires size { kind.size ≤ 8 }
@@ -153,7 +153,7 @@ fn little_endian(size: usize, number: u64) -> ArrayVec<u8, 8>
     digits
 }
 
-/// The bytes of an integer that a type has.
+/// The bytes of an integer that fits a type.
 #[tactic(auto, unfolding(crate::specs::Integers::integer_bytes))]
 pub fn integer_bytes(kind: IntegerType, number: Integer) -> ArrayVec<u8, 8>
     requires size { kind.size ≤ 8 }

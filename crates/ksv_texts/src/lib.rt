@@ -1,5 +1,5 @@
-//! The parts of a question's answer that need no engine: the texts of values, names, faults and refusals, the parts of a dump
-//! that ask nothing, and the integers that a file holds, with their bytes.
+//! The texts of values, names, faults and refusals, the parts of a dump that ask nothing, and the bytes of integers: what an answer
+//! needs and no engine gives.
 //!
 //! Each function is the definition of the same name in `specs/` (`Texts`, `Parts`, `Integers`). What a question asks is in
 //! ksv_questions.

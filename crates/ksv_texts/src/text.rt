@@ -48,7 +48,7 @@ fn push_path(text: &mut String, desc: &Desc, path: &Path) -> Result<(), AllocErr
     push_steps(text, desc, steps)
 }
 
-/// A fault by its kind and the path where it arose.
+/// Appends a fault: its kind, and the path where it arose.
 #[tactic(auto, unfolding(crate::specs::Texts::fault_words))]
 fn push_fault(text: &mut String, desc: &Desc, fault: &Fault) -> Result<(), AllocError>
     ensures { OnOk result (string_bytes text.new ≡ string_bytes text.old ++ fault_words (plain_pieces desc.now) fault.now) }
@@ -58,7 +58,7 @@ fn push_fault(text: &mut String, desc: &Desc, fault: &Fault) -> Result<(), Alloc
     push_path(text, desc, &fault.path)
 }
 
-/// The same as a text of its own.
+/// The text of a fault: its kind, and the path where it arose.
 pub(crate) fn fault_words(alloc: Global, desc: &Desc, fault: &Fault) -> Result<String, AllocError>
     ensures { IfOk result (λ text. string_bytes text ≡ fault_words (plain_pieces desc.now) fault.now) }
 {
@@ -67,7 +67,7 @@ pub(crate) fn fault_words(alloc: Global, desc: &Desc, fault: &Fault) -> Result<S
     Ok(text)
 }
 
-/// The reply that tells a fault.
+/// The reply to a question that a fault prevents, its LF aside.
 #[tactic(auto, unfolding(crate::specs::Texts::fault_text))]
 pub fn fault_text(alloc: Global, desc: &Desc, fault: &Fault) -> Result<String, AllocError>
     ensures { IfOk result (λ text. string_bytes text ≡ fault_text (plain_pieces desc.now) fault.now) }
@@ -145,7 +145,7 @@ pub(crate) fn window(buffer: &Buffer, from: u32, to: u32) -> Window
     Window { from, to }
 }
 
-/// The digits of the bytes of a range of the file, as they are now.
+/// The current bytes of a range of the file, in hexadecimal.
 #[tactic(auto, unfolding(crate::specs::Texts::bytes_text))]
 pub fn bytes_text(alloc: Global, buffer: &Buffer, from: u32, to: u32) -> Result<String, AllocError>
     ensures { IfOk result (λ text. string_bytes text ≡ bytes_text buffer.now from to) }
@@ -157,7 +157,7 @@ pub fn bytes_text(alloc: Global, buffer: &Buffer, from: u32, to: u32) -> Result<
     Ok(text)
 }
 
-/// A number of an enum by the enum's id and its own.
+/// An enum value: the enum's id and its own, or `?` if the number has none.
 #[tactic(auto, unfolding(crate::specs::Texts::member_name))]
 pub(crate) fn member_name(
     alloc: Global,
@@ -173,7 +173,7 @@ pub(crate) fn member_name(
     Ok(text)
 }
 
-/// The same with the number.
+/// An enum value with its number.
 #[tactic(auto, unfolding(crate::specs::Texts::member_text))]
 pub fn member_text(
     alloc: Global,

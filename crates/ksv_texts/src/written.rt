@@ -47,7 +47,7 @@ fn one_member(alloc: Global, key: &str, json: Json) -> Result<Json, AllocError>
     Ok(Json::Object(members))
 }
 
-/// A fault by its words.
+/// The part of a fault.
 #[tactic(auto, unfolding(crate::specs::Parts::fault_part))]
 pub fn fault_part(alloc: Global, desc: &Desc, fault: &Fault) -> Result<Json, AllocError>
     ensures { IfOk result (λ json. view json ≡ fault_part (plain_pieces desc.now) fault.now) }
@@ -56,7 +56,7 @@ pub fn fault_part(alloc: Global, desc: &Desc, fault: &Fault) -> Result<Json, All
     one_member(alloc, "fault", Json::String(words))
 }
 
-/// The fault of a kind at a path.
+/// The part of a fault of this kind at a path.
 pub fn kind_part(
     alloc: Global,
     desc: &Desc,
@@ -79,7 +79,7 @@ fn is_absence(kind: FaultKind) -> bool
     }
 }
 
-/// What is absent at the part's own path is null; another fault is told.
+/// The part of a path whose value is a fault: null if the value is absent, and the fault otherwise.
 #[tactic(auto, unfolding(crate::specs::Parts::failed_part))]
 pub fn failed_part(
     alloc: Global,
@@ -105,7 +105,7 @@ fn integer_part(number: Integer) -> Json
     }
 }
 
-/// A number of an enum, by its enum's id and its own.
+/// An enum value, with its number.
 #[tactic(auto, using(crate::proofs::Json::object_view), unfolding(crate::specs::Parts::member_part))]
 fn member_part(
     alloc: Global,
@@ -122,7 +122,7 @@ fn member_part(
     Ok(Json::Object(members))
 }
 
-/// The digits of the bytes of a range.
+/// The bytes of a range, in hexadecimal.
 fn digits(alloc: Global, buffer: &Buffer, from: u32, to: u32) -> Result<String, AllocError>
     ensures { IfOk result (λ text. string_bytes text ≡ encode_lower (slice_range buffer.now from to)) }
 {

@@ -1,16 +1,16 @@
-use Rattle.std.proofs.lemmas.Result.{err_from_is_err_and}
-use Rattle.ksv_desc.specs.Whole.{plain_pieces}
-use Rattle.ksv_questions.specs.Asking.{hear, passed}
-use Rattle.ksv_questions.proofs.Steps.{runs_ended, runs_failed}
+use Rattle.std.proofs.Common.{subst}
+use Rattle.std.specs.declared.alloc.AllocError.{AllocError}
+use Rattle.ksv_expr_value.specs.Trail.{Trail}
+use Rattle.ksv_nodes.specs.declared.node.Node.{Node}
+use Rattle.ksv_questions.specs.Code.{Hears, bytes_of, desc_of, plain_answer}
+use Rattle.ksv_questions.proofs.AskLemmas.{asked_is, hears, heard_one}
 use Rattle.ksv_questions.proofs.asking.ask.Goals as goal
-
-pub returns-in_err-heard : goal.returns-in_err-heard
-returns-in_err-heard g c =
-    let e = err_from_is_err_and c.from_residual.result c.from_residual.ensures.1 in
-    rw (e.1, e.2) (runs_failed (plain_pieces c.args.described.now.desc) c.args.buffer.now (hear (record { kind = c.args.kind; path = c.args.path.now })) (λ h. passed h) (λ h. h) (λ g. g)
-    c.args.engine.now c.hear.new.engine c.in_err-heard.field-0.0 c.in_err-heard.ensures)
 
 pub returns : goal.returns
 returns g c =
-    runs_ended (plain_pieces c.args.described.now.desc) c.args.buffer.now (hear (record { kind = c.args.kind; path = c.args.path.now })) (λ h. passed h) (λ h. h) (λ g. g)
-    c.args.engine.now c.hear.new.engine c.in_ok-heard.heard c.passed.result c.in_ok-heard.ensures c.passed.ensures
+    let d = desc_of c.args.file.now in
+    let b = bytes_of c.args.file.now in
+    let n : Node = record { kind = c.args.kind; path = c.in_ok-path.path } in
+    subst (λ (p : Trail). Hears d b (record { kind = c.args.kind; path = p }) c.args.engine.now c.ask.new.self c.heard.result) c.in_ok-path.ensures
+    (hears d b n c.args.engine.now c.ask.new.self (plain_answer c.in_ok-answer.answer) c.heard.result (asked_is d b n c.in_ok-answer.answer c.in_ok-answer.ensures.answer) c.heard.ensures
+    (heard_one d b n AllocError c.args.engine.now c.ask.new.self c.in_ok-answer.answer c.in_ok-answer.ensures.answer c.in_ok-answer.ensures.right c.in_ok-answer.ensures.kept c.in_ok-answer.ensures.turns))

@@ -1,7 +1,7 @@
 use Rattle.std.proofs.Common.{◌+◌, ◌-◌, ◌*◌, [], drop, map}
 use Rattle.serde_json.specs.Data.{no_members}
 use Rattle.serde_json.specs.View.{members_view, view}
-use Rattle.ksv_desc.specs.Whole.{plain_pieces}
+use Rattle.ksv_questions.specs.Code.{bytes_of, desc_of}
 use Rattle.ksv_questions.specs.Dumps.{elements_part, members_part, part}
 use Rattle.ksv_questions.proofs.Steps.{Pending}
 use Rattle.ksv_questions.proofs.dump.+dump.Given as goal
@@ -33,12 +33,14 @@ decreases-asked_part g l = 8 * l.depth + 7
 
 abbrev pub invariant-members_part-loop-name : goal.invariant-members_part-loop-name
 invariant-members_part-loop-name g l =
-    Pending (plain_pieces l.described.desc) l.buffer
-    (members_part (plain_pieces l.described.desc) (part (plain_pieces l.described.desc) l.buffer l.depth) l.object l.initial.left l.names no_members) l.initial.engine
-    (members_part (plain_pieces l.described.desc) (part (plain_pieces l.described.desc) l.buffer l.depth) l.object l.left (drop l.name-index l.names) (members_view l.members.entries)) l.engine
+    let d = desc_of l.file in
+    let each = part d (bytes_of l.file) l.depth in
+    Pending d (bytes_of l.file) (members_part d each l.object l.initial.left l.names no_members) l.initial.engine
+    (members_part d each l.object l.left (drop l.name-index l.names) (members_view l.members.entries)) l.engine
 
 abbrev pub invariant-elements_part-loop-index : goal.invariant-elements_part-loop-index
 invariant-elements_part-loop-index g l =
-    Pending (plain_pieces l.described.desc) l.buffer
-    (elements_part (plain_pieces l.described.desc) (part (plain_pieces l.described.desc) l.buffer l.depth) l.list l.initial.left 0 l.count []) l.initial.engine
-    (elements_part (plain_pieces l.described.desc) (part (plain_pieces l.described.desc) l.buffer l.depth) l.list l.left l.index (l.count - l.index) (map view l.elements.items)) l.engine
+    let d = desc_of l.file in
+    let each = part d (bytes_of l.file) l.depth in
+    Pending d (bytes_of l.file) (elements_part d each l.list l.initial.left 0 l.count []) l.initial.engine
+    (elements_part d each l.list l.left l.index (l.count - l.index) (map view l.elements.items)) l.engine

@@ -1,9 +1,8 @@
 use Rattle.std.proofs.Common.{◌-◌, String, Global, string_bytes}
 use Rattle.std.proofs.lemmas.Result.{err_from_is_err_and}
-use Rattle.ksv_desc.specs.Whole.{plain_pieces}
 use Rattle.serde_json.specs.Written.{compact_text}
 use Rattle.ksv_basics.specs.Plan.{Answer}
-use Rattle.ksv_questions.specs.Code.{dumped}
+use Rattle.ksv_questions.specs.Code.{bytes_of, desc_of, dumped}
 use Rattle.ksv_questions.specs.Dumps.{Part, depth_limit, part, part_limit, value_part, whole_text}
 use Rattle.ksv_questions.proofs.Exact.{whole_exact}
 use Rattle.ksv_questions.proofs.Steps.{runs_ended, runs_failed}
@@ -12,17 +11,23 @@ use Rattle.ksv_questions.proofs.dump.whole_text.Goals as goal
 pub returns-in_err-whole : goal.returns-in_err-whole
 unfolding whole_text
 returns-in_err-whole g c =
+    let d = desc_of c.args.file.now in
+    let b = bytes_of c.args.file.now in
     let e = err_from_is_err_and c.from_residual.result c.from_residual.ensures.1 in
-    rw (e.1, e.2) (runs_failed (plain_pieces c.args.described.now.desc) c.args.buffer.now (value_part (plain_pieces c.args.described.now.desc) c.args.buffer.now (part (plain_pieces c.args.described.now.desc) c.args.buffer.now depth_limit) c.args.path.now (part_limit - 1) c.args.value.now) (λ (x : Part). Answer (compact_text x.json)) dumped (λ (text : String Global). string_bytes text)
+    rw (e.1, e.2) (runs_failed d b (value_part d b (part d b depth_limit) c.args.path.now (part_limit - 1) c.args.value.now) (λ (x : Part). Answer (compact_text x.json)) dumped (λ (text : String Global). string_bytes text)
     c.args.engine.now c.value_part.new.engine c.in_err-whole.field-0.0 c.in_err-whole.ensures)
 
 pub returns : goal.returns
 unfolding whole_text
 returns g c =
-    runs_ended (plain_pieces c.args.described.now.desc) c.args.buffer.now (value_part (plain_pieces c.args.described.now.desc) c.args.buffer.now (part (plain_pieces c.args.described.now.desc) c.args.buffer.now depth_limit) c.args.path.now (part_limit - 1) c.args.value.now) (λ (x : Part). Answer (compact_text x.json)) dumped (λ (text : String Global). string_bytes text)
+    let d = desc_of c.args.file.now in
+    let b = bytes_of c.args.file.now in
+    runs_ended d b (value_part d b (part d b depth_limit) c.args.path.now (part_limit - 1) c.args.value.now) (λ (x : Part). Answer (compact_text x.json)) dumped (λ (text : String Global). string_bytes text)
     c.args.engine.now c.value_part.new.engine c.in_ok-whole.whole c.written_text.result c.in_ok-whole.ensures c.written_text.ensures
 
 -- what was written has no float
 pub written_text-requires : goal.written_text-requires
 written_text-requires g c =
-    whole_exact (plain_pieces c.args.described.now.desc) c.args.buffer.now depth_limit c.args.path.now (part_limit - 1) c.args.value.now (dumped c.in_ok-whole.whole) c.in_ok-whole.ensures.0
+    let d = desc_of c.args.file.now in
+    let b = bytes_of c.args.file.now in
+    whole_exact d b depth_limit c.args.path.now (part_limit - 1) c.args.value.now (dumped c.in_ok-whole.whole) c.in_ok-whole.ensures.0

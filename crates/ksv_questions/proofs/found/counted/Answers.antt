@@ -1,22 +1,14 @@
-use Rattle.std.proofs.lemmas.Result.{err_from_is_err_and}
-use Rattle.ksv_desc.specs.Whole.{plain_pieces}
 use Rattle.ksv_basics.specs.Plan.{Answer}
 use Rattle.ksv_nodes.specs.Rule.{rest_node}
-use Rattle.ksv_questions.specs.Asking.{hear}
-use Rattle.ksv_questions.specs.Code.{found_of}
-use Rattle.ksv_questions.specs.Dumps.{find_list, count_in}
-use Rattle.ksv_questions.proofs.Steps.{runs_ended, runs_failed}
+use Rattle.ksv_questions.specs.Code.{bytes_of, desc_of, found_of}
+use Rattle.ksv_questions.specs.Dumps.{count_in, find_list}
+use Rattle.ksv_questions.proofs.AskLemmas.{heard_settled}
 use Rattle.ksv_questions.proofs.found.counted.Goals as goal
-
-pub returns-in_err-heard : goal.returns-in_err-heard
-unfolding find_list
-returns-in_err-heard g c =
-    let e = err_from_is_err_and c.from_residual.result c.from_residual.ensures.1 in
-    rw (e.1, e.2) (runs_failed (plain_pieces c.args.described.now.desc) c.args.buffer.now (hear (rest_node c.args.first.now)) (λ h. Answer (count_in (plain_pieces c.args.described.now.desc) c.args.list.now h)) (λ h. h) (λ r. found_of r)
-    c.args.engine.now c.hear.new.engine c.in_err-heard.field-0.0 c.in_err-heard.ensures)
 
 pub returns : goal.returns
 unfolding find_list
 returns g c =
-    runs_ended (plain_pieces c.args.described.now.desc) c.args.buffer.now (hear (rest_node c.args.first.now)) (λ h. Answer (count_in (plain_pieces c.args.described.now.desc) c.args.list.now h)) (λ h. h) (λ r. found_of r)
-    c.args.engine.now c.hear.new.engine c.in_ok-heard.heard c.count_in.result c.in_ok-heard.ensures c.count_in.ensures
+    let d = desc_of c.args.file.now in
+    let b = bytes_of c.args.file.now in
+    heard_settled d b (rest_node c.args.first.now) (λ h. Answer (count_in d c.args.list.now h)) (λ r. found_of r)
+    c.args.engine.now c.ask-asked.new.engine c.ask-asked.result c.count_in.result c.ask-asked.ensures c.count_in.ensures

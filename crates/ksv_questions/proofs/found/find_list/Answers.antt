@@ -1,18 +1,20 @@
 use Rattle.std.proofs.Common.{◌∙◌, None, subst, sym}
-use Rattle.ksv_desc.specs.Whole.{plain_pieces}
-use Rattle.ksv_questions.specs.Code.{Runs, found_of}
+use Rattle.ksv_questions.specs.Code.{Runs, bytes_of, desc_of, found_of}
 use Rattle.ksv_questions.specs.Dumps.{find_list}
 use Rattle.ksv_questions.proofs.Steps.{runs_settled}
 use Rattle.ksv_questions.proofs.found.find_list.Goals as goal
 
 pub returns-in-Some : goal.returns-in-Some
 returns-in-Some g c =
-    subst (λ o. Runs (plain_pieces c.args.described.now.desc) c.args.buffer.now (find_list (plain_pieces c.args.described.now.desc) c.args.list.now o) (λ r. found_of r) c.args.engine.now c.counted.new.engine c.counted.result)
+    let d = desc_of c.args.file.now in
+    let b = bytes_of c.args.file.now in
+    subst (λ o. Runs d b (find_list d c.args.list.now o) (λ r. found_of r) c.args.engine.now c.counted.new.engine c.counted.result)
     (sym c.in-Some.is ∙ c.in_ok-first.ensures) c.counted.ensures
 
 pub returns-in-None : goal.returns-in-None
 returns-in-None g c =
-    let d = plain_pieces c.args.described.now.desc in
-    subst (λ o. Runs d c.args.buffer.now (find_list d c.args.list.now o) (λ r. found_of r) c.args.engine.now c.args.engine.now c.uncounted.result)
+    let d = desc_of c.args.file.now in
+    let b = bytes_of c.args.file.now in
+    subst (λ o. Runs d b (find_list d c.args.list.now o) (λ r. found_of r) c.args.engine.now c.args.engine.now c.uncounted.result)
     (sym c.in-None.is ∙ c.in_ok-first.ensures)
-    (runs_settled d c.args.buffer.now (find_list d c.args.list.now None) (λ r. found_of r) c.args.engine.now c.uncounted.result c.requires c.uncounted.ensures)
+    (runs_settled d b (find_list d c.args.list.now None) (λ r. found_of r) c.args.engine.now c.uncounted.result c.requires c.uncounted.ensures)

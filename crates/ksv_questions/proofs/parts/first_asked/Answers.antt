@@ -1,20 +1,19 @@
 use Rattle.std.proofs.Common.{◌∙◌, Err, None, subst, sym}
 use Rattle.std.proofs.lemmas.Result.{err_from_is_err_and}
-use Rattle.ksv_desc.specs.Whole.{plain_pieces}
 use Rattle.ksv_expr_value.specs.declared.fault.FaultKind.TheVariants.{PathTooLong}
 use Rattle.ksv_nodes.specs.Rule.{rest_node}
 use Rattle.ksv_nodes.specs.Turning.{fault_at}
-use Rattle.ksv_questions.specs.Asking.{ask}
-use Rattle.ksv_questions.specs.Code.{Runs}
+use Rattle.ksv_questions.specs.Code.{Runs, bytes_of, desc_of}
 use Rattle.ksv_questions.specs.Questions.{first_asked, in_rest}
-use Rattle.ksv_questions.proofs.Steps.{runs_ended, runs_failed, runs_settled, settled_fault}
+use Rattle.ksv_questions.proofs.AskLemmas.{asked_ended, asked_failed}
+use Rattle.ksv_questions.proofs.Steps.{runs_settled, settled_fault}
 use Rattle.ksv_questions.proofs.parts.first_asked.Goals as goal
 
 pub returns-in_default : goal.returns-in_default
 unfolding first_asked
 returns-in_default g c =
-    let d = plain_pieces c.args.described.now.desc in
-    let b = c.args.buffer.now in
+    let d = desc_of c.args.file.now in
+    let b = bytes_of c.args.file.now in
     subst (λ o. Runs d b (first_asked c.args.path.now c.args.list.now o) (λ n. n) c.args.engine.now c.args.engine.now (Err c.fault_at.result)) (sym c.in_default.is ∙ c.in_ok-first.ensures)
     (runs_settled d b (first_asked c.args.path.now c.args.list.now None) (λ n. n) c.args.engine.now (Err c.fault_at.result) c.requires
     (settled_fault d b (fault_at c.args.list.now PathTooLong) (λ n. n) c.fault_at.result c.fault_at.ensures))
@@ -22,18 +21,18 @@ returns-in_default g c =
 pub returns-in_err-given : goal.returns-in_err-given
 unfolding first_asked
 returns-in_err-given g c =
-    let d = plain_pieces c.args.described.now.desc in
-    let b = c.args.buffer.now in
+    let d = desc_of c.args.file.now in
+    let b = bytes_of c.args.file.now in
     let e = err_from_is_err_and c.from_residual-in_err-given.result c.from_residual-in_err-given.ensures.1 in
     rw (e.1, e.2) (subst (λ o. Runs d b (first_asked c.args.path.now c.args.list.now o) (λ n. n) c.args.engine.now c.ask.new.engine (Err c.in_err-given.field-0.0)) (sym c.in-Some.is ∙ c.in_ok-first.ensures)
-    (runs_failed d b (ask (rest_node c.in-Some.first)) (λ g. in_rest c.args.path.now g) (λ g. g) (λ n. n)
+    (asked_failed d b (rest_node c.in-Some.first) (λ g. in_rest c.args.path.now g) (λ n. n)
     c.args.engine.now c.ask.new.engine c.in_err-given.field-0.0 c.in_err-given.ensures))
 
 pub returns : goal.returns
 unfolding first_asked
 returns g c =
-    let d = plain_pieces c.args.described.now.desc in
-    let b = c.args.buffer.now in
+    let d = desc_of c.args.file.now in
+    let b = bytes_of c.args.file.now in
     subst (λ o. Runs d b (first_asked c.args.path.now c.args.list.now o) (λ n. n) c.args.engine.now c.ask.new.engine c.in_rest.result) (sym c.in-Some.is ∙ c.in_ok-first.ensures)
-    (runs_ended d b (ask (rest_node c.in-Some.first)) (λ g. in_rest c.args.path.now g) (λ g. g) (λ n. n)
+    (asked_ended d b (rest_node c.in-Some.first) (λ g. in_rest c.args.path.now g) (λ n. n)
     c.args.engine.now c.ask.new.engine c.in_ok-given.given c.in_rest.result c.in_ok-given.ensures c.in_rest.ensures)
