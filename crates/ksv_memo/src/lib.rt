@@ -8,8 +8,8 @@
 #![tactic(auto)]
 
 mod engine;
+mod frames;
 pub mod laws;
-mod layout;
 mod machine;
 mod slots;
 mod table;
