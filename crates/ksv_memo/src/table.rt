@@ -124,7 +124,7 @@ impl<R: Rules> Table<R> {
         self.links.count()
     }
 
-    /// Starts a question for a node: its outcome, if the node is kept or open; else it is opened.
+    /// Starts a question for a node: its outcome if the node is kept or open; else the node is opened.
     pub(crate) fn start(
         &mut self,
         alloc: Global,
@@ -142,7 +142,8 @@ impl<R: Rules> Table<R> {
         }
     }
 
-    /// Asks for a node: its answer goes to the last open node if it is kept; else it is opened. The node, if it is open.
+    /// Asks for a node, which is given back if it is open. If it is kept, the last open node gets its answer; else it is
+    /// opened.
     #[inline(always)]
     pub(crate) fn ask(&mut self, node: R::Node) -> Result<Option<R::Node>, AllocError>
         ensures ok { IfOk result (Asks R.Node.eq node self.old self.new) }
