@@ -1,6 +1,8 @@
 -- What a change doesn't touch is the same before and after it.
-use Rattle.std.proofs.Common.{◌≡◌, ℕ, ◌+◌, ◌-◌, ◌<◌, ◌≤◌, List, ◌++◌, length, take, drop, ap, ◌∙◌, sym, subst, arith, append_assoc, inl, inr}
+use Rattle.std.proofs.Common.{◌≡◌, refl, false, nat_lt, ℕ, ◌+◌, ◌-◌, ◌<◌, ◌≤◌, List, ◌++◌, length, take, drop, ap, ◌∙◌, sym, subst, arith, append_assoc, inl, inr}
+use Rattle.std.specs.Bool.{Decides}
 use Rattle.std.proofs.lemmas.Bool.{cases_lt}
+use Rattle.std.proofs.lemmas.Bool.Decides.{Decides-and, Decides-ltb, not_from_Decides}
 use Rattle.std.proofs.lemmas.Grind.{common_steps}
 use Rattle.std.proofs.lemmas.List.{drop-take, take-append-le, take-append-drop}
 use Rattle.std.proofs.lemmas.Slice.{drop-append-drop}
@@ -9,7 +11,7 @@ use Rattle.ksv_bytes.specs.declared.uses.Use.{Use}
 use Rattle.ksv_bytes.specs.declared.uses.Use.TheVariants.{Bytes, Reach, Size}
 use Rattle.ksv_bytes.specs.declared.uses.Change.{Change}
 use Rattle.ksv_bytes.specs.declared.uses.Change.TheVariants.{Overwrite, Insert, Delete, Append}
-use Rattle.ksv_bytes.specs.Uses.{AgreeOn, Touches, Keeps}
+use Rattle.ksv_bytes.specs.Uses.{AgreeOn, Touches, Keeps, is_use_touched}
 
 -- a range of bytes lies in the bytes up to its end
 range-front : (bytes : List ℕ) (from to : ℕ) → from < to → slice_range bytes from to ≡ drop from (take to bytes)
@@ -94,3 +96,25 @@ untouched-keeps Append (Reach to) apart before after (new, is) can =
     let P : List ℕ → Type 0 = λ xs. AgreeOn before xs (Reach to) in
     subst P (sym is) (can, append-reaches before new to can)
 untouched-keeps Append Size apart before after edit can = absurd (apart tt)
+
+-- the test tells whether a change touches a use
+pub use_touched : (change : Change) (used : Use) → Decides (is_use_touched change used) (Touches change used)
+use_touched (Overwrite at n) (Bytes from to) = Decides-and (nat_lt from (at + n)) (nat_lt at to) (Decides-ltb from (at + n)) (Decides-ltb at to)
+use_touched (Overwrite at n) (Reach to) = (λ e. cc, λ h. absurd h)
+use_touched (Overwrite at n) Size = (λ e. cc, λ h. absurd h)
+use_touched (Insert at n) (Bytes from to) = Decides-ltb at to
+use_touched (Insert at n) (Reach to) = Decides-ltb at to
+use_touched (Insert at n) Size = (λ e. tt, λ h. refl)
+use_touched (Delete at n) (Bytes from to) = Decides-ltb at to
+use_touched (Delete at n) (Reach to) = Decides-ltb at to
+use_touched (Delete at n) Size = (λ e. tt, λ h. refl)
+use_touched Append (Bytes from to) = (λ e. cc, λ h. absurd h)
+use_touched Append (Reach to) = (λ e. cc, λ h. absurd h)
+use_touched Append Size = (λ e. tt, λ h. refl)
+
+pub untouched_use : (change : Change) (used : Use) → is_use_touched change used ≡ false → Touches change used → ⊥
+untouched_use change used e = not_from_Decides (is_use_touched change used) (use_touched change used) e
+
+-- where the test fails, the use is kept
+pub failed_keeps : (change : Change) (used : Use) → is_use_touched change used ≡ false → Keeps change used
+failed_keeps change used e = untouched-keeps change used (untouched_use change used e)

@@ -1,6 +1,6 @@
 -- Uses of bytes and changes of them: what an answer depends on, and what an edit may have changed of it. The rule
 -- of what an edit touches is this project's own.
-use Rattle.std.specs.Prelude.{◌≡◌, ℕ, ◌+◌, ◌<◌, ◌≤◌, List, ◌++◌, length, take, drop, slice_range}
+use Rattle.std.specs.Prelude.{◌≡◌, ℕ, ◌+◌, ◌<◌, ◌≤◌, Bool, true, false, ◌&&◌, nat_lt, List, ◌++◌, length, take, drop, slice_range}
 use Rattle.ksv_bytes.specs.declared.uses.Use.{Use}
 use Rattle.ksv_bytes.specs.declared.uses.Use.TheVariants.{Bytes, Reach, Size}
 use Rattle.ksv_bytes.specs.declared.uses.Change.{Change}
@@ -40,6 +40,21 @@ Touches (Delete at n) Size = Unit {0}
 Touches Append (Bytes from to) = ⊥
 Touches Append (Reach to) = ⊥
 Touches Append Size = Unit {0}
+
+-- whether a change touches a use: `Touches`, as a test
+abbrev pub is_use_touched : Change → Use → Bool
+is_use_touched (Overwrite at n) (Bytes from to) = nat_lt from (at + n) && nat_lt at to
+is_use_touched (Overwrite at n) (Reach to) = false
+is_use_touched (Overwrite at n) Size = false
+is_use_touched (Insert at n) (Bytes from to) = nat_lt at to
+is_use_touched (Insert at n) (Reach to) = nat_lt at to
+is_use_touched (Insert at n) Size = true
+is_use_touched (Delete at n) (Bytes from to) = nat_lt at to
+is_use_touched (Delete at n) (Reach to) = nat_lt at to
+is_use_touched (Delete at n) Size = true
+is_use_touched Append (Bytes from to) = false
+is_use_touched Append (Reach to) = false
+is_use_touched Append Size = true
 
 -- for each edit with this change, the bytes before and after it agree on the use
 abbrev pub Keeps : Change → Use → Type 0

@@ -20,9 +20,9 @@ pub const FILE_LIMIT: usize = 16_777_216;
 /// its place and the gap, and no others.
 #[derive(Drop)]
 pub struct Buffer {
-    /// The bytes in front of the gap, those in it, which mean nothing, and those behind it.
+    /// The bytes before the gap, those in it, which mean nothing, and those after it.
     bytes: Vec<u8>,
-    /// How many bytes are in front of the gap.
+    /// How many bytes are before the gap.
     front: usize,
     /// How many bytes the gap has.
     gap: usize,
@@ -77,8 +77,7 @@ impl Buffer {
         self.bytes.len() == self.gap
     }
 
-    /// Lends the bytes of a window, in two slices that follow each other: those in front of the gap, and those behind
-    /// it. Nothing is copied.
+    /// Lends the bytes of a window in two slices: those before the gap, and those after it. Nothing is copied.
     pub fn parts(&self, window: Window) -> (&[u8], &[u8])
         requires ordered { window.from ≤ window.to }
         requires inside { window.to ≤ length self.now }
@@ -104,8 +103,8 @@ impl Buffer {
         Ok(())
     }
 
-    /// Puts bytes before the byte at a place, or after the last one. It can be out of memory only where nothing else is
-    /// wrong with the edit. The gap is then in front of what was put, so that a further edit at this place moves no byte.
+    /// Puts bytes before the byte at a place, or after the last one. It runs out of memory only if nothing else is wrong
+    /// with the edit. The gap is then before the new bytes, so a further edit at this place moves no byte.
     pub fn insert(&mut self, at: usize, bytes: &[u8]) -> Result<(), EditRefusal>
         ensures done { OnOk result (insert self.old at bytes.now ≡ Ok self.new) }
         ensures unchanged { OnErr result (self.new ≡ self.old) }
@@ -141,8 +140,8 @@ impl Buffer {
         Ok(())
     }
 
-    /// Adds bytes at the end. It can be out of memory only where nothing else is wrong with the edit. The gap is then
-    /// behind them, so that adding more moves no byte.
+    /// Adds bytes at the end. It runs out of memory only if nothing else is wrong with the edit. The gap is then after
+    /// them, so adding more moves no byte.
     pub fn append(&mut self, bytes: &[u8]) -> Result<(), EditRefusal>
         ensures done { OnOk result (append self.old bytes.now ≡ Ok self.new) }
         ensures unchanged { OnErr result (self.new ≡ self.old) }

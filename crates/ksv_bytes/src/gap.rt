@@ -11,7 +11,7 @@ use std::alloc::AllocError;
 /// The fewest bytes by which a gap grows.
 const LEAST_GROWTH: usize = 256;
 
-/// Lends the bytes of a window on what is around the gap: those in front of the gap, and those behind it.
+/// Lends the bytes of a window on what is around the gap: those before the gap, and those after it.
 pub(crate) fn parts_around(bytes: &[u8], front: usize, gap: usize, window: Window) -> (&[u8], &[u8])
     requires gap { front + gap ≤ length bytes.now }
     requires ordered { window.from ≤ window.to }
@@ -30,7 +30,7 @@ fn write(bytes: &mut [u8], at: usize, new: &[u8])
     bytes[at..at + new.len()].copy_from_slice(new);
 }
 
-/// Writes bytes over those that stand from a place on around the gap, which stays where it is.
+/// Writes bytes over those from a place on, around the gap, which stays where it is.
 pub(crate) fn overwrite_around(bytes: &mut [u8], front: usize, gap: usize, at: usize, new: &[u8])
     requires gap { front + gap ≤ length bytes.old }
     requires inside { at + length new.now + gap ≤ length bytes.old }
@@ -84,9 +84,9 @@ pub(crate) fn room_for(
     }
 }
 
-/// The length of a gap that has so many bytes at least, made longer where it is shorter. It grows by half of all
-/// bytes, so that many small edits cost no more than a few large ones; and all bytes never grow past the limit. Only
-/// where it grows is memory taken, before any byte is moved.
+/// The length of the gap, once it has at least so many bytes. It grows by half of all bytes, so that many small edits
+/// cost no more than a few large ones, and never past the limit of a file. It takes memory only if it grows, before any
+/// byte is moved.
 fn widen_gap(
     bytes: &mut Vec<u8>,
     front: usize,
@@ -116,7 +116,7 @@ fn widen_gap(
     Ok(gap + growth)
 }
 
-/// Writes bytes at the gap's end, which then belong to what is behind it. The gap begins where it did.
+/// Writes bytes at the gap's end, which then belong to what is after it. The gap begins where it did.
 pub(crate) fn fill_from_end(bytes: &mut [u8], front: usize, gap: usize, new: &[u8])
     requires gap { front + gap ≤ length bytes.old }
     requires wide { length new.now ≤ gap }
@@ -125,7 +125,7 @@ pub(crate) fn fill_from_end(bytes: &mut [u8], front: usize, gap: usize, new: &[u
     write(bytes, front + gap - new.len(), new);
 }
 
-/// Writes bytes at the gap's start, which then belong to what is in front of it.
+/// Writes bytes at the gap's start, which then belong to what is before it.
 pub(crate) fn fill_from_start(bytes: &mut [u8], front: usize, gap: usize, new: &[u8])
     requires gap { front + gap ≤ length bytes.old }
     requires wide { length new.now ≤ gap }

@@ -1,6 +1,6 @@
 //! What an answer depends on in the bytes, and which of it an edit touches.
 ghost use Rattle.std.specs.Prelude.{◌≡◌, ◌↔◌, IsTrue, false};
-ghost use Rattle.ksv_bytes.specs.Uses.{Touches, Keeps};
+ghost use Rattle.ksv_bytes.specs.Uses.{Touches, Keeps, is_use_touched};
 
 /// What one reading of the bytes depends on. Places count from the first byte, and are below 2^32, since a file has
 /// at most 16,777,216 bytes.
@@ -30,7 +30,9 @@ pub enum Change {
 
 /// Whether an edit may have changed what a use depends on. An overwrite touches the ranges that it meets. An insert
 /// or a delete touches what ends after its place, and the size. An append touches the size alone.
+#[tactic(auto, using(crate::proofs::Untouched::use_touched, crate::proofs::Untouched::failed_keeps))]
 pub fn touches(change: Change, used: Use) -> bool
+    ensures test { result ≡ is_use_touched change used }
     ensures table { IsTrue result ↔ Touches change used }
 
     // If an edit doesn't touch a use, what the use depends on is the same before and after it.
@@ -41,7 +43,7 @@ pub fn touches(change: Change, used: Use) -> bool
 
 /// The table of what a change touches.
 fn is_touched(change: Change, used: Use) -> bool
-    ensures { IsTrue result ↔ Touches change used }
+    ensures { result ≡ is_use_touched change used }
 {
     match (change, used) {
         (Change::Overwrite { at, n }, Use::Bytes(from, to)) => {

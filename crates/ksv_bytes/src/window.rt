@@ -1,6 +1,6 @@
 //! A range of a file's bytes.
 
-/// The bytes from one place up to another, which is not part of it. Places are counted in bytes from the file's
+/// The bytes from one place up to another, without the byte at that one. Places are counted in bytes from the file's
 /// start.
 #[derive(Clone, Copy)]
 pub struct Window {

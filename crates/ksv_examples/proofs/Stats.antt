@@ -12,7 +12,7 @@ use Rattle.ksv_rule_meaning.specs.Completed.{completed, meets_circle}
 use Rattle.ksv_rule_meaning.specs.Kept.{calls, is_hit, is_touched, kept_after, kept_with, turns_of}
 use Rattle.ksv_memo_rules.specs.Evaluation.{is_among}
 use Rattle.ksv_memo_rules.specs.Right.{fresh}
-use Rattle.ksv_memo_rules.specs.Touched.{is_use_touched}
+use Rattle.ksv_bytes.specs.Uses.{is_use_touched}
 use Rattle.ksv_nodes.specs.Numbers.{node_number}
 use Rattle.ksv_nodes.specs.declared.given.Given.{Given}
 use Rattle.ksv_nodes.specs.declared.node.Node.{Node}

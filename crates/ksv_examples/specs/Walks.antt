@@ -16,7 +16,7 @@ use Rattle.ksv_desc.specs.Description.{Description}
 use Rattle.ksv_expr_value.specs.Trail.{Trail}
 use Rattle.ksv_expr_value.specs.declared.fault.Fault.{Fault}
 use Rattle.ksv_expr_value.specs.declared.fault.FaultKind.TheVariants as kinds
-use Rattle.ksv_memo_rules.specs.Touched.{is_use_touched}
+use Rattle.ksv_bytes.specs.Uses.{is_use_touched}
 use Rattle.ksv_nodes.specs.Reading.{look}
 use Rattle.ksv_nodes.specs.Rule.{Rule, Of, See}
 use Rattle.ksv_nodes.specs.Turning.{fault_at, raised}

@@ -13,8 +13,8 @@ use Rattle.ksv_memo_links.specs.Marking.{is_kept}
 use Rattle.ksv_memo_links.specs.Links.{Linked, Keeps as LinksKeep}
 use Rattle.ksv_memo_rules.specs.declared.replies.Slot.{Slot}
 use Rattle.ksv_memo_rules.specs.declared.replies.Slot.TheVariants.{Open as opened}
-use Rattle.ksv_memo.specs.declared.layout.Frame.{Frame}
-use Rattle.ksv_memo.specs.declared.layout.Frames.{Frames}
+use Rattle.ksv_memo.specs.declared.frames.Frame.{Frame}
+use Rattle.ksv_memo.specs.declared.frames.Frames.{Frames}
 use Rattle.ksv_memo_rules.specs.Slots.{answer_in, answer_of, answer_at, answers_at, with_first}
 use Rattle.ksv_memo.specs.Open.{Open, newly, heard}
 use Rattle.ksv_memo.specs.Layout.{IsOneOf, AllDiffer, slots_of, node_at, nodes_at, IsOpen, IsKept, entry_with, entry_at, entries_at, entries_of, open_before, opens_in, opens_of, AreNested, AreLinked, AreFrames}
@@ -118,13 +118,6 @@ module _ {N V F : Type 0} where
         by_answer : (j : ℕ) (a : Result V F) → answer_at (slots_of ps) j ≡ Some a → (j ≡ i) ⊎ (j ≢ i) → answer_at (slots_of qs) j ≡ Some a
         by_answer j a e (inl same) = let here : answer_at (slots_of ps) i ≡ Some a = ap (answer_at (slots_of ps)) (sym same) ∙ e in absurd (cc)
         by_answer j a e (inr apart) = other_answer j apart ∙ e
-
-    kept_or : (j : ℕ) → IsKept qs j → (j ≡ i) ⊎ IsKept ps j
-    kept_or j h = by (same_or j i)
-      where
-        by : (j ≡ i) ⊎ (j ≢ i) → (j ≡ i) ⊎ IsKept ps j
-        by (inl same) = inl same
-        by (inr apart) = inr (ap is_some (sym (other_answer j apart)) ∙ h)
 
   -- ---- the links
   module _ (ps qs : List (N × Slot V F)) (i : ℕ) (n : N) (s : Slot V F) (changes : ChangesAt ps qs i n s) (none : answer_at (slots_of ps) i ≡ None) where

@@ -1,23 +1,25 @@
 -- What an edit takes from the kept nodes is what the pass takes from the table, and what stays is right.
 use Rattle.std.proofs.lemmas.List.Sums.{sum_by-cons}
-use Rattle.std.proofs.Common.{◌≡◌, ℕ, zero, suc, ◌+◌, ◌*◌, ◌<◌, ◌≤◌, arith, length, length-append, sum_by, Bool, true, false, not, cond, ◌||◌, ◌&&◌, nat_eq, nat_lt, List, [], ◌∷◌, ◌++◌, map, filter, Contains, Any, refl, sym, ◌∙◌, ap, subst, inl, inr, eq-eqb}
+use Rattle.std.proofs.Common.{◌≡◌, ℕ, zero, suc, ◌+◌, ◌*◌, ◌<◌, ◌≤◌, arith, length, length-append, sum_by, Bool, true, false, not, cond, ◌||◌, ◌&&◌, nat_eq, List, [], ◌∷◌, ◌++◌, map, filter, Contains, Any, refl, sym, ◌∙◌, ap, subst, inl, inr, eq-eqb}
 use Rattle.std.specs.Bool.{Decides}
 use Rattle.std.specs.List.{AllByRecursion, list_any, flat_map}
-use Rattle.std.proofs.lemmas.Bool.Decides.{Decides-and, Decides-not, Decides-ltb, not_from_Decides}
+use Rattle.std.proofs.Math.Bool.{and-false}
+use Rattle.std.proofs.lemmas.Bool.{or_parts, or_right}
+use Rattle.std.proofs.lemmas.Bool.Decides.{Decides-and, Decides-not}
 use Rattle.std.proofs.lemmas.List.Elements.{All-contains_itself, recursion_from_All}
 use Rattle.std.proofs.lemmas.List.Folds.{list_any-append, Any-from_list_any, list_any-from_Any}
 use Rattle.std.proofs.lemmas.Map.Keys.{IsDistinct-head, IsDistinct-tail, IsDistinct-cons}
 use Rattle.ksv_bytes.specs.declared.uses.Use.{Use}
-use Rattle.ksv_bytes.specs.declared.uses.Use.TheVariants.{Bytes, Reach, Size}
 use Rattle.ksv_bytes.specs.declared.uses.Change.{Change}
 use Rattle.ksv_bytes.specs.declared.uses.Change.TheVariants.{Overwrite, Insert, Delete, Append}
-use Rattle.ksv_bytes.specs.Uses.{Touches, Makes}
+use Rattle.ksv_bytes.specs.Uses.{Touches, Makes, is_use_touched}
+use Rattle.ksv_bytes.proofs.Untouched.{use_touched, untouched_use}
 use Rattle.ksv_memo_rules.specs.declared.rules.Outcome.{Outcome}
 use Rattle.ksv_memo_rules.specs.Meaning.{Meaning, Standing, IsLawful, IsSettled, on}
 use Rattle.ksv_memo_rules.specs.Evaluation.{is_among, IsAnswered, completed, tells}
 use Rattle.ksv_memo_rules.specs.Entry.{Entry}
 use Rattle.ksv_memo_rules.specs.Right.{nodes_of, AreDistinct, AreExactly, HasEachOnce, IsRightEntry, IsRight}
-use Rattle.ksv_memo_rules.specs.Touched.{IsTouched, is_hit, is_touched, is_use_touched, tree, left_after}
+use Rattle.ksv_memo_rules.specs.Touched.{IsTouched, is_hit, is_touched, tree, left_after}
 use Rattle.ksv_memo.specs.Layout.{IsOneOf}
 use Rattle.ksv_memo_links.specs.Touching.{pages_in}
 use Rattle.ksv_memo_links.specs.Links.{IsOverwrite, pages_met, met_by}
@@ -26,29 +28,12 @@ use Rattle.ksv_memo.specs.Near.{IsWrite, LooksNear, gone_of}
 use Rattle.ksv_memo.specs.Sweep.{Mark, AllSay, IsMarked, entries_with as entries_in, entries_left, entries_gone, Sweeps}
 use Rattle.ksv_memo_rules.proofs.Standing.{law_on}
 use Rattle.ksv_memo_rules.proofs.Lists.{All-map, All-both, none_fails, none_pass}
-use Rattle.ksv_memo_rules.proofs.Evals.{eqb_true, or_false}
-use Rattle.ksv_memo_rules.proofs.Keeping.{AreDistinct-none, kept-tree, or_right}
+use Rattle.ksv_memo_rules.proofs.Evals.{eqb_true}
+use Rattle.ksv_memo_rules.proofs.Keeping.{AreDistinct-none, kept-tree}
 use Rattle.ksv_memo.proofs.Change.{All-once, All-of-once, untouched-stays}
 use Rattle.ksv_memo.proofs.Laying.{one_of-all}
 
 -- ---- the tests
-pub use_touched : (change : Change) (used : Use) → Decides (is_use_touched change used) (Touches change used)
-use_touched (Overwrite at n) (Bytes from to) = Decides-and (nat_lt from (at + n)) (nat_lt at to) (Decides-ltb from (at + n)) (Decides-ltb at to)
-use_touched (Overwrite at n) (Reach to) = (λ e. cc, λ h. absurd h)
-use_touched (Overwrite at n) Size = (λ e. cc, λ h. absurd h)
-use_touched (Insert at n) (Bytes from to) = Decides-ltb at to
-use_touched (Insert at n) (Reach to) = Decides-ltb at to
-use_touched (Insert at n) Size = (λ e. tt, λ h. refl)
-use_touched (Delete at n) (Bytes from to) = Decides-ltb at to
-use_touched (Delete at n) (Reach to) = Decides-ltb at to
-use_touched (Delete at n) Size = (λ e. tt, λ h. refl)
-use_touched Append (Bytes from to) = (λ e. cc, λ h. absurd h)
-use_touched Append (Reach to) = (λ e. cc, λ h. absurd h)
-use_touched Append Size = (λ e. tt, λ h. refl)
-
-untouched_use : (change : Change) (used : Use) → is_use_touched change used ≡ false → Touches change used → ⊥
-untouched_use change used e = not_from_Decides (is_use_touched change used) (use_touched change used) e
-
 Any-map : {X : Type 0} (P Q : X → Type 0) → ((x : X) → P x → Q x) → (xs : List X) → Any P xs → Any Q xs
 Any-map P Q f xs h = (h.0, h.1, h.2, h.3, f h.1 h.4)
 
@@ -72,10 +57,6 @@ any_once {X} p once xs h = by (list_any p once) refl (list_any p xs) refl
 any-flat_map : {X Y : Type 0} (p : Y → Bool) (f : X → List Y) (xs : List X) → list_any p (flat_map f xs) ≡ list_any (λ x. list_any p (f x)) xs
 any-flat_map p f [] = refl
 any-flat_map p f (x ∷ xs) = list_any-append p (f x) (flat_map f xs) ∙ ap (λ b. list_any p (f x) || b) (any-flat_map p f xs)
-
-and_false : (a : Bool) → (a && false) ≡ false
-and_false true = refl
-and_false false = refl
 
 or_turn : (a b : Bool) → (a || (b || false)) ≡ (b || a)
 or_turn true true = refl
@@ -116,7 +97,7 @@ free-entries_left {N} {A} change before (k ∷ ks) h = by k.goes refl (free-entr
   where
     by : (b : Bool) → k.goes ≡ b → AllByRecursion (λ e. AllByRecursion (λ used. Touches change used → ⊥) e.uses) (entries_left ks) → AllByRecursion (λ e. AllByRecursion (λ used. Touches change used → ⊥) e.uses) (entries_in (cond (not b) (k ∷ filter (λ k. not k.goes) ks) (filter (λ k. not k.goes) ks)))
     by true e rest = rest
-    by false e rest = (All-map (untouched_use change) k.entry.uses (none_pass (is_use_touched change) k.entry.uses (or_false (list_any (is_use_touched change) k.entry.uses) (list_any (λ b. b) h.0.asked) (sym h.0.goes ∙ e)).0), rest)
+    by false e rest = (All-map (untouched_use change) k.entry.uses (none_pass (is_use_touched change) k.entry.uses (or_parts (list_any (is_use_touched change) k.entry.uses) (list_any (λ b. b) h.0.asked) (sym h.0.goes ∙ e)).0), rest)
 
 module _ {N A : Type 0} (w : Standing N A) where
   -- the mark of an entry says whether its node is touched
@@ -212,7 +193,7 @@ module _ {N A : Type 0} (w : Standing N A) (law : IsSettled w) where
   -- ---- what is left of a list, as a set
   among_cases : (p : N → Bool) (m n : N) (ns : List N) → is_among w.number (filter p ns) n ≡ (is_among w.number ns n && p n) → (a : Bool) → nat_eq (w.number n) (w.number m) ≡ a → (b : Bool) → p m ≡ b → is_among w.number (cond b (m ∷ filter p ns) (filter p ns)) n ≡ ((a || is_among w.number ns n) && p n)
   among_cases p m n ns rest true e true f = ap (λ x. x || is_among w.number (filter p ns) n) e ∙ sym (ap p (law.own_number n m (eqb_true (w.number n) (w.number m) e)) ∙ f)
-  among_cases p m n ns rest true e false f = let fails : p n ≡ false = ap p (law.own_number n m (eqb_true (w.number n) (w.number m) e)) ∙ f in rest ∙ ap (λ x. is_among w.number ns n && x) fails ∙ and_false (is_among w.number ns n) ∙ sym fails
+  among_cases p m n ns rest true e false f = let fails : p n ≡ false = ap p (law.own_number n m (eqb_true (w.number n) (w.number m) e)) ∙ f in rest ∙ ap (λ x. is_among w.number ns n && x) fails ∙ and-false (is_among w.number ns n) ∙ sym fails
   among_cases p m n ns rest false e true f = ap (λ x. x || is_among w.number (filter p ns) n) e ∙ rest
   among_cases p m n ns rest false e false f = rest
 
@@ -293,7 +274,7 @@ module _ {N A : Type 0} (w : Standing N A) (law : IsSettled w) where
   none_said all before inside [] (b ∷ bs) h none = absurd h
   none_said all before inside (m ∷ ms) [] h none = absurd h
   none_said all before inside (m ∷ ms) (b ∷ bs) h none =
-      let parts = or_false b (list_any (λ b. b) bs) none in
+      let parts = or_parts b (list_any (λ b. b) bs) none in
       (subst (λ n. is_among w.number (nodes_of (entries_left all)) n ≡ true) h.0.node (stays_in all h.0.mark (inside h.0.mark h.0.there) (h.0.goes ∙ parts.0)), none_said all before inside ms bs h.1 parts.1)
 
   -- what an entry that stays asked is left
@@ -304,7 +285,7 @@ module _ {N A : Type 0} (w : Standing N A) (law : IsSettled w) where
       by : (b : Bool) → k.goes ≡ b → AllByRecursion (λ (e : Entry N A). AllByRecursion (λ m. is_among w.number (nodes_of (entries_left all)) m ≡ true) e.asked) (entries_left ks)
           → AllByRecursion (λ (e : Entry N A). AllByRecursion (λ m. is_among w.number (nodes_of (entries_left all)) m ≡ true) e.asked) (entries_in (cond (not b) (k ∷ filter (λ k. not k.goes) ks) (filter (λ k. not k.goes) ks)))
       by true e rest = rest
-      by false e rest = (none_said all all (λ x m. m) k.entry.asked marked.0.asked marked.0.say (or_false (list_any (is_use_touched change) k.entry.uses) (list_any (λ b. b) marked.0.asked) (sym marked.0.goes ∙ e)).1, rest)
+      by false e rest = (none_said all all (λ x m. m) k.entry.asked marked.0.asked marked.0.say (or_parts (list_any (is_use_touched change) k.entry.uses) (list_any (λ b. b) marked.0.asked) (sym marked.0.goes ∙ e)).1, rest)
 
   -- what stays is right on the same bytes
   right-entries_left : (change : Change) (ks : List (Mark N A)) → IsRight w (entries_in ks) → AllByRecursion (IsMarked change ks) ks → IsRight w (entries_left ks)

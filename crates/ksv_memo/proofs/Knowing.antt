@@ -12,21 +12,13 @@ use Rattle.ksv_memo_links.specs.Touching.{numbers_from}
 use Rattle.ksv_memo_links.specs.Marking.{is_kept}
 use Rattle.ksv_memo_links.specs.Links.{Linked}
 use Rattle.ksv_memo_rules.specs.declared.replies.Slot.{Slot}
-use Rattle.ksv_memo.specs.declared.layout.Frame.{Frame}
+use Rattle.ksv_memo.specs.declared.frames.Frame.{Frame}
 use Rattle.ksv_memo_rules.specs.Slots.{answer_at, answers_at, with_first}
 use Rattle.ksv_memo_rules.specs.Entry.{Entry}
 use Rattle.ksv_memo.specs.Open.{Open}
 use Rattle.ksv_memo.specs.Layout.{IsOneOf, slots_of, node_at, nodes_at, IsOpen, IsKept, entry_with, entry_at, entries_at, entries_of, open_before, opens_in, AreLinked}
-use Rattle.ksv_memo_rules.proofs.Evals.{or_false}
+use Rattle.std.proofs.lemmas.Bool.{or_left, or_parts, or_right}
 use Rattle.ksv_memo.proofs.Laying.{HasNode, kept_node, number_in}
-
-or_left : (a b : Bool) → a ≡ true → (a || b) ≡ true
-or_left true b e = refl
-or_left false b e = absurd (cc)
-
-or_right : (a b : Bool) → b ≡ true → (a || b) ≡ true
-or_right true b e = refl
-or_right false b e = e
 
 sum_by-same : (f g : ℕ → ℕ) → ((i : ℕ) → f i ≡ g i) → (is : List ℕ) → sum_by f is ≡ sum_by g is
 sum_by-same f g h [] = refl
@@ -161,8 +153,8 @@ module _ {N V F : Type 0} where
   -- ---- a node that no slot has
   pub none_at : (t : N → Bool) (ps : List (N × Slot V F)) → list_any (λ p. t p.0) ps ≡ false → (j : ℕ) (m : N) → node_at ps j ≡ Some m → t m ≡ false
   none_at t [] h j m e = absurd (cc)
-  none_at t (p ∷ ps) h zero m e = let same : p.0 ≡ m = cc in ap t (sym same) ∙ (or_false (t p.0) (list_any (λ (q : N × Slot V F). t q.0) ps) h).0
-  none_at t (p ∷ ps) h (suc j) m e = none_at t ps (or_false (t p.0) (list_any (λ (q : N × Slot V F). t q.0) ps) h).1 j m e
+  none_at t (p ∷ ps) h zero m e = let same : p.0 ≡ m = cc in ap t (sym same) ∙ (or_parts (t p.0) (list_any (λ (q : N × Slot V F). t q.0) ps) h).0
+  none_at t (p ∷ ps) h (suc j) m e = none_at t ps (or_parts (t p.0) (list_any (λ (q : N × Slot V F). t q.0) ps) h).1 j m e
 
   -- ---- a node has one slot
   key_at : (P : N → Type 0) (ps : List (N × Slot V F)) → AllByRecursion P (keys_of ps) → (j : ℕ) (m : N) → node_at ps j ≡ Some m → P m

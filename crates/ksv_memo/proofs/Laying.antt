@@ -8,7 +8,7 @@ use Rattle.ksv_memo_links.specs.Shelved.{row}
 use Rattle.ksv_memo_links.specs.Touching.{numbers_from}
 use Rattle.ksv_memo_links.specs.Links.{Linked}
 use Rattle.ksv_memo_rules.specs.declared.replies.Slot.{Slot}
-use Rattle.ksv_memo.specs.declared.layout.Frame.{Frame}
+use Rattle.ksv_memo.specs.declared.frames.Frame.{Frame}
 use Rattle.ksv_memo_rules.specs.Slots.{answer_of, answer_at, answers_at, with_first}
 use Rattle.ksv_memo_rules.specs.Entry.{Entry}
 use Rattle.ksv_memo.specs.Layout.{IsOneOf, AllDiffer, slots_of, node_at, nodes_at, IsKept, entry_with, entry_at, entries_at, open_before, opens_in}

@@ -1,6 +1,7 @@
 -- Laws of the stack of open nodes: what each move of the machine does to the invariants.
 use Rattle.std.proofs.Common.{◌≡◌, ℕ, suc, ◌+◌, ◌-◌, ◌<◌, ◌≤◌, true, false, cond, List, [], ◌∷◌, ◌++◌, length, map, refl, sym, ◌∙◌, ap, subst, nat_eq, arith, append_assoc, length-append}
 use Rattle.std.specs.List.{AllByRecursion, flat_map}
+use Rattle.std.proofs.lemmas.Bool.{or_from}
 use Rattle.std.proofs.lemmas.List.{map-append, length-map}
 use Rattle.std.proofs.lemmas.Map.Keys.{IsDistinct-head, IsDistinct-tail, IsDistinct-cons}
 use Rattle.std.proofs.lemmas.Cmp.{nat_eq_equiv}
@@ -17,7 +18,7 @@ use Rattle.ksv_memo.specs.Nodes.{kept_of}
 use Rattle.ksv_memo_rules.specs.Right.{nodes_of, AreDistinct, HasEachOnce, IsRight, fresh, costs, Agrees}
 use Rattle.ksv_memo.specs.Running.{HasCome, IsWaiting, HasEnded, HasStepped, Chain, IsStack, climbed, value_of, value_at, climbed_rest, told_rest, rest_of, rest_at, to_keep, debt}
 use Rattle.ksv_memo_rules.proofs.Lists.{All-map, All-++, All-left}
-use Rattle.ksv_memo_rules.proofs.Evals.{IsOut, or_false_intro, few, out_apart, AreDistinct-cons, tells-open, tells-free, done-free, completed-open}
+use Rattle.ksv_memo_rules.proofs.Evals.{IsOut, few, out_apart, AreDistinct-cons, tells-open, tells-free, done-free, completed-open}
 use Rattle.ksv_memo_rules.proofs.Keeping.{IsIn, IsIn-append, is_among-append, nodes_of-append, agrees, keep, AreDistinct-none}
 
 pub ++-nil : {X : Type 0} (xs : List X) → xs ++ [] ≡ xs
@@ -137,7 +138,7 @@ apart-keep : {N A : Type 0} (w : Standing N A) (es : List (Entry N A)) (e : Entr
 apart-keep w es e [] h k = tt
 apart-keep w es e (n ∷ ns) h k =
     let other : nat_eq (w.number n) (w.number e.node) ≡ false = nat_eq_equiv.symm (w.number n) (w.number e.node) ∙ k.0 in (
-      ap (λ ms. is_among w.number ms n) (nodes_of-append es (e ∷ [])) ∙ is_among-append w.number (nodes_of es) (e.node ∷ []) n ∙ or_false_intro (is_among w.number (nodes_of es) n) (is_among w.number (e.node ∷ []) n) h.0 (or_false_intro (nat_eq (w.number n) (w.number e.node)) false other refl),
+      ap (λ ms. is_among w.number ms n) (nodes_of-append es (e ∷ [])) ∙ is_among-append w.number (nodes_of es) (e.node ∷ []) n ∙ or_from (is_among w.number (nodes_of es) n) (is_among w.number (e.node ∷ []) n) h.0 (or_from (nat_eq (w.number n) (w.number e.node)) false other refl),
       apart-keep w es e ns h.1 k.1,
     )
 

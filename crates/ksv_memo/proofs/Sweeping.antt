@@ -2,6 +2,7 @@
 use Rattle.std.proofs.Common.{◌≡◌, ◌⊎◌, inl, inr, Bool, true, false, not, cond, ◌||◌, ◌&&◌, ℕ, zero, suc, ◌+◌, ◌*◌, ◌<◌, ◌≤◌, List, [], ◌∷◌, length, map, filter, get_or, Option, Some, None, is_some, All, Contains, refl, sym, ◌∙◌, ap, subst, arith, Result, sum_by, count_by}
 use Rattle.std.specs.Option.{option_map}
 use Rattle.std.specs.List.{AllByRecursion, list_any}
+use Rattle.std.proofs.lemmas.Bool.{and_parts, cases_Bool, not-true}
 use Rattle.std.proofs.lemmas.List.{get_or_default}
 use Rattle.std.proofs.lemmas.List.Sums.{sum_by-cons, length-filter}
 use Rattle.std.proofs.lemmas.List.Folds.{Any-from_list_any, list_any-from_Any}
@@ -10,7 +11,7 @@ use Rattle.ksv_bytes.specs.declared.uses.Use.{Use}
 use Rattle.ksv_bytes.specs.declared.uses.Change.{Change}
 use Rattle.ksv_bytes.specs.declared.uses.Change.TheVariants.{Overwrite, Insert, Delete, Append}
 use Rattle.ksv_memo_links.specs.Shelved.{row}
-use Rattle.ksv_memo_rules.specs.Touched.{is_use_touched}
+use Rattle.ksv_bytes.specs.Uses.{is_use_touched}
 use Rattle.ksv_memo_links.specs.Touching.{pages_in, numbers_from}
 use Rattle.ksv_memo_links.specs.Marking.{is_kept}
 use Rattle.ksv_memo_links.specs.Links.{Linked, Forgets, Reaches, here, through, IsHit, is_hit, IsOverwrite, pages_met, met_by, asks_of}
@@ -27,18 +28,6 @@ use Rattle.ksv_memo.proofs.Laying.{some-of, kept_node, no_entry_at, number_in}
 any-of-map : {X : Type 0} (p : X → Bool) (xs : List X) → list_any (λ b. b) (map p xs) ≡ list_any p xs
 any-of-map p [] = refl
 any-of-map p (x ∷ xs) = ap (λ b. p x || b) (any-of-map p xs)
-
-not_true : (b : Bool) → not b ≡ true → b ≡ false
-not_true true e = absurd (cc)
-not_true false e = refl
-
-true_or : (b : Bool) → (b ≡ true) ⊎ (b ≡ false)
-true_or true = inl refl
-true_or false = inr refl
-
-and_parts : (a b : Bool) → (a && b) ≡ true → (a ≡ true) × (b ≡ true)
-and_parts true b e = (refl, e)
-and_parts false b e = absurd (cc)
 
 each-of : (P : ℕ → Type 0) (xs : List ℕ) → ((x : ℕ) → IsOneOf xs x → P x) → AllByRecursion P xs
 each-of P [] h = tt
@@ -131,7 +120,7 @@ module _ {N V F : Type 0} where
     taken i k e = f.went i (h.kept i ∙ k) e
 
     pub out : (i : ℕ) → Contains m.waits i → is_kept m.kept i ≡ false
-    out i c = by (true_or (is_kept m.kept i))
+    out i c = by (cases_Bool (is_kept m.kept i))
       where
         by : (is_kept m.kept i ≡ true) ⊎ (is_kept m.kept i ≡ false) → is_kept m.kept i ≡ false
         by (inl e) = absurd (((f.kept i).0 e).1 c)
@@ -150,7 +139,7 @@ module _ {N V F : Type 0} where
         (λ j. entry_with (g.taken.nodes i j) (g.taken.same i not_taken j) (nodes-alike ps qs g.taken.nodes ((g.taken.asked i not_taken ∙ ap (λ rows. row rows i) f.asked) j) j) ((g.taken.uses i not_taken ∙ ap (λ rows. row rows i) f.uses) j))
 
     left_one : (i : ℕ) (rest : List (Mark N (Result V F))) → with_first (entry_at qs n i) (entries_left rest) ≡ entries_left (with_first (mark_at i) rest)
-    left_one i rest = by (entry_at ps l i) refl (answer_at (slots_of ps) i) refl (true_or (is_kept m.kept i))
+    left_one i rest = by (entry_at ps l i) refl (answer_at (slots_of ps) i) refl (cases_Bool (is_kept m.kept i))
       where
         stays : (o : Option (Entry N (Result V F))) (b : Bool) → b ≡ true → with_first o (entries_left rest) ≡ entries_left (with_first (option_map (λ (e : Entry N (Result V F)). record { entry = e; goes = not b }) o) rest)
         stays None b e = refl
@@ -205,7 +194,7 @@ module _ {N V F : Type 0} where
     kept_at (i ∷ is) (suc k) all lt = kept_at is k all.1 (omega arith)
 
     goes-is : (i : ℕ) → IsKept ps i → goes i ≡ (is_hit change l.uses i || list_any goes (row l.asked i))
-    goes-is i k = by (true_or (is_kept m.kept i)) (is_hit change l.uses i) refl (list_any goes (row l.asked i)) refl
+    goes-is i k = by (cases_Bool (is_kept m.kept i)) (is_hit change l.uses i) refl (list_any goes (row l.asked i)) refl
       where
         kept_now : is_kept l.kept i ≡ true
         kept_now = h.kept i ∙ k
@@ -229,7 +218,7 @@ module _ {N V F : Type 0} where
             let a = Any-from_list_any goes (row l.asked i) y in
             let j : get_or (row l.asked i) a.0 0 ≡ a.1 = get_or_default (row l.asked i) a.0 0 a.1 a.2 ∙ a.3 in
             let kj : IsKept ps a.1 = subst (IsKept ps) j (kept_at (row l.asked i) a.0 all a.2) in
-            let c = taken a.1 kj (not_true (is_kept m.kept a.1) a.4) in
+            let c = taken a.1 kj (not-true (is_kept m.kept a.1) a.4) in
             let r = ((f.exact a.1).0 c).reaches in
             stay i e ((f.exact i).1 (record { was_kept = kept_now; reaches = through i a.0 a.2 (subst (Reaches l.asked (IsHit change l.kept l.uses)) (sym j) r) }))
 
@@ -260,7 +249,7 @@ module _ {N V F : Type 0} where
 
     -- ---- the table after it
     kept_was : (i : ℕ) → IsKept qs i → (is_kept m.kept i ≡ true) × IsKept ps i
-    kept_was i k = by (answer_at (slots_of ps) i) refl (true_or (is_kept m.kept i))
+    kept_was i k = by (answer_at (slots_of ps) i) refl (cases_Bool (is_kept m.kept i))
       where
         by : (a : Option (Result V F)) → answer_at (slots_of ps) i ≡ a → (is_kept m.kept i ≡ true) ⊎ (is_kept m.kept i ≡ false) → (is_kept m.kept i ≡ true) × IsKept ps i
         by None e c = let no : is_some (answer_at (slots_of qs) i) ≡ false = ap is_some (now_none i e) in absurd (cc)
@@ -271,7 +260,7 @@ module _ {N V F : Type 0} where
     still_kept i e k = ap is_some (g.taken.same i (stay i e)) ∙ k
 
     each_kept : (i : ℕ) → is_kept m.kept i ≡ is_some (answer_at (slots_of qs) i)
-    each_kept i = by (answer_at (slots_of ps) i) refl (true_or (is_kept m.kept i))
+    each_kept i = by (answer_at (slots_of ps) i) refl (cases_Bool (is_kept m.kept i))
       where
         by : (a : Option (Result V F)) → answer_at (slots_of ps) i ≡ a → (is_kept m.kept i ≡ true) ⊎ (is_kept m.kept i ≡ false) → is_kept m.kept i ≡ is_some (answer_at (slots_of qs) i)
         by (Some r) e (inl c) = c ∙ sym (still_kept i c (ap is_some e))
@@ -281,7 +270,7 @@ module _ {N V F : Type 0} where
 
     asks_stay : (i : ℕ) → is_kept m.kept i ≡ true → IsKept ps i → (js : List ℕ) → ((k : ℕ) → k < length js → (a : ℕ) × (a < length (row l.asked i)) × (get_or (row l.asked i) a 0 ≡ get_or js k 0)) → AllByRecursion (IsKept ps) js → AllByRecursion (IsKept qs) js
     asks_stay i e k [] from all = tt
-    asks_stay i e k (j ∷ js) from all = (one (true_or (is_kept m.kept j)), asks_stay i e k js (λ x lt. from (suc x) (omega arith)) all.1)
+    asks_stay i e k (j ∷ js) from all = (one (cases_Bool (is_kept m.kept j)), asks_stay i e k js (λ x lt. from (suc x) (omega arith)) all.1)
       where
         one : (is_kept m.kept j ≡ true) ⊎ (is_kept m.kept j ≡ false) → IsKept qs j
         one (inl c) = still_kept j c all.0
@@ -375,7 +364,7 @@ module _ {N V F : Type 0} where
     gone_wait : (i : ℕ) → IsOneOf (filter is_gone nums) i → IsOneOf m.waits i
     gone_wait i c =
         let e = and_parts (is_kept l.kept i) (goes i) (filter-passes is_gone nums i c) in
-        one_of-contains m.waits i (f.went i e.0 (not_true (is_kept m.kept i) e.1))
+        one_of-contains m.waits i (f.went i e.0 (not-true (is_kept m.kept i) e.1))
 
     pub gone-least : length (entries_gone all_marks) ≤ length m.waits
     gone-least =
@@ -408,7 +397,7 @@ module _ {N V F : Type 0} where
     -- the uses of all slots are those of the kept ones
     met-all : ((s : ℕ) → is_kept l.kept s ≡ false → row l.uses s ≡ []) → sum_by (met_by change) l.uses ≤ sum_by (λ e. met_by change e.uses) (entries_of ps l)
     met-all vacant =
-        let a = rows-numbers (met_by change) (λ i. cond (is_kept l.kept i) (met_by change (row l.uses i)) 0) l.uses (length ps) (met_none change) (λ i. by i (true_or (is_kept l.kept i))) (λ i le. ap (met_by change) (vacant i (h.kept i ∙ ap is_some (none_after ps i le))) ∙ met_none change) in
+        let a = rows-numbers (met_by change) (λ i. cond (is_kept l.kept i) (met_by change (row l.uses i)) 0) l.uses (length ps) (met_none change) (λ i. by i (cases_Bool (is_kept l.kept i))) (λ i le. ap (met_by change) (vacant i (h.kept i ∙ ap is_some (none_after ps i le))) ∙ met_none change) in
         let b = entry-sum (λ e. met_by change e.uses) (λ i. met_by change (row l.uses i)) (λ i e at. ap (met_by change) (uses_same i e at)) nums in
         omega arith
       where

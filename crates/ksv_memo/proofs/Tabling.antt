@@ -1,5 +1,5 @@
 -- What a look-up says of the kept and the open nodes.
-use Rattle.std.proofs.Common.{◌≡◌, ◌≢◌, ℕ, ◌+◌, ◌≤◌, arith, Bool, true, false, List, reverse, length, Some, None, is_some, refl, sym, ◌∙◌, ap, subst, Result, Ok, Err, IfOk, slice_get}
+use Rattle.std.proofs.Common.{◌≡◌, ◌≢◌, ℕ, ◌+◌, ◌≤◌, arith, Bool, true, false, List, reverse, length, Some, None, is_some, refl, sym, ◌∙◌, ap, subst, Result, slice_get}
 use Rattle.std.specs.Option.{option_map}
 use Rattle.std.proofs.lemmas.Option.{slice_get-map, slice_get_within}
 use Rattle.std.specs.Cmp.{IsEquivalence}
@@ -9,7 +9,7 @@ use Rattle.ksv_memo_links.specs.Touching.{numbers_from}
 use Rattle.ksv_memo_links.specs.Links.{Linked, Grows}
 use Rattle.ksv_memo_rules.specs.declared.replies.Slot.{Slot}
 use Rattle.ksv_memo_rules.specs.declared.replies.Slot.TheVariants.{Empty as emptied, Open as opened}
-use Rattle.ksv_memo.specs.declared.layout.Frames.{Frames}
+use Rattle.ksv_memo.specs.declared.frames.Frames.{Frames}
 use Rattle.ksv_memo.specs.declared.slots.Known.TheVariants.{New, Empty, Open, Kept}
 use Rattle.ksv_memo_rules.specs.Slots.{answer_in, answer_of, answer_at}
 use Rattle.ksv_memo_rules.specs.Entry.{Entry}
@@ -20,10 +20,6 @@ use Rattle.ksv_memo.proofs.Finding.{slot_there, node_there, answer_there}
 use Rattle.ksv_memo.proofs.Laying.{some-of, entries_at-same, All-numbers}
 use Rattle.ksv_memo.proofs.Changing.{ChangesAt, none_past, links-stay, entries-stay, frames-push, frames-hear, opens-push, opens-hear}
 use Rattle.ksv_memo.proofs.Knowing.{entry_of, no_entry, no_open, some_open, none_at, not_other}
-
-pub told : {A E : Type 0} (P Q : A → Type 0) → ((a : A) → P a → Q a) → (r : Result A E) → IfOk r P → IfOk r Q
-told P Q f (Ok a) h = f a h
-told P Q f (Err e) h = h
 
 -- a look-up leaves the slots as they were
 pub looked-laid : {N V F : Type 0} (ps qs : List (N × Slot V F)) (l : Linked) (frames : Frames) → qs ≡ ps → IsLaidOut ps l frames → IsLaidOut qs l frames
@@ -77,10 +73,6 @@ module _ {N V F : Type 0} (eq : N → N → Bool) (ps : List (N × Slot V F)) (l
 
     pub empty_free : (i : ℕ) → Knows eq ps n (Empty i) → list_any (λ o. eq n o.node) (opens_of ps frames) ≡ false
     empty_free i at = no_open ps (eq n) (λ j m o e. not_other eq laws ps unique n i at.node (node_there ps i at.node emptied at.there) at.passes j m (apart_open i at.node at.there j o) e) (reverse frames.frames.items) frames.asked.items frames.uses.items waits.waits
-
-    -- an open node isn't kept
-    pub open_out : Knows eq ps n Open → HasNoEntry eq (entries_of ps l) n
-    open_out (i, at) = slot_out i opened at refl
 
   -- an open node waits
   pub open_waits : Knows eq ps n Open → list_any (λ o. eq n o.node) (opens_of ps frames) ≡ true

@@ -1,46 +1,23 @@
 -- What the moves of the table come to for a question.
-use Rattle.std.proofs.Common.{◌≡◌, ℕ, ◌+◌, ◌<◌, nat_lt, arith, Bool, true, false, List, [], ◌∷◌, length, Option, Some, None, refl, sym, ◌∙◌, ap, subst, inl, inr, Result, Ok, Err, IfOk, OnErr}
+use Rattle.std.proofs.Common.{true≢false, ◌≡◌, ℕ, ◌+◌, nat_lt, arith, Bool, true, false, List, [], ◌∷◌, length, Option, Some, None, refl, sym, ◌∙◌, ap, subst, inl, inr}
 use Rattle.std.proofs.lemmas.Bool.Decides.{Decides-ltb}
 use Rattle.std.specs.Cmp.{IsEquivalence}
+use Rattle.std.specs.List.{list_any}
 use Rattle.ksv_memo_rules.specs.declared.rules.Next.{Next}
 use Rattle.ksv_memo_rules.specs.declared.rules.Next.TheVariants.{Need, Done}
 use Rattle.ksv_memo_rules.specs.declared.rules.Outcome.{Outcome}
 use Rattle.ksv_memo_rules.specs.declared.rules.Outcome.TheVariants.{Answered, Circle}
 use Rattle.ksv_memo_rules.specs.Meaning.{Standing, IsSettled}
-use Rattle.ksv_memo_rules.specs.Evaluation.{is_among, tells, done, IsAnswered}
+use Rattle.ksv_memo_rules.specs.Evaluation.{is_among, tells, done, IsAnswered, answering}
 use Rattle.ksv_memo_rules.specs.Entry.{Entry}
 use Rattle.ksv_memo.specs.Open.{Open, newly, with_uses, with_answer}
-use Rattle.ksv_memo.specs.Nodes.{Nodes, IsEntry, HasNoEntry, Replies, Opens, Circles, Steps, Closes, MayKeep}
+use Rattle.ksv_memo.specs.Nodes.{Nodes, IsEntry, HasNoEntry, Replies, Opens, Circles, Starts, Steps, Closes, MayKeep}
 use Rattle.ksv_memo_rules.specs.Right.{nodes_of, IsRight, counted, Agrees}
-use Rattle.ksv_memo.specs.Running.{account_of, account_at, GoesOn, GoesOnWith, HasFinished, Advances, IsLeft, IsRunning, HasReached, AdvancesFrom, AdvancesAt, LeftFrom, LeftAt, Holds, HoldsWith, Counts, CountsWith, turns_left, rest_of, to_keep, debt, AreSame}
+use Rattle.ksv_memo.specs.Running.{account_of, account_at, GoesOn, GoesOnWith, HasFinished, Advances, IsLeft, IsRunning, HasReached, AdvancesFrom, AdvancesAt, LeftFrom, LeftAt, Holds, HoldsWith, Counts, CountsWith, rest_of, to_keep, debt, AreSame}
 use Rattle.ksv_memo_rules.proofs.Evals.{IsOut}
-use Rattle.ksv_memo_rules.proofs.Keeping.{IsIn, self_in}
+use Rattle.ksv_memo_rules.proofs.Keeping.{IsIn, agrees, self_in}
 use Rattle.ksv_memo.proofs.Laying.{one_of-all}
-use Rattle.ksv_memo_rules.proofs.Lists.{none_pass}
-use Rattle.ksv_memo.proofs.Turns.{any_entry, waits_among, need-replies, need-opens, need-ends, finish-goes, finish-ends, finish-left, left-same, turn-account, turn-steps, begins, comes, covers-begins, turns-begin, value-begins, counts-end, counts-step, left-more}
-
--- a node that isn't kept has no entry
-pub not_replied : {N A : Type 0} (eq : N → N → Bool) (es : List (Entry N A)) (n : N) (e : Entry N A) → HasNoEntry eq es n → IsEntry eq es n e → ⊥
-not_replied eq es n e none is = let no : eq n e.node ≡ false = one_of-all (λ (x : Entry _ _). eq n x.node ≡ false) es (none_pass (λ (x : Entry _ _). eq n x.node) es none) e is.there in let yes : eq n e.node ≡ true = is.passes in cc
-
-pub if_ok-map : {T E : Type 0} (P Q : T → Type 0) → ((t : T) → P t → Q t) → (r : Result T E) → IfOk r P → IfOk r Q
-if_ok-map P Q f (Ok t) h = f t h
-if_ok-map P Q f (Err e) h = tt
-
-pub on_err-map : {T E P Q : Type 0} → (P → Q) → (r : Result T E) → OnErr r P → OnErr r Q
-on_err-map f (Ok t) h = tt
-on_err-map f (Err e) h = f h
-
--- whether a node waits for the last one, by the number of the open ones
-pub closes_more : {N A : Type 0} (a : A) (st : List (Open N A)) (old new : Nodes N A) (waits : Bool) → Closes a st old new waits → nat_lt 1 (length st) ≡ true → Closes a st old new true
-closes_more a [] old new waits r e = absurd r
-closes_more a (o ∷ []) old new waits r e = let lt = (Decides-ltb 1 (length (o ∷ []))).0 e in absurd (omega arith)
-closes_more a (o ∷ p ∷ st) old new waits r e = (r.0, r.1, refl)
-
-pub closes_one : {N A : Type 0} (a : A) (st : List (Open N A)) (old new : Nodes N A) (waits : Bool) → Closes a st old new waits → nat_lt 1 (length st) ≡ false → Closes a st old new false
-closes_one a [] old new waits r e = absurd r
-closes_one a (o ∷ []) old new waits r e = (r.0, r.1, refl)
-closes_one a (o ∷ p ∷ st) old new waits r e = let yes = (Decides-ltb 1 (length (o ∷ p ∷ st))).1 (omega arith) in absurd (cc)
+use Rattle.ksv_memo.proofs.Turns.{any_entry, waits_among, need-replies, need-opens, need-ends, finish-goes, finish-ends, finish-left, left-same, turn-account, turn-steps, begins, comes, covers-begins, turns-begin, value-begins, counts-end, counts-step, covers-kept, none-owed}
 
 module _ {N A : Type 0} (w : Standing N A) (law : IsSettled w) (eq : N → N → Bool) (laws : IsEquivalence eq) (exact : (a b : N) → eq a b ≡ true → a ≡ b) where
   -- ---- a kept node
@@ -76,17 +53,17 @@ module _ {N A : Type 0} (w : Standing N A) (law : IsSettled w) (eq : N → N →
       subst (λ ks. HasFinished w (account_at w es o st (Need n)) ks (Circle m)) (sym r.kept) (subst (λ k. HasFinished w (account_at w es o st (Need n)) es (Circle k)) (sym r.same) ends)
 
   -- ---- the last open node has its answer
-  pub closes_on : (es : List (Entry N A)) (st : List (Open N A)) (a : A) (now : Nodes N A) → HasReached w es st (Done a) → Closes a st (record { kept = es; opened = st }) now true → AdvancesAt w es st (Done a) now None
-  closes_on es [] a now reached r = absurd reached
-  closes_on es (o ∷ []) a now reached r = let no : true ≡ false = r.2 in absurd (cc)
-  closes_on es (o ∷ p ∷ rest) a now reached r =
+  pub closes_on : (es : List (Entry N A)) (st : List (Open N A)) (a : A) (now : Nodes N A) → HasReached w es st (Done a) → Closes a st (record { kept = es; opened = st }) now → nat_lt 1 (length st) ≡ true → AdvancesAt w es st (Done a) now None
+  closes_on es [] a now reached r more = absurd reached
+  closes_on es (o ∷ []) a now reached r more = let lt = (Decides-ltb 1 (length (o ∷ []))).0 more in absurd (omega arith)
+  closes_on es (o ∷ p ∷ rest) a now reached r more =
       let goes : GoesOn w (account_at w es o (p ∷ rest) (Done a)) es now.kept (with_answer p o.node a) rest = finish-goes w law es now.kept r.0.front r.0.back o p (with_answer p o.node a) (p ∷ rest) rest a r.0.once reached.0 reached.1 r.0.each r.0.was r.0.kept refl refl in
       subst (GoesOnWith w (account_at w es o (p ∷ rest) (Done a)) es now.kept) (sym r.1) goes
 
-  pub closes_last : (es : List (Entry N A)) (st : List (Open N A)) (a c : A) (now : Nodes N A) → HasReached w es st (Done a) → Closes a st (record { kept = es; opened = st }) now false → c ≡ a → AdvancesAt w es st (Done a) now (Some (Answered c))
-  closes_last es [] a c now reached r copy = absurd reached
-  closes_last es (o ∷ p ∷ rest) a c now reached r copy = let no : false ≡ true = r.2 in absurd (cc)
-  closes_last es (o ∷ []) a c now reached r copy = finish-ends w law es now.kept r.0.front r.0.back o [] a c r.0.once reached.0 reached.1 r.0.each r.0.was r.0.kept refl copy
+  pub closes_last : (es : List (Entry N A)) (st : List (Open N A)) (a c : A) (now : Nodes N A) → HasReached w es st (Done a) → Closes a st (record { kept = es; opened = st }) now → nat_lt 1 (length st) ≡ false → c ≡ a → AdvancesAt w es st (Done a) now (Some (Answered c))
+  closes_last es [] a c now reached r one copy = absurd reached
+  closes_last es (o ∷ p ∷ rest) a c now reached r one copy = let yes = (Decides-ltb 1 (length (o ∷ p ∷ rest))).1 (omega arith) in absurd (cc)
+  closes_last es (o ∷ []) a c now reached r one copy = finish-ends w law es now.kept r.0.front r.0.back o [] a c r.0.once reached.0 reached.1 r.0.each r.0.was r.0.kept refl copy
 
   pub closes_left : (es : List (Entry N A)) (st : List (Open N A)) (a : A) (now : List (Entry N A)) → HasReached w es st (Done a) → MayKeep a st es now → LeftAt w es st (Done a) now
   closes_left es [] a now reached may = absurd reached
@@ -116,15 +93,33 @@ module _ {N A : Type 0} (w : Standing N A) (law : IsSettled w) (eq : N → N →
       let at : LeftAt w es (with_uses o (w.added o.node o.replies) ∷ st) s t = subst (λ xs. LeftAt w es xs s t) steps.1 h in
       subst (λ acc. IsLeft w acc.all es t) (turn-account w law es o st s steps.0 runs.1) at
 
-  pub leaves_same : (es : List (Entry N A)) (st : List (Open N A)) (t : List (Entry N A)) → IsRunning w es st → t ≡ es → LeftFrom w es st t
-  leaves_same es [] t runs same = absurd runs
-  leaves_same es (o ∷ st) t runs same = left-same w law es t _ runs.0.right same
-
-  pub need_left : (es : List (Entry N A)) (st : List (Open N A)) (n : N) (t : List (Entry N A)) → HasReached w es st (Need n) → t ≡ es → LeftAt w es st (Need n) t
-  need_left es [] n t reached same = absurd reached
-  need_left es (o ∷ st) n t reached same = left-same w law es t _ reached.0.right same
-
   -- ---- a question
+  -- what the end of a question leaves
+  pub record HasEnd (n : N) (es : List (Entry N A)) (first : Option ℕ) (after : Option ℕ) (now : List (Entry N A)) (out : Outcome N A) : Type 0 where
+    pub outcome : out ≡ (tells w [] n).outcome
+    pub right : IsRight w now
+    pub kept : AreSame w (nodes_of now) (to_keep w es (done w [] n))
+    pub turns : IsAnswered out → after ≡ counted (debt w es (done w [] n)) first
+
+  -- a node that is kept or open ends it at once
+  pub ends_known : (n : N) (old now : Nodes N A) (out : Outcome N A) (turns : Option ℕ) → IsRight w old.kept → old.opened ≡ [] → Starts eq n old now (Some out) → HasEnd n old.kept turns turns now.kept out
+  ends_known n old now (Answered a) turns right none starts =
+      let e : Entry N A = starts.0.0 in
+      let is = starts.0.1 in
+      let same : now.kept ≡ old.kept = ap (λ v. v.kept) starts.1 in
+      record {
+        outcome = ap (λ b. Answered b) (sym starts.0.2) ∙ sym (entry_says old.kept n e is (answering w []) (agrees w law old.kept right [] tt));
+        right = subst (IsRight w) (sym same) right;
+        kept = λ x. ap (λ es. is_among w.number (nodes_of es) x) same ∙ ap (λ ns. is_among w.number ns x) (covers-kept w law old.kept n right (entry_in old.kept n e is));
+        turns = λ answered. none-owed w law old.kept n right (entry_in old.kept n e is) turns;
+      }
+  ends_known n old now (Circle m) turns right none circles =
+      let no : list_any (λ o. eq n o.node) old.opened ≡ false = ap (list_any (λ o. eq n o.node)) none in
+      absurd (true≢false (sym circles.waits ∙ no))
+
+  pub opens_first : (n : N) (old now : Nodes N A) → old.opened ≡ [] → Opens eq n old now → now.opened ≡ newly n ∷ []
+  opens_first n old now none opens = opens.opened ∙ ap (λ st. newly opens.node ∷ st) none ∙ ap (λ m. newly m ∷ []) (sym (exact n opens.node opens.passes))
+
   pub holds_first : (es ks : List (Entry N A)) (n : N) (st : List (Open N A)) → IsRight w es → HasNoEntry eq es n → ks ≡ es → st ≡ newly n ∷ [] → HoldsWith w n es ks st
   holds_first es ks n st right none kept opened =
       let holds : Holds w n es es (newly n) [] = record {
@@ -140,10 +135,6 @@ module _ {N A : Type 0} (w : Standing N A) (law : IsSettled w) (eq : N → N →
   counts_first es ks n st turns kept opened =
       let counts : Counts turns turns (debt w es (rest_of w (newly n) [])) (0 + 0) (debt w es (done w [] n)) = (0, refl, turns-begin w law es n (newly n) [] refl refl) in
       subst (λ xs. CountsWith w n es turns xs st turns) (sym kept) (subst (λ xs. CountsWith w n es turns es xs turns) (sym opened) counts)
-
-  pub runs_on : (es ks : List (Entry N A)) (n : N) (st : List (Open N A)) → HoldsWith w n es ks st → IsRunning w ks st
-  runs_on es ks n [] h = absurd h
-  runs_on es ks n (o ∷ st) h = (h.stack, h.came)
 
   pub holds_next : (es ks : List (Entry N A)) (n : N) (st : List (Open N A)) (now : Nodes N A) → HoldsWith w n es ks st → AdvancesFrom w ks st now None → HoldsWith w n es now.kept now.opened
   holds_next es ks n [] now h goes = absurd h
@@ -161,21 +152,6 @@ module _ {N A : Type 0} (w : Standing N A) (law : IsSettled w) (eq : N → N →
       by qs [] g = absurd g
       by qs (p ∷ rest) g = counts-step first before after _ _ _ _ _ h g.calls e
 
-  pub fewer_left : (ks : List (Entry N A)) (st : List (Open N A)) (now : Nodes N A) → AdvancesFrom w ks st now None → turns_left w now.kept now.opened < turns_left w ks st
-  fewer_left ks [] now goes = absurd goes
-  fewer_left ks (o ∷ st) now goes = by now.kept now.opened goes
-    where
-      by : (qs : List (Entry N A)) (xs : List (Open N A)) → GoesOnWith w (account_of w ks o st) ks qs xs → turns_left w qs xs < turns_left w ks (o ∷ st)
-      by qs [] g = absurd g
-      by qs (p ∷ rest) g = g.fewer
-
-  -- what the last turn leaves
-  pub record HasEnd (n : N) (es : List (Entry N A)) (first : Option ℕ) (after : Option ℕ) (now : List (Entry N A)) (out : Outcome N A) : Type 0 where
-    pub outcome : out ≡ (tells w [] n).outcome
-    pub right : IsRight w now
-    pub kept : AreSame w (nodes_of now) (to_keep w es (done w [] n))
-    pub turns : IsAnswered out → after ≡ counted (debt w es (done w [] n)) first
-
   pub has_ended : (es ks : List (Entry N A)) (n : N) (st : List (Open N A)) (now : Nodes N A) (out : Outcome N A) (first before after : Option ℕ) → HoldsWith w n es ks st → CountsWith w n es first ks st before → AdvancesFrom w ks st now (Some out) → after ≡ counted 1 before → HasEnd n es first after now.kept out
   has_ended es ks n [] now out first before after h c ends e = absurd h
   has_ended es ks n (o ∷ st) now out first before after h c ends e = record {
@@ -184,7 +160,3 @@ module _ {N A : Type 0} (w : Standing N A) (law : IsSettled w) (eq : N → N →
     kept = λ x. ends.all x ∙ h.all x;
     turns = λ answered. counts-end first before after _ _ _ c (ends.calls answered) e;
   }
-
-  pub has_left : (es ks : List (Entry N A)) (n : N) (st : List (Open N A)) (now : List (Entry N A)) → HoldsWith w n es ks st → LeftFrom w ks st now → IsLeft w (to_keep w es (done w [] n)) es now
-  has_left es ks n [] now h left = absurd h
-  has_left es ks n (o ∷ st) now h left = left-more w _ _ es ks now h.all h.grown left

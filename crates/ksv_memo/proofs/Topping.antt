@@ -1,31 +1,28 @@
 -- The last open node: how it is run, kept and taken out.
-use Rattle.std.proofs.Common.{◌≡◌, ℕ, suc, ◌+◌, ◌-◌, ◌≤◌, ◌<◌, true, false, All, List, [], ◌∷◌, ◌++◌, length, map, take, drop, reverse, Option, Some, None, is_some, refl, sym, ◌∙◌, ap, subst, Result, Ok, Err, OnOk, OnErr, slice_get, inl, inr, arith, length-append, ◌==◌}
+use Rattle.std.proofs.Common.{◌≡◌, ℕ, suc, ◌+◌, ◌-◌, ◌≤◌, ◌<◌, true, false, All, List, [], ◌∷◌, length, map, take, drop, reverse, Option, Some, None, is_some, refl, sym, ◌∙◌, ap, subst, Result, slice_get, inr, arith, ◌==◌}
 use Rattle.std.specs.Option.{option_map}
 use Rattle.std.specs.List.{AllByRecursion}
-use Rattle.std.proofs.lemmas.List.{take-append-le, drop-append-le, reverse-append, reverse-reverse, take_rest}
+use Rattle.std.proofs.lemmas.List.{reverse-append, take_rest}
 use Rattle.std.proofs.lemmas.Option.{slice_get-map, slice_get_within}
 use Rattle.ksv_bytes.specs.declared.uses.Use.{Use}
-use Rattle.ksv_memo_rules.specs.declared.rules.Next.{Next}
 use Rattle.ksv_memo_links.specs.Links.{Linked, Keeps as LinksKeep}
 use Rattle.ksv_memo_links.specs.Marking.{is_kept}
 use Rattle.ksv_memo_rules.specs.declared.replies.Slot.{Slot}
 use Rattle.ksv_memo_rules.specs.declared.replies.Slot.TheVariants.{Empty as emptied, Open as opened}
-use Rattle.ksv_memo.specs.declared.layout.Frame.{Frame}
-use Rattle.ksv_memo.specs.declared.layout.Frames.{Frames}
+use Rattle.ksv_memo.specs.declared.frames.Frame.{Frame}
+use Rattle.ksv_memo.specs.declared.frames.Frames.{Frames}
 use Rattle.ksv_memo_rules.specs.Slots.{answer_in, answer_at, answers_at}
-use Rattle.ksv_memo_rules.specs.Meaning.{Standing, IsAddedTo}
-use Rattle.ksv_memo_rules.specs.Entry.{Entry}
-use Rattle.ksv_memo.specs.Open.{Open, with_uses, heard}
+use Rattle.ksv_memo.specs.Open.{Open, heard}
 use Rattle.ksv_memo_rules.specs.Right.{HasEachOnce}
-use Rattle.ksv_memo.specs.Layout.{IsOneOf, AllDiffer, slots_of, node_at, nodes_at, IsOpen, IsKept, entries_of, open_before, opens_in, opens_of, AreNested, AreLinked, AreFrames, IsLaidOut}
+use Rattle.ksv_memo.specs.Layout.{IsOneOf, AllDiffer, slots_of, nodes_at, IsOpen, IsKept, entries_of, open_before, opens_in, opens_of, AreNested, AreLinked, AreFrames, IsLaidOut}
 use Rattle.ksv_memo.specs.Moves.{EndsWith, SameFrames, Popped, Heard}
-use Rattle.ksv_memo.specs.Nodes.{Keeps, Steps, Closes, MayKeep, TakesFirst, is_there}
+use Rattle.ksv_memo.specs.Nodes.{Keeps, Closes, MayKeep, TakesFirst}
 use Rattle.std.proofs.lemmas.List.Elements.{All-from_recursion}
 use Rattle.ksv_memo_rules.proofs.Lists.{All-map}
 use Rattle.ksv_memo_rules.proofs.Evals.{eqb_true}
 use Rattle.ksv_memo.proofs.Finding.{node_there, answer_there}
 use Rattle.ksv_memo.proofs.Laying.{All-drop}
-use Rattle.ksv_memo.proofs.Changing.{ChangesAt, grown, links-stay, links-keep, entries-stay, entries-keep, frames-pop, frames-hear, opens-pop, opens-hear, frames_nodes}
+use Rattle.ksv_memo.proofs.Changing.{ChangesAt, links-stay, links-keep, entries-stay, entries-keep, frames-pop, frames-hear, opens-pop, opens-hear}
 
 -- the last of a list that isn't empty
 pub last-front : {X : Type 0} (xs : List X) (x : X) → slice_get xs (length xs - 1) ≡ Some x → EndsWith x xs
@@ -37,33 +34,9 @@ last-front (y ∷ z ∷ ys) x e =
     let rest = last-front (z ∷ ys) x (ap (slice_get (z ∷ ys)) there ∙ ap (slice_get (y ∷ z ∷ ys)) (sym here) ∙ e) in
     (y ∷ rest.0, ap (λ zs. y ∷ zs) rest.1)
 
--- a list has one front
-pub one-front : {X : Type 0} (xs ys : List X) (x y : X) → xs ++ x ∷ [] ≡ ys ++ y ∷ [] → xs ≡ ys
-one-front xs ys x y e = sym (reverse-reverse xs) ∙ ap reverse (tails (reverse xs) (reverse ys) x y (sym (reverse-append xs (x ∷ [])) ∙ ap reverse e ∙ reverse-append ys (y ∷ []))) ∙ reverse-reverse ys
-  where
-    tails : {X : Type 0} (us vs : List X) (a b : X) → a ∷ us ≡ b ∷ vs → us ≡ vs
-    tails us vs a b e = let same : us ≡ vs = cc in same
-
 pub no-items : (fs : List Frame) → (length fs == 0) ≡ true → fs ≡ []
 no-items [] e = refl
 no-items (f ∷ fs) e = let none : length (f ∷ fs) ≡ 0 = eqb_true (length (f ∷ fs)) 0 e in absurd (omega arith)
-
-pub some-items : (fs : List Frame) → (length fs == 0) ≡ false → is_there (reverse fs) ≡ true
-some-items [] e = absurd (cc)
-some-items (f ∷ fs) e = ap is_there (reverse-append (f ∷ []) fs) ∙ by (reverse fs)
-  where
-    by : (xs : List Frame) → is_there (xs ++ f ∷ []) ≡ true
-    by [] = refl
-    by (x ∷ xs) = refl
-
-pub on_err_always : {T E P : Type 0} (r : Result T E) → P → OnErr r P
-on_err_always (Ok x) h = tt
-on_err_always (Err e) h = h
-
--- what a call adds begins with what there was, whether memory was refused or not
-pub next-more : {X T E : Type 0} (xs us ys : List X) (r : Result T E) → OnOk r (ys ≡ xs ++ us) → OnErr r (IsAddedTo xs ys) → IsAddedTo xs ys
-next-more xs us ys (Ok v) ok err = (us, ok)
-next-more xs us ys (Err e) ok err = err
 
 -- the last open node's part of what open nodes asked and used, as the code takes it
 pub keep_part : (k : ℕ) (uses held once : List Use) → held ≡ uses → HasEachOnce once (take (length held - k) (drop k held)) → HasEachOnce once (drop k uses)
@@ -105,21 +78,6 @@ module _ {N V F : Type 0} (ps : List (N × Slot V F)) where
       ap (λ fs. opens_in ps fs frames.asked.items frames.uses.items) t.turned
       ∙ ap (λ o. open_before o (answers_at (slots_of ps) (drop f.asked frames.asked.items)) (nodes_at ps (drop f.asked frames.asked.items)) (drop f.uses frames.uses.items) (below frames f t.front)) (node_there ps f.slot t.node opened t.there)
 
-  pub none-top : (frames : Frames) → frames.frames.items ≡ [] → opens_of ps frames ≡ []
-  none-top frames none = ap (λ fs. opens_in ps (reverse fs) frames.asked.items frames.uses.items) none
-
-  -- ---- a call of the last open node
-  pub more-uses : (frames new : Frames) → new.frames ≡ frames.frames → new.asked ≡ frames.asked → length frames.uses.items ≤ length new.uses.items → AreFrames ps frames → AreFrames ps new
-  more-uses frames new same asked more h =
-      let now : reverse new.frames.items ≡ reverse frames.frames.items = ap (λ v. reverse v.items) same in
-      record {
-        waits = subst (AllByRecursion (λ f. IsOpen ps f.slot)) (sym now) h.waits;
-        all = λ k o. subst (λ fs. IsOneOf (map (λ (f : Frame). f.slot) fs) k) (sym now) (h.all k o);
-        once = subst (λ fs. AllDiffer (map (λ (f : Frame). f.slot) fs)) (sym now) h.once;
-        asked = subst (AllByRecursion (IsKept ps)) (ap (λ v. v.items) (sym asked)) h.asked;
-        nested = subst (λ fs. AreNested fs (length new.asked.items) (length new.uses.items)) (sym now) (grown (reverse frames.frames.items) _ _ _ _ (let same : length frames.asked.items ≡ length new.asked.items = ap (λ v. length v.items) (sym asked) in omega arith) more h.nested);
-      }
-
   pub same-frames : (old new : Frames) → SameFrames old new → AreFrames ps old → AreFrames ps new
   same-frames old new same h =
       let now : reverse new.frames.items ≡ reverse old.frames.items = ap reverse same.frames in
@@ -131,33 +89,6 @@ module _ {N V F : Type 0} (ps : List (N × Slot V F)) where
         asked = subst (AllByRecursion (IsKept ps)) (sym same.asked) h.asked;
         nested = subst (λ fs. AreNested fs (length new.asked.items) (length new.uses.items)) (sym now) (subst (λ us. P new.asked.items us) (sym same.uses) (subst (λ xs. P xs old.uses.items) (sym same.asked) h.nested));
       }
-
-  pub added-more : {X : Type 0} (xs ys : List X) → IsAddedTo xs ys → length xs ≤ length ys
-  added-more xs ys (more, is) = let e : length ys ≡ length xs + length more = ap length is ∙ length-append xs more in omega arith
-
-  pub top-steps : (w : Standing N (Result V F)) (frames new : Frames) (f : Frame) (t : IsTop frames f) (s : Next N (Result V F)) → new.frames ≡ frames.frames → new.asked ≡ frames.asked → new.uses.items ≡ frames.uses.items ++ w.added t.node (answers_at (slots_of ps) (drop f.asked frames.asked.items)) → s ≡ w.follow t.node (answers_at (slots_of ps) (drop f.asked frames.asked.items)) → Steps w (opens_of ps frames) (opens_of ps new) s
-  top-steps w frames new f t s same asked used is =
-      let us : List Use = w.added t.node (answers_at (slots_of ps) (drop f.asked frames.asked.items)) in
-      let now : reverse new.frames.items ≡ f ∷ reverse t.front = ap (λ v. reverse v.items) same ∙ t.turned in
-      let opens : opens_of ps new ≡ with_uses (top_of frames f t.node) us ∷ below frames f t.front =
-      (λ i. opens_in ps (now i) (asked i).items (used i))
-      ∙ ap (λ o. open_before o (answers_at (slots_of ps) (drop f.asked frames.asked.items)) (nodes_at ps (drop f.asked frames.asked.items)) (drop f.uses (frames.uses.items ++ us)) (opens_in ps (reverse t.front) (take f.asked frames.asked.items) (take f.uses (frames.uses.items ++ us)))) (node_there ps f.slot t.node opened t.there)
-      ∙ (λ i. record { node = t.node; replies = answers_at (slots_of ps) (drop f.asked frames.asked.items); asked = nodes_at ps (drop f.asked frames.asked.items); uses = drop-append-le f.uses frames.uses.items us t.count i } ∷ opens_in ps (reverse t.front) (take f.asked frames.asked.items) (take-append-le f.uses frames.uses.items us t.count i)) in
-      subst (λ st. Steps w st (opens_of ps new) s) (sym (top-opens frames f t)) (is, opens)
-
-  some-same : {m n : N} → Some m ≡ Some n → m ≡ n
-  some-same e = cc
-
-  pub none-some : {n : N} → Some n ≡ None → ⊥
-  none-some e = cc
-
-  pub runs : (w : Standing N (Result V F)) (frames new : Frames) (f : Frame) (t : IsTop frames f) (m : N) (rs : List (Result V F)) (s : Next N (Result V F)) → node_at ps f.slot ≡ Some m → rs ≡ answers_at (slots_of ps) (drop f.asked frames.asked.items) → new.frames ≡ frames.frames → new.asked ≡ frames.asked → new.uses.items ≡ frames.uses.items ++ w.added m rs → s ≡ w.follow m rs → Steps w (opens_of ps frames) (opens_of ps new) s
-  runs w frames new f t m rs s there lent same asked used is =
-      let node : m ≡ t.node = some-same (sym there ∙ node_there ps f.slot t.node opened t.there) in
-      top-steps w frames new f t s same asked (used ∙ (λ i. frames.uses.items ++ w.added (node i) (lent i))) (is ∙ (λ i. w.follow (node i) (lent i)))
-
-  pub part-lent : (slots : List (Slot V F)) (asked items : List ℕ) (k : ℕ) (rs : List (Result V F)) → slots ≡ slots_of ps → items ≡ asked → rs ≡ answers_at slots (take (length items - k) (drop k items)) → rs ≡ answers_at (slots_of ps) (drop k asked)
-  part-lent slots asked items k rs same is lent = lent ∙ ap (answers_at slots) (take_rest items k) ∙ (λ i. answers_at (same i) (drop k (is i)))
 
   -- ---- the last open node is taken out
   module _ (l : Linked) (frames new : Frames) (f : Frame) (laid : IsLaidOut ps l frames) (popped : Popped f frames new) (t : IsTop frames f) (qs : List (N × Slot V F)) where
@@ -208,11 +139,11 @@ module _ {N V F : Type 0} (ps : List (N × Slot V F)) where
           record { once = once; each = each; front = p.front; back = p.back; was = p.was; kept = p.now }
 
       -- no node is below it
-      pub closes-last : new.frames.items ≡ [] → Closes a (opens_of ps frames) (record { kept = entries_of ps l; opened = opens_of ps frames }) (record { kept = entries_of qs all; opened = opens_of qs new }) false
+      pub closes-last : new.frames.items ≡ [] → Closes a (opens_of ps frames) (record { kept = entries_of ps l; opened = opens_of ps frames }) (record { kept = entries_of qs all; opened = opens_of qs new })
       closes-last none =
           let empty : below frames f t.front ≡ [] = sym (pops-opens s changes) ∙ ap (λ fs. opens_in qs (reverse fs) new.asked.items new.uses.items) none in
-          let C : List (Open N (Result V F)) → Type 0 = λ st. Closes a st (record { kept = entries_of ps l; opened = opens_of ps frames }) (record { kept = entries_of qs all; opened = opens_of qs new }) false in
-          subst C (sym (top-opens frames f t ∙ ap (λ st. top_of frames f t.node ∷ st) empty)) (closes-kept, pops-opens s changes ∙ empty, refl)
+          let C : List (Open N (Result V F)) → Type 0 = λ st. Closes a st (record { kept = entries_of ps l; opened = opens_of ps frames }) (record { kept = entries_of qs all; opened = opens_of qs new }) in
+          subst C (sym (top-opens frames f t ∙ ap (λ st. top_of frames f t.node ∷ st) empty)) (closes-kept, pops-opens s changes ∙ empty)
 
       -- the one below gets its answer
       kept_now : IsKept qs f.slot
@@ -221,30 +152,14 @@ module _ {N V F : Type 0} (ps : List (N × Slot V F)) where
       pub hears-laid : (last : Frames) → Heard f.slot new last → IsLaidOut qs all last
       hears-laid last h = record { kept = closes-laid.kept; waits = frames-hear qs f.slot kept_now new last closes-laid.waits h }
 
-      some_below : (st : List (Open N (Result V F))) (fs : List Frame) (asked : List ℕ) (uses : List Use) → AllByRecursion (λ g. is_some (node_at qs g.slot) ≡ true) fs → opens_in qs fs asked uses ≡ st → is_there fs ≡ true → true ≡ is_there st
-      some_below st [] asked uses nodes e there = absurd (cc)
-      some_below st (g ∷ fs) asked uses nodes e there = by (node_at qs g.slot) nodes.0 e
-        where
-          by : (o : Option N) → is_some o ≡ true → open_before o (answers_at (slots_of qs) (drop g.asked asked)) (nodes_at qs (drop g.asked asked)) (drop g.uses uses) (opens_in qs fs (take g.asked asked) (take g.uses uses)) ≡ st → true ≡ is_there st
-          by None n e = absurd (cc)
-          by (Some m) n e = ap is_there e
-
-      pub closes-more : (last : Frames) → Heard f.slot new last → is_there (reverse new.frames.items) ≡ true → Closes a (opens_of ps frames) (record { kept = entries_of ps l; opened = opens_of ps frames }) (record { kept = entries_of qs all; opened = opens_of qs last }) true
-      closes-more last h there =
+      pub closes-more : (last : Frames) → Heard f.slot new last → Closes a (opens_of ps frames) (record { kept = entries_of ps l; opened = opens_of ps frames }) (record { kept = entries_of qs all; opened = opens_of qs last })
+      closes-more last h =
           let opens : opens_of qs last ≡ heard t.node a (below frames f t.front) = opens-hear qs f.slot t.node a (node_there qs f.slot t.node s changes.here) (answer_there qs f.slot t.node s changes.here ∙ is) new last closes-laid.waits h ∙ ap (heard t.node a) (pops-opens s changes) in
-          let some : true ≡ is_there (below frames f t.front) = some_below (below frames f t.front) (reverse new.frames.items) new.asked.items new.uses.items (frames_nodes qs new closes-laid.waits) (pops-opens s changes) there in
-          let C : List (Open N (Result V F)) → Type 0 = λ st. Closes a st (record { kept = entries_of ps l; opened = opens_of ps frames }) (record { kept = entries_of qs all; opened = opens_of qs last }) true in
-          subst C (sym (top-opens frames f t)) (closes-kept, opens, some)
+          let C : List (Open N (Result V F)) → Type 0 = λ st. Closes a st (record { kept = entries_of ps l; opened = opens_of ps frames }) (record { kept = entries_of qs all; opened = opens_of qs last }) in
+          subst C (sym (top-opens frames f t)) (closes-kept, opens)
 
       pub may-keep : MayKeep a (opens_of ps frames) (entries_of ps l) (entries_of qs all)
       may-keep = subst (λ st. MayKeep a st (entries_of ps l) (entries_of qs all)) (sym (top-opens frames f t)) (inr closes-kept)
-
-  pub keeps-none : (a : Result V F) (frames : Frames) (before after : List (Entry N (Result V F))) → is_there (opens_of ps frames) ≡ true → after ≡ before → MayKeep a (opens_of ps frames) before after
-  keeps-none a frames before after there same = by (opens_of ps frames) there
-    where
-      by : (st : List (Open N (Result V F))) → is_there st ≡ true → MayKeep a st before after
-      by [] e = absurd (cc)
-      by (o ∷ st) e = inl same
 
   -- ---- what keeping it requires
   pub keep-in : (l : Linked) (frames : Frames) (f : Frame) → AreLinked ps l → IsTop frames f → f.slot < length l.kept

@@ -268,7 +268,3 @@ counts-step before now new owed owed' so_far so_far' total h e f = (suc h.0, f �
 pub on_err_always : {T E P : Type 0} (r : Result T E) → P → OnErr r P
 on_err_always (Ok x) h = tt
 on_err_always (Err e) h = h
-
--- what is left of a later state is left of an earlier one
-pub left-more : {N A : Type 0} (w : Standing N A) (all all' : List N) (first middle last : List (Entry N A)) → AreSame w all all' → AreAmong w (nodes_of first) (nodes_of middle) → IsLeft w all middle last → IsLeft w all' first last
-left-more w all all' first middle last same grown h = record { right = h.right; grown = λ x k. h.grown x (grown x k); within = λ x k. sym (same x) ∙ h.within x k }

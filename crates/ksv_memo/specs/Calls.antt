@@ -5,8 +5,8 @@ use Rattle.ksv_memo_rules.specs.declared.rules.Next.{Next}
 use Rattle.ksv_memo_rules.specs.Meaning.{Standing}
 use Rattle.ksv_memo_rules.specs.Slots.{answers_at}
 use Rattle.ksv_memo_rules.specs.Right.{counted}
-use Rattle.ksv_memo.specs.declared.layout.Frame.{Frame}
-use Rattle.ksv_memo.specs.declared.layout.Frames.{Frames}
+use Rattle.ksv_memo.specs.declared.frames.Frame.{Frame}
+use Rattle.ksv_memo.specs.declared.frames.Frames.{Frames}
 use Rattle.ksv_memo.specs.Layout.{node_at, slots_of}
 
 -- the replies that the node of a frame got

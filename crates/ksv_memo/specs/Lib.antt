@@ -3,9 +3,9 @@ pub mod Open
 pub mod Layout
 pub mod Slotted
 pub mod Moves
+pub mod Nodes
 pub mod Calls
 pub mod Sweep
 pub mod Emptying
-pub mod Nodes
 pub mod Running
 pub mod Answers

@@ -3,8 +3,8 @@ use Rattle.std.specs.Prelude.{◌≡◌, ℕ, Some, Bool, true, false, List, [],
 use Rattle.std.specs.List.{list_any}
 use Rattle.ksv_memo_rules.specs.declared.replies.Slot.{Slot}
 use Rattle.ksv_memo_rules.specs.declared.replies.Slot.TheVariants.{Empty as emptied, Open as opened}
-use Rattle.ksv_memo.specs.declared.layout.Frame.{Frame}
-use Rattle.ksv_memo.specs.declared.layout.Frames.{Frames}
+use Rattle.ksv_memo.specs.declared.frames.Frame.{Frame}
+use Rattle.ksv_memo.specs.declared.frames.Frames.{Frames}
 use Rattle.ksv_memo.specs.declared.slots.Known.{Known}
 use Rattle.ksv_memo.specs.declared.slots.Known.TheVariants.{New, Empty, Open, Kept}
 use Rattle.ksv_memo.specs.Layout.{IsKept}

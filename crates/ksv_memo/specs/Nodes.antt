@@ -1,22 +1,33 @@
 -- The table of nodes, as the machine sees it.
-use Rattle.std.specs.Prelude.{◌≡◌, Bool, true, false, List, [], ◌∷◌, ◌++◌, ◌⊎◌, Option, Some, None}
+use Rattle.std.specs.Prelude.{◌≡◌, Bool, true, false, List, [], ◌∷◌, ◌++◌, ◌⊎◌, Option, Some, None, Result}
 use Rattle.std.specs.List.{list_any}
 use Rattle.ksv_bytes.specs.declared.uses.Use.{Use}
 use Rattle.ksv_memo.specs.declared.table.Asked.{Asked}
-use Rattle.ksv_memo.specs.declared.table.Asked.TheVariants.{Replied, Opened, Circle}
+use Rattle.ksv_memo.specs.declared.table.Asked.TheVariants.{Kept, Opened, Circle}
 use Rattle.ksv_memo_rules.specs.Entry.{Entry}
 use Rattle.ksv_memo.specs.Open.{Open, newly, with_uses, heard}
 use Rattle.ksv_memo_rules.specs.declared.rules.Next.{Next}
 use Rattle.ksv_memo_rules.specs.Meaning.{Standing}
 use Rattle.ksv_memo_rules.specs.Right.{HasEachOnce}
-use Rattle.ksv_memo.specs.Layout.{IsOneOf}
+use Rattle.ksv_memo_links.specs.Links.{Linked}
+use Rattle.ksv_memo_rules.specs.declared.replies.Slot.{Slot}
+use Rattle.ksv_memo_rules.specs.declared.rules.Outcome.{Outcome}
+use Rattle.ksv_memo_rules.specs.declared.rules.Outcome.TheVariants.{Answered, Circle as CircleOf}
+use Rattle.ksv_memo.specs.declared.frames.Frames.{Frames}
+use Rattle.ksv_memo.specs.declared.slots.Known.TheVariants.{Kept as KeptAt}
+use Rattle.ksv_memo.specs.Layout.{IsOneOf, entries_of, opens_of}
+use Rattle.ksv_memo.specs.Moves.{Knows}
 
 -- the kept nodes, in the order of their slots, and the open ones, from the last opened to the first
 pub record Nodes (N A : Type 0) : Type 0 where
   pub kept : List (Entry N A)
   pub opened : List (Open N A)
 
--- a node is kept with this answer
+-- the nodes of slots, with these links and frames
+abbrev pub nodes_with : {N V F : Type 0} → List (N × Slot V F) → Linked → Frames → Nodes N (Result V F)
+nodes_with ps l frames = record { kept = entries_of ps l; opened = opens_of ps frames }
+
+-- a node is kept with this entry
 pub record IsEntry {N A : Type 0} (eq : N → N → Bool) (es : List (Entry N A)) (n : N) (e : Entry N A) : Type 0 where
   pub there : IsOneOf es e
   pub passes : eq n e.node ≡ true
@@ -25,10 +36,9 @@ pub record IsEntry {N A : Type 0} (eq : N → N → Bool) (es : List (Entry N A)
 abbrev pub HasNoEntry : {N A : Type 0} → (N → N → Bool) → List (Entry N A) → N → Type 0
 HasNoEntry eq es n = list_any (λ e. eq n e.node) es ≡ false
 
--- what there is of a kept answer
-abbrev pub Finds : {N A : Type 0} → (N → N → Bool) → List (Entry N A) → N → Option A → Type 0
-Finds {N} {A} eq es n None = HasNoEntry eq es n
-Finds {N} {A} eq es n (Some a) = (e : Entry N A) × IsEntry eq es n e × (e.answer ≡ a)
+-- a node is kept with this answer
+abbrev pub HasEntry : {N A : Type 0} → (N → N → Bool) → List (Entry N A) → N → A → Type 0
+HasEntry {N} {A} eq es n a = (e : Entry N A) × IsEntry eq es n e × (e.answer ≡ a)
 
 -- the last open node asked for a kept node, and got its answer
 pub record Replies {N A : Type 0} (eq : N → N → Bool) (n : N) (old new : Nodes N A) : Type 0 where
@@ -53,11 +63,22 @@ pub record Circles {N A : Type 0} (eq : N → N → Bool) (n m : N) (old new : N
   pub kept : new.kept ≡ old.kept
   pub opened : new.opened ≡ old.opened
 
--- what came of asking for a node
-abbrev pub Asks : {N A : Type 0} → (N → N → Bool) → N → Nodes N A → Nodes N A → Asked N → Type 0
-Asks eq n old new Replied = Replies eq n old new
-Asks eq n old new Opened = Opens eq n old new
-Asks eq n old new (Circle m) = Circles eq n m old new
+-- what came of looking for a node
+abbrev pub Seeks : {N V F : Type 0} → (N → N → Bool) → N → List (N × Slot V F) → Nodes N (Result V F) → Nodes N (Result V F) → Asked N → Type 0
+Seeks eq n ps old new (Kept i) = Knows eq ps n (KeptAt i) × (new ≡ old)
+Seeks eq n ps old new Opened = Opens eq n old new
+Seeks eq n ps old new (Circle m) = Circles eq n m old new
+
+-- what came of asking for a node: it is kept or opened, or it is open
+abbrev pub Asks : {N A : Type 0} → (N → N → Bool) → N → Nodes N A → Nodes N A → Option N → Type 0
+Asks eq n old new None = Replies eq n old new ⊎ Opens eq n old new
+Asks eq n old new (Some m) = Circles eq n m old new
+
+-- what came of a question for a node: it is opened, or it is kept, or it is open
+abbrev pub Starts : {N A : Type 0} → (N → N → Bool) → N → Nodes N A → Nodes N A → Option (Outcome N A) → Type 0
+Starts eq n old new None = Opens eq n old new
+Starts eq n old new (Some (Answered a)) = HasEntry eq old.kept n a × (new ≡ old)
+Starts eq n old new (Some (CircleOf m)) = Circles eq n m old new
 
 -- an open node as an entry, with its answer, and its uses each once
 abbrev pub kept_of : {N A : Type 0} → Open N A → A → List Use → Entry N A
@@ -83,9 +104,9 @@ Steps w [] now s = ⊥
 Steps w (o ∷ st) now s = (s ≡ w.follow o.node o.replies) × (now ≡ with_uses o (w.added o.node o.replies) ∷ st)
 
 -- the last open node was kept with its answer, which the one below got, if there is one
-abbrev pub Closes : {N A : Type 0} → A → List (Open N A) → Nodes N A → Nodes N A → Bool → Type 0
-Closes a [] old new waits = ⊥
-Closes a (o ∷ st) old new waits = Keeps o a old.kept new.kept × (new.opened ≡ heard o.node a st) × (waits ≡ is_there st)
+abbrev pub Closes : {N A : Type 0} → A → List (Open N A) → Nodes N A → Nodes N A → Type 0
+Closes a [] old new = ⊥
+Closes a (o ∷ st) old new = Keeps o a old.kept new.kept × (new.opened ≡ heard o.node a st)
 
 -- after a refused memory the last open node was kept, or nothing was
 abbrev pub MayKeep : {N A : Type 0} → A → List (Open N A) → List (Entry N A) → List (Entry N A) → Type 0

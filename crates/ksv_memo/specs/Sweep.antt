@@ -3,7 +3,7 @@
 use Rattle.std.specs.Prelude.{◌≡◌, ℕ, ◌+◌, ◌*◌, ◌≤◌, Bool, not, ◌||◌, List, [], ◌∷◌, length, map, filter, sum_by}
 use Rattle.std.specs.List.{AllByRecursion, list_any}
 use Rattle.ksv_bytes.specs.declared.uses.Change.{Change}
-use Rattle.ksv_memo_rules.specs.Touched.{is_use_touched}
+use Rattle.ksv_bytes.specs.Uses.{is_use_touched}
 use Rattle.ksv_memo_links.specs.Touching.{pages_in}
 use Rattle.ksv_memo_links.specs.Links.{IsOverwrite, pages_met, met_by}
 use Rattle.ksv_memo_rules.specs.Entry.{Entry}

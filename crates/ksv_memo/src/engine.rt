@@ -26,20 +26,10 @@ pub enum Answer<N, V, F> {
     Circle(N),
 }
 
-fn answer_of<N, V, F>(outcome: Outcome<N, Result<V, F>>) -> Answer<N, V, F>
-    ensures { result ≡ answer_of outcome }
-{
-    match outcome {
-        Outcome::Answered(Ok(value)) => Answer::Value(value),
-        Outcome::Answered(Err(fault)) => Answer::Fault(fault),
-        Outcome::Circle(node) => Answer::Circle(node),
-    }
-}
-
 /// An engine that answers nodes by rules over the bytes of a file, and keeps the answers.
 ///
 /// It is *right* for rules and bytes if each kept node has the answer, the asked nodes and the uses that evaluation
-/// from nothing gives, and all nodes that it asked are kept. In contracts the kept entries have no stated order.
+/// from nothing gives, and all nodes that it asked are kept. Contracts state no order of the kept entries.
 #[derive(Drop)]
 pub struct Engine<R: Rules> {
     machine: Machine<R>,
@@ -82,8 +72,8 @@ impl<R: Rules> Engine<R> {
 
     /// The answer of a node, as evaluation from nothing gives it: the rules run first with no replies, and each
     /// asked node is evaluated the same way. A node that is asked while it is open is a circle, which ends the
-    /// question. Kept nodes aren't run, and each completed node is kept, also after a circle. It returns whatever
-    /// the depth.
+    /// question. Kept nodes aren't run, and each completed node is kept, also after a circle. It always returns,
+    /// however deep the nodes are.
     pub fn ask(
         &mut self,
         rules: &R,
@@ -105,7 +95,8 @@ impl<R: Rules> Engine<R> {
         ensures looked { self.new.looked ≡ self.old.looked }
     {
         match self.machine.ask(rules, bytes, node) {
-            Ok(Outcome::Answered(answer)) => Ok(answer_of(Outcome::Answered(answer))),
+            Ok(Outcome::Answered(Ok(value))) => Ok(Answer::Value(value)),
+            Ok(Outcome::Answered(Err(fault))) => Ok(Answer::Fault(fault)),
             Ok(Outcome::Circle(node)) => {
                 self.machine.turns = None;
                 Ok(Answer::Circle(node))
@@ -133,8 +124,8 @@ impl<R: Rules> Engine<R> {
         self.looked = self.machine.table.forget(change);
     }
 
-    /// The looks of the last `forget`: readings and writings of an entry, or of an item or the length of one list of
-    /// users, uses of a page, notes of an entry, or slots to be taken. The count stops at 2^64 - 1.
+    /// The looks of the last `forget`. A look reads or writes one entry; or one item, or the length, of one list: of an
+    /// entry's users or notes, of the uses of a page, or of the slots to be taken. The count stops at 2^64 - 1.
     pub fn looked(&self) -> u64
         ensures { result ≡ self.now.looked }
     {
@@ -149,8 +140,8 @@ impl<R: Rules> Engine<R> {
         self.machine.table.len()
     }
 
-    /// The calls of the rules since the question began; None after a circle or a refused memory since then. The
-    /// count stops at 2^64 - 1.
+    /// The calls of the rules since the question began; None if it met a circle or was refused memory. The count stops
+    /// at 2^64 - 1.
     pub fn turns(&self) -> Option<u64>
         ensures { result ≡ self.now.turns }
     {

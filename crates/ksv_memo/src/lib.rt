@@ -53,8 +53,8 @@
 #![tactic(auto)]
 
 mod engine;
+mod frames;
 pub mod laws;
-mod layout;
 mod machine;
 mod slots;
 mod table;

@@ -1,14 +1,13 @@
 //! The machine that runs nodes on a stack of open nodes, and keeps what they answer.
-ghost use Rattle.std.specs.Prelude.{◌≡◌, [], ◌∷◌, IfOk, OnOk, OnErr};
+ghost use Rattle.std.specs.Prelude.{◌≡◌, [], IfOk, OnOk, OnErr};
 ghost use Rattle.ksv_memo_rules.specs.Meaning.{on};
 ghost use Rattle.ksv_memo_rules.specs.Evaluation.{tells, done, IsAnswered};
-ghost use Rattle.ksv_memo.specs.Nodes.{HasNoEntry, Steps};
-ghost use Rattle.ksv_memo.specs.Open.{newly};
+ghost use Rattle.ksv_memo.specs.Nodes.{Steps};
 ghost use Rattle.ksv_memo_rules.specs.Slots.{lent};
 ghost use Rattle.ksv_memo_rules.specs.Right.{IsRight, nodes_of, counted};
 ghost use Rattle.ksv_memo.specs.Running.{AreSame, AdvancesAt, AdvancesFrom, HasReached, IsLeft, IsRunning, LeftAt, LeftFrom, debt, to_keep};
 
-use crate::table::{Asked, Table};
+use crate::table::Table;
 use ksv_bytes::Buffer;
 use ksv_memo_rules::{Next, Outcome, Reply, Rules};
 use std::alloc::{AllocError, Global};
@@ -111,9 +110,8 @@ impl<R: Rules> Machine<R> {
     {
         let came = self.table.ask(asked)?;
         match came {
-            Asked::Replied => Ok(None),
-            Asked::Opened => Ok(None),
-            Asked::Circle(node) => Ok(Some(Outcome::Circle(node))),
+            None => Ok(None),
+            Some(node) => Ok(Some(Outcome::Circle(node))),
         }
     }
 
@@ -126,23 +124,7 @@ impl<R: Rules> Machine<R> {
         while self.table.abandon() {}
     }
 
-    /// Opens the node of a question, which isn't kept.
-    fn start(&mut self, node: R::Node) -> Result<(), AllocError>
-        requires new { HasNoEntry R.Node.eq self.old.table.kept node }
-        requires opened { self.old.table.opened ≡ [] }
-        ensures kept { self.new.table.kept ≡ self.old.table.kept }
-        ensures opened { OnOk result (self.new.table.opened ≡ newly node ∷ []) }
-        ensures turns { self.new.turns ≡ self.old.turns }
-    {
-        let asked = self.table.ask(node)?;
-        match asked {
-            Asked::Opened => Ok(()),
-            Asked::Replied => unreachable!(),
-            Asked::Circle(_) => unreachable!(),
-        }
-    }
-
-    /// Runs a node that isn't kept, and what it asks. Where the question ends early, some nodes are open after it.
+    /// Runs a node, if it isn't kept, and what it asks. If the question ends early, some nodes are open after it.
     fn run(
         &mut self,
         rules: &R,
@@ -150,7 +132,6 @@ impl<R: Rules> Machine<R> {
         node: R::Node,
     ) -> Result<Outcome<R::Node, Reply<R>>, AllocError>
         requires right { IsRight (on (R.meaning rules.now) bytes.now) self.old.table.kept }
-        requires new { HasNoEntry R.Node.eq self.old.table.kept node }
         requires opened { self.old.table.opened ≡ [] }
         ensures outcome { IfOk result (λ outcome. outcome ≡ (tells (on (R.meaning rules.now) bytes.now) [] node).outcome) }
         ensures right { IsRight (on (R.meaning rules.now) bytes.now) self.new.table.kept }
@@ -158,7 +139,10 @@ impl<R: Rules> Machine<R> {
         ensures left { OnErr result (IsLeft (on (R.meaning rules.now) bytes.now) (to_keep (on (R.meaning rules.now) bytes.now) self.old.table.kept (done (on (R.meaning rules.now) bytes.now) [] node)) self.old.table.kept self.new.table.kept) }
         ensures turns { IfOk result (λ outcome. IsAnswered outcome → self.new.turns ≡ counted (debt (on (R.meaning rules.now) bytes.now) self.old.table.kept (done (on (R.meaning rules.now) bytes.now) [] node)) self.old.turns) }
     {
-        self.start(node)?;
+        let known = self.table.start(self.alloc, rules, node)?;
+        if let Some(outcome) = known {
+            return Ok(outcome);
+        }
         loop {
             let ended = self.advance(rules, bytes)?;
             if let Some(outcome) = ended {
@@ -183,13 +167,8 @@ impl<R: Rules> Machine<R> {
         ensures left { OnErr result (IsLeft (on (R.meaning rules.now) bytes.now) (to_keep (on (R.meaning rules.now) bytes.now) self.old.table.kept (done (on (R.meaning rules.now) bytes.now) [] node)) self.old.table.kept self.new.table.kept) }
         ensures turns { IfOk result (λ outcome. IsAnswered outcome → self.new.turns ≡ counted (debt (on (R.meaning rules.now) bytes.now) self.old.table.kept (done (on (R.meaning rules.now) bytes.now) [] node)) self.old.turns) }
     {
-        match self.table.answer(self.alloc, rules, &node)? {
-            Some(answer) => Ok(Outcome::Answered(answer)),
-            None => {
-                let outcome = self.run(rules, bytes, node);
-                self.abandon();
-                outcome
-            }
-        }
+        let outcome = self.run(rules, bytes, node);
+        self.abandon();
+        outcome
     }
 }

@@ -1,5 +1,5 @@
 //! The slots of nodes, each reaching of one counted, and calls of rules, which alone are lent them.
-ghost use Rattle.std.specs.Prelude.{◌≡◌, ◌<◌, ◌≤◌, ◌^◌, ◌++◌, ◌∷◌, [], length, drop, true, false, is_some, Some, None, IfOk, OnOk, OnErr, IfSome, IfNone};
+ghost use Rattle.std.specs.Prelude.{◌≡◌, ◌<◌, ◌≤◌, ◌^◌, ◌++◌, ◌∷◌, [], length, drop, true, false, is_some, option_map, Some, None, IfOk, OnOk, OnErr, IfSome, IfNone};
 ghost use Rattle.std.specs.List.{AllByRecursion, list_any, IsDistinct};
 ghost use Rattle.std.specs.Map.{keys_of};
 ghost use Rattle.indexmap.specs.IndexMap.{set_value_at};
@@ -11,10 +11,10 @@ ghost use Rattle.ksv_memo_rules.specs.Meaning.{IsAddedTo, on};
 ghost use Rattle.ksv_memo_rules.specs.Right.{counted};
 ghost use Rattle.ksv_memo_rules.specs.Slots.{HasAnswer, answer_at};
 
-use crate::layout::{Frame, Frames};
+use crate::frames::{Frame, Frames};
 use indexmap::IndexMap;
 use ksv_bytes::Buffer;
-use ksv_memo_rules::{Next, Replies, Reply, Rules, Slot, answer_at};
+use ksv_memo_rules::{Next, Outcome, Replies, Reply, Rules, Slot, answer_at};
 use std::alloc::{AllocError, Global};
 use std::hash::Hash;
 use std::marker::Model;
@@ -35,7 +35,7 @@ pub enum Known {
 /// The slots of nodes. A node's slot has the number of its place in a map, which never changes.
 ///
 /// Each call that looks a node up, adds one or writes a slot is one look, and none does more. The slots are lent to rules
-/// alone, which isn't counted: by [`copy_at`] and [`call`], which no code can call that has no rules, as forgetting.
+/// alone, which isn't counted: by [`outcome_at`] and [`call`], which no code can call that has no rules, as forgetting.
 #[derive(Drop)]
 pub(crate) struct Slots<N: Eq + Hash + Drop, V: Drop, F: Drop> {
     map: IndexMap<N, Slot<V, F>>,
@@ -167,17 +167,17 @@ fn look_up<N: Eq + Hash + Drop, V: Drop, F: Drop>(map: &IndexMap<N, Slot<V, F>>,
     }
 }
 
-/// A copy by the rules of the answer in the slot of a number, if there is one.
-pub(crate) fn copy_at<R: Rules>(
+/// The answer in the slot of a number, copied by the rules, if there is one.
+pub(crate) fn outcome_at<R: Rules>(
     alloc: Global,
     rules: &R,
     slots: &Slots<R::Node, R::Value, R::Fault>,
     place: usize,
-) -> Result<Option<Reply<R>>, AllocError>
-    ensures { IfOk result (λ copy. copy ≡ answer_at (slots_of slots.now.entries) place) }
+) -> Result<Option<Outcome<R::Node, Reply<R>>>, AllocError>
+    ensures { IfOk result (λ outcome. outcome ≡ option_map (λ a. Outcome.Answered a) (answer_at (slots_of slots.now.entries) place)) }
 {
     match answer_at(slots.lend(), place) {
-        Some(answer) => Ok(Some(rules.copy_answer(alloc, answer)?)),
+        Some(answer) => Ok(Some(Outcome::Answered(rules.copy_answer(alloc, answer)?))),
         None => Ok(None),
     }
 }

@@ -2,31 +2,60 @@
 ghost use Rattle.std.specs.List.{All, AllPairs};
 ghost use Rattle.std.specs.Prelude.{◌≡◌, ◌≢◌, ◌<◌, ◌≤◌, ℕ, [], Some, length, true, option_map, nat_lt, IfOk, IfSome, IfNone, OnOk, OnErr};
 ghost use Rattle.ksv_memo_rules.specs.Meaning.{on};
-ghost use Rattle.ksv_memo.specs.Nodes.{Asks, Closes, Finds, MayKeep, Steps, TakesFirst, is_there};
+ghost use Rattle.ksv_memo.specs.Layout.{IsLaidOut};
+ghost use Rattle.ksv_memo.specs.Nodes.{Asks, Closes, MayKeep, Seeks, Starts, Steps, TakesFirst, is_there, nodes_with};
 ghost use Rattle.ksv_memo_rules.specs.Slots.{answer_in};
 ghost use Rattle.ksv_memo.specs.Calls.{after_call};
 ghost use Rattle.ksv_memo.specs.Sweep.{Sweeps};
 ghost use Rattle.ksv_memo.specs.Emptying.{IsEmptied};
 
-use crate::layout::{Frames, number, open_new, reopen};
-use crate::slots::{Known, Slots, call, copy_at};
+use crate::frames::{Frames, number, open_new, reopen};
+use crate::slots::{Known, Slots, call, outcome_at};
 use crate::uses::keep_once;
 use ksv_bytes::{Buffer, Change};
 use ksv_memo_links::Links;
-use ksv_memo_rules::{Next, Reply, Rules, Slot};
+use ksv_memo_rules::{Next, Outcome, Reply, Rules, Slot};
 use std::alloc::{AllocError, Global};
 use std::hash::Hash;
 use std::marker::Model;
 
-/// What came of asking for a node.
+/// What came of looking for a node.
 #[derive(Drop)]
-pub enum Asked<N> {
-    /// It is kept, and the node that asked for it has its answer.
-    Replied,
+enum Asked<N> {
+    /// It is kept, in the slot of this number.
+    Kept(usize),
     /// It was neither kept nor open, and is open now.
     Opened,
-    /// This node, which is asked for, is open.
+    /// This node, which was looked for, is open.
     Circle(N),
+}
+
+/// Looks for a node, and opens it if it is neither kept nor open. It takes one hash, and another for a new node's slot.
+#[inline(always)]
+fn seek<N: Eq + Hash + Drop, V: Drop, F: Drop>(
+    slots: &mut Slots<N, V, F>,
+    links: &mut Links,
+    frames: &mut Frames,
+    node: N,
+) -> Result<Asked<N>, AllocError>
+    requires { IsLaidOut slots.old.entries links.old frames.old }
+    ensures laid { IsLaidOut slots.new.entries links.new frames.new }
+    ensures ok { IfOk result (Seeks N.eq node slots.new.entries (nodes_with slots.old.entries links.old frames.old) (nodes_with slots.new.entries links.new frames.new)) }
+    ensures err { OnErr result (nodes_with slots.new.entries links.new frames.new ≡ nodes_with slots.old.entries links.old frames.old) }
+{
+    match slots.find(&node) {
+        Known::Kept(place) => Ok(Asked::Kept(place)),
+        Known::Open => Ok(Asked::Circle(node)),
+        Known::Empty(place) => {
+            reopen(slots, frames, place)?;
+            Ok(Asked::Opened)
+        }
+        Known::New => {
+            links.reach(number(slots.len().saturating_add(1))?)?;
+            open_new(slots, frames, node)?;
+            Ok(Asked::Opened)
+        }
+    }
 }
 
 /// A kept answer as a slot.
@@ -62,12 +91,12 @@ pub struct Table<R: Rules> {
 
 impl<R: Rules> Model for Table<R> {
     ghost use Rattle.std.specs.Prelude.{Result};
-    ghost use Rattle.ksv_memo.specs.Nodes.{Nodes};
-    ghost use Rattle.ksv_memo.specs.Layout.{IsLaidOut, entries_of, opens_of};
+    ghost use Rattle.ksv_memo.specs.Nodes.{Nodes, nodes_with};
+    ghost use Rattle.ksv_memo.specs.Layout.{IsLaidOut};
 
     ghost Value = { Nodes R.Node (Result R.Value R.Fault) };
 
-    ghost view = { λ table. record { kept = entries_of table.slots.entries table.links; opened = opens_of table.slots.entries table.frames } };
+    ghost view = { λ table. nodes_with table.slots.entries table.links table.frames };
 
     ghost invariant = { λ table. IsLaidOut table.slots.entries table.links table.frames };
 }
@@ -95,46 +124,39 @@ impl<R: Rules> Table<R> {
         self.links.count()
     }
 
-    /// A copy of the answer that is kept for a node, if it is kept.
-    pub(crate) fn answer(
+    /// Starts a question for a node: its outcome if the node is kept or open; else the node is opened.
+    pub(crate) fn start(
         &mut self,
         alloc: Global,
         rules: &R,
-        node: &R::Node,
-    ) -> Result<Option<Reply<R>>, AllocError>
-        ensures answer { IfOk result (λ answer. Finds R.Node.eq self.old.kept node.now answer) }
-        ensures same { self.new ≡ self.old }
+        node: R::Node,
+    ) -> Result<Option<Outcome<R::Node, Reply<R>>>, AllocError>
+        ensures ok { IfOk result (Starts R.Node.eq node self.old self.new) }
+        ensures err { OnErr result (self.new ≡ self.old) }
     {
-        match self.slots.find(node) {
-            Known::Kept(place) => copy_at(alloc, rules, &self.slots, place),
-            Known::New => Ok(None),
-            Known::Empty(_) => Ok(None),
-            Known::Open => Ok(None),
+        let came = seek(&mut self.slots, &mut self.links, &mut self.frames, node)?;
+        match came {
+            Asked::Kept(place) => outcome_at(alloc, rules, &self.slots, place),
+            Asked::Opened => Ok(None),
+            Asked::Circle(node) => Ok(Some(Outcome::Circle(node))),
         }
     }
 
-    /// Asks for a node: its answer goes to the last open node if it is kept, and else it is opened, unless it is open.
+    /// Asks for a node, which is given back if it is open. If it is kept, the last open node gets its answer; else it is
+    /// opened.
     #[inline(always)]
-    pub(crate) fn ask(&mut self, node: R::Node) -> Result<Asked<R::Node>, AllocError>
+    pub(crate) fn ask(&mut self, node: R::Node) -> Result<Option<R::Node>, AllocError>
         ensures ok { IfOk result (Asks R.Node.eq node self.old self.new) }
         ensures err { OnErr result (self.new ≡ self.old) }
     {
-        match self.slots.find(&node) {
-            Known::Kept(place) => {
+        let came = seek(&mut self.slots, &mut self.links, &mut self.frames, node)?;
+        match came {
+            Asked::Kept(place) => {
                 self.frames.hear(place)?;
-                Ok(Asked::Replied)
+                Ok(None)
             }
-            Known::Open => Ok(Asked::Circle(node)),
-            Known::Empty(place) => {
-                reopen(&mut self.slots, &mut self.frames, place)?;
-                Ok(Asked::Opened)
-            }
-            Known::New => {
-                self.links
-                    .reach(number(self.slots.len().saturating_add(1))?)?;
-                open_new(&mut self.slots, &mut self.frames, node)?;
-                Ok(Asked::Opened)
-            }
+            Asked::Opened => Ok(None),
+            Asked::Circle(node) => Ok(Some(node)),
         }
     }
 
@@ -166,11 +188,11 @@ impl<R: Rules> Table<R> {
         )
     }
 
-    /// Keeps the last open node with its answer, which the one below gets. Whether there is one below.
+    /// Keeps the last open node with its answer, which the one below gets, if there is one.
     #[inline(always)]
-    pub(crate) fn close(&mut self, alloc: Global, answer: Reply<R>) -> Result<bool, AllocError>
+    pub(crate) fn close(&mut self, alloc: Global, answer: Reply<R>) -> Result<(), AllocError>
         requires { is_there self.old.opened ≡ true }
-        ensures ok { IfOk result (λ waits. Closes answer self.old.opened self.old self.new waits) }
+        ensures ok { OnOk result (Closes answer self.old.opened self.old self.new) }
         ensures err { OnErr result (MayKeep answer self.old.opened self.old.kept self.new.kept) }
     {
         let Some(frame) = self.frames.last() else {
@@ -183,10 +205,10 @@ impl<R: Rules> Table<R> {
         self.slots.set(slot, slot_of(answer));
         self.frames.take_last(frame);
         if self.frames.frames.as_slice().is_empty() {
-            return Ok(false);
+            return Ok(());
         }
         self.frames.hear(slot)?;
-        Ok(true)
+        Ok(())
     }
 
     /// Takes the last open node out, if there is one.

@@ -1,7 +1,7 @@
 -- What was marked is what has to go.
 use Rattle.std.proofs.Common.{◌≡◌, ◌≢◌, ◌⊎◌, inl, inr, Bool, true, false, cond, eqb, ℕ, suc, ◌+◌, ◌-◌, ◌*◌, ◌<◌, ◌≤◌, max, min, List, [], ◌∷◌, length, take, get_or, Contains, refl, sym, ◌∙◌, ap, subst, arith, true≢false, sum_by, count_by}
 use Rattle.std.proofs.lemmas.List.Sums.{sum_by-cons}
-use Rattle.std.proofs.lemmas.Bool.{cases_lt}
+use Rattle.std.proofs.lemmas.Bool.{cases_lt, cases_Bool}
 use Rattle.std.proofs.lemmas.Bool.Decides.{eqb_tells}
 use Rattle.std.proofs.lemmas.List.{take_all, get_or-map, get_or_default}
 use Rattle.ksv_bytes.specs.declared.uses.Use.{Use}
@@ -18,7 +18,7 @@ use Rattle.ksv_memo_links.specs.Forgetting.{item_at, SameLinks, MarksMore, IsEdi
 use Rattle.ksv_memo_links.proofs.Edits.{row_there}
 use Rattle.ksv_memo_links.proofs.Reaching.{named_row}
 use Rattle.ksv_memo_links.proofs.Clearing.{length-named}
-use Rattle.ksv_memo_links.proofs.Mark.{stays-out, true_or_false}
+use Rattle.ksv_memo_links.proofs.Mark.{stays-out}
 use Rattle.ksv_memo_links.proofs.More.{same-trans, more-trans, shaped-more}
 use Rattle.ksv_memo_links.proofs.Touches.{uses-meet}
 use Rattle.ksv_memo_links.proofs.Tallies.{within, tally, sizes-few, sizes-grow, rows-le}
@@ -157,14 +157,14 @@ module _ (p q r : Parts) (change : Change) (w : IsWhole p) (idle : p.marks.work 
     apart = marking.apart;
     slots = to_r.same_length;
     went = marking.out;
-    kept = λ s. (λ k. (marking.less s k, λ c. true≢false (sym k ∙ (out s c).1)), λ k. left s k.0 k.1 (true_or_false (is_kept r.marks.kept s)));
+    kept = λ s. (λ k. (marking.less s k, λ c. true≢false (sym k ∙ (out s c).1)), λ k. left s k.0 k.1 (cases_Bool (is_kept r.marks.kept s)));
   }
 
   asked_still : (s k : ℕ) → is_kept r.marks.kept s ≡ true → k < length (row (named p.users.notes) s) → is_kept r.marks.kept (get_or (row (named p.users.notes) s) k 0) ≡ true
   asked_still s k e lt =
       let m = get_or (row (named p.users.notes) s) k 0 in
       let was = w.asked_kept s k (marking.less s e) lt in
-      left m was (λ c. true≢false (sym e ∙ reached s (marking.less s e) (through s k lt (out m c).2))) (true_or_false (is_kept r.marks.kept m))
+      left m was (λ c. true≢false (sym e ∙ reached s (marking.less s e) (through s k lt (out m c).2))) (cases_Bool (is_kept r.marks.kept m))
 
   vacant_still : (s : ℕ) → is_kept r.marks.kept s ≡ false → (Contains r.marks.work s → ⊥) → (is_kept p.marks.kept s ≡ true) ⊎ (is_kept p.marks.kept s ≡ false) → (row (named p.users.notes) s ≡ []) × (row p.uses.rows s ≡ [])
   vacant_still s e non (inl k) = absurd (non (marking.out s k e))
@@ -175,7 +175,7 @@ module _ (p q r : Parts) (change : Change) (w : IsWhole p) (idle : p.marks.work 
     shaped = shaped-more p r w.shaped same to_r.same_length;
     asked_kept = λ s k e. (let P : List (List Pin) → Type 0 = λ rows. k < length (row (named rows) s) → is_kept r.marks.kept (get_or (row (named rows) s) k 0) ≡ true in subst P (sym same.users) (asked_still s k e));
     met = λ s. ap (λ (rows : List (List Pin)). row (named rows) s) same.pages ∙ w.met s ∙ ap (λ (rows : List (List Use)). pages_in (row rows s)) (sym same.uses);
-    vacant = λ s e non. (let v = vacant_still s e non (true_or_false (is_kept p.marks.kept s)) in (ap (λ (rows : List (List Pin)). row (named rows) s) same.users ∙ v.0, ap (λ (rows : List (List Use)). row rows s) same.uses ∙ v.1));
+    vacant = λ s e non. (let v = vacant_still s e non (cases_Bool (is_kept p.marks.kept s)) in (ap (λ (rows : List (List Pin)). row (named rows) s) same.users ∙ v.0, ap (λ (rows : List (List Use)). row rows s) same.uses ∙ v.1));
     waits = λ s c. (out s c).1;
     apart = marking.apart;
   }
@@ -188,7 +188,7 @@ module _ (p q r : Parts) (change : Change) (w : IsWhole p) (idle : p.marks.work 
       let same_slot : b.0 ≡ a.0 = one-is a.0 b.0 b.2 in
       let k = b.1.0 in
       let name : get_or (row (named p.users.notes) o) k 0 ≡ a.0 = get_or_default (row (named p.users.notes) o) k 0 b.0 b.1.1 ∙ b.1.2 ∙ same_slot in
-      marking.out o (was_kept (true_or_false (is_kept p.marks.kept o)) b.1.1) (user-reached p q r o k a.0 users.linked b.1.1 name h.more.same spread a.1)
+      marking.out o (was_kept (cases_Bool (is_kept p.marks.kept o)) b.1.1) (user-reached p q r o k a.0 users.linked b.1.1 name h.more.same spread a.1)
     where
       was_kept : {k : ℕ} → (is_kept p.marks.kept o ≡ true) ⊎ (is_kept p.marks.kept o ≡ false) → k < length (row (named p.users.notes) o) → is_kept p.marks.kept o ≡ true
       was_kept (inl e) l = e

@@ -139,10 +139,3 @@ pages-more p q r change a g le h k = record {
     out : (f i : ℕ) → a ≤ f → f < g + 1 → ((eqb f g ≡ true) × (f ≡ g)) ⊎ ((eqb f g ≡ false) × (f ≢ g)) → P f i
     out f i l lt (inl e) = subst (λ n. P n i) (sym e.1) (here_it i)
     out f i l lt (inr e) = λ n t. stays-out q.marks.kept r.marks.kept (item_at p.pages.lists f i).row k.more.fewer (h.out f i l (let ne = e.1 in omega arith) n t)
-
-pub pages-last : (p q : Parts) (change : Change) (a page b : ℕ) → a ≤ page → b ≤ page → page ≤ max a b → HitsPages p q change a page → HitsPages p q change a b
-pages-last p q change a page b l1 l2 l3 h = record {
-  more = h.more;
-  out = λ g i le lt k t. h.out g i le (omega arith) k t;
-  looks = let m : max a page ≡ max a b = omega arith in let e = ap (λ n. sizes p.pages.lists n) m in let x = h.looks in omega arith;
-}

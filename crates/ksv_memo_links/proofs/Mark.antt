@@ -3,13 +3,9 @@ use Rattle.std.proofs.Common.{◌≡◌, ◌≢◌, ◌⊎◌, inl, inr, Bool, t
 use Rattle.std.proofs.lemmas.List.{append-nil, length-set, get_or-set_same, get_or-set_other, length_push, get_or_append_left, get_or_push, set-get_or, set_past, get_or_past, get_or_default}
 use Rattle.std.proofs.lemmas.List.Elements.{Contains-push, Contains-append_left}
 use Rattle.std.proofs.lemmas.List.Quantifiers.{all_pairs_push}
-use Rattle.std.proofs.lemmas.Bool.{cases_lt}
+use Rattle.std.proofs.lemmas.Bool.{cases_lt, cases_Bool}
 use Rattle.std.proofs.lemmas.Bool.Decides.{eqb_tells}
 use Rattle.ksv_memo_links.specs.Marking.{is_kept, marked_work, IsMarking}
-
-pub true_or_false : (b : Bool) → (b ≡ true) ⊎ (b ≡ false)
-true_or_false true = inl refl
-true_or_false false = inr refl
 
 pub kept-fewer : (kept : List Bool) (s t : ℕ) → is_kept (set kept s false) t ≡ true → is_kept kept t ≡ true
 kept-fewer kept s t h = by (eqb_tells t s) (cases_lt s (length kept))
@@ -26,16 +22,9 @@ kept-marked kept s = by (cases_lt s (length kept))
     by (inl lt) = get_or-set_same kept s false false lt
     by (inr le) = get_or_past (set kept s false) s false (let e = length-set kept s false in omega arith)
 
-pub kept-in : (kept : List Bool) (s : ℕ) → is_kept kept s ≡ true → s < length kept
-kept-in kept s h = by (cases_lt s (length kept))
-  where
-    by : (s < length kept) ⊎ (length kept ≤ s) → s < length kept
-    by (inl lt) = lt
-    by (inr le) = absurd (true≢false (sym h ∙ get_or_past kept s false le))
-
 -- what isn't kept any more stays so
 pub stays-out : (kept now : List Bool) (s : ℕ) → ((t : ℕ) → is_kept now t ≡ true → is_kept kept t ≡ true) → is_kept kept s ≡ false → is_kept now s ≡ false
-stays-out kept now s fewer h = by (true_or_false (is_kept now s))
+stays-out kept now s fewer h = by (cases_Bool (is_kept now s))
   where
     by : (is_kept now s ≡ true) ⊎ (is_kept now s ≡ false) → is_kept now s ≡ false
     by (inl e) = absurd (true≢false (sym (fewer s e) ∙ h))
@@ -51,7 +40,7 @@ set_no : (kept : List Bool) (s : ℕ) → is_kept kept s ≡ false → set kept 
 set_no kept s e = ap (λ b. set kept s b) (sym e) ∙ set-get_or kept s false
 
 pub marked-grows : (kept : List Bool) (work : List ℕ) (s : ℕ) → (more : List ℕ) × (marked_work kept work s ≡ work ++ more)
-marked-grows kept work s = by (true_or_false (is_kept kept s))
+marked-grows kept work s = by (cases_Bool (is_kept kept s))
   where
     by : (is_kept kept s ≡ true) ⊎ (is_kept kept s ≡ false) → (more : List ℕ) × (marked_work kept work s ≡ work ++ more)
     by (inl e) = (s ∷ [], marked_yes kept work s e)
@@ -83,7 +72,7 @@ mark-new first why kept work s h e w = record {
     out t k l (inr q) = Contains-append_left work (s ∷ []) t (h.out t k (sym (get_or-set_other kept s t false false q.1) ∙ l))
 
 pub mark-step : (first : List Bool) (why : ℕ → Type 0) (kept : List Bool) (work : List ℕ) (s : ℕ) → IsMarking first why kept work → (is_kept kept s ≡ true → why s) → IsMarking first why (set kept s false) (marked_work kept work s)
-mark-step first why kept work s h w = by (true_or_false (is_kept kept s))
+mark-step first why kept work s h w = by (cases_Bool (is_kept kept s))
   where
     P : List Bool → List ℕ → Type 0
     P ks ws = IsMarking first why ks ws

@@ -96,6 +96,3 @@ below-more P i h k j lt = by (eqb_tells j i)
     by : ((eqb j i ≡ true) × (j ≡ i)) ⊎ ((eqb j i ≡ false) × (j ≢ i)) → P j
     by (inl e) = subst P (sym e.1) k
     by (inr e) = h j (let ne = e.1 in omega arith)
-
-pub stays-out-of : (p q : Parts) (P : List Bool → Change → Type 0) (t : ℕ) → MarksMore p q P → is_kept p.marks.kept t ≡ false → is_kept q.marks.kept t ≡ false
-stays-out-of p q P t h e = stays-out p.marks.kept q.marks.kept t h.fewer e

@@ -9,50 +9,12 @@ use Rattle.ksv_memo_links.specs.Placed.{pins_of, IsInside, HasOwn, Moves}
 use Rattle.ksv_memo_links.specs.Shelved.{row}
 use Rattle.ksv_memo_links.proofs.Edits.{row_other}
 
-abbrev pub is_short : Pins → Bool
-is_short Empty = true
-is_short (One a) = true
-is_short (Two a b) = true
-is_short (Three a b c) = true
-is_short (Long n) = false
-
--- a short row has no list
-no_list : (p : Pins) (n : ℕ) → is_short p ≡ true → p ≡ Long n → ⊥
-no_list p n s e = (let f = ap is_short e in absurd (cc))
-
-pub short_moves : (long : List (List Pin)) (p q : Pins) → is_short q ≡ true → Moves long long p q
-short_moves long p q s = record {
-  more = omega arith;
-  others = λ n lt ne. refl;
-  inside = λ n e. absurd (no_list q n s e);
-  own = λ n e. absurd (no_list q n s e);
-}
-
-pub long_moves : (long : List (List Pin)) (k : ℕ) (xs : List Pin) → k < length long → Moves long (set long k xs) (Long k) (Long k)
-long_moves long k xs lt = record {
-  more = (let m = length-set long k xs in omega arith);
-  others = λ n l ne. row_other long k n xs (λ e. ne (ap Long (sym e)));
-  inside = λ n e. (let m = length-set long k xs in let same : k ≡ n = cc in omega arith);
-  own = λ n e. inl e;
-}
-
-pub new_moves : (long : List (List Pin)) (p : Pins) (xs : List Pin) → Moves long (long ++ xs ∷ []) p (Long (length long))
-new_moves long p xs = record {
-  more = (let m = length_push long xs in omega arith);
-  others = λ n lt ne. get_or_append_left long (xs ∷ []) [] n lt;
-  inside = λ n e. (let m = length_push long xs in let same : length long ≡ n = cc in omega arith);
-  own = λ n e. inr (let same : length long ≡ n = cc in omega arith);
-}
-
 -- a row at a place
 at_place : (rows : List Pins) (r : ℕ) (v : Pins) → r < length rows → v ≡ get_or rows r v → get_or rows r Empty ≡ v
 at_place rows r v lt is = get_or_default rows r Empty v lt ∙ sym is
 
 pub there : (long : List (List Pin)) (rows : List Pins) (seen : List (List Pin)) (r : ℕ) → map (pins_of long) rows ≡ seen → r < length seen → r < length rows
 there long rows seen r same lt = let n = ap (λ (xs : List (List Pin)). length xs) same in let m = length-map rows (pins_of long) in omega arith
-
-pub inside_at : (long : List (List Pin)) (rows : List Pins) (seen : List (List Pin)) (r : ℕ) (v : Pins) → map (pins_of long) rows ≡ seen → r < length seen → v ≡ get_or rows r v → HasOwn rows long → IsInside long v
-inside_at long rows seen r v same lt is h = subst (IsInside long) (at_place rows r v (there long rows seen r same lt) is) (h.inside r)
 
 pub row_at : (long : List (List Pin)) (rows : List Pins) (seen : List (List Pin)) (r : ℕ) (v : Pins) → map (pins_of long) rows ≡ seen → r < length seen → v ≡ get_or rows r v → row seen r ≡ pins_of long v
 row_at long rows seen r v same lt is =

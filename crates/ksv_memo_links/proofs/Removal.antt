@@ -76,8 +76,3 @@ pub named-moved : (lists notes : List (List Pin)) (o : ℕ) (note d m : Pin) →
 named-moved lists notes o note d m h k =
     let l = moved_leads lists notes o note d m h k in
     named-put (pop_row notes o) m note l.inside (sym (ap (λ (y : Pin). y.row) l.back)) ∙ named-pop notes o h.owner
-
-pub item_leads_in : (lists notes : List (List Pin)) (l i : ℕ) (x : Pin) → IsLinked lists notes → i < length (row lists l) → x ≡ get_or (row lists l) i x → x.at < length (row notes x.row)
-item_leads_in lists notes l i x h lt e =
-    let P : Pin → Type 0 = λ y. y.at < length (row notes y.row) in
-    subst P (sym (get_or_read (row lists l) i x lt e (at 0 0))) (h.from_items.each l i lt).inside

@@ -8,7 +8,7 @@ use Rattle.std.proofs.lemmas.List.Elements.{Contains-append_left, Contains-appen
 use Rattle.ksv_bytes.specs.declared.uses.Use.{Use}
 use Rattle.ksv_bytes.specs.declared.uses.Use.TheVariants.{Bytes, Reach, Size}
 use Rattle.ksv_bytes.specs.declared.uses.Change.TheVariants.{Overwrite}
-use Rattle.ksv_memo_rules.specs.Touched.{is_use_touched}
+use Rattle.ksv_bytes.specs.Uses.{is_use_touched}
 use Rattle.ksv_memo_links.specs.Touching.{numbers_from, pages_end, pages_of, pages_in}
 use Rattle.ksv_memo_links.specs.Links.{first_page, end_page}
 

@@ -15,14 +15,6 @@ row_read {X} {V} items vs rows r v same is lt =
     let inside : r < length vs = simp (same, length-map) at lt in
     ap (λ (q : List (List X)). row q r) same ∙ get_or-map items vs r v _ inside ∙ ap items (sym is)
 
-pub on_ok-map : {T E : Type 0} (r : Result T E) (P Q : T → Type 0) → ((x : T) → P x → Q x) → IfOk r P → IfOk r Q
-on_ok-map (Ok x) P Q f h = f x h
-on_ok-map (Err e) P Q f h = tt
-
-pub on_err-map : {T E P Q : Type 0} (r : Result T E) → (P → Q) → OnErr r P → OnErr r Q
-on_err-map (Ok x) f h = tt
-on_err-map (Err e) f h = f h
-
 pub on_err_always : {T E : Type 0} {P : Type 0} (r : Result T E) → P → OnErr r P
 on_err_always (Ok x) p = tt
 on_err_always (Err e) p = p

@@ -5,7 +5,7 @@ use Rattle.ksv_bytes.specs.declared.uses.Use.{Use}
 use Rattle.ksv_bytes.specs.declared.uses.Change.{Change}
 use Rattle.ksv_bytes.specs.declared.uses.Change.TheVariants.{Overwrite, Insert, Delete, Append}
 use Rattle.ksv_memo_links.specs.Shelved.{row, HasSameRows}
-use Rattle.ksv_memo_rules.specs.Touched.{is_use_touched}
+use Rattle.ksv_bytes.specs.Uses.{is_use_touched}
 use Rattle.ksv_memo_links.specs.Touching.{pages_in}
 use Rattle.ksv_memo_links.specs.Marking.{is_kept, HasMore}
 

@@ -14,8 +14,8 @@ use std::marker::Model;
 /// How many slots more than are needed are made, so that most new nodes find theirs made.
 const MORE: u32 = 255;
 
-/// The slots of kept nodes, what each asked and uses, and from there the users of each slot and the uses that meet each
-/// page. Each reading or writing of one of these is counted as a look.
+/// Of each slot that is kept, the slots that it asked, its users and its uses; and of each page, the uses that meet it.
+/// Each reading or writing of one of these counts as a look.
 #[derive(Drop)]
 pub struct Links {
     parts: Parts,
@@ -49,7 +49,7 @@ impl Links {
         self.parts.count()
     }
 
-    /// At least so many slots. The new ones aren't kept.
+    /// Makes slots until there are at least so many. The new ones aren't kept.
     #[inline(always)]
     pub fn reach(&mut self, count: u32) -> Result<(), AllocError>
         ensures same { Grows self.old self.new }
@@ -74,8 +74,8 @@ impl Links {
         self.parts.keep(slot, asked, uses)
     }
 
-    /// Marks the slots that go: each kept slot from which one is reached, along what was asked, that a change touches. They
-    /// are kept no more, and are to be taken one by one. It takes no memory.
+    /// Marks the slots that go: those with a use that a change touches, and those that asked one that goes. They are no
+    /// longer kept, and `take` takes them one by one. It takes no memory.
     pub fn forget(&mut self, change: Change)
         requires idle { self.old.waits ≡ [] }
         ensures forgets { Forgets self.old self.new change }
@@ -99,7 +99,7 @@ impl Links {
         self.parts.take()
     }
 
-    /// The looks since the last `forget` began; at 2^64 - 1 they stay.
+    /// The looks since the last `forget` began. The count stops at 2^64 - 1.
     pub fn looks(&self) -> u64
         ensures count { result ≡ min self.now.looks (2 ^ 64 - 1) }
         ensures least { self.now.marked ≤ self.now.looks }

@@ -1,26 +1,19 @@
 //! The uses of each slot, each reading and writing counted.
 ghost use Rattle.std.specs.Prelude.{◌≡◌, ◌<◌, ◌≤◌, [], ◌∷◌, ◌++◌, length, slice_set, IfOk, OnOk, OnErr};
 ghost use Rattle.std.specs.List.{list_any};
+ghost use Rattle.ksv_bytes.specs.Uses.{is_use_touched};
 ghost use Rattle.ksv_memo_links.specs.Placed.{uses_of};
 ghost use Rattle.ksv_memo_links.specs.Shelved.{row, ticked, HasSameRows};
-ghost use Rattle.ksv_memo_rules.specs.Touched.{is_use_touched};
 
 use ksv_bytes::{Change, Use, touches};
 use std::alloc::{AllocError, Global};
 use std::marker::Model;
 
-/// Whether a change touches a use.
-fn is_use_touched(change: Change, used: Use) -> bool
-    ensures { result ≡ is_use_touched change used }
-{
-    touches(change, used)
-}
-
 /// Whether a change touches one of these uses.
 fn has_touched(change: Change, uses: &[Use]) -> bool
     ensures { result ≡ list_any (is_use_touched change) uses.now }
 {
-    uses.iter().any(|used| is_use_touched(change, *used))
+    uses.iter().any(|used| touches(change, *used))
 }
 
 /// The uses of a slot. Most slots have one or none, which takes no memory of its own.
@@ -50,7 +43,7 @@ fn is_noted_touched(change: Change, noted: &Noted) -> bool
 {
     match noted {
         Noted::Nothing => false,
-        Noted::One(used) => is_use_touched(change, *used),
+        Noted::One(used) => touches(change, *used),
         Noted::Many(uses) => has_touched(change, uses.as_slice()),
     }
 }

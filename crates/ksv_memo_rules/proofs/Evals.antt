@@ -1,5 +1,6 @@
 -- Laws of evaluation from nothing: an answer is the same whatever is open outside its tree, and the depth doesn't matter.
 use Rattle.std.proofs.Common.{◌≡◌, ℕ, zero, suc, ◌+◌, ◌-◌, ◌<◌, ◌≤◌, Bool, true, false, cond, List, [], ◌∷◌, ◌++◌, length, map, refl, sym, ◌∙◌, ap, subst, nat_eq, arith, ◌||◌}
+use Rattle.std.proofs.lemmas.Bool.{or_from, or_parts}
 use Rattle.std.proofs.lemmas.Bool.Decides.{nat_tests}
 use Rattle.std.proofs.lemmas.Map.Steps.{length-le_from_distinct_below}
 use Rattle.std.proofs.lemmas.Map.Keys.{IsDistinct-cons}
@@ -70,11 +71,6 @@ pub completed-free : {N A : Type 0} (w : Standing N A) (k : ℕ) (opened : List 
 unfolding completed
 completed-free w k opened n e = ap (λ b. cond b [] (flat_map (completed w k (n ∷ opened)) (eval w (suc k) opened n).asked ++ if_answered n (eval w (suc k) opened n).outcome)) e
 
--- what is not among more is not among fewer
-pub or_false : (a b : Bool) → (a || b) ≡ false → (a ≡ false) × (b ≡ false)
-or_false true b h = cc
-or_false false b h = (refl, h)
-
 -- ---- none of these nodes is open
 abbrev pub IsOut : {N A : Type 0} → Standing N A → List N → N → Type 0
 IsOut w opened m = is_among w.number opened m ≡ false
@@ -83,7 +79,7 @@ abbrev pub NoneIn : {N A : Type 0} → Standing N A → List N → List N → Ty
 NoneIn w opened ms = AllByRecursion (IsOut w opened) ms
 
 IsOut-tail : {N A : Type 0} (w : Standing N A) (n : N) (opened : List N) (m : N) → IsOut w (n ∷ opened) m → IsOut w opened m
-IsOut-tail w n opened m e = (or_false _ _ e).1
+IsOut-tail w n opened m e = (or_parts _ _ e).1
 
 pub own_out : {N A : Type 0} (w : Standing N A) (opened : List N) (n : N) → IsOut w opened n → (o : Outcome N A) → NoneIn w opened (if_answered n o)
 own_out w opened n e (Answered a) = (e, tt)
@@ -106,12 +102,8 @@ completed-apart w (suc k) opened n = apart-step w k opened n (completed-apart w 
 pub eqb_true : (a b : ℕ) → nat_eq a b ≡ true → a ≡ b
 eqb_true a b e = grind (arith, nat_tests)
 
-pub or_false_intro : (a b : Bool) → a ≡ false → b ≡ false → (a || b) ≡ false
-or_false_intro true b e f = cc
-or_false_intro false b e f = f
-
 pub IsOut-cons : {N A : Type 0} (w : Standing N A) (n : N) (opened others : List N) (m : N) → IsOut w (n ∷ others) m → IsOut w opened m → IsOut w (n ∷ opened) m
-IsOut-cons w n opened others m e f = or_false_intro (nat_eq (w.number m) (w.number n)) (is_among w.number opened m) (or_false (nat_eq (w.number m) (w.number n)) (is_among w.number others m) e).0 f
+IsOut-cons w n opened others m e f = or_from (nat_eq (w.number m) (w.number n)) (is_among w.number opened m) (or_parts (nat_eq (w.number m) (w.number n)) (is_among w.number others m) e).0 f
 
 pub answered_is : {N A : Type 0} (n : N) (o : Outcome N A) → IsAnswered o → if_answered n o ≡ n ∷ []
 answered_is n (Answered a) h = refl
@@ -165,7 +157,7 @@ few w law ns d = simp length-map at (length-le_from_distinct_below (map w.number
 
 pub out_apart : {N A : Type 0} (w : Standing N A) (n : N) (ns : List N) → IsOut w ns n → AllByRecursion (λ y. nat_eq (w.number n) y ≡ false) (map w.number ns)
 out_apart w n [] e = tt
-out_apart w n (m ∷ ns) e = ((or_false (nat_eq (w.number n) (w.number m)) (is_among w.number ns n) e).0, out_apart w n ns (or_false (nat_eq (w.number n) (w.number m)) (is_among w.number ns n) e).1)
+out_apart w n (m ∷ ns) e = ((or_parts (nat_eq (w.number n) (w.number m)) (is_among w.number ns n) e).0, out_apart w n ns (or_parts (nat_eq (w.number n) (w.number m)) (is_among w.number ns n) e).1)
 
 pub AreDistinct-cons : {N A : Type 0} (w : Standing N A) (n : N) (ns : List N) → IsOut w ns n → AreDistinct w ns → AreDistinct w (n ∷ ns)
 AreDistinct-cons w n ns e d = IsDistinct-cons nat_eq (w.number n) (map w.number ns) (out_apart w n ns e) d

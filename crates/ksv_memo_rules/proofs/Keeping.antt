@@ -1,5 +1,6 @@
 -- Laws of kept answers: the tree of a kept node is kept, its answer is the same whatever is open, and one more can be kept.
 use Rattle.std.proofs.Common.{◌≡◌, ℕ, zero, suc, ◌+◌, ◌≤◌, Bool, true, false, List, [], ◌∷◌, ◌++◌, map, refl, sym, ◌∙◌, ap, subst, nat_eq, arith, ◌||◌, eq-eqb}
+use Rattle.std.proofs.lemmas.Bool.{or_from, or_left, or_right}
 use Rattle.std.proofs.lemmas.List.{map-append}
 use Rattle.std.proofs.lemmas.List.Folds.{list_any-append}
 use Rattle.std.proofs.lemmas.Cmp.{nat_eq_equiv}
@@ -13,7 +14,7 @@ use Rattle.ksv_memo_rules.specs.Evaluation.{is_among, Told, told, eval, IsAnswer
 use Rattle.ksv_memo_rules.specs.Entry.{Entry}
 use Rattle.ksv_memo_rules.specs.Right.{nodes_of, AreDistinct, HasEachOnce, IsRightEntry, IsRight, Agrees}
 use Rattle.ksv_memo_rules.proofs.Lists.{All-map, All-always, All-both, All-++, All-left, All-right, All-flat_map, All-from_flat_map}
-use Rattle.ksv_memo_rules.proofs.Evals.{done-free, completed-apart, IsOut-cons, IsOut, NoneIn, eqb_true, or_false_intro, asking, told_answered, eval-open, eval-free, completed-free, transfer, deep_enough, tells-free, answered_is, eval-zero_unanswered}
+use Rattle.ksv_memo_rules.proofs.Evals.{done-free, completed-apart, IsOut-cons, IsOut, NoneIn, eqb_true, asking, told_answered, eval-open, eval-free, completed-free, transfer, deep_enough, tells-free, answered_is, eval-zero_unanswered}
 
 -- a node is among a list
 abbrev pub IsIn : {N A : Type 0} → Standing N A → List N → N → Type 0
@@ -72,7 +73,7 @@ tree w law kept each (suc j) before n in_kept h = by (is_among w.number before n
 -- ---- a kept answer is the same whatever is open, as long as no open node is kept
 out_of_kept : {N A : Type 0} (w : Standing N A) (kept opened : List N) → AllByRecursion (IsOut w kept) opened → (m : N) → IsIn w kept m → IsOut w opened m
 out_of_kept w kept [] h m e = refl
-out_of_kept w kept (o ∷ opened) h m e = or_false_intro (nat_eq (w.number m) (w.number o)) (is_among w.number opened m) (by (nat_eq (w.number m) (w.number o)) refl) (out_of_kept w kept opened h.1 m e)
+out_of_kept w kept (o ∷ opened) h m e = or_from (nat_eq (w.number m) (w.number o)) (is_among w.number opened m) (by (nat_eq (w.number m) (w.number o)) refl) (out_of_kept w kept opened h.1 m e)
   where
     by : (b : Bool) → nat_eq (w.number m) (w.number o) ≡ b → b ≡ false
     by true q = let same : w.number m ≡ w.number o = eqb_true (w.number m) (w.number o) q in let both : is_among w.number kept m ≡ is_among w.number kept o = ap (λ x. list_any (nat_eq x) (map w.number kept)) same in let no : is_among w.number kept o ≡ false = h.0 in absurd (cc)
@@ -85,13 +86,6 @@ kept_anywhere w law es right opened apart n h =
     (All-map (out_of_kept w (nodes_of es) opened apart) (completed w w.nodes [] n) (tree w law (nodes_of es) each w.nodes [] n h (each n h).answered))
 
 -- ---- one more entry
-pub or_left : (a b : Bool) → a ≡ true → (a || b) ≡ true
-or_left a b e = ap (λ x. x || b) e
-
-pub or_right : (a b : Bool) → b ≡ true → (a || b) ≡ true
-or_right true b e = refl
-or_right false b e = e
-
 pub is_among-append : {N : Type 0} (number : N → ℕ) (ms ns : List N) (n : N) → is_among number (ms ++ ns) n ≡ (is_among number ms n || is_among number ns n)
 is_among-append number ms ns n = ap (list_any (nat_eq (number n))) (map-append number ms ns) ∙ list_any-append (nat_eq (number n)) (map number ms) (map number ns)
 

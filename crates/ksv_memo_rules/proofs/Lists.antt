@@ -1,5 +1,6 @@
 -- What holds of each element of a list, by recursion.
 use Rattle.std.proofs.Common.{◌≡◌, Bool, true, false, ◌||◌, List, [], ◌∷◌, ◌++◌, refl, ◌∙◌, ap, if◌then◌else◌}
+use Rattle.std.proofs.lemmas.Bool.{or_parts}
 use Rattle.std.specs.List.{AllByRecursion, list_any, flat_map}
 
 pub All-map : {X : Type 0} {P Q : X → Type 0} → ((x : X) → P x → Q x) → (xs : List X) → AllByRecursion P xs → AllByRecursion Q xs
@@ -34,14 +35,10 @@ pub All-from_flat_map : {X Y : Type 0} (P : Y → Type 0) (f : X → List Y) (xs
 All-from_flat_map P f [] h = tt
 All-from_flat_map P f (x ∷ xs) h = (All-left P (f x) (flat_map f xs) h, All-from_flat_map P f xs (All-right P (f x) (flat_map f xs) h))
 
-both_fail : (a b : Bool) → (a || b) ≡ false → (a ≡ false) × (b ≡ false)
-both_fail false b e = (refl, e)
-both_fail true b e = absurd (cc)
-
 -- where no element passes, each fails
 pub none_pass : {X : Type 0} (p : X → Bool) (xs : List X) → list_any p xs ≡ false → AllByRecursion (λ x. p x ≡ false) xs
 none_pass p [] h = tt
-none_pass p (x ∷ xs) h = let parts = both_fail (p x) (list_any p xs) h in (parts.0, none_pass p xs parts.1)
+none_pass p (x ∷ xs) h = let parts = or_parts (p x) (list_any p xs) h in (parts.0, none_pass p xs parts.1)
 
 pub none_fails : {X : Type 0} (p : X → Bool) (xs : List X) → AllByRecursion (λ x. p x ≡ false) xs → list_any p xs ≡ false
 none_fails p [] h = refl
@@ -51,8 +48,3 @@ none_fails p (x ∷ xs) h = ap (λ b. b || list_any p xs) h.0 ∙ none_fails p x
 pub any_same : {X : Type 0} (p q : X → Bool) (xs : List X) → AllByRecursion (λ x. p x ≡ q x) xs → list_any p xs ≡ list_any q xs
 any_same p q [] h = refl
 any_same p q (x ∷ xs) h = ap (λ b. b || list_any p xs) h.0 ∙ ap (λ b. q x || b) (any_same p q xs h.1)
-
--- what holds of both choices
-pub choose : {X : Type 0} (Q : X → Type 0) (b : Bool) (x y : X) → (b ≡ true → Q x) → (b ≡ false → Q y) → Q (if b then x else y)
-choose Q true x y f g = f refl
-choose Q false x y f g = g refl

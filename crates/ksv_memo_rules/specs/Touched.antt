@@ -1,12 +1,9 @@
 -- What an edit takes from the kept nodes: each node that has a touched use anywhere in its tree, on the bytes before
 -- the edit. All of it is said of evaluation from nothing, and names nothing that an engine stores.
-use Rattle.std.specs.Prelude.{◌+◌, Bool, true, false, not, ◌&&◌, List, [], nat_lt, filter, Any}
+use Rattle.std.specs.Prelude.{Bool, not, List, [], filter, Any}
 use Rattle.std.specs.List.{list_any}
-use Rattle.ksv_bytes.specs.declared.uses.Use.{Use}
-use Rattle.ksv_bytes.specs.declared.uses.Use.TheVariants.{Bytes, Reach, Size}
 use Rattle.ksv_bytes.specs.declared.uses.Change.{Change}
-use Rattle.ksv_bytes.specs.declared.uses.Change.TheVariants.{Overwrite, Insert, Delete, Append}
-use Rattle.ksv_bytes.specs.Uses.{Touches}
+use Rattle.ksv_bytes.specs.Uses.{Touches, is_use_touched}
 use Rattle.ksv_memo_rules.specs.Meaning.{Standing}
 use Rattle.ksv_memo_rules.specs.Evaluation.{tells, done}
 
@@ -17,21 +14,6 @@ tree w n = done w [] n
 -- a change touches some use that evaluation of some node of the tree makes
 abbrev pub IsTouched : {N A : Type 0} → Standing N A → Change → N → Type 0
 IsTouched w change n = Any (λ m. Any (Touches change) (tells w [] m).uses) (tree w n)
-
--- whether a change touches a use: `Touches`, as a test
-abbrev pub is_use_touched : Change → Use → Bool
-is_use_touched (Overwrite at n) (Bytes from to) = nat_lt from (at + n) && nat_lt at to
-is_use_touched (Overwrite at n) (Reach to) = false
-is_use_touched (Overwrite at n) Size = false
-is_use_touched (Insert at n) (Bytes from to) = nat_lt at to
-is_use_touched (Insert at n) (Reach to) = nat_lt at to
-is_use_touched (Insert at n) Size = true
-is_use_touched (Delete at n) (Bytes from to) = nat_lt at to
-is_use_touched (Delete at n) (Reach to) = nat_lt at to
-is_use_touched (Delete at n) Size = true
-is_use_touched Append (Bytes from to) = false
-is_use_touched Append (Reach to) = false
-is_use_touched Append Size = true
 
 -- whether evaluation of a node itself makes a touched use
 abbrev pub is_hit : {N A : Type 0} → Standing N A → Change → N → Bool

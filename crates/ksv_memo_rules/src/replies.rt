@@ -6,7 +6,7 @@ ghost use Rattle.ksv_memo_rules.specs.Slots.{HasAnswer, answer_at, answer_in, an
 
 use std::marker::Model;
 
-/// What an engine has of a node.
+/// What an engine knows of a node.
 #[derive(Drop)]
 pub enum Slot<V, F> {
     /// Nothing: it was forgotten, or the question that opened it ended before its answer.
@@ -111,7 +111,7 @@ impl<'a, V, F> Replies<'a, V, F> {
         self.asked.len()
     }
 
-    /// The reply to what was asked at a place, from 0; none where it wasn't asked yet.
+    /// The reply to the ask of a number, counted from 0; none if there were fewer asks.
     #[inline(always)]
     pub fn get(&self, place: usize) -> Option<Result<&'a V, &'a F>>
         ensures { option_map lent result ≡ slice_get self.now place }

@@ -49,7 +49,7 @@ pub trait Rules {
     ghost meaning: { Self → Meaning Self.Node (Result Self.Value Self.Fault) };
 
     /// What a node does next after these replies to what it needed. It adds to `uses` what its readings of the
-    /// bytes depend on. After a refused memory `uses` begins with what it held before.
+    /// bytes depend on. If memory is refused, `uses` still begins with what it held before.
     fn next(
         &self,
         alloc: Global,

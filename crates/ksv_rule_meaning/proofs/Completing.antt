@@ -5,6 +5,7 @@ use Rattle.std.specs.List.{AllByRecursion, flat_map, list_any}
 use Rattle.std.proofs.lemmas.List.Folds.{Any-from_list_any, list_any-from_Any}
 use mathlib.Core.Path.{fun_ext}
 use Rattle.ksv_bytes.specs.declared.uses.Change.{Change}
+use Rattle.ksv_bytes.specs.Uses.{is_use_touched}
 use Rattle.ksv_desc.specs.Description.{Description}
 use Rattle.ksv_expr_value.specs.declared.fault.Fault.{Fault}
 use Rattle.ksv_memo_rules.specs.declared.rules.Outcome.{Outcome}
@@ -153,7 +154,7 @@ module _ (d : Description) (bytes : List ℕ) where
   alone n = asks_are_direct d bytes [] n (record { distinct = AreDistinct-none w; apart = refl })
 
   hit_direct : (change : Change) (n : Node) → engines.is_hit w change n ≡ is_hit d bytes change n
-  hit_direct change n = any_same_members (engines.is_use_touched change) (tells w [] n).uses (uses d bytes [] n) (alone n).uses
+  hit_direct change n = any_same_members (is_use_touched change) (tells w [] n).uses (uses d bytes [] n) (alone n).uses
 
   pub touch_direct : (change : Change) (n : Node) → engines.is_touched w change n ≡ is_touched d bytes change n
   unfolding is_touched

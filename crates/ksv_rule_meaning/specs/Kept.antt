@@ -5,7 +5,7 @@ use Rattle.std.specs.List.{flat_map, list_any, sum_by}
 use Rattle.ksv_bytes.specs.declared.uses.Change.{Change}
 use Rattle.ksv_desc.specs.Description.{Description}
 use Rattle.ksv_memo_rules.specs.Right.{fresh}
-use Rattle.ksv_memo_rules.specs.Touched.{is_use_touched}
+use Rattle.ksv_bytes.specs.Uses.{is_use_touched}
 use Rattle.ksv_nodes.specs.declared.node.Node.{Node}
 use Rattle.ksv_nodes.specs.Numbers.{node_number}
 use Rattle.ksv_rule_meaning.specs.FromNothing.{asks, uses}

@@ -1,5 +1,5 @@
 -- A chain of nodes, each of which asks the one before it, and its laws.
-use Rattle.std.specs.Prelude.{◌≡◌, ℕ, ◌+◌, ◌-◌, ◌<◌, ◌≤◌, ◌^◌, List, [], ◌∷◌, length, Result, Ok, Err, min, nat_eq, true, ◌==◌, if◌then◌else◌}
+use Rattle.std.specs.Prelude.{◌≡◌, ℕ, ◌+◌, ◌-◌, ◌<◌, ◌≤◌, ◌^◌, List, [], ◌∷◌, length, Ok, Err, min, nat_eq, true, ◌==◌, if◌then◌else◌}
 use Rattle.std.proofs.Common.{arith, refl, ap}
 use Rattle.std.proofs.lemmas.Bool.Decides.{nat_tests}
 use mathlib.Core.HLevel.{is_prop→PathP}
@@ -9,11 +9,7 @@ use Rattle.ksv_memo_rules.specs.declared.rules.Next.{Next}
 use Rattle.ksv_memo_rules.specs.declared.rules.Next.TheVariants.{Need, Done}
 use Rattle.ksv_memo_rules.specs.Meaning.{Meaning, IsLawful, IsDone}
 use Rattle.ksv_test_engine.specs.declared.samples.link.Link.{Link}
-use Rattle.ksv_test_engine.specs.declared.samples.row.Missing.{Missing}
-
--- a link's number
-abbrev pub Reply : Type 0
-Reply = Result ℕ Missing
+use Rattle.ksv_test_engine.specs.Rows.{Reply}
 
 -- the link before
 pub before_small : (link : Link) → link.number - 1 < 2 ^ 32

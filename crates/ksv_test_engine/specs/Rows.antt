@@ -19,7 +19,7 @@ use Rattle.ksv_test_engine.specs.declared.samples.row.Row.{Row}
 use Rattle.ksv_test_engine.specs.declared.samples.row.Row.TheVariants.{Number, Sum, Named}
 use Rattle.ksv_test_engine.specs.declared.samples.row.Missing.{Missing}
 
--- a row's number, or that it is missing
+-- what a row or a link answers: a number, or that a row is missing
 abbrev pub Reply : Type 0
 Reply = Result ℕ Missing
 

@@ -9,7 +9,8 @@ use Rattle.ksv_bytes.specs.declared.uses.Use.TheVariants.{Bytes, Size}
 use Rattle.ksv_memo_rules.specs.declared.rules.Next.{Next}
 use Rattle.ksv_memo_rules.specs.declared.rules.Next.TheVariants.{Done}
 use Rattle.ksv_memo_rules.specs.Meaning.{Meaning, IsLawful}
-use Rattle.ksv_test_engine.specs.Chain.{Reply, chain_lawful, linked}
+use Rattle.ksv_test_engine.specs.Chain.{chain_lawful, linked}
+use Rattle.ksv_test_engine.specs.Rows.{Reply}
 use Rattle.ksv_test_engine.specs.declared.samples.link.Link.{Link}
 
 -- the first byte of a file that may be empty

@@ -6,18 +6,13 @@ ghost use Rattle.ksv_memo_rules.specs.Meaning.{on};
 ghost use Rattle.ksv_memo_rules.specs.Right.{IsRight};
 ghost use Rattle.ksv_test_engine.specs.Chain.{chain_meaning};
 
+use crate::edits::new_engine;
 use crate::samples::chain::Chain;
 use crate::samples::link::Link;
 use ksv_bytes::Buffer;
 use ksv_memo::{Answer, Engine};
 use std::alloc::{AllocError, Global};
 use std::test::Fail;
-
-fn chain_engine(alloc: Global, _bytes: &Buffer) -> Engine<Chain>
-    ensures { IsRight (on chain_meaning _bytes.now) result.kept }
-{
-    Engine::new(alloc)
-}
 
 /// Whether a link of a chain has this value.
 fn has_value(
@@ -56,7 +51,7 @@ fn is_new_chained(
     kept: usize,
     turns: u64,
 ) -> Result<bool, AllocError> {
-    let mut engine = chain_engine(alloc, bytes);
+    let mut engine = new_engine(alloc, &Chain, bytes);
     let is_right = is_chained(&mut engine, bytes, number, kept, turns);
     drop(engine);
     is_right

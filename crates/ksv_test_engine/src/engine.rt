@@ -10,7 +10,8 @@ ghost use Rattle.ksv_memo_rules.specs.Meaning.{on};
 ghost use Rattle.ksv_memo_rules.specs.Right.{IsRight};
 ghost use Rattle.ksv_test_engine.specs.Rows.{rows_meaning};
 
-use crate::rows::{Plain, answers, append, delete, insert, overwrite, row, rows_engine};
+use crate::edits::{append, begin, delete, insert, new_engine, overwrite};
+use crate::plain::{Plain, answers, row};
 use crate::samples::row::Row;
 use crate::samples::rows::Rows;
 use ksv_bytes::{Buffer, Change};
@@ -45,6 +46,7 @@ static LINKED: [&[u8]; 6] = [
 /// twice row 1.
 static DOUBLED: [&[u8]; 3] = [b"n\x07", b"b\x00", b"s\x01\x01"];
 
+/// The rows that these tell.
 fn rows(alloc: Global, told: &[&[u8]]) -> Result<Rows, AllocError> {
     let mut rows = Vec::new(alloc);
     for one in told {
@@ -81,14 +83,6 @@ fn told_sum(alloc: Global, told: &[u8]) -> Result<Row, AllocError> {
 /// Whether an engine has kept this many nodes and counted these turns.
 fn counts(engine: &Engine<Rows>, kept: usize, turns: Option<u64>) -> bool {
     engine.kept() == kept && engine.turns() == turns
-}
-
-/// Begins a question of an engine that is right for its rules and bytes, and still is afterwards.
-fn begin(engine: &mut Engine<Rows>, rules: &Rows, bytes: &Buffer)
-    requires { IsRight (on (rows_meaning rules.now.rows.items) bytes.now) engine.old.kept }
-    ensures { IsRight (on (rows_meaning rules.now.rows.items) bytes.now) engine.new.kept }
-{
-    engine.begin();
 }
 
 /// Asks the same row twice: row 0 takes a call, row 2 two and row 1 three.
@@ -186,7 +180,7 @@ fn is_newly_tried(
     bytes: &mut Buffer,
     trial: Trial,
 ) -> Result<bool, AllocError> {
-    let mut engine = rows_engine(alloc, rules, bytes);
+    let mut engine = new_engine(alloc, rules, bytes);
     let is_right = is_tried(&mut engine, rules, bytes, trial);
     drop(engine);
     is_right

@@ -1,5 +1,4 @@
-//! Tests that call a buffer and the engine directly: edits and what they touch, worked questions over two small
-//! sets of rules, a tower of a million links, and random questions between random edits.
+//! Tests that call a buffer, the engine and its links directly.
 //!
 //! The two small sets of rules are in `samples`. [`Rows`] are numbers, sums of rows, and rows that a byte names, with circles.
 //! A [`Chain`] is as deep as one likes.
@@ -39,13 +38,15 @@ mod buffer;
 #[cfg(test)]
 mod chain;
 #[cfg(test)]
+mod edits;
+#[cfg(test)]
 mod engine;
 #[cfg(test)]
 mod links;
 #[cfg(test)]
-mod random;
+mod plain;
 #[cfg(test)]
-mod rows;
+mod random;
 mod samples;
 #[cfg(test)]
 mod tower;

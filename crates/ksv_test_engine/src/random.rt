@@ -9,7 +9,8 @@ ghost use Rattle.ksv_memo_rules.specs.Meaning.{on};
 ghost use Rattle.ksv_memo_rules.specs.Right.{IsRight};
 ghost use Rattle.ksv_test_engine.specs.Rows.{rows_meaning};
 
-use crate::rows::{Plain, answers, append, delete, insert, overwrite, row, rows_engine};
+use crate::edits::{append, delete, insert, new_engine, overwrite};
+use crate::plain::{Plain, answers, row};
 use crate::samples::row::Row;
 use crate::samples::rows::Rows;
 use ksv_bytes::{Buffer, Window};
@@ -140,7 +141,7 @@ fn answers_anew(
     number: u8,
     wanted: Plain,
 ) -> Result<bool, AllocError> {
-    let mut fresh = rows_engine(alloc, rules, bytes);
+    let mut fresh = new_engine(alloc, rules, bytes);
     let is_right = answers(&mut fresh, rules, bytes, number, wanted);
     drop(fresh);
     is_right
@@ -190,7 +191,7 @@ fn new_random_questions(
     bytes: &mut Buffer,
     random: &mut Random,
 ) -> Result<bool, AllocError> {
-    let mut engine = rows_engine(alloc, rules, bytes);
+    let mut engine = new_engine(alloc, rules, bytes);
     let are_same = random_questions(alloc, &mut engine, rules, bytes, random);
     drop(engine);
     are_same
@@ -368,7 +369,7 @@ fn five_new_overwrites(
     bytes: &mut Buffer,
     random: &mut Random,
 ) -> Result<bool, AllocError> {
-    let mut engine = rows_engine(alloc, rules, bytes);
+    let mut engine = new_engine(alloc, rules, bytes);
     let is_right = five_overwrites(alloc, &mut engine, rules, bytes, random);
     drop(engine);
     is_right

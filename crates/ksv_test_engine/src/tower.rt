@@ -7,11 +7,13 @@
 ghost use Rattle.std.specs.Prelude.{◌≡◌, ◌<◌, ◌≤◌, ◌^◌, ◌==◌, ◌++◌, length, OnOk, OnErr};
 ghost use Rattle.ksv_memo_rules.specs.Meaning.{on};
 ghost use Rattle.ksv_memo_rules.specs.Right.{IsRight};
-ghost use Rattle.ksv_test_engine.specs.Chain.{link_before, linked, same_if_equal};
+ghost use Rattle.ksv_test_engine.specs.Chain.{same_if_equal};
 ghost use Rattle.ksv_test_engine.specs.Tower.{read_by, tower_lawful, tower_meaning};
 
+use crate::edits::{new_engine, overwrite};
+use crate::samples::chain::linked;
 use crate::samples::link::Link;
-use crate::samples::row::Missing;
+use crate::samples::row::{Missing, Reply, copied};
 use ksv_bytes::{Buffer, Change, Use};
 use ksv_memo::{Answer, Engine, Next, Replies, Rules};
 use std::alloc::{AllocError, Global};
@@ -21,30 +23,6 @@ use std::test::Fail;
 /// below it, without reading anything.
 #[derive(Drop)]
 struct Tower;
-
-type Reply = Result<u32, Missing>;
-
-/// The link below another than link 0.
-fn link_below(link: Link) -> Link
-    requires { 0 < link.number }
-    ensures { result ≡ link_before link }
-{
-    Link {
-        number: link.number - 1,
-    }
-}
-
-/// What a link does next.
-fn stepped(link: Link, size: u32, replies: &Replies<u32, Missing>) -> Next<Link, Reply>
-    ensures { result ≡ linked link size replies.now }
-{
-    match replies.get(0) {
-        None if link.number == 0 => Next::Done(Ok(size)),
-        None => Next::Need(link_below(link)),
-        Some(Ok(below)) => Next::Done(Ok(below.saturating_add(1))),
-        Some(Err(missing)) => Next::Done(Err(*missing)),
-    }
-}
 
 /// Notes what a link of a tower over so many bytes reads.
 fn read(is_lowest: bool, size: usize, uses: &mut Vec<Use>) -> Result<(), AllocError>
@@ -80,7 +58,7 @@ impl Rules for Tower {
     ) -> Result<Next<Link, Reply>, AllocError> {
         let size = bytes.len();
         read(node.number == 0, size, uses)?;
-        Ok(stepped(*node, size as u32, replies))
+        Ok(linked(*node, size as u32, replies))
     }
 
     fn copy_answer(
@@ -88,21 +66,12 @@ impl Rules for Tower {
         _alloc: Global,
         answer: Result<&u32, &Missing>,
     ) -> Result<Reply, AllocError> {
-        Ok(match answer {
-            Ok(number) => Ok(*number),
-            Err(missing) => Err(*missing),
-        })
+        Ok(copied(answer))
     }
 
     ghost exact = { same_if_equal };
 
     ghost lawful = { λ _. tower_lawful };
-}
-
-fn tower_engine(alloc: Global, _bytes: &Buffer) -> Engine<Tower>
-    ensures { IsRight (on tower_meaning _bytes.now) result.kept }
-{
-    Engine::new(alloc)
 }
 
 /// Asks a link of a tower over some bytes; whether it has the value that follows from them, and so many links are kept.
@@ -118,16 +87,6 @@ fn stands(engine: &mut Engine<Tower>, bytes: &Buffer, number: u32) -> Result<boo
     Ok(is_right && engine.kept() == number as usize + 1)
 }
 
-/// Writes bytes over others, and tells the engine.
-fn overwrite(engine: &mut Engine<Tower>, bytes: &mut Buffer, at: usize, new: &[u8])
-    requires { IsRight (on tower_meaning bytes.old) engine.old.kept }
-    ensures { IsRight (on tower_meaning bytes.new) engine.new.kept }
-{
-    if let Ok(()) = bytes.overwrite(at, new) {
-        engine.forget(Change::Overwrite { at, n: new.len() });
-    }
-}
-
 /// What an overwrite did: how many nodes it took, and how many looks that was.
 #[derive(Clone, Copy, Drop)]
 struct Fall {
@@ -141,7 +100,7 @@ fn touch(engine: &mut Engine<Tower>, bytes: &mut Buffer, at: usize) -> Fall
     ensures { IsRight (on tower_meaning bytes.new) engine.new.kept }
 {
     let kept = engine.kept();
-    overwrite(engine, bytes, at, b"a");
+    overwrite(engine, &Tower, bytes, at, b"a");
     let gone = kept.saturating_sub(engine.kept()) as u64;
     let looked = engine.looked();
     Fall { gone, looked }
@@ -195,7 +154,7 @@ fn falls_twice(
 /// The same of a new engine.
 fn falls(alloc: Global, number: u32) -> Result<bool, Fail> {
     let mut bytes = Buffer::new(b"aa".to_vec(alloc)?)?;
-    let mut engine = tower_engine(alloc, &bytes);
+    let mut engine = new_engine(alloc, &Tower, &bytes);
     let has_fallen = falls_twice(&mut engine, &mut bytes, number);
     drop(engine);
     drop(bytes);

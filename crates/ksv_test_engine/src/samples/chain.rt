@@ -3,7 +3,7 @@ ghost use Rattle.std.specs.Prelude.{◌≡◌, ◌<◌, ◌+◌, ◌-◌, ◌^�
 ghost use Rattle.ksv_test_engine.specs.Chain as spec;
 
 use crate::samples::link::Link;
-use crate::samples::row::Missing;
+use crate::samples::row::{Missing, Reply, copied};
 use ksv_bytes::{Buffer, Use};
 use ksv_memo_rules::{Next, Replies, Rules};
 use std::alloc::{AllocError, Global};
@@ -12,8 +12,6 @@ use std::alloc::{AllocError, Global};
 /// reads the size.
 #[derive(Drop)]
 pub struct Chain;
-
-type Reply = Result<u32, Missing>;
 
 /// The link before another than link 0.
 fn link_before(link: Link) -> Link
@@ -26,7 +24,7 @@ fn link_before(link: Link) -> Link
 }
 
 /// What a link does next.
-fn linked(link: Link, size: u32, replies: &Replies<u32, Missing>) -> Next<Link, Reply>
+pub(crate) fn linked(link: Link, size: u32, replies: &Replies<u32, Missing>) -> Next<Link, Reply>
     ensures { result ≡ spec.linked link size replies.now }
 {
     match replies.get(0) {
@@ -64,10 +62,7 @@ impl Rules for Chain {
         _alloc: Global,
         answer: Result<&u32, &Missing>,
     ) -> Result<Reply, AllocError> {
-        Ok(match answer {
-            Ok(number) => Ok(*number),
-            Err(missing) => Err(*missing),
-        })
+        Ok(copied(answer))
     }
 
     ghost exact = { spec.same_if_equal };

@@ -1,8 +1,9 @@
-//! A row and its number.
-ghost use Rattle.std.specs.Prelude.{◌<◌};
+//! A row, its number, and what it answers.
+ghost use Rattle.std.specs.Prelude.{◌≡◌, ◌<◌};
+ghost use Rattle.ksv_memo_rules.specs.Slots.{lent};
 
 /// The number of a row.
-#[derive(Clone, Copy, Debug, PartialEq, Eq, Hash)]
+#[derive(Clone, Copy, PartialEq, Eq, Hash)]
 pub struct RowNumber {
     /// The number.
     pub number: u8,
@@ -10,11 +11,24 @@ pub struct RowNumber {
 }
 
 /// A row that isn't there, or a missing byte that should name one.
-#[derive(Clone, Copy, Debug, PartialEq, Eq)]
+#[derive(Clone, Copy)]
 pub struct Missing;
 
+/// What a row or a link answers.
+pub(crate) type Reply = Result<u32, Missing>;
+
+/// A copy of an answer that is lent.
+pub(crate) fn copied(answer: Result<&u32, &Missing>) -> Reply
+    ensures { result ≡ lent answer.entry }
+{
+    match answer {
+        Ok(number) => Ok(*number),
+        Err(missing) => Err(*missing),
+    }
+}
+
 /// A row.
-#[derive(Debug, Drop)]
+#[derive(Drop)]
 pub enum Row {
     /// This number.
     Number(u32),

@@ -2,31 +2,18 @@
 ghost use Rattle.std.specs.Prelude.{◌≡◌, ◌<◌, ◌≤◌, ◌+◌, ◌-◌, ◌^◌, ◌++◌, min, length, slice_get, slice_range, IfOk, OnOk, OnErr, IsSome, Some};
 ghost use Rattle.std.specs.Option.{option_copied};
 ghost use Rattle.ksv_bytes.specs.Edits.{file_limit};
-ghost use Rattle.ksv_memo_rules.specs.Slots.{lent};
 ghost use Rattle.ksv_test_engine.specs.Rows as spec;
 
-use crate::samples::row::{Missing, Row, RowNumber};
+use crate::samples::row::{Missing, Reply, Row, RowNumber, copied};
 use ksv_bytes::{Buffer, Use, Window};
 use ksv_memo_rules::{Next, Replies, Rules};
 use std::alloc::{AllocError, Global};
 
 /// Rows, each asked by its number.
-#[derive(Debug, Drop)]
+#[derive(Drop)]
 pub struct Rows {
     /// The rows from number 0 on.
     pub rows: Vec<Row>,
-}
-
-type Reply = Result<u32, Missing>;
-
-/// A copy of a reply that is lent.
-fn copied(reply: Result<&u32, &Missing>) -> Reply
-    ensures { result ≡ lent reply.entry }
-{
-    match reply {
-        Ok(number) => Ok(*number),
-        Err(missing) => Err(*missing),
-    }
 }
 
 /// The sum of the replies, or the first that is missing.

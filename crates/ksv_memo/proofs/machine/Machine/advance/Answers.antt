@@ -1,9 +1,10 @@
 use Rattle.std.proofs.Common.{sym, subst}
+use Rattle.std.proofs.lemmas.Result.{IfOk-weaker, on_err_weaker}
 use Rattle.ksv_memo_rules.specs.Meaning.{on}
 use Rattle.ksv_memo_rules.proofs.Standing.{law_on}
 use Rattle.ksv_memo_rules.specs.declared.rules.Next.TheVariants.{Need, Done}
 use Rattle.ksv_memo.specs.Running.{HasReached, AdvancesAt, LeftAt}
-use Rattle.ksv_memo.proofs.Taking.{if_ok-map, on_err-map, reached, advances, leaves}
+use Rattle.ksv_memo.proofs.Taking.{reached, advances, leaves}
 use Rattle.ksv_memo.proofs.machine.Machine.advance.Goals as goal
 
 pub finish-requires : goal.finish-requires
@@ -36,7 +37,7 @@ returns-in-Done-clause-ok g c =
     let old = c.args.self.now.table in
     let now = c.turn.new.self.table.opened in
     let t = c.finish.new.self.table in
-    if_ok-map _ _ (λ out h. advances w law eq laws exact old.kept old.opened now (Done c.in-Done.answer) t out c.requires (rw c.in-Done.is at c.in_ok-step.ensures.step) (subst (λ es. AdvancesAt w es now (Done c.in-Done.answer) t out) c.in_ok-step.ensures.kept h)) c.finish.result c.finish.ensures.ok
+    IfOk-weaker c.finish.result _ _ (λ out h. advances w law eq laws exact old.kept old.opened now (Done c.in-Done.answer) t out c.requires (rw c.in-Done.is at c.in_ok-step.ensures.step) (subst (λ es. AdvancesAt w es now (Done c.in-Done.answer) t out) c.in_ok-step.ensures.kept h)) c.finish.ensures.ok
 
 pub returns-in-Done-clause-err : goal.returns-in-Done-clause-err
 returns-in-Done-clause-err g c =
@@ -48,7 +49,7 @@ returns-in-Done-clause-err g c =
     let old = c.args.self.now.table in
     let now = c.turn.new.self.table.opened in
     let t = c.finish.new.self.table.kept in
-    on_err-map (λ h. leaves w law eq laws exact old.kept old.opened now (Done c.in-Done.answer) t c.requires (rw c.in-Done.is at c.in_ok-step.ensures.step) (subst (λ es. LeftAt w es now (Done c.in-Done.answer) t) c.in_ok-step.ensures.kept h)) c.finish.result c.finish.ensures.err
+    on_err_weaker c.finish.result (λ h. leaves w law eq laws exact old.kept old.opened now (Done c.in-Done.answer) t c.requires (rw c.in-Done.is at c.in_ok-step.ensures.step) (subst (λ es. LeftAt w es now (Done c.in-Done.answer) t) c.in_ok-step.ensures.kept h)) c.finish.ensures.err
 
 pub returns-in-Need-clause-ok : goal.returns-in-Need-clause-ok
 returns-in-Need-clause-ok g c =
@@ -60,4 +61,4 @@ returns-in-Need-clause-ok g c =
     let old = c.args.self.now.table in
     let now = c.turn.new.self.table.opened in
     let t = c.need.new.self.table in
-    if_ok-map _ _ (λ out h. advances w law eq laws exact old.kept old.opened now (Need c.in-Need.asked) t out c.requires (rw c.in-Need.is at c.in_ok-step.ensures.step) (subst (λ es. AdvancesAt w es now (Need c.in-Need.asked) t out) c.in_ok-step.ensures.kept h)) c.need.result c.need.ensures.ok
+    IfOk-weaker c.need.result _ _ (λ out h. advances w law eq laws exact old.kept old.opened now (Need c.in-Need.asked) t out c.requires (rw c.in-Need.is at c.in_ok-step.ensures.step) (subst (λ es. AdvancesAt w es now (Need c.in-Need.asked) t out) c.in_ok-step.ensures.kept h)) c.need.ensures.ok

@@ -1,8 +1,8 @@
 use Rattle.std.proofs.Common.{refl, sym, ◌∙◌}
 use Rattle.ksv_memo_rules.specs.Meaning.{on}
 use Rattle.ksv_memo_rules.proofs.Standing.{law_on}
-use Rattle.ksv_memo.proofs.Topping.{on_err_always}
-use Rattle.ksv_memo.proofs.Taking.{closes_on, closes_last, closes_left, closes_more, closes_one, done_left}
+use Rattle.ksv_memo.proofs.Turns.{on_err_always}
+use Rattle.ksv_memo.proofs.Taking.{closes_on, closes_last, closes_left, done_left}
 use Rattle.ksv_memo.proofs.machine.Machine.finish.Goals as goal
 
 pub returns-in_err-close-clause-err : goal.returns-in_err-close-clause-err
@@ -23,7 +23,7 @@ returns-then-waits-clause-ok g c =
     let laws = g.met.R.Node.Eq.laws in
     let exact = g.met.R.Rules.exact in
     let old = c.args.self.now.table in
-    closes_on w law eq laws exact old.kept old.opened c.args.answer c.close.new.self c.requires (closes_more c.args.answer old.opened old c.close.new.self c.in_ok-close.field-0 c.in_ok-close.ensures.ok (sym c.waits.ensures ∙ c.if-waits.true))
+    closes_on w law eq laws exact old.kept old.opened c.args.answer c.close.new.self c.requires c.in_ok-close.ensures.ok (sym c.waits.ensures ∙ c.if-waits.true)
 
 pub returns-in_err-reply-clause-err : goal.returns-in_err-reply-clause-err
 returns-in_err-reply-clause-err g c =
@@ -53,4 +53,4 @@ returns-clause-ok g c =
     let laws = g.met.R.Node.Eq.laws in
     let exact = g.met.R.Rules.exact in
     let old = c.args.self.now.table in
-    closes_last w law eq laws exact old.kept old.opened c.args.answer c.in_ok-reply.reply c.close-2.new.self c.requires (closes_one c.args.answer old.opened old c.close-2.new.self c.in_ok-close-2.field-0 c.in_ok-close-2.ensures.ok (sym c.waits.ensures ∙ c.if-waits.false)) (c.in_ok-reply.ensures ∙ c.lend.ensures)
+    closes_last w law eq laws exact old.kept old.opened c.args.answer c.in_ok-reply.reply c.close-2.new.self c.requires c.in_ok-close-2.ensures.ok (sym c.waits.ensures ∙ c.if-waits.false) (c.in_ok-reply.ensures ∙ c.lend.ensures)

@@ -1,5 +1,5 @@
 use Rattle.std.proofs.Common.{◌∙◌, ap, subst, refl, arith}
-use Rattle.ksv_memo.specs.declared.layout.Frames.{Frames}
+use Rattle.ksv_memo.specs.declared.frames.Frames.{Frames}
 use Rattle.ksv_memo.specs.Layout.{entries_at, entries_of}
 use Rattle.ksv_memo_links.specs.Touching.{numbers_from}
 use Rattle.ksv_memo.specs.Sweep.{Sweeps}

@@ -1,13 +1,13 @@
 use Rattle.std.proofs.Common.{◌≡◌, ◌++◌, ◌∙◌, ap, subst, sym, IfOk, OnOk}
 use Rattle.std.specs.Prelude.{slice_get}
 use Rattle.ksv_test_engine.specs.Rows.{row_next, row_uses}
-use Rattle.ksv_test_engine.proofs.Reading.{++-nil}
+use Rattle.std.proofs.lemmas.List.{append-nil}
 use Rattle.ksv_test_engine.proofs.samples.rows.RowsRules.next.Goals as goal
 
 pub returns-in-None-clause-uses : goal.returns-in-None-clause-uses
 returns-in-None-clause-uses c =
     let seen = c.in-None.ensures ∙ ap (λ rows. slice_get rows c.args.node.now.number) c.as_slice.ensures.value in
-    sym (ap (λ row. c.args.uses.now.items ++ row_uses c.args.bytes.now c.args.replies.now row) (sym seen) ∙ ++-nil c.args.uses.now.items)
+    sym (ap (λ row. c.args.uses.now.items ++ row_uses c.args.bytes.now c.args.replies.now row) (sym seen) ∙ append-nil c.args.uses.now.items)
 
 pub returns-in-Some-clause-step : goal.returns-in-Some-clause-step
 returns-in-Some-clause-step c =

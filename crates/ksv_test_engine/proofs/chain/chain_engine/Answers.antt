@@ -1,4 +1,0 @@
-use Rattle.ksv_test_engine.proofs.chain.chain_engine.Goals as goal
-
-pub returns : goal.returns
-returns c = c.new.ensures.right (record {}) c.args._bytes.now
