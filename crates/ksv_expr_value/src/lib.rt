@@ -23,6 +23,7 @@
 //! - `Faults`: the names of faults, as replies write them
 //! - `Kept`: where the steps of a path are: in an array, or on the heap
 //! - `Numbers`: numbers of paths, with lemmas that a reader may skip
+//! - `Places`: places of a file, and the bytes that they are at
 //! - `Range`: the range of expressions' integers
 //! - `Setting`: the context in which an expression is evaluated
 //! - `Trail`: paths as contracts see them: their steps, the last one first
@@ -32,6 +33,7 @@
 //! - `Encodings`: which bytes are texts
 //! - `Halves`: bytes that are cut in two, compared
 //! - `Paths`: steps in the code's order and in that of the definitions
+//! - `Room`: whether the path of a part fits
 #![tactic(auto)]
 
 mod context;

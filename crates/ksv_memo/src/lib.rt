@@ -9,8 +9,8 @@
 //! Modules:
 //!
 //! - `engine`: `Engine`, the public face
+//! - `frames`: a frame for each open node, with what it asked and used
 //! - `laws`: the laws of all rules
-//! - `layout`: a frame for each open node, with what it asked and used
 //! - `machine`: one turn, what follows it, the loop, and the look-up before it
 //! - `slots`: the map from node to slot, each look counted; `call`, the only caller of `next`
 //! - `table`: the table of kept and open nodes

@@ -10,7 +10,9 @@
 //! - `laws`: the laws of readings, turns and nodes
 //! - `node`: nodes: a kind of question and a path
 //! - `search`: where a byte is first in bytes that are lent
-//! - `turn`: `Turn`: a rule while it runs; it takes replies in order and reads the bytes
+//! - `turn`: `Turn`: a rule while it runs
+//! - `turn/readings`: how it reads the bytes, and what that rests on
+//! - `turn/replies`: how it takes the replies, in order
 //!
 //! Definitions (`specs/`):
 //!

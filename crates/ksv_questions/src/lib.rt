@@ -10,6 +10,7 @@
 //!
 //! - `asking`: asks an engine
 //! - `dump`: `dump`: the value at a path with all its parts, as JSON
+//! - `file`: a file under its description
 //! - `found`: what `dump` finds at a path, or writes in its place
 //! - `get`: `get`: the text of the value at a path
 //! - `laws`: the law that written integers are read back

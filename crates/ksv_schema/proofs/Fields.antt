@@ -26,8 +26,8 @@ use Rattle.ksv_schema.specs.Values.{Home, expression, enumeration, own_enum, enc
 use Rattle.ksv_schema.specs.Members.{parts, repeat_of, repeated, extent_of, extent, has_encoding, needs, field, own_field, attribute, parse_instance, value_instance, placeless, by_kind}
 use Rattle.ksv_schema.specs.Description.{Context, in_tree, in_extent, in_repeat, in_field, in_kind}
 use Rattle.ksv_schema.proofs.Good.{front, back, implies, there_map, IsGood, gives_good, also_good, chosen_good, made_good, after_good, both_good, weaker, perhaps_good, must_good}
-use Rattle.ksv_schema.proofs.Keys.{text_fits, HasRepeat, has_repeat}
-use Rattle.ksv_schema.proofs.Values.{Leads, any_leads, in_home, IsTree, IsEnumThere, any_enum, expression_good, enumeration_good, HasText, choice_good}
+use Rattle.ksv_schema.proofs.FaultlessKeys.{text_fits, HasRepeat, has_repeat}
+use Rattle.ksv_schema.proofs.GoodValues.{Leads, any_leads, in_home, IsTree, IsEnumThere, any_enum, expression_good, enumeration_good, HasText, choice_good}
 
 -- each encoding in force is one of those that there are
 abbrev pub AreEncodings : Declared → Type 0

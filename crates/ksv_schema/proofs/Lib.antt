@@ -1,7 +1,4 @@
 -- Lemmas of the crate.
--- Lemmas.
--- Lemmas.
--- Lemmas of the crate.
 pub mod Expressions
 pub mod Spellings
 pub mod Bytes
@@ -19,10 +16,10 @@ pub mod Enums
 pub mod Made
 pub mod Both
 pub mod Good
-pub mod Keys
-pub mod Values
+pub mod FaultlessKeys
+pub mod GoodValues
 pub mod Fields
 pub mod OwnNames
 pub mod Whole
-pub mod Members
+pub mod GoodMembers
 pub mod Theorem

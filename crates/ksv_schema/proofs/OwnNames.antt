@@ -24,7 +24,7 @@ use Rattle.ksv_schema.specs.Members.{is_instance}
 use Rattle.ksv_schema.specs.Description.{type_faults, all_types_faults}
 use Rattle.ksv_desc.specs.Resolved.{Each}
 use Rattle.ksv_schema.proofs.Good.{front, back, not_if, each_and, each_mapped}
-use Rattle.ksv_schema.proofs.Keys.{text_fits, meta_faultless}
+use Rattle.ksv_schema.proofs.FaultlessKeys.{text_fits, meta_faultless}
 
 -- ---- texts
 

@@ -12,7 +12,7 @@ use Rattle.ksv_desc.specs.Resolved.{IsThere, IsResolved}
 use Rattle.ksv_schema.proofs.Least.{nothing_noted, noted_least}
 use Rattle.ksv_schema.proofs.Good.{front, back, is_there}
 use Rattle.ksv_schema.proofs.OwnNames.{ids_are_texts}
-use Rattle.ksv_schema.proofs.Members.{declared_good}
+use Rattle.ksv_schema.proofs.GoodMembers.{declared_good}
 
 -- ---- what a tree states
 

@@ -27,7 +27,7 @@ use Rattle.ksv_desc.specs.Description.{Description, Numbered, Enum}
 use Rattle.ksv_desc.specs.Resolved.{IsThere, IsMemberOf}
 use Rattle.ksv_desc.proofs.Tabled.{is_table}
 use Rattle.ksv_schema.proofs.Good.{front, back, IsGood, gives_good, wrong_good, also_good, made_good, both_good, if_good, or_good, must_good, text_good, mapping_good, there_map, there_bind, EachOf, each_at, each_there, each_good, each_from_good}
-use Rattle.ksv_schema.proofs.Keys.{text_fits, meta_faultless}
+use Rattle.ksv_schema.proofs.FaultlessKeys.{text_fits, meta_faultless}
 use Rattle.ksv_schema.proofs.Fields.{AreEncodings}
 
 -- ---- encodings in force

@@ -4,7 +4,7 @@ use Rattle.std.specs.Option.{option_map_or}
 use Rattle.std.specs.List.{list_all}
 use Rattle.std.proofs.lemmas.List.{map-append}
 use Rattle.std.specs.Str.{bytes_eq}
-use Rattle.std.proofs.lemmas.Bool.{and_parts}
+use Rattle.std.proofs.lemmas.Bool.{and_parts, not-false}
 use Rattle.std.proofs.lemmas.List.Folds.{list_all-append}
 use Rattle.ksv_expr_tree.specs.Tree.{Tree, literal, named, special, member, unary, binary, logical, choice, field, special_field, call, index, cast, Arguments, no_arguments, argument, Word, MemberPath, TypePath}
 use Rattle.ksv_schema_names.specs.Members.{Member, members_of, all_members, members_within, member_named}
@@ -29,10 +29,6 @@ use Rattle.ksv_schema_names.proofs.Found.{some_is, not_none, both_empty, one_pas
 not_wrong : (b : Bool) (k : NameFault) → wrong_if b k ≡ [] → b ≡ false
 not_wrong true k h = absurd (cc)
 not_wrong false k h = refl
-
-not_false : (b : Bool) → not b ≡ false → b ≡ true
-not_false true h = refl
-not_false false h = absurd (cc)
 
 -- ---- one name, one type, one member
 
@@ -121,7 +117,7 @@ module _ (d : Declared) (x : Description) (n : ℕ) (p : Position) (fits : Fits 
     resolved b (literal c) has h = tt
     resolved b (named w) has h = is_named x w (has_number d names n w.text fits.members (not_wrong _ _ h))
     resolved b (special s) has h = tt
-    resolved b (member m) has h = let g = member_given d n m (not_false _ (not_wrong _ _ h)) in is_there (IsMemberOf x) _ g.0 g.1 (given_leads d x fits n m g.0 g.1)
+    resolved b (member m) has h = let g = member_given d n m (not-false _ (not_wrong _ _ h)) in is_there (IsMemberOf x) _ g.0 g.1 (given_leads d x fits n m g.0 g.1)
     resolved b (unary op v) has h = resolved Other v has h
     resolved b (binary op v y) has h =
         let hs = two (dotted v) (dotted y) has in

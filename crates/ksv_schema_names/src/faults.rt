@@ -131,7 +131,7 @@ fn is_member(scopes: &Scopes, within: usize, member: &Member) -> bool
 {
     match scopes.enum_named(within, member.path.as_slice()) {
         Some(enumeration) => scopes
-            .number_of_id(enumeration, member.name.as_bytes())
+            .number_of_id(enumeration as usize, member.name.as_bytes())
             .is_some(),
         None => false,
     }

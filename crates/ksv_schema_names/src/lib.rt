@@ -1,5 +1,5 @@
-//! The names of a description: the types, members and enums of its tree, which of them an expression may name, and the
-//! numbers that names get.
+//! The names of a description: the types, members and enums that its tree declares, which of them an expression may name, and
+//! the numbers that names get.
 //!
 //! A name is looked up in the type where it is used and then in the types around it, the nearest first; the byte
 //! order and the encoding in force are found in the same way. A bare name in an expression is a member of the type that the
@@ -60,7 +60,7 @@ mod scopes;
 pub use built_ins::{BuiltIn, built_in, built_in_at};
 pub use entries::{id_of, number_of};
 pub use faults::{argument_fault, name_fault};
-pub use ksv_desc::{ByteOrder, Names, names_are_tabled};
+pub use ksv_desc::{ByteOrder, Names};
 pub use laws::{faultless_is_resolved, least_is_told};
 pub use members::{Member, Role};
 pub use numbering::{given_member, number_arguments, number_expr, number_type};

@@ -14,10 +14,10 @@ use ksv_expr_tree::{EnumMember, Expr, Member, Name, TypeName};
 pub fn given_member(scopes: &Scopes, within: usize, member: &Member) -> Option<EnumMember>
     ensures { result ≡ given_member (declared scopes.now) within (member_of member.now) }
 {
-    let enumeration = scopes.enum_named(within, member.path.as_slice())?;
-    let number = scopes.number_of_id(enumeration, member.name.as_bytes())?;
+    let enum_number = scopes.enum_named(within, member.path.as_slice())?;
+    let number = scopes.number_of_id(enum_number as usize, member.name.as_bytes())?;
     Some(EnumMember {
-        enum_number: enumeration as u32,
+        enum_number,
         number,
     })
 }
@@ -32,10 +32,7 @@ fn number_name(names: &Names, name: &mut Name)
 pub fn number_type(scopes: &Scopes, within: usize, name: &mut TypeName)
     ensures { path_of name.new ≡ numbered_type (declared scopes.now) within (path_of name.old) }
 {
-    name.number = match scopes.type_named(within, name.path.as_slice()) {
-        Some(number) => Some(number as u32),
-        None => None,
-    };
+    name.number = scopes.type_named(within, name.path.as_slice());
 }
 
 fn number_member(scopes: &Scopes, within: usize, member: &mut Member)

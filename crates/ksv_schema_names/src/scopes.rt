@@ -21,6 +21,17 @@ use std::marker::Model;
 /// How many types, and how many enums, there is room for.
 const LIMIT: usize = 0x1_0000_0000;
 
+/// The place of a type or an enum as its number.
+fn numbered(place: Option<usize>) -> Option<u32>
+    requires { IfSome place (λ k. k < 2 ^ 32) }
+    ensures { result ≡ place }
+{
+    match place {
+        Some(place) => Some(place as u32),
+        None => None,
+    }
+}
+
 /// The types, members and enums that a tree declares, each numbered from 0 in the order of the text.
 ///
 /// It is made once and then only read; no reader takes memory. An unused number gives nothing.
@@ -115,19 +126,17 @@ impl<'a> Scopes<'a> {
     }
 
     /// The type that a path of names means where it is used in the type `n`.
-    pub fn type_named(&self, n: usize, path: &[String]) -> Option<usize>
-        ensures value { result ≡ type_named (declared self.now).types n (map string_bytes path.now) }
-        ensures fits { IfSome result (λ k. k < 2 ^ 32) }
+    pub fn type_named(&self, n: usize, path: &[String]) -> Option<u32>
+        ensures { result ≡ type_named (declared self.now).types n (map string_bytes path.now) }
     {
-        type_named(&self.types, n, path)
+        numbered(type_named(&self.types, n, path))
     }
 
     /// The enum that a path of names means where it is used in the type `n`.
-    pub fn enum_named(&self, n: usize, path: &[String]) -> Option<usize>
-        ensures value { result ≡ enum_from (declared self.now).types (declared self.now).enums n [] (map string_bytes path.now) }
-        ensures fits { IfSome result (λ k. k < 2 ^ 32) }
+    pub fn enum_named(&self, n: usize, path: &[String]) -> Option<u32>
+        ensures { result ≡ enum_from (declared self.now).types (declared self.now).enums n [] (map string_bytes path.now) }
     {
-        enum_named(&self.types, &self.enums, n, path)
+        numbered(enum_named(&self.types, &self.enums, n, path))
     }
 
     /// The byte order in force in the type `n`.

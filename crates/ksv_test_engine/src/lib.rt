@@ -10,10 +10,11 @@
 //!
 //! - `buffer`: edits of a buffer, its limit, and what an edit touches
 //! - `chain`: a chain of nodes that is a hundred thousand deep
+//! - `edits`: an engine that is right for the bytes of a buffer, and edits of both
 //! - `engine`: the engine over rows: worked questions, what edits take, how many looks that takes
 //! - `links`: links between slots: what an overwrite takes along them
+//! - `plain`: what a row answers, plainly, and whether an engine answers so
 //! - `random`: random questions between random edits, beside plain recursion
-//! - `rows`: rows and their expected answers, for the tests of the engine
 //! - `samples`: the two sets of rules
 //! - `samples/chain`: a chain of nodes, each of which asks the one before it
 //! - `samples/link`: a link of a chain

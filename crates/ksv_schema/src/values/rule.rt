@@ -10,7 +10,7 @@ ghost use Rattle.ksv_schema.specs.Code.{number_of, seen_fault, seen_claim, seen_
 
 use self::Claim::{Has, IsInteger, Says};
 use self::Rule::{Attends, Excludes, Needs};
-use crate::Group::{Read, Values};
+use crate::keys::forms::Group::{Read, Values};
 use crate::keys::forms::{Group, MappingKind, is_in};
 use crate::keys::texts::{TypeKind, TypeText, is_a};
 use crate::values::fault::DescFaultKind::{KeysAgainst, MissingKey};
