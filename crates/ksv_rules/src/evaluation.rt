@@ -9,9 +9,7 @@ ghost use Rattle.ksv_rules.specs.Told.{told};
 ghost use Rattle.ksv_rule_meaning.specs.Wanted.{wanted, expression};
 
 use crate::wanted::in_object;
-use ksv_expr_eval::{
-    Ctx, EvalStep, Expr, FaultKind, Got, Path, Step, Stream, Value, Want, eval,
-};
+use ksv_expr_eval::{Ctx, EvalStep, Expr, FaultKind, Got, Path, Step, Stream, Value, Want, eval};
 use ksv_expr_tree::Name;
 use ksv_nodes::{Halt, Turn};
 
