@@ -22,7 +22,7 @@ use Rattle.ksv_nodes.specs.declared.given.Given.{Given}
 use Rattle.ksv_nodes.specs.declared.node.Node.{Node}
 use Rattle.ksv_rule_meaning.specs.Described.{described}
 use Rattle.ksv_rule_meaning.specs.FromNothing.{asks, from_nothing, uses}
-use Rattle.ksv_rule_meaning.specs.Lawful.{described_lawful}
+use Rattle.ksv_rule_meaning.specs.Lemmas.Lawful.{described_lawful}
 use Rattle.ksv_rule_meaning.specs.Meaning.{rule_of}
 use Rattle.ksv_rule_meaning.proofs.Direct.{answers_follow_rules}
 use Rattle.ksv_examples.specs.Depth.{is_open}

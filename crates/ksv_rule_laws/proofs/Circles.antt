@@ -60,7 +60,7 @@ use Rattle.ksv_rule_meaning.specs.Heads.{leaf, leaf_to_end, terminated_at, termi
 use Rattle.ksv_rule_meaning.specs.Meaning.{meaning_of, rule_of}
 use Rattle.ksv_rule_meaning.specs.FromNothing.{circle, answer_within, from_nothing}
 use Rattle.ksv_rule_meaning.specs.Described.{described}
-use Rattle.ksv_rule_meaning.specs.Bounds.{settles}
+use Rattle.ksv_rule_meaning.specs.Lemmas.Bounds.{settles}
 use Rattle.ksv_rule_laws.specs.Laws.{NoRuleMakesCircles, LeadsBack, CirclesLeadBack}
 use Rattle.ksv_rule_meaning.proofs.Direct.{answers_follow_rules}
 use Rattle.ksv_rule_laws.proofs.OwnFaults.{FailsAs, fails_bind, fails_if, fails_translate, IsOwn, value_own}

@@ -24,7 +24,7 @@ use Rattle.ksv_nodes.specs.Numbers.{node_number, node_bound}
 use Rattle.ksv_rule_meaning.specs.Described.{described}
 use Rattle.ksv_rule_meaning.specs.Direct.{IsDirect}
 use Rattle.ksv_rule_meaning.specs.FromNothing.{asks, uses}
-use Rattle.ksv_rule_meaning.specs.Lawful.{described_lawful}
+use Rattle.ksv_rule_meaning.specs.Lemmas.Lawful.{described_lawful}
 use Rattle.ksv_rule_meaning.proofs.Direct.{asks_are_direct}
 use Rattle.ksv_rule_meaning.specs.Completed.{circles_within, completed, completed_within, meets_circle}
 use Rattle.ksv_rule_meaning.specs.Kept.{is_hit, is_touched}

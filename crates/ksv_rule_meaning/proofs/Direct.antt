@@ -26,7 +26,7 @@ use Rattle.ksv_nodes.proofs.Truth.{ends, needs}
 use Rattle.ksv_rule_meaning.specs.Meaning.{rule_of}
 use Rattle.ksv_rule_meaning.specs.FromNothing.{circle, answer_within, from_nothing}
 use Rattle.ksv_rule_meaning.specs.Described.{most_asks, resumed, step_of, described}
-use Rattle.ksv_rule_meaning.specs.Bounds.{settles}
+use Rattle.ksv_rule_meaning.specs.Lemmas.Bounds.{settles}
 use Rattle.ksv_rule_meaning.specs.Direct.{flattened, AreSameUses, IsFree, IsDirect, AnswersAreDirect, AsksAreDirect, AnswersFollowRules, NeedsNext, MeetsTruth, NextMeetsTruth}
 
 -- ---- the same uses

@@ -1,5 +1,4 @@
--- The definitions of node rules.
--- The definitions of what is kept.
+-- The definitions of node rules, and of what is kept.
 pub mod Fields
 pub mod Wanted
 pub mod Choosing
@@ -10,8 +9,7 @@ pub mod Ends
 pub mod Meaning
 pub mod FromNothing
 pub mod Described
-pub mod Bounds
-pub mod Lawful
+pub mod Lemmas
 pub mod Direct
 pub mod Completed
 pub mod Kept

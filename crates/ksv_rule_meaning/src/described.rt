@@ -6,7 +6,7 @@ ghost use Rattle.ksv_memo_rules.specs.Meaning.{IsAddedTo};
 ghost use Rattle.ksv_nodes.specs.Exact.{node_exact};
 ghost use Rattle.ksv_nodes.specs.Turning.{Runs};
 ghost use Rattle.ksv_rule_meaning.specs.Described.{described};
-ghost use Rattle.ksv_rule_meaning.specs.Lawful.{described_lawful};
+ghost use Rattle.ksv_rule_meaning.specs.Lemmas.Lawful.{described_lawful};
 ghost use Rattle.ksv_rule_meaning.specs.Meaning.{rule_of};
 
 use ksv_bytes::{Buffer, Use};
@@ -70,7 +70,7 @@ impl<N: NodeRules> Rules for Described<N> {
     ghost use Rattle.ksv_desc.specs.Whole.{plain_pieces};
     ghost use Rattle.ksv_nodes.specs.Exact.{node_exact};
     ghost use Rattle.ksv_rule_meaning.specs.Described.{described};
-    ghost use Rattle.ksv_rule_meaning.specs.Lawful.{described_lawful};
+    ghost use Rattle.ksv_rule_meaning.specs.Lemmas.Lawful.{described_lawful};
 
     type Node = Node;
 

@@ -5,18 +5,16 @@
 //! with such code, as an engine (ksv_memo) sees it. So what depends on these doesn't wait for the proof of any rule's code.
 //!
 //! Which nodes evaluation from nothing completes, which of them an edit touches, and how many calls of rules they take
-//! (`specs/Completed`, `specs/Kept`) are direct recursions on the rules too, and know no engine. The laws of `kept` state that an
+//! (`specs/Completed`, `specs/Kept`) are direct recursions on the rules too, and know no engine. The laws state that an
 //! engine's contracts, in their own words, say the same.
 //!
 //! Modules:
 //!
 //! - `described`: `NodeRules` and `Described`: the rules as an engine sees them
-//! - `kept`: laws of what is kept: the engine's words are those of the direct definitions
-//! - `laws`: laws of evaluation: the engine's is the direct one; how many nodes a rule asks
+//! - `laws`: laws of evaluation and of what is kept: the engine's are the direct ones; how many nodes a rule asks
 //!
 //! Definitions (`specs/`):
 //!
-//! - `Bounds`: how many nodes each rule asks, with lemmas that a reader may skip
 //! - `Choosing`: the case that a switch chooses
 //! - `Completed`: what evaluation from nothing completes, by direct recursion
 //! - `Described`: what the rules mean to an engine, and how many nodes a rule asks at most
@@ -27,8 +25,8 @@
 //! - `Heads`: what is at a path, and where
 //! - `Integers`: the integer that some bytes are
 //! - `Kept`: what is kept across questions and edits, and the turns
-//! - `Lawful`: the rules keep the laws of `Rules`, with lemmas that a reader may skip
-//! - `Laws`: laws: an engine's words for what it keeps are the direct ones
+//! - `Laws`: laws: an engine's words for what it keeps are the direct ones; how many nodes a rule asks
+//! - `Lemmas`: lemmas that a reader may skip: how many nodes each rule asks; the rules keep the laws of `Rules`
 //! - `Meaning`: the rule of a node
 //! - `Values`: the value of what is at a path
 //! - `Wanted`: expressions in rules: which nodes and readings answer their wants
@@ -42,9 +40,10 @@
 #![tactic(auto)]
 
 mod described;
-mod kept;
 mod laws;
 
 pub use described::{Described, NodeRules};
-pub use kept::{completion_is_direct, cost_is_direct, touch_is_direct};
-pub use laws::{evaluation_is_direct, next_meets_truth, rules_are_bounded};
+pub use laws::{
+    completion_is_direct, cost_is_direct, evaluation_is_direct, next_meets_truth,
+    rules_are_bounded, touch_is_direct,
+};

@@ -33,7 +33,7 @@ use Rattle.ksv_nodes.specs.Numbers.{node_number}
 use Rattle.ksv_rule_meaning.specs.Described.{described}
 use Rattle.ksv_rule_meaning.specs.Direct.{IsDirect}
 use Rattle.ksv_rule_meaning.specs.FromNothing.{asks as asks_of_node}
-use Rattle.ksv_rule_meaning.specs.Lawful.{described_lawful}
+use Rattle.ksv_rule_meaning.specs.Lemmas.Lawful.{described_lawful}
 use Rattle.ksv_rule_meaning.proofs.Direct.{asks_are_direct}
 use Rattle.ksv_questions.specs.Asking.{Heard}
 use Rattle.ksv_questions.specs.Engines.{HasAsked, HasAskedSome, completed_by, is_circle, meets_circle as meets_circle_by_replies, turns_with, world}

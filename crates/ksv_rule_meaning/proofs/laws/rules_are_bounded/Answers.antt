@@ -1,4 +1,4 @@
-use Rattle.ksv_rule_meaning.specs.Bounds.{rule_nodes, settles}
+use Rattle.ksv_rule_meaning.specs.Lemmas.Bounds.{rule_nodes, settles}
 use Rattle.ksv_rule_meaning.proofs.laws.rules_are_bounded.Goals as goal
 
 pub returns : goal.returns

@@ -14,7 +14,7 @@ use Rattle.ksv_nodes.specs.Laws.{ran_on}
 use Rattle.ksv_nodes.proofs.Resuming.{is_local, fits}
 use Rattle.ksv_rule_meaning.specs.Meaning.{rule_of}
 use Rattle.ksv_rule_meaning.specs.Described.{described, resumed, step_of}
-use Rattle.ksv_rule_meaning.specs.Bounds.{settles}
+use Rattle.ksv_rule_meaning.specs.Lemmas.Bounds.{settles}
 
 -- on other bytes a run comes to the same step, with the same uses
 step_on : (others : List ℕ) (r : Ran Node Fault State Given) → step_of (ran_on others r) ≡ step_of r

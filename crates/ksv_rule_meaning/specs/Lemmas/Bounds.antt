@@ -663,14 +663,3 @@ done_of (Done g s) h = tt
 -- with so many replies, true or not, a node is done
 pub settles : (d : Description) (bytes : List ℕ) (n : Node) (replies : List (Result Answered Fault)) → most_asks d ≤ length replies → IsDone (step_of (resumed d bytes n replies))
 settles d bytes n replies h = done_of (resumed d bytes n replies) (enough (most_asks d) (rule_of d n) (fresh n.path bytes replies) (rule_nodes d n) h)
-
--- ---- laws
-
--- Each rule of a description asks a number of nodes that the description tells, whatever nodes answer and bytes say; so a node
--- that has as many replies, true or not, is done.
-pub record AreRulesBounded (d : Description) (n : Node) : Type 0 where
-  pub asks : NodesAtMost (most_asks d) (rule_of d n)
-  pub settles : (bytes : List ℕ) (replies : List (Result Answered Fault)) → most_asks d ≤ length replies → IsDone (step_of (resumed d bytes n replies))
-
-abbrev pub RulesAreBounded : Type 0
-RulesAreBounded = (d : Description) (n : Node) → AreRulesBounded d n
