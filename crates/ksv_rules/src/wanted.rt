@@ -21,8 +21,8 @@ fn fault_at<X>(turn: &Turn, path: &Path, kind: FaultKind) -> Result<X, Halt>
     Err(Halt::Fault(Fault { kind, path }))
 }
 
-/// The fault of a head at a path that isn't what is looked for there: where nothing is it is absent, at that path;
-/// else there is no such thing, which is a fault of the asker.
+/// The fault when the head at a path has the wrong form: `absent`, at that path, if nothing is there; else `no-such`, at the
+/// asker's.
 #[cold]
 #[inline(never)]
 pub(crate) fn missing<X>(turn: &Turn, path: &Path, head: &Head, asker: &Path) -> Result<X, Halt>
@@ -34,7 +34,7 @@ pub(crate) fn missing<X>(turn: &Turn, path: &Path, head: &Head, asker: &Path) ->
     }
 }
 
-/// The fault of a head at the path above a path that isn't what is looked for there, for the node of the turn.
+/// The same for the head at the path above a path; the asker is the node of the turn.
 #[cold]
 #[inline(never)]
 pub(crate) fn missing_above<X>(turn: &Turn, path: &Path, head: &Head) -> Result<X, Halt>
