@@ -44,8 +44,8 @@ use Rattle.ksv_nodes.proofs.Looks.{range_reaches}
 use Rattle.ksv_rule_meaning.specs.Choosing.{Chosen, choose}
 use Rattle.ksv_rule_meaning.specs.Wanted.{in_object, expression, holds, size_of, stream_for}
 use Rattle.ksv_rule_meaning.specs.Fields.{members_of, Sought, member_named, last_attribute, kind_of, field_of}
-use Rattle.ksv_rule_meaning.specs.Heads.{leaf, leaf_to_end, terminated_at, terminated, run_of, sized_leaf, bytes_at, sized_object, object_at, content_at, unchosen_at, chosen_at, shape_at, count_of, counted, until_eos, repeated, attribute_at, part_end, attribute_start, setting, origin_of, attribute_head, instance_setting, positioned_in, positioned, instance_head, calc, value_head, member_at, member_head, in_list, is_past, in_next, next_start, element_start, element_head, root_head, head_at, head_of}
-use Rattle.ksv_rule_meaning.specs.Values.{in_no_stream, in_enum, instance_value, arguments_for, argument_at, setting_of_holder, argument_setting, plain_value, argument_value, parameter_value, calc_value, calculated, value_at, value_of}
+use Rattle.ksv_rule_meaning.specs.Heads.{member_setting, leaf, leaf_to_end, terminated_at, terminated, run_of, sized_leaf, bytes_at, sized_object, object_at, content_at, unchosen_at, chosen_at, shape_at, count_of, counted, until_eos, repeated, attribute_at, part_end, attribute_start, setting, origin_of, attribute_head, instance_setting, positioned_in, positioned, instance_head, calc, value_head, member_at, member_head, in_list, is_past, in_next, next_start, element_start, element_head, root_head, head_at, head_of}
+use Rattle.ksv_rule_meaning.specs.Values.{in_no_stream, in_enum, instance_value, arguments_for, argument_at, argument_setting, plain_value, argument_value, parameter_value, calc_value, calculated, value_at, value_of}
 use Rattle.ksv_rule_meaning.specs.Ends.{stream_end, fields_end, object_end, part_rest, list_end, place_of, is_last, not_empty, element_end, end_at, end_of, next_rest, rest_behind, rest_from, in_whole_list, whole_rest, rest_at, rest_of}
 use Rattle.ksv_rule_meaning.specs.Meaning.{meaning_of}
 use Rattle.ksv_rule_meaning.specs.FromNothing.{answer_within, from_nothing}
@@ -427,7 +427,7 @@ module _ (met : Node → Result Given Fault) (here : Trail) (bytes : List ℕ) (
   enum_in (Some e) (values.Int n) v within h = subst (IsValueIn size) (ok_is (values.Member e n) v h) tt
   enum_in (Some e) w v within h = absurd (cc)
 
-  argument_stream : (p q : Trail) (step : Option Step) (g : Origin) (start : Place) → IsStreamIn size g.home → IsStreamIn size (setting_of_holder p q step g start).stream
+  argument_stream : (p q : Trail) (step : Option Step) (g : Origin) (start : Place) → IsStreamIn size g.home → IsStreamIn size (member_setting p q step g start).stream
   argument_stream p q (Some (steps.Index i)) g start home = home
   argument_stream p q _ g start home = home
 

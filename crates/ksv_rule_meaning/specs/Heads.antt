@@ -246,6 +246,12 @@ element_start l g i = if g.is_empty || is_past g.count i then raise kinds.BadInd
 abbrev pub within : Setting → ℕ → Setting
 within at i = record at { index = Some i }
 
+-- Where the expressions of the member by which p is read are evaluated: at the place s, in the object that holds it, with the number
+-- of p where p is an element. Their faults are at the path r.
+abbrev pub member_setting : Trail → Trail → Option Step → Origin → Place → Setting
+member_setting r p (Some (steps.Index i)) g s = within (setting (parent (parent p)) g.home s r) i
+member_setting r p _ g s = setting (parent p) g.home s r
+
 -- the element i of l, which is p; l is an attribute of the object q
 unfoldable pub element_head : Description → Trail → Trail → Trail → ℕ → Rule Head
 element_head d p l q i = do

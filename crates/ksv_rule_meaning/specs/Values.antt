@@ -12,8 +12,6 @@ use Rattle.ksv_expr_value.specs.Range.{ranged}
 use Rattle.ksv_expr_value.specs.Encodings.{decoded}
 use Rattle.ksv_expr_value.specs.declared.encoding.Encoding.{Encoding}
 use Rattle.ksv_expr_value.specs.declared.fault.FaultKind.TheVariants as kinds
-use Rattle.ksv_expr_value.specs.declared.step.Step.{Step}
-use Rattle.ksv_expr_value.specs.declared.step.Step.TheVariants as steps
 use Rattle.ksv_expr_value.specs.declared.value.Value.{Value}
 use Rattle.ksv_expr_value.specs.declared.value.Value.TheVariants as values
 use Rattle.ksv_desc.specs.Description.{Description, MemberKind, Parameter, ValueInstance, Field, Content, Extent, Sized, SizeEos, ByItself, Terminator}
@@ -28,7 +26,7 @@ use Rattle.ksv_nodes.specs.Reading.{first_at}
 use Rattle.ksv_nodes.specs.Rule.{Rule, raise, ask_head, peek}
 use Rattle.ksv_rule_meaning.specs.Choosing.{content_of}
 use Rattle.ksv_rule_meaning.specs.Fields.{members_of, kind_of, field_of, parameters_before}
-use Rattle.ksv_rule_meaning.specs.Heads.{setting, within, instance_setting}
+use Rattle.ksv_rule_meaning.specs.Heads.{member_setting, instance_setting}
 use Rattle.ksv_rule_meaning.specs.Integers.{integer_value}
 use Rattle.ksv_rule_meaning.specs.Wanted.{expression}
 
@@ -146,14 +144,9 @@ argument_at no_arguments i = raise kinds.NoSuch
 argument_at (argument e es) zero = Answer e
 argument_at (argument e es) (suc i) = argument_at es i
 
--- Where the arguments of the object q are evaluated: in the object that holds the attribute by which q is read, with the number of q
--- where it is an element. Their faults are at p, the parameter.
-abbrev pub setting_of_holder : Trail → Trail → Option Step → Origin → Place → Setting
-setting_of_holder p q (Some (steps.Index i)) g start = within (setting (parent (parent q)) g.home start p) i
-setting_of_holder p q _ g start = setting (parent q) g.home start p
-
+-- Where the arguments of the object q are evaluated: where the member by which q is read is. Their faults are at p, the parameter.
 abbrev pub argument_setting : Trail → Trail → Origin → Place → Setting
-argument_setting p q g start = setting_of_holder p q (last q) g start
+argument_setting p q g start = member_setting p q (last q) g start
 
 -- the value of an argument isn't converted
 unfoldable pub plain_value : Setting → Tree → Rule Value
