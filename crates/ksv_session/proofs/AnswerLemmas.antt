@@ -14,7 +14,6 @@ use Rattle.ksv_session.specs.Runs.{Breaks, Serves, Taken}
 use Rattle.ksv_session.specs.Seen.{answer_seen, is_refusal}
 use Rattle.ksv_lines.specs.declared.device.Failed.{Failed}
 use Rattle.ksv_session.specs.declared.reply.Reply.{Reply}
-use Rattle.ksv_session.specs.Tallies.{tally_in}
 use Rattle.ksv_session.proofs.RunLemmas.{KeepsOne, answered_line, broken_line, last_line, lines_behind, quit_line}
 use Rattle.ksv_session.proofs.TallyLemmas.{holds_tally}
 

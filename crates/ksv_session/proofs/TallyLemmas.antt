@@ -1,5 +1,5 @@
 -- What is kept along a session, line by line.
-use Rattle.std.proofs.Common.{◌≡◌, ◌∙◌, ℕ, Bool, true, false, List, [], ◌∷◌, ◌++◌, fold, length, ap, refl, subst, sym, true≢false, if◌then◌else◌}
+use Rattle.std.proofs.Common.{◌≡◌, ◌∙◌, ℕ, Bool, true, false, List, [], ◌∷◌, ◌++◌, fold, length, ap, refl, subst, sym, true≢false}
 use Rattle.ksv_commands.specs.Commands.{command_of}
 use Rattle.ksv_commands.specs.declared.command.Command.{Command}
 use Rattle.ksv_commands.specs.declared.command.Command.TheVariants.{App, Ask, Blank, Bytes, Del, Ins, Put, Quit, Refused, Set, Size, Stats}
@@ -7,7 +7,7 @@ use Rattle.ksv_desc.specs.Description.{Description}
 use Rattle.ksv_nodes.specs.declared.node.Node.{Node}
 use Rattle.ksv_session.specs.Explored.{Explored, tally_of}
 use Rattle.ksv_session.specs.Kept.{AreTheSame, Holds, IsEachOnce, LeftBy, Memory, Remembers, memory_after}
-use Rattle.ksv_session.specs.Replies.{Answer, Event, Tally, answer, is_fair}
+use Rattle.ksv_session.specs.Replies.{Event, answer, is_fair}
 use Rattle.ksv_session.specs.Session.{Standing, after_event, answered}
 use Rattle.ksv_session.specs.Tallies.{Behind, Keeps, memory_of, tally_in}
 

@@ -1,6 +1,5 @@
 use Rattle.std.proofs.Common.{◌∙◌, ◌++◌, Global, Ok, String, ap, codes, string_bytes, sym}
 use Rattle.ksv_basics.specs.Plan.{Answer}
-use Rattle.ksv_desc.specs.Description.{members}
 use Rattle.ksv_texts.specs.Texts.{names_text}
 use Rattle.ksv_questions.specs.Code.{desc_of, bytes_of}
 use Rattle.ksv_questions.specs.Questions.{parts_of}
