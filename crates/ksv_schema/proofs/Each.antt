@@ -1,5 +1,5 @@
 -- A loop that reads each of a list.
-use Rattle.std.proofs.Common.{◌≡◌, ℕ, suc, ◌+◌, ◌<◌, ◌≤◌, List, [], ◌∷◌, map, length, get_or, drop, refl, sym, ap, ◌∙◌, add-one, drop-cons, Option, Some, None, Vec, Global}
+use Rattle.std.proofs.Common.{◌≡◌, ℕ, suc, ◌+◌, ◌<◌, ◌≤◌, List, [], ◌∷◌, map, length, get_or, drop, refl, sym, ap, ◌∙◌, add-one, drop-cons, Option, Some, None, Result, Ok, Err, Vec, Global}
 use Rattle.std.specs.Prelude.{option_map}
 use Rattle.std.proofs.lemmas.List.{drop_all, append_assoc, append-nil, map-append}
 use Rattle.ksv_desc.specs.Names.{distinct_behind}
@@ -7,7 +7,7 @@ use Rattle.ksv_desc.proofs.Dots.{distinct_append}
 use Rattle.ksv_schema.specs.declared.values.reader.Reader.{Reader}
 use Rattle.ksv_schema.specs.Faults.{Fault, noted}
 use Rattle.ksv_schema.specs.Reading.{Reading, made, both, each_from}
-use Rattle.ksv_schema.specs.Code.{seen_fault, IsRead, paired, items_of, pushed, joined}
+use Rattle.ksv_schema.specs.Code.{seen_fault, IsRead, Reads, paired, items_of, pushed, Pushes, joined}
 use Rattle.ksv_schema.proofs.Noted.{noted_append, noted_none}
 
 -- what is made so far, with the rest that is still to be read, is all
@@ -15,10 +15,6 @@ pub record IsSoFar {A : Type 0} (all rest : Reading (List A)) (so_far : Option (
   pub value : joined so_far rest.value ≡ all.value
   pub faults : noted (seen_fault now.least) rest.faults ≡ noted (seen_fault old.least) all.faults
   pub words : distinct_behind now.names rest.words ≡ distinct_behind old.names all.words
-
-pub joined_nothing : {A : Type 0} (o : Option (List A)) → joined (Some []) o ≡ o
-joined_nothing None = refl
-joined_nothing (Some xs) = refl
 
 pub joined_end : {A : Type 0} (o : Option (List A)) → joined o (Some []) ≡ o
 joined_end None = refl
@@ -46,24 +42,6 @@ so_far_step {A} all rest r so_far more x old now new h read is = record {
   words = ap (λ (o : List (List ℕ)). distinct_behind o rest.words) read.words ∙ sym (distinct_append now.names r.words rest.words) ∙ h.words;
 }
 
--- ---- each of a slice
-
-module _ {X A B : Type 0} (see : X → A) (f : ℕ → A → Reading B) (xs : List X) (all : Reading (List B)) where
-  pub each_from_step : (i : ℕ) (x : X) (so_far more : Option (List B)) (next : Option B) (old now new : Reader) → i < length xs → x ≡ get_or xs i x
-      → IsRead (f i (see x)) next now new → more ≡ pushed so_far next
-      → IsSoFar all (each_from f i (map see (drop i xs))) so_far old now → IsSoFar all (each_from f (i + 1) (map see (drop (i + 1) xs))) more old new
-  each_from_step i x so_far more next old now new lt is read pushes h =
-      let e : each_from f i (map see (drop i xs)) ≡ made (λ p. p.0 ∷ p.1) (both (f i (see x)) (each_from f (i + 1) (map see (drop (i + 1) xs)))) =
-      ap (λ (ys : List X). each_from f i (map see ys)) (drop-cons xs i x lt)
-      ∙ ap (λ (y : X). made (λ p. p.0 ∷ p.1) (both (f i (see y)) (each_from f (i + 1) (map see (drop (suc i) xs))))) (sym is)
-      ∙ ap (λ (j : ℕ). made (λ p. p.0 ∷ p.1) (both (f i (see x)) (each_from f (i + 1) (map see (drop j xs))))) (sym (add-one i)) in
-      so_far_step all (each_from f (i + 1) (map see (drop (i + 1) xs))) (f i (see x)) so_far more next old now new (rw e at h) read pushes
-
-  pub each_from_end : (i : ℕ) (so_far : Option (List B)) (old now : Reader) → length xs ≤ i → IsSoFar all (each_from f i (map see (drop i xs))) so_far old now → IsRead all so_far old now
-  each_from_end i so_far old now le h =
-      let e : each_from f i (map see (drop i xs)) ≡ record { faults = []; words = []; value = Some [] } = ap (λ (ys : List X). each_from f i (map see ys)) (drop_all i xs le) in
-      so_far_end all so_far old now (rw e at h)
-
 -- ---- what is made as a vector
 
 seen_items : {X A : Type 0} (see : X → A) (o : Option (Vec X Global)) → option_map (λ v. map see v.items) o ≡ option_map (λ (xs : List X). map see xs) (items_of o)
@@ -80,3 +58,28 @@ pub pushed_seen : {X A : Type 0} (see : X → A) (so_far more : Option (Vec X Gl
 pushed_seen see so_far more next is =
     seen_items see more ∙ ap (λ (o : Option (List _)). option_map (λ xs. map see xs) o) is ∙ map_pushed see (items_of so_far) next
     ∙ ap (λ (o : Option (List _)). pushed o (option_map see next)) (sym (seen_items see so_far))
+
+-- ---- each of a slice
+
+module _ {X A B : Type 0} (see : X → A) (f : ℕ → A → Reading B) (xs : List X) (all : Reading (List B)) where
+  pub each_from_step : (i : ℕ) (x : X) (so_far more : Option (List B)) (next : Option B) (old now new : Reader) → i < length xs → x ≡ get_or xs i x
+      → IsRead (f i (see x)) next now new → more ≡ pushed so_far next
+      → IsSoFar all (each_from f i (map see (drop i xs))) so_far old now → IsSoFar all (each_from f (i + 1) (map see (drop (i + 1) xs))) more old new
+  each_from_step i x so_far more next old now new lt is read pushes h =
+      let e : each_from f i (map see (drop i xs)) ≡ made (λ p. p.0 ∷ p.1) (both (f i (see x)) (each_from f (i + 1) (map see (drop (i + 1) xs)))) =
+      ap (λ (ys : List X). each_from f i (map see ys)) (drop-cons xs i x lt)
+      ∙ ap (λ (y : X). made (λ p. p.0 ∷ p.1) (both (f i (see y)) (each_from f (i + 1) (map see (drop (suc i) xs))))) (sym is)
+      ∙ ap (λ (j : ℕ). made (λ p. p.0 ∷ p.1) (both (f i (see x)) (each_from f (i + 1) (map see (drop j xs))))) (sym (add-one i)) in
+      so_far_step all (each_from f (i + 1) (map see (drop (i + 1) xs))) (f i (see x)) so_far more next old now new (rw e at h) read pushes
+
+  -- the same as a function reads and pushes it
+  pub each_from_read : {Y E : Type 0} (view : Y → B) (i : ℕ) (x : X) (so_far more : Option (Vec Y Global)) (next : Result (Option Y) E) (old now new : Reader) → i < length xs → x ≡ get_or xs i x
+      → Reads (f i (see x)) view now new next → Pushes (items_of so_far) next (items_of more)
+      → IsSoFar all (each_from f i (map see (drop i xs))) (option_map (λ v. map view v.items) so_far) old now → IsSoFar all (each_from f (i + 1) (map see (drop (i + 1) xs))) (option_map (λ v. map view v.items) more) old new
+  each_from_read view i x so_far more (Ok next) old now new lt is read pushes h = each_from_step i x (option_map (λ v. map view v.items) so_far) (option_map (λ v. map view v.items) more) (option_map view next) old now new lt is read (pushed_seen view so_far more next pushes) h
+  each_from_read view i x so_far more (Err e) old now new lt is read pushes h = absurd pushes
+
+  pub each_from_end : (i : ℕ) (so_far : Option (List B)) (old now : Reader) → length xs ≤ i → IsSoFar all (each_from f i (map see (drop i xs))) so_far old now → IsRead all so_far old now
+  each_from_end i so_far old now le h =
+      let e : each_from f i (map see (drop i xs)) ≡ record { faults = []; words = []; value = Some [] } = ap (λ (ys : List X). each_from f i (map see ys)) (drop_all i xs le) in
+      so_far_end all so_far old now (rw e at h)

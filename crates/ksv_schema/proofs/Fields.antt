@@ -92,7 +92,7 @@ module _ (names : List (List ℕ)) (h : Home) where
   abbrev IsField : Field → Type 0
   IsField f = Leads c IsResolvedField (in_field c f)
 
-  parts_good : (enum : Option ℕ) (es : List Pair) → IfAny (IsEnumThere c) enum → HasText names h es → HasRepeat es → IsGood names IsField (parts h es enum es)
+  parts_good : (enum : Option ℕ) (es : List Pair) → IfAny (IsEnumThere c) enum → HasText names h es → HasRepeat es → IsGood names IsField (parts (record { home = h; entries = es; beside = es; enum = enum }))
   unfolding parts
   parts_good enum es e i r =
       made_good _

@@ -2,6 +2,7 @@
 use Rattle.std.proofs.Common.{◌≡◌, ℕ, Bool, true, false, cond, List, [], ◌∷◌, sym, ap, ◌∙◌, refl, Option, Some, None, arith, zero, suc, subst, ◌⊎◌, inl, inr}
 use Rattle.std.specs.Prelude.{nat_lt, ◌==◌, ◌||◌, ◌&&◌, All, Contains}
 use Rattle.std.proofs.lemmas.Bool.Decides.{nat_tests}
+use Rattle.std.proofs.lemmas.Option.{same_Some}
 use Rattle.ksv_schema.specs.Faults.{Fault, noted, lesser, is_below, IsLeast}
 
 -- what isn't below a middle one isn't below one that is above it
@@ -53,12 +54,9 @@ all_cons : {A : Type 0} (P : A → Type 0) (x : A) (xs : List A) → P x → All
 all_cons P x xs p h zero d lt = p
 all_cons P x xs p h (suc k) d lt = h k d (omega arith)
 
-some_same : {A : Type 0} (x y : A) → Some x ≡ Some y → x ≡ y
-some_same x y h = cc
-
 among : (so_far f : Fault) (fs : List Fault) → noted (Some so_far) fs ≡ Some f → Among so_far f fs
 among so_far f [] h =
-    let e : so_far ≡ f = some_same so_far f (sym (noted_nil (Some so_far)) ∙ h) in
+    let e : so_far ≡ f = same_Some so_far f (sym (noted_nil (Some so_far)) ∙ h) in
     record { here = inl e; first = subst (λ (f : Fault). is_below so_far f ≡ false) e (below_self so_far); others = all_none (λ x. is_below x f ≡ false) }
 among so_far f (g ∷ fs) h = by_test (is_below g so_far) refl (among so_far f fs) (among g f fs)
   where

@@ -6,18 +6,11 @@ use Rattle.std.specs.Str.{IsUtf8, IsAscii}
 use Rattle.std.proofs.lemmas.Str.{IsUtf8-from_ascii}
 use Rattle.std.proofs.lemmas.List.{take_more, length-drop, drop-drop}
 use Rattle.std.proofs.lemmas.List.Folds.{list_all-append}
+use Rattle.std.proofs.lemmas.Bool.{and_parts, and_right}
 use Rattle.std.proofs.lemmas.Bool.Decides.{nat_tests}
 use Rattle.ksv_schema.specs.Keys.{is_letter, is_id_byte, is_id}
 use Rattle.ksv_schema.specs.KeyTexts.{names_in, ids_of}
 use Rattle.ksv_schema.specs.KeyCode.{begins_with_colons, IsFirstName}
-
-and_first : (a b : Bool) → (a && b) ≡ true → a ≡ true
-and_first true b h = refl
-and_first false b h = absurd cc
-
-and_second : (a b : Bool) → (a && b) ≡ true → b ≡ true
-and_second true b h = h
-and_second false b h = absurd cc
 
 -- ---- one name
 
@@ -66,8 +59,8 @@ byte_low c h = grind (arith, nat_tests)
 
 bytes_low : (cs : List ℕ) → list_all is_id_byte cs ≡ true → IsAscii cs
 bytes_low [] h i = omega arith
-bytes_low (c ∷ cs) h zero = byte_low c (and_first (is_id_byte c) (list_all is_id_byte cs) h)
-bytes_low (c ∷ cs) h (suc i) = bytes_low cs (and_second (is_id_byte c) (list_all is_id_byte cs) h) i
+bytes_low (c ∷ cs) h zero = byte_low c (and_parts (is_id_byte c) (list_all is_id_byte cs) h).0
+bytes_low (c ∷ cs) h (suc i) = bytes_low cs (and_parts (is_id_byte c) (list_all is_id_byte cs) h).1 i
 
 pub id_is_utf8 : (text : List ℕ) → is_id text ≡ true → IsUtf8 text
 unfolding is_id
@@ -75,8 +68,8 @@ id_is_utf8 [] h = absurd cc
 id_is_utf8 (c ∷ cs) h = IsUtf8-from_ascii (c ∷ cs) all
   where
     all : IsAscii (c ∷ cs)
-    all zero = letter_low c (and_first (is_letter c) (list_all is_id_byte cs) h)
-    all (suc i) = bytes_low cs (and_second (is_letter c) (list_all is_id_byte cs) h) i
+    all zero = letter_low c (and_parts (is_letter c) (list_all is_id_byte cs) h).0
+    all (suc i) = bytes_low cs (and_parts (is_letter c) (list_all is_id_byte cs) h).1 i
 
 -- ---- all names
 
@@ -85,13 +78,9 @@ module _ (text : List ℕ) where
   unfolding ids_of
   ids_none names more name e h =
       let bad = not_id name (is_id name) h in
-      let no : list_all is_id (names_in [] text) ≡ false = ap (list_all is_id) (sym e) ∙ list_all-append is_id names (name ∷ more) ∙ ap (λ b. list_all is_id names && (b && list_all is_id more)) bad ∙ and_false (list_all is_id names) in
+      let no : list_all is_id (names_in [] text) ≡ false = ap (list_all is_id) (sym e) ∙ list_all-append is_id names (name ∷ more) ∙ ap (λ b. list_all is_id names && (b && list_all is_id more)) bad ∙ and_right (list_all is_id names) false refl in
       sym (ap (λ b. if b then Some (names_in [] text) else None) no)
     where
-      and_false : (b : Bool) → (b && false) ≡ false
-      and_false true = refl
-      and_false false = refl
-
       not_id : (name : List ℕ) (b : Bool) → None ≡ (if b then Some name else None) → b ≡ false
       not_id name true h = absurd (let k : None ≡ Some name = h in cc)
       not_id name false h = refl

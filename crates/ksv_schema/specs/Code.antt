@@ -5,14 +5,16 @@
 -- notes faults has the least fault alone: `seen_fault least.new ≡ noted (seen_fault least.old) faults`; it is called
 -- with `&mut reader.least`.
 use Rattle.std.specs.declared.alloc.Global.{Global}
-use Rattle.std.specs.Prelude.{◌≡◌, ◌++◌, ℕ, Bool, not, ◌&&◌, if◌then◌else◌, List, [], ◌∷◌, Vec, Option, Some, option_map, option_and_then, Result, Ok, Err, codes}
+use Rattle.std.specs.Prelude.{◌≡◌, ◌++◌, ℕ, Bool, not, ◌&&◌, if◌then◌else◌, List, [], ◌∷◌, map, Vec, Option, Some, option_map, option_and_then, Result, Ok, Err, codes}
 use Rattle.ksv_expr_syntax.specs.Faults as expressions
 use Rattle.ksv_schema_names.specs.Table.{declared}
+use Rattle.ksv_yaml_tree.specs.View.{pair}
 use Rattle.ksv_schema.specs.KeyTexts.{looks_like_number}
 use Rattle.ksv_desc.specs.Names.{distinct_behind}
 use Rattle.ksv_schema.specs.declared.values.fault.DescFault.{DescFault}
 use Rattle.ksv_schema.specs.declared.values.fault.DescFaultKind.{DescFaultKind}
 use Rattle.ksv_schema.specs.declared.values.fault.DescFaultKind.TheVariants as kinds
+use Rattle.ksv_schema.specs.declared.values.reader.FieldKeys.{FieldKeys as FieldKeysOfCode}
 use Rattle.ksv_schema.specs.declared.values.reader.Home.{Home as HomeOfCode}
 use Rattle.ksv_schema.specs.declared.values.reader.Reader.{Reader}
 use Rattle.ksv_schema.specs.declared.values.rule.Claim as claims
@@ -23,7 +25,7 @@ use Rattle.ksv_schema.specs.declared.values.rule.Ruled.{Ruled as RuledOfCode}
 use Rattle.ksv_schema.specs.Faults.{Fault, noted, unknown_key, missing_key, keys_against, unknown_name, no_byte_order, bad_value, wrong_count, left_out, over_limit, no_expression}
 use Rattle.ksv_schema.specs.Reading.{Reading, gives, wrong}
 use Rattle.ksv_schema.specs.Rules.{Claim, Has, Says, IsInteger, Rule, Excludes, Needs, Attends, Ruled, ruled}
-use Rattle.ksv_schema.specs.Values.{Home}
+use Rattle.ksv_schema.specs.Values.{Home, FieldKeys}
 
 -- ---- faults
 
@@ -81,6 +83,9 @@ seen_fault o = option_map plain o
 abbrev pub seen_home : HomeOfCode → Home
 seen_home h = record { declared = declared h.scopes.now; within = h.within; in_sequence = h.in_sequence; is_repeated = h.is_repeated }
 
+abbrev pub seen_keys : FieldKeysOfCode → FieldKeys
+seen_keys k = record { home = seen_home k.home; entries = map pair k.entries.now; beside = map pair k.beside.now; enum = k.enumeration }
+
 -- ---- what is read
 
 -- a reading was read with this value: its faults are noted, and its words are among the names
@@ -102,17 +107,31 @@ abbrev pub both_of : {A B E : Type 0} → Option A → Result (Option B) E → R
 both_of one (Ok other) = Ok (paired one other)
 both_of one (Err e) = Err e
 
+-- a part, if the one before it is there too
+abbrev pub after : {A B E : Type 0} → Option A → Result (Option B) E → Result (Option B) E
+after one (Ok part) = Ok (option_and_then (λ x. part) one)
+after one (Err e) = Err e
+
+-- a part at a key that may be absent, where it isn't
+abbrev pub present : {A E : Type 0} → Result (Option A) E → Result (Option (Option A)) E
+present (Ok part) = Ok (option_map Some part)
+present (Err e) = Err e
+
 -- a part, if what it needs was done
 abbrev pub kept_if : {A B E : Type 0} → A → Result B E → Result (Option A) E
 kept_if x (Ok done) = Ok (Some x)
 kept_if x (Err e) = Err e
 
--- the items of a list, and one more behind them
+-- the items of a list, and one more behind them, if it was read
 abbrev pub items_of : {A : Type 0} → Option (Vec A Global) → Option (List A)
 items_of o = option_map (λ v. v.items) o
 
 abbrev pub pushed : {A : Type 0} → Option (List A) → Option A → Option (List A)
 pushed made next = option_and_then (λ xs. option_map (λ x. xs ++ x ∷ []) next) made
+
+abbrev pub Pushes : {A E : Type 0} → Option (List A) → Result (Option A) E → Option (List A) → Type 0
+Pushes made (Ok next) all = all ≡ pushed made next
+Pushes made (Err e) all = ⊥
 
 abbrev pub joined : {A : Type 0} → Option (List A) → Option (List A) → Option (List A)
 joined made next = option_and_then (λ xs. option_map (λ ys. xs ++ ys) next) made

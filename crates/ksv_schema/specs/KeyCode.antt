@@ -14,7 +14,7 @@ use Rattle.ksv_schema.specs.declared.keys.texts.Piece as pieces
 use Rattle.ksv_schema.specs.declared.keys.texts.Piece.TheVariants as piece
 use Rattle.ksv_schema.specs.declared.keys.texts.CaseKey as case_keys
 use Rattle.ksv_schema.specs.declared.keys.texts.CaseKey.TheVariants as case_key
-use Rattle.ksv_schema.specs.KeyTexts.{TypeText, Unspelled, OfLanguage, OfDescription, is_integer, is_str, is_strz, Piece, Bytes, BadPiece, LeftOutPiece, names_in, CaseKey, Constant, Negative, Member, Default, NoKey}
+use Rattle.ksv_schema.specs.KeyTexts.{TypeText, Unspelled, OfLanguage, OfDescription, is_integer, is_str, is_strz, Piece, Bytes, BadPiece, LeftOutPiece, names_in, CaseKey, Constant, Negative, OfEnum, Default, NoKey}
 use Rattle.ksv_schema.specs.declared.keys.forms.Key.{Key as KeyOfCode}
 use Rattle.ksv_schema.specs.Keys.{Key, key}
 
@@ -75,7 +75,7 @@ negative_key _ = NoKey
 abbrev pub seen_case_key : case_keys.CaseKey → CaseKey
 seen_case_key (case_key.Constant l) = Constant (expressions.literal_of l.now)
 seen_case_key (case_key.Negative n) = Negative n
-seen_case_key (case_key.Member m) = Member (expressions.member_of m.now)
+seen_case_key (case_key.OfEnum m) = OfEnum (expressions.member_of m.now)
 seen_case_key case_key.Default = Default
 seen_case_key case_key.NoKey = NoKey
 

@@ -113,14 +113,14 @@ piece_of (Map line es) = BadPiece
 pub data CaseKey : Type 0 where
   Constant : expressions.Constant → CaseKey
   Negative : ℕ → CaseKey
-  Member : expressions.MemberPath → CaseKey
+  OfEnum : expressions.MemberPath → CaseKey
   Default : CaseKey
   NoKey : CaseKey
 
 unfoldable pub case_key : expressions.Tree → CaseKey
 case_key (expressions.literal c) = Constant c
 case_key (expressions.unary unaries.Negate (expressions.literal (expressions.integer n))) = if nat_le n (2 ^ 63) then Negative n else NoKey
-case_key (expressions.member m) = Member m
+case_key (expressions.member m) = OfEnum m
 case_key (expressions.special specials.Element) = Default
 case_key _ = NoKey
 

@@ -19,7 +19,7 @@ use Rattle.ksv_schema.specs.KeyTexts.{TypeText, is_str, is_strz, own_type, is_a,
 use Rattle.ksv_schema.specs.Faults.{Fault, fault, fault_if, missing_key, keys_against, bad_value, left_out}
 use Rattle.ksv_schema.specs.Reading.{Reading, gives, wrong, also, valueless, chosen, made, both, after, perhaps, must}
 use Rattle.ksv_schema.specs.Rules.{keys_faults, missing, at_if, together}
-use Rattle.ksv_schema.specs.Values.{Home, home_of, expression, own_enum, is_declared, choice}
+use Rattle.ksv_schema.specs.Values.{Home, home_of, FieldKeys, expression, own_enum, is_declared, choice}
 
 -- ---- attributes and parse instances
 
@@ -60,11 +60,11 @@ terminated_by es byte = record {
 unfoldable pub terminator_of : Option TypeText → List Pair → Option Terminator
 terminator_of typed es = option_map (terminated_by es) (if is_a is_strz typed then Some 0 else byte_at (codes "terminator") es)
 
--- what these keys state, with this enum; its cases must fit to the keys beside it
-unfoldable pub parts : Home → List Pair → Option ℕ → List Pair → Reading Field
-parts h beside enum es =
-    made (λ p. record { condition = p.0.0.0; repeat = p.0.0.1; choice = p.0.1; extent = p.1; terminator = terminator_of (own_type es) es })
-    (both (both (timed h es) (choice h beside enum es)) (extent h es))
+-- what these keys state
+unfoldable pub parts : FieldKeys → Reading Field
+parts k =
+    made (λ p. record { condition = p.0.0.0; repeat = p.0.0.1; choice = p.0.1; extent = p.1; terminator = terminator_of (own_type k.entries) k.entries })
+    (both (both (timed k.home k.entries) (choice k)) (extent k.home k.entries))
 
 -- ---- what an attribute or a parse instance needs
 
@@ -91,7 +91,7 @@ unsupported h typed es =
 
 unfoldable pub field : Home → MappingKind → ℕ → Option ℕ → Option TypeText → List Pair → Reading Field
 field h kind line enum typed es =
-    also (together kind line typed es ++ needs h line typed es ++ unsupported h typed es) (parts h es enum es)
+    also (together kind line typed es ++ needs h line typed es ++ unsupported h typed es) (parts (record { home = h; entries = es; beside = es; enum = enum }))
 
 -- ---- members, by their kinds
 
@@ -121,7 +121,7 @@ value_instance h line es =
 unfoldable pub placeless : Home → ℕ → List Pair → Reading MemberKind
 placeless h name_line es =
     also (fault name_line left_out)
-    (valueless (both (both (perhaps (expression h sites.Stream) (entry_at (codes "io") es)) (own_enum h es)) (parts h [] (enum_in (own_enum h es)) es)))
+    (valueless (both (both (perhaps (expression h sites.Stream) (entry_at (codes "io") es)) (own_enum h es)) (parts (record { home = h; entries = es; beside = []; enum = enum_in (own_enum h es) }))))
 
 -- a member whose name is on this line, with this first line and these keys
 unfoldable pub by_kind : Home → MappingKind → ℕ → ℕ → List Pair → Reading MemberKind

@@ -29,7 +29,7 @@ use Rattle.ksv_desc.specs.Description.{Content, Fixed, Bytes, Number, Characters
 use Rattle.ksv_expr_value.specs.declared.encoding.Encoding.{Encoding}
 use Rattle.ksv_schema.specs.declared.keys.forms.MappingKind.TheVariants as kinds
 use Rattle.ksv_schema.specs.Expressions.{expression_of}
-use Rattle.ksv_schema.specs.KeyTexts.{encoding_named, TypeText, Unspelled, OfLanguage, OfDescription, type_text, is_integer, is_str, is_strz, looks_like_number, Piece, Bytes as BytesPiece, BadPiece, LeftOutPiece, piece_of, CaseKey, Constant, Negative, Member, Default, NoKey, case_key, ids_of, is_repeated}
+use Rattle.ksv_schema.specs.KeyTexts.{encoding_named, TypeText, Unspelled, OfLanguage, OfDescription, type_text, is_integer, is_str, is_strz, looks_like_number, Piece, Bytes as BytesPiece, BadPiece, LeftOutPiece, piece_of, CaseKey, Constant, Negative, OfEnum, Default, NoKey, case_key, ids_of, is_repeated}
 use Rattle.ksv_schema.specs.Faults.{Fault, fault_if, unknown_name, no_byte_order, bad_value, wrong_count, left_out, no_expression}
 use Rattle.ksv_schema.specs.Reading.{Reading, gives, wrong, found, also, made, both, each, perhaps, must, text, mapping}
 use Rattle.ksv_schema.specs.Rules.{keys_faults, Says, claimed, against, line_of_key, at_if}
@@ -110,6 +110,14 @@ contents p =
 
 -- ---- types
 
+-- the keys of what is read, and what their values depend on: where their mapping is, the number of the enum at `enum`, and
+-- the keys that the type of a case must fit to
+pub record FieldKeys : Type 0 where
+  pub home : Home
+  pub entries : List Pair
+  pub beside : List Pair
+  pub enum : Option ℕ
+
 -- the order of an integer, its own or the one in force; one byte has any
 unfoldable pub order_at : Home → ℕ → Option ByteOrder → Option ByteOrder
 order_at h bytes (Some order) = Some order
@@ -120,25 +128,25 @@ unfoldable pub encoding_at : Home → List Pair → Option Encoding
 encoding_at h es = option_map_or Some (text_at (codes "encoding") es) (encoding_of h.declared.types h.within) >>= encoding_named
 
 -- a type of the language; that a text has an encoding is a need of the attribute
-abbrev pub of_language : Home → Option ℕ → List Pair → ℕ → BuiltIn → Reading Content
-of_language h enum es line (Integer signed bytes order) = made (λ order. Number signed bytes order enum) (found line no_byte_order (order_at h bytes order))
-of_language h enum es line Str = record { faults = []; words = []; value = option_map Characters (encoding_at h es) }
-of_language h enum es line Strz = record { faults = []; words = []; value = option_map Characters (encoding_at h es) }
-of_language h enum es line NotHere = wrong line left_out
+abbrev pub of_language : FieldKeys → ℕ → BuiltIn → Reading Content
+of_language k line (Integer signed bytes order) = made (λ order. Number signed bytes order k.enum) (found line no_byte_order (order_at k.home bytes order))
+of_language k line Str = record { faults = []; words = []; value = option_map Characters (encoding_at k.home k.entries) }
+of_language k line Strz = record { faults = []; words = []; value = option_map Characters (encoding_at k.home k.entries) }
+of_language k line NotHere = wrong line left_out
 
 -- whether a type has other parameters than this many arguments; an unknown type has a fault of its own
 abbrev pub counts_differ : Home → ℕ → Option ℕ → Bool
 counts_differ h given None = false
 counts_differ h given (Some t) = not (length (parameters_within h.declared.types t) == given)
 
--- the text of a type, in an attribute of these keys and this enum: a type of the language has no arguments, one of the
--- description has as many as it has parameters
-unfoldable pub of_type : Home → Option ℕ → List Pair → ℕ → TypeText → Reading Content
-of_type h enum es line Unspelled = wrong line no_expression
-of_type h enum es line (OfLanguage b given) = also (fault_if (not (count given == 0)) line wrong_count) (made (λ p. p.1) (both (arguments h line given) (of_language h enum es line b)))
-of_type h enum es line (OfDescription t given) =
-    let n = type_named h.declared.types h.within t.path in
-    also (fault_if (counts_differ h (count given) n) line wrong_count) (made (λ p. Object p.0 p.1) (both (found line unknown_name n) (arguments h line given)))
+-- the text of a type, among these keys: a type of the language has no arguments, one of the description has as many as it
+-- has parameters
+unfoldable pub of_type : FieldKeys → ℕ → TypeText → Reading Content
+of_type k line Unspelled = wrong line no_expression
+of_type k line (OfLanguage b given) = also (fault_if (not (count given == 0)) line wrong_count) (made (λ p. p.1) (both (arguments k.home line given) (of_language k line b)))
+of_type k line (OfDescription t given) =
+    let n = type_named k.home.declared.types k.home.within t.path in
+    also (fault_if (counts_differ k.home (count given) n) line wrong_count) (made (λ p. Object p.0 p.1) (both (found line unknown_name n) (arguments k.home line given)))
 
 -- ---- switches
 
@@ -146,7 +154,7 @@ of_type h enum es line (OfDescription t given) =
 unfoldable pub of_case_key : Home → ℕ → CaseKey → Reading (Option CaseValue)
 of_case_key h line (Constant c) = gives (Some (Literal c))
 of_case_key h line (Negative n) = gives (Some (Negated n))
-of_case_key h line (Member m) = made (λ g. Some (EnumValue g)) (found line unknown_name (given_member h.declared h.within m))
+of_case_key h line (OfEnum m) = made (λ g. Some (EnumValue g)) (found line unknown_name (given_member h.declared h.within m))
 of_case_key h line Default = gives None
 of_case_key h line NoKey = wrong line bad_value
 
@@ -171,32 +179,32 @@ case_against h es line t =
     ++ against case (line_of_key (entry_at (codes "terminator") es))
     ++ at_if (is_declared h t) (entry_at (codes "terminator") es) left_out
 
--- a case, in an attribute of the keys es; its type must fit to these keys beside it
-unfoldable pub case : Home → List Pair → Option ℕ → List Pair → Pair → Reading Case
-case h beside enum es p =
+-- a case, whose type must fit to the keys beside it
+unfoldable pub case : FieldKeys → Pair → Reading Case
+case k p =
     made (λ p. record { value = p.0; content = p.1 })
-    (both (case_value h p.line (expression_of p.key))
-    (text (λ line text. let t = type_text text in also (case_against h beside line t) (of_type h enum es line t)) p))
+    (both (case_value k.home p.line (expression_of p.key))
+    (text (λ line text. let t = type_text text in also (case_against k.home k.beside line t) (of_type k line t)) p))
 
 -- the mapping at `type`
-unfoldable pub switch : Home → List Pair → Option ℕ → List Pair → ℕ → List Pair → Reading Choice
-switch h beside enum es line keys =
-    also (keys_faults kinds.Switch keys)
+unfoldable pub switch : FieldKeys → ℕ → List Pair → Reading Choice
+switch k line es =
+    also (keys_faults kinds.Switch es)
     (made (λ p. Switch p.0 p.1)
-    (both (must line (expression h sites.Switch) (entry_at (codes "switch-on") keys))
-    (must line (mapping (each (case h beside enum es))) (entry_at (codes "cases") keys))))
+    (both (must line (expression k.home sites.Switch) (entry_at (codes "switch-on") es))
+    (must line (mapping (each (case k))) (entry_at (codes "cases") es))))
 
 -- what is at `type`: a text, or a switch
-unfoldable pub typed : Home → List Pair → Option ℕ → List Pair → Pair → Reading Choice
-typed h beside enum es p =
-    option_map_or (switch h beside enum es (line_of p.value)) (mapping_of p.value)
-    (made Always (text (λ line text. of_type h enum es line (type_text text)) p))
+unfoldable pub typed : FieldKeys → Pair → Reading Choice
+typed k p =
+    option_map_or (switch k (line_of p.value)) (mapping_of p.value)
+    (made Always (text (λ line text. of_type k line (type_text text)) p))
 
 abbrev pub content_or_type : Option (List ℕ) × Option Choice → Choice
 content_or_type (Some bytes, choice) = Always (Fixed bytes)
 content_or_type (None, Some choice) = choice
 content_or_type (None, None) = Always Bytes
 
--- what an attribute of these keys reads: without contents and a type it is bytes
-unfoldable pub choice : Home → List Pair → Option ℕ → List Pair → Reading Choice
-choice h beside enum es = made content_or_type (both (perhaps contents (entry_at (codes "contents") es)) (perhaps (typed h beside enum es) (entry_at (codes "type") es)))
+-- what these keys read: without contents and a type it is bytes
+unfoldable pub choice : FieldKeys → Reading Choice
+choice k = made content_or_type (both (perhaps contents (entry_at (codes "contents") k.entries)) (perhaps (typed k) (entry_at (codes "type") k.entries)))

@@ -185,7 +185,7 @@ pub(crate) enum CaseKey<'a> {
     /// The number after a `-`.
     Negative(u64),
     /// A member of an enum.
-    Member(&'a Member),
+    OfEnum(&'a Member),
     /// `_`
     Default,
     /// Another expression.
@@ -225,7 +225,7 @@ pub(crate) fn case_key(expr: &Expr) -> CaseKey<'_>
     match expr {
         Expr::Literal(literal) => CaseKey::Constant(literal),
         Expr::Special(SpecialName::Element) => CaseKey::Default,
-        Expr::Member(member) => CaseKey::Member(member),
+        Expr::Member(member) => CaseKey::OfEnum(member),
         Expr::Unary(UnaryOperator::Negate, operand) => negative_key(operand),
         _ => CaseKey::NoKey,
     }

@@ -67,7 +67,7 @@ fn each_member<'a>(
 {
     let mut made = Some(Vec::new(reader.alloc));
     for (number, one) in members.iter().enumerate() {
-        let next = member(reader, scopes, within, number, one)?;
+        let next = member(reader, scopes, within, number, one);
         made = pushed(made, next)?;
     }
     Ok(made)
@@ -97,7 +97,7 @@ fn all_members<'a>(
 {
     let mut made = Some(Vec::new(reader.alloc));
     for (within, own) in types.iter().enumerate() {
-        let next = members(reader, scopes, within, own)?;
+        let next = members(reader, scopes, within, own);
         made = pushed(made, next)?;
     }
     Ok(made)

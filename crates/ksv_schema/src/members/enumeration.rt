@@ -211,7 +211,7 @@ fn constants(reader: &mut Reader, entries: &[Entry]) -> Read<Vec<EnumEntry>>
     let mut made = Some(Vec::new(reader.alloc));
     for (number, entry) in entries.iter().enumerate() {
         let next = constant(reader, &mut seen, entry)?;
-        made = pushed(made, next)?;
+        made = pushed(made, Ok(next))?;
     }
     Ok(made)
 }
@@ -236,7 +236,7 @@ pub(crate) fn enumerations(reader: &mut Reader, enums: &[Row]) -> Read<Vec<EnumD
 {
     let mut made = Some(Vec::new(reader.alloc));
     for row in enums {
-        let next = enumeration(reader, row)?;
+        let next = enumeration(reader, row);
         made = pushed(made, next)?;
     }
     Ok(made)

@@ -1,6 +1,7 @@
 //! Members: parameters, attributes, parse instances and value instances.
 
 ghost use Rattle.std.specs.Prelude.{◌≡◌, None, map, option_map};
+ghost use Rattle.std.specs.Option.{option_map_or};
 ghost use Rattle.ksv_yaml_tree.specs.View.{pair};
 ghost use Rattle.ksv_expr_tree.specs.Tree.{view};
 ghost use Rattle.ksv_desc.specs.Description as desc;
@@ -11,7 +12,7 @@ ghost use Rattle.ksv_schema.specs.KeyTexts.{own_type};
 ghost use Rattle.ksv_schema.specs.KeyCode.{seen_type_at};
 ghost use Rattle.ksv_schema.specs.Faults.{noted};
 ghost use Rattle.ksv_schema.specs.Members.{parts, repeat_of, repeated, timed, extent, terminator_of, needs, unsupported, field, own_field, attribute, parse_instance, value_instance, placeless, by_kind, member_keys, name_line, is_named_again, member as stated_member};
-ghost use Rattle.ksv_schema.specs.Code.{seen_fault, seen_home, Reads};
+ghost use Rattle.ksv_schema.specs.Code.{seen_fault, seen_home, seen_keys, Reads};
 
 use crate::DescFaultKind::{BadValue, KeysAgainst, LeftOut, MissingKey};
 use crate::keys::forms::{MappingKind, is_id, kind_of};
@@ -19,7 +20,7 @@ use crate::keys::texts::{TypeKind, TypeText, byte_at, is_a, own_type};
 use crate::members::enumeration::id_line;
 use crate::values::fault::{Least, note, note_if};
 use crate::values::key::{note_keys, note_missing};
-use crate::values::reader::{Home, Read, Reader, alone, both, home_of, paired};
+use crate::values::reader::{FieldKeys, Home, Read, Reader, after, alone, both, home_of};
 use crate::values::rule::{note_at_if, note_together};
 use crate::values::types::{choice, is_declared};
 use crate::values::value::{needed_expression, own_enum, perhaps_expression};
@@ -51,7 +52,7 @@ fn repeat_of(entries: &[Entry], count: Option<Expr>, last: Option<Expr>) -> Opti
     ensures { option_map plain_repeat result ≡ repeat_of (map pair entries.now) (option_map view count) (option_map view last) }
 {
     if says(entries, b"repeat", b"eos") {
-        return alone(alone(Some(Repeat::Eos), count), last);
+        return alone(Some(Repeat::Eos), (count, last));
     }
     if says(entries, b"repeat", b"expr") {
         return alone(counted(count), last);
@@ -59,7 +60,7 @@ fn repeat_of(entries: &[Entry], count: Option<Expr>, last: Option<Expr>) -> Opti
     if says(entries, b"repeat", b"until") {
         return alone(until(last), count);
     }
-    alone(alone(Some(Repeat::Once), count), last)
+    alone(Some(Repeat::Once), (count, last))
 }
 
 /// How often an attribute of these keys is read.
@@ -122,25 +123,17 @@ fn terminator_of(typed: &Option<TypeText>, entries: &[Entry]) -> Option<Terminat
     }
 }
 
-/// What such keys state, with this enum and the type whose text is at `type`; the cases of a switch must fit to the keys
-/// beside it.
+/// What these keys state, with the type whose text is at `type`.
 #[tactic(auto, using(crate::proofs::Noted::steps, ksv_desc::proofs::Dots::steps), unfolding(crate::specs::Members::parts))]
-fn read_parts(
-    reader: &mut Reader,
-    home: Home,
-    beside: &[Entry],
-    enumeration: Option<u32>,
-    entries: &[Entry],
-    typed: Option<TypeText>,
-) -> Read<Field>
-    requires { seen_type_at typed ≡ own_type (map pair entries.now) }
-    ensures { Reads (parts (seen_home home.entry) (map pair beside.now) enumeration (map pair entries.now)) plain_field reader.old reader.new result }
+fn read_parts(reader: &mut Reader, keys: FieldKeys, typed: Option<TypeText>) -> Read<Field>
+    requires { seen_type_at typed ≡ own_type (seen_keys keys).entries }
+    ensures { Reads (parts (seen_keys keys.entry)) plain_field reader.old reader.new result }
 {
-    let terminator = terminator_of(&typed, entries);
-    let timed = timed(reader, home, entries)?;
-    let choice = choice(reader, home, beside, enumeration, entries, typed);
+    let terminator = terminator_of(&typed, keys.entries);
+    let timed = timed(reader, keys.home, keys.entries)?;
+    let choice = choice(reader, keys, typed);
     let chosen = both(timed, choice)?;
-    match both(chosen, extent(reader, home, entries))? {
+    match both(chosen, extent(reader, keys.home, keys.entries))? {
         Some(read) => {
             let (((condition, repeat), choice), extent) = read;
             Ok(Some(Field {
@@ -216,10 +209,26 @@ fn field(
     note_together(&mut reader.least, kind, line, &typed, entries);
     note_needs(&mut reader.least, home, line, &typed, entries);
     note_unsupported(&mut reader.least, home, &typed, entries);
-    read_parts(reader, home, entries, enumeration, entries, typed)
+    let keys = FieldKeys {
+        home,
+        entries,
+        beside: entries,
+        enumeration,
+    };
+    read_parts(reader, keys, typed)
 }
 
 // ---- members, by their kinds
+
+/// The enum that was read, if it was.
+fn enum_in(number: Option<Option<u32>>) -> Option<u32>
+    ensures { result ≡ option_map_or (λ e. e) number None }
+{
+    match number {
+        Some(number) => number,
+        None => None,
+    }
+}
 
 /// What an attribute or a parse instance of these keys reads, with its enum.
 #[tactic(auto, using(crate::proofs::Noted::steps, ksv_desc::proofs::Dots::steps))]
@@ -232,14 +241,10 @@ fn own_field(
 ) -> Read<Field>
     ensures { Reads (own_field (seen_home home.entry) kind line (map pair entries.now)) plain_field reader.old reader.new result }
 {
+    let number = own_enum(reader, home, entries)?;
     let typed = own_type(reader.alloc, entries)?;
-    match own_enum(reader, home, entries)? {
-        Some(number) => field(reader, home, kind, line, number, entries, typed),
-        None => {
-            drop(field(reader, home, kind, line, None, entries, typed)?);
-            Ok(None)
-        }
-    }
+    let field = field(reader, home, kind, line, enum_in(number), entries, typed);
+    after(number, field)
 }
 
 /// An attribute.
@@ -316,11 +321,15 @@ fn placeless(
 {
     note(&mut reader.least, name_line, LeftOut);
     drop(perhaps_expression(reader, home, Site::Stream, find(entries, b"io"))?);
+    let number = own_enum(reader, home, entries)?;
     let typed = own_type(reader.alloc, entries)?;
-    match own_enum(reader, home, entries)? {
-        Some(number) => drop(read_parts(reader, home, &[], number, entries, typed)?),
-        None => drop(read_parts(reader, home, &[], None, entries, typed)?),
-    }
+    let keys = FieldKeys {
+        home,
+        entries,
+        beside: &[],
+        enumeration: enum_in(number),
+    };
+    drop(read_parts(reader, keys, typed)?);
     Ok(None)
 }
 

@@ -1,6 +1,8 @@
 //! The faults of the keys of a mapping, each by its form in the table of keys.
 
-ghost use Rattle.std.specs.Prelude.{◌≡◌, map, flat_map};
+ghost use Rattle.std.specs.Prelude.{◌≡◌, [], ◌∷◌, codes, map, flat_map};
+ghost use Rattle.std.specs.List.{list_any};
+ghost use Rattle.std.specs.Str.{bytes_eq};
 ghost use Rattle.ksv_yaml_tree.specs.View.{pair};
 ghost use Rattle.ksv_schema.specs.Keys.{is_ignored};
 ghost use Rattle.ksv_schema.specs.Faults.{noted};
@@ -57,6 +59,29 @@ fn note_bit_endian(least: &mut Least, line: usize, text: &[u8])
     }
 }
 
+/// Whether a text is that of a flag.
+fn is_flag(text: &[u8]) -> bool
+    ensures { result ≡ list_any (bytes_eq text.now) (codes "true" ∷ codes "false" ∷ []) }
+{
+    if text == b"true".as_slice() {
+        return true;
+    }
+    text == b"false".as_slice()
+}
+
+/// Whether a text is allowed at `repeat`.
+fn is_repetition(text: &[u8]) -> bool
+    ensures { result ≡ list_any (bytes_eq text.now) (codes "eos" ∷ codes "expr" ∷ codes "until" ∷ []) }
+{
+    if text == b"eos".as_slice() {
+        return true;
+    }
+    if text == b"expr".as_slice() {
+        return true;
+    }
+    text == b"until".as_slice()
+}
+
 /// Whether a text is allowed at a key of this form, as far as the text alone decides.
 #[tactic(auto, unfolding(crate::specs::KeyTexts::encoding_named))]
 fn fits(form: Form, text: &[u8]) -> bool
@@ -64,10 +89,8 @@ fn fits(form: Form, text: &[u8]) -> bool
 {
     match form {
         Form::Id => is_id(text),
-        Form::Flag => text == b"true".as_slice() || text == b"false".as_slice(),
-        Form::Repeat => {
-            text == b"eos".as_slice() || text == b"expr".as_slice() || text == b"until".as_slice()
-        }
+        Form::Flag => is_flag(text),
+        Form::Repeat => is_repetition(text),
         Form::Coding => Encoding::named(text).is_some(),
         Form::ParameterType => text != b"io".as_slice(),
         _ => true,

@@ -4,7 +4,7 @@ ghost use Rattle.std.specs.Prelude.{◌≡◌, map, IfOk};
 ghost use Rattle.ksv_yaml_tree.specs.View.{pair};
 ghost use Rattle.ksv_schema_names.specs.Table.{declared};
 ghost use Rattle.ksv_schema.specs.Values.{home_of, position_at};
-ghost use Rattle.ksv_schema.specs.Code.{seen_home, paired, both_of, kept_if, items_of, pushed};
+ghost use Rattle.ksv_schema.specs.Code.{seen_home, present, paired, both_of, after, kept_if, items_of, Pushes};
 
 use crate::values::fault::Least;
 use ksv_schema_names::{Names, Position, Role, Scopes, Site};
@@ -30,6 +30,19 @@ pub(crate) struct Home<'a> {
     pub within: usize,
     pub in_sequence: bool,
     pub is_repeated: bool,
+}
+
+/// The keys of what is read, and what their values depend on.
+#[derive(Clone, Copy)]
+pub(crate) struct FieldKeys<'a, 'e> {
+    /// Where their mapping is.
+    pub home: Home<'a>,
+    /// The keys, with their values.
+    pub entries: &'e [Entry],
+    /// The keys that the type of a case must fit to.
+    pub beside: &'e [Entry],
+    /// The number of the enum at `enum`.
+    pub enumeration: Option<u32>,
 }
 
 /// What is read of a part of a tree: nothing where something is missing, which has a fault. Only memory is refused.
@@ -84,6 +97,17 @@ pub(crate) fn paired<A: Drop, B: Drop>(one: Option<A>, other: Option<B>) -> Opti
     }
 }
 
+/// A part at a key that may be absent, where it isn't.
+pub(crate) fn present<T: Drop>(part: Read<T>) -> Read<Option<T>>
+    ensures { result ≡ present part }
+{
+    match part {
+        Ok(Some(part)) => Ok(Some(Some(part))),
+        Ok(None) => Ok(None),
+        Err(refused) => Err(refused),
+    }
+}
+
 /// A part, without the other one.
 pub(crate) fn alone<A, B: Drop>(one: A, _other: B) -> A
     ensures { result ≡ one }
@@ -101,6 +125,17 @@ pub(crate) fn both<A: Drop, B: Drop>(one: Option<A>, other: Read<B>) -> Read<(A,
     }
 }
 
+/// A part, if the one before it is there too.
+pub(crate) fn after<A: Drop, B: Drop>(one: Option<A>, part: Read<B>) -> Read<B>
+    ensures { result ≡ after one part }
+{
+    match both(one, part) {
+        Ok(Some((_one, part))) => Ok(Some(part)),
+        Ok(None) => Ok(None),
+        Err(refused) => Err(refused),
+    }
+}
+
 /// A part, where memory sufficed for what comes with it.
 pub(crate) fn kept<A: Drop>(part: A, done: Result<(), AllocError>) -> Read<A>
     ensures { result ≡ kept_if part done }
@@ -112,10 +147,10 @@ pub(crate) fn kept<A: Drop>(part: A, done: Result<(), AllocError>) -> Read<A>
 }
 
 /// A list with one item more, if both are there.
-pub(crate) fn pushed<T: Drop>(made: Option<Vec<T>>, next: Option<T>) -> Read<Vec<T>>
-    ensures { IfOk result (λ o. items_of o ≡ pushed (items_of made) next) }
+pub(crate) fn pushed<T: Drop>(made: Option<Vec<T>>, next: Read<T>) -> Read<Vec<T>>
+    ensures { IfOk result (λ o. Pushes (items_of made) next (items_of o)) }
 {
-    match paired(made, next) {
+    match both(made, next)? {
         Some((mut made, next)) => {
             made.push(next)?;
             Ok(Some(made))

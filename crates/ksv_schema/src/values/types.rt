@@ -15,7 +15,7 @@ ghost use Rattle.ksv_schema.specs.KeyCode.{seen_type_text, seen_type_at, seen_ca
 ghost use Rattle.ksv_schema.specs.Faults.{noted};
 ghost use Rattle.ksv_schema.specs.Reading.{also, made, each, perhaps, must, mapping, text};
 ghost use Rattle.ksv_schema.specs.Values.{content_or_type, arguments, order_at, encoding_at, of_language, counts_differ, of_type, of_case_key, case_value, is_declared, case_against, case, switch, typed, choice};
-ghost use Rattle.ksv_schema.specs.Code.{seen_fault, seen_home, Reads};
+ghost use Rattle.ksv_schema.specs.Code.{seen_fault, seen_home, seen_keys, Reads};
 
 use crate::keys::expressions::read_expression;
 use crate::keys::forms::MappingKind;
@@ -25,7 +25,9 @@ use crate::values::fault::DescFaultKind::{
 };
 use crate::values::fault::{Least, note, note_if};
 use crate::values::key::note_keys;
-use crate::values::reader::{Home, Read, Reader, both, kept, position_at, pushed};
+use crate::values::reader::{
+    FieldKeys, Home, Read, Reader, both, kept, position_at, present, pushed,
+};
 use crate::values::rule::{key_if, line_of_key, note_against, note_at_if};
 use crate::values::value::{needed_expression, note_name, perhaps_contents};
 use ksv_desc::{Case, CaseValue, Choice, Content};
@@ -78,32 +80,30 @@ fn encoding_at(home: Home, entries: &[Entry]) -> Option<Encoding>
 #[tactic(auto, using(crate::proofs::Noted::steps, ksv_desc::proofs::Dots::steps))]
 fn of_language(
     reader: &mut Reader,
-    home: Home,
-    enumeration: Option<u32>,
-    entries: &[Entry],
+    keys: FieldKeys,
     line: usize,
     built_in: BuiltIn,
 ) -> Read<Content>
-    ensures { Reads (of_language (seen_home home.entry) enumeration (map pair entries.now) line built_in) plain_content reader.old reader.new result }
+    ensures { Reads (of_language (seen_keys keys.entry) line built_in) plain_content reader.old reader.new result }
 {
     match built_in {
         BuiltIn::Integer {
             is_signed,
             size,
             order,
-        } => match order_at(home, size, order) {
+        } => match order_at(keys.home, size, order) {
             Some(order) => Ok(Some(Content::Number {
                 is_signed,
                 size,
                 order,
-                enumeration,
+                enumeration: keys.enumeration,
             })),
             None => {
                 note(&mut reader.least, line, NoByteOrder);
                 Ok(None)
             }
         },
-        BuiltIn::Str | BuiltIn::Strz => match encoding_at(home, entries) {
+        BuiltIn::Str | BuiltIn::Strz => match encoding_at(keys.home, keys.entries) {
             Some(encoding) => Ok(Some(Content::Characters(encoding))),
             None => Ok(None),
         },
@@ -135,28 +135,23 @@ fn read_arguments(
 #[tactic(auto, using(crate::proofs::Noted::steps, ksv_desc::proofs::Dots::steps, ksv_schema_names::proofs::Forms::count_map), unfolding(crate::specs::Values::of_type, crate::specs::Values::arguments))]
 fn given_language(
     reader: &mut Reader,
-    home: Home,
-    enumeration: Option<u32>,
-    entries: &[Entry],
+    keys: FieldKeys,
     line: usize,
     built_in: BuiltIn,
     given: &[Expr],
 ) -> Read<Content>
-    ensures { Reads (of_type (seen_home home.entry) enumeration (map pair entries.now) line (OfLanguage built_in (arguments_of (map view given.now)))) plain_content reader.old reader.new result }
+    ensures { Reads (of_type (seen_keys keys.entry) line (OfLanguage built_in (arguments_of (map view given.now)))) plain_content reader.old reader.new result }
 {
     note_if(&mut reader.least, given.len() != 0, line, WrongCount);
-    read_arguments(reader, home, line, given)?;
-    of_language(reader, home, enumeration, entries, line, built_in)
+    read_arguments(reader, keys.home, line, given)?;
+    of_language(reader, keys, line, built_in)
 }
 
 /// The number of a type of the description.
 fn type_number(home: Home, name: &TypeName) -> Option<u32>
     ensures { result ≡ type_named (declared home.entry.scopes.now).types home.entry.within (path_of name.now).path }
 {
-    match home.scopes.type_named(home.within, name.path.as_slice()) {
-        Some(number) => Some(number as u32),
-        None => None,
-    }
+    home.scopes.type_named(home.within, name.path.as_slice())
 }
 
 /// Whether a type has other parameters than this many arguments; an unknown type has a fault of its own.
@@ -173,20 +168,18 @@ fn counts_differ(home: Home, given: usize, number: Option<u32>) -> bool
 #[tactic(auto, using(crate::proofs::Noted::steps, ksv_desc::proofs::Dots::steps, ksv_schema_names::proofs::Forms::count_map), unfolding(crate::specs::Values::of_type, crate::specs::Values::arguments))]
 fn object(
     reader: &mut Reader,
-    home: Home,
-    enumeration: Option<u32>,
-    entries: &[Entry],
+    keys: FieldKeys,
     line: usize,
     name: &TypeName,
     given: Vec<Expr>,
 ) -> Read<Content>
-    ensures { Reads (of_type (seen_home home.entry) enumeration (map pair entries.now) line (OfDescription (path_of name.now) (arguments_of (map view given.items)))) plain_content reader.old reader.new result }
+    ensures { Reads (of_type (seen_keys keys.entry) line (OfDescription (path_of name.now) (arguments_of (map view given.items)))) plain_content reader.old reader.new result }
 {
-    let number = type_number(home, name);
-    let differ = counts_differ(home, given.len(), number);
+    let number = type_number(keys.home, name);
+    let differ = counts_differ(keys.home, given.len(), number);
     note_if(&mut reader.least, differ, line, WrongCount);
     note_if(&mut reader.least, number.is_none(), line, UnknownName);
-    let done = read_arguments(reader, home, line, given.as_slice());
+    let done = read_arguments(reader, keys.home, line, given.as_slice());
     match both(number, kept(given, done))? {
         Some((type_number, arguments)) => Ok(Some(Content::Object {
             type_number,
@@ -196,17 +189,10 @@ fn object(
     }
 }
 
-/// What the text of a type means, in an attribute of these keys with this enum.
+/// What the text of a type means among these keys.
 #[tactic(auto, using(crate::proofs::Noted::steps, ksv_desc::proofs::Dots::steps), unfolding(crate::specs::Values::of_type))]
-fn of_type(
-    reader: &mut Reader,
-    home: Home,
-    enumeration: Option<u32>,
-    entries: &[Entry],
-    line: usize,
-    text: TypeText,
-) -> Read<Content>
-    ensures { Reads (of_type (seen_home home.entry) enumeration (map pair entries.now) line (seen_type_text text)) plain_content reader.old reader.new result }
+fn of_type(reader: &mut Reader, keys: FieldKeys, line: usize, text: TypeText) -> Read<Content>
+    ensures { Reads (of_type (seen_keys keys.entry) line (seen_type_text text)) plain_content reader.old reader.new result }
 {
     match text {
         TypeText::Unspelled(fault) => {
@@ -215,11 +201,9 @@ fn of_type(
         }
         TypeText::OfLanguage(built_in, given) => {
             let given = given.as_slice();
-            given_language(reader, home, enumeration, entries, line, built_in, given)
+            given_language(reader, keys, line, built_in, given)
         }
-        TypeText::OfDescription(name, given) => {
-            object(reader, home, enumeration, entries, line, &name, given)
-        }
+        TypeText::OfDescription(name, given) => object(reader, keys, line, &name, given),
     }
 }
 
@@ -252,7 +236,7 @@ fn of_case_key(
             Ok(Some(Some(CaseValue::Literal(literal))))
         }
         CaseKey::Negative(number) => Ok(Some(Some(CaseValue::Negated(number)))),
-        CaseKey::Member(member) => match given_member(home.scopes, home.within, member) {
+        CaseKey::OfEnum(member) => match given_member(home.scopes, home.within, member) {
             Some(given) => Ok(Some(Some(CaseValue::Member(given)))),
             None => {
                 note(&mut reader.least, line, UnknownName);
@@ -304,22 +288,15 @@ fn note_case_against(least: &mut Least, home: Home, entries: &[Entry], line: usi
 
 /// What the type of a case means; it must fit to the keys beside it.
 #[tactic(auto, using(crate::proofs::Noted::steps, ksv_desc::proofs::Dots::steps))]
-fn case_content(
-    reader: &mut Reader,
-    home: Home,
-    beside: &[Entry],
-    enumeration: Option<u32>,
-    entries: &[Entry],
-    case: &Entry,
-) -> Read<Content>
-    ensures { Reads (text (λ line text. let t = type_text text in also (case_against (seen_home home.entry) (map pair beside.now) line t) (of_type (seen_home home.entry) enumeration (map pair entries.now) line t)) (pair case.now)) plain_content reader.old reader.new result }
+fn case_content(reader: &mut Reader, keys: FieldKeys, case: &Entry) -> Read<Content>
+    ensures { Reads (text (λ line text. let t = type_text text in also (case_against (seen_keys keys.entry).home (seen_keys keys.entry).beside line t) (of_type (seen_keys keys.entry) line t)) (pair case.now)) plain_content reader.old reader.new result }
 {
     let line = case.line();
     match case.value().text() {
         Some(text) => {
             let text = type_text(reader.alloc, text)?;
-            note_case_against(&mut reader.least, home, beside, line, &text);
-            of_type(reader, home, enumeration, entries, line, text)
+            note_case_against(&mut reader.least, keys.home, keys.beside, line, &text);
+            of_type(reader, keys, line, text)
         }
         None => {
             note(&mut reader.least, line, BadValue);
@@ -330,18 +307,11 @@ fn case_content(
 
 /// A case.
 #[tactic(auto, using(crate::proofs::Noted::steps, ksv_desc::proofs::Dots::steps), unfolding(crate::specs::Values::case))]
-fn read_case(
-    reader: &mut Reader,
-    home: Home,
-    beside: &[Entry],
-    enumeration: Option<u32>,
-    entries: &[Entry],
-    entry: &Entry,
-) -> Read<Case>
-    ensures { Reads (case (seen_home home.entry) (map pair beside.now) enumeration (map pair entries.now) (pair entry.now)) plain_case reader.old reader.new result }
+fn read_case(reader: &mut Reader, keys: FieldKeys, entry: &Entry) -> Read<Case>
+    ensures { Reads (case (seen_keys keys.entry) (pair entry.now)) plain_case reader.old reader.new result }
 {
-    let value = case_value(reader, home, entry.line(), entry.key())?;
-    let content = case_content(reader, home, beside, enumeration, entries, entry);
+    let value = case_value(reader, keys.home, entry.line(), entry.key())?;
+    let content = case_content(reader, keys, entry);
     match both(value, content)? {
         Some((value, content)) => Ok(Some(Case { value, content })),
         None => Ok(None),
@@ -349,19 +319,12 @@ fn read_case(
 }
 
 /// The cases of a switch.
-fn cases(
-    reader: &mut Reader,
-    home: Home,
-    beside: &[Entry],
-    enumeration: Option<u32>,
-    entries: &[Entry],
-    cases: &[Entry],
-) -> Read<Vec<Case>>
-    ensures { Reads (each (case (seen_home home.entry) (map pair beside.now) enumeration (map pair entries.now)) (map pair cases.now)) (λ v. map plain_case v.items) reader.old reader.new result }
+fn cases(reader: &mut Reader, keys: FieldKeys, cases: &[Entry]) -> Read<Vec<Case>>
+    ensures { Reads (each (case (seen_keys keys.entry)) (map pair cases.now)) (λ v. map plain_case v.items) reader.old reader.new result }
 {
     let mut made = Some(Vec::new(reader.alloc));
     for case in cases {
-        let read = read_case(reader, home, beside, enumeration, entries, case)?;
+        let read = read_case(reader, keys, case);
         made = pushed(made, read)?;
     }
     Ok(made)
@@ -371,21 +334,18 @@ fn cases(
 #[tactic(auto, using(crate::proofs::Noted::steps, ksv_desc::proofs::Dots::steps))]
 fn needed_cases(
     reader: &mut Reader,
-    home: Home,
-    beside: &[Entry],
-    enumeration: Option<u32>,
-    entries: &[Entry],
+    keys: FieldKeys,
     line: usize,
     at: Option<&Entry>,
 ) -> Read<Vec<Case>>
-    ensures { Reads (must line (mapping (each (case (seen_home home.entry) (map pair beside.now) enumeration (map pair entries.now)))) (seen_entry at.entry)) (λ v. map plain_case v.items) reader.old reader.new result }
+    ensures { Reads (must line (mapping (each (case (seen_keys keys.entry)))) (seen_entry at.entry)) (λ v. map plain_case v.items) reader.old reader.new result }
 {
     let Some(entry) = at else {
         note(&mut reader.least, line, MissingKey);
         return Ok(None);
     };
     match entry.value().entries() {
-        Some(keys) => cases(reader, home, beside, enumeration, entries, keys),
+        Some(entries) => cases(reader, keys, entries),
         None => {
             note(&mut reader.least, entry.line(), BadValue);
             Ok(None)
@@ -393,23 +353,15 @@ fn needed_cases(
     }
 }
 
-/// The switch with these keys.
+/// The switch with these keys, at the `type` of others.
 #[tactic(auto, using(crate::proofs::Noted::steps, ksv_desc::proofs::Dots::steps), unfolding(crate::specs::Values::switch))]
-fn switch(
-    reader: &mut Reader,
-    home: Home,
-    beside: &[Entry],
-    enumeration: Option<u32>,
-    entries: &[Entry],
-    line: usize,
-    keys: &[Entry],
-) -> Read<Choice>
-    ensures { Reads (switch (seen_home home.entry) (map pair beside.now) enumeration (map pair entries.now) line (map pair keys.now)) plain_choice reader.old reader.new result }
+fn switch(reader: &mut Reader, keys: FieldKeys, line: usize, entries: &[Entry]) -> Read<Choice>
+    ensures { Reads (switch (seen_keys keys.entry) line (map pair entries.now)) plain_choice reader.old reader.new result }
 {
-    note_keys(&mut reader.least, MappingKind::Switch, keys);
-    let on = needed_expression(reader, home, Site::Switch, line, find(keys, b"switch-on"))?;
-    let at = find(keys, b"cases");
-    let cases = needed_cases(reader, home, beside, enumeration, entries, line, at);
+    note_keys(&mut reader.least, MappingKind::Switch, entries);
+    let at = find(entries, b"switch-on");
+    let on = needed_expression(reader, keys.home, Site::Switch, line, at)?;
+    let cases = needed_cases(reader, keys, line, find(entries, b"cases"));
     match both(on, cases)? {
         Some((on, cases)) => Ok(Some(Choice::Switch { on, cases })),
         None => Ok(None),
@@ -422,18 +374,16 @@ fn switch(
 #[tactic(auto, using(crate::proofs::Noted::steps, ksv_desc::proofs::Dots::steps))]
 fn always(
     reader: &mut Reader,
-    home: Home,
-    enumeration: Option<u32>,
-    entries: &[Entry],
+    keys: FieldKeys,
     entry: &Entry,
     typed: Option<TypeText>,
 ) -> Read<Choice>
     requires { seen_type_at typed ≡ type_at (pair entry.now) }
-    ensures { Reads (made Always (text (λ line text. of_type (seen_home home.entry) enumeration (map pair entries.now) line (type_text text)) (pair entry.now))) plain_choice reader.old reader.new result }
+    ensures { Reads (made Always (text (λ line text. of_type (seen_keys keys.entry) line (type_text text)) (pair entry.now))) plain_choice reader.old reader.new result }
 {
     let line = entry.line();
     match typed {
-        Some(text) => match of_type(reader, home, enumeration, entries, line, text)? {
+        Some(text) => match of_type(reader, keys, line, text)? {
             Some(content) => Ok(Some(Choice::Always(content))),
             None => Ok(None),
         },
@@ -448,28 +398,17 @@ fn always(
 #[tactic(auto, using(crate::proofs::Noted::steps, ksv_desc::proofs::Dots::steps), unfolding(crate::specs::Values::typed))]
 fn typed(
     reader: &mut Reader,
-    home: Home,
-    beside: &[Entry],
-    enumeration: Option<u32>,
-    entries: &[Entry],
+    keys: FieldKeys,
     entry: &Entry,
     text: Option<TypeText>,
 ) -> Read<Choice>
     requires { seen_type_at text ≡ type_at (pair entry.now) }
-    ensures { Reads (typed (seen_home home.entry) (map pair beside.now) enumeration (map pair entries.now) (pair entry.now)) plain_choice reader.old reader.new result }
+    ensures { Reads (typed (seen_keys keys.entry) (pair entry.now)) plain_choice reader.old reader.new result }
 {
     let value = entry.value();
     match value.entries() {
-        Some(keys) => switch(
-            reader,
-            home,
-            beside,
-            enumeration,
-            entries,
-            value.line(),
-            keys,
-        ),
-        None => always(reader, home, enumeration, entries, entry, text),
+        Some(entries) => switch(reader, keys, value.line(), entries),
+        None => always(reader, keys, entry, text),
     }
 }
 
@@ -477,21 +416,15 @@ fn typed(
 #[tactic(auto, using(crate::proofs::Noted::steps, ksv_desc::proofs::Dots::steps))]
 fn perhaps_typed(
     reader: &mut Reader,
-    home: Home,
-    beside: &[Entry],
-    enumeration: Option<u32>,
-    entries: &[Entry],
+    keys: FieldKeys,
     text: Option<TypeText>,
 ) -> Read<Option<Choice>>
-    requires { seen_type_at text ≡ own_type (map pair entries.now) }
-    ensures { Reads (perhaps (typed (seen_home home.entry) (map pair beside.now) enumeration (map pair entries.now)) (entry_at (codes "type") (map pair entries.now))) (λ o. option_map plain_choice o) reader.old reader.new result }
+    requires { seen_type_at text ≡ own_type (seen_keys keys).entries }
+    ensures { Reads (perhaps (typed (seen_keys keys.entry)) (entry_at (codes "type") (seen_keys keys.entry).entries)) (λ o. option_map plain_choice o) reader.old reader.new result }
 {
-    match find(entries, b"type") {
+    match find(keys.entries, b"type") {
         None => Ok(Some(None)),
-        Some(entry) => match typed(reader, home, beside, enumeration, entries, entry, text)? {
-            Some(choice) => Ok(Some(Some(choice))),
-            None => Ok(None),
-        },
+        Some(entry) => present(typed(reader, keys, entry, text)),
     }
 }
 
@@ -508,22 +441,14 @@ fn content_or_type(contents: Option<Vec<u8>>, choice: Option<Choice>) -> Choice
     }
 }
 
-/// What an attribute of these keys reads, with this enum and the type whose text is at `type`; a case must fit to the
-/// keys beside it.
+/// What these keys read, with the type whose text is at `type`.
 #[tactic(auto, using(crate::proofs::Noted::steps, ksv_desc::proofs::Dots::steps), unfolding(crate::specs::Values::choice))]
-pub(crate) fn choice(
-    reader: &mut Reader,
-    home: Home,
-    beside: &[Entry],
-    enumeration: Option<u32>,
-    entries: &[Entry],
-    typed: Option<TypeText>,
-) -> Read<Choice>
-    requires { seen_type_at typed ≡ own_type (map pair entries.now) }
-    ensures { Reads (choice (seen_home home.entry) (map pair beside.now) enumeration (map pair entries.now)) plain_choice reader.old reader.new result }
+pub(crate) fn choice(reader: &mut Reader, keys: FieldKeys, typed: Option<TypeText>) -> Read<Choice>
+    requires { seen_type_at typed ≡ own_type (seen_keys keys).entries }
+    ensures { Reads (choice (seen_keys keys.entry)) plain_choice reader.old reader.new result }
 {
-    let contents = perhaps_contents(reader, find(entries, b"contents"))?;
-    let choice = perhaps_typed(reader, home, beside, enumeration, entries, typed);
+    let contents = perhaps_contents(reader, find(keys.entries, b"contents"))?;
+    let choice = perhaps_typed(reader, keys, typed);
     match both(contents, choice)? {
         Some((contents, choice)) => Ok(Some(content_or_type(contents, choice))),
         None => Ok(None),

@@ -17,7 +17,7 @@ use crate::values::fault::DescFaultKind::{
     BadValue, LeftOut, MissingKey, NoExpression, UnknownName,
 };
 use crate::values::fault::{Least, note};
-use crate::values::reader::{Home, Read, Reader, kept, position_at};
+use crate::values::reader::{Home, Read, Reader, kept, position_at, present};
 use ksv_expr_tree::Expr;
 use ksv_schema_names::{NameFault, Site, name_fault};
 use ksv_yaml_tree::{Entry, Yaml, find};
@@ -88,10 +88,7 @@ pub(crate) fn perhaps_expression(
 {
     match at {
         None => Ok(Some(None)),
-        Some(entry) => match expression(reader, home, site, entry)? {
-            Some(expr) => Ok(Some(Some(expr))),
-            None => Ok(None),
-        },
+        Some(entry) => present(expression(reader, home, site, entry)),
     }
 }
 
@@ -132,7 +129,7 @@ fn enumeration(reader: &mut Reader, home: Home, entry: &Entry) -> Read<u32>
         return Ok(None);
     };
     match home.scopes.enum_named(home.within, path.as_slice()) {
-        Some(number) => Ok(Some(number as u32)),
+        Some(number) => Ok(Some(number)),
         None => {
             note(&mut reader.least, line, UnknownName);
             Ok(None)
@@ -147,10 +144,7 @@ pub(crate) fn own_enum(reader: &mut Reader, home: Home, entries: &[Entry]) -> Re
 {
     match find(entries, b"enum") {
         None => Ok(Some(None)),
-        Some(entry) => match enumeration(reader, home, entry)? {
-            Some(number) => Ok(Some(Some(number))),
-            None => Ok(None),
-        },
+        Some(entry) => present(enumeration(reader, home, entry)),
     }
 }
 
@@ -239,9 +233,6 @@ pub(crate) fn perhaps_contents(reader: &mut Reader, at: Option<&Entry>) -> Read<
 {
     match at {
         None => Ok(Some(None)),
-        Some(entry) => match contents(reader, entry)? {
-            Some(bytes) => Ok(Some(Some(bytes))),
-            None => Ok(None),
-        },
+        Some(entry) => present(contents(reader, entry)),
     }
 }
