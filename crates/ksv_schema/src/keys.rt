@@ -6,5 +6,5 @@
 pub(crate) mod expressions;
 pub(crate) mod forms;
 pub(crate) mod ids;
-pub(crate) mod spelling;
+pub(crate) mod laws;
 pub(crate) mod texts;

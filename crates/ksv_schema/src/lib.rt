@@ -13,7 +13,7 @@
 //! - `keys/expressions`: expressions and types, from texts
 //! - `keys/forms`: the table of keys
 //! - `keys/ids`: ids with `::` between them, such as the path of an enum
-//! - `keys/spelling`: the law that a text is read as what it spells
+//! - `keys/laws`: the law that a text is read as what it spells
 //! - `keys/texts`: the texts of values
 //! - `laws`: the laws of descriptions
 //! - `members`: what is read of members, types and enums
@@ -54,15 +54,16 @@
 //! - `Each`: a loop that reads each element of a list
 //! - `Enums`: enums have no names after dots
 //! - `Expressions`: what a text is taken for is what it spells
+//! - `FaultlessKeys`: without faults each key has what it must have, and the keys fit together
 //! - `Fields`: what is read of a member is good
 //! - `Given`: numbers and ids of entries that come twice
+//! - `GoodMembers`: without faults each member and type is stated, and its names lead somewhere
+//! - `GoodValues`: what is read at a key is good
 //! - `Good`: a good reading: without faults it has a value, of which something holds
 //! - `Items`: the items of `contents`
-//! - `Keys`: without faults each key has what it must have, and the keys fit together
 //! - `Least`: what is noted of a list is its least fault
 //! - `Limits`: the first line past a limit
 //! - `Made`: a loop that makes something of each element
-//! - `Members`: without faults each member and type is stated, and its names lead somewhere
 //! - `Named`: names that are texts; names of members added one after the other
 //! - `Noted`: faults noted one after another
 //! - `OwnNames`: without faults names of members and ids of types are texts
@@ -70,7 +71,6 @@
 //! - `Spellings`: reading a text gives what the text is taken for
 //! - `Texts`: ids are texts
 //! - `Theorem`: the least fault and the description are those of the tree
-//! - `Values`: what is read at a key is good
 //! - `Whole`: without faults each encoding is known, and each enum has its entries
 #![tactic(auto)]
 
@@ -81,7 +81,7 @@ mod members;
 mod values;
 
 pub use description::load;
-pub use keys::spelling::texts_are_spelled;
+pub use keys::laws::texts_are_spelled;
 pub use ksv_desc::Desc;
 pub use laws::{descriptions_are_resolved, faultless_trees_state, faulty_trees_are_refused};
 pub use values::fault::{DescFault, DescFaultKind};

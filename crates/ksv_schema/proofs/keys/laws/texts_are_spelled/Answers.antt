@@ -1,5 +1,5 @@
 use Rattle.ksv_schema.proofs.Expressions.{expression_is_spelled, spelled_is_expression, type_is_spelled, spelled_is_type}
-use Rattle.ksv_schema.proofs.keys.spelling.texts_are_spelled.Goals as goal
+use Rattle.ksv_schema.proofs.keys.laws.texts_are_spelled.Goals as goal
 
 pub returns-clause-expression_sound : goal.returns-clause-expression_sound
 returns-clause-expression_sound c = expression_is_spelled
