@@ -2,7 +2,7 @@
 use Rattle.std.proofs.Common.{◌≡◌, ℕ, zero, suc, ◌+◌, ◌-◌, ◌*◌, ◌≤◌, ◌<◌, Bool, true, false, List, [], ◌∷◌, ◌++◌, length, Option, None, Result, Ok, Err, IfOk, ◌≢◌, refl, sym, ap, subst, ◌∙◌, arith}
 use Rattle.std.specs.Prelude.{◌==◌, ◌&&◌, nat_lt}
 use Rattle.std.specs.Borrow.{Bor}
-use Rattle.std.proofs.lemmas.Bool.{eq-eqb, lt-ltb}
+use Rattle.std.proofs.lemmas.Bool.{eq-eqb, lt-ltb, and_from, and_left, and_right}
 use Rattle.ksv_yaml.specs.declared.fault.ReadFault.{ReadFault}
 use Rattle.ksv_yaml_tree.specs.declared.tree.Yaml.{Yaml}
 use Rattle.ksv_yaml_tree.specs.Tree.{Tree, Text, Seq, Map, Items, no_items, item, Entries, no_entries, entry, Pair}
@@ -14,7 +14,7 @@ use Rattle.ksv_yaml.proofs.Steps.{one_less, two_less, Took}
 use Rattle.ksv_yaml.proofs.Answering.{gives_on}
 use Rattle.ksv_yaml.proofs.InlineSound.{inlined_sound}
 use Rattle.ksv_yaml.proofs.Joins.{with_items, with_entries, with_no_items, with_no_entries, regroup_items, regroup_entries, last_items, last_entries, keys_push, deeper_one, deeper_none}
-use Rattle.ksv_yaml_scan.proofs.Choices.{at_true, at_false, pick_true, pick_false, and_true, and_first, and_second}
+use Rattle.ksv_yaml_scan.proofs.Choices.{at_true, at_false, pick_true, pick_false}
 use Rattle.ksv_yaml_scan.specs.declared.line.Line.{Line as CodeLine}
 use Rattle.ksv_yaml_scan.specs.Got.{Got, got, ◌>>=◌}
 use Rattle.ksv_yaml_scan.specs.Lines.{Line, is_quiet, loud}
@@ -149,7 +149,7 @@ value_above {d} {l} {behind} {ls} below h hs e z w a = record {
       let i = value_down d l behind ls below e z f (omega arith) in
       i.2 ∙ ap (λ (r : List Line). value_below (suc i.0) d l r) w
       ∙ pick_false (nat_lt l.indent h.indent) _ _ (not_less l.indent h.indent (omega arith))
-      ∙ pick_false ((h.indent == l.indent) && is_dash (start_of h.content)) _ _ (and_first (h.indent == l.indent) _ (not_level h.indent l.indent a))
+      ∙ pick_false ((h.indent == l.indent) && is_dash (start_of h.content)) _ _ (and_left (h.indent == l.indent) _ (not_level h.indent l.indent a))
       ∙ ap (λ (r : List Line). got (Text l.number false []) r) (sym w);
 }
 
@@ -159,14 +159,14 @@ value_beside {d} {l} {behind} {ls} below h hs e z w a b = record {
       let i = value_down d l behind ls below e z f (omega arith) in
       i.2 ∙ ap (λ (r : List Line). value_below (suc i.0) d l r) w
       ∙ pick_false (nat_lt l.indent h.indent) _ _ (not_less l.indent h.indent a)
-      ∙ pick_false ((h.indent == l.indent) && is_dash (start_of h.content)) _ _ (and_second (h.indent == l.indent) _ b)
+      ∙ pick_false ((h.indent == l.indent) && is_dash (start_of h.content)) _ _ (and_right (h.indent == l.indent) _ b)
       ∙ ap (λ (r : List Line). got (Text l.number false []) r) (sym w);
 }
 
 level_down : (d : ℕ) (l : Line) (h : Line) (hs : List Line) (f : ℕ) → h.indent ≡ l.indent → is_dash (start_of h.content) ≡ true → value_below (suc f) d l (h ∷ hs) ≡ deeper d (λ d. items f d l.indent h hs >>= λ is. got (Seq h.number is.value) is.rest)
 level_down d l h hs f a b =
     pick_false (nat_lt l.indent h.indent) _ _ (not_less l.indent h.indent (omega (arith, a)))
-    ∙ pick_true ((h.indent == l.indent) && is_dash (start_of h.content)) _ _ (and_true (h.indent == l.indent) _ (eq-eqb h.indent l.indent a) b)
+    ∙ pick_true ((h.indent == l.indent) && is_dash (start_of h.content)) _ _ (and_from (h.indent == l.indent) _ (eq-eqb h.indent l.indent a) b)
 
 pub value_level : {d : ℕ} {l : Line} {behind : List ℕ} {ls : List Line} (below : List Line) (h : Line) (hs : List Line) (o : Option (Got Line Items)) → behind ≡ [] → below ≡ loud ls → below ≡ h ∷ hs → h.indent ≡ l.indent → is_dash (start_of h.content) ≡ true → d ≢ 0 → ItemsIs (d - 1) h.indent h hs o → ValueIs d l behind ls (o >>= λ is. got (Seq h.number is.value) is.rest)
 value_level {d} {l} {behind} {ls} below h hs o e z w a b d0 r = record {
@@ -309,7 +309,7 @@ entries_end {d} {m} so_far all l ls key behind t left z e a b now v = record {
 deeper_entries : (f d m : ℕ) (seen : List (List ℕ)) (n : Line) (ns : List Line) → 0 < f → m < n.indent → more_entries f d m seen (n ∷ ns) ≡ None
 deeper_entries zero d m seen n ns p h = absurd (omega arith)
 deeper_entries (suc f) d m seen n ns p h =
-    pick_false (nat_lt n.indent m) _ _ (not_less n.indent m (omega arith)) ∙ pick_false ((n.indent == m) && is_key (start_of n.content)) _ _ (and_first (n.indent == m) _ (not_equal n.indent m h))
+    pick_false (nat_lt n.indent m) _ _ (not_less n.indent m (omega arith)) ∙ pick_false ((n.indent == m) && is_key (start_of n.content)) _ _ (and_left (n.indent == m) _ (not_equal n.indent m h))
   where
     not_equal : (a b : ℕ) → b < a → (a == b) ≡ false
     not_equal a b h = grind arith
@@ -323,10 +323,10 @@ entries_deeper {d} {m} so_far l ls key behind t left n ns e a z b now v = record
 level_entries : (f d m : ℕ) (seen : List (List ℕ)) (n : Line) (ns : List Line) (b : Bool) → n.indent ≡ m → is_key (start_of n.content) ≡ b → more_entries (suc (suc (suc f))) d m seen (n ∷ ns) ≡ entries (suc (suc f)) d m seen n ns
 level_entries f d m seen n ns true e h =
     pick_false (nat_lt n.indent m) _ _ (not_less n.indent m (omega (arith, e)))
-    ∙ pick_true ((n.indent == m) && is_key (start_of n.content)) _ _ (and_true (n.indent == m) _ (eq-eqb n.indent m e) h)
+    ∙ pick_true ((n.indent == m) && is_key (start_of n.content)) _ _ (and_from (n.indent == m) _ (eq-eqb n.indent m e) h)
 level_entries f d m seen n ns false e h =
     pick_false (nat_lt n.indent m) _ _ (not_less n.indent m (omega (arith, e)))
-    ∙ pick_false ((n.indent == m) && is_key (start_of n.content)) _ _ (and_second (n.indent == m) _ h)
+    ∙ pick_false ((n.indent == m) && is_key (start_of n.content)) _ _ (and_right (n.indent == m) _ h)
     ∙ sym (no_entry f d m seen n ns (start_of n.content) refl h)
 
 pub entries_on : {d m : ℕ} {first : Line} {rest : List Line} (so_far all : List Pair) (l : Line) (ls : List Line) (key behind : List ℕ) (t : Tree) (left : List Line) (n : Line) (ns : List Line) → all ≡ so_far ++ record { line = l.number; key = key; value = t } ∷ [] → start_of l.content ≡ Key key behind → is_among key (keys_of so_far) ≡ false → left ≡ n ∷ ns → n.indent ≡ m → weight left ≤ weight ls → EntriesNow d m first rest so_far l ls → ValueIs d l behind ls (got t left) → EntriesNow d m first rest all n ns

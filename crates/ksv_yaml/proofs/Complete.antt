@@ -1,7 +1,7 @@
 -- What is spelled so is read, whatever follows that doesn't go on with it.
 use Rattle.std.proofs.Common.{◌≡◌, ℕ, zero, suc, ◌+◌, ◌*◌, ◌≤◌, ◌<◌, Bool, true, false, List, [], ◌∷◌, ◌++◌, length, Option, Some, refl, sym, ap, subst, ◌∙◌, append_assoc, arith, ◌⊎◌, inl, inr}
 use Rattle.std.specs.Prelude.{◌==◌, ◌&&◌, nat_lt}
-use Rattle.std.proofs.lemmas.Bool.{eq-eqb, lt-ltb}
+use Rattle.std.proofs.lemmas.Bool.{eq-eqb, lt-ltb, and_from, and_left, and_right}
 use Rattle.ksv_yaml_tree.specs.Tree.{Tree, Text, Seq, Map, Items, no_items, item, Entries, no_entries, entry, AreDistinct}
 use Rattle.ksv_yaml.specs.Grammar.{AreQuiet, Inlined, at_column, from_here, Node, map, seq, inline, Mapping, last, more, Value, empty, below, level, here, Sequence, only, then, Item, none, under, compact, tabbed}
 use Rattle.ksv_yaml.specs.Reading.{is_among, node, node_by, entries, entries_by, more_entries, value, value_below, value_here, items, items_by, more_items, item_at, item_below, weight, unless_level}
@@ -9,7 +9,7 @@ use Rattle.ksv_yaml_scan.specs.Got.{Got, got, ◌>>=◌}
 use Rattle.ksv_yaml_scan.specs.Lines.{Line, is_nil, shown, is_quiet, loud}
 use Rattle.ksv_yaml_scan.specs.Starts.{InlineKind, Dashed, Start, Nothing, Dash, Key, dash_of, key_of, kind_of, start_by, start_of, is_dash, is_key}
 use Rattle.ksv_yaml.proofs.Steps.{one_less, two_less, Loud, loud_behind}
-use Rattle.ksv_yaml_scan.proofs.Choices.{pick_true, pick_false, and_true, and_first, and_second}
+use Rattle.ksv_yaml_scan.proofs.Choices.{pick_true, pick_false}
 use Rattle.ksv_yaml.proofs.Distinct.{AreClear, distinct_clear}
 use Rattle.ksv_yaml.proofs.Sound.{dash_of_is}
 use Rattle.ksv_yaml_scan.proofs.Starts.{dash_start, key_start, kind_start}
@@ -129,7 +129,7 @@ more_entries_stop (suc f) d m seen (l ∷ ls) p h = pick_true (nat_lt l.indent m
 more_entries_on : (f d m : ℕ) (seen : List (List ℕ)) (l : Line) (ls : List Line) (key behind : List ℕ) → l.indent ≡ m → start_of l.content ≡ Key key behind → more_entries (suc f) d m seen (l ∷ ls) ≡ entries f d m seen l ls
 more_entries_on f d m seen l ls key behind el ek =
     pick_false (nat_lt l.indent m) _ _ (not_deeper l.indent m (sym el))
-    ∙ pick_true ((l.indent == m) && is_key (start_of l.content)) _ _ (and_true (l.indent == m) (is_key (start_of l.content)) (eq-eqb l.indent m el) (ap is_key ek))
+    ∙ pick_true ((l.indent == m) && is_key (start_of l.content)) _ _ (and_from (l.indent == m) (is_key (start_of l.content)) (eq-eqb l.indent m el) (ap is_key ek))
 
 more_items_stop : (f d m : ℕ) (ls : List Line) → 0 < f → NoItem m ls → more_items f d m ls ≡ got no_items ls
 more_items_stop zero d m ls p h = absurd (omega arith)
@@ -239,8 +239,8 @@ ok_then {d} {m} {l} {ls} k {t} {is} xs ys el split ek0 v o =
 value_stop : (f d : ℕ) (l : Line) (ls : List Line) → 0 < f → NoItem l.indent ls → value_below f d l ls ≡ got (Text l.number false []) ls
 value_stop zero d l ls p h = absurd (omega arith)
 value_stop (suc f) d l [] p h = refl
-value_stop (suc f) d l (h ∷ ls) p (q, inl k) = pick_false (nat_lt l.indent h.indent) _ _ (not_above l.indent h.indent k) ∙ pick_false ((h.indent == l.indent) && is_dash (start_of h.content)) _ _ (and_first (h.indent == l.indent) _ (not_level h.indent l.indent k))
-value_stop (suc f) d l (h ∷ ls) p (q, inr k) = pick_false (nat_lt l.indent h.indent) _ _ (not_deeper l.indent h.indent k.0) ∙ pick_false ((h.indent == l.indent) && is_dash (start_of h.content)) _ _ (and_second (h.indent == l.indent) _ k.1)
+value_stop (suc f) d l (h ∷ ls) p (q, inl k) = pick_false (nat_lt l.indent h.indent) _ _ (not_above l.indent h.indent k) ∙ pick_false ((h.indent == l.indent) && is_dash (start_of h.content)) _ _ (and_left (h.indent == l.indent) _ (not_level h.indent l.indent k))
+value_stop (suc f) d l (h ∷ ls) p (q, inr k) = pick_false (nat_lt l.indent h.indent) _ _ (not_deeper l.indent h.indent k.0) ∙ pick_false ((h.indent == l.indent) && is_dash (start_of h.content)) _ _ (and_right (h.indent == l.indent) _ k.1)
 
 item_stop : (f d : ℕ) (l : Line) (ls : List Line) → 0 < f → Before (suc l.indent) ls → item_below f d l ls ≡ got (Text l.number false []) ls
 item_stop zero d l ls p h = absurd (omega arith)
@@ -289,7 +289,7 @@ ok_level {d} l h {ls} {is} xs ys split q el o = record {
       ap (λ (f : ℕ). value f (suc d) l [] (ls ++ rest)) i.1
       ∙ ap (λ (r : List Line). value_below (suc i.0) (suc d) l r) u.is
       ∙ pick_false (nat_lt l.indent h.indent) _ _ (not_deeper l.indent h.indent el)
-      ∙ pick_true ((h.indent == l.indent) && is_dash (start_of h.content)) _ _ (and_true (h.indent == l.indent) (is_dash (start_of h.content)) (eq-eqb h.indent l.indent el) (ap is_dash k))
+      ∙ pick_true ((h.indent == l.indent) && is_dash (start_of h.content)) _ _ (and_from (h.indent == l.indent) (is_dash (start_of h.content)) (eq-eqb h.indent l.indent el) (ap is_dash k))
       ∙ ap (λ (o : Option (Got Line Items)). o >>= λ is. got (Seq h.number is.value) is.rest)
       (items_as i.0 d l.indent rest o.split ∙ o.reads rest i.0 hr (omega (arith, i.1, g, w, u.light)));
 }

@@ -1,6 +1,6 @@
 -- Where the reader of flow nodes stands.
-use Rattle.std.proofs.Common.{◌≡◌, ℕ, zero, suc, ◌+◌, ◌-◌, ◌*◌, ◌≤◌, ◌<◌, Bool, true, false, List, [], ◌∷◌, ◌++◌, length, Option, Some, None, ◌≢◌, refl, sym, ap, ◌∙◌, arith}
-use Rattle.ksv_yaml_tree.specs.Tree.{Tree, Text, Seq, Map, Items, no_items, item, Entries, no_entries, entry, Pair}
+use Rattle.std.proofs.Common.{◌≡◌, ℕ, suc, ◌+◌, ◌-◌, ◌*◌, ◌≤◌, ◌<◌, true, false, List, [], ◌∷◌, ◌++◌, length, Option, Some, None, ◌≢◌, refl, sym, ap, ◌∙◌, arith}
+use Rattle.ksv_yaml_tree.specs.Tree.{Tree, Seq, Map, Items, no_items, item, Entries, no_entries, entry, Pair}
 use Rattle.ksv_yaml_tree.specs.View.{items_of, entries_of}
 use Rattle.ksv_yaml.specs.Reading.{is_among, flow, flow_items, flow_more, flow_entries, flow_others}
 use Rattle.ksv_yaml.specs.Code.{keys_of, behind_close, behind_close_map, behind_comma, key_at, FlowIs, FlowItemsIs, FlowEntriesIs}
@@ -8,15 +8,9 @@ use Rattle.ksv_yaml.proofs.Steps.{one_less}
 use Rattle.ksv_yaml_scan.proofs.Choices.{pick_true, pick_false}
 use Rattle.ksv_yaml.proofs.Joins.{with_items, with_entries, with_no_items, with_no_entries, regroup_items, regroup_entries, last_items, last_entries, end_items, end_entries, keys_push, deeper_one, deeper_none}
 use Rattle.ksv_yaml_scan.specs.Got.{Got, got, ◌>>=◌}
-use Rattle.ksv_yaml_scan.specs.Tokens.{Token, Open, Close, OpenMap, CloseMap, Comma, Scalar, Key}
+use Rattle.ksv_yaml_scan.specs.Tokens.{Token, Open, Close, OpenMap, CloseMap, Comma, Key}
 
 -- ---- one node
-
-pub node_end : {d : ℕ} {ts : List Token} → ts ≡ [] → FlowIs d ts None
-node_end {d} {ts} e = record { is = λ f g. let i = one_less f (omega arith) in ap (λ (f : ℕ). flow f d ts) i.1 ∙ ap (λ (ts : List Token). flow (suc i.0) d ts) e }
-
-pub node_scalar : {d : ℕ} {ts : List Token} (k : ℕ) (q : Bool) (text : List ℕ) (rest : List Token) → ts ≡ Scalar k q text ∷ rest → FlowIs d ts (got (Text k q text) rest)
-node_scalar {d} {ts} k q text rest e = record { is = λ f g. let i = one_less f (omega arith) in ap (λ (f : ℕ). flow f d ts) i.1 ∙ ap (λ (ts : List Token). flow (suc i.0) d ts) e }
 
 pub node_items : {d : ℕ} {ts : List Token} (k : ℕ) (rest : List Token) (o : Option (Got Token Items)) → ts ≡ Open k ∷ rest → d ≢ 0 → FlowItemsIs (d - 1) rest o → FlowIs d ts (o >>= λ is. got (Seq k is.value) is.rest)
 node_items {d} {ts} k rest o e d0 r = record {
@@ -42,33 +36,10 @@ node_entries {d} {ts} k rest o e d0 r = record {
 pub node_entries_limit : {d : ℕ} {ts : List Token} (k : ℕ) (rest : List Token) → ts ≡ OpenMap k ∷ rest → d ≡ 0 → FlowIs d ts None
 node_entries_limit {d} {ts} k rest e d0 = record { is = λ f g. let i = one_less f (omega arith) in ap (λ (f : ℕ). flow f d ts) i.1 ∙ ap (λ (ts : List Token). flow (suc i.0) d ts) e ∙ deeper_none d _ d0 }
 
--- a part with which no node begins
-abbrev pub IsNoNode : Token → Type 0
-IsNoNode (Open k) = ⊥
-IsNoNode (OpenMap k) = ⊥
-IsNoNode (Scalar k q text) = ⊥
-IsNoNode t = Unit {0}
-
-no_node : (f d : ℕ) (t : Token) (ts : List Token) → IsNoNode t → flow (suc f) d (t ∷ ts) ≡ None
-no_node f d (Open k) ts h = absurd h
-no_node f d (OpenMap k) ts h = absurd h
-no_node f d (Scalar k q text) ts h = absurd h
-no_node f d Close ts h = refl
-no_node f d CloseMap ts h = refl
-no_node f d Comma ts h = refl
-no_node f d (Key k key) ts h = refl
-
-pub node_other : {d : ℕ} {ts : List Token} (t : Token) (rest : List Token) → ts ≡ t ∷ rest → IsNoNode t → FlowIs d ts None
-node_other {d} {ts} t rest e h = record { is = λ f g. let i = one_less f (omega arith) in ap (λ (f : ℕ). flow f d ts) i.1 ∙ ap (λ (ts : List Token). flow (suc i.0) d ts) e ∙ no_node i.0 d t rest h }
-
 -- ---- what stands at the front
 
 abbrev first_item : ℕ → ℕ → List Token → Option (Got Token Items)
 first_item f d ts = flow f d ts >>= λ t. flow_more f d t.rest >>= λ is. got (item t.value is.value) is.rest
-
-flow_none : (f d : ℕ) → flow f d [] ≡ None
-flow_none zero d = refl
-flow_none (suc f) d = refl
 
 close_items : (f d : ℕ) (ts rest : List Token) → behind_close ts ≡ Some rest → flow_items (suc f) d ts ≡ got no_items rest
 close_items f d [] rest h = absurd cc

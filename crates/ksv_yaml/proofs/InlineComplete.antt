@@ -2,7 +2,7 @@
 use Rattle.std.proofs.Common.{◌≡◌, ℕ, ◌+◌, ◌*◌, ◌<◌, Bool, true, false, List, [], ◌∷◌, ◌++◌, length, Option, Some, refl, sym, ap, ◌∙◌, append_assoc, arith}
 use Rattle.std.specs.Prelude.{nat_le}
 use Rattle.std.proofs.lemmas.List.{append-nil}
-use Rattle.std.proofs.lemmas.Bool.{le-leb}
+use Rattle.std.proofs.lemmas.Bool.{le-leb, or_from}
 use Rattle.ksv_yaml_tree.specs.Tree.{Tree, Text}
 use Rattle.ksv_yaml.specs.Grammar.{AreQuiet, AreInner, Leaves, AreWithin, GoesOn, ends, goes, Inlined, plain, quoted, block, flow}
 use Rattle.ksv_yaml.specs.Reading.{all_of, flow_in, inlined}
@@ -13,7 +13,7 @@ use Rattle.ksv_yaml_scan.specs.Plain.{more_of, line_on, goes_on}
 use Rattle.ksv_yaml_scan.specs.Starts.{InlineKind}
 use Rattle.ksv_yaml_scan.specs.Tokens.{Token, tokens_of}
 use Rattle.ksv_yaml.proofs.Steps.{Loud, loud_behind}
-use Rattle.ksv_yaml_scan.proofs.Choices.{at_true, at_false, or_false}
+use Rattle.ksv_yaml_scan.proofs.Choices.{at_true, at_false}
 use Rattle.ksv_yaml.proofs.FlowComplete.{flow_ok}
 
 -- the next line says something, and stands before this column
@@ -90,11 +90,11 @@ within_behind n (l ∷ xs) ys a h = at_true (is_within n l) _ _ a.0 ∙ within_b
 stops_inner : (n : ℕ) (qs rest : List Line) → Leaves n qs → Before n rest → Stops (is_inner n) (qs ++ rest)
 stops_inner n (l ∷ qs) rest v h = v
 stops_inner n [] [] v h = tt
-stops_inner n [] (l ∷ ls) v h = or_false (is_blank l) (nat_le n l.indent) (not_blank l.content h.0) (not_deep n l.indent h.1)
+stops_inner n [] (l ∷ ls) v h = or_from (is_blank l) (nat_le n l.indent) (not_blank l.content h.0) (not_deep n l.indent h.1)
 
 stops_within : (n : ℕ) (rest : List Line) → Before n rest → Stops (is_within n) rest
 stops_within n [] h = tt
-stops_within n (l ∷ ls) h = or_false (is_quiet l) (nat_le n l.indent) h.0 (not_deep n l.indent h.1)
+stops_within n (l ∷ ls) h = or_from (is_quiet l) (nat_le n l.indent) h.0 (not_deep n l.indent h.1)
 
 -- ---- all kinds
 

@@ -1,7 +1,7 @@
 -- What is read is spelled so.
 use Rattle.std.proofs.Common.{◌≡◌, ℕ, zero, suc, ◌≤◌, ◌<◌, Bool, true, false, cond, List, [], ◌∷◌, ◌++◌, length, Option, Some, None, refl, sym, ap, subst, arith, ◌⊎◌, inl, inr}
 use Rattle.std.specs.Prelude.{◌==◌, ◌&&◌, nat_lt}
-use Rattle.std.proofs.lemmas.Bool.{eqb-true, ltb-true}
+use Rattle.std.proofs.lemmas.Bool.{eqb-true, ltb-true, and_parts}
 use Rattle.ksv_yaml_tree.specs.Tree.{Tree, Text, Seq, Map, Items, no_items, item, Entries, no_entries, entry}
 use Rattle.ksv_yaml.specs.Grammar.{AreQuiet, at_column, from_here, Node, map, seq, inline, Mapping, last, more, Value, empty, below, level, here, Sequence, only, then, Item, none, under, compact, tabbed}
 use Rattle.ksv_yaml.specs.Reading.{deeper, is_among, inlined, unless_level, node, node_by, entries, entries_by, more_entries, value, value_below, value_here, items, items_by, more_items, item_at, item_below}
@@ -9,7 +9,7 @@ use Rattle.ksv_yaml_scan.specs.Got.{Got, got, ◌>>=◌}
 use Rattle.ksv_yaml_scan.specs.Lines.{Line, shown, columns, has_tab, white_or_end, loud}
 use Rattle.ksv_yaml_scan.specs.Starts.{InlineKind, Dashed, Start, Nothing, Dash, Key, Inline, Refused, dash_of, key_of, start_of, is_dash, is_key}
 use Rattle.ksv_yaml.proofs.Steps.{bind_some, deeper_some, at_got, Took, took_as, took_then, took_first, loud_took}
-use Rattle.ksv_yaml_scan.proofs.Choices.{picked, pick_guard, both_true}
+use Rattle.ksv_yaml_scan.proofs.Choices.{picked, pick_guard}
 use Rattle.ksv_yaml.proofs.Distinct.{AreClear, clear_distinct}
 use Rattle.ksv_yaml_scan.proofs.Starts.{start_dash, start_key, start_inline}
 use Rattle.ksv_yaml.proofs.InlineSound.{inlined_sound}
@@ -126,7 +126,7 @@ mutual
       elim (picked (nat_lt l.indent m) (got no_entries (l ∷ ls)) (elim on [ true ↦ entries f d m seen l ls | false ↦ None ]) (Some x) h) [
         | inl a ↦ inl (at_got (NoMore no_entries (l ∷ ls)) no_entries (l ∷ ls) x a.1 (record { value = refl; rest = refl }))
         | inr a ↦ elim (picked on (entries f d m seen l ls) None (Some x) a.1) [
-          | inl b ↦ (let t = entries_sound f d m seen l ls x (eqb-true l.indent m (both_true (l.indent == m) (is_key (start_of l.content)) b.0).0) b.1 in inr (took_first l _ (λ xs w. w) t.0, t.1))
+          | inl b ↦ (let t = entries_sound f d m seen l ls x (eqb-true l.indent m (and_parts (l.indent == m) (is_key (start_of l.content)) b.0).0) b.1 in inr (took_first l _ (λ xs w. w) t.0, t.1))
           | inr b ↦ absurd cc
         ]
       ]
@@ -149,7 +149,7 @@ mutual
           | inl b ↦ (
               let e = deeper_some d (λ d. items f d l.indent h us >>= λ is. got (Seq h.number is.value) is.rest) x b.1 in
               let is = bind_some (items f e.0 l.indent h us) (λ is. got (Seq h.number is.value) is.rest) x e.2 in
-              let em = eqb-true h.indent l.indent (both_true (h.indent == l.indent) (is_dash (start_of h.content)) b.0).0 in
+              let em = eqb-true h.indent l.indent (and_parts (h.indent == l.indent) (is_dash (start_of h.content)) b.0).0 in
               let t = took_first h (λ zs. (ys : List Line) × (zs ≡ h ∷ ys) × Sequence e.0 l.indent (h ∷ ys) is.0.value) (λ xs w. (xs, refl, w)) (items_sound f e.0 l.indent h us is.0 em is.1) in
               subst (λ (d : ℕ). Took Line ls x.rest (λ xs. Value d l [] xs x.value)) (sym e.1)
               (at_got (λ (x : Got Line Tree). Took Line ls x.rest (λ xs. Value (suc e.0) l [] xs x.value)) (Seq h.number is.0.value) is.0.rest x is.2

@@ -10,7 +10,8 @@ use Rattle.ksv_yaml.specs.Reading.{node, weight, whole, body, behind_mark, tree_
 use Rattle.ksv_yaml_scan.specs.Got.{Got, ◌>>=◌}
 use Rattle.ksv_yaml_scan.specs.Lines.{Line, is_nil, shown, is_quiet, loud}
 use Rattle.ksv_yaml.proofs.Steps.{bind_some, Took, loud_took, loud_behind, Loud}
-use Rattle.ksv_yaml_scan.proofs.Choices.{picked, pick_true, pick_false, both_true}
+use Rattle.std.proofs.lemmas.Bool.{and_parts}
+use Rattle.ksv_yaml_scan.proofs.Choices.{picked, pick_true, pick_false}
 use Rattle.ksv_yaml.proofs.Sound.{node_sound}
 use Rattle.ksv_yaml.proofs.Complete.{node_ok}
 
@@ -36,7 +37,7 @@ node_loud n = let o = node_ok n in subst Loud (sym o.is) o.loud
 
 mark_loud : (l : Line) → is_mark l ≡ true → is_quiet l ≡ false
 mark_loud l h =
-    let e = (bytes_eq-Decides l.content (codes "---")).0 (both_true (l.indent == 0) (bytes_eq l.content (codes "---")) h).1 in
+    let e = (bytes_eq-Decides l.content (codes "---")).0 (and_parts (l.indent == 0) (bytes_eq l.content (codes "---")) h).1 in
     subst (λ (cs : List ℕ). is_nil (shown cs) ≡ false) (sym e) refl
 
 pub tree_complete : {ls : List Line} {t : Tree} → Spelled ls t → tree_of ls ≡ Some t

@@ -10,8 +10,8 @@ use thiserror::Error;
 
 /// What is wrong with a text.
 ///
-/// Y2 and Y1 are checked first, in this order. Of the others that are true of the line that is named, the first of
-/// Y3, Y5, Y9, Y7, Y4, Y8 and Y6 is given.
+/// Y2 is checked first, then Y1. Where several of the others are true of the named line, the first of Y3, Y5, Y9, Y7,
+/// Y4, Y8 and Y6 is given.
 #[derive(Debug, Clone, Copy, Error)]
 #[error("{}", self.text())]
 pub enum YamlKind {
@@ -84,7 +84,8 @@ pub struct YamlFault {
     pub kind: YamlKind,
 }
 
-/// What is wrong with the lines of a text.
+/// What is wrong with the lines of a text: the kinds of [`YamlKind`] but those of a text without lines. As a type of their
+/// own they need no clause that says so in each function that reads.
 #[derive(Clone, Copy, PartialEq, Eq)]
 pub(crate) enum ReadKind {
     Tab,

@@ -1,6 +1,6 @@
 //! Reads a subset of YAML 1.2 to a tree.
 //!
-//! Unless memory is refused, [`read`] returns a tree exactly if the text spells one, and then that one. What a text
+//! Unless memory is refused, [`read`] returns the tree that a text spells, or a fault if it spells none. What a text
 //! spells is a relation by cases on whole blocks of lines (`specs/Grammar`, `specs/Flow`); that no text spells two
 //! trees is the law [`one_tree`].
 //!

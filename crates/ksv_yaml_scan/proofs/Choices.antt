@@ -1,14 +1,10 @@
 -- Choices by a truth value.
 use Rattle.std.proofs.Common.{◌≡◌, ℕ, arith, Bool, true, false, cond, Option, Some, None, refl, ◌⊎◌, inl, inr}
-use Rattle.std.specs.Prelude.{◌||◌, ◌&&◌, ◌==◌}
+use Rattle.std.specs.Prelude.{◌==◌}
 
 pub chosen : {A : Type 0} (b : Bool) (x y z : A) → cond b x y ≡ z → ((b ≡ true) × (x ≡ z)) ⊎ ((b ≡ false) × (y ≡ z))
 chosen true x y z h = inl (refl, h)
 chosen false x y z h = inr (refl, h)
-
-pub guard_some : {A : Type 0} (b : Bool) (o : Option A) (y : A) → cond b None o ≡ Some y → (b ≡ false) × (o ≡ Some y)
-guard_some true o y h = absurd cc
-guard_some false o y h = (refl, h)
 
 pub at_true : {A : Type 0} (b : Bool) (x y : A) → b ≡ true → cond b x y ≡ x
 at_true true x y h = refl
@@ -38,25 +34,9 @@ pub pick_false : {A : Type 0} (b : Bool) (x y : A) → b ≡ false → pick b x 
 pick_false true x y h = absurd cc
 pick_false false x y h = refl
 
-pub both_true : (a b : Bool) → (a && b) ≡ true → (a ≡ true) × (b ≡ true)
-both_true true b h = (refl, h)
-both_true false b h = absurd cc
-
-pub and_true : (a b : Bool) → a ≡ true → b ≡ true → (a && b) ≡ true
-and_true true b h k = k
-and_true false b h k = absurd cc
-
-pub and_first : (a b : Bool) → a ≡ false → (a && b) ≡ false
-and_first true b h = absurd cc
-and_first false b h = refl
-
-pub and_second : (a b : Bool) → b ≡ false → (a && b) ≡ false
-and_second true b h = h
-and_second false b h = refl
-
-pub or_false : (a b : Bool) → a ≡ false → b ≡ false → (a || b) ≡ false
-or_false true b h k = absurd cc
-or_false false b h k = k
+pub not_first : (a b : Bool) → cond a false b ≡ true → (a ≡ false) × (b ≡ true)
+not_first true b h = absurd cc
+not_first false b h = (refl, h)
 
 -- ---- a byte and a constant
 

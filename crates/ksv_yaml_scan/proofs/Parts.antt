@@ -5,7 +5,8 @@ use Rattle.ksv_yaml_scan.specs.Lines.{is_white, skip, white_or_end}
 use Rattle.ksv_yaml_scan.specs.Plain.{is_bracket, is_special, is_lone, starts_plain, Ending, Colon, Bracket, Comment, End, Run, stop, run_by, run}
 use Rattle.ksv_yaml_scan.specs.Quoted.{Quote, Place, Between, AtQuote, Escaped, Digits, Step, Ends, Fails, Adds, single, double, letter_of, letter, escape, is_surrogate, digit, hex_digit, utf8, with_bytes, act, at_end, inside, quote_of}
 use Rattle.ksv_yaml_scan.specs.Tokens.{Token, Cut, Bad, Over, White, Part, quoted_part, quoted_cut, plain_cut, cut, with_token, line_by, line_tokens, both}
-use Rattle.ksv_yaml_scan.proofs.Choices.{at_false, and_second}
+use Rattle.std.proofs.lemmas.Bool.{and_right, or_parts}
+use Rattle.ksv_yaml_scan.proofs.Choices.{at_false, not_first}
 
 by_test : {A : Type 0} (P : A → Type 0) (b : Bool) (x y : A) → (b ≡ true → P x) → (b ≡ false → P y) → P (cond b x y)
 by_test P true x y f g = f refl
@@ -132,14 +133,6 @@ plain_within number n text (Bracket rest) h = h
 plain_within number n text Comment h = omega arith
 plain_within number n text End h = omega arith
 
-or_false_left : (a b : Bool) → (a || b) ≡ false → a ≡ false
-or_false_left true b h = h
-or_false_left false b h = refl
-
-starts_bits : (s n : Bool) → cond s false n ≡ true → (s ≡ false) × (n ≡ true)
-starts_bits true n h = absurd cc
-starts_bits false n h = (refl, h)
-
 no_colon_bits : (a b c w : Bool) → not ((a || (b || c)) && w) ≡ true → (c && w) ≡ false
 no_colon_bits a b false w h = refl
 no_colon_bits a b true false h = refl
@@ -150,9 +143,9 @@ no_colon_bits false false true true h = absurd cc
 -- no run ends at the first byte of a plain scalar
 pub plain_stop : (flow : Bool) (c : ℕ) (cs : List ℕ) → starts_plain (c ∷ cs) ≡ true → stop flow false (c ∷ cs) ≡ None
 plain_stop flow c cs h =
-    let p = starts_bits (is_special c) (not (is_lone c && white_or_end cs)) h in
+    let p = not_first (is_special c) (not (is_lone c && white_or_end cs)) h in
     at_false ((c == 58) && white_or_end cs) _ _ (no_colon_bits (c == 45) (c == 63) (c == 58) (white_or_end cs) p.1)
-    ∙ at_false (flow && is_bracket c) _ _ (and_second flow (is_bracket c) (or_false_left (is_bracket c) _ p.0))
+    ∙ at_false (flow && is_bracket c) _ _ (and_right flow (is_bracket c) (or_parts (is_bracket c) _ p.0).0)
 
 -- a plain run in a flow node takes its first byte
 plain_run_short : (c : ℕ) (cs : List ℕ) → starts_plain (c ∷ cs) ≡ true → EndsWithin (length cs) (run true false (c ∷ cs)).ending

@@ -1,12 +1,12 @@
 -- One thing alone begins on a line.
 use Rattle.std.proofs.Common.{◌≡◌, ℕ, Bool, true, false, cond, List, [], ◌∷◌, Option, Some, None, refl, sym, ap, subst, ◌∙◌, ◌⊎◌, inl, inr}
 use Rattle.std.specs.Prelude.{◌==◌, ◌&&◌, ◌||◌, not}
-use Rattle.std.proofs.lemmas.Bool.{eqb-true}
+use Rattle.std.proofs.lemmas.Bool.{eqb-true, and_parts, or_cases, or_parts}
 use Rattle.ksv_yaml_scan.specs.Lines.{is_nil, is_white, skip, shown, is_clear, white_or_end}
 use Rattle.ksv_yaml_scan.specs.Plain.{is_bracket, is_special, starts_plain, Ending, Colon, Bracket, Comment, End, Run, stop, run_by, run, plain_of_run}
 use Rattle.ksv_yaml_scan.specs.Quoted.{Quote, quote_of}
 use Rattle.ksv_yaml_scan.specs.Starts.{InlineKind, Quoted, Flowing, Dashed, Dash, Key, Inline, Refused, starts_quote, dash_of, key_at_colon, key_of_quote, key_of_run, key_of, plain_kind, quoted_kind, block_kind, kind_of, start_by, start_of, is_dash}
-use Rattle.ksv_yaml_scan.proofs.Choices.{chosen, at_true, at_false}
+use Rattle.ksv_yaml_scan.proofs.Choices.{chosen, at_true, at_false, not_first}
 
 -- ---- what `start_of` found
 
@@ -45,18 +45,6 @@ start_inline cs x h = start_inline_by (is_nil (shown cs)) (dash_of cs) (key_of c
 at_byte : (k c : ℕ) (P : ℕ → Type 0) → (c == k) ≡ true → P k → P c
 at_byte k c P h p = subst P (sym (eqb-true c k h)) p
 
-or_left : (a b : Bool) → (a || b) ≡ false → a ≡ false
-or_left true b h = h
-or_left false b h = refl
-
-or_right : (a b : Bool) → (a || b) ≡ false → b ≡ false
-or_right true b h = absurd cc
-or_right false b h = h
-
-or_either : (a b : Bool) → (a || b) ≡ true → (a ≡ true) ⊎ (b ≡ true)
-or_either true b h = inl refl
-or_either false b h = inr h
-
 no_dash_bits : (a r w : Bool) → not ((a || r) && w) ≡ true → (a && w) ≡ false
 no_dash_bits true r true h = absurd cc
 no_dash_bits true r false h = refl
@@ -71,17 +59,13 @@ record IsOther (cs : List ℕ) : Type 0 where
   loud : is_nil (shown cs) ≡ false
   dash : dash_of cs ≡ None
 
-plain_bits : (s n : Bool) → cond s false n ≡ true → (s ≡ false) × (n ≡ true)
-plain_bits true n h = absurd cc
-plain_bits false n h = (refl, h)
-
 plain_other : (cs : List ℕ) → starts_plain cs ≡ true → IsOther cs
 plain_other [] h = absurd cc
 plain_other (c ∷ cs) h =
-    let p = plain_bits (is_special c) (not (((c == 45) || ((c == 63) || (c == 58))) && white_or_end cs)) h in
-    let s = or_right (is_bracket c) _ p.0 in
+    let p = not_first (is_special c) (not (((c == 45) || ((c == 63) || (c == 58))) && white_or_end cs)) h in
+    let s = (or_parts (is_bracket c) _ p.0).1 in
     record {
-      loud = ap is_nil (at_false (is_white c) (shown cs) _ (or_left (is_white c) _ s) ∙ at_false (c == 35) [] (c ∷ cs) (or_left (c == 35) _ (or_right (is_white c) _ s)));
+      loud = ap is_nil (at_false (is_white c) (shown cs) _ (or_parts (is_white c) _ s).0 ∙ at_false (c == 35) [] (c ∷ cs) (or_parts (c == 35) _ (or_parts (is_white c) _ s).1).0);
       dash = at_false ((c == 45) && white_or_end cs) _ _ (no_dash_bits (c == 45) ((c == 63) || (c == 58)) (white_or_end cs) p.1);
     }
 
@@ -111,12 +95,8 @@ pub dash_start : (cs : List ℕ) (x : Dashed) → dash_of cs ≡ Some x → star
 dash_start [] x h = absurd cc
 dash_start (c ∷ cs) x h =
     let b = then_some ((c == 45) && white_or_end cs) _ x h in
-    let l : is_nil (shown (c ∷ cs)) ≡ false = at_byte 45 c (λ (c : ℕ). is_nil (shown (c ∷ cs)) ≡ false) (first_true (c == 45) (white_or_end cs) b) refl in
+    let l : is_nil (shown (c ∷ cs)) ≡ false = at_byte 45 c (λ (c : ℕ). is_nil (shown (c ∷ cs)) ≡ false) (and_parts (c == 45) (white_or_end cs) b).0 refl in
     ap (λ (b : Bool). start_by b (dash_of (c ∷ cs)) (key_of (c ∷ cs)) (kind_of (c ∷ cs))) l ∙ ap (λ (o : Option Dashed). start_by false o (key_of (c ∷ cs)) (kind_of (c ∷ cs))) h
-  where
-    first_true : (a b : Bool) → (a && b) ≡ true → a ≡ true
-    first_true true b h = refl
-    first_true false b h = absurd cc
 
 as_key : (cs key rest : List ℕ) → IsOther cs → key_of cs ≡ Some (key, rest) → start_of cs ≡ Key key rest
 as_key cs key rest o h =
@@ -193,7 +173,7 @@ kind_start (c ∷ cs) x h =
       | inr a ↦ elim (chosen ((c == 39) || (c == 34)) (quoted_kind (quote_of (c ∷ cs))) _ (Some x) a.1) [
         | inl b ↦ (let q = quoted_some (quote_of (c ∷ cs)) x b.1 in as_inline (c ∷ cs) x (quote_marked (c ∷ cs) q.0 q.1).other (at_false (starts_plain (c ∷ cs)) _ _ a.0 ∙ quoted_no_key (quote_of (c ∷ cs)) x b.1) h)
         | inr b ↦ elim (chosen ((c == 91) || (c == 123)) (Some Flowing) _ (Some x) b.1) [
-          | inl d ↦ elim (or_either (c == 91) (c == 123) d.0) [
+          | inl d ↦ elim (or_cases (c == 91) (c == 123) d.0) [
             | inl e ↦ alone_start (c ∷ cs) x (alone 91 c cs e (record { other = record { loud = refl; dash = refl }; key = refl })) h
             | inr e ↦ alone_start (c ∷ cs) x (alone 123 c cs e (record { other = record { loud = refl; dash = refl }; key = refl })) h
           ]
@@ -248,7 +228,7 @@ no_bracket w (c ∷ cs) rest h = no_bracket_by (stop false w (c ∷ cs)) c (run 
 
 quote_plain : (cs : List ℕ) → starts_quote cs ≡ true → IsMarked cs
 quote_plain [] h = absurd cc
-quote_plain (c ∷ cs) h = elim (or_either (c == 39) (c == 34) h) [
+quote_plain (c ∷ cs) h = elim (or_cases (c == 39) (c == 34) h) [
   | inl e ↦ at_byte 39 c (λ (c : ℕ). IsMarked (c ∷ cs)) e (record { other = record { loud = refl; dash = refl }; plain = refl })
   | inr e ↦ at_byte 34 c (λ (c : ℕ). IsMarked (c ∷ cs)) e (record { other = record { loud = refl; dash = refl }; plain = refl })
 ]

@@ -18,8 +18,7 @@ pub const MAX_LENGTH: usize = 1_048_576;
 pub struct Text<'a> {
     /// The lines, in order.
     pub lines: Vec<Line<'a>>,
-    /// The number of the first line with a control character, which no line may have; a tab and a line end are
-    /// none.
+    /// The number of the first line with a control character other than a tab, if there is one: no tree has such a line.
     pub stray: Option<usize>,
 }
 

@@ -13,10 +13,10 @@ pub enum ScanFault {
     Tab,
     /// A quote has no end on its line.
     NotClosed,
-    /// A line of a block scalar has less than the scalar's indentation, or its first line that isn't blank comes
-    /// after a blank line of more spaces.
+    /// A line of a block scalar is indented less than the scalar, or a blank line before the scalar's first text has more
+    /// spaces than that text.
     Indentation,
-    /// In a line that continues a plain scalar there is a colon before white space or the line's end.
+    /// A line that continues a plain scalar has a colon before white space or at its end.
     ValueForKey,
     /// A form of YAML that the subset doesn't support, or none at all.
     LeftOut,

@@ -64,7 +64,7 @@ enum Cut<'a> {
     Part(Part, &'a [u8]),
 }
 
-/// The parts of flow nodes on lines: on the first one and those after it.
+/// The parts of flow nodes on a first line and on the lines after it.
 pub fn flow_parts(alloc: Global, first: Line, lines: &[Line]) -> Result<FlowParts, AllocError>
     ensures parts { IfOk result (λ p. let ls = line_view first.entry ∷ lines_view lines.now in PartsAre ls (tokens_of ls) p.tokens.items p.fault) }
     ensures numbered { IfOk result (λ p. All (λ t. HasNumber (line_view first.entry ∷ lines_view lines.now) t.line) p.tokens.items) }

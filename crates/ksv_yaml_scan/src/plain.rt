@@ -130,8 +130,8 @@ fn more_text(content: &[u8]) -> Option<(&[u8], bool)>
     }
 }
 
-/// The text of a plain scalar that continues on these lines, none of them before this column; and the lines after
-/// it and after the quiet ones that follow.
+/// The text of a plain scalar that continues on these lines, where a line before this column ends it; and the lines
+/// after it, from the first that isn't quiet.
 ///
 /// `text` is the part on the scalar's first line, and `commented` is whether a comment ended it there.
 pub fn continue_plain<'a, 'b>(
