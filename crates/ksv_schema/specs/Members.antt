@@ -11,7 +11,7 @@ use Rattle.ksv_schema_names.specs.Types.{encoding_of}
 use Rattle.ksv_schema_names.specs.Members.{Member, member_named}
 use Rattle.ksv_schema_names.specs.declared.position.Site.TheVariants as sites
 use Rattle.ksv_desc.specs.Description as desc
-use Rattle.ksv_desc.specs.Description.{Choice, Extent, Sized, SizeEos, ByItself, Terminator, Repeat, Once, Eos, Expr, Until, Field, MemberKind}
+use Rattle.ksv_desc.specs.Description.{Extent, Sized, SizeEos, ByItself, Terminator, Repeat, Once, Eos, Expr, Until, Field, MemberKind}
 use Rattle.ksv_schema.specs.declared.keys.forms.MappingKind.{MappingKind}
 use Rattle.ksv_schema.specs.declared.keys.forms.MappingKind.TheVariants as kinds
 use Rattle.ksv_schema.specs.Keys.{kind_of, is_id}

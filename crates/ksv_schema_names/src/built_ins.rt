@@ -133,7 +133,7 @@ fn is_width(text: &[u8]) -> bool
     }
 }
 
-/// The type of the language that a path of names means: a path of one name.
+/// The type of the language that a path means; only a path of one name means one.
 pub fn built_in_at(path: &[String]) -> Option<BuiltIn>
     ensures { result ≡ built_in_at (map string_bytes path.now) }
 {
