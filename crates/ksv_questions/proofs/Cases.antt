@@ -2,6 +2,7 @@
 use Rattle.std.proofs.Common.{◌≡◌, ℕ, List, codes, Option, refl}
 use Rattle.ksv_basics.specs.Plan.{Answer}
 use Rattle.ksv_desc.specs.Description.{Description}
+use Rattle.ksv_expr_value.specs.Places.{Place}
 use Rattle.ksv_expr_value.specs.Trail.{Trail}
 use Rattle.ksv_expr_value.specs.declared.value.Value.{Value}
 use Rattle.ksv_expr_value.specs.declared.value.Value.TheVariants as values
@@ -23,7 +24,7 @@ module _ (d : Description) (b : List ℕ) (p : Trail) where
   of_plain (values.Object q) h k = absurd (h q refl)
   of_plain (values.List q) h k = absurd (k q refl)
 
-pub no_members : (d : Description) (p : Trail) (h : Head) → ((at : Option ℕ) → h ≡ heads.Absent at → ⊥) → ((o : Object) → h ≡ heads.Object o → ⊥) → ((g : ListHead) → h ≡ heads.List g → ⊥) → parts_of d p h ≡ Answer (codes "no members")
+pub no_members : (d : Description) (p : Trail) (h : Head) → ((at : Option Place) → h ≡ heads.Absent at → ⊥) → ((o : Object) → h ≡ heads.Object o → ⊥) → ((g : ListHead) → h ≡ heads.List g → ⊥) → parts_of d p h ≡ Answer (codes "no members")
 no_members d p (heads.Absent at) a o g = absurd (a at refl)
 no_members d p (heads.Calc c) a o g = refl
 no_members d p (heads.Leaf l) a o g = refl
