@@ -115,12 +115,12 @@ def has_stub(it, kept):
     return not (it.is_bound or it.is_law or it.name in kept)
 
 
-def callers(folder, kept):
-    """Those of a crate's functions that name, in their bodies, one that gets a stub where they alone are kept: no stub is before the others."""
+def callers(folder, edited):
+    """Those of these functions of a crate that name, in their bodies, one that may get a stub: no stub is before the others."""
     functions = functions_of(folder)
-    names = {it.name.split("::")[-1] for it in functions if has_stub(it, kept)}
+    names = {it.name.split("::")[-1] for it in functions if has_stub(it, ())}
     body = lambda it: "\n".join(read(f"{folder}/{it.path}").split("\n")[it.begin + 1 : it.end])
-    return {it.name for it in functions if it.name in kept and names & {*re.findall(r"\w+", body(it))}}
+    return {it.name for it in functions if it.name in edited and names & {*re.findall(r"\w+", body(it))}}
 
 
 def stubbed(path, text, kept):
@@ -143,3 +143,42 @@ def stub(folder, kept):
             shutil.rmtree(proof, ignore_errors=True)
             os.makedirs(proof)
             write(f"{proof}/Proof.antt", "")
+
+
+def header_of(rows, head):
+    """The first rows of the `impl` that a method stands in, up to its `{`, and what it imports for contracts."""
+    first = next(at for at in range(head, -1, -1) if BLOCK.match(rows[at]))
+    begin = next(at for at in range(first, head) if rows[at].endswith("{"))
+    return rows[first : begin + 1] + [row for row in rows[begin + 1 : head] if row.startswith("    ghost use ")]
+
+
+def twin(path, text, name, other):
+    """A function of a file's text once more, by another name, as it may stand at the end of the file."""
+    rows = text.split("\n")
+    it = next(it for it in functions_in(path, text) if it.name == name)
+    first = it.head
+    while rows[first - 1].lstrip().startswith(("#[", "//")):
+        first -= 1
+    own = name.split("::")[-1]
+    head = re.sub(rf"\bfn {own}\b", f"fn {other}", rows[it.head])
+    block = [*rows[first : it.head], head, *rows[it.head + 1 : it.end + 1]]
+    return "\n".join([*header_of(rows, it.head), *block, "}"] if rows[it.head].startswith(" ") else block)
+
+
+def add_twin(folder, crate, path, text, name, other):
+    """Adds a function of a file's text to a copied crate, by another name, with the files of its proof. The name of the twin."""
+    with open(f"{folder}/{path}", "a", encoding="utf-8") as file:
+        file.write(f"\n{twin(path, text, name, other)}\n")
+    home, full = name.rpartition("::")[0], f"{name.rpartition('::')[0]}::{other}"
+    proof, dots = f"{folder}/proofs/{name.replace('::', '/')}", f"Rattle.{crate}.proofs.{home.replace('::', '.')}."
+    if os.path.isdir(proof):
+        shutil.copytree(proof, f"{folder}/proofs/{full.replace('::', '/')}")
+        for file in os.listdir(proof):
+            at = f"{folder}/proofs/{full.replace('::', '/')}/{file}"
+            write(at, read(at).replace(f"{dots}{name.split('::')[-1]}.", f"{dots}{other}."))
+    return full
+
+
+def bound(folder):
+    """Those of a crate's functions that can't stand there twice: methods of traits, and functions that call each other."""
+    return {it.name for it in functions_of(folder) if it.is_bound}

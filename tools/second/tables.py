@@ -208,15 +208,60 @@ def judge_inputs(result, row):
         compare_lines(result, [(0, question, wanted)], run(session, unescaped(question))[0])
 
 
-def judge_broken(result, row):
-    """A reader that fails after each number of bytes: the whole lines before it are answered."""
+def spans(told):
+    """A line for all numbers, from 0 on, that follow each other and are told the same."""
+    firsts = [number for number, line in enumerate(told) if not number or told[number - 1] != line]
+    lasts = [number - 1 for number in firsts[1:]] + [len(told) - 1]
+    return [f"{first}{f' to {last}' if first < last else ''}: {told[first]}" for first, last in zip(firsts, lasts)]
+
+
+def state(lines, session, end):
+    """What is told of a session over a device that fails: its whole lines of output, its file, and how it ends."""
+    return f"{lines} lines, file {session.data.hex()}, {end}"
+
+
+def judge_devices(result, row):
+    """Sessions over a device that fails after each number of calls. A reader that gives a byte at once: the whole lines before the failure are
+    answered. A writer that takes a byte at once, a flush being a call too, or one of std, whose replies are one write each and aren't seen: the
+    line whose reply it was has changed the file."""
     lines = b"".join(unescaped(question) + b"\n" for _, question, _ in row.questions if question is not None)
-    for line, wanted in [reply for _, _, some in row.questions for reply in some]:
-        count = int(re.match(r"after (\d+):", wanted)[1])
-        session = Session(describe(text_of(row))[0], bytes_of(row.words))
-        replies, end = run(session, lines[:lines.rfind(b"\n", 0, count) + 1])
-        ends = "Quit" if end == "Quit" else "ReadFailed"
-        result.compare(line, wanted, f"after {count}: {len(replies)} lines of the output, ends by {ends}")
+    session = Session(describe(text_of(row))[0], bytes_of(row.words))
+    told, replies, rest = [], 0, lines
+    while rest and not session.ended:
+        line, _, rest = rest.partition(b"\n")
+        if row.kind == "readers":
+            told += [state(replies, session, "ReadFailed")] * (len(line) + 1)
+        reply = session.line(line)
+        if reply is None:
+            continue
+        if row.kind == "writers":
+            told += [state(replies, session, "WriteFailed")] * (len(reply.encode("utf-8")) + 1)
+        replies += row.kind != "std"
+        if row.kind != "readers":
+            told.append(state(replies, session, "WriteFailed"))
+    if row.kind == "readers" and not session.ended:
+        told.append(state(replies, session, "ReadFailed"))
+    told.append(state(replies, session, "Quit" if session.ended else "Input"))
+    compare_lines(result, row.questions, spans(told))
+
+
+def judge_cuts(result, row):
+    """A session over each front part of a file."""
+    found, own = describe(text_of(row))[0], []
+    lines = b"".join(unescaped(question) + b"\n" for _, question, _ in row.questions if question is not None)
+    data = bytes_of(row.words)
+    for place in range(len(data) + 1):
+        own += [f"{place}: {reply}" for reply in run(Session(found, data[:place]), lines)[0]]
+    compare_lines(result, row.questions, own)
+
+
+def judge_prefixes(result, row):
+    """Whether each front part of a description is accepted, or why not."""
+    text, verdicts = text_of(row), []
+    for place in range(len(text) + 1):
+        refusal = describe(text[:place])[1]
+        verdicts.append("accepted" if refusal is None else message(refusal))
+    compare_lines(result, row.questions, spans(verdicts))
 
 
 def judge_names(result, row):
@@ -275,7 +320,8 @@ def judge_tree(result, row):
 
 
 JUDGES = {
-    "file": judge_file, "reference": judge_file, "cut": judge_cut, "inputs": judge_inputs, "broken": judge_broken,
+    "file": judge_file, "reference": judge_file, "cut": judge_cut, "inputs": judge_inputs, "readers": judge_devices, "writers": judge_devices, "std": judge_devices,
+    "cuts": judge_cuts, "prefixes": judge_prefixes,
     "load": judge_names, "names": judge_names, "scopes": judge_names, "lines": judge_lines, "trees": judge_trees,
     "tree": judge_tree,
 }

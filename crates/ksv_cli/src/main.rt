@@ -1,15 +1,25 @@
 //! `ksv [--save OUT] FILE KSY`: explores a file by its description, over standard input and output.
+//!
+//! Modules:
+//!
+//! - `save`: saves the bytes at a session's end
 #![tactic(auto)]
 
+mod save;
+
+use crate::save::{Target, save, target_at};
 use clap::Error;
 use clap::error::ErrorKind as WordsKind;
 use ksv::{Args, End, NewFault, Std, Stop, arguments, describe, run, say};
-use ksv_bytes::{Buffer, FILE_LIMIT, Window};
+use ksv_bytes::{Buffer, FILE_LIMIT};
 use ksv_yaml_scan::cut::MAX_LENGTH as DESCRIPTION_LIMIT;
 use std::alloc::{AllocError, Global};
 use std::fs::File;
-use std::io::{self, ErrorKind, Read, Write};
+use std::io::{self, ErrorKind, Read};
 use std::process::ExitCode;
+
+/// What a message says of a word that names no file, as no name of a file that ksv reads can be so.
+const NO_TEXT: &str = "a word that isn't UTF-8";
 
 /// The bytes of a file, at most so many of them.
 fn read_file(rt: &HostRuntime, path: &str, limit: u64) -> io::Result<Vec<u8>> {
@@ -18,57 +28,54 @@ fn read_file(rt: &HostRuntime, path: &str, limit: u64) -> io::Result<Vec<u8>> {
     Ok(bytes)
 }
 
-/// What a file that was not read means for the program.
-fn unread(error: io::Error, unreadable: Stop) -> Stop {
+/// Why the program stops at an error of the system: want of memory, or else this.
+fn stop_of(error: io::Error, otherwise: Stop) -> Stop {
     if error.kind() == ErrorKind::OutOfMemory {
         Stop::NoMemory
     } else {
-        unreadable
+        otherwise
     }
 }
 
-/// Writes the bytes of a buffer to a file, which need not be there.
-fn write_file(rt: &HostRuntime, path: &str, buffer: &Buffer) -> io::Result<()> {
-    let (front, back) = buffer.parts(Window {
-        from: 0,
-        to: buffer.len(),
-    });
-    let mut file = File::create(rt, path)?;
-    file.write_all(front)?;
-    file.write_all(back)?;
-    file.flush()
+/// Where the words say that the bytes go at the session's end.
+fn target_of(rt: &HostRuntime, out: Option<&str>) -> Result<Option<Target>, Stop> {
+    match out {
+        Some(out) => match target_at(rt, out) {
+            Ok(target) => Ok(Some(target)),
+            Err(error) => Err(stop_of(error, Stop::SaveFailed)),
+        },
+        None => Ok(None),
+    }
 }
 
 /// Keeps the bytes at the session's end, if the words name a file for them.
-fn save(rt: &HostRuntime, out: Option<&str>, buffer: &Buffer) -> Result<(), Stop> {
-    match out {
-        Some(path) => match write_file(rt, path, buffer) {
-            Ok(()) => Ok(()),
-            Err(_) => Err(Stop::SaveFailed),
-        },
-        None => Ok(()),
+fn keep(rt: &HostRuntime, target: Option<&Target>, buffer: &Buffer) -> Result<(), Stop> {
+    match target {
+        Some(target) if save(rt, target, buffer).is_err() => Err(Stop::SaveFailed),
+        _ => Ok(()),
     }
 }
 
-/// Reads the file and its description, in this order, and of each at most one byte more than it may have. Then serves the session, and
-/// keeps the bytes if it went well.
+/// Reads the file and its description, in this order, and of each at most one byte more than it may have, and looks where the bytes are to be
+/// saved. Then serves the session, and saves the bytes if it went well.
 fn explore(rt: &HostRuntime, args: Args) -> Result<(), Stop> {
     let bytes = match read_file(rt, args.file, FILE_LIMIT as u64 + 1) {
         Ok(bytes) => bytes,
-        Err(error) => return Err(unread(error, Stop::FileUnreadable)),
+        Err(error) => return Err(stop_of(error, Stop::FileUnreadable)),
     };
     if bytes.len() > FILE_LIMIT {
         return Err(Stop::FileTooLarge);
     }
     let ksy = match read_file(rt, args.ksy, DESCRIPTION_LIMIT as u64 + 1) {
         Ok(ksy) => ksy,
-        Err(error) => return Err(unread(error, Stop::DescriptionUnreadable)),
+        Err(error) => return Err(stop_of(error, Stop::DescriptionUnreadable)),
     };
     let desc = describe(rt.alloc(), ksy.as_slice())?;
+    let target = target_of(rt, args.save)?;
     let mut reader = Std::new(rt.stdin());
     let mut writer = Std::new(rt.stdout());
     match run(rt.alloc(), &mut reader, &mut writer, desc, bytes) {
-        Ok((buffer, End::Quit | End::Input)) => save(rt, args.save, &buffer),
+        Ok((buffer, End::Quit | End::Input)) => keep(rt, target.as_ref(), &buffer),
         Ok((_, End::ReadFailed)) => Err(Stop::InputFailed),
         Ok((_, End::WriteFailed)) => Err(Stop::OutputFailed),
         Err(NewFault::FileTooLarge) => Err(Stop::FileTooLarge),
@@ -89,12 +96,22 @@ fn stopped<'a>(
 }
 
 /// Prints usage on standard error, or help on standard output.
-fn refused_words(rt: &HostRuntime, error: Error) -> io::Result<ExitCode> {
+fn refused_words(rt: &HostRuntime, error: Error) -> ExitCode {
     if error.kind() == WordsKind::OutOfMemory {
-        return Ok(stopped(rt, Stop::NoMemory, "", "", ""));
+        return stopped(rt, Stop::NoMemory, "", "", "");
     }
-    error.print(rt)?;
-    Ok(ExitCode::from(error.exit_code() as u8))
+    match error.print(rt) {
+        Err(unprinted) if !error.use_stderr() => {
+            stopped(rt, stop_of(unprinted, Stop::OutputFailed), "", "", "")
+        }
+        _ => ExitCode::from(error.exit_code() as u8),
+    }
+}
+
+/// The words that the program was started with.
+fn words(rt: &HostRuntime) -> io::Result<Vec<String>> {
+    let words = std::env::args(rt)?.collect(rt.alloc())?;
+    Ok(words)
 }
 
 /// The words as texts. The first is `ksv`, whatever the name of the file that the program was started from, since
@@ -108,17 +125,27 @@ fn texts<'a>(alloc: Global, words: &'a [String]) -> Result<Vec<&'a str>, AllocEr
     Ok(texts)
 }
 
-fn main(rt: HostRuntime) -> io::Result<ExitCode> {
-    let words: Vec<String> = std::env::args(&rt)?.collect(rt.alloc())?;
-    let texts = texts(rt.alloc(), words.as_slice())?;
-    match arguments(rt.alloc(), texts.as_slice()) {
-        Ok(args) => match explore(&rt, args) {
-            Ok(()) => Ok(ExitCode::SUCCESS),
-            Err(stop) => {
-                let out = args.save.unwrap_or("");
-                Ok(stopped(&rt, stop, args.file, args.ksy, out))
-            }
+/// Explores the file that the words name.
+fn explore_by(rt: &HostRuntime, words: &[&str]) -> ExitCode {
+    match arguments(rt.alloc(), words) {
+        Ok(args) => match explore(rt, args) {
+            Ok(()) => ExitCode::SUCCESS,
+            Err(stop) => stopped(rt, stop, args.file, args.ksy, args.save.unwrap_or("")),
         },
-        Err(error) => refused_words(&rt, error),
+        Err(error) => refused_words(rt, error),
+    }
+}
+
+fn main(rt: HostRuntime) -> ExitCode {
+    let words = match words(&rt) {
+        Ok(words) => words,
+        Err(error) => {
+            let stop = stop_of(error, Stop::FileUnreadable);
+            return stopped(&rt, stop, NO_TEXT, "", "");
+        }
+    };
+    match texts(rt.alloc(), words.as_slice()) {
+        Ok(texts) => explore_by(&rt, texts.as_slice()),
+        Err(_) => stopped(&rt, Stop::NoMemory, "", "", ""),
     }
 }

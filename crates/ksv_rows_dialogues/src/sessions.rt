@@ -1,4 +1,4 @@
-//! Sessions over memory, over readers that give few bytes at once, and over readers that fail.
+//! Sessions over memory, and over readers that give few bytes at once.
 
 use crate::reader::Pieces;
 use bstr::{BStr, ByteVec};
@@ -16,27 +16,12 @@ pub(crate) struct Given<'a> {
     pub(crate) file: &'a [u8],
 }
 
-/// How an input is read: this many bytes at once, and this many times before the reader fails.
-#[derive(Clone, Copy)]
-struct Cut {
-    step: usize,
-    reads: usize,
-}
-
-impl Cut {
-    /// This many bytes at once, and no failure.
-    fn every(step: usize) -> Cut {
-        let reads = usize::MAX;
-        Cut { step, reads }
-    }
-}
-
-/// Adds what a session writes, or the message for a description that is refused; returns how the session ends.
+/// Adds what a session writes if it is given so many bytes at once, or the message for a description that is refused; returns how the session ends.
 fn add_output(
     alloc: Global,
     given: Given<'_>,
     input: &[u8],
-    cut: Cut,
+    step: usize,
     found: &mut String,
 ) -> Result<Option<End>, AllocError> {
     let mut writer = Memory::new(Vec::with_capacity(alloc, ROOM)?);
@@ -45,8 +30,8 @@ fn add_output(
             let file = given.file.to_vec(alloc)?;
             let mut reader = Pieces {
                 left: input,
-                step: cut.step,
-                reads_left: cut.reads,
+                step,
+                reads_left: usize::MAX,
                 failed: false,
             };
             match run(alloc, &mut reader, &mut writer, desc, file) {
@@ -70,8 +55,29 @@ pub(crate) fn add_session(
     lines: &str,
     found: &mut String,
 ) -> Result<(), AllocError> {
-    add_output(alloc, given, lines.as_bytes(), Cut::every(ROOM), found)?;
+    add_output(alloc, given, lines.as_bytes(), ROOM, found)?;
     Ok(())
+}
+
+/// Adds what a session writes to an input, after a line for each number of bytes at once with which it writes something else or ends
+/// otherwise; returns how it ends.
+fn add_in_pieces(
+    alloc: Global,
+    given: Given<'_>,
+    input: &[u8],
+    found: &mut String,
+) -> Result<Option<End>, AllocError> {
+    let mut whole = String::new(alloc);
+    let end = add_output(alloc, given, input, 4096, &mut whole)?;
+    for step in 1..4usize {
+        let mut again = String::new(alloc);
+        let ends = add_output(alloc, given, input, step, &mut again)?;
+        if again.as_str() != whole.as_str() || ends != end {
+            writeln!(found, "otherwise by {step} bytes at once")?;
+        }
+    }
+    found.push_str(whole.as_str())?;
+    Ok(end)
 }
 
 /// Adds what a session writes to these lines and how it ends, and where that differs if the reader gives few bytes
@@ -83,16 +89,7 @@ pub(crate) fn add_cut(
     found: &mut String,
 ) -> Result<(), AllocError> {
     let input = Vec::unescape_bytes(alloc, lines)?;
-    let mut whole = String::new(alloc);
-    let end = add_output(alloc, given, input.as_slice(), Cut::every(4096), &mut whole)?;
-    for step in 1..4usize {
-        let mut again = String::new(alloc);
-        let ends = add_output(alloc, given, input.as_slice(), Cut::every(step), &mut again)?;
-        if again.as_str() != whole.as_str() || ends != end {
-            writeln!(found, "otherwise by {step} bytes at once")?;
-        }
-    }
-    found.push_str(whole.as_str())?;
+    let end = add_in_pieces(alloc, given, input.as_slice(), found)?;
     add_end(end, found)
 }
 
@@ -104,7 +101,7 @@ fn add_end(end: Option<End>, found: &mut String) -> Result<(), AllocError> {
     }
 }
 
-/// Adds what each line gives as the whole input of its own session.
+/// Adds what each line gives as the whole input of its own session, and where that differs if the reader gives few bytes at once.
 pub(crate) fn add_inputs(
     alloc: Global,
     given: Given<'_>,
@@ -113,31 +110,7 @@ pub(crate) fn add_inputs(
 ) -> Result<(), AllocError> {
     for line in lines.lines() {
         let input = Vec::unescape_bytes(alloc, line)?;
-        add_output(alloc, given, input.as_slice(), Cut::every(ROOM), found)?;
-    }
-    Ok(())
-}
-
-/// Adds, for a reader that fails after each number of bytes, how many lines of the output its session writes, and
-/// how it ends.
-pub(crate) fn add_broken(
-    alloc: Global,
-    given: Given<'_>,
-    lines: &str,
-    found: &mut String,
-) -> Result<(), AllocError> {
-    let mut whole = String::new(alloc);
-    add_session(alloc, given, lines, &mut whole)?;
-    for reads in 0..lines.len() {
-        let cut = Cut { step: 1, reads };
-        let mut front = String::new(alloc);
-        let end = add_output(alloc, given, lines.as_bytes(), cut, &mut front)?;
-        let count = front.as_str().lines().count();
-        write!(found, "after {reads}: {count} lines")?;
-        if whole.as_str().starts_with(front.as_str()) {
-            found.push_str(" of the output, ")?;
-        }
-        add_end(end, found)?;
+        add_in_pieces(alloc, given, input.as_slice(), found)?;
     }
     Ok(())
 }

@@ -33,7 +33,7 @@ static ROWS: [&[u8]; 6] = [
 
 /// Rows of which none depends on itself, in the same letters. Row 1 is named by byte 0; rows 2 and 3 follow from it;
 /// row 4 is named by byte 1; row 5 is the sum of rows 3 and 4.
-static LINKED: [&[u8]; 6] = [
+pub(crate) static LINKED: [&[u8]; 6] = [
     b"n\x07",
     b"b\x00",
     b"s\x01",
@@ -47,7 +47,7 @@ static LINKED: [&[u8]; 6] = [
 static DOUBLED: [&[u8]; 3] = [b"n\x07", b"b\x00", b"s\x01\x01"];
 
 /// The rows that these tell.
-fn rows(alloc: Global, told: &[&[u8]]) -> Result<Rows, AllocError> {
+pub(crate) fn rows(alloc: Global, told: &[&[u8]]) -> Result<Rows, AllocError> {
     let mut rows = Vec::new(alloc);
     for one in told {
         rows.push(told_row(alloc, one)?)?;

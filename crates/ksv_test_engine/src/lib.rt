@@ -15,6 +15,7 @@
 //! - `links`: links between slots: what an overwrite takes along them
 //! - `plain`: what a row answers, plainly, and whether an engine answers so
 //! - `random`: random questions between random edits, beside plain recursion
+//! - `refusals`: rules that are refused memory at one of their calls
 //! - `samples`: the two sets of rules
 //! - `samples/chain`: a chain of nodes, each of which asks the one before it
 //! - `samples/link`: a link of a chain
@@ -48,6 +49,8 @@ mod links;
 mod plain;
 #[cfg(test)]
 mod random;
+#[cfg(test)]
+mod refusals;
 mod samples;
 #[cfg(test)]
 mod tower;

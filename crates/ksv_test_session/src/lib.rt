@@ -1,9 +1,8 @@
-//! Tests of what no row of a table reaches: writers that fail, a file of the greatest size, messages, and what sessions
+//! Tests of what no row of a table reaches: a file of the greatest size, messages, and what sessions
 //! keep across random lines, compared with a slow program that evaluates each node from nothing.
 //!
 //! Modules:
 //!
-//! - `devices`: writers that fail
 //! - `kept`: what a session keeps across random lines
 //! - `messages`: the program's messages, and the words that it takes
 //! - `plain`: a slow program that evaluates each node from nothing
@@ -11,8 +10,6 @@
 //! - `sessions`: a file of the greatest size; a session line by line
 #![tactic(auto)]
 
-#[cfg(test)]
-mod devices;
 #[cfg(test)]
 mod kept;
 #[cfg(test)]

@@ -3,11 +3,21 @@
 //! Values are by hand: the greatest size is the limit that docs/REFERENCE.md states, and the replies are those of its
 //! first dialogue, read from three bytes; a session keeps five nodes for a second field, and takes ten turns.
 
-use crate::devices::{FIRST, accepted};
-use ksv::{Desc, End, Memory, NewFault, Session, run};
+use ksv::{Desc, End, Memory, NewFault, Session, describe, run};
 use ksv_bytes::{Buffer, FILE_LIMIT, Window};
 use std::alloc::Global;
 use std::test::Fail;
+
+/// The description of the first dialogue.
+const FIRST: &[u8] = b"meta:\n  id: p\nseq:\n  - id: a\n    type: u1\n  - id: b\n    type: s2le\n";
+
+/// A description that is accepted.
+fn accepted(alloc: Global, ksy: &[u8]) -> Result<Desc, Fail> {
+    match describe(alloc, ksy) {
+        Ok(desc) => Ok(desc),
+        Err(_) => Err(Fail::from("a description is refused")),
+    }
+}
 
 /// What a session over memory writes.
 fn output(alloc: Global, input: Vec<u8>, file: Vec<u8>) -> Result<Vec<u8>, Fail> {

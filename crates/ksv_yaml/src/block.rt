@@ -4,7 +4,7 @@ use crate::fault::{ReadFault, ReadKind, kind_of, no_memory};
 use ksv_yaml_scan::fault::{ScanError, ScanFault};
 use ksv_yaml_scan::line::Line;
 use ksv_yaml_scan::start::{Start, is_dash, read_start};
-use std::alloc::Global;
+use std::alloc::{AllocError, Global};
 
 /// A block that is open, with those around it.
 #[derive(Clone, Copy)]
@@ -34,10 +34,10 @@ pub(crate) fn misplaced_in(alloc: Global, line: Line, open: Option<&Open>) -> Re
     let mut at = open;
     while let Some(block) = at {
         if block.column == line.indent && kind != ReadKind::LeftOut {
-            kind = if begins_entry(alloc, line, block.is_mapping) {
-                ReadKind::LeftOut
-            } else {
-                ReadKind::ValueForKey
+            kind = match begins_entry(alloc, line, block.is_mapping) {
+                Ok(true) => ReadKind::LeftOut,
+                Ok(false) => ReadKind::ValueForKey,
+                Err(_) => return no_memory(),
             };
         }
         at = block.around;
@@ -46,13 +46,13 @@ pub(crate) fn misplaced_in(alloc: Global, line: Line, open: Option<&Open>) -> Re
 }
 
 /// Whether an entry of a mapping, or else an item of a sequence, begins on the line.
-fn begins_entry(alloc: Global, line: Line, of_mapping: bool) -> bool {
+fn begins_entry(alloc: Global, line: Line, of_mapping: bool) -> Result<bool, AllocError> {
     if !of_mapping {
-        return is_dash(line.content);
+        return Ok(is_dash(line.content));
     }
     match read_start(alloc, line.content) {
-        Ok(Start::Key { .. }) => true,
-        Ok(_) => false,
-        Err(_) => false,
+        Ok(start) => Ok(matches!(start, Start::Key { .. })),
+        Err(ScanError::Fault(_)) => Ok(false),
+        Err(ScanError::NoMemory) => Err(AllocError),
     }
 }
