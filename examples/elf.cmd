@@ -31,6 +31,37 @@ put /segments/0/flags 4
 get /segments/0/executable
 bytes 64 8
 put /segments/0/flags 5
+# a file of 32 bits, of another version, with segments of another size; each is mended
+put /class 1
+get /class
+put /class 2
+get /class
+put /ident_version 2
+get /ident_version
+get /e_version
+put /ident_version 1
+get /e_version
+put /e_phentsize 32
+get /e_phentsize
+get /segments/1/type
+put /e_phentsize 56
+get /segments/1/type
+# a segment that is longer in the file than in memory, and one whose alignment is no power of two
+put /segments/0/len_memory 274
+get /segments/0/len_memory
+get /segments/0/has_entry
+put /segments/0/len_memory 275
+get /segments/0/has_entry
+put /segments/0/align 4097
+dump /segments/0/align
+put /segments/0/align 4096
+dump /segments/0/align
+# names in a section that isn't there
+put /e_shstrndx 8
+get /e_shstrndx
+get /sections/2/name
+put /e_shstrndx 7
+get /sections/2/name
 # the section headers 64 bytes further: the last one is past the end of the file; then one fewer
 set 40 a802000000000000
 get /sections/1/name

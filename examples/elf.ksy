@@ -7,24 +7,24 @@ meta:
   encoding: ASCII
 seq:
   - {id: magic, contents: [0x7f, ELF]}
-  - {id: class, type: u1, enum: class}
-  - {id: data, type: u1, enum: data}
-  - {id: ident_version, type: u1}
+  - {id: class, type: u1, enum: class, valid: class::bits64}
+  - {id: data, type: u1, enum: data, valid: data::little}
+  - {id: ident_version, type: u1, valid: 1}
   - {id: abi, type: u1}
   - {id: ident_rest, size: 8}
   - {id: e_type, type: u2, enum: file_type}
   - {id: e_machine, type: u2, enum: machine}
-  - {id: e_version, type: u4}
+  - {id: e_version, type: u4, valid: ident_version}
   - {id: e_entry, type: u8}
   - {id: e_phoff, type: u8}
   - {id: e_shoff, type: u8}
   - {id: e_flags, type: u4}
-  - {id: e_ehsize, type: u2}
-  - {id: e_phentsize, type: u2}
+  - {id: e_ehsize, type: u2, valid: 64}
+  - {id: e_phentsize, type: u2, valid: 56}
   - {id: e_phnum, type: u2}
-  - {id: e_shentsize, type: u2}
+  - {id: e_shentsize, type: u2, valid: 64}
   - {id: e_shnum, type: u2}
-  - {id: e_shstrndx, type: u2}
+  - {id: e_shstrndx, type: u2, valid: {max: e_shnum - 1}}
 instances:
   segments:
     pos: e_phoff
@@ -47,8 +47,8 @@ types:
       - {id: address, type: u8}
       - {id: physical, type: u8}
       - {id: len_file, type: u8}
-      - {id: len_memory, type: u8}
-      - {id: align, type: u8}
+      - {id: len_memory, type: u8, valid: {min: len_file}}
+      - {id: align, type: u8, valid: {expr: _ & (_ - 1) == 0}}
     instances:
       executable:
         value: flags & 1 != 0

@@ -31,6 +31,29 @@ put /blocks/5/body/height 300
 bytes 115 8
 get /blocks/5/body/fits
 put /blocks/5/body/height 4
+# a version that doesn't exist, a background without a colour, codes of one bit; each is mended
+set 4 38
+get /version
+set 4 39
+get /version
+put /background 4
+get /background
+get /background_color
+put /background 1
+get /background_color
+put /blocks/3/body/code_bits 1
+get /blocks/3/body/code_bits
+put /blocks/3/body/code_bits 2
+get /blocks/3/body/code_bits
+# a block of a kind that doesn't exist: where the next one begins isn't known
+set 68 2d
+get /blocks/3/kind
+at /blocks/3/kind
+get /blocks/4/kind
+get /blocks
+set 68 2c
+get /blocks/4/kind
+get /blocks
 # move it to the right
 set 115 0700
 get /blocks/5/body/left

@@ -6,11 +6,11 @@ meta:
   encoding: ASCII
 seq:
   - {id: magic, contents: GIF}
-  - {id: version, type: str, size: 3}
+  - {id: version, type: str, size: 3, valid: {any-of: ['"87a"', '"89a"']}}
   - {id: width, type: u2}
   - {id: height, type: u2}
   - {id: flags, type: u1}
-  - {id: background, type: u1}
+  - {id: background, type: u1, valid: {expr: flags < 0x80 or _ < 2 << (flags & 7)}}
   - {id: aspect, type: u1}
   - {id: palette, type: palette(flags), if: flags >= 0x80}
   - id: blocks
@@ -38,7 +38,7 @@ types:
     params:
       - {id: number, type: u4}
     seq:
-      - {id: kind, type: u1, enum: kind}
+      - {id: kind, type: u1, enum: kind, valid: {any-of: [kind::extension, kind::image, kind::trailer]}}
       - id: body
         type:
           switch-on: kind
@@ -85,7 +85,7 @@ types:
       - {id: height, type: u2}
       - {id: flags, type: u1}
       - {id: palette, type: palette(flags), if: flags >= 0x80}
-      - {id: code_bits, type: u1}
+      - {id: code_bits, type: u1, valid: {min: 2, max: 8}}
       - {id: data, type: pieces}
     instances:
       interlaced:

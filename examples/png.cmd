@@ -28,6 +28,47 @@ dump /chunks/1
 put /chunks/3/body/second 43
 bytes 78 7
 put /chunks/3/body/second 42
+# no thirteenth month, and no picture without lines; each is mended
+put /chunks/3/body/month 13
+get /chunks/3/body/month
+get /chunks/3/body/day
+dump /chunks/3/body
+put /chunks/3/body/month 2
+get /chunks/3/body/month
+put /chunks/0/body/height 0
+get /height
+get /width
+put /chunks/0/body/height 4
+get /height
+# three bits, and a method of compression that doesn't exist
+set 24 03
+get /chunks/0/body/bits
+get /chunks/0/body/len_line
+set 24 08
+get /chunks/0/body/len_line
+put /chunks/0/body/compression 1
+dump /header
+put /chunks/0/body/compression 0
+# a key without letters, and its first letter again
+set 97 00
+get /chunks/4/body/key
+get /chunks/4/body/text
+set 97 54
+get /chunks/4/body/key
+# a length that is too large: where the next chunk begins isn't known
+set 33 80
+get /chunks/1/len
+get /chunks/1/name
+get /chunks/2/name
+set 33 00
+get /chunks/2/name
+# the header must be the first chunk
+set 15 53
+get /chunks/0
+get /chunks
+get /header
+set 15 52
+get /chunks
 # the same header with true colours, 16 bits each
 set 24 1002
 get /chunks/0/body/len_line

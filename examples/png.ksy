@@ -10,6 +10,7 @@ seq:
     type: chunk
     repeat: until
     repeat-until: _.name == "IEND"
+    valid: {expr: _index > 0 or _.name == "IHDR"}
 instances:
   header:
     value: chunks[0].body.as<header>
@@ -20,7 +21,7 @@ instances:
 types:
   chunk:
     seq:
-      - {id: len, type: u4}
+      - {id: len, type: u4, valid: {max: 0x7fffffff}}
       - {id: name, type: str, size: 4}
       - id: body
         size: len
@@ -39,13 +40,13 @@ types:
         value: name.substring(0, 1) >= "a"
   header:
     seq:
-      - {id: width, type: u4}
-      - {id: height, type: u4}
-      - {id: bits, type: u1}
+      - {id: width, type: u4, valid: {min: 1, max: 0x7fffffff}}
+      - {id: height, type: u4, valid: {min: 1, max: 0x7fffffff}}
+      - {id: bits, type: u1, valid: {any-of: [1, 2, 4, 8, 16]}}
       - {id: color, type: u1, enum: color}
-      - {id: compression, type: u1}
-      - {id: filter, type: u1}
-      - {id: interlaced, type: u1}
+      - {id: compression, type: u1, valid: 0}
+      - {id: filter, type: u1, valid: 0}
+      - {id: interlaced, type: u1, valid: {max: 1}}
     instances:
       channels:
         value: 'color == color::truecolor ? 3 : color == color::truecolor_alpha ? 4 : color == color::grey_alpha ? 2 : 1'
@@ -65,15 +66,15 @@ types:
       - {id: times_100000, type: u4}
   text:
     seq:
-      - {id: key, type: strz}
+      - {id: key, type: strz, valid: {expr: _.length > 0 and _.length < 80}}
       - {id: text, type: str, size-eos: true}
   time:
     seq:
       - {id: year, type: u2}
-      - {id: month, type: u1}
-      - {id: day, type: u1}
-      - {id: hour, type: u1}
-      - {id: minute, type: u1}
-      - {id: second, type: u1}
+      - {id: month, type: u1, valid: {min: 1, max: 12}}
+      - {id: day, type: u1, valid: {min: 1, max: 31}}
+      - {id: hour, type: u1, valid: {max: 23}}
+      - {id: minute, type: u1, valid: {max: 59}}
+      - {id: second, type: u1, valid: {max: 60}}
 enums:
   color: {0: grey, 2: truecolor, 3: palette, 4: grey_alpha, 6: truecolor_alpha}

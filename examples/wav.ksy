@@ -43,15 +43,12 @@ types:
         value: 'name == "data" ? body.as<sound> : _parent.chunks[number + 1].sound'
   format:
     seq:
-      - {id: tag, type: u2, enum: tag}
-      - {id: channels, type: u2}
-      - {id: rate, type: u4}
-      - {id: bytes_per_second, type: u4}
-      - {id: len_frame, type: u2}
-      - {id: bits, type: u2}
-    instances:
-      consistent:
-        value: len_frame == channels * bits / 8 and bytes_per_second == rate * len_frame
+      - {id: tag, type: u2, enum: tag, valid: {any-of: [tag::pcm, tag::float, tag::a_law, tag::mu_law]}}
+      - {id: channels, type: u2, valid: {min: 1}}
+      - {id: rate, type: u4, valid: {min: 1}}
+      - {id: bytes_per_second, type: u4, valid: rate * len_frame}
+      - {id: len_frame, type: u2, valid: channels * bits / 8}
+      - {id: bits, type: u2, valid: {any-of: [8, 16, 32]}}
   sound:
     seq:
       - id: frames
@@ -73,7 +70,7 @@ types:
         repeat: eos
   list:
     seq:
-      - {id: kind, type: str, size: 4}
+      - {id: kind, type: str, size: 4, valid: {any-of: ['"INFO"', '"adtl"']}}
       - {id: items, type: item, repeat: eos}
   item:
     seq:

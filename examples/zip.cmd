@@ -31,6 +31,40 @@ at /sections/0/body/text
 bytes 6 4
 put /sections/0/body/method 0
 get /sections/0/body/text
+# a file that is longer than its bytes, of month 0, of a method that isn't described; each is mended
+put /sections/0/body/len_open 6
+get /sections/0/body/len_open
+get /sections/0/body/text
+put /sections/0/body/len_open 5
+get /sections/0/body/len_open
+get /sections/0/body/month
+put /sections/0/body/date 22557
+get /sections/0/body/month
+put /sections/0/body/date 22621
+get /sections/0/body/month
+put /sections/0/body/method 9
+get /sections/0/body/method
+get /sections/0/body/text
+put /sections/0/body/method 0
+get /sections/0/body/method
+# sizes that stand behind the file, which this description doesn't read
+put /sections/0/body/flags 8
+get /sections/0/body/flags
+put /sections/0/body/flags 0
+# an entry that points to the directory in place of a file
+put /sections/3/body/at 136
+get /sections/3/body/section
+at /sections/3/body/section
+get /sections/3/body/agrees
+put /sections/3/body/at 0
+get /sections/3/body/section
+# a directory of three entries that should have four
+put /sections/6/body/count 4
+get /count
+get /sections/6/body/directory
+get /sections/6/body/directory/sections
+put /sections/6/body/count 3
+get /sections/6/body/directory
 # another name in the file, but not in its entry
 set 30 62
 get /sections/0/body/name

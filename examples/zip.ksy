@@ -18,7 +18,7 @@ types:
   section:
     seq:
       - {id: magic, contents: PK}
-      - {id: kind, type: u2, enum: kind}
+      - {id: kind, type: u2, enum: kind, valid: {any-of: [kind::file, kind::entry, kind::end]}}
       - id: body
         type:
           switch-on: kind
@@ -28,14 +28,14 @@ types:
             kind::end: end
   file:
     seq:
-      - {id: version, type: u2}
-      - {id: flags, type: u2}
-      - {id: method, type: u2, enum: method}
+      - {id: version, type: u2, valid: {max: 63}}
+      - {id: flags, type: u2, valid: {expr: _ & 8 == 0}}
+      - {id: method, type: u2, enum: method, valid: {any-of: [method::stored, method::deflated]}}
       - {id: time, type: u2}
       - {id: date, type: u2}
       - {id: crc32, type: u4}
       - {id: len_body, type: u4}
-      - {id: len_open, type: u4}
+      - {id: len_open, type: u4, valid: {expr: method != method::stored or _ == len_body}}
       - {id: len_name, type: u2}
       - {id: len_extra, type: u2}
       - {id: name, type: str, size: len_name}
@@ -49,8 +49,10 @@ types:
         value: (date >> 9) + 1980
       month:
         value: date >> 5 & 15
+        valid: {min: 1, max: 12}
       day:
         value: date & 31
+        valid: {min: 1}
       clock:
         doc: Hours and minutes; seconds are stored by twos.
         value: (time >> 11).to_s + ":" + (time >> 5 & 63).to_s
@@ -81,6 +83,7 @@ types:
         io: _root._io
         pos: at
         type: section
+        valid: {expr: _.kind == kind::file}
       agrees:
         value: section.body.as<file>.name == name and section.body.as<file>.crc32 == crc32
       percent:
@@ -105,6 +108,7 @@ types:
         pos: at_directory
         size: len_directory
         type: directory
+        valid: {expr: _.sections.size == count}
 enums:
   kind: {0x0403: file, 0x0201: entry, 0x0605: end}
   method: {0: stored, 8: deflated}

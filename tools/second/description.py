@@ -21,12 +21,13 @@ META_KEYS = {"id", "endian", "encoding", "bit-endian"}
 META_IGNORED = {"title", "application", "file-extension", "license", "xref", "ks-version", "tags"}
 META_LEFT_OUT = {"imports", "ks-opaque-types"}
 FIELD_KEYS = {"type", "size", "size-eos", "contents", "encoding", "terminator", "consume", "include", "eos-error", "repeat",
-              "repeat-expr", "repeat-until", "if", "enum"}
-FIELD_LEFT_OUT = {"process", "pad-right", "valid"}
+              "repeat-expr", "repeat-until", "if", "enum", "valid"}
+FIELD_LEFT_OUT = {"process", "pad-right"}
 AGAINST_VALUE = ("pos", "io", "type", "size", "repeat")
-AGAINST_CONTENTS = ("type", "size", "size-eos", "terminator", "enum")
+AGAINST_CONTENTS = ("type", "size", "size-eos", "terminator", "enum", "valid")
+CHECK_KEYS = {"eq", "any-of", "expr", "min", "max"}
 PLACE_KEYS = {"if", "size", "repeat-expr", "repeat-until", "switch-on"}
-INDEX_KEYS = {"size", "switch-on", "argument", "repeat-until"}
+INDEX_KEYS = {"size", "switch-on", "argument", "repeat-until", "valid", "expr"}
 ARGUMENT_COUNTS = {"substring": 2, "to_i": 1, "to_s": 1}
 
 
@@ -36,6 +37,11 @@ class DescriptionFault(Exception):
     def __init__(self, line, code, text):
         super().__init__(f"line {line}: {code} {text}")
         self.line, self.code, self.text = line, code, text
+
+
+def as_map(tree, line):
+    """A mapping, or an empty one for what is none: an entry of `types` or `enums` declares a name whatever its value is."""
+    return tree if isinstance(tree, Map) else Map(line, [])
 
 
 class Type:
@@ -65,6 +71,7 @@ class Attribute:
         self.number = None  # of a parameter: which argument it has
         self.condition = self.size = self.repeat = self.count = self.until = self.io = self.pos = self.value = None
         self.contents = self.terminator = self.encoding = self.enum = self.case = self.switch = None
+        self.checks = ()  # what the value must meet, in the order in which it is looked at: (how, expressions)
         self.size_eos = self.include = False
         self.consume = self.eos_error = True
         self.case_lines = []  # of a switch: the line of each case, with what it chooses
@@ -164,12 +171,10 @@ class Loader:
         for key_line, key, node in tree.entries:
             if key == "types" and isinstance(node, Map):
                 for inner_line, inner, inner_tree in node.entries:
-                    if isinstance(inner_tree, Map):
-                        made.types[inner] = self.declare(inner_tree, inner, made, inner_line)
+                    made.types[inner] = self.declare(as_map(inner_tree, inner_line), inner, made, inner_line)
             elif key == "enums" and isinstance(node, Map):
-                for _, inner, inner_tree in node.entries:
-                    if isinstance(inner_tree, Map):
-                        made.enums[inner] = self.declare_enum(inner, inner_tree)
+                for inner_line, inner, inner_tree in node.entries:
+                    made.enums[inner] = self.declare_enum(inner, as_map(inner_tree, inner_line))
             elif key in ("params", "seq") and isinstance(node, List):
                 for number, item in enumerate(node.items):
                     self.declare_item(made, key, number, item)
@@ -387,7 +392,7 @@ class Loader:
     def check_value(self, tree, attribute):
         """A value instance, and the keys that can't stand beside it."""
         place = Place(attribute.owner, False, False)
-        keys = {"value", "if", "enum", *AGAINST_VALUE}
+        keys = {"value", "if", "enum", "valid", *AGAINST_VALUE}
         for line, key, node in self.entries(tree, keys, FIELD_LEFT_OUT):
             if key in AGAINST_VALUE:
                 self.fault(min(line, tree.line_of("value")), "S3")
@@ -422,6 +427,8 @@ class Loader:
             self.check_type_key(line, node, attribute, place)
         elif key == "contents":
             attribute.contents = self.contents(line, node)
+        elif key == "valid":
+            attribute.checks = self.checks(line, node, place)
         elif not isinstance(node, Text):
             self.fault(line, "S6")
         elif key == "id":
@@ -456,6 +463,32 @@ class Loader:
         attribute.enum = self.find_enum(names, attribute.owner)
         if attribute.enum is None:
             self.fault(line, "S4")
+
+    def checks(self, line, node, place):
+        """What the key `valid` states: a text, or a mapping with one key of a check, or with `min` and `max`."""
+        if isinstance(node, Text):
+            return [("eq", [self.expression(line, node, "valid", place)])]
+        if not isinstance(node, Map):
+            self.fault(line, "S6")
+            return []
+        found, lines = {}, []
+        for key_line, key, inner in self.entries(node, CHECK_KEYS, {"in-enum"}):
+            lines.append(key_line)
+            found[key] = self.check_expressions(key_line, key, inner, place)
+        if all(is_ignored(key) for _, key, _ in node.entries):
+            self.fault(node.line, "S2")
+        if len(found) > 1 and set(found) != {"min", "max"}:
+            self.fault(min(lines), "S3")
+        return [(key, found[key]) for key in ("eq", "any-of", "expr", "min", "max") if key in found]
+
+    def check_expressions(self, line, key, node, place):
+        """The expressions of one key of `valid`: those of a list, or the only one."""
+        if key != "any-of":
+            return [self.expression(line, node, "expr" if key == "expr" else "valid", place)]
+        if not isinstance(node, List) or not node.items:
+            self.fault(line, "S6")
+            return []
+        return [self.expression(item.line, item, "valid", place) for item in node.items]
 
     def contents(self, line, node):
         """The bytes of a text, or of a list of numbers and texts."""
@@ -675,7 +708,7 @@ class Names:
         elif word == "_index":
             if not (self.place.repeated and self.key in INDEX_KEYS):
                 self.fault("S4")
-        elif word == "_" and self.key != "repeat-until":
+        elif word == "_" and self.key not in ("repeat-until", "expr"):
             self.fault("S4")
 
     def field(self, tree, role):

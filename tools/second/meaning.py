@@ -112,13 +112,13 @@ def kind_of(value):
 
 class Context:
     """Where an expression stands: its home with its stream, the present place, the element's number and path, and the path at
-    which its faults stand."""
+    which its faults stand; in a check also the value that was made, alone in a tuple."""
 
-    __slots__ = ("home", "stream", "at", "place", "index", "element")
+    __slots__ = ("home", "stream", "at", "place", "index", "element", "made")
 
-    def __init__(self, home, stream, at, place=None, index=None, element=None):
+    def __init__(self, home, stream, at, place=None, index=None, element=None, made=()):
         self.home, self.stream, self.at = home, stream, at
-        self.place, self.index, self.element = place, index, element
+        self.place, self.index, self.element, self.made = place, index, element, made
 
     def fault(self, kind):
         """A fault of this expression."""
@@ -177,6 +177,8 @@ def special(tree, context):
         if context.index is None:
             raise context.fault("bad-type")
         return context.index
+    if context.made:
+        return context.made[0]
     if context.element is None:
         raise context.fault("bad-type")
     return (yield from ask(context, "value", context.element))

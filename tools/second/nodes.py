@@ -348,8 +348,29 @@ class Evaluation:
     # Values.
 
     def value(self, node, path):
-        """The value at a path."""
+        """The value at a path, which must meet its checks; a list has none, its elements have."""
         head = yield self.node(HEAD, path)
+        value = yield from self.unchecked(node, path, head)
+        if head.form != "list" and head.attribute is not None:
+            index = path.step if path.is_element() else None
+            context = Context(head.home, head.home_stream, path, index=index, made=(value,))
+            for how, trees in head.attribute.checks:
+                if not (yield from self.meets(node, how, trees, context)):
+                    raise Fault("invalid", path)
+        return value
+
+    def meets(self, node, how, trees, context):
+        """Whether the value that was made meets a check."""
+        if how == "expr":
+            return (yield from self.of_kind(node, trees[0], context, "bool"))
+        sign = {"min": ">=", "max": "<="}.get(how, "==")
+        for tree in trees:
+            if (yield from self.evaluate(node, ("binary", sign, ("special", "_"), tree), context)):
+                return True
+        return False
+
+    def unchecked(self, node, path, head):
+        """The value of what stands at a path, whatever its checks say."""
         if head.form == "gone":
             raise Fault("absent", path)
         if head.form == "object":

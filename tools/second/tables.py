@@ -223,7 +223,8 @@ def state(lines, session, end):
 def judge_devices(result, row):
     """Sessions over a device that fails after each number of calls. A reader that gives a byte at once: the whole lines before the failure are
     answered. A writer that takes a byte at once, a flush being a call too, or one of std, whose replies are one write each and aren't seen: the
-    line whose reply it was has changed the file."""
+    line whose reply it was has changed the file. The output is flushed after each line, also one that has no reply, such as the empty one behind
+    the last line end."""
     lines = b"".join(unescaped(question) + b"\n" for _, question, _ in row.questions if question is not None)
     session = Session(describe(text_of(row))[0], bytes_of(row.words))
     told, replies, rest = [], 0, lines
@@ -232,15 +233,13 @@ def judge_devices(result, row):
         if row.kind == "readers":
             told += [state(replies, session, "ReadFailed")] * (len(line) + 1)
         reply = session.line(line)
-        if reply is None:
-            continue
         if row.kind == "writers":
-            told += [state(replies, session, "WriteFailed")] * (len(reply.encode("utf-8")) + 1)
-        replies += row.kind != "std"
-        if row.kind != "readers":
+            told += [state(replies, session, "WriteFailed")] * (0 if reply is None else len(reply.encode("utf-8")) + 1)
+        replies += row.kind != "std" and reply is not None
+        if row.kind == "writers" or row.kind == "std" and reply is not None:
             told.append(state(replies, session, "WriteFailed"))
-    if row.kind == "readers" and not session.ended:
-        told.append(state(replies, session, "ReadFailed"))
+    if row.kind != "std" and not session.ended:
+        told.append(state(replies, session, "ReadFailed" if row.kind == "readers" else "WriteFailed"))
     told.append(state(replies, session, "Quit" if session.ended else "Input"))
     compare_lines(result, row.questions, spans(told))
 

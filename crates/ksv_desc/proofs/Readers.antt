@@ -21,7 +21,7 @@ same_test m = go m.kind
     go kinds.Parameter = refl
     go (kinds.Attribute f) = refl
     go (kinds.ParseInstance p s f) = refl
-    go (kinds.ValueInstance c v e) = refl
+    go (kinds.ValueInstance c v e x) = refl
 
 pub fields_same : (ms : List MemberDesc) → map (λ m. m.name) (filter plain_is (map plain_member ms)) ≡ map (λ m. m.name) (filter is_attribute ms)
 fields_same [] = refl

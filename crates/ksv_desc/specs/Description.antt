@@ -58,6 +58,11 @@ pub data Repeat : Type 0 where
   Expr : expressions.Tree → Repeat
   Until : expressions.Tree → Repeat
 
+-- what a value must meet, once it is made: one of these conditions is true, or each of them; `_` is that value
+pub data Valid : Type 0 where
+  AnyOf : List expressions.Tree → Valid
+  AllOf : List expressions.Tree → Valid
+
 -- what an attribute of a `seq`, or a parse instance, reads
 pub record Field : Type 0 where
   pub condition : Option expressions.Tree
@@ -65,12 +70,14 @@ pub record Field : Type 0 where
   pub choice : Choice
   pub extent : Extent
   pub terminator : Option Terminator
+  pub valid : Option Valid
 
--- what a value instance calculates: its condition, its value, and as a member of which enum
+-- what a value instance calculates: its condition, its value, as a member of which enum, and what it must meet
 pub record Calculation : Type 0 where
   pub condition : Option expressions.Tree
   pub value : expressions.Tree
   pub enum : Option ℕ
+  pub valid : Option Valid
 
 -- a parameter; an attribute of `seq`; a parse instance, with its place and perhaps a stream of its own; a value instance
 pub data MemberKind : Type 0 where
@@ -135,6 +142,13 @@ member_id d e number = option_and_then (λ x. option_map (λ m. m.id) (find (λ 
 -- the number of a member's name
 abbrev pub number_of_name : Description → List ℕ → Option ℕ
 number_of_name d text = position_from (bytes_eq text) 0 (take d.known d.names)
+
+-- what a member's value, or each element of it, must meet
+abbrev pub valid_of : MemberKind → Option Valid
+valid_of Parameter = None
+valid_of (Attribute f) = f.valid
+valid_of (ParseInstance p s f) = f.valid
+valid_of (ValueInstance v) = v.valid
 
 -- the bytes of a name or an id, if they are a text
 unfoldable pub as_text : List ℕ → Option (List ℕ)

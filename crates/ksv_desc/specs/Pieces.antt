@@ -13,6 +13,8 @@ use Rattle.ksv_desc.specs.declared.field.Extent.TheVariants as extents
 use Rattle.ksv_desc.specs.declared.field.Terminator.{Terminator as CodeTerminator}
 use Rattle.ksv_desc.specs.declared.field.Repeat.{Repeat as CodeRepeat}
 use Rattle.ksv_desc.specs.declared.field.Repeat.TheVariants as repeats
+use Rattle.ksv_desc.specs.declared.valid.Valid.{Valid as CodeValid}
+use Rattle.ksv_desc.specs.declared.valid.Valid.TheVariants as valids
 use Rattle.ksv_desc.specs.declared.field.Field.{Field as CodeField}
 use Rattle.ksv_desc.specs.declared.members.MemberKind.{MemberKind as CodeKind}
 use Rattle.ksv_desc.specs.declared.members.MemberKind.TheVariants as kinds
@@ -20,7 +22,7 @@ use Rattle.ksv_desc.specs.declared.members.MemberDesc.{MemberDesc}
 use Rattle.ksv_desc.specs.declared.type_desc.TypeDesc.{TypeDesc}
 use Rattle.ksv_desc.specs.declared.enums.EnumEntry.{EnumEntry}
 use Rattle.ksv_desc.specs.declared.enums.EnumDesc.{EnumDesc}
-use Rattle.ksv_desc.specs.Description.{Content, Bytes, Fixed, Number, Characters, Object, CaseValue, Literal, Negated, EnumValue, Case, Choice, Always, Switch, Extent, Sized, SizeEos, ByItself, Terminator, Repeat, Once, Eos, Expr, Until, Field, MemberKind, Parameter, Attribute, ParseInstance, ValueInstance, MemberOfType, TypeOfObjects, Numbered, Enum}
+use Rattle.ksv_desc.specs.Description.{Content, Bytes, Fixed, Number, Characters, Object, CaseValue, Literal, Negated, EnumValue, Case, Choice, Always, Switch, Extent, Sized, SizeEos, ByItself, Terminator, Repeat, Once, Eos, Expr, Until, Valid, AnyOf, AllOf, Field, MemberKind, Parameter, Attribute, ParseInstance, ValueInstance, MemberOfType, TypeOfObjects, Numbered, Enum}
 
 -- ---- what is read
 
@@ -59,6 +61,10 @@ plain_repeat repeats.Eos = Eos
 plain_repeat (repeats.Expr e) = Expr (view e)
 plain_repeat (repeats.Until e) = Until (view e)
 
+abbrev pub plain_valid : CodeValid → Valid
+plain_valid (valids.AnyOf conditions) = AnyOf (map view conditions.items)
+plain_valid (valids.AllOf conditions) = AllOf (map view conditions.items)
+
 abbrev pub plain_field : CodeField → Field
 plain_field f = record {
   condition = option_map view f.condition;
@@ -66,6 +72,7 @@ plain_field f = record {
   choice = plain_choice f.choice;
   extent = plain_extent f.extent;
   terminator = option_map plain_terminator f.terminator;
+  valid = option_map plain_valid f.valid;
 }
 
 -- ---- members, types and enums
@@ -74,7 +81,7 @@ abbrev pub plain_kind : CodeKind → MemberKind
 plain_kind kinds.Parameter = Parameter
 plain_kind (kinds.Attribute field) = Attribute (plain_field field)
 plain_kind (kinds.ParseInstance place stream field) = ParseInstance (view place) (option_map view stream) (plain_field field)
-plain_kind (kinds.ValueInstance condition value enumeration) = ValueInstance (record { condition = option_map view condition; value = view value; enum = enumeration })
+plain_kind (kinds.ValueInstance condition value enumeration valid) = ValueInstance (record { condition = option_map view condition; value = view value; enum = enumeration; valid = option_map plain_valid valid })
 
 abbrev pub plain_member : MemberDesc → MemberOfType
 plain_member m = record { name = m.name; kind = plain_kind m.kind }

@@ -5,7 +5,7 @@ use Rattle.std.specs.Option.{option_map_or}
 use Rattle.ksv_expr_tree.specs.Tree.{Tree, literal, named, special, member, unary, binary, logical, choice, field, special_field, call, index, cast, Arguments, no_arguments, argument, Word}
 use Rattle.ksv_expr_tree.specs.declared.tree.EnumMember.{EnumMember}
 use Rattle.ksv_desc.specs.Names.{AreDistinct}
-use Rattle.ksv_desc.specs.Description.{Content, Bytes, Fixed, Number, Characters, Object, CaseValue, Literal, Negated, EnumValue, Case, Choice, Always, Switch, Extent, Sized, SizeEos, ByItself, Repeat, Once, Eos, Expr, Until, Field, MemberKind, Parameter, Attribute, ParseInstance, ValueInstance, MemberOfType, Description, member_id}
+use Rattle.ksv_desc.specs.Description.{Content, Bytes, Fixed, Number, Characters, Object, CaseValue, Literal, Negated, EnumValue, Case, Choice, Always, Switch, Extent, Sized, SizeEos, ByItself, Repeat, Once, Eos, Expr, Until, Valid, AnyOf, AllOf, Field, MemberKind, Parameter, Attribute, ParseInstance, ValueInstance, MemberOfType, Description, member_id}
 
 -- how many arguments there are
 abbrev pub count : Arguments → ℕ
@@ -107,17 +107,22 @@ IsResolvedRepeat d Eos = Unit {0}
 IsResolvedRepeat d (Expr e) = IsResolvedTree d e
 IsResolvedRepeat d (Until e) = IsResolvedTree d e
 
+abbrev pub IsResolvedValid : Description → Valid → Type 0
+IsResolvedValid d (AnyOf conditions) = Each (IsResolvedTree d) conditions
+IsResolvedValid d (AllOf conditions) = Each (IsResolvedTree d) conditions
+
 pub record IsResolvedField (d : Description) (f : Field) : Type 0 where
   pub condition : IfAny (IsResolvedTree d) f.condition
   pub repeat : IsResolvedRepeat d f.repeat
   pub choice : IsResolvedChoice d f.choice
   pub extent : IsResolvedExtent d f.extent
+  pub valid : IfAny (IsResolvedValid d) f.valid
 
 abbrev pub IsResolvedKind : Description → MemberKind → Type 0
 IsResolvedKind d Parameter = Unit {0}
 IsResolvedKind d (Attribute f) = IsResolvedField d f
 IsResolvedKind d (ParseInstance place stream f) = IsResolvedTree d place × IfAny (IsResolvedTree d) stream × IsResolvedField d f
-IsResolvedKind d (ValueInstance v) = IfAny (IsResolvedTree d) v.condition × IsResolvedTree d v.value × IfAny (IsEnum d) v.enum
+IsResolvedKind d (ValueInstance v) = IfAny (IsResolvedTree d) v.condition × IsResolvedTree d v.value × IfAny (IsEnum d) v.enum × IfAny (IsResolvedValid d) v.valid
 
 -- a member has one of the names of members
 abbrev pub IsResolvedMember : Description → MemberOfType → Type 0

@@ -8,7 +8,7 @@ abbrev pub is_attribute_kind : MemberKind → Bool
 is_attribute_kind Parameter = false
 is_attribute_kind (Attribute field) = true
 is_attribute_kind (ParseInstance place stream field) = false
-is_attribute_kind (ValueInstance condition value enumeration) = false
+is_attribute_kind (ValueInstance condition value enumeration valid) = false
 
 abbrev pub is_attribute : MemberDesc → Bool
 is_attribute m = is_attribute_kind m.kind

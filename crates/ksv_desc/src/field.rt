@@ -1,6 +1,7 @@
 //! How an attribute or a parse instance is read.
 
 use crate::content::Choice;
+use crate::valid::Valid;
 use ksv_expr_tree::Expr;
 
 /// Where something ends.
@@ -53,4 +54,6 @@ pub struct Field {
     pub extent: Extent,
     /// The byte that ends it.
     pub terminator: Option<Terminator>,
+    /// What its value, or each element of it, must meet.
+    pub valid: Option<Valid>,
 }

@@ -15,6 +15,7 @@
 //! - `pieces`: all pieces of a description
 //! - `text`: bytes that are a text
 //! - `type_desc`: types: their names and members
+//! - `valid`: what a value must meet
 //!
 //! Definitions (`specs/`):
 //!
@@ -46,6 +47,7 @@ mod order;
 mod pieces;
 mod text;
 mod type_desc;
+mod valid;
 
 pub use content::{Case, CaseValue, Choice, Content};
 pub use description::Desc;
@@ -58,3 +60,4 @@ pub use order::ByteOrder;
 pub use pieces::Pieces;
 pub use text::as_text;
 pub use type_desc::TypeDesc;
+pub use valid::Valid;

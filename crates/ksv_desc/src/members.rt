@@ -1,6 +1,7 @@
 //! Members of types.
 
 use crate::field::Field;
+use crate::valid::Valid;
 use ksv_expr_tree::Expr;
 
 /// What a member is.
@@ -27,7 +28,27 @@ pub enum MemberKind {
         value: Expr,
         /// The number of the enum whose member it is.
         enumeration: Option<u32>,
+        /// What its value must meet.
+        valid: Option<Valid>,
     },
+}
+
+impl MemberKind {
+    ghost use Rattle.std.specs.Prelude.{◌≡◌, option_map};
+    ghost use Rattle.ksv_desc.specs.Description.{valid_of};
+    ghost use Rattle.ksv_desc.specs.Pieces.{plain_valid, plain_kind};
+
+    /// What its value, or each element of it, must meet.
+    pub fn valid(&self) -> Option<&Valid>
+        ensures { option_map (λ v. plain_valid v.now) result ≡ valid_of (plain_kind self.now) }
+    {
+        match self {
+            MemberKind::Parameter => None,
+            MemberKind::Attribute(field) => field.valid.as_ref(),
+            MemberKind::ParseInstance { field, .. } => field.valid.as_ref(),
+            MemberKind::ValueInstance { valid, .. } => valid.as_ref(),
+        }
+    }
 }
 
 /// A parameter, attribute or instance of a type.

@@ -7,9 +7,10 @@ use Rattle.std.specs.Fmt.{digits}
 use Rattle.std.specs.Str.{is_utf8, chars}
 use lib.Utf8.{encode}
 use Rattle.ksv_desc.specs.declared.order.ByteOrder.TheVariants as orders
+use Rattle.ksv_expr_tree.specs.declared.tree.BinaryOperator.{BinaryOperator}
 use Rattle.ksv_expr_tree.specs.declared.tree.BinaryOperator.TheVariants as binaries
 use Rattle.ksv_expr_tree.specs.declared.tree.SpecialName.TheVariants as specials
-use Rattle.ksv_expr_tree.specs.Tree.{Word, integer, literal, named, special, member, binary, field, index, no_arguments, argument}
+use Rattle.ksv_expr_tree.specs.Tree.{Tree, Word, integer, literal, named, special, member, binary, field, index, no_arguments, argument}
 use Rattle.ksv_expr_value.specs.declared.encoding.Encoding.TheVariants as encodings
 use Rattle.ksv_yaml.specs.Text.{tree_of_text}
 use Rattle.ksv_schema.specs.Description.{past, line_at}
@@ -26,9 +27,10 @@ use Rattle.ksv_schema_names.specs.Numbered.{given_member, numbered, all_numbered
 use Rattle.ksv_desc.specs.Names.{distinct, number_in, dotted, all_dotted}
 use Rattle.ksv_schema.specs.Rules.{endian_faults, bit_endian_faults, form_faults, key_faults, against, ruled_faults, together}
 use Rattle.ksv_schema.specs.Values.{of_expression, expression as read_expression, arguments as read_arguments, enumeration, item as read_item, contents as read_contents, order_at, encoding_at, of_type, of_case_key, case_value, case_against, case as read_case, switch as read_switch, typed as read_typed, choice as read_choice}
+use Rattle.ksv_schema.specs.Valid.{alternative, alternatives, conditions, valid}
 use Rattle.ksv_schema.specs.Members.{parts as read_parts, repeat_of, terminator_of, repeated, needs as read_needs, unsupported, field as read_field, attribute as read_attribute, parse_instance, value_instance, placeless, by_kind, member_keys, name_line, is_named_again, member as read_member}
 use Rattle.ksv_schema.specs.Description.{entry_id, is_number_again, is_id_again, constant as read_constant, meta_faults, type_keys_faults, type_faults, line_past, members as read_members, all_members, all_enums, faults_of, faults, member_names, names_of, member_of, type_of as read_type_of, are_texts, described, stated_by, stated}
-use Rattle.ksv_desc.specs.Description.{Description, Field, Bytes, Fixed, Number, Characters, Object, EnumValue, Always, Switch, Sized, ByItself, Once, Expr, Parameter, Attribute, ParseInstance, ValueInstance, as_text}
+use Rattle.ksv_desc.specs.Description.{Description, Field, Bytes, Fixed, Number, Characters, Object, EnumValue, Always, Switch, Sized, ByItself, Once, Eos, Expr, AnyOf, AllOf, Parameter, Attribute, ParseInstance, ValueInstance, as_text}
 use Rattle.ksv_schema.specs.Expressions.{tokens_of, expression_of, type_of as type_of_expressions}
 use Rattle.ksv_schema.specs.Faults.{fault, over_limit, is_below, noted}
 use Rattle.ksv_schema.specs.Keys.{form_among, form_in, is_ignored, is_id}
@@ -225,6 +227,52 @@ refused_texts =
     row (codes "meta:" ∷ codes "  id: a" ∷ codes "  endian:" ∷ codes "    switch-on: x" ∷ []) 3 8 ∷
     -- imports
     row (codes "meta:" ∷ codes "  id: a" ∷ codes "  imports: [b]" ∷ []) 3 8 ∷
+    -- a check without text
+    behind (codes "    type: u1" ∷ codes "    valid:" ∷ []) 6 10 ∷
+    -- a list for a check
+    behind (codes "    type: u1" ∷ codes "    valid: [1]" ∷ []) 6 6 ∷
+    -- no key of a check
+    behind (codes "    type: u1" ∷ codes "    valid: {}" ∷ []) 6 2 ∷
+    -- ignored keys alone
+    behind (codes "    type: u1" ∷ codes "    valid:" ∷ codes "      doc: text" ∷ codes "      -extra: 1" ∷ []) 7 2 ∷
+    -- an unknown key of a check alone
+    behind (codes "    type: u1" ∷ codes "    valid:" ∷ codes "      low: 1" ∷ []) 7 1 ∷
+    -- a check that is unsupported
+    behind (codes "    type: u1" ∷ codes "    valid:" ∷ codes "      in-enum: true" ∷ []) 7 8 ∷
+    -- and beside another
+    behind (codes "    type: u1" ∷ codes "    valid:" ∷ codes "      eq: 1" ∷ codes "      in-enum: true" ∷ []) 8 8 ∷
+    -- two checks against each other
+    behind (codes "    type: u1" ∷ codes "    valid:" ∷ codes "      max: 2" ∷ codes "      eq: 1" ∷ []) 7 3 ∷
+    -- and an expression beside a bound
+    behind (codes "    type: u1" ∷ codes "    valid:" ∷ codes "      doc: text" ∷ codes "      min: 2" ∷ codes "      expr: _ == 1" ∷ []) 8 3 ∷
+    -- none of a list
+    behind (codes "    type: u1" ∷ codes "    valid:" ∷ codes "      any-of: []" ∷ []) 7 6 ∷
+    -- no list
+    behind (codes "    type: u1" ∷ codes "    valid:" ∷ codes "      any-of: 1" ∷ []) 7 6 ∷
+    -- an unknown name in an item
+    behind (codes "    type: u1" ∷ codes "    valid:" ∷ codes "      any-of:" ∷ codes "        - 1" ∷ codes "        - y" ∷ []) 9 4 ∷
+    -- an item that is no text
+    behind (codes "    type: u1" ∷ codes "    valid:" ∷ codes "      any-of:" ∷ codes "        - [1]" ∷ []) 8 6 ∷
+    -- the value in a text
+    behind (codes "    type: u1" ∷ codes "    valid: _" ∷ []) 6 4 ∷
+    -- the value in a bound
+    behind (codes "    type: u1" ∷ codes "    valid:" ∷ codes "      max: _ + 1" ∷ []) 7 4 ∷
+    -- the value after a dot
+    behind (codes "    type: u1" ∷ codes "    valid:" ∷ codes "      expr: x._" ∷ []) 7 4 ∷
+    -- the place in a check
+    behind (codes "    type: u1" ∷ codes "    valid:" ∷ codes "      expr: _ == _io.pos" ∷ []) 7 8 ∷
+    -- an index of no element in a check
+    behind (codes "    type: u1" ∷ codes "    valid:" ∷ codes "      expr: _ == _index" ∷ []) 7 4 ∷
+    -- contents and a check
+    behind (codes "    contents: ab" ∷ codes "    valid: x" ∷ []) 5 3 ∷
+    -- a check of a type
+    behind (codes "    type: u1" ∷ codes "valid: 1" ∷ []) 6 1 ∷
+    -- a check of a parameter
+    behind (codes "    type: t(1)" ∷ codes "types:" ∷ codes "  t:" ∷ codes "    params:" ∷ codes "      - id: i" ∷ codes "        valid: 1" ∷ []) 10 1 ∷
+    -- contents of a value, which are unknown beside a check too
+    behind (codes "    type: u1" ∷ codes "instances:" ∷ codes "  i:" ∷ codes "    valid: 1" ∷ codes "    contents: ab" ∷ codes "    value: 1" ∷ []) 9 1 ∷
+    -- a check of an instance of neither kind
+    behind (codes "    type: u1" ∷ codes "instances:" ∷ codes "  i: {valid: {}}" ∷ []) 7 2 ∷
     -- no mapping
     row (codes "- a" ∷ []) 1 6 ∷
     []
@@ -233,7 +281,7 @@ abbrev is_refused : Row → Bool
 is_refused r = option_map_or (λ f. f.line == r.line && f.number == r.number) (least_fault r.lines) false
 
 rows_are_refused : list_all is_refused refused_texts ≡ true
-unfolding least_fault read read_list place_on select_on plain_number signed_number special_faults special_field_faults enum_at is_member cast_faults is_call name_faults least part_faults list_faults distinct number_in given_member dotted all_dotted numbered all_numbered as_text tokens_of expression_of type_of_expressions is_below noted is_ignored is_id encoding_named type_text byte_number byte_at looks_like_number piece_of case_key ids_of digits is_utf8 chars encode number_of id_of id_of_number number_of_id members_at_key members_of members_within parameters_within member_named row_in types_of keys_at outer_of from nearest_row type_named enum_behind order_of encoding_of is_bits built_in form_among form_in endian_faults bit_endian_faults form_faults key_faults against ruled_faults together of_expression read_expression read_arguments enumeration read_item read_contents order_at encoding_at of_type of_case_key case_value case_against read_case read_switch read_typed read_choice read_parts repeat_of terminator_of repeated read_needs unsupported read_field read_attribute parse_instance value_instance placeless by_kind member_keys name_line is_named_again read_member entry_id is_number_again is_id_again read_constant meta_faults type_keys_faults type_faults line_past read_members all_members all_enums faults_of faults member_names names_of member_of read_type_of are_texts described stated_by stated
+unfolding least_fault read read_list place_on select_on plain_number signed_number special_faults special_field_faults enum_at is_member cast_faults is_call name_faults least part_faults list_faults distinct number_in given_member dotted all_dotted numbered all_numbered as_text tokens_of expression_of type_of_expressions is_below noted is_ignored is_id encoding_named type_text byte_number byte_at looks_like_number piece_of case_key ids_of digits is_utf8 chars encode number_of id_of id_of_number number_of_id members_at_key members_of members_within parameters_within member_named row_in types_of keys_at outer_of from nearest_row type_named enum_behind order_of encoding_of is_bits built_in form_among form_in endian_faults bit_endian_faults form_faults key_faults against ruled_faults together of_expression read_expression read_arguments enumeration read_item read_contents order_at encoding_at of_type of_case_key case_value case_against read_case read_switch read_typed read_choice alternative alternatives conditions valid read_parts repeat_of terminator_of repeated read_needs unsupported read_field read_attribute parse_instance value_instance placeless by_kind member_keys name_line is_named_again read_member entry_id is_number_again is_id_again read_constant meta_faults type_keys_faults type_faults line_past read_members all_members all_enums faults_of faults member_names names_of member_of read_type_of are_texts described stated_by stated
 rows_are_refused = refl
 
 -- ---- texts that state a description
@@ -288,6 +336,8 @@ accepted_texts =
     (codes "meta:" ∷ codes "  id: a" ∷ codes "seq:" ∷ codes "  - id: items" ∷ codes "    type: item" ∷ codes "    repeat: eos" ∷ codes "types:" ∷ codes "  item:" ∷ codes "    seq:" ∷ codes "      - id: len" ∷ codes "        type: u1" ∷ codes "      - id: body" ∷ codes "        size: len" ∷ []) ∷
     -- operators
     (codes "meta:" ∷ codes "  id: a" ∷ codes "instances:" ∷ codes "  v:" ∷ codes "    value: false and (1 / 0 == 1)" ∷ codes "  w:" ∷ codes "    value: (1 / 0 == 1) and false" ∷ codes "  x:" ∷ codes "    value: 18446744073709551615 + 1" ∷ codes "  y:" ∷ codes "    value: -7 / 2" ∷ codes "  z:" ∷ codes "    value: -7 % 2" ∷ []) ∷
+    -- checks
+    (codes "meta:" ∷ codes "  id: a" ∷ codes "seq:" ∷ codes "  - id: x" ∷ codes "    type: u1" ∷ codes "    valid: 4" ∷ codes "  - id: y" ∷ codes "    type: u1" ∷ codes "    valid: {doc: text, max: x + 1}" ∷ codes "  - id: xs" ∷ codes "    type: u1" ∷ codes "    repeat: eos" ∷ codes "    valid: {expr: _ == _index and _io.size > _}" ∷ codes "instances:" ∷ codes "  p:" ∷ codes "    pos: 0" ∷ codes "    type: u1" ∷ codes "    repeat: expr" ∷ codes "    repeat-expr: 2" ∷ codes "    valid: {any-of: [_index, x]}" ∷ codes "  v:" ∷ codes "    value: x" ∷ codes "    enum: e" ∷ codes "    valid: e::one" ∷ codes "enums:" ∷ codes "  e:" ∷ codes "    1: one" ∷ []) ∷
     -- a later name of the object around
     (codes "meta:" ∷ codes "  id: a" ∷ codes "seq:" ∷ codes "  - id: o" ∷ codes "    type: t" ∷ codes "    size: 2" ∷ codes "  - id: k" ∷ codes "    type: u1" ∷ codes "types:" ∷ codes "  t:" ∷ codes "    seq:" ∷ codes "      - id: body" ∷ codes "        size: _parent.k" ∷ []) ∷
     []
@@ -296,17 +346,21 @@ abbrev is_accepted : List (List ℕ) → Bool
 is_accepted lines = is_none (least_fault lines) && is_some (description lines)
 
 texts_are_accepted : list_all is_accepted accepted_texts ≡ true
-unfolding least_fault description read read_list place_on select_on plain_number signed_number special_faults special_field_faults enum_at is_member cast_faults is_call name_faults least part_faults list_faults distinct number_in given_member dotted all_dotted numbered all_numbered as_text tokens_of expression_of type_of_expressions is_below noted is_ignored is_id encoding_named type_text byte_number byte_at looks_like_number piece_of case_key ids_of digits is_utf8 chars encode number_of id_of id_of_number number_of_id members_at_key members_of members_within parameters_within member_named row_in types_of keys_at outer_of from nearest_row type_named enum_behind order_of encoding_of is_bits built_in form_among form_in endian_faults bit_endian_faults form_faults key_faults against ruled_faults together of_expression read_expression read_arguments enumeration read_item read_contents order_at encoding_at of_type of_case_key case_value case_against read_case read_switch read_typed read_choice read_parts repeat_of terminator_of repeated read_needs unsupported read_field read_attribute parse_instance value_instance placeless by_kind member_keys name_line is_named_again read_member entry_id is_number_again is_id_again read_constant meta_faults type_keys_faults type_faults line_past read_members all_members all_enums faults_of faults member_names names_of member_of read_type_of are_texts described stated_by stated
+unfolding least_fault description read read_list place_on select_on plain_number signed_number special_faults special_field_faults enum_at is_member cast_faults is_call name_faults least part_faults list_faults distinct number_in given_member dotted all_dotted numbered all_numbered as_text tokens_of expression_of type_of_expressions is_below noted is_ignored is_id encoding_named type_text byte_number byte_at looks_like_number piece_of case_key ids_of digits is_utf8 chars encode number_of id_of id_of_number number_of_id members_at_key members_of members_within parameters_within member_named row_in types_of keys_at outer_of from nearest_row type_named enum_behind order_of encoding_of is_bits built_in form_among form_in endian_faults bit_endian_faults form_faults key_faults against ruled_faults together of_expression read_expression read_arguments enumeration read_item read_contents order_at encoding_at of_type of_case_key case_value case_against read_case read_switch read_typed read_choice alternative alternatives conditions valid read_parts repeat_of terminator_of repeated read_needs unsupported read_field read_attribute parse_instance value_instance placeless by_kind member_keys name_line is_named_again read_member entry_id is_number_again is_id_again read_constant meta_faults type_keys_faults type_faults line_past read_members all_members all_enums faults_of faults member_names names_of member_of read_type_of are_texts described stated_by stated
 texts_are_accepted = refl
 
 -- ---- a description in full
 
 -- one unsigned byte
 abbrev byte : Field
-byte = record { condition = None; repeat = Once; choice = Always (Number false 1 orders.Little None); extent = ByItself; terminator = None }
+byte = record { condition = None; repeat = Once; choice = Always (Number false 1 orders.Little None); extent = ByItself; terminator = None; valid = None }
 
 abbrev word : List ℕ → ℕ → Word
 word text number = record { text = text; number = Some number }
+
+-- the value, compared with an expression
+abbrev against_value : BinaryOperator → Tree → Tree
+against_value operator e = binary operator (special specials.Element) e
 
 k_states : description (codes "meta:" ∷ codes "  id: k" ∷ codes "seq:" ∷ codes "  - id: magic" ∷ codes "    contents: [0x4b, 0x53]" ∷ codes "  - id: n" ∷ codes "    type: u1" ∷ codes "  - id: items" ∷ codes "    type: item" ∷ codes "    repeat: expr" ∷ codes "    repeat-expr: n" ∷ codes "types:" ∷ codes "  item:" ∷ codes "    seq:" ∷ codes "      - id: len" ∷ codes "        type: u1" ∷ codes "      - id: body" ∷ codes "        size: len" ∷ codes "instances:" ∷ codes "  first:" ∷ codes "    value: items[0].len" ∷ codes "  last:" ∷ codes "    pos: _io.size - 1" ∷ codes "    type: u1" ∷ []) ≡ Some (record {
   types =
@@ -316,7 +370,7 @@ k_states : description (codes "meta:" ∷ codes "  id: k" ∷ codes "seq:" ∷ c
             record { name = 0; kind = Attribute (record byte { choice = Always (Fixed (75 ∷ 83 ∷ [])) }) } ∷
             record { name = 1; kind = Attribute byte } ∷
             record { name = 2; kind = Attribute (record byte { repeat = Expr (named (word (codes "n") 1)); choice = Always (Object 1 no_arguments) }) } ∷
-            record { name = 3; kind = ValueInstance (record { condition = None; value = field (index (named (word (codes "items") 2)) (literal (integer 0))) (word (codes "len") 5); enum = None }) } ∷
+            record { name = 3; kind = ValueInstance (record { condition = None; value = field (index (named (word (codes "items") 2)) (literal (integer 0))) (word (codes "len") 5); enum = None; valid = None }) } ∷
             record { name = 4; kind = ParseInstance (binary binaries.Subtract (field (special specials.Io) (word (codes "size") 7)) (literal (integer 1))) None byte } ∷ [];
       } ∷
       record {
@@ -329,7 +383,7 @@ k_states : description (codes "meta:" ∷ codes "  id: k" ∷ codes "seq:" ∷ c
   names = codes "magic" ∷ codes "n" ∷ codes "items" ∷ codes "first" ∷ codes "last" ∷ codes "len" ∷ codes "body" ∷ codes "size" ∷ [];
   known = 7;
 })
-unfolding description read read_list place_on select_on plain_number signed_number special_faults special_field_faults enum_at is_member cast_faults is_call name_faults least part_faults list_faults distinct number_in given_member dotted all_dotted numbered all_numbered as_text tokens_of expression_of type_of_expressions is_below noted is_ignored is_id encoding_named type_text byte_number byte_at looks_like_number piece_of case_key ids_of digits is_utf8 chars encode number_of id_of id_of_number number_of_id members_at_key members_of members_within parameters_within member_named row_in types_of keys_at outer_of from nearest_row type_named enum_behind order_of encoding_of is_bits built_in form_among form_in endian_faults bit_endian_faults form_faults key_faults against ruled_faults together of_expression read_expression read_arguments enumeration read_item read_contents order_at encoding_at of_type of_case_key case_value case_against read_case read_switch read_typed read_choice read_parts repeat_of terminator_of repeated read_needs unsupported read_field read_attribute parse_instance value_instance placeless by_kind member_keys name_line is_named_again read_member entry_id is_number_again is_id_again read_constant meta_faults type_keys_faults type_faults line_past read_members all_members all_enums faults_of faults member_names names_of member_of read_type_of are_texts described stated_by stated
+unfolding description read read_list place_on select_on plain_number signed_number special_faults special_field_faults enum_at is_member cast_faults is_call name_faults least part_faults list_faults distinct number_in given_member dotted all_dotted numbered all_numbered as_text tokens_of expression_of type_of_expressions is_below noted is_ignored is_id encoding_named type_text byte_number byte_at looks_like_number piece_of case_key ids_of digits is_utf8 chars encode number_of id_of id_of_number number_of_id members_at_key members_of members_within parameters_within member_named row_in types_of keys_at outer_of from nearest_row type_named enum_behind order_of encoding_of is_bits built_in form_among form_in endian_faults bit_endian_faults form_faults key_faults against ruled_faults together of_expression read_expression read_arguments enumeration read_item read_contents order_at encoding_at of_type of_case_key case_value case_against read_case read_switch read_typed read_choice alternative alternatives conditions valid read_parts repeat_of terminator_of repeated read_needs unsupported read_field read_attribute parse_instance value_instance placeless by_kind member_keys name_line is_named_again read_member entry_id is_number_again is_id_again read_constant meta_faults type_keys_faults type_faults line_past read_members all_members all_enums faults_of faults member_names names_of member_of read_type_of are_texts described stated_by stated
 k_states = refl
 
 -- a switch, in which the cases keep their order, and an enum found outwards
@@ -365,18 +419,36 @@ switch_states : description (codes "meta:" ∷ codes "  id: a" ∷ codes "  endi
   names = codes "t" ∷ codes "b" ∷ codes "p" ∷ codes "s" ∷ [];
   known = 4;
 })
-unfolding description read read_list place_on select_on plain_number signed_number special_faults special_field_faults enum_at is_member cast_faults is_call name_faults least part_faults list_faults distinct number_in given_member dotted all_dotted numbered all_numbered as_text tokens_of expression_of type_of_expressions is_below noted is_ignored is_id encoding_named type_text byte_number byte_at looks_like_number piece_of case_key ids_of digits is_utf8 chars encode number_of id_of id_of_number number_of_id members_at_key members_of members_within parameters_within member_named row_in types_of keys_at outer_of from nearest_row type_named enum_behind order_of encoding_of is_bits built_in form_among form_in endian_faults bit_endian_faults form_faults key_faults against ruled_faults together of_expression read_expression read_arguments enumeration read_item read_contents order_at encoding_at of_type of_case_key case_value case_against read_case read_switch read_typed read_choice read_parts repeat_of terminator_of repeated read_needs unsupported read_field read_attribute parse_instance value_instance placeless by_kind member_keys name_line is_named_again read_member entry_id is_number_again is_id_again read_constant meta_faults type_keys_faults type_faults line_past read_members all_members all_enums faults_of faults member_names names_of member_of read_type_of are_texts described stated_by stated
+unfolding description read read_list place_on select_on plain_number signed_number special_faults special_field_faults enum_at is_member cast_faults is_call name_faults least part_faults list_faults distinct number_in given_member dotted all_dotted numbered all_numbered as_text tokens_of expression_of type_of_expressions is_below noted is_ignored is_id encoding_named type_text byte_number byte_at looks_like_number piece_of case_key ids_of digits is_utf8 chars encode number_of id_of id_of_number number_of_id members_at_key members_of members_within parameters_within member_named row_in types_of keys_at outer_of from nearest_row type_named enum_behind order_of encoding_of is_bits built_in form_among form_in endian_faults bit_endian_faults form_faults key_faults against ruled_faults together of_expression read_expression read_arguments enumeration read_item read_contents order_at encoding_at of_type of_case_key case_value case_against read_case read_switch read_typed read_choice alternative alternatives conditions valid read_parts repeat_of terminator_of repeated read_needs unsupported read_field read_attribute parse_instance value_instance placeless by_kind member_keys name_line is_named_again read_member entry_id is_number_again is_id_again read_constant meta_faults type_keys_faults type_faults line_past read_members all_members all_enums faults_of faults member_names names_of member_of read_type_of are_texts described stated_by stated
 switch_states = refl
+
+-- what values must meet: `min` before `max`, however they are written
+checks_state : description (codes "meta:" ∷ codes "  id: a" ∷ codes "seq:" ∷ codes "  - id: n" ∷ codes "    type: u1" ∷ codes "    valid:" ∷ codes "      max: 3" ∷ codes "      min: 1" ∷ codes "  - id: m" ∷ codes "    type: u1" ∷ codes "    valid: n" ∷ codes "  - id: xs" ∷ codes "    type: u1" ∷ codes "    repeat: eos" ∷ codes "    valid:" ∷ codes "      any-of: [n, 5]" ∷ codes "instances:" ∷ codes "  v:" ∷ codes "    value: m" ∷ codes "    valid:" ∷ codes "      expr: _ == n" ∷ []) ≡ Some (record {
+  types =
+      record {
+        id = codes "a";
+        members =
+            record { name = 0; kind = Attribute (record byte { valid = Some (AllOf (against_value binaries.GreaterOrEqual (literal (integer 1)) ∷ against_value binaries.LessOrEqual (literal (integer 3)) ∷ [])) }) } ∷
+            record { name = 1; kind = Attribute (record byte { valid = Some (AnyOf (against_value binaries.Equal (named (word (codes "n") 0)) ∷ [])) }) } ∷
+            record { name = 2; kind = Attribute (record byte { repeat = Eos; valid = Some (AnyOf (against_value binaries.Equal (named (word (codes "n") 0)) ∷ against_value binaries.Equal (literal (integer 5)) ∷ [])) }) } ∷
+            record { name = 3; kind = ValueInstance (record { condition = None; value = named (word (codes "m") 1); enum = None; valid = Some (AllOf (against_value binaries.Equal (named (word (codes "n") 0)) ∷ [])) }) } ∷ [];
+      } ∷ [];
+  enums = [];
+  names = codes "n" ∷ codes "m" ∷ codes "xs" ∷ codes "v" ∷ [];
+  known = 4;
+})
+unfolding description read read_list place_on select_on plain_number signed_number special_faults special_field_faults enum_at is_member cast_faults is_call name_faults least part_faults list_faults distinct number_in given_member dotted all_dotted numbered all_numbered as_text tokens_of expression_of type_of_expressions is_below noted is_ignored is_id encoding_named type_text byte_number byte_at looks_like_number piece_of case_key ids_of digits is_utf8 chars encode number_of id_of id_of_number number_of_id members_at_key members_of members_within parameters_within member_named row_in types_of keys_at outer_of from nearest_row type_named enum_behind order_of encoding_of is_bits built_in form_among form_in endian_faults bit_endian_faults form_faults key_faults against ruled_faults together of_expression read_expression read_arguments enumeration read_item read_contents order_at encoding_at of_type of_case_key case_value case_against read_case read_switch read_typed read_choice alternative alternatives conditions valid read_parts repeat_of terminator_of repeated read_needs unsupported read_field read_attribute parse_instance value_instance placeless by_kind member_keys name_line is_named_again read_member entry_id is_number_again is_id_again read_constant meta_faults type_keys_faults type_faults line_past read_members all_members all_enums faults_of faults member_names names_of member_of read_type_of are_texts described stated_by stated
+checks_state = refl
 
 -- ---- limits
 
 -- with a limit of 2, the third in the order of lines is past it, in whichever order they come
 third_line : line_past 2 (3 ∷ 5 ∷ 3 ∷ 4 ∷ []) ≡ Some 4
-unfolding endian_faults bit_endian_faults form_faults key_faults against ruled_faults together of_expression read_expression read_arguments enumeration read_item read_contents order_at encoding_at of_type of_case_key case_value case_against read_case read_switch read_typed read_choice read_parts repeat_of terminator_of repeated read_needs unsupported read_field read_attribute parse_instance value_instance placeless by_kind member_keys name_line is_named_again read_member entry_id is_number_again is_id_again read_constant meta_faults type_keys_faults type_faults line_past read_members all_members all_enums faults_of faults member_names names_of member_of read_type_of are_texts described stated_by stated
+unfolding endian_faults bit_endian_faults form_faults key_faults against ruled_faults together of_expression read_expression read_arguments enumeration read_item read_contents order_at encoding_at of_type of_case_key case_value case_against read_case read_switch read_typed read_choice alternative alternatives conditions valid read_parts repeat_of terminator_of repeated read_needs unsupported read_field read_attribute parse_instance value_instance placeless by_kind member_keys name_line is_named_again read_member entry_id is_number_again is_id_again read_constant meta_faults type_keys_faults type_faults line_past read_members all_members all_enums faults_of faults member_names names_of member_of read_type_of are_texts described stated_by stated
 third_line = refl
 
 no_line : line_past 4 (3 ∷ 5 ∷ 3 ∷ 4 ∷ []) ≡ None
-unfolding endian_faults bit_endian_faults form_faults key_faults against ruled_faults together of_expression read_expression read_arguments enumeration read_item read_contents order_at encoding_at of_type of_case_key case_value case_against read_case read_switch read_typed read_choice read_parts repeat_of terminator_of repeated read_needs unsupported read_field read_attribute parse_instance value_instance placeless by_kind member_keys name_line is_named_again read_member entry_id is_number_again is_id_again read_constant meta_faults type_keys_faults type_faults line_past read_members all_members all_enums faults_of faults member_names names_of member_of read_type_of are_texts described stated_by stated
+unfolding endian_faults bit_endian_faults form_faults key_faults against ruled_faults together of_expression read_expression read_arguments enumeration read_item read_contents order_at encoding_at of_type of_case_key case_value case_against read_case read_switch read_typed read_choice alternative alternatives conditions valid read_parts repeat_of terminator_of repeated read_needs unsupported read_field read_attribute parse_instance value_instance placeless by_kind member_keys name_line is_named_again read_member entry_id is_number_again is_id_again read_constant meta_faults type_keys_faults type_faults line_past read_members all_members all_enums faults_of faults member_names names_of member_of read_type_of are_texts described stated_by stated
 no_line = refl
 
 -- and so is the third of a list

@@ -1135,6 +1135,56 @@ led_back = record {
   ended = false;
 }
 
+-- values that are checked: one of two, whose second condition is a fault; an object by its field; elements, and not their list; and
+-- what is calculated, whose own value is a fault where that of the object is one
+abbrev pub invalid : Dialogue
+invalid = record {
+  lines =
+      codes "meta: {id: t}" ∷
+      codes "seq:" ∷
+      codes "  - {id: k, type: u1, valid: {any-of: [1, 1 / 0]}}" ∷
+      codes "  - {id: o, type: inner, valid: {expr: _.x == 7}}" ∷
+      codes "  - {id: xs, type: u1, repeat: eos, valid: {expr: _ == _index}}" ∷
+      codes "instances: {v: {value: o.x, valid: {min: 8}}}" ∷
+      codes "types: {inner: {seq: [{id: x, type: u1}]}}" ∷
+      [];
+  file = 0x01 ∷ 0x07 ∷ 0x00 ∷ 0x05 ∷ [];
+  input = text_of_lines (
+      codes "get /k" ∷
+      codes "get /o" ∷
+      codes "get /xs/0" ∷
+      codes "get /xs/1" ∷
+      codes "get /xs" ∷
+      codes "dump /xs" ∷
+      codes "get /v" ∷
+      codes "set 0 02" ∷
+      codes "get /k" ∷
+      codes "put /k 1" ∷
+      codes "set 1 08" ∷
+      codes "get /o" ∷
+      codes "get /o/x" ∷
+      codes "get /v" ∷
+      []);
+  output = text_of_lines (
+      codes "1" ∷
+      codes "object inner" ∷
+      codes "0" ∷
+      codes "fault invalid at /xs/1" ∷
+      codes "[2]" ∷
+      codes "[0,{\"fault\":\"invalid at /xs/1\"}]" ∷
+      codes "fault invalid at /v" ∷
+      codes "ok 4" ∷
+      codes "fault zero-divisor at /k" ∷
+      codes "ok 4" ∷
+      codes "ok 4" ∷
+      codes "fault invalid at /o" ∷
+      codes "8" ∷
+      codes "fault invalid at /o" ∷
+      []);
+  left = 0x01 ∷ 0x08 ∷ 0x00 ∷ 0x05 ∷ [];
+  ended = false;
+}
+
 -- where things are and what they have, all of them, and an integer written over another
 abbrev pub around : Dialogue
 around = record {

@@ -29,14 +29,14 @@ use Rattle.ksv_expr_value.specs.declared.value.Value.TheVariants as values
 use Rattle.ksv_expr_meaning.specs.declared.want.Want.{Want}
 use Rattle.ksv_expr_meaning.specs.declared.want.Want.TheVariants as wants
 use Rattle.ksv_expr_meaning.specs.Heard.{Heard, Valued}
-use Rattle.ksv_expr_value.specs.Setting.{Setting}
+use Rattle.ksv_expr_value.specs.Setting.{Setting, NoElement}
 use Rattle.ksv_expr_meaning.specs.Replying.{fault_at}
 use Rattle.ksv_expr_meaning.specs.Evaluation.{Ev, wants_made}
 use Rattle.ksv_schema_names.specs.Rows.{Declared, row_in}
 
 -- an expression of the root, which is no element of a list
 abbrev pub at_root : Setting
-at_root = record { home = root; stream = record { from = 0; to = None }; place = at_byte 0; index = None; element = None; here = root }
+at_root = record { home = root; stream = record { from = 0; to = None }; place = at_byte 0; index = None; element = NoElement; here = root }
 
 -- an integer, a truth value, a text between quotes, and a fault by its name
 abbrev pub shown : Result Value Fault → List ℕ

@@ -138,6 +138,34 @@ written_behind = record {
   ended = false;
 }
 
+-- a value is checked against the one before it: an edit of that one takes both values, and no head
+abbrev pub checked_against : Dialogue
+checked_against = record {
+  lines =
+      codes "meta: {id: t}" ∷
+      codes "seq: [{id: m, type: u1}, {id: n, type: u1, valid: {max: m}}]" ∷
+      [];
+  file = 0x05 ∷ 0x03 ∷ [];
+  input = text_of_lines (
+      codes "get /n" ∷
+      codes "stats" ∷
+      codes "set 0 01" ∷
+      codes "stats" ∷
+      codes "get /n" ∷
+      codes "stats" ∷
+      []);
+  output = text_of_lines (
+      codes "3" ∷
+      codes "kept 6 turns 13" ∷
+      codes "ok 2" ∷
+      codes "kept 4 turns 13" ∷
+      codes "fault invalid at /n" ∷
+      codes "kept 6 turns 5" ∷
+      []);
+  left = 0x01 ∷ 0x03 ∷ [];
+  ended = false;
+}
+
 -- a circle: what it is met by isn't kept, and turns aren't told
 abbrev pub circle_told : Dialogue
 circle_told = record {

@@ -12,8 +12,8 @@
 mod expressions;
 
 pub use ksv_expr_eval::{
-    Ctx, Encoding, EvalStep, Expr, Fault, FaultKind, Got, Integer, Parts, Path, Place, Step,
-    Stream, Text, Value, Want, bits_are_told, division_is_floored, equal_paths_are_same, eval,
-    is_bounded, meaning_is_direct, paths_are_numbered, truth_is_met,
+    Ctx, Element, Encoding, EvalStep, Expr, Fault, FaultKind, Got, Integer, Parts, Path, Place,
+    Step, Stream, Text, Value, Want, bits_are_told, division_is_floored, equal_paths_are_same,
+    eval, is_bounded, meaning_is_direct, paths_are_numbered, truth_is_met,
 };
 pub use ksv_expr_syntax::{ExprFault, ExprFaultKind, parse, parse_type};

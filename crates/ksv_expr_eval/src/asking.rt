@@ -1,8 +1,9 @@
 //! Questions about the values of other places, and what is done with the answers.
 #![tactic(auto, using(ksv_basics::proofs::Running::run_bind))]
 
-ghost use Rattle.std.specs.Prelude.{◌≡◌, ◌+◌, ◌<◌, ◌^◌, pos, Some, option_copied};
+ghost use Rattle.std.specs.Prelude.{◌≡◌, ◌+◌, ◌<◌, ◌^◌, pos, Some};
 ghost use Rattle.ksv_expr_value.specs.Bytes.{content};
+ghost use Rattle.ksv_expr_value.specs.Elements.{element_of};
 ghost use Rattle.ksv_expr_value.specs.Places.{byte_of};
 ghost use Rattle.ksv_expr_value.specs.Trail.{holder};
 ghost use Rattle.ksv_expr_eval.specs.Runs.{Runs};
@@ -13,7 +14,9 @@ use crate::arithmetic;
 use crate::replies::{Halt, Replies};
 use ksv_expr_meaning::Want;
 use ksv_expr_tree::{EnumMember, SpecialName};
-use ksv_expr_value::{Ctx, Encoding, FaultKind, Integer, Parts, Path, Place, Stream, Text, Value};
+use ksv_expr_value::{
+    Ctx, Element, Encoding, FaultKind, Integer, Parts, Path, Place, Stream, Text, Value,
+};
 
 fn in_path(replies: &mut Replies, path: Option<Path>) -> Result<Path, Halt>
     ensures { Runs (in_path path) (λ p. p) replies.old replies.new result }
@@ -133,16 +136,17 @@ fn index_value(replies: &mut Replies, index: Option<u32>) -> Result<Value, Halt>
     }
 }
 
-fn element_read(replies: &mut Replies, element: Option<&Path>) -> Result<Value, Halt>
-    ensures { Runs (element_read (option_copied element.entry)) (λ v. v) replies.old replies.new result }
+fn element_read(replies: &mut Replies, element: Element) -> Result<Value, Halt>
+    ensures { Runs (element_read (element_of element.entry)) (λ v. v) replies.old replies.new result }
 {
     match element {
-        None => replies.raise(FaultKind::BadType),
-        Some(path) => {
+        Element::None => replies.raise(FaultKind::BadType),
+        Element::At(path) => {
             let path = path.copy(replies.alloc())?;
             let value = replies.value(Want::Value(path))?;
             Ok(value.copy(replies.alloc())?)
         }
+        Element::Made(value) => Ok(value.copy(replies.alloc())?),
     }
 }
 

@@ -25,7 +25,7 @@ use Rattle.ksv_expr_meaning.specs.Methods.{method_named}
 use Rattle.ksv_expr_value.specs.Encodings.{encoding_named, decoded}
 use Rattle.ksv_expr_meaning.specs.Operators.{matched, unary_of}
 use Rattle.ksv_expr_meaning.specs.Heard.{Valued, Opened, Numbered, Decided, Read}
-use Rattle.ksv_expr_value.specs.Setting.{Setting}
+use Rattle.ksv_expr_value.specs.Setting.{Setting, Element, NoElement, ElementAt, Made}
 use Rattle.ksv_expr_value.specs.Places.{byte_of}
 use Rattle.ksv_expr_meaning.specs.Asked.{Eval, raise, given, value_for, opened_for, number_for, truth_for, bytes_for}
 use Rattle.ksv_expr_meaning.specs.Meaning.{in_path, member_path, member_value, element_path, element_value, element_count, holder_of, stream_of, index_value, element_read, special_value, ranged_member, enum_member, in_truth_value, truth_value, decides, same_bytes, bytes_with, integer_and, truth_and, text_and, bytes_and, member_and, binary_of, distance, size_to, stream_size, at_end, stream_method, list_size, last_element, list_method, method_of, method_by, field_of, is_own_stream, object_special, special_of, decoded_text, decoded_by, text_in, bytes_call, call_one, call_two, first_byte, byte_from, byte_at, list_at, bytes_at, item_at, object_of_type, object_as, cast_to, value_of}
@@ -95,9 +95,10 @@ index_asks : (n : ℕ) (i : Option ℕ) → AsksAtMost n (index_value i)
 index_asks n None = tt
 index_asks n (Some i) = tt
 
-read_asks : (p : Option Trail) → AsksAtMost 1 (element_read p)
-read_asks None = tt
-read_asks (Some p) = value_for_asks (wants.Value p)
+read_asks : (x : Element) → AsksAtMost 1 (element_read x)
+read_asks NoElement = tt
+read_asks (ElementAt p) = value_for_asks (wants.Value p)
+read_asks (Made v) = tt
 
 special_asks : (s : Setting) (n : SpecialName) → AsksAtMost 1 (special_value s n)
 unfolding special_value

@@ -27,7 +27,7 @@ use Rattle.ksv_expr_value.specs.Range.{ranged}
 use Rattle.ksv_expr_meaning.specs.Methods.{method_named}
 use Rattle.ksv_expr_value.specs.Encodings.{encoding_named, decoded}
 use Rattle.ksv_expr_meaning.specs.Operators.{exactly, matched, integers_of, same_truth, texts_of, members_of, unary_of, integer_method, truth_method, text_method, bytes_method, member_method, text_call_one, text_call_two}
-use Rattle.ksv_expr_value.specs.Setting.{Setting}
+use Rattle.ksv_expr_value.specs.Setting.{Setting, Element, NoElement, ElementAt, Made}
 use Rattle.ksv_expr_value.specs.Places.{byte_of}
 use Rattle.ksv_expr_meaning.specs.Asked.{Eval, raise, given, value_for, opened_for, number_for, truth_for, bytes_for}
 
@@ -84,10 +84,11 @@ abbrev pub index_value : Option ℕ → Eval Value
 index_value None = raise kinds.BadType
 index_value (Some i) = Answer (values.Int (pos i))
 
--- the value of the element just read
-abbrev pub element_read : Option Trail → Eval Value
-element_read None = raise kinds.BadType
-element_read (Some p) = value_for (wants.Value p)
+-- what `_` is: the value of the element just read, or the value just made, which isn't asked
+abbrev pub element_read : Element → Eval Value
+element_read NoElement = raise kinds.BadType
+element_read (ElementAt p) = value_for (wants.Value p)
+element_read (Made v) = Answer v
 
 -- a name to which the language gives a meaning
 unfoldable pub special_value : Setting → SpecialName → Eval Value

@@ -8,4 +8,5 @@ pub mod Faults
 pub mod Bytes
 pub mod Encodings
 pub mod Setting
+pub mod Elements
 pub mod Kept

@@ -43,6 +43,8 @@ pub enum FaultKind {
     BadNumber,
     /// F17: the root has no parent.
     NoParent,
+    /// F18: a value that doesn't meet `valid`.
+    Invalid,
 }
 
 impl FaultKind {
@@ -68,6 +70,7 @@ impl FaultKind {
             FaultKind::Circle => "circle",
             FaultKind::BadNumber => "bad-number",
             FaultKind::NoParent => "no-parent",
+            FaultKind::Invalid => "invalid",
         }
     }
 }

@@ -18,6 +18,7 @@
 //! Definitions (`specs/`):
 //!
 //! - `Bytes`: bytes that are lent in two slices
+//! - `Elements`: what `_` is, as the code has it
 //! - `Encodings`: the encodings of texts: ASCII, of bytes below 128, and UTF-8
 //! - `Exact`: a lemma that a reader may skip: paths that `==` finds equal are the same
 //! - `Faults`: the names of faults, as replies write them
@@ -49,7 +50,7 @@ mod steps;
 mod text;
 mod value;
 
-pub use context::Ctx;
+pub use context::{Ctx, Element};
 pub use encoding::Encoding;
 pub use fault::{Fault, FaultKind};
 pub use integer::Integer;

@@ -22,7 +22,7 @@ use Rattle.ksv_expr_value.specs.declared.step.Step.TheVariants as steps
 use Rattle.ksv_expr_value.specs.declared.value.Stream.{Stream}
 use Rattle.ksv_expr_value.specs.declared.value.Value.{Value}
 use Rattle.ksv_expr_value.specs.declared.value.Value.TheVariants as values
-use Rattle.ksv_desc.specs.Description.{Description, MemberOfType, MemberKind, Parameter, Attribute, ParseInstance, ValueInstance, Field, Content, Case, Choice, Always, Switch, Extent, Sized, SizeEos, ByItself, Repeat, Once, Eos, Expr, Until, Terminator}
+use Rattle.ksv_desc.specs.Description.{Description, MemberOfType, MemberKind, Parameter, Attribute, ParseInstance, ValueInstance, Field, Content, Case, Choice, Always, Switch, Extent, Sized, SizeEos, ByItself, Repeat, Once, Eos, Expr, Until, Terminator, Valid, AnyOf, AllOf, valid_of}
 use Rattle.ksv_desc.specs.Description as contents
 use Rattle.ksv_nodes.specs.declared.node.Node.{Node}
 use Rattle.ksv_nodes.specs.declared.node.NodeKind.{NodeKind}
@@ -52,6 +52,7 @@ use Rattle.ksv_memo_rules.specs.Right.{AreDistinct}
 use Rattle.ksv_memo_rules.proofs.Evals.{few, AreDistinct-cons}
 use Rattle.ksv_rule_meaning.specs.Fields.{members_of, Sought, sought, in_sought, member_named, last_attribute, read_by, in_kind, kind_of, field_of}
 use Rattle.ksv_rule_meaning.specs.Wanted.{whole, in_object, wanted, expression, in_integer, in_truth, integer_of, truth_of, holds, in_size, size_of, in_stream, stream_for}
+use Rattle.ksv_rule_meaning.specs.Checks.{meets_one, meets_each, meets, with_value, checked, checked_if, member_checked, object_checked, value_checked}
 use Rattle.ksv_rule_meaning.specs.Choosing.{Chosen, switched, choose, in_case, content_of}
 use Rattle.ksv_rule_meaning.specs.Integers.{integer_value}
 use Rattle.ksv_rule_meaning.specs.Values.{in_number, number_value, fixed_value, cut_by, cut_bytes, bytes_value, in_text, cut_text, text_value, content_value, leaf_value, in_no_stream, in_enum, instance_value, given_by, arguments_for, argument_at, plain_value, argument_value, parameter_value, calc_value, calculated, value_at, value_of}
@@ -441,9 +442,44 @@ value_at_own d p (heads.Leaf l) = leaf_value_own d l
 value_at_own d p (heads.Object o) = tt
 value_at_own d p (heads.List g) = tt
 
+meets_one_own : (s : Setting) (es : List Tree) → Own (meets_one s es)
+unfolding meets_one
+meets_one_own s [] = tt
+meets_one_own s (e ∷ es) = join _ _ (truth_own s e) (λ b. either b _ _ tt (meets_one_own s es))
+
+meets_each_own : (s : Setting) (es : List Tree) → Own (meets_each s es)
+unfolding meets_each
+meets_each_own s [] = tt
+meets_each_own s (e ∷ es) = join _ _ (truth_own s e) (λ b. either b _ _ (meets_each_own s es) tt)
+
+meets_own : (s : Setting) (x : Valid) → Own (meets s x)
+meets_own s (AnyOf es) = meets_one_own s es
+meets_own s (AllOf es) = meets_each_own s es
+
+checked_if_own : (s : Setting) (x : Option Valid) (v : Value) → Own (checked_if s x v)
+unfolding checked
+checked_if_own s None v = tt
+checked_if_own s (Some x) v = join _ _ (meets_own (with_value s v) x) (λ b. either b _ _ tt tt)
+
+member_checked_own : (d : Description) (r : MemberRef) (s : Setting) (v : Value) → Own (member_checked d r s v)
+unfolding member_checked
+member_checked_own d r s v = join _ _ (kind_own d r) (λ k. checked_if_own s (valid_of k) v)
+
+object_checked_own : (d : Description) (p : Trail) (o : Object) (g : Option Origin) (v : Value) → Own (object_checked d p o g v)
+object_checked_own d p o None v = tt
+object_checked_own d p o (Some g) v = member_checked_own d g.member _ v
+
+value_checked_own : (d : Description) (p : Trail) (h : Head) (v : Value) → Own (value_checked d p h v)
+unfolding value_checked
+value_checked_own d p (heads.Absent at) v = tt
+value_checked_own d p (heads.Calc c) v = member_checked_own d _ _ v
+value_checked_own d p (heads.Leaf l) v = member_checked_own d l.origin.member _ v
+value_checked_own d p (heads.Object o) v = object_checked_own d p o o.origin v
+value_checked_own d p (heads.List g) v = tt
+
 value_of_own : (d : Description) (p : Trail) → Own (value_of d p)
 unfolding value_of
-value_of_own d p = join _ _ (head_own p) (λ h. value_at_own d p h)
+value_of_own d p = join _ _ (head_own p) (λ h. join _ _ (value_at_own d p h) (λ v. join _ _ (value_checked_own d p h v) (λ u. tt)))
 
 -- ---- ends
 

@@ -38,6 +38,7 @@ use Rattle.ksv_nodes.specs.Reading.{Seen, look, peek_at, first_at}
 use Rattle.ksv_nodes.specs.Rule.{Rule, Of, See, raise, in_head, ask_head, head_node, value_node, peek}
 use Rattle.ksv_nodes.specs.Truth.{answer_of, with_given, with_seen}
 use Rattle.ksv_nodes.proofs.First.{first_at_below}
+use Rattle.ksv_rule_meaning.specs.Checks.{value_checked}
 use Rattle.ksv_rule_meaning.specs.Choosing.{content_of}
 use Rattle.ksv_rule_meaning.specs.Fields.{kind_of, field_of}
 use Rattle.ksv_rule_meaning.specs.Heads.{instance_setting, head_of}
@@ -215,11 +216,31 @@ module _ (met : Node → Result Given Fault) (here : Trail) (bytes : List ℕ) w
   value_fits d p (heads.Object o) v e = sym (ok_is (values.Object p) v e)
   value_fits d p (heads.List g) v e = sym (ok_is (values.List p) v e)
 
-  pub value_is : (d : Description) (p : Trail) (v : Value) → answer_of met here bytes (value_of d p) ≡ Ok v → IsValue p v
+  -- a value is made of the head at its path, and then checked
+  pub record IsMadeOf (d : Description) (p : Trail) (v : Value) : Type 0 where
+    pub head : Head
+    pub was : answer_of met here bytes (ask_head p) ≡ Ok head
+    pub made : answer_of met here bytes (value_at d p head) ≡ Ok v
+    pub checked : answer_of met here bytes (value_checked d p head v) ≡ Ok tt
+
+  pub made_of : (d : Description) (p : Trail) (v : Value) → answer_of met here bytes (value_of d p) ≡ Ok v → IsMadeOf d p v
   unfolding value_of
+  made_of d p v h =
+      let a = goes_on (ask_head p) _ v h in
+      let b = goes_on (value_at d p a.first) _ v a.gave in
+      let c = goes_on (value_checked d p a.first b.first) (λ u. Answer b.first) v b.gave in
+      let same : b.first ≡ v = ok_is b.first v c.gave in
+      record {
+        head = a.first;
+        was = a.was;
+        made = subst (λ (w : Value). answer_of met here bytes (value_at d p a.first) ≡ Ok w) same b.was;
+        checked = subst (λ (w : Value). answer_of met here bytes (value_checked d p a.first w) ≡ Ok tt) same c.was;
+      }
+
+  pub value_is : (d : Description) (p : Trail) (v : Value) → answer_of met here bytes (value_of d p) ≡ Ok v → IsValue p v
   value_is d p v h =
-      let b = goes_on (ask_head p) (λ k. value_at d p k) v h in
-      record { head = b.first; asked = asked_head p b.first b.was; fits = value_fits d p b.first v b.gave }
+      let m = made_of d p v h in
+      record { head = m.head; asked = asked_head p m.head m.was; fits = value_fits d p m.head v m.made }
 
   no_stream : (p : Trail) (h : Head) (v : Value) → IsOfHead p h v → IsNoStream v
   no_stream p h (values.Stream w) fits = by_head h fits

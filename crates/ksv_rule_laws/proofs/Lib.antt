@@ -1,6 +1,7 @@
 -- The lemmas of this crate.
 pub mod Meeting
 pub mod Forms
+pub mod Checking
 pub mod OwnFaults
 pub mod Ranges
 pub mod Circles

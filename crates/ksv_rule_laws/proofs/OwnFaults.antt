@@ -29,7 +29,7 @@ use Rattle.ksv_expr_meaning.specs.Integers.{floored_quotient, floored_remainder,
 use Rattle.ksv_expr_meaning.specs.Texts.{joined, substring, exact, number_of, text_number, written_in}
 use Rattle.ksv_expr_meaning.specs.Operators.{exactly, shifted_left_by, shifted_right_by, matched, ordered, integers_of, same_truth, joined_text, texts_of, members_of, unary_of, as_value, substring_of}
 use Rattle.ksv_expr_meaning.specs.Heard.{Valued, Opened, Numbered, Decided, Read}
-use Rattle.ksv_expr_value.specs.Setting.{Setting}
+use Rattle.ksv_expr_value.specs.Setting.{Setting, Element, NoElement, ElementAt, Made}
 use Rattle.ksv_expr_meaning.specs.Asked.{Eval, raise, given, value_for, opened_for, number_for, truth_for, bytes_for}
 use Rattle.ksv_expr_meaning.specs.Meaning.{in_path, member_path, member_value, element_path, element_value, element_count, holder_of, stream_of, index_value, element_read, special_value, ranged_member, enum_member, in_truth_value, truth_value, decides, same_bytes, bytes_with, integer_and, truth_and, text_and, bytes_and, member_and, binary_of, distance, size_to, stream_size, at_end, stream_method, list_size, last_element, list_method, method_of, method_by, field_of, is_own_stream, object_special, special_of, decoded_text, decoded_by, text_in, bytes_call, call_one, call_two, first_byte, byte_from, byte_at, list_at, bytes_at, item_at, object_of_type, object_as, cast_to, value_of}
 
@@ -232,9 +232,10 @@ index_own : (i : Option ℕ) → Own (index_value i)
 index_own None = tt
 index_own (Some i) = tt
 
-read_own : (p : Option Trail) → Own (element_read p)
-read_own None = tt
-read_own (Some p) = value_for_own (wants.Value p)
+read_own : (x : Element) → Own (element_read x)
+read_own NoElement = tt
+read_own (ElementAt p) = value_for_own (wants.Value p)
+read_own (Made v) = tt
 
 special_own : (s : Setting) (n : SpecialName) → Own (special_value s n)
 unfolding special_value

@@ -50,8 +50,8 @@ use Rattle.ksv_rule_meaning.specs.Ends.{stream_end, fields_end, object_end, part
 use Rattle.ksv_rule_meaning.specs.Meaning.{meaning_of}
 use Rattle.ksv_rule_meaning.specs.FromNothing.{answer_within, from_nothing}
 use Rattle.ksv_rule_laws.specs.Laws.{IsOfLeaf, IsOfHead, IsEndIn, IsStreamIn, IsHomeIn, IsHeadIn, IsValueIn, IsIn, PlacesAreInFile}
-use Rattle.ksv_rule_laws.proofs.Forms.{ok_is, goes_on, asked_head, refused, value_is, put_in, meaning_is, ruled, no_depth}
-use Rattle.ksv_rule_laws.proofs.Ranges.{IsRanged, IsKnown, object_told, expression_in, stream_in}
+use Rattle.ksv_rule_laws.proofs.Forms.{ok_is, goes_on, asked_head, refused, made_of, value_is, put_in, meaning_is, ruled, no_depth}
+use Rattle.ksv_rule_laws.proofs.Ranges.{IsRanged, IsSettingIn, IsKnown, object_told, expression_in, stream_in}
 
 -- what the nodes that are asked answer lies in the file
 module _ (met : Node → Result Given Fault) (here : Trail) (bytes : List ℕ) (lies : (m : Node) (g : Given) → met m ≡ Ok g → IsKnown (length bytes) g) where
@@ -247,7 +247,7 @@ module _ (met : Node → Result Given Fault) (here : Trail) (bytes : List ℕ) (
 
   -- ---- instances
 
-  module _ (at : Setting) (there : IsStreamIn (length bytes) at.stream) (h : Head) where
+  module _ (at : Setting) (there : IsSettingIn (length bytes) at) (h : Head) where
     positioned_lies : (origin : Origin) (e : Tree) (io : Option Tree) (f : Field) → IsStreamIn size origin.home → answer (positioned at origin e io f) ≡ Ok h → IsHeadIn size h
     unfolding positioned positioned_in
     positioned_lies origin e io f home z =
@@ -292,8 +292,8 @@ module _ (met : Node → Result Given Fault) (here : Trail) (bytes : List ℕ) (
       let b = goes_on met here bytes (attribute_start q o x.before) _ h e in
       attribute_in o.stream b.first within.1 (start_in q o x.before b.first within b.was) h (origin_of o x) within.1 _ f b.gave
   member_in p q o x Parameter h within e = subst (IsHeadIn size) (ok_is (calc o x) h e) within
-  member_in p q o x (ParseInstance e io f) h within z = instance_in (instance_setting p q o) within.1 h (origin_of o x) e io f within.1 z
-  member_in p q o x (ValueInstance v) h within z = calc_in (instance_setting p q o) within.1 h o x v.condition within z
+  member_in p q o x (ParseInstance e io f) h within z = instance_in (instance_setting p q o) (within.1, tt) h (origin_of o x) e io f within.1 z
+  member_in p q o x (ValueInstance v) h within z = calc_in (instance_setting p q o) (within.1, tt) h o x v.condition within z
 
   member_head_in : (d : Description) (p q : Trail) (x : ℕ) (h : Head) → answer (member_head d p q x) ≡ Ok h → IsHeadIn size h
   unfolding member_head
@@ -427,9 +427,9 @@ module _ (met : Node → Result Given Fault) (here : Trail) (bytes : List ℕ) (
   enum_in (Some e) (values.Int n) v within h = subst (IsValueIn size) (ok_is (values.Member e n) v h) tt
   enum_in (Some e) w v within h = absurd (cc)
 
-  argument_stream : (p q : Trail) (step : Option Step) (g : Origin) (start : Place) → IsStreamIn size g.home → IsStreamIn size (member_setting p q step g start).stream
-  argument_stream p q (Some (steps.Index i)) g start home = home
-  argument_stream p q _ g start home = home
+  argument_within : (p q : Trail) (step : Option Step) (g : Origin) (start : Place) → IsStreamIn size g.home → IsSettingIn size (member_setting p q step g start)
+  argument_within p q (Some (steps.Index i)) g start home = (home, tt)
+  argument_within p q _ g start home = (home, tt)
 
   parameter_in : (d : Description) (p q : Trail) (member : ℕ) (o : Object) (g : Option Origin) (v : Value) → IsHomeIn size g → answer (parameter_value d p q member o g) ≡ Ok v → IsValueIn size v
   unfolding parameter_value argument_value plain_value
@@ -439,9 +439,9 @@ module _ (met : Node → Result Given Fault) (here : Trail) (bytes : List ℕ) (
       let e = goes_on met here bytes (argument_at a.first _) _ v a.gave in
       let at = argument_setting p q g o.start in
       let b = goes_on met here bytes (expression at e.first) (λ w. in_no_stream w) v e.gave in
-      plain_in b.first v (expression_in met here bytes lies at e.first b.first (argument_stream p q (last q) g o.start home) b.was) b.gave
+      plain_in b.first v (expression_in met here bytes lies at e.first b.first (argument_within p q (last q) g o.start home) b.was) b.gave
 
-  instance_value_in : (at : Setting) (e : Tree) (enum : Option ℕ) (v : Value) → IsStreamIn size at.stream → answer (instance_value at e enum) ≡ Ok v → IsValueIn size v
+  instance_value_in : (at : Setting) (e : Tree) (enum : Option ℕ) (v : Value) → IsSettingIn size at → answer (instance_value at e enum) ≡ Ok v → IsValueIn size v
   unfolding instance_value
   instance_value_in at e enum v within h =
       let b = goes_on met here bytes (expression at e) (λ w. in_enum enum w) v h in
@@ -450,7 +450,7 @@ module _ (met : Node → Result Given Fault) (here : Trail) (bytes : List ℕ) (
   calc_value_in : (d : Description) (p q : Trail) (c : Calc) (k : MemberKind) (v : Value) → IsObjectIn c.object → answer (calc_value d p q c k) ≡ Ok v → IsValueIn size v
   unfolding calc_value
   calc_value_in d p q c Parameter v within h = parameter_in d p q c.member c.object c.object.origin v within.2 h
-  calc_value_in d p q c (ValueInstance i) v within h = instance_value_in (instance_setting p q c.object) i.value i.enum v within.1 h
+  calc_value_in d p q c (ValueInstance i) v within h = instance_value_in (instance_setting p q c.object) i.value i.enum v (within.1, tt) h
   calc_value_in d p q c _ v within h = absurd (cc)
 
   calculated_in : (d : Description) (p q : Trail) (c : Calc) (v : Value) → IsObjectIn c.object → answer (calculated d p q c) ≡ Ok v → IsValueIn size v
@@ -480,12 +480,11 @@ module _ (met : Node → Result Given Fault) (here : Trail) (bytes : List ℕ) (
   one_head r x y h h' = cc
 
   value_in : (d : Description) (p : Trail) (v : Value) → answer (value_of d p) ≡ Ok v → IsValueKnown v
-  unfolding value_of
   value_in d p v e =
-      let b = goes_on met here bytes (ask_head p) (λ k. value_at d p k) v e in
+      let m = made_of met here bytes d p v e in
       let i = value_is met here bytes d p v e in
-      let same = one_head (met (head_node p)) i.head b.first i.asked (asked_head met here bytes p b.first b.was) in
-      value_at_in d p b.first v (head_lies p b.first b.was) (subst (λ (k : Head). IsOfHead p k v) same i.fits) b.gave
+      let same = one_head (met (head_node p)) i.head m.head i.asked (asked_head met here bytes p m.head m.was) in
+      value_at_in d p m.head v (head_lies p m.head m.was) (subst (λ (k : Head). IsOfHead p k v) same i.fits) m.made
 
   -- ---- nodes
 

@@ -13,7 +13,7 @@ use Rattle.ksv_expr_tree.specs.declared.tree.EnumMember.{EnumMember}
 use Rattle.ksv_expr_value.specs.Places.{byte_of}
 use Rattle.ksv_expr_value.specs.Trail.{Trail, holder}
 use Rattle.ksv_expr_value.specs.Range.{ranged}
-use Rattle.ksv_expr_value.specs.Setting.{Setting}
+use Rattle.ksv_expr_value.specs.Setting.{Setting, Element, NoElement, ElementAt, Made}
 use Rattle.ksv_expr_value.specs.Encodings.{encoding_named, decoded}
 use Rattle.ksv_expr_value.specs.declared.encoding.Encoding.{Encoding}
 use Rattle.ksv_expr_value.specs.declared.fault.Fault.{Fault}
@@ -76,6 +76,16 @@ abbrev pub IsHeardIn : ℕ → Heard → Type 0
 IsHeardIn size (Valued v) = IsRanged size v
 IsHeardIn size (Opened t w) = IsStreamIn size w
 IsHeardIn size _ = Unit {0}
+
+-- so does what `_` is, where it is a value that was made
+abbrev pub IsElementIn : ℕ → Element → Type 0
+IsElementIn size NoElement = Unit {0}
+IsElementIn size (ElementAt p) = Unit {0}
+IsElementIn size (Made v) = IsRanged size v
+
+-- where an expression is evaluated: its stream lies in the file, and so does what `_` is
+abbrev pub IsSettingIn : ℕ → Setting → Type 0
+IsSettingIn size s = IsStreamIn size s.stream × IsElementIn size s.element
 
 module _ (size : ℕ) where
   -- the value of a plan lies in the file
@@ -200,9 +210,10 @@ module _ (size : ℕ) where
   index_ranges None = tt
   index_ranges (Some i) = tt
 
-  read_ranges : (p : Option Trail) → Ranges (element_read p)
-  read_ranges None = tt
-  read_ranges (Some p) = value_for_ranges (wants.Value p)
+  read_ranges : (x : Element) → IsElementIn size x → Ranges (element_read x)
+  read_ranges NoElement within = tt
+  read_ranges (ElementAt p) within = value_for_ranges (wants.Value p)
+  read_ranges (Made v) within = within
 
   ranged_member_ranges : (e : ℕ) (n : Option ℤ) → Ranges (ranged_member e n)
   ranged_member_ranges e None = tt
@@ -405,14 +416,14 @@ module _ (size : ℕ) where
   -- ---- expressions
 
   -- in a stream that lies in the file
-  module _ (s : Setting) (within : IsStreamIn size s.stream) where
+  module _ (s : Setting) (within : IsSettingIn size s) where
     special_ranges : (n : SpecialName) → Ranges (special_value s n)
     unfolding special_value
     special_ranges specials.Root = tt
     special_ranges specials.Parent = holder_ranges (holder s.home)
-    special_ranges specials.Io = within
+    special_ranges specials.Io = within.0
     special_ranges specials.Index = index_ranges s.index
-    special_ranges specials.Element = read_ranges s.element
+    special_ranges specials.Element = read_ranges s.element within.1
 
     pub value_ranges : (e : Tree) → Ranges (value_of s e)
     unfolding value_of
@@ -485,14 +496,14 @@ module _ (met : Node → Result Given Fault) (here : Trail) (bytes : List ℕ) (
       plan_in P s (k b.first) (known b.first (wanted_in s w b.first b.was)) a b.gave
 
   -- the value of an expression
-  pub expression_in : (s : Setting) (e : Tree) (v : Value) → IsStreamIn size s.stream → answer_of met here bytes (expression s e) ≡ Ok v → IsRanged size v
+  pub expression_in : (s : Setting) (e : Tree) (v : Value) → IsSettingIn size s → answer_of met here bytes (expression s e) ≡ Ok v → IsRanged size v
   unfolding expression
   expression_in s e v within h = plan_in (IsRanged size) s (value_of s e) (value_ranges size s within e) v h
 
   -- the stream that it names
-  pub stream_in : (s : Setting) (io : Option Tree) (w : Stream) → IsStreamIn size s.stream → answer_of met here bytes (stream_for s io) ≡ Ok w → IsStreamIn size w
+  pub stream_in : (s : Setting) (io : Option Tree) (w : Stream) → IsSettingIn size s → answer_of met here bytes (stream_for s io) ≡ Ok w → IsStreamIn size w
   unfolding stream_for
-  stream_in s None w within h = subst (IsStreamIn size) (ok_is s.stream w h) within
+  stream_in s None w within h = subst (IsStreamIn size) (ok_is s.stream w h) within.0
   stream_in s (Some e) w within h =
       let b = goes_on met here bytes (expression s e) (λ v. in_stream v) w h in
       by_value b.first (expression_in s e b.first within b.was) b.gave

@@ -3,6 +3,7 @@
 use Rattle.std.specs.Prelude.{◌≡◌, ◌↔◌, ℕ, ◌+◌, ◌==◌, ◌<◌, ◌≤◌, ◌⊎◌, slice_get, Bool, true, false, List, [], ◌∷◌, ◌++◌, Contains, length, Option, Some, None, Result, Ok, Err}
 use Rattle.std.specs.List.{AllByRecursion}
 use Rattle.ksv_expr_value.specs.Places.{Place, byte_of}
+use Rattle.ksv_expr_value.specs.Setting.{Setting, Made}
 use Rattle.ksv_expr_value.specs.Trail.{Trail, child, parent, last}
 use Rattle.ksv_expr_value.specs.declared.step.Step.{Step}
 use Rattle.ksv_expr_value.specs.declared.step.Step.TheVariants.{Index, Name}
@@ -11,8 +12,8 @@ use Rattle.ksv_expr_value.specs.declared.fault.Fault.{Fault}
 use Rattle.ksv_expr_value.specs.declared.fault.FaultKind.TheVariants as kinds
 use Rattle.ksv_expr_value.specs.declared.value.Value.{Value}
 use Rattle.ksv_expr_value.specs.declared.value.Value.TheVariants as values
-use Rattle.ksv_expr_tree.specs.Tree.{Arguments}
-use Rattle.ksv_desc.specs.Description.{Description, MemberOfType, MemberKind, Parameter, Attribute, ParseInstance, ValueInstance, Field, Content, Case, Choice, Always, Switch, Repeat, Once, Expr}
+use Rattle.ksv_expr_tree.specs.Tree.{Tree, Arguments}
+use Rattle.ksv_desc.specs.Description.{Description, MemberOfType, MemberKind, Parameter, Attribute, ParseInstance, ValueInstance, Field, Content, Case, Choice, Always, Switch, Repeat, Once, Expr, Valid, AnyOf, AllOf, valid_of}
 use Rattle.ksv_desc.specs.Description as contents
 use Rattle.ksv_memo_rules.specs.Evaluation.{is_among}
 use Rattle.ksv_memo_rules.specs.Meaning.{on}
@@ -36,7 +37,7 @@ use Rattle.ksv_nodes.specs.Truth.{answer_of, asks_of}
 use Rattle.ksv_nodes.specs.Turning.{fault_at}
 use Rattle.ksv_rule_meaning.specs.Ends.{start_of}
 use Rattle.ksv_rule_meaning.specs.Fields.{members_of, is_attribute, Sought, sought}
-use Rattle.ksv_rule_meaning.specs.Heads.{instance_setting}
+use Rattle.ksv_rule_meaning.specs.Heads.{member_setting, instance_setting}
 use Rattle.ksv_rule_meaning.specs.Wanted.{expression, holds}
 use Rattle.ksv_rule_meaning.specs.Meaning.{rule_of}
 use Rattle.ksv_rule_meaning.specs.FromNothing.{from_nothing, asks}
@@ -99,6 +100,48 @@ pub record HasHead (d : Description) (bytes : List ℕ) (opened : List Node) (p 
 -- A value is one of the head at its path.
 abbrev pub ValuesHaveHeads : Type 0
 ValuesHaveHeads = (d : Description) (bytes : List ℕ) (opened : List Node) (p : Trail) (v : Value) → from_nothing d bytes opened (value_node p) ≡ Ok (givens.Value v) → HasHead d bytes opened p v
+
+-- ---- checks
+
+-- a condition is true, or false, in the rule of what is at the path `here`, where each asked node has the answer that `met` gives
+abbrev pub Gives : (Node → Result Given Fault) → Trail → List ℕ → Setting → Bool → Tree → Type 0
+Gives met here bytes at b e = answer_of met here bytes (expression at e) ≡ Ok (values.Bool b)
+
+-- one of some conditions is true, and all before it are false
+pub record HasTrue (met : Node → Result Given Fault) (here : Trail) (bytes : List ℕ) (at : Setting) (es : List Tree) : Type 0 where
+  pub front : List Tree
+  pub condition : Tree
+  pub rest : List Tree
+  pub is : es ≡ front ++ condition ∷ rest
+  pub before : AllByRecursion (Gives met here bytes at false) front
+  pub holds : Gives met here bytes at true condition
+
+-- what a value must meet is met
+abbrev pub IsMet : (Node → Result Given Fault) → Trail → List ℕ → Setting → Valid → Type 0
+IsMet met here bytes at (AnyOf es) = HasTrue met here bytes at es
+IsMet met here bytes at (AllOf es) = AllByRecursion (Gives met here bytes at true) es
+
+-- a value meets what the values of the member at this place must; `_` is that value
+abbrev pub MeetsMember : (Node → Result Given Fault) → Trail → List ℕ → Description → MemberRef → Setting → Value → Type 0
+MeetsMember met here bytes d r at v = (m : MemberOfType) (x : Valid) → slice_get (members_of d r.type_number) r.member ≡ Some m → valid_of m.kind ≡ Some x → IsMet met here bytes (record at { element = Made v }) x
+
+-- The same of what is at a path: bytes and an object by the member that reads them, where they are and with their number in a list; the
+-- value of what is calculated, in its object. Of a list nothing is asked.
+abbrev pub ObjectMeets : (Node → Result Given Fault) → List ℕ → Description → Trail → Object → Option Origin → Value → Type 0
+ObjectMeets met bytes d p o None v = Unit {0}
+ObjectMeets met bytes d p o (Some g) v = MeetsMember met p bytes d g.member (member_setting p p (last p) g o.start) v
+
+abbrev pub ValueMeets : (Node → Result Given Fault) → List ℕ → Description → Trail → Head → Value → Type 0
+ValueMeets met bytes d p (heads.Absent at) v = Unit {0}
+ValueMeets met bytes d p (heads.Calc c) v = MeetsMember met p bytes d (record { type_number = c.object.type_number; member = c.member }) (instance_setting p (parent p) c.object) v
+ValueMeets met bytes d p (heads.Leaf l) v = MeetsMember met p bytes d l.origin.member (member_setting p p (last p) l.origin l.from) v
+ValueMeets met bytes d p (heads.Object o) v = ObjectMeets met bytes d p o o.origin v
+ValueMeets met bytes d p (heads.List g) v = Unit {0}
+
+-- A value that is answered meets what it must.
+abbrev pub ValuesMeetChecks : Type 0
+ValuesMeetChecks = (d : Description) (bytes : List ℕ) (opened : List Node) (p : Trail) (h : Head) (v : Value) → from_nothing d bytes opened (head_node p) ≡ Ok (givens.Head h)
+    → from_nothing d bytes opened (value_node p) ≡ Ok (givens.Value v) → ValueMeets (from_nothing d bytes opened) bytes d p h v
 
 -- ---- circles
 

@@ -1,7 +1,7 @@
 //! The laws, each a contract of a function that does nothing.
 
 ghost use Rattle.ksv_rule_laws.specs.Expressions.{ExpressionsAreMet};
-ghost use Rattle.ksv_rule_laws.specs.Laws.{AnswersHaveForms, AnswersStay, ValuesHaveHeads, NoRuleMakesCircles, CirclesLeadBack, HeadsAreRead, FirstAttributesBegin, AttributesTouch, ElementsTouch, RestsCount, ToldCounts, PlacesAreInFile, HeadsLieInStreams, EndsLieInStreams};
+ghost use Rattle.ksv_rule_laws.specs.Laws.{AnswersHaveForms, AnswersStay, ValuesHaveHeads, ValuesMeetChecks, NoRuleMakesCircles, CirclesLeadBack, HeadsAreRead, FirstAttributesBegin, AttributesTouch, ElementsTouch, RestsCount, ToldCounts, PlacesAreInFile, HeadsLieInStreams, EndsLieInStreams};
 
 /// An expression in a rule means what `ksv_expr_eval` says, each of its wants answered as the rules answer it. It asks and uses what
 /// its wants do, one after the other.
@@ -22,6 +22,11 @@ pub fn answers_stay()
 /// A value is one of the head at its path: of a leaf an integer, a member, a text or bytes of it; of an object and a list its path.
 pub fn values_have_heads()
     ensures { ValuesHaveHeads }
+{}
+
+/// A value that is answered meets what it must: each of some conditions is true, or one is and all before it are false.
+pub fn values_meet_checks()
+    ensures { ValuesMeetChecks }
 {}
 
 /// No rule makes a circle: a fault of this kind is the answer of a node that the rule asks.

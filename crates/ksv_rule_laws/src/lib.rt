@@ -14,6 +14,7 @@
 //!
 //! Lemmas (`proofs/`):
 //!
+//! - `Checking`: a value that is answered meets what it must
 //! - `Circles`: a circle comes from nodes that ask for each other, and from no rule
 //! - `Counting`: the count of a list is that of the elements that end
 //! - `Enclosing`: what is read is in the stream of the object or list that holds it
@@ -32,5 +33,5 @@ mod laws;
 pub use laws::{
     answers_have_forms, answers_stay, attributes_touch, circles_lead_back, elements_touch,
     expressions_are_met, heads_are_read, no_rule_makes_circles, parts_lie_in_streams,
-    places_are_in_file, rests_count, values_have_heads,
+    places_are_in_file, rests_count, values_have_heads, values_meet_checks,
 };

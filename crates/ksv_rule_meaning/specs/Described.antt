@@ -5,7 +5,7 @@ use Rattle.ksv_basics.specs.Plan.{Ran, Need, Failed, Done, run, behind}
 use Rattle.ksv_expr_tree.specs.Tree.{Tree, Arguments, no_arguments, argument}
 use Rattle.ksv_expr_meaning.specs.Evaluation.{most_wants}
 use Rattle.ksv_expr_value.specs.declared.fault.Fault.{Fault}
-use Rattle.ksv_desc.specs.Description.{Description, TypeOfObjects, MemberKind, Parameter, Attribute, ParseInstance, ValueInstance, Field, Content, Choice, Always, Switch, Repeat, Once, Eos, Expr, Until, Extent, Sized, SizeEos, ByItself}
+use Rattle.ksv_desc.specs.Description.{Description, TypeOfObjects, MemberKind, Parameter, Attribute, ParseInstance, ValueInstance, Field, Content, Choice, Always, Switch, Repeat, Once, Eos, Expr, Until, Extent, Sized, SizeEos, ByItself, Valid, AnyOf, AllOf, valid_of}
 use Rattle.ksv_desc.specs.Description as contents
 use Rattle.ksv_memo_rules.specs.Meaning.{Meaning}
 use Rattle.ksv_memo_rules.specs.declared.rules.Next.{Next}
@@ -59,10 +59,19 @@ kind_wants (ValueInstance v) = condition_wants v.condition + most_wants v.value
 abbrev pub type_wants : TypeOfObjects → ℕ
 type_wants t = sum_by (λ m. kind_wants m.kind) t.members
 
+-- what the conditions for a member's value want at most
+abbrev pub valid_wants : Option Valid → ℕ
+valid_wants None = 0
+valid_wants (Some (AnyOf es)) = sum_by most_wants es
+valid_wants (Some (AllOf es)) = sum_by most_wants es
+
+abbrev pub type_checks : TypeOfObjects → ℕ
+type_checks t = sum_by (λ m. valid_wants (valid_of m.kind)) t.members
+
 -- What all expressions of a description want at most, and four nodes besides: a rule asks for a head, an end or a rest, and
 -- the head of a list.
 unfoldable pub most_asks : Description → ℕ
-most_asks d = 4 + sum_by type_wants d.types
+most_asks d = 4 + (sum_by type_wants d.types + sum_by type_checks d.types)
 
 -- ---- a rule by replies
 

@@ -3,7 +3,7 @@ use Rattle.std.specs.Prelude.{ℕ, ◌+◌, ◌==◌, Bool, true, false, Option,
 use Rattle.ksv_basics.specs.Plan.{Answer, Fail, ◌>>=◌}
 use Rattle.ksv_expr_value.specs.Trail.{Trail, element_limit, parent, last}
 use Rattle.ksv_expr_value.specs.Places.{Place, at_byte, is_same}
-use Rattle.ksv_expr_value.specs.Setting.{Setting}
+use Rattle.ksv_expr_value.specs.Setting.{Setting, ElementAt}
 use Rattle.ksv_expr_value.specs.declared.fault.FaultKind.TheVariants as kinds
 use Rattle.ksv_expr_value.specs.declared.step.Step.{Step}
 use Rattle.ksv_expr_value.specs.declared.step.Step.TheVariants as steps
@@ -83,7 +83,7 @@ is_counted (Some n) i = n == i + 1
 
 -- where `repeat-until` is evaluated: in the object q at the end of the element i of a list in it, with faults at p
 abbrev pub behind_element : Trail → lists.List → Trail → ℕ → Place → Setting
-behind_element q g p i e = record { home = q; stream = g.origin.home; place = e; index = Some i; element = Some p; here = p }
+behind_element q g p i e = record { home = q; stream = g.origin.home; place = e; index = Some i; element = ElementAt p; here = p }
 
 unfoldable pub is_last : Trail → lists.List → Trail → ℕ → Place → Repeat → Rule Bool
 is_last q g p i e Once = raise kinds.NoSuch

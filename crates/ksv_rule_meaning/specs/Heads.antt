@@ -6,7 +6,7 @@ use Rattle.ksv_basics.specs.Plan.{Answer, Fail, ◌>>=◌, ◌>>◌}
 use Rattle.ksv_expr_tree.specs.Tree.{Tree}
 use Rattle.ksv_expr_value.specs.Trail.{Trail, element_limit, parent, last}
 use Rattle.ksv_expr_value.specs.Places.{Place, at_byte, byte_of}
-use Rattle.ksv_expr_value.specs.Setting.{Setting}
+use Rattle.ksv_expr_value.specs.Setting.{Setting, NoElement}
 use Rattle.ksv_expr_value.specs.declared.fault.FaultKind.TheVariants as kinds
 use Rattle.ksv_expr_value.specs.declared.step.Step.{Step}
 use Rattle.ksv_expr_value.specs.declared.step.Step.TheVariants as steps
@@ -152,7 +152,7 @@ attribute_start q o (Some y) = do
 
 -- where expressions of a member are evaluated: in the object q, at the place s, with faults at p
 abbrev pub setting : Trail → Stream → Place → Trail → Setting
-setting q w s p = record { home = q; stream = w; place = s; index = None; element = None; here = p }
+setting q w s p = record { home = q; stream = w; place = s; index = None; element = NoElement; here = p }
 
 -- how a member of an object is read; its case isn't chosen yet
 abbrev pub origin_of : Object → Sought → Origin

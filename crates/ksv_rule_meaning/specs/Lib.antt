@@ -4,6 +4,7 @@ pub mod Wanted
 pub mod Choosing
 pub mod Heads
 pub mod Integers
+pub mod Checks
 pub mod Values
 pub mod Ends
 pub mod Meaning

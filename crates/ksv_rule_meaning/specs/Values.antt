@@ -24,6 +24,7 @@ use Rattle.ksv_nodes.specs.declared.given.Head.{Head}
 use Rattle.ksv_nodes.specs.declared.given.Head.TheVariants as heads
 use Rattle.ksv_nodes.specs.Reading.{first_at}
 use Rattle.ksv_nodes.specs.Rule.{Rule, raise, ask_head, peek}
+use Rattle.ksv_rule_meaning.specs.Checks.{value_checked}
 use Rattle.ksv_rule_meaning.specs.Choosing.{content_of}
 use Rattle.ksv_rule_meaning.specs.Fields.{members_of, kind_of, field_of, parameters_before}
 use Rattle.ksv_rule_meaning.specs.Heads.{member_setting, instance_setting}
@@ -185,7 +186,10 @@ value_at d p (heads.Leaf l) = leaf_value d l
 value_at d p (heads.Object o) = Answer (values.Object p)
 value_at d p (heads.List g) = Answer (values.List p)
 
+-- a value is made, and then checked
 unfoldable pub value_of : Description → Trail → Rule Value
 value_of d p = do
   h ← ask_head p
-  value_at d p h
+  v ← value_at d p h
+  u ← value_checked d p h v
+  Answer v

@@ -1,7 +1,7 @@
 //! What the rules of a description's nodes mean: the definitions, and what is proved of them alone.
 //!
-//! A rule (`specs/`: `Heads`, `Values` and `Ends`, and `Fields`, `Wanted`, `Choosing` and `Integers`, which they use) is a plan
-//! over nodes and readings of the bytes. [`NodeRules`] is code that runs the rule of any node, and [`Described`] is a description
+//! A rule (`specs/`: `Heads`, `Values` and `Ends`, and `Fields`, `Wanted`, `Choosing`, `Checks` and `Integers`, which they use) is
+//! a plan over nodes and readings of the bytes. [`NodeRules`] is code that runs the rule of any node, and [`Described`] is a description
 //! with such code, as an engine (ksv_memo) sees it. So what depends on these doesn't wait for the proof of any rule's code.
 //!
 //! Which nodes evaluation from nothing completes, which of them an edit touches, and how many calls of rules they take
@@ -15,6 +15,7 @@
 //!
 //! Definitions (`specs/`):
 //!
+//! - `Checks`: what a value must meet
 //! - `Choosing`: the case that a switch chooses
 //! - `Completed`: what evaluation from nothing completes, by direct recursion
 //! - `Described`: what the rules mean to an engine, and how many nodes a rule asks at most

@@ -5,3 +5,4 @@ pub mod Parameters
 pub mod Naming
 pub mod Peeked
 pub mod Arguments
+pub mod Conditions

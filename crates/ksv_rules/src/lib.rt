@@ -1,12 +1,13 @@
 //! The rules of a description's nodes: what is at a path of a file, its value, and where it ends.
 //!
-//! Each rule is a definition of ksv_rule_meaning (`Heads`, `Values`, `Ends`, and `Fields`, `Choosing`, `Wanted` below them) and
-//! a function of the same name here that runs it on the replies so far. [`DescriptionRules`] runs the rule of any node. An engine
+//! Each rule is a definition of ksv_rule_meaning (`Heads`, `Values`, `Ends`, and `Fields`, `Choosing`, `Checks`, `Wanted` below them)
+//! and a function of the same name here that runs it on the replies so far. [`DescriptionRules`] runs the rule of any node. An engine
 //! (ksv_memo) calls it and keeps what it answers.
 //!
 //! Modules:
 //!
 //! - `calculated`: the values of value instances and parameters
+//! - `checks`: what a value must meet
 //! - `choosing`: the case that a switch chooses
 //! - `ends`: where something ends, and how a list goes on to its last element
 //! - `evaluation`: the value of an expression in a rule: `eval` with one more answer each time
@@ -29,6 +30,7 @@
 //! Lemmas (`proofs/`):
 //!
 //! - `Arguments`: an argument by its number
+//! - `Conditions`: conditions that are evaluated one after another
 //! - `Evaluating`: an expression whose wants are answered one after another
 //! - `Naming`: an expression that is one name asks for that member
 //! - `Parameters`: how many parameters are among the first members
@@ -36,6 +38,7 @@
 #![tactic(auto)]
 
 mod calculated;
+mod checks;
 mod choosing;
 mod ends;
 mod evaluation;

@@ -13,6 +13,7 @@ ghost use Rattle.ksv_nodes.specs.Turning.{Runs};
 ghost use Rattle.ksv_rule_meaning.specs.Values.{as_member, in_number, number_in, number_value, fixed_value, cut_by, kept, cut_bytes, bytes_value, in_text, cut_text, text_value, content_value, leaf_value, value_at, value_of};
 
 use crate::calculated::calculated;
+use crate::checks::value_checked;
 use crate::choosing::content_of;
 use crate::fields::field_of;
 use crate::integer::integer_value;
@@ -265,11 +266,13 @@ fn value_at(turn: &mut Turn, desc: &Desc, path: &Path, head: &Head) -> Result<Va
     }
 }
 
-/// The value of what is at a path; objects and lists by their path.
+/// The value of what is at a path; objects and lists by their path. It is made, and then checked.
 #[tactic(auto, using(ksv_basics::proofs::Running::run_bind), unfolding(ksv_rule_meaning::specs::Values::value_of))]
 pub(crate) fn value_of(turn: &mut Turn, desc: &Desc, path: &Path) -> Result<Value, Halt>
     ensures { Runs (value_of (plain_pieces desc.now) path.now) (λ value. value) turn.old turn.new result }
 {
     let head = turn.head(path)?;
-    value_at(turn, desc, path, head)
+    let value = value_at(turn, desc, path, head)?;
+    value_checked(turn, desc, path, head, &value)?;
+    Ok(value)
 }

@@ -12,8 +12,8 @@ use Rattle.ksv_schema_names.specs.Members.{is_in_params}
 use Rattle.ksv_schema_names.specs.Rows.{Declared}
 use Rattle.ksv_schema_names.specs.Types.{encoding_of}
 use Rattle.ksv_schema_names.specs.declared.position.Site.TheVariants as sites
-use Rattle.ksv_desc.specs.Description.{Extent, SizeEos, ByItself, Repeat, Once, Eos, Expr, Until, Field, MemberKind, Parameter}
-use Rattle.ksv_desc.specs.Resolved.{is_parameter, IfAny, IsThere, IsResolvedTree, IsResolvedExtent, IsResolvedRepeat, IsResolvedField, IsResolvedKind}
+use Rattle.ksv_desc.specs.Description.{Extent, SizeEos, ByItself, Repeat, Once, Eos, Expr, Until, Valid, Field, MemberKind, Parameter}
+use Rattle.ksv_desc.specs.Resolved.{is_parameter, IfAny, IsThere, IsResolvedTree, IsResolvedExtent, IsResolvedRepeat, IsResolvedValid, IsResolvedField, IsResolvedKind}
 use Rattle.ksv_schema.specs.declared.keys.forms.Form.TheVariants as forms
 use Rattle.ksv_schema.specs.declared.keys.forms.MappingKind.{MappingKind}
 use Rattle.ksv_schema.specs.declared.keys.forms.MappingKind.TheVariants as kinds
@@ -23,11 +23,12 @@ use Rattle.ksv_schema.specs.KeyTexts.{encoding_named, is_str, is_strz, own_type,
 use Rattle.ksv_schema.specs.Faults.{missing_key, left_out}
 use Rattle.ksv_schema.specs.Rules.{form_faults, keys_faults}
 use Rattle.ksv_schema.specs.Values.{Home, expression, enumeration, own_enum, encoding_at}
-use Rattle.ksv_schema.specs.Members.{parts, repeat_of, repeated, extent_of, extent, has_encoding, needs, field, own_field, attribute, parse_instance, value_instance, placeless, by_kind}
-use Rattle.ksv_schema.specs.Description.{Context, in_tree, in_extent, in_repeat, in_field, in_kind}
+use Rattle.ksv_schema.specs.Members.{conditioned, parts, repeat_of, repeated, extent_of, extent, has_encoding, needs, field, own_field, attribute, parse_instance, value_instance, placeless, by_kind}
+use Rattle.ksv_schema.specs.Description.{Context, in_tree, in_valid, in_extent, in_repeat, in_field, in_kind}
 use Rattle.ksv_schema.proofs.Good.{front, back, implies, there_map, IsGood, gives_good, also_good, chosen_good, made_good, after_good, both_good, weaker, perhaps_good, must_good}
 use Rattle.ksv_schema.proofs.FaultlessKeys.{text_fits, HasRepeat, has_repeat}
 use Rattle.ksv_schema.proofs.GoodValues.{Leads, any_leads, in_home, IsTree, IsEnumThere, any_enum, expression_good, enumeration_good, HasText, choice_good}
+use Rattle.ksv_schema.proofs.GoodValid.{IsValid, own_valid_good}
 
 -- each encoding in force is one of those that there are
 abbrev pub AreEncodings : Declared → Type 0
@@ -55,6 +56,14 @@ module _ (names : List (List ℕ)) (h : Home) where
       go (Some text) outer f g x = f text refl
       go None (Some text) f g x = g text refl
       go None None f g x = absurd cc
+
+  -- ---- conditions
+
+  abbrev AreConditions : Option expressions.Tree × Option Valid → Type 0
+  AreConditions p = IfAny (IsTree c) p.0 × IfAny (IsValid c) p.1
+
+  conditioned_good : (es : List Pair) → IsGood names AreConditions (conditioned h es)
+  conditioned_good es = weaker (both_good (perhaps_good (expression h sites.Condition) (entry_at (codes "if") es) (λ p e. expression_good names h sites.Condition p)) (own_valid_good names h es)) (λ p g. (g.0.0, g.1))
 
   -- ---- parts
 
@@ -96,9 +105,15 @@ module _ (names : List (List ℕ)) (h : Home) where
   unfolding parts
   parts_good enum es e i r =
       made_good _
-      (both_good (both_good (both_good (perhaps_good _ (entry_at (codes "if") es) (λ p e. expression_good names h sites.Condition p)) (repeated_good es r)) (choice_good names h es enum es e i))
+      (both_good (both_good (both_good (conditioned_good es) (repeated_good es r)) (choice_good names h es enum es e i))
       (extent_good es))
-      (λ p g y s fits. record { condition = any_leads c IsResolvedTree (in_tree c) p.0.0.0 g.0.0.0.0 y s fits; repeat = g.0.0.1 y s fits; choice = g.0.1 y s fits; extent = g.1 y s fits })
+      (λ p g y s fits. record {
+        condition = any_leads c IsResolvedTree (in_tree c) p.0.0.0.0 g.0.0.0.0 y s fits;
+        repeat = g.0.0.1 y s fits;
+        choice = g.0.1 y s fits;
+        extent = g.1 y s fits;
+        valid = any_leads c IsResolvedValid (in_valid c) p.0.0.0.1 g.0.0.0.1 y s fits;
+      })
 
   -- ---- fields
 
@@ -142,9 +157,9 @@ module _ (names : List (List ℕ)) (h : Home) where
   value_instance_good line es = also_good _ _ (λ k.
       made_good _
       (both_good
-      (both_good (perhaps_good (expression h sites.Condition) (entry_at (codes "if") es) (λ p e. expression_good names h sites.Condition p)) (must_good line (expression h sites.Value) (entry_at (codes "value") es) (λ p. expression_good names h sites.Value p)))
+      (both_good (conditioned_good es) (must_good line (expression h sites.Value) (entry_at (codes "value") es) (λ p. expression_good names h sites.Value p)))
       (own_enum_good es))
-      (λ p g. record { leads = λ y s fits. (any_leads c IsResolvedTree (in_tree c) p.0.0 g.0.0.0 y s fits, g.0.1 y s fits, any_enum c p.1 g.1 y s fits); given = λ name. refl }))
+      (λ p g. record { leads = λ y s fits. (any_leads c IsResolvedTree (in_tree c) p.0.0.0 g.0.0.0 y s fits, g.0.1 y s fits, any_enum c p.1 g.1 y s fits, any_leads c IsResolvedValid (in_valid c) p.0.0.1 g.0.0.1 y s fits); given = λ name. refl }))
 
   placeless_good : (name_line : ℕ) (es : List Pair) → IsGood names (IsKind c false) (placeless h name_line es)
   unfolding placeless

@@ -110,7 +110,7 @@ module _ (names : List (List ℕ)) (h : Home) where
 
   -- expressions
 
-  of_expression_good : (at : Site) (line : ℕ) (o : Option expressions.Tree) → IsGood names (IsTree c) (of_expression h at line o)
+  pub of_expression_good : (at : Site) (line : ℕ) (o : Option expressions.Tree) → IsGood names (IsTree c) (of_expression h at line o)
   unfolding of_expression name_faults
   of_expression_good at line None = wrong_good line no_expression
   of_expression_good at line (Some e) = record { is = λ k w y s fits. rw (← s) (resolved h.declared y h.within (position_at h at) fits Nothing e (rw (← s) at w) (no_names line _ k)) }

@@ -14,10 +14,12 @@ pub mod Limits
 pub mod Named
 pub mod Enums
 pub mod Made
+pub mod InPlace
 pub mod Both
 pub mod Good
 pub mod FaultlessKeys
 pub mod GoodValues
+pub mod GoodValid
 pub mod Fields
 pub mod OwnNames
 pub mod Whole

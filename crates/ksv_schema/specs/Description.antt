@@ -15,7 +15,7 @@ use Rattle.ksv_schema_names.specs.Members.{Member, members_of}
 use Rattle.ksv_schema_names.specs.Enums.{number_of, id_of, is_numbered, is_named}
 use Rattle.ksv_schema_names.specs.Numbered.{numbered, all_numbered}
 use Rattle.ksv_desc.specs.Names.{distinct, distinct_behind, number_in}
-use Rattle.ksv_desc.specs.Description.{Content, Bytes, Fixed, Number, Characters, Object, Case, Choice, Always, Switch, Extent, Sized, SizeEos, ByItself, Repeat, Once, Eos, Expr, Until, Field, MemberKind, Parameter, Attribute, ParseInstance, ValueInstance, MemberOfType, TypeOfObjects, Numbered, Enum, Description, as_text}
+use Rattle.ksv_desc.specs.Description.{Content, Bytes, Fixed, Number, Characters, Object, Case, Choice, Always, Switch, Extent, Sized, SizeEos, ByItself, Repeat, Once, Eos, Expr, Until, Valid, AnyOf, AllOf, Field, MemberKind, Parameter, Attribute, ParseInstance, ValueInstance, MemberOfType, TypeOfObjects, Numbered, Enum, Description, as_text}
 use Rattle.ksv_schema.specs.declared.keys.forms.MappingKind.TheVariants as kinds
 use Rattle.ksv_schema.specs.Keys.{is_id}
 use Rattle.ksv_schema.specs.Faults.{Fault, fault, fault_if, keys_against, bad_value, left_out, over_limit}
@@ -175,14 +175,18 @@ in_repeat c Eos = Eos
 in_repeat c (Expr e) = Expr (in_tree c e)
 in_repeat c (Until e) = Until (in_tree c e)
 
+abbrev pub in_valid : Context → Valid → Valid
+in_valid c (AnyOf conditions) = AnyOf (map (in_tree c) conditions)
+in_valid c (AllOf conditions) = AllOf (map (in_tree c) conditions)
+
 abbrev pub in_field : Context → Field → Field
-in_field c f = record { condition = option_map (in_tree c) f.condition; repeat = in_repeat c f.repeat; choice = in_choice c f.choice; extent = in_extent c f.extent; terminator = f.terminator }
+in_field c f = record { condition = option_map (in_tree c) f.condition; repeat = in_repeat c f.repeat; choice = in_choice c f.choice; extent = in_extent c f.extent; terminator = f.terminator; valid = option_map (in_valid c) f.valid }
 
 abbrev pub in_kind : Context → MemberKind → MemberKind
 in_kind c Parameter = Parameter
 in_kind c (Attribute f) = Attribute (in_field c f)
 in_kind c (ParseInstance place stream f) = ParseInstance (in_tree c place) (option_map (in_tree c) stream) (in_field c f)
-in_kind c (ValueInstance v) = ValueInstance (record { condition = option_map (in_tree c) v.condition; value = in_tree c v.value; enum = v.enum })
+in_kind c (ValueInstance v) = ValueInstance (record { condition = option_map (in_tree c) v.condition; value = in_tree c v.value; enum = v.enum; valid = option_map (in_valid c) v.valid })
 
 -- ---- a description
 

@@ -36,6 +36,7 @@ is_in groups.Read kinds.Attribute = true
 is_in groups.Read kinds.ParseInstance = true
 is_in groups.Values kinds.Value = true
 is_in groups.Switches kinds.Switch = true
+is_in groups.Checks kinds.Check = true
 is_in _ _ = false
 
 -- what the mapping of a member is: an instance has a value or a place, or neither
@@ -97,20 +98,26 @@ keys =
     key groups.Fields (codes "enum") Stated ∷
     key groups.Fields (codes "process") NotHere ∷
     key groups.Fields (codes "pad-right") NotHere ∷
-    key groups.Fields (codes "valid") NotHere ∷
+    key groups.Fields (codes "valid") Stated ∷
     key groups.Values (codes "value") Stated ∷
     key groups.Values (codes "if") Stated ∷
     key groups.Values (codes "enum") Stated ∷
     key groups.Values (codes "process") NotHere ∷
     key groups.Values (codes "pad-right") NotHere ∷
-    key groups.Values (codes "valid") NotHere ∷
+    key groups.Values (codes "valid") Stated ∷
     key groups.Values (codes "pos") Ignored ∷
     key groups.Values (codes "io") Ignored ∷
     key groups.Values (codes "type") Ignored ∷
     key groups.Values (codes "size") Ignored ∷
     key groups.Values (codes "repeat") Ignored ∷
     key groups.Switches (codes "switch-on") Stated ∷
-    key groups.Switches (codes "cases") Stated ∷ []
+    key groups.Switches (codes "cases") Stated ∷
+    key groups.Checks (codes "eq") Stated ∷
+    key groups.Checks (codes "any-of") Stated ∷
+    key groups.Checks (codes "expr") Stated ∷
+    key groups.Checks (codes "min") Stated ∷
+    key groups.Checks (codes "max") Stated ∷
+    key groups.Checks (codes "in-enum") NotHere ∷ []
 
 unfoldable pub form_among : List Key → MappingKind → List ℕ → Option Form
 form_among keys kind name = option_map (λ k. k.form) (find (λ k. is_in k.group kind && bytes_eq name k.name) keys)

@@ -10,6 +10,7 @@ pub mod Faults
 pub mod Reading
 pub mod Rules
 pub mod Values
+pub mod Valid
 pub mod Code
 pub mod Members
 pub mod Description

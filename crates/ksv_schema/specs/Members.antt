@@ -11,7 +11,7 @@ use Rattle.ksv_schema_names.specs.Types.{encoding_of}
 use Rattle.ksv_schema_names.specs.Members.{Member, member_named}
 use Rattle.ksv_schema_names.specs.declared.position.Site.TheVariants as sites
 use Rattle.ksv_desc.specs.Description as desc
-use Rattle.ksv_desc.specs.Description.{Extent, Sized, SizeEos, ByItself, Terminator, Repeat, Once, Eos, Expr, Until, Field, MemberKind}
+use Rattle.ksv_desc.specs.Description.{Extent, Sized, SizeEos, ByItself, Terminator, Repeat, Once, Eos, Expr, Until, Valid, Field, MemberKind}
 use Rattle.ksv_schema.specs.declared.keys.forms.MappingKind.{MappingKind}
 use Rattle.ksv_schema.specs.declared.keys.forms.MappingKind.TheVariants as kinds
 use Rattle.ksv_schema.specs.Keys.{kind_of, is_id}
@@ -20,6 +20,13 @@ use Rattle.ksv_schema.specs.Faults.{Fault, fault, fault_if, missing_key, keys_ag
 use Rattle.ksv_schema.specs.Reading.{Reading, gives, wrong, also, valueless, chosen, made, both, after, perhaps, must}
 use Rattle.ksv_schema.specs.Rules.{keys_faults, missing, at_if, together}
 use Rattle.ksv_schema.specs.Values.{Home, home_of, FieldKeys, expression, own_enum, is_declared, choice}
+use Rattle.ksv_schema.specs.Valid.{own_valid}
+
+-- ---- conditions
+
+-- whether it is there, and what its value must meet
+abbrev pub conditioned : Home → List Pair → Reading (Option expressions.Tree × Option Valid)
+conditioned h es = both (perhaps (expression h sites.Condition) (entry_at (codes "if") es)) (own_valid h es)
 
 -- ---- attributes and parse instances
 
@@ -36,9 +43,9 @@ repeated h es =
     chosen (λ p. repeat_of es p.0 p.1)
     (both (perhaps (expression h sites.Count) (entry_at (codes "repeat-expr") es)) (perhaps (expression h sites.Until) (entry_at (codes "repeat-until") es)))
 
--- whether and how often it is read
-abbrev pub timed : Home → List Pair → Reading (Option expressions.Tree × Repeat)
-timed h es = both (perhaps (expression h sites.Condition) (entry_at (codes "if") es)) (repeated h es)
+-- whether and how often it is read, and what it must meet
+abbrev pub timed : Home → List Pair → Reading ((Option expressions.Tree × Option Valid) × Repeat)
+timed h es = both (conditioned h es) (repeated h es)
 
 -- where it ends
 abbrev pub extent_of : List Pair → Option expressions.Tree → Extent
@@ -63,7 +70,14 @@ terminator_of typed es = option_map (terminated_by es) (if is_a is_strz typed th
 -- what these keys state
 unfoldable pub parts : FieldKeys → Reading Field
 parts k =
-    made (λ p. record { condition = p.0.0.0; repeat = p.0.0.1; choice = p.0.1; extent = p.1; terminator = terminator_of (own_type k.entries) k.entries })
+    made (λ p. record {
+      condition = p.0.0.0.0;
+      repeat = p.0.0.1;
+      choice = p.0.1;
+      extent = p.1;
+      terminator = terminator_of (own_type k.entries) k.entries;
+      valid = p.0.0.0.1;
+    })
     (both (both (timed k.home k.entries) (choice k)) (extent k.home k.entries))
 
 -- ---- what an attribute or a parse instance needs
@@ -114,8 +128,8 @@ parse_instance h line es =
 unfoldable pub value_instance : Home → ℕ → List Pair → Reading MemberKind
 value_instance h line es =
     also (together kinds.Value line None es)
-    (made (λ p. desc.ValueInstance (record { condition = p.0.0; value = p.0.1; enum = p.1 }))
-    (both (both (perhaps (expression h sites.Condition) (entry_at (codes "if") es)) (must line (expression h sites.Value) (entry_at (codes "value") es))) (own_enum h es)))
+    (made (λ p. desc.ValueInstance (record { condition = p.0.0.0; value = p.0.1; enum = p.1; valid = p.0.0.1 }))
+    (both (both (conditioned h es) (must line (expression h sites.Value) (entry_at (codes "value") es))) (own_enum h es)))
 
 -- an instance without a place and a value is unsupported, whatever its keys are together
 unfoldable pub placeless : Home → ℕ → List Pair → Reading MemberKind

@@ -135,6 +135,7 @@ rules =
     ruled groups.Read (Excludes (Has (codes "contents")) (Has (codes "size-eos"))) ∷
     ruled groups.Read (Excludes (Has (codes "contents")) (Has (codes "terminator"))) ∷
     ruled groups.Read (Excludes (Has (codes "contents")) (Has (codes "enum"))) ∷
+    ruled groups.Read (Excludes (Has (codes "contents")) (Has (codes "valid"))) ∷
     ruled groups.Read (Excludes IsInteger (Has (codes "size"))) ∷
     ruled groups.Read (Excludes IsInteger (Says (codes "size-eos") (codes "true"))) ∷
     ruled groups.Read (Excludes IsInteger (Has (codes "terminator"))) ∷
@@ -142,7 +143,16 @@ rules =
     ruled groups.Values (Excludes (Has (codes "value")) (Has (codes "io"))) ∷
     ruled groups.Values (Excludes (Has (codes "value")) (Has (codes "type"))) ∷
     ruled groups.Values (Excludes (Has (codes "value")) (Has (codes "size"))) ∷
-    ruled groups.Values (Excludes (Has (codes "value")) (Has (codes "repeat"))) ∷ []
+    ruled groups.Values (Excludes (Has (codes "value")) (Has (codes "repeat"))) ∷
+    ruled groups.Checks (Excludes (Has (codes "eq")) (Has (codes "any-of"))) ∷
+    ruled groups.Checks (Excludes (Has (codes "eq")) (Has (codes "expr"))) ∷
+    ruled groups.Checks (Excludes (Has (codes "eq")) (Has (codes "min"))) ∷
+    ruled groups.Checks (Excludes (Has (codes "eq")) (Has (codes "max"))) ∷
+    ruled groups.Checks (Excludes (Has (codes "any-of")) (Has (codes "expr"))) ∷
+    ruled groups.Checks (Excludes (Has (codes "any-of")) (Has (codes "min"))) ∷
+    ruled groups.Checks (Excludes (Has (codes "any-of")) (Has (codes "max"))) ∷
+    ruled groups.Checks (Excludes (Has (codes "expr")) (Has (codes "min"))) ∷
+    ruled groups.Checks (Excludes (Has (codes "expr")) (Has (codes "max"))) ∷ []
 
 unfoldable pub ruled_faults : MappingKind → ℕ → Option TypeText → List Pair → Ruled → List Fault
 ruled_faults kind line typed es r = if is_in r.group kind then rule_faults line typed es r.rule else []

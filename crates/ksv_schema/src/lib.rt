@@ -28,6 +28,7 @@
 //! - `values/reader`: where a mapping is, what is read so far, and how parts are put together
 //! - `values/rule`: keys that exclude, need or attend each other: a table, and the loop over it
 //! - `values/types`: the type at `type`, a switch over types, or contents
+//! - `values/valid`: what a value must meet, at `valid`
 //! - `values/value`: expressions, paths of enums, contents
 //!
 //! Definitions (`specs/`):
@@ -44,6 +45,7 @@
 //! - `Plain`: the plain data of what is read of enums, for private contracts
 //! - `Reading`: readings: faults, names after dots, a value; how they are put together
 //! - `Rules`: faults of a mapping's keys, alone and together
+//! - `Valid`: what is read at `valid`
 //! - `Values`: what is read at a key, by the form of its value
 //!
 //! Lemmas (`proofs/`):
@@ -58,8 +60,10 @@
 //! - `Fields`: what is read of a member is good
 //! - `Given`: numbers and ids of entries that come twice
 //! - `GoodMembers`: without faults each member and type is stated, and its names lead somewhere
+//! - `GoodValid`: what is read at `valid` is good
 //! - `GoodValues`: what is read at a key is good
 //! - `Good`: a good reading: without faults it has a value, of which something holds
+//! - `InPlace`: a loop that changes each element of a list in its place
 //! - `Items`: the items of `contents`
 //! - `Least`: what is noted of a list is its least fault
 //! - `Limits`: the first line past a limit

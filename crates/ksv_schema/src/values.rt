@@ -6,4 +6,5 @@ pub(crate) mod key;
 pub(crate) mod reader;
 pub(crate) mod rule;
 pub(crate) mod types;
+pub(crate) mod valid;
 pub(crate) mod value;

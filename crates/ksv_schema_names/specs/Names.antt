@@ -34,19 +34,23 @@ has_place sites.Until = true
 has_place sites.Switch = true
 has_place _ = false
 
--- `_index` is allowed where each element is read
+-- `_index` is allowed where each element is read or checked
 abbrev pub is_of_element : Site → Bool
 is_of_element sites.Size = true
 is_of_element sites.Until = true
 is_of_element sites.Switch = true
 is_of_element sites.Argument = true
+is_of_element sites.Valid = true
+is_of_element sites.ValidExpr = true
 is_of_element _ = false
 
--- `_` is allowed in `repeat-until`, and `io` has a stream
-abbrev pub is_until : Site → Bool
-is_until sites.Until = true
-is_until _ = false
+-- `_` is allowed in `repeat-until` and in the `expr` of `valid`
+abbrev pub has_value : Site → Bool
+has_value sites.Until = true
+has_value sites.ValidExpr = true
+has_value _ = false
 
+-- `io` has a stream
 abbrev pub is_stream : Site → Bool
 is_stream sites.Stream = true
 is_stream _ = false
@@ -76,7 +80,7 @@ special_faults p b specials.Root = []
 special_faults p b specials.Parent = []
 special_faults p b specials.Io = wrong_if (not (is_own_stream_fit p b)) LeftOut
 special_faults p b specials.Index = wrong_if (not (p.is_repeated && is_of_element p.site)) Unknown
-special_faults p b specials.Element = wrong_if (not (is_until p.site)) Unknown
+special_faults p b specials.Element = wrong_if (not (has_value p.site)) Unknown
 
 -- and after a dot
 unfoldable pub special_field_faults : Position → Behind → SpecialName → List NameFault

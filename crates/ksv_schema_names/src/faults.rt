@@ -93,12 +93,15 @@ fn note_special(
         }
         SpecialName::Index => {
             use Site::*;
-            let is_of_element = matches!(position.site, Size | Until | Switch | Argument);
+            let is_of_element = matches!(
+                position.site,
+                Size | Until | Switch | Argument | Valid | ValidExpr
+            );
             let fits = position.is_repeated & is_of_element;
             note(found, !fits, NameFault::Unknown);
         }
         SpecialName::Element => {
-            let fits = matches!(position.site, Site::Until);
+            let fits = matches!(position.site, Site::Until | Site::ValidExpr);
             note(found, !fits, NameFault::Unknown);
         }
     }

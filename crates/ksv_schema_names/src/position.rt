@@ -23,6 +23,10 @@ pub enum Site {
     Value,
     /// A key of `cases`.
     Case,
+    /// `eq`, `any-of`, `min` or `max` of `valid`.
+    Valid,
+    /// `expr` of `valid`.
+    ValidExpr,
 }
 
 /// Where an expression is.

@@ -27,7 +27,7 @@ use Rattle.ksv_expr_value.specs.declared.value.Value.{Value}
 use Rattle.ksv_expr_value.specs.declared.value.Value.TheVariants as values
 use Rattle.ksv_expr_meaning.specs.declared.want.Want.{Want}
 use Rattle.ksv_expr_meaning.specs.declared.want.Want.TheVariants as wants
-use Rattle.ksv_desc.specs.Description.{Description, TypeOfObjects, MemberOfType, MemberKind, Parameter, Attribute, ParseInstance, ValueInstance, Field, Content, Case, Choice, Always, Switch, Extent, Sized, SizeEos, ByItself, Repeat, Once, Eos, Expr, Until, Terminator}
+use Rattle.ksv_desc.specs.Description.{Description, TypeOfObjects, MemberOfType, MemberKind, Parameter, Attribute, ParseInstance, ValueInstance, Field, Content, Case, Choice, Always, Switch, Extent, Sized, SizeEos, ByItself, Repeat, Once, Eos, Expr, Until, Terminator, Valid, AnyOf, AllOf, valid_of}
 use Rattle.ksv_desc.specs.Description as contents
 use Rattle.ksv_nodes.proofs.Bounds.{nodes_more, nodes_join, nodes_if, nodes_translate, enough, head_nodes, value_nodes, end_nodes, rest_nodes, part_nodes}
 use Rattle.ksv_nodes.specs.Bounds.{NodesAtMost}
@@ -50,8 +50,9 @@ use Rattle.ksv_nodes.specs.declared.given.Ended.{Ended}
 use Rattle.ksv_nodes.specs.declared.turn.readings.Found.{Found}
 use Rattle.ksv_nodes.specs.declared.turn.readings.Found.TheVariants as founds
 use Rattle.ksv_nodes.specs.Rule.{Rule, Here, finish, done, reach, peek, find}
-use Rattle.ksv_rule_meaning.specs.Described.{condition_wants, repeat_wants, extent_wants, arguments_wants, content_wants, choice_wants, field_wants, kind_wants, type_wants, most_asks, resumed, step_of}
+use Rattle.ksv_rule_meaning.specs.Described.{condition_wants, repeat_wants, extent_wants, arguments_wants, content_wants, choice_wants, field_wants, kind_wants, type_wants, valid_wants, type_checks, most_asks, resumed, step_of}
 use Rattle.ksv_rule_meaning.specs.Fields.{members_of, behind, Sought, sought, in_sought, member_named, last_attribute, read_by, in_kind, kind_of, field_of, parameters_before}
+use Rattle.ksv_rule_meaning.specs.Checks.{meets_one, meets_each, meets, with_value, checked, checked_if, member_checked, object_checked, value_checked}
 use Rattle.ksv_rule_meaning.specs.Choosing.{Chosen, switched, choose, in_case, content_of}
 use Rattle.ksv_rule_meaning.specs.Wanted.{whole, in_object, wanted, expression, in_integer, in_truth, integer_of, truth_of, holds, in_size, size_of, in_stream, stream_for}
 use Rattle.ksv_rule_meaning.specs.Integers.{integer_value}
@@ -531,9 +532,87 @@ value_at_nodes d p (heads.Leaf l) = nodes_more 0 _ _ (omega arith) (leaf_value_n
 value_at_nodes d p (heads.Object o) = tt
 value_at_nodes d p (heads.List g) = tt
 
-value_of_nodes : (d : Description) (p : Trail) → NodesAtMost (1 + all_wants d) (value_of d p)
+-- ---- checks
+
+abbrev member_checks : MemberOfType → ℕ
+member_checks m = valid_wants (valid_of m.kind)
+
+checks_of_type : (o : Option TypeOfObjects) → sum_by member_checks (option_map_or (λ x. x.members) o []) ≤ option_map_or type_checks o 0
+checks_of_type None = omega arith
+checks_of_type (Some t) = omega arith
+
+-- what all conditions for values want
+abbrev all_checks : Description → ℕ
+all_checks d = sum_by type_checks d.types
+
+members_checks : (d : Description) (t : ℕ) → sum_by member_checks (members_of d t) ≤ all_checks d
+unfolding members_of
+members_checks d t = omega (arith, checks_of_type (slice_get d.types t), part_of_sum type_checks d.types t)
+
+in_kind_checks : (n : ℕ) (o : Option MemberOfType) → option_map_or member_checks o 0 ≤ n → Gives (λ k. valid_wants (valid_of k) ≤ n) (in_kind o)
+in_kind_checks n None h = tt
+in_kind_checks n (Some m) h = h
+
+-- a member of a place, and what its value must meet
+valid_gives : (d : Description) (r : MemberRef) → Gives (λ k. valid_wants (valid_of k) ≤ all_checks d) (kind_of d r)
+unfolding kind_of
+valid_gives d r =
+    let ms = members_of d r.type_number in
+    let part = part_of_sum member_checks ms r.member in
+    let all = members_checks d r.type_number in
+    in_kind_checks (all_checks d) (slice_get ms r.member) (omega (arith, part, all))
+
+meets_one_nodes : (s : Setting) (es : List Tree) → NodesAtMost (sum_by most_wants es) (meets_one s es)
+unfolding meets_one
+meets_one_nodes s [] = tt
+meets_one_nodes s (e ∷ es) =
+    let w = sum_by most_wants es in
+    nodes_join _ _ (sum_by most_wants (e ∷ es)) (most_wants e) w (omega (arith, sum_by-cons most_wants e es)) (truth_nodes s e) (λ b. nodes_if b w _ _ tt (meets_one_nodes s es))
+
+meets_each_nodes : (s : Setting) (es : List Tree) → NodesAtMost (sum_by most_wants es) (meets_each s es)
+unfolding meets_each
+meets_each_nodes s [] = tt
+meets_each_nodes s (e ∷ es) =
+    let w = sum_by most_wants es in
+    nodes_join _ _ (sum_by most_wants (e ∷ es)) (most_wants e) w (omega (arith, sum_by-cons most_wants e es)) (truth_nodes s e) (λ b. nodes_if b w _ _ (meets_each_nodes s es) tt)
+
+meets_nodes : (s : Setting) (x : Valid) → NodesAtMost (valid_wants (Some x)) (meets s x)
+meets_nodes s (AnyOf es) = meets_one_nodes s es
+meets_nodes s (AllOf es) = meets_each_nodes s es
+
+checked_if_nodes : (s : Setting) (x : Option Valid) (v : Value) → NodesAtMost (valid_wants x) (checked_if s x v)
+unfolding checked
+checked_if_nodes s None v = tt
+checked_if_nodes s (Some x) v =
+    let w = valid_wants (Some x) in
+    nodes_join _ _ w w 0 (omega arith) (meets_nodes (with_value s v) x) (λ b. nodes_if b 0 _ _ tt tt)
+
+member_checked_nodes : (d : Description) (r : MemberRef) (s : Setting) (v : Value) → NodesAtMost (all_checks d) (member_checked d r s v)
+unfolding member_checked
+member_checked_nodes d r s v = gives_nodes (all_checks d) (λ k. valid_wants (valid_of k) ≤ all_checks d) (kind_of d r) _ (valid_gives d r) (λ k le. nodes_more (valid_wants (valid_of k)) _ _ le (checked_if_nodes s (valid_of k) v))
+
+object_checked_nodes : (d : Description) (p : Trail) (o : Object) (g : Option Origin) (v : Value) → NodesAtMost (all_checks d) (object_checked d p o g v)
+object_checked_nodes d p o None v = tt
+object_checked_nodes d p o (Some g) v = member_checked_nodes d g.member _ v
+
+value_checked_nodes : (d : Description) (p : Trail) (h : Head) (v : Value) → NodesAtMost (all_checks d) (value_checked d p h v)
+unfolding value_checked
+value_checked_nodes d p (heads.Absent at) v = tt
+value_checked_nodes d p (heads.Calc c) v = member_checked_nodes d _ _ v
+value_checked_nodes d p (heads.Leaf l) v = member_checked_nodes d l.origin.member _ v
+value_checked_nodes d p (heads.Object o) v = object_checked_nodes d p o o.origin v
+value_checked_nodes d p (heads.List g) v = tt
+
+-- what all expressions want, and the conditions for values besides
+abbrev all_asks : Description → ℕ
+all_asks d = all_wants d + all_checks d
+
+value_of_nodes : (d : Description) (p : Trail) → NodesAtMost (1 + all_asks d) (value_of d p)
 unfolding value_of
-value_of_nodes d p = nodes_join _ _ (1 + all_wants d) 1 (all_wants d) (omega arith) (head_nodes p) (λ h. value_at_nodes d p h)
+value_of_nodes d p =
+    nodes_join _ _ (1 + all_asks d) 1 (all_asks d) (omega arith) (head_nodes p) (λ h.
+    nodes_join _ _ (all_asks d) (all_wants d) (all_checks d) (omega arith) (value_at_nodes d p h) (λ v.
+    nodes_join _ _ (all_checks d) (all_checks d) 0 (omega arith) (value_checked_nodes d p h v) (λ u. tt)))
 
 -- ---- ends
 
@@ -643,12 +722,12 @@ rest_of_nodes d p = rest_at_nodes p (last p)
 
 -- ---- nodes
 
-meaning_nodes : (d : Description) (k : NodeKind) (p : Trail) → NodesAtMost (4 + all_wants d) (meaning_of d k p)
+meaning_nodes : (d : Description) (k : NodeKind) (p : Trail) → NodesAtMost (4 + all_asks d) (meaning_of d k p)
 unfolding meaning_of
-meaning_nodes d nodes.Head p = nodes_join _ _ (4 + all_wants d) (2 + all_wants d) 0 (omega arith) (head_of_nodes d p) (λ h. tt)
-meaning_nodes d nodes.Value p = nodes_join _ _ (4 + all_wants d) (1 + all_wants d) 0 (omega arith) (value_of_nodes d p) (λ v. tt)
-meaning_nodes d nodes.End p = nodes_join _ _ (4 + all_wants d) (3 + all_wants d) 0 (omega arith) (end_of_nodes d p) (λ e. tt)
-meaning_nodes d nodes.Rest p = nodes_join _ _ (4 + all_wants d) 3 0 (omega arith) (rest_of_nodes d p) (λ r. tt)
+meaning_nodes d nodes.Head p = nodes_join _ _ (4 + all_asks d) (2 + all_wants d) 0 (omega arith) (head_of_nodes d p) (λ h. tt)
+meaning_nodes d nodes.Value p = nodes_join _ _ (4 + all_asks d) (1 + all_asks d) 0 (omega arith) (value_of_nodes d p) (λ v. tt)
+meaning_nodes d nodes.End p = nodes_join _ _ (4 + all_asks d) (3 + all_wants d) 0 (omega arith) (end_of_nodes d p) (λ e. tt)
+meaning_nodes d nodes.Rest p = nodes_join _ _ (4 + all_asks d) 3 0 (omega arith) (rest_of_nodes d p) (λ r. tt)
 
 -- a rule asks no more nodes than this
 pub rule_nodes : (d : Description) (n : Node) → NodesAtMost (most_asks d) (rule_of d n)

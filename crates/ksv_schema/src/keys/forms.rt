@@ -66,6 +66,8 @@ pub(crate) enum MappingKind {
     Value,
     /// The key `type` of an attribute, if it is a mapping.
     Switch,
+    /// The key `valid` of an attribute or instance, if it is a mapping.
+    Check,
     /// The value of an entry of an enum, if it is a mapping.
     Constant,
 }
@@ -91,6 +93,8 @@ pub(crate) enum Group {
     Values,
     /// Switches.
     Switches,
+    /// Mappings at `valid`.
+    Checks,
 }
 
 /// Whether a mapping is one of a group.
@@ -108,6 +112,7 @@ pub(crate) fn is_in(group: Group, kind: MappingKind) -> bool
         Group::Read => matches!(kind, Attribute | ParseInstance),
         Group::Values => matches!(kind, Value),
         Group::Switches => matches!(kind, Switch),
+        Group::Checks => matches!(kind, Check),
     }
 }
 
@@ -115,7 +120,7 @@ pub(crate) fn is_in(group: Group, kind: MappingKind) -> bool
 struct Key(Group, &'static [u8], Form);
 
 /// The keys of a description. Those of a value that are ignored are what `value` excludes.
-static KEYS: [Key; 53] = [
+static KEYS: [Key; 59] = [
     Key(Group::Types, b"meta", Form::Mapping),
     Key(Group::Types, b"params", Form::Listing),
     Key(Group::Types, b"seq", Form::Listing),
@@ -155,13 +160,13 @@ static KEYS: [Key; 53] = [
     Key(Group::Fields, b"enum", Form::Stated),
     Key(Group::Fields, b"process", Form::NotHere),
     Key(Group::Fields, b"pad-right", Form::NotHere),
-    Key(Group::Fields, b"valid", Form::NotHere),
+    Key(Group::Fields, b"valid", Form::Stated),
     Key(Group::Values, b"value", Form::Stated),
     Key(Group::Values, b"if", Form::Stated),
     Key(Group::Values, b"enum", Form::Stated),
     Key(Group::Values, b"process", Form::NotHere),
     Key(Group::Values, b"pad-right", Form::NotHere),
-    Key(Group::Values, b"valid", Form::NotHere),
+    Key(Group::Values, b"valid", Form::Stated),
     Key(Group::Values, b"pos", Form::Ignored),
     Key(Group::Values, b"io", Form::Ignored),
     Key(Group::Values, b"type", Form::Ignored),
@@ -169,6 +174,12 @@ static KEYS: [Key; 53] = [
     Key(Group::Values, b"repeat", Form::Ignored),
     Key(Group::Switches, b"switch-on", Form::Stated),
     Key(Group::Switches, b"cases", Form::Stated),
+    Key(Group::Checks, b"eq", Form::Stated),
+    Key(Group::Checks, b"any-of", Form::Stated),
+    Key(Group::Checks, b"expr", Form::Stated),
+    Key(Group::Checks, b"min", Form::Stated),
+    Key(Group::Checks, b"max", Form::Stated),
+    Key(Group::Checks, b"in-enum", Form::NotHere),
 ];
 
 /// What is at a key, if one of these keys has this name in such a mapping.

@@ -5,13 +5,13 @@ ghost use Rattle.std.specs.Option.{option_map_or};
 ghost use Rattle.ksv_yaml_tree.specs.View.{pair};
 ghost use Rattle.ksv_expr_tree.specs.Tree.{view};
 ghost use Rattle.ksv_desc.specs.Description as desc;
-ghost use Rattle.ksv_desc.specs.Pieces.{plain_extent, plain_terminator, plain_repeat, plain_field, plain_kind};
+ghost use Rattle.ksv_desc.specs.Pieces.{plain_extent, plain_terminator, plain_repeat, plain_valid, plain_field, plain_kind};
 ghost use Rattle.ksv_schema_names.specs.Table.{declared};
 ghost use Rattle.ksv_schema_names.specs.View.{member_of};
 ghost use Rattle.ksv_schema.specs.KeyTexts.{own_type};
 ghost use Rattle.ksv_schema.specs.KeyCode.{seen_type_at};
 ghost use Rattle.ksv_schema.specs.Faults.{noted};
-ghost use Rattle.ksv_schema.specs.Members.{parts, repeat_of, repeated, timed, extent, terminator_of, needs, unsupported, field, own_field, attribute, parse_instance, value_instance, placeless, by_kind, member_keys, name_line, is_named_again, member as stated_member};
+ghost use Rattle.ksv_schema.specs.Members.{conditioned, parts, repeat_of, repeated, timed, extent, terminator_of, needs, unsupported, field, own_field, attribute, parse_instance, value_instance, placeless, by_kind, member_keys, name_line, is_named_again, member as stated_member};
 ghost use Rattle.ksv_schema.specs.Code.{seen_fault, seen_home, seen_keys, Reads};
 
 use crate::DescFaultKind::{BadValue, KeysAgainst, LeftOut, MissingKey};
@@ -23,12 +23,28 @@ use crate::values::key::{note_keys, note_missing};
 use crate::values::reader::{FieldKeys, Home, Read, Reader, after, alone, both, home_of};
 use crate::values::rule::{note_at_if, note_together};
 use crate::values::types::{choice, is_declared};
+use crate::values::valid::own_valid;
 use crate::values::value::{needed_expression, own_enum, perhaps_expression};
-use ksv_desc::{Choice, Extent, Field, MemberKind, Repeat, Terminator};
+use ksv_desc::{Choice, Extent, Field, MemberKind, Repeat, Terminator, Valid};
 use ksv_expr_tree::Expr;
 use ksv_schema_names::{Member, Role, Scopes, Site};
 use ksv_yaml_tree::keys::{has, says, text_at};
 use ksv_yaml_tree::{Entry, find};
+
+// ---- conditions
+
+/// Whether something of these keys is there, and what its value must meet.
+#[tactic(auto, using(crate::proofs::Noted::steps, ksv_desc::proofs::Dots::steps))]
+fn conditioned(
+    reader: &mut Reader,
+    home: Home,
+    entries: &[Entry],
+) -> Read<(Option<Expr>, Option<Valid>)>
+    ensures { Reads (conditioned (seen_home home.entry) (map pair entries.now)) (λ p. (option_map view p.0, option_map plain_valid p.1)) reader.old reader.new result }
+{
+    let condition = perhaps_expression(reader, home, Site::Condition, find(entries, b"if"))?;
+    both(condition, own_valid(reader, home, entries))
+}
 
 // ---- attributes and parse instances
 
@@ -76,13 +92,17 @@ fn repeated(reader: &mut Reader, home: Home, entries: &[Entry]) -> Read<Repeat>
     }
 }
 
-/// Whether and how often an attribute of these keys is read.
+/// Whether and how often an attribute of these keys is read, and what it must meet.
 #[tactic(auto, using(crate::proofs::Noted::steps, ksv_desc::proofs::Dots::steps))]
-fn timed(reader: &mut Reader, home: Home, entries: &[Entry]) -> Read<(Option<Expr>, Repeat)>
-    ensures { Reads (timed (seen_home home.entry) (map pair entries.now)) (λ p. (option_map view p.0, plain_repeat p.1)) reader.old reader.new result }
+fn timed(
+    reader: &mut Reader,
+    home: Home,
+    entries: &[Entry],
+) -> Read<((Option<Expr>, Option<Valid>), Repeat)>
+    ensures { Reads (timed (seen_home home.entry) (map pair entries.now)) (λ p. ((option_map view p.0.0, option_map plain_valid p.0.1), plain_repeat p.1)) reader.old reader.new result }
 {
-    let condition = perhaps_expression(reader, home, Site::Condition, find(entries, b"if"))?;
-    both(condition, repeated(reader, home, entries))
+    let conditions = conditioned(reader, home, entries)?;
+    both(conditions, repeated(reader, home, entries))
 }
 
 /// Where an attribute of these keys ends.
@@ -135,13 +155,14 @@ fn read_parts(reader: &mut Reader, keys: FieldKeys, typed: Option<TypeText>) -> 
     let chosen = both(timed, choice)?;
     match both(chosen, extent(reader, keys.home, keys.entries))? {
         Some(read) => {
-            let (((condition, repeat), choice), extent) = read;
+            let ((((condition, valid), repeat), choice), extent) = read;
             Ok(Some(Field {
                 condition,
                 repeat,
                 choice,
                 extent,
                 terminator,
+                valid,
             }))
         }
         None => Ok(None),
@@ -296,15 +317,19 @@ fn value_instance(
     ensures { Reads (value_instance (seen_home home.entry) line (map pair entries.now)) plain_kind reader.old reader.new result }
 {
     note_together(&mut reader.least, MappingKind::Value, line, &None, entries);
-    let condition = perhaps_expression(reader, home, Site::Condition, find(entries, b"if"))?;
+    let conditions = conditioned(reader, home, entries)?;
     let value = needed_expression(reader, home, Site::Value, line, find(entries, b"value"));
-    let computed = both(condition, value)?;
+    let computed = both(conditions, value)?;
     match both(computed, own_enum(reader, home, entries))? {
-        Some(((condition, value), enumeration)) => Ok(Some(MemberKind::ValueInstance {
-            condition,
-            value,
-            enumeration,
-        })),
+        Some(read) => {
+            let (((condition, valid), value), enumeration) = read;
+            Ok(Some(MemberKind::ValueInstance {
+                condition,
+                value,
+                enumeration,
+                valid,
+            }))
+        }
         None => Ok(None),
     }
 }

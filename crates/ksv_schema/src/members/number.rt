@@ -2,11 +2,11 @@
 
 ghost use Rattle.std.specs.Prelude.{◌≡◌, map, option_map};
 ghost use Rattle.ksv_expr_tree.specs.Tree.{view};
-ghost use Rattle.ksv_desc.specs.Pieces.{plain_content, plain_case, plain_choice, plain_extent, plain_repeat, plain_field, plain_kind};
-ghost use Rattle.ksv_schema.specs.Description.{in_tree, in_content, in_case, in_choice, in_extent, in_repeat, in_field, in_kind};
+ghost use Rattle.ksv_desc.specs.Pieces.{plain_content, plain_case, plain_choice, plain_extent, plain_repeat, plain_valid, plain_field, plain_kind};
+ghost use Rattle.ksv_schema.specs.Description.{in_tree, in_content, in_case, in_choice, in_extent, in_repeat, in_valid, in_field, in_kind};
 ghost use Rattle.ksv_schema.specs.Plain.{context_of};
 
-use ksv_desc::{Case, Choice, Content, Extent, Field, MemberKind, Repeat};
+use ksv_desc::{Case, Choice, Content, Extent, Field, MemberKind, Repeat, Valid};
 use ksv_expr_tree::Expr;
 use ksv_schema_names::{Names, Scopes, number_arguments, number_expr};
 
@@ -32,6 +32,15 @@ fn number_optional(context: Context, expr: &mut Option<Expr>)
     match expr {
         Some(expr) => number_tree(context, expr),
         None => {}
+    }
+}
+
+/// Gives the names of each of these expressions their numbers.
+fn number_trees(context: Context, exprs: &mut [Expr])
+    ensures { map view exprs.new ≡ map (in_tree (context_of context.entry)) (map view exprs.old) }
+{
+    for expr in exprs.iter_mut() {
+        number_tree(context, expr);
     }
 }
 
@@ -106,6 +115,17 @@ fn number_repeat(context: Context, repeat: &mut Repeat)
     }
 }
 
+/// Gives the names of what a value must meet their numbers.
+fn number_valid(context: Context, valid: &mut Option<Valid>)
+    ensures { option_map plain_valid valid.new ≡ option_map (in_valid (context_of context.entry)) (option_map plain_valid valid.old) }
+{
+    match valid {
+        Some(Valid::AnyOf(conditions)) => number_trees(context, conditions),
+        Some(Valid::AllOf(conditions)) => number_trees(context, conditions),
+        None => {}
+    }
+}
+
 /// Gives the names of what an attribute or a parse instance reads their numbers.
 fn number_field(context: Context, field: &mut Field)
     ensures { plain_field field.new ≡ in_field (context_of context.entry) (plain_field field.old) }
@@ -114,6 +134,7 @@ fn number_field(context: Context, field: &mut Field)
     number_repeat(context, &mut field.repeat);
     number_choice(context, &mut field.choice);
     number_extent(context, &mut field.extent);
+    number_valid(context, &mut field.valid);
 }
 
 /// Gives the names in a parse instance their numbers.
@@ -133,12 +154,19 @@ fn number_parse_instance(
 }
 
 /// Gives the names in a value instance their numbers.
-fn number_value_instance(context: Context, condition: &mut Option<Expr>, value: &mut Expr)
+fn number_value_instance(
+    context: Context,
+    condition: &mut Option<Expr>,
+    value: &mut Expr,
+    valid: &mut Option<Valid>,
+)
     ensures conditional { option_map view condition.new ≡ option_map (in_tree (context_of context.entry)) (option_map view condition.old) }
     ensures calculated { view value.new ≡ in_tree (context_of context.entry) (view value.old) }
+    ensures checked { option_map plain_valid valid.new ≡ option_map (in_valid (context_of context.entry)) (option_map plain_valid valid.old) }
 {
     number_optional(context, condition);
     number_tree(context, value);
+    number_valid(context, valid);
 }
 
 /// Gives the names of a member their numbers.
@@ -156,7 +184,8 @@ pub(crate) fn number_kind(context: Context, kind: &mut MemberKind)
         MemberKind::ValueInstance {
             condition,
             value,
+            valid,
             ..
-        } => number_value_instance(context, condition, value),
+        } => number_value_instance(context, condition, value, valid),
     }
 }

@@ -131,7 +131,7 @@ fn note_form(least: &mut Least, entry: &Entry, form: Form)
 
 /// Whether a key has no meaning in a mapping of fixed keys.
 #[tactic(auto, unfolding(crate::specs::Keys::is_ignored))]
-fn is_ignored(key: &[u8]) -> bool
+pub(crate) fn is_ignored(key: &[u8]) -> bool
     ensures { result ≡ is_ignored key.now }
 {
     match key.first() {

@@ -10,7 +10,7 @@ ghost use Rattle.ksv_schema.specs.Code.{number_of, seen_fault, seen_claim, seen_
 
 use self::Claim::{Has, IsInteger, Says};
 use self::Rule::{Attends, Excludes, Needs};
-use crate::keys::forms::Group::{Read, Values};
+use crate::keys::forms::Group::{Checks, Read, Values};
 use crate::keys::forms::{Group, MappingKind, is_in};
 use crate::keys::texts::{TypeKind, TypeText, is_a};
 use crate::values::fault::DescFaultKind::{KeysAgainst, MissingKey};
@@ -42,7 +42,7 @@ enum Rule {
 struct Ruled(Group, Rule);
 
 /// The rules of keys.
-static RULES: [Ruled; 19] = [
+static RULES: [Ruled; 29] = [
     Ruled(Read, Needs(Says(b"repeat", b"expr"), Has(b"repeat-expr"))),
     Ruled(Read, Needs(Says(b"repeat", b"until"), Has(b"repeat-until"))),
     Ruled(Read, Attends(Has(b"repeat-expr"), Says(b"repeat", b"expr"))),
@@ -57,6 +57,7 @@ static RULES: [Ruled; 19] = [
     Ruled(Read, Excludes(Has(b"contents"), Has(b"size-eos"))),
     Ruled(Read, Excludes(Has(b"contents"), Has(b"terminator"))),
     Ruled(Read, Excludes(Has(b"contents"), Has(b"enum"))),
+    Ruled(Read, Excludes(Has(b"contents"), Has(b"valid"))),
     Ruled(Read, Excludes(IsInteger, Has(b"size"))),
     Ruled(Read, Excludes(IsInteger, Says(b"size-eos", b"true"))),
     Ruled(Read, Excludes(IsInteger, Has(b"terminator"))),
@@ -65,6 +66,15 @@ static RULES: [Ruled; 19] = [
     Ruled(Values, Excludes(Has(b"value"), Has(b"type"))),
     Ruled(Values, Excludes(Has(b"value"), Has(b"size"))),
     Ruled(Values, Excludes(Has(b"value"), Has(b"repeat"))),
+    Ruled(Checks, Excludes(Has(b"eq"), Has(b"any-of"))),
+    Ruled(Checks, Excludes(Has(b"eq"), Has(b"expr"))),
+    Ruled(Checks, Excludes(Has(b"eq"), Has(b"min"))),
+    Ruled(Checks, Excludes(Has(b"eq"), Has(b"max"))),
+    Ruled(Checks, Excludes(Has(b"any-of"), Has(b"expr"))),
+    Ruled(Checks, Excludes(Has(b"any-of"), Has(b"min"))),
+    Ruled(Checks, Excludes(Has(b"any-of"), Has(b"max"))),
+    Ruled(Checks, Excludes(Has(b"expr"), Has(b"min"))),
+    Ruled(Checks, Excludes(Has(b"expr"), Has(b"max"))),
 ];
 
 /// A key, if something holds.

@@ -39,7 +39,7 @@ pub(crate) fn note_name(least: &mut Least, line: usize, found: Option<NameFault>
 
 /// The expression that a text spells.
 #[tactic(auto, using(crate::proofs::Noted::steps, ksv_desc::proofs::Dots::steps), unfolding(crate::specs::Values::of_expression))]
-fn expression_in(
+pub(crate) fn expression_in(
     reader: &mut Reader,
     home: Home,
     site: Site,

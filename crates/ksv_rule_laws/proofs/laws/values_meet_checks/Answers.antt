@@ -1,0 +1,5 @@
+use Rattle.ksv_rule_laws.proofs.Checking.{values_meet_checks}
+use Rattle.ksv_rule_laws.proofs.laws.values_meet_checks.Goals as goal
+
+pub returns : goal.returns
+returns c = values_meet_checks
