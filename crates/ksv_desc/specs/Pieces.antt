@@ -22,7 +22,7 @@ use Rattle.ksv_desc.specs.declared.members.MemberDesc.{MemberDesc}
 use Rattle.ksv_desc.specs.declared.type_desc.TypeDesc.{TypeDesc}
 use Rattle.ksv_desc.specs.declared.enums.EnumEntry.{EnumEntry}
 use Rattle.ksv_desc.specs.declared.enums.EnumDesc.{EnumDesc}
-use Rattle.ksv_desc.specs.Description.{Content, Bytes, Fixed, Number, Characters, Object, CaseValue, Literal, Negated, EnumValue, Case, Choice, Always, Switch, Extent, Sized, SizeEos, ByItself, Terminator, Repeat, Once, Eos, Expr, Until, Valid, AnyOf, AllOf, Field, MemberKind, Parameter, Attribute, ParseInstance, ValueInstance, MemberOfType, TypeOfObjects, Numbered, Enum}
+use Rattle.ksv_desc.specs.Description.{Content, Bytes, Fixed, Number, Bits, Characters, Object, CaseValue, Literal, Negated, EnumValue, Case, Choice, Always, Switch, Extent, Sized, SizeEos, ByItself, Terminator, Repeat, Once, Eos, Expr, Until, Valid, AnyOf, AllOf, Field, MemberKind, Parameter, Attribute, ParseInstance, ValueInstance, MemberOfType, TypeOfObjects, Numbered, Enum}
 
 -- ---- what is read
 
@@ -30,6 +30,7 @@ abbrev pub plain_content : CodeContent → Content
 plain_content contents.Bytes = Bytes
 plain_content (contents.Fixed bytes) = Fixed bytes.items
 plain_content (contents.Number is_signed size order enumeration) = Number is_signed size order enumeration
+plain_content (contents.Bits width enumeration) = Bits width enumeration
 plain_content (contents.Characters encoding) = Characters encoding
 plain_content (contents.Object type_number arguments) = Object type_number (arguments_of (map view arguments.items))
 

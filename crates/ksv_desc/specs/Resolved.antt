@@ -5,7 +5,7 @@ use Rattle.std.specs.Option.{option_map_or}
 use Rattle.ksv_expr_tree.specs.Tree.{Tree, literal, named, special, member, unary, binary, logical, choice, field, special_field, call, index, cast, Arguments, no_arguments, argument, Word}
 use Rattle.ksv_expr_tree.specs.declared.tree.EnumMember.{EnumMember}
 use Rattle.ksv_desc.specs.Names.{AreDistinct}
-use Rattle.ksv_desc.specs.Description.{Content, Bytes, Fixed, Number, Characters, Object, CaseValue, Literal, Negated, EnumValue, Case, Choice, Always, Switch, Extent, Sized, SizeEos, ByItself, Repeat, Once, Eos, Expr, Until, Valid, AnyOf, AllOf, Field, MemberKind, Parameter, Attribute, ParseInstance, ValueInstance, MemberOfType, Description, member_id}
+use Rattle.ksv_desc.specs.Description.{Content, Bytes, Fixed, Number, Bits, Characters, Object, CaseValue, Literal, Negated, EnumValue, Case, Choice, Always, Switch, Extent, Sized, SizeEos, ByItself, Repeat, Once, Eos, Expr, Until, Valid, AnyOf, AllOf, Field, MemberKind, Parameter, Attribute, ParseInstance, ValueInstance, MemberOfType, Description, member_id}
 
 -- how many arguments there are
 abbrev pub count : Arguments → ℕ
@@ -81,6 +81,7 @@ abbrev pub IsResolvedContent : Description → Content → Type 0
 IsResolvedContent d Bytes = Unit {0}
 IsResolvedContent d (Fixed bs) = Unit {0}
 IsResolvedContent d (Number signed bytes order enum) = IfAny (IsEnum d) enum
+IsResolvedContent d (Bits width enum) = IfAny (IsEnum d) enum
 IsResolvedContent d (Characters encoding) = Unit {0}
 IsResolvedContent d (Object t es) = IsResolvedObject d t es
 

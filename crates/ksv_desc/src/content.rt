@@ -22,6 +22,13 @@ pub enum Content {
         /// The number of the enum whose member it is.
         enumeration: Option<u32>,
     },
+    /// Bits of neighbouring bytes: the highest bit of a byte is its first, and the first bit read is the highest of the number.
+    Bits {
+        /// How many bits: 1 to 64.
+        width: u8,
+        /// The number of the enum whose member it is. One bit without an enum is a truth value.
+        enumeration: Option<u32>,
+    },
     /// A text.
     Characters(Encoding),
     /// An object of a type.
