@@ -3,3 +3,5 @@ pub mod Paths
 pub mod Halves
 pub mod Encodings
 pub mod Room
+pub mod Places
+pub mod Binary

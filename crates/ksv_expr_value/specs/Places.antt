@@ -1,18 +1,46 @@
--- Places of a file.
-use Rattle.std.specs.Prelude.{ℕ, ◌==◌, Bool}
+-- Places of a file: before one of its bits, or at its end.
+use Rattle.std.specs.Prelude.{ℕ, ◌+◌, ◌-◌, ◌*◌, ◌/◌, ◌%◌, ◌==◌, Bool}
 
--- A place of a file. What it holds is known here alone: all other definitions go from a byte's number to a place, and back, by the two below.
+-- A place, by the number of bits before it. What it holds is known here alone: all other definitions go from a byte's number to a place,
+-- and back, by what follows.
 pub record Place : Type 0 where
-  pub bytes : ℕ
+  pub bits : ℕ
 
--- the place of the byte of this number
-abbrev pub at_byte : ℕ → Place
-at_byte n = record { bytes = n }
+-- the last place that a file of less than 2^32 bytes can have
+abbrev pub last_place : ℕ
+last_place = 34359738360
 
--- the number of the byte at a place
-abbrev pub byte_of : Place → ℕ
-byte_of p = p.bytes
+-- the place where the byte of this number begins
+unfoldable pub at_byte : ℕ → Place
+at_byte n = record { bits = 8 * n }
+
+-- the number of the first byte that doesn't begin before a place
+unfoldable pub byte_of : Place → ℕ
+byte_of p = (p.bits + 7) / 8
+
+-- the number of the byte in which a place is, and how many bits of that byte are before it
+unfoldable pub byte_in : Place → ℕ
+byte_in p = p.bits / 8
+
+unfoldable pub bit_in : Place → ℕ
+bit_in p = p.bits % 8
+
+-- the next place where a byte begins
+abbrev pub aligned : Place → Place
+aligned p = at_byte (byte_of p)
+
+-- the place that many bits further on
+unfoldable pub further : Place → ℕ → Place
+further p n = record { bits = p.bits + n }
+
+-- how many bits there are from one place to another
+abbrev pub bits_between : Place → Place → ℕ
+bits_between from to = to.bits - from.bits
+
+-- how many bits there are to the next place where a byte begins
+unfoldable pub bits_left : Place → ℕ
+bits_left p = 8 * byte_of p - p.bits
 
 -- two places are the same
 abbrev pub is_same : Place → Place → Bool
-is_same p q = p.bytes == q.bytes
+is_same p q = p.bits == q.bits

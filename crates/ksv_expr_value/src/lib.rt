@@ -2,6 +2,7 @@
 //!
 //! Modules:
 //!
+//! - `bits`: the number that some bits of bytes write
 //! - `context`: the context in which an expression is evaluated
 //! - `encoding`: the encodings of texts
 //! - `fault`: kinds of faults, and the path of each
@@ -17,6 +18,7 @@
 //!
 //! Definitions (`specs/`):
 //!
+//! - `Bits`: bits, and the numbers that they write
 //! - `Bytes`: bytes that are lent in two slices
 //! - `Elements`: what `_` is, as the code has it
 //! - `Encodings`: the encodings of texts: ASCII, of bytes below 128, and UTF-8
@@ -24,19 +26,22 @@
 //! - `Faults`: the names of faults, as replies write them
 //! - `Kept`: where the steps of a path are: in an array, or on the heap
 //! - `Numbers`: numbers of paths, with lemmas that a reader may skip
-//! - `Places`: places of a file, and the bytes that they are at
+//! - `Places`: places of a file, counted in bits, and the bytes beside them
 //! - `Range`: the range of expressions' integers
 //! - `Setting`: the context in which an expression is evaluated
 //! - `Trail`: paths as contracts see them: their steps, the last one first
 //!
 //! Lemmas (`proofs/`):
 //!
+//! - `Binary`: bits of bytes, and numbers
 //! - `Encodings`: which bytes are texts
 //! - `Halves`: bytes that are cut in two, compared
 //! - `Paths`: steps in the code's order and in that of the definitions
+//! - `Places`: places and the bytes beside them
 //! - `Room`: whether the path of a part fits
 #![tactic(auto)]
 
+mod bits;
 mod context;
 mod encoding;
 mod fault;

@@ -1,0 +1,25 @@
+use Rattle.std.proofs.Common.{◌∙◌, ◌/◌, ◌%◌, ◌^◌, ◌≤◌, length, arith, ap, sym}
+use Rattle.std.proofs.lemmas.Nat.{pow_pos}
+use Rattle.ksv_expr_value.specs.Bits.{number_of, bits_of}
+use Rattle.ksv_expr_value.specs.Bytes.{content}
+use Rattle.ksv_expr_value.specs.Places.{bits_left}
+use Rattle.ksv_expr_value.proofs.Binary.{count_unit, field_number}
+use Rattle.ksv_expr_value.proofs.Places.{few_between}
+use Rattle.ksv_expr_value.proofs.parts.Parts.number_between.Goals as goal
+
+pub overflow_shl-result : goal.overflow_shl-result
+overflow_shl-result c = omega (arith, few_between c.args.from c.args.to (length (content c.args.self)) c.requires.met, c.requires.few, c.bits_to.ensures)
+
+pub nonzero_rem-result : goal.nonzero_rem-result
+nonzero_rem-result c =
+    let few : c.bits_to.result ≤ 72 = omega (arith, few_between c.args.from c.args.to (length (content c.args.self)) c.requires.met, c.requires.few, c.bits_to.ensures) in
+    omega (arith, count_unit c.bits_to.result few, pow_pos c.bits_to.result)
+
+pub returns : goal.returns
+returns c =
+    let few : c.bits_to.result ≤ 72 = omega (arith, few_between c.args.from c.args.to (length (content c.args.self)) c.requires.met, c.requires.few, c.bits_to.ensures) in
+    ap (λ n. c.number_of.result / 2 ^ c.bits_left.result % n) (count_unit c.bits_to.result few)
+    ∙ ap (λ n. n / 2 ^ c.bits_left.result % 2 ^ c.bits_to.result) c.number_of.ensures.value
+    ∙ ap (λ n. number_of (bits_of (content c.args.self)) / 2 ^ n % 2 ^ c.bits_to.result) c.bits_left.ensures
+    ∙ ap (λ n. number_of (bits_of (content c.args.self)) / 2 ^ bits_left c.args.to % 2 ^ n) c.bits_to.ensures
+    ∙ sym (field_number c.args.from c.args.to (content c.args.self) c.requires.met)
