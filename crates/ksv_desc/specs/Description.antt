@@ -1,6 +1,6 @@
 -- What a description is: its types with their members, its enums, and the names of all members. Types, enums and names are
 -- known by their numbers.
-use Rattle.std.specs.Prelude.{ℕ, Bool, true, false, if◌then◌else◌, ℤ, List, [], map, filter, find, take, Option, Some, None, option_map, option_and_then, unwrap_or, slice_get}
+use Rattle.std.specs.Prelude.{ℕ, Bool, true, false, if◌then◌else◌, ◌==◌, ℤ, List, [], map, filter, find, take, Option, Some, None, option_map, option_and_then, unwrap_or, slice_get}
 use Rattle.std.specs.List.{position_from}
 use Rattle.std.specs.Option.{option_map_or}
 use Rattle.std.specs.Ordering.{int_eq}
@@ -22,6 +22,11 @@ pub data Content : Type 0 where
   Bits : ℕ → Option ℕ → Content
   Characters : Encoding → Content
   Object : ℕ → Arguments → Content
+
+-- one bit that is no member of an enum is a truth value, and no integer
+abbrev pub is_truth : ℕ → Option ℕ → Bool
+is_truth width None = width == 1
+is_truth width (Some enum) = false
 
 -- what a switch compares with
 pub data CaseValue : Type 0 where

@@ -1,5 +1,8 @@
 //! What is read at a member.
 
+ghost use Rattle.std.specs.Prelude.{◌≡◌};
+ghost use Rattle.ksv_desc.specs.Description.{is_truth};
+
 use crate::order::ByteOrder;
 use ksv_expr_tree::{EnumMember, Expr, Literal};
 use ksv_expr_value::Encoding;
@@ -38,6 +41,16 @@ pub enum Content {
         /// The arguments for the type's parameters.
         arguments: Vec<Expr>,
     },
+}
+
+/// Whether so many bits are a truth value and no integer: one bit that is no member of an enum.
+pub fn is_truth(width: u8, enumeration: Option<u32>) -> bool
+    ensures { result ≡ is_truth width enumeration }
+{
+    match enumeration {
+        None => width == 1,
+        Some(_) => false,
+    }
 }
 
 /// What a switch compares with.

@@ -49,7 +49,7 @@ mod text;
 mod type_desc;
 mod valid;
 
-pub use content::{Case, CaseValue, Choice, Content};
+pub use content::{Case, CaseValue, Choice, Content, is_truth};
 pub use description::Desc;
 pub use enums::{EnumDesc, EnumEntry};
 pub use field::{Extent, Field, Repeat, Terminator};

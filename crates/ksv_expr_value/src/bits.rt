@@ -37,7 +37,8 @@ impl<'a> Parts<'a> {
     pub fn number_between(self, from: Place, to: Place) -> u128
         requires few { length (content self) ≤ 9 }
         requires met { byte_in from + length (content self) ≡ byte_of to }
-        ensures { result ≡ number_of (bits_from from to (content self.entry)) }
+        ensures value { result ≡ number_of (bits_from from to (content self.entry)) }
+        ensures small { result < 2 ^ 72 }
     {
         (number_of(self) >> to.bits_left()) % (1_u128 << from.bits_to(to))
     }

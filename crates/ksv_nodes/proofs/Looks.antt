@@ -8,7 +8,7 @@ use Rattle.std.proofs.lemmas.List.{take-take, take-append-drop, length-take, len
 use Rattle.ksv_bytes.specs.declared.uses.Use.{Use}
 use Rattle.ksv_bytes.specs.declared.uses.Use.TheVariants as uses
 use Rattle.ksv_bytes.specs.Uses.{AgreeOn}
-use Rattle.ksv_expr_value.specs.Places.{byte_of}
+use Rattle.ksv_expr_value.specs.Places.{byte_in}
 use Rattle.ksv_nodes.specs.declared.turn.readings.Found.{Found}
 use Rattle.ksv_nodes.specs.declared.turn.readings.Found.TheVariants as founds
 use Rattle.ksv_nodes.specs.Reading.{Reading, Reach, Finish, Done, Peek, Find, Look, gives, ends_before, reach_file, reach_within, finish_of, done_at, cut_uses, peek_at, first_at, end_in, found_none, found_from, find_at, look}
@@ -201,6 +201,6 @@ module _ (b b' : List ℕ) where
   pub look_same : (r : Reading) → Agree (look r b).uses → look r b' ≡ look r b
   look_same (Reach w t) h = reach_same w.to t h
   look_same (Finish w) h = finish_same w.to h
-  look_same (Done w p) h = done_same w.to (byte_of p) h
+  look_same (Done w p) h = done_same w.to (byte_in p) h
   look_same (Peek f t) h = peek_same f t h
   look_same (Find w s x) h = find_same w.to s x h

@@ -8,7 +8,7 @@ use Rattle.ksv_bytes.specs.declared.uses.Use.{Use}
 use Rattle.ksv_bytes.specs.declared.uses.Use.TheVariants as uses
 use Rattle.ksv_bytes.specs.Uses.{CanUse}
 use Rattle.ksv_expr_value.specs.declared.fault.Fault.{Fault}
-use Rattle.ksv_expr_value.specs.Places.{byte_of}
+use Rattle.ksv_expr_value.specs.Places.{byte_in}
 use Rattle.ksv_nodes.specs.declared.given.Given.{Given}
 use Rattle.ksv_nodes.specs.declared.node.Node.{Node}
 use Rattle.ksv_nodes.specs.Reading.{Reading, Reach, Finish, Done, Peek, Find, gives, ends_before, reach_file, reach_within, finish_of, done_at, cut_uses, peek_at, first_at, end_in, found_none, found_from, find_at, look}
@@ -88,7 +88,7 @@ module _ (b : List ℕ) where
   pub look_fits : (r : Reading) → Fit (look r b).uses
   look_fits (Reach w t) = reach_fits w.to t
   look_fits (Finish w) = finish_fits w.to
-  look_fits (Done w p) = done_fits w.to (byte_of p)
+  look_fits (Done w p) = done_fits w.to (byte_in p)
   look_fits (Peek f t) = peek_fits f t
   look_fits (Find w s x) = find_fits w.to s x
 

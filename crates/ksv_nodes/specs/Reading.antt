@@ -4,7 +4,7 @@
 use Rattle.std.specs.Prelude.{ℕ, suc, ◌+◌, List, [], ◌∷◌, ◌++◌, length, slice_range, Bool, true, false, ◌&&◌, nat_lt, nat_le, ◌==◌, Option, Some, None, option_map, if◌then◌else◌}
 use Rattle.ksv_bytes.specs.declared.uses.Use.{Use}
 use Rattle.ksv_bytes.specs.declared.uses.Use.TheVariants as uses
-use Rattle.ksv_expr_value.specs.Places.{Place, byte_of}
+use Rattle.ksv_expr_value.specs.Places.{Place, byte_in}
 use Rattle.ksv_expr_value.specs.declared.value.Stream.{Stream}
 use Rattle.ksv_nodes.specs.declared.turn.readings.Found.{Found}
 use Rattle.ksv_nodes.specs.declared.turn.readings.Found.TheVariants as founds
@@ -52,7 +52,7 @@ unfoldable pub finish_of : List ℕ → Option ℕ → Look ℕ
 finish_of bytes None = gives (length bytes) (uses.Size ∷ [])
 finish_of bytes (Some end) = gives end []
 
--- whether a place is at the end of a stream or after it
+-- whether a place in the byte t is at the end of a stream or after it: as streams end where a byte begins, just where that byte is
 unfoldable pub done_at : List ℕ → Option ℕ → ℕ → Look Bool
 done_at bytes None t = if nat_lt t (length bytes) then gives false (uses.Reach (t + 1) ∷ []) else gives true (uses.Size ∷ [])
 done_at bytes (Some end) t = gives (nat_le end t) []
@@ -93,6 +93,6 @@ find_at bytes to s b = found_from bytes to s (end_in bytes to) (first_at b (slic
 abbrev pub look : (r : Reading) → List ℕ → Look (Seen r)
 look (Reach w t) bytes = reach_within bytes w.to t
 look (Finish w) bytes = finish_of bytes w.to
-look (Done w p) bytes = done_at bytes w.to (byte_of p)
+look (Done w p) bytes = done_at bytes w.to (byte_in p)
 look (Peek f t) bytes = peek_at bytes f t
 look (Find w s b) bytes = find_at bytes w.to s b

@@ -2,7 +2,7 @@
 use Rattle.std.specs.Prelude.{ℕ, ◌+◌, ◌==◌, Bool, true, false, Option, Some, None, if◌then◌else◌}
 use Rattle.ksv_basics.specs.Plan.{Answer, Fail, ◌>>=◌}
 use Rattle.ksv_expr_value.specs.Trail.{Trail, element_limit, parent, last}
-use Rattle.ksv_expr_value.specs.Places.{Place, at_byte, is_same}
+use Rattle.ksv_expr_value.specs.Places.{Place, at_byte, aligned, is_same}
 use Rattle.ksv_expr_value.specs.Setting.{Setting, ElementAt}
 use Rattle.ksv_expr_value.specs.declared.fault.FaultKind.TheVariants as kinds
 use Rattle.ksv_expr_value.specs.declared.step.Step.{Step}
@@ -24,12 +24,12 @@ use Rattle.ksv_rule_meaning.specs.Heads.{part_end, in_list}
 
 -- ---- ends
 
--- an object that ends with its fields ends with the last attribute of `seq`; without one it ends where it begins
+-- an object that ends with its fields ends with the last attribute of `seq`, at the next byte; without one it ends where it begins
 unfoldable pub fields_end : Trail → Place → Option ℕ → Rule Place
 fields_end p start None = Answer start
 fields_end p start (Some z) = do
   e ← part_end p (steps.Name z)
-  Answer e.place
+  Answer (aligned e.place)
 
 -- where a stream ends
 unfoldable pub stream_end : Stream → Rule Place

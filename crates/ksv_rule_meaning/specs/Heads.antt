@@ -1,17 +1,17 @@
 -- What is at a path, and where: attributes of `seq` one after the other, instances where they say, the elements of
 -- repeated ones, and what each reads. The rules are those of the Kaitai Struct User Guide on `seq`, `instances`, sizes,
 -- terminators, `if`, `switch-on` and `repeat`; that all of it is looked for only when it is asked is this project's own.
-use Rattle.std.specs.Prelude.{ℕ, ◌+◌, ◌-◌, ◌==◌, nat_lt, nat_le, Bool, false, ◌||◌, length, Option, Some, None, if◌then◌else◌}
+use Rattle.std.specs.Prelude.{ℕ, ◌+◌, ◌-◌, ◌==◌, nat_lt, nat_le, Bool, true, false, ◌||◌, length, Option, Some, None, if◌then◌else◌}
 use Rattle.ksv_basics.specs.Plan.{Answer, Fail, ◌>>=◌, ◌>>◌}
 use Rattle.ksv_expr_tree.specs.Tree.{Tree}
 use Rattle.ksv_expr_value.specs.Trail.{Trail, element_limit, parent, last}
-use Rattle.ksv_expr_value.specs.Places.{Place, at_byte, byte_of}
+use Rattle.ksv_expr_value.specs.Places.{Place, at_byte, byte_of, aligned, further}
 use Rattle.ksv_expr_value.specs.Setting.{Setting, NoElement}
 use Rattle.ksv_expr_value.specs.declared.fault.FaultKind.TheVariants as kinds
 use Rattle.ksv_expr_value.specs.declared.step.Step.{Step}
 use Rattle.ksv_expr_value.specs.declared.step.Step.TheVariants as steps
 use Rattle.ksv_expr_value.specs.declared.value.Stream.{Stream}
-use Rattle.ksv_desc.specs.Description.{Description, Field, Content, Extent, Sized, SizeEos, ByItself, Repeat, Once, Eos, Expr, Until, Terminator, MemberKind, Parameter, Attribute, ParseInstance, ValueInstance}
+use Rattle.ksv_desc.specs.Description.{Description, Field, Content, Choice, Always, Extent, Sized, SizeEos, ByItself, Repeat, Once, Eos, Expr, Until, Terminator, MemberKind, Parameter, Attribute, ParseInstance, ValueInstance}
 use Rattle.ksv_desc.specs.Description as contents
 use Rattle.ksv_nodes.specs.declared.given.Origin.{Origin}
 use Rattle.ksv_nodes.specs.declared.given.ObjectEnd.TheVariants as endings
@@ -34,6 +34,12 @@ unfoldable pub leaf : Origin → Stream → Place → ℕ → Rule Head
 leaf origin w s n = do
   reach w (byte_of s + n)
   Answer (heads.Leaf (record { origin = origin; from = s; to = at_byte (byte_of s + n); end = at_byte (byte_of s + n) }))
+
+-- n bits from a place on; the file goes on at least to the byte after those that they meet
+unfoldable pub bits_leaf : Origin → Stream → Place → ℕ → Rule Head
+bits_leaf origin w s n = do
+  reach w (byte_of (further s n))
+  Answer (heads.Leaf (record { origin = origin; from = s; to = further s n; end = further s n }))
 
 -- all bytes to the stream's end
 unfoldable pub leaf_to_end : Origin → Stream → Place → Rule Head
@@ -85,6 +91,7 @@ unfoldable pub content_at : Setting → Origin → Stream → Place → Field �
 content_at at origin w s f contents.Bytes = bytes_at at origin w s f.extent f.terminator
 content_at at origin w s f (contents.Fixed bs) = leaf origin w s (length bs)
 content_at at origin w s f (contents.Number signed size order enum) = leaf origin w s size
+content_at at origin w s f (contents.Bits width enum) = bits_leaf origin w s width
 content_at at origin w s f (contents.Characters encoding) = bytes_at at origin w s f.extent f.terminator
 content_at at origin w s f (contents.Object t given) = object_at at origin t w s f.extent
 
@@ -138,21 +145,39 @@ attribute_at at origin w s f = do
   there ← holds at f.condition
   if there then repeated at origin w s f f.repeat else Answer (heads.Absent (Some s))
 
--- an attribute begins where its object does, or where the attribute before it ends
+-- An attribute begins where its object does, or after the attribute before it: bits where that one ends, all else at the next byte.
 unfoldable pub part_end : Trail → Step → Rule Ended
 part_end q step = do
   p ← part q step
   ask_end p
 
-unfoldable pub attribute_start : Trail → Object → Option ℕ → Rule Place
-attribute_start q o None = Answer o.start
-attribute_start q o (Some y) = do
+abbrev pub is_of_bits : Choice → Bool
+is_of_bits (Always (contents.Bits width enum)) = true
+is_of_bits _ = false
+
+abbrev pub start_after : Place → Choice → Place
+start_after e c = if is_of_bits c then e else aligned e
+
+unfoldable pub attribute_start : Trail → Object → Option ℕ → Choice → Rule Place
+attribute_start q o None c = Answer o.start
+attribute_start q o (Some y) c = do
   e ← part_end q (steps.Name y)
-  Answer e.place
+  Answer (start_after e.place c)
 
 -- where expressions of a member are evaluated: in the object q, at the place s, with faults at p
 abbrev pub setting : Trail → Stream → Place → Trail → Setting
 setting q w s p = record { home = q; stream = w; place = s; index = None; element = NoElement; here = p }
+
+-- the same within the element of this number
+abbrev pub within : Setting → ℕ → Setting
+within at i = record at { index = Some i }
+
+-- where expressions of an attribute of the object q, and of the element i of one, are evaluated: at the place s, with faults at r
+abbrev pub attribute_setting : Trail → Trail → Origin → Place → Setting
+attribute_setting r q g s = setting q g.home s r
+
+abbrev pub element_setting : Trail → Trail → Origin → Place → ℕ → Setting
+element_setting r q g s i = within (setting q g.home s r) i
 
 -- how a member of an object is read; its case isn't chosen yet
 abbrev pub origin_of : Object → Sought → Origin
@@ -160,8 +185,8 @@ origin_of o x = record { member = record { type_number = o.type_number; member =
 
 unfoldable pub attribute_head : Trail → Trail → Object → Sought → Field → Rule Head
 attribute_head p q o x f = do
-  s ← attribute_start q o x.before
-  attribute_at (setting q o.stream s p) (origin_of o x) o.stream s f
+  s ← attribute_start q o x.before f.choice
+  attribute_at (attribute_setting p q (origin_of o x) s) (origin_of o x) o.stream s f
 
 -- ---- instances
 
@@ -242,15 +267,11 @@ element_start l g i = if g.is_empty || is_past g.count i then raise kinds.BadInd
     else if i == 0 then Answer g.start
     else next_start l (i - 1)
 
--- the same within the element of this number
-abbrev pub within : Setting → ℕ → Setting
-within at i = record at { index = Some i }
-
--- Where the expressions of the member by which p is read are evaluated: at the place s, in the object that holds it, with the number
--- of p where p is an element. Their faults are at the path r.
+-- Where the expressions of the member by which p is read are evaluated: in the object that holds it, with the number of p where p is
+-- an element.
 abbrev pub member_setting : Trail → Trail → Option Step → Origin → Place → Setting
-member_setting r p (Some (steps.Index i)) g s = within (setting (parent (parent p)) g.home s r) i
-member_setting r p _ g s = setting (parent p) g.home s r
+member_setting r p (Some (steps.Index i)) g s = element_setting r (parent (parent p)) g s i
+member_setting r p _ g s = attribute_setting r (parent p) g s
 
 -- the element i of l, which is p; l is an attribute of the object q
 unfoldable pub element_head : Description → Trail → Trail → Trail → ℕ → Rule Head
@@ -259,7 +280,7 @@ element_head d p l q i = do
   g ← in_list l h
   s ← element_start l g i
   f ← field_of d g.origin.member
-  shape_at (within (setting q g.origin.home s p) i) g.origin g.stream s f
+  shape_at (element_setting p q g.origin s i) g.origin g.stream s f
 
 -- ---- heads
 

@@ -1,11 +1,12 @@
--- The value of what is at a path: integers, bytes and texts, value instances and parameters as the Kaitai Struct User Guide
+-- The value of what is at a path: integers, bits, bytes and texts, value instances and parameters as the Kaitai Struct User Guide
 -- has them, objects and lists by their path.
-use Rattle.std.specs.Prelude.{ℕ, zero, suc, ◌+◌, nat_le, Bool, ℤ, List, length, take, Option, Some, None, if◌then◌else◌}
+use Rattle.std.specs.Prelude.{ℕ, zero, suc, ◌+◌, nat_le, ◌==◌, Bool, not, ℤ, pos, List, length, take, Option, Some, None, if◌then◌else◌}
 use Rattle.std.specs.Str.{bytes_eq}
 use Rattle.ksv_basics.specs.Plan.{Answer, ◌>>=◌}
 use Rattle.ksv_desc.specs.declared.order.ByteOrder.{ByteOrder}
 use Rattle.ksv_expr_tree.specs.Tree.{Tree, Arguments, no_arguments, argument}
-use Rattle.ksv_expr_value.specs.Places.{Place, byte_of}
+use Rattle.ksv_expr_value.specs.Places.{Place, byte_of, byte_in}
+use Rattle.ksv_expr_value.specs.Bits.{number_of, bits_from}
 use Rattle.ksv_expr_value.specs.Setting.{Setting}
 use Rattle.ksv_expr_value.specs.Trail.{Trail, parent, last}
 use Rattle.ksv_expr_value.specs.Range.{ranged}
@@ -14,7 +15,7 @@ use Rattle.ksv_expr_value.specs.declared.encoding.Encoding.{Encoding}
 use Rattle.ksv_expr_value.specs.declared.fault.FaultKind.TheVariants as kinds
 use Rattle.ksv_expr_value.specs.declared.value.Value.{Value}
 use Rattle.ksv_expr_value.specs.declared.value.Value.TheVariants as values
-use Rattle.ksv_desc.specs.Description.{Description, MemberKind, Parameter, ValueInstance, Field, Content, Extent, Sized, SizeEos, ByItself, Terminator}
+use Rattle.ksv_desc.specs.Description.{Description, is_truth, MemberKind, Parameter, ValueInstance, Field, Content, Extent, Sized, SizeEos, ByItself, Terminator}
 use Rattle.ksv_desc.specs.Description as contents
 use Rattle.ksv_nodes.specs.declared.given.Calc.{Calc}
 use Rattle.ksv_nodes.specs.declared.given.Leaf.{Leaf}
@@ -50,6 +51,19 @@ unfoldable pub number_value : Leaf → Bool → ByteOrder → Option ℕ → Rul
 number_value l signed order enum = do
   bs ← peek (byte_of l.from) (byte_of l.to)
   number_in signed order enum bs
+
+-- the number that bits write
+abbrev pub of_bits : ℕ → Option ℕ → ℕ → Rule Value
+of_bits width enum n = if is_truth width enum then Answer (values.Bool (not (n == 0))) else in_number enum (ranged (pos n))
+
+-- it has at most 64 bits, which meet at most nine bytes
+abbrev pub bits_in : ℕ → Option ℕ → Leaf → List ℕ → Rule Value
+bits_in width enum l bytes = if nat_le (length bytes) 9 then of_bits width enum (number_of (bits_from l.from l.to bytes)) else raise kinds.BadType
+
+unfoldable pub bits_value : Leaf → ℕ → Option ℕ → Rule Value
+bits_value l width enum = do
+  bs ← peek (byte_in l.from) (byte_of l.to)
+  bits_in width enum l bs
 
 -- certain bytes and no others
 unfoldable pub fixed_value : Leaf → List ℕ → Rule Value
@@ -100,6 +114,7 @@ unfoldable pub content_value : Leaf → Field → Content → Rule Value
 content_value l f contents.Bytes = bytes_value l (cut_by f.extent f.terminator)
 content_value l f (contents.Fixed bs) = fixed_value l bs
 content_value l f (contents.Number signed size order enum) = number_value l signed order enum
+content_value l f (contents.Bits width enum) = bits_value l width enum
 content_value l f (contents.Characters encoding) = text_value l encoding (cut_by f.extent f.terminator)
 content_value l f (contents.Object t given) = raise kinds.NoSuch
 

@@ -17,7 +17,7 @@ use ksv_desc::{Desc, Repeat};
 use ksv_expr_eval::{Ctx, Expr, FaultKind, Path, Place, Step, Stream};
 use ksv_nodes::{Ended, Halt, Head, List, Object, ObjectEnd, Rested, Turn};
 
-/// The end of an object that ends with its last attribute; without one it ends where it begins.
+/// The end of an object that ends with its last attribute: the next byte; without one it ends where it begins.
 #[tactic(auto, using(ksv_basics::proofs::Running::run_bind), unfolding(ksv_rule_meaning::specs::Ends::fields_end))]
 fn fields_end(turn: &mut Turn, path: &Path, start: Place, last: Option<u32>) -> Result<Place, Halt>
     ensures { Runs (fields_end path.now start last) (λ place. place) turn.old turn.new result }
@@ -26,7 +26,7 @@ fn fields_end(turn: &mut Turn, path: &Path, start: Place, last: Option<u32>) -> 
         None => Ok(start),
         Some(name) => {
             let end = part_end(turn, path, Step::Name(name))?;
-            Ok(end.place)
+            Ok(end.place.aligned())
         }
     }
 }
@@ -181,7 +181,7 @@ fn not_empty(turn: &mut Turn, repeat: &Repeat, start: Place, end: Place) -> Resu
     ensures { Runs (not_empty (plain_repeat repeat.now) start end) (λ unit. unit) turn.old turn.new result }
 {
     if is_by_bytes(repeat) {
-        if end == start {
+        if end.is_same(start) {
             return turn.raise(FaultKind::NoBytes);
         }
     }

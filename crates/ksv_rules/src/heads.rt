@@ -4,17 +4,17 @@
 ghost use Rattle.std.specs.Prelude.{◌≡◌, option_map};
 ghost use Rattle.ksv_expr_tree.specs.Tree.{view};
 ghost use Rattle.ksv_expr_value.specs.Trail.{parent};
-ghost use Rattle.ksv_desc.specs.Pieces.{plain_repeat, plain_field, plain_kind};
+ghost use Rattle.ksv_desc.specs.Pieces.{plain_choice, plain_repeat, plain_field, plain_kind};
 ghost use Rattle.ksv_desc.specs.Whole.{plain_pieces};
 ghost use Rattle.ksv_nodes.specs.Turning.{Runs};
 ghost use Rattle.ksv_rules.specs.Members.{plain_sought};
-ghost use Rattle.ksv_rule_meaning.specs.Heads.{in_count, count_of, counted, until_eos, repeated, attribute_at, attribute_start, setting, origin_of, attribute_head, instance_setting, positioned_in, positioned, instance_head, calc, value_head, member_at, member_head, is_past, in_next, next_start, element_start, within, shape_at, element_head, root_head, head_of};
+ghost use Rattle.ksv_rule_meaning.specs.Heads.{in_count, count_of, counted, until_eos, repeated, attribute_at, is_of_bits, start_after, attribute_start, attribute_setting, element_setting, origin_of, attribute_head, instance_setting, positioned_in, positioned, instance_head, calc, value_head, member_at, member_head, is_past, in_next, next_start, element_start, shape_at, element_head, root_head, head_of};
 
 use crate::fields::{Sought, field_of, member_named};
 use crate::parts::{end_beside, in_list_above};
 use crate::shapes::shape_at;
 use crate::wanted::{holds, in_object_above, size_of, stream_for};
-use ksv_desc::{Desc, Field, MemberKind, Repeat};
+use ksv_desc::{Choice, Content, Desc, Field, MemberKind, Repeat};
 use ksv_expr_eval::{Ctx, Expr, FaultKind, Path, Place, Step, Stream};
 use ksv_nodes::{Calc, Ended, Halt, Head, List, MemberRef, Object, ObjectEnd, Origin, Turn};
 
@@ -119,21 +119,45 @@ fn attribute_at(
     }
 }
 
-/// The attribute at a path begins where its object does, or where the attribute before it ends.
+/// Whether bits are read.
+#[inline(always)]
+fn is_of_bits(choice: &Choice) -> bool
+    ensures { result ≡ is_of_bits (plain_choice choice.now) }
+{
+    match choice {
+        Choice::Always(Content::Bits { .. }) => true,
+        _ => false,
+    }
+}
+
+/// Where an attribute begins after one that ends at a place: bits there, all else at the next byte.
+#[inline(always)]
+fn start_after(end: Place, choice: &Choice) -> Place
+    ensures { result ≡ start_after end (plain_choice choice.now) }
+{
+    if is_of_bits(choice) {
+        end
+    } else {
+        end.aligned()
+    }
+}
+
+/// The attribute at a path begins where its object does, or after the attribute before it.
 #[tactic(auto, using(ksv_basics::proofs::Running::run_bind), unfolding(ksv_rule_meaning::specs::Heads::attribute_start))]
 fn attribute_start(
     turn: &mut Turn,
     path: &Path,
     object: &Object,
     before: Option<u32>,
+    choice: &Choice,
 ) -> Result<Place, Halt>
-    ensures { Runs (attribute_start (parent path.now) object.now before) (λ place. place) turn.old turn.new result }
+    ensures { Runs (attribute_start (parent path.now) object.now before (plain_choice choice.now)) (λ place. place) turn.old turn.new result }
 {
     match before {
         None => Ok(object.start),
         Some(name) => {
             let ended = end_beside(turn, path, Step::Name(name))?;
-            Ok(ended.place)
+            Ok(start_after(ended.place, choice))
         }
     }
 }
@@ -161,7 +185,7 @@ fn attribute_behind(
     start: Place,
     field: &Field,
 ) -> Result<Head, Halt>
-    ensures { Runs (attribute_at (setting (parent path.now) object.now.stream start path.now) (origin_of object.now (plain_sought sought.entry)) object.now.stream start (plain_field field.now)) (λ head. head) turn.old turn.new result }
+    ensures { Runs (attribute_at (attribute_setting path.now (parent path.now) (origin_of object.now (plain_sought sought.entry)) start) (origin_of object.now (plain_sought sought.entry)) object.now.stream start (plain_field field.now)) (λ head. head) turn.old turn.new result }
 {
     let home = path.parent(turn.alloc())?;
     let ctx = Ctx::new(&home, object.stream, start, path);
@@ -180,7 +204,7 @@ fn attribute_head(
 ) -> Result<Head, Halt>
     ensures { Runs (attribute_head path.now (parent path.now) object.now (plain_sought sought.entry) (plain_field field.now)) (λ head. head) turn.old turn.new result }
 {
-    let start = attribute_start(turn, path, object, sought.before)?;
+    let start = attribute_start(turn, path, object, sought.before, &field.choice)?;
     attribute_behind(turn, path, object, sought, start, field)
 }
 
@@ -402,7 +426,7 @@ fn element_at(
     index: u32,
     field: &Field,
 ) -> Result<Head, Halt>
-    ensures { Runs (shape_at (within (setting (parent (parent path.now)) list.now.origin.home start path.now) index) list.now.origin list.now.stream start (plain_field field.now)) (λ head. head) turn.old turn.new result }
+    ensures { Runs (shape_at (element_setting path.now (parent (parent path.now)) list.now.origin start index) list.now.origin list.now.stream start (plain_field field.now)) (λ head. head) turn.old turn.new result }
 {
     let list_path = path.parent(turn.alloc())?;
     let home = list_path.parent(turn.alloc())?;

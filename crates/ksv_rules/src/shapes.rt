@@ -1,13 +1,15 @@
 //! What an attribute, or one of its elements, reads at a place.
 #![tactic(auto)]
 
-ghost use Rattle.std.specs.Prelude.{◌≡◌, option_map};
+ghost use Rattle.std.specs.Prelude.{◌≡◌, IfOk, option_map};
 ghost use Rattle.ksv_bytes.specs.Edits.{file_limit};
 ghost use Rattle.ksv_expr_tree.specs.Tree.{view};
+ghost use Rattle.ksv_expr_value.specs.Places.{byte_of, further};
 ghost use Rattle.ksv_desc.specs.Pieces.{plain_content, plain_extent, plain_terminator, plain_field};
+ghost use Rattle.ksv_nodes.specs.Rule.{reach};
 ghost use Rattle.ksv_nodes.specs.Turning.{Runs, StandsBelow};
 ghost use Rattle.ksv_nodes.specs.declared.turn.readings.Found.TheVariants.{Missing};
-ghost use Rattle.ksv_rule_meaning.specs.Heads.{leaf, leaf_to_end, terminated_at, terminated, run_of, sized_leaf, bytes_at, sized_object, object_at, content_at, unchosen_at, chosen_at, shape_at};
+ghost use Rattle.ksv_rule_meaning.specs.Heads.{leaf, bits_leaf, leaf_to_end, terminated_at, terminated, run_of, sized_leaf, bytes_at, sized_object, object_at, content_at, unchosen_at, chosen_at, shape_at};
 ghost use Rattle.ksv_rules.specs.Members.{plain_chosen};
 
 use crate::choosing::{Chosen, choose};
@@ -30,6 +32,36 @@ fn leaf(
 {
     let to = turn.reach(stream, start.byte(), size)?;
     let to = Place::at_byte(to);
+    Ok(Head::Leaf(Leaf {
+        origin,
+        from: start,
+        to,
+        end: to,
+    }))
+}
+
+/// The place that many bits after another. The stream and the file must go on to the byte after those that they meet.
+fn reach_bits(turn: &mut Turn, stream: Stream, start: Place, width: u8) -> Result<Place, Halt>
+    ensures runs { Runs (reach stream (byte_of (further start width))) (λ _. tt) turn.old turn.new result }
+    ensures place { IfOk result (λ to. to ≡ further start width) }
+{
+    let size = (u64::from(start.bit_in()) + u64::from(width) + 7) / 8;
+    turn.reach(stream, start.byte_in(), size)?;
+    Ok(start.further(width))
+}
+
+/// That many bits from a place on.
+#[tactic(auto, using(ksv_basics::proofs::Running::run_bind), unfolding(ksv_rule_meaning::specs::Heads::bits_leaf))]
+fn bits_leaf(
+    turn: &mut Turn,
+    origin: Origin,
+    stream: Stream,
+    start: Place,
+    width: u8,
+) -> Result<Head, Halt>
+    ensures { Runs (bits_leaf origin stream start width) (λ head. head) turn.old turn.new result }
+{
+    let to = reach_bits(turn, stream, start, width)?;
     Ok(Head::Leaf(Leaf {
         origin,
         from: start,
@@ -246,6 +278,7 @@ fn content_at(
         Content::Bytes => bytes_at(turn, ctx, origin, stream, field),
         Content::Fixed(bytes) => leaf(turn, origin, stream, ctx.place, bytes.len() as u64),
         Content::Number { size, .. } => { leaf(turn, origin, stream, ctx.place, u64::from(*size)) }
+        Content::Bits { width, .. } => bits_leaf(turn, origin, stream, ctx.place, *width),
         Content::Characters(_) => bytes_at(turn, ctx, origin, stream, field),
         Content::Object { type_number, .. } => object_at(
             turn,

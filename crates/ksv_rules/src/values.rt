@@ -2,15 +2,15 @@
 #![tactic(auto)]
 
 ghost use Rattle.std.specs.Option.{option_map_or};
-ghost use Rattle.std.specs.Prelude.{◌≡◌, ◌≤◌, ◌<◌, ◌+◌, IfOk, length, option_map};
+ghost use Rattle.std.specs.Prelude.{◌≡◌, ◌≤◌, ◌<◌, ◌+◌, ◌^◌, IfOk, length, option_map};
 ghost use Rattle.ksv_expr_value.specs.Bytes.{content};
-ghost use Rattle.ksv_expr_value.specs.Places.{byte_of};
+ghost use Rattle.ksv_expr_value.specs.Places.{byte_of, byte_in};
 ghost use Rattle.ksv_desc.specs.Description.{Bytes};
 ghost use Rattle.ksv_desc.specs.Pieces.{plain_content, plain_extent, plain_field, plain_terminator};
 ghost use Rattle.ksv_desc.specs.Whole.{plain_pieces};
 ghost use Rattle.ksv_nodes.specs.Rule.{peek};
 ghost use Rattle.ksv_nodes.specs.Turning.{Runs};
-ghost use Rattle.ksv_rule_meaning.specs.Values.{as_member, in_number, number_in, number_value, fixed_value, cut_by, kept, cut_bytes, bytes_value, in_text, cut_text, text_value, content_value, leaf_value, value_at, value_of};
+ghost use Rattle.ksv_rule_meaning.specs.Values.{as_member, in_number, number_in, number_value, of_bits, bits_in, bits_value, fixed_value, cut_by, kept, cut_bytes, bytes_value, in_text, cut_text, text_value, content_value, leaf_value, value_at, value_of};
 
 use crate::calculated::calculated;
 use crate::checks::value_checked;
@@ -18,18 +18,36 @@ use crate::choosing::content_of;
 use crate::fields::field_of;
 use crate::integer::integer_value;
 use crate::lent::{are, cut, len_of};
-use ksv_desc::{ByteOrder, Content, Desc, Extent, Field, Terminator};
+use ksv_desc::{ByteOrder, Content, Desc, Extent, Field, Terminator, is_truth};
 use ksv_expr_eval::{Encoding, FaultKind, Integer, Parts, Path, Text, Value};
 use ksv_nodes::{Halt, Head, Leaf, Turn, first_in_parts};
 
+/// The bytes from one of a number on and before another.
+fn peeked<'a>(turn: &mut Turn<'a>, from: u32, to: u32) -> Result<Parts<'a>, Halt>
+    ensures runs { Runs (peek from to) content turn.old turn.new result }
+    ensures fits { IfOk result (λ parts. from + length (content parts) ≡ to) }
+    ensures small { IfOk result (λ parts. length (content parts) < 4294967296) }
+{
+    let parts = turn.peek(from, to)?;
+    Ok(parts)
+}
+
 /// The bytes of a leaf.
-#[tactic(auto, using(crate::proofs::Peeked::peeked_length))]
 fn bytes_of<'a>(turn: &mut Turn<'a>, leaf: &Leaf) -> Result<Parts<'a>, Halt>
     ensures runs { Runs (peek (byte_of leaf.now.from) (byte_of leaf.now.to)) content turn.old turn.new result }
     ensures fits { IfOk result (λ parts. byte_of leaf.now.from + length (content parts) ≡ byte_of leaf.now.to) }
+    ensures small { IfOk result (λ parts. length (content parts) < 4294967296) }
 {
-    let parts = turn.peek(leaf.from.byte(), leaf.to.byte())?;
-    Ok(parts)
+    peeked(turn, leaf.from.byte(), leaf.to.byte())
+}
+
+/// The bytes that the bits of a leaf meet.
+fn met_bytes<'a>(turn: &mut Turn<'a>, leaf: &Leaf) -> Result<Parts<'a>, Halt>
+    ensures runs { Runs (peek (byte_in leaf.now.from) (byte_of leaf.now.to)) content turn.old turn.new result }
+    ensures fits { IfOk result (λ parts. byte_in leaf.now.from + length (content parts) ≡ byte_of leaf.now.to) }
+    ensures small { IfOk result (λ parts. length (content parts) < 4294967296) }
+{
+    peeked(turn, leaf.from.byte_in(), leaf.to.byte())
 }
 
 /// An integer, as a member of an enum where it is one.
@@ -90,6 +108,55 @@ fn number_value(
 {
     let bytes = bytes_of(turn, &leaf)?;
     number_in(turn, is_signed, order, enumeration, bytes)
+}
+
+/// The value of a number that bits write.
+fn of_bits(
+    turn: &mut Turn,
+    width: u8,
+    enumeration: Option<u32>,
+    number: u128,
+) -> Result<Value, Halt>
+    requires { number < 2 ^ 72 }
+    ensures { Runs (of_bits width enumeration number) (λ value. value) turn.old turn.new result }
+{
+    if is_truth(width, enumeration) {
+        return Ok(Value::Bool(number != 0));
+    }
+    in_number(turn, enumeration, Integer::new(number as i128))
+}
+
+/// The value of a leaf's bits, of the bytes that they meet; these are at most nine.
+fn bits_in(
+    turn: &mut Turn,
+    leaf: &Leaf,
+    width: u8,
+    enumeration: Option<u32>,
+    parts: Parts,
+) -> Result<Value, Halt>
+    requires met { byte_in leaf.now.from + length (content parts) ≡ byte_of leaf.now.to }
+    requires small { length (content parts) < 4294967296 }
+    ensures { Runs (bits_in width enumeration leaf.now (content parts.entry)) (λ value. value) turn.old turn.new result }
+{
+    if len_of(parts) > 9 {
+        return turn.raise(FaultKind::BadType);
+    }
+    let number = parts.number_between(leaf.from, leaf.to);
+    of_bits(turn, width, enumeration, number)
+}
+
+/// The value of a leaf's bits.
+#[tactic(auto, using(ksv_basics::proofs::Running::run_bind), unfolding(ksv_rule_meaning::specs::Values::bits_value))]
+fn bits_value(
+    turn: &mut Turn,
+    leaf: &Leaf,
+    width: u8,
+    enumeration: Option<u32>,
+) -> Result<Value, Halt>
+    ensures { Runs (bits_value leaf.now width enumeration) (λ value. value) turn.old turn.new result }
+{
+    let bytes = met_bytes(turn, leaf)?;
+    bits_in(turn, leaf, width, enumeration, bytes)
 }
 
 /// Certain bytes and no others.
@@ -219,6 +286,7 @@ fn content_value(
             enumeration,
             ..
         } => number_value(turn, leaf, *is_signed, *order, *enumeration),
+        Content::Bits { width, enumeration } => bits_value(turn, &leaf, *width, *enumeration),
         Content::Characters(encoding) => {
             let terminator = cut_by(&field.extent, field.terminator);
             text_value(turn, leaf, *encoding, terminator)

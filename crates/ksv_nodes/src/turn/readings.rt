@@ -65,12 +65,12 @@ impl<'a> Turn<'a> {
     pub fn done(&mut self, stream: Stream, place: Place) -> Result<bool, Halt>
         ensures { Runs (done stream place) (λ is_done. is_done) self.old self.new result }
     {
-        let place = place.byte();
+        let byte = place.byte_in();
         if let Some(end) = stream.to {
-            return Ok(end <= place);
+            return Ok(end <= byte);
         }
-        if (place as usize) < self.bytes.len() {
-            self.uses.push(Use::Reach(place + 1))?;
+        if (byte as usize) < self.bytes.len() {
+            self.uses.push(Use::Reach(byte + 1))?;
             Ok(false)
         } else {
             self.uses.push(Use::Size)?;

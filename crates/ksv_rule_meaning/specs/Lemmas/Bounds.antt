@@ -13,7 +13,8 @@ use Rattle.ksv_memo_rules.specs.Meaning.{IsDone}
 use Rattle.ksv_expr_meaning.proofs.Wants.{value_asks}
 use Rattle.ksv_expr_meaning.specs.Evaluation.{most_wants}
 use Rattle.ksv_expr_value.specs.Trail.{Trail, element_limit, parent, last}
-use Rattle.ksv_expr_value.specs.Places.{Place, at_byte, byte_of, is_same}
+use Rattle.ksv_expr_value.specs.Places.{Place, at_byte, byte_of, byte_in, further, is_same}
+use Rattle.ksv_expr_value.specs.Bits.{number_of, bits_from}
 use Rattle.ksv_expr_value.specs.Setting.{Setting}
 use Rattle.ksv_expr_meaning.specs.Meaning.{value_of as value_in}
 use Rattle.ksv_expr_value.specs.Range.{ranged}
@@ -27,7 +28,7 @@ use Rattle.ksv_expr_value.specs.declared.value.Value.{Value}
 use Rattle.ksv_expr_value.specs.declared.value.Value.TheVariants as values
 use Rattle.ksv_expr_meaning.specs.declared.want.Want.{Want}
 use Rattle.ksv_expr_meaning.specs.declared.want.Want.TheVariants as wants
-use Rattle.ksv_desc.specs.Description.{Description, TypeOfObjects, MemberOfType, MemberKind, Parameter, Attribute, ParseInstance, ValueInstance, Field, Content, Case, Choice, Always, Switch, Extent, Sized, SizeEos, ByItself, Repeat, Once, Eos, Expr, Until, Terminator, Valid, AnyOf, AllOf, valid_of}
+use Rattle.ksv_desc.specs.Description.{Description, is_truth, TypeOfObjects, MemberOfType, MemberKind, Parameter, Attribute, ParseInstance, ValueInstance, Field, Content, Case, Choice, Always, Switch, Extent, Sized, SizeEos, ByItself, Repeat, Once, Eos, Expr, Until, Terminator, Valid, AnyOf, AllOf, valid_of}
 use Rattle.ksv_desc.specs.Description as contents
 use Rattle.ksv_nodes.proofs.Bounds.{nodes_more, nodes_join, nodes_if, nodes_translate, enough, head_nodes, value_nodes, end_nodes, rest_nodes, part_nodes}
 use Rattle.ksv_nodes.specs.Bounds.{NodesAtMost}
@@ -56,10 +57,10 @@ use Rattle.ksv_rule_meaning.specs.Checks.{meets_one, meets_each, meets, with_val
 use Rattle.ksv_rule_meaning.specs.Choosing.{Chosen, switched, choose, in_case, content_of}
 use Rattle.ksv_rule_meaning.specs.Wanted.{whole, in_object, wanted, expression, in_integer, in_truth, integer_of, truth_of, holds, in_size, size_of, in_stream, stream_for}
 use Rattle.ksv_rule_meaning.specs.Integers.{integer_value}
-use Rattle.ksv_rule_meaning.specs.Values.{in_number, number_in, number_value, fixed_value, cut_by, cut_bytes, bytes_value, in_text, cut_text, text_value, content_value, leaf_value, in_no_stream, in_enum, instance_value, given_by, arguments_for, argument_at, argument_setting, plain_value, argument_value, parameter_value, calc_value, calculated, value_at, value_of}
+use Rattle.ksv_rule_meaning.specs.Values.{in_number, number_in, number_value, of_bits, bits_value, fixed_value, cut_by, cut_bytes, bytes_value, in_text, cut_text, text_value, content_value, leaf_value, in_no_stream, in_enum, instance_value, given_by, arguments_for, argument_at, argument_setting, plain_value, argument_value, parameter_value, calc_value, calculated, value_at, value_of}
 use Rattle.ksv_rule_meaning.specs.Ends.{stream_end, fields_end, object_end, part_rest, list_end, absent_end, place_of, start_of, behind_element, is_last, is_by_bytes, not_empty, element_end, end_at, end_of, next_rest, rest_behind, rest_from, in_whole_list, first_rest, whole_rest, rest_at, rest_of}
 use Rattle.ksv_rule_meaning.specs.Meaning.{meaning_of, rule_of}
-use Rattle.ksv_rule_meaning.specs.Heads.{leaf, leaf_to_end, terminated_at, terminated, run_of, sized_leaf, bytes_at, sized_object, object_at, content_at, unchosen_at, chosen_at, shape_at, in_count, count_of, counted, until_eos, repeated, attribute_at, part_end, attribute_start, attribute_head, positioned_in, positioned, instance_head, value_head, member_at, member_head, in_list, is_past, in_next, next_start, element_start, element_head, head_at, head_of}
+use Rattle.ksv_rule_meaning.specs.Heads.{leaf, bits_leaf, leaf_to_end, terminated_at, terminated, run_of, sized_leaf, bytes_at, sized_object, object_at, content_at, unchosen_at, chosen_at, shape_at, in_count, count_of, counted, until_eos, repeated, attribute_at, part_end, attribute_start, attribute_head, positioned_in, positioned, instance_head, value_head, member_at, member_head, in_list, is_past, in_next, next_start, element_start, element_head, head_at, head_of}
 
 -- ---- what is found in a description wants no more than all of it
 
@@ -169,6 +170,7 @@ given_gives n (contents.Object t given) h = h
 given_gives n contents.Bytes h = tt
 given_gives n (contents.Fixed bs) h = tt
 given_gives n (contents.Number signed size order enum) h = tt
+given_gives n (contents.Bits width enum) h = tt
 given_gives n (contents.Characters encoding) h = tt
 
 arguments_gives : (d : Description) (g : Origin) → Gives (λ es. arguments_wants es ≤ all_wants d) (arguments_for d g)
@@ -256,6 +258,10 @@ leaf_nodes : (n : ℕ) (origin : Origin) (w : Stream) (s : Place) (size : ℕ) �
 unfolding leaf
 leaf_nodes n origin w s size = nodes_join (reach w (byte_of s + size)) _ n 0 0 (omega arith) (λ x. tt) (λ x. tt)
 
+bits_leaf_nodes : (n : ℕ) (origin : Origin) (w : Stream) (s : Place) (width : ℕ) → NodesAtMost n (bits_leaf origin w s width)
+unfolding bits_leaf
+bits_leaf_nodes n origin w s width = nodes_join (reach w (byte_of (further s width))) _ n 0 0 (omega arith) (λ x. tt) (λ x. tt)
+
 leaf_to_end_nodes : (origin : Origin) (w : Stream) (s : Place) → NodesAtMost 0 (leaf_to_end origin w s)
 unfolding leaf_to_end
 leaf_to_end_nodes origin w s = nodes_join (finish w) _ 0 0 0 (omega arith) (λ e. tt) (λ e. tt)
@@ -294,6 +300,7 @@ unfolding content_at
 content_nodes at origin w s f contents.Bytes = bytes_nodes at origin w s f.extent f.terminator
 content_nodes at origin w s f (contents.Fixed bs) = leaf_nodes (extent_wants f.extent) origin w s (length bs)
 content_nodes at origin w s f (contents.Number signed size order enum) = leaf_nodes (extent_wants f.extent) origin w s size
+content_nodes at origin w s f (contents.Bits width enum) = bits_leaf_nodes (extent_wants f.extent) origin w s width
 content_nodes at origin w s f (contents.Characters encoding) = bytes_nodes at origin w s f.extent f.terminator
 content_nodes at origin w s f (contents.Object t given) = object_nodes at origin t w s f.extent
 
@@ -351,14 +358,14 @@ part_end_nodes : (q : Trail) (step : Step) → NodesAtMost 1 (part_end q step)
 unfolding part_end
 part_end_nodes q step = nodes_join _ _ 1 0 1 (omega arith) (part_nodes q step) (λ p. end_nodes p)
 
-start_nodes : (q : Trail) (o : Object) (before : Option ℕ) → NodesAtMost 1 (attribute_start q o before)
+start_nodes : (q : Trail) (o : Object) (before : Option ℕ) (c : Choice) → NodesAtMost 1 (attribute_start q o before c)
 unfolding attribute_start
-start_nodes q o None = tt
-start_nodes q o (Some y) = nodes_join _ _ 1 1 0 (omega arith) (part_end_nodes q (steps.Name y)) (λ e. tt)
+start_nodes q o None c = tt
+start_nodes q o (Some y) c = nodes_join _ _ 1 1 0 (omega arith) (part_end_nodes q (steps.Name y)) (λ e. tt)
 
 attribute_head_nodes : (p q : Trail) (o : Object) (x : Sought) (f : Field) → NodesAtMost (1 + field_wants f) (attribute_head p q o x f)
 unfolding attribute_head
-attribute_head_nodes p q o x f = nodes_join _ _ (1 + field_wants f) 1 (field_wants f) (omega arith) (start_nodes q o x.before) (λ s. attribute_nodes _ _ _ s f)
+attribute_head_nodes p q o x f = nodes_join _ _ (1 + field_wants f) 1 (field_wants f) (omega arith) (start_nodes q o x.before f.choice) (λ s. attribute_nodes _ _ _ s f)
 
 -- the position of a parse instance, and what it reads there
 abbrev positioned_wants : Tree → Field → ℕ
@@ -448,6 +455,15 @@ number_nodes : (l : Leaf) (signed : Bool) (order : ByteOrder) (enum : Option ℕ
 unfolding number_value
 number_nodes l signed order enum = nodes_join (peek (byte_of l.from) (byte_of l.to)) _ 0 0 0 (omega arith) (λ bs. tt) (λ bs. number_in_nodes signed order enum bs)
 
+of_bits_nodes : (width : ℕ) (enum : Option ℕ) (n : ℕ) → NodesAtMost 0 (of_bits width enum n)
+of_bits_nodes width enum n = nodes_if (is_truth width enum) 0 _ _ tt (in_number_nodes enum (ranged (pos n)))
+
+bits_nodes : (l : Leaf) (width : ℕ) (enum : Option ℕ) → NodesAtMost 0 (bits_value l width enum)
+unfolding bits_value
+bits_nodes l width enum =
+    nodes_join (peek (byte_in l.from) (byte_of l.to)) _ 0 0 0 (omega arith) (λ bs. tt) (λ bs.
+    nodes_if (nat_le (length bs) 9) 0 _ _ (of_bits_nodes width enum (number_of (bits_from l.from l.to bs))) tt)
+
 fixed_nodes : (l : Leaf) (expected : List ℕ) → NodesAtMost 0 (fixed_value l expected)
 unfolding fixed_value
 fixed_nodes l expected = nodes_join (peek (byte_of l.from) (byte_of l.to)) _ 0 0 0 (omega arith) (λ bs. tt) (λ bs. nodes_if (bytes_eq bs expected) 0 _ _ tt tt)
@@ -474,6 +490,7 @@ unfolding content_value
 content_value_nodes l f contents.Bytes = bytes_value_nodes l (cut_by f.extent f.terminator)
 content_value_nodes l f (contents.Fixed bs) = fixed_nodes l bs
 content_value_nodes l f (contents.Number signed size order enum) = number_nodes l signed order enum
+content_value_nodes l f (contents.Bits width enum) = bits_nodes l width enum
 content_value_nodes l f (contents.Characters encoding) = text_nodes l encoding (cut_by f.extent f.terminator)
 content_value_nodes l f (contents.Object t given) = tt
 
