@@ -6,7 +6,8 @@ use Rattle.std.proofs.lemmas.List.Elements.{Contains-append_left, Contains-appen
 use Rattle.ksv_basics.specs.Plan.{Answer, Fail, Ask, bind}
 use Rattle.ksv_expr_tree.specs.Tree.{Tree, Arguments, no_arguments, argument}
 use Rattle.ksv_desc.specs.declared.order.ByteOrder.{ByteOrder}
-use Rattle.ksv_expr_value.specs.Places.{Place, at_byte, byte_of, is_same}
+use Rattle.ksv_expr_value.specs.Places.{Place, at_byte, byte_of, byte_in, further, is_same}
+use Rattle.ksv_expr_value.specs.Bits.{number_of, bits_from}
 use Rattle.ksv_expr_value.specs.Setting.{Setting}
 use Rattle.ksv_expr_meaning.specs.Meaning.{value_of as value_in}
 use Rattle.ksv_expr_meaning.specs.declared.want.Want.{Want}
@@ -22,7 +23,7 @@ use Rattle.ksv_expr_value.specs.declared.step.Step.TheVariants as steps
 use Rattle.ksv_expr_value.specs.declared.value.Stream.{Stream}
 use Rattle.ksv_expr_value.specs.declared.value.Value.{Value}
 use Rattle.ksv_expr_value.specs.declared.value.Value.TheVariants as values
-use Rattle.ksv_desc.specs.Description.{Description, MemberOfType, MemberKind, Parameter, Attribute, ParseInstance, ValueInstance, Field, Content, Case, Choice, Always, Switch, Extent, Sized, SizeEos, ByItself, Repeat, Once, Eos, Expr, Until, Terminator, Valid, AnyOf, AllOf, valid_of}
+use Rattle.ksv_desc.specs.Description.{is_truth, Description, MemberOfType, MemberKind, Parameter, Attribute, ParseInstance, ValueInstance, Field, Content, Case, Choice, Always, Switch, Extent, Sized, SizeEos, ByItself, Repeat, Once, Eos, Expr, Until, Terminator, Valid, AnyOf, AllOf, valid_of}
 use Rattle.ksv_desc.specs.Description as contents
 use Rattle.ksv_nodes.specs.declared.node.Node.{Node}
 use Rattle.ksv_nodes.specs.declared.node.NodeKind.{NodeKind}
@@ -55,9 +56,9 @@ use Rattle.ksv_rule_meaning.specs.Wanted.{whole, in_object, wanted, expression, 
 use Rattle.ksv_rule_meaning.specs.Checks.{meets_one, meets_each, meets, with_value, checked, checked_if, member_checked, object_checked, value_checked}
 use Rattle.ksv_rule_meaning.specs.Choosing.{Chosen, switched, choose, in_case, content_of}
 use Rattle.ksv_rule_meaning.specs.Integers.{integer_value}
-use Rattle.ksv_rule_meaning.specs.Values.{in_number, number_value, fixed_value, cut_by, cut_bytes, bytes_value, in_text, cut_text, text_value, content_value, leaf_value, in_no_stream, in_enum, instance_value, given_by, arguments_for, argument_at, plain_value, argument_value, parameter_value, calc_value, calculated, value_at, value_of}
+use Rattle.ksv_rule_meaning.specs.Values.{in_number, number_value, of_bits, bits_value, fixed_value, cut_by, cut_bytes, bytes_value, in_text, cut_text, text_value, content_value, leaf_value, in_no_stream, in_enum, instance_value, given_by, arguments_for, argument_at, plain_value, argument_value, parameter_value, calc_value, calculated, value_at, value_of}
 use Rattle.ksv_rule_meaning.specs.Ends.{stream_end, fields_end, object_end, part_rest, list_end, absent_end, place_of, start_of, behind_element, is_last, is_by_bytes, not_empty, element_end, end_at, end_of, next_rest, rest_from, in_whole_list, whole_rest, rest_at, rest_of}
-use Rattle.ksv_rule_meaning.specs.Heads.{leaf, leaf_to_end, terminated_at, terminated, run_of, sized_leaf, bytes_at, sized_object, object_at, content_at, unchosen_at, chosen_at, shape_at, in_count, count_of, counted, until_eos, repeated, attribute_at, part_end, attribute_start, origin_of, attribute_head, instance_setting, positioned_in, positioned, instance_head, value_head, member_at, member_head, in_list, is_past, next_start, element_start, element_head, head_at, head_of}
+use Rattle.ksv_rule_meaning.specs.Heads.{leaf, bits_leaf, leaf_to_end, terminated_at, terminated, run_of, sized_leaf, bytes_at, sized_object, object_at, content_at, unchosen_at, chosen_at, shape_at, in_count, count_of, counted, until_eos, repeated, attribute_at, part_end, attribute_start, origin_of, attribute_head, instance_setting, positioned_in, positioned, instance_head, value_head, member_at, member_head, in_list, is_past, next_start, element_start, element_head, head_at, head_of}
 use Rattle.ksv_rule_meaning.specs.Meaning.{meaning_of, rule_of}
 use Rattle.ksv_rule_meaning.specs.FromNothing.{circle, answer_within, from_nothing}
 use Rattle.ksv_rule_meaning.specs.Described.{described}
@@ -212,6 +213,10 @@ leaf_own : (origin : Origin) (w : Stream) (s : Place) (n : ℕ) → Own (leaf or
 unfolding leaf
 leaf_own origin w s n = join (reach w (byte_of s + n)) _ (λ x. tt) (λ x. tt)
 
+bits_leaf_own : (origin : Origin) (w : Stream) (s : Place) (n : ℕ) → Own (bits_leaf origin w s n)
+unfolding bits_leaf
+bits_leaf_own origin w s n = join (reach w (byte_of (further s n))) _ (λ x. tt) (λ x. tt)
+
 leaf_to_end_own : (origin : Origin) (w : Stream) (s : Place) → Own (leaf_to_end origin w s)
 unfolding leaf_to_end
 leaf_to_end_own origin w s = join (finish w) _ (λ e. tt) (λ e. tt)
@@ -242,6 +247,7 @@ unfolding content_at
 content_own at origin w s f contents.Bytes = bytes_own at origin w s f.extent f.terminator
 content_own at origin w s f (contents.Fixed bs) = leaf_own origin w s (length bs)
 content_own at origin w s f (contents.Number signed size order enum) = leaf_own origin w s size
+content_own at origin w s f (contents.Bits width enum) = bits_leaf_own origin w s width
 content_own at origin w s f (contents.Characters encoding) = bytes_own at origin w s f.extent f.terminator
 content_own at origin w s f (contents.Object t given) = object_own at origin t w s f.extent
 
@@ -281,14 +287,14 @@ part_end_own : (q : Trail) (step : Step) → Own (part_end q step)
 unfolding part_end
 part_end_own q step = join _ _ (part_own q step) (λ p. end_own p)
 
-start_own : (q : Trail) (o : Object) (before : Option ℕ) → Own (attribute_start q o before)
+start_own : (q : Trail) (o : Object) (before : Option ℕ) (c : Choice) → Own (attribute_start q o before c)
 unfolding attribute_start
-start_own q o None = tt
-start_own q o (Some y) = join _ _ (part_end_own q (steps.Name y)) (λ e. tt)
+start_own q o None c = tt
+start_own q o (Some y) c = join _ _ (part_end_own q (steps.Name y)) (λ e. tt)
 
 attribute_head_own : (p q : Trail) (o : Object) (x : Sought) (f : Field) → Own (attribute_head p q o x f)
 unfolding attribute_head
-attribute_head_own p q o x f = join _ _ (start_own q o x.before) (λ s. attribute_own _ _ _ s f)
+attribute_head_own p q o x f = join _ _ (start_own q o x.before f.choice) (λ s. attribute_own _ _ _ s f)
 
 positioned_in_own : (at : Setting) (origin : Origin) (w : Stream) (e : Tree) (f : Field) → Own (positioned_in at origin w e f)
 unfolding positioned_in
@@ -355,6 +361,13 @@ number_own : (l : Leaf) (signed : Bool) (order : ByteOrder) (enum : Option ℕ) 
 unfolding number_value
 number_own l signed order enum = join (peek (byte_of l.from) (byte_of l.to)) _ (λ bs. tt) (λ bs. either (nat_le (length bs) 8) _ _ (in_number_own enum (ranged (integer_value signed order bs))) tt)
 
+of_bits_own : (width : ℕ) (enum : Option ℕ) (n : ℕ) → Own (of_bits width enum n)
+of_bits_own width enum n = either (is_truth width enum) _ _ tt (in_number_own enum (ranged (pos n)))
+
+bits_own : (l : Leaf) (width : ℕ) (enum : Option ℕ) → Own (bits_value l width enum)
+unfolding bits_value
+bits_own l width enum = join (peek (byte_in l.from) (byte_of l.to)) _ (λ bs. tt) (λ bs. either (nat_le (length bs) 9) _ _ (of_bits_own width enum (number_of (bits_from l.from l.to bs))) tt)
+
 fixed_own : (l : Leaf) (expected : List ℕ) → Own (fixed_value l expected)
 unfolding fixed_value
 fixed_own l expected = join (peek (byte_of l.from) (byte_of l.to)) _ (λ bs. tt) (λ bs. either (bytes_eq bs expected) _ _ tt tt)
@@ -377,6 +390,7 @@ unfolding content_value
 content_value_own l f contents.Bytes = bytes_value_own l (cut_by f.extent f.terminator)
 content_value_own l f (contents.Fixed bs) = fixed_own l bs
 content_value_own l f (contents.Number signed size order enum) = number_own l signed order enum
+content_value_own l f (contents.Bits width enum) = bits_own l width enum
 content_value_own l f (contents.Characters encoding) = text_own l encoding (cut_by f.extent f.terminator)
 content_value_own l f (contents.Object t given) = tt
 

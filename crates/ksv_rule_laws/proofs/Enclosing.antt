@@ -7,7 +7,9 @@ use Rattle.std.proofs.lemmas.Bool.Decides.{nat_tests}
 use Rattle.std.proofs.lemmas.Grind.{common_steps}
 use Rattle.ksv_basics.specs.Plan.{Answer}
 use Rattle.ksv_expr_tree.specs.Tree.{Tree}
-use Rattle.ksv_expr_value.specs.Places.{Place, at_byte, byte_of}
+use Rattle.ksv_expr_value.specs.Places.{Place, at_byte, byte_of, aligned, further}
+use Rattle.ksv_expr_value.proofs.Places.{byte_of_byte, of_aligned, of_further}
+use Rattle.ksv_rule_laws.proofs.Starts.{of_start, at_most, at_least}
 use Rattle.ksv_expr_value.specs.Setting.{Setting}
 use Rattle.ksv_expr_value.specs.Trail.{Trail, child, parent, last, first_step, all_but_last, same_trail, trail_of-steps}
 use Rattle.ksv_expr_value.specs.declared.fault.Fault.{Fault}
@@ -17,7 +19,7 @@ use Rattle.ksv_expr_value.specs.declared.step.Step.TheVariants as steps
 use Rattle.ksv_expr_value.specs.declared.value.Stream.{Stream}
 use Rattle.ksv_expr_value.specs.declared.value.Value.{Value}
 use Rattle.ksv_expr_value.specs.declared.value.Value.TheVariants as values
-use Rattle.ksv_desc.specs.Description.{Calculation, Description, MemberOfType, MemberKind, Parameter, Attribute, ParseInstance, ValueInstance, Field, Content, Extent, Sized, SizeEos, ByItself, Repeat, Once, Eos, Expr, Until, Terminator}
+use Rattle.ksv_desc.specs.Description.{Choice, Calculation, Description, MemberOfType, MemberKind, Parameter, Attribute, ParseInstance, ValueInstance, Field, Content, Extent, Sized, SizeEos, ByItself, Repeat, Once, Eos, Expr, Until, Terminator}
 use Rattle.ksv_desc.specs.Description as contents
 use Rattle.ksv_nodes.specs.declared.node.Node.{Node}
 use Rattle.ksv_nodes.specs.declared.node.NodeKind.{NodeKind}
@@ -43,7 +45,7 @@ use Rattle.ksv_nodes.proofs.First.{first_at_below}
 use Rattle.ksv_rule_meaning.specs.Wanted.{expression, in_object, in_stream, holds, size_of, stream_for}
 use Rattle.ksv_rule_meaning.specs.Choosing.{Chosen, choose}
 use Rattle.ksv_rule_meaning.specs.Fields.{members_of, is_attribute, behind, Sought, sought, in_sought, member_named, last_attribute, field_of}
-use Rattle.ksv_rule_meaning.specs.Heads.{leaf, leaf_to_end, terminated_at, terminated, run_of, sized_leaf, bytes_at, sized_object, object_at, content_at, unchosen_at, chosen_at, shape_at, count_of, counted, until_eos, repeated, attribute_at, part_end, attribute_start, setting, origin_of, attribute_head, instance_setting, positioned_in, positioned, instance_head, calc, value_head, member_at, member_head, in_list, is_past, in_next, next_start, element_start, within, element_head, root_head, head_at, head_of}
+use Rattle.ksv_rule_meaning.specs.Heads.{leaf, bits_leaf, leaf_to_end, terminated_at, terminated, run_of, sized_leaf, bytes_at, sized_object, object_at, content_at, unchosen_at, chosen_at, shape_at, count_of, counted, until_eos, repeated, attribute_at, part_end, start_after, attribute_start, setting, origin_of, attribute_head, instance_setting, positioned_in, positioned, instance_head, calc, value_head, member_at, member_head, in_list, is_past, in_next, next_start, element_start, within, element_head, root_head, head_at, head_of}
 use Rattle.ksv_rule_meaning.specs.Ends.{stream_end, fields_end, object_end, part_rest, list_end, place_of, is_last, not_empty, element_end, end_at, end_of, next_rest, rest_behind, rest_from, in_whole_list, first_rest, whole_rest, rest_at, rest_of}
 use Rattle.ksv_rule_meaning.specs.Meaning.{meaning_of}
 use Rattle.ksv_rule_meaning.specs.FromNothing.{answer_within, from_nothing}
@@ -346,23 +348,34 @@ module _ (d : Description) (distinct : HasDistinctNames d) (met : Node → Resul
     after : (n : ℕ) → byte_of s ≤ n → n ≤ end_in bytes w.to → Between w n
     after n le low = let a = begins.0 in (omega arith, low)
 
+    at : (n : ℕ) → Between w n → Between w (byte_of (at_byte n))
+    at n is = subst (λ k. Between w k) (sym (byte_of_byte n)) is
+
     leaf_in : (origin : Origin) (n : ℕ) → answer (leaf origin w s n) ≡ Ok h → LiesIn bytes w h
     unfolding leaf
     leaf_in origin n e =
         let b = goes_on met here bytes (reach w (byte_of s + n)) _ h e in
-        let end = after (byte_of s + n) (omega arith) (reached w (byte_of s + n) b.first b.was) in
-        is_in _ (begins, end, end, omega arith) b.gave
+        let end = at (byte_of s + n) (after (byte_of s + n) (omega arith) (reached w (byte_of s + n) b.first b.was)) in
+        is_in _ (begins, end, end, at_least (byte_of s + n) (byte_of s) (omega arith)) b.gave
+
+    bits_in : (origin : Origin) (n : ℕ) → answer (bits_leaf origin w s n) ≡ Ok h → LiesIn bytes w h
+    unfolding bits_leaf
+    bits_in origin n e =
+        let b = goes_on met here bytes (reach w (byte_of (further s n))) _ h e in
+        let le = of_further s n in
+        let end = after (byte_of (further s n)) le (reached w (byte_of (further s n)) b.first b.was) in
+        is_in _ (begins, end, end, le) b.gave
 
     to_end_in : (origin : Origin) (e : ℕ) → e ≡ end_in bytes w.to → ◌≡◌ {A = Result Head Fault} (Ok (heads.Leaf (record { origin = origin; from = s; to = at_byte e; end = at_byte e }))) (Ok h) → LiesIn bytes w h
     to_end_in origin e is z =
         let low = begins.1 in
         let le : byte_of s ≤ e = omega arith in
-        let end = after e le (omega arith) in
-        is_in _ (begins, end, end, le) z
+        let end = at e (after e le (omega arith)) in
+        is_in _ (begins, end, end, at_least e (byte_of s) le) z
 
-    either : (b : Bool) (q : ℕ) → byte_of s ≤ q → q + 1 ≤ end_in bytes w.to → Between w (if b then q + 1 else q) × (byte_of s ≤ (if b then q + 1 else q))
-    either true q le low = (after (q + 1) (omega arith) low, omega arith)
-    either false q le low = (after q le (omega arith), le)
+    either : (b : Bool) (q : ℕ) → byte_of s ≤ q → q + 1 ≤ end_in bytes w.to → Between w (byte_of (at_byte (if b then q + 1 else q))) × (byte_of s ≤ byte_of (at_byte (if b then q + 1 else q)))
+    either true q le low = (at (q + 1) (after (q + 1) (omega arith) low), at_least (q + 1) (byte_of s) (omega arith))
+    either false q le low = (at q (after q le (omega arith)), at_least q (byte_of s) le)
 
     found_in : (origin : Origin) (t : Terminator) (q : Found) → IsFoundIn w (byte_of s) q → answer (terminated_at origin s t q) ≡ Ok h → LiesIn bytes w h
     found_in origin t (founds.At q) is e =
@@ -397,6 +410,7 @@ module _ (d : Description) (distinct : HasDistinctNames d) (met : Node → Resul
     content_in at origin f contents.Bytes e = bytes_in at origin f.extent f.terminator e
     content_in at origin f (contents.Fixed bs) e = leaf_in origin (length bs) e
     content_in at origin f (contents.Number signed n order enum) e = leaf_in origin n e
+    content_in at origin f (contents.Bits width enum) e = bits_in origin width e
     content_in at origin f (contents.Characters encoding) e = bytes_in at origin f.extent f.terminator e
     content_in at origin f (contents.Object t given) e = object_in at origin t f.extent e
 
@@ -433,12 +447,13 @@ module _ (d : Description) (distinct : HasDistinctNames d) (met : Node → Resul
 
   -- ---- heads
 
-  start_in : (q : Trail) (o : Object) (before : Option ℕ) (s : Place) → IsHere d o before → met (head_node q) ≡ Ok (givens.Head (heads.Object o)) → Between o.stream (byte_of o.start) → answer (attribute_start q o before) ≡ Ok s → Between o.stream (byte_of s)
+  start_in : (q : Trail) (o : Object) (before : Option ℕ) (c : Choice) (s : Place) → IsHere d o before → met (head_node q) ≡ Ok (givens.Head (heads.Object o)) → Between o.stream (byte_of o.start) → answer (attribute_start q o before c) ≡ Ok s → Between o.stream (byte_of s)
   unfolding attribute_start
-  start_in q o None s apart asked begins e = subst (λ n. Between o.stream (byte_of n)) (ok_is o.start s e) begins
-  start_in q o (Some y) s apart asked begins e =
-      let b = goes_on met here bytes (part_end q (steps.Name y)) (λ x. Answer x.place) s e in
-      subst (λ n. Between o.stream (byte_of n)) (ok_is b.first.place s b.gave) (part_end_in q (steps.Name y) b.first (heads.Object o) o.stream apart asked refl b.was)
+  start_in q o None c s apart asked begins e = subst (λ n. Between o.stream (byte_of n)) (ok_is o.start s e) begins
+  start_in q o (Some y) c s apart asked begins e =
+      let b = goes_on met here bytes (part_end q (steps.Name y)) (λ x. Answer (start_after x.place c)) s e in
+      let ends = part_end_in q (steps.Name y) b.first (heads.Object o) o.stream apart asked refl b.was in
+      subst (λ n. Between o.stream (byte_of n)) (ok_is (start_after b.first.place c) s b.gave) (subst (λ n. Between o.stream n) (sym (of_start b.first.place c)) ends)
 
   -- what lies in the stream in which a member at a path is read, unless it lies nowhere
   abbrev LiesFor : Trail → Object → MemberKind → Head → Type 0
@@ -454,7 +469,8 @@ module _ (d : Description) (distinct : HasDistinctNames d) (met : Node → Resul
   positioned_lies at origin w e f h z =
       let n = goes_on met here bytes (size_of at e) _ h z in
       let r = goes_on met here bytes (reach w (w.from + n.first)) _ h n.gave in
-      repeated_in w (at_byte (w.from + n.first)) (omega arith, reached w (w.from + n.first) r.first r.was) h _ origin f f.repeat r.gave
+      let byte = w.from + n.first in
+      repeated_in w (at_byte byte) (at_least byte w.from (omega arith), at_most byte _ (reached w byte r.first r.was)) h _ origin f f.repeat r.gave
 
   -- the value of an `io` is its stream
   stream_is : (v : Value) (w : Stream) → answer (in_stream v) ≡ Ok w → v ≡ values.Stream w
@@ -503,8 +519,8 @@ module _ (d : Description) (distinct : HasDistinctNames d) (met : Node → Resul
   unfolding member_at attribute_head
   member_in o x Parameter h apart asked begins e = inr (o.stream, refl, calc_in o x h e)
   member_in o x (Attribute f) h apart asked begins e =
-      let b = goes_on met here bytes (attribute_start (parent here) o x.before) _ h e in
-      inr (o.stream, refl, attribute_in o.stream b.first (start_in (parent here) o x.before b.first apart asked begins b.was) h _ _ f b.gave)
+      let b = goes_on met here bytes (attribute_start (parent here) o x.before f.choice) _ h e in
+      inr (o.stream, refl, attribute_in o.stream b.first (start_in (parent here) o x.before f.choice b.first apart asked begins b.was) h _ _ f b.gave)
   member_in o x (ParseInstance e io f) h apart asked begins z = instance_in o (origin_of o x) e io f h z
   member_in o x (ValueInstance v) h apart asked begins z = value_in o x v h z
 
@@ -581,7 +597,7 @@ module _ (d : Description) (distinct : HasDistinctNames d) (met : Node → Resul
       by_head _ g s asked begins is start shape = absurd (cc)
 
   head_in : (o : Option Step) (h : Head) → last here ≡ o → answer (head_at d here o) ≡ Ok h → HeadLies d bytes met here o h
-  head_in None h is e = subst (BeginsIn bytes) (ok_is root_head h e) (omega arith, omega arith)
+  head_in None h is e = subst (BeginsIn bytes) (ok_is root_head h e) (at_least 0 0 (omega arith), at_most 0 _ (omega arith))
   head_in (Some (steps.Name x)) h is e = member_head_in x h is e
   head_in (Some (steps.Index i)) h is e = inr (element_in here (parent (parent here)) i h is e)
 
@@ -596,16 +612,17 @@ module _ (d : Description) (distinct : HasDistinctNames d) (met : Node → Resul
       let n = goes_on met here bytes (finish o.stream) (λ k. Answer (at_byte k)) e h in
       let end = finished o.stream n.first n.was in
       let a = is.1.0 in let b = is.2 in let c = is.3.0 in let f = is.3.1 in
-      place_is w (at_byte n.first) e (omega arith, omega arith) n.gave
+      place_is w (at_byte n.first) e (at_least n.first w.from (omega arith), at_most n.first _ (omega arith)) n.gave
   object_end_in p o endings.ByFields w e asked is h = by_last (last_attribute None (members_of d o.type_number)) (last_here d distinct o _ refl) h
     where
       by_last : (z : Option ℕ) → IsHere d o z → answer_of met here bytes (fields_end p o.start z) ≡ Ok e → IsBetween bytes w (byte_of e)
       by_last None apart h' = place_is w o.start e is.0 h'
       by_last (Some z) apart h' =
-          let b = goes_on met here bytes (part_end p (steps.Name z)) (λ x. Answer x.place) e h' in
+          let b = goes_on met here bytes (part_end p (steps.Name z)) (λ x. Answer (aligned x.place)) e h' in
           let i = part_end_in p (steps.Name z) b.first (heads.Object o) o.stream apart asked refl b.was in
           let low = i.0 in let high = i.1 in let a = is.1.0 in let c = is.2 in
-          place_is w b.first.place e (omega arith, omega arith) b.gave
+          let same = of_aligned b.first.place in
+          place_is w (aligned b.first.place) e (omega arith, omega arith) b.gave
 
   place_in : (p : Trail) (h : Head) (w : Stream) (e : Place) → met (head_node p) ≡ Ok (givens.Head h) → LiesIn bytes w h → answer (place_of d p h) ≡ Ok e → Between w (byte_of e)
   unfolding place_of list_end

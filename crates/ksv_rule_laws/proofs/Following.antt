@@ -1,16 +1,17 @@
--- An attribute begins where the one before it in its type ends, and the first where its object does.
-use Rattle.std.proofs.Common.{◌≡◌, ◌∙◌, ℕ, zero, suc, ◌+◌, ◌==◌, Bool, true, false, if◌then◌else◌, List, [], ◌∷◌, ◌++◌, Option, Some, None, Result, Ok, refl, sym, ap, subst, arith}
+-- An attribute begins after the one before it in its type, and the first where its object does.
+use Rattle.std.proofs.Common.{◌≡◌, ◌∙◌, ℕ, zero, suc, ◌+◌, ◌*◌, ◌/◌, ◌==◌, Bool, true, false, if◌then◌else◌, List, [], ◌∷◌, ◌++◌, Option, Some, None, Result, Ok, refl, sym, ap, subst, arith}
 use Rattle.std.specs.List.{AllByRecursion}
 use Rattle.std.proofs.lemmas.Bool.Decides.{nat_tests}
 use Rattle.ksv_basics.specs.Plan.{Answer}
-use Rattle.ksv_expr_value.specs.Places.{Place}
+use Rattle.ksv_expr_value.specs.Places.{Place, at_byte, byte_of, aligned}
 use Rattle.ksv_expr_value.specs.Setting.{Setting}
 use Rattle.ksv_expr_value.specs.Trail.{Trail, child, parent, last}
 use Rattle.ksv_expr_value.specs.declared.fault.Fault.{Fault}
 use Rattle.ksv_expr_value.specs.declared.step.Step.{Step}
 use Rattle.ksv_expr_value.specs.declared.step.Step.TheVariants as steps
 use Rattle.ksv_expr_value.specs.declared.value.Stream.{Stream}
-use Rattle.ksv_desc.specs.Description.{Description, MemberOfType, MemberKind, Attribute, Field, Repeat, Once, Eos, Expr, Until}
+use Rattle.ksv_desc.specs.Description.{Description, MemberOfType, MemberKind, Parameter, Attribute, ParseInstance, ValueInstance, Field, Choice, Always, Switch, Repeat, Once, Eos, Expr, Until}
+use Rattle.ksv_desc.specs.Description as contents
 use Rattle.ksv_nodes.specs.declared.node.Node.{Node}
 use Rattle.ksv_nodes.specs.declared.given.Given.{Given}
 use Rattle.ksv_nodes.specs.declared.given.Given.TheVariants as givens
@@ -23,11 +24,11 @@ use Rattle.ksv_nodes.specs.Rule.{Rule, part, ask_head, ask_end, head_node, end_n
 use Rattle.ksv_nodes.specs.Truth.{answer_of}
 use Rattle.ksv_rule_meaning.specs.Wanted.{in_object, holds}
 use Rattle.ksv_rule_meaning.specs.Fields.{members_of, is_attribute, behind, Sought, sought, in_sought, member_named, last_attribute}
-use Rattle.ksv_rule_meaning.specs.Heads.{count_of, counted, until_eos, repeated, attribute_at, part_end, attribute_start, attribute_head, member_at, member_head, head_at, head_of}
+use Rattle.ksv_rule_meaning.specs.Heads.{count_of, counted, until_eos, repeated, attribute_at, part_end, start_after, attribute_start, attribute_head, member_at, member_head, head_at, head_of}
 use Rattle.ksv_rule_meaning.specs.Ends.{start_of}
 use Rattle.ksv_rule_meaning.specs.Meaning.{meaning_of}
 use Rattle.ksv_rule_meaning.specs.FromNothing.{answer_within, from_nothing}
-use Rattle.ksv_rule_laws.specs.Laws.{IsFirst, Follows, EndsAt, FirstAttributesBegin, AttributesTouch}
+use Rattle.ksv_rule_laws.specs.Laws.{IsFirst, Follows, EndsAt, AreBits, IsNextByte, BeginsAfter, FollowsPart, FirstAttributesBegin, AttributesTouch}
 use Rattle.ksv_rule_laws.proofs.Forms.{ok_is, goes_on, asked_head, meaning_is, ruled, no_depth, stays_within, among_more}
 use Rattle.ksv_rule_laws.proofs.Touching.{asked_end, part_is, is_at, shape_is_at}
 
@@ -59,6 +60,33 @@ last_is front m between y is attribute none =
     ∙ ap (λ b. last_attribute (if b then Some m.name else last_attribute None front) between) attribute
     ∙ last_of_none (Some m.name) between none ∙ ap Some is
 
+-- what an attribute reads by
+abbrev pub choice_of : MemberKind → Choice
+choice_of (Attribute f) = f.choice
+choice_of _ = Always contents.Bytes
+
+-- bits begin where what is before them ends, all else at the next byte
+next_byte : (e s : Place) → aligned e ≡ s → IsNextByte e s
+unfolding at_byte byte_of
+next_byte e s is =
+    let bits : 8 * ((e.bits + 7) / 8) ≡ s.bits = ap (λ (p : Place). p.bits) is in
+    record { begins = omega (arith, bits); behind = omega (arith, bits); near = omega (arith, bits) }
+
+starts_so : (c : Choice) (e s : Place) → start_after e c ≡ s → (AreBits c → s ≡ e) × ((AreBits c → ⊥) → IsNextByte e s)
+starts_so (Always (contents.Bits width enum)) e s is = (λ b. sym is, λ no. absurd (no tt))
+starts_so (Always contents.Bytes) e s is = (λ b. absurd b, λ no. next_byte e s is)
+starts_so (Always (contents.Fixed bs)) e s is = (λ b. absurd b, λ no. next_byte e s is)
+starts_so (Always (contents.Number signed size order enum)) e s is = (λ b. absurd b, λ no. next_byte e s is)
+starts_so (Always (contents.Characters encoding)) e s is = (λ b. absurd b, λ no. next_byte e s is)
+starts_so (Always (contents.Object t given)) e s is = (λ b. absurd b, λ no. next_byte e s is)
+starts_so (Switch on cases) e s is = (λ b. absurd b, λ no. next_byte e s is)
+
+begins_after : (k : MemberKind) (e s : Place) → is_attribute k ≡ true → start_after e (choice_of k) ≡ s → BeginsAfter k e s
+begins_after (Attribute f) e s attribute is = starts_so f.choice e s is
+begins_after Parameter e s attribute is = absurd (cc)
+begins_after (ParseInstance x io f) e s attribute is = absurd (cc)
+begins_after (ValueInstance v) e s attribute is = absurd (cc)
+
 module _ (met : Node → Result Given Fault) (here : Trail) (bytes : List ℕ) where
   abbrev answer : {A : Type 0} → Rule A → Result A Fault
   answer p = answer_of met here bytes p
@@ -83,14 +111,14 @@ module _ (met : Node → Result Given Fault) (here : Trail) (bytes : List ℕ) w
       by_condition false e' = is_at met here bytes s h (heads.Absent (Some s)) refl e'
 
   -- the place from which an attribute is read
-  abbrev pub StartsAt : Trail → Object → Option ℕ → Place → Type 0
-  StartsAt q o before s = answer (attribute_start q o before) ≡ Ok s
+  abbrev pub StartsAt : Trail → Object → Option ℕ → Choice → Place → Type 0
+  StartsAt q o before c s = answer (attribute_start q o before c) ≡ Ok s
 
-  member_starts : (p q : Trail) (o : Object) (m : Sought) (k : MemberKind) (h : Head) → is_attribute k ≡ true → answer (member_at p q o m k) ≡ Ok h → StartsAt q o m.before (start_of h)
+  member_starts : (p q : Trail) (o : Object) (m : Sought) (k : MemberKind) (h : Head) → is_attribute k ≡ true → answer (member_at p q o m k) ≡ Ok h → StartsAt q o m.before (choice_of k) (start_of h)
   unfolding member_at attribute_head
   member_starts p q o m (Attribute f) h is e =
-      let b = goes_on met here bytes (attribute_start q o m.before) _ h e in
-      subst (StartsAt q o m.before) (sym (begins_at b.first h _ _ o.stream f b.gave)) b.was
+      let b = goes_on met here bytes (attribute_start q o m.before f.choice) _ h e in
+      subst (StartsAt q o m.before f.choice) (sym (begins_at b.first h _ _ o.stream f b.gave)) b.was
   member_starts p q o m _ h is e = absurd (cc)
 
   -- the object that was asked for, and how its member was read
@@ -127,21 +155,24 @@ module _ (met : Node → Result Given Fault) (here : Trail) (bytes : List ℕ) w
   unfolding head_of
   head_begun d p x h is e = begun d p x h (ap (λ o. answer_of met here bytes (head_at d p o)) (sym is) ∙ e)
 
-  first_at : (q : Trail) (o : Object) (s : Place) → StartsAt q o None s → s ≡ o.start
+  first_at : (q : Trail) (o : Object) (c : Choice) (s : Place) → StartsAt q o None c s → s ≡ o.start
   unfolding attribute_start
-  first_at q o s e = sym (ok_is o.start s e)
+  first_at q o c s e = sym (ok_is o.start s e)
 
-  next_at : (q : Trail) (o : Object) (y : ℕ) (s : Place) → StartsAt q o (Some y) s → EndsAt met q (steps.Name y) s
+  next_at : (q : Trail) (o : Object) (y : ℕ) (k : MemberKind) (s : Place) → is_attribute k ≡ true → StartsAt q o (Some y) (choice_of k) s → FollowsPart met q (steps.Name y) k s
   unfolding attribute_start part_end
-  next_at q o y s e =
-      let b = goes_on met here bytes (part_end q (steps.Name y)) (λ x. Answer x.place) s e in
+  next_at q o y k s attribute e =
+      let b = goes_on met here bytes (part_end q (steps.Name y)) (λ x. Answer (start_after x.place (choice_of k))) s e in
       let c = goes_on met here bytes (part q (steps.Name y)) (λ r. ask_end r) b.first b.was in
-      let x = asked_end met here bytes c.first b.first c.gave in
       record {
-        path = c.first;
-        is = part_is met here bytes (child q (steps.Name y)) c.first c.was;
-        is_last = b.first.last;
-        ended = x ∙ ap (λ n. Ok (givens.End n b.first.last)) (ok_is b.first.place s b.gave);
+        place = b.first.place;
+        ends = record {
+          path = c.first;
+          is = part_is met here bytes (child q (steps.Name y)) c.first c.was;
+          is_last = b.first.last;
+          ended = asked_end met here bytes c.first b.first c.gave;
+        };
+        begins = begins_after k b.first.place s attribute (ok_is (start_after b.first.place (choice_of k)) s b.gave);
       }
 
 -- the member that is found
@@ -157,13 +188,16 @@ one_head a b e = cc
 still_ends : (met met' : Node → Result Given Fault) (q : Trail) (step : Step) (s : Place) → ((m : Node) (g : Given) → met m ≡ Ok g → met' m ≡ Ok g) → EndsAt met q step s → EndsAt met' q step s
 still_ends met met' q step s same i = record { path = i.path; is = i.is; is_last = i.is_last; ended = same (end_node i.path) (givens.End s i.is_last) i.ended }
 
+still_follows : (met met' : Node → Result Given Fault) (q : Trail) (step : Step) (k : MemberKind) (s : Place) → ((m : Node) (g : Given) → met m ≡ Ok g → met' m ≡ Ok g) → FollowsPart met q step k s → FollowsPart met' q step k s
+still_follows met met' q step k s same i = record { place = i.place; ends = still_ends met met' q step i.place same i.ends; begins = i.begins }
+
 module _ (d : Description) (bytes : List ℕ) where
   -- the object at the holder's path is the one that the rule asked for
   begun_within : (depth : ℕ) (opened : List Node) (p : Trail) (x : ℕ) (h : Head) (o : Object) → last p ≡ Some (steps.Name x) → answer_within d bytes (suc depth) opened (head_node p) ≡ Ok (givens.Head h)
       → answer_within d bytes (suc depth) opened (head_node (parent p)) ≡ Ok (givens.Head (heads.Object o))
       → (before : Option ℕ) (front : List MemberOfType) (m : MemberOfType) (rest : List MemberOfType) → members_of d o.type_number ≡ front ++ m ∷ rest → m.name ≡ x → is_attribute m.kind ≡ true
       → AllByRecursion (λ k. (k.name == x) ≡ false) front → last_attribute None front ≡ before
-      → StartsAt (answer_within d bytes depth (head_node p ∷ opened)) p bytes (parent p) o before (start_of h)
+      → StartsAt (answer_within d bytes depth (head_node p ∷ opened)) p bytes (parent p) o before (choice_of m.kind) (start_of h)
   unfolding meaning_of
   begun_within depth opened p x h o is e holder before front m rest members named attribute apart last_one =
       let met = answer_within d bytes depth (head_node p ∷ opened) in
@@ -178,23 +212,25 @@ module _ (d : Description) (bytes : List ℕ) where
       let member : record { member = found.0; before = last_attribute None front; kind = m.kind } ≡ i.member = one_member _ i.member (sym (ap in_sought here) ∙ i.found) in
       let front_is : i.member.before ≡ before = ap (λ (k : Sought). k.before) (sym member) ∙ last_one in
       let own = member_starts met p bytes p (parent p) i.object i.member i.member.kind h (ap (λ (k : Sought). is_attribute k.kind) (sym member) ∙ attribute) i.gave in
-      subst (λ (k : Object). StartsAt met p bytes (parent p) k before (start_of h)) object (subst (λ c. StartsAt met p bytes (parent p) i.object c (start_of h)) front_is own)
+      let kind : i.member.kind ≡ m.kind = ap (λ (k : Sought). k.kind) (sym member) in
+      let read = subst (λ k. StartsAt met p bytes (parent p) i.object i.member.before (choice_of k) (start_of h)) kind own in
+      subst (λ (k : Object). StartsAt met p bytes (parent p) k before (choice_of m.kind) (start_of h)) object (subst (λ c. StartsAt met p bytes (parent p) i.object c (choice_of m.kind) (start_of h)) front_is read)
 
   first_within : (depth : ℕ) (opened : List Node) (p : Trail) (x : ℕ) (h : Head) (o : Object) → last p ≡ Some (steps.Name x) → answer_within d bytes depth opened (head_node p) ≡ Ok (givens.Head h)
       → answer_within d bytes depth opened (head_node (parent p)) ≡ Ok (givens.Head (heads.Object o)) → IsFirst (members_of d o.type_number) x → start_of h ≡ o.start
   first_within zero opened p x h o is e holder one = absurd (no_depth d bytes opened (head_node p) (givens.Head h) e)
   first_within (suc depth) opened p x h o is e holder one =
-      first_at (answer_within d bytes depth (head_node p ∷ opened)) p bytes (parent p) o (start_of h)
+      first_at (answer_within d bytes depth (head_node p ∷ opened)) p bytes (parent p) o (choice_of one.member.kind) (start_of h)
       (begun_within depth opened p x h o is e holder None one.front one.member one.rest one.is one.named one.attribute one.apart (last_of_none None one.front one.none))
 
   follows_within : (depth : ℕ) (opened : List Node) (p : Trail) (x y : ℕ) (h : Head) (o : Object) → last p ≡ Some (steps.Name x) → answer_within d bytes depth opened (head_node p) ≡ Ok (givens.Head h)
-      → answer_within d bytes depth opened (head_node (parent p)) ≡ Ok (givens.Head (heads.Object o)) → Follows (members_of d o.type_number) y x → EndsAt (answer_within d bytes depth opened) (parent p) (steps.Name y) (start_of h)
+      → answer_within d bytes depth opened (head_node (parent p)) ≡ Ok (givens.Head (heads.Object o)) → (two : Follows (members_of d o.type_number) y x) → FollowsPart (answer_within d bytes depth opened) (parent p) (steps.Name y) two.second.kind (start_of h)
   follows_within zero opened p x y h o is e holder two = absurd (no_depth d bytes opened (head_node p) (givens.Head h) e)
   follows_within (suc depth) opened p x y h o is e holder two =
       let met = answer_within d bytes depth (head_node p ∷ opened) in
-      still_ends met (answer_within d bytes (suc depth) opened) (parent p) (steps.Name y) (start_of h)
+      still_follows met (answer_within d bytes (suc depth) opened) (parent p) (steps.Name y) two.second.kind (start_of h)
       (λ m g e'. stays_within d bytes depth (suc depth) (head_node p ∷ opened) opened m g (omega arith) (among_more (head_node p) opened) e')
-      (next_at met p bytes (parent p) o y (start_of h)
+      (next_at met p bytes (parent p) o y two.second.kind (start_of h) two.second_attribute
       (begun_within depth opened p x h o is e holder (Some y) (two.front ++ two.first ∷ two.between) two.second two.rest two.is two.named two.second_attribute two.apart
       (last_is two.front two.first two.between y two.first_named two.attribute two.none)))
 

@@ -1,5 +1,5 @@
 -- An answer has its node's form, and a value is one of the head at its path.
-use Rattle.std.proofs.Common.{◌≡◌, ◌∙◌, ℕ, zero, suc, ◌+◌, ◌≤◌, Bool, true, false, cond, if◌then◌else◌, ◌||◌, ℤ, List, ◌∷◌, length, Option, Some, None, Result, Ok, Err, refl, sym, ap, subst, arith}
+use Rattle.std.proofs.Common.{not, ◌==◌, pos, ◌≡◌, ◌∙◌, ℕ, zero, suc, ◌+◌, ◌≤◌, Bool, true, false, cond, if◌then◌else◌, ◌||◌, ℤ, List, ◌∷◌, length, Option, Some, None, Result, Ok, Err, refl, sym, ap, subst, arith}
 use Rattle.std.specs.Prelude.{nat_le, nat_eq}
 use Rattle.std.specs.Str.{bytes_eq}
 use Rattle.std.proofs.lemmas.Bool.Decides.{nat_tests}
@@ -7,7 +7,8 @@ use Rattle.std.proofs.lemmas.Grind.{common_steps}
 use Rattle.ksv_basics.specs.Plan.{Answer, Fail, Ask, bind}
 use Rattle.ksv_basics.specs.Asking.{and_then}
 use Rattle.ksv_expr_tree.specs.Tree.{Tree}
-use Rattle.ksv_expr_value.specs.Places.{byte_of}
+use Rattle.ksv_expr_value.specs.Places.{byte_of, byte_in}
+use Rattle.ksv_expr_value.specs.Bits.{number_of, bits_from}
 use Rattle.ksv_expr_value.specs.Setting.{Setting}
 use Rattle.ksv_expr_value.specs.Trail.{Trail, parent}
 use Rattle.ksv_expr_value.specs.Range.{ranged}
@@ -19,7 +20,7 @@ use Rattle.ksv_expr_value.specs.declared.fault.FaultKind.TheVariants as kinds
 use Rattle.ksv_expr_value.specs.declared.value.Value.{Value}
 use Rattle.ksv_expr_value.specs.declared.value.Value.TheVariants as values
 use Rattle.ksv_desc.specs.declared.order.ByteOrder.{ByteOrder}
-use Rattle.ksv_desc.specs.Description.{Description, MemberKind, Parameter, ValueInstance, Field, Content, Terminator}
+use Rattle.ksv_desc.specs.Description.{is_truth, Description, MemberKind, Parameter, ValueInstance, Field, Content, Terminator}
 use Rattle.ksv_desc.specs.Description as contents
 use Rattle.ksv_memo_rules.specs.Evaluation.{is_among}
 use Rattle.ksv_nodes.specs.declared.node.Node.{Node}
@@ -43,7 +44,7 @@ use Rattle.ksv_rule_meaning.specs.Choosing.{content_of}
 use Rattle.ksv_rule_meaning.specs.Fields.{kind_of, field_of}
 use Rattle.ksv_rule_meaning.specs.Heads.{instance_setting, head_of}
 use Rattle.ksv_rule_meaning.specs.Integers.{integer_value}
-use Rattle.ksv_rule_meaning.specs.Values.{in_number, number_in, number_value, fixed_value, cut_by, kept_of, kept, cut_bytes, bytes_value, in_text, cut_text, text_value, content_value, leaf_value, in_no_stream, in_enum, instance_value, arguments_for, argument_at, argument_setting, plain_value, argument_value, parameter_value, calc_value, calculated, value_at, value_of}
+use Rattle.ksv_rule_meaning.specs.Values.{in_number, number_in, number_value, of_bits, bits_in, bits_value, fixed_value, cut_by, kept_of, kept, cut_bytes, bytes_value, in_text, cut_text, text_value, content_value, leaf_value, in_no_stream, in_enum, instance_value, arguments_for, argument_at, argument_setting, plain_value, argument_value, parameter_value, calc_value, calculated, value_at, value_of}
 use Rattle.ksv_rule_meaning.specs.Wanted.{expression}
 use Rattle.ksv_rule_meaning.specs.Ends.{end_of, rest_of}
 use Rattle.ksv_rule_meaning.specs.Meaning.{meaning_of, rule_of}
@@ -114,6 +115,20 @@ module _ (met : Node → Result Given Fault) (here : Trail) (bytes : List ℕ) w
         let n : Option ℤ = ranged (integer_value signed order b.first) in
         in_number_fits enum n (passed (nat_le (length b.first) 8) (in_number enum n) kinds.BadType v b.gave)
 
+    of_bits_fits : (width : ℕ) (enum : Option ℕ) (n : ℕ) → answer_of met here bytes (of_bits width enum n) ≡ Ok v → IsOfLeaf l v
+    of_bits_fits width enum n h = by (is_truth width enum) h
+      where
+        by : (b : Bool) → answer_of met here bytes (if b then Answer (values.Bool (not (n == 0))) else in_number enum (ranged (pos n))) ≡ Ok v → IsOfLeaf l v
+        by true h' = is_value (values.Bool (not (n == 0))) tt h'
+        by false h' = in_number_fits enum (ranged (pos n)) h'
+
+    bits_fit : (width : ℕ) (enum : Option ℕ) → answer_of met here bytes (bits_value l width enum) ≡ Ok v → IsOfLeaf l v
+    unfolding bits_value
+    bits_fit width enum h =
+        let b = goes_on (peek (byte_in l.from) (byte_of l.to)) (λ bs. bits_in width enum l bs) v h in
+        let n : ℕ = number_of (bits_from l.from l.to b.first) in
+        of_bits_fits width enum n (passed (nat_le (length b.first) 9) (of_bits width enum n) kinds.BadType v b.gave)
+
     fixed_fits : (wanted : List ℕ) → answer_of met here bytes (fixed_value l wanted) ≡ Ok v → IsOfLeaf l v
     unfolding fixed_value
     fixed_fits wanted h =
@@ -152,6 +167,7 @@ module _ (met : Node → Result Given Fault) (here : Trail) (bytes : List ℕ) w
     content_fits f contents.Bytes h = bytes_fit (cut_by f.extent f.terminator) h
     content_fits f (contents.Fixed bs) h = fixed_fits bs h
     content_fits f (contents.Number signed size order enum) h = number_fits signed order enum h
+    content_fits f (contents.Bits width enum) h = bits_fit width enum h
     content_fits f (contents.Characters encoding) h = text_fits encoding (cut_by f.extent f.terminator) h
     content_fits f (contents.Object t given) h = absurd (cc)
 

@@ -1,5 +1,6 @@
 -- The lemmas of this crate.
 pub mod Meeting
+pub mod Starts
 pub mod Forms
 pub mod Checking
 pub mod OwnFaults

@@ -5,7 +5,8 @@ use Rattle.std.proofs.lemmas.Bool.Decides.{nat_tests}
 use Rattle.std.proofs.lemmas.Grind.{common_steps}
 use Rattle.ksv_basics.specs.Plan.{Answer}
 use Rattle.ksv_expr_tree.specs.Tree.{Tree}
-use Rattle.ksv_expr_value.specs.Places.{Place, at_byte, byte_of}
+use Rattle.ksv_expr_value.specs.Places.{Place, at_byte, byte_of, aligned, further}
+use Rattle.ksv_expr_value.proofs.Places.{of_aligned}
 use Rattle.ksv_expr_value.specs.Setting.{Setting}
 use Rattle.ksv_expr_value.specs.Trail.{Trail, parent, last}
 use Rattle.ksv_expr_value.specs.declared.fault.Fault.{Fault}
@@ -15,7 +16,7 @@ use Rattle.ksv_expr_value.specs.declared.step.Step.TheVariants as steps
 use Rattle.ksv_expr_value.specs.declared.value.Stream.{Stream}
 use Rattle.ksv_expr_value.specs.declared.value.Value.{Value}
 use Rattle.ksv_expr_value.specs.declared.value.Value.TheVariants as values
-use Rattle.ksv_desc.specs.Description.{Description, MemberKind, Parameter, Attribute, ParseInstance, ValueInstance, Field, Content, Extent, Sized, SizeEos, ByItself, Repeat, Once, Eos, Expr, Until, Terminator}
+use Rattle.ksv_desc.specs.Description.{Choice, Description, MemberKind, Parameter, Attribute, ParseInstance, ValueInstance, Field, Content, Extent, Sized, SizeEos, ByItself, Repeat, Once, Eos, Expr, Until, Terminator}
 use Rattle.ksv_desc.specs.Description as contents
 use Rattle.ksv_nodes.specs.declared.node.Node.{Node}
 use Rattle.ksv_nodes.specs.declared.node.NodeKind.{NodeKind}
@@ -44,11 +45,12 @@ use Rattle.ksv_nodes.proofs.Looks.{range_reaches}
 use Rattle.ksv_rule_meaning.specs.Choosing.{Chosen, choose}
 use Rattle.ksv_rule_meaning.specs.Wanted.{in_object, expression, holds, size_of, stream_for}
 use Rattle.ksv_rule_meaning.specs.Fields.{members_of, Sought, member_named, last_attribute, kind_of, field_of}
-use Rattle.ksv_rule_meaning.specs.Heads.{member_setting, leaf, leaf_to_end, terminated_at, terminated, run_of, sized_leaf, bytes_at, sized_object, object_at, content_at, unchosen_at, chosen_at, shape_at, count_of, counted, until_eos, repeated, attribute_at, part_end, attribute_start, setting, origin_of, attribute_head, instance_setting, positioned_in, positioned, instance_head, calc, value_head, member_at, member_head, in_list, is_past, in_next, next_start, element_start, element_head, root_head, head_at, head_of}
+use Rattle.ksv_rule_meaning.specs.Heads.{member_setting, leaf, bits_leaf, leaf_to_end, terminated_at, terminated, run_of, sized_leaf, bytes_at, sized_object, object_at, content_at, unchosen_at, chosen_at, shape_at, count_of, counted, until_eos, repeated, attribute_at, part_end, start_after, attribute_start, setting, origin_of, attribute_head, instance_setting, positioned_in, positioned, instance_head, calc, value_head, member_at, member_head, in_list, is_past, in_next, next_start, element_start, element_head, root_head, head_at, head_of}
 use Rattle.ksv_rule_meaning.specs.Values.{in_no_stream, in_enum, instance_value, arguments_for, argument_at, argument_setting, plain_value, argument_value, parameter_value, calc_value, calculated, value_at, value_of}
 use Rattle.ksv_rule_meaning.specs.Ends.{stream_end, fields_end, object_end, part_rest, list_end, place_of, is_last, not_empty, element_end, end_at, end_of, next_rest, rest_behind, rest_from, in_whole_list, whole_rest, rest_at, rest_of}
 use Rattle.ksv_rule_meaning.specs.Meaning.{meaning_of}
 use Rattle.ksv_rule_meaning.specs.FromNothing.{answer_within, from_nothing}
+use Rattle.ksv_rule_laws.proofs.Starts.{of_start, at_most}
 use Rattle.ksv_rule_laws.specs.Laws.{IsOfLeaf, IsOfHead, IsEndIn, IsStreamIn, IsHomeIn, IsHeadIn, IsValueIn, IsIn, PlacesAreInFile}
 use Rattle.ksv_rule_laws.proofs.Forms.{ok_is, goes_on, asked_head, refused, made_of, value_is, put_in, meaning_is, ruled, no_depth}
 use Rattle.ksv_rule_laws.proofs.Ranges.{IsRanged, IsSettingIn, IsKnown, object_told, expression_in, stream_in}
@@ -153,9 +155,9 @@ module _ (met : Node → Result Given Fault) (here : Trail) (bytes : List ℕ) (
     is_in : (k : Head) → IsHeadIn size k → ◌≡◌ {A = Result Head Fault} (Ok k) (Ok h) → IsHeadIn size h
     is_in k kept e = subst (IsHeadIn size) (ok_is k h e) kept
 
-    either : (b : Bool) (q : ℕ) → q + 1 ≤ size → (if b then q + 1 else q) ≤ size
-    either true q le = le
-    either false q le = omega arith
+    either : (b : Bool) (q : ℕ) → q + 1 ≤ size → byte_of (at_byte (if b then q + 1 else q)) ≤ size
+    either true q le = at_most (q + 1) size le
+    either false q le = at_most q size (omega arith)
 
     -- what is read by a chosen case
     module _ (origin : Origin) (home : IsStreamIn (length bytes) origin.home) where
@@ -163,19 +165,26 @@ module _ (met : Node → Result Given Fault) (here : Trail) (bytes : List ℕ) (
       unfolding leaf
       leaf_in n e =
           let b = goes_on met here bytes (reach w (byte_of s + n)) _ h e in
-          let end = reached w (byte_of s + n) b.first b.was in
+          let end = at_most (byte_of s + n) size (reached w (byte_of s + n) b.first b.was) in
+          is_in _ (begins, end, end, home) b.gave
+
+      bits_in : (n : ℕ) → answer (bits_leaf origin w s n) ≡ Ok h → IsHeadIn size h
+      unfolding bits_leaf
+      bits_in n e =
+          let b = goes_on met here bytes (reach w (byte_of (further s n))) _ h e in
+          let end = reached w (byte_of (further s n)) b.first b.was in
           is_in _ (begins, end, end, home) b.gave
 
       to_end_in : answer (leaf_to_end origin w s) ≡ Ok h → IsHeadIn size h
       unfolding leaf_to_end
       to_end_in e =
           let b = goes_on met here bytes (finish w) _ h e in
-          let end = finished w b.first within.1 b.was in
+          let end = at_most b.first size (finished w b.first within.1 b.was) in
           is_in _ (begins, end, end, home) b.gave
 
       found_in : (t : Terminator) (q : Found) → IsFoundIn q → answer (terminated_at origin s t q) ≡ Ok h → IsHeadIn size h
       found_in t (founds.At q) le e = is_in _ (begins, either t.is_included q le, either t.is_consumed q le, home) e
-      found_in t (founds.Missing z) le e = is_in _ (begins, le, le, home) (refused met here bytes t.is_required _ kinds.NoTerminator h e)
+      found_in t (founds.Missing z) le e = is_in _ (begins, at_most z size le, at_most z size le, home) (refused met here bytes t.is_required _ kinds.NoTerminator h e)
 
       run_in : (t : Option Terminator) → answer (run_of origin w s t) ≡ Ok h → IsHeadIn size h
       unfolding run_of terminated
@@ -209,6 +218,7 @@ module _ (met : Node → Result Given Fault) (here : Trail) (bytes : List ℕ) (
       content_in at f contents.Bytes e = bytes_in at f.extent f.terminator e
       content_in at f (contents.Fixed bs) e = leaf_in (length bs) e
       content_in at f (contents.Number signed n order enum) e = leaf_in n e
+      content_in at f (contents.Bits width enum) e = bits_in width e
       content_in at f (contents.Characters encoding) e = bytes_in at f.extent f.terminator e
       content_in at f (contents.Object t given) e = object_in at t f.extent e
 
@@ -255,7 +265,7 @@ module _ (met : Node → Result Given Fault) (here : Trail) (bytes : List ℕ) (
         let n = goes_on met here bytes (size_of at e) _ h w.gave in
         let byte = w.first.from + n.first in
         let r = goes_on met here bytes (reach w.first byte) _ h n.gave in
-        repeated_in w.first (at_byte byte) (stream_in met here bytes lies at io w.first there w.was) (reached w.first byte r.first r.was) h origin home (record at { place = at_byte byte }) f f.repeat r.gave
+        repeated_in w.first (at_byte byte) (stream_in met here bytes lies at io w.first there w.was) (at_most byte size (reached w.first byte r.first r.was)) h origin home (record at { place = at_byte byte }) f f.repeat r.gave
 
     instance_in : (origin : Origin) (e : Tree) (io : Option Tree) (f : Field) → IsStreamIn size origin.home → answer (instance_head at origin e io f) ≡ Ok h → IsHeadIn size h
     unfolding instance_head
@@ -279,18 +289,19 @@ module _ (met : Node → Result Given Fault) (here : Trail) (bytes : List ℕ) (
 
   -- ---- members
 
-  start_in : (q : Trail) (o : Object) (before : Option ℕ) (s : Place) → IsObjectIn o → answer (attribute_start q o before) ≡ Ok s → byte_of s ≤ size
+  start_in : (q : Trail) (o : Object) (before : Option ℕ) (c : Choice) (s : Place) → IsObjectIn o → answer (attribute_start q o before c) ≡ Ok s → byte_of s ≤ size
   unfolding attribute_start
-  start_in q o None s within e = subst (λ (n : Place). byte_of n ≤ size) (ok_is o.start s e) within.0
-  start_in q o (Some y) s within e =
-      let b = goes_on met here bytes (part_end q (steps.Name y)) (λ x. Answer x.place) s e in
-      subst (λ (n : Place). byte_of n ≤ size) (ok_is b.first.place s b.gave) (part_end_lies q (steps.Name y) b.first b.was)
+  start_in q o None c s within e = subst (λ (n : Place). byte_of n ≤ size) (ok_is o.start s e) within.0
+  start_in q o (Some y) c s within e =
+      let b = goes_on met here bytes (part_end q (steps.Name y)) (λ x. Answer (start_after x.place c)) s e in
+      let le = part_end_lies q (steps.Name y) b.first b.was in
+      subst (λ (n : Place). byte_of n ≤ size) (ok_is (start_after b.first.place c) s b.gave) (rw (of_start b.first.place c) le)
 
   member_in : (p q : Trail) (o : Object) (x : Sought) (k : MemberKind) (h : Head) → IsObjectIn o → answer (member_at p q o x k) ≡ Ok h → IsHeadIn size h
   unfolding member_at attribute_head
   member_in p q o x (Attribute f) h within e =
-      let b = goes_on met here bytes (attribute_start q o x.before) _ h e in
-      attribute_in o.stream b.first within.1 (start_in q o x.before b.first within b.was) h (origin_of o x) within.1 _ f b.gave
+      let b = goes_on met here bytes (attribute_start q o x.before f.choice) _ h e in
+      attribute_in o.stream b.first within.1 (start_in q o x.before f.choice b.first within b.was) h (origin_of o x) within.1 _ f b.gave
   member_in p q o x Parameter h within e = subst (IsHeadIn size) (ok_is (calc o x) h e) within
   member_in p q o x (ParseInstance e io f) h within z = instance_in (instance_setting p q o) (within.1, tt) h (origin_of o x) e io f within.1 z
   member_in p q o x (ValueInstance v) h within z = calc_in (instance_setting p q o) (within.1, tt) h o x v.condition within z
@@ -329,7 +340,7 @@ module _ (met : Node → Result Given Fault) (here : Trail) (bytes : List ℕ) (
       shape_in g.first.stream s.first within.1 (element_start_in l g.first i s.first within s.was) h g.first.origin within.2 at f.first f.gave
 
   head_in : (d : Description) (p : Trail) (step : Option Step) (h : Head) → answer (head_at d p step) ≡ Ok h → IsHeadIn size h
-  head_in d p None h e = subst (IsHeadIn size) (ok_is root_head h e) (omega arith, (omega arith, tt), tt)
+  head_in d p None h e = subst (IsHeadIn size) (ok_is root_head h e) (at_most 0 size (omega arith), (omega arith, tt), tt)
   head_in d p (Some (steps.Name x)) h e = member_head_in d p (parent p) x h e
   head_in d p (Some (steps.Index i)) h e = element_in d p (parent p) (parent (parent p)) i h e
 
@@ -342,14 +353,15 @@ module _ (met : Node → Result Given Fault) (here : Trail) (bytes : List ℕ) (
   unfolding object_end fields_end stream_end
   object_end_in d p o endings.OfStream e within h =
       let b = goes_on met here bytes (finish o.stream) (λ n. Answer (at_byte n)) e h in
-      place_is (at_byte b.first) e (finished o.stream b.first within.1.1 b.was) b.gave
+      place_is (at_byte b.first) e (at_most b.first size (finished o.stream b.first within.1.1 b.was)) b.gave
   object_end_in d p o endings.ByFields e within h = by_last (last_attribute None (members_of d o.type_number)) h
     where
       by_last : (z : Option ℕ) → answer_of met here bytes (fields_end p o.start z) ≡ Ok e → byte_of e ≤ length bytes
       by_last None h' = place_is o.start e within.0 h'
       by_last (Some z) h' =
-          let b = goes_on met here bytes (part_end p (steps.Name z)) (λ x. Answer x.place) e h' in
-          place_is b.first.place e (part_end_lies p (steps.Name z) b.first b.was) b.gave
+          let b = goes_on met here bytes (part_end p (steps.Name z)) (λ x. Answer (aligned x.place)) e h' in
+          let le = part_end_lies p (steps.Name z) b.first b.was in
+          place_is (aligned b.first.place) e (rw (of_aligned b.first.place) le) b.gave
 
   place_in : (d : Description) (p : Trail) (h : Head) (e : Place) → IsHeadIn size h → answer (place_of d p h) ≡ Ok e → byte_of e ≤ size
   unfolding place_of list_end
@@ -389,11 +401,11 @@ module _ (met : Node → Result Given Fault) (here : Trail) (bytes : List ℕ) (
   unfolding rest_from next_rest
   rest_from_in p l i x z =
       let e = goes_on met here bytes (ask_end p) (λ y. rest_behind l i y) x z in
-      by_last e.first.last (end_lies p e.first e.was) e.gave
+      by_last e.first.last e.first.place (end_lies p e.first e.was) e.gave
     where
-      by_last : (b : Bool) {place : Place} → byte_of place ≤ length bytes → answer_of met here bytes (if b then Answer (record { count = i + 1; place = place }) else next_rest l i) ≡ Ok x → byte_of x.place ≤ length bytes
-      by_last true {place} le z' = rested_is (record { count = i + 1; place = place }) x le z'
-      by_last false {place} le z' = part_rest_lies l (steps.Index (i + 1)) x (refused met here bytes _ (part_rest l (steps.Index (i + 1))) kinds.TooMany x z')
+      by_last : (b : Bool) (place : Place) → byte_of place ≤ length bytes → answer_of met here bytes (if b then Answer (record { count = i + 1; place = place }) else next_rest l i) ≡ Ok x → byte_of x.place ≤ length bytes
+      by_last true place le z' = rested_is (record { count = i + 1; place = place }) x le z'
+      by_last false place le z' = part_rest_lies l (steps.Index (i + 1)) x (refused met here bytes _ (part_rest l (steps.Index (i + 1))) kinds.TooMany x z')
 
   whole_rest_in : (p l : Trail) (x : Rested) → answer (whole_rest p l) ≡ Ok x → byte_of x.place ≤ size
   unfolding whole_rest

@@ -2,7 +2,7 @@
 use Rattle.std.proofs.Common.{◌≡◌, ◌∙◌, ℕ, zero, suc, ◌+◌, ◌==◌, Bool, true, false, if◌then◌else◌, List, [], ◌∷◌, length, slice_get, Option, Some, None, Result, Ok, refl, sym, ap, subst, arith}
 use Rattle.ksv_basics.specs.Plan.{Answer}
 use Rattle.ksv_expr_tree.specs.Tree.{Tree}
-use Rattle.ksv_expr_value.specs.Places.{Place, at_byte, byte_of}
+use Rattle.ksv_expr_value.specs.Places.{Place, at_byte, byte_of, further}
 use Rattle.ksv_expr_value.specs.Setting.{Setting}
 use Rattle.ksv_expr_value.specs.Trail.{Trail, parent, last}
 use Rattle.ksv_expr_value.specs.declared.fault.Fault.{Fault}
@@ -30,7 +30,7 @@ use Rattle.ksv_nodes.specs.Truth.{answer_of}
 use Rattle.ksv_rule_meaning.specs.Wanted.{expression, in_object, holds, size_of, stream_for}
 use Rattle.ksv_rule_meaning.specs.Choosing.{Chosen, is_case_of, is_default, first_case, or_default, case_for, switched, choose}
 use Rattle.ksv_rule_meaning.specs.Fields.{members_of, behind, Sought, sought, in_sought, member_named, read_by, in_kind, kind_of, field_of}
-use Rattle.ksv_rule_meaning.specs.Heads.{leaf, leaf_to_end, terminated_at, terminated, run_of, sized_leaf, bytes_at, sized_object, object_at, content_at, unchosen_at, chosen_at, shape_at, count_of, counted, until_eos, repeated, attribute_at, origin_of, attribute_start, attribute_head, positioned_in, positioned, instance_head, calc, value_head, member_at, member_head, setting, in_list, element_start, within, element_head, root_head, head_at, head_of}
+use Rattle.ksv_rule_meaning.specs.Heads.{leaf, bits_leaf, leaf_to_end, terminated_at, terminated, run_of, sized_leaf, bytes_at, sized_object, object_at, content_at, unchosen_at, chosen_at, shape_at, count_of, counted, until_eos, repeated, attribute_at, origin_of, attribute_start, attribute_head, positioned_in, positioned, instance_head, calc, value_head, member_at, member_head, setting, in_list, element_start, within, element_head, root_head, head_at, head_of}
 use Rattle.ksv_rule_meaning.specs.Meaning.{meaning_of}
 use Rattle.ksv_rule_meaning.specs.FromNothing.{answer_within, from_nothing}
 use Rattle.ksv_rule_laws.specs.Laws.{Reads, IsFieldOf, IsReadBy, IsContentOf, IsLeafOf, IsObjectOf, IsCountedBy, IsObjectRead, IsCalculated, IsCalculatedBy, IsRead, HeadsAreRead}
@@ -155,6 +155,10 @@ module _ (met : Node → Result Given Fault) (here : Trail) (bytes : List ℕ) w
         unfolding leaf
         leaf_read n e = let b = goes_on met here bytes (reach w (byte_of s + n)) _ h e in so_read _ (own, tt) b.gave
 
+        bits_read : (n : ℕ) → answer (bits_leaf origin w s n) ≡ Ok h → IsReadSo d h
+        unfolding bits_leaf
+        bits_read n e = let b = goes_on met here bytes (reach w (byte_of (further s n))) _ h e in so_read _ (own, tt) b.gave
+
         sized_read : (at : Setting) (e : Tree) → answer (sized_leaf at origin w s e) ≡ Ok h → IsReadSo d h
         unfolding sized_leaf
         sized_read at e z = let b = goes_on met here bytes (size_of at e) _ h z in leaf_read b.first b.gave
@@ -194,6 +198,7 @@ module _ (met : Node → Result Given Fault) (here : Trail) (bytes : List ℕ) w
       content_read at f contents.Bytes own is e = bytes_read (record { field = f; is = own; so = (contents.Bytes, is, tt) }) at f.extent f.terminator e
       content_read at f (contents.Fixed bs) own is e = leaf_read (record { field = f; is = own; so = (contents.Fixed bs, is, tt) }) (length bs) e
       content_read at f (contents.Number signed n order enum) own is e = leaf_read (record { field = f; is = own; so = (contents.Number signed n order enum, is, tt) }) n e
+      content_read at f (contents.Bits width enum) own is e = bits_read (record { field = f; is = own; so = (contents.Bits width enum, is, tt) }) width e
       content_read at f (contents.Characters encoding) own is e = bytes_read (record { field = f; is = own; so = (contents.Characters encoding, is, tt) }) at f.extent f.terminator e
       content_read at f (contents.Object t given) own is e = object_read at t f.extent (record { field = f; is = own; so = (given, is) }) e
 
@@ -321,7 +326,7 @@ module _ (met : Node → Result Given Fault) (here : Trail) (bytes : List ℕ) w
       by_kind : (k : MemberKind) → m.kind ≡ k → answer_of met here bytes (member_at p q o m k) ≡ Ok h → IsReadSo d h
       by_kind Parameter is e' = calc_read d h o m (calculated Parameter is tt) object e'
       by_kind (Attribute f) is e' =
-          let b = goes_on met here bytes (attribute_start q o m.before) _ h e' in
+          let b = goes_on met here bytes (attribute_start q o m.before f.choice) _ h e' in
           attribute_read d h (origin_of o m) f (field (Attribute f) f is refl) refl _ o.stream b.first b.gave
       by_kind (ParseInstance at io f) is e' = instance_read d h (origin_of o m) f (field (ParseInstance at io f) f is refl) refl _ at io e'
       by_kind (ValueInstance v) is e' = value_read d h o m (calculated (ValueInstance v) is tt) object _ v.condition e'

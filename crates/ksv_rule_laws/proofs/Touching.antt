@@ -2,7 +2,7 @@
 use Rattle.std.proofs.Common.{◌≡◌, ◌∙◌, ℕ, zero, suc, ◌+◌, ◌-◌, ◌==◌, Bool, true, false, if◌then◌else◌, ◌||◌, List, ◌∷◌, length, Option, Some, None, Result, Ok, Err, refl, sym, ap, subst, arith}
 use Rattle.std.proofs.lemmas.Bool.Decides.{nat_tests}
 use Rattle.ksv_basics.specs.Plan.{Answer}
-use Rattle.ksv_expr_value.specs.Places.{Place, byte_of}
+use Rattle.ksv_expr_value.specs.Places.{Place, byte_of, further}
 use Rattle.ksv_expr_value.specs.Setting.{Setting}
 use Rattle.ksv_expr_value.specs.Trail.{Trail, child, parent, last}
 use Rattle.ksv_expr_value.specs.declared.fault.Fault.{Fault}
@@ -26,7 +26,7 @@ use Rattle.ksv_nodes.specs.Truth.{answer_of, with_given}
 use Rattle.ksv_rule_meaning.specs.Wanted.{size_of}
 use Rattle.ksv_rule_meaning.specs.Choosing.{Chosen, choose}
 use Rattle.ksv_rule_meaning.specs.Fields.{field_of}
-use Rattle.ksv_rule_meaning.specs.Heads.{leaf, leaf_to_end, terminated_at, terminated, run_of, sized_leaf, bytes_at, sized_object, object_at, content_at, unchosen_at, chosen_at, shape_at, part_end, in_list, is_past, in_next, next_start, element_start, element_head, head_at, head_of}
+use Rattle.ksv_rule_meaning.specs.Heads.{leaf, bits_leaf, leaf_to_end, terminated_at, terminated, run_of, sized_leaf, bytes_at, sized_object, object_at, content_at, unchosen_at, chosen_at, shape_at, part_end, in_list, is_past, in_next, next_start, element_start, element_head, head_at, head_of}
 use Rattle.ksv_rule_meaning.specs.Ends.{start_of}
 use Rattle.ksv_rule_meaning.specs.Meaning.{meaning_of}
 use Rattle.ksv_rule_meaning.specs.FromNothing.{answer_within, from_nothing}
@@ -43,6 +43,10 @@ module _ (met : Node → Result Given Fault) (here : Trail) (bytes : List ℕ) w
     leaf_at : (origin : Origin) (w : Stream) (n : ℕ) → answer_of met here bytes (leaf origin w s n) ≡ Ok h → start_of h ≡ s
     unfolding leaf
     leaf_at origin w n e = let b = goes_on met here bytes (reach w (byte_of s + n)) _ h e in is_at _ refl b.gave
+
+    bits_at : (origin : Origin) (w : Stream) (n : ℕ) → answer_of met here bytes (bits_leaf origin w s n) ≡ Ok h → start_of h ≡ s
+    unfolding bits_leaf
+    bits_at origin w n e = let b = goes_on met here bytes (reach w (byte_of (further s n))) _ h e in is_at _ refl b.gave
 
     to_end_at : (origin : Origin) (w : Stream) → answer_of met here bytes (leaf_to_end origin w s) ≡ Ok h → start_of h ≡ s
     unfolding leaf_to_end
@@ -77,6 +81,7 @@ module _ (met : Node → Result Given Fault) (here : Trail) (bytes : List ℕ) w
     content_is_at at origin w f contents.Bytes e = bytes_are_at at origin w f.extent f.terminator e
     content_is_at at origin w f (contents.Fixed bs) e = leaf_at origin w (length bs) e
     content_is_at at origin w f (contents.Number signed size order enum) e = leaf_at origin w size e
+    content_is_at at origin w f (contents.Bits width enum) e = bits_at origin w width e
     content_is_at at origin w f (contents.Characters encoding) e = bytes_are_at at origin w f.extent f.terminator e
     content_is_at at origin w f (contents.Object t given) e = object_is_at at origin t w f.extent e
 

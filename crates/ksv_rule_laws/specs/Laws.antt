@@ -1,6 +1,6 @@
 -- Laws of what nodes answer. They speak of the definitions alone: an error that a rule and its function had in common would break
 -- them. These laws are this project's own.
-use Rattle.std.specs.Prelude.{◌≡◌, ◌↔◌, ℕ, ◌+◌, ◌==◌, ◌<◌, ◌≤◌, ◌⊎◌, slice_get, Bool, true, false, List, [], ◌∷◌, ◌++◌, Contains, length, Option, Some, None, Result, Ok, Err}
+use Rattle.std.specs.Prelude.{◌≡◌, ◌↔◌, ℕ, ◌+◌, ◌%◌, ◌==◌, ◌<◌, ◌≤◌, ◌⊎◌, slice_get, Bool, true, false, List, [], ◌∷◌, ◌++◌, Contains, length, Option, Some, None, Result, Ok, Err}
 use Rattle.std.specs.List.{AllByRecursion}
 use Rattle.ksv_expr_value.specs.Places.{Place, byte_of}
 use Rattle.ksv_expr_value.specs.Setting.{Setting, Made}
@@ -74,9 +74,10 @@ AnswersStay = (d : Description) (bytes : List ℕ) (opened others : List Node) (
 
 -- ---- values
 
--- the value of a leaf: an integer, a member of an enum, a text, or bytes from the leaf's first one on
+-- the value of a leaf: an integer, a truth value, a member of an enum, a text, or bytes from the leaf's first one on
 abbrev pub IsOfLeaf : Leaf → Value → Type 0
 IsOfLeaf l (values.Int n) = Unit {0}
+IsOfLeaf l (values.Bool b) = Unit {0}
 IsOfLeaf l (values.Member e n) = Unit {0}
 IsOfLeaf l (values.Text t) = Unit {0}
 IsOfLeaf l (values.Bytes from to) = (from ≡ byte_of l.from) × (to ≤ byte_of l.to)
@@ -269,14 +270,36 @@ pub record EndsAt (met : Node → Result Given Fault) (q : Trail) (step : Step) 
   pub is_last : Bool
   pub ended : met (end_node path) ≡ Ok (givens.End place is_last)
 
--- The first attribute of a type begins where its object does, and each further one where the one before it ends.
+-- bits are read each time
+abbrev pub AreBits : Choice → Type 0
+AreBits (Always (contents.Bits width enum)) = Unit {0}
+AreBits _ = ⊥
+
+-- a byte begins at the second place, and none begins between the two: fewer than 8 bits are passed over
+pub record IsNextByte (e s : Place) : Type 0 where
+  pub begins : s.bits % 8 ≡ 0
+  pub behind : e.bits ≤ s.bits
+  pub near : s.bits < e.bits + 8
+
+-- what an attribute reads after a place begins there if it is bits, and else at the next byte
+abbrev pub BeginsAfter : MemberKind → Place → Place → Type 0
+BeginsAfter (Attribute f) e s = (AreBits f.choice → s ≡ e) × ((AreBits f.choice → ⊥) → IsNextByte e s)
+BeginsAfter _ e s = ⊥
+
+-- the part of q to which this step leads ends somewhere, and a member begins after that place
+pub record FollowsPart (met : Node → Result Given Fault) (q : Trail) (step : Step) (k : MemberKind) (s : Place) : Type 0 where
+  pub place : Place
+  pub ends : EndsAt met q step place
+  pub begins : BeginsAfter k place s
+
+-- The first attribute of a type begins where its object does, and each further one after the one before it.
 abbrev pub FirstAttributesBegin : Type 0
 FirstAttributesBegin = (d : Description) (bytes : List ℕ) (opened : List Node) (p : Trail) (x : ℕ) (h : Head) (o : Object) → last p ≡ Some (Name x) → from_nothing d bytes opened (head_node p) ≡ Ok (givens.Head h)
     → from_nothing d bytes opened (head_node (parent p)) ≡ Ok (givens.Head (heads.Object o)) → IsFirst (members_of d o.type_number) x → start_of h ≡ o.start
 
 abbrev pub AttributesTouch : Type 0
 AttributesTouch = (d : Description) (bytes : List ℕ) (opened : List Node) (p : Trail) (x y : ℕ) (h : Head) (o : Object) → last p ≡ Some (Name x) → from_nothing d bytes opened (head_node p) ≡ Ok (givens.Head h)
-    → from_nothing d bytes opened (head_node (parent p)) ≡ Ok (givens.Head (heads.Object o)) → Follows (members_of d o.type_number) y x → EndsAt (from_nothing d bytes opened) (parent p) (Name y) (start_of h)
+    → from_nothing d bytes opened (head_node (parent p)) ≡ Ok (givens.Head (heads.Object o)) → (two : Follows (members_of d o.type_number) y x) → FollowsPart (from_nothing d bytes opened) (parent p) (Name y) two.second.kind (start_of h)
 
 -- ---- elements
 

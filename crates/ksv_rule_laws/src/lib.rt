@@ -18,13 +18,14 @@
 //! - `Circles`: a circle comes from nodes that ask for each other, and from no rule
 //! - `Counting`: the count of a list is that of the elements that end
 //! - `Enclosing`: what is read is in the stream of the object or list that holds it
-//! - `Following`: an attribute begins where the one before it ends
+//! - `Following`: an attribute begins after the one before it
 //! - `Forms`: an answer has its node's form, and a value fits its head
 //! - `Meeting`: what an expression answers in a rule where each node has an answer
 //! - `OwnFaults`: no expression fails as a circle
 //! - `Places`: each place in an answer is in the file
 //! - `Ranges`: places in the value of an expression are in the file
 //! - `Sources`: what is at a path is read by a member of the description
+//! - `Starts`: places, and the bytes beside them
 //! - `Touching`: an element begins where the one before it ends
 #![tactic(auto)]
 
