@@ -1,10 +1,10 @@
 //! What an attribute, or one of its elements, reads at a place.
 #![tactic(auto)]
 
-ghost use Rattle.std.specs.Prelude.{◌≡◌, IfOk, option_map};
+ghost use Rattle.std.specs.Prelude.{◌≡◌, ◌+◌, ◌≤◌, IfOk, option_map};
 ghost use Rattle.ksv_bytes.specs.Edits.{file_limit};
 ghost use Rattle.ksv_expr_tree.specs.Tree.{view};
-ghost use Rattle.ksv_expr_value.specs.Places.{byte_of, further};
+ghost use Rattle.ksv_expr_value.specs.Places.{byte_of, further, last_place};
 ghost use Rattle.ksv_desc.specs.Pieces.{plain_content, plain_extent, plain_terminator, plain_field};
 ghost use Rattle.ksv_nodes.specs.Rule.{reach};
 ghost use Rattle.ksv_nodes.specs.Turning.{Runs, StandsBelow};
@@ -40,14 +40,13 @@ fn leaf(
     }))
 }
 
-/// The place that many bits after another. The stream and the file must go on to the byte after those that they meet.
-fn reach_bits(turn: &mut Turn, stream: Stream, start: Place, width: u8) -> Result<Place, Halt>
+/// The number of the byte after those that so many bits from a place on meet. The stream and the file must go on to it.
+fn reach_bits(turn: &mut Turn, stream: Stream, start: Place, width: u8) -> Result<u32, Halt>
     ensures runs { Runs (reach stream (byte_of (further start width))) (λ _. tt) turn.old turn.new result }
-    ensures place { IfOk result (λ to. to ≡ further start width) }
+    ensures fits { IfOk result (λ _. start.bits + width ≤ last_place) }
 {
     let size = (u64::from(start.bit_in()) + u64::from(width) + 7) / 8;
-    turn.reach(stream, start.byte_in(), size)?;
-    Ok(start.further(width))
+    turn.reach(stream, start.byte_in(), size)
 }
 
 /// That many bits from a place on.
@@ -61,7 +60,8 @@ fn bits_leaf(
 ) -> Result<Head, Halt>
     ensures { Runs (bits_leaf origin stream start width) (λ head. head) turn.old turn.new result }
 {
-    let to = reach_bits(turn, stream, start, width)?;
+    reach_bits(turn, stream, start, width)?;
+    let to = start.further(width);
     Ok(Head::Leaf(Leaf {
         origin,
         from: start,

@@ -26,7 +26,7 @@ use ksv_nodes::{Halt, Head, Leaf, Turn, first_in_parts};
 fn peeked<'a>(turn: &mut Turn<'a>, from: u32, to: u32) -> Result<Parts<'a>, Halt>
     ensures runs { Runs (peek from to) content turn.old turn.new result }
     ensures fits { IfOk result (λ parts. from + length (content parts) ≡ to) }
-    ensures small { IfOk result (λ parts. length (content parts) < 4294967296) }
+    ensures small { IfOk result (λ parts. from + length (content parts) < 4294967296) }
 {
     let parts = turn.peek(from, to)?;
     Ok(parts)
@@ -36,7 +36,7 @@ fn peeked<'a>(turn: &mut Turn<'a>, from: u32, to: u32) -> Result<Parts<'a>, Halt
 fn bytes_of<'a>(turn: &mut Turn<'a>, leaf: &Leaf) -> Result<Parts<'a>, Halt>
     ensures runs { Runs (peek (byte_of leaf.now.from) (byte_of leaf.now.to)) content turn.old turn.new result }
     ensures fits { IfOk result (λ parts. byte_of leaf.now.from + length (content parts) ≡ byte_of leaf.now.to) }
-    ensures small { IfOk result (λ parts. length (content parts) < 4294967296) }
+    ensures small { IfOk result (λ parts. byte_of leaf.now.from + length (content parts) < 4294967296) }
 {
     peeked(turn, leaf.from.byte(), leaf.to.byte())
 }
@@ -45,7 +45,7 @@ fn bytes_of<'a>(turn: &mut Turn<'a>, leaf: &Leaf) -> Result<Parts<'a>, Halt>
 fn met_bytes<'a>(turn: &mut Turn<'a>, leaf: &Leaf) -> Result<Parts<'a>, Halt>
     ensures runs { Runs (peek (byte_in leaf.now.from) (byte_of leaf.now.to)) content turn.old turn.new result }
     ensures fits { IfOk result (λ parts. byte_in leaf.now.from + length (content parts) ≡ byte_of leaf.now.to) }
-    ensures small { IfOk result (λ parts. length (content parts) < 4294967296) }
+    ensures small { IfOk result (λ parts. byte_in leaf.now.from + length (content parts) < 4294967296) }
 {
     peeked(turn, leaf.from.byte_in(), leaf.to.byte())
 }
