@@ -72,10 +72,10 @@ asked_is d depth b question a e =
     let m = mapped (λ r. said b (told d r ++ codes "\n")) (outcome_to d depth b (asking d b question)) a e in
     ap (λ r. said b (told d r ++ codes "\n")) (outcome_is d depth b (asking d b question) m.0 m.1) ∙ m.2
 
-written_is : (d : Description) (depth : ℕ) (b : List ℕ) (path : Trail) (n : ℤ) (a : Answer) → writing_answer d depth b path n ≡ Some a → put_answer d b (outcome d b (put_question d path n)) ≡ a
+written_is : (d : Description) (depth : ℕ) (b : List ℕ) (path : Trail) (n : ℤ) (a : Answer) → writing_answer d depth b path n ≡ Some a → put_answer d b (outcome d b (put_question d b path n)) ≡ a
 written_is d depth b path n a e =
-    let m = mapped (put_answer d b) (outcome_to d depth b (put_question d path n)) a e in
-    ap (put_answer d b) (outcome_is d depth b (put_question d path n) m.0 m.1) ∙ m.2
+    let m = mapped (put_answer d b) (outcome_to d depth b (put_question d b path n)) a e in
+    ap (put_answer d b) (outcome_is d depth b (put_question d b path n) m.0 m.1) ∙ m.2
 
 pub line_is : (d : Description) (depth : ℕ) (b : List ℕ) (t : Tally) (line : List ℕ) (a : Answer) → line_answer d depth b t line ≡ Some a → answer_to d b t (command_of d line) ≡ a
 line_is d depth b t line a e = answer_by d b t (question_answer d depth b) (writing_answer d depth b) a (λ question. asked_is d depth b question a) (λ path n. written_is d depth b path n a) (command_of d line) e

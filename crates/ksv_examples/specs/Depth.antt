@@ -99,7 +99,7 @@ abbrev pub question_answer : Description → ℕ → List ℕ → Question → O
 question_answer d depth bytes question = option_map (λ r. said bytes (told d r ++ codes "\n")) (outcome_to d depth bytes (asking d bytes question))
 
 abbrev pub writing_answer : Description → ℕ → List ℕ → Trail → ℤ → Option Replied
-writing_answer d depth bytes path n = option_map (put_answer d bytes) (outcome_to d depth bytes (put_question d path n))
+writing_answer d depth bytes path n = option_map (put_answer d bytes) (outcome_to d depth bytes (put_question d bytes path n))
 
 -- the examples of `Dialogues` have no line `stats`, so that what it would tell doesn't matter
 abbrev pub untold : Tally

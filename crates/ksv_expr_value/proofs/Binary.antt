@@ -77,11 +77,11 @@ number_small (x ∷ xs) a =
     let one : suc (length xs) ≡ length xs + 1 = omega arith in
     let power : 2 ^ suc (length xs) ≡ 2 ^ length xs * 2 = ap (λ k. 2 ^ k) one ∙ pow_more 2 (length xs) in
     by x a.0 (number_small xs a.1) power
-    where
-      by : (y : ℕ) → y < 2 → number_of xs < 2 ^ length xs → 2 ^ suc (length xs) ≡ 2 ^ length xs * 2 → y * 2 ^ length xs + number_of xs < 2 ^ suc (length xs)
-      by zero low small power = omega (arith, small, power)
-      by (suc zero) low small power = omega (arith, small, power)
-      by (suc (suc y)) low small power = absurd (omega (arith, low))
+  where
+    by : (y : ℕ) → y < 2 → number_of xs < 2 ^ length xs → 2 ^ suc (length xs) ≡ 2 ^ length xs * 2 → y * 2 ^ length xs + number_of xs < 2 ^ suc (length xs)
+    by zero low small power = omega (arith, small, power)
+    by (suc zero) low small power = omega (arith, small, power)
+    by (suc (suc y)) low small power = absurd (omega (arith, low))
 
 -- ---- some of them, among others
 
@@ -193,3 +193,44 @@ field_number from to bytes meets = by (cases_lt to.bits from.bits)
 -- how many numbers so many bits write, as a shift
 pub count_unit : (n : ℕ) → n ≤ 72 → 1 * 2 ^ n % 340282366920938463463374607431768211456 ≡ 2 ^ n
 count_unit n few = one_shl n 128 (omega arith)
+
+-- ---- bits by their number
+
+-- as many bits that write one number are the same
+pub number_one : (xs ys : List ℕ) → AreBits xs → AreBits ys → length xs ≡ length ys → number_of xs ≡ number_of ys → xs ≡ ys
+number_one [] [] a b long is = refl
+number_one [] (y ∷ ys) a b long is = absurd (omega (arith, long))
+number_one (x ∷ xs) [] a b long is = absurd (omega (arith, long))
+number_one (x ∷ xs) (y ∷ ys) a b long is =
+    let count : length xs ≡ length ys = omega (arith, long) in
+    let power : 2 ^ length xs ≡ 2 ^ length ys = ap (λ k. 2 ^ k) count in
+    let low = number_small xs a.1 in
+    let low' : number_of ys < 2 ^ length xs = omega (arith, power, number_small ys b.1) in
+    let same : x * 2 ^ length xs + number_of xs ≡ y * 2 ^ length xs + number_of ys = is ∙ ap (λ k. y * k + number_of ys) (sym power) in
+    let first : x ≡ y = sym (div-mul-add x (2 ^ length xs) (number_of xs) low) ∙ ap (λ n. n / 2 ^ length xs) same ∙ div-mul-add y (2 ^ length xs) (number_of ys) low' in
+    let rest : number_of xs ≡ number_of ys = sym (mod-mul-add x (2 ^ length xs) (number_of xs) low) ∙ ap (λ n. n % 2 ^ length xs) same ∙ mod-mul-add y (2 ^ length xs) (number_of ys) low' in
+    ap (λ z. z ∷ xs) first ∙ ap (λ zs. y ∷ zs) (number_one xs ys a.1 b.1 count rest)
+
+-- others in the place of some: the number that all write then
+pub number_replaced : (bits : List ℕ) (k width below n : ℕ) → AreBits bits → length bits ≡ k + width + below → n < 2 ^ width
+    → number_of (take k bits ++ (bits_of_number width n ++ drop (k + width) bits)) ≡ (number_of bits / 2 ^ (below + width) * 2 ^ width + n) * 2 ^ below + number_of bits % 2 ^ below
+number_replaced bits k width below n are long small =
+    let above = take k bits in
+    let rest = drop k bits in
+    let front = take (k + width) bits in
+    let last = drop (k + width) bits in
+    let count : length last ≡ below = omega (arith, length-drop (k + width) bits) in
+    let rests : length rest ≡ below + width = omega (arith, length-drop k bits) in
+    let low : number_of last < 2 ^ below = rw (← count) (number_small last (are_back front last (rw (take-append-drop (k + width) bits) are))) in
+    let rest_low : number_of rest < 2 ^ (below + width) = rw (← rests) (number_small rest (are_back above rest (rw (take-append-drop k bits) are))) in
+    let whole : number_of bits ≡ number_of above * 2 ^ (below + width) + number_of rest = ap number_of (sym (take-append-drop k bits)) ∙ number_append above rest ∙ ap (λ m. number_of above * 2 ^ m + number_of rest) rests in
+    let whole' : number_of bits ≡ number_of front * 2 ^ below + number_of last = ap number_of (sym (take-append-drop (k + width) bits)) ∙ number_append front last ∙ ap (λ m. number_of front * 2 ^ m + number_of last) count in
+    let high : number_of bits / 2 ^ (below + width) ≡ number_of above = ap (λ m. m / 2 ^ (below + width)) whole ∙ div-mul-add (number_of above) (2 ^ (below + width)) (number_of rest) rest_low in
+    let lowest : number_of bits % 2 ^ below ≡ number_of last = ap (λ m. m % 2 ^ below) whole' ∙ mod-mul-add (number_of front) (2 ^ below) (number_of last) low in
+    let new = bits_of_number width n in
+    let wide : length (new ++ last) ≡ width + below = omega (arith, length-append new last, count_bits width n) in
+    let inner : number_of (new ++ last) ≡ n * 2 ^ below + number_of last = number_append new last ∙ ap (λ m. number_of new * 2 ^ m + number_of last) count ∙ ap (λ m. m * 2 ^ below + number_of last) (number_bits width n small) in
+    let outer : number_of above * 2 ^ (width + below) ≡ number_of above * 2 ^ width * 2 ^ below = ap (λ m. number_of above * m) (pow-add 2 width below) ∙ sym (mul_assoc (number_of above) (2 ^ width) (2 ^ below)) in
+    let made : number_of (above ++ (new ++ last)) ≡ (number_of above * 2 ^ width + n) * 2 ^ below + number_of last =
+    omega (arith, number_append above (new ++ last) ∙ ap (λ m. number_of above * 2 ^ m + number_of (new ++ last)) wide, inner, outer, add-mul (number_of above * 2 ^ width) n (2 ^ below)) in
+    made ∙ ap (λ m. (m * 2 ^ width + n) * 2 ^ below + number_of last) (sym high) ∙ ap (λ m. (number_of bits / 2 ^ (below + width) * 2 ^ width + n) * 2 ^ below + m) (sym lowest)

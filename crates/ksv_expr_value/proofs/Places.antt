@@ -41,3 +41,13 @@ few_left p = omega arith
 pub few_between : (from to : Place) (size : ℕ) → byte_in from + size ≡ byte_of to → bits_between from to ≤ 8 * size
 unfolding byte_of byte_in
 few_between from to size e = omega arith
+
+-- the bytes beside two places are in the places' order
+pub bytes_ordered : (from to : Place) → from.bits ≤ to.bits → byte_in from ≤ byte_of to
+unfolding byte_of byte_in
+bytes_ordered from to le = omega arith
+
+-- a place by the byte that it is in
+pub by_byte : (p : Place) → p.bits ≡ 8 * byte_in p + bit_in p
+unfolding byte_in bit_in
+by_byte p = omega arith

@@ -19,18 +19,18 @@ fn with_bytes(above: u128, bytes: &[u8]) -> u128
     value
 }
 
-/// The number that all bits of at most nine bytes write.
-#[tactic(auto, using(crate::proofs::Binary::bytes_joined, crate::proofs::Binary::bytes_small))]
-fn number_of(parts: Parts) -> u128
-    requires { length (content parts) ≤ 9 }
-    ensures value { result ≡ number_of (bits_of (content parts.entry)) }
-    ensures small { result < 2 ^ 72 }
-{
-    let front = with_bytes(0, parts.front);
-    with_bytes(front, parts.back)
-}
-
 impl<'a> Parts<'a> {
+    /// The number that all their bits write. They are at most nine bytes.
+    #[tactic(auto, using(crate::proofs::Binary::bytes_joined, crate::proofs::Binary::bytes_small))]
+    pub fn number(self) -> u128
+        requires { length (content self) ≤ 9 }
+        ensures value { result ≡ number_of (bits_of (content self.entry)) }
+        ensures small { result < 2 ^ 72 }
+    {
+        let front = with_bytes(0, self.front);
+        with_bytes(front, self.back)
+    }
+
     /// The number that the bits from one place to another write. The bytes are those that these bits meet: from the byte in which the
     /// first place is, to the first byte that doesn't begin before the other; at most nine.
     #[tactic(auto, using(crate::proofs::Places::few_left))]
@@ -40,6 +40,6 @@ impl<'a> Parts<'a> {
         ensures value { result ≡ number_of (bits_from from to (content self.entry)) }
         ensures small { result < 2 ^ 72 }
     {
-        (number_of(self) >> to.bits_left()) % (1_u128 << from.bits_to(to))
+        (self.number() >> to.bits_left()) % (1_u128 << from.bits_to(to))
     }
 }

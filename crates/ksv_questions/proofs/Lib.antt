@@ -7,3 +7,4 @@ pub mod Cases
 pub mod Dumping
 pub mod Exact
 pub mod ReadBack
+pub mod Written

@@ -3,7 +3,7 @@ use Rattle.std.specs.Fmt.{signed_decimal}
 use Rattle.std.specs.Prelude.{ℕ, List, ◌++◌, codes, decimal, Option, Some, None}
 use Rattle.ksv_basics.specs.Plan.{Answer, ◌>>=◌}
 use Rattle.ksv_desc.specs.Description.{Description, members, type_id}
-use Rattle.ksv_expr_value.specs.Places.{Place, byte_of}
+use Rattle.ksv_expr_value.specs.Places.{Place}
 use Rattle.ksv_expr_value.specs.Trail.{Trail, child}
 use Rattle.ksv_expr_value.specs.declared.fault.FaultKind.TheVariants as kinds
 use Rattle.ksv_expr_value.specs.declared.step.Step.TheVariants.{Index}
@@ -14,7 +14,7 @@ use Rattle.ksv_nodes.specs.declared.given.Given.{Given}
 use Rattle.ksv_nodes.specs.declared.given.Given.TheVariants as givens
 use Rattle.ksv_nodes.specs.declared.given.Head.{Head}
 use Rattle.ksv_nodes.specs.declared.given.Head.TheVariants as heads
-use Rattle.ksv_texts.specs.Texts.{bytes_text, member_text, names_text, quoted_text, truth_text}
+use Rattle.ksv_texts.specs.Texts.{bytes_text, member_text, names_text, place_text, quoted_text, truth_text}
 use Rattle.ksv_questions.specs.Asking.{Asking, ask, fault_of_kind, misfit}
 
 -- what is at a path
@@ -101,7 +101,7 @@ ask_end p = do
 unfoldable pub from_place : Trail → Place → Asking (List ℕ)
 from_place p from = do
   to ← ask_end p
-  Answer (codes "at " ++ decimal (byte_of from) ++ codes " " ++ decimal (byte_of to))
+  Answer (codes "at " ++ place_text from ++ codes " " ++ place_text to)
 
 -- what is calculated has no place
 abbrev pub of_head : Trail → Head → Asking (List ℕ)

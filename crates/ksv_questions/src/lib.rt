@@ -44,6 +44,7 @@
 //! - `Fresh`: what two questions complete one after the other, and their costs
 //! - `ReadBack`: the bytes of an integer read as that integer
 //! - `Steps`: what running one question after another gives
+//! - `Written`: bits that are written are read as their number, and no other bit changes
 #![tactic(auto)]
 
 mod asking;
@@ -62,7 +63,7 @@ mod told;
 
 pub use ksv_commands::Question;
 pub use ksv_texts::{Refusal, bytes_text, refusal_text};
-pub use laws::integers_are_read_back;
+pub use laws::{bits_are_written, integers_are_read_back};
 pub use put::{Overwrite, overwrite_for};
 pub use question::answer;
 pub use told::Told;

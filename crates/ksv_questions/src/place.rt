@@ -1,28 +1,28 @@
 //! `at`: where what is at a path begins and ends.
-ghost use Rattle.std.specs.Prelude.{◌++◌, codes, decimal, string_bytes};
+ghost use Rattle.std.specs.Prelude.{◌++◌, codes, string_bytes};
 ghost use Rattle.ksv_basics.specs.Plan.{Answer};
-ghost use Rattle.ksv_expr_value.specs.Places.{byte_of};
 ghost use Rattle.ksv_questions.specs.Code.{IsRightFor, RunsOn, Settles};
 ghost use Rattle.ksv_questions.specs.Questions.{from_place, of_head, place_question};
+ghost use Rattle.ksv_texts.specs.Texts.{place_text};
 
 use crate::asking::Untold;
 use crate::file::File;
 use crate::parts::{ask_end, ask_head};
-use itoa::Buffer as Digits;
 use ksv_expr_value::{Path, Place};
 use ksv_memo::Engine;
 use ksv_nodes::Head;
 use ksv_rule_meaning::{Described, NodeRules};
+use ksv_texts::push_place;
 use std::alloc::Global;
 
 /// Where something begins and ends.
 fn places_text(alloc: Global, from: Place, to: Place) -> Result<String, Untold>
-    ensures { Settles (Answer (codes "at " ++ decimal (byte_of from) ++ codes " " ++ decimal (byte_of to))) (λ text. string_bytes text) result }
+    ensures { Settles (Answer (codes "at " ++ place_text from ++ codes " " ++ place_text to)) (λ text. string_bytes text) result }
 {
     let mut text = String::from_str(alloc, "at ")?;
-    text.push_str(Digits::new().format(from.byte()))?;
+    push_place(&mut text, from)?;
     text.push_str(" ")?;
-    text.push_str(Digits::new().format(to.byte()))?;
+    push_place(&mut text, to)?;
     Ok(text)
 }
 

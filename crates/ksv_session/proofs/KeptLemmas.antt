@@ -278,7 +278,7 @@ module _ (p : Pieces) (b : List ℕ) (e : Memo Node Heard) (turns : Option ℕ) 
       let ask : Description → List ℕ → List Node = λ d b. asks d b (asking d b question) in
       refused_holds ask e e refl (some_none (world (plain_pieces p) b) e (ask (plain_pieces p) b) right)
   unread_holds right (Put path n) told =
-      let ask : Description → List ℕ → List Node = λ d b. asks d b (put_question d path n) in
+      let ask : Description → List ℕ → List Node = λ d b. asks d b (put_question d b path n) in
       refused_holds ask e e refl (some_none (world (plain_pieces p) b) e (ask (plain_pieces p) b) right)
   unread_holds right Blank told = absurd (cc)
   unread_holds right (Refused refusal) told = absurd (cc)

@@ -31,7 +31,7 @@ question_may b Quit h = absurd (cc)
 -- examples of ksv_examples cite it.)
 pub answer_by : (d : Description) (b : List ℕ) (t : Tally) (ask : Question → Option Answer) (put : Trail → ℤ → Option Answer) (a : Answer)
     → ((question : Question) → ask question ≡ Some a → said b (question_text d b question ++ codes "\n") ≡ a)
-    → ((path : Trail) (n : ℤ) → put path n ≡ Some a → put_answer d b (outcome d b (put_question d path n)) ≡ a)
+    → ((path : Trail) (n : ℤ) → put path n ≡ Some a → put_answer d b (outcome d b (put_question d b path n)) ≡ a)
     → (command : Command) → by_asking ask put (Some (answer_to d b t command)) command ≡ Some a → answer_to d b t command ≡ a
 answer_by d b t ask put a asked written (Ask question) e = asked question e
 answer_by d b t ask put a asked written (Put path n) e = written path n e

@@ -47,7 +47,7 @@ abbrev pub memory_after : Description → List ℕ → Command → Memory → Me
 memory_after d b Blank m = m
 memory_after d b (Refused refusal) m = m
 memory_after d b (Ask question) m = after_asking d b (asks d b (asking d b question)) m
-memory_after d b (Put path n) m = after_put d b (outcome d b (put_question d path n)) (after_asking d b (asks d b (put_question d path n)) m)
+memory_after d b (Put path n) m = after_put d b (outcome d b (put_question d b path n)) (after_asking d b (asks d b (put_question d b path n)) m)
 memory_after d b (Set at bytes) m = after_edit d b (changes.Overwrite at (length bytes)) (overwrite b at bytes) m
 memory_after d b (Ins at bytes) m = after_edit d b (changes.Insert at (length bytes)) (insert b at bytes) m
 memory_after d b (Del at count) m = after_edit d b (changes.Delete at count) (delete b at count) m
@@ -85,7 +85,7 @@ pub record HoldsSome (d : Description) (b : List ℕ) (ns : List Node) (m : Memo
 -- After a command that was refused memory. One that asks nothing leaves all as it was.
 abbrev pub LeftBy : Description → List ℕ → Command → Memory → Explored → Type 0
 LeftBy d b (Ask question) m s = HoldsSome d b (asks d b (asking d b question)) m s
-LeftBy d b (Put path n) m s = HoldsSome d b (asks d b (put_question d path n)) m s
+LeftBy d b (Put path n) m s = HoldsSome d b (asks d b (put_question d b path n)) m s
 LeftBy d b _ m s = Holds s m
 
 -- After a command, whether it was refused memory or not.

@@ -80,7 +80,7 @@ abbrev pub answer_to : Description → List ℕ → Tally → Command → Answer
 answer_to d b t Blank = said b []
 answer_to d b t (Refused refusal) = said b (line_refusal_text refusal)
 answer_to d b t (Ask question) = said b (question_text d b question ++ codes "\n")
-answer_to d b t (Put path n) = put_answer d b (outcome d b (put_question d path n))
+answer_to d b t (Put path n) = put_answer d b (outcome d b (put_question d b path n))
 answer_to d b t (Set at bytes) = edited b (overwrite b at bytes)
 answer_to d b t (Ins at bytes) = edited b (insert b at bytes)
 answer_to d b t (Del at count) = edited b (delete b at count)
@@ -112,7 +112,7 @@ abbrev pub form_to : Description → List ℕ → Command → Form
 form_to d b Blank = Nothing
 form_to d b (Refused refusal) = ShortText
 form_to d b (Ask question) = told_form (question_told d b question)
-form_to d b (Put path n) = put_form d (outcome d b (put_question d path n))
+form_to d b (Put path n) = put_form d (outcome d b (put_question d b path n))
 form_to d b (Set at bytes) = ShortText
 form_to d b (Ins at bytes) = ShortText
 form_to d b (Del at count) = ShortText

@@ -182,10 +182,10 @@ impl<N: NodeRules> Session<N> {
         path: &Path,
         number: Integer,
     ) -> Result<Result<Overwrite, Reply>, AllocError>
-        ensures says { IfOk result (PutSays (description_of self.old) (outcome (description_of self.old) self.old.bytes (put_question (description_of self.old) path.now number))) }
+        ensures says { IfOk result (PutSays (description_of self.old) (outcome (description_of self.old) self.old.bytes (put_question (description_of self.old) self.old.bytes path.now number))) }
         ensures kept { (description_of self.new ≡ description_of self.old) × (self.new.bytes ≡ self.old.bytes) }
-        ensures memory { (m : Memory) → Holds self.old m → OnOk result (Holds self.new (after_asking (description_of self.old) self.old.bytes (asks (description_of self.old) self.old.bytes (put_question (description_of self.old) path.now number)) m)) }
-        ensures refused { (m : Memory) → Holds self.old m → OnErr result (HoldsSome (description_of self.old) self.old.bytes (asks (description_of self.old) self.old.bytes (put_question (description_of self.old) path.now number)) m self.new) }
+        ensures memory { (m : Memory) → Holds self.old m → OnOk result (Holds self.new (after_asking (description_of self.old) self.old.bytes (asks (description_of self.old) self.old.bytes (put_question (description_of self.old) self.old.bytes path.now number)) m)) }
+        ensures refused { (m : Memory) → Holds self.old m → OnErr result (HoldsSome (description_of self.old) self.old.bytes (asks (description_of self.old) self.old.bytes (put_question (description_of self.old) self.old.bytes path.now number)) m self.new) }
     {
         self.turns = None;
         self.engine.begin();
@@ -208,8 +208,8 @@ impl<N: NodeRules> Session<N> {
     /// Writes an integer over the one at a path. The edit comes last, and takes no memory.
     #[tactic(auto, unfolding(crate::specs::Explored::description_of))]
     fn put(&mut self, path: &Path, number: Integer) -> Reply
-        ensures answer { answer_seen self.new.bytes result ≡ (if is_refusal result then said self.old.bytes no_memory_text else put_answer (description_of self.old) self.old.bytes (outcome (description_of self.old) self.old.bytes (put_question (description_of self.old) path.now number))) }
-        ensures form { form_of result ≡ (if is_refusal result then OutOfMemory else put_form (description_of self.old) (outcome (description_of self.old) self.old.bytes (put_question (description_of self.old) path.now number))) }
+        ensures answer { answer_seen self.new.bytes result ≡ (if is_refusal result then said self.old.bytes no_memory_text else put_answer (description_of self.old) self.old.bytes (outcome (description_of self.old) self.old.bytes (put_question (description_of self.old) self.old.bytes path.now number))) }
+        ensures form { form_of result ≡ (if is_refusal result then OutOfMemory else put_form (description_of self.old) (outcome (description_of self.old) self.old.bytes (put_question (description_of self.old) self.old.bytes path.now number))) }
         ensures kept { description_of self.new ≡ description_of self.old }
         ensures memory { (m : Memory) → Holds self.old m → Remembers (description_of self.old) self.old.bytes (commands.Put path.now number) (is_refusal result) m self.new }
     {

@@ -1,6 +1,6 @@
--- The integers that a file holds: which integer a leaf holds, which numbers it can hold, and their bytes.
+-- The integers that a file holds: which integer a leaf holds, which numbers one of whole bytes can hold, and its bytes.
 use Rattle.std.specs.Prelude.{ℕ, zero, suc, ◌-◌, ◌*◌, ◌/◌, ◌%◌, ◌^◌, nat_le, Bool, ◌&&◌, ℤ, pos, negsuc, neg_ℤ, int_le, int_lt, List, [], ◌∷◌, reverse, Option, Some, None, option_map, option_and_then, slice_get, if◌then◌else◌}
-use Rattle.ksv_desc.specs.Description.{Description, MemberKind, Attribute, ParseInstance, Field, Content, Number, Choice, Always, Switch}
+use Rattle.ksv_desc.specs.Description.{Description, MemberKind, Attribute, ParseInstance, Field, Content, Number, Bits, is_truth, Choice, Always, Switch}
 use Rattle.ksv_desc.specs.declared.order.ByteOrder.{ByteOrder}
 use Rattle.ksv_desc.specs.declared.order.ByteOrder.TheVariants.{Big, Little}
 use Rattle.ksv_nodes.specs.declared.given.Leaf.{Leaf}
@@ -13,9 +13,15 @@ pub record IntegerType : Type 0 where
   pub size : ℕ
   pub order : ByteOrder
 
--- none has more than 8 bytes
-abbrev pub type_in : Content → Option IntegerType
-type_in (Number signed size order enum) = if nat_le size 8 then Some (record { is_signed = signed; size = size; order = order }) else None
+-- An integer of whole bytes, or one of bits.
+pub data NumberType : Type 0 where
+  OfBytes : IntegerType → NumberType
+  OfBits : NumberType
+
+-- none has more than 8 bytes; one bit that is no member of an enum is a truth value
+abbrev pub type_in : Content → Option NumberType
+type_in (Number signed size order enum) = if nat_le size 8 then Some (OfBytes (record { is_signed = signed; size = size; order = order })) else None
+type_in (Bits width enum) = if is_truth width enum then None else Some OfBits
 type_in _ = None
 
 -- what was read, by the case that a switch chose; where it chose none, bytes were
@@ -33,8 +39,8 @@ field_in _ = None
 abbrev pub field_at : Description → Leaf → Option Field
 field_at d l = option_and_then (λ t. option_and_then (λ m. field_in m.kind) (slice_get t.members l.origin.member.member)) (slice_get d.types l.origin.member.type_number)
 
-unfoldable pub integer_type : Description → Leaf → Option IntegerType
-integer_type d l = option_and_then (λ f. option_and_then type_in (content_in f.choice l.origin.case)) (field_at d l)
+unfoldable pub number_type : Description → Leaf → Option NumberType
+number_type d l = option_and_then (λ f. option_and_then type_in (content_in f.choice l.origin.case)) (field_at d l)
 
 -- ---- the bytes of an integer
 

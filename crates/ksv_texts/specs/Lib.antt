@@ -2,4 +2,5 @@
 pub mod Texts
 pub mod Parts
 pub mod Integers
+pub mod Bits
 pub mod Seen

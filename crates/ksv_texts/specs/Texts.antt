@@ -1,12 +1,13 @@
 -- The texts of values, names, faults and refusals, as the commands' reference has them.
 use Rattle.std.specs.Fmt.{signed_decimal}
 use Rattle.std.specs.List.{flat_map}
-use Rattle.std.specs.Prelude.{ℕ, ℤ, Bool, true, false, List, ◌++◌, codes, slice_range, unwrap_or}
+use Rattle.std.specs.Prelude.{ℕ, ℤ, ◌==◌, Bool, true, false, List, ◌++◌, codes, decimal, slice_range, unwrap_or, if◌then◌else◌}
 use Rattle.hex.specs.Hex.{encode_lower}
 use Rattle.serde_json.specs.Data.{string}
 use Rattle.serde_json.specs.Written.{compact_text}
 use Rattle.ksv_desc.specs.Description.{Description, enum_id, member_id, name}
 use Rattle.ksv_expr_value.specs.Faults.{name_of}
+use Rattle.ksv_expr_value.specs.Places.{Place, byte_in, bit_in}
 use Rattle.ksv_expr_value.specs.declared.fault.Fault.{Fault}
 use Rattle.ksv_paths.specs.PathTexts.{path_text}
 use Rattle.ksv_texts.specs.declared.refusal.Refusal.{Refusal}
@@ -35,6 +36,10 @@ member_text d e n = member_name d e n ++ codes " (" ++ signed_decimal n ++ codes
 -- names, each with a space before it
 abbrev pub names_text : Description → List ℕ → List ℕ
 names_text d names = flat_map (λ x. codes " " ++ name d x) names
+
+-- a place by the byte that it is in; where bits of that byte are before it, how many they are, after a dot
+unfoldable pub place_text : Place → List ℕ
+place_text p = if bit_in p == 0 then decimal (byte_in p) else decimal (byte_in p) ++ codes "." ++ decimal (bit_in p)
 
 -- a fault by its kind and the path where it arose
 unfoldable pub fault_words : Description → Fault → List ℕ

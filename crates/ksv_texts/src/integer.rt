@@ -2,11 +2,11 @@
 ghost use Rattle.std.specs.Prelude.{◌≡◌, ◌≤◌, ◌^◌, ◌*◌, IsTrue, IfSome, option_map, pos};
 ghost use Rattle.ksv_desc.specs.Pieces.{plain_choice, plain_content, plain_field, plain_kind};
 ghost use Rattle.ksv_desc.specs.Whole.{plain_pieces};
-ghost use Rattle.ksv_texts.specs.Integers.{as_unsigned, content_in, field_at, field_in, holds, integer_bytes, integer_type, little_endian, type_in, value_count};
-ghost use Rattle.ksv_texts.specs.Seen.{type_of};
+ghost use Rattle.ksv_texts.specs.Integers.{as_unsigned, content_in, field_at, field_in, holds, integer_bytes, little_endian, number_type, type_in, value_count};
+ghost use Rattle.ksv_texts.specs.Seen.{IsSmall, number_of_leaf, type_of};
 
 use arrayvec::ArrayVec;
-use ksv_desc::{ByteOrder, Choice, Content, Desc, Field, MemberKind};
+use ksv_desc::{ByteOrder, Choice, Content, Desc, Field, MemberKind, is_truth};
 use ksv_expr_value::Integer;
 use ksv_nodes::Leaf;
 
@@ -21,12 +21,21 @@ pub struct IntegerType {
     pub order: ByteOrder,
 }
 
+/// What an integer in a file is made of.
+#[derive(Clone, Copy)]
+pub enum NumberType {
+    /// Of whole bytes.
+    Bytes(IntegerType),
+    /// Of bits, which are those of its leaf.
+    Bits,
+}
+
 // ---- the integer that a leaf holds
 
-/// The type of an integer that is read, at most 8 bytes long; None if no integer is read.
-fn type_in(content: &Content) -> Option<IntegerType>
-    ensures found { option_map type_of result ≡ type_in (plain_content content.now) }
-    ensures small { IfSome result (λ found. found.size ≤ 8) }
+/// The type of an integer that is read, of at most 8 bytes or of bits; None if no integer is read.
+fn type_in(content: &Content) -> Option<NumberType>
+    ensures found { option_map number_of_leaf result ≡ type_in (plain_content content.now) }
+    ensures small { IfSome result IsSmall }
 {
     match content {
         Content::Number {
@@ -39,11 +48,17 @@ fn type_in(content: &Content) -> Option<IntegerType>
             if size > 8 {
                 return None;
             }
-            Some(IntegerType {
+            Some(NumberType::Bytes(IntegerType {
                 is_signed: *is_signed,
                 size,
                 order: *order,
-            })
+            }))
+        }
+        Content::Bits { width, enumeration } => {
+            if is_truth(*width, *enumeration) {
+                return None;
+            }
+            Some(NumberType::Bits)
         }
         _ => None,
     }
@@ -84,10 +99,10 @@ fn field_at(desc: &Desc, leaf: Leaf) -> Option<&Field>
 }
 
 /// The type of the integer that a leaf holds, if it holds one.
-#[tactic(auto, unfolding(crate::specs::Integers::integer_type))]
-pub fn integer_type(desc: &Desc, leaf: Leaf) -> Option<IntegerType>
-    ensures found { option_map type_of result ≡ integer_type (plain_pieces desc.now) leaf }
-    ensures small { IfSome result (λ found. found.size ≤ 8) }
+#[tactic(auto, unfolding(crate::specs::Integers::number_type))]
+pub fn number_type(desc: &Desc, leaf: Leaf) -> Option<NumberType>
+    ensures found { option_map number_of_leaf result ≡ number_type (plain_pieces desc.now) leaf }
+    ensures small { IfSome result IsSmall }
 {
     let field = field_at(desc, leaf)?;
     type_in(content_in(&field.choice, leaf.origin.case)?)
@@ -140,8 +155,8 @@ fn as_unsigned(kind: IntegerType, number: Integer) -> u64
 
 /// The digits of a number to the base 256, the least significant first.
 #[tactic(auto, using(crate::proofs::Digits::digit_more, crate::proofs::Digits::digits_begin))]
-fn little_endian(size: usize, number: u64) -> ArrayVec<u8, 8>
-    requires { size ≤ 8 }
+pub(crate) fn little_endian(size: usize, number: u128) -> ArrayVec<u8, 9>
+    requires { size ≤ 9 }
     ensures { result.items ≡ little_endian size number }
 {
     let mut digits = ArrayVec::new();
@@ -155,12 +170,12 @@ fn little_endian(size: usize, number: u64) -> ArrayVec<u8, 8>
 
 /// The bytes of an integer that fits a type.
 #[tactic(auto, unfolding(crate::specs::Integers::integer_bytes))]
-pub fn integer_bytes(kind: IntegerType, number: Integer) -> ArrayVec<u8, 8>
+pub fn integer_bytes(kind: IntegerType, number: Integer) -> ArrayVec<u8, 9>
     requires size { kind.size ≤ 8 }
     requires holds { IsTrue (holds (type_of kind) number) }
     ensures { result.items ≡ integer_bytes (type_of kind) number }
 {
-    let mut bytes = little_endian(kind.size, as_unsigned(kind, number));
+    let mut bytes = little_endian(kind.size, u128::from(as_unsigned(kind, number)));
     match kind.order {
         ByteOrder::Little => {}
         ByteOrder::Big => bytes.as_mut_slice().reverse(),

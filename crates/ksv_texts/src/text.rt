@@ -4,13 +4,13 @@ ghost use Rattle.std.specs.Prelude.{◌≡◌, ◌≤◌, ◌++◌, length, slic
 ghost use Rattle.ksv_desc.specs.Description.{name};
 ghost use Rattle.ksv_desc.specs.Whole.{plain_pieces};
 ghost use Rattle.ksv_paths.specs.PathTexts.{path_text, step_text, steps_text};
-ghost use Rattle.ksv_texts.specs.Texts.{bytes_text, fault_text, fault_words, member_name, member_text, names_text, quoted_text, refusal_text, truth_text};
+ghost use Rattle.ksv_texts.specs.Texts.{bytes_text, fault_text, fault_words, member_name, member_text, names_text, place_text, quoted_text, refusal_text, truth_text};
 
 use crate::refusal::Refusal;
 use itoa::Buffer as Digits;
 use ksv_bytes::{Buffer, Window};
 use ksv_desc::Desc;
-use ksv_expr_value::{Fault, Integer, Path, Step, Text};
+use ksv_expr_value::{Fault, Integer, Path, Place, Step, Text};
 use serde_json::Value as Json;
 use std::alloc::{AllocError, Global};
 
@@ -108,6 +108,22 @@ pub fn names_text(alloc: Global, desc: &Desc, names: &[u32]) -> Result<String, A
         push_name(&mut text, desc, *number)?;
     }
     Ok(text)
+}
+
+// ---- places
+
+/// Appends a place: the byte that it is in, and after a dot how many bits of that byte are before it, if any are.
+#[tactic(auto, unfolding(crate::specs::Texts::place_text))]
+pub fn push_place(text: &mut String, place: Place) -> Result<(), AllocError>
+    ensures { OnOk result (string_bytes text.new ≡ string_bytes text.old ++ place_text place) }
+{
+    text.push_str(Digits::new().format(place.byte_in()))?;
+    let bit = place.bit_in();
+    if bit == 0 {
+        return Ok(());
+    }
+    text.push_str(".")?;
+    text.push_str(Digits::new().format(bit))
 }
 
 // ---- values

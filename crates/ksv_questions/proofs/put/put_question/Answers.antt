@@ -12,7 +12,7 @@ returns-in_err-head g c =
     let d = desc_of c.args.file.now in
     let b = bytes_of c.args.file.now in
     let e = err_from_is_err_and c.from_residual.result c.from_residual.ensures.1 in
-    rw (e.1, e.2) (runs_failed d b (ask_head c.args.path.now c.args.path.now) (λ h. over_head d h c.args.number) (λ h. h) (λ o. overwrite_of o)
+    rw (e.1, e.2) (runs_failed d b (ask_head c.args.path.now c.args.path.now) (λ h. over_head d b h c.args.number) (λ h. h) (λ o. overwrite_of o)
     c.args.engine.now c.ask_head.new.engine c.in_err-head.field-0.0 c.in_err-head.ensures)
 
 pub returns : goal.returns
@@ -20,5 +20,5 @@ unfolding put_question
 returns g c =
     let d = desc_of c.args.file.now in
     let b = bytes_of c.args.file.now in
-    runs_ended d b (ask_head c.args.path.now c.args.path.now) (λ h. over_head d h c.args.number) (λ h. h) (λ o. overwrite_of o)
+    runs_ended d b (ask_head c.args.path.now c.args.path.now) (λ h. over_head d b h c.args.number) (λ h. h) (λ o. overwrite_of o)
     c.args.engine.now c.ask_head.new.engine c.in_ok-head.head c.over_head.result c.in_ok-head.ensures c.over_head.ensures
