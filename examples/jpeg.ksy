@@ -40,7 +40,7 @@ types:
     seq:
       - {id: tables, type: step_table, repeat: eos}
   step_table:
-    doc: How coarse each of the 64 numbers of a block is.
+    doc: How coarse each of the 64 numbers of a block is, in the order in which they are coded.
     seq:
       - {id: precision, type: b4, enum: precision, valid: {any-of: ['precision::bits8', 'precision::bits16']}}
       - {id: number, type: b4, valid: {max: 3}}
@@ -72,7 +72,7 @@ types:
     seq:
       - {id: kind, type: b4, enum: kind}
       - {id: number, type: b4}
-      - {id: counts, type: u1, repeat: expr, repeat-expr: 16, doc: How many codes have 1 bit, 2 bits, and so on.}
+      - {id: counts, type: u1, repeat: expr, repeat-expr: 16, doc: 'How many codes have 1 bit, 2 bits, and so on.'}
       - id: codes
         type: code
         repeat: expr
