@@ -15,7 +15,7 @@ seq:
     type: constant(_index)
     repeat: expr
     repeat-expr: constant_pool_count - 1
-  - {id: access, type: u2}
+  - {id: access, type: class_access}
   - {id: this_class, type: u2}
   - {id: super_class, type: u2}
   - {id: interfaces_count, type: u2}
@@ -89,9 +89,41 @@ types:
     seq:
       - {id: kind, type: u1}
       - {id: at, type: u2}
+  class_access:
+    doc: The last bit is flag 1, the first is flag 0x8000.
+    seq:
+      - {id: module, type: b1}
+      - {id: enum, type: b1}
+      - {id: annotation, type: b1}
+      - {id: synthetic, type: b1}
+      - {id: unused_0x0800, type: b1}
+      - {id: abstract, type: b1}
+      - {id: interface, type: b1}
+      - {id: unused_0x01c0, type: b3}
+      - {id: super, type: b1}
+      - {id: final, type: b1}
+      - {id: unused_0x000e, type: b3}
+      - {id: public, type: b1}
+  member_access:
+    doc: Of a field or a method, which call two flags differently.
+    seq:
+      - {id: unused_0x8000, type: b1}
+      - {id: enum, type: b1}
+      - {id: unused_0x2000, type: b1}
+      - {id: synthetic, type: b1}
+      - {id: strict, type: b1}
+      - {id: abstract, type: b1}
+      - {id: unused_0x0200, type: b1}
+      - {id: native, type: b1}
+      - {id: transient_or_varargs, type: b1}
+      - {id: volatile_or_bridge, type: b1}
+      - {id: synchronized, type: b1}
+      - {id: final, type: b1}
+      - {id: static, type: b1}
+      - {id: visibility, type: b3, enum: visibility}
   member:
     seq:
-      - {id: access, type: u2}
+      - {id: access, type: member_access}
       - {id: at_name, type: u2}
       - {id: at_type, type: u2}
       - {id: attributes_count, type: u2}
@@ -102,7 +134,7 @@ types:
       type:
         value: _root.constants[at_type - 1].text
       is_static:
-        value: access & 8 != 0
+        value: access.static
   attribute:
     seq:
       - {id: at_name, type: u2}
@@ -135,6 +167,11 @@ types:
       - {id: attributes_count, type: u2}
       - {id: attributes, type: attribute, repeat: expr, repeat-expr: attributes_count}
 enums:
+  visibility:
+    0: package
+    1: public
+    2: private
+    4: protected
   tag:
     1: utf8
     3: integer

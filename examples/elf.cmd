@@ -17,6 +17,16 @@ get /sections/5/body/symbols
 get /sections/5/body/symbols/3/name
 get /sections/5/body/symbols/3/kind
 get /sections/5/body/symbols/3/section_name
+# bits: who sees a symbol, what may be done with a segment, and what a section is
+get /sections/5/body/symbols/3/bind
+get /sections/5/body/symbols/3/visibility
+at /sections/5/body/symbols/3/kind
+at /sections/5/body/symbols/3/visibility
+dump /segments/0/flags
+at /segments/0/flags/execute
+dump /sections/4/flags
+get /sections/1/flags/execute
+get /sections/1/flags/write
 # where things are, and some of them whole
 ls /sections/3
 at /sections
@@ -27,10 +37,29 @@ dump /segments/1
 dump /sections/6/body
 # the program may not be run, and may again
 get /segments/0/executable
-put /segments/0/flags 4
+put /segments/0/flags/execute 0
 get /segments/0/executable
+get /segments/0/flags/read
 bytes 64 8
-put /segments/0/flags 5
+put /segments/0/flags/execute 1
+# a symbol gives way to others of its name, and other files don't see it; then it is as it was
+put /sections/5/body/symbols/3/bind 2
+put /sections/5/body/symbols/3/visibility 2
+get /sections/5/body/symbols/3/bind
+get /sections/5/body/symbols/3/kind
+get /sections/5/body/symbols/3/visibility
+bytes 396 2
+put /sections/5/body/symbols/3/bind 16
+put /sections/5/body/symbols/3/bind 1
+put /sections/5/body/symbols/3/visibility 0
+bytes 396 2
+# the texts of a section are no texts, and are again: one bit is no number
+put /sections/4/flags/strings 0
+set 880 10
+get /sections/4/flags/strings
+get /sections/4/flags/merge
+set 880 30
+get /sections/4/flags/strings
 # a file of 32 bits, of another version, with segments of another size; each is mended
 put /class 1
 get /class

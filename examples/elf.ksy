@@ -42,7 +42,7 @@ types:
   segment:
     seq:
       - {id: type, type: u4, enum: segment_type}
-      - {id: flags, type: u4}
+      - {id: flags, type: segment_flags}
       - {id: offset, type: u8}
       - {id: address, type: u8}
       - {id: physical, type: u8}
@@ -51,15 +51,23 @@ types:
       - {id: align, type: u8, valid: {expr: _ & (_ - 1) == 0}}
     instances:
       executable:
-        value: flags & 1 != 0
+        value: flags.execute == permission::granted
       has_entry:
         doc: Whether the program begins in this segment.
         value: address <= _root.e_entry and _root.e_entry < address + len_memory
+  segment_flags:
+    doc: Flags 0 to 2 are the last three bits of the first byte.
+    seq:
+      - {id: unused, type: b5}
+      - {id: read, type: b1, enum: permission}
+      - {id: write, type: b1, enum: permission}
+      - {id: execute, type: b1, enum: permission}
+      - {id: more, size: 3}
   section:
     seq:
       - {id: name_at, type: u4}
       - {id: type, type: u4, enum: section_type}
-      - {id: flags, type: u8}
+      - {id: flags, type: section_flags}
       - {id: address, type: u8}
       - {id: offset, type: u8}
       - {id: len_body, type: u8}
@@ -83,6 +91,18 @@ types:
           cases:
             section_type::symbols: symbols(link)
             section_type::strings: strings
+  section_flags:
+    doc: Flags 0 to 7 are the first byte, the last bit first.
+    seq:
+      - {id: link_order, type: b1}
+      - {id: info_link, type: b1}
+      - {id: strings, type: b1}
+      - {id: merge, type: b1}
+      - {id: unused, type: b1}
+      - {id: execute, type: b1}
+      - {id: alloc, type: b1}
+      - {id: write, type: b1}
+      - {id: more, size: 7}
   strings:
     seq:
       - {id: texts, type: strz, repeat: eos}
@@ -94,8 +114,10 @@ types:
   symbol:
     seq:
       - {id: name_at, type: u4}
-      - {id: info, type: u1}
-      - {id: other, type: u1}
+      - {id: bind, type: b4, enum: bind}
+      - {id: kind, type: b4, enum: symbol_kind}
+      - {id: other, type: b6}
+      - {id: visibility, type: b2, enum: visibility}
       - {id: section_number, type: u2}
       - {id: address, type: u8}
       - {id: len, type: u8}
@@ -104,12 +126,6 @@ types:
         io: _root.sections[_parent.names].body._io
         pos: name_at
         type: strz
-      bind:
-        value: info >> 4
-        enum: bind
-      kind:
-        value: info & 15
-        enum: symbol_kind
       section_name:
         if: section_number != 0 and section_number < 0xff00
         value: _root.sections[section_number].name
@@ -120,5 +136,7 @@ enums:
   machine: {3: i386, 40: arm, 62: x86_64, 183: aarch64, 243: riscv}
   segment_type: {0: unused, 1: load, 2: dynamic, 3: interpreter, 4: note, 6: headers, 0x6474e551: gnu_stack}
   section_type: {0: unused, 1: program, 2: symbols, 3: strings, 4: relocations, 7: note, 8: nobits}
+  permission: {0: refused, 1: granted}
   bind: {0: local, 1: global, 2: weak}
   symbol_kind: {0: none, 1: object, 2: function, 3: section, 4: file}
+  visibility: {0: default, 1: internal, 2: hidden, 3: protected}

@@ -14,7 +14,9 @@ MOST_TYPES, MOST_MEMBERS, MOST_ENUM_MEMBERS = 1024, 256, 65_536
 
 IDENTIFIER = re.compile(r"[a-z][a-z0-9_]*\Z")
 INTEGER_TYPE = re.compile(r"([us])(?:(1)|([248])(le|be)?)\Z")
-LEFT_OUT_TYPE = re.compile(r"(?:f[48]|b(?:[1-9]|[1-5][0-9]|6[0-4]))(?:le|be)?\Z")
+BIT_TYPE = re.compile(r"b([1-9]|[1-5][0-9]|6[0-4])(le|be)?\Z")
+LEFT_OUT_TYPE = re.compile(r"f[48](?:le|be)?\Z")
+INTEGERS = ("integer", "bits")
 
 TYPE_KEYS = {"meta", "params", "seq", "types", "instances", "enums"}
 META_KEYS = {"id", "endian", "encoding", "bit-endian"}
@@ -78,10 +80,11 @@ class Attribute:
 
 
 class Case:
-    """What a type's text names: an integer, "str", "strz", or a type of the description with its arguments."""
+    """What a type's text names: an integer of whole bytes, one of bits, "str", "strz", or a type of the description with its arguments.
+    The width is in bits."""
 
-    def __init__(self, kind, size=0, signed=False, order=None, type=None, arguments=()):
-        self.kind, self.size, self.signed, self.order = kind, size, signed, order
+    def __init__(self, kind, width=0, signed=False, order=None, type=None, arguments=()):
+        self.kind, self.width, self.signed, self.order = kind, width, signed, order
         self.type, self.arguments = type, arguments
 
 
@@ -554,6 +557,11 @@ class Loader:
         if LEFT_OUT_TYPE.match(name):
             self.fault(line, "S8")
             return Case("left out")
+        found = BIT_TYPE.match(name)
+        if found is not None:
+            if found[2] == "le":
+                self.fault(line, "S8")
+            return Case("bits", int(found[1]))
         found = INTEGER_TYPE.match(name)
         if found is None:
             return None
@@ -561,7 +569,7 @@ class Loader:
         order = found[4] or place.type.endian
         if size > 1 and order is None:
             self.fault(line, "S5")
-        return Case("integer", size, found[1] == "s", order)
+        return Case("integer", 8 * size, found[1] == "s", order)
 
     def check_switch(self, tree, attribute, place):
         """The expression of a switch and its cases."""
@@ -585,7 +593,7 @@ class Loader:
             return value, None
         found = self.type_text(line, node.text, place)
         if found is not None:
-            if found.kind in ("str", "strz"):
+            if found.kind in ("str", "strz", "bits"):
                 self.fault(line, "S8")
             attribute.case_lines.append((line, found))
         return value, found
@@ -637,11 +645,11 @@ class Loader:
         against(lines.get("size"), true_eos)
         for key in AGAINST_CONTENTS:
             against(lines.get("contents"), lines.get(key))
-        if kind == "integer":
+        if kind in INTEGERS:
             for line in (lines.get("size"), true_eos, lines.get("terminator")):
                 against(lines["type"], line)
         for line, case in attribute.case_lines:
-            if case.kind == "integer":
+            if case.kind in INTEGERS:
                 for other in (lines.get("size"), true_eos, lines.get("terminator")):
                     against(line, other)
             elif case.kind == "user" and "terminator" in lines:
@@ -650,7 +658,7 @@ class Loader:
             self.fault(lines["terminator"], "S8")
         if kind == "strz" and attribute.terminator not in (None, 0):
             self.fault(lines["terminator"], "S8")
-        if "enum" in lines and kind != "integer":
+        if "enum" in lines and kind not in INTEGERS:
             self.fault(lines["enum"], "S3")
 
 
@@ -726,7 +734,7 @@ class Names:
         """The type of a cast, which is one of the description."""
         if len(names) == 1:
             name = names[0]
-            if name in ("str", "strz") or LEFT_OUT_TYPE.match(name) or INTEGER_TYPE.match(name):
+            if name in ("str", "strz") or any(one.match(name) for one in (LEFT_OUT_TYPE, INTEGER_TYPE, BIT_TYPE)):
                 self.fault("S8")
                 return None
         found = self.loader.find_type(names, self.place.type)

@@ -176,7 +176,7 @@ def evaluated(words, left):
     root = Path()
     text, *steps = left.split("; ")
     home, start, end, place, at, index, element = words.split(" ")
-    context = Context(path_of(root, home), stream_of([start, end]), path_of(root, at), int(place),
+    context = Context(path_of(root, home), stream_of([start, end]), path_of(root, at), 8 * int(place),
                       None if index == "-" else int(index), None if element == "-" else path_of(root, element))
     tree = numbered(expressions.parse(text))
     running, reply = evaluate(tree, context), None

@@ -110,9 +110,14 @@ def kind_of(value):
     return KINDS.get(type(value))
 
 
+def byte_from(place):
+    """The first whole byte at a place or behind it. Places count bits, streams bytes."""
+    return (place + 7) // 8
+
+
 class Context:
-    """Where an expression stands: its home with its stream, the present place, the element's number and path, and the path at
-    which its faults stand; in a check also the value that was made, alone in a tuple."""
+    """Where an expression stands: its home with its stream, the present place in bits, the element's number and path, and the path
+    at which its faults stand; in a check also the value that was made, alone in a tuple."""
 
     __slots__ = ("home", "stream", "at", "place", "index", "element", "made")
 
@@ -320,7 +325,7 @@ def field(tree, context):
     if before == ("special", "_io") and word in ("pos", "eof"):
         if word == "eof":
             return (yield ("done",))
-        return context.place - context.stream.start
+        return byte_from(context.place) - context.stream.start
     value = yield from evaluate(before, context)
     kind = kind_of(value)
     if kind == "object":

@@ -73,6 +73,9 @@ def built_in(text):
         return f"Some({text.capitalize()})"
     if description.LEFT_OUT_TYPE.match(text):
         return "Some(NotHere)"
+    found = description.BIT_TYPE.match(text)
+    if found is not None:
+        return "Some(BitsLittle)" if found[2] == "le" else f"Some(Bits {{ width: {found[1]} }})"
     found = description.INTEGER_TYPE.match(text)
     if found is None:
         return "None"

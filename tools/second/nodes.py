@@ -1,14 +1,18 @@
 """What nodes mean, and their evaluation from nothing with what is asked and used for each.
 
 A node is a kind (head, value, end or rest) and a path. The rule of a node is a generator: it yields what it asks and is sent
-the answer. A fault of what it asks is its own answer, so only good answers come back."""
+the answer. A fault of what it asks is its own answer, so only good answers come back.
 
-from meaning import (LONGEST_PATH, MOST_ELEMENTS, Bytes, Context, Fault, ListValue, Member, ObjectValue, Stream, decode,
-                     evaluate, kind_of)
+Starts and ends of what stands at a path count bits from the file's first byte, most significant bit first. Streams, positions, sizes
+and what is used count bytes, and so do the first and last byte that a leaf is read from."""
+
+from meaning import (LONGEST_PATH, MOST_ELEMENTS, Bytes, Context, Fault, ListValue, Member, ObjectValue, Stream, byte_from,
+                     decode, evaluate, kind_of)
 
 HEAD, VALUE, END, REST = range(4)
 KINDS = {"head": HEAD, "value": VALUE, "end": END, "rest": REST}
 NEW, OPEN, DONE = range(3)
+INTEGERS = ("integer", "bits")
 
 
 class Node:
@@ -32,6 +36,10 @@ class Head:
         self.form, self.attribute, self.home, self.home_stream, self.start = form, attribute, home, home_stream, start
         self.case = self.stream = self.first = self.last = self.end = self.type = self.count = self.outer = None
         self.empty = False
+
+    def ends_at(self, byte):
+        """A leaf ends at a whole byte."""
+        self.last, self.end = byte, 8 * byte
 
 
 class End:
@@ -136,11 +144,11 @@ class Evaluation:
         return self.size
 
     def is_done(self, node, stream, place):
-        """Whether a place is the stream's end."""
+        """Whether a place of bits is the stream's end, or behind it."""
         if stream.end is not None:
-            return place >= stream.end
-        if place < self.size:
-            node.uses += (("reach", place + 1),)
+            return place >= 8 * stream.end
+        if place < 8 * self.size:
+            node.uses += (("reach", place // 8 + 1),)
             return False
         node.uses += (("size",),)
         return True
@@ -213,6 +221,8 @@ class Evaluation:
             start = outer.start
             if attribute.before is not None:
                 start = (yield self.node(END, path.parent.child(attribute.before.name))).place
+                if attribute.case is None or attribute.case.kind != "bits":
+                    start = 8 * byte_from(start)
         context = Context(path.parent, outer.stream, path, start)
         if attribute.condition is not None:
             if not (yield from self.of_kind(node, attribute.condition, context, "bool")):
@@ -227,9 +237,9 @@ class Evaluation:
         if attribute.kind == "positioned":
             if attribute.io is not None:
                 stream = yield from self.of_kind(node, attribute.io, context, "stream")
-            start = stream.start + (yield from self.count_from(node, attribute.pos, context))
-            self.reach(node, stream, start)
-            context.place = start
+            place = stream.start + (yield from self.count_from(node, attribute.pos, context))
+            self.reach(node, stream, place)
+            start = context.place = 8 * place
         head.start, head.stream = start, stream
         if attribute.repeat is None:
             if attribute.switch is None and attribute.size is None:
@@ -283,19 +293,20 @@ class Evaluation:
 
     def placed(self, node, head, case, size):
         """Completes the head of one attribute or element that begins at the head's start, in its stream."""
-        attribute, start, stream = head.attribute, head.start, head.stream
+        attribute, stream = head.attribute, head.stream
         kind = case.kind if case else None
-        head.form, head.case, head.first = "leaf", case, start
-        if kind == "integer" or attribute.contents is not None:
-            length = case.size if kind == "integer" else len(attribute.contents)
-            self.reach(node, stream, start + length)
-            head.last = head.end = start + length
+        head.form, head.case, head.first = "leaf", case, head.start // 8
+        if kind in INTEGERS or attribute.contents is not None:
+            end = head.start + (case.width if kind in INTEGERS else 8 * len(attribute.contents))
+            self.reach(node, stream, byte_from(end))
+            head.last, head.end = byte_from(end), end
             return
+        start = head.first
         if kind == "user":
             head.form, head.type = "object", case.type
         if size is not None:
             self.reach(node, stream, start + size)
-            head.last = head.end = start + size
+            head.ends_at(start + size)
             if kind == "user":
                 head.stream = Stream(start, start + size)
         elif kind == "user":
@@ -303,7 +314,7 @@ class Evaluation:
             if attribute.size_eos:
                 head.stream, head.end = Stream(start, stream.end), "stream"
         elif attribute.size_eos:
-            head.last = head.end = self.finish(node, stream)
+            head.ends_at(self.finish(node, stream))
         elif attribute.switch is None and self.terminator(head) is not None:
             self.terminated(node, head)
         else:
@@ -315,19 +326,19 @@ class Evaluation:
 
     def terminated(self, node, head):
         """A leaf up to its terminator."""
-        attribute, start, stream = head.attribute, head.start, head.stream
+        attribute, start, stream = head.attribute, head.first, head.stream
         bound = self.size if stream.end is None else min(stream.end, self.size)
         found = self.data.find(self.terminator(head), start, max(start, bound))
         if found >= 0:
             node.uses += (("bytes", start, found + 1),)
+            head.ends_at(found + 1 if attribute.consume else found)
             head.last = found + 1 if attribute.include else found
-            head.end = found + 1 if attribute.consume else found
             return
         end = self.finish(node, stream)
         self.peek(node, start, end)
         if attribute.eos_error:
             raise Fault("no-terminator", node.path)
-        head.last = head.end = end
+        head.ends_at(end)
 
     def chosen(self, node, switch, context):
         """The first case that equals the value; else that of `_`; else None."""
@@ -380,9 +391,14 @@ class Evaluation:
         if head.form == "calc":
             return (yield from self.calculated(node, head))
         attribute, kind = head.attribute, head.case.kind if head.case else None
-        if kind == "integer":
+        if kind in INTEGERS:
             data = self.peek(node, head.first, head.last)
-            number = int.from_bytes(data, "little" if head.case.order == "le" else "big", signed=head.case.signed)
+            if kind == "bits":
+                number = int("".join(f"{byte:08b}" for byte in data)[head.start % 8:][:head.case.width], 2)
+                if head.case.width == 1 and attribute.enum is None:
+                    return number == 1
+            else:
+                number = int.from_bytes(data, "little" if head.case.order == "le" else "big", signed=head.case.signed)
             return number if attribute.enum is None else Member(attribute.enum, number)
         if attribute.contents is not None:
             if self.peek(node, head.first, head.last) != attribute.contents:
@@ -424,11 +440,11 @@ class Evaluation:
         if head.form == "list":
             place = (yield self.node(REST, self.child(node, 0)))[1]
         elif head.form == "object" and head.end == "stream":
-            place = self.finish(node, head.stream)
+            place = 8 * self.finish(node, head.stream)
         elif head.form == "object" and head.end == "fields":
             place = head.start
             if head.type.fields:
-                place = (yield self.node(END, self.child(node, head.type.fields[-1].name))).place
+                place = 8 * byte_from((yield self.node(END, self.child(node, head.type.fields[-1].name))).place)
         elif head.form == "gone":
             place = head.start
         else:

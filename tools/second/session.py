@@ -202,7 +202,7 @@ class Session:
         head = self.ask("head", path)
         if head.form in ("gone", "calc"):
             return {"gone": "absent", "calc": "calculated"}[head.form]
-        return f"at {head.start} {self.ask('end', path).place}"
+        return f"at {place_text(head.start)} {place_text(self.ask('end', path).place)}"
 
     def command_ls(self, path):
         """The members of an object, or how many elements a list has."""
@@ -253,15 +253,26 @@ class Session:
         return value
 
     def command_put(self, path, number):
-        """The place and the bytes of an integer field that takes a number, in its own width and order."""
+        """The place and the bytes of an integer field that takes a number, in its own width and order. A truth value is no integer."""
         head = self.ask("head", path)
         case = head.case if head.form == "leaf" else None
-        if case is None or case.kind != "integer":
+        if case is None or case.kind not in ("integer", "bits") or case.kind == "bits" and case.width == 1 and not head.attribute.enum:
             raise Refusal("C7")
+        if case.kind == "bits":
+            return head.first, self.with_bits(head, number)
         try:
-            return head.start, number.to_bytes(case.size, "little" if case.order == "le" else "big", signed=case.signed)
+            return head.first, number.to_bytes(case.width // 8, "little" if case.order == "le" else "big", signed=case.signed)
         except OverflowError:
             raise Refusal("C8") from None
+
+    def with_bits(self, head, number):
+        """All bytes that a field of bits meets, with a number in the field and every other bit as it stands."""
+        width, before = head.case.width, head.start % 8
+        if not 0 <= number < 2**width:
+            raise Refusal("C8")
+        bits = "".join(f"{byte:08b}" for byte in self.data[head.first:head.last])
+        bits = bits[:before] + f"{number:0{width}b}" + bits[before + width:]
+        return bytes(int(bits[at:at + 8], 2) for at in range(0, len(bits), 8))
 
     # Edits and the rest.
 
@@ -328,6 +339,11 @@ class Session:
         """The end."""
         self.ended = True
         return "bye"
+
+
+def place_text(place):
+    """A place of bits by its byte, and how many bits behind that where it is in a byte."""
+    return f"{place // 8}.{place % 8}" if place % 8 else str(place // 8)
 
 
 def member_text(member):
