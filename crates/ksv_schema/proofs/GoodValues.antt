@@ -14,13 +14,13 @@ use Rattle.ksv_schema_names.specs.declared.position.Site.TheVariants as sites
 use Rattle.ksv_schema_names.specs.declared.position.NameFault.{NameFault}
 use Rattle.ksv_schema_names.specs.declared.position.NameFault.TheVariants.{Unknown, LeftOut}
 use Rattle.ksv_schema_names.specs.declared.built_ins.BuiltIn.{BuiltIn}
-use Rattle.ksv_schema_names.specs.declared.built_ins.BuiltIn.TheVariants.{Integer, Str, Strz, NotHere}
+use Rattle.ksv_schema_names.specs.declared.built_ins.BuiltIn.TheVariants.{Integer, Bits as BitsType, Str, Strz, NotHere}
 use Rattle.ksv_schema_names.specs.Names.{Nothing, name_faults, least}
 use Rattle.ksv_schema_names.specs.Numbered.{all_numbered, given_member}
 use Rattle.ksv_schema_names.specs.Resolved.{Fits}
 use Rattle.ksv_schema_names.proofs.Found.{is_bound, row_within, nearest_within, type_within}
 use Rattle.ksv_schema_names.proofs.Resolving.{given_leads, resolved, all_resolved}
-use Rattle.ksv_desc.specs.Description.{Description, Content, Number, Characters, Object, EnumValue, Choice, Always, Switch}
+use Rattle.ksv_desc.specs.Description.{Description, Content, Number, Bits, Characters, Object, EnumValue, Choice, Always, Switch}
 use Rattle.ksv_desc.specs.Resolved.{count, Each, IfAny, IsThere, IsEnum, IsResolvedTree, AreResolvedTrees, IsResolvedContent, IsResolvedValue, IsResolvedCase, IsResolvedChoice}
 use Rattle.ksv_schema.specs.Expressions.{expression_of}
 use Rattle.ksv_schema.specs.KeyTexts.{TypeText, Unspelled, OfLanguage, OfDescription, type_text, is_str, is_strz, looks_like_number, Piece, Bytes as BytesPiece, BadPiece, LeftOutPiece, piece_of, CaseKey, Constant, Negative, OfEnum, Default, NoKey, case_key, ids_of}
@@ -170,6 +170,7 @@ module _ (names : List (List ℕ)) (h : Home) where
 
   of_language_good : (beside : List Pair) (enum : Option ℕ) (es : List Pair) (line : ℕ) (b : BuiltIn) (given : expressions.Arguments) → IfAny (IsEnumThere c) enum → (is_text (OfLanguage b given) ≡ true → IsEncoded es) → IsGood names (IsContent c) (of_language (keys_of beside enum es) line b)
   of_language_good beside enum es line (Integer signed bytes order) given e t = made_good (λ order. Number signed bytes order enum) (found_good {G = λ order. Unit {0}} line no_byte_order (order_at h bytes order) (λ order f. tt)) (λ order g. any_enum c enum e)
+  of_language_good beside enum es line (BitsType width is_little) given e t = if_good is_little _ _ (λ b. wrong_good line left_out) (λ b. gives_good (Bits width enum) (any_enum c enum e))
   of_language_good beside enum es line Str given e t = record { is = λ k w. characters (encoding_at h es) (t refl) }
   of_language_good beside enum es line Strz given e t = record { is = λ k w. characters (encoding_at h es) (t refl) }
   of_language_good beside enum es line NotHere given e t = wrong_good line left_out
@@ -207,7 +208,7 @@ module _ (names : List (List ℕ)) (h : Home) where
   -- a case has no text
   no_text : (es : List Pair) (line : ℕ) (t : TypeText) → case_against h es line t ≡ [] → is_text t ≡ true → ⊥
   unfolding case_against
-  no_text es line t k = both_ways (is_text t) (not_if (is_text t) line left_out (front _ _ (front _ _ (front _ _ (front _ _ k)))))
+  no_text es line t k = both_ways (is_text t) (not_if (is_text t) line left_out (front _ _ (front _ _ (front _ _ (front _ _ (front _ _ k))))))
 
   case_good : (beside : List Pair) (enum : Option ℕ) (es : List Pair) (p : Pair) → IfAny (IsEnumThere c) enum → IsGood names (λ x. Leads c IsResolvedCase (in_case c x)) (case (keys_of beside enum es) p)
   unfolding case

@@ -15,7 +15,7 @@ use Rattle.ksv_schema_names.specs.Members.{Member, members_of}
 use Rattle.ksv_schema_names.specs.Enums.{number_of, id_of, is_numbered, is_named}
 use Rattle.ksv_schema_names.specs.Numbered.{numbered, all_numbered}
 use Rattle.ksv_desc.specs.Names.{distinct, distinct_behind, number_in}
-use Rattle.ksv_desc.specs.Description.{Content, Bytes, Fixed, Number, Characters, Object, Case, Choice, Always, Switch, Extent, Sized, SizeEos, ByItself, Repeat, Once, Eos, Expr, Until, Valid, AnyOf, AllOf, Field, MemberKind, Parameter, Attribute, ParseInstance, ValueInstance, MemberOfType, TypeOfObjects, Numbered, Enum, Description, as_text}
+use Rattle.ksv_desc.specs.Description.{Content, Bytes, Fixed, Number, Bits, Characters, Object, Case, Choice, Always, Switch, Extent, Sized, SizeEos, ByItself, Repeat, Once, Eos, Expr, Until, Valid, AnyOf, AllOf, Field, MemberKind, Parameter, Attribute, ParseInstance, ValueInstance, MemberOfType, TypeOfObjects, Numbered, Enum, Description, as_text}
 use Rattle.ksv_schema.specs.declared.keys.forms.MappingKind.TheVariants as kinds
 use Rattle.ksv_schema.specs.Keys.{is_id}
 use Rattle.ksv_schema.specs.Faults.{Fault, fault, fault_if, keys_against, bad_value, left_out, over_limit}
@@ -154,6 +154,7 @@ abbrev pub in_content : Context → Content → Content
 in_content c Bytes = Bytes
 in_content c (Fixed bytes) = Fixed bytes
 in_content c (Number signed bytes order enum) = Number signed bytes order enum
+in_content c (Bits width enum) = Bits width enum
 in_content c (Characters encoding) = Characters encoding
 in_content c (Object t es) = Object t (all_numbered c.declared c.names c.within es)
 

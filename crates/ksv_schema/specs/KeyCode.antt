@@ -14,7 +14,7 @@ use Rattle.ksv_schema.specs.declared.keys.texts.Piece as pieces
 use Rattle.ksv_schema.specs.declared.keys.texts.Piece.TheVariants as piece
 use Rattle.ksv_schema.specs.declared.keys.texts.CaseKey as case_keys
 use Rattle.ksv_schema.specs.declared.keys.texts.CaseKey.TheVariants as case_key
-use Rattle.ksv_schema.specs.KeyTexts.{TypeText, Unspelled, OfLanguage, OfDescription, is_integer, is_str, is_strz, Piece, Bytes, BadPiece, LeftOutPiece, names_in, CaseKey, Constant, Negative, OfEnum, Default, NoKey}
+use Rattle.ksv_schema.specs.KeyTexts.{TypeText, Unspelled, OfLanguage, OfDescription, is_integer, is_bits, is_str, is_strz, Piece, Bytes, BadPiece, LeftOutPiece, names_in, CaseKey, Constant, Negative, OfEnum, Default, NoKey}
 use Rattle.ksv_schema.specs.declared.keys.forms.Key.{Key as KeyOfCode}
 use Rattle.ksv_schema.specs.Keys.{Key, key}
 
@@ -47,6 +47,7 @@ seen_type_at o = option_map seen_type_text o
 -- whether a type is of a kind
 abbrev pub kind_test : TypeKind → TypeText → Bool
 kind_test kind.Integer = is_integer
+kind_test kind.Bits = is_bits
 kind_test kind.Str = is_str
 kind_test kind.Strz = is_strz
 

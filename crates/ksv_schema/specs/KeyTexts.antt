@@ -13,7 +13,7 @@ use Rattle.ksv_yaml_tree.specs.declared.numeral.Numeral.TheVariants.{Whole, Lead
 use Rattle.ksv_basics.specs.Numerals.{is_numeral}
 use Rattle.ksv_yaml_tree.specs.Numerals.{plain_number}
 use Rattle.ksv_schema_names.specs.declared.built_ins.BuiltIn.{BuiltIn}
-use Rattle.ksv_schema_names.specs.declared.built_ins.BuiltIn.TheVariants.{Integer, Str, Strz}
+use Rattle.ksv_schema_names.specs.declared.built_ins.BuiltIn.TheVariants.{Integer, Bits, Str, Strz}
 use Rattle.ksv_schema_names.specs.BuiltIn.{built_in_at}
 use Rattle.ksv_expr_value.specs.declared.encoding.Encoding.{Encoding}
 use Rattle.ksv_expr_value.specs.Encodings as encodings
@@ -46,9 +46,15 @@ of_type (Some t) = of_name t (built_in_at t.name.path)
 unfoldable pub type_text : List ℕ → TypeText
 type_text text = of_type (type_of text)
 
+-- an integer of bytes or of bits, and one of bits
 abbrev pub is_integer : TypeText → Bool
 is_integer (OfLanguage (Integer signed bytes order) es) = true
+is_integer (OfLanguage (Bits width is_little) es) = true
 is_integer _ = false
+
+abbrev pub is_bits : TypeText → Bool
+is_bits (OfLanguage (Bits width is_little) es) = true
+is_bits _ = false
 
 abbrev pub is_str : TypeText → Bool
 is_str (OfLanguage Str es) = true

@@ -18,18 +18,18 @@ use Rattle.ksv_schema_names.specs.declared.position.Position.{Position}
 use Rattle.ksv_schema_names.specs.declared.position.NameFault.{NameFault}
 use Rattle.ksv_schema_names.specs.declared.position.NameFault.TheVariants.{Unknown, LeftOut}
 use Rattle.ksv_schema_names.specs.declared.built_ins.BuiltIn.{BuiltIn}
-use Rattle.ksv_schema_names.specs.declared.built_ins.BuiltIn.TheVariants.{Integer, Str, Strz, NotHere}
+use Rattle.ksv_schema_names.specs.declared.built_ins.BuiltIn.TheVariants.{Integer, Bits as BitsType, Str, Strz, NotHere}
 use Rattle.ksv_schema_names.specs.Names.{name_faults, list_faults, least}
 use Rattle.ksv_schema_names.specs.Numbered.{given_member}
 use Rattle.ksv_desc.specs.declared.order.ByteOrder.{ByteOrder}
 use Rattle.ksv_desc.specs.declared.order.ByteOrder.TheVariants as orders
 use Rattle.ksv_desc.specs.Names.{dotted, all_dotted}
 use Rattle.ksv_desc.specs.Resolved.{count}
-use Rattle.ksv_desc.specs.Description.{Content, Fixed, Bytes, Number, Characters, Object, CaseValue, Literal, Negated, EnumValue, Case, Choice, Always, Switch}
+use Rattle.ksv_desc.specs.Description.{Content, Fixed, Bytes, Number, Bits, Characters, Object, CaseValue, Literal, Negated, EnumValue, Case, Choice, Always, Switch}
 use Rattle.ksv_expr_value.specs.declared.encoding.Encoding.{Encoding}
 use Rattle.ksv_schema.specs.declared.keys.forms.MappingKind.TheVariants as kinds
 use Rattle.ksv_schema.specs.Expressions.{expression_of}
-use Rattle.ksv_schema.specs.KeyTexts.{encoding_named, TypeText, Unspelled, OfLanguage, OfDescription, type_text, is_integer, is_str, is_strz, looks_like_number, Piece, Bytes as BytesPiece, BadPiece, LeftOutPiece, piece_of, CaseKey, Constant, Negative, OfEnum, Default, NoKey, case_key, ids_of, is_repeated}
+use Rattle.ksv_schema.specs.KeyTexts.{encoding_named, TypeText, Unspelled, OfLanguage, OfDescription, type_text, is_integer, is_bits, is_str, is_strz, looks_like_number, Piece, Bytes as BytesPiece, BadPiece, LeftOutPiece, piece_of, CaseKey, Constant, Negative, OfEnum, Default, NoKey, case_key, ids_of, is_repeated}
 use Rattle.ksv_schema.specs.Faults.{Fault, fault_if, unknown_name, no_byte_order, bad_value, wrong_count, left_out, no_expression}
 use Rattle.ksv_schema.specs.Reading.{Reading, gives, wrong, found, also, made, both, each, perhaps, must, text, mapping}
 use Rattle.ksv_schema.specs.Rules.{keys_faults, Says, claimed, against, line_of_key, at_if}
@@ -127,9 +127,11 @@ order_at h bytes None = if bytes == 1 then Some orders.Little else order_of h.de
 unfoldable pub encoding_at : Home → List Pair → Option Encoding
 encoding_at h es = option_map_or Some (text_at (codes "encoding") es) (encoding_of h.declared.types h.within) >>= encoding_named
 
--- a type of the language; that a text has an encoding is a need of the attribute
+-- a type of the language; that a text has an encoding is a need of the attribute, and bits have no byte order: the highest
+-- bit of a byte is the first, the other end is unsupported
 abbrev pub of_language : FieldKeys → ℕ → BuiltIn → Reading Content
 of_language k line (Integer signed bytes order) = made (λ order. Number signed bytes order k.enum) (found line no_byte_order (order_at k.home bytes order))
+of_language k line (BitsType width is_little) = if is_little then wrong line left_out else gives (Bits width k.enum)
 of_language k line Str = record { faults = []; words = []; value = option_map Characters (encoding_at k.home k.entries) }
 of_language k line Strz = record { faults = []; words = []; value = option_map Characters (encoding_at k.home k.entries) }
 of_language k line NotHere = wrong line left_out
@@ -168,12 +170,13 @@ is_declared h Unspelled = false
 is_declared h (OfLanguage b es) = false
 is_declared h (OfDescription t es) = is_some (type_named h.declared.types h.within t.path)
 
--- what doesn't fit to a type of a case on this line, in an attribute of these keys: `str` and `strz`; a key that bounds
--- an integer; a terminator of a type of the description
+-- what doesn't fit to a type of a case on this line, in an attribute of these keys: `str`, `strz` and bits; a key that
+-- bounds an integer; a terminator of a type of the description
 unfoldable pub case_against : Home → List Pair → ℕ → TypeText → List Fault
 case_against h es line t =
     let case = if is_integer t then Some line else None in
     fault_if (is_str t || is_strz t) line left_out
+    ++ fault_if (is_bits t) line left_out
     ++ against case (line_of_key (entry_at (codes "size") es))
     ++ against case (line_of_key (claimed None es (Says (codes "size-eos") (codes "true"))))
     ++ against case (line_of_key (entry_at (codes "terminator") es))

@@ -7,7 +7,7 @@ use Rattle.std.specs.Str.Parse.{digits_value}
 use Rattle.ksv_desc.specs.declared.order.ByteOrder.{ByteOrder}
 use Rattle.ksv_schema_names.specs.Types.{order_named}
 pub use Rattle.ksv_schema_names.specs.declared.built_ins.BuiltIn.{BuiltIn}
-pub use Rattle.ksv_schema_names.specs.declared.built_ins.BuiltIn.TheVariants.{Integer, Str, Strz, NotHere}
+pub use Rattle.ksv_schema_names.specs.declared.built_ins.BuiltIn.TheVariants.{Integer, Bits, Str, Strz, NotHere}
 
 -- ---- numbers: `u`, `s` or `f` (with a fraction, which is unsupported), how many bytes, and their order or nothing
 
@@ -31,12 +31,16 @@ number_type [] = None
 number_type (kind ∷ []) = None
 number_type (kind ∷ digit ∷ suffix) = option_and_then (of_kind kind (digit - 48)) (order_suffix suffix)
 
--- ---- integers of 1 to 64 bits, `b1` to `b64`, which are unsupported
+-- ---- integers of 1 to 64 bits: `b`, how many bits, and the end by which those of a byte are read, `be` or `le`, or nothing
 
 -- a decimal from 1 to 64 that doesn't begin with 0
 abbrev pub is_width : List ℕ → Bool
 is_width [] = false
 is_width (c ∷ cs) = list_all is_ascii_digit (c ∷ cs) && nat_lt 48 c && nat_le (length cs) 1 && nat_le (digits_value 10 (c ∷ cs)) 64
+
+-- whether the lowest bit of a byte is the first one, as `le` at the end says
+abbrev pub is_little : List ℕ → Bool
+is_little cs = bytes_eq (drop (length cs - 2) cs) (codes "le")
 
 -- what comes before `le` or `be` at the end
 abbrev pub before_order : List ℕ → List ℕ
@@ -47,12 +51,16 @@ before_order cs =
 unfoldable pub is_bits : List ℕ → Bool
 is_bits name = slice_index name 0 == 98 && is_width (before_order (drop 1 name))
 
+-- the type that such a name is
+abbrev pub bits_type : List ℕ → BuiltIn
+bits_type name = Bits (digits_value 10 (before_order (drop 1 name))) (is_little name)
+
 -- ---- all of them
 
 -- the type of the language that a name is
 unfoldable pub built_in : List ℕ → Option BuiltIn
 built_in name =
-    if is_bits name then Some NotHere
+    if is_bits name then Some (bits_type name)
     else if bytes_eq name (codes "str") then Some Str
     else if bytes_eq name (codes "strz") then Some Strz
     else number_type name

@@ -1,7 +1,8 @@
 //! The types that the language itself has.
 
-ghost use Rattle.std.specs.Prelude.{◌≡◌, map, string_bytes};
-ghost use Rattle.ksv_schema_names.specs.BuiltIn.{has_size, of_kind, order_suffix, number_type, is_width, before_order, is_bits, built_in, built_in_at};
+ghost use Rattle.std.specs.Prelude.{◌≡◌, Some, None, if◌then◌else◌, map, string_bytes};
+ghost use Rattle.std.specs.Str.Parse.{digits_value};
+ghost use Rattle.ksv_schema_names.specs.BuiltIn.{has_size, of_kind, order_suffix, number_type, is_width, is_little, before_order, is_bits, bits_type, built_in, built_in_at};
 
 use crate::outwards::order_named;
 use ksv_desc::ByteOrder;
@@ -18,11 +19,18 @@ pub enum BuiltIn {
         /// The order of its bytes, if the name has one.
         order: Option<ByteOrder>,
     },
+    /// `b1` to `b64be`
+    Bits {
+        /// How many bits it has: 1 to 64.
+        width: u8,
+        /// Whether the lowest bit of a byte is its first, as `le` at the end says. That is unsupported.
+        is_little: bool,
+    },
     /// `str`
     Str,
     /// `strz`
     Strz,
-    /// An unsupported type: a floating-point number, or an integer of 1 to 64 bits.
+    /// An unsupported type: a floating-point number.
     NotHere,
 }
 
@@ -31,16 +39,18 @@ pub enum BuiltIn {
 pub fn built_in(name: &[u8]) -> Option<BuiltIn>
     ensures { result ≡ built_in name.now }
 {
-    if is_bits(name) {
-        return Some(BuiltIn::NotHere);
+    match bits_type(name) {
+        Some(bits) => Some(bits),
+        None => {
+            if name == b"str".as_slice() {
+                return Some(BuiltIn::Str);
+            }
+            if name == b"strz".as_slice() {
+                return Some(BuiltIn::Strz);
+            }
+            number_type(name)
+        }
     }
-    if name == b"str".as_slice() {
-        return Some(BuiltIn::Str);
-    }
-    if name == b"strz".as_slice() {
-        return Some(BuiltIn::Strz);
-    }
-    number_type(name)
 }
 
 /// Whether a number has a size, if this is its order.
@@ -95,15 +105,26 @@ fn number_type(name: &[u8]) -> Option<BuiltIn>
     }
 }
 
-/// Whether a name is that of an integer of 1 to 64 bits.
+/// The type of a name that is that of an integer of 1 to 64 bits.
 #[tactic(auto, unfolding(crate::specs::BuiltIn::is_bits))]
-fn is_bits(name: &[u8]) -> bool
-    ensures { result ≡ is_bits name.now }
+fn bits_type(name: &[u8]) -> Option<BuiltIn>
+    ensures { result ≡ (if is_bits name.now then Some (bits_type name.now) else None) }
 {
     match name {
-        [first, rest @ ..] => *first == b'b' && is_width(before_order(rest)),
-        [] => false,
+        [b'b', rest @ ..] => Some(BuiltIn::Bits {
+            width: width(before_order(rest))?,
+            is_little: is_little(name),
+        }),
+        _ => None,
     }
+}
+
+/// Whether a text has `le` at the end.
+fn is_little(text: &[u8]) -> bool
+    ensures { result ≡ is_little text.now }
+{
+    let start = text.len().saturating_sub(2);
+    &text[start..] == b"le".as_slice()
 }
 
 /// What comes before `le` or `be` at the end.
@@ -119,17 +140,17 @@ fn before_order(text: &[u8]) -> &[u8]
     }
 }
 
-/// Whether a text is a decimal from 1 to 64 that doesn't begin with 0.
-fn is_width(text: &[u8]) -> bool
-    ensures { result ≡ is_width text.now }
+/// The number of a text that is a decimal from 1 to 64 and doesn't begin with 0.
+fn width(text: &[u8]) -> Option<u8>
+    ensures { result ≡ (if is_width text.now then Some (digits_value 10 text.now) else None) }
 {
     match text {
-        [ones] => ones.is_ascii_digit() && *ones > b'0',
-        [tens, ones] => tens.is_ascii_digit()
-            && ones.is_ascii_digit()
-            && *tens > b'0'
-            && (*tens - b'0') * 10 + (*ones - b'0') <= 64,
-        _ => false,
+        [ones] if ones.is_ascii_digit() && *ones > b'0' => Some(*ones - b'0'),
+        [tens, ones] if tens.is_ascii_digit() && ones.is_ascii_digit() && *tens > b'0' => {
+            let width = (*tens - b'0') * 10 + (*ones - b'0');
+            if width <= 64 { Some(width) } else { None }
+        }
+        _ => None,
     }
 }
 

@@ -47,8 +47,10 @@ pub(crate) fn type_text(alloc: Global, text: &[u8]) -> Result<TypeText, AllocErr
 /// A kind of type that rules ask for.
 #[derive(Clone, Copy)]
 pub(crate) enum TypeKind {
-    /// An integer.
+    /// An integer, of bytes or of bits.
     Integer,
+    /// An integer of bits.
+    Bits,
     /// `str`
     Str,
     /// `strz`
@@ -60,7 +62,11 @@ pub(crate) fn is_of_kind(kind: TypeKind, text: &TypeText) -> bool
     ensures { result ≡ kind_test kind (seen_type_text text.now) }
 {
     match kind {
-        TypeKind::Integer => matches!(text, TypeText::OfLanguage(BuiltIn::Integer { .. }, _)),
+        TypeKind::Integer => matches!(
+            text,
+            TypeText::OfLanguage(BuiltIn::Integer { .. } | BuiltIn::Bits { .. }, _)
+        ),
+        TypeKind::Bits => matches!(text, TypeText::OfLanguage(BuiltIn::Bits { .. }, _)),
         TypeKind::Str => matches!(text, TypeText::OfLanguage(BuiltIn::Str, _)),
         TypeKind::Strz => matches!(text, TypeText::OfLanguage(BuiltIn::Strz, _)),
     }

@@ -54,6 +54,7 @@ fn number_content(context: Context, content: &mut Content)
         Content::Bytes => {}
         Content::Fixed(_) => {}
         Content::Number { .. } => {}
+        Content::Bits { .. } => {}
         Content::Characters(_) => {}
         Content::Object { arguments, .. } => {
             number_arguments(context.scopes, context.names, context.within, arguments);

@@ -12,6 +12,7 @@ ghost use Rattle.ksv_schema.specs.KeyTexts.{OfLanguage, OfDescription, type_at, 
 ghost use Rattle.ksv_desc.specs.Pieces.{plain_content, plain_value, plain_case, plain_choice};
 ghost use Rattle.ksv_schema.specs.Expressions.{expression_of};
 ghost use Rattle.ksv_schema.specs.KeyCode.{seen_type_text, seen_type_at, seen_case_key};
+ghost use Rattle.ksv_schema_names.specs.declared.built_ins.BuiltIn.TheVariants.{Bits};
 ghost use Rattle.ksv_schema.specs.Faults.{noted};
 ghost use Rattle.ksv_schema.specs.Reading.{also, made, each, perhaps, must, mapping, text};
 ghost use Rattle.ksv_schema.specs.Values.{content_or_type, arguments, order_at, encoding_at, of_language, counts_differ, of_type, of_case_key, case_value, is_declared, case_against, case, switch, typed, choice};
@@ -76,6 +77,27 @@ fn encoding_at(home: Home, entries: &[Entry]) -> Option<Encoding>
     }
 }
 
+/// An integer of so many bits; those of a byte are read from its highest one on.
+#[tactic(auto, using(crate::proofs::Noted::steps, ksv_desc::proofs::Dots::steps))]
+fn bits(
+    reader: &mut Reader,
+    keys: FieldKeys,
+    line: usize,
+    width: u8,
+    is_little: bool,
+) -> Read<Content>
+    ensures { Reads (of_language (seen_keys keys.entry) line (Bits width is_little)) plain_content reader.old reader.new result }
+{
+    if is_little {
+        note(&mut reader.least, line, LeftOut);
+        return Ok(None);
+    }
+    Ok(Some(Content::Bits {
+        width,
+        enumeration: keys.enumeration,
+    }))
+}
+
 /// What a type of the language means.
 #[tactic(auto, using(crate::proofs::Noted::steps, ksv_desc::proofs::Dots::steps))]
 fn of_language(
@@ -103,6 +125,7 @@ fn of_language(
                 Ok(None)
             }
         },
+        BuiltIn::Bits { width, is_little } => bits(reader, keys, line, width, is_little),
         BuiltIn::Str | BuiltIn::Strz => match encoding_at(keys.home, keys.entries) {
             Some(encoding) => Ok(Some(Content::Characters(encoding))),
             None => Ok(None),
@@ -271,6 +294,7 @@ fn note_case_against(least: &mut Least, home: Home, entries: &[Entry], line: usi
     ensures { seen_fault least.new ≡ noted (seen_fault least.old) (case_against (seen_home home.entry) (map pair entries.now) line (seen_type_text text.now)) }
 {
     let is_text = is_of_kind(TypeKind::Str, text) | is_of_kind(TypeKind::Strz, text);
+    let is_bits = is_of_kind(TypeKind::Bits, text);
     let is_object = is_declared(home, text);
     let case = if is_of_kind(TypeKind::Integer, text) {
         Some(line)
@@ -280,6 +304,7 @@ fn note_case_against(least: &mut Least, home: Home, entries: &[Entry], line: usi
     let to_end = key_if(says(entries, b"size-eos", b"true"), entries, b"size-eos");
     let terminator = find(entries, b"terminator");
     note_if(least, is_text, line, LeftOut);
+    note_if(least, is_bits, line, LeftOut);
     note_against(least, case, line_of_key(find(entries, b"size")));
     note_against(least, case, line_of_key(to_end));
     note_against(least, case, line_of_key(terminator));
