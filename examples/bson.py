@@ -1,8 +1,11 @@
 #!/usr/bin/env python3
 """A reader of BSON of its own, by the specification, and the maker of bson.bin. See reader.py."""
 import struct
+import sys
 
-import reader
+sys.dont_write_bytecode = True
+
+import reader  # noqa: E402
 
 KINDS = {1: "double", 2: "text", 3: "document", 4: "list", 5: "binary", 7: "object_id", 8: "truth", 9: "date", 10: "nothing", 16: "int32", 17: "timestamp", 18: "int64"}
 # What the file says before it is damaged, and after the dialogue.
@@ -121,14 +124,19 @@ def read(data):
 
 
 def check(data):
-    """What is wrong with the document after its repair."""
+    """What is wrong with the document."""
     try:
         add_document(data, 0, "/document", ({}, {}))
     except (Broken, ValueError, IndexError, struct.error) as why:
         return [str(why)]
-    wanted = written(MENDED)
-    return [] if data == wanted else [f"it is {data.hex()}, and not {wanted.hex()}"]
+    size = struct.unpack_from("<i", data, 0)[0]
+    return [] if size == len(data) else [f"the document has {size} bytes, and the file {len(data)}"]
+
+
+def done(data):
+    """What is other than the dialogue leaves it."""
+    return [] if data == written(MENDED) else [f"it is {data.hex()}, and not {written(MENDED).hex()}"]
 
 
 if __name__ == "__main__":
-    reader.main(make, read, check)
+    reader.main(make, read, check, done)

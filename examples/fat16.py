@@ -1,8 +1,11 @@
 #!/usr/bin/env python3
 """A reader of FAT16 disks of its own, by the specification, and the maker of fat16.bin. See reader.py."""
 import struct
+import sys
 
-import reader
+sys.dont_write_bytecode = True
+
+import reader  # noqa: E402
 
 SECTOR, SECTORS, FAT_SECTORS, ROOT_ENTRIES, USED = 512, 4124, 16, 16, 10
 FATS, ROOT, DATA = SECTOR, SECTOR * (1 + 2 * FAT_SECTORS), SECTOR * (2 + 2 * FAT_SECTORS)
@@ -107,19 +110,25 @@ def text_of(data, cluster, size):
     return b"".join(data[DATA + (it - 2) * SECTOR :][:SECTOR] for it in some)[:size].decode("latin-1")
 
 
+def files(data):
+    """The files of the root by their names: cluster and size. A deleted one isn't there."""
+    return {name.decode("latin-1"): (cluster, size) for _, _, name, kind, _, cluster, size in entries(data, ROOT, "") if name[0] not in (0, 0xE5) and not kind & 24}
+
+
 def check(data):
-    """What is wrong with the disk after its repair: the tables agree, the files have their texts, and each cluster in use is of one file."""
-    wrong = [] if table(data, 0) == table(data, 1) else ["the tables differ"]
-    files = {name.rstrip().decode("latin-1"): (cluster, size) for _, _, name, kind, _, cluster, size in entries(data, ROOT, "") if not kind & 24}
-    for name, text in (("README  TXT", POEM), ("NOTE    TXT", NOTE)):
-        if name not in files or text_of(data, *files[name]) != text:
-            wrong.append(f"{name} isn't what it was")
-    used = [it for cluster, size in files.values() for it in clusters(data, cluster, size)[0]] + [4, 8]
+    """What is wrong with the disk: the tables differ, a file's chain is too short or too long, or a cluster is of no file."""
+    wrong, there = [] if table(data, 0) == table(data, 1) else ["the tables differ"], files(data)
+    wrong += [f"{name}: its clusters don't fit its length" for name, found in there.items() if text_of(data, *found) is None]
+    used = sorted([it for cluster, size in there.values() for it in clusters(data, cluster, size)[0]] + [4, 8])
     in_table = [it for it, after in enumerate(table(data, 0)) if after and it > 1]
-    if sorted(used) != in_table:
-        wrong.append(f"clusters {sorted(used)} are used, and the table has {in_table}")
-    return wrong
+    return wrong if used == in_table else [*wrong, f"files and PHOTOS have the clusters {used}, and the table has {in_table}"]
+
+
+def done(data):
+    """What is other than the dialogue leaves it: both files of the root have their texts."""
+    there = files(data)
+    return [f"{name} isn't what it was" for name, text in (("README  TXT", POEM), ("NOTE    TXT", NOTE)) if name not in there or text_of(data, *there[name]) != text]
 
 
 if __name__ == "__main__":
-    reader.main(make, read, check)
+    reader.main(make, read, check, done)

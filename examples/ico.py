@@ -4,7 +4,9 @@ import struct
 import sys
 import zlib
 
-import reader
+sys.dont_write_bytecode = True
+
+import reader  # noqa: E402
 
 FIELDS = (("width", 0, 1), ("height", 1, 1), ("num_colors", 2, 1), ("reserved", 3, 1), ("num_planes", 4, 2), ("num_bits", 6, 2), ("len_image", 8, 4), ("ofs_image", 12, 4))
 BITMAP = "<IiiHHIIiiII"
@@ -86,27 +88,28 @@ def png_wrong(image):
 
 
 def check(data):
-    """What is wrong with the icon after its repair: two images, one behind the other, each as its entry says."""
-    found, wrong, end = list(entries(data)), [], 0
-    values = read(data)[0]
-    if len(found) != 2:
-        return [f"there are {len(found)} images, and not 2"]
+    """What is wrong with the icon: an image that isn't behind the one before, or isn't as its entry says, or is no whole PNG."""
+    found, wrong, end, values = list(entries(data)), [], 0, read(data)[0]
     for number, (_, fields) in enumerate(found):
         start, size = fields["ofs_image"], fields["len_image"]
         if start != (end or 6 + 16 * len(found)):
-            wrong.append(f"image {number} begins at {start}")
-        if values.get(f"/entries/{number}/is_right") != "true":
+            wrong.append(f"image {number} begins at {start}, and should at {end or 6 + 16 * len(found)}")
+        elif values.get(f"/entries/{number}/is_right") != "true":
             wrong.append(f"image {number} isn't as its entry says")
         elif values[f"/entries/{number}/mark"] != 40:
             wrong += png_wrong(data[start : start + size])
-        elif data[start : start + size] != bitmap(8, 8):
-            wrong.append(f"image {number} has other pixels")
         end = start + size
-    return wrong if end == len(data) else [*wrong, f"it ends at {end}, and not at {len(data)}"]
+    return wrong if end == len(data) else [*wrong, f"the last image ends at {end}, and the file at {len(data)}"]
+
+
+def done(data):
+    """What is other than the dialogue leaves it: the first image, and a second one in PNG."""
+    found = [data[it["ofs_image"] :][: it["len_image"]] for _, it in entries(data)]
+    return [] if len(found) == 2 and found[0] == bitmap(8, 8) and found[1].startswith(b"\x89PNG") else [f"there are {len(found)} images, or others than the dialogue leaves"]
 
 
 if __name__ == "__main__":
     if sys.argv[1:] == ["png"]:
         sys.stdout.buffer.write(png(4, 4))
     else:
-        reader.main(make, read, check)
+        reader.main(make, read, check, done)

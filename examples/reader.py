@@ -2,7 +2,8 @@
 
     NAME.py make            writes NAME.bin to standard output, damaged as it is
     NAME.py replies CMD     answers the command lines of a file from its own reading, `?` where it has no answer
-    NAME.py check FILE      tells what is wrong with a file, and nothing where all is as the format says and as the dialogue leaves it
+    NAME.py check FILE      tells what is wrong with a file, and that nothing is where all is as the format says
+    NAME.py done FILE       tells whether a file is as the dialogue NAME.cmd leaves it
 """
 import sys
 
@@ -38,7 +39,7 @@ def reply(line, data, read):
     return f"ok {len(data)}"
 
 
-def main(make, read, check):
+def main(make, read, check, done):
     """Does what the words say."""
     what, *names = sys.argv[1:]
     if what == "make":
@@ -51,6 +52,6 @@ def main(make, read, check):
                     print(reply(line, data, read))
     else:
         with open(names[0], "rb") as file:
-            wrong = check(file.read())
-        print("".join(f"{it}\n" for it in wrong), end="")
+            wrong = (check if what == "check" else done)(file.read())
+        print("\n".join(wrong or ["nothing is wrong"]))
         sys.exit(1 if wrong else 0)
