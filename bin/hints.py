@@ -45,7 +45,7 @@ UNSUPPORTED = [
     Row("`endian` chosen by `switch-on`", "S8", r"(?<!-)\bendian\b", "write two types, one for each order, and choose one by a switch"),
     Row("`in-enum` of `valid`", "S8", r"\bin-enum\b", "write `any-of` with the members"),
     Row("`params` of the root", "S8", r"^params\b", "write a type that has them, and an attribute of this type with arguments"),
-    Row("`_io.pos`, `_io.eof` in an instance, an argument or `valid`", "S8", r"\b_io\.(?:pos|eof)\b", "write `_io.size`, or make it an attribute of `seq`"),
+    Row("`_io.pos`, `_io.eof` in an instance, an argument, `valid`, or of another object", "S8", r"\b_io\.(?:pos|eof)\b", "write `_io.size`, or make it an attribute of `seq`"),
     Row("an instance with neither `pos` nor `value`", "S8", r"^\s*\w+:\s*(?:\{.*\}\s*)?(?:#.*)?$", "give it a `pos`, or make it an attribute of `seq`"),
     Row("`type: io` of a parameter", "S8", r"\btype: *io\b", "hand over the object x, and write `io: x._io`"),
     Row("`terminator` with a type of the description; of `strz`, not 0", "S8", r"\bterminator\b", "give the type a `size`; write `str` for `strz`"),
