@@ -55,9 +55,9 @@ types:
         type: s4
       - id: y_per_meter
         type: s4
-      - id: count_colors
+      - id: num_colors
         type: u4
-      - id: count_important
+      - id: num_important
         type: u4
   row:
     seq:

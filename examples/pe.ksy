@@ -24,13 +24,13 @@ types:
       - id: machine
         type: u2
         enum: machine
-      - id: count_sections
+      - id: num_sections
         type: u2
       - id: time
         type: u4
       - id: at_symbols
         type: u4
-      - id: count_symbols
+      - id: num_symbols
         type: u4
       - id: len_optional
         type: u2
@@ -42,7 +42,7 @@ types:
       - id: sections
         type: section
         repeat: expr
-        repeat-expr: count_sections
+        repeat-expr: num_sections
     instances:
       is_library:
         value: flags & 0x2000 != 0
@@ -95,12 +95,12 @@ types:
         size: 'kind == kind::bits64 ? 32 : 16'
       - id: loader
         type: u4
-      - id: count_tables
+      - id: num_tables
         type: u4
       - id: tables
         type: table
         repeat: expr
-        repeat-expr: count_tables
+        repeat-expr: num_tables
   table:
     seq:
       - id: address
@@ -155,9 +155,9 @@ types:
         type: u4
       - id: first_ordinal
         type: u4
-      - id: count_functions
+      - id: num_functions
         type: u4
-      - id: count_names
+      - id: num_names
         type: u4
       - id: functions_address
         type: u4
@@ -173,17 +173,17 @@ types:
         pos: functions_address - shift
         type: u4
         repeat: expr
-        repeat-expr: count_functions
+        repeat-expr: num_functions
       names:
         pos: names_address - shift
         type: export(_index)
         repeat: expr
-        repeat-expr: count_names
+        repeat-expr: num_names
       ordinals:
         pos: ordinals_address - shift
         type: u2
         repeat: expr
-        repeat-expr: count_names
+        repeat-expr: num_names
   export:
     params:
       - id: number

@@ -8,7 +8,7 @@ meta:
 seq:
   - id: magic
     contents: [SQLite format 3, 0]
-  - id: page_size_stored
+  - id: len_page_stored
     type: u2
   - id: write_version
     type: u1
@@ -20,11 +20,11 @@ seq:
     size: 3
   - id: changes
     type: u4
-  - id: count_pages
+  - id: num_pages
     type: u4
   - id: first_free
     type: u4
-  - id: count_free
+  - id: num_free
     type: u4
   - id: schema_cookie
     type: u4
@@ -50,14 +50,14 @@ seq:
   - id: library
     type: u4
 instances:
-  page_size:
-    value: 'page_size_stored == 1 ? 65536 : page_size_stored'
+  len_page:
+    value: 'len_page_stored == 1 ? 65536 : len_page_stored'
   pages:
     pos: 0
-    size: page_size
+    size: len_page
     type: page(_index)
     repeat: expr
-    repeat-expr: count_pages
+    repeat-expr: num_pages
   schema:
     doc: The first page holds the table of all tables.
     value: pages[0].tree
@@ -78,7 +78,7 @@ types:
         enum: kind
       - id: first_free
         type: u2
-      - id: count_cells
+      - id: num_cells
         type: u2
       - id: at_cells
         type: u2
@@ -95,7 +95,7 @@ types:
             kind::inner_table: branch_place
             _: other_place
         repeat: expr
-        repeat-expr: count_cells
+        repeat-expr: num_cells
   row_place:
     seq:
       - id: at

@@ -94,20 +94,20 @@ types:
     seq:
       - id: form
         contents: [0x60]
-      - id: count_params
+      - id: num_params
         type: leb
       - id: params
         type: u1
         enum: value_type
         repeat: expr
-        repeat-expr: count_params.value
-      - id: count_results
+        repeat-expr: num_params.value
+      - id: num_results
         type: leb
       - id: results
         type: u1
         enum: value_type
         repeat: expr
-        repeat-expr: count_results.value
+        repeat-expr: num_results.value
   imports:
     seq:
       - id: count
@@ -220,12 +220,12 @@ types:
         size: len.value
   body:
     seq:
-      - id: count_locals
+      - id: num_locals
         type: leb
       - id: locals
         type: local
         repeat: expr
-        repeat-expr: count_locals.value
+        repeat-expr: num_locals.value
       - id: code
         size-eos: true
   local:

@@ -154,7 +154,7 @@ types:
         type: u2
       - id: disk_of_directory
         type: u2
-      - id: count_here
+      - id: num_here
         type: u2
       - id: count
         type: u2
