@@ -139,4 +139,4 @@ def done(data):
 
 
 if __name__ == "__main__":
-    reader.main(make, read, check, done)
+    reader.main(read, make=make, check=check, done=done)

@@ -112,4 +112,4 @@ if __name__ == "__main__":
     if sys.argv[1:] == ["png"]:
         sys.stdout.buffer.write(png(4, 4))
     else:
-        reader.main(make, read, check, done)
+        reader.main(read, make=make, check=check, done=done)

@@ -1,30 +1,71 @@
 """What the readers beside the examples have in common. A reader is a script NAME.py that knows the format and nothing of ksv:
 
+    NAME.py replies CMD     answers the command lines of a file from its own reading of NAME.bin, `?` where it has no answer
+
+and where the file is a damaged one
+
     NAME.py make            writes NAME.bin to standard output, damaged as it is
-    NAME.py replies CMD     answers the command lines of a file from its own reading, `?` where it has no answer
     NAME.py check FILE      tells what is wrong with a file, and that nothing is where all is as the format says
     NAME.py done FILE       tells whether a file is as the dialogue NAME.cmd leaves it
 """
+import json
+import struct
 import sys
 
 
-def written(data, place, width, number):
-    """Writes a number of this width, the lowest byte first."""
-    data[place : place + width] = (number % (1 << 8 * width)).to_bytes(width, "little")
+def fields(path, start, rows):
+    """Values and places of fields that follow each other: rows of a name, a `struct` format, and bytes."""
+    values, places = {}, {}
+    for name, form, data in rows:
+        width = struct.calcsize(form)
+        values[f"{path}/{name}"] = struct.unpack_from(form, data, start)[0]
+        places[f"{path}/{name}"] = (start, start + width)
+        start += width
+    return values, places
 
 
-def reply(line, data, read):
+def written(data, place, number, order):
+    """Writes a number over the bytes of a place, which has a third part where the number has a sign; whether it fits."""
+    start, end, *sign = place
+    bits = 8 * (end - start)
+    if not -(1 << bits - 1) <= number < 1 << bits - bool(sign):
+        return False
+    data[start:end] = (number % (1 << bits)).to_bytes(end - start, order)
+    return True
+
+
+def text(value):
+    """A value as ksv prints it: a number, a truth value, bytes, or a text, and what is neither as it stands."""
+    if isinstance(value, bool):
+        return str(value).lower()
+    return f"hex {value.hex()}" if isinstance(value, bytes) else str(value)
+
+
+def quoted(value):
+    """A text as ksv prints it."""
+    return json.dumps(value, ensure_ascii=False)
+
+
+def found(read, data):
+    """What a reader tells of a file: values and places by their paths. Where it can't read it, nothing."""
+    try:
+        return read(bytes(data))
+    except Exception:  # a reader of a library stops in its own way at a damaged file
+        return {}, {}
+
+
+def reply(line, data, read, order):
     """The reply to a line over some bytes, which an edit changes."""
     word, *words = line.split()
-    values, places = read(bytes(data))
+    values, places = found(read, data)
     if word in ("get", "at"):
-        found = values.get(words[0]) if word == "get" else places.get(words[0])
-        return "?" if found is None else found if isinstance(found, str) else f"at {found[0]} {found[1]}" if word == "at" else str(found)
+        value = (values if word == "get" else places).get(words[0])
+        return "?" if value is None else f"at {value[0]} {value[1]}" if isinstance(value, tuple) else text(value)
     if word == "bytes":
         return f"hex {data[int(words[0]) : int(words[0]) + int(words[1])].hex()}"
     if word == "put":
-        start, end = places[words[0]]
-        written(data, start, end - start, int(words[1]))
+        if not written(data, places[words[0]], int(words[1]), order):
+            return "error: out of range"
     elif word == "set":
         some = bytes.fromhex(words[1])
         data[int(words[0]) : int(words[0]) + len(some)] = some
@@ -39,19 +80,28 @@ def reply(line, data, read):
     return f"ok {len(data)}"
 
 
-def main(make, read, check, done):
-    """Does what the words say."""
-    what, *names = sys.argv[1:]
-    if what == "make":
-        sys.stdout.buffer.write(make())
-    elif what == "replies":
-        data = bytearray(make())
-        with open(names[0], encoding="utf-8") as file:
-            for line in file:
-                if line.strip() and not line.startswith("#"):
-                    print(reply(line, data, read))
-    else:
+def replies(name, read, order):
+    """Answers the lines of a file."""
+    with open(sys.argv[0].removesuffix(".py") + ".bin", "rb") as file:
+        data = bytearray(file.read())
+    with open(name, encoding="utf-8") as file:
+        for line in file:
+            if line.strip() and not line.startswith("#"):
+                print(reply(line, data, read, order))
+
+
+def main(read, order="little", **does):
+    """Does what the words say: `replies CMD`, and `make`, `check FILE` and `done FILE` where the reader does these."""
+    what, *names = sys.argv[1:] or ["help"]
+    if what == "replies" and len(names) == 1:
+        replies(names[0], read, order)
+    elif what == "make" and what in does:
+        sys.stdout.buffer.write(does[what]())
+    elif what in ("check", "done") and what in does and len(names) == 1:
         with open(names[0], "rb") as file:
-            wrong = (check if what == "check" else done)(file.read())
+            wrong = does[what](file.read())
         print("\n".join(wrong or ["nothing is wrong"]))
         sys.exit(1 if wrong else 0)
+    else:
+        print(f"usage: {sys.argv[0]} " + " | ".join(["replies CMD", *(it if it == "make" else f"{it} FILE" for it in does)]), file=sys.stderr)
+        sys.exit(2)
