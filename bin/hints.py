@@ -33,7 +33,7 @@ UNSUPPORTED = [
     Row("`imports`, `ks-opaque-types`", "S8", r"\b(?:imports|ks-opaque-types)\b", "no other file is read: write its types under `types`"),
     Row("`encoding: utf8`", "S8", r"(?i)\butf_?8\b", "its name has a hyphen: write `UTF-8`"),
     Row("other encodings, such as `UTF-16LE`", "S8", r"\bencoding\b", "only ASCII and UTF-8 are read: read the bytes, by `size` without `type`"),
-    Row("`pad-right`", "S8", r"\bpad-right\b", "write `terminator` with that byte, beside `size`"),
+    Row("`pad-right`", "S8", r"\bpad-right\b", "write `terminator` with that byte, beside `size`: the text ends before the first one"),
     Row("`[0x89, 0x50]` in an expression", "X3 S6", r"(?:[^\w\])\s]|\b(?:and|or|not))\s*\[(?!.*\bfor\b)", "compare one by one: `a[0] == 0x89 and a[1] == 0x50`"),
     Row("`&&`, `||`, `!`", "X1 Y6", r"&&|\|\||(?:^|[^:])\s!(?!=)|['\"(]!(?!=)|\b(?:if|value|valid|expr|repeat-until): *!", "write `and`, `or`, `not`"),
     Row("`=` in an expression", "X1", r"[^=!<>]=[^=]", "write `==`"),
