@@ -107,7 +107,8 @@ def main(program, words):
     sys.stderr.buffer.write((message + (hint(message, words) if status == 1 else "")).encode(errors="surrogateescape"))
     sys.stderr.flush()
     if status < 0:
-        signal.signal(-status, signal.SIG_DFL)
+        if -status != signal.SIGKILL:
+            signal.signal(-status, signal.SIG_DFL)
         os.kill(os.getpid(), -status)
     return status
 
