@@ -10,7 +10,7 @@ seq:
     type: u4
   - id: reserved
     size: 4
-  - id: at_pixels
+  - id: ofs_pixels
     type: u4
   - id: len_header
     type: u4
@@ -25,7 +25,7 @@ instances:
     doc: Rows end at a multiple of four bytes.
     value: (header.width * header.bits + 31) / 32 * 4
   rows:
-    pos: at_pixels
+    pos: ofs_pixels
     size: len_row
     type: row
     repeat: expr

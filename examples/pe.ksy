@@ -10,11 +10,11 @@ seq:
     contents: MZ
   - id: dos
     size: 58
-  - id: at_header
+  - id: ofs_header
     type: u4
 instances:
   header:
-    pos: at_header
+    pos: ofs_header
     type: header
 types:
   header:
@@ -28,7 +28,7 @@ types:
         type: u2
       - id: time
         type: u4
-      - id: at_symbols
+      - id: ofs_symbols
         type: u4
       - id: num_symbols
         type: u4
@@ -63,9 +63,9 @@ types:
         type: u4
       - id: entry
         type: u4
-      - id: at_code
+      - id: ofs_code
         type: u4
-      - id: at_data
+      - id: ofs_data
         type: u4
         if: kind == kind::bits32
       - id: base
@@ -119,7 +119,7 @@ types:
         type: u4
       - id: len_body
         type: u4
-      - id: at_body
+      - id: ofs_body
         type: u4
       - id: relocations
         size: 12
@@ -127,7 +127,7 @@ types:
         type: u4
     instances:
       body:
-        pos: at_body
+        pos: ofs_body
         size: len_body
       executable:
         value: flags & 0x20000000 != 0
@@ -139,7 +139,7 @@ types:
         type: exports(shift)
         if: has_exports
       shift:
-        value: address - at_body
+        value: address - ofs_body
   exports:
     params:
       - id: shift

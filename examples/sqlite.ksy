@@ -80,7 +80,7 @@ types:
         type: u2
       - id: num_cells
         type: u2
-      - id: at_cells
+      - id: ofs_cells
         type: u2
       - id: fragmented
         type: u1
@@ -98,23 +98,23 @@ types:
         repeat-expr: num_cells
   row_place:
     seq:
-      - id: at
+      - id: ofs
         type: u2
     instances:
       row:
-        pos: at
+        pos: ofs
         type: row
   branch_place:
     seq:
-      - id: at
+      - id: ofs
         type: u2
     instances:
       branch:
-        pos: at
+        pos: ofs
         type: branch
   other_place:
     seq:
-      - id: at
+      - id: ofs
         type: u2
   branch:
     seq:

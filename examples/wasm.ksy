@@ -84,12 +84,12 @@ types:
         size-eos: true
   types:
     seq:
-      - id: count
+      - id: num_items
         type: leb
       - id: list
         type: function_type
         repeat: expr
-        repeat-expr: count.value
+        repeat-expr: num_items.value
   function_type:
     seq:
       - id: form
@@ -110,12 +110,12 @@ types:
         repeat-expr: num_results.value
   imports:
     seq:
-      - id: count
+      - id: num_items
         type: leb
       - id: list
         type: import(_index)
         repeat: expr
-        repeat-expr: count.value
+        repeat-expr: num_items.value
   import:
     params:
       - id: number
@@ -167,28 +167,28 @@ types:
         if: flags & 1 != 0
   functions:
     seq:
-      - id: count
+      - id: num_items
         type: leb
       - id: types
         type: leb
         repeat: expr
-        repeat-expr: count.value
+        repeat-expr: num_items.value
   memories:
     seq:
-      - id: count
+      - id: num_items
         type: leb
       - id: list
         type: limits
         repeat: expr
-        repeat-expr: count.value
+        repeat-expr: num_items.value
   exports:
     seq:
-      - id: count
+      - id: num_items
         type: leb
       - id: list
         type: export
         repeat: expr
-        repeat-expr: count.value
+        repeat-expr: num_items.value
   export:
     seq:
       - id: name
@@ -205,12 +205,12 @@ types:
         value: _root.code.list[index.value - _root.imports.list.last.functions].body.code
   code:
     seq:
-      - id: count
+      - id: num_items
         type: leb
       - id: list
         type: function
         repeat: expr
-        repeat-expr: count.value
+        repeat-expr: num_items.value
   function:
     seq:
       - id: len
@@ -230,7 +230,7 @@ types:
         size-eos: true
   local:
     seq:
-      - id: count
+      - id: num_items
         type: leb
       - id: type
         type: u1

@@ -12,8 +12,8 @@ seq:
 instances:
   end:
     value: sections.last.body.as<end>
-  count:
-    value: end.count
+  num_entries:
+    value: end.num_entries
 types:
   section:
     seq:
@@ -120,7 +120,7 @@ types:
         type: u2
       - id: external
         type: u4
-      - id: at
+      - id: ofs_file
         type: u4
       - id: name
         type: str
@@ -134,7 +134,7 @@ types:
       section:
         doc: The file's own section, at the place that the directory names.
         io: _root._io
-        pos: at
+        pos: ofs_file
         type: section
         valid:
           expr: _.kind == kind::file
@@ -156,11 +156,11 @@ types:
         type: u2
       - id: num_here
         type: u2
-      - id: count
+      - id: num_entries
         type: u2
       - id: len_directory
         type: u4
-      - id: at_directory
+      - id: ofs_directory
         type: u4
       - id: len_comment
         type: u2
@@ -170,11 +170,11 @@ types:
     instances:
       directory:
         io: _root._io
-        pos: at_directory
+        pos: ofs_directory
         size: len_directory
         type: directory
         valid:
-          expr: _.sections.size == count
+          expr: _.sections.size == num_entries
 enums:
   kind:
     0x0403: file

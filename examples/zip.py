@@ -48,12 +48,12 @@ def read(data):
     end = data.rindex(b"PK\5\6")
     count, size, start = struct.unpack_from("<HII", data, end + 10)
     last = 2 * len(files)
-    values.update({"/sections": f"[{last + 1}]", "/count": count, "/end": "object end"})
-    places.update({f"/sections/{last}": (end, len(data)), f"/sections/{last}/body/count": (end + 10, end + 12), f"/sections/{last}/body/directory": (start, start + size)})
+    values.update({"/sections": f"[{last + 1}]", "/num_entries": count, "/end": "object end"})
+    places.update({f"/sections/{last}": (end, len(data)), f"/sections/{last}/body/num_entries": (end + 10, end + 12), f"/sections/{last}/body/directory": (start, start + size)})
     path = f"/sections/{last}/body/directory"
     values.update({path: "object directory" if count == len(files) else f"fault invalid at {path}", f"{path}/sections": f"[{len(files)}]"})
     for number, it in enumerate(range(len(files), last)):
-        places[f"/sections/{it}/body/at"] = (start + 42, start + 46)
+        places[f"/sections/{it}/body/ofs_file"] = (start + 42, start + 46)
         start += 46 + sum(struct.unpack_from("<HHH", data, start + 28))
     with zipfile.ZipFile(io.BytesIO(data)) as archive:
         values[f"/sections/{last}/body/comment"] = reader.quoted(archive.comment.decode())
