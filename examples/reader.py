@@ -25,10 +25,10 @@ def fields(path, start, rows):
 
 
 def written(data, place, number, order):
-    """Writes a number over the bytes of a place, which has a third part where the number has a sign; whether it fits."""
+    """Writes a number over the bytes of a place, whose third part may say that it is "signed" or "unsigned"; whether it fits."""
     start, end, *sign = place
     bits = 8 * (end - start)
-    if not -(1 << bits - 1) <= number < 1 << bits - bool(sign):
+    if number < (0 if sign == ["unsigned"] else -(1 << bits - 1)) or number >= 1 << bits - (sign == ["signed"]):
         return False
     data[start:end] = (number % (1 << bits)).to_bytes(end - start, order)
     return True
