@@ -1,5 +1,5 @@
 # the header stands where the old DOS header says
-get /at_header
+get /ofs_header
 get /header/machine
 get /header/is_library
 get /header/optional/kind
@@ -21,7 +21,7 @@ at /header
 at /header/sections/0/exports
 at /header/sections/1/exports
 at /header/sections/1/exports/name
-at /header/optional/at_data
+at /header/optional/ofs_data
 dump /header/optional/tables/0
 dump /header/sections/0
 # for another machine, and again for this one

@@ -1,6 +1,6 @@
 # the header
-get /page_size
-get /count_pages
+get /len_page
+get /num_pages
 get /user_version
 # the table of tables
 get /schema

@@ -6,43 +6,66 @@ meta:
   endian: be
   encoding: UTF-8
 seq:
-  - {id: magic, contents: [SQLite format 3, 0]}
-  - {id: page_size_stored, type: u2}
-  - {id: write_version, type: u1}
-  - {id: read_version, type: u1}
-  - {id: reserved, type: u1}
-  - {id: fractions, size: 3}
-  - {id: changes, type: u4}
-  - {id: count_pages, type: u4}
-  - {id: first_free, type: u4}
-  - {id: count_free, type: u4}
-  - {id: schema_cookie, type: u4}
-  - {id: schema_format, type: u4}
-  - {id: cache, type: u4}
-  - {id: largest_root, type: u4}
-  - {id: encoding, type: u4, enum: encoding}
-  - {id: user_version, type: u4}
-  - {id: vacuum, type: u4}
-  - {id: application, type: u4}
-  - {id: unused, size: 20}
-  - {id: valid_for, type: u4}
-  - {id: library, type: u4}
+  - id: magic
+    contents: [SQLite format 3, 0]
+  - id: len_page_stored
+    type: u2
+  - id: write_version
+    type: u1
+  - id: read_version
+    type: u1
+  - id: reserved
+    type: u1
+  - id: fractions
+    size: 3
+  - id: changes
+    type: u4
+  - id: num_pages
+    type: u4
+  - id: first_free
+    type: u4
+  - id: num_free
+    type: u4
+  - id: schema_cookie
+    type: u4
+  - id: schema_format
+    type: u4
+  - id: cache
+    type: u4
+  - id: largest_root
+    type: u4
+  - id: encoding
+    type: u4
+    enum: encoding
+  - id: user_version
+    type: u4
+  - id: vacuum
+    type: u4
+  - id: application
+    type: u4
+  - id: unused
+    size: 20
+  - id: valid_for
+    type: u4
+  - id: library
+    type: u4
 instances:
-  page_size:
-    value: 'page_size_stored == 1 ? 65536 : page_size_stored'
+  len_page:
+    value: 'len_page_stored == 1 ? 65536 : len_page_stored'
   pages:
     pos: 0
-    size: page_size
+    size: len_page
     type: page(_index)
     repeat: expr
-    repeat-expr: count_pages
+    repeat-expr: num_pages
   schema:
     doc: The first page holds the table of all tables.
     value: pages[0].tree
 types:
   page:
     params:
-      - {id: number, type: u4}
+      - id: number
+        type: u4
     instances:
       tree:
         doc: Places in a page count from its start, also behind the file's header.
@@ -50,12 +73,20 @@ types:
         type: tree
   tree:
     seq:
-      - {id: kind, type: u1, enum: kind}
-      - {id: first_free, type: u2}
-      - {id: count_cells, type: u2}
-      - {id: at_cells, type: u2}
-      - {id: fragmented, type: u1}
-      - {id: right, type: u4, if: kind == kind::inner_table or kind == kind::inner_index}
+      - id: kind
+        type: u1
+        enum: kind
+      - id: first_free
+        type: u2
+      - id: num_cells
+        type: u2
+      - id: ofs_cells
+        type: u2
+      - id: fragmented
+        type: u1
+      - id: right
+        type: u4
+        if: kind == kind::inner_table or kind == kind::inner_index
       - id: cells
         type:
           switch-on: kind
@@ -64,50 +95,65 @@ types:
             kind::inner_table: branch_place
             _: other_place
         repeat: expr
-        repeat-expr: count_cells
+        repeat-expr: num_cells
   row_place:
     seq:
-      - {id: at, type: u2}
+      - id: ofs
+        type: u2
     instances:
       row:
-        pos: at
+        pos: ofs
         type: row
   branch_place:
     seq:
-      - {id: at, type: u2}
+      - id: ofs
+        type: u2
     instances:
       branch:
-        pos: at
+        pos: ofs
         type: branch
   other_place:
     seq:
-      - {id: at, type: u2}
+      - id: ofs
+        type: u2
   branch:
     seq:
-      - {id: page, type: u4}
-      - {id: largest, type: varint}
+      - id: page
+        type: u4
+      - id: largest
+        type: varint
     instances:
       tree:
         value: _root.pages[page - 1].tree
   row:
     seq:
-      - {id: len, type: varint}
-      - {id: id, type: varint}
-      - {id: record, type: record, size: len.value}
+      - id: len
+        type: varint
+      - id: id
+        type: varint
+      - id: record
+        type: record
+        size: len.value
   record:
     seq:
-      - {id: len_head, type: varint}
-      - {id: head, type: head, size: len_head.value - len_head.digits.size}
+      - id: len_head
+        type: varint
+      - id: head
+        type: head
+        size: len_head.value - len_head.digits.size
       - id: columns
         type: column(head.kinds[_index].value)
         repeat: expr
         repeat-expr: head.kinds.size
   head:
     seq:
-      - {id: kinds, type: varint, repeat: eos}
+      - id: kinds
+        type: varint
+        repeat: eos
   column:
     params:
-      - {id: kind, type: u4}
+      - id: kind
+        type: u4
     seq:
       - id: value
         type:
@@ -137,48 +183,71 @@ types:
         value: 1
   s3:
     seq:
-      - {id: high, type: s1}
-      - {id: low, type: u2}
+      - id: high
+        type: s1
+      - id: low
+        type: u2
     instances:
       number:
         value: high * 65536 + low
   s6:
     seq:
-      - {id: high, type: s2}
-      - {id: low, type: u4}
+      - id: high
+        type: s2
+      - id: low
+        type: u4
     instances:
       number:
         value: high << 32 | low
   real:
     seq:
-      - {id: bits, type: u8, doc: Of a float of 64 bits.}
+      - id: bits
+        type: u8
+        doc: Of a float of 64 bits.
   blob:
     params:
-      - {id: len, type: u4}
+      - id: len
+        type: u4
     seq:
-      - {id: bytes, size: len}
+      - id: bytes
+        size: len
   text:
     params:
-      - {id: len, type: u4}
+      - id: len
+        type: u4
     seq:
-      - {id: text, type: str, size: len}
+      - id: text
+        type: str
+        size: len
   varint:
     doc: Seven bits a byte, the highest first; the ninth byte has eight.
     seq:
-      - {id: digits, type: digit(_index), repeat: until, repeat-until: _.byte < 128 or _index == 8}
+      - id: digits
+        type: digit(_index)
+        repeat: until
+        repeat-until: _.byte < 128 or _index == 8
     instances:
       value:
         value: digits.last.sum
   digit:
     params:
-      - {id: number, type: u4}
+      - id: number
+        type: u4
     seq:
-      - {id: byte, type: u1}
+      - id: byte
+        type: u1
     instances:
       before:
         value: 'number == 0 ? 0 : _parent.digits[number - 1].sum'
       sum:
         value: 'number == 8 ? before << 8 | byte : before << 7 | byte & 127'
 enums:
-  encoding: {1: utf8, 2: utf16le, 3: utf16be}
-  kind: {2: inner_index, 5: inner_table, 10: index, 13: table}
+  encoding:
+    1: utf8
+    2: utf16le
+    3: utf16be
+  kind:
+    2: inner_index
+    5: inner_table
+    10: index
+    13: table

@@ -1,6 +1,6 @@
 # a section for each file, then one for each entry of the directory, then the end
 get /sections
-get /count
+get /num_entries
 get /end
 get /sections/6/body/comment
 get /sections/6/body/directory/sections
@@ -52,18 +52,18 @@ put /sections/0/body/flags 8
 get /sections/0/body/flags
 put /sections/0/body/flags 0
 # an entry that points to the directory in place of a file
-put /sections/3/body/at 136
+put /sections/3/body/ofs_file 136
 get /sections/3/body/section
 at /sections/3/body/section
 get /sections/3/body/agrees
-put /sections/3/body/at 0
+put /sections/3/body/ofs_file 0
 get /sections/3/body/section
 # a directory of three entries that should have four
-put /sections/6/body/count 4
-get /count
+put /sections/6/body/num_entries 4
+get /num_entries
 get /sections/6/body/directory
 get /sections/6/body/directory/sections
-put /sections/6/body/count 3
+put /sections/6/body/num_entries 3
 get /sections/6/body/directory
 # another name in the file, but not in its entry
 set 30 62

@@ -1,0 +1,107 @@
+"""What the readers beside the examples have in common. A reader is a script NAME.py that knows the format and nothing of ksv:
+
+    NAME.py replies CMD     answers the command lines of a file from its own reading of NAME.bin, `?` where it has no answer
+
+and where the file is a damaged one
+
+    NAME.py make            writes NAME.bin to standard output, damaged as it is
+    NAME.py check FILE      tells what is wrong with a file, and that nothing is where all is as the format says
+    NAME.py done FILE       tells whether a file is as the dialogue NAME.cmd leaves it
+"""
+import json
+import struct
+import sys
+
+
+def fields(path, start, rows):
+    """Values and places of fields that follow each other: rows of a name, a `struct` format, and bytes."""
+    values, places = {}, {}
+    for name, form, data in rows:
+        width = struct.calcsize(form)
+        values[f"{path}/{name}"] = struct.unpack_from(form, data, start)[0]
+        places[f"{path}/{name}"] = (start, start + width)
+        start += width
+    return values, places
+
+
+def written(data, place, number, order):
+    """Writes a number over the bytes of a place, whose third part may say that it is "signed" or "unsigned"; whether it fits."""
+    start, end, *sign = place
+    bits = 8 * (end - start)
+    if number < (0 if sign == ["unsigned"] else -(1 << bits - 1)) or number >= 1 << bits - (sign == ["signed"]):
+        return False
+    data[start:end] = (number % (1 << bits)).to_bytes(end - start, order)
+    return True
+
+
+def text(value):
+    """A value as ksv prints it: a number, a truth value, bytes, or a text, and what is neither as it stands."""
+    if isinstance(value, bool):
+        return str(value).lower()
+    return f"hex {value.hex()}" if isinstance(value, bytes) else str(value)
+
+
+def quoted(value):
+    """A text as ksv prints it."""
+    return json.dumps(value, ensure_ascii=False)
+
+
+def found(read, data):
+    """What a reader tells of a file: values and places by their paths. Where it can't read it, nothing."""
+    try:
+        return read(bytes(data))
+    except Exception:  # a reader of a library stops in its own way at a damaged file
+        return {}, {}
+
+
+def reply(line, data, read, order):
+    """The reply to a line over some bytes, which an edit changes."""
+    word, *words = line.split()
+    values, places = found(read, data)
+    if word in ("get", "at"):
+        value = (values if word == "get" else places).get(words[0])
+        return "?" if value is None else f"at {value[0]} {value[1]}" if isinstance(value, tuple) else text(value)
+    if word == "bytes":
+        return f"hex {data[int(words[0]) : int(words[0]) + int(words[1])].hex()}"
+    if word == "put":
+        if not written(data, places[words[0]], int(words[1]), order):
+            return "error: out of range"
+    elif word == "set":
+        some = bytes.fromhex(words[1])
+        data[int(words[0]) : int(words[0]) + len(some)] = some
+    elif word == "ins":
+        data[int(words[0]) : int(words[0])] = bytes.fromhex(words[1])
+    elif word == "del":
+        del data[int(words[0]) : int(words[0]) + int(words[1])]
+    elif word == "app":
+        data += bytes.fromhex(words[0])
+    else:
+        return {"size": f"size {len(data)}", "quit": "bye"}.get(word, "?")
+    return f"ok {len(data)}"
+
+
+def replies(name, read, order):
+    """Answers the lines of a file."""
+    with open(sys.argv[0].removesuffix(".py") + ".bin", "rb") as file:
+        data = bytearray(file.read())
+    with open(name, encoding="utf-8") as file:
+        for line in file:
+            if line.strip() and not line.startswith("#"):
+                print(reply(line, data, read, order))
+
+
+def main(read, order="little", **does):
+    """Does what the words say: `replies CMD`, and `make`, `check FILE` and `done FILE` where the reader does these."""
+    what, *names = sys.argv[1:] or ["help"]
+    if what == "replies" and len(names) == 1:
+        replies(names[0], read, order)
+    elif what == "make" and what in does:
+        sys.stdout.buffer.write(does[what]())
+    elif what in ("check", "done") and what in does and len(names) == 1:
+        with open(names[0], "rb") as file:
+            wrong = does[what](file.read())
+        print("\n".join(wrong or ["nothing is wrong"]))
+        sys.exit(1 if wrong else 0)
+    else:
+        print(f"usage: {sys.argv[0]} " + " | ".join(["replies CMD", *(it if it == "make" else f"{it} FILE" for it in does)]), file=sys.stderr)
+        sys.exit(2)
