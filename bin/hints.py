@@ -28,6 +28,7 @@ class Row:
 # The first row that has the refusal's code and whose pattern is found in the line gives the advice.
 UNSUPPORTED = [
     Row("`f4`, `f8`, and their `le`, `be` forms", "S8", r"\bf[48](?:le|be)?\b", "floats aren't read: write `u4` or `u8` and read its bits"),
+    Row("`b1le` to `b64le`, `bit-endian: le`", "S8", r"\bb\d+le\b|\bbit-endian\b", "the highest bit is the first: write `u1`, `u2le`, .. and take its bits, `x >> 3 & 7`"),
     Row("`1.5`, `1e5`", "X3", r"\d\.\d|\d[eE][-+]?\d", "numbers are whole: count in smaller units, such as thousandths"),
     Row("`process`", "S8", r"\bprocess\b", "nothing is decoded: leave it out, and read the bytes as they are"),
     Row("`imports`, `ks-opaque-types`", "S8", r"\b(?:imports|ks-opaque-types)\b", "no other file is read: write its types under `types`"),
@@ -50,6 +51,7 @@ UNSUPPORTED = [
     Row("`type: io` of a parameter", "S8", r"\btype: *io\b", "hand over the object x, and write `io: x._io`"),
     Row("`terminator` with a type of the description; of `strz`, not 0", "S8", r"\bterminator\b", "give the type a `size`; write `str` for `strz`"),
     Row("`str`, `strz` as a case", "S8", r":\s*strz?\b", "write a type that has the text as its attribute"),
+    Row("`b1` to `b64` as a case", "S8", r":\s*b\d+(?:be)?\b", "write a type that has the bits as its attribute"),
     Row("`x.as<u1>`", "S8", r"\bas\s*<", "only a type of the description may be named: give the attribute its own type"),
     Row("`contents: 137`", "S8", r"\bcontents\b", "write a list: `[137]`"),
     Row("`010`", "S8 X3", r"(?<![\w.])0\d", "a number has no zero before it: write `10`, or `0x0a`"),
