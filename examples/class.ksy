@@ -6,26 +6,49 @@ meta:
   endian: be
   encoding: UTF-8
 seq:
-  - {id: magic, contents: [0xca, 0xfe, 0xba, 0xbe]}
-  - {id: minor, type: u2}
-  - {id: major, type: u2}
-  - {id: constant_pool_count, type: u2}
+  - id: magic
+    contents: [0xca, 0xfe, 0xba, 0xbe]
+  - id: minor
+    type: u2
+  - id: major
+    type: u2
+  - id: constant_pool_count
+    type: u2
   - id: constants
     doc: Constant k of the specification is element k - 1.
     type: constant(_index)
     repeat: expr
     repeat-expr: constant_pool_count - 1
-  - {id: access, type: class_access}
-  - {id: this_class, type: u2}
-  - {id: super_class, type: u2}
-  - {id: interfaces_count, type: u2}
-  - {id: interfaces, type: u2, repeat: expr, repeat-expr: interfaces_count}
-  - {id: fields_count, type: u2}
-  - {id: fields, type: member, repeat: expr, repeat-expr: fields_count}
-  - {id: methods_count, type: u2}
-  - {id: methods, type: member, repeat: expr, repeat-expr: methods_count}
-  - {id: attributes_count, type: u2}
-  - {id: attributes, type: attribute, repeat: expr, repeat-expr: attributes_count}
+  - id: access
+    type: class_access
+  - id: this_class
+    type: u2
+  - id: super_class
+    type: u2
+  - id: interfaces_count
+    type: u2
+  - id: interfaces
+    type: u2
+    repeat: expr
+    repeat-expr: interfaces_count
+  - id: fields_count
+    type: u2
+  - id: fields
+    type: member
+    repeat: expr
+    repeat-expr: fields_count
+  - id: methods_count
+    type: u2
+  - id: methods
+    type: member
+    repeat: expr
+    repeat-expr: methods_count
+  - id: attributes_count
+    type: u2
+  - id: attributes
+    type: attribute
+    repeat: expr
+    repeat-expr: attributes_count
 instances:
   java:
     doc: The first release of Java that runs it.
@@ -37,9 +60,13 @@ instances:
 types:
   constant:
     params:
-      - {id: number, type: u4}
+      - id: number
+        type: u4
     seq:
-      - {id: tag, type: u1, enum: tag, if: not is_second}
+      - id: tag
+        type: u1
+        enum: tag
+        if: not is_second
       - id: body
         if: not is_second
         type:
@@ -73,61 +100,103 @@ types:
         value: 'tag == tag::utf8 ? body.as<utf8>.text : body.as<name>.text'
   utf8:
     seq:
-      - {id: len, type: u2}
-      - {id: text, type: str, size: len}
+      - id: len
+        type: u2
+      - id: text
+        type: str
+        size: len
   name:
     seq:
-      - {id: at, type: u2}
+      - id: at
+        type: u2
     instances:
       text:
         value: _root.constants[at - 1].text
   reference:
     seq:
-      - {id: first, type: u2}
-      - {id: second, type: u2}
+      - id: first
+        type: u2
+      - id: second
+        type: u2
   handle:
     seq:
-      - {id: kind, type: u1}
-      - {id: at, type: u2}
+      - id: kind
+        type: u1
+      - id: at
+        type: u2
   class_access:
     doc: The last bit is flag 1, the first is flag 0x8000.
     seq:
-      - {id: module, type: b1}
-      - {id: enum, type: b1}
-      - {id: annotation, type: b1}
-      - {id: synthetic, type: b1}
-      - {id: unused_0x0800, type: b1}
-      - {id: abstract, type: b1}
-      - {id: interface, type: b1}
-      - {id: unused_0x01c0, type: b3}
-      - {id: super, type: b1}
-      - {id: final, type: b1}
-      - {id: unused_0x000e, type: b3}
-      - {id: public, type: b1}
+      - id: module
+        type: b1
+      - id: enum
+        type: b1
+      - id: annotation
+        type: b1
+      - id: synthetic
+        type: b1
+      - id: unused_0x0800
+        type: b1
+      - id: abstract
+        type: b1
+      - id: interface
+        type: b1
+      - id: unused_0x01c0
+        type: b3
+      - id: super
+        type: b1
+      - id: final
+        type: b1
+      - id: unused_0x000e
+        type: b3
+      - id: public
+        type: b1
   member_access:
     doc: Of a field or a method, which call two flags differently.
     seq:
-      - {id: unused_0x8000, type: b1}
-      - {id: enum, type: b1}
-      - {id: unused_0x2000, type: b1}
-      - {id: synthetic, type: b1}
-      - {id: strict, type: b1}
-      - {id: abstract, type: b1}
-      - {id: unused_0x0200, type: b1}
-      - {id: native, type: b1}
-      - {id: transient_or_varargs, type: b1}
-      - {id: volatile_or_bridge, type: b1}
-      - {id: synchronized, type: b1}
-      - {id: final, type: b1}
-      - {id: static, type: b1}
-      - {id: visibility, type: b3, enum: visibility}
+      - id: unused_0x8000
+        type: b1
+      - id: enum
+        type: b1
+      - id: unused_0x2000
+        type: b1
+      - id: synthetic
+        type: b1
+      - id: strict
+        type: b1
+      - id: abstract
+        type: b1
+      - id: unused_0x0200
+        type: b1
+      - id: native
+        type: b1
+      - id: transient_or_varargs
+        type: b1
+      - id: volatile_or_bridge
+        type: b1
+      - id: synchronized
+        type: b1
+      - id: final
+        type: b1
+      - id: static
+        type: b1
+      - id: visibility
+        type: b3
+        enum: visibility
   member:
     seq:
-      - {id: access, type: member_access}
-      - {id: at_name, type: u2}
-      - {id: at_type, type: u2}
-      - {id: attributes_count, type: u2}
-      - {id: attributes, type: attribute, repeat: expr, repeat-expr: attributes_count}
+      - id: access
+        type: member_access
+      - id: at_name
+        type: u2
+      - id: at_type
+        type: u2
+      - id: attributes_count
+        type: u2
+      - id: attributes
+        type: attribute
+        repeat: expr
+        repeat-expr: attributes_count
     instances:
       name:
         value: _root.constants[at_name - 1].text
@@ -137,8 +206,10 @@ types:
         value: access.static
   attribute:
     seq:
-      - {id: at_name, type: u2}
-      - {id: len, type: u4}
+      - id: at_name
+        type: u2
+      - id: len
+        type: u4
       - id: body
         size: len
         type:
@@ -152,20 +223,31 @@ types:
         value: _root.constants[at_name - 1].text
   constant_value:
     seq:
-      - {id: at, type: u2}
+      - id: at
+        type: u2
     instances:
       constant:
         value: _root.constants[at - 1].body
   code:
     seq:
-      - {id: max_stack, type: u2}
-      - {id: max_locals, type: u2}
-      - {id: len, type: u4}
-      - {id: code, size: len}
-      - {id: exceptions_count, type: u2}
-      - {id: exceptions, size: 8 * exceptions_count}
-      - {id: attributes_count, type: u2}
-      - {id: attributes, type: attribute, repeat: expr, repeat-expr: attributes_count}
+      - id: max_stack
+        type: u2
+      - id: max_locals
+        type: u2
+      - id: len
+        type: u4
+      - id: code
+        size: len
+      - id: exceptions_count
+        type: u2
+      - id: exceptions
+        size: 8 * exceptions_count
+      - id: attributes_count
+        type: u2
+      - id: attributes
+        type: attribute
+        repeat: expr
+        repeat-expr: attributes_count
 enums:
   visibility:
     0: package

@@ -10,8 +10,8 @@ get /packets/0/ip/congestion
 # three flags of one bit, and a number of thirteen bits behind them
 get /packets/0/ip/dont_fragment
 at /packets/0/ip/dont_fragment
-get /packets/0/ip/fragment_at
-at /packets/0/ip/fragment_at
+get /packets/0/ip/ofs_fragment
+at /packets/0/ip/ofs_fragment
 get /packets/0/ip/is_fragment
 get /packets/0/ip/protocol
 at /packets/0/ip/source
@@ -40,13 +40,13 @@ put /packets/0/ip/body/syn 1
 get /packets/0/ip/body/opens
 bytes 72 2
 # a packet that is a fragment: its place is written beside the flags, which stay
-put /packets/3/ip/fragment_at 8191
-get /packets/3/ip/fragment_at
+put /packets/3/ip/ofs_fragment 8191
+get /packets/3/ip/ofs_fragment
 get /packets/3/ip/dont_fragment
 get /packets/3/ip/is_fragment
 bytes 266 2
-put /packets/3/ip/fragment_at 8192
-put /packets/3/ip/fragment_at 0
+put /packets/3/ip/ofs_fragment 8192
+put /packets/3/ip/ofs_fragment 0
 put /packets/3/ip/more_fragments 1
 set 266 60
 get /packets/3/ip/is_fragment
