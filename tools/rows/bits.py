@@ -1,21 +1,12 @@
-#!/usr/bin/env python3
-"""Writes the two tables of bits whose replies are computed, by plain arithmetic and by a text of the digits 0 and 1. It has nothing of
-tools/second.
-
-  tools/rows/bits.py           writes them to crates/ksv_rows_dialogues/data
-  tools/rows/bits.py --check   writes nothing: says whether those that are stored are the ones that it would write
+"""The two tables of bits whose replies are computed, by plain arithmetic and by a text of the digits 0 and 1. It has nothing of tools/second.
 
 `dialogues_bits_widths.txt` has each width from 1 to 64 at each bit of a byte: the file is one integer, a field is a part of it, found by a
 division and a remainder. `dialogues_bits_layouts.txt` has random types of bits, bytes, lists, windows and objects: the file is a text of
 digits, which is read from the left."""
 
 import json
-import os
 import random
-import sys
 
-HERE = os.path.dirname(os.path.realpath(__file__))
-DATA = os.path.join(os.path.dirname(os.path.dirname(HERE)), "crates", "ksv_rows_dialogues", "data")
 SEED = 48
 LAYOUTS = 48
 
@@ -461,25 +452,5 @@ def layouts():
         yield from layout_row(dice, number)
 
 
+# The tables, by the names of their files.
 TABLES = {"dialogues_bits_widths.txt": widths, "dialogues_bits_layouts.txt": layouts}
-
-
-def main(words):
-    """Writes the tables or checks them; the status."""
-    wrong = 0
-    for name, table in TABLES.items():
-        text = "".join(f"{line}\n" for line in table())
-        path = os.path.join(DATA, name)
-        if words == ["--check"]:
-            with open(path, encoding="utf-8") as stored:
-                same = stored.read() == text
-            print(f"{name}: {'as it is made' if same else 'otherwise than it is made'}")
-            wrong += not same
-        else:
-            with open(path, "w", encoding="utf-8", newline="\n") as stored:
-                stored.write(text)
-    return 1 if wrong else 0
-
-
-if __name__ == "__main__":
-    sys.exit(main(sys.argv[1:]))

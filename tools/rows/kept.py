@@ -1,23 +1,11 @@
-#!/usr/bin/env python3
-"""Writes the table of what is kept of random layouts of bits: questions at random paths, random edits, and `stats` behind each.
-
-  tools/rows/kept.py           writes crates/ksv_rows_dialogues/data/dialogues_bits_kept.txt
-  tools/rows/kept.py --check   writes nothing: says whether the one that is stored is what it would write
+"""The table of what is kept of random layouts of bits: questions at random paths, random edits, and `stats` behind each.
 
 The layouts and the lines are made as in bits.py. The replies are those of tools/second, which keeps nothing: it evaluates each question from
 nothing and counts by the definitions."""
 
-import os
-import sys
+import bits
+from session import Session, describe
 
-sys.dont_write_bytecode = True
-HERE = os.path.dirname(os.path.realpath(__file__))
-sys.path.insert(0, os.path.join(os.path.dirname(HERE), "second"))
-
-import bits  # noqa: E402
-from session import Session, describe  # noqa: E402
-
-TABLE = os.path.join(bits.DATA, "dialogues_bits_kept.txt")
 SEED = 480
 ROWS = 40
 ROUNDS = 9
@@ -63,18 +51,5 @@ def table():
         yield from row(dice, number)
 
 
-def main(words):
-    """Writes the table or checks it; the status."""
-    text = "".join(f"{line}\n" for line in table())
-    if words != ["--check"]:
-        with open(TABLE, "w", encoding="utf-8", newline="\n") as stored:
-            stored.write(text)
-        return 0
-    with open(TABLE, encoding="utf-8") as stored:
-        same = stored.read() == text
-    print(f"{os.path.basename(TABLE)}: {'as it is made' if same else 'otherwise than it is made'}")
-    return 0 if same else 1
-
-
-if __name__ == "__main__":
-    sys.exit(main(sys.argv[1:]))
+# The tables, by the names of their files.
+TABLES = {"dialogues_bits_kept.txt": table}
