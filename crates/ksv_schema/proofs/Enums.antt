@@ -25,7 +25,7 @@ whole_words line NoNumeral = refl
 id_text_words : (line : ℕ) (name : List ℕ) → (id_text line name).words ≡ []
 id_text_words line name = go (is_id name)
   where
-    go : (b : Bool) → (cond b (gives (Some name)) (wrong line bad_value)).words ≡ []
+    go : (b : Bool) → (cond b (gives name) (wrong line bad_value)).words ≡ []
     go true = refl
     go false = refl
 
@@ -59,7 +59,7 @@ constant_words : (before : List Pair) (p : Pair) → (constant before p).words �
 unfolding constant
 constant_words before p = ap (λ (ws : List (List ℕ)). ws ++ (entry_id p).words) (whole_words p.line (signed_number p.key)) ∙ entry_words p
 
-from_words : {A B : Type 0} (f : ℕ → A → Reading (Option B)) (h : (i : ℕ) (x : A) → (f i x).words ≡ []) (n : ℕ) (xs : List A) → (each_from f n xs).words ≡ []
+from_words : {A B : Type 0} (f : ℕ → A → Reading B) (h : (i : ℕ) (x : A) → (f i x).words ≡ []) (n : ℕ) (xs : List A) → (each_from f n xs).words ≡ []
 from_words f h n [] = refl
 from_words f h n (x ∷ xs) = ap (λ (ws : List (List ℕ)). ws ++ (each_from f (n + 1) xs).words) (h n x) ∙ from_words f h (n + 1) xs
 

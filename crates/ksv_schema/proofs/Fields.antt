@@ -21,12 +21,11 @@ use Rattle.ksv_schema.specs.declared.keys.forms.Group.TheVariants as groups
 use Rattle.ksv_schema.specs.Keys.{is_in, kind_of, form_among, form_in, is_ignored}
 use Rattle.ksv_schema.specs.KeyTexts.{encoding_named, is_str, is_strz, own_type, is_a, is_to_end}
 use Rattle.ksv_schema.specs.Faults.{missing_key, left_out}
-use Rattle.ksv_schema.specs.Reading.{paired}
 use Rattle.ksv_schema.specs.Rules.{form_faults, keys_faults}
 use Rattle.ksv_schema.specs.Values.{Home, expression, enumeration, own_enum, encoding_at}
-use Rattle.ksv_schema.specs.Members.{conditioned, read_often, read_at, calculated, parts, repeat_of, repeated, extent_of, extent, has_encoding, needs, field, own_field, attribute, parse_instance, value_instance, placeless, by_kind}
+use Rattle.ksv_schema.specs.Members.{conditioned, parts, repeat_of, repeated, extent_of, extent, has_encoding, needs, field, own_field, attribute, parse_instance, value_instance, placeless, by_kind}
 use Rattle.ksv_schema.specs.Description.{Context, in_tree, in_valid, in_extent, in_repeat, in_field, in_kind}
-use Rattle.ksv_schema.proofs.Good.{front, back, implies, there_map, there_pair, IsSound, IsGood, sound, gives_good, also_good, chosen_good, made_sound, made_good, after_good, both_sound, weaker, perhaps_sound, must_good}
+use Rattle.ksv_schema.proofs.Good.{front, back, implies, there_map, IsGood, gives_good, also_good, chosen_good, made_good, after_good, both_good, weaker, perhaps_good, must_good}
 use Rattle.ksv_schema.proofs.FaultlessKeys.{text_fits, HasRepeat, has_repeat}
 use Rattle.ksv_schema.proofs.GoodValues.{Leads, any_leads, in_home, IsTree, IsEnumThere, any_enum, expression_good, enumeration_good, HasText, choice_good}
 use Rattle.ksv_schema.proofs.GoodValid.{IsValid, own_valid_good}
@@ -63,8 +62,8 @@ module _ (names : List (List ℕ)) (h : Home) where
   abbrev AreConditions : Option expressions.Tree × Option Valid → Type 0
   AreConditions p = IfAny (IsTree c) p.0 × IfAny (IsValid c) p.1
 
-  conditioned_good : (es : List Pair) → IsSound names AreConditions (conditioned h es)
-  conditioned_good es = weaker (both_sound (perhaps_sound (expression h sites.Condition) (entry_at (codes "if") es) (λ p e. expression_good names h sites.Condition p)) (own_valid_good names h es)) (λ p g. (g.0.0, g.1))
+  conditioned_good : (es : List Pair) → IsGood names AreConditions (conditioned h es)
+  conditioned_good es = weaker (both_good (perhaps_good (expression h sites.Condition) (entry_at (codes "if") es) (λ p e. expression_good names h sites.Condition p)) (own_valid_good names h es)) (λ p g. (g.0.0, g.1))
 
   -- ---- parts
 
@@ -75,7 +74,7 @@ module _ (names : List (List ℕ)) (h : Home) where
   unfolding repeated repeat_of
   repeated_good es r =
       chosen_good _
-      (both_sound (perhaps_sound _ (entry_at (codes "repeat-expr") es) (λ p e. expression_good names h sites.Count p)) (perhaps_sound _ (entry_at (codes "repeat-until") es) (λ p e. expression_good names h sites.Until p)))
+      (both_good (perhaps_good _ (entry_at (codes "repeat-expr") es) (λ p e. expression_good names h sites.Count p)) (perhaps_good _ (entry_at (codes "repeat-until") es) (λ p e. expression_good names h sites.Until p)))
       (λ p g. go p.0 p.1 (says (codes "repeat") (codes "eos") es) (says (codes "repeat") (codes "expr") es) (says (codes "repeat") (codes "until") es) (λ x. g.0.1 (r.count x)) (λ x. g.1.1 (r.until x)))
     where
       go : (count until : Option expressions.Tree) (eos by_count by_end : Bool) → (by_count ≡ true → IsThere (IsTree c) count) → (by_end ≡ true → IsThere (IsTree c) until)
@@ -88,8 +87,8 @@ module _ (names : List (List ℕ)) (h : Home) where
   abbrev IsExtent : Extent → Type 0
   IsExtent e = Leads c IsResolvedExtent (in_extent c e)
 
-  extent_good : (es : List Pair) → IsSound names IsExtent (extent h es)
-  extent_good es = made_sound (extent_of es) (perhaps_sound _ (entry_at (codes "size") es) (λ p e. expression_good names h sites.Size p)) (λ o g. leads o g.0)
+  extent_good : (es : List Pair) → IsGood names IsExtent (extent h es)
+  extent_good es = made_good (extent_of es) (perhaps_good _ (entry_at (codes "size") es) (λ p e. expression_good names h sites.Size p)) (λ o g. leads o g.0)
     where
       at_end : (b : Bool) → IsExtent (cond b SizeEos ByItself)
       at_end true y s fits = tt
@@ -105,18 +104,16 @@ module _ (names : List (List ℕ)) (h : Home) where
   parts_good : (enum : Option ℕ) (es : List Pair) → IfAny (IsEnumThere c) enum → HasText names h es → HasRepeat es → IsGood names IsField (parts (record { home = h; entries = es; beside = es; enum = enum }))
   unfolding parts
   parts_good enum es e i r =
-      chosen_good (λ p. option_map (read_often es p) p.0.0.1)
-      (both_sound (both_sound (both_sound (conditioned_good es) (sound (repeated_good es r))) (choice_good names h es enum es e i))
+      made_good _
+      (both_good (both_good (both_good (conditioned_good es) (repeated_good es r)) (choice_good names h es enum es e i))
       (extent_good es))
-      (λ p g. there_map IsRepeat IsField (read_often es p) p.0.0.1
-      (λ x r y s fits. record {
+      (λ p g y s fits. record {
         condition = any_leads c IsResolvedTree (in_tree c) p.0.0.0.0 g.0.0.0.0 y s fits;
-        repeat = r y s fits;
+        repeat = g.0.0.1 y s fits;
         choice = g.0.1 y s fits;
         extent = g.1 y s fits;
         valid = any_leads c IsResolvedValid (in_valid c) p.0.0.0.1 g.0.0.0.1 y s fits;
       })
-      g.0.0.1)
 
   -- ---- fields
 
@@ -132,11 +129,15 @@ module _ (names : List (List ℕ)) (h : Home) where
 
   -- ---- kinds of members
 
-  own_enum_good : (es : List Pair) → IsSound names (λ e. IfAny (IsEnumThere c) e) (own_enum h es)
-  own_enum_good es = weaker (perhaps_sound (enumeration h) (entry_at (codes "enum") es) (λ p e. enumeration_good names h p)) (λ e g. g.0)
+  own_enum_good : (es : List Pair) → IsGood names (λ e. IfAny (IsEnumThere c) e) (own_enum h es)
+  own_enum_good es = weaker (perhaps_good (enumeration h) (entry_at (codes "enum") es) (λ p e. enumeration_good names h p)) (λ e g. g.0)
+
+  enum_there : (o : Option (Option ℕ)) → IsThere (λ e. IfAny (IsEnumThere c) e) o → IfAny (IsEnumThere c) (option_map_or (λ e. e) o None)
+  enum_there None g = absurd g
+  enum_there (Some e) g = g
 
   own_field_good : (kind : MappingKind) (line : ℕ) (es : List Pair) → HasFieldKeys kind → AreEncodings h.declared → keys_faults kind es ≡ [] → IsGood names IsField (own_field h kind line es)
-  own_field_good kind line es f a k = after_good (own_enum_good es) (λ e. field_good kind line _ es f a k e)
+  own_field_good kind line es f a k = after_good (own_enum_good es) (λ e. field_good kind line _ es f a k (enum_there (own_enum h es).value e))
 
   attribute_good : (line : ℕ) (es : List Pair) → AreEncodings h.declared → keys_faults kinds.Attribute es ≡ [] → IsGood names (IsKind c false) (attribute h line es)
   unfolding attribute form_in form_among
@@ -145,23 +146,20 @@ module _ (names : List (List ℕ)) (h : Home) where
   parse_instance_good : (line : ℕ) (es : List Pair) → AreEncodings h.declared → keys_faults kinds.ParseInstance es ≡ [] → IsGood names (IsKind c false) (parse_instance h line es)
   unfolding parse_instance form_in form_among
   parse_instance_good line es a k =
-      chosen_good (λ p. option_map (read_at p.0.1) (paired p.0.0 p.1))
-      (both_sound
-      (both_sound (sound (must_good line (expression h sites.Place) (entry_at (codes "pos") es) (λ p. expression_good names h sites.Place p))) (perhaps_sound (expression h sites.Stream) (entry_at (codes "io") es) (λ p e. expression_good names h sites.Stream p)))
-      (sound (own_field_good kinds.ParseInstance line es (record { encoding = refl; read = refl }) a k)))
-      (λ p g. there_pair (IsTree c) IsField (IsKind c false) (read_at p.0.1) p.0.0 p.1 g.0.0 g.1
-      (λ place x f r. record { leads = λ y s fits. (f y s fits, any_leads c IsResolvedTree (in_tree c) p.0.1 g.0.1.0 y s fits, r y s fits); given = λ name. refl }))
+      made_good _
+      (both_good
+      (both_good (must_good line (expression h sites.Place) (entry_at (codes "pos") es) (λ p. expression_good names h sites.Place p)) (perhaps_good (expression h sites.Stream) (entry_at (codes "io") es) (λ p e. expression_good names h sites.Stream p)))
+      (own_field_good kinds.ParseInstance line es (record { encoding = refl; read = refl }) a k))
+      (λ p g. record { leads = λ y s fits. (g.0.0 y s fits, any_leads c IsResolvedTree (in_tree c) p.0.1 g.0.1.0 y s fits, g.1 y s fits); given = λ name. refl })
 
   value_instance_good : (line : ℕ) (es : List Pair) → IsGood names (IsKind c false) (value_instance h line es)
   unfolding value_instance
   value_instance_good line es = also_good _ _ (λ k.
-      chosen_good (λ p. option_map (calculated p) p.0.1)
-      (both_sound
-      (both_sound (conditioned_good es) (sound (must_good line (expression h sites.Value) (entry_at (codes "value") es) (λ p. expression_good names h sites.Value p))))
+      made_good _
+      (both_good
+      (both_good (conditioned_good es) (must_good line (expression h sites.Value) (entry_at (codes "value") es) (λ p. expression_good names h sites.Value p)))
       (own_enum_good es))
-      (λ p g. there_map (IsTree c) (IsKind c false) (calculated p) p.0.1
-      (λ v f. record { leads = λ y s fits. (any_leads c IsResolvedTree (in_tree c) p.0.0.0 g.0.0.0 y s fits, f y s fits, any_enum c p.1 g.1 y s fits, any_leads c IsResolvedValid (in_valid c) p.0.0.1 g.0.0.1 y s fits); given = λ name. refl })
-      g.0.1))
+      (λ p g. record { leads = λ y s fits. (any_leads c IsResolvedTree (in_tree c) p.0.0.0 g.0.0.0 y s fits, g.0.1 y s fits, any_enum c p.1 g.1 y s fits, any_leads c IsResolvedValid (in_valid c) p.0.0.1 g.0.0.1 y s fits); given = λ name. refl }))
 
   placeless_good : (name_line : ℕ) (es : List Pair) → IsGood names (IsKind c false) (placeless h name_line es)
   unfolding placeless

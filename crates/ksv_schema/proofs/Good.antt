@@ -1,7 +1,7 @@
--- A reading that is sound: without faults something holds for its value; and one that is good: its value is there as well. One
--- lemma for each way to put readings together.
+-- A reading that is good: without faults there is a value, and something holds for it. One lemma for each way to put readings
+-- together.
 use Rattle.std.proofs.Common.{◌≡◌, ℕ, zero, suc, ◌+◌, Bool, true, false, cond, List, [], ◌∷◌, ◌++◌, length, sym, ap, subst, ◌∙◌, refl, Option, Some, None}
-use Rattle.std.specs.Prelude.{not, ◌&&◌, is_some, option_map, option_and_then, option_to_list, map, slice_get}
+use Rattle.std.specs.Prelude.{not, ◌&&◌, is_some, option_map, option_and_then, map, slice_get}
 use Rattle.std.specs.Option.{option_map_or}
 use Rattle.std.specs.List.{list_all}
 use Rattle.std.proofs.lemmas.Bool.{and_parts, and_from}
@@ -11,7 +11,7 @@ use Rattle.ksv_expr_syntax.specs.Reading.{◌>>=◌}
 use Rattle.ksv_desc.specs.Names.{number_in, has_names}
 use Rattle.ksv_desc.specs.Resolved.{Each, IfAny, IsThere}
 use Rattle.ksv_schema.specs.Faults.{Fault, fault, fault_if, missing_key, bad_value}
-use Rattle.ksv_schema.specs.Reading.{Reading, gives, wrong, found, also, made, both, paired, each, each_from, perhaps, must}
+use Rattle.ksv_schema.specs.Reading.{Reading, gives, wrong, found, also, chosen, made, both, after, each, each_from, perhaps, must}
 
 -- ---- no faults
 
@@ -54,10 +54,10 @@ pub there_next : {A B : Type 0} (G : A → Type 0) (H : B → Type 0) (f : A →
 there_next G H f None step g = g
 there_next G H f (Some x) step g = step x g
 
-pub there_pair : {A B C : Type 0} (G : A → Type 0) (H : B → Type 0) (K : C → Type 0) (f : A × B → C) (o : Option A) (p : Option B) → IsThere G o → IsThere H p → ((x : A) (y : B) → G x → H y → K (f (x, y))) → IsThere K (option_map f (paired o p))
-there_pair G H K f None p g h step = absurd g
-there_pair G H K f (Some x) None g h step = absurd h
-there_pair G H K f (Some x) (Some y) g h step = step x y g h
+there_both : {A B : Type 0} (G : A → Type 0) (H : B → Type 0) (o : Option A) (p : Option B) → IsThere G o → IsThere H p → IsThere (λ (z : A × B). G z.0 × H z.1) (option_and_then (λ x. option_map (λ y. (x, y)) p) o)
+there_both G H None p g h = g
+there_both G H (Some x) None g h = h
+there_both G H (Some x) (Some y) g h = (g, h)
 
 pub is_there : {A : Type 0} (G : A → Type 0) (o : Option A) → IsThere G o → (x : A) × (o ≡ Some x) × G x
 is_there G None g = absurd g
@@ -66,20 +66,10 @@ is_there G (Some x) g = (x, refl, g)
 -- ---- readings
 
 -- where it has no faults, and these names have its words, G holds for its value
-pub record IsSound {A : Type 0} (names : List (List ℕ)) (G : A → Type 0) (r : Reading A) : Type 0 where
-  pub is : r.faults ≡ [] → has_names names r.words ≡ true → G r.value
-
--- and its value is there
-pub record IsGood {A : Type 0} (names : List (List ℕ)) (G : A → Type 0) (r : Reading (Option A)) : Type 0 where
+pub record IsGood {A : Type 0} (names : List (List ℕ)) (G : A → Type 0) (r : Reading A) : Type 0 where
   pub is : r.faults ≡ [] → has_names names r.words ≡ true → IsThere G r.value
 
-pub sound : {A : Type 0} {names : List (List ℕ)} {G : A → Type 0} {r : Reading (Option A)} → IsGood names G r → IsSound names (IsThere G) r
-sound g = record { is = g.is }
-
-pub there_good : {A : Type 0} {names : List (List ℕ)} {G : A → Type 0} {r : Reading A} → IsSound names G r → IsGood names G (made Some r)
-there_good g = record { is = g.is }
-
-pub gives_good : {A : Type 0} {names : List (List ℕ)} {G : A → Type 0} (x : A) → G x → IsGood names G (gives (Some x))
+pub gives_good : {A : Type 0} {names : List (List ℕ)} {G : A → Type 0} (x : A) → G x → IsGood names G (gives x)
 gives_good x g = record { is = λ k w. g }
 
 pub wrong_good : {A : Type 0} {names : List (List ℕ)} {G : A → Type 0} (line number : ℕ) → IsGood names G (wrong line number)
@@ -89,46 +79,33 @@ pub found_good : {A : Type 0} {names : List (List ℕ)} {G : A → Type 0} (line
 found_good line number None g = wrong_good line number
 found_good line number (Some x) g = gives_good x (g x refl)
 
-pub also_sound : {A : Type 0} {names : List (List ℕ)} {G : A → Type 0} (fs : List Fault) (r : Reading A) → (fs ≡ [] → IsSound names G r) → IsSound names G (also fs r)
-also_sound fs r g = record { is = λ k w. (g (front fs r.faults k)).is (back fs r.faults k) w }
-
-pub also_good : {A : Type 0} {names : List (List ℕ)} {G : A → Type 0} (fs : List Fault) (r : Reading (Option A)) → (fs ≡ [] → IsGood names G r) → IsGood names G (also fs r)
+pub also_good : {A : Type 0} {names : List (List ℕ)} {G : A → Type 0} (fs : List Fault) (r : Reading A) → (fs ≡ [] → IsGood names G r) → IsGood names G (also fs r)
 also_good fs r g = record { is = λ k w. (g (front fs r.faults k)).is (back fs r.faults k) w }
 
--- what is made of what is read: as it is, if it is there, and where it is then there
-pub made_sound : {A B : Type 0} {names : List (List ℕ)} {G : A → Type 0} {H : B → Type 0} {r : Reading A} (f : A → B) → IsSound names G r → ((x : A) → G x → H (f x)) → IsSound names H (made f r)
-made_sound {r = r} f g step = record { is = λ k w. step r.value (g.is k w) }
+pub chosen_good : {A B : Type 0} {names : List (List ℕ)} {G : A → Type 0} {H : B → Type 0} {r : Reading A} (f : A → Option B) → IsGood names G r → ((x : A) → G x → IsThere H (f x)) → IsGood names H (chosen f r)
+chosen_good {G = G} {H = H} {r = r} f g step = record { is = λ k w. there_bind G H f r.value step (g.is k w) }
 
-pub made_good : {A B : Type 0} {names : List (List ℕ)} {G : A → Type 0} {H : B → Type 0} {r : Reading (Option A)} (f : A → B) → IsGood names G r → ((x : A) → G x → H (f x)) → IsGood names H (made (option_map f) r)
+pub made_good : {A B : Type 0} {names : List (List ℕ)} {G : A → Type 0} {H : B → Type 0} {r : Reading A} (f : A → B) → IsGood names G r → ((x : A) → G x → H (f x)) → IsGood names H (made f r)
 made_good {G = G} {H = H} {r = r} f g step = record { is = λ k w. there_map G H f r.value step (g.is k w) }
 
-pub chosen_good : {A B : Type 0} {names : List (List ℕ)} {G : A → Type 0} {H : B → Type 0} {r : Reading A} (f : A → Option B) → IsSound names G r → ((x : A) → G x → IsThere H (f x)) → IsGood names H (made f r)
-chosen_good {r = r} f g step = record { is = λ k w. step r.value (g.is k w) }
-
 -- one and then another, which may depend on the first one's value
-pub after_good : {A B : Type 0} {names : List (List ℕ)} {G : A → Type 0} {H : B → Type 0} {r : Reading A} {s : Reading (Option B)} → IsSound names G r → (G r.value → IsGood names H s) → IsGood names H (made (λ p. p.1) (both r s))
-after_good {names = names} {r = r} {s = s} g h = record {
+pub after_good : {A B : Type 0} {names : List (List ℕ)} {G : A → Type 0} {H : B → Type 0} {r : Reading A} {s : Reading B} → IsGood names G r → (IsThere G r.value → IsGood names H s) → IsGood names H (after r s)
+after_good {names = names} {G = G} {H = H} {r = r} {s = s} g h = record {
   is = λ k w.
       let ws = has_both names r.words s.words w in
-      (h (g.is (front r.faults s.faults k) ws.0)).is (back r.faults s.faults k) ws.1;
+      let x = g.is (front r.faults s.faults k) ws.0 in
+      there_bind G H (λ y. s.value) r.value (λ y z. (h x).is (back r.faults s.faults k) ws.1) x;
 }
 
-pub both_sound : {A B : Type 0} {names : List (List ℕ)} {G : A → Type 0} {H : B → Type 0} {r : Reading A} {s : Reading B} → IsSound names G r → IsSound names H s → IsSound names (λ (p : A × B). G p.0 × H p.1) (both r s)
-both_sound {names = names} {r = r} {s = s} g h = record {
+pub both_good : {A B : Type 0} {names : List (List ℕ)} {G : A → Type 0} {H : B → Type 0} {r : Reading A} {s : Reading B} → IsGood names G r → IsGood names H s → IsGood names (λ (p : A × B). G p.0 × H p.1) (both r s)
+both_good {names = names} {G = G} {H = H} {r = r} {s = s} g h = record {
   is = λ k w.
       let ws = has_both names r.words s.words w in
-      (g.is (front r.faults s.faults k) ws.0, h.is (back r.faults s.faults k) ws.1);
+      there_both G H r.value s.value (g.is (front r.faults s.faults k) ws.0) (h.is (back r.faults s.faults k) ws.1);
 }
 
-pub pair_good : {A B C : Type 0} {names : List (List ℕ)} {G : A → Type 0} {H : B → Type 0} {K : C → Type 0} {r : Reading (Option A)} {s : Reading (Option B)} (f : A × B → C)
-    → IsGood names G r → IsGood names H s → ((x : A) (y : B) → G x → H y → K (f (x, y))) → IsGood names K (made (λ p. option_map f (paired p.0 p.1)) (both r s))
-pair_good {G = G} {H = H} {K = K} f g h step = chosen_good _ (both_sound (sound g) (sound h)) (λ p t. there_pair G H K f p.0 p.1 t.0 t.1 step)
-
-pub weaker : {A : Type 0} {names : List (List ℕ)} {G H : A → Type 0} {r : Reading A} → IsSound names G r → ((x : A) → G x → H x) → IsSound names H r
-weaker {r = r} g step = record { is = λ k w. step r.value (g.is k w) }
-
-pub weaker_good : {A : Type 0} {names : List (List ℕ)} {G H : A → Type 0} {r : Reading (Option A)} → IsGood names G r → ((x : A) → G x → H x) → IsGood names H r
-weaker_good {G = G} {H = H} {r = r} g step = record { is = λ k w. weaken r.value (g.is k w) }
+pub weaker : {A : Type 0} {names : List (List ℕ)} {G H : A → Type 0} {r : Reading A} → IsGood names G r → ((x : A) → G x → H x) → IsGood names H r
+weaker {G = G} {H = H} {r = r} g step = record { is = λ k w. weaken r.value (g.is k w) }
   where
     weaken : (o : Option _) → IsThere G o → IsThere H o
     weaken None t = t
@@ -136,11 +113,11 @@ weaker_good {G = G} {H = H} {r = r} g step = record { is = λ k w. weaken r.valu
 
 -- ---- alternatives
 
-pub if_good : {A : Type 0} {names : List (List ℕ)} {G : A → Type 0} (b : Bool) (r s : Reading (Option A)) → (b ≡ true → IsGood names G r) → (b ≡ false → IsGood names G s) → IsGood names G (cond b r s)
+pub if_good : {A : Type 0} {names : List (List ℕ)} {G : A → Type 0} (b : Bool) (r s : Reading A) → (b ≡ true → IsGood names G r) → (b ≡ false → IsGood names G s) → IsGood names G (cond b r s)
 if_good true r s g h = g refl
 if_good false r s g h = h refl
 
-pub or_good : {A B : Type 0} {names : List (List ℕ)} {G : B → Type 0} (f : A → Reading (Option B)) (o : Option A) (r : Reading (Option B)) → ((x : A) → o ≡ Some x → IsGood names G (f x)) → (o ≡ None → IsGood names G r) → IsGood names G (option_map_or f o r)
+pub or_good : {A B : Type 0} {names : List (List ℕ)} {G : B → Type 0} (f : A → Reading B) (o : Option A) (r : Reading B) → ((x : A) → o ≡ Some x → IsGood names G (f x)) → (o ≡ None → IsGood names G r) → IsGood names G (option_map_or f o r)
 or_good f None r g h = h refl
 or_good f (Some x) r g h = g x refl
 
@@ -150,22 +127,18 @@ or_good f (Some x) r g h = g x refl
 abbrev pub IsPerhaps : {A : Type 0} → (A → Type 0) → Option Pair → Option A → Type 0
 IsPerhaps G o x = IfAny G x × (is_some o ≡ true → IsThere G x)
 
-pub perhaps_sound : {A : Type 0} {names : List (List ℕ)} {G : A → Type 0} (f : Pair → Reading (Option A)) (o : Option Pair) → ((p : Pair) → o ≡ Some p → IsGood names G (f p)) → IsSound names (IsPerhaps G o) (perhaps f o)
-perhaps_sound f None g = record { is = λ k w. (tt, λ h. absurd cc) }
-perhaps_sound {G = G} f (Some p) g = record { is = λ k w. is_perhaps (f p).value ((g p refl).is k w) }
-  where
-    is_perhaps : (x : Option _) → IsThere G x → IfAny G x × (is_some (Some p) ≡ true → IsThere G x)
-    is_perhaps None t = absurd t
-    is_perhaps (Some x) t = (t, λ k. t)
+pub perhaps_good : {A : Type 0} {names : List (List ℕ)} {G : A → Type 0} (f : Pair → Reading A) (o : Option Pair) → ((p : Pair) → o ≡ Some p → IsGood names G (f p)) → IsGood names (IsPerhaps G o) (perhaps f o)
+perhaps_good f None g = gives_good None (tt, λ h. absurd cc)
+perhaps_good f (Some p) g = made_good (λ x. Some x) (g p refl) (λ x h. (h, λ k. h))
 
-pub must_good : {A : Type 0} {names : List (List ℕ)} {G : A → Type 0} (line : ℕ) (f : Pair → Reading (Option A)) (o : Option Pair) → ((p : Pair) → IsGood names G (f p)) → IsGood names G (must line f o)
+pub must_good : {A : Type 0} {names : List (List ℕ)} {G : A → Type 0} (line : ℕ) (f : Pair → Reading A) (o : Option Pair) → ((p : Pair) → IsGood names G (f p)) → IsGood names G (must line f o)
 must_good line f None g = wrong_good line missing_key
 must_good line f (Some p) g = g p
 
-pub text_good : {A : Type 0} {names : List (List ℕ)} {G : A → Type 0} (f : List ℕ → Reading (Option A)) (p : Pair) → ((text : List ℕ) → text_of p.value ≡ Some text → IsGood names G (f text)) → IsGood names G (option_map_or f (text_of p.value) (wrong p.line bad_value))
+pub text_good : {A : Type 0} {names : List (List ℕ)} {G : A → Type 0} (f : List ℕ → Reading A) (p : Pair) → ((text : List ℕ) → text_of p.value ≡ Some text → IsGood names G (f text)) → IsGood names G (option_map_or f (text_of p.value) (wrong p.line bad_value))
 text_good f p g = or_good f (text_of p.value) (wrong p.line bad_value) g (λ e. wrong_good p.line bad_value)
 
-pub mapping_good : {A : Type 0} {names : List (List ℕ)} {G : A → Type 0} (f : List Pair → Reading (Option A)) (p : Pair) → ((es : List Pair) → IsGood names G (f es)) → IsGood names G (option_map_or f (mapping_of p.value) (wrong p.line bad_value))
+pub mapping_good : {A : Type 0} {names : List (List ℕ)} {G : A → Type 0} (f : List Pair → Reading A) (p : Pair) → ((es : List Pair) → IsGood names G (f es)) → IsGood names G (option_map_or f (mapping_of p.value) (wrong p.line bad_value))
 mapping_good f p g = or_good f (mapping_of p.value) (wrong p.line bad_value) (λ es e. g es) (λ e. wrong_good p.line bad_value)
 
 -- ---- lists
@@ -177,20 +150,16 @@ EachOf G n (x ∷ xs) (y ∷ ys) = G n x y × EachOf G (n + 1) xs ys
 EachOf G n _ _ = ⊥
 
 -- each of a list, of which something is known, or nothing
-pub each_from_sound : {A B : Type 0} {names : List (List ℕ)} {G : ℕ → A → B → Type 0} (P : A → Type 0) (f : ℕ → A → Reading (Option B)) (n : ℕ) (xs : List A) → Each P xs → ((n : ℕ) (x : A) → P x → IsGood names (G n x) (f n x)) → IsSound names (EachOf G n xs) (each_from f n xs)
-each_from_sound P f n [] ps g = record { is = λ k w. tt }
-each_from_sound {G = G} P f n (x ∷ xs) ps g = made_sound _ (both_sound (sound (g n x ps.0)) (each_from_sound P f (n + 1) xs ps.1 g)) (λ p h. first p.0 p.1 h.0 h.1)
-  where
-    first : (o : Option _) (ys : List _) → IsThere (G n x) o → EachOf G (n + 1) xs ys → EachOf G n (x ∷ xs) (option_to_list o ++ ys)
-    first None ys t h = absurd t
-    first (Some y) ys t h = (t, h)
+pub each_from_good : {A B : Type 0} {names : List (List ℕ)} {G : ℕ → A → B → Type 0} (P : A → Type 0) (f : ℕ → A → Reading B) (n : ℕ) (xs : List A) → Each P xs → ((n : ℕ) (x : A) → P x → IsGood names (G n x) (f n x)) → IsGood names (EachOf G n xs) (each_from f n xs)
+each_from_good P f n [] ps g = gives_good [] tt
+each_from_good P f n (x ∷ xs) ps g = made_good (λ p. p.0 ∷ p.1) (both_good (g n x ps.0) (each_from_good P f (n + 1) xs ps.1 g)) (λ p h. h)
 
 pub each_there : {A : Type 0} (xs : List A) → Each (λ x. Unit {0}) xs
 each_there [] = tt
 each_there (x ∷ xs) = (tt, each_there xs)
 
-pub each_sound : {A B : Type 0} {names : List (List ℕ)} {G : A → B → Type 0} (f : A → Reading (Option B)) (xs : List A) → ((x : A) → IsGood names (G x) (f x)) → IsSound names (EachOf (λ i. G) 0 xs) (each f xs)
-each_sound f xs g = each_from_sound (λ x. Unit {0}) (λ i. f) 0 xs (each_there xs) (λ n x u. g x)
+pub each_good : {A B : Type 0} {names : List (List ℕ)} {G : A → B → Type 0} (f : A → Reading B) (xs : List A) → ((x : A) → IsGood names (G x) (f x)) → IsGood names (EachOf (λ i. G) 0 xs) (each f xs)
+each_good f xs g = each_from_good (λ x. Unit {0}) (λ i. f) 0 xs (each_there xs) (λ n x u. g x)
 
 -- what holds for each one of the second list, and tests that the first one passes
 pub each_second : {A B : Type 0} (G : ℕ → A → B → Type 0) (P : B → Type 0) (n : ℕ) (xs : List A) (ys : List B) → ((i : ℕ) (x : A) (y : B) → G i x y → P y) → EachOf G n xs ys → Each P ys

@@ -1,5 +1,5 @@
 -- Without faults each member and type is stated, and leads somewhere.
-use Rattle.std.proofs.Common.{◌≡◌, ℕ, zero, suc, ◌+◌, ◌<◌, Bool, true, false, cond, List, [], ◌∷◌, ◌++◌, length, sym, ap, subst, ◌∙◌, refl, Some, append_assoc, arith}
+use Rattle.std.proofs.Common.{◌≡◌, ℕ, zero, suc, ◌+◌, ◌<◌, Bool, true, false, cond, List, [], ◌∷◌, ◌++◌, length, sym, ap, subst, ◌∙◌, refl, Some, None, append_assoc, arith}
 use Rattle.std.specs.Prelude.{is_some, map, flat_map, filter, slice_get}
 use Rattle.std.specs.List.{list_all, list_any, position_from}
 use Rattle.std.specs.Option.{option_map_or}
@@ -8,7 +8,7 @@ use Rattle.std.proofs.lemmas.Bool.{and_parts}
 use Rattle.std.proofs.lemmas.List.{map-append, length-append, append-nil}
 use Rattle.ksv_yaml_tree.specs.Tree.{line_of, mapping_of}
 use Rattle.ksv_schema_names.specs.Rows.{Row, Declared}
-use Rattle.ksv_schema_names.specs.Members.{MemberRow, members_of, is_in_params, is_parameter, members_within, parameters_within}
+use Rattle.ksv_schema_names.specs.Members.{Member, members_of, is_in_params, is_parameter, members_within, parameters_within}
 use Rattle.ksv_schema_names.specs.Members as scope
 use Rattle.ksv_schema_names.specs.Resolved.{Fits}
 use Rattle.ksv_schema_names.proofs.Found.{some_is, place_within}
@@ -23,7 +23,7 @@ use Rattle.ksv_desc.specs.Resolved as resolved
 use Rattle.ksv_desc.specs.Resolved.{Each, IsThere, IsResolvedMember, IsResolved}
 use Rattle.ksv_desc.proofs.Dots.{distinct_append}
 use Rattle.ksv_desc.proofs.Tabled.{is_table}
-use Rattle.ksv_schema.proofs.Good.{front, back, not_if, has_both, there_next, IsSound, IsGood, there_good, wrong_good, also_good, weaker_good, or_good, EachOf, each_passes, each_from_sound, as_many, each_second, each_mapped}
+use Rattle.ksv_schema.proofs.Good.{front, back, not_if, has_both, there_next, is_there, IsGood, wrong_good, also_good, weaker, or_good, EachOf, each_passes, each_from_good, as_many, each_second, each_mapped}
 use Rattle.ksv_schema.proofs.Fields.{AreEncodings, IsKind, kind_good}
 use Rattle.ksv_schema.proofs.OwnNames.{HasOwnName, members_own, name_is_text, AreTyped}
 use Rattle.ksv_schema.proofs.Whole.{are_encodings, HasNumbers, member_stated, enums_there}
@@ -35,30 +35,30 @@ abbrev within : Declared → ℕ → Context
 within d n = record { declared = d; names = names_of d; within = n }
 
 -- a member leads somewhere, and its name is a text
-pub record IsMember (d : Declared) (n : ℕ) (m : MemberRow) (k : MemberKind) : Type 0 where
+pub record IsMember (d : Declared) (n : ℕ) (m : Member) (k : MemberKind) : Type 0 where
   pub kind : IsKind (within d n) (is_in_params m.role) k
   pub text : is_utf8 m.name ≡ true
 
-abbrev AreMembers : Declared → ℕ → ℕ → List MemberRow → List MemberKind → Type 0
+abbrev AreMembers : Declared → ℕ → ℕ → List Member → List MemberKind → Type 0
 AreMembers d n i ms ks = EachOf (λ i. IsMember d n) i ms ks
 
-member_good : (d : Declared) (n i : ℕ) (m : MemberRow) → AreEncodings d → HasOwnName m → IsGood (names_of d) (IsMember d n m) (member d n i m)
+member_good : (d : Declared) (n i : ℕ) (m : Member) → AreEncodings d → HasOwnName m → IsGood (names_of d) (IsMember d n m) (member d n i m)
 unfolding member member_keys
 member_good d n i m a own = also_good _ _ (λ k.
     or_good (member_keys d n m) (mapping_of m.value) _
     (λ es e. also_good _ _ (λ f.
-    weaker_good (kind_good (names_of d) (home_of d n m.role es) m.role m.line (line_of m.value) es a f)
+    weaker (kind_good (names_of d) (home_of d n m.role es) m.role m.line (line_of m.value) es a f)
     (λ x g. record { kind = g; text = name_is_text m.role m.name m.value es own (not_if _ m.line bad_value (front _ _ k)) e f })))
     (λ e. wrong_good m.line bad_value))
 
-all_good : (d : Declared) → AreEncodings d → IsSound (names_of d) (EachOf (λ n. AreMembers d n 0) 0 (map members_of d.types)) (all_members d)
+all_good : (d : Declared) → AreEncodings d → IsGood (names_of d) (EachOf (λ n. AreMembers d n 0) 0 (map members_of d.types)) (all_members d)
 unfolding all_members members
 all_good d a =
-    each_from_sound (Each HasOwnName) (members d) 0 (map members_of d.types) (each_mapped (Each HasOwnName) members_of d.types members_own)
-    (λ n ms own. also_good _ _ (λ k. there_good (each_from_sound HasOwnName (member d n) 0 ms own (λ i m o. member_good d n i m a o))))
+    each_from_good (Each HasOwnName) (members d) 0 (map members_of d.types) (each_mapped (Each HasOwnName) members_of d.types members_own)
+    (λ n ms own. also_good _ _ (λ k. each_from_good HasOwnName (member d n) 0 ms own (λ i m o. member_good d n i m a o)))
 
 -- their names are texts
-are_all_texts : (d : Declared) (mss : List (List MemberRow)) (kss : List (List MemberKind)) → EachOf (λ n. AreMembers d n 0) 0 mss kss → list_all are_texts mss ≡ true
+are_all_texts : (d : Declared) (mss : List (List Member)) (kss : List (List MemberKind)) → EachOf (λ n. AreMembers d n 0) 0 mss kss → list_all are_texts mss ≡ true
 unfolding are_texts
 are_all_texts d mss kss = each_passes (λ n. AreMembers d n 0) are_texts 0 mss kss (λ n ms ks. each_passes (λ i. IsMember d n) (λ m. is_utf8 m.name) 0 ms ks (λ i m k g. g.text))
 
@@ -70,7 +70,7 @@ own_names rs = flat_map names_in (map members_of rs)
 
 same_names : (rs : List Row) → own_names rs ≡ map (λ m. m.name) (scope.all_members rs)
 same_names [] = refl
-same_names (r ∷ rs) = ap (λ (ws : List (List ℕ)). names_in (members_of r) ++ ws) (same_names rs) ∙ sym (map-append (λ (m : MemberRow). m.name) (members_of r) (scope.all_members rs))
+same_names (r ∷ rs) = ap (λ (ws : List (List ℕ)). names_in (members_of r) ++ ws) (same_names rs) ∙ sym (map-append (λ (m : Member). m.name) (members_of r) (scope.all_members rs))
 
 -- the names are those of members and the words
 record HasNames (d : Declared) : Type 0 where
@@ -121,21 +121,21 @@ kept_number d name h =
 abbrev Known : {A : Type 0} → Declared → (Description → A → Type 0) → A → Type 0
 Known d Q x = (y : Description) → y.names ≡ names_of d → Fits d y → y.known ≡ length (member_names d) → Q y x
 
-record IsStated (d : Declared) (m : MemberRow) (r : MemberOfType) : Type 0 where
+record IsStated (d : Declared) (m : Member) (r : MemberOfType) : Type 0 where
   known : Known d IsResolvedMember r
   given : is_parameter m ≡ resolved.is_parameter r
 
-member_there : (d : Declared) (n : ℕ) (m : MemberRow) (k : MemberKind) → IsMember d n m k → is_some (number_in (member_names d) m.name) ≡ true → IsThere (IsStated d m) (member_of (within d n) m k)
+member_there : (d : Declared) (n : ℕ) (m : Member) (k : MemberKind) → IsMember d n m k → is_some (number_in (member_names d) m.name) ≡ true → IsThere (IsStated d m) (member_of (within d n) m k)
 unfolding member_of
 member_there d n m k g h = rw (as_text_is m.name g.text) (there_next (λ j. j < length (member_names d)) (IsStated d m) _ (number_in (names_of d) m.name)
     (λ j t. record { known = λ y s fits known. (omega (arith, t, known), g.kind.leads y s fits); given = sym (g.kind.given j) })
     (kept_number d m.name h))
 
-record AreStated (d : Declared) (ms : List MemberRow) (rs : List MemberOfType) : Type 0 where
+record AreStated (d : Declared) (ms : List Member) (rs : List MemberOfType) : Type 0 where
   known : Known d (λ y. Each (IsResolvedMember y)) rs
   given : length (filter is_parameter ms) ≡ length (filter resolved.is_parameter rs)
 
-members_there : (d : Declared) (n i : ℕ) (ms : List MemberRow) (ks : List MemberKind) → AreMembers d n i ms ks → has_names (member_names d) (names_in ms) ≡ true → IsThere (AreStated d ms) (each_of (member_of (within d n)) ms ks)
+members_there : (d : Declared) (n i : ℕ) (ms : List Member) (ks : List MemberKind) → AreMembers d n i ms ks → has_names (member_names d) (names_in ms) ≡ true → IsThere (AreStated d ms) (each_of (member_of (within d n)) ms ks)
 members_there d n i [] ks g h = record { known = λ y s fits known. tt; given = refl }
 members_there d n i (m ∷ ms) [] g h = absurd g
 members_there d n i (m ∷ ms) (k ∷ ks) g h =
@@ -193,8 +193,7 @@ unfolding faults_of stated_by described
 declared_good d v k =
     let names = has_all_names d in
     let words = (has_both (names_of d) (own_names d.types) (all_members d).words names.all).1 in
-    let kinds = (all_members d).value in
-    let ks = (all_good d (are_encodings d (back _ _ (front _ _ (front _ _ k))))).is (back _ _ (front _ _ k)) words in
-    rw (are_all_texts d (map members_of d.types) kinds ks) (there_next (AreTypes d 0 d.types) IsResolved _ (types_of d (names_of d) 0 d.types kinds)
-    (λ ts t. resolved_with d ts (all_enums d).value t (enums_there d (back _ _ k)))
-    (types_there d 0 d.types kinds v ks names.known))
+    let ks = is_there (EachOf (λ n. AreMembers d n 0) 0 (map members_of d.types)) (all_members d).value ((all_good d (are_encodings d (back _ _ (front _ _ (front _ _ k))))).is (back _ _ (front _ _ k)) words) in
+    rw (are_all_texts d (map members_of d.types) ks.0 ks.2, ks.1) (there_next (AreTypes d 0 d.types) IsResolved _ (types_of d (names_of d) 0 d.types ks.0)
+    (λ ts t. there_next (EachOf (λ i. HasNumbers) 0 d.enums) IsResolved _ (all_enums d).value (λ es e. resolved_with d ts es t e) (enums_there d (back _ _ k)))
+    (types_there d 0 d.types ks.0 v ks.2 names.known))

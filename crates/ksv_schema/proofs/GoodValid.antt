@@ -14,7 +14,7 @@ use Rattle.ksv_schema.specs.Faults.{bad_value}
 use Rattle.ksv_schema.specs.Values.{Home}
 use Rattle.ksv_schema.specs.Valid.{compared, comparison, alternative, some_alternatives, alternatives, one_or_some, any_of, in_order, all_of, any_or_all, conditions, valid, own_valid}
 use Rattle.ksv_schema.specs.Description.{Context, in_tree, in_valid}
-use Rattle.ksv_schema.proofs.Good.{IsSound, IsGood, there_good, wrong_good, also_sound, made_sound, made_good, both_sound, or_good, perhaps_sound, weaker, each_sound, each_second, each_and}
+use Rattle.ksv_schema.proofs.Good.{IsGood, wrong_good, also_good, made_good, both_good, or_good, perhaps_good, weaker, each_good, each_second, each_and}
 use Rattle.ksv_schema.proofs.GoodValues.{Leads, in_home, IsTree, of_expression_good, expression_good}
 
 -- each of these conditions leads somewhere
@@ -67,38 +67,38 @@ module _ (names : List (List ℕ)) (h : Home) where
 
   some_good : (line : ℕ) (ts : List Tree) → IsGood names (AreTrees c) (some_alternatives h line ts)
   some_good line [] = wrong_good line bad_value
-  some_good line (t ∷ ts) = there_good (weaker (each_sound (alternative h) (t ∷ ts) alternative_good) (λ es g. each_second (λ i (t : Tree). IsTree c) (IsTree c) 0 (t ∷ ts) es (λ i t e g. g) g))
+  some_good line (t ∷ ts) = weaker (each_good (alternative h) (t ∷ ts) alternative_good) (λ es g. each_second (λ i (t : Tree). IsTree c) (IsTree c) 0 (t ∷ ts) es (λ i t e g. g) g)
 
   alternatives_good : (p : Pair) → IsGood names (AreTrees c) (alternatives h p)
   unfolding alternatives
   alternatives_good p = or_good _ (list_of p.value) _ (λ ts e. some_good p.line ts) (λ e. wrong_good p.line bad_value)
 
-  any_good : (es : List Pair) → IsSound names (λ o. IfAny (AreTrees c) o) (any_of h es)
+  any_good : (es : List Pair) → IsGood names (λ o. IfAny (AreTrees c) o) (any_of h es)
   any_good es =
-      made_sound one_or_some
-      (both_sound (perhaps_sound _ (entry_at (codes "eq") es) (λ p e. comparison_good Equal p)) (perhaps_sound _ (entry_at (codes "any-of") es) (λ p e. alternatives_good p)))
+      made_good one_or_some
+      (both_good (perhaps_good _ (entry_at (codes "eq") es) (λ p e. comparison_good Equal p)) (perhaps_good _ (entry_at (codes "any-of") es) (λ p e. alternatives_good p)))
       (λ p g. one_or_some_lead c p g.0.0 g.1.0)
 
   -- ---- all of some
 
-  all_good : (es : List Pair) → IsSound names (AreTrees c) (all_of h es)
+  all_good : (es : List Pair) → IsGood names (AreTrees c) (all_of h es)
   all_good es =
-      made_sound in_order
-      (both_sound (perhaps_sound _ (entry_at (codes "expr") es) (λ p e. expression_good names h sites.ValidExpr p))
-      (both_sound (perhaps_sound _ (entry_at (codes "min") es) (λ p e. comparison_good GreaterOrEqual p)) (perhaps_sound _ (entry_at (codes "max") es) (λ p e. comparison_good LessOrEqual p))))
+      made_good in_order
+      (both_good (perhaps_good _ (entry_at (codes "expr") es) (λ p e. expression_good names h sites.ValidExpr p))
+      (both_good (perhaps_good _ (entry_at (codes "min") es) (λ p e. comparison_good GreaterOrEqual p)) (perhaps_good _ (entry_at (codes "max") es) (λ p e. comparison_good LessOrEqual p))))
       (λ p g. in_order_lead c p g.0.0 g.1.0.0 g.1.1.0)
 
   -- ---- at the key
 
-  conditions_good : (line : ℕ) (es : List Pair) → IsSound names (IsValid c) (conditions h line es)
+  conditions_good : (line : ℕ) (es : List Pair) → IsGood names (IsValid c) (conditions h line es)
   unfolding conditions
-  conditions_good line es = also_sound _ _ (λ k. made_sound any_or_all (both_sound (any_good es) (all_good es)) (λ p g. any_or_all_leads c p g.0 g.1))
+  conditions_good line es = also_good _ _ (λ k. made_good any_or_all (both_good (any_good es) (all_good es)) (λ p g. any_or_all_leads c p g.0 g.1))
 
   valid_good : (p : Pair) → IsGood names (IsValid c) (valid h p)
   unfolding valid
   valid_good p =
-      or_good _ (mapping_of p.value) _ (λ es e. there_good (conditions_good (line_of p.value) es))
+      or_good _ (mapping_of p.value) _ (λ es e. conditions_good (line_of p.value) es)
       (λ e. made_good (λ e. AnyOf (e ∷ [])) (comparison_good Equal p) (λ e g. trees_lead c (e ∷ []) (g, tt)))
 
-  pub own_valid_good : (es : List Pair) → IsSound names (λ o. IfAny (IsValid c) o) (own_valid h es)
-  own_valid_good es = weaker (perhaps_sound (valid h) (entry_at (codes "valid") es) (λ p e. valid_good p)) (λ o g. g.0)
+  pub own_valid_good : (es : List Pair) → IsGood names (λ o. IfAny (IsValid c) o) (own_valid h es)
+  own_valid_good es = weaker (perhaps_good (valid h) (entry_at (codes "valid") es) (λ p e. valid_good p)) (λ o g. g.0)

@@ -3,7 +3,7 @@ use Rattle.std.proofs.Common.{◌≡◌, ℕ, suc, ◌+◌, ◌<◌, Bool, true,
 use Rattle.std.specs.Prelude.{codes, is_some, not, ◌==◌, ◌&&◌, ◌||◌, option_map, option_to_list, map}
 use Rattle.std.proofs.lemmas.Bool.{not-false, both_ways}
 use Rattle.std.proofs.lemmas.Bool.Decides.{Decides-eqb}
-use Rattle.ksv_yaml_tree.specs.Tree.{Pair, line_of, text_of, is_quoted, mapping_of, list_of, entry_at}
+use Rattle.ksv_yaml_tree.specs.Tree.{Tree, Pair, line_of, text_of, is_quoted, mapping_of, list_of, entry_at}
 use Rattle.ksv_expr_tree.specs.Tree as expressions
 use Rattle.ksv_expr_value.specs.declared.encoding.Encoding.{Encoding}
 use Rattle.ksv_schema_names.specs.Rows.{Row, row_in}
@@ -23,12 +23,12 @@ use Rattle.ksv_schema_names.proofs.Resolving.{given_leads, resolved, all_resolve
 use Rattle.ksv_desc.specs.Description.{Description, Content, Number, Bits, Characters, Object, EnumValue, Choice, Always, Switch}
 use Rattle.ksv_desc.specs.Resolved.{count, Each, IfAny, IsThere, IsEnum, IsResolvedTree, AreResolvedTrees, IsResolvedContent, IsResolvedValue, IsResolvedCase, IsResolvedChoice}
 use Rattle.ksv_schema.specs.Expressions.{expression_of}
-use Rattle.ksv_schema.specs.KeyTexts.{TypeText, Unspelled, OfLanguage, OfDescription, type_text, is_str, is_strz, looks_like_number, CaseKey, Constant, Negative, OfEnum, Default, NoKey, case_key, ids_of}
+use Rattle.ksv_schema.specs.KeyTexts.{TypeText, Unspelled, OfLanguage, OfDescription, type_text, is_str, is_strz, looks_like_number, Piece, Bytes as BytesPiece, BadPiece, LeftOutPiece, piece_of, CaseKey, Constant, Negative, OfEnum, Default, NoKey, case_key, ids_of}
 use Rattle.ksv_schema.specs.Faults.{fault_if, unknown_name, no_byte_order, bad_value, wrong_count, left_out, no_expression}
 use Rattle.ksv_schema.specs.Reading.{each}
-use Rattle.ksv_schema.specs.Values.{Home, FieldKeys, position_at, name_fault, least_name, of_expression, expression, arguments, of_path, enumeration, contents, order_at, encoding_at, of_language, counts_differ, of_type, of_case_key, case_value, case_against, case, switch, typed, content_or_type, choice}
+use Rattle.ksv_schema.specs.Values.{Home, FieldKeys, position_at, name_fault, least_name, of_expression, expression, arguments, of_path, enumeration, of_piece, item, items, contents, order_at, encoding_at, of_language, counts_differ, of_type, of_case_key, case_value, case_against, case, switch, typed, content_or_type, choice}
 use Rattle.ksv_schema.specs.Description.{Context, in_tree, in_content, in_case, in_choice}
-use Rattle.ksv_schema.proofs.Good.{front, not_if, there_map, IsSound, IsGood, sound, there_good, gives_good, wrong_good, found_good, also_good, made_sound, made_good, chosen_good, after_good, both_sound, pair_good, if_good, or_good, perhaps_sound, must_good, weaker, text_good, mapping_good, EachOf, each_sound}
+use Rattle.ksv_schema.proofs.Good.{front, not_if, IsGood, gives_good, wrong_good, found_good, also_good, made_good, both_good, if_good, or_good, perhaps_good, must_good, weaker, text_good, mapping_good, EachOf, each_good}
 
 -- ---- what leads somewhere
 
@@ -119,7 +119,7 @@ module _ (names : List (List ℕ)) (h : Home) where
   unfolding expression
   expression_good site p = text_good _ p (λ text t. of_expression_good site p.line (expression_of text))
 
-  arguments_good : (line : ℕ) (es : expressions.Arguments) → IsSound names (λ fs. (fs ≡ es) × Leads c AreResolvedTrees (all_numbered h.declared names h.within fs)) (arguments h line es)
+  arguments_good : (line : ℕ) (es : expressions.Arguments) → IsGood names (λ fs. (fs ≡ es) × Leads c AreResolvedTrees (all_numbered h.declared names h.within fs)) (arguments h line es)
   unfolding arguments
   arguments_good line es = record { is = λ k w. (refl, λ y s fits. rw (← s) (all_resolved h.declared y h.within (position_at h sites.Argument) fits es (rw (← s) at w) (no_names line _ k))) }
 
@@ -135,11 +135,21 @@ module _ (names : List (List ℕ)) (h : Home) where
 
   -- contents
 
+  piece_good : (line : ℕ) (p : Piece) → IsGood names (λ bs. Unit {0}) (of_piece line p)
+  piece_good line (BytesPiece bs) = gives_good bs tt
+  piece_good line BadPiece = wrong_good line bad_value
+  piece_good line LeftOutPiece = wrong_good line left_out
+
+  items_good : (ts : List Tree) → IsGood names (λ bs. Unit {0}) (items ts)
+  unfolding item
+  items_good [] = gives_good [] tt
+  items_good (t ∷ ts) = made_good (λ p. p.0 ++ p.1) (both_good (piece_good (line_of t) (piece_of t)) (items_good ts)) (λ p g. tt)
+
   contents_good : (p : Pair) → IsGood names (λ bs. Unit {0}) (contents p)
   unfolding contents
   contents_good p =
       or_good _ (text_of p.value) _ (λ text t. if_good (not (is_quoted p.value) && looks_like_number text) _ _ (λ b. wrong_good p.line left_out) (λ b. gives_good text tt))
-      (λ t. or_good _ (list_of p.value) _ (λ ts l. there_good (record { is = λ k w. tt })) (λ l. wrong_good p.line bad_value))
+      (λ t. or_good items (list_of p.value) _ (λ ts l. items_good ts) (λ l. wrong_good p.line bad_value))
 
   -- types
 
@@ -173,15 +183,12 @@ module _ (names : List (List ℕ)) (h : Home) where
   of_type_good : (beside : List Pair) (enum : Option ℕ) (es : List Pair) (line : ℕ) (t : TypeText) → IfAny (IsEnumThere c) enum → (is_text t ≡ true → IsEncoded es) → IsGood names (IsContent c) (of_type (keys_of beside enum es) line t)
   unfolding of_type
   of_type_good beside enum es line Unspelled e i = wrong_good line no_expression
-  of_type_good beside enum es line (OfLanguage b given) e i = also_good _ _ (λ k. after_good (arguments_good line given) (λ a. of_language_good beside enum es line b given e i))
+  of_type_good beside enum es line (OfLanguage b given) e i = also_good _ _ (λ k. made_good (λ p. p.1) (both_good (arguments_good line given) (of_language_good beside enum es line b given e i)) (λ p g. g.1))
   of_type_good beside enum es line (OfDescription t given) e i = also_good _ _ (λ k.
-      chosen_good _
-      (both_sound (sound (found_good {G = λ n. type_named h.declared.types h.within t.path ≡ Some n} line unknown_name (type_named h.declared.types h.within t.path) (λ n f. f))) (arguments_good line given))
-      (λ p g. there_map (λ n. type_named h.declared.types h.within t.path ≡ Some n) (IsContent c) (λ n. Object n p.1) p.0
-      (λ n f y s fits.
-      let below = type_within h.declared.types h.within t.path n f in
-      record { type = omega (arith, below, fits.types); as_many = count_kept c p.1 ∙ ap count g.1.0 ∙ sym (as_many (count given) line n _ k f) ∙ fits.parameters n below; arguments = g.1.1 y s fits })
-      g.0))
+      made_good (λ p. Object p.0 p.1) (both_good (found_good line unknown_name (type_named h.declared.types h.within t.path) (λ n f. f)) (arguments_good line given))
+      (λ p g y s fits.
+      let below = type_within h.declared.types h.within t.path p.0 g.0 in
+      record { type = omega (arith, below, fits.types); as_many = count_kept c p.1 ∙ ap count g.1.0 ∙ sym (as_many (count given) line p.0 _ k g.0) ∙ fits.parameters p.0 below; arguments = g.1.1 y s fits }))
 
   -- switches
 
@@ -206,19 +213,19 @@ module _ (names : List (List ℕ)) (h : Home) where
   case_good : (beside : List Pair) (enum : Option ℕ) (es : List Pair) (p : Pair) → IfAny (IsEnumThere c) enum → IsGood names (λ x. Leads c IsResolvedCase (in_case c x)) (case (keys_of beside enum es) p)
   unfolding case
   case_good beside enum es p e =
-      pair_good _ (case_value_good p.line (expression_of p.key)) (text_good _ p (λ text t. also_good _ _ (λ k. of_type_good beside enum es p.line (type_text text) e (λ b. absurd (no_text beside p.line (type_text text) k b)))))
-      (λ v x g f y s fits. (g y s fits, f y s fits))
+      made_good _ (both_good (case_value_good p.line (expression_of p.key)) (text_good _ p (λ text t. also_good _ _ (λ k. of_type_good beside enum es p.line (type_text text) e (λ b. absurd (no_text beside p.line (type_text text) k b))))))
+      (λ p g y s fits. (g.0 y s fits, g.1 y s fits))
 
   switch_good : (beside : List Pair) (enum : Option ℕ) (es : List Pair) (line : ℕ) (keys : List Pair) → IfAny (IsEnumThere c) enum → IsGood names (IsChoice c) (switch (keys_of beside enum es) line keys)
   unfolding switch
   switch_good beside enum es line keys e = also_good _ _ (λ k.
-      pair_good (λ p. Switch p.0 p.1)
-      (must_good line (expression h sites.Switch) (entry_at (codes "switch-on") keys) (expression_good sites.Switch))
-      (must_good line _ (entry_at (codes "cases") keys) (λ p. mapping_good _ p (λ ps. there_good (has_cases ps))))
-      (λ on cases g f y s fits. (g y s fits, f y s fits)))
+      made_good (λ p. Switch p.0 p.1)
+      (both_good (must_good line (expression h sites.Switch) (entry_at (codes "switch-on") keys) (expression_good sites.Switch))
+      (must_good line _ (entry_at (codes "cases") keys) (λ p. mapping_good _ p (λ ps. has_cases ps))))
+      (λ p g y s fits. (g.0 y s fits, g.1 y s fits)))
     where
-      has_cases : (ps : List Pair) → IsSound names (λ cs. Leads c (λ y. Each (IsResolvedCase y)) (map (in_case c) cs)) (each (case (keys_of beside enum es)) ps)
-      has_cases ps = weaker (each_sound (case (keys_of beside enum es)) ps (λ p. case_good beside enum es p e)) (λ cs g. each_leads c IsResolvedCase (in_case c) 0 ps cs g)
+      has_cases : (ps : List Pair) → IsGood names (λ cs. Leads c (λ y. Each (IsResolvedCase y)) (map (in_case c) cs)) (each (case (keys_of beside enum es)) ps)
+      has_cases ps = weaker (each_good (case (keys_of beside enum es)) ps (λ p. case_good beside enum es p e)) (λ cs g. each_leads c IsResolvedCase (in_case c) 0 ps cs g)
 
   -- what an attribute reads: if its type is a text, it has an encoding
   typed_good : (beside : List Pair) (enum : Option ℕ) (es : List Pair) (p : Pair) → IfAny (IsEnumThere c) enum → ((text : List ℕ) → text_of p.value ≡ Some text → is_text (type_text text) ≡ true → IsEncoded es) → IsGood names (IsChoice c) (typed (keys_of beside enum es) p)
@@ -232,8 +239,8 @@ module _ (names : List (List ℕ)) (h : Home) where
   chosen_leads (None, Some x) g y s fits = g y s fits
   chosen_leads (None, None) g y s fits = tt
 
-  pub choice_good : (beside : List Pair) (enum : Option ℕ) (es : List Pair) → IfAny (IsEnumThere c) enum → HasText es → IsSound names (IsChoice c) (choice (keys_of beside enum es))
+  pub choice_good : (beside : List Pair) (enum : Option ℕ) (es : List Pair) → IfAny (IsEnumThere c) enum → HasText es → IsGood names (IsChoice c) (choice (keys_of beside enum es))
   unfolding choice
   choice_good beside enum es e i =
-      made_sound content_or_type (both_sound (perhaps_sound contents (entry_at (codes "contents") es) (λ p t. contents_good p)) (perhaps_sound (typed (keys_of beside enum es)) (entry_at (codes "type") es) (λ p t. typed_good beside enum es p e (λ text. i p text t))))
+      made_good content_or_type (both_good (perhaps_good contents (entry_at (codes "contents") es) (λ p t. contents_good p)) (perhaps_good (typed (keys_of beside enum es)) (entry_at (codes "type") es) (λ p t. typed_good beside enum es p e (λ text. i p text t))))
       (λ p g. chosen_leads p g.1.0)

@@ -15,6 +15,7 @@ pub mod Named
 pub mod Enums
 pub mod Made
 pub mod InPlace
+pub mod Both
 pub mod Good
 pub mod FaultlessKeys
 pub mod GoodValues

@@ -12,7 +12,7 @@ use Rattle.ksv_yaml_tree.specs.Keys.{entries_in, text_at, entries_at}
 use Rattle.ksv_schema_names.specs.declared.members.Role.{Role}
 use Rattle.ksv_schema_names.specs.declared.members.Role.TheVariants.{Parameter, Attribute, Instance}
 use Rattle.ksv_schema_names.specs.Rows.{Row, keys_of, with_types, with_key, with_named, with_each, root_row, types_of}
-use Rattle.ksv_schema_names.specs.Members.{MemberRow, unnamed, items_from, instance, members_at_key, members_of}
+use Rattle.ksv_schema_names.specs.Members.{Member, unnamed, items_from, instance, members_at_key, members_of}
 use Rattle.ksv_schema.specs.declared.keys.forms.Form.TheVariants as forms
 use Rattle.ksv_schema.specs.declared.keys.forms.MappingKind.{MappingKind}
 use Rattle.ksv_schema.specs.declared.keys.forms.MappingKind.TheVariants as kinds
@@ -51,7 +51,7 @@ id_or kind es other f k u = go (text_at (codes "id") es) (λ text t. id_is_text 
 -- ---- names of members
 
 -- how a member that is no instance came to its name
-abbrev pub HasOwnName : MemberRow → Type 0
+abbrev pub HasOwnName : Member → Type 0
 HasOwnName m = is_instance m.role ≡ false → (k : ℕ) × (m.name ≡ unwrap_or (text_at (codes "id") (entries_in m.value)) (unnamed m.role k))
 
 items_own : (role : Role) (k : ℕ) (ts : List Tree) → Each HasOwnName (items_from role k ts)

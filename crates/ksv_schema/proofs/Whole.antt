@@ -1,6 +1,6 @@
 -- Without faults each encoding in force is one that there is, and each enum has the numbers of its entries.
 use Rattle.std.proofs.Common.{◌≡◌, ℕ, zero, suc, ◌+◌, ℤ, Bool, true, false, cond, List, [], ◌∷◌, sym, ap, ◌∙◌, refl, Option, Some, None}
-use Rattle.std.specs.Prelude.{codes, is_some, option_map, option_and_then, find, slice_get, take}
+use Rattle.std.specs.Prelude.{codes, is_some, option_and_then, find, slice_get, take}
 use Rattle.std.specs.Option.{option_map_or}
 use Rattle.std.specs.Ordering.{int_eq}
 use Rattle.std.proofs.lemmas.Bool.{both_ways}
@@ -21,12 +21,12 @@ use Rattle.ksv_schema.specs.Keys.{form_among, form_in, is_ignored, is_id}
 use Rattle.ksv_schema.specs.KeyTexts.{encoding_named}
 use Rattle.ksv_schema.specs.Faults.{bad_value, left_out}
 use Rattle.ksv_schema.specs.Rules.{form_faults}
-use Rattle.ksv_schema.specs.Description.{whole, id_text, id, entry_id, constant, enum_of, enum, is_root, type_faults, all_types_faults, all_enums}
+use Rattle.ksv_schema.specs.Description.{whole, id_text, id, entry_id, constant, enum, is_root, type_faults, all_types_faults, all_enums}
 use Rattle.ksv_desc.specs.Names.{distinct_behind}
 use Rattle.ksv_desc.specs.Description.{Description, Numbered, Enum}
 use Rattle.ksv_desc.specs.Resolved.{IsThere, IsMemberOf}
 use Rattle.ksv_desc.proofs.Tabled.{is_table}
-use Rattle.ksv_schema.proofs.Good.{front, back, IsGood, sound, gives_good, wrong_good, also_sound, also_good, chosen_good, both_sound, pair_good, if_good, or_good, must_good, text_good, mapping_good, there_map, there_bind, EachOf, each_at, each_there, each_sound, each_from_sound}
+use Rattle.ksv_schema.proofs.Good.{front, back, IsGood, gives_good, wrong_good, also_good, made_good, both_good, if_good, or_good, must_good, text_good, mapping_good, there_map, there_bind, EachOf, each_at, each_there, each_good, each_from_good}
 use Rattle.ksv_schema.proofs.FaultlessKeys.{text_fits, meta_faultless}
 use Rattle.ksv_schema.proofs.Fields.{AreEncodings}
 
@@ -113,18 +113,18 @@ module _ (names : List (List ℕ)) where
 
   constant_good : (before : List Pair) (p : Pair) → IsGood names (HasNumber p) (constant before p)
   unfolding constant number_of
-  constant_good before p = also_good _ _ (λ k. pair_good _ (whole_good p.line (signed_number p.key)) (entry_id_good p) (λ z id g h. g))
+  constant_good before p = also_good _ _ (λ k. made_good _ (both_good (whole_good p.line (signed_number p.key)) (entry_id_good p)) (λ x g. g.0))
 
   enum_good : (r : Row) → IsGood names (HasNumbers r) (enum r)
   enum_good r =
-      chosen_good (λ p. option_map (enum_of p.1) p.0)
-      (both_sound (sound (id_good r.line r.id)) (also_sound _ _ (λ k. each_from_sound (λ p. Unit {0}) (λ i. constant (take i (keys_of r))) 0 (keys_of r) (each_there (keys_of r)) (λ i p u. constant_good (take i (keys_of r)) p))))
-      (λ p g. there_map (λ id. Unit {0}) (HasNumbers r) (enum_of p.1) p.0 (λ id u. g.1) g.0)
+      made_good _
+      (both_good (id_good r.line r.id) (also_good _ _ (λ k. each_from_good (λ p. Unit {0}) (λ i. constant (take i (keys_of r))) 0 (keys_of r) (each_there (keys_of r)) (λ i p u. constant_good (take i (keys_of r)) p))))
+      (λ p g. g.1)
 
 -- whatever the names are
-pub enums_there : (d : Declared) → (all_enums d).faults ≡ [] → EachOf (λ i. HasNumbers) 0 d.enums (all_enums d).value
+pub enums_there : (d : Declared) → (all_enums d).faults ≡ [] → IsThere (EachOf (λ i. HasNumbers) 0 d.enums) (all_enums d).value
 unfolding all_enums
 enums_there d k =
     let words = (all_enums d).words in
     let names = distinct_behind [] words in
-    (each_sound enum d.enums (enum_good names)).is k (is_table [] words).has_added
+    (each_good enum d.enums (enum_good names)).is k (is_table [] words).has_added

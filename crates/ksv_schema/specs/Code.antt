@@ -4,7 +4,8 @@
 -- of the reading, notes its faults in the reader, and adds its words to the reader's names. A function that only
 -- notes faults has the least fault alone: `seen_fault least.new ≡ noted (seen_fault least.old) faults`; it is called
 -- with `&mut reader.least`.
-use Rattle.std.specs.Prelude.{◌≡◌, ◌++◌, ℕ, Bool, not, ◌&&◌, if◌then◌else◌, List, map, Option, Some, option_map, option_to_list, Result, Ok, Err, codes}
+use Rattle.std.specs.declared.alloc.Global.{Global}
+use Rattle.std.specs.Prelude.{◌≡◌, ◌++◌, ℕ, Bool, not, ◌&&◌, if◌then◌else◌, List, [], ◌∷◌, map, Vec, Option, Some, option_map, option_and_then, Result, Ok, Err, codes}
 use Rattle.ksv_expr_syntax.specs.Faults as expressions
 use Rattle.ksv_schema_names.specs.Table.{declared}
 use Rattle.ksv_yaml_tree.specs.View.{pair}
@@ -88,34 +89,56 @@ seen_keys k = record { home = seen_home k.home; entries = map pair k.entries.now
 -- ---- what is read
 
 -- a reading was read with this value: its faults are noted, and its words are among the names
-pub record IsRead {A : Type 0} (r : Reading A) (got : A) (old new : Reader) : Type 0 where
+pub record IsRead {A : Type 0} (r : Reading A) (got : Option A) (old new : Reader) : Type 0 where
   pub value : got ≡ r.value
   pub faults : seen_fault new.least ≡ noted (seen_fault old.least) r.faults
   pub words : new.names ≡ distinct_behind old.names r.words
 
 -- the same of a result with its value seen by view; without memory nothing is said
-abbrev pub Reads : {X A E : Type 0} → Reading A → (X → A) → Reader → Reader → Result X E → Type 0
-Reads r view old new (Ok x) = IsRead r (view x) old new
+abbrev pub Reads : {X A E : Type 0} → Reading A → (X → A) → Reader → Reader → Result (Option X) E → Type 0
+Reads r view old new (Ok o) = IsRead r (option_map view o) old new
 Reads r view old new (Err e) = Unit {0}
 
--- a part and the next one
-abbrev pub both_of : {A B E : Type 0} → A → Result B E → Result (A × B) E
-both_of one (Ok other) = Ok (one, other)
+-- two parts, if both are there
+abbrev pub paired : {A B : Type 0} → Option A → Option B → Option (A × B)
+paired one other = option_and_then (λ x. option_map (λ y. (x, y)) other) one
+
+abbrev pub both_of : {A B E : Type 0} → Option A → Result (Option B) E → Result (Option (A × B)) E
+both_of one (Ok other) = Ok (paired one other)
 both_of one (Err e) = Err e
 
+-- a part, if the one before it is there too
+abbrev pub after : {A B E : Type 0} → Option A → Result (Option B) E → Result (Option B) E
+after one (Ok part) = Ok (option_and_then (λ x. part) one)
+after one (Err e) = Err e
+
+-- a part at a key that may be absent, where it isn't
+abbrev pub present : {A E : Type 0} → Result (Option A) E → Result (Option (Option A)) E
+present (Ok part) = Ok (option_map Some part)
+present (Err e) = Err e
+
 -- a part, if what it needs was done
-abbrev pub kept_if : {A B E : Type 0} → A → Result B E → Result A E
-kept_if x (Ok done) = Ok x
+abbrev pub kept_if : {A B E : Type 0} → A → Result B E → Result (Option A) E
+kept_if x (Ok done) = Ok (Some x)
 kept_if x (Err e) = Err e
 
--- one more behind the items of a list, if it is there
-abbrev pub Pushes : {A E : Type 0} → List A → Result (Option A) E → List A → Type 0
-Pushes made (Ok next) all = all ≡ made ++ option_to_list next
+-- the items of a list, and one more behind them, if it was read
+abbrev pub items_of : {A : Type 0} → Option (Vec A Global) → Option (List A)
+items_of o = option_map (λ v. v.items) o
+
+abbrev pub pushed : {A : Type 0} → Option (List A) → Option A → Option (List A)
+pushed made next = option_and_then (λ xs. option_map (λ x. xs ++ x ∷ []) next) made
+
+abbrev pub Pushes : {A E : Type 0} → Option (List A) → Result (Option A) E → Option (List A) → Type 0
+Pushes made (Ok next) all = all ≡ pushed made next
 Pushes made (Err e) all = ⊥
 
+abbrev pub joined : {A : Type 0} → Option (List A) → Option (List A) → Option (List A)
+joined made next = option_and_then (λ xs. option_map (λ ys. xs ++ ys) next) made
+
 -- the bytes of a text; a plain number alone is unsupported
-abbrev pub text_bytes : ℕ → Bool → List ℕ → Reading (Option (List ℕ))
-text_bytes line is_quoted text = if not is_quoted && looks_like_number text then wrong line left_out else gives (Some text)
+abbrev pub text_bytes : ℕ → Bool → List ℕ → Reading (List ℕ)
+text_bytes line is_quoted text = if not is_quoted && looks_like_number text then wrong line left_out else gives text
 
 -- ---- keys together
 

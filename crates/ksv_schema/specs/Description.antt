@@ -11,7 +11,7 @@ use Rattle.ksv_yaml_tree.specs.Numerals.{signed_number}
 use Rattle.ksv_expr_syntax.specs.Reading.{◌>>=◌}
 use Rattle.ksv_expr_tree.specs.Tree as expressions
 use Rattle.ksv_schema_names.specs.Rows.{Row, keys_of, Declared, declared_in}
-use Rattle.ksv_schema_names.specs.Members.{MemberRow, members_of}
+use Rattle.ksv_schema_names.specs.Members.{Member, members_of}
 use Rattle.ksv_schema_names.specs.Enums.{number_of, id_of, is_numbered, is_named}
 use Rattle.ksv_schema_names.specs.Numbered.{numbered, all_numbered}
 use Rattle.ksv_desc.specs.Names.{distinct, distinct_behind, number_in}
@@ -19,26 +19,26 @@ use Rattle.ksv_desc.specs.Description.{Content, Bytes, Fixed, Number, Bits, Char
 use Rattle.ksv_schema.specs.declared.keys.forms.MappingKind.TheVariants as kinds
 use Rattle.ksv_schema.specs.Keys.{is_id}
 use Rattle.ksv_schema.specs.Faults.{Fault, fault, fault_if, keys_against, bad_value, left_out, over_limit}
-use Rattle.ksv_schema.specs.Reading.{Reading, gives, wrong, also, made, both, paired, each, each_from, must, text, mapping}
+use Rattle.ksv_schema.specs.Reading.{Reading, gives, wrong, also, made, both, each, each_from, must, text, mapping}
 use Rattle.ksv_schema.specs.Rules.{keys_faults, missing, at_if}
 use Rattle.ksv_schema.specs.Members.{id_line, member}
 
 -- ---- enums
 
-abbrev pub whole : ℕ → Numeral → Reading (Option ℤ)
-whole line (Whole n) = gives (Some n)
+abbrev pub whole : ℕ → Numeral → Reading ℤ
+whole line (Whole n) = gives n
 whole line LeadingZero = wrong line left_out
 whole line NoNumeral = wrong line bad_value
 
 -- a text that must be an id
-abbrev pub id_text : ℕ → List ℕ → Reading (Option (List ℕ))
-id_text line name = if is_id name then gives (Some name) else wrong line bad_value
+abbrev pub id_text : ℕ → List ℕ → Reading (List ℕ)
+id_text line name = if is_id name then gives name else wrong line bad_value
 
-abbrev pub id : Pair → Reading (Option (List ℕ))
+abbrev pub id : Pair → Reading (List ℕ)
 id p = text id_text p
 
 -- the value of an entry: an id, or a mapping with an id
-unfoldable pub entry_id : Pair → Reading (Option (List ℕ))
+unfoldable pub entry_id : Pair → Reading (List ℕ)
 entry_id p =
     option_map_or (id_text p.line) (text_of p.value)
     (mapping (λ es. also (keys_faults kinds.Constant es) (must (line_of p.value) id (entry_at (codes "id") es))) p)
@@ -51,18 +51,15 @@ unfoldable pub is_id_again : List Pair → Pair → Bool
 is_id_again before p = option_map_or (λ name. list_any (is_named name) before) (id_of p) false
 
 -- an entry, after these entries of the same enum
-unfoldable pub constant : List Pair → Pair → Reading (Option Numbered)
+unfoldable pub constant : List Pair → Pair → Reading Numbered
 constant before p =
     also (fault_if (is_number_again before p) p.line keys_against ++ fault_if (is_id_again before p) (id_line p.value p.line) keys_against)
-    (made (λ p. option_map (λ x. record { number = x.0; id = x.1 }) (paired p.0 p.1)) (both (whole p.line (signed_number p.key)) (entry_id p)))
-
-abbrev pub enum_of : List Numbered → List ℕ → Enum
-enum_of members id = record { id = id; members = members }
+    (made (λ x. record { number = x.0; id = x.1 }) (both (whole p.line (signed_number p.key)) (entry_id p)))
 
 -- an enum: its name, that it is a mapping, and its entries
-abbrev pub enum : Row → Reading (Option Enum)
+abbrev pub enum : Row → Reading Enum
 enum r =
-    made (λ p. option_map (enum_of p.1) p.0)
+    made (λ p. record { id = p.0; members = p.1 })
     (both (id_text r.line r.id)
     (also (fault_if (is_none (mapping_of r.value)) r.line bad_value) (each_from (λ i. constant (take i (keys_of r))) 0 (keys_of r))))
 
@@ -121,8 +118,8 @@ line_past limit lines = fold lower None (filter (λ line. nat_lt limit (length (
 -- ---- a whole tree
 
 -- the members of the type n, and of each type
-unfoldable pub members : Declared → ℕ → List MemberRow → Reading (Option (List MemberKind))
-members d n ms = also (past (line_at (λ m. m.line) most_members ms)) (made Some (each_from (member d n) 0 ms))
+unfoldable pub members : Declared → ℕ → List Member → Reading (List MemberKind)
+members d n ms = also (past (line_at (λ m. m.line) most_members ms)) (each_from (member d n) 0 ms)
 
 unfoldable pub all_members : Declared → Reading (List (List MemberKind))
 all_members d = each_from (members d) 0 (map members_of d.types)
@@ -195,7 +192,7 @@ in_kind c (ValueInstance v) = ValueInstance (record { condition = option_map (in
 -- ---- a description
 
 -- the names: those of members, and then those after dots
-abbrev pub names_in : List MemberRow → List (List ℕ)
+abbrev pub names_in : List Member → List (List ℕ)
 names_in ms = map (λ m. m.name) ms
 
 unfoldable pub member_names : Declared → List (List ℕ)
@@ -214,7 +211,7 @@ each_of f (x ∷ xs) (y ∷ ys) = do
   Some (z ∷ zs)
 
 -- a member with its name's number
-unfoldable pub member_of : Context → MemberRow → MemberKind → Option MemberOfType
+unfoldable pub member_of : Context → Member → MemberKind → Option MemberOfType
 member_of c m kind = do
   text ← as_text m.name
   name ← number_in c.names text
@@ -235,14 +232,16 @@ types_of d names n (r ∷ rs) (ks ∷ kinds) = do
   ts ← types_of d names (n + 1) rs kinds
   Some (t ∷ ts)
 
-unfoldable pub are_texts : List MemberRow → Bool
+unfoldable pub are_texts : List Member → Bool
 are_texts members = list_all (λ m. is_utf8 m.name) members
 
 -- what is stated with these names, the first of which are those of members
 unfoldable pub described : Declared → List (List ℕ) → ℕ → Option Description
 described d names known = do
-  types ← types_of d names 0 d.types (all_members d).value
-  Some (record { types = types; enums = (all_enums d).value; names = names; known = known })
+  kinds ← (all_members d).value
+  types ← types_of d names 0 d.types kinds
+  enums ← (all_enums d).value
+  Some (record { types = types; enums = enums; names = names; known = known })
 
 unfoldable pub stated_by : Declared → Option Description
 stated_by d = if list_all are_texts (map members_of d.types) then described d (names_of d) (length (member_names d)) else None

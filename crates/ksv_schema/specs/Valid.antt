@@ -1,5 +1,5 @@
 -- What is read at `valid`: what a value must meet, as conditions in which `_` is that value.
-use Rattle.std.specs.Prelude.{ℕ, Bool, List, [], ◌∷◌, ◌++◌, codes, Option, Some, None, option_map, option_to_list}
+use Rattle.std.specs.Prelude.{ℕ, Bool, List, [], ◌∷◌, ◌++◌, codes, Option, Some, None, option_to_list}
 use Rattle.std.specs.List.{list_all}
 use Rattle.std.specs.Option.{option_map_or}
 use Rattle.ksv_yaml_tree.specs.Tree.{Tree, Pair, line_of, text_of, mapping_of, list_of, entry_at}
@@ -24,23 +24,23 @@ abbrev pub compared : BinaryOperator → expressions.Tree → expressions.Tree
 compared operator e = expressions.binary operator (expressions.special Element) e
 
 -- the expression at a key, with which the value is compared; in what is written there `_` has no meaning
-abbrev pub comparison : Home → BinaryOperator → Pair → Reading (Option expressions.Tree)
-comparison h operator p = made (option_map (compared operator)) (expression h sites.Valid p)
+abbrev pub comparison : Home → BinaryOperator → Pair → Reading expressions.Tree
+comparison h operator p = made (compared operator) (expression h sites.Valid p)
 
 -- ---- one of some conditions
 
 -- an item of `any-of`
-unfoldable pub alternative : Home → Tree → Reading (Option expressions.Tree)
+unfoldable pub alternative : Home → Tree → Reading expressions.Tree
 alternative h t =
-    made (option_map (compared Equal))
+    made (compared Equal)
     (option_map_or (λ text. of_expression h sites.Valid (line_of t) (expression_of text)) (text_of t) (wrong (line_of t) bad_value))
 
 -- a list of one or more, at a key on this line
-abbrev pub some_alternatives : Home → ℕ → List Tree → Reading (Option (List expressions.Tree))
+abbrev pub some_alternatives : Home → ℕ → List Tree → Reading (List expressions.Tree)
 some_alternatives h line [] = wrong line bad_value
-some_alternatives h line (t ∷ ts) = made Some (each (alternative h) (t ∷ ts))
+some_alternatives h line (t ∷ ts) = each (alternative h) (t ∷ ts)
 
-unfoldable pub alternatives : Home → Pair → Reading (Option (List expressions.Tree))
+unfoldable pub alternatives : Home → Pair → Reading (List expressions.Tree)
 alternatives h p = option_map_or (some_alternatives h p.line) (list_of p.value) (wrong p.line bad_value)
 
 -- `eq` is one condition, and `any-of` some
@@ -81,10 +81,10 @@ conditions h line es =
     (made any_or_all (both (any_of h es) (all_of h es)))
 
 -- a text is that of `eq`
-unfoldable pub valid : Home → Pair → Reading (Option Valid)
+unfoldable pub valid : Home → Pair → Reading Valid
 valid h p =
-    option_map_or (λ es. made Some (conditions h (line_of p.value) es)) (mapping_of p.value)
-    (made (option_map (λ e. AnyOf (e ∷ []))) (comparison h Equal p))
+    option_map_or (conditions h (line_of p.value)) (mapping_of p.value)
+    (made (λ e. AnyOf (e ∷ [])) (comparison h Equal p))
 
 -- what is at the key `valid`
 abbrev pub own_valid : Home → List Pair → Reading (Option Valid)

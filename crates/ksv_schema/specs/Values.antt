@@ -31,7 +31,7 @@ use Rattle.ksv_schema.specs.declared.keys.forms.MappingKind.TheVariants as kinds
 use Rattle.ksv_schema.specs.Expressions.{expression_of}
 use Rattle.ksv_schema.specs.KeyTexts.{encoding_named, TypeText, Unspelled, OfLanguage, OfDescription, type_text, is_integer, is_bits, is_str, is_strz, looks_like_number, Piece, Bytes as BytesPiece, BadPiece, LeftOutPiece, piece_of, CaseKey, Constant, Negative, OfEnum, Default, NoKey, case_key, ids_of, is_repeated}
 use Rattle.ksv_schema.specs.Faults.{Fault, fault_if, unknown_name, no_byte_order, bad_value, wrong_count, left_out, no_expression}
-use Rattle.ksv_schema.specs.Reading.{Reading, gives, wrong, found, also, made, both, paired, each, perhaps, must, text, mapping}
+use Rattle.ksv_schema.specs.Reading.{Reading, gives, wrong, found, also, made, both, each, perhaps, must, text, mapping}
 use Rattle.ksv_schema.specs.Rules.{keys_faults, Says, claimed, against, line_of_key, at_if}
 
 -- where a mapping is: in which type, whether in its `seq`, and whether it is of something repeated
@@ -63,24 +63,24 @@ abbrev pub least_name : ℕ → List NameFault → List Fault
 least_name line ks = option_to_list (option_map (name_fault line) (least None ks))
 
 -- an expression at this place, and the arguments of a type
-unfoldable pub of_expression : Home → Site → ℕ → Option expressions.Tree → Reading (Option expressions.Tree)
+unfoldable pub of_expression : Home → Site → ℕ → Option expressions.Tree → Reading expressions.Tree
 of_expression h at line None = wrong line no_expression
 of_expression h at line (Some e) = record { faults = least_name line (name_faults h.declared h.within (position_at h at) e); words = dotted e; value = Some e }
 
-unfoldable pub expression : Home → Site → Pair → Reading (Option expressions.Tree)
+unfoldable pub expression : Home → Site → Pair → Reading expressions.Tree
 expression h site p = text (λ line text. of_expression h site line (expression_of text)) p
 
 unfoldable pub arguments : Home → ℕ → Arguments → Reading Arguments
-arguments h line es = record { faults = least_name line (list_faults h.declared h.within (position_at h sites.Argument) es); words = all_dotted es; value = es }
+arguments h line es = record { faults = least_name line (list_faults h.declared h.within (position_at h sites.Argument) es); words = all_dotted es; value = Some es }
 
 -- ---- enums
 
-abbrev pub of_path : Home → ℕ → Option (List (List ℕ)) → Reading (Option ℕ)
+abbrev pub of_path : Home → ℕ → Option (List (List ℕ)) → Reading ℕ
 of_path h line None = wrong line bad_value
 of_path h line (Some path) = found line unknown_name (enum_from h.declared.types h.declared.enums h.within [] path)
 
 -- the enum that the path at a key means
-unfoldable pub enumeration : Home → Pair → Reading (Option ℕ)
+unfoldable pub enumeration : Home → Pair → Reading ℕ
 enumeration h p = text (λ line text. of_path h line (ids_of text)) p
 
 -- the enum at the key `enum`
@@ -89,29 +89,24 @@ own_enum h es = perhaps (enumeration h) (entry_at (codes "enum") es)
 
 -- ---- contents
 
-abbrev pub of_piece : ℕ → Piece → Reading (Option (List ℕ))
-of_piece line (BytesPiece bs) = gives (Some bs)
+abbrev pub of_piece : ℕ → Piece → Reading (List ℕ)
+of_piece line (BytesPiece bs) = gives bs
 of_piece line BadPiece = wrong line bad_value
 of_piece line LeftOutPiece = wrong line left_out
 
 -- an item of a list: a plain number from 0 to 255, or a text
-unfoldable pub item : Tree → Reading (Option (List ℕ))
+unfoldable pub item : Tree → Reading (List ℕ)
 item t = of_piece (line_of t) (piece_of t)
-
--- the bytes that there are
-abbrev pub joined : Option (List ℕ) → List ℕ
-joined None = []
-joined (Some bytes) = bytes
 
 abbrev pub items : List Tree → Reading (List ℕ)
 items [] = gives []
-items (t ∷ ts) = made (λ p. joined p.0 ++ p.1) (both (item t) (items ts))
+items (t ∷ ts) = made (λ p. p.0 ++ p.1) (both (item t) (items ts))
 
 -- a text, of which a plain number alone is unsupported, or a list
-unfoldable pub contents : Pair → Reading (Option (List ℕ))
+unfoldable pub contents : Pair → Reading (List ℕ)
 contents p =
-    option_map_or (λ text. if not (is_quoted p.value) && looks_like_number text then wrong p.line left_out else gives (Some text)) (text_of p.value)
-    (option_map_or (λ ts. made Some (items ts)) (list_of p.value) (wrong p.line bad_value))
+    option_map_or (λ text. if not (is_quoted p.value) && looks_like_number text then wrong p.line left_out else gives text) (text_of p.value)
+    (option_map_or items (list_of p.value) (wrong p.line bad_value))
 
 -- ---- types
 
@@ -134,9 +129,9 @@ encoding_at h es = option_map_or Some (text_at (codes "encoding") es) (encoding_
 
 -- a type of the language; that a text has an encoding is a need of the attribute, and bits have no byte order: the highest
 -- bit of a byte is the first, the other end is unsupported
-abbrev pub of_language : FieldKeys → ℕ → BuiltIn → Reading (Option Content)
-of_language k line (Integer signed bytes order) = made (option_map (λ order. Number signed bytes order k.enum)) (found line no_byte_order (order_at k.home bytes order))
-of_language k line (BitsType width is_little) = if is_little then wrong line left_out else gives (Some (Bits width k.enum))
+abbrev pub of_language : FieldKeys → ℕ → BuiltIn → Reading Content
+of_language k line (Integer signed bytes order) = made (λ order. Number signed bytes order k.enum) (found line no_byte_order (order_at k.home bytes order))
+of_language k line (BitsType width is_little) = if is_little then wrong line left_out else gives (Bits width k.enum)
 of_language k line Str = record { faults = []; words = []; value = option_map Characters (encoding_at k.home k.entries) }
 of_language k line Strz = record { faults = []; words = []; value = option_map Characters (encoding_at k.home k.entries) }
 of_language k line NotHere = wrong line left_out
@@ -148,24 +143,24 @@ counts_differ h given (Some t) = not (length (parameters_within h.declared.types
 
 -- the text of a type, among these keys: a type of the language has no arguments, one of the description has as many as it
 -- has parameters
-unfoldable pub of_type : FieldKeys → ℕ → TypeText → Reading (Option Content)
+unfoldable pub of_type : FieldKeys → ℕ → TypeText → Reading Content
 of_type k line Unspelled = wrong line no_expression
 of_type k line (OfLanguage b given) = also (fault_if (not (count given == 0)) line wrong_count) (made (λ p. p.1) (both (arguments k.home line given) (of_language k line b)))
 of_type k line (OfDescription t given) =
     let n = type_named k.home.declared.types k.home.within t.path in
-    also (fault_if (counts_differ k.home (count given) n) line wrong_count) (made (λ p. option_map (λ n. Object n p.1) p.0) (both (found line unknown_name n) (arguments k.home line given)))
+    also (fault_if (counts_differ k.home (count given) n) line wrong_count) (made (λ p. Object p.0 p.1) (both (found line unknown_name n) (arguments k.home line given)))
 
 -- ---- switches
 
 -- a key of `cases`
-unfoldable pub of_case_key : Home → ℕ → CaseKey → Reading (Option (Option CaseValue))
-of_case_key h line (Constant c) = gives (Some (Some (Literal c)))
-of_case_key h line (Negative n) = gives (Some (Some (Negated n)))
-of_case_key h line (OfEnum m) = made (option_map (λ g. Some (EnumValue g))) (found line unknown_name (given_member h.declared h.within m))
-of_case_key h line Default = gives (Some None)
+unfoldable pub of_case_key : Home → ℕ → CaseKey → Reading (Option CaseValue)
+of_case_key h line (Constant c) = gives (Some (Literal c))
+of_case_key h line (Negative n) = gives (Some (Negated n))
+of_case_key h line (OfEnum m) = made (λ g. Some (EnumValue g)) (found line unknown_name (given_member h.declared h.within m))
+of_case_key h line Default = gives None
 of_case_key h line NoKey = wrong line bad_value
 
-unfoldable pub case_value : Home → ℕ → Option expressions.Tree → Reading (Option (Option CaseValue))
+unfoldable pub case_value : Home → ℕ → Option expressions.Tree → Reading (Option CaseValue)
 case_value h line None = wrong line no_expression
 case_value h line (Some e) = of_case_key h line (case_key e)
 
@@ -188,25 +183,25 @@ case_against h es line t =
     ++ at_if (is_declared h t) (entry_at (codes "terminator") es) left_out
 
 -- a case, whose type must fit to the keys beside it
-unfoldable pub case : FieldKeys → Pair → Reading (Option Case)
+unfoldable pub case : FieldKeys → Pair → Reading Case
 case k p =
-    made (λ p. option_map (λ q. record { value = q.0; content = q.1 }) (paired p.0 p.1))
+    made (λ p. record { value = p.0; content = p.1 })
     (both (case_value k.home p.line (expression_of p.key))
     (text (λ line text. let t = type_text text in also (case_against k.home k.beside line t) (of_type k line t)) p))
 
 -- the mapping at `type`
-unfoldable pub switch : FieldKeys → ℕ → List Pair → Reading (Option Choice)
+unfoldable pub switch : FieldKeys → ℕ → List Pair → Reading Choice
 switch k line es =
     also (keys_faults kinds.Switch es)
-    (made (λ p. option_map (λ q. Switch q.0 q.1) (paired p.0 p.1))
+    (made (λ p. Switch p.0 p.1)
     (both (must line (expression k.home sites.Switch) (entry_at (codes "switch-on") es))
-    (must line (mapping (λ ps. made Some (each (case k) ps))) (entry_at (codes "cases") es))))
+    (must line (mapping (each (case k))) (entry_at (codes "cases") es))))
 
 -- what is at `type`: a text, or a switch
-unfoldable pub typed : FieldKeys → Pair → Reading (Option Choice)
+unfoldable pub typed : FieldKeys → Pair → Reading Choice
 typed k p =
     option_map_or (switch k (line_of p.value)) (mapping_of p.value)
-    (made (option_map Always) (text (λ line text. of_type k line (type_text text)) p))
+    (made Always (text (λ line text. of_type k line (type_text text)) p))
 
 abbrev pub content_or_type : Option (List ℕ) × Option Choice → Choice
 content_or_type (Some bytes, choice) = Always (Fixed bytes)

@@ -50,6 +50,7 @@
 //!
 //! Lemmas (`proofs/`):
 //!
+//! - `Both`: two readings one after the other
 //! - `Bytes`: numbers of one byte, and the items of `contents`
 //! - `CaseKeys`: the forms of an expression as keys of `cases`
 //! - `Each`: a loop that reads each element of a list

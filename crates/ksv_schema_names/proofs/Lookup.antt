@@ -4,7 +4,7 @@ use Rattle.std.specs.Prelude.{find, filter, count_by}
 use Rattle.std.specs.Option.{option_map_or}
 use Rattle.std.proofs.lemmas.List.{append-nil, map-append}
 use Rattle.std.proofs.lemmas.List.Sums.{length-filter}
-use Rattle.ksv_schema_names.specs.declared.members.MemberRow.{MemberRow as MemberOfCode}
+use Rattle.ksv_schema_names.specs.declared.members.Member.{Member as MemberOfCode}
 use Rattle.ksv_schema_names.specs.Rows.{Row}
 use Rattle.ksv_schema_names.specs.Members.{is_in_params, is_parameter}
 use Rattle.ksv_schema_names.specs.View.{member_of}

@@ -7,7 +7,7 @@ use Rattle.std.specs.Str.{bytes_eq}
 use Rattle.std.proofs.lemmas.Bool.{and_parts, not-false}
 use Rattle.std.proofs.lemmas.List.Folds.{list_all-append}
 use Rattle.ksv_expr_tree.specs.Tree.{Tree, literal, named, special, member, unary, binary, logical, choice, field, special_field, call, index, cast, Arguments, no_arguments, argument, Word, MemberPath, TypePath}
-use Rattle.ksv_schema_names.specs.Members.{MemberRow, members_of, all_members, members_within, member_named}
+use Rattle.ksv_schema_names.specs.Members.{Member, members_of, all_members, members_within, member_named}
 use Rattle.ksv_schema_names.specs.Types.{type_named}
 use Rattle.ksv_schema_names.specs.Enums.{number_of_id}
 use Rattle.ksv_schema_names.specs.Rows.{Row, Declared}
@@ -49,7 +49,7 @@ passes_within : (p : List ℕ → Bool) (types : List Row) (n : ℕ) → list_al
 unfolding members_within
 passes_within p [] n h = refl
 passes_within p (r ∷ rs) n h =
-    let two = and_parts _ _ (sym (list_all-append p (map (λ m. m.name) (members_of r)) (map (λ m. m.name) (all_members rs))) ∙ ap (list_all p) (sym (map-append (λ (m : MemberRow). m.name) (members_of r) (all_members rs))) ∙ h) in
+    let two = and_parts _ _ (sym (list_all-append p (map (λ m. m.name) (members_of r)) (map (λ m. m.name) (all_members rs))) ∙ ap (list_all p) (sym (map-append (λ (m : Member). m.name) (members_of r) (all_members rs))) ∙ h) in
     go n two.0 (λ k. passes_within p rs k two.1)
   where
     go : (n : ℕ) → list_all p (map (λ m. m.name) (members_of r)) ≡ true → ((k : ℕ) → list_all p (map (λ m. m.name) (option_map_or members_of (slice_get rs k) [])) ≡ true) → list_all p (map (λ m. m.name) (option_map_or members_of (slice_get (r ∷ rs) n) [])) ≡ true
@@ -64,7 +64,7 @@ has_number d names n text all known =
     let found = not_none (member_named d.types n text) known in
     let place = place_of (λ m. bytes_eq m.name text) 0 ms found.0 found.1 in
     let same : place.item.name ≡ text = same_text place.item.name text place.passes in
-    let there = get_map (λ (m : MemberRow). m.name) ms place.offset place.item place.there in
+    let there = get_map (λ (m : Member). m.name) ms place.offset place.item place.there in
     ap (λ (t : List ℕ). is_some (number_in names t)) (sym same)
     ∙ one_passes (λ w. is_some (number_in names w)) (map (λ m. m.name) ms) place.offset place.item.name (passes_within (λ w. is_some (number_in names w)) d.types n all) there
 

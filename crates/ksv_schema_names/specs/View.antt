@@ -2,13 +2,13 @@
 use Rattle.std.specs.Prelude.{ℕ, Bool, List, map, string_bytes, is_some, codes}
 use Rattle.ksv_yaml_tree.specs.View.{view}
 use Rattle.ksv_schema_names.specs.declared.row.Row.{Row as RowOfCode}
-use Rattle.ksv_schema_names.specs.declared.members.MemberRow.{MemberRow as MemberOfCode}
+use Rattle.ksv_schema_names.specs.declared.members.Member.{Member as MemberOfCode}
 use Rattle.ksv_schema_names.specs.declared.members.MemberName.{MemberName}
 use Rattle.ksv_schema_names.specs.declared.members.MemberName.TheVariants.{Written, Made}
 use Rattle.ksv_schema_names.specs.declared.outwards.Sought as sought
 use Rattle.ksv_schema_names.specs.declared.outwards.Sought.TheVariants.{Named, Order, Encoding}
 use Rattle.ksv_schema_names.specs.Rows.{Row, row_in}
-use Rattle.ksv_schema_names.specs.Members.{MemberRow}
+use Rattle.ksv_schema_names.specs.Members.{Member}
 use Rattle.ksv_schema_names.specs.Types.{order_in, setting}
 
 abbrev pub row_of : RowOfCode → Row
@@ -18,7 +18,7 @@ abbrev pub name_of : MemberName → List ℕ
 name_of (Written name) = name.now
 name_of (Made name) = string_bytes name
 
-abbrev pub member_of : MemberOfCode → MemberRow
+abbrev pub member_of : MemberOfCode → Member
 member_of m = record { role = m.role; line = m.line; name = name_of m.name; value = view m.value.now }
 
 -- whether a type has what is sought

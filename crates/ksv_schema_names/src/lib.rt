@@ -62,7 +62,7 @@ pub use entries::{id_of, number_of};
 pub use faults::{argument_fault, name_fault};
 pub use ksv_desc::{ByteOrder, Names};
 pub use laws::{faultless_is_resolved, least_is_told};
-pub use members::{MemberRow, Role};
+pub use members::{Member, Role};
 pub use numbering::{given_member, number_arguments, number_expr, number_type};
 pub use outwards::order_named;
 pub use position::{NameFault, Position, Site};

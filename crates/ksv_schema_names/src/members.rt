@@ -35,7 +35,7 @@ pub(crate) enum MemberName<'a> {
 
 /// A parameter, attribute or instance of a type.
 #[derive(Drop)]
-pub struct MemberRow<'a> {
+pub struct Member<'a> {
     /// Which key it is in.
     pub role: Role,
     /// Its first line; for an instance, the line of its name.
@@ -45,7 +45,7 @@ pub struct MemberRow<'a> {
     pub value: &'a Yaml,
 }
 
-impl<'a> MemberRow<'a> {
+impl<'a> Member<'a> {
     /// Its name: `_unnamedK` for an attribute without an id, and the empty text for a parameter without one.
     pub fn name(&self) -> &[u8]
         ensures { result.now ≡ (member_of self.now).name }
@@ -63,7 +63,7 @@ fn item<'a>(
     role: Role,
     number: usize,
     value: &'a Yaml,
-) -> Result<MemberRow<'a>, AllocError>
+) -> Result<Member<'a>, AllocError>
     ensures { IfOk result (λ m. member_of m ≡ item role number (view value.now)) }
 {
     let name = match text_at(entries_in(value), b"id") {
@@ -73,7 +73,7 @@ fn item<'a>(
             Role::Parameter | Role::Instance => MemberName::Written(&[]),
         },
     };
-    Ok(MemberRow {
+    Ok(Member {
         role,
         line: value.line(),
         name,
@@ -84,7 +84,7 @@ fn item<'a>(
 /// Adds the items of `params` or `seq`.
 fn add_items<'a>(
     alloc: Global,
-    members: &mut Vec<MemberRow<'a>>,
+    members: &mut Vec<Member<'a>>,
     role: Role,
     items: &'a [Yaml],
 ) -> Result<(), AllocError>
@@ -97,14 +97,11 @@ fn add_items<'a>(
 }
 
 /// Adds instances.
-fn add_instances<'a>(
-    members: &mut Vec<MemberRow<'a>>,
-    entries: &'a [Entry],
-) -> Result<(), AllocError>
+fn add_instances<'a>(members: &mut Vec<Member<'a>>, entries: &'a [Entry]) -> Result<(), AllocError>
     ensures { OnOk result (map member_of members.new.items ≡ map member_of members.old.items ++ map instance (map pair entries.now)) }
 {
     for entry in entries {
-        members.push(MemberRow {
+        members.push(Member {
             role: Role::Instance,
             line: entry.line(),
             name: MemberName::Written(entry.key()),
@@ -118,7 +115,7 @@ fn add_instances<'a>(
 #[tactic(auto, unfolding(crate::specs::Members::members_at_key))]
 fn add_at_key<'a>(
     alloc: Global,
-    members: &mut Vec<MemberRow<'a>>,
+    members: &mut Vec<Member<'a>>,
     entry: &'a Entry,
 ) -> Result<(), AllocError>
     ensures { OnOk result (map member_of members.new.items ≡ map member_of members.old.items ++ members_at_key (pair entry.now)) }
@@ -139,7 +136,7 @@ fn add_at_key<'a>(
 
 /// The members of a type.
 #[tactic(auto, unfolding(crate::specs::Members::members_of))]
-fn members_of<'a>(alloc: Global, row: &Row<'a>) -> Result<Vec<MemberRow<'a>>, AllocError>
+fn members_of<'a>(alloc: Global, row: &Row<'a>) -> Result<Vec<Member<'a>>, AllocError>
     ensures { IfOk result (λ v. map member_of v.items ≡ members_of (row_of row.now)) }
 {
     let mut members = Vec::new(alloc);
@@ -153,7 +150,7 @@ fn members_of<'a>(alloc: Global, row: &Row<'a>) -> Result<Vec<MemberRow<'a>>, Al
 pub(crate) fn members_of_each<'a>(
     alloc: Global,
     types: &[Row<'a>],
-) -> Result<Vec<Vec<MemberRow<'a>>>, AllocError>
+) -> Result<Vec<Vec<Member<'a>>>, AllocError>
     ensures { IfOk result (λ v. map (λ w. map member_of w.items) v.items ≡ map members_of (map row_of types.now)) }
 {
     let mut members = Vec::new(alloc);
@@ -165,16 +162,16 @@ pub(crate) fn members_of_each<'a>(
 
 /// The members of the type `n`.
 pub(crate) fn members_at<'s, 'a>(
-    members: &'s [Vec<MemberRow<'a>>],
+    members: &'s [Vec<Member<'a>>],
     n: usize,
-) -> Option<&'s [MemberRow<'a>]>
+) -> Option<&'s [Member<'a>]>
     ensures { option_map (λ m. map member_of m.now) result ≡ slice_get (map (λ v. map member_of v.items) members.now) n }
 {
     Some(members.get(n)?.as_slice())
 }
 
 /// The place of the first member of this name.
-pub(crate) fn first_named(members: &[MemberRow], name: &[u8]) -> Option<usize>
+pub(crate) fn first_named(members: &[Member], name: &[u8]) -> Option<usize>
     ensures { result ≡ position_from (λ m. bytes_eq m.name name.now) 0 (map member_of members.now) }
 {
     for (place, member) in members.iter().enumerate() {
@@ -186,7 +183,7 @@ pub(crate) fn first_named(members: &[MemberRow], name: &[u8]) -> Option<usize>
 }
 
 /// Whether a member is in `params`.
-fn is_parameter(member: &MemberRow) -> bool
+fn is_parameter(member: &Member) -> bool
     ensures { result ≡ is_in_params member.now.role }
 {
     matches!(member.role, Role::Parameter)
@@ -194,7 +191,7 @@ fn is_parameter(member: &MemberRow) -> bool
 
 /// How many of these members are parameters.
 #[tactic(auto, using(crate::proofs::Lookup::parameters_counted))]
-pub(crate) fn count_parameters(members: &[MemberRow]) -> usize
+pub(crate) fn count_parameters(members: &[Member]) -> usize
     ensures { result ≡ length (filter is_parameter (map member_of members.now)) }
 {
     members.iter().filter(|member| is_parameter(member)).count()

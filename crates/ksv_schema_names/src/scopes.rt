@@ -9,7 +9,7 @@ ghost use Rattle.ksv_schema_names.specs.Enums.{id_of_number, number_of_id};
 ghost use Rattle.ksv_schema_names.specs.View.{row_of, member_of};
 
 use crate::entries::{id_in, number_in};
-use crate::members::{MemberRow, count_parameters, first_named, members_at, members_of_each};
+use crate::members::{Member, count_parameters, first_named, members_at, members_of_each};
 use crate::outwards::{Sought, enum_named, keys_at, nearest, order_in, setting, type_named};
 use crate::row::Row;
 use crate::rows::{enums_of, types_of};
@@ -39,7 +39,7 @@ fn numbered(place: Option<usize>) -> Option<u32>
 pub struct Scopes<'a> {
     tree: &'a Yaml,
     types: Vec<Row<'a>>,
-    members: Vec<Vec<MemberRow<'a>>>,
+    members: Vec<Vec<Member<'a>>>,
     enums: Vec<Row<'a>>,
 }
 
@@ -100,7 +100,7 @@ impl<'a> Scopes<'a> {
     }
 
     /// The members of each type.
-    pub fn members(&self) -> &[Vec<MemberRow<'a>>]
+    pub fn members(&self) -> &[Vec<Member<'a>>]
         ensures { map (λ v. map member_of v.items) result.now ≡ map members_of (declared self.now).types }
     {
         self.members.as_slice()

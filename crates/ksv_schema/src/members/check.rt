@@ -14,7 +14,7 @@ use crate::keys::forms::{MappingKind, is_id};
 use crate::values::fault::{Least, note, note_if};
 use crate::values::key::{note_keys, note_missing};
 use crate::values::rule::note_at_if;
-use ksv_schema_names::{MemberRow, Row};
+use ksv_schema_names::{Member, Row};
 use ksv_yaml_tree::{Entry, find};
 use std::alloc::{AllocError, Global};
 
@@ -28,7 +28,7 @@ pub(crate) fn type_past(types: &[Row]) -> Option<usize>
 }
 
 /// The line of the first member past the limit.
-pub(crate) fn member_past(members: &[MemberRow]) -> Option<usize>
+pub(crate) fn member_past(members: &[Member]) -> Option<usize>
     ensures { result ≡ line_at (λ m. m.line) most_members (map member_of members.now) }
 {
     Some(members.get(256)?.line)

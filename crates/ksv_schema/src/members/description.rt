@@ -22,13 +22,13 @@ use crate::members::number::{Context, number_kind};
 use crate::values::fault::DescFault;
 use crate::values::reader::{Read, Reader, both, paired, pushed};
 use ksv_desc::{EnumDesc, MemberDesc, MemberKind, Pieces, TypeDesc, as_text};
-use ksv_schema_names::{MemberRow, Names, Row, Scopes};
+use ksv_schema_names::{Member, Names, Row, Scopes};
 use std::alloc::{AllocError, Global};
 
 // ---- the names of members
 
 /// Adds the names of members, as far as they are texts, and returns whether all are.
-fn add_members(names: &mut Names, members: &[MemberRow]) -> Result<bool, AllocError>
+fn add_members(names: &mut Names, members: &[Member]) -> Result<bool, AllocError>
     ensures added { IfOk result (λ all. all ≡ true → names.new ≡ distinct_behind names.old (names_in (map seen_member members.now))) }
     ensures texts { IfOk result (λ all. all ≡ are_texts (map seen_member members.now)) }
 {
@@ -42,7 +42,7 @@ fn add_members(names: &mut Names, members: &[MemberRow]) -> Result<bool, AllocEr
 }
 
 /// Adds the names of the members of each type, as far as they are texts, and returns whether all are.
-fn add_all_members<'a>(names: &mut Names, types: &[Vec<MemberRow<'a>>]) -> Result<bool, AllocError>
+fn add_all_members<'a>(names: &mut Names, types: &[Vec<Member<'a>>]) -> Result<bool, AllocError>
     ensures added { IfOk result (λ all. all ≡ true → names.new ≡ distinct_behind names.old (flat_map names_in (map (λ v. map seen_member v.items) types.now))) }
     ensures texts { IfOk result (λ all. all ≡ list_all are_texts (map (λ v. map seen_member v.items) types.now)) }
 {
@@ -61,11 +61,11 @@ fn each_member<'a>(
     reader: &mut Reader,
     scopes: &'a Scopes<'a>,
     within: usize,
-    members: &[MemberRow],
+    members: &[Member],
 ) -> Read<Vec<MemberKind>>
     ensures { Reads (each_from (stated_member (declared scopes.now) within) 0 (map seen_member members.now)) (λ v. map plain_kind v.items) reader.old reader.new result }
 {
-    let mut made = Vec::new(reader.alloc);
+    let mut made = Some(Vec::new(reader.alloc));
     for (number, one) in members.iter().enumerate() {
         let next = member(reader, scopes, within, number, one);
         made = pushed(made, next)?;
@@ -79,23 +79,23 @@ fn members<'a>(
     reader: &mut Reader,
     scopes: &'a Scopes<'a>,
     within: usize,
-    members: &[MemberRow],
-) -> Read<Option<Vec<MemberKind>>>
-    ensures { Reads (stated_members (declared scopes.now) within (map seen_member members.now)) (option_map (λ v. map plain_kind v.items)) reader.old reader.new result }
+    members: &[Member],
+) -> Read<Vec<MemberKind>>
+    ensures { Reads (stated_members (declared scopes.now) within (map seen_member members.now)) (λ v. map plain_kind v.items) reader.old reader.new result }
 {
     note_past(&mut reader.least, member_past(members));
-    Ok(Some(each_member(reader, scopes, within, members)?))
+    each_member(reader, scopes, within, members)
 }
 
 /// The members of each type.
 fn all_members<'a>(
     reader: &mut Reader,
     scopes: &'a Scopes<'a>,
-    types: &[Vec<MemberRow<'a>>],
+    types: &[Vec<Member<'a>>],
 ) -> Read<Vec<Vec<MemberKind>>>
     ensures { Reads (each_from (stated_members (declared scopes.now)) 0 (map (λ v. map seen_member v.items) types.now)) (λ v. map (λ w. map plain_kind w.items) v.items) reader.old reader.new result }
 {
-    let mut made = Vec::new(reader.alloc);
+    let mut made = Some(Vec::new(reader.alloc));
     for (within, own) in types.iter().enumerate() {
         let next = members(reader, scopes, within, own);
         made = pushed(made, next)?;
@@ -107,7 +107,7 @@ fn all_members<'a>(
 
 /// A member of this kind, with the numbers of names.
 #[tactic(auto, unfolding(crate::specs::Description::member_of))]
-fn member_of(context: Context, member: &MemberRow, mut kind: MemberKind) -> Option<MemberDesc>
+fn member_of(context: Context, member: &Member, mut kind: MemberKind) -> Option<MemberDesc>
     ensures { option_map plain_member result ≡ member_of (context_of context.entry) (seen_member member.now) (plain_kind kind) }
 {
     let name = context.names.number_of(as_text(member.name())?)?;
@@ -119,9 +119,9 @@ fn member_of(context: Context, member: &MemberRow, mut kind: MemberKind) -> Opti
 fn members_of(
     alloc: Global,
     context: Context,
-    members: &[MemberRow],
+    members: &[Member],
     kinds: Vec<MemberKind>,
-) -> Read<Option<Vec<MemberDesc>>>
+) -> Read<Vec<MemberDesc>>
     ensures { IfOk result (λ o. option_map (λ v. map plain_member v.items) o ≡ each_of (member_of (context_of context.entry)) (map seen_member members.now) (map plain_kind kinds.items)) }
 {
     let mut rest = kinds.into_iter();
@@ -144,15 +144,14 @@ fn type_of(
     alloc: Global,
     context: Context,
     row: &Row,
-    members: &[MemberRow],
+    members: &[Member],
     kinds: Vec<MemberKind>,
-) -> Read<Option<TypeDesc>>
+) -> Read<TypeDesc>
     requires { map seen_member members.now ≡ members_of (row_of row.now) }
     ensures { IfOk result (λ o. option_map plain_type o ≡ type_of (declared context.entry.scopes.now) context.entry.names.now context.entry.within (row_of row.now) (map plain_kind kinds.items)) }
 {
     let members = members_of(alloc, context, members, kinds)?;
-    let (members, id) = both(members, owned_text(alloc, row.id))?;
-    match paired(members, id) {
+    match both(members, owned_text(alloc, row.id))? {
         Some((members, id)) => Ok(Some(TypeDesc::new(alloc, id, members)?)),
         None => Ok(None),
     }
@@ -164,9 +163,9 @@ fn types_of<'a>(
     scopes: &'a Scopes<'a>,
     names: &'a Names,
     types: &[Row<'a>],
-    members: &[Vec<MemberRow<'a>>],
+    members: &[Vec<Member<'a>>],
     kinds: Vec<Vec<MemberKind>>,
-) -> Read<Option<Vec<TypeDesc>>>
+) -> Read<Vec<TypeDesc>>
     requires { map (λ v. map seen_member v.items) members.now ≡ map members_of (map row_of types.now) }
     ensures { IfOk result (λ o. option_map (λ v. map plain_type v.items) o ≡ types_of (declared scopes.now) names.now 0 (map row_of types.now) (map (λ w. map plain_kind w.items) kinds.items)) }
 {
@@ -194,15 +193,15 @@ fn types_of<'a>(
 /// What is read of all types and enums.
 #[derive(Drop)]
 pub(crate) struct Whole {
-    pub(crate) kinds: Vec<Vec<MemberKind>>,
-    pub(crate) enums: Vec<EnumDesc>,
+    pub(crate) kinds: Option<Vec<Vec<MemberKind>>>,
+    pub(crate) enums: Option<Vec<EnumDesc>>,
 }
 
 /// Reads all members and all enums; before them come what is past a limit, and the keys of types.
 #[tactic(auto, using(crate::proofs::Noted::steps, crate::proofs::Enums::all_enums_words), unfolding(crate::specs::Description::faults_of, crate::specs::Description::all_members, crate::specs::Description::all_enums))]
 fn read_all<'a>(reader: &mut Reader, scopes: &'a Scopes<'a>) -> Result<Whole, AllocError>
-    ensures kinds { IfOk result (λ w. map (λ v. map plain_kind v.items) w.kinds.items ≡ (all_members (declared scopes.now)).value) }
-    ensures enums { IfOk result (λ w. map plain_enum w.enums.items ≡ (all_enums (declared scopes.now)).value) }
+    ensures kinds { IfOk result (λ w. option_map (λ v. map (λ w. map plain_kind w.items) v.items) w.kinds ≡ (all_members (declared scopes.now)).value) }
+    ensures enums { IfOk result (λ w. option_map (λ v. map plain_enum v.items) w.enums ≡ (all_enums (declared scopes.now)).value) }
     ensures faults { OnOk result (seen_fault reader.new.least ≡ noted (seen_fault reader.old.least) (faults_of (declared scopes.now))) }
     ensures words { OnOk result (reader.new.names ≡ distinct_behind reader.old.names (all_members (declared scopes.now)).words) }
 {
@@ -223,12 +222,14 @@ fn described<'a>(
     names: Names,
     known: usize,
     whole: Whole,
-) -> Read<Option<Pieces>>
-    requires kinds { map (λ v. map plain_kind v.items) whole.kinds.items ≡ (all_members (declared scopes.now)).value }
-    requires enums { map plain_enum whole.enums.items ≡ (all_enums (declared scopes.now)).value }
+) -> Read<Pieces>
+    requires kinds { option_map (λ v. map (λ w. map plain_kind w.items) v.items) whole.kinds ≡ (all_members (declared scopes.now)).value }
+    requires enums { option_map (λ v. map plain_enum v.items) whole.enums ≡ (all_enums (declared scopes.now)).value }
     ensures { IfOk result (λ o. option_map plain_pieces o ≡ described (declared scopes.now) names known) }
 {
-    let Whole { kinds, enums } = whole;
+    let Some((kinds, enums)) = paired(whole.kinds, whole.enums) else {
+        return Ok(None);
+    };
     let types = types_of(
         alloc,
         scopes,

@@ -11,10 +11,10 @@ ghost use Rattle.ksv_desc.specs.Pieces.{plain_entry, plain_enum};
 ghost use Rattle.ksv_schema_names.specs.View.{row_of};
 ghost use Rattle.ksv_schema_names.specs.Enums.{number_of, id_of, is_numbered, is_named};
 ghost use Rattle.ksv_schema.specs.Faults.{noted};
-ghost use Rattle.ksv_schema.specs.Reading.{paired, each, each_from};
+ghost use Rattle.ksv_schema.specs.Reading.{each, each_from};
 ghost use Rattle.ksv_schema.specs.Members.{id_line};
 ghost use Rattle.ksv_schema.specs.Description.{whole, id_text, id, entry_id, constant, enum};
-ghost use Rattle.ksv_schema.specs.Code.{seen_fault, Reads};
+ghost use Rattle.ksv_schema.specs.Code.{seen_fault, paired, Reads};
 ghost use Rattle.ksv_schema.specs.Plain.{has_number, has_id, Gives, Adds, AreOf};
 
 use crate::DescFaultKind::{BadValue, KeysAgainst, LeftOut, MissingKey};
@@ -32,7 +32,7 @@ use std::collections::HashSet;
 // ---- texts
 
 /// An owned text, if these bytes are one.
-pub(crate) fn owned_text(alloc: Global, bytes: &[u8]) -> Read<Option<String>>
+pub(crate) fn owned_text(alloc: Global, bytes: &[u8]) -> Read<String>
     ensures { IfOk result (λ o. option_map string_bytes o ≡ as_text bytes.now) }
 {
     match as_text(bytes) {
@@ -64,8 +64,8 @@ fn whole(least: &mut Least, line: usize, numeral: Numeral) -> Option<i128>
 
 /// A text that must be an id, on this line.
 #[tactic(auto, using(crate::proofs::Noted::steps, crate::proofs::Texts::id_is_text))]
-fn id_text(reader: &mut Reader, line: usize, text: &[u8]) -> Read<Option<String>>
-    ensures { Reads (id_text line text.now) (option_map string_bytes) reader.old reader.new result }
+fn id_text(reader: &mut Reader, line: usize, text: &[u8]) -> Read<String>
+    ensures { Reads (id_text line text.now) string_bytes reader.old reader.new result }
 {
     if !is_id(text) {
         note(&mut reader.least, line, BadValue);
@@ -76,8 +76,8 @@ fn id_text(reader: &mut Reader, line: usize, text: &[u8]) -> Read<Option<String>
 
 /// The id at a key.
 #[tactic(auto, using(crate::proofs::Noted::steps))]
-fn id_at(reader: &mut Reader, entry: &Entry) -> Read<Option<String>>
-    ensures { Reads (id (pair entry.now)) (option_map string_bytes) reader.old reader.new result }
+fn id_at(reader: &mut Reader, entry: &Entry) -> Read<String>
+    ensures { Reads (id (pair entry.now)) string_bytes reader.old reader.new result }
 {
     match entry.value().text() {
         Some(text) => id_text(reader, entry.line(), text),
@@ -90,8 +90,8 @@ fn id_at(reader: &mut Reader, entry: &Entry) -> Read<Option<String>>
 
 /// The id of an entry of an enum: its value, or at a key of it.
 #[tactic(auto, using(crate::proofs::Noted::steps), unfolding(crate::specs::Description::entry_id))]
-fn entry_id(reader: &mut Reader, entry: &Entry) -> Read<Option<String>>
-    ensures { Reads (entry_id (pair entry.now)) (option_map string_bytes) reader.old reader.new result }
+fn entry_id(reader: &mut Reader, entry: &Entry) -> Read<String>
+    ensures { Reads (entry_id (pair entry.now)) string_bytes reader.old reader.new result }
 {
     let value = entry.value();
     if let Some(text) = value.text() {
@@ -185,12 +185,8 @@ fn numbered(number: Option<i128>, id: Option<String>) -> Option<EnumEntry>
 }
 
 /// An entry of an enum, after those whose numbers and ids were given.
-fn constant<'a>(
-    reader: &mut Reader,
-    seen: &mut Seen<'a>,
-    entry: &'a Entry,
-) -> Read<Option<EnumEntry>>
-    ensures read { OnOk result ((before : List Pair) → AreOf seen.old before → Reads (constant before (pair entry.now)) (option_map plain_entry) reader.old reader.new result) }
+fn constant<'a>(reader: &mut Reader, seen: &mut Seen<'a>, entry: &'a Entry) -> Read<EnumEntry>
+    ensures read { OnOk result ((before : List Pair) → AreOf seen.old before → Reads (constant before (pair entry.now)) plain_entry reader.old reader.new result) }
     ensures given { OnOk result ((before : List Pair) → AreOf seen.old before → AreOf seen.new (before ++ pair entry.now ∷ [])) }
 {
     let line = entry.line();
@@ -212,7 +208,7 @@ fn constants(reader: &mut Reader, entries: &[Entry]) -> Read<Vec<EnumEntry>>
         numbers: HashSet::new(reader.alloc),
         ids: HashSet::new(reader.alloc),
     };
-    let mut made = Vec::new(reader.alloc);
+    let mut made = Some(Vec::new(reader.alloc));
     for (number, entry) in entries.iter().enumerate() {
         let next = constant(reader, &mut seen, entry)?;
         made = pushed(made, Ok(next))?;
@@ -222,15 +218,14 @@ fn constants(reader: &mut Reader, entries: &[Entry]) -> Read<Vec<EnumEntry>>
 
 /// An enum.
 #[tactic(auto, using(crate::proofs::Noted::steps))]
-fn enumeration(reader: &mut Reader, row: &Row) -> Read<Option<EnumDesc>>
-    ensures { Reads (enum (row_of row.now)) (option_map plain_enum) reader.old reader.new result }
+fn enumeration(reader: &mut Reader, row: &Row) -> Read<EnumDesc>
+    ensures { Reads (enum (row_of row.now)) plain_enum reader.old reader.new result }
 {
     let id = id_text(reader, row.line, row.id)?;
     let has_entries = row.value.entries().is_some();
     note_if(&mut reader.least, !has_entries, row.line, BadValue);
-    let (id, entries) = both(id, constants(reader, row.entries()))?;
-    match id {
-        Some(id) => Ok(Some(EnumDesc { id, entries })),
+    match both(id, constants(reader, row.entries()))? {
+        Some((id, entries)) => Ok(Some(EnumDesc { id, entries })),
         None => Ok(None),
     }
 }
@@ -239,7 +234,7 @@ fn enumeration(reader: &mut Reader, row: &Row) -> Read<Option<EnumDesc>>
 pub(crate) fn enumerations(reader: &mut Reader, enums: &[Row]) -> Read<Vec<EnumDesc>>
     ensures { Reads (each enum (map row_of enums.now)) (λ v. map plain_enum v.items) reader.old reader.new result }
 {
-    let mut made = Vec::new(reader.alloc);
+    let mut made = Some(Vec::new(reader.alloc));
     for row in enums {
         let next = enumeration(reader, row);
         made = pushed(made, next)?;

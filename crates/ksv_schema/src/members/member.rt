@@ -1,6 +1,7 @@
 //! Members: parameters, attributes, parse instances and value instances.
 
-ghost use Rattle.std.specs.Prelude.{◌≡◌, map, option_map};
+ghost use Rattle.std.specs.Prelude.{◌≡◌, None, map, option_map};
+ghost use Rattle.std.specs.Option.{option_map_or};
 ghost use Rattle.ksv_yaml_tree.specs.View.{pair};
 ghost use Rattle.ksv_expr_tree.specs.Tree.{view};
 ghost use Rattle.ksv_desc.specs.Description as desc;
@@ -10,7 +11,7 @@ ghost use Rattle.ksv_schema_names.specs.View.{member_of};
 ghost use Rattle.ksv_schema.specs.KeyTexts.{own_type};
 ghost use Rattle.ksv_schema.specs.KeyCode.{seen_type_at};
 ghost use Rattle.ksv_schema.specs.Faults.{noted};
-ghost use Rattle.ksv_schema.specs.Members.{conditioned, parts, repeat_of, repeated, extent, terminator_of, needs, unsupported, field, own_field, attribute, parse_instance, value_instance, placeless, by_kind, member_keys, name_line, is_named_again, member as stated_member};
+ghost use Rattle.ksv_schema.specs.Members.{conditioned, parts, repeat_of, repeated, timed, extent, terminator_of, needs, unsupported, field, own_field, attribute, parse_instance, value_instance, placeless, by_kind, member_keys, name_line, is_named_again, member as stated_member};
 ghost use Rattle.ksv_schema.specs.Code.{seen_fault, seen_home, seen_keys, Reads};
 
 use crate::DescFaultKind::{BadValue, KeysAgainst, LeftOut, MissingKey};
@@ -19,14 +20,14 @@ use crate::keys::texts::{TypeKind, TypeText, byte_at, is_a, own_type};
 use crate::members::enumeration::id_line;
 use crate::values::fault::{Least, note, note_if};
 use crate::values::key::{note_keys, note_missing};
-use crate::values::reader::{FieldKeys, Home, Read, Reader, both, home_of, paired};
+use crate::values::reader::{FieldKeys, Home, Read, Reader, after, alone, both, home_of};
 use crate::values::rule::{note_at_if, note_together};
 use crate::values::types::{choice, is_declared};
 use crate::values::valid::own_valid;
 use crate::values::value::{needed_expression, own_enum, perhaps_expression};
 use ksv_desc::{Choice, Extent, Field, MemberKind, Repeat, Terminator, Valid};
 use ksv_expr_tree::Expr;
-use ksv_schema_names::{MemberRow, Role, Scopes, Site};
+use ksv_schema_names::{Member, Role, Scopes, Site};
 use ksv_yaml_tree::keys::{has, says, text_at};
 use ksv_yaml_tree::{Entry, find};
 
@@ -67,26 +68,41 @@ fn repeat_of(entries: &[Entry], count: Option<Expr>, last: Option<Expr>) -> Opti
     ensures { option_map plain_repeat result ≡ repeat_of (map pair entries.now) (option_map view count) (option_map view last) }
 {
     if says(entries, b"repeat", b"eos") {
-        return Some(Repeat::Eos);
+        return alone(Some(Repeat::Eos), (count, last));
     }
     if says(entries, b"repeat", b"expr") {
-        return counted(count);
+        return alone(counted(count), last);
     }
     if says(entries, b"repeat", b"until") {
-        return until(last);
+        return alone(until(last), count);
     }
-    Some(Repeat::Once)
+    alone(Some(Repeat::Once), (count, last))
 }
 
 /// How often an attribute of these keys is read.
 #[tactic(auto, using(crate::proofs::Noted::steps, ksv_desc::proofs::Dots::steps), unfolding(crate::specs::Members::repeated))]
-fn repeated(reader: &mut Reader, home: Home, entries: &[Entry]) -> Read<Option<Repeat>>
-    ensures { Reads (repeated (seen_home home.entry) (map pair entries.now)) (option_map plain_repeat) reader.old reader.new result }
+fn repeated(reader: &mut Reader, home: Home, entries: &[Entry]) -> Read<Repeat>
+    ensures { Reads (repeated (seen_home home.entry) (map pair entries.now)) plain_repeat reader.old reader.new result }
 {
     let count = perhaps_expression(reader, home, Site::Count, find(entries, b"repeat-expr"))?;
     let last = perhaps_expression(reader, home, Site::Until, find(entries, b"repeat-until"));
-    let (count, last) = both(count, last)?;
-    Ok(repeat_of(entries, count, last))
+    match both(count, last)? {
+        Some((count, last)) => Ok(repeat_of(entries, count, last)),
+        None => Ok(None),
+    }
+}
+
+/// Whether and how often an attribute of these keys is read, and what it must meet.
+#[tactic(auto, using(crate::proofs::Noted::steps, ksv_desc::proofs::Dots::steps))]
+fn timed(
+    reader: &mut Reader,
+    home: Home,
+    entries: &[Entry],
+) -> Read<((Option<Expr>, Option<Valid>), Repeat)>
+    ensures { Reads (timed (seen_home home.entry) (map pair entries.now)) (λ p. ((option_map view p.0.0, option_map plain_valid p.0.1), plain_repeat p.1)) reader.old reader.new result }
+{
+    let conditions = conditioned(reader, home, entries)?;
+    both(conditions, repeated(reader, home, entries))
 }
 
 /// Where an attribute of these keys ends.
@@ -95,9 +111,10 @@ fn extent(reader: &mut Reader, home: Home, entries: &[Entry]) -> Read<Extent>
     ensures { Reads (extent (seen_home home.entry) (map pair entries.now)) plain_extent reader.old reader.new result }
 {
     match perhaps_expression(reader, home, Site::Size, find(entries, b"size"))? {
-        Some(size) => Ok(Extent::Sized(size)),
-        None if says(entries, b"size-eos", b"true") => Ok(Extent::SizeEos),
-        None => Ok(Extent::ByItself),
+        Some(Some(size)) => Ok(Some(Extent::Sized(size))),
+        Some(None) if says(entries, b"size-eos", b"true") => Ok(Some(Extent::SizeEos)),
+        Some(None) => Ok(Some(Extent::ByItself)),
+        None => Ok(None),
     }
 }
 
@@ -128,25 +145,26 @@ fn terminator_of(typed: &Option<TypeText>, entries: &[Entry]) -> Option<Terminat
 
 /// What these keys state, with the type whose text is at `type`.
 #[tactic(auto, using(crate::proofs::Noted::steps, ksv_desc::proofs::Dots::steps), unfolding(crate::specs::Members::parts))]
-fn read_parts(reader: &mut Reader, keys: FieldKeys, typed: Option<TypeText>) -> Read<Option<Field>>
+fn read_parts(reader: &mut Reader, keys: FieldKeys, typed: Option<TypeText>) -> Read<Field>
     requires { seen_type_at typed ≡ own_type (seen_keys keys).entries }
-    ensures { Reads (parts (seen_keys keys.entry)) (option_map plain_field) reader.old reader.new result }
+    ensures { Reads (parts (seen_keys keys.entry)) plain_field reader.old reader.new result }
 {
     let terminator = terminator_of(&typed, keys.entries);
-    let conditions = conditioned(reader, keys.home, keys.entries)?;
-    let timed = both(conditions, repeated(reader, keys.home, keys.entries))?;
-    let chosen = both(timed, choice(reader, keys, typed))?;
-    let (chosen, extent) = both(chosen, extent(reader, keys.home, keys.entries))?;
-    let ((conditions, repeat), choice) = chosen;
-    match paired(repeat, Some((conditions, (choice, extent)))) {
-        Some((repeat, ((condition, valid), (choice, extent)))) => Ok(Some(Field {
-            condition,
-            repeat,
-            choice,
-            extent,
-            terminator,
-            valid,
-        })),
+    let timed = timed(reader, keys.home, keys.entries)?;
+    let choice = choice(reader, keys, typed);
+    let chosen = both(timed, choice)?;
+    match both(chosen, extent(reader, keys.home, keys.entries))? {
+        Some(read) => {
+            let ((((condition, valid), repeat), choice), extent) = read;
+            Ok(Some(Field {
+                condition,
+                repeat,
+                choice,
+                extent,
+                terminator,
+                valid,
+            }))
+        }
         None => Ok(None),
     }
 }
@@ -205,9 +223,9 @@ fn field(
     enumeration: Option<u32>,
     entries: &[Entry],
     typed: Option<TypeText>,
-) -> Read<Option<Field>>
+) -> Read<Field>
     requires { seen_type_at typed ≡ own_type (map pair entries.now) }
-    ensures { Reads (field (seen_home home.entry) kind line enumeration (own_type (map pair entries.now)) (map pair entries.now)) (option_map plain_field) reader.old reader.new result }
+    ensures { Reads (field (seen_home home.entry) kind line enumeration (own_type (map pair entries.now)) (map pair entries.now)) plain_field reader.old reader.new result }
 {
     note_together(&mut reader.least, kind, line, &typed, entries);
     note_needs(&mut reader.least, home, line, &typed, entries);
@@ -223,6 +241,16 @@ fn field(
 
 // ---- members, by their kinds
 
+/// The enum that was read, if it was.
+fn enum_in(number: Option<Option<u32>>) -> Option<u32>
+    ensures { result ≡ option_map_or (λ e. e) number None }
+{
+    match number {
+        Some(number) => number,
+        None => None,
+    }
+}
+
 /// What an attribute or a parse instance of these keys reads, with its enum.
 #[tactic(auto, using(crate::proofs::Noted::steps, ksv_desc::proofs::Dots::steps))]
 fn own_field(
@@ -231,23 +259,19 @@ fn own_field(
     kind: MappingKind,
     line: usize,
     entries: &[Entry],
-) -> Read<Option<Field>>
-    ensures { Reads (own_field (seen_home home.entry) kind line (map pair entries.now)) (option_map plain_field) reader.old reader.new result }
+) -> Read<Field>
+    ensures { Reads (own_field (seen_home home.entry) kind line (map pair entries.now)) plain_field reader.old reader.new result }
 {
     let number = own_enum(reader, home, entries)?;
     let typed = own_type(reader.alloc, entries)?;
-    field(reader, home, kind, line, number, entries, typed)
+    let field = field(reader, home, kind, line, enum_in(number), entries, typed);
+    after(number, field)
 }
 
 /// An attribute.
 #[tactic(auto, using(crate::proofs::Noted::steps, ksv_desc::proofs::Dots::steps), unfolding(crate::specs::Members::attribute))]
-fn attribute(
-    reader: &mut Reader,
-    home: Home,
-    line: usize,
-    entries: &[Entry],
-) -> Read<Option<MemberKind>>
-    ensures { Reads (attribute (seen_home home.entry) line (map pair entries.now)) (option_map plain_kind) reader.old reader.new result }
+fn attribute(reader: &mut Reader, home: Home, line: usize, entries: &[Entry]) -> Read<MemberKind>
+    ensures { Reads (attribute (seen_home home.entry) line (map pair entries.now)) plain_kind reader.old reader.new result }
 {
     match own_field(reader, home, MappingKind::Attribute, line, entries)? {
         Some(field) => Ok(Some(MemberKind::Attribute(field))),
@@ -262,20 +286,22 @@ fn parse_instance(
     home: Home,
     line: usize,
     entries: &[Entry],
-) -> Read<Option<MemberKind>>
-    ensures { Reads (parse_instance (seen_home home.entry) line (map pair entries.now)) (option_map plain_kind) reader.old reader.new result }
+) -> Read<MemberKind>
+    ensures { Reads (parse_instance (seen_home home.entry) line (map pair entries.now)) plain_kind reader.old reader.new result }
 {
     let place = needed_expression(reader, home, Site::Place, line, find(entries, b"pos"))?;
     let stream = perhaps_expression(reader, home, Site::Stream, find(entries, b"io"));
     let at = both(place, stream)?;
     let field = own_field(reader, home, MappingKind::ParseInstance, line, entries);
-    let ((place, stream), field) = both(at, field)?;
-    match paired(place, field) {
-        Some((place, field)) => Ok(Some(MemberKind::ParseInstance {
-            place,
-            stream,
-            field,
-        })),
+    match both(at, field)? {
+        Some(read) => {
+            let ((place, stream), field) = read;
+            Ok(Some(MemberKind::ParseInstance {
+                place,
+                stream,
+                field,
+            }))
+        }
         None => Ok(None),
     }
 }
@@ -287,22 +313,23 @@ fn value_instance(
     home: Home,
     line: usize,
     entries: &[Entry],
-) -> Read<Option<MemberKind>>
-    ensures { Reads (value_instance (seen_home home.entry) line (map pair entries.now)) (option_map plain_kind) reader.old reader.new result }
+) -> Read<MemberKind>
+    ensures { Reads (value_instance (seen_home home.entry) line (map pair entries.now)) plain_kind reader.old reader.new result }
 {
     note_together(&mut reader.least, MappingKind::Value, line, &None, entries);
     let conditions = conditioned(reader, home, entries)?;
     let value = needed_expression(reader, home, Site::Value, line, find(entries, b"value"));
     let computed = both(conditions, value)?;
-    let (computed, enumeration) = both(computed, own_enum(reader, home, entries))?;
-    let (conditions, value) = computed;
-    match paired(value, Some(conditions)) {
-        Some((value, (condition, valid))) => Ok(Some(MemberKind::ValueInstance {
-            condition,
-            value,
-            enumeration,
-            valid,
-        })),
+    match both(computed, own_enum(reader, home, entries))? {
+        Some(read) => {
+            let (((condition, valid), value), enumeration) = read;
+            Ok(Some(MemberKind::ValueInstance {
+                condition,
+                value,
+                enumeration,
+                valid,
+            }))
+        }
         None => Ok(None),
     }
 }
@@ -314,8 +341,8 @@ fn placeless(
     home: Home,
     name_line: usize,
     entries: &[Entry],
-) -> Read<Option<MemberKind>>
-    ensures { Reads (placeless (seen_home home.entry) name_line (map pair entries.now)) (option_map plain_kind) reader.old reader.new result }
+) -> Read<MemberKind>
+    ensures { Reads (placeless (seen_home home.entry) name_line (map pair entries.now)) plain_kind reader.old reader.new result }
 {
     note(&mut reader.least, name_line, LeftOut);
     drop(perhaps_expression(reader, home, Site::Stream, find(entries, b"io"))?);
@@ -325,7 +352,7 @@ fn placeless(
         home,
         entries,
         beside: &[],
-        enumeration: number,
+        enumeration: enum_in(number),
     };
     drop(read_parts(reader, keys, typed)?);
     Ok(None)
@@ -340,8 +367,8 @@ fn by_kind(
     name_line: usize,
     line: usize,
     entries: &[Entry],
-) -> Read<Option<MemberKind>>
-    ensures { Reads (by_kind (seen_home home.entry) kind name_line line (map pair entries.now)) (option_map plain_kind) reader.old reader.new result }
+) -> Read<MemberKind>
+    ensures { Reads (by_kind (seen_home home.entry) kind name_line line (map pair entries.now)) plain_kind reader.old reader.new result }
 {
     match kind {
         MappingKind::Parameter => {
@@ -362,10 +389,10 @@ fn member_keys<'a>(
     reader: &mut Reader,
     scopes: &'a Scopes<'a>,
     within: usize,
-    member: &MemberRow,
+    member: &Member,
     entries: &[Entry],
-) -> Read<Option<MemberKind>>
-    ensures { Reads (member_keys (declared scopes.now) within (member_of member.now) (map pair entries.now)) (option_map plain_kind) reader.old reader.new result }
+) -> Read<MemberKind>
+    ensures { Reads (member_keys (declared scopes.now) within (member_of member.now) (map pair entries.now)) plain_kind reader.old reader.new result }
 {
     let home = home_of(scopes, within, member.role, entries);
     let kind = kind_of(member.role, entries);
@@ -384,7 +411,7 @@ fn member_keys<'a>(
 
 /// The line of a member's name.
 #[tactic(auto, unfolding(crate::specs::Members::name_line))]
-fn name_line(member: &MemberRow) -> usize
+fn name_line(member: &Member) -> usize
     ensures { result ≡ name_line (member_of member.now) }
 {
     if matches!(member.role, Role::Instance) {
@@ -395,7 +422,7 @@ fn name_line(member: &MemberRow) -> usize
 
 /// Whether an earlier member of the same type has the name of the member of this number.
 #[tactic(auto, unfolding(crate::specs::Members::is_named_again))]
-fn is_named_again(scopes: &Scopes, within: usize, number: usize, member: &MemberRow) -> bool
+fn is_named_again(scopes: &Scopes, within: usize, number: usize, member: &Member) -> bool
     ensures { result ≡ is_named_again (declared scopes.now) within number (member_of member.now) }
 {
     let name = member.name();
@@ -413,9 +440,9 @@ pub(crate) fn member<'a>(
     scopes: &'a Scopes<'a>,
     within: usize,
     number: usize,
-    member: &MemberRow,
-) -> Read<Option<MemberKind>>
-    ensures { Reads (stated_member (declared scopes.now) within number (member_of member.now)) (option_map plain_kind) reader.old reader.new result }
+    member: &Member,
+) -> Read<MemberKind>
+    ensures { Reads (stated_member (declared scopes.now) within number (member_of member.now)) plain_kind reader.old reader.new result }
 {
     let is_instance = matches!(member.role, Role::Instance);
     let is_bad = is_instance & !is_id(member.name());

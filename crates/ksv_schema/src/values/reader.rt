@@ -4,8 +4,7 @@ ghost use Rattle.std.specs.Prelude.{◌≡◌, map, IfOk};
 ghost use Rattle.ksv_yaml_tree.specs.View.{pair};
 ghost use Rattle.ksv_schema_names.specs.Table.{declared};
 ghost use Rattle.ksv_schema.specs.Values.{home_of, position_at};
-ghost use Rattle.ksv_schema.specs.Reading.{paired};
-ghost use Rattle.ksv_schema.specs.Code.{seen_home, both_of, kept_if, Pushes};
+ghost use Rattle.ksv_schema.specs.Code.{seen_home, present, paired, both_of, after, kept_if, items_of, Pushes};
 
 use crate::values::fault::Least;
 use ksv_schema_names::{Names, Position, Role, Scopes, Site};
@@ -46,9 +45,8 @@ pub(crate) struct FieldKeys<'a, 'e> {
     pub enumeration: Option<u32>,
 }
 
-/// What is read of a part of a tree. What may be missing is an option: it is absent, or it has a fault, which is noted. Only
-/// memory is refused.
-pub(crate) type Read<T> = Result<T, AllocError>;
+/// What is read of a part of a tree: nothing where something is missing, which has a fault. Only memory is refused.
+pub(crate) type Read<T> = Result<Option<T>, AllocError>;
 
 /// The place of a member's mapping, in the type of this number.
 pub(crate) fn home_of<'a>(
@@ -86,16 +84,6 @@ pub(crate) fn position_at(home: Home, site: Site) -> Position
 // A function that holds owned parts while it reads the next one would drop each of them on every early return, and each
 // such return is proved by itself. These functions alone drop them, for all types at once.
 
-/// A part and the next one.
-pub(crate) fn both<A: Drop, B: Drop>(one: A, other: Read<B>) -> Read<(A, B)>
-    ensures { result ≡ both_of one other }
-{
-    match other {
-        Ok(other) => Ok((one, other)),
-        Err(refused) => Err(refused),
-    }
-}
-
 /// Two parts, if both are there.
 pub(crate) fn paired<A: Drop, B: Drop>(one: Option<A>, other: Option<B>) -> Option<(A, B)>
     ensures { result ≡ paired one other }
@@ -109,26 +97,64 @@ pub(crate) fn paired<A: Drop, B: Drop>(one: Option<A>, other: Option<B>) -> Opti
     }
 }
 
+/// A part at a key that may be absent, where it isn't.
+pub(crate) fn present<T: Drop>(part: Read<T>) -> Read<Option<T>>
+    ensures { result ≡ present part }
+{
+    match part {
+        Ok(Some(part)) => Ok(Some(Some(part))),
+        Ok(None) => Ok(None),
+        Err(refused) => Err(refused),
+    }
+}
+
+/// A part, without the other one.
+pub(crate) fn alone<A, B: Drop>(one: A, _other: B) -> A
+    ensures { result ≡ one }
+{
+    one
+}
+
+/// A part and the next one, if both are there.
+pub(crate) fn both<A: Drop, B: Drop>(one: Option<A>, other: Read<B>) -> Read<(A, B)>
+    ensures { result ≡ both_of one other }
+{
+    match other {
+        Ok(other) => Ok(paired(one, other)),
+        Err(refused) => Err(refused),
+    }
+}
+
+/// A part, if the one before it is there too.
+pub(crate) fn after<A: Drop, B: Drop>(one: Option<A>, part: Read<B>) -> Read<B>
+    ensures { result ≡ after one part }
+{
+    match both(one, part) {
+        Ok(Some((_one, part))) => Ok(Some(part)),
+        Ok(None) => Ok(None),
+        Err(refused) => Err(refused),
+    }
+}
+
 /// A part, where memory sufficed for what comes with it.
 pub(crate) fn kept<A: Drop>(part: A, done: Result<(), AllocError>) -> Read<A>
     ensures { result ≡ kept_if part done }
 {
     match done {
-        Ok(()) => Ok(part),
+        Ok(()) => Ok(Some(part)),
         Err(refused) => Err(refused),
     }
 }
 
-/// A list with one item more, if it is there.
-pub(crate) fn pushed<T: Drop>(made: Vec<T>, next: Read<Option<T>>) -> Read<Vec<T>>
-    ensures { IfOk result (λ all. Pushes made.items next all.items) }
+/// A list with one item more, if both are there.
+pub(crate) fn pushed<T: Drop>(made: Option<Vec<T>>, next: Read<T>) -> Read<Vec<T>>
+    ensures { IfOk result (λ o. Pushes (items_of made) next (items_of o)) }
 {
-    let (mut made, next) = both(made, next)?;
-    match next {
-        Some(next) => {
+    match both(made, next)? {
+        Some((mut made, next)) => {
             made.push(next)?;
-            Ok(made)
+            Ok(Some(made))
         }
-        None => Ok(made),
+        None => Ok(None),
     }
 }

@@ -1,6 +1,6 @@
 //! What an attribute reads: the type at `type`, a switch over types there, or contents.
 
-ghost use Rattle.std.specs.Prelude.{◌≡◌, IfOk, OnOk, Some, codes, map, option_map};
+ghost use Rattle.std.specs.Prelude.{◌≡◌, IfOk, OnOk, codes, map, option_map};
 ghost use Rattle.ksv_yaml_tree.specs.View.{pair, seen_entry};
 ghost use Rattle.ksv_yaml_tree.specs.Tree.{entry_at};
 ghost use Rattle.ksv_expr_tree.specs.Tree.{view, arguments_of, literal_of, path_of};
@@ -27,7 +27,7 @@ use crate::values::fault::DescFaultKind::{
 use crate::values::fault::{Least, note, note_if};
 use crate::values::key::note_keys;
 use crate::values::reader::{
-    FieldKeys, Home, Read, Reader, both, kept, paired, position_at, pushed,
+    FieldKeys, Home, Read, Reader, both, kept, position_at, present, pushed,
 };
 use crate::values::rule::{key_if, line_of_key, note_against, note_at_if};
 use crate::values::value::{needed_expression, note_name, perhaps_contents};
@@ -85,8 +85,8 @@ fn bits(
     line: usize,
     width: u8,
     is_little: bool,
-) -> Read<Option<Content>>
-    ensures { Reads (of_language (seen_keys keys.entry) line (Bits width is_little)) (option_map plain_content) reader.old reader.new result }
+) -> Read<Content>
+    ensures { Reads (of_language (seen_keys keys.entry) line (Bits width is_little)) plain_content reader.old reader.new result }
 {
     if is_little {
         note(&mut reader.least, line, LeftOut);
@@ -105,8 +105,8 @@ fn of_language(
     keys: FieldKeys,
     line: usize,
     built_in: BuiltIn,
-) -> Read<Option<Content>>
-    ensures { Reads (of_language (seen_keys keys.entry) line built_in) (option_map plain_content) reader.old reader.new result }
+) -> Read<Content>
+    ensures { Reads (of_language (seen_keys keys.entry) line built_in) plain_content reader.old reader.new result }
 {
     match built_in {
         BuiltIn::Integer {
@@ -162,8 +162,8 @@ fn given_language(
     line: usize,
     built_in: BuiltIn,
     given: &[Expr],
-) -> Read<Option<Content>>
-    ensures { Reads (of_type (seen_keys keys.entry) line (OfLanguage built_in (arguments_of (map view given.now)))) (option_map plain_content) reader.old reader.new result }
+) -> Read<Content>
+    ensures { Reads (of_type (seen_keys keys.entry) line (OfLanguage built_in (arguments_of (map view given.now)))) plain_content reader.old reader.new result }
 {
     note_if(&mut reader.least, given.len() != 0, line, WrongCount);
     read_arguments(reader, keys.home, line, given)?;
@@ -195,17 +195,16 @@ fn object(
     line: usize,
     name: &TypeName,
     given: Vec<Expr>,
-) -> Read<Option<Content>>
-    ensures { Reads (of_type (seen_keys keys.entry) line (OfDescription (path_of name.now) (arguments_of (map view given.items)))) (option_map plain_content) reader.old reader.new result }
+) -> Read<Content>
+    ensures { Reads (of_type (seen_keys keys.entry) line (OfDescription (path_of name.now) (arguments_of (map view given.items)))) plain_content reader.old reader.new result }
 {
     let number = type_number(keys.home, name);
     let differ = counts_differ(keys.home, given.len(), number);
     note_if(&mut reader.least, differ, line, WrongCount);
     note_if(&mut reader.least, number.is_none(), line, UnknownName);
     let done = read_arguments(reader, keys.home, line, given.as_slice());
-    let arguments = kept(given, done)?;
-    match number {
-        Some(type_number) => Ok(Some(Content::Object {
+    match both(number, kept(given, done))? {
+        Some((type_number, arguments)) => Ok(Some(Content::Object {
             type_number,
             arguments,
         })),
@@ -215,13 +214,8 @@ fn object(
 
 /// What the text of a type means among these keys.
 #[tactic(auto, using(crate::proofs::Noted::steps, ksv_desc::proofs::Dots::steps), unfolding(crate::specs::Values::of_type))]
-fn of_type(
-    reader: &mut Reader,
-    keys: FieldKeys,
-    line: usize,
-    text: TypeText,
-) -> Read<Option<Content>>
-    ensures { Reads (of_type (seen_keys keys.entry) line (seen_type_text text)) (option_map plain_content) reader.old reader.new result }
+fn of_type(reader: &mut Reader, keys: FieldKeys, line: usize, text: TypeText) -> Read<Content>
+    ensures { Reads (of_type (seen_keys keys.entry) line (seen_type_text text)) plain_content reader.old reader.new result }
 {
     match text {
         TypeText::Unspelled(fault) => {
@@ -256,8 +250,8 @@ fn of_case_key(
     home: Home,
     line: usize,
     key: CaseKey,
-) -> Read<Option<Option<CaseValue>>>
-    ensures { Reads (of_case_key (seen_home home.entry) line (seen_case_key key.entry)) (option_map (option_map plain_value)) reader.old reader.new result }
+) -> Read<Option<CaseValue>>
+    ensures { Reads (of_case_key (seen_home home.entry) line (seen_case_key key.entry)) (λ o. option_map plain_value o) reader.old reader.new result }
 {
     match key {
         CaseKey::Constant(literal) => {
@@ -282,13 +276,8 @@ fn of_case_key(
 
 /// What the text of a key of `cases` is compared with.
 #[tactic(auto, using(crate::proofs::Noted::steps, ksv_desc::proofs::Dots::steps), unfolding(crate::specs::Values::case_value))]
-fn case_value(
-    reader: &mut Reader,
-    home: Home,
-    line: usize,
-    text: &[u8],
-) -> Read<Option<Option<CaseValue>>>
-    ensures { Reads (case_value (seen_home home.entry) line (expression_of text.now)) (option_map (option_map plain_value)) reader.old reader.new result }
+fn case_value(reader: &mut Reader, home: Home, line: usize, text: &[u8]) -> Read<Option<CaseValue>>
+    ensures { Reads (case_value (seen_home home.entry) line (expression_of text.now)) (λ o. option_map plain_value o) reader.old reader.new result }
 {
     match read_expression(reader.alloc, text)? {
         Ok(expr) => of_case_key(reader, home, line, case_key(&expr)),
@@ -324,8 +313,8 @@ fn note_case_against(least: &mut Least, home: Home, entries: &[Entry], line: usi
 
 /// What the type of a case means; it must fit to the keys beside it.
 #[tactic(auto, using(crate::proofs::Noted::steps, ksv_desc::proofs::Dots::steps))]
-fn case_content(reader: &mut Reader, keys: FieldKeys, case: &Entry) -> Read<Option<Content>>
-    ensures { Reads (text (λ line text. let t = type_text text in also (case_against (seen_keys keys.entry).home (seen_keys keys.entry).beside line t) (of_type (seen_keys keys.entry) line t)) (pair case.now)) (option_map plain_content) reader.old reader.new result }
+fn case_content(reader: &mut Reader, keys: FieldKeys, case: &Entry) -> Read<Content>
+    ensures { Reads (text (λ line text. let t = type_text text in also (case_against (seen_keys keys.entry).home (seen_keys keys.entry).beside line t) (of_type (seen_keys keys.entry) line t)) (pair case.now)) plain_content reader.old reader.new result }
 {
     let line = case.line();
     match case.value().text() {
@@ -343,12 +332,12 @@ fn case_content(reader: &mut Reader, keys: FieldKeys, case: &Entry) -> Read<Opti
 
 /// A case.
 #[tactic(auto, using(crate::proofs::Noted::steps, ksv_desc::proofs::Dots::steps), unfolding(crate::specs::Values::case))]
-fn read_case(reader: &mut Reader, keys: FieldKeys, entry: &Entry) -> Read<Option<Case>>
-    ensures { Reads (case (seen_keys keys.entry) (pair entry.now)) (option_map plain_case) reader.old reader.new result }
+fn read_case(reader: &mut Reader, keys: FieldKeys, entry: &Entry) -> Read<Case>
+    ensures { Reads (case (seen_keys keys.entry) (pair entry.now)) plain_case reader.old reader.new result }
 {
     let value = case_value(reader, keys.home, entry.line(), entry.key())?;
-    let (value, content) = both(value, case_content(reader, keys, entry))?;
-    match paired(value, content) {
+    let content = case_content(reader, keys, entry);
+    match both(value, content)? {
         Some((value, content)) => Ok(Some(Case { value, content })),
         None => Ok(None),
     }
@@ -358,7 +347,7 @@ fn read_case(reader: &mut Reader, keys: FieldKeys, entry: &Entry) -> Read<Option
 fn cases(reader: &mut Reader, keys: FieldKeys, cases: &[Entry]) -> Read<Vec<Case>>
     ensures { Reads (each (case (seen_keys keys.entry)) (map pair cases.now)) (λ v. map plain_case v.items) reader.old reader.new result }
 {
-    let mut made = Vec::new(reader.alloc);
+    let mut made = Some(Vec::new(reader.alloc));
     for case in cases {
         let read = read_case(reader, keys, case);
         made = pushed(made, read)?;
@@ -373,15 +362,15 @@ fn needed_cases(
     keys: FieldKeys,
     line: usize,
     at: Option<&Entry>,
-) -> Read<Option<Vec<Case>>>
-    ensures { Reads (must line (mapping (λ ps. made Some (each (case (seen_keys keys.entry)) ps))) (seen_entry at.entry)) (option_map (λ v. map plain_case v.items)) reader.old reader.new result }
+) -> Read<Vec<Case>>
+    ensures { Reads (must line (mapping (each (case (seen_keys keys.entry)))) (seen_entry at.entry)) (λ v. map plain_case v.items) reader.old reader.new result }
 {
     let Some(entry) = at else {
         note(&mut reader.least, line, MissingKey);
         return Ok(None);
     };
     match entry.value().entries() {
-        Some(entries) => Ok(Some(cases(reader, keys, entries)?)),
+        Some(entries) => cases(reader, keys, entries),
         None => {
             note(&mut reader.least, entry.line(), BadValue);
             Ok(None)
@@ -391,20 +380,14 @@ fn needed_cases(
 
 /// The switch with these keys, at the `type` of others.
 #[tactic(auto, using(crate::proofs::Noted::steps, ksv_desc::proofs::Dots::steps), unfolding(crate::specs::Values::switch))]
-fn switch(
-    reader: &mut Reader,
-    keys: FieldKeys,
-    line: usize,
-    entries: &[Entry],
-) -> Read<Option<Choice>>
-    ensures { Reads (switch (seen_keys keys.entry) line (map pair entries.now)) (option_map plain_choice) reader.old reader.new result }
+fn switch(reader: &mut Reader, keys: FieldKeys, line: usize, entries: &[Entry]) -> Read<Choice>
+    ensures { Reads (switch (seen_keys keys.entry) line (map pair entries.now)) plain_choice reader.old reader.new result }
 {
     note_keys(&mut reader.least, MappingKind::Switch, entries);
     let at = find(entries, b"switch-on");
     let on = needed_expression(reader, keys.home, Site::Switch, line, at)?;
     let cases = needed_cases(reader, keys, line, find(entries, b"cases"));
-    let (on, cases) = both(on, cases)?;
-    match paired(on, cases) {
+    match both(on, cases)? {
         Some((on, cases)) => Ok(Some(Choice::Switch { on, cases })),
         None => Ok(None),
     }
@@ -419,9 +402,9 @@ fn always(
     keys: FieldKeys,
     entry: &Entry,
     typed: Option<TypeText>,
-) -> Read<Option<Choice>>
+) -> Read<Choice>
     requires { seen_type_at typed ≡ type_at (pair entry.now) }
-    ensures { Reads (made (option_map Always) (text (λ line text. of_type (seen_keys keys.entry) line (type_text text)) (pair entry.now))) (option_map plain_choice) reader.old reader.new result }
+    ensures { Reads (made Always (text (λ line text. of_type (seen_keys keys.entry) line (type_text text)) (pair entry.now))) plain_choice reader.old reader.new result }
 {
     let line = entry.line();
     match typed {
@@ -443,9 +426,9 @@ fn typed(
     keys: FieldKeys,
     entry: &Entry,
     text: Option<TypeText>,
-) -> Read<Option<Choice>>
+) -> Read<Choice>
     requires { seen_type_at text ≡ type_at (pair entry.now) }
-    ensures { Reads (typed (seen_keys keys.entry) (pair entry.now)) (option_map plain_choice) reader.old reader.new result }
+    ensures { Reads (typed (seen_keys keys.entry) (pair entry.now)) plain_choice reader.old reader.new result }
 {
     let value = entry.value();
     match value.entries() {
@@ -462,11 +445,11 @@ fn perhaps_typed(
     text: Option<TypeText>,
 ) -> Read<Option<Choice>>
     requires { seen_type_at text ≡ own_type (seen_keys keys).entries }
-    ensures { Reads (perhaps (typed (seen_keys keys.entry)) (entry_at (codes "type") (seen_keys keys.entry).entries)) (option_map plain_choice) reader.old reader.new result }
+    ensures { Reads (perhaps (typed (seen_keys keys.entry)) (entry_at (codes "type") (seen_keys keys.entry).entries)) (λ o. option_map plain_choice o) reader.old reader.new result }
 {
     match find(keys.entries, b"type") {
-        None => Ok(None),
-        Some(entry) => typed(reader, keys, entry, text),
+        None => Ok(Some(None)),
+        Some(entry) => present(typed(reader, keys, entry, text)),
     }
 }
 
@@ -490,6 +473,9 @@ pub(crate) fn choice(reader: &mut Reader, keys: FieldKeys, typed: Option<TypeTex
     ensures { Reads (choice (seen_keys keys.entry)) plain_choice reader.old reader.new result }
 {
     let contents = perhaps_contents(reader, find(keys.entries, b"contents"))?;
-    let (contents, choice) = both(contents, perhaps_typed(reader, keys, typed))?;
-    Ok(content_or_type(contents, choice))
+    let choice = perhaps_typed(reader, keys, typed);
+    match both(contents, choice)? {
+        Some((contents, choice)) => Ok(Some(content_or_type(contents, choice))),
+        None => Ok(None),
+    }
 }

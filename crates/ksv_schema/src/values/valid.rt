@@ -14,7 +14,7 @@ use crate::keys::forms::MappingKind;
 use crate::values::fault::DescFaultKind::{BadValue, MissingKey};
 use crate::values::fault::{note, note_if};
 use crate::values::key::{is_ignored, note_keys};
-use crate::values::reader::{Home, Read, Reader, both, pushed};
+use crate::values::reader::{Home, Read, Reader, both, present, pushed};
 use crate::values::rule::note_together;
 use crate::values::value::{expression, expression_in, perhaps_expression};
 use ksv_desc::Valid;
@@ -36,11 +36,7 @@ fn compared(alloc: Global, operator: BinaryOperator, operand: Expr) -> Result<Ex
 }
 
 /// The value, compared with an expression that was read, if it was.
-fn compared_with(
-    alloc: Global,
-    operator: BinaryOperator,
-    operand: Option<Expr>,
-) -> Read<Option<Expr>>
+fn compared_with(alloc: Global, operator: BinaryOperator, operand: Option<Expr>) -> Read<Expr>
     ensures { IfOk result (λ o. option_map view o ≡ option_map (compared operator) (option_map view operand)) }
 {
     match operand {
@@ -56,8 +52,8 @@ fn comparison(
     home: Home,
     operator: BinaryOperator,
     entry: &Entry,
-) -> Read<Option<Expr>>
-    ensures { Reads (comparison (seen_home home.entry) operator (pair entry.now)) (option_map view) reader.old reader.new result }
+) -> Read<Expr>
+    ensures { Reads (comparison (seen_home home.entry) operator (pair entry.now)) view reader.old reader.new result }
 {
     let operand = expression(reader, home, Site::Valid, entry)?;
     compared_with(reader.alloc, operator, operand)
@@ -71,11 +67,11 @@ fn perhaps_comparison(
     operator: BinaryOperator,
     at: Option<&Entry>,
 ) -> Read<Option<Expr>>
-    ensures { Reads (perhaps (comparison (seen_home home.entry) operator) (seen_entry at.entry)) (option_map view) reader.old reader.new result }
+    ensures { Reads (perhaps (comparison (seen_home home.entry) operator) (seen_entry at.entry)) (λ o. option_map view o) reader.old reader.new result }
 {
     match at {
-        None => Ok(None),
-        Some(entry) => comparison(reader, home, operator, entry),
+        None => Ok(Some(None)),
+        Some(entry) => present(comparison(reader, home, operator, entry)),
     }
 }
 
@@ -83,8 +79,8 @@ fn perhaps_comparison(
 
 /// The value, equal to an item of `any-of`.
 #[tactic(auto, using(crate::proofs::Noted::steps, ksv_desc::proofs::Dots::steps), unfolding(crate::specs::Valid::alternative))]
-fn alternative(reader: &mut Reader, home: Home, node: &Yaml) -> Read<Option<Expr>>
-    ensures { Reads (alternative (seen_home home.entry) (view_node node.now)) (option_map view) reader.old reader.new result }
+fn alternative(reader: &mut Reader, home: Home, node: &Yaml) -> Read<Expr>
+    ensures { Reads (alternative (seen_home home.entry) (view_node node.now)) view reader.old reader.new result }
 {
     let line = node.line();
     let Some(text) = node.text() else {
@@ -99,7 +95,7 @@ fn alternative(reader: &mut Reader, home: Home, node: &Yaml) -> Read<Option<Expr
 fn each_alternative(reader: &mut Reader, home: Home, nodes: &[Yaml]) -> Read<Vec<Expr>>
     ensures { Reads (each (alternative (seen_home home.entry)) (map view_node nodes.now)) (λ v. map view v.items) reader.old reader.new result }
 {
-    let mut made = Vec::new(reader.alloc);
+    let mut made = Some(Vec::new(reader.alloc));
     for node in nodes {
         let read = alternative(reader, home, node);
         made = pushed(made, read)?;
@@ -109,15 +105,15 @@ fn each_alternative(reader: &mut Reader, home: Home, nodes: &[Yaml]) -> Read<Vec
 
 /// The conditions at `any-of`, a list of one or more expressions.
 #[tactic(auto, using(crate::proofs::Noted::steps, ksv_desc::proofs::Dots::steps), unfolding(crate::specs::Valid::alternatives))]
-fn alternatives(reader: &mut Reader, home: Home, entry: &Entry) -> Read<Option<Vec<Expr>>>
-    ensures { Reads (alternatives (seen_home home.entry) (pair entry.now)) (option_map (λ v. map view v.items)) reader.old reader.new result }
+fn alternatives(reader: &mut Reader, home: Home, entry: &Entry) -> Read<Vec<Expr>>
+    ensures { Reads (alternatives (seen_home home.entry) (pair entry.now)) (λ v. map view v.items) reader.old reader.new result }
 {
     match entry.value().items() {
         None | Some([]) => {
             note(&mut reader.least, entry.line(), BadValue);
             Ok(None)
         }
-        Some(nodes) => Ok(Some(each_alternative(reader, home, nodes)?)),
+        Some(nodes) => each_alternative(reader, home, nodes),
     }
 }
 
@@ -128,11 +124,11 @@ fn perhaps_alternatives(
     home: Home,
     at: Option<&Entry>,
 ) -> Read<Option<Vec<Expr>>>
-    ensures { Reads (perhaps (alternatives (seen_home home.entry)) (seen_entry at.entry)) (option_map (λ v. map view v.items)) reader.old reader.new result }
+    ensures { Reads (perhaps (alternatives (seen_home home.entry)) (seen_entry at.entry)) (λ o. option_map (λ v. map view v.items) o) reader.old reader.new result }
 {
     match at {
-        None => Ok(None),
-        Some(entry) => alternatives(reader, home, entry),
+        None => Ok(Some(None)),
+        Some(entry) => present(alternatives(reader, home, entry)),
     }
 }
 
@@ -162,12 +158,14 @@ fn one_or_some(
 /// The conditions of which one must be true, where there are such.
 #[tactic(auto, using(crate::proofs::Noted::steps, ksv_desc::proofs::Dots::steps))]
 fn any_of(reader: &mut Reader, home: Home, entries: &[Entry]) -> Read<Option<Vec<Expr>>>
-    ensures { Reads (any_of (seen_home home.entry) (map pair entries.now)) (option_map (λ v. map view v.items)) reader.old reader.new result }
+    ensures { Reads (any_of (seen_home home.entry) (map pair entries.now)) (λ o. option_map (λ v. map view v.items) o) reader.old reader.new result }
 {
     let equal = perhaps_comparison(reader, home, BinaryOperator::Equal, find(entries, b"eq"))?;
     let alternatives = perhaps_alternatives(reader, home, find(entries, b"any-of"));
-    let (equal, alternatives) = both(equal, alternatives)?;
-    one_or_some(reader.alloc, equal, alternatives)
+    match both(equal, alternatives)? {
+        Some((equal, alternatives)) => { Ok(Some(one_or_some(reader.alloc, equal, alternatives)?)) }
+        None => Ok(None),
+    }
 }
 
 // ---- all of some conditions
@@ -219,8 +217,13 @@ fn all_of(reader: &mut Reader, home: Home, entries: &[Entry]) -> Read<Vec<Expr>>
     ensures { Reads (all_of (seen_home home.entry) (map pair entries.now)) (λ v. map view v.items) reader.old reader.new result }
 {
     let condition = perhaps_expression(reader, home, Site::ValidExpr, find(entries, b"expr"))?;
-    let (condition, (least, most)) = both(condition, bounds(reader, home, entries))?;
-    in_order(reader.alloc, condition, least, most)
+    let bounds = bounds(reader, home, entries);
+    match both(condition, bounds)? {
+        Some((condition, (least, most))) => {
+            Ok(Some(in_order(reader.alloc, condition, least, most)?))
+        }
+        None => Ok(None),
+    }
 }
 
 // ---- at the key
@@ -257,14 +260,16 @@ fn conditions(reader: &mut Reader, home: Home, line: usize, entries: &[Entry]) -
     note_if(least, has_no_key(entries), line, MissingKey);
     note_together(least, MappingKind::Check, line, &None, entries);
     let any = any_of(reader, home, entries)?;
-    let (any, all) = both(any, all_of(reader, home, entries))?;
-    Ok(any_or_all(any, all))
+    match both(any, all_of(reader, home, entries))? {
+        Some((any, all)) => Ok(Some(any_or_all(any, all))),
+        None => Ok(None),
+    }
 }
 
 /// The value must be that of the expression at a key.
 #[tactic(auto, using(crate::proofs::Noted::steps, ksv_desc::proofs::Dots::steps))]
-fn equal(reader: &mut Reader, home: Home, entry: &Entry) -> Read<Option<Valid>>
-    ensures { Reads (made (option_map (λ e. AnyOf (e ∷ []))) (comparison (seen_home home.entry) Equal (pair entry.now))) (option_map plain_valid) reader.old reader.new result }
+fn equal(reader: &mut Reader, home: Home, entry: &Entry) -> Read<Valid>
+    ensures { Reads (made (λ e. AnyOf (e ∷ [])) (comparison (seen_home home.entry) Equal (pair entry.now))) plain_valid reader.old reader.new result }
 {
     match comparison(reader, home, BinaryOperator::Equal, entry)? {
         Some(condition) => Ok(Some(Valid::AnyOf(one(reader.alloc, condition)?))),
@@ -274,12 +279,12 @@ fn equal(reader: &mut Reader, home: Home, entry: &Entry) -> Read<Option<Valid>>
 
 /// What a value must meet: a text is that of `eq`.
 #[tactic(auto, using(crate::proofs::Noted::steps, ksv_desc::proofs::Dots::steps), unfolding(crate::specs::Valid::valid))]
-fn valid(reader: &mut Reader, home: Home, entry: &Entry) -> Read<Option<Valid>>
-    ensures { Reads (valid (seen_home home.entry) (pair entry.now)) (option_map plain_valid) reader.old reader.new result }
+fn valid(reader: &mut Reader, home: Home, entry: &Entry) -> Read<Valid>
+    ensures { Reads (valid (seen_home home.entry) (pair entry.now)) plain_valid reader.old reader.new result }
 {
     let value = entry.value();
     match value.entries() {
-        Some(entries) => Ok(Some(conditions(reader, home, value.line(), entries)?)),
+        Some(entries) => conditions(reader, home, value.line(), entries),
         None => equal(reader, home, entry),
     }
 }
@@ -287,10 +292,10 @@ fn valid(reader: &mut Reader, home: Home, entry: &Entry) -> Read<Option<Valid>>
 /// What a value must meet, at the key `valid`, which may be absent.
 #[tactic(auto, using(crate::proofs::Noted::steps, ksv_desc::proofs::Dots::steps))]
 pub(crate) fn own_valid(reader: &mut Reader, home: Home, entries: &[Entry]) -> Read<Option<Valid>>
-    ensures { Reads (own_valid (seen_home home.entry) (map pair entries.now)) (option_map plain_valid) reader.old reader.new result }
+    ensures { Reads (own_valid (seen_home home.entry) (map pair entries.now)) (λ o. option_map plain_valid o) reader.old reader.new result }
 {
     match find(entries, b"valid") {
-        None => Ok(None),
-        Some(entry) => valid(reader, home, entry),
+        None => Ok(Some(None)),
+        Some(entry) => present(valid(reader, home, entry)),
     }
 }

@@ -1,4 +1,4 @@
-use Rattle.std.proofs.Common.{ℕ, Option, drop, take, map}
+use Rattle.std.proofs.Common.{ℕ, drop, take, map, option_map}
 use Rattle.ksv_yaml_tree.specs.Tree.{Pair}
 use Rattle.ksv_yaml_tree.specs.View.{pair}
 use Rattle.ksv_desc.specs.Description.{Numbered}
@@ -11,8 +11,8 @@ use Rattle.ksv_schema.proofs.members.enumeration.constants.Given as goal
 
 abbrev pub invariant-loop-number : goal.invariant-loop-number
 invariant-loop-number l =
-    let read : ℕ → Pair → Reading (Option Numbered) = λ i. constant (take i (map pair l.entries)) in
+    let read : ℕ → Pair → Reading Numbered = λ i. constant (take i (map pair l.entries)) in
     record {
-      read : IsSoFar (each_from read 0 (map pair l.entries)) (each_from read l.number (map pair (drop l.number l.entries))) (map plain_entry l.made.items) l.fn.reader l.reader;
+      read : IsSoFar (each_from read 0 (map pair l.entries)) (each_from read l.number (map pair (drop l.number l.entries))) (option_map (λ v. map plain_entry v.items) l.made) l.fn.reader l.reader;
       given : AreOf l.seen (take l.number (map pair l.entries));
     }

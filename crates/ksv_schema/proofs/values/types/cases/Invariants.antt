@@ -1,4 +1,4 @@
-use Rattle.std.proofs.Common.{drop, map}
+use Rattle.std.proofs.Common.{drop, map, option_map}
 use Rattle.ksv_yaml_tree.specs.View.{pair}
 use Rattle.ksv_desc.specs.Pieces.{plain_case}
 use Rattle.ksv_schema.specs.Reading.{each, each_from}
@@ -10,4 +10,4 @@ use Rattle.ksv_schema.proofs.values.types.cases.Given as goal
 abbrev pub invariant-loop-case : goal.invariant-loop-case
 invariant-loop-case l =
     let read = case (seen_keys l.keys) in
-    IsSoFar (each read (map pair l.cases)) (each_from (λ i. read) l.case-index (map pair (drop l.case-index l.cases))) (map plain_case l.made.items) l.fn.reader l.reader
+    IsSoFar (each read (map pair l.cases)) (each_from (λ i. read) l.case-index (map pair (drop l.case-index l.cases))) (option_map (λ v. map plain_case v.items) l.made) l.fn.reader l.reader

@@ -1,0 +1,23 @@
+use Rattle.std.proofs.Common.{map, option_map}
+use Rattle.std.specs.Prelude.{codes}
+use Rattle.ksv_yaml_tree.specs.Tree.{entry_at}
+use Rattle.ksv_yaml_tree.specs.View.{pair}
+use Rattle.ksv_expr_tree.specs.Tree.{view}
+use Rattle.ksv_desc.specs.Description.{ParseInstance}
+use Rattle.ksv_desc.specs.Pieces.{plain_field}
+use Rattle.ksv_schema.specs.declared.keys.forms.MappingKind.TheVariants as kinds
+use Rattle.ksv_schema_names.specs.declared.position.Site.TheVariants as sites
+use Rattle.ksv_schema.specs.Reading.{perhaps, must}
+use Rattle.ksv_schema.specs.Values.{expression}
+use Rattle.ksv_schema.specs.Members.{own_field, parse_instance}
+use Rattle.ksv_schema.specs.Code.{seen_home}
+use Rattle.ksv_schema.proofs.Both.{three_read}
+use Rattle.ksv_schema.proofs.members.member.parse_instance.Goals as goal
+
+pub returns-in-Some : goal.returns-in-Some
+unfolding parse_instance
+returns-in-Some c =
+    let h = seen_home c.args.home in
+    let es = map pair c.args.entries.now in
+    three_read (λ p. ParseInstance p.0.0 p.0.1 p.1) (must c.args.line (expression h sites.Place) (entry_at (codes "pos") es)) (perhaps (expression h sites.Stream) (entry_at (codes "io") es)) (own_field h kinds.ParseInstance c.args.line es)
+    view (λ e. option_map view e) plain_field _ _ _ _ _ _ _ _ _ c.in_ok-at.ensures (rw c.in-Some.is at c.in_ok-read.ensures) (rw c.find.ensures at c.in_ok-place.ensures) (rw c.find-2.ensures at c.perhaps_expression-stream.ensures) c.own_field-field.ensures
