@@ -75,7 +75,7 @@ def built_in(text):
         return "Some(NotHere)"
     found = description.BIT_TYPE.match(text)
     if found is not None:
-        return "Some(BitsLittle)" if found[2] == "le" else f"Some(Bits {{ width: {found[1]} }})"
+        return f"Some(Bits {{ width: {found[1]}, is_little: {'true' if found[2] == 'le' else 'false'} }})"
     found = description.INTEGER_TYPE.match(text)
     if found is None:
         return "None"

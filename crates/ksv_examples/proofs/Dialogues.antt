@@ -7,6 +7,8 @@ use Rattle.json.specs.Print.{escape_byte}
 use lib.Utf8.{encode}
 use Rattle.ksv_desc.specs.Description.{as_text}
 use Rattle.ksv_expr_meaning.specs.Meaning.{at_end, binary_of, byte_at, byte_from, bytes_and, bytes_at, bytes_call, bytes_with, call_one, call_two, cast_to, element_count, element_path, element_value, field_of, integer_and, item_at, last_element, list_at, list_method, list_size, member_and, member_path, member_value, method_of, object_of_type, same_bytes, special_of, special_value, stream_method, stream_of, stream_size, text_and, text_in, truth_and, truth_value, value_of}
+use Rattle.ksv_expr_value.specs.Bits.{bits_from, bits_of_number}
+use Rattle.ksv_expr_value.specs.Places.{at_byte, bit_in, bits_left, byte_in, byte_of, further}
 use Rattle.ksv_expr_value.specs.Trail.{fits, trail_of, trail_when}
 use Rattle.ksv_nodes.specs.Reading.{cut_uses, done_at, find_at, finish_of, found_from, found_none, peek_at, reach_file, reach_within}
 use Rattle.ksv_basics.specs.Plan.{bind}
@@ -14,24 +16,25 @@ use Rattle.ksv_rule_meaning.specs.Checks.{checked, meets_each, meets_one, member
 use Rattle.ksv_rule_meaning.specs.Choosing.{case_for, choose, content_of, first_case, switched}
 use Rattle.ksv_rule_meaning.specs.Ends.{stream_end, element_end, end_of, fields_end, is_last, list_end, next_rest, not_empty, object_end, part_rest, place_of, rest_from, rest_of, whole_rest}
 use Rattle.ksv_rule_meaning.specs.Fields.{field_of as field_of_of_fields, kind_of, member_named, members_of, parameters_before, sought}
-use Rattle.ksv_rule_meaning.specs.Heads.{attribute_at, attribute_head, attribute_start, bytes_at as bytes_at_of_heads, content_at, count_of, counted, element_head, element_start, head_of, instance_head, leaf, leaf_to_end, member_at, member_head, next_start, object_at, part_end, positioned, positioned_in, repeated, run_of, shape_at, sized_leaf, sized_object, terminated, unchosen_at, until_eos, value_head}
+use Rattle.ksv_rule_meaning.specs.Heads.{attribute_at, attribute_head, attribute_start, bits_leaf, bytes_at as bytes_at_of_heads, content_at, count_of, counted, element_head, element_start, head_of, instance_head, leaf, leaf_to_end, member_at, member_head, next_start, object_at, part_end, positioned, positioned_in, repeated, run_of, shape_at, sized_leaf, sized_object, terminated, unchosen_at, until_eos, value_head}
 use Rattle.ksv_rule_meaning.specs.Integers.{integer_value}
 use Rattle.ksv_rule_meaning.specs.Meaning.{meaning_of, rule_of}
-use Rattle.ksv_rule_meaning.specs.Values.{argument_at, argument_value, arguments_for, bytes_value, calc_value, calculated, content_value, cut_bytes, fixed_value, instance_value, kept, leaf_value, number_value, parameter_value, plain_value, text_value, value_at, value_of as value_of_of_values}
+use Rattle.ksv_rule_meaning.specs.Values.{argument_at, argument_value, arguments_for, bits_value, bytes_value, calc_value, calculated, content_value, cut_bytes, fixed_value, instance_value, kept, leaf_value, number_value, parameter_value, plain_value, text_value, value_at, value_of as value_of_of_values}
 use Rattle.ksv_rule_meaning.specs.Wanted.{expression, holds, integer_of, size_of, stream_for, truth_of, wanted}
 use Rattle.ksv_questions.specs.Dumps.{asked_part, begun_part, dump_question, elements_part, find_list, find_object, find_value, list_part, members_part, object_part, part, unasked, value_part, whole_text}
 use Rattle.ksv_questions.specs.Questions.{ask_end, ask_head, ask_value, first_asked, from_place, members_question, of_list, of_object, of_value, place_question, value_question}
-use Rattle.ksv_questions.specs.Writing.{of_type, put_question}
-use Rattle.ksv_texts.specs.Integers.{holds as holds_integer, integer_bytes, integer_type, little_endian}
+use Rattle.ksv_questions.specs.Writing.{met_bytes, of_type, put_question}
+use Rattle.ksv_texts.specs.Bits.{bits_hold, replaced_bits, with_bits}
+use Rattle.ksv_texts.specs.Integers.{holds as holds_integer, integer_bytes, little_endian, number_type}
 use Rattle.ksv_texts.specs.Parts.{failed_part, fault_part, member_part, plain_part}
-use Rattle.ksv_texts.specs.Texts.{bytes_text, fault_text, fault_words, member_name, member_text, quoted_text}
+use Rattle.ksv_texts.specs.Texts.{bytes_text, fault_text, fault_words, member_name, member_text, place_text, quoted_text}
 use Rattle.ksv_desc.specs.Description.{Description}
 use Rattle.ksv_session.specs.Kept.{nothing_kept}
 use Rattle.ksv_session.specs.Session.{Standing, begun}
 use Rattle.ksv_examples.specs.Descriptions.{description}
 use Rattle.ksv_examples.specs.Depth.{answer_at, outcome_to, session_to}
-use Rattle.ksv_examples.specs.Dialogues.{Dialogue, left_by, typed, GoesSo, Goes, edited_size, later_bytes, circle, up_to_a_comma, terminators, elements, conditional, streams, parents, faults, too_deep, line_ends, places, first, bitmap, picture, instances, windows, parameters, chosen, led_back, invalid, around, FairlyGo, AreUnfair}
-use Rattle.ksv_examples.specs.Stats.{Tells, TellsSo, checked_against, circle_told, deleted_around, list_grows, told_to, written_behind}
+use Rattle.ksv_examples.specs.Dialogues.{Dialogue, left_by, typed, GoesSo, Goes, edited_size, later_bytes, circle, up_to_a_comma, terminators, elements, conditional, streams, parents, faults, too_deep, line_ends, places, first, bitmap, picture, instances, windows, parameters, chosen, led_back, invalid, packed, around, FairlyGo, AreUnfair}
+use Rattle.ksv_examples.specs.Stats.{Tells, TellsSo, checked_against, halves, circle_told, deleted_around, list_grows, told_to, written_behind}
 use Rattle.ksv_examples.specs.Walks.{walk_at}
 use Rattle.ksv_examples.proofs.Stating.{text_states}
 use Rattle.ksv_examples.proofs.Sessions.{session_is}
@@ -50,7 +53,7 @@ told_over r o = option_and_then (λ d. told_to d depth (begun r.file) nothing_ke
 
 -- the session of a dialogue, so that it computes: every definition on the way is opened
 unfoldable computed : Dialogue → Option Standing
-unfolding session_to outcome_to answer_at text_states digits chars is_utf8 decode_pairs encode_with escape_byte encode as_text at_end binary_of byte_at byte_from bytes_and bytes_at bytes_call bytes_with call_one call_two cast_to element_count element_path element_value field_of integer_and item_at last_element list_at list_method list_size member_and member_path member_value method_of object_of_type same_bytes special_of special_value stream_method stream_of stream_size text_and text_in truth_and truth_value value_of fits trail_of trail_when cut_uses done_at find_at finish_of found_from found_none peek_at reach_file reach_within bind element_end end_of fields_end is_last list_end next_rest not_empty object_end stream_end part_rest place_of rest_from rest_of whole_rest field_of_of_fields member_named members_of sought attribute_at attribute_head attribute_start bytes_at_of_heads content_at count_of counted element_head element_start head_of leaf leaf_to_end member_at member_head next_start object_at part_end repeated run_of shape_at sized_leaf sized_object terminated until_eos integer_value meaning_of rule_of bytes_value content_value cut_bytes fixed_value kept leaf_value number_value text_value checked meets_each meets_one member_checked value_checked value_at value_of_of_values expression holds integer_of size_of truth_of wanted ask_end ask_head ask_value first_asked from_place members_question of_list of_object of_value place_question value_question bytes_text fault_text fault_words member_name member_text quoted_text asked_part begun_part dump_question elements_part failed_part fault_part find_list find_object find_value list_part member_part members_part object_part part plain_part unasked value_part whole_text holds_integer integer_bytes integer_type little_endian of_type put_question case_for choose content_of first_case switched kind_of parameters_before instance_head positioned positioned_in unchosen_at value_head argument_at argument_value arguments_for calc_value calculated instance_value parameter_value plain_value stream_for
+unfolding session_to outcome_to answer_at text_states digits chars is_utf8 decode_pairs encode_with escape_byte encode as_text at_end binary_of byte_at byte_from bytes_and bytes_at bytes_call bytes_with call_one call_two cast_to element_count element_path element_value field_of integer_and item_at last_element list_at list_method list_size member_and member_path member_value method_of object_of_type same_bytes special_of special_value stream_method stream_of stream_size text_and text_in truth_and truth_value value_of fits trail_of trail_when cut_uses done_at find_at finish_of found_from found_none peek_at reach_file reach_within bind element_end end_of fields_end is_last list_end next_rest not_empty object_end stream_end part_rest place_of rest_from rest_of whole_rest field_of_of_fields member_named members_of sought attribute_at attribute_head attribute_start bytes_at_of_heads content_at count_of counted element_head element_start head_of leaf leaf_to_end member_at member_head next_start object_at part_end repeated run_of shape_at sized_leaf sized_object terminated until_eos integer_value meaning_of rule_of bytes_value content_value cut_bytes fixed_value kept leaf_value number_value text_value checked meets_each meets_one member_checked value_checked value_at value_of_of_values expression holds integer_of size_of truth_of wanted ask_end ask_head ask_value first_asked from_place members_question of_list of_object of_value place_question value_question bytes_text fault_text fault_words member_name member_text quoted_text asked_part begun_part dump_question elements_part failed_part fault_part find_list find_object find_value list_part member_part members_part object_part part plain_part unasked value_part whole_text holds_integer integer_bytes number_type little_endian of_type put_question case_for choose content_of first_case switched kind_of parameters_before instance_head positioned positioned_in unchosen_at value_head argument_at argument_value arguments_for calc_value calculated instance_value parameter_value plain_value stream_for bits_from bits_of_number at_byte bit_in bits_left byte_in byte_of further bits_leaf bits_value met_bytes bits_hold replaced_bits with_bits place_text
 computed r = over r (description r.lines)
 
 unfoldable told : Dialogue → Option Standing
@@ -161,6 +164,10 @@ pub invalid_goes : Goes invalid
 unfolding computed
 invalid_goes = goes invalid refl
 
+pub packed_goes : Goes packed
+unfolding computed
+packed_goes = goes packed refl
+
 pub around_goes : Goes around
 unfolding computed
 around_goes = goes around refl
@@ -178,6 +185,10 @@ deleted_around_tells = tells deleted_around refl
 pub written_behind_tells : Tells written_behind
 unfolding told
 written_behind_tells = tells written_behind refl
+
+pub halves_tells : Tells halves
+unfolding told
+halves_tells = tells halves refl
 
 pub checked_against_tells : Tells checked_against
 unfolding told

@@ -12,7 +12,7 @@ use Rattle.ksv_questions.specs.Writing.{put_question}
 use Rattle.ksv_commands.specs.declared.command.Question.{Question}
 use Rattle.ksv_rule_meaning.specs.Described.{described}
 use Rattle.ksv_commands.specs.Commands.{command_of}
-use Rattle.ksv_session.specs.Replies.{Answer, Event, Tally, said, answer_to, answer, is_fair, put_answer}
+use Rattle.ksv_session.specs.Replies.{Replied, Event, Tally, said, answer_to, answer, is_fair, put_answer}
 use Rattle.ksv_session.specs.Session.{Standing, answered, after_event}
 use Rattle.ksv_session.proofs.QuestionLemmas.{answer_by}
 use Rattle.ksv_examples.specs.Depth.{answer_at, ends_in, line_answer, outcome_to, question_answer, session_to, spoken, untold, writing_answer}
@@ -66,24 +66,24 @@ module _ (d : Description) (depth : ℕ) (bytes : List ℕ) where
 
 -- ---- lines
 
-asked_is : (d : Description) (depth : ℕ) (b : List ℕ) (question : Question) (a : Answer) → question_answer d depth b question ≡ Some a → said b (question_text d b question ++ codes "\n") ≡ a
+asked_is : (d : Description) (depth : ℕ) (b : List ℕ) (question : Question) (a : Replied) → question_answer d depth b question ≡ Some a → said b (question_text d b question ++ codes "\n") ≡ a
 unfolding question_text
 asked_is d depth b question a e =
     let m = mapped (λ r. said b (told d r ++ codes "\n")) (outcome_to d depth b (asking d b question)) a e in
     ap (λ r. said b (told d r ++ codes "\n")) (outcome_is d depth b (asking d b question) m.0 m.1) ∙ m.2
 
-written_is : (d : Description) (depth : ℕ) (b : List ℕ) (path : Trail) (n : ℤ) (a : Answer) → writing_answer d depth b path n ≡ Some a → put_answer d b (outcome d b (put_question d b path n)) ≡ a
+written_is : (d : Description) (depth : ℕ) (b : List ℕ) (path : Trail) (n : ℤ) (a : Replied) → writing_answer d depth b path n ≡ Some a → put_answer d b (outcome d b (put_question d b path n)) ≡ a
 written_is d depth b path n a e =
     let m = mapped (put_answer d b) (outcome_to d depth b (put_question d b path n)) a e in
     ap (put_answer d b) (outcome_is d depth b (put_question d b path n) m.0 m.1) ∙ m.2
 
-pub line_is : (d : Description) (depth : ℕ) (b : List ℕ) (t : Tally) (line : List ℕ) (a : Answer) → line_answer d depth b t line ≡ Some a → answer_to d b t (command_of d line) ≡ a
+pub line_is : (d : Description) (depth : ℕ) (b : List ℕ) (t : Tally) (line : List ℕ) (a : Replied) → line_answer d depth b t line ≡ Some a → answer_to d b t (command_of d line) ≡ a
 line_is d depth b t line a e = answer_by d b t (question_answer d depth b) (writing_answer d depth b) a (λ question. asked_is d depth b question a) (λ path n. written_is d depth b path n a) (command_of d line) e
 
 -- ---- the session
 
 -- the session after one line more
-after_line : (d : Description) (depth : ℕ) (s : Standing) (line : List ℕ) (lines : List (List ℕ)) (t : Standing) → ((a : Answer) → session_to d depth (answered s a true) lines ≡ Some t → fold (after_event d) (answered s a true) (spoken lines) ≡ t)
+after_line : (d : Description) (depth : ℕ) (s : Standing) (line : List ℕ) (lines : List (List ℕ)) (t : Standing) → ((a : Replied) → session_to d depth (answered s a true) lines ≡ Some t → fold (after_event d) (answered s a true) (spoken lines) ≡ t)
     → (b : Bool) → s.ended ≡ b → elim b as (λ _. Option Standing) [ true ↦ Some s | false ↦ option_and_then (λ a. session_to d depth (answered s a true) lines) (line_answer d depth s.bytes untold line) ] ≡ Some t
     → fold (after_event d) s (spoken (line ∷ lines)) ≡ t
 after_line d depth s line lines t rest true ended e = stays d s (line ∷ lines) ended ∙ some_is s t e

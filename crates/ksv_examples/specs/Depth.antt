@@ -24,7 +24,7 @@ use Rattle.ksv_questions.specs.Asking.{Asking, Failure, Heard}
 use Rattle.ksv_questions.specs.Writing.{put_question}
 use Rattle.ksv_commands.specs.declared.command.Question.{Question}
 use Rattle.ksv_commands.specs.Commands.{by_asking, command_of}
-use Rattle.ksv_session.specs.Replies.{Answer as Replied, Event, Tally, said, answer_to, put_answer}
+use Rattle.ksv_session.specs.Replies.{Replied, Event, Tally, said, answer_to, put_answer}
 use Rattle.ksv_session.specs.Session.{Standing, answered}
 
 -- ---- the same node

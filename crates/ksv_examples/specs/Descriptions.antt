@@ -85,8 +85,8 @@ refused_texts =
     behind (codes "    type: u1(1)" ∷ []) 5 7 ∷
     -- no type's text
     behind (codes "    type: Foo" ∷ []) 5 10 ∷
-    -- bits are left out
-    behind (codes "    type: b12" ∷ []) 5 8 ∷
+    -- bits of which the lowest of a byte is the first are left out
+    behind (codes "    type: b12le" ∷ []) 5 8 ∷
     -- no bits of 65, so a name
     behind (codes "    type: b65" ∷ []) 5 4 ∷
     -- a name in an argument

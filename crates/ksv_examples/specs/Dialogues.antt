@@ -1185,6 +1185,78 @@ invalid = record {
   ended = false;
 }
 
+-- fields of bits: one after the other within bytes, what comes after them at the next byte, objects that end at one, and a number written
+-- among other bits
+abbrev pub packed : Dialogue
+packed = record {
+  lines =
+      codes "meta: {id: t}" ∷
+      codes "seq:" ∷
+      codes "  - {id: f, type: b3}" ∷
+      codes "  - {id: on, type: b1}" ∷
+      codes "  - {id: x, type: b12}" ∷
+      codes "  - {id: k, type: b3, enum: e}" ∷
+      codes "  - {id: z, type: u1}" ∷
+      codes "  - {id: ts, type: u, repeat: expr, repeat-expr: 2}" ∷
+      codes "  - {id: ns, type: b4, repeat: eos}" ∷
+      codes "types: {u: {seq: [{id: h, type: b3}]}}" ∷
+      codes "enums: {e: {5: five}}" ∷
+      [];
+  file = 0xba ∷ 0xbc ∷ 0xa0 ∷ 0x07 ∷ 0x20 ∷ 0x40 ∷ 0xf1 ∷ [];
+  input = text_of_lines (
+      codes "get /f" ∷
+      codes "get /on" ∷
+      codes "get /x" ∷
+      codes "at /x" ∷
+      codes "get /k" ∷
+      codes "at /k" ∷
+      codes "get /z" ∷
+      codes "at /z" ∷
+      codes "at /ts/0" ∷
+      codes "get /ts/1/h" ∷
+      codes "at /ts/1/h" ∷
+      codes "get /ns" ∷
+      codes "get /ns/1" ∷
+      codes "at /ns/0" ∷
+      codes "put /x 4095" ∷
+      codes "get /f" ∷
+      codes "get /on" ∷
+      codes "bytes 0 3" ∷
+      codes "put /on 0" ∷
+      codes "put /k 8" ∷
+      codes "put /k 0" ∷
+      codes "get /k" ∷
+      codes "dump /" ∷
+      []);
+  output = text_of_lines (
+      codes "5" ∷
+      codes "true" ∷
+      codes "2748" ∷
+      codes "at 0.4 2" ∷
+      codes "e::five (5)" ∷
+      codes "at 2 2.3" ∷
+      codes "7" ∷
+      codes "at 3 4" ∷
+      codes "at 4 5" ∷
+      codes "2" ∷
+      codes "at 5 5.3" ∷
+      codes "[2]" ∷
+      codes "1" ∷
+      codes "at 6 6.4" ∷
+      codes "ok 7" ∷
+      codes "5" ∷
+      codes "true" ∷
+      codes "hex bfffa0" ∷
+      codes "error: not an integer" ∷
+      codes "error: out of range" ∷
+      codes "ok 7" ∷
+      codes "e::? (0)" ∷
+      codes "{\"f\":5,\"k\":{\"enum\":\"e::?\",\"value\":0},\"ns\":[15,1],\"on\":true,\"ts\":[{\"h\":1},{\"h\":2}],\"x\":4095,\"z\":7}" ∷
+      []);
+  left = 0xbf ∷ 0xff ∷ 0x00 ∷ 0x07 ∷ 0x20 ∷ 0x40 ∷ 0xf1 ∷ [];
+  ended = false;
+}
+
 -- where things are and what they have, all of them, and an integer written over another
 abbrev pub around : Dialogue
 around = record {

@@ -166,6 +166,44 @@ checked_against = record {
   ended = false;
 }
 
+-- two halves of a byte: a number written over one takes both values, and no head
+abbrev pub halves : Dialogue
+halves = record {
+  lines =
+      codes "meta: {id: t}" ∷
+      codes "seq: [{id: hi, type: b4}, {id: lo, type: b4}, {id: z, type: u1}]" ∷
+      [];
+  file = 0xa5 ∷ 0x03 ∷ [];
+  input = text_of_lines (
+      codes "get /lo" ∷
+      codes "stats" ∷
+      codes "put /hi 16" ∷
+      codes "put /hi 15" ∷
+      codes "stats" ∷
+      codes "get /lo" ∷
+      codes "stats" ∷
+      codes "bytes 0 2" ∷
+      codes "at /hi" ∷
+      codes "at /lo" ∷
+      codes "get /z" ∷
+      []);
+  output = text_of_lines (
+      codes "5" ∷
+      codes "kept 5 turns 10" ∷
+      codes "error: out of range" ∷
+      codes "ok 2" ∷
+      codes "kept 4 turns 0" ∷
+      codes "5" ∷
+      codes "kept 5 turns 2" ∷
+      codes "hex f503" ∷
+      codes "at 0 0.4" ∷
+      codes "at 0.4 1" ∷
+      codes "3" ∷
+      []);
+  left = 0xf5 ∷ 0x03 ∷ [];
+  ended = false;
+}
+
 -- a circle: what it is met by isn't kept, and turns aren't told
 abbrev pub circle_told : Dialogue
 circle_told = record {

@@ -140,7 +140,7 @@ unfolding told
 told_can w P can f n zero replies = tt
 told_can w P can f n (suc j) replies = step_can P f (w.added n replies) (λ a. told w f n j (replies ++ a ∷ [])) (can n replies) (λ a. told_can w P can f n j (replies ++ a ∷ [])) (w.follow n replies)
 
-eval_can : {N A : Type 0} (w : Standing N A) (P : Use → Type 0) → ((n : N) (replies : List A) → AllByRecursion P (w.added n replies)) → (k : ℕ) (opened : List N) (n : N) → AllByRecursion P (eval w k opened n).uses
+pub eval_can : {N A : Type 0} (w : Standing N A) (P : Use → Type 0) → ((n : N) (replies : List A) → AllByRecursion P (w.added n replies)) → (k : ℕ) (opened : List N) (n : N) → AllByRecursion P (eval w k opened n).uses
 eval_can {N} {A} w P can zero opened n = let Q : Told N A → Type 0 = λ t. AllByRecursion P t.uses in subst Q (sym (eval-zero w opened n)) tt
 eval_can {N} {A} w P can (suc k) opened n = by (is_among w.number opened n) refl
   where

@@ -1,11 +1,11 @@
 -- What an edit takes from the kept nodes is what the pass takes from the table, and what stays is right.
 use Rattle.std.proofs.lemmas.List.Sums.{sum_by-cons}
-use Rattle.std.proofs.Common.{◌≡◌, ℕ, zero, suc, ◌+◌, ◌*◌, ◌<◌, ◌≤◌, arith, length, length-append, sum_by, Bool, true, false, not, cond, ◌||◌, ◌&&◌, nat_eq, List, [], ◌∷◌, ◌++◌, map, filter, Contains, Any, refl, sym, ◌∙◌, ap, subst, inl, inr, eq-eqb}
+use Rattle.std.proofs.Common.{◌≡◌, ℕ, zero, suc, ◌+◌, ◌*◌, ◌<◌, ◌≤◌, arith, length, length-append, sum_by, count_by, get_or, nat_lt, Bool, true, false, not, cond, ◌||◌, ◌&&◌, nat_eq, List, [], ◌∷◌, ◌++◌, map, filter, Contains, Any, refl, sym, ◌∙◌, ap, subst, inl, inr, eq-eqb}
 use Rattle.std.specs.Bool.{Decides}
 use Rattle.std.specs.List.{AllByRecursion, list_any, flat_map}
 use Rattle.std.proofs.Math.Bool.{and-false}
 use Rattle.std.proofs.lemmas.Bool.{or_parts, or_right}
-use Rattle.std.proofs.lemmas.Bool.Decides.{Decides-and, Decides-not}
+use Rattle.std.proofs.lemmas.Bool.Decides.{Decides-and, Decides-not, Decides-ltb}
 use Rattle.std.proofs.lemmas.List.Elements.{All-contains_itself, recursion_from_All}
 use Rattle.std.proofs.lemmas.List.Folds.{list_any-append, Any-from_list_any, list_any-from_Any}
 use Rattle.std.proofs.lemmas.Map.Keys.{IsDistinct-head, IsDistinct-tail, IsDistinct-cons}
@@ -21,10 +21,11 @@ use Rattle.ksv_memo_rules.specs.Entry.{Entry}
 use Rattle.ksv_memo_rules.specs.Right.{nodes_of, AreDistinct, AreExactly, HasEachOnce, IsRightEntry, IsRight}
 use Rattle.ksv_memo_rules.specs.Touched.{IsTouched, is_hit, is_touched, tree, left_after}
 use Rattle.ksv_memo.specs.Layout.{IsOneOf}
-use Rattle.ksv_memo_links.specs.Touching.{pages_in}
-use Rattle.ksv_memo_links.specs.Links.{IsOverwrite, pages_met, met_by}
-use Rattle.ksv_memo_links.proofs.Touches.{uses-meet}
+use Rattle.ksv_memo_links.specs.Touching.{pages_in, ends_in}
+use Rattle.ksv_memo_links.specs.Links.{IsMove, IsOverwrite, first_page, pages_met, met_by, pages_behind, behind_by, ended_by}
+use Rattle.ksv_memo_links.proofs.Touches.{EndsPast, uses-meet, insert-past, delete-past, append-ends}
 use Rattle.ksv_memo.specs.Near.{IsWrite, LooksNear, gone_of}
+use Rattle.ksv_memo.specs.Behind.{LooksBehind, pages_to}
 use Rattle.ksv_memo.specs.Sweep.{Mark, AllSay, IsMarked, entries_with as entries_in, entries_left, entries_gone, Sweeps}
 use Rattle.ksv_memo_rules.proofs.Standing.{law_on}
 use Rattle.ksv_memo_rules.proofs.Lists.{All-map, All-both, none_fails, none_pass}
@@ -65,7 +66,7 @@ or_turn false true = refl
 or_turn false false = refl
 
 -- what holds of all marked entries holds of those that stay
-All-entries_left : {N A : Type 0} (P : Entry N A → Type 0) (ks : List (Mark N A)) → AllByRecursion P (entries_in ks) → AllByRecursion P (entries_left ks)
+pub All-entries_left : {N A : Type 0} (P : Entry N A → Type 0) (ks : List (Mark N A)) → AllByRecursion P (entries_in ks) → AllByRecursion P (entries_left ks)
 All-entries_left P [] h = tt
 All-entries_left {N} {A} P (k ∷ ks) h = by k.goes (All-entries_left P ks h.1)
   where
@@ -175,6 +176,64 @@ gone-few {N} {A} change all (k ∷ ks) over h = by k.goes refl (gone-few change 
         let a = sum_by-cons (λ (e : Entry N A). length e.asked) k.entry (entries_gone ks) in
         let b = sum_by-cons (λ (e : Entry N A). length (pages_in e.uses)) k.entry (entries_gone ks) in
         omega arith
+
+-- ---- what goes by another edit has an ask, or meets a page, or uses the size, or reaches behind the place
+count-some : (p : ℕ → Bool) (xs : List ℕ) (k x : ℕ) → k < length xs → get_or xs k x ≡ x → p x ≡ true → 1 ≤ count_by p xs
+count-some p [] k x lt is e = absurd (omega arith)
+count-some p (y ∷ ys) zero x lt is e =
+    let s : count_by p (y ∷ ys) ≡ cond (p y) 1 0 + count_by p ys = sum_by-cons (λ z. cond (p z) 1 0) y ys in
+    let one : cond {A = ℕ} (p y) 1 0 ≡ 1 = ap (λ (b : Bool). cond {A = ℕ} b 1 0) (ap p is ∙ e) in
+    omega arith
+count-some p (y ∷ ys) (suc k) x lt is e =
+    let s : count_by p (y ∷ ys) ≡ cond (p y) 1 0 + count_by p ys = sum_by-cons (λ z. cond (p z) 1 0) y ys in
+    let r : 1 ≤ count_by p ys = count-some p ys k x (omega arith) is e in
+    omega arith
+
+some-past : (at : ℕ) (us : List Use) → EndsPast at us → 1 ≤ length (pages_in us) + count_by (λ l. nat_eq l 0 || nat_lt (first_page at) l) (ends_in us)
+some-past at us (inl (g, c, le)) = let lt = c.1 in omega arith
+some-past at us (inr (l, c, inl z)) =
+    let n = count-some (λ l. nat_eq l 0 || nat_lt (first_page at) l) (ends_in us) c.0 l c.1 c.2 (ap (λ b. b || nat_lt (first_page at) l) (eq-eqb l 0 z)) in omega arith
+some-past at us (inr (l, c, inr lt)) =
+    let n = count-some (λ l. nat_eq l 0 || nat_lt (first_page at) l) (ends_in us) c.0 l c.1 c.2 (or_right (nat_eq l 0) (nat_lt (first_page at) l) ((Decides-ltb (first_page at) l).1 lt)) in omega arith
+
+some-behind : (change : Change) (us : List Use) → IsMove change → list_any (is_use_touched change) us ≡ true → 1 ≤ length (pages_in us) + ended_by change us
+some-behind (Overwrite at n) us h e = absurd h
+some-behind (Insert at n) us h e = some-past at us (insert-past at n us e)
+some-behind (Delete at n) us h e = some-past at us (delete-past at n us e)
+some-behind Append us h e = let c = append-ends us e in let n = count-some (λ l. nat_eq l 0) (ends_in us) c.0 0 c.1 c.2 refl in omega arith
+
+one-behind : {N A : Type 0} (change : Change) (all : List (Mark N A)) (k : Mark N A) → IsMove change → IsMarked change all k → k.goes ≡ true → 1 ≤ length k.entry.asked + length (pages_in k.entry.uses) + ended_by change k.entry.uses
+one-behind change all k moves mark goes = by (list_any (is_use_touched change) k.entry.uses) refl (list_any (λ b. b) mark.asked) refl
+  where
+    by : (a : Bool) → list_any (is_use_touched change) k.entry.uses ≡ a → (b : Bool) → list_any (λ b. b) mark.asked ≡ b → 1 ≤ length k.entry.asked + length (pages_in k.entry.uses) + ended_by change k.entry.uses
+    by true e b f = let p = some-behind change k.entry.uses moves e in omega arith
+    by false e true f = let p = some-ask all k.entry.asked mark.asked mark.say f in omega arith
+    by false e false f = let no : true ≡ (false || false) = sym goes ∙ mark.goes ∙ (λ i. e i || f i) in absurd (cc)
+
+gone-behind : {N A : Type 0} (change : Change) (all ks : List (Mark N A)) → IsMove change → AllByRecursion (IsMarked change all) ks → length (entries_gone ks) ≤ sum_by (λ e. length e.asked) (entries_gone ks) + sum_by (λ e. length (pages_in e.uses)) (entries_gone ks) + sum_by (λ e. ended_by change e.uses) (entries_gone ks)
+gone-behind change all [] moves h = omega arith
+gone-behind {N} {A} change all (k ∷ ks) moves h = by k.goes refl (gone-behind change all ks moves h.1)
+  where
+    P : List (Entry N A) → Type 0
+    P es = length es ≤ sum_by (λ e. length e.asked) es + sum_by (λ e. length (pages_in e.uses)) es + sum_by (λ e. ended_by change e.uses) es
+
+    by : (b : Bool) → k.goes ≡ b → P (entries_gone ks) → P (entries_in (cond b (k ∷ filter (λ k. k.goes) ks) (filter (λ k. k.goes) ks)))
+    by false e rest = rest
+    by true e rest =
+        let one = one-behind change all k moves h.0 e in
+        let a = sum_by-cons (λ (e : Entry N A). length e.asked) k.entry (entries_gone ks) in
+        let b = sum_by-cons (λ (e : Entry N A). length (pages_in e.uses)) k.entry (entries_gone ks) in
+        let d = sum_by-cons (λ (e : Entry N A). ended_by change e.uses) k.entry (entries_gone ks) in
+        omega arith
+
+-- a sum over what goes is no more than over all
+gone-less : {N A : Type 0} (p : Entry N A → ℕ) (ks : List (Mark N A)) → sum_by p (entries_gone ks) ≤ sum_by p (entries_in ks)
+gone-less p [] = omega arith
+gone-less {N} {A} p (k ∷ ks) = by k.goes (gone-less p ks)
+  where
+    by : (b : Bool) → sum_by p (entries_gone ks) ≤ sum_by p (entries_in ks) → sum_by p (entries_in (cond b (k ∷ filter (λ k. k.goes) ks) (filter (λ k. k.goes) ks))) ≤ sum_by p (entries_in (k ∷ ks))
+    by false rest = let a = sum_by-cons p k.entry (entries_in ks) in omega arith
+    by true rest = let a = sum_by-cons p k.entry (entries_in ks) in let b = sum_by-cons p k.entry (entries_gone ks) in omega arith
 
 module _ {N A : Type 0} (w : Standing N A) (law : IsSettled w) where
   -- ---- a kept node is touched if one of its uses is, or a node that it asked
@@ -298,7 +357,7 @@ module _ {N A : Type 0} (w : Standing N A) (law : IsSettled w) where
         once = distinct-entries_left w ks right.once;
       }
 
-  module _ (change : Change) (es all : List (Entry N A)) (looked : ℕ) (right : IsRight w es) (sweeps : Sweeps change es all looked) where
+  module _ (change : Change) (pages : ℕ) (es all : List (Entry N A)) (looked : ℕ) (right : IsRight w es) (sweeps : Sweeps change pages es all looked) where
     right_marks : IsRight w (entries_in sweeps.marks)
     right_marks = let R : List (Entry N A) → Type 0 = λ xs. IsRight w xs in subst R (sym sweeps.entries) right
 
@@ -326,15 +385,29 @@ module _ {N A : Type 0} (w : Standing N A) (law : IsSettled w) where
           most = subst (λ xs. looked ≤ 8 * (pages_met change + sum_by (λ e. met_by change e.uses) es + length xs + sum_by (λ e. length e.asked) xs + sum_by (λ e. length (pages_in e.uses)) xs)) gone (omega arith);
         }
 
+    -- and those of another edit are behind its place
+    pub looks-behind : (reach : ℕ) → pages ≡ pages_to reach → IsMove change → LooksBehind w change reach es looked
+    looks-behind reach is moves =
+        let gone : entries_gone sweeps.marks ≡ gone_of w change es = gone_nodes w change sweeps.marks told ∙ ap (gone_of w change) sweeps.entries in
+        let few = gone-behind change sweeps.marks sweeps.marks moves sweeps.marked in
+        let less = gone-less (λ e. ended_by change e.uses) sweeps.marks in
+        let all_of = ap (λ xs. sum_by (λ e. ended_by change e.uses) xs) sweeps.entries in
+        let to = ap (λ k. pages_behind change k) is in
+        let most = sweeps.behind moves in
+        record {
+          least = subst (λ xs. length xs ≤ looked) gone sweeps.least;
+          most = subst (λ xs. looked ≤ 8 * (1 + pages_behind change (pages_to reach) + sum_by (λ e. behind_by change e.uses) es + sum_by (λ e. ended_by change e.uses) es + length xs + sum_by (λ e. length e.asked) xs + sum_by (λ e. length (pages_in e.uses)) xs)) gone (omega arith);
+        }
+
 -- and it is right for the bytes after the edit
-pub forgets-right : {N A : Type 0} (meaning : Meaning N A) → IsLawful meaning → (change : Change) (before after : List ℕ) → Makes change before after → (es all : List (Entry N A)) (looked : ℕ) → Sweeps change es all looked → IsRight (on meaning before) es → IsRight (on meaning after) all
-forgets-right {N} {A} meaning law change before after made es all looked sweeps right =
+pub forgets-right : {N A : Type 0} (meaning : Meaning N A) → IsLawful meaning → (change : Change) (before after : List ℕ) → Makes change before after → (pages : ℕ) (es all : List (Entry N A)) (looked : ℕ) → Sweeps change pages es all looked → IsRight (on meaning before) es → IsRight (on meaning after) all
+forgets-right {N} {A} meaning law change before after made pages es all looked sweeps right =
     let P : List (Entry N A) → Type 0 = λ xs. AllByRecursion (λ (e : Entry N A). AllByRecursion (λ used. Touches change used → ⊥) e.uses) xs in
-    untouched-stays meaning law change before after made all (forgets (on meaning before) (law_on meaning law before) change es all looked right sweeps).0
+    untouched-stays meaning law change before after made all (forgets (on meaning before) (law_on meaning law before) change pages es all looked right sweeps).0
     (subst P (sym sweeps.stays) (free-entries_left change sweeps.marks sweeps.marks sweeps.marked))
 
 -- it was kept before
-pub forgets-kept : {N A : Type 0} (change : Change) (es all : List (Entry N A)) (looked : ℕ) → Sweeps change es all looked → AllByRecursion (Contains es) all
-forgets-kept {N} {A} change es all looked sweeps =
+pub forgets-kept : {N A : Type 0} (change : Change) (pages : ℕ) (es all : List (Entry N A)) (looked : ℕ) → Sweeps change pages es all looked → AllByRecursion (Contains es) all
+forgets-kept {N} {A} change pages es all looked sweeps =
     let P : List (Entry N A) → Type 0 = λ xs. AllByRecursion (Contains es) xs in
     subst P (sym sweeps.stays) (All-entries_left (Contains es) sweeps.marks (subst P (sym sweeps.entries) (recursion_from_All (Contains es) es (All-contains_itself es))))

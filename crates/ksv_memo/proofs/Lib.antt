@@ -16,3 +16,4 @@ pub mod Turns
 pub mod Questions
 pub mod Forgetting
 pub mod Taking
+pub mod Ends

@@ -12,18 +12,18 @@ use Rattle.ksv_bytes.specs.declared.uses.Change.{Change}
 use Rattle.ksv_bytes.specs.declared.uses.Change.TheVariants.{Overwrite, Insert, Delete, Append}
 use Rattle.ksv_memo_links.specs.Shelved.{row}
 use Rattle.ksv_bytes.specs.Uses.{is_use_touched}
-use Rattle.ksv_memo_links.specs.Touching.{pages_in, numbers_from}
+use Rattle.ksv_memo_links.specs.Touching.{pages_in, numbers_from, AreWithin}
 use Rattle.ksv_memo_links.specs.Marking.{is_kept}
-use Rattle.ksv_memo_links.specs.Links.{Linked, Forgets, Reaches, here, through, IsHit, is_hit, IsOverwrite, pages_met, met_by, asks_of}
+use Rattle.ksv_memo_links.specs.Links.{Linked, Forgets, Reaches, here, through, IsHit, is_hit, IsMove, IsOverwrite, pages_met, met_by, pages_behind, behind_by, ended_by, asks_of}
 use Rattle.ksv_memo_rules.specs.declared.replies.Slot.{Slot}
 use Rattle.ksv_memo_rules.specs.Slots.{answer_at, with_first}
 use Rattle.ksv_memo_rules.specs.Entry.{Entry}
 use Rattle.ksv_memo.specs.Layout.{IsOneOf, slots_of, node_at, nodes_at, IsKept, entry_with, entry_at, entries_at, entries_of, AreLinked}
 use Rattle.ksv_memo.specs.Sweep.{Mark, Says, AllSay, IsMarked, entries_with, entries_left, entries_gone}
 use Rattle.ksv_memo.specs.Emptying.{IsEmptied, parts_of}
-use Rattle.ksv_memo.proofs.Knowing.{sum-shift}
+use Rattle.ksv_memo.proofs.Knowing.{sum-shift, find_entry}
 use Rattle.ksv_memo.proofs.Sums.{one_of-contains, differ, numbers-differ, filter-differ, filter-passes, sum-within, sum-alike}
-use Rattle.ksv_memo.proofs.Laying.{some-of, kept_node, no_entry_at, number_in}
+use Rattle.ksv_memo.proofs.Laying.{some-of, one_of-all, kept_node, no_entry_at, number_in}
 
 any-of-map : {X : Type 0} (p : X → Bool) (xs : List X) → list_any (λ b. b) (map p xs) ≡ list_any p xs
 any-of-map p [] = refl
@@ -43,6 +43,18 @@ met_none (Overwrite at n) = refl
 met_none (Insert at n) = refl
 met_none (Delete at n) = refl
 met_none Append = refl
+
+behind_none : (change : Change) → behind_by change [] ≡ 0
+behind_none (Overwrite at n) = refl
+behind_none (Insert at n) = refl
+behind_none (Delete at n) = refl
+behind_none Append = refl
+
+ended_none : (change : Change) → ended_by change [] ≡ 0
+ended_none (Overwrite at n) = refl
+ended_none (Insert at n) = refl
+ended_none (Delete at n) = refl
+ended_none Append = refl
 
 -- a sum over rows is no more than one over the numbers of the rows that count
 rows-numbers : (f : List Use → ℕ) (g : ℕ → ℕ) (rows : List (List Use)) (n : ℕ) → f [] ≡ 0 → ((i : ℕ) → f (row rows i) ≤ g i) → ((i : ℕ) → n ≤ i → f (row rows i) ≡ 0) → sum_by f rows ≤ sum_by g (numbers_from 0 n)
@@ -82,6 +94,17 @@ module _ {N V F : Type 0} where
   past [] i h = absurd (cc)
   past (p ∷ ps) zero h = omega arith
   past (p ∷ ps) (suc i) h = let lt = past ps i h in omega arith
+
+  -- what holds of the uses of all entries holds of those of each kept slot
+  pub kept-within : (pages : ℕ) (ps : List (N × Slot V F)) (l : Linked) → AreLinked ps l → AllByRecursion (λ e. AreWithin pages e.uses) (entries_of ps l) → (s : ℕ) → is_kept l.kept s ≡ true → AreWithin pages (row l.uses s)
+  kept-within pages ps l h all s k =
+      let kept : IsKept ps s = sym (h.kept s) ∙ k in
+      let node = some-of (node_at ps s) (kept_node ps s kept) in
+      let answer = some-of (answer_at (slots_of ps) s) kept in
+      let x : Entry N (Result V F) = record { node = node.0; answer = answer.0; asked = nodes_at ps (row l.asked s); uses = row l.uses s } in
+      let at : entry_at ps l s ≡ Some x = λ j. entry_with (node.1 j) (answer.1 j) (nodes_at ps (row l.asked s)) (row l.uses s) in
+      let lt = past ps s kept in
+      one_of-all (λ (e : Entry N (Result V F)). AreWithin pages e.uses) (entries_of ps l) all x (find_entry ps l (numbers_from 0 (length ps)) s x (number_in 0 (length ps) s (omega arith) (omega arith)) at)
 
   -- the slots that go are there
   pub waits-in : (change : Change) (ps : List (N × Slot V F)) (l m : Linked) → AreLinked ps l → Forgets l m change → All (λ s. s < length ps) m.waits
@@ -395,22 +418,36 @@ module _ {N V F : Type 0} where
     same_parts = λ j. sum_by (λ s. 4 * length (row (f.asked j) s) + 4 * length (pages_in (row (f.uses j) s))) m.waits
 
     -- the uses of all slots are those of the kept ones
-    met-all : ((s : ℕ) → is_kept l.kept s ≡ false → row l.uses s ≡ []) → sum_by (met_by change) l.uses ≤ sum_by (λ e. met_by change e.uses) (entries_of ps l)
-    met-all vacant =
-        let a = rows-numbers (met_by change) (λ i. cond (is_kept l.kept i) (met_by change (row l.uses i)) 0) l.uses (length ps) (met_none change) (λ i. by i (cases_Bool (is_kept l.kept i))) (λ i le. ap (met_by change) (vacant i (h.kept i ∙ ap is_some (none_after ps i le))) ∙ met_none change) in
-        let b = entry-sum (λ e. met_by change e.uses) (λ i. met_by change (row l.uses i)) (λ i e at. ap (met_by change) (uses_same i e at)) nums in
+    uses-all : (of : List Use → ℕ) → of [] ≡ 0 → ((s : ℕ) → is_kept l.kept s ≡ false → row l.uses s ≡ []) → sum_by of l.uses ≤ sum_by (λ e. of e.uses) (entries_of ps l)
+    uses-all of none vacant =
+        let a = rows-numbers of (λ i. cond (is_kept l.kept i) (of (row l.uses i)) 0) l.uses (length ps) none (λ i. by i (cases_Bool (is_kept l.kept i))) (λ i le. ap of (vacant i (h.kept i ∙ ap is_some (none_after ps i le))) ∙ none) in
+        let b = entry-sum (λ e. of e.uses) (λ i. of (row l.uses i)) (λ i e at. ap of (uses_same i e at)) nums in
         omega arith
       where
-        by : (i : ℕ) → (is_kept l.kept i ≡ true) ⊎ (is_kept l.kept i ≡ false) → met_by change (row l.uses i) ≤ cond (is_kept l.kept i) (met_by change (row l.uses i)) 0
-        by i (inl e) = let k = ap (λ b. cond b (met_by change (row l.uses i)) 0) e in omega arith
-        by i (inr e) = let k = ap (met_by change) (vacant i e) ∙ met_none change in omega arith
+        by : (i : ℕ) → (is_kept l.kept i ≡ true) ⊎ (is_kept l.kept i ≡ false) → of (row l.uses i) ≤ cond (is_kept l.kept i) (of (row l.uses i)) 0
+        by i (inl e) = let k = ap (λ b. cond b (of (row l.uses i)) 0) e in omega arith
+        by i (inr e) = let k = ap of (vacant i e) ∙ none in omega arith
 
     pub looks-most : ((s : ℕ) → is_kept l.kept s ≡ false → row l.uses s ≡ []) → (IsOverwrite change → m.looks ≤ pages_met change + 3 * sum_by (met_by change) l.uses + 1 + 4 * length m.waits + 2 * asks_of l.asked m.waits) → (looked : ℕ) → looked ≤ n.looks + count → IsOverwrite change
         → looked ≤ pages_met change + 3 * sum_by (λ e. met_by change e.uses) (entries_of ps l) + 9 * length (entries_gone all_marks) + 6 * sum_by (λ e. length e.asked) (entries_gone all_marks) + 4 * sum_by (λ e. length (pages_in e.uses)) (entries_gone all_marks) + 2
     looks-most vacant most looked le over =
         let a = most over in
         let b = g.taken.most in
-        let c = met-all vacant in
+        let c = uses-all (met_by change) (met_none change) vacant in
+        let d = waits-sum (λ e. length e.asked) (λ i. length (row l.asked i)) asked_count in
+        let e = waits-sum (λ e. length (pages_in e.uses)) (λ i. length (pages_in (row l.uses i))) (λ i e at. ap (λ us. length (pages_in us)) (uses_same i e at)) in
+        let p = same_parts in
+        let q = two_sums (λ s. length (row l.asked s)) (λ s. length (pages_in (row l.uses s))) m.waits in
+        let r = gone-most in
+        omega arith
+
+    pub looks-behind : (pages : ℕ) → ((s : ℕ) → is_kept l.kept s ≡ false → row l.uses s ≡ []) → (IsMove change → m.looks ≤ 2 * pages_behind change pages + 3 * sum_by (behind_by change) l.uses + 3 * sum_by (ended_by change) l.uses + 2 + 4 * length m.waits + 2 * asks_of l.asked m.waits) → (looked : ℕ) → looked ≤ n.looks + count → IsMove change
+        → looked ≤ 2 * pages_behind change pages + 3 * sum_by (λ e. behind_by change e.uses) (entries_of ps l) + 3 * sum_by (λ e. ended_by change e.uses) (entries_of ps l) + 9 * length (entries_gone all_marks) + 6 * sum_by (λ e. length e.asked) (entries_gone all_marks) + 4 * sum_by (λ e. length (pages_in e.uses)) (entries_gone all_marks) + 3
+    looks-behind pages vacant most looked le moves =
+        let a = most moves in
+        let b = g.taken.most in
+        let c = uses-all (behind_by change) (behind_none change) vacant in
+        let c2 = uses-all (ended_by change) (ended_none change) vacant in
         let d = waits-sum (λ e. length e.asked) (λ i. length (row l.asked i)) asked_count in
         let e = waits-sum (λ e. length (pages_in e.uses)) (λ i. length (pages_in (row l.uses i))) (λ i e at. ap (λ us. length (pages_in us)) (uses_same i e at)) in
         let p = same_parts in

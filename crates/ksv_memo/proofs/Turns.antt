@@ -13,7 +13,7 @@ use Rattle.ksv_memo_rules.specs.Entry.{Entry}
 use Rattle.ksv_memo.specs.Open.{Open, nodes_in, newly, with_uses, with_answer}
 use Rattle.ksv_memo.specs.Nodes.{kept_of}
 use Rattle.ksv_memo_rules.specs.Right.{nodes_of, HasEachOnce, IsRight, fresh, costs, counted, Agrees}
-use Rattle.ksv_memo.specs.Running.{HasCome, IsWaiting, HasEnded, HasStepped, IsStack, climbed, value_of, calls_of, calls_left, climbed_rest, rest_of, rest_at, to_keep, debt, made, Counts, account_of, account_at, HasFinished, GoesOn, IsLeft, AreSame, AreAmong}
+use Rattle.ksv_memo.specs.Running.{HasCome, IsWaiting, HasEnded, HasStepped, IsStack, climbed, value_of, calls_of, calls_left, climbed_rest, rest_of, rest_at, to_keep, debt, made, Counts, account_of, account_at, HasFinished, GoesOn, IsLeft}
 use Rattle.ksv_memo_rules.proofs.Lists.{All-right}
 use Rattle.ksv_memo_rules.proofs.Evals.{IsOut, eqb_true, AreDistinct-cons, tells-free}
 use Rattle.ksv_memo_rules.proofs.Keeping.{IsIn, IsIn-append, AreDistinct-none, done-kept, agrees, self_in, nodes_of-append}

@@ -1,4 +1,5 @@
 pub mod Near
+pub mod Behind
 pub mod Open
 pub mod Layout
 pub mod Slotted
@@ -9,3 +10,4 @@ pub mod Sweep
 pub mod Emptying
 pub mod Running
 pub mod Answers
+pub mod Resting

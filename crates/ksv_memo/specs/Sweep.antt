@@ -5,7 +5,7 @@ use Rattle.std.specs.List.{AllByRecursion, list_any}
 use Rattle.ksv_bytes.specs.declared.uses.Change.{Change}
 use Rattle.ksv_bytes.specs.Uses.{is_use_touched}
 use Rattle.ksv_memo_links.specs.Touching.{pages_in}
-use Rattle.ksv_memo_links.specs.Links.{IsOverwrite, pages_met, met_by}
+use Rattle.ksv_memo_links.specs.Links.{IsOverwrite, IsMove, pages_met, met_by, pages_behind, behind_by, ended_by}
 use Rattle.ksv_memo_rules.specs.Entry.{Entry}
 use Rattle.ksv_memo.specs.Layout.{IsOneOf}
 
@@ -46,11 +46,13 @@ entries_left ks = entries_with (filter (λ k. not k.goes) ks)
 abbrev pub entries_gone : {N A : Type 0} → List (Mark N A) → List (Entry N A)
 entries_gone ks = entries_with (filter (λ k. k.goes) ks)
 
--- the entries are marked, and those stay that don't go; so many looks were made
-pub record Sweeps {N A : Type 0} (change : Change) (before after : List (Entry N A)) (looked : ℕ) : Type 0 where
+-- the entries are marked, and those stay that don't go; so many looks were made, where the uses of the entries are
+-- within so many pages
+pub record Sweeps {N A : Type 0} (change : Change) (pages : ℕ) (before after : List (Entry N A)) (looked : ℕ) : Type 0 where
   pub marks : List (Mark N A)
   pub entries : entries_with marks ≡ before
   pub marked : AllByRecursion (IsMarked change marks) marks
   pub stays : after ≡ entries_left marks
   pub least : length (entries_gone marks) ≤ looked
   pub most : IsOverwrite change → looked ≤ pages_met change + 3 * sum_by (λ e. met_by change e.uses) before + 9 * length (entries_gone marks) + 6 * sum_by (λ e. length e.asked) (entries_gone marks) + 4 * sum_by (λ e. length (pages_in e.uses)) (entries_gone marks) + 2
+  pub behind : IsMove change → looked ≤ 2 * pages_behind change pages + 3 * sum_by (λ e. behind_by change e.uses) before + 3 * sum_by (λ e. ended_by change e.uses) before + 9 * length (entries_gone marks) + 6 * sum_by (λ e. length e.asked) (entries_gone marks) + 4 * sum_by (λ e. length (pages_in e.uses)) (entries_gone marks) + 3

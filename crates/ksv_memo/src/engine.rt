@@ -1,13 +1,16 @@
 //! The engine's public face.
-ghost use Rattle.std.specs.Prelude.{◌≡◌, ◌++◌, ℕ, List, [], Some, None, length, Contains, IfOk, OnOk, OnErr};
+ghost use Rattle.std.specs.Prelude.{◌≡◌, ◌++◌, ◌≤◌, ℕ, List, [], Some, None, length, Contains, IfOk, OnOk, OnErr};
 ghost use Rattle.std.specs.List.{AllByRecursion};
 ghost use Rattle.ksv_bytes.specs.Uses.{Makes};
 ghost use Rattle.ksv_memo_rules.specs.Meaning.{on};
 ghost use Rattle.ksv_memo_rules.specs.Evaluation.{tells, done};
 ghost use Rattle.ksv_memo_rules.specs.Right.{IsRight, AreExactly, AreBetween, nodes_of, fresh, costs};
 ghost use Rattle.ksv_memo_rules.specs.Touched.{left_after};
+ghost use Rattle.ksv_memo_links.specs.Links.{IsMove};
 ghost use Rattle.ksv_memo.specs.Near.{IsWrite, LooksNear};
+ghost use Rattle.ksv_memo.specs.Behind.{LooksBehind};
 ghost use Rattle.ksv_memo.specs.Answers.{answer_of, turns_after};
+ghost use Rattle.ksv_memo.specs.Resting.{left_reach};
 
 use crate::machine::Machine;
 use ksv_bytes::{Buffer, Change};
@@ -26,6 +29,21 @@ pub enum Answer<N, V, F> {
     Circle(N),
 }
 
+/// How many bytes a page has.
+const PAGE: usize = 64;
+
+/// A place behind which no node that a change leaves uses a byte or a place, if it was one before the change.
+fn reach_after(change: Change, reach: usize) -> usize
+    ensures { result ≡ left_reach change reach }
+{
+    match change {
+        Change::Overwrite { .. } => reach,
+        Change::Insert { at, .. } => reach.min(at),
+        Change::Delete { at, .. } => reach.min(at),
+        Change::Append => reach,
+    }
+}
+
 /// An engine that answers nodes by rules over the bytes of a file, and keeps the answers.
 ///
 /// It is *right* for rules and bytes if each kept node has the answer, the asked nodes and the uses that evaluation
@@ -34,17 +52,19 @@ pub enum Answer<N, V, F> {
 pub struct Engine<R: Rules> {
     machine: Machine<R>,
     looked: u64,
+    reach: usize,
 }
 
 impl<R: Rules> Model for Engine<R> {
     ghost use Rattle.std.specs.Prelude.{◌≡◌, [], Result};
     ghost use Rattle.ksv_memo_rules.specs.Entry.{Memo};
+    ghost use Rattle.ksv_memo.specs.Resting.{IsResting};
 
     ghost Value = { Memo R.Node (Result R.Value R.Fault) };
 
-    ghost view = { λ engine. record { kept = engine.machine.table.kept; turns = engine.machine.turns; looked = engine.looked } };
+    ghost view = { λ engine. record { kept = engine.machine.table.kept; turns = engine.machine.turns; looked = engine.looked; reach = engine.reach } };
 
-    ghost invariant = { λ engine. engine.machine.table.opened ≡ [] };
+    ghost invariant = { λ engine. IsResting engine.machine.table engine.reach };
 }
 
 impl<R: Rules> Engine<R> {
@@ -53,11 +73,13 @@ impl<R: Rules> Engine<R> {
         ensures kept { result.kept ≡ [] }
         ensures turns { result.turns ≡ Some 0 }
         ensures looked { result.looked ≡ 0 }
+        ensures reach { result.reach ≡ 0 }
         ensures right { (rules : R) (bytes : List ℕ) → IsRight (on (R.meaning rules) bytes) result.kept }
     {
         Engine {
             machine: Machine::new(alloc),
             looked: 0,
+            reach: 0,
         }
     }
 
@@ -66,6 +88,7 @@ impl<R: Rules> Engine<R> {
         ensures kept { self.new.kept ≡ self.old.kept }
         ensures turns { self.new.turns ≡ Some 0 }
         ensures looked { self.new.looked ≡ self.old.looked }
+        ensures reach { self.new.reach ≡ self.old.reach }
     {
         self.machine.turns = Some(0);
     }
@@ -93,7 +116,11 @@ impl<R: Rules> Engine<R> {
         // Each node that wasn't kept took a turn, and one more after each of its asks.
         ensures turns { self.new.turns ≡ turns_after (costs (on (R.meaning rules.now) bytes.now) (fresh (R.meaning rules.now).number (nodes_of self.old.kept) (done (on (R.meaning rules.now) bytes.now) [] node))) self.old.turns result }
         ensures looked { self.new.looked ≡ self.old.looked }
+
+        // What is kept reaches no further than the file.
+        ensures reach { self.new.reach ≡ length bytes.now }
     {
+        self.reach = bytes.len();
         match self.machine.ask(rules, bytes, node) {
             Ok(Outcome::Answered(Ok(value))) => Ok(Answer::Value(value)),
             Ok(Outcome::Answered(Err(fault))) => Ok(Answer::Fault(fault)),
@@ -120,8 +147,15 @@ impl<R: Rules> Engine<R> {
 
         // After an overwrite of at least one byte, the looks are no fewer than the nodes that went, and no more than near.
         ensures looked { (rules : R) (before after : List ℕ) → IsRight (on (R.meaning rules) before) self.old.kept → Makes change before after → IsWrite change → LooksNear (on (R.meaning rules) before) change self.old.kept self.new.looked }
+
+        // After any other edit, they are no more than what is behind its place.
+        ensures behind { (rules : R) (before : List ℕ) → IsRight (on (R.meaning rules) before) self.old.kept → IsMove change → LooksBehind (on (R.meaning rules) before) change self.old.reach self.old.kept self.new.looked }
+
+        // What is kept reaches no further than the file after the edit, if it did so before it.
+        ensures reach { (before after : List ℕ) → Makes change before after → self.old.reach ≤ length before → self.new.reach ≤ length after }
     {
-        self.looked = self.machine.table.forget(change);
+        self.looked = self.machine.table.forget(change, self.reach / PAGE + 1);
+        self.reach = reach_after(change, self.reach);
     }
 
     /// The looks of the last `forget`. A look reads or writes one entry; or one item, or the length, of one list: of an

@@ -19,6 +19,7 @@
 //! Definitions (`specs/`):
 //!
 //! - `Answers`: the answer to a question, and the turns that are counted for it
+//! - `Behind`: how few looks an insert, a delete or an append takes
 //! - `Calls`: what one call of the rules does to frames and the count of turns, for private contracts
 //! - `Emptying`: how slots that are taken are emptied, for private contracts
 //! - `Layout`: how the table keeps nodes, and the lists that this stands for, for private contracts
@@ -26,6 +27,7 @@
 //! - `Near`: how few looks an overwrite takes
 //! - `Nodes`: the table as the machine sees it, for private contracts
 //! - `Open`: the open nodes, as contracts see them
+//! - `Resting`: an engine between two calls, for private contracts
 //! - `Running`: the invariants of the machine, for private contracts
 //! - `Slotted`: the slots as contracts see them, for private contracts
 //! - `Sweep`: what an edit takes, entry by entry, for private contracts
@@ -35,6 +37,7 @@
 //! - `Change`: what is still right when the bytes change
 //! - `Changing`: links and frames after one slot has changed
 //! - `Emptying`: slots are emptied one after another
+//! - `Ends`: what is kept ends by the engine's reach
 //! - `Finding`: what a look-up in the map says of the slots
 //! - `Forgetting`: what forgetting takes is what an edit takes, and the rest is right
 //! - `Knowing`: which nodes are kept or open, read from the slots

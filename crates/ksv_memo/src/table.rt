@@ -1,6 +1,7 @@
 //! The table of kept and open nodes.
-ghost use Rattle.std.specs.List.{All, AllPairs};
+ghost use Rattle.std.specs.List.{All, AllByRecursion, AllPairs};
 ghost use Rattle.std.specs.Prelude.{◌≡◌, ◌≢◌, ◌<◌, ◌≤◌, ℕ, [], Some, length, true, option_map, nat_lt, IfOk, IfSome, IfNone, OnOk, OnErr};
+ghost use Rattle.ksv_memo_links.specs.Touching.{AreWithin};
 ghost use Rattle.ksv_memo_rules.specs.Meaning.{on};
 ghost use Rattle.ksv_memo.specs.Layout.{IsLaidOut};
 ghost use Rattle.ksv_memo.specs.Nodes.{Asks, Closes, MayKeep, Seeks, Starts, Steps, TakesFirst, is_there, nodes_with};
@@ -233,14 +234,16 @@ impl<R: Rules> Table<R> {
     }
 
     /// Takes out each kept node that a change touches or that asked one that goes, in its tree. No node is open. It takes
-    /// no memory. An overwrite looks only near. How many looks it took, which stop at 2^64 - 1.
-    pub(crate) fn forget(&mut self, change: Change) -> u64
-        requires { self.old.opened ≡ [] }
-        ensures kept { Sweeps change self.old.kept self.new.kept result }
+    /// no memory. The uses of kept nodes are within so many pages. An overwrite looks only near, and any other edit at
+    /// what is behind it. How many looks it took, which stop at 2^64 - 1.
+    pub(crate) fn forget(&mut self, change: Change, pages: usize) -> u64
+        requires opened { self.old.opened ≡ [] }
+        requires within { AllByRecursion (λ entry. AreWithin pages entry.uses) self.old.kept }
+        ensures kept { Sweeps change pages self.old.kept self.new.kept result }
         ensures opened { self.new.opened ≡ [] }
     {
         self.frames.asked.clear();
-        self.links.forget(change);
+        self.links.forget(change, pages);
         empty_taken(&mut self.slots, &mut self.links);
         self.links.looks().saturating_add(self.slots.looks())
     }

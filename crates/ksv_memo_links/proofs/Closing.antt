@@ -1,27 +1,27 @@
 -- What was marked is what has to go.
-use Rattle.std.proofs.Common.{◌≡◌, ◌≢◌, ◌⊎◌, inl, inr, Bool, true, false, cond, eqb, ℕ, suc, ◌+◌, ◌-◌, ◌*◌, ◌<◌, ◌≤◌, max, min, List, [], ◌∷◌, length, take, get_or, Contains, refl, sym, ◌∙◌, ap, subst, arith, true≢false, sum_by, count_by}
+use Rattle.std.proofs.Common.{◌≡◌, ◌≢◌, ◌⊎◌, inl, inr, Bool, true, false, cond, eqb, ℕ, suc, ◌+◌, ◌-◌, ◌*◌, ◌<◌, ◌≤◌, max, min, List, [], ◌∷◌, length, take, get_or, Contains, refl, sym, ◌∙◌, ap, subst, arith, true≢false, sum_by, count_by, nat_eq, nat_lt, nat_le, ◌||◌}
 use Rattle.std.proofs.lemmas.List.Sums.{sum_by-cons}
 use Rattle.std.proofs.lemmas.Bool.{cases_lt, cases_Bool}
 use Rattle.std.proofs.lemmas.Bool.Decides.{eqb_tells}
 use Rattle.std.proofs.lemmas.List.{take_all, get_or-map, get_or_default}
 use Rattle.ksv_bytes.specs.declared.uses.Use.{Use}
 use Rattle.ksv_bytes.specs.declared.uses.Change.{Change}
-use Rattle.ksv_bytes.specs.declared.uses.Change.TheVariants.{Overwrite}
+use Rattle.ksv_bytes.specs.declared.uses.Change.TheVariants.{Overwrite, Insert, Delete, Append}
 use Rattle.ksv_memo_links.specs.declared.shelf.Pin.{Pin}
 use Rattle.ksv_memo_links.specs.declared.parts.Parts.{Parts}
 use Rattle.ksv_memo_links.specs.Shelved.{row}
-use Rattle.ksv_memo_links.specs.Touching.{pages_in}
-use Rattle.ksv_memo_links.specs.Linked.{named, one_if, at, IsLinked, IsBoard}
+use Rattle.ksv_memo_links.specs.Touching.{pages_in, ends_in}
+use Rattle.ksv_memo_links.specs.Linked.{named, one_if, at, IsLinked, IsBoard, HasEnds}
 use Rattle.ksv_memo_links.specs.Links.{is_hit, IsHit, here, through, Forgets, first_page, end_page, pages_met, met_by}
 use Rattle.ksv_memo_links.specs.Marking.{is_kept, IsMarking}
-use Rattle.ksv_memo_links.specs.Forgetting.{item_at, SameLinks, MarksMore, IsEdit, Why, HitsPages, HitsTouched, Spreads, IsWhole, IsNear, linked_of, lengths, looks, sizes}
+use Rattle.ksv_memo_links.specs.Forgetting.{item_at, SameLinks, MarksMore, IsEdit, Why, AreAllWithin, HitsRows, HitsBehind, HitsTouched, Spreads, IsWhole, IsNear, IsBehind, linked_of, lengths, looks, sizes}
 use Rattle.ksv_memo_links.proofs.Edits.{row_there}
 use Rattle.ksv_memo_links.proofs.Reaching.{named_row}
 use Rattle.ksv_memo_links.proofs.Clearing.{length-named}
 use Rattle.ksv_memo_links.proofs.Mark.{stays-out}
 use Rattle.ksv_memo_links.proofs.More.{same-trans, more-trans, shaped-more}
-use Rattle.ksv_memo_links.proofs.Touches.{uses-meet}
-use Rattle.ksv_memo_links.proofs.Tallies.{within, tally, sizes-few, sizes-grow, rows-le}
+use Rattle.ksv_memo_links.proofs.Touches.{uses-meet, EndsPast, insert-past, delete-past, append-ends}
+use Rattle.ksv_memo_links.proofs.Tallies.{within, tally, sizes-few, sizes-grow, sizes-up, rows-le, tally-behind, tally-ends, tally-size}
 use Rattle.ksv_memo_links.proofs.Counting.{users_few, tally as tally_of}
 
 pub marking-none : (first : List Bool) (why : ℕ → Type 0) (work : List ℕ) → work ≡ [] → IsMarking first why first work
@@ -47,18 +47,24 @@ item_of lists notes s k m h lt e =
     let out = subst P name (back.inside, back.back) in
     (x.at, out.0, out.1)
 
+-- an item of the list of a number that a slot has
+item-at : (lists notes : List (List Pin)) (ns : List ℕ) (s m : ℕ) → IsLinked lists notes → row (named notes) s ≡ ns → Contains ns m → (a : ℕ) × (a < length (row lists m)) × ((k : ℕ) × (item_at lists m a ≡ at s k))
+item-at lists notes ns s m l e h =
+    let c = subst (λ xs. Contains xs m) (sym e) h in
+    let i = item_of lists notes s c.0 m l c.1 (get_or_default (row (named notes) s) c.0 0 m c.1 ∙ c.2) in
+    (i.0, i.1, (c.0, i.2))
+
 -- each slot that the overwrite touches is marked
-pub pages-hit : (p q : Parts) (at n s : ℕ) → IsWhole p → IsLinked p.pages.lists p.pages.notes → HitsPages p q (Overwrite at n) (first_page at) (min (end_page at n) (length p.pages.lists)) → IsHit (Overwrite at n) p.marks.kept p.uses.rows s → is_kept q.marks.kept s ≡ false
+pub pages-hit : (p q : Parts) (at n s : ℕ) → IsWhole p → IsLinked p.pages.lists p.pages.notes → HitsRows p q (Overwrite at n) p.pages.lists (first_page at) (min (end_page at n) (length p.pages.lists)) → IsHit (Overwrite at n) p.marks.kept p.uses.rows s → is_kept q.marks.kept s ≡ false
 pages-hit p q at n s w l h hit =
     let m = uses-meet at n (row p.uses.rows s) hit.touched in
-    let c = subst (λ ps. Contains ps m.page) (sym (w.met s)) m.there in
-    let i = item_of p.pages.lists p.pages.notes s c.0 m.page l c.1 (get_or_default (row (named p.pages.notes) s) c.0 0 m.page c.1 ∙ c.2) in
+    let i = item-at p.pages.lists p.pages.notes (pages_in (row p.uses.rows s)) s m.page l (w.met s) m.there in
     let there = row_there p.pages.lists m.page i.0 i.1 in
     let from = m.from in let before = m.before in
     let P : Pin → Type 0 = λ x. is_hit (Overwrite at n) p.uses.rows x.row ≡ true → is_kept q.marks.kept x.row ≡ false in
-    subst P i.2 (h.out m.page i.0 (omega arith) (omega arith) i.1) hit.touched
+    subst P i.2.1 (h.out m.page i.0 (omega arith) (omega arith) i.1) hit.touched
 
-pages-near : (p q : Parts) (at n : ℕ) → IsWhole p → IsBoard p.pages.lists p.pages.notes → HitsPages p q (Overwrite at n) (first_page at) (min (end_page at n) (length p.pages.lists)) → looks q + 2 * length p.marks.work ≤ looks p + pages_met (Overwrite at n) + 3 * sum_by (met_by (Overwrite at n)) p.uses.rows + 2 * length q.marks.work
+pages-near : (p q : Parts) (at n : ℕ) → IsWhole p → IsBoard p.pages.lists p.pages.notes → HitsRows p q (Overwrite at n) p.pages.lists (first_page at) (min (end_page at n) (length p.pages.lists)) → looks q + 2 * length p.marks.work ≤ looks p + pages_met (Overwrite at n) + 3 * sum_by (met_by (Overwrite at n)) p.uses.rows + 2 * length q.marks.work
 pages-near p q at n w b h =
     let first = first_page at in
     let end = end_page at n in
@@ -76,11 +82,98 @@ pages-near p q at n w b h =
     let k = h.looks in
     omega arith
 
-pub pages-touched : (p q : Parts) (at n : ℕ) → IsWhole p → IsBoard p.pages.lists p.pages.notes → HitsPages p q (Overwrite at n) (first_page at) (min (end_page at n) (length p.pages.lists)) → HitsTouched p q (Overwrite at n)
-pages-touched p q at n w b h = record {
+pub pages-touched : (p q : Parts) (at n pages : ℕ) → IsWhole p → IsBoard p.pages.lists p.pages.notes → HitsRows p q (Overwrite at n) p.pages.lists (first_page at) (min (end_page at n) (length p.pages.lists)) → HitsTouched p q (Overwrite at n) pages
+pages-touched p q at n pages w b h = record {
   more = h.more;
   hits = λ s hit. pages-hit p q at n s w b.linked h hit;
   near = λ o. pages-near p q at n w b h;
+  behind = λ o. absurd o;
+}
+
+-- ---- an insert or a delete
+module _ (p q : Parts) (change : Change) (place pages : ℕ) (w : IsWhole p) (all : AreAllWithin pages p) (b : IsBoard p.pages.lists p.pages.notes) (e : HasEnds p.uses.rows p.uses.lists p.uses.notes) (h : HitsBehind p q change place pages) where
+  -- each slot that it touches is marked
+  past-hit : (s : ℕ) → is_kept p.marks.kept s ≡ true → is_hit change p.uses.rows s ≡ true → EndsPast place (row p.uses.rows s) → is_kept q.marks.kept s ≡ false
+  past-hit s k t (inl (g, c, le)) =
+      let i = item-at p.pages.lists p.pages.notes (pages_in (row p.uses.rows s)) s g b.linked (w.met s) c in
+      let P : Pin → Type 0 = λ x. is_hit change p.uses.rows x.row ≡ true → is_kept q.marks.kept x.row ≡ false in
+      subst P i.2.1 (h.met g i.0 le ((all s k).met g c) i.1) t
+  past-hit s k t (inr (l, c, inl z)) =
+      let i = item-at p.uses.lists p.uses.notes (ends_in (row p.uses.rows s)) s 0 e.board.linked (e.ends s) (subst (Contains (ends_in (row p.uses.rows s))) z c) in
+      let P : Pin → Type 0 = λ x. is_hit change p.uses.rows x.row ≡ true → is_kept q.marks.kept x.row ≡ false in
+      subst P i.2.1 (h.sized i.0 i.1) t
+  past-hit s k t (inr (l, c, inr lt)) =
+      let i = item-at p.uses.lists p.uses.notes (ends_in (row p.uses.rows s)) s l e.board.linked (e.ends s) c in
+      let P : Pin → Type 0 = λ x. is_hit change p.uses.rows x.row ≡ true → is_kept q.marks.kept x.row ≡ false in
+      subst P i.2.1 (h.ended l i.0 lt ((all s k).ends l c) i.1) t
+
+  past-near : looks q + 2 * length p.marks.work ≤ looks p + 1 + 2 * (pages - first_page place) + 3 * sum_by (λ us. count_by (nat_le (first_page place)) (pages_in us)) p.uses.rows + 3 * sum_by (λ us. count_by (λ l. nat_eq l 0 || nat_lt (first_page place) l) (ends_in us)) p.uses.rows + 2 * length q.marks.work
+  past-near =
+      let f = first_page place in
+      let E = p.uses.lists in let L = p.pages.lists in
+      let m = max f pages in
+      let a = sizes-few L (named p.pages.notes) f (m - f) b.few in
+      let a1 : m - f + f ≡ m = omega arith in
+      let a2 = ap (λ k. sizes L k) a1 in
+      let a3 = ap (λ k. tally f k (named p.pages.notes)) a1 in
+      let a4 = tally-behind f m (named p.pages.notes) in
+      let a5 : sum_by (λ ns. count_by (nat_le f) ns) (named p.pages.notes) ≤ sum_by (λ us. count_by (nat_le f) (pages_in us)) p.uses.rows = rows-le (λ ns. count_by (nat_le f) ns) (λ us. count_by (nat_le f) (pages_in us)) (named p.pages.notes) p.uses.rows refl refl (λ r. ap (λ ns. count_by (nat_le f) ns) (w.met r)) in
+      let n = max (f + 1) (pages + 1) in
+      let d = sizes-few E (named p.uses.notes) (f + 1) (n - (f + 1)) e.board.few in
+      let d1 : n - (f + 1) + (f + 1) ≡ n = omega arith in
+      let d2 = ap (λ k. sizes E k) d1 in
+      let d3 = ap (λ k. tally (f + 1) k (named p.uses.notes)) d1 in
+      let z = sizes-few E (named p.uses.notes) 0 1 e.board.few in
+      let d4 = tally-ends f n (named p.uses.notes) in
+      let d5 : sum_by (λ ns. count_by (λ l. nat_eq l 0 || nat_lt f l) ns) (named p.uses.notes) ≤ sum_by (λ us. count_by (λ l. nat_eq l 0 || nat_lt f l) (ends_in us)) p.uses.rows = rows-le (λ ns. count_by (λ l. nat_eq l 0 || nat_lt f l) ns) (λ us. count_by (λ l. nat_eq l 0 || nat_lt f l) (ends_in us)) (named p.uses.notes) p.uses.rows refl refl (λ r. ap (λ ns. count_by (λ l. nat_eq l 0 || nat_lt f l) ns) (e.ends r)) in
+      let k = h.looks in
+      omega arith
+
+pub insert-touched : (p q : Parts) (at n pages : ℕ) → IsWhole p → AreAllWithin pages p → IsBoard p.pages.lists p.pages.notes → HasEnds p.uses.rows p.uses.lists p.uses.notes → HitsBehind p q (Insert at n) at pages → HitsTouched p q (Insert at n) pages
+insert-touched p q at n pages w all b e h = record {
+  more = h.more;
+  hits = λ s hit. past-hit p q (Insert at n) at pages w all b e h s hit.was_kept hit.touched (insert-past at n (row p.uses.rows s) hit.touched);
+  near = λ o. absurd o;
+  behind = λ o. past-near p q (Insert at n) at pages w all b e h;
+}
+
+pub delete-touched : (p q : Parts) (at n pages : ℕ) → IsWhole p → AreAllWithin pages p → IsBoard p.pages.lists p.pages.notes → HasEnds p.uses.rows p.uses.lists p.uses.notes → HitsBehind p q (Delete at n) at pages → HitsTouched p q (Delete at n) pages
+delete-touched p q at n pages w all b e h = record {
+  more = h.more;
+  hits = λ s hit. past-hit p q (Delete at n) at pages w all b e h s hit.was_kept hit.touched (delete-past at n (row p.uses.rows s) hit.touched);
+  near = λ o. absurd o;
+  behind = λ o. past-near p q (Delete at n) at pages w all b e h;
+}
+
+-- ---- an append
+sized-hit : (p q : Parts) (s : ℕ) → HasEnds p.uses.rows p.uses.lists p.uses.notes → HitsRows p q Append p.uses.lists 0 (min 1 (length p.uses.lists)) → IsHit Append p.marks.kept p.uses.rows s → is_kept q.marks.kept s ≡ false
+sized-hit p q s e h hit =
+    let c = append-ends (row p.uses.rows s) hit.touched in
+    let i = item-at p.uses.lists p.uses.notes (ends_in (row p.uses.rows s)) s 0 e.board.linked (e.ends s) c in
+    let there = row_there p.uses.lists 0 i.0 i.1 in
+    let P : Pin → Type 0 = λ x. is_hit Append p.uses.rows x.row ≡ true → is_kept q.marks.kept x.row ≡ false in
+    subst P i.2.1 (h.out 0 i.0 (omega arith) (omega arith) i.1) hit.touched
+
+sized-near : (p q : Parts) → HasEnds p.uses.rows p.uses.lists p.uses.notes → HitsRows p q Append p.uses.lists 0 (min 1 (length p.uses.lists)) → looks q + 2 * length p.marks.work ≤ looks p + 1 + 3 * sum_by (λ us. count_by (λ l. nat_eq l 0) (ends_in us)) p.uses.rows + 2 * length q.marks.work
+sized-near p q e h =
+    let E = p.uses.lists in
+    let z = sizes-few E (named p.uses.notes) 0 1 e.board.few in
+    let s1 = sizes-up E (max 0 (min 1 (length E))) 1 (omega arith) in
+    let d4 = tally-size (named p.uses.notes) in
+    let d5 : sum_by (λ ns. count_by (λ l. nat_eq l 0) ns) (named p.uses.notes) ≤ sum_by (λ us. count_by (λ l. nat_eq l 0) (ends_in us)) p.uses.rows = rows-le (λ ns. count_by (λ l. nat_eq l 0) ns) (λ us. count_by (λ l. nat_eq l 0) (ends_in us)) (named p.uses.notes) p.uses.rows refl refl (λ r. ap (λ ns. count_by (λ l. nat_eq l 0) ns) (e.ends r)) in
+    let k = h.looks in
+    omega arith
+
+zeros : {X : Type 0} (xs : List X) → sum_by (λ x. 0) xs ≡ 0
+zeros [] = refl
+zeros {X} (x ∷ xs) = let c = sum_by-cons (λ (y : X). 0) x xs in let r = zeros xs in omega arith
+
+pub append-touched : (p q : Parts) (pages : ℕ) → HasEnds p.uses.rows p.uses.lists p.uses.notes → HitsRows p q Append p.uses.lists 0 (min 1 (length p.uses.lists)) → HitsTouched p q Append pages
+append-touched p q pages e h = record {
+  more = h.more;
+  hits = λ s hit. sized-hit p q s e h hit;
+  near = λ o. absurd o;
+  behind = λ o. (let a = sized-near p q e h in omega arith);
 }
 
 user-reached : (p q r : Parts) (s i asked : ℕ) → IsLinked p.users.lists p.users.notes → i < length (row (named p.users.notes) s) → get_or (row (named p.users.notes) s) i 0 ≡ asked → SameLinks p q → Spreads q r (length r.marks.work) 1 → Contains r.marks.work asked → is_kept r.marks.kept s ≡ false
@@ -93,12 +186,12 @@ user-reached p q r s i asked l lt e same spread c =
     ap (λ (x : Pin). is_kept r.marks.kept x.row) (sym a.2) ∙ out
 
 -- and each slot from which a marked one is reached
-all-reached : (p q r : Parts) (change : Change) → IsWhole p → IsLinked p.users.lists p.users.notes → HitsTouched p q change → Spreads q r (length r.marks.work) 1 → IsMarking p.marks.kept (Why p p.marks.kept change) r.marks.kept r.marks.work → (s : ℕ) → is_kept p.marks.kept s ≡ true → Why p p.marks.kept change s → is_kept r.marks.kept s ≡ false
-all-reached p q r change w l h spread m _ k (here s hit) = stays-out q.marks.kept r.marks.kept s spread.more.fewer (h.hits s hit)
-all-reached p q r change w l h spread m _ k (through s i lt why) =
+all-reached : (p q r : Parts) (change : Change) (pages : ℕ) → IsWhole p → IsLinked p.users.lists p.users.notes → HitsTouched p q change pages → Spreads q r (length r.marks.work) 1 → IsMarking p.marks.kept (Why p p.marks.kept change) r.marks.kept r.marks.work → (s : ℕ) → is_kept p.marks.kept s ≡ true → Why p p.marks.kept change s → is_kept r.marks.kept s ≡ false
+all-reached p q r change pages w l h spread m _ k (here s hit) = stays-out q.marks.kept r.marks.kept s spread.more.fewer (h.hits s hit)
+all-reached p q r change pages w l h spread m _ k (through s i lt why) =
     let asked = get_or (row (named p.users.notes) s) i 0 in
     let was = w.asked_kept s i k lt in
-    user-reached p q r s i asked l lt refl h.more.same spread (m.out asked was (all-reached p q r change w l h spread m asked was why))
+    user-reached p q r s i asked l lt refl h.more.same spread (m.out asked was (all-reached p q r change pages w l h spread m asked was why))
 
 -- a positive sum has a positive part
 cases_sum : (f : ℕ → ℕ) (xs : List ℕ) → 0 < sum_by f xs → (k : ℕ) × (k < length xs) × (0 < f (get_or xs k 0))
@@ -126,7 +219,7 @@ positive f xs lt = by (cases_sum f xs lt)
     by : (k : ℕ) × (k < length xs) × (0 < f (get_or xs k 0)) → (x : ℕ) × Contains xs x × (0 < f x)
     by (k, l, h) = (get_or xs k 0, (k, l, get_or_default xs k (get_or xs k 0) 0 l), h)
 
-module _ (p q r : Parts) (change : Change) (w : IsWhole p) (idle : p.marks.work ≡ []) (users : IsBoard p.users.lists p.users.notes) (h : HitsTouched p q change) (spread : Spreads q r (length r.marks.work) 1) where
+module _ (p q r : Parts) (change : Change) (pages : ℕ) (w : IsWhole p) (idle : p.marks.work ≡ []) (users : IsBoard p.users.lists p.users.notes) (h : HitsTouched p q change pages) (spread : Spreads q r (length r.marks.work) 1) where
   same : SameLinks p r
   same = same-trans p q r h.more.same spread.more.same
 
@@ -137,7 +230,7 @@ module _ (p q r : Parts) (change : Change) (w : IsWhole p) (idle : p.marks.work 
   marking = to_r.marking p.marks.kept change refl (marking-none p.marks.kept (Why p p.marks.kept change) p.marks.work idle)
 
   reached : (s : ℕ) → is_kept p.marks.kept s ≡ true → Why p p.marks.kept change s → is_kept r.marks.kept s ≡ false
-  reached s k y = all-reached p q r change w users.linked h spread marking s k y
+  reached s k y = all-reached p q r change pages w users.linked h spread marking s k y
 
   out : (s : ℕ) → Contains r.marks.work s → (is_kept p.marks.kept s ≡ true) × (is_kept r.marks.kept s ≡ false) × Why p p.marks.kept change s
   out s c =
@@ -199,6 +292,16 @@ module _ (p q r : Parts) (change : Change) (w : IsWhole p) (idle : p.marks.work 
   pub near : IsNear change p r
   near o =
       let a = h.near o in
+      let b = spread.looks in
+      let u = users_few p.users.lists (named p.users.notes) r.marks.work marking.apart users.few closed in
+      let e = ap (λ (rows : List (List Pin)). lengths rows (take (length r.marks.work) r.marks.work)) h.more.same.user_lists in
+      let f = ap (λ (ws : List ℕ). lengths p.users.lists ws) (take_all (length r.marks.work) r.marks.work (omega arith)) in
+      let z = ap (λ (ws : List ℕ). length ws) idle in
+      omega arith
+
+  pub behind : IsBehind change pages p r
+  behind o =
+      let a = h.behind o in
       let b = spread.looks in
       let u = users_few p.users.lists (named p.users.notes) r.marks.work marking.apart users.few closed in
       let e = ap (λ (rows : List (List Pin)). lengths rows (take (length r.marks.work) r.marks.work)) h.more.same.user_lists in

@@ -104,6 +104,16 @@ module _ (p q r : Parts) (slot : ℕ) (w : IsWhole p) (kept : q.marks.kept ≡ p
       by (inl e) = let m = n in let f = e.1 in omega arith
       by (inr e) = let m = n in let k = noted r.pages.notes p.pages.notes s (length p.marks.kept) (ap length (pages_other s e.1)) (w.shaped.met_in s) lt in omega arith
 
+  less_used : (s : ℕ) → 0 < length (row r.uses.rows s) → s < length r.marks.kept
+  less_used s lt = by (eqb_tells s slot)
+    where
+      n : length r.marks.kept ≡ length p.marks.kept
+      n = ap length kept_now
+
+      by : ((eqb s slot ≡ true) × (s ≡ slot)) ⊎ ((eqb s slot ≡ false) × (s ≢ slot)) → s < length r.marks.kept
+      by (inl e) = let m = n in let f = e.1 in omega arith
+      by (inr e) = let m = n in let o = ap length (uses_other s e.1) in let k = w.shaped.used_in s (omega arith) in omega arith
+
   taken_shaped : IsShaped r
   taken_shaped =
       let n = ap length kept_now in
@@ -112,7 +122,7 @@ module _ (p q r : Parts) (slot : ℕ) (w : IsWhole p) (kept : q.marks.kept ≡ p
       let v = ap length uses_now in let v1 = length-set p.uses.rows slot [] in
       let l = c.user_lists in let l1 = ap (λ b. length b.lists) users in
       let h1 = w.shaped.users in let h2 = w.shaped.lists in let h3 = w.shaped.pages in let h4 = w.shaped.uses in
-      record { users = omega arith; lists = omega arith; pages = omega arith; uses = omega arith; asked_in = less_asked; met_in = less_met }
+      record { users = omega arith; lists = omega arith; pages = omega arith; uses = omega arith; asked_in = less_asked; met_in = less_met; used_in = less_used }
 
   taken_sound : IsSound r.marks.kept r.marks.work (named r.users.notes) (named r.pages.notes) r.uses.rows
   taken_sound = record {
@@ -159,6 +169,7 @@ grown_whole p r w users pages uses kept work l1 l2 l3 l4 = whole r (record {
   uses = l4;
   asked_in = λ s lt. (let m = kept.more in let k = noted r.users.notes p.users.notes s (length p.marks.kept) (ap length (users.each s)) (w.shaped.asked_in s) lt in omega arith);
   met_in = λ s lt. (let m = kept.more in let k = noted r.pages.notes p.pages.notes s (length p.marks.kept) (ap length (pages.each s)) (w.shaped.met_in s) lt in omega arith);
+  used_in = λ s lt. (let m = kept.more in let o = ap length (uses.each s) in let k = w.shaped.used_in s (omega arith) in omega arith);
 }) (record {
   asked_kept = λ s k e lt. kept.each (get_or (row (named r.users.notes) s) k 0) ∙ ap (λ (ns : List ℕ). is_kept p.marks.kept (get_or ns k 0)) (users.each s) ∙ w.asked_kept s k (sym (kept.each s) ∙ e) (subst (λ (ns : List ℕ). k < length ns) (users.each s) lt);
   met = λ s. pages.each s ∙ w.met s ∙ ap pages_in (sym (uses.each s));
@@ -176,6 +187,7 @@ same_whole p r w s = whole r (record {
   uses = (let a = ap length s.uses in let d = w.shaped.uses in let e = ap (λ m. length m.kept) s.marks in omega arith);
   asked_in = λ t lt. (let e = ap (λ m. length m.kept) s.marks in let k = noted r.users.notes p.users.notes t (length p.marks.kept) (ap (λ rows. length (row rows t)) s.users) (w.shaped.asked_in t) lt in omega arith);
   met_in = λ t lt. (let e = ap (λ m. length m.kept) s.marks in let k = noted r.pages.notes p.pages.notes t (length p.marks.kept) (ap (λ rows. length (row rows t)) s.pages) (w.shaped.met_in t) lt in omega arith);
+  used_in = λ t lt. (let e = ap (λ m. length m.kept) s.marks in let o = ap (λ rows. length (row rows t)) s.uses in let k = w.shaped.used_in t (omega arith) in omega arith);
 }) (
     let P : List Bool → List ℕ → List (List ℕ) → List (List ℕ) → List (List Use) → Type 0 = λ k ws a g u. IsSound k ws a g u in
     subst (λ m. P m.kept m.work (named r.users.notes) (named r.pages.notes) r.uses.rows) (sym s.marks)
@@ -248,6 +260,13 @@ module _ (p q r : Parts) (slot : ℕ) (asks : List ℕ) (us : List Use) (w : IsW
       by (inl e) = let m = same_count in let g = e.1 in omega arith
       by (inr e) = let m = same_count in let k = noted r.pages.notes p.pages.notes s (length p.marks.kept) (ap length (pages_still s e.1)) (w.shaped.met_in s) lt in omega arith
 
+  fill_used : (s : ℕ) → 0 < length (row r.uses.rows s) → s < length r.marks.kept
+  fill_used s lt = by (eqb_tells s slot)
+    where
+      by : ((eqb s slot ≡ true) × (s ≡ slot)) ⊎ ((eqb s slot ≡ false) × (s ≢ slot)) → s < length r.marks.kept
+      by (inl e) = let m = same_count in let g = e.1 in omega arith
+      by (inr e) = let m = same_count in let o = ap length (uses_still s e.1) in let k = w.shaped.used_in s (omega arith) in omega arith
+
   filled_shaped : IsShaped r
   filled_shaped =
       let n = same_count in
@@ -256,7 +275,7 @@ module _ (p q r : Parts) (slot : ℕ) (asks : List ℕ) (us : List Use) (w : IsW
       let v = ap length uses_fill in let v1 = length-set p.uses.rows slot us in
       let l = f.user_lists in let l1 = ap (λ b. length b.lists) users in
       let h1 = w.shaped.users in let h2 = w.shaped.lists in let h3 = w.shaped.pages in let h4 = w.shaped.uses in
-      record { users = omega arith; lists = omega arith; pages = omega arith; uses = omega arith; asked_in = fill_asked; met_in = fill_met }
+      record { users = omega arith; lists = omega arith; pages = omega arith; uses = omega arith; asked_in = fill_asked; met_in = fill_met; used_in = fill_used }
 
   none_waits : (s : ℕ) → Contains r.marks.work s → ⊥
   none_waits s c = let lt = c.1 in let z = ap (λ (ws : List ℕ). length ws) work in omega arith

@@ -19,3 +19,4 @@ pub mod Moving
 pub mod Padding
 pub mod Closing
 pub mod Keeping
+pub mod Ending

@@ -11,7 +11,7 @@ use Rattle.ksv_memo_links.specs.Linked.{named}
 use Rattle.ksv_memo_links.specs.Links.{IsHit, Reaches}
 use Rattle.ksv_memo_links.specs.Marking.{is_kept, marked_work, IsMarking, IsCounted}
 use Rattle.ksv_memo_links.specs.Forgetting.{IsShaped, SameLinks, looks, Why, MarksMore}
-use Rattle.ksv_memo_links.proofs.Mark.{kept-fewer, kept-marked, stays-out, marked-grows, mark-step}
+use Rattle.ksv_memo_links.proofs.Mark.{kept-fewer, kept-marked, marked-grows, mark-step}
 
 pub same-trans : (p q r : Parts) → SameLinks p q → SameLinks q r → SameLinks p r
 same-trans p q r h k = record {
@@ -20,6 +20,7 @@ same-trans p q r h k = record {
   pages = k.pages ∙ h.pages;
   page_lists = k.page_lists ∙ h.page_lists;
   uses = k.uses ∙ h.uses;
+  ends = k.ends ∙ h.ends;
 }
 
 pub shaped-more : (p q : Parts) → IsShaped p → SameLinks p q → length q.marks.kept ≡ length p.marks.kept → IsShaped q
@@ -30,6 +31,7 @@ shaped-more p q h s e = record {
   uses = (let a = ap (λ (rows : List (List Use)). length rows) s.uses in let b = h.uses in omega arith);
   asked_in = λ t lt. (let a = ap (λ (rows : List (List Pin)). length (row rows t)) s.users in let b = h.asked_in t (omega arith) in omega arith);
   met_in = λ t lt. (let a = ap (λ (rows : List (List Pin)). length (row rows t)) s.pages in let b = h.met_in t (omega arith) in omega arith);
+  used_in = λ t lt. (let a = ap (λ (rows : List (List Use)). length (row rows t)) s.uses in let b = h.used_in t (omega arith) in omega arith);
 }
 
 -- the reasons are those of the parts as they were

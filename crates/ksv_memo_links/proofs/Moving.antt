@@ -1,13 +1,12 @@
 -- Rows whose long ones have lists of their own.
-use Rattle.std.proofs.Common.{◌≡◌, ◌≢◌, ◌⊎◌, inl, inr, true, false, eqb, Bool, ℕ, ◌<◌, ◌≤◌, List, [], ◌∷◌, ◌++◌, length, map, set, get_or, refl, sym, ◌∙◌, ap, subst, arith}
-use Rattle.std.proofs.lemmas.List.{length-set, length-map, length_push, get_or_append_left, get_or-set_same, get_or-set_other, get_or_default, get_or-map, map-set, same_lists}
+use Rattle.std.proofs.Common.{◌≡◌, ◌≢◌, ◌⊎◌, inl, inr, true, false, eqb, ℕ, ◌<◌, ◌≤◌, List, [], length, map, set, get_or, refl, sym, ◌∙◌, ap, subst, arith}
+use Rattle.std.proofs.lemmas.List.{length-set, length-map, get_or-set_same, get_or-set_other, get_or_default, get_or-map, map-set, same_lists}
 use Rattle.std.proofs.lemmas.Bool.Decides.{eqb_tells}
 use Rattle.ksv_memo_links.specs.declared.shelf.Pin.{Pin}
 use Rattle.ksv_memo_links.specs.declared.pins.Pins.{Pins}
 use Rattle.ksv_memo_links.specs.declared.pins.Pins.TheVariants.{Empty, One, Two, Three, Long}
-use Rattle.ksv_memo_links.specs.Placed.{pins_of, IsInside, HasOwn, Moves}
+use Rattle.ksv_memo_links.specs.Placed.{pins_of, HasOwn, Moves}
 use Rattle.ksv_memo_links.specs.Shelved.{row}
-use Rattle.ksv_memo_links.proofs.Edits.{row_other}
 
 -- a row at a place
 at_place : (rows : List Pins) (r : ℕ) (v : Pins) → r < length rows → v ≡ get_or rows r v → get_or rows r Empty ≡ v

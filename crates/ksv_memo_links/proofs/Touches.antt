@@ -1,15 +1,15 @@
--- A touched use meets a page that the overwrite meets.
-use Rattle.std.proofs.Common.{◌≡◌, ◌⊎◌, inl, inr, ℕ, zero, suc, ◌+◌, ◌-◌, ◌/◌, ◌<◌, ◌≤◌, max, true, nat_lt, List, [], ◌∷◌, length, get_or, Contains, sym, subst, arith}
+-- A touched use meets a page that the overwrite meets, or meets a page or ends behind the insert or the delete.
+use Rattle.std.proofs.Common.{◌≡◌, ◌⊎◌, inl, inr, ℕ, zero, suc, ◌+◌, ◌-◌, ◌/◌, ◌<◌, ◌≤◌, max, Bool, true, false, cond, nat_lt, List, [], ◌∷◌, length, get_or, Contains, refl, sym, ap, subst, arith}
 use Rattle.std.specs.List.{list_any}
 use Rattle.std.proofs.lemmas.Bool.{cases_lt}
 use Rattle.std.proofs.lemmas.Bool.Decides.{Decides-and, Decides-ltb}
-use Rattle.std.proofs.lemmas.List.Folds.{Any-from_list_any}
+use Rattle.std.proofs.lemmas.List.Folds.{Any-from_list_any, list_any-from_Any}
 use Rattle.std.proofs.lemmas.List.Elements.{Contains-append_left, Contains-append_right, Contains-push}
 use Rattle.ksv_bytes.specs.declared.uses.Use.{Use}
 use Rattle.ksv_bytes.specs.declared.uses.Use.TheVariants.{Bytes, Reach, Size}
-use Rattle.ksv_bytes.specs.declared.uses.Change.TheVariants.{Overwrite}
+use Rattle.ksv_bytes.specs.declared.uses.Change.TheVariants.{Overwrite, Insert, Delete, Append}
 use Rattle.ksv_bytes.specs.Uses.{is_use_touched}
-use Rattle.ksv_memo_links.specs.Touching.{numbers_from, pages_end, pages_of, pages_in}
+use Rattle.ksv_memo_links.specs.Touching.{numbers_from, pages_end, pages_of, pages_in, is_size, reach_of, farthest, end_at, ends_in}
 use Rattle.ksv_memo_links.specs.Links.{first_page, end_page}
 
 head-in : {X : Type 0} (x : X) (xs : List X) → Contains (x ∷ xs) x
@@ -62,3 +62,67 @@ uses-meet at n us e =
     let a = Any-from_list_any (is_use_touched (Overwrite at n)) us e in
     let m = use-meets at n a.1 a.4 in
     record { page = m.page; there = part-in us a.0 a.1 m.page a.2 a.3 m.there; from = m.from; before = m.before }
+
+-- ---- an insert or a delete
+-- a use ends behind a place, or is of the size
+abbrev pub IsPast : ℕ → Use → Type 0
+IsPast at (Bytes f t) = at < t
+IsPast at (Reach t) = at < t
+IsPast at Size = Unit {0}
+
+past-insert : (at n : ℕ) (u : Use) → is_use_touched (Insert at n) u ≡ true → IsPast at u
+past-insert at n (Bytes f t) e = (Decides-ltb at t).0 e
+past-insert at n (Reach t) e = (Decides-ltb at t).0 e
+past-insert at n Size e = tt
+
+past-delete : (at n : ℕ) (u : Use) → is_use_touched (Delete at n) u ≡ true → IsPast at u
+past-delete at n (Bytes f t) e = (Decides-ltb at t).0 e
+past-delete at n (Reach t) e = (Decides-ltb at t).0 e
+past-delete at n Size e = tt
+
+-- the page that they meet there, or where they end
+abbrev pub EndsPast : ℕ → List Use → Type 0
+EndsPast at us = ((g : ℕ) × Contains (pages_in us) g × (first_page at ≤ g)) ⊎ ((l : ℕ) × Contains (ends_in us) l × ((l ≡ 0) ⊎ (first_page at < l)))
+
+farthest-most : (us : List Use) (k : ℕ) (u : Use) → k < length us → get_or us k u ≡ u → reach_of u ≤ farthest us
+farthest-most [] k u lt e = absurd (omega arith)
+farthest-most (v ∷ us) zero u lt e = let n = ap reach_of e in omega arith
+farthest-most (v ∷ us) (suc k) u lt e = let n = farthest-most us k u (omega arith) e in omega arith
+
+pub size-ends : (us : List Use) → list_any is_size us ≡ true → Contains (ends_in us) 0
+size-ends us e = subst (λ ls. Contains ls 0) (sym (ap (λ b. cond b (0 ∷ []) (end_at (farthest us))) e)) (head-in 0 [])
+
+end-past : (at f : ℕ) → at < f → (l : ℕ) × Contains (end_at f) l × (first_page at < l)
+end-past at zero lt = absurd (omega arith)
+end-past at (suc f) lt = (f / 64 + 1, head-in (f / 64 + 1) [], omega arith)
+
+reach-past : (at : ℕ) (us : List Use) → at < farthest us → EndsPast at us
+reach-past at us lt = by (list_any is_size us) refl
+  where
+    by : (b : Bool) → list_any is_size us ≡ b → EndsPast at us
+    by true e = inr (0, size-ends us e, inl refl)
+    by false e =
+        let x = end-past at (farthest us) lt in
+        inr (x.0, subst (λ ls. Contains ls x.0) (sym (ap (λ b. cond b (0 ∷ []) (end_at (farthest us))) e)) x.1, inr x.2)
+
+use-past : (at : ℕ) (us : List Use) (k : ℕ) (u : Use) → k < length us → get_or us k u ≡ u → IsPast at u → EndsPast at us
+use-past at us k (Bytes f t) lt e p =
+    let g = max f (t - 1) / 64 in
+    inl (g, part-in us k (Bytes f t) g lt e (numbers-in (f / 64) (pages_end f t - f / 64) g (omega arith) (omega arith)), omega arith)
+use-past at us k (Reach t) lt e p = let n = farthest-most us k (Reach t) lt e in reach-past at us (omega arith)
+use-past at us k Size lt e p = inr (0, size-ends us (list_any-from_Any is_size us (k, Size, lt, e, refl)), inl refl)
+
+pub insert-past : (at n : ℕ) (us : List Use) → list_any (is_use_touched (Insert at n)) us ≡ true → EndsPast at us
+insert-past at n us e = let a = Any-from_list_any (is_use_touched (Insert at n)) us e in use-past at us a.0 a.1 a.2 a.3 (past-insert at n a.1 a.4)
+
+pub delete-past : (at n : ℕ) (us : List Use) → list_any (is_use_touched (Delete at n)) us ≡ true → EndsPast at us
+delete-past at n us e = let a = Any-from_list_any (is_use_touched (Delete at n)) us e in use-past at us a.0 a.1 a.2 a.3 (past-delete at n a.1 a.4)
+
+-- what an append touches is of the size
+append-size : (u : Use) → is_use_touched Append u ≡ true → is_size u ≡ true
+append-size (Bytes f t) e = e
+append-size (Reach t) e = e
+append-size Size e = refl
+
+pub append-ends : (us : List Use) → list_any (is_use_touched Append) us ≡ true → Contains (ends_in us) 0
+append-ends us e = let a = Any-from_list_any (is_use_touched Append) us e in size-ends us (list_any-from_Any is_size us (a.0, a.1, a.2, a.3, append-size a.1 a.4))

@@ -1,5 +1,5 @@
 -- A write to one row, as the list of rows sees it.
-use Rattle.std.proofs.Common.{◌≡◌, ℕ, ◌<◌, List, length, map, set, get_or, sym, ◌∙◌, ap, Result, Ok, Err, IfOk, OnErr}
+use Rattle.std.proofs.Common.{◌≡◌, ℕ, ◌<◌, List, length, map, set, get_or, sym, ◌∙◌, ap, Result, Ok, Err, OnErr}
 use Rattle.std.proofs.lemmas.List.{map-set, get_or-map, length-map}
 use Rattle.ksv_memo_links.specs.Shelved.{row}
 

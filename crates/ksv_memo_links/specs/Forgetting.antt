@@ -1,17 +1,17 @@
 -- What forgetting does to the links. Only the private parts' own contracts use it.
-use Rattle.std.specs.Prelude.{◌≡◌, ◌≢◌, ℕ, zero, suc, ◌+◌, ◌*◌, ◌<◌, ◌≤◌, max, Bool, true, false, List, [], ◌++◌, length, take, sum_by, slice_set, slice_index_or, Contains}
+use Rattle.std.specs.Prelude.{◌≡◌, ◌≢◌, ℕ, zero, suc, ◌+◌, ◌-◌, ◌*◌, ◌<◌, ◌≤◌, max, Bool, true, false, List, [], ◌++◌, length, take, sum_by, slice_set, slice_index_or, Contains}
 use Rattle.std.specs.List.{AllPairs}
 use Rattle.ksv_bytes.specs.declared.uses.Use.{Use}
 use Rattle.ksv_bytes.specs.declared.uses.Change.{Change}
 use Rattle.ksv_memo_links.specs.declared.shelf.Pin.{Pin}
 use Rattle.ksv_memo_links.specs.declared.parts.Parts.{Parts}
 use Rattle.ksv_memo_links.specs.Shelved.{row}
-use Rattle.ksv_memo_links.specs.Touching.{pages_in}
+use Rattle.ksv_memo_links.specs.Touching.{pages_in, AreWithin}
 use Rattle.ksv_memo_links.specs.Linked.{at, named}
 use Rattle.ksv_memo_links.specs.Marking.{is_kept, IsCounted, IsMarking}
-use Rattle.ksv_memo_links.specs.Links.{Linked, is_hit, IsHit, Reaches, IsOverwrite, pages_met, met_by, asks_of}
+use Rattle.ksv_memo_links.specs.Links.{Linked, is_hit, IsHit, Reaches, IsOverwrite, IsMove, first_page, pages_met, met_by, pages_behind, behind_by, ended_by, asks_of}
 
--- each slot has a row everywhere, and no row after them has a note
+-- each slot has a row everywhere, and no row after them has a note or a use
 pub record IsShaped (p : Parts) : Type 0 where
   pub users : length p.marks.kept ≤ length p.users.notes
   pub lists : length p.marks.kept ≤ length p.users.lists
@@ -19,6 +19,7 @@ pub record IsShaped (p : Parts) : Type 0 where
   pub uses : length p.marks.kept ≤ length p.uses.rows
   pub asked_in : (s : ℕ) → 0 < length (row p.users.notes s) → s < length p.marks.kept
   pub met_in : (s : ℕ) → 0 < length (row p.pages.notes s) → s < length p.marks.kept
+  pub used_in : (s : ℕ) → 0 < length (row p.uses.rows s) → s < length p.marks.kept
 
 -- only marks and looks differ
 pub record SameLinks (p q : Parts) : Type 0 where
@@ -27,6 +28,7 @@ pub record SameLinks (p q : Parts) : Type 0 where
   pub pages : q.pages.notes ≡ p.pages.notes
   pub page_lists : q.pages.lists ≡ p.pages.lists
   pub uses : q.uses.rows ≡ p.uses.rows
+  pub ends : q.uses.lists ≡ p.uses.lists
 
 abbrev pub looks : Parts → ℕ
 looks p = p.users.looks + p.pages.looks + p.uses.looks + p.marks.looks
@@ -58,16 +60,11 @@ pub record HitsSlot (p q : Parts) (change : Change) (slot : ℕ) : Type 0 where
   pub out : is_hit change p.uses.rows slot ≡ true → is_kept q.marks.kept slot ≡ false
   pub looks : looks q + 2 * length p.marks.work ≤ looks p + 2 + 2 * length q.marks.work
 
--- the first n slots have been looked at
-pub record HitsSlots (p q : Parts) (change : Change) (n : ℕ) : Type 0 where
+-- the owners of the first n items of a list have been looked at
+pub record HitsRow (p q : Parts) (change : Change) (lists : List (List Pin)) (l n last : ℕ) : Type 0 where
   pub more : MarksMore p q (IsEdit change)
-  pub out : (s : ℕ) → s < n → is_hit change p.uses.rows s ≡ true → is_kept q.marks.kept s ≡ false
-
--- the owners of the first n items of a page have been looked at
-pub record HitsPage (p q : Parts) (change : Change) (page n last : ℕ) : Type 0 where
-  pub more : MarksMore p q (IsEdit change)
-  pub out : (i : ℕ) → i < n → is_hit change p.uses.rows (item_at p.pages.lists page i).row ≡ true → is_kept q.marks.kept (item_at p.pages.lists page i).row ≡ false
-  pub within : n ≤ length (row p.pages.lists page)
+  pub out : (i : ℕ) → i < n → is_hit change p.uses.rows (item_at lists l i).row ≡ true → is_kept q.marks.kept (item_at lists l i).row ≡ false
+  pub within : n ≤ length (row lists l)
   pub looks : looks q + 2 * length p.marks.work ≤ looks p + last + 3 * n + 2 * length q.marks.work
 
 -- the first n users of a slot have been marked
@@ -82,11 +79,19 @@ abbrev pub sizes : {X : Type 0} → List (List X) → ℕ → ℕ
 sizes rows zero = 0
 sizes rows (suc n) = sizes rows n + length (row rows n)
 
--- the pages from first up to last have been looked at
-pub record HitsPages (p q : Parts) (change : Change) (first last : ℕ) : Type 0 where
+-- the lists from first up to last have been looked at
+pub record HitsRows (p q : Parts) (change : Change) (lists : List (List Pin)) (first last : ℕ) : Type 0 where
   pub more : MarksMore p q (IsEdit change)
-  pub out : (g i : ℕ) → first ≤ g → g < last → i < length (row p.pages.lists g) → is_hit change p.uses.rows (item_at p.pages.lists g i).row ≡ true → is_kept q.marks.kept (item_at p.pages.lists g i).row ≡ false
-  pub looks : looks q + first + 3 * sizes p.pages.lists first + 2 * length p.marks.work ≤ looks p + max first last + 3 * sizes p.pages.lists (max first last) + 2 * length q.marks.work
+  pub out : (g i : ℕ) → first ≤ g → g < last → i < length (row lists g) → is_hit change p.uses.rows (item_at lists g i).row ≡ true → is_kept q.marks.kept (item_at lists g i).row ≡ false
+  pub looks : looks q + first + 3 * sizes lists first + 2 * length p.marks.work ≤ looks p + max first last + 3 * sizes lists (max first last) + 2 * length q.marks.work
+
+-- the lists of ends of the size and behind a place, and the pages there, have been looked at
+pub record HitsBehind (p q : Parts) (change : Change) (place pages : ℕ) : Type 0 where
+  pub more : MarksMore p q (IsEdit change)
+  pub sized : (i : ℕ) → i < length (row p.uses.lists 0) → is_hit change p.uses.rows (item_at p.uses.lists 0 i).row ≡ true → is_kept q.marks.kept (item_at p.uses.lists 0 i).row ≡ false
+  pub ended : (l i : ℕ) → first_page place < l → l ≤ pages → i < length (row p.uses.lists l) → is_hit change p.uses.rows (item_at p.uses.lists l i).row ≡ true → is_kept q.marks.kept (item_at p.uses.lists l i).row ≡ false
+  pub met : (g i : ℕ) → first_page place ≤ g → g < pages → i < length (row p.pages.lists g) → is_hit change p.uses.rows (item_at p.pages.lists g i).row ≡ true → is_kept q.marks.kept (item_at p.pages.lists g i).row ≡ false
+  pub looks : looks q + 3 * sizes p.uses.lists (first_page place + 1) + 3 * sizes p.pages.lists (first_page place) + 2 * length p.marks.work ≤ looks p + 1 + 2 * (pages - first_page place) + 3 * sizes p.uses.lists 1 + 3 * sizes p.uses.lists (max (first_page place + 1) (pages + 1)) + 3 * sizes p.pages.lists (max (first_page place) pages) + 2 * length q.marks.work
 
 -- the lengths of these rows in all
 abbrev pub lengths : {X : Type 0} → List (List X) → List ℕ → ℕ
@@ -109,11 +114,12 @@ pub record IsWhole (p : Parts) : Type 0 where
   pub waits : (s : ℕ) → Contains p.marks.work s → is_kept p.marks.kept s ≡ false
   pub apart : AllPairs (λ (a b : ℕ). a ≢ b) p.marks.work
 
--- the slots that the change touches were marked
-pub record HitsTouched (p q : Parts) (change : Change) : Type 0 where
+-- the slots that the change touches were marked, by a look at no more than so many pages
+pub record HitsTouched (p q : Parts) (change : Change) (pages : ℕ) : Type 0 where
   pub more : MarksMore p q (IsEdit change)
   pub hits : (s : ℕ) → IsHit change p.marks.kept p.uses.rows s → is_kept q.marks.kept s ≡ false
   pub near : IsOverwrite change → looks q + 2 * length p.marks.work ≤ looks p + pages_met change + 3 * sum_by (met_by change) p.uses.rows + 2 * length q.marks.work
+  pub behind : IsMove change → looks q + 2 * length p.marks.work ≤ looks p + 1 + 2 * pages_behind change pages + 3 * sum_by (behind_by change) p.uses.rows + 3 * sum_by (ended_by change) p.uses.rows + 2 * length q.marks.work
 
 -- the links, as the engine sees them
 abbrev pub linked_of : Parts → Linked
@@ -122,6 +128,14 @@ linked_of p = record { kept = p.marks.kept; asked = named p.users.notes; uses = 
 -- an overwrite took so many looks at most
 abbrev pub IsNear : Change → Parts → Parts → Type 0
 IsNear change p q = IsOverwrite change → looks q ≤ looks p + pages_met change + 3 * sum_by (met_by change) p.uses.rows + 1 + 4 * length q.marks.work + 2 * asks_of (named p.users.notes) q.marks.work
+
+-- an insert, a delete or an append did
+abbrev pub IsBehind : Change → ℕ → Parts → Parts → Type 0
+IsBehind change pages p q = IsMove change → looks q ≤ looks p + 2 * pages_behind change pages + 3 * sum_by (behind_by change) p.uses.rows + 3 * sum_by (ended_by change) p.uses.rows + 2 + 4 * length q.marks.work + 2 * asks_of (named p.users.notes) q.marks.work
+
+-- the uses of the kept slots are within so many pages
+abbrev pub AreAllWithin : ℕ → Parts → Type 0
+AreAllWithin pages p = (s : ℕ) → is_kept p.marks.kept s ≡ true → AreWithin pages (row p.uses.rows s)
 
 -- only notes of pages differ
 pub record IsMeeting (p q : Parts) : Type 0 where

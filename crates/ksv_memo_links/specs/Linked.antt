@@ -1,7 +1,9 @@
 -- Rows of pins that lead to each other.
-use Rattle.std.specs.Prelude.{◌≡◌, ℕ, ◌^◌, ◌<◌, ◌≤◌, nat_eq, cond, List, length, map, slice_index_or, slice_set, sum_by}
+use Rattle.std.specs.Prelude.{◌≡◌, ◌≢◌, ℕ, ◌^◌, ◌<◌, ◌≤◌, nat_eq, cond, List, length, map, slice_index_or, slice_set, sum_by}
 use Rattle.ksv_memo_links.specs.declared.shelf.Pin.{Pin}
+use Rattle.ksv_bytes.specs.declared.uses.Use.{Use}
 use Rattle.ksv_memo_links.specs.Shelved.{row}
+use Rattle.ksv_memo_links.specs.Touching.{ends_in}
 
 abbrev pub at : ℕ → ℕ → Pin
 at r i = record { row = r; at = i }
@@ -48,6 +50,23 @@ pub record IsBoard (lists notes : List (List Pin)) : Type 0 where
 pub record IsRowChanged (old new : List (List ℕ)) (owner : ℕ) : Type 0 where
   pub now : List ℕ
   pub is : new ≡ slice_set old owner now
+
+-- an owner has these numbers, and the others what they had
+pub record HasRow (old new : List (List ℕ)) (owner : ℕ) (ns : List ℕ) : Type 0 where
+  pub here : row new owner ≡ ns
+  pub others : (s : ℕ) → s ≢ owner → row new s ≡ row old s
+
+-- each slot stands in the list of where its uses end
+pub record HasEnds (rows : List (List Use)) (lists notes : List (List Pin)) : Type 0 where
+  pub board : IsBoard lists notes
+  pub ends : (s : ℕ) → row (named notes) s ≡ ends_in (row rows s)
+
+-- what contracts see of the uses: those of each slot, the slots by where their uses end, and the looks
+pub record Used : Type 0 where
+  pub rows : List (List Use)
+  pub lists : List (List Pin)
+  pub notes : List (List Pin)
+  pub looks : ℕ
 
 -- what contracts see of a board
 pub record Boarded : Type 0 where

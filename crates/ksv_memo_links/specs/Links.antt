@@ -1,12 +1,12 @@
 -- The links between slots, as the engine sees them, and what a change reaches along them.
-use Rattle.std.specs.Prelude.{◌≡◌, ◌≢◌, ◌↔◌, ◌/◌, ◌-◌, ℕ, ◌+◌, ◌*◌, ◌<◌, ◌≤◌, max, Bool, true, false, ◌&&◌, nat_lt, nat_le, List, [], ◌∷◌, ◌++◌, length, sum_by, count_by, slice_set, slice_index_or, Contains}
+use Rattle.std.specs.Prelude.{◌≡◌, ◌≢◌, ◌↔◌, ◌/◌, ◌-◌, ℕ, ◌+◌, ◌*◌, ◌<◌, ◌≤◌, max, Bool, true, false, ◌&&◌, ◌||◌, nat_eq, nat_lt, nat_le, List, [], ◌∷◌, ◌++◌, length, sum_by, count_by, slice_set, slice_index_or, Contains}
 use Rattle.std.specs.List.{AllPairs, list_any}
 use Rattle.ksv_bytes.specs.declared.uses.Use.{Use}
 use Rattle.ksv_bytes.specs.declared.uses.Change.{Change}
 use Rattle.ksv_bytes.specs.declared.uses.Change.TheVariants.{Overwrite, Insert, Delete, Append}
 use Rattle.ksv_memo_links.specs.Shelved.{row, HasSameRows}
 use Rattle.ksv_bytes.specs.Uses.{is_use_touched}
-use Rattle.ksv_memo_links.specs.Touching.{pages_in}
+use Rattle.ksv_memo_links.specs.Touching.{pages_in, ends_in}
 use Rattle.ksv_memo_links.specs.Marking.{is_kept, HasMore}
 
 -- which slots are kept, what each asked and uses, the slots that are to be taken, the looks, and those of them that went
@@ -124,6 +124,42 @@ IsOverwrite (Overwrite at n) = Unit {0}
 IsOverwrite (Insert at n) = ⊥
 IsOverwrite (Delete at n) = ⊥
 IsOverwrite Append = ⊥
+
+-- the change is an insert, a delete or an append
+abbrev pub IsMove : Change → Type 0
+IsMove (Overwrite at n) = ⊥
+IsMove (Insert at n) = Unit {0}
+IsMove (Delete at n) = Unit {0}
+IsMove Append = Unit {0}
+
+-- how many of so many pages are behind an insert or a delete, with the page of its place; an append is behind all
+abbrev pub pages_behind : Change → ℕ → ℕ
+pages_behind (Overwrite at n) pages = 0
+pages_behind (Insert at n) pages = pages - first_page at
+pages_behind (Delete at n) pages = pages - first_page at
+pages_behind Append pages = 0
+
+-- how many of these pages are
+abbrev pub behind_of : Change → List ℕ → ℕ
+behind_of (Overwrite at n) pages = 0
+behind_of (Insert at n) pages = count_by (nat_le (first_page at)) pages
+behind_of (Delete at n) pages = count_by (nat_le (first_page at)) pages
+behind_of Append pages = 0
+
+-- the pairs of a use of bytes and a page behind the change that it meets
+abbrev pub behind_by : Change → List Use → ℕ
+behind_by change us = behind_of change (pages_in us)
+
+-- how many of these ends are the size, or behind an insert or a delete
+abbrev pub ended_of : Change → List ℕ → ℕ
+ended_of (Overwrite at n) ends = 0
+ended_of (Insert at n) ends = count_by (λ l. nat_eq l 0 || nat_lt (first_page at) l) ends
+ended_of (Delete at n) ends = count_by (λ l. nat_eq l 0 || nat_lt (first_page at) l) ends
+ended_of Append ends = count_by (λ l. nat_eq l 0) ends
+
+-- 1 if one of these uses is of the size, or reaches a page behind an insert or a delete; else 0
+abbrev pub ended_by : Change → List Use → ℕ
+ended_by change us = ended_of change (ends_in us)
 
 -- the asks of these slots in all
 abbrev pub asks_of : List (List ℕ) → List ℕ → ℕ

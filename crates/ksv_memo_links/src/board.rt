@@ -4,7 +4,7 @@ ghost use Rattle.std.specs.List.{All};
 ghost use Rattle.ksv_memo_links.specs.declared.shelf.Pin.{Pin};
 ghost use Rattle.ksv_memo_links.specs.Shelved.{row, pop_row, push_row, HasSameRows};
 ghost use Rattle.ksv_memo_links.specs.Touching.{numbers_from};
-ghost use Rattle.ksv_memo_links.specs.Linked.{named, IsBoard, IsRowChanged};
+ghost use Rattle.ksv_memo_links.specs.Linked.{named, HasRow, IsBoard, IsRowChanged};
 
 use crate::lists::number;
 use crate::shelf::{Pin, Shelf};
@@ -141,6 +141,31 @@ impl Board {
         ensures grows { self.old.looks ≤ self.new.looks }
     {
         while self.unlink(owner) {}
+    }
+
+    /// Takes all notes of an owner, and their items, if there is such an owner.
+    pub(crate) fn clear_row(&mut self, owner: u32)
+        ensures { HasRow (named self.old.notes) (named self.new.notes) owner [] }
+    {
+        if (owner as usize) < self.notes.rows() {
+            self.clear(owner);
+        }
+    }
+
+    /// A note of an owner that has none, with its item in a list. Where memory is refused, it has none again.
+    pub(crate) fn link_only(&mut self, owner: u32, list: u32) -> Result<(), AllocError>
+        requires none { row (named self.old.notes) owner ≡ [] }
+        ensures ok { OnOk result (HasRow (named self.old.notes) (named self.new.notes) owner (list ∷ [])) }
+        ensures err { OnErr result (HasSameRows (named self.old.notes) (named self.new.notes)) }
+    {
+        let owners = number(owner as usize + 1)?;
+        let lists = number(list as usize + 1)?;
+        self.reach_owners(owners)?;
+        if let Err(error) = self.link_range(owner, list, lists) {
+            self.clear(owner);
+            return Err(error);
+        }
+        Ok(())
     }
 
     /// Each item leads to its note and each note to its item, and no list has more items than notes name it.

@@ -1,8 +1,10 @@
 //! The links between the kept nodes of an engine, and forgetting that looks only near.
 //!
 //! A kept node has a slot. [`Links`] hold, for each slot, the slots that its node asked and its users, its uses of the
-//! bytes, and for each page of 64 bytes the uses that meet it. So an overwrite finds what it touches, and all that
-//! asked it, without a look at anything else. Links know nothing of nodes and answers.
+//! bytes, for each page of 64 bytes the uses that meet it, and the slots by where their uses of the size and of reaching
+//! end. So an overwrite finds what it touches, and all that asked it, without a look at anything else; an append looks at
+//! the uses of the size, and an insert or a delete also at the pages from its place on. Links know nothing of nodes and
+//! answers.
 //!
 //! Modules:
 //!
@@ -15,7 +17,7 @@
 //! - `pins`: one row of pins, the first three in the row itself
 //! - `rows`: the rows of a shelf, of which short ones take no memory of their own
 //! - `shelf`: rows of pins, each look counted
-//! - `used`: the uses of each slot, each look counted
+//! - `used`: the uses of each slot, and the slots by where these end, each look counted
 //!
 //! Definitions (`specs/`):
 //!
@@ -25,7 +27,7 @@
 //! - `Marking`: which slots are kept, and which wait to be taken, for private contracts
 //! - `Placed`: the pins of a row and the uses of a slot as lists, for private contracts
 //! - `Shelved`: rows of items, for private contracts
-//! - `Touching`: which pages of 64 bytes a use meets
+//! - `Touching`: which pages of 64 bytes a use meets, and where uses end
 //!
 //! Lemmas (`proofs/`):
 //!
@@ -35,6 +37,7 @@
 //! - `Counting`: users of slots that go are no more than what these slots asked
 //! - `Counts`: how many notes name a list after `link` and `unlink`
 //! - `Edits`: what each call on rows of pins does
+//! - `Ending`: each slot stands in the list of where its uses end
 //! - `Few`: no list has more items than notes name it
 //! - `Grids`: rows of pins as functions; what a removal leaves
 //! - `Hits`: why a mark is right
@@ -47,8 +50,8 @@
 //! - `Reaching`: the links stay whole when empty rows are added
 //! - `Removal`: a note and its item are taken out
 //! - `Spreading`: the users of marked slots, one slot after another
-//! - `Tallies`: the items of pages are no more than the pages that uses meet
-//! - `Touches`: a use that is touched meets a page that the overwrite meets
+//! - `Tallies`: the items of pages are no more than the pages that uses meet, and those of ends no more than the ends
+//! - `Touches`: a use that is touched meets a page that the overwrite meets, or one behind the edit, or ends there
 //! - `Writing`: a write to one row
 #![tactic(auto)]
 

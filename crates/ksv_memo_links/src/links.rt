@@ -2,9 +2,9 @@
 ghost use Rattle.std.specs.Prelude.{◌≡◌, ℕ, ◌+◌, ◌-◌, ◌*◌, ◌^◌, ◌<◌, ◌≤◌, min, [], ◌++◌, ◌∷◌, length, count_by, sum_by, OnOk, OnErr, IfSome, IfNone, true, false};
 ghost use Rattle.std.specs.List.{All};
 ghost use Rattle.ksv_memo_links.specs.Shelved.{row};
-ghost use Rattle.ksv_memo_links.specs.Touching.{pages_in};
+ghost use Rattle.ksv_memo_links.specs.Touching.{AreWithin, pages_in};
 ghost use Rattle.ksv_memo_links.specs.Marking.{is_kept};
-ghost use Rattle.ksv_memo_links.specs.Links.{Forgets, Grows, IsDone, IsUnchanged, Keeps, Takes, IsOverwrite, asks_of, met_by, pages_met};
+ghost use Rattle.ksv_memo_links.specs.Links.{Forgets, Grows, IsDone, IsUnchanged, Keeps, Takes, IsMove, IsOverwrite, asks_of, behind_by, ended_by, met_by, pages_behind, pages_met};
 
 use crate::parts::Parts;
 use ksv_bytes::{Change, Use};
@@ -75,19 +75,22 @@ impl Links {
     }
 
     /// Marks the slots that go: those with a use that a change touches, and those that asked one that goes. They are no
-    /// longer kept, and `take` takes them one by one. It takes no memory.
-    pub fn forget(&mut self, change: Change)
+    /// longer kept, and `take` takes them one by one. But for an overwrite, the uses of kept slots are within so many
+    /// pages. It takes no memory.
+    pub fn forget(&mut self, change: Change, pages: usize)
         requires idle { self.old.waits ≡ [] }
+        requires within { IsMove change → (s : ℕ) → is_kept self.old.kept s ≡ true → AreWithin pages (row self.old.uses s) }
         ensures forgets { Forgets self.old self.new change }
 
         // The looks are counted from here on.
         ensures most { IsOverwrite change → self.new.looks ≤ pages_met change + 3 * sum_by (met_by change) self.old.uses + 1 + 4 * length self.new.waits + 2 * asks_of self.old.asked self.new.waits }
+        ensures behind { IsMove change → self.new.looks ≤ 2 * pages_behind change pages + 3 * sum_by (behind_by change) self.old.uses + 3 * sum_by (ended_by change) self.old.uses + 2 + 4 * length self.new.waits + 2 * asks_of self.old.asked self.new.waits }
         ensures least { length self.new.waits ≤ self.new.marked }
         ensures fits { length self.new.waits < 2 ^ 32 }
         ensures vacant { (s : ℕ) → is_kept self.old.kept s ≡ false → row self.old.uses s ≡ [] }
     {
         self.parts.reset();
-        self.parts.forget(change);
+        self.parts.forget(change, pages);
         self.parts.few();
     }
 

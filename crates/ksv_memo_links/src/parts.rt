@@ -6,8 +6,8 @@ ghost use Rattle.ksv_memo_links.specs.Shelved.{row};
 ghost use Rattle.ksv_memo_links.specs.Touching.{pages_in, pages_of};
 ghost use Rattle.ksv_memo_links.specs.Linked.{named, IsRowChanged};
 ghost use Rattle.ksv_memo_links.specs.Marking.{is_kept};
-ghost use Rattle.ksv_memo_links.specs.Links.{first_page, end_page, Forgets, Keeps, IsUnchanged, Grows, Takes, IsDone};
-ghost use Rattle.ksv_memo_links.specs.Forgetting.{IsShaped, HitsSlot, HitsSlots, HitsPage, HitsPages, HitsUsers, HitsTouched, Spreads, Clears, IsWhole, IsNear, IsMeeting, IsVacant, IsAsBefore, Fills, linked_of, looks};
+ghost use Rattle.ksv_memo_links.specs.Links.{IsMove, first_page, end_page, Forgets, Keeps, IsUnchanged, Grows, Takes, IsDone};
+ghost use Rattle.ksv_memo_links.specs.Forgetting.{AreAllWithin, IsShaped, HitsSlot, HitsRow, HitsRows, HitsBehind, HitsUsers, HitsTouched, Spreads, Clears, IsWhole, IsNear, IsBehind, IsMeeting, IsVacant, IsAsBefore, Fills, linked_of, looks};
 
 use crate::board::Board;
 use crate::marks::Marks;
@@ -97,21 +97,11 @@ impl Parts {
         }
     }
 
-    /// Marks the slots that a change touches, by a look at each.
-    fn hit_slots(&mut self, change: Change)
-        requires shaped { IsShaped self.old }
-        ensures { HitsSlots self.old self.new change (length self.old.marks.kept) }
-    {
-        for slot in 0..self.marks.slots() {
-            self.hit(slot as u32, change);
-        }
-    }
-
     /// Marks the slots that a change touches and one of whose uses meets this page.
     fn hit_page(&mut self, page: u32, change: Change)
         requires shaped { IsShaped self.old }
         requires page_in { page < length self.old.pages.lists }
-        ensures { HitsPage self.old self.new change page (length (row self.old.pages.lists page)) 1 }
+        ensures { HitsRow self.old self.new change self.old.pages.lists page (length (row self.old.pages.lists page)) 1 }
     {
         let mut i = 0;
         while let Some(item) = self.pages.item(page, i) {
@@ -120,16 +110,62 @@ impl Parts {
         }
     }
 
-    /// Marks the slots that an overwrite touches, by the pages that it meets.
-    fn hit_pages(&mut self, change: Change, at: usize, n: usize)
+    /// Marks the slots that a change touches and one of whose uses meets a page of a range.
+    fn hit_pages(&mut self, change: Change, first: usize, end: usize)
         requires shaped { IsShaped self.old }
-        ensures { HitsPages self.old self.new change (first_page at) (min (end_page at n) (length self.old.pages.lists)) }
+        ensures { HitsRows self.old self.new change self.old.pages.lists first (min end (length self.old.pages.lists)) }
     {
-        let first = at / PAGE as usize;
-        let last = ((at.saturating_add(n.max(1)) - 1) / PAGE as usize + 1).min(self.pages.lists());
+        let last = end.min(self.pages.lists());
         for page in first..last {
             self.hit_page(page as u32, change);
         }
+    }
+
+    /// Marks the slots that a change touches and whose uses end in this list of ends.
+    fn hit_end(&mut self, list: u32, change: Change)
+        requires shaped { IsShaped self.old }
+        requires list_in { list < length self.old.uses.lists }
+        ensures { HitsRow self.old self.new change self.old.uses.lists list (length (row self.old.uses.lists list)) 1 }
+    {
+        let mut i = 0;
+        while let Some(item) = self.uses.ended(list, i) {
+            self.hit(item.row, change);
+            i += 1;
+        }
+    }
+
+    /// Marks the slots that a change touches and whose uses end in a range of the lists of ends.
+    fn hit_ends(&mut self, change: Change, first: usize, end: usize)
+        requires shaped { IsShaped self.old }
+        ensures { HitsRows self.old self.new change self.old.uses.lists first (min end (length self.old.uses.lists)) }
+    {
+        let last = end.min(self.uses.lists());
+        for list in first..last {
+            self.hit_end(list as u32, change);
+        }
+    }
+
+    /// Marks the slots that an overwrite touches, by the pages that it meets.
+    fn hit_met(&mut self, change: Change, at: usize, n: usize)
+        requires shaped { IsShaped self.old }
+        ensures { HitsRows self.old self.new change self.old.pages.lists (first_page at) (min (end_page at n) (length self.old.pages.lists)) }
+    {
+        self.pages.linked();
+        let first = at / PAGE as usize;
+        let end = (at.saturating_add(n.max(1)) - 1) / PAGE as usize + 1;
+        self.hit_pages(change, first, end);
+    }
+
+    /// Marks the slots that an insert or a delete touches: by the uses of the size, and by the pages behind it.
+    fn hit_behind(&mut self, change: Change, at: usize, pages: usize)
+        requires shaped { IsShaped self.old }
+        ensures { HitsBehind self.old self.new change at pages }
+    {
+        self.uses.linked();
+        let first = at / PAGE as usize;
+        self.hit_ends(change, 0, 1);
+        self.hit_ends(change, first + 1, pages.saturating_add(1));
+        self.hit_pages(change, first, pages);
     }
 
     /// Marks the users of a slot.
@@ -168,33 +204,38 @@ impl Parts {
         self.uses.clear(slot);
     }
 
-    /// Marks the slots that a change touches.
-    fn hit_touched(&mut self, change: Change)
+    /// Marks the slots that a change touches. But for an overwrite, the uses of kept slots are within so many pages.
+    fn hit_touched(&mut self, change: Change, pages: usize)
         requires whole { IsWhole self.old }
-        ensures { HitsTouched self.old self.new change }
+        requires within { IsMove change → AreAllWithin pages self.old }
+        ensures { HitsTouched self.old self.new change pages }
     {
         self.pages.linked();
+        self.uses.linked();
         match change {
-            Change::Overwrite { at, n } => self.hit_pages(change, at, n),
-            Change::Insert { .. } | Change::Delete { .. } | Change::Append => self.hit_slots(
-                change,
-            ),
+            Change::Overwrite { at, n } => self.hit_met(change, at, n),
+            Change::Insert { at, .. } => self.hit_behind(change, at, pages),
+            Change::Delete { at, .. } => self.hit_behind(change, at, pages),
+            Change::Append => self.hit_ends(change, 0, 1),
         }
     }
 
-    /// Marks each kept slot from which one is reached that a change touches. It takes no memory.
-    pub(crate) fn forget(&mut self, change: Change)
+    /// Marks each kept slot from which one is reached that a change touches. But for an overwrite, the uses of kept slots
+    /// are within so many pages. It takes no memory.
+    pub(crate) fn forget(&mut self, change: Change, pages: usize)
         requires whole { IsWhole self.old }
+        requires within { IsMove change → AreAllWithin pages self.old }
         requires idle { self.old.marks.work ≡ [] }
         ensures forgets { Forgets (linked_of self.old) (linked_of self.new) change }
         ensures whole { IsWhole self.new }
         ensures near { IsNear change self.old self.new }
+        ensures behind { IsBehind change pages self.old self.new }
         ensures grows { looks self.old ≤ looks self.new }
         ensures least { length self.new.marks.work ≤ self.new.marks.looks }
         ensures vacant { (s : ℕ) → is_kept self.old.marks.kept s ≡ false → row self.old.uses.rows s ≡ [] }
     {
         self.users.linked();
-        self.hit_touched(change);
+        self.hit_touched(change, pages);
         self.spread();
     }
 

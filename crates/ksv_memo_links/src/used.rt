@@ -1,10 +1,15 @@
 //! The uses of each slot, each reading and writing counted.
-ghost use Rattle.std.specs.Prelude.{◌≡◌, ◌<◌, ◌≤◌, [], ◌∷◌, ◌++◌, length, slice_set, IfOk, OnOk, OnErr};
+ghost use Rattle.std.specs.Prelude.{◌≡◌, ◌+◌, ◌^◌, ◌<◌, ◌≤◌, [], ◌∷◌, ◌++◌, length, slice_set, slice_index_or, IfOk, IfSome, IfNone, OnOk, OnErr};
 ghost use Rattle.std.specs.List.{list_any};
+ghost use Rattle.std.specs.Option.{option_to_list};
 ghost use Rattle.ksv_bytes.specs.Uses.{is_use_touched};
 ghost use Rattle.ksv_memo_links.specs.Placed.{uses_of};
+ghost use Rattle.ksv_memo_links.specs.Linked.{HasEnds, HasRow, IsBoard, named};
 ghost use Rattle.ksv_memo_links.specs.Shelved.{row, ticked, HasSameRows};
+ghost use Rattle.ksv_memo_links.specs.Touching.{is_size, reach_of, farthest, ends_in};
 
+use crate::board::Board;
+use crate::shelf::Pin;
 use ksv_bytes::{Change, Use, touches};
 use std::alloc::{AllocError, Global};
 use std::marker::Model;
@@ -48,33 +53,118 @@ fn is_noted_touched(change: Change, noted: &Noted) -> bool
     }
 }
 
-/// The uses of each slot. Each call that reads or writes those of a slot is one look.
+/// These uses, noted.
+#[inline(always)]
+fn note_uses(alloc: Global, uses: &[Use]) -> Result<Noted, AllocError>
+    ensures { IfOk result (λ noted. uses_of noted ≡ uses.now) }
+{
+    match uses {
+        [] => Ok(Noted::Nothing),
+        [used] => Ok(Noted::One(*used)),
+        _ => note_many(alloc, uses),
+    }
+}
+
+/// Whether a use is of the size.
+fn is_of_size(used: Use) -> bool
+    ensures { result ≡ is_size used }
+{
+    match used {
+        Use::Bytes(_, _) => false,
+        Use::Reach(_) => false,
+        Use::Size => true,
+    }
+}
+
+/// Whether one of these uses is of the size.
+fn has_size(uses: &[Use]) -> bool
+    ensures { result ≡ list_any is_size uses.now }
+{
+    uses.iter().any(|used| is_of_size(*used))
+}
+
+/// The place that a use reaches, or 0.
+fn reached(used: Use) -> u32
+    ensures { result ≡ reach_of used }
+{
+    match used {
+        Use::Bytes(_, _) => 0,
+        Use::Reach(to) => to,
+        Use::Size => 0,
+    }
+}
+
+/// The farthest place that these uses reach, or 0.
+fn farthest_of(uses: &[Use]) -> u32
+    ensures { result ≡ farthest uses.now }
+{
+    let mut place: u32 = 0;
+    for used in uses {
+        place = place.max(reached(*used));
+    }
+    place
+}
+
+/// The list of where these uses end: 0 for the size; else one more than the page of the last byte that they reach.
+fn end_of(uses: &[Use]) -> Option<u32>
+    ensures { option_to_list result ≡ ends_in uses.now }
+{
+    if has_size(uses) {
+        return Some(0);
+    }
+    match farthest_of(uses) {
+        0 => None,
+        place => Some((place - 1) / 64 + 1),
+    }
+}
+
+/// Notes where the uses of a slot end. Where memory is refused, it is noted nowhere, again.
+#[inline(always)]
+fn note_end(ends: &mut Board, slot: u32, uses: &[Use]) -> Result<(), AllocError>
+    requires none { row (named ends.old.notes) slot ≡ [] }
+    ensures ok { OnOk result (HasRow (named ends.old.notes) (named ends.new.notes) slot (ends_in uses.now)) }
+    ensures err { OnErr result (HasSameRows (named ends.old.notes) (named ends.new.notes)) }
+    ensures board { IsBoard ends.new.lists ends.new.notes }
+{
+    let noted = match end_of(uses) {
+        None => Ok(()),
+        Some(list) => ends.link_only(slot, list),
+    };
+    ends.linked();
+    noted
+}
+
+/// The uses of each slot, and for each place in which uses of the size or of reaching end, the slots that have them. Each
+/// call that reads or writes what a slot has, or an item of such a list, is one look.
 #[derive(Drop)]
 pub(crate) struct Uses {
     alloc: Global,
     rows: Vec<Noted>,
+    ends: Board,
     looks: u64,
 }
 
 impl Model for Uses {
     ghost use Rattle.std.specs.Prelude.{map};
-    ghost use Rattle.ksv_bytes.specs.declared.uses.Use.{Use};
     ghost use Rattle.ksv_memo_links.specs.Placed.{uses_of};
-    ghost use Rattle.ksv_memo_links.specs.Shelved.{Shelved};
+    ghost use Rattle.ksv_memo_links.specs.Linked.{Used, HasEnds};
 
-    ghost Value = { Shelved Use };
+    ghost Value = { Used };
 
-    ghost view = { λ uses. record { rows = map uses_of uses.rows.items; looks = uses.looks } };
+    ghost view = { λ uses. record { rows = map uses_of uses.rows.items; lists = uses.ends.lists; notes = uses.ends.notes; looks = uses.looks } };
+
+    ghost invariant = { λ uses. HasEnds (map uses_of uses.rows.items) uses.ends.lists uses.ends.notes };
 }
 
 impl Uses {
     /// No rows, which take no memory.
     pub(crate) fn new(alloc: Global) -> Self
-        ensures { result ≡ record { rows = []; looks = 0 } }
+        ensures { result ≡ record { rows = []; lists = []; notes = []; looks = 0 } }
     {
         Uses {
             alloc,
             rows: Vec::new(alloc),
+            ends: Board::new(alloc),
             looks: 0,
         }
     }
@@ -82,6 +172,7 @@ impl Uses {
     /// The looks are counted from 0 again.
     pub(crate) fn reset(&mut self)
         ensures rows { self.new.rows ≡ self.old.rows }
+        ensures lists { self.new.lists ≡ self.old.lists }
         ensures looks { self.new.looks ≡ 0 }
     {
         self.looks = 0;
@@ -99,6 +190,7 @@ impl Uses {
         requires { slot < length self.old.rows }
         ensures result { result ≡ list_any (is_use_touched change) (row self.old.rows slot) }
         ensures rows { self.new.rows ≡ self.old.rows }
+        ensures lists { self.new.lists ≡ self.old.lists }
         ensures looks { self.new.looks ≡ ticked self.old.looks }
         ensures grows { self.old.looks ≤ self.new.looks }
     {
@@ -115,17 +207,41 @@ impl Uses {
         ensures err { OnErr result (self.new.rows ≡ self.old.rows) }
     {
         self.looks = self.looks.saturating_add(1);
-        match uses {
-            [] => Ok(()),
-            [used] => {
-                self.rows[slot as usize] = Noted::One(*used);
-                Ok(())
-            }
-            _ => {
-                self.rows[slot as usize] = note_many(self.alloc, uses)?;
-                Ok(())
-            }
-        }
+        let noted = note_uses(self.alloc, uses)?;
+        note_end(&mut self.ends, slot, uses)?;
+        self.rows[slot as usize] = noted;
+        Ok(())
+    }
+
+    /// The item at a place of a list of ends, if there is one: a slot whose uses end there.
+    pub(crate) fn ended(&mut self, list: u32, i: usize) -> Option<Pin>
+        requires { list < length self.old.lists }
+        ensures some { IfSome result (λ x. (i < length (row self.old.lists list)) × (x ≡ slice_index_or (row self.old.lists list) i x)) }
+        ensures none { IfNone result (length (row self.old.lists list) ≤ i) }
+        ensures rows { self.new.rows ≡ self.old.rows }
+        ensures lists { self.new.lists ≡ self.old.lists }
+        ensures looks { self.new.looks ≡ ticked self.old.looks }
+        ensures grows { self.old.looks ≤ self.new.looks }
+        ensures fits { IfSome result (λ x. i + 1 < 2 ^ 64) }
+        ensures ended { HasEnds self.old.rows self.old.lists self.old.notes }
+    {
+        self.looks = self.looks.saturating_add(1);
+        self.ends.item(list, i)
+    }
+
+    /// The number of lists of ends, which isn't counted.
+    pub(crate) fn lists(&self) -> usize
+        ensures count { result ≡ length self.now.lists }
+        ensures fits { result < 2 ^ 32 }
+    {
+        self.ends.lists()
+    }
+
+    /// Each slot stands in the list of where its uses end.
+    pub(crate) fn linked(&self)
+        ensures { HasEnds self.now.rows self.now.lists self.now.notes }
+    {
+        let _ = &self.ends;
     }
 
     /// Takes the uses of a slot.
@@ -136,6 +252,8 @@ impl Uses {
         ensures grows { self.old.looks ≤ self.new.looks }
     {
         self.looks = self.looks.saturating_add(1);
+        self.ends.clear_row(slot);
+        self.ends.linked();
         self.rows[slot as usize] = Noted::Nothing;
     }
 

@@ -9,9 +9,10 @@ pub record Entry (N A : Type 0) : Type 0 where
   pub asked : List N
   pub uses : List Use
 
--- an engine: what it keeps, in no stated order, and the calls of rules that were counted since the question began, and
--- the looks of the last `forget`
+-- an engine: what it keeps, in no stated order, and the calls of rules that were counted since the question began, the
+-- looks of the last `forget`, and a place behind which no kept node uses a byte or a place
 pub record Memo (N A : Type 0) : Type 0 where
   pub kept : List (Entry N A)
   pub turns : Option ℕ
   pub looked : ℕ
+  pub reach : ℕ

@@ -68,7 +68,7 @@ impl Steps {
 }
 
 /// Whether all bytes are decimal digits.
-fn are_digits(text: &[u8]) -> bool
+fn are_decimal(text: &[u8]) -> bool
     ensures { result ≡ list_all is_ascii_digit text.now }
 {
     text.iter().all(|byte| byte.is_ascii_digit())
@@ -78,7 +78,7 @@ fn are_digits(text: &[u8]) -> bool
 pub fn decimal(text: &[u8]) -> Option<u64>
     ensures { result ≡ decimal_of text.now }
 {
-    if !are_digits(text) {
+    if !are_decimal(text) {
         return None;
     }
     str::from_utf8(text).unwrap().parse().ok()

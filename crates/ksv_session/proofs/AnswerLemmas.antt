@@ -9,7 +9,7 @@ use Rattle.ksv_desc.specs.Description.{Description}
 use Rattle.ksv_session.specs.Explored.{Explored, description_of, tally_of}
 use Rattle.ksv_session.specs.Kept.{Holds, Memory, Remembers}
 use Rattle.ksv_lines.specs.Lines.{is_line_end, lines_of}
-use Rattle.ksv_session.specs.Replies.{Answer, Event, answer, is_fair, may_be_refused}
+use Rattle.ksv_session.specs.Replies.{Replied, Event, answer, is_fair, may_be_refused}
 use Rattle.ksv_session.specs.Runs.{Breaks, Serves, Taken}
 use Rattle.ksv_session.specs.Seen.{answer_seen, is_refusal}
 use Rattle.ksv_lines.specs.declared.device.Failed.{Failed}
@@ -34,7 +34,7 @@ answers old new line tells before written reply result is fair kept remembers wr
   line_is = refl;
   fair = fair_if (is_refusal reply) (may_be_refused old.bytes (command_of (description_of old) line)) fair;
   description = kept;
-  bytes = ap (λ (a : Answer). a.bytes) is;
+  bytes = ap (λ (a : Replied). a.bytes) is;
   keeps = λ m h. (holds_tally old m h, remembers m h);
   wrote = subst (λ a. Wrote a tells before written result) is wrote;
 }

@@ -8,7 +8,7 @@ use Rattle.ksv_questions.specs.Answers.{outcome, question_text}
 use Rattle.ksv_questions.specs.Writing.{put_question}
 use Rattle.ksv_commands.specs.declared.command.Question.{Question}
 use Rattle.ksv_commands.specs.Commands.{by_asking, is_question}
-use Rattle.ksv_session.specs.Replies.{Answer, Tally, answer_to, may_be_refused, put_answer, said}
+use Rattle.ksv_session.specs.Replies.{Replied, Tally, answer_to, may_be_refused, put_answer, said}
 use Rattle.ksv_commands.specs.declared.command.Command.{Command}
 use Rattle.ksv_commands.specs.declared.command.Command.TheVariants.{App, Ask, Blank, Bytes, Del, Ins, Put, Quit, Refused, Set, Size, Stats}
 
@@ -29,7 +29,7 @@ question_may b Quit h = absurd (cc)
 
 -- An answer that is the right one for each question, and for each integer that is written, is the right one for each command. (The
 -- examples of ksv_examples cite it.)
-pub answer_by : (d : Description) (b : List ℕ) (t : Tally) (ask : Question → Option Answer) (put : Trail → ℤ → Option Answer) (a : Answer)
+pub answer_by : (d : Description) (b : List ℕ) (t : Tally) (ask : Question → Option Replied) (put : Trail → ℤ → Option Replied) (a : Replied)
     → ((question : Question) → ask question ≡ Some a → said b (question_text d b question ++ codes "\n") ≡ a)
     → ((path : Trail) (n : ℤ) → put path n ≡ Some a → put_answer d b (outcome d b (put_question d b path n)) ≡ a)
     → (command : Command) → by_asking ask put (Some (answer_to d b t command)) command ≡ Some a → answer_to d b t command ≡ a

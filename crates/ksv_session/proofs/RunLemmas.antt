@@ -8,7 +8,7 @@ use Rattle.std.proofs.lemmas.List.Sums.{fold_push, fold-append}
 use Rattle.ksv_commands.specs.Commands.{command_of}
 use Rattle.ksv_desc.specs.Description.{Description}
 use Rattle.ksv_lines.specs.Lines.{is_line_end, lines_of}
-use Rattle.ksv_session.specs.Replies.{Answer, Event, answer, answer_to, is_fair, may_be_refused, no_memory_text, said}
+use Rattle.ksv_session.specs.Replies.{Replied, Event, answer, answer_to, is_fair, may_be_refused, no_memory_text, said}
 use Rattle.ksv_session.specs.Code.{Stands}
 use Rattle.ksv_session.specs.Explored.{Explored}
 use Rattle.ksv_session.specs.Kept.{Holds, Memory, Remembers, nothing_kept}
@@ -124,7 +124,7 @@ pushed d begin taken now line before written tells byte other s = record {
 }
 
 -- The session with one more line, by its answer.
-pub record Next (d : Description) (begin : List ℕ) (events : List Event) (e : Event) (a : Answer) : Type 0 where
+pub record Next (d : Description) (begin : List ℕ) (events : List Event) (e : Event) (a : Replied) : Type 0 where
   pub bytes : (session d begin (events ++ e ∷ [])).bytes ≡ a.bytes
   pub output : (session d begin (events ++ e ∷ [])).output ≡ (session d begin events).output ++ a.text
   pub ended : (session d begin (events ++ e ∷ [])).ended ≡ a.ends
@@ -142,9 +142,9 @@ next d begin taken now line before written tells s event line_is fair =
     sym (same_fair d now.bytes s.rest event gathered ∙ ap (λ b. is_fair d b e) s.bytes) ∙ fair in
     let push = session_push d begin s.events e s.goes_on in
     record {
-      bytes = ap (λ (t : Standing). t.bytes) push ∙ ap (λ (a : Answer). a.bytes) same;
-      output = ap (λ (t : Standing). t.output) push ∙ ap (λ (a : Answer). (session d begin s.events).output ++ a.text) same;
-      ended = ap (λ (t : Standing). t.ended) push ∙ ap (λ (a : Answer). a.ends) same;
+      bytes = ap (λ (t : Standing). t.bytes) push ∙ ap (λ (a : Replied). a.bytes) same;
+      output = ap (λ (t : Standing). t.output) push ∙ ap (λ (a : Replied). (session d begin s.events).output ++ a.text) same;
+      ended = ap (λ (t : Standing). t.ended) push ∙ ap (λ (a : Replied). a.ends) same;
       fair = ap (λ (t : Standing). t.fair) push ∙ ap₂ (λ a b. a && b) s.fair fair_too;
       same = same;
     }
@@ -181,7 +181,7 @@ kept_next d begin taken now line before written tells s event now' line_is fair 
     record {
       last = one.0;
       stats = keeps_append d (begun begin) nothing_kept s.events (e ∷ []) s.kept one.0 refl s.stats s.goes_on one.1;
-      holds = λ ends. one.2 (ap (λ (a : Answer). a.ends) n.same ∙ ends);
+      holds = λ ends. one.2 (ap (λ (a : Replied). a.ends) n.same ∙ ends);
     }
 
 -- The same where the line ends the session, whatever stands behind it.
@@ -192,14 +192,14 @@ kept_end d begin taken now line before written tells s event now' tail line_is f
     let e = whole s.rest event in
     let n = next d begin taken now line before written tells s event line_is fair in
     let told = told_whole d begin taken now line before written tells s event now' line_is keeps in
-    let end = keeps_end d (session d begin s.events).bytes s.kept e tail told.0 (ap (λ (a : Answer). a.ends) n.same ∙ ends) in (
+    let end = keeps_end d (session d begin s.events).bytes s.kept e tail told.0 (ap (λ (a : Replied). a.ends) n.same ∙ ends) in (
       s.kept,
       subst (λ events. Keeps d begin nothing_kept events s.kept) (sym (append_assoc s.events (e ∷ []) tail))
           (keeps_append d (begun begin) nothing_kept s.events (e ∷ tail) s.kept s.kept refl s.stats s.goes_on end),
     )
 
 -- The output behind that line.
-written_next : (d : Description) (begin before written written' : List ℕ) (events : List Event) (e : Event) (a : Answer) → Next d begin events e a
+written_next : (d : Description) (begin before written written' : List ℕ) (events : List Event) (e : Event) (a : Replied) → Next d begin events e a
     → written ≡ before ++ (session d begin events).output → written' ≡ written ++ a.text → written' ≡ before ++ (session d begin (events ++ e ∷ [])).output
 written_next d begin before written written' events e a n is more =
     more ∙ ap (λ w. w ++ a.text) is ∙ append_assoc before (session d begin events).output a.text ∙ ap (λ o. before ++ o) (sym n.output)

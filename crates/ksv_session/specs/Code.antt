@@ -13,7 +13,7 @@ use Rattle.ksv_questions.specs.declared.put.Overwrite.{Overwrite as CodeOverwrit
 use Rattle.ksv_commands.specs.Commands.{command_of}
 use Rattle.ksv_session.specs.Explored.{Explored, description_of}
 use Rattle.ksv_session.specs.Kept.{Holds, Memory, Remembers, nothing_kept}
-use Rattle.ksv_session.specs.Replies.{Answer, Event, Form, answer, edit_refusal_text, is_fair, told_form}
+use Rattle.ksv_session.specs.Replies.{Replied, Event, Form, answer, edit_refusal_text, is_fair, told_form}
 use Rattle.ksv_session.specs.Runs.{Breaks, Serves, Taken, flushed_by}
 use Rattle.ksv_session.specs.Seen.{form_of, is_last, is_refusal, reply_text}
 use Rattle.ksv_session.specs.declared.reply.Reply.{Reply}
@@ -54,7 +54,7 @@ PutSays d (Err e) (Ok x) = ⊥
 -- ---- a line over a device
 
 -- of a reply's text all was written and flushed, and it says whether the session ends; or a beginning was
-abbrev pub Wrote : Answer → Bool → Taken → Taken → Result Bool Failed → Type 0
+abbrev pub Wrote : Replied → Bool → Taken → Taken → Result Bool Failed → Type 0
 Wrote a tells before written (Ok ended) = (ended ≡ a.ends) × (IsTrue tells → (written.bytes ≡ before.bytes ++ a.text) × (written.flushed ≡ length written.bytes))
 Wrote a tells before written (Err failed) = IsTrue tells → (count : ℕ) × (written.bytes ≡ before.bytes ++ take count a.text) × (written.flushed ≡ before.flushed)
 

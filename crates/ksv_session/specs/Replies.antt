@@ -36,17 +36,17 @@ abbrev pub no_memory_text : List ℕ
 no_memory_text = codes "error: no memory\n"
 
 -- The bytes after the line, the text of the reply with its LF, and whether the session ends.
-pub record Answer : Type 0 where
+pub record Replied : Type 0 where
   pub bytes : List ℕ
   pub text : List ℕ
   pub ends : Bool
 
 -- a reply that changes nothing
-abbrev pub said : List ℕ → List ℕ → Answer
+abbrev pub said : List ℕ → List ℕ → Replied
 said b text = record { bytes = b; text = text; ends = false }
 
 -- an edit's reply is the size after it, or its refusal, which changes nothing
-abbrev pub edited : List ℕ → Result (List ℕ) EditRefusal → Answer
+abbrev pub edited : List ℕ → Result (List ℕ) EditRefusal → Replied
 edited b (Ok after) = said after (codes "ok " ++ decimal (length after) ++ codes "\n")
 edited b (Err refusal) = said b (edit_refusal_text refusal)
 
@@ -59,7 +59,7 @@ abbrev pub shown_text : List ℕ → ℕ → ℕ → List ℕ
 shown_text b at count = if has b at count then bytes_text b at (at + count) ++ codes "\n" else edit_refusal_text edits.Outside
 
 -- an integer is written over another, or the reply tells why it isn't
-abbrev pub put_answer : Description → List ℕ → Result Overwrite Failure → Answer
+abbrev pub put_answer : Description → List ℕ → Result Overwrite Failure → Replied
 put_answer d b (Ok o) = edited b (overwrite b o.at o.bytes)
 put_answer d b (Err e) = said b (failure_text d e ++ codes "\n")
 
@@ -76,7 +76,7 @@ turns_text None = codes "-"
 abbrev pub tally_text : Tally → List ℕ
 tally_text t = codes "kept " ++ decimal t.kept ++ codes " turns " ++ turns_text t.turns ++ codes "\n"
 
-abbrev pub answer_to : Description → List ℕ → Tally → Command → Answer
+abbrev pub answer_to : Description → List ℕ → Tally → Command → Replied
 answer_to d b t Blank = said b []
 answer_to d b t (Refused refusal) = said b (line_refusal_text refusal)
 answer_to d b t (Ask question) = said b (question_text d b question ++ codes "\n")
@@ -145,7 +145,7 @@ pub record Event : Type 0 where
   pub tally : Tally
 
 -- the reply to a line; if memory was refused it is `error: no memory`, and nothing changes
-abbrev pub answer : Description → List ℕ → Event → Answer
+abbrev pub answer : Description → List ℕ → Event → Replied
 answer d b event = if event.refused then said b no_memory_text else answer_to d b event.tally (command_of d event.line)
 
 -- the form of that reply

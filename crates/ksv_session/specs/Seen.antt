@@ -1,6 +1,6 @@
 -- What values of the code mean, in the words of the other files.
 use Rattle.std.specs.Prelude.{ℕ, Bool, true, false, List, [], codes, string_bytes}
-use Rattle.ksv_session.specs.Replies.{Answer, Bye, Form, LongText, Nothing, OutOfMemory, ShortText, no_memory_text}
+use Rattle.ksv_session.specs.Replies.{Replied, Bye, Form, LongText, Nothing, OutOfMemory, ShortText, no_memory_text}
 use Rattle.ksv_session.specs.declared.reply.Reply.{Reply}
 use Rattle.ksv_session.specs.declared.reply.Reply.TheVariants as replies
 
@@ -36,5 +36,5 @@ is_last replies.NoMemory = false
 is_last replies.Bye = true
 
 -- a reply, with the bytes after it
-abbrev pub answer_seen : List ℕ → Reply → Answer
+abbrev pub answer_seen : List ℕ → Reply → Replied
 answer_seen b reply = record { bytes = b; text = reply_text reply; ends = is_last reply }

@@ -1,7 +1,7 @@
 -- A whole session: a fold over its lines, whose state is the current bytes.
 use Rattle.std.specs.Prelude.{ℕ, ◌&&◌, Bool, true, false, List, [], ◌++◌, fold, map, if◌then◌else◌}
 use Rattle.ksv_desc.specs.Description.{Description}
-use Rattle.ksv_session.specs.Replies.{Answer, Event, answer, is_fair}
+use Rattle.ksv_session.specs.Replies.{Replied, Event, answer, is_fair}
 
 -- the current bytes, what was written, whether the session has ended, and whether each line that was refused memory
 -- is one that may be
@@ -11,7 +11,7 @@ pub record Standing : Type 0 where
   pub ended : Bool
   pub fair : Bool
 
-abbrev pub answered : Standing → Answer → Bool → Standing
+abbrev pub answered : Standing → Replied → Bool → Standing
 answered s a fair = record { bytes = a.bytes; output = s.output ++ a.text; ended = a.ends; fair = s.fair && fair }
 
 -- a line after `quit` has no reply and no effect

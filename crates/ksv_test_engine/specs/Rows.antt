@@ -1,22 +1,22 @@
 -- Rows that depend on rows and on bytes, and their laws.
-use Rattle.std.specs.Prelude.{◌≡◌, ℕ, suc, ◌+◌, ◌-◌, ◌<◌, ◌≤◌, ◌%◌, ◌^◌, List, [], ◌∷◌, length, slice_get, slice_range, Option, Some, None, Result, Ok, Err, min, max, nat_eq, true}
+use Rattle.std.specs.Prelude.{◌≡◌, ℕ, suc, ◌+◌, ◌-◌, ◌<◌, ◌≤◌, ◌%◌, ◌^◌, List, [], ◌∷◌, length, slice_get, slice_range, Option, Some, None, Result, Ok, Err, min, max, nat_eq, nat_le, Bool, true, false}
 use Rattle.std.specs.List.{AllByRecursion}
 use Rattle.std.proofs.Common.{arith, refl, sym, ◌∙◌, ap, subst, inl, inr, take, drop, get_or, drop-cons}
 use Rattle.std.proofs.lemmas.Bool.{cases_lt}
 use Rattle.std.proofs.lemmas.List.Recursion.{max_bounds}
 use Rattle.std.proofs.lemmas.Option.{slice_get_past, slice_get_within, slice_get-get_or, get_or_from_slice_get}
-use Rattle.std.proofs.lemmas.Bool.Decides.{nat_tests}
+use Rattle.std.proofs.lemmas.Bool.Decides.{nat_tests, leb_tells}
 use mathlib.Core.HLevel.{is_prop→PathP}
 use native.Mathlib.Bridge.{le_prop}
 use Rattle.ksv_bytes.specs.declared.uses.Use.{Use}
-use Rattle.ksv_bytes.specs.declared.uses.Use.TheVariants.{Bytes, Size}
+use Rattle.ksv_bytes.specs.declared.uses.Use.TheVariants.{Bytes, Reach, Size}
 use Rattle.ksv_bytes.specs.Uses.{AgreeOn, CanUse}
 use Rattle.ksv_memo_rules.specs.declared.rules.Next.{Next}
 use Rattle.ksv_memo_rules.specs.declared.rules.Next.TheVariants.{Need, Done}
 use Rattle.ksv_memo_rules.specs.Meaning.{Meaning, IsLawful, IsDone}
 use Rattle.ksv_test_engine.specs.declared.samples.row.RowNumber.{RowNumber}
 use Rattle.ksv_test_engine.specs.declared.samples.row.Row.{Row}
-use Rattle.ksv_test_engine.specs.declared.samples.row.Row.TheVariants.{Number, Sum, Named}
+use Rattle.ksv_test_engine.specs.declared.samples.row.Row.TheVariants.{Number, Sum, Named, Reaching}
 use Rattle.ksv_test_engine.specs.declared.samples.row.Missing.{Missing}
 
 -- what a row or a link answers: a number, or that a row is missing
@@ -66,12 +66,22 @@ abbrev pub named_uses : List ℕ → ℕ → List Reply → List Use
 named_uses bytes place [] = read_uses place (slice_get bytes place)
 named_uses bytes place (reply ∷ replies) = []
 
+-- what a row of whether the file reaches a place does next
+abbrev pub reached : Bool → Next RowNumber Reply
+reached true = Done (Ok 1)
+reached false = Done (Err (record {}))
+
+abbrev pub reach_uses : ℕ → Bool → List Use
+reach_uses place true = Reach place ∷ []
+reach_uses place false = Size ∷ []
+
 -- what a row does next
 abbrev pub row_next : List ℕ → List Reply → Option Row → Next RowNumber Reply
 row_next bytes replies None = Done (Err (record {}))
 row_next bytes replies (Some (Number n)) = Done (Ok n)
 row_next bytes replies (Some (Sum numbers)) = summed numbers.items replies
 row_next bytes replies (Some (Named place)) = named bytes place replies
+row_next bytes replies (Some (Reaching place)) = reached (nat_le place (length bytes))
 
 -- the uses of a row's call
 abbrev pub row_uses : List ℕ → List Reply → Option Row → List Use
@@ -79,12 +89,14 @@ row_uses bytes replies None = []
 row_uses bytes replies (Some (Number n)) = []
 row_uses bytes replies (Some (Sum numbers)) = []
 row_uses bytes replies (Some (Named place)) = named_uses bytes place replies
+row_uses bytes replies (Some (Reaching place)) = reach_uses place (nat_le place (length bytes))
 
 -- the replies that a row takes, and the most that one of the rows takes
 abbrev pub replies_of : Row → ℕ
 replies_of (Number n) = 0
 replies_of (Sum numbers) = length numbers.items
 replies_of (Named place) = 1
+replies_of (Reaching place) = 0
 
 abbrev pub most_replies : List Row → ℕ
 most_replies [] = 0
@@ -116,12 +128,17 @@ sum_done : (r : Reply) → IsDone (summed_at r None)
 sum_done (Ok n) = tt
 sum_done (Err e) = tt
 
+reach_done : (b : Bool) → IsDone (reached b)
+reach_done true = tt
+reach_done false = tt
+
 row_done : (bytes : List ℕ) (replies : List Reply) (o : Option Row) → ((row : Row) → o ≡ Some row → replies_of row ≤ length replies) → IsDone (row_next bytes replies o)
 row_done bytes replies None most = tt
 row_done bytes replies (Some (Number n)) most = tt
 row_done bytes replies (Some (Sum numbers)) most = subst (λ o. IsDone (summed_at (total 0 replies) o)) (sym (slice_get_past numbers.items (length replies) (most (Sum numbers) refl))) (sum_done (total 0 replies))
 row_done bytes [] (Some (Named place)) most = let le : 1 ≤ 0 = most (Named place) refl in absurd (omega arith)
 row_done bytes (reply ∷ replies) (Some (Named place)) most = tt
+row_done bytes replies (Some (Reaching place)) most = reach_done (nat_le place (length bytes))
 
 -- the byte at a place is that of the range of one byte there
 pub range_get : (bytes : List ℕ) (place : ℕ) → place < length bytes → slice_get (slice_range bytes place (place + 1)) 0 ≡ slice_get bytes place
@@ -145,12 +162,23 @@ read_same bytes others place (Some b) e agree =
     let there : place + 1 ≤ length others = agree.0.1 in
     sym (range_get others place (omega arith)) ∙ ap (λ xs. slice_get xs 0) agree.0.2 ∙ range_get bytes place (omega arith) ∙ e
 
+le_if_told : (a b : ℕ) → nat_le a b ≡ true → a ≤ b
+le_if_told a b e = let le : a ≤ b = grind (arith, nat_tests) in le
+
+told_if_le : (a b : ℕ) → a ≤ b → nat_le a b ≡ true
+told_if_le a b le = elim (leb_tells a b) [ inl e ↦ e.0 | inr e ↦ (let lt = e.1 in absurd (omega arith)) ]
+
+reach_same : (bytes others : List ℕ) (place : ℕ) (b : Bool) → nat_le place (length bytes) ≡ b → AllByRecursion (AgreeOn bytes others) (reach_uses place b) → nat_le place (length others) ≡ b
+reach_same bytes others place true e agree = told_if_le place (length others) agree.0.1
+reach_same bytes others place false e agree = ap (nat_le place) agree.0 ∙ e
+
 row_same : (bytes others : List ℕ) (replies : List Reply) (o : Option Row) → AllByRecursion (AgreeOn bytes others) (row_uses bytes replies o) → row_next others replies o ≡ row_next bytes replies o
 row_same bytes others replies None agree = refl
 row_same bytes others replies (Some (Number n)) agree = refl
 row_same bytes others replies (Some (Sum numbers)) agree = refl
 row_same bytes others [] (Some (Named place)) agree = ap named_at (read_same bytes others place (slice_get bytes place) refl agree)
 row_same bytes others (reply ∷ replies) (Some (Named place)) agree = refl
+row_same bytes others replies (Some (Reaching place)) agree = ap reached (reach_same bytes others place (nat_le place (length bytes)) refl agree)
 
 uses_same : (bytes others : List ℕ) (replies : List Reply) (o : Option Row) → AllByRecursion (AgreeOn bytes others) (row_uses bytes replies o) → row_uses others replies o ≡ row_uses bytes replies o
 uses_same bytes others replies None agree = refl
@@ -158,10 +186,15 @@ uses_same bytes others replies (Some (Number n)) agree = refl
 uses_same bytes others replies (Some (Sum numbers)) agree = refl
 uses_same bytes others [] (Some (Named place)) agree = ap (read_uses place) (read_same bytes others place (slice_get bytes place) refl agree)
 uses_same bytes others (reply ∷ replies) (Some (Named place)) agree = refl
+uses_same bytes others replies (Some (Reaching place)) agree = ap (reach_uses place) (reach_same bytes others place (nat_le place (length bytes)) refl agree)
 
 read_can : (bytes : List ℕ) (place : ℕ) (o : Option ℕ) → slice_get bytes place ≡ o → AllByRecursion (CanUse bytes) (read_uses place o)
 read_can bytes place None e = (tt, tt)
 read_can bytes place (Some b) e = let lt : place < length bytes = slice_get_within bytes place b e in ((omega arith, omega arith), tt)
+
+reach_can : (bytes : List ℕ) (place : ℕ) (b : Bool) → nat_le place (length bytes) ≡ b → AllByRecursion (CanUse bytes) (reach_uses place b)
+reach_can bytes place true e = (le_if_told place (length bytes) e, tt)
+reach_can bytes place false e = (tt, tt)
 
 uses_can : (bytes : List ℕ) (replies : List Reply) (o : Option Row) → AllByRecursion (CanUse bytes) (row_uses bytes replies o)
 uses_can bytes replies None = tt
@@ -169,6 +202,7 @@ uses_can bytes replies (Some (Number n)) = tt
 uses_can bytes replies (Some (Sum numbers)) = tt
 uses_can bytes [] (Some (Named place)) = read_can bytes place (slice_get bytes place) refl
 uses_can bytes (reply ∷ replies) (Some (Named place)) = tt
+uses_can bytes replies (Some (Reaching place)) = reach_can bytes place (nat_le place (length bytes)) refl
 
 pub rows_lawful : (rows : List Row) → IsLawful (rows_meaning rows)
 rows_lawful rows = record {

@@ -8,6 +8,7 @@
 //!
 //! Modules:
 //!
+//! - `behind`: how few looks an append, an insert or a delete takes
 //! - `buffer`: edits of a buffer, its limit, and what an edit touches
 //! - `chain`: a chain of nodes that is a hundred thousand deep
 //! - `edits`: an engine that is right for the bytes of a buffer, and edits of both
@@ -35,6 +36,8 @@
 //! - `Totals`: the total of replies
 #![tactic(auto)]
 
+#[cfg(test)]
+mod behind;
 #[cfg(test)]
 mod buffer;
 #[cfg(test)]

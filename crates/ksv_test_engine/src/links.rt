@@ -26,7 +26,7 @@ fn takes_both(links: &mut Links) -> bool
     requires { links.old.waits ≡ [] }
 {
     let are_kept = links.count() == 2;
-    links.forget(Change::Overwrite { at: 150, n: 1 });
+    links.forget(Change::Overwrite { at: 150, n: 1 }, 0);
     let is_second = links.take() == Some(1);
     let is_first = links.take() == Some(0);
     let is_all = links.take().is_none();
@@ -38,7 +38,7 @@ fn takes_both(links: &mut Links) -> bool
 fn takes_none(links: &mut Links) -> bool
     requires { links.old.waits ≡ [] }
 {
-    links.forget(Change::Overwrite { at: 200, n: 9 });
+    links.forget(Change::Overwrite { at: 200, n: 9 }, 0);
     let is_none = links.take().is_none();
     is_none && links.looks() <= 8 * (1 + 1) && links.count() == 2
 }

@@ -51,11 +51,12 @@ fn random_sum(alloc: Global, random: &mut Random, bound: u8) -> Result<Row, Allo
     Ok(Row::Sum(numbers))
 }
 
-/// A number, a sum of up to three rows or a row that a byte names; row 8 is never there.
+/// A number, a sum of up to three rows, a row that a byte names, or whether the file reaches a place; row 8 is never there.
 fn random_row(alloc: Global, random: &mut Random) -> Result<Row, AllocError> {
-    match random.below(4) {
+    match random.below(5) {
         0 => Ok(Row::Number(u32::from(random.below(10)))),
         1 => Ok(Row::Named(u32::from(random.below(8)))),
+        2 => Ok(Row::Reaching(u32::from(random.below(12)))),
         _ => random_sum(alloc, random, 9),
     }
 }
@@ -93,6 +94,13 @@ fn plainly(rows: &[Row], bytes: &[u8], open: u16, number: u8, depth: u8) -> Plai
                 sum = sum.plus(plainly(rows, bytes, open, part.number, depth));
             }
             sum
+        }
+        Some(Row::Reaching(place)) => {
+            if *place as usize <= bytes.len() {
+                Plain::Value(1)
+            } else {
+                Plain::Missing
+            }
         }
     }
 }

@@ -36,4 +36,6 @@ pub enum Row {
     Sum(Vec<RowNumber>),
     /// The row that the byte at this place names.
     Named(u32),
+    /// 1, if the file reaches this place.
+    Reaching(u32),
 }

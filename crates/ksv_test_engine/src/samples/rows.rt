@@ -1,5 +1,5 @@
 //! Rows that depend on rows and on bytes.
-ghost use Rattle.std.specs.Prelude.{◌≡◌, ◌<◌, ◌≤◌, ◌+◌, ◌-◌, ◌^◌, ◌++◌, min, length, slice_get, slice_range, IfOk, OnOk, OnErr, IsSome, Some};
+ghost use Rattle.std.specs.Prelude.{◌≡◌, ◌<◌, ◌≤◌, ◌+◌, ◌-◌, ◌^◌, ◌++◌, min, nat_le, length, slice_get, slice_range, IfOk, OnOk, OnErr, IsSome, Some};
 ghost use Rattle.std.specs.Option.{option_copied};
 ghost use Rattle.ksv_bytes.specs.Edits.{file_limit};
 ghost use Rattle.ksv_test_engine.specs.Rows as spec;
@@ -94,6 +94,25 @@ fn named(
     }
 }
 
+/// What a row of whether the file reaches a place does next.
+fn reaching(
+    place: u32,
+    bytes: &Buffer,
+    uses: &mut Vec<Use>,
+) -> Result<Next<RowNumber, Reply>, AllocError>
+    ensures step { IfOk result (λ step. step ≡ spec.reached (nat_le place (length bytes.now))) }
+    ensures uses { OnOk result (uses.new.items ≡ uses.old.items ++ spec.reach_uses place (nat_le place (length bytes.now))) }
+    ensures refused { OnErr result (uses.new.items ≡ uses.old.items) }
+{
+    if place as usize <= bytes.len() {
+        uses.push(Use::Reach(place))?;
+        Ok(Next::Done(Ok(1)))
+    } else {
+        uses.push(Use::Size)?;
+        Ok(Next::Done(Err(Missing)))
+    }
+}
+
 /// The row of a number, if there is one.
 fn row_at(rows: &[Row], number: usize) -> Option<&Row>
     ensures { option_copied result ≡ slice_get rows.now number }
@@ -116,6 +135,7 @@ fn row_next(
         Row::Number(number) => Ok(Next::Done(Ok(*number))),
         Row::Sum(numbers) => Ok(summed(numbers.as_slice(), replies)),
         Row::Named(place) => named(*place, bytes, replies, uses),
+        Row::Reaching(place) => reaching(*place, bytes, uses),
     }
 }
 

@@ -1,8 +1,10 @@
-use Rattle.std.proofs.Common.{[], ◌++◌, ap, subst}
+use Rattle.std.proofs.Common.{[], ◌++◌, ap, sym, subst}
 use Rattle.ksv_memo_rules.specs.Meaning.{on}
 use Rattle.ksv_memo_rules.specs.Evaluation.{done}
 use Rattle.ksv_memo_rules.specs.Right.{AreExactly, AreBetween, nodes_of}
+use Rattle.ksv_memo.specs.Behind.{AllEndBy}
 use Rattle.ksv_memo.proofs.Questions.{exactly, between}
+use Rattle.ksv_memo.proofs.Ends.{right-ends}
 use Rattle.ksv_memo.proofs.engine.Engine.ask.Goals as goal
 
 pub returns-in-Ok-Answered-Ok-clause-kept : goal.returns-in-Ok-Answered-Ok-clause-kept
@@ -32,3 +34,27 @@ returns-in-Err-clause-refused g c =
     let ms = done w [] c.args.node in
     let all = c.ask.new.self.table.kept in
     subst (λ es. AreBetween w (nodes_of es) (nodes_of all) (nodes_of es ++ ms)) (ap (λ v. v.kept) c.self.view_is) (between w c.self.inside.machine.table.kept all ms c.in-Err.ensures.left)
+
+pub invariant_of-self : goal.invariant_of-self
+invariant_of-self g c = record {
+  opened = c.in-Ok-Answered-Ok.ensures.opened;
+  ends = subst (λ n. AllEndBy n c.ask.new.self.table.kept) (sym c.len-self-inside.ensures.len) (right-ends (g.R.Rules.meaning c.args.rules.now) (g.met.R.Rules.lawful c.args.rules.now) c.args.bytes.now c.ask.new.self.table.kept c.in-Ok-Answered-Ok.ensures.right);
+}
+
+pub invariant_of-self-in-Ok-Answered-Err : goal.invariant_of-self-in-Ok-Answered-Err
+invariant_of-self-in-Ok-Answered-Err g c = record {
+  opened = c.in-Ok-Answered-Err.ensures.opened;
+  ends = subst (λ n. AllEndBy n c.ask.new.self.table.kept) (sym c.len-self-inside.ensures.len) (right-ends (g.R.Rules.meaning c.args.rules.now) (g.met.R.Rules.lawful c.args.rules.now) c.args.bytes.now c.ask.new.self.table.kept c.in-Ok-Answered-Err.ensures.right);
+}
+
+pub invariant_of-self-in-Ok-Circle : goal.invariant_of-self-in-Ok-Circle
+invariant_of-self-in-Ok-Circle g c = record {
+  opened = c.in-Ok-Circle.ensures.opened;
+  ends = subst (λ n. AllEndBy n c.ask.new.self.table.kept) (sym c.len-self-inside.ensures.len) (right-ends (g.R.Rules.meaning c.args.rules.now) (g.met.R.Rules.lawful c.args.rules.now) c.args.bytes.now c.ask.new.self.table.kept c.in-Ok-Circle.ensures.right);
+}
+
+pub invariant_of-self-in-Err : goal.invariant_of-self-in-Err
+invariant_of-self-in-Err g c = record {
+  opened = c.in-Err.ensures.opened;
+  ends = subst (λ n. AllEndBy n c.ask.new.self.table.kept) (sym c.len-self-inside.ensures.len) (right-ends (g.R.Rules.meaning c.args.rules.now) (g.met.R.Rules.lawful c.args.rules.now) c.args.bytes.now c.ask.new.self.table.kept c.in-Err.ensures.right);
+}

@@ -1,17 +1,19 @@
-use Rattle.std.proofs.Common.{ap, sym, subst, Contains}
+use Rattle.std.proofs.Common.{◌≤◌, length, ap, sym, subst, refl, Contains}
 use Rattle.std.specs.List.{AllByRecursion}
 use Rattle.ksv_memo_rules.specs.Meaning.{on}
 use Rattle.ksv_memo_rules.specs.Right.{AreExactly, IsRight, nodes_of}
 use Rattle.ksv_memo_rules.specs.Touched.{left_after}
 use Rattle.ksv_memo.specs.Near.{LooksNear}
+use Rattle.ksv_memo.specs.Behind.{AllEndBy, LooksBehind, pages_to}
 use Rattle.ksv_memo_rules.proofs.Standing.{law_on}
-use Rattle.ksv_memo.proofs.Forgetting.{forgets, forgets-right, forgets-kept, looks-near}
+use Rattle.ksv_memo.proofs.Forgetting.{forgets, forgets-right, forgets-kept, looks-near, looks-behind}
+use Rattle.ksv_memo.proofs.Ends.{ends-within, left-ends, reach-fits}
 use Rattle.ksv_memo.proofs.engine.Engine.forget.Goals as goal
 
 pub returns-clause-right : goal.returns-clause-right
 returns-clause-right g c rules before after right made =
     let view = ap (λ v. v.kept) c.self.view_is in
-    forgets-right (g.R.Rules.meaning rules) (g.met.R.Rules.lawful rules) c.args.change before after made c.self.inside.machine.table.kept c.forget-self-inside.new.self.kept c.forget-self-inside.result c.forget-self-inside.ensures.kept
+    forgets-right (g.R.Rules.meaning rules) (g.met.R.Rules.lawful rules) c.args.change before after made (pages_to c.self.inside.reach) c.self.inside.machine.table.kept c.forget-self-inside.new.self.kept c.forget-self-inside.result c.forget-self-inside.ensures.kept
     (subst (IsRight (on (g.R.Rules.meaning rules) before)) (sym view) right)
 
 pub returns-clause-left : goal.returns-clause-left
@@ -20,12 +22,12 @@ returns-clause-left g c rules before right =
     let view = ap (λ v. v.kept) c.self.view_is in
     let law = law_on (g.R.Rules.meaning rules) (g.met.R.Rules.lawful rules) before in
     subst (λ es. AreExactly w (nodes_of c.forget-self-inside.new.self.kept) (left_after w c.args.change (nodes_of es))) view
-    (forgets w law c.args.change c.self.inside.machine.table.kept c.forget-self-inside.new.self.kept c.forget-self-inside.result (subst (IsRight w) (sym view) right) c.forget-self-inside.ensures.kept).1
+    (forgets w law c.args.change (pages_to c.self.inside.reach) c.self.inside.machine.table.kept c.forget-self-inside.new.self.kept c.forget-self-inside.result (subst (IsRight w) (sym view) right) c.forget-self-inside.ensures.kept).1
 
 pub returns-clause-kept : goal.returns-clause-kept
 returns-clause-kept g c =
     subst (λ es. AllByRecursion (Contains es) c.forget-self-inside.new.self.kept) (ap (λ v. v.kept) c.self.view_is)
-    (forgets-kept c.args.change c.self.inside.machine.table.kept c.forget-self-inside.new.self.kept c.forget-self-inside.result c.forget-self-inside.ensures.kept)
+    (forgets-kept c.args.change (pages_to c.self.inside.reach) c.self.inside.machine.table.kept c.forget-self-inside.new.self.kept c.forget-self-inside.result c.forget-self-inside.ensures.kept)
 
 pub returns-clause-looked : goal.returns-clause-looked
 returns-clause-looked g c rules before after right made wrote =
@@ -33,4 +35,27 @@ returns-clause-looked g c rules before after right made wrote =
     let view = ap (λ v. v.kept) c.self.view_is in
     let law = law_on (g.R.Rules.meaning rules) (g.met.R.Rules.lawful rules) before in
     subst (λ es. LooksNear w c.args.change es c.forget-self-inside.result) view
-    (looks-near w law c.args.change c.self.inside.machine.table.kept c.forget-self-inside.new.self.kept c.forget-self-inside.result (subst (IsRight w) (sym view) right) c.forget-self-inside.ensures.kept wrote)
+    (looks-near w law c.args.change (pages_to c.self.inside.reach) c.self.inside.machine.table.kept c.forget-self-inside.new.self.kept c.forget-self-inside.result (subst (IsRight w) (sym view) right) c.forget-self-inside.ensures.kept wrote)
+
+pub returns-clause-behind : goal.returns-clause-behind
+returns-clause-behind g c rules before right moves =
+    let w = on (g.R.Rules.meaning rules) before in
+    let law = law_on (g.R.Rules.meaning rules) (g.met.R.Rules.lawful rules) before in
+    let reach = c.self.inside.reach in
+    subst (λ v. LooksBehind w c.args.change v.reach v.kept c.forget-self-inside.result) c.self.view_is
+    (looks-behind w law c.args.change (pages_to reach) c.self.inside.machine.table.kept c.forget-self-inside.new.self.kept c.forget-self-inside.result (subst (λ v. IsRight w v.kept) (sym c.self.view_is) right) c.forget-self-inside.ensures.kept reach refl moves)
+
+pub returns-clause-reach : goal.returns-clause-reach
+returns-clause-reach g c before after made le =
+    let reach = c.self.inside.reach in
+    let fits = reach-fits c.args.change before after reach made (subst (λ v. v.reach ≤ length before) (sym c.self.view_is) le) in
+    subst (λ n. n ≤ length after) (sym c.reach_after-self-inside.ensures) fits
+
+pub invariant_of-self : goal.invariant_of-self
+invariant_of-self g c = record {
+  opened = c.forget-self-inside.ensures.opened;
+  ends = subst (λ n. AllEndBy n c.forget-self-inside.new.self.kept) (sym c.reach_after-self-inside.ensures) (left-ends c.args.change (pages_to c.self.inside.reach) c.self.inside.reach c.self.inside.machine.table.kept c.forget-self-inside.new.self.kept c.forget-self-inside.result c.forget-self-inside.ensures.kept c.self.invariant.ends);
+}
+
+pub forget-self-inside-requires-clause-within : goal.forget-self-inside-requires-clause-within
+forget-self-inside-requires-clause-within g c = ends-within c.self.inside.reach c.self.inside.machine.table.kept c.self.invariant.ends

@@ -1,14 +1,20 @@
-use Rattle.std.proofs.Common.{◌∙◌, ap, subst, refl, arith}
+use Rattle.std.proofs.Common.{◌∙◌, ap, sym, subst, refl, arith}
 use Rattle.ksv_memo.specs.declared.frames.Frames.{Frames}
 use Rattle.ksv_memo.specs.Layout.{entries_at, entries_of}
-use Rattle.ksv_memo_links.specs.Touching.{numbers_from}
+use Rattle.std.specs.List.{AllByRecursion}
+use Rattle.ksv_memo_links.specs.Touching.{numbers_from, AreWithin}
 use Rattle.ksv_memo.specs.Sweep.{Sweeps}
-use Rattle.ksv_memo.proofs.Sweeping.{all_marks, entries, stays, marked, swept-links, gone-least, looks-most, waits-in}
+use Rattle.ksv_memo.proofs.Sweeping.{all_marks, entries, stays, marked, swept-links, gone-least, looks-most, looks-behind, kept-within, waits-in}
 use Rattle.ksv_memo.proofs.Resting.{no-frames, no-opens}
 use Rattle.ksv_memo.proofs.table.Table.forget.Goals as goal
 
-pub forget-requires : goal.forget-requires
-forget-requires g c = record { idle = c.self.invariant.kept.idle }
+pub forget-requires-clause-idle : goal.forget-requires-clause-idle
+forget-requires-clause-idle g c = c.self.invariant.kept.idle
+
+pub forget-requires-clause-within : goal.forget-requires-clause-within
+forget-requires-clause-within g c moves =
+    let t = c.self.inside in
+    kept-within c.args.pages t.slots.entries t.links c.self.invariant.kept (subst (λ v. AllByRecursion (λ e. AreWithin c.args.pages e.uses) v.kept) (sym c.self.view_is) c.requires.within)
 
 pub empty_taken-requires-clause-inside : goal.empty_taken-requires-clause-inside
 empty_taken-requires-clause-inside g c = waits-in c.args.change c.self.inside.slots.entries c.self.inside.links c.forget.new.self c.self.invariant.kept c.forget.ensures.forgets
@@ -25,7 +31,7 @@ invariant_of-self g c =
     let e = c.empty_taken.ensures in
     record {
       kept = swept-links c.args.change ps qs t.links c.forget.new.self c.empty_taken.new.links c.empty_taken.new.slots.looks c.self.invariant.kept c.forget.ensures.forgets e;
-      waits = no-frames ps qs e.taken.opens t.frames none c.self.invariant.waits (ap (λ v. v.opened) c.self.view_is ∙ c.requires) refl c.clear.ensures.items;
+      waits = no-frames ps qs e.taken.opens t.frames none c.self.invariant.waits (ap (λ v. v.opened) c.self.view_is ∙ c.requires.opened) refl c.clear.ensures.items;
     }
 
 pub returns-clause-opened : goal.returns-clause-opened
@@ -34,7 +40,7 @@ returns-clause-opened g c =
     let ps = t.slots.entries in
     let qs = c.empty_taken.new.slots.entries in
     let none : Frames = record { frames = t.frames.frames; asked = c.clear.new.self; uses = t.frames.uses } in
-    no-opens ps qs c.empty_taken.ensures.taken.opens t.frames none c.self.invariant.waits (ap (λ v. v.opened) c.self.view_is ∙ c.requires) refl
+    no-opens ps qs c.empty_taken.ensures.taken.opens t.frames none c.self.invariant.waits (ap (λ v. v.opened) c.self.view_is ∙ c.requires.opened) refl
 
 pub returns-clause-kept : goal.returns-clause-kept
 returns-clause-kept g c =
@@ -52,11 +58,12 @@ returns-clause-kept g c =
     let few = gone-least c.args.change ps qs l m n count h f e in
     let a = c.forget.ensures.least in let fits = c.forget.ensures.fits in
     let b = e.taken.least in let d = c.looks.ensures.least in let k = c.looks.ensures.count in let s = c.saturating_add.ensures in let u = c.looks-2.ensures in
-    subst (λ v. Sweeps c.args.change v.kept (entries_of qs n) looked) c.self.view_is (record {
+    subst (λ v. Sweeps c.args.change c.args.pages v.kept (entries_of qs n) looked) c.self.view_is (record {
       marks = all_marks c.args.change ps qs l m n count h f e;
       entries = entries c.args.change ps qs l m n count h f e _;
       marked = marked c.args.change ps qs l m n count h f e _;
       stays = ap (λ k. entries_at qs n (numbers_from 0 k)) e.taken.slots ∙ stays c.args.change ps qs l m n count h f e _;
       least = omega arith;
       most = looks-most c.args.change ps qs l m n count h f e c.forget.ensures.vacant c.forget.ensures.most looked (omega arith);
+      behind = looks-behind c.args.change ps qs l m n count h f e c.args.pages c.forget.ensures.vacant c.forget.ensures.behind looked (omega arith);
     })

@@ -14,7 +14,7 @@ loop-item-preserved c =
     let q1 : Parts = record { users = c.item.new.self; pages = q.pages; uses = q.uses; marks = q.marks } in
     let r : Parts = record { users = c.item.new.self; pages = q.pages; uses = q.uses; marks = c.mark.new.self } in
     let k : Peeks q q1 = record {
-      same = record { users = c.item.ensures.notes; user_lists = c.item.ensures.lists; pages = refl; page_lists = refl; uses = refl };
+      same = record { users = c.item.ensures.notes; user_lists = c.item.ensures.lists; pages = refl; page_lists = refl; uses = refl; ends = refl };
       kept = refl;
       work = refl;
       looks = let l = c.item.ensures.looks in omega arith;
@@ -22,7 +22,7 @@ loop-item-preserved c =
       rises = let l = c.item.ensures.grows in omega arith;
     } in
     let one : MarksOne q1 r c.in-Some.item.row = record {
-      same = record { users = refl; user_lists = refl; pages = refl; page_lists = refl; uses = refl };
+      same = record { users = refl; user_lists = refl; pages = refl; page_lists = refl; uses = refl; ends = refl };
       kept = c.mark.ensures.kept;
       work = c.mark.ensures.work;
       least = c.mark.ensures.least;
@@ -35,7 +35,7 @@ returns c =
     let q = c.loop-item.self in
     let q1 : Parts = record { users = c.item.new.self; pages = q.pages; uses = q.uses; marks = q.marks } in
     let k : Peeks q q1 = record {
-      same = record { users = c.item.ensures.notes; user_lists = c.item.ensures.lists; pages = refl; page_lists = refl; uses = refl };
+      same = record { users = c.item.ensures.notes; user_lists = c.item.ensures.lists; pages = refl; page_lists = refl; uses = refl; ends = refl };
       kept = refl;
       work = refl;
       looks = let l = c.item.ensures.looks in omega arith;

@@ -12,7 +12,7 @@ loop-slot-preserved c =
     let q = c.loop-slot.self in
     let q1 : Parts = record { users = q.users; pages = q.pages; uses = q.uses; marks = c.at.new.self } in
     let k : Peeks q q1 = record {
-      same = record { users = refl; user_lists = refl; pages = refl; page_lists = refl; uses = refl };
+      same = record { users = refl; user_lists = refl; pages = refl; page_lists = refl; uses = refl; ends = refl };
       kept = c.at.ensures.kept;
       work = c.at.ensures.work;
       looks = let l = c.at.ensures.looks in omega arith;
@@ -26,7 +26,7 @@ returns c =
     let q = c.loop-slot.self in
     let q1 : Parts = record { users = q.users; pages = q.pages; uses = q.uses; marks = c.at.new.self } in
     let k : Peeks q q1 = record {
-      same = record { users = refl; user_lists = refl; pages = refl; page_lists = refl; uses = refl };
+      same = record { users = refl; user_lists = refl; pages = refl; page_lists = refl; uses = refl; ends = refl };
       kept = c.at.ensures.kept;
       work = c.at.ensures.work;
       looks = let l = c.at.ensures.looks in omega arith;

@@ -1,0 +1,131 @@
+-- What is kept ends by the reach of the engine.
+use Rattle.std.proofs.Common.{◌≡◌, ◌⊎◌, inl, inr, ℕ, zero, suc, ◌+◌, ◌-◌, ◌/◌, ◌<◌, ◌≤◌, min, Bool, true, false, not, cond, List, [], ◌∷◌, length, length-append, length-take, length-drop, filter, Contains, refl, sym, ◌∙◌, ap, subst, arith}
+use Rattle.std.specs.List.{AllByRecursion, list_any}
+use Rattle.std.proofs.lemmas.Bool.{or_parts, cases_lt}
+use Rattle.std.proofs.lemmas.Bool.Decides.{Decides-ltb}
+use Rattle.std.proofs.lemmas.List.Elements.{Contains-append_cases}
+use Rattle.ksv_bytes.specs.declared.uses.Use.{Use}
+use Rattle.ksv_bytes.specs.declared.uses.Use.TheVariants.{Bytes, Reach, Size}
+use Rattle.ksv_bytes.specs.declared.uses.Change.{Change}
+use Rattle.ksv_bytes.specs.declared.uses.Change.TheVariants.{Overwrite, Insert, Delete, Append}
+use Rattle.ksv_bytes.specs.Uses.{CanUse, Makes, is_use_touched}
+use Rattle.ksv_memo_links.specs.Touching.{numbers_from, pages_end, pages_of, pages_in, is_size, farthest, end_at, ends_in, AreWithin}
+use Rattle.ksv_memo_links.proofs.Members.{none_in, first_or_later}
+use Rattle.ksv_memo_rules.specs.Meaning.{Meaning, IsLawful, on}
+use Rattle.ksv_memo_rules.specs.Evaluation.{tells}
+use Rattle.ksv_memo_rules.specs.Entry.{Entry}
+use Rattle.ksv_memo_rules.specs.Right.{IsRight}
+use Rattle.ksv_memo_rules.proofs.Lists.{All-map, All-both, none_pass}
+use Rattle.ksv_memo.specs.Behind.{EndsBy, AllEndBy, pages_to}
+use Rattle.ksv_memo.specs.Resting.{left_reach}
+use Rattle.ksv_memo.specs.Sweep.{Mark, IsMarked, Sweeps, entries_with, entries_left}
+use Rattle.ksv_memo.proofs.Change.{All-of-once, eval_can}
+
+-- ---- on the bytes on which it is right
+can-end : (bytes : List ℕ) (u : Use) → CanUse bytes u → EndsBy (length bytes) u
+can-end bytes (Bytes f t) h = h
+can-end bytes (Reach t) h = h
+can-end bytes Size h = tt
+
+pub right-ends : {N A : Type 0} (meaning : Meaning N A) → IsLawful meaning → (bytes : List ℕ) (es : List (Entry N A)) → IsRight (on meaning bytes) es → AllEndBy (length bytes) es
+right-ends {N} {A} meaning law bytes es right =
+    All-map (λ (e : Entry N A) is. All-of-once (EndsBy (length bytes)) e.uses (tells (on meaning bytes) [] e.node).uses is.uses
+    (All-map (can-end bytes) (tells (on meaning bytes) [] e.node).uses (eval_can (on meaning bytes) (CanUse bytes) (law.can_use bytes) meaning.nodes [] e.node))) es right.each
+
+-- ---- so it is within its pages
+numbers-few : (a n g : ℕ) → Contains (numbers_from a n) g → g < a + n
+numbers-few a zero g c = absurd (none_in g c)
+numbers-few a (suc n) g c = by (first_or_later a (numbers_from (a + 1) n) g c) (numbers-few (a + 1) n g)
+  where
+    by : (a ≡ g) ⊎ Contains (numbers_from (a + 1) n) g → (Contains (numbers_from (a + 1) n) g → g < a + 1 + n) → g < a + suc n
+    by (inl e) later = omega arith
+    by (inr k) later = let h = later k in omega arith
+
+use-pages : (place : ℕ) (u : Use) (g : ℕ) → EndsBy place u → Contains (pages_of u) g → g < pages_to place
+use-pages place (Bytes f t) g h c = let lt = h.0 in let le = h.1 in let n = numbers-few (f / 64) (pages_end f t - f / 64) g c in omega arith
+use-pages place (Reach t) g h c = absurd (none_in g c)
+use-pages place Size g h c = absurd (none_in g c)
+
+all-pages : (place : ℕ) (us : List Use) → AllByRecursion (EndsBy place) us → (g : ℕ) → Contains (pages_in us) g → g < pages_to place
+all-pages place [] h g c = absurd (none_in g c)
+all-pages place (u ∷ us) h g c = by (Contains-append_cases (pages_of u) (pages_in us) g c) (all-pages place us h.1 g)
+  where
+    by : Contains (pages_of u) g ⊎ Contains (pages_in us) g → (Contains (pages_in us) g → g < pages_to place) → g < pages_to place
+    by (inl k) later = use-pages place u g h.0 k
+    by (inr k) later = later k
+
+farthest-by : (place : ℕ) (us : List Use) → AllByRecursion (EndsBy place) us → farthest us ≤ place
+farthest-by place [] h = omega arith
+farthest-by place (Bytes f t ∷ us) h = let r = farthest-by place us h.1 in omega arith
+farthest-by place (Reach t ∷ us) h = let r = farthest-by place us h.1 in let le : t ≤ place = h.0 in omega arith
+farthest-by place (Size ∷ us) h = let r = farthest-by place us h.1 in omega arith
+
+one-in : (x y : ℕ) → Contains (x ∷ []) y → x ≡ y
+one-in x y c = by (first_or_later x [] y c)
+  where
+    by : (x ≡ y) ⊎ Contains [] y → x ≡ y
+    by (inl e) = e
+    by (inr k) = absurd (none_in y k)
+
+end-by : (place f : ℕ) → f ≤ place → (l : ℕ) → Contains (end_at f) l → l ≤ pages_to place
+end-by place zero le l c = absurd (none_in l c)
+end-by place (suc f) le l c = let e = one-in (f / 64 + 1) l c in omega arith
+
+all-ends : (place : ℕ) (us : List Use) → AllByRecursion (EndsBy place) us → (l : ℕ) → Contains (ends_in us) l → l ≤ pages_to place
+all-ends place us h l = by (list_any is_size us)
+  where
+    by : (b : Bool) → Contains (cond b (0 ∷ []) (end_at (farthest us))) l → l ≤ pages_to place
+    by true c = let e = one-in 0 l c in omega arith
+    by false c = end-by place (farthest us) (farthest-by place us h) l c
+
+pub ends-within : {N A : Type 0} (place : ℕ) (es : List (Entry N A)) → AllEndBy place es → AllByRecursion (λ e. AreWithin (pages_to place) e.uses) es
+ends-within {N} {A} place es h = All-map (λ (e : Entry N A) all. record { met = all-pages place e.uses all; ends = all-ends place e.uses all }) es h
+
+-- ---- after an edit
+untouched-insert : (reach at n : ℕ) (u : Use) → EndsBy reach u → is_use_touched (Insert at n) u ≡ false → EndsBy (min reach at) u
+untouched-insert reach at n (Bytes f t) h e = by (cases_lt at t)
+  where
+    by : (at < t) ⊎ (t ≤ at) → EndsBy (min reach at) (Bytes f t)
+    by (inl lt) = let yes = (Decides-ltb at t).1 lt in absurd (cc)
+    by (inr le) = let l = h.1 in (h.0, omega arith)
+untouched-insert reach at n (Reach t) h e = by (cases_lt at t)
+  where
+    by : (at < t) ⊎ (t ≤ at) → t ≤ min reach at
+    by (inl lt) = let yes = (Decides-ltb at t).1 lt in absurd (cc)
+    by (inr le) = let l : t ≤ reach = h in omega arith
+untouched-insert reach at n Size h e = tt
+
+untouched-ends : (change : Change) (reach : ℕ) (u : Use) → EndsBy reach u → is_use_touched change u ≡ false → EndsBy (left_reach change reach) u
+untouched-ends (Overwrite at n) reach u h e = h
+untouched-ends (Insert at n) reach u h e = untouched-insert reach at n u h e
+untouched-ends (Delete at n) reach u h e = untouched-insert reach at n u h (same u ∙ e)
+  where
+    same : (u : Use) → is_use_touched (Insert at n) u ≡ is_use_touched (Delete at n) u
+    same (Bytes f t) = refl
+    same (Reach t) = refl
+    same Size = refl
+untouched-ends Append reach u h e = h
+
+-- the marks of entries that all end by the reach
+ends-left : {N A : Type 0} (change : Change) (reach : ℕ) (all ks : List (Mark N A)) → AllByRecursion (IsMarked change all) ks → AllEndBy reach (entries_with ks) → AllEndBy (left_reach change reach) (entries_left ks)
+ends-left change reach all [] marked h = tt
+ends-left {N} {A} change reach all (k ∷ ks) marked h = by k.goes refl (ends-left change reach all ks marked.1 h.1)
+  where
+    by : (b : Bool) → k.goes ≡ b → AllEndBy (left_reach change reach) (entries_left ks) → AllEndBy (left_reach change reach) (entries_with (cond (not b) (k ∷ filter (λ k. not k.goes) ks) (filter (λ k. not k.goes) ks)))
+    by true e rest = rest
+    by false e rest =
+        let free = none_pass (is_use_touched change) k.entry.uses (or_parts (list_any (is_use_touched change) k.entry.uses) (list_any (λ b. b) marked.0.asked) (sym marked.0.goes ∙ e)).0 in
+        (All-both (EndsBy reach) (λ u. is_use_touched change u ≡ false) (EndsBy (left_reach change reach)) (untouched-ends change reach) k.entry.uses h.0 free, rest)
+
+pub left-ends : {N A : Type 0} (change : Change) (pages reach : ℕ) (es all : List (Entry N A)) (looked : ℕ) → Sweeps change pages es all looked → AllEndBy reach es → AllEndBy (left_reach change reach) all
+left-ends {N} {A} change pages reach es all looked sweeps h =
+    let P : List (Entry N A) → Type 0 = λ xs. AllEndBy reach xs in
+    let Q : List (Entry N A) → Type 0 = λ xs. AllEndBy (left_reach change reach) xs in
+    subst Q (sym sweeps.stays) (ends-left change reach sweeps.marks sweeps.marks sweeps.marked (subst P (sym sweeps.entries) h))
+
+-- and the reach is within the file again
+pub reach-fits : (change : Change) (before after : List ℕ) (reach : ℕ) → Makes change before after → reach ≤ length before → left_reach change reach ≤ length after
+reach-fits (Overwrite at n) before after reach made le = let e = ap length made.3 in let n1 = made.1 in let k = made.2 in omega (arith, length-append {A = ℕ}, length-take {A = ℕ}, length-drop {A = ℕ})
+reach-fits (Insert at n) before after reach made le = let e = ap length made.3 in let n1 = made.1 in let k = made.2 in omega (arith, length-append {A = ℕ}, length-take {A = ℕ}, length-drop {A = ℕ})
+reach-fits (Delete at n) before after reach made le = let e = ap length made.1 in let k = made.0 in omega (arith, length-append {A = ℕ}, length-take {A = ℕ}, length-drop {A = ℕ})
+reach-fits Append before after reach made le = let e = ap length made.1 in omega (arith, length-append {A = ℕ})

@@ -1,0 +1,23 @@
+use Rattle.std.proofs.Common.{◌≡◌, ℕ, zero, suc, ◌+◌, ◌<◌, max, List, [], ◌∷◌, length, take, get_or, ap, arith}
+use Rattle.ksv_bytes.specs.declared.uses.Use.{Use}
+use Rattle.ksv_bytes.specs.declared.uses.Use.TheVariants.{Bytes}
+use Rattle.ksv_memo_links.specs.Touching.{reach_of, farthest}
+use Rattle.ksv_memo_links.proofs.used.farthest_of.Goals as goal
+
+farthest-more : (us : List Use) (i : ℕ) (d : Use) → i < length us → farthest (take (suc i) us) ≡ max (farthest (take i us)) (reach_of (get_or us i d))
+farthest-more [] i d lt = absurd (omega arith)
+farthest-more (u ∷ us) zero d lt = omega arith
+farthest-more (u ∷ us) (suc i) d lt = let h = farthest-more us i d (omega arith) in omega arith
+
+pub loop-used-preserved : goal.loop-used-preserved
+loop-used-preserved c =
+    let us = c.args.uses.now in
+    let i = c.loop-used.used-index in
+    let a = c.max-place.ensures in
+    let b = c.reached.ensures in
+    let d = farthest-more us i (Bytes 0 0) c.loop-used-test.true in
+    let e : c.loop-used.place ≡ farthest (take i us) = c.loop-used.invariant in
+    let n : suc i ≡ i + 1 = omega arith in
+    let k = ap (λ m. farthest (take m us)) n in
+    let g : c.max-place.result ≡ farthest (take (i + 1) us) = omega arith in
+    g

@@ -1,0 +1,6 @@
+use Rattle.std.proofs.Common.{◌≡◌, take}
+use Rattle.ksv_memo_links.specs.Touching.{farthest}
+use Rattle.ksv_memo_links.proofs.used.farthest_of.Given as goal
+
+abbrev pub invariant-loop-used : goal.invariant-loop-used
+invariant-loop-used l = l.place ≡ farthest (take l.used-index l.uses)
