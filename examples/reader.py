@@ -11,6 +11,33 @@ and where the file is a damaged one
 import json
 import struct
 import sys
+from typing import NamedTuple
+
+
+class Bits(NamedTuple):
+    """A place by the numbers of bits before it and before its end."""
+
+    start: int
+    end: int
+
+    def __str__(self):
+        return " ".join(f"{it // 8}.{it % 8}" if it % 8 else str(it // 8) for it in self)
+
+
+def digits(data):
+    """Bytes as a text of the digits 0 and 1."""
+    return "".join(f"{byte:08b}" for byte in data)
+
+
+def bit_fields(path, data, start, rows):
+    """Values and places of fields of bits that follow each other from a byte on: rows of a name and how many bits it has. A field whose bits aren't all there is
+    left out."""
+    values, places, at, whole = {}, {}, 8 * start, digits(data)
+    for name, width in rows:
+        if at + width <= len(whole):
+            values[f"{path}/{name}"], places[f"{path}/{name}"] = int(whole[at : at + width], 2), Bits(at, at + width)
+        at += width
+    return values, places
 
 
 def fields(path, start, rows):
@@ -25,7 +52,14 @@ def fields(path, start, rows):
 
 
 def written(data, place, number, order):
-    """Writes a number over the bytes of a place, whose third part may say that it is "signed" or "unsigned"; whether it fits."""
+    """Writes a number over the bytes of a place, whose third part may say that it is "signed" or "unsigned", or over its bits; whether it fits."""
+    if isinstance(place, Bits):
+        whole, width = digits(data), place.end - place.start
+        if number < 0 or number >= 1 << width:
+            return False
+        whole = whole[: place.start] + f"{number:0{width}b}" + whole[place.end :]
+        data[:] = bytes(int(whole[at : at + 8], 2) for at in range(0, len(whole), 8))
+        return True
     start, end, *sign = place
     bits = 8 * (end - start)
     if number < (0 if sign == ["unsigned"] else -(1 << bits - 1)) or number >= 1 << bits - (sign == ["signed"]):
@@ -60,10 +94,14 @@ def reply(line, data, read, order):
     values, places = found(read, data)
     if word in ("get", "at"):
         value = (values if word == "get" else places).get(words[0])
+        if isinstance(value, Bits):
+            return f"at {value}"
         return "?" if value is None else f"at {value[0]} {value[1]}" if isinstance(value, tuple) else text(value)
     if word == "bytes":
         return f"hex {data[int(words[0]) : int(words[0]) + int(words[1])].hex()}"
     if word == "put":
+        if isinstance(values.get(words[0]), bool):
+            return "error: not an integer"
         if not written(data, places[words[0]], int(words[1]), order):
             return "error: out of range"
     elif word == "set":
