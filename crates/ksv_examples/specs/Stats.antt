@@ -166,7 +166,7 @@ checked_against = record {
   ended = false;
 }
 
--- two halves of a byte: a number written over one takes both values, and no head
+-- two halves of a byte: an overwrite of it takes the value of each that was asked, and no head
 abbrev pub halves : Dialogue
 halves = record {
   lines =
@@ -177,12 +177,10 @@ halves = record {
   input = text_of_lines (
       codes "get /lo" ∷
       codes "stats" ∷
-      codes "put /hi 16" ∷
-      codes "put /hi 15" ∷
+      codes "set 0 f5" ∷
       codes "stats" ∷
       codes "get /lo" ∷
       codes "stats" ∷
-      codes "bytes 0 2" ∷
       codes "at /hi" ∷
       codes "at /lo" ∷
       codes "get /z" ∷
@@ -190,12 +188,10 @@ halves = record {
   output = text_of_lines (
       codes "5" ∷
       codes "kept 5 turns 10" ∷
-      codes "error: out of range" ∷
       codes "ok 2" ∷
-      codes "kept 4 turns 0" ∷
+      codes "kept 4 turns 10" ∷
       codes "5" ∷
       codes "kept 5 turns 2" ∷
-      codes "hex f503" ∷
       codes "at 0 0.4" ∷
       codes "at 0.4 1" ∷
       codes "3" ∷
