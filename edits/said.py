@@ -37,18 +37,21 @@ def errors_of(said, function):
     return found
 
 
-def open_goals(said, verdict, function):
-    """The goals of a function for which the prover found no proof by itself."""
+def open_goals(said, verdict, function, is_bound):
+    """The goals of a function for which the prover found no proof by itself. The goals of functions that call each other begin with the name of one
+    of them; but elsewhere those of a call begin with the name of what is called, so they say nothing of that."""
     tried = re.search(r"`search` did not prove ((?:`[^`]+`(?:, )?)+)", verdict)
     found = re.findall(r"`([^`]+)`", tried[1]) if tried else []
+    if not is_bound:
+        return found
     name = function.split("::")[-1]
     return found + re.findall(rf"^note: src/\S+ it is not proved that .*\(`({re.escape(name)}-[^`]*)`", said, re.M)
 
 
-def verdict_of(said, crate, function):
-    """What a check's output says of a function. Its contract refuses an edit where a goal of it isn't proved: that its clauses hold, that the
-    invariant of a type or of a loop does, or what a function that it calls requires. A name that only a proof file has, a limit of the prover, a text
-    that it can't read, and goals of safety alone say nothing of the contract."""
+def verdict_of(said, crate, function, is_bound):
+    """What a check's output says of a function, and whether that is bound to others (`source.bound`). Its contract refuses an edit where a goal of it
+    isn't proved: that its clauses hold, that the invariant of a type or of a loop does, or what a function that it calls requires. A name that only a
+    proof file has, a limit of the prover, a text that it can't read, and goals of safety alone say nothing of the contract."""
     if UNREAD.search(said):
         return Verdict(why=f"it can't be read: {UNREAD.search(said)[0][:160]}")
     told = re.search(rf"^fn {re.escape(crate)}::{re.escape(function)}: (.*)$", said, re.M)
@@ -61,7 +64,7 @@ def verdict_of(said, crate, function):
     errors = errors_of(said, function)
     lost = [text for _, text in errors if LOST.search(text)]
     failed = [(goal, text) for goal, text in errors if goal and not LOST.search(text)]
-    failed += [] if lost else [(goal, "not proved") for goal in open_goals(said, told[1], function)]
+    failed += [] if lost else [(goal, "not proved") for goal in open_goals(said, told[1], function, is_bound)]
     of_contract = [(goal, text) for goal, text in failed if not SAFETY.match(goal)]
     if of_contract:
         goal, text = of_contract[0]
