@@ -29,7 +29,8 @@ use Rattle.ksv_rule_meaning.specs.Meaning.{meaning_of}
 use Rattle.ksv_rule_meaning.specs.Values.{value_of}
 use Rattle.ksv_rule_meaning.specs.Wanted.{expression, in_truth, truth_of}
 use Rattle.ksv_rule_laws.specs.Laws.{Gives, HasTrue, IsMet, MeetsMember, ObjectMeets, ValueMeets, ValuesMeetChecks}
-use Rattle.ksv_rule_laws.proofs.Forms.{ok_is, goes_on, asked_head, made_of, meaning_is, ruled, no_depth, same_answer, stays_within, among_more}
+use Rattle.ksv_rule_laws.proofs.Answering.{ok_is, goes_on, asked_head, meaning_is, ruled, no_depth, same_answer, stays_within, among_more}
+use Rattle.ksv_rule_laws.proofs.Forms.{made_of}
 
 -- a value that doesn't meet what it must is a fault
 abbrev verdict : Bool → Rule (Unit {0})

@@ -50,7 +50,7 @@ use Rattle.ksv_rule_meaning.specs.Ends.{stream_end, fields_end, object_end, part
 use Rattle.ksv_rule_meaning.specs.Meaning.{meaning_of}
 use Rattle.ksv_rule_meaning.specs.FromNothing.{answer_within, from_nothing}
 use Rattle.ksv_rule_laws.specs.Laws.{IsBetween, LiesIn, IsStreamFor, IsReadIn, IsHeld, AreNamesDistinct, HasDistinctNames, HeadsLieInStreams, EndsLieInStreams, IsUnmet, IsUnmetAt, IsLeftOut}
-use Rattle.ksv_rule_laws.proofs.Forms.{ok_is, goes_on, same_answer, asked_head, refused, put_in, meaning_is, ruled, no_depth, stays_within, among_more}
+use Rattle.ksv_rule_laws.proofs.Answering.{ok_is, goes_on, same_answer, asked_head, refused, put_in, meaning_is, ruled, no_depth, stays_within, among_more}
 use Rattle.ksv_rule_laws.proofs.Touching.{asked_end, part_is}
 
 -- ---- streams

@@ -29,7 +29,7 @@ use Rattle.ksv_rule_meaning.specs.Ends.{start_of}
 use Rattle.ksv_rule_meaning.specs.Meaning.{meaning_of}
 use Rattle.ksv_rule_meaning.specs.FromNothing.{answer_within, from_nothing}
 use Rattle.ksv_rule_laws.specs.Laws.{IsFirst, Follows, EndsAt, AreBits, IsNextByte, BeginsAfter, FollowsPart, FirstAttributesBegin, AttributesTouch}
-use Rattle.ksv_rule_laws.proofs.Forms.{ok_is, goes_on, asked_head, meaning_is, ruled, no_depth, stays_within, among_more}
+use Rattle.ksv_rule_laws.proofs.Answering.{ok_is, goes_on, asked_head, meaning_is, ruled, no_depth, stays_within, among_more}
 use Rattle.ksv_rule_laws.proofs.Touching.{asked_end, part_is, is_at, shape_is_at}
 
 -- ---- the attribute before

@@ -1,6 +1,8 @@
 -- The lemmas of this crate.
 pub mod Meeting
 pub mod Starts
+pub mod Answering
+pub mod Sources
 pub mod Forms
 pub mod Checking
 pub mod OwnFaults
@@ -10,5 +12,4 @@ pub mod Touching
 pub mod Following
 pub mod Places
 pub mod Enclosing
-pub mod Sources
 pub mod Counting

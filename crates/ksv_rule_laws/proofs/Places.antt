@@ -52,7 +52,9 @@ use Rattle.ksv_rule_meaning.specs.Meaning.{meaning_of}
 use Rattle.ksv_rule_meaning.specs.FromNothing.{answer_within, from_nothing}
 use Rattle.ksv_rule_laws.proofs.Starts.{of_start, at_most}
 use Rattle.ksv_rule_laws.specs.Laws.{IsOfLeaf, IsOfHead, IsEndIn, IsStreamIn, IsHomeIn, IsHeadIn, IsValueIn, IsIn, PlacesAreInFile}
-use Rattle.ksv_rule_laws.proofs.Forms.{ok_is, goes_on, asked_head, refused, made_of, value_is, put_in, meaning_is, ruled, no_depth}
+use Rattle.ksv_rule_laws.proofs.Answering.{ok_is, goes_on, asked_head, refused, put_in, meaning_is, ruled, no_depth}
+use Rattle.ksv_rule_laws.proofs.Forms.{AreRead, made_of, value_is}
+use Rattle.ksv_rule_laws.proofs.Sources.{head_is_read}
 use Rattle.ksv_rule_laws.proofs.Ranges.{IsRanged, IsSettingIn, IsKnown, object_told, expression_in, stream_in}
 
 -- what the nodes that are asked answer lies in the file
@@ -491,27 +493,27 @@ module _ (met : Node → Result Given Fault) (here : Trail) (bytes : List ℕ) (
   one_head : (r : Result Given Fault) (x y : Head) → r ≡ Ok (givens.Head x) → r ≡ Ok (givens.Head y) → x ≡ y
   one_head r x y h h' = cc
 
-  value_in : (d : Description) (p : Trail) (v : Value) → answer (value_of d p) ≡ Ok v → IsValueKnown v
-  value_in d p v e =
+  value_in : (d : Description) → AreRead met here bytes d → (p : Trail) (v : Value) → answer (value_of d p) ≡ Ok v → IsValueKnown v
+  value_in d read p v e =
       let m = made_of met here bytes d p v e in
-      let i = value_is met here bytes d p v e in
+      let i = value_is met here bytes d read p v e in
       let same = one_head (met (head_node p)) i.head m.head i.asked (asked_head met here bytes p m.head m.was) in
       value_at_in d p m.head v (head_lies p m.head m.was) (subst (λ (k : Head). IsOfHead p k v) same i.fits) m.made
 
   -- ---- nodes
 
-  meaning_in : (d : Description) (k : NodeKind) (p : Trail) (g : Given) → answer (meaning_of d k p) ≡ Ok g → IsKnown size g
+  meaning_in : (d : Description) → AreRead met here bytes d → (k : NodeKind) (p : Trail) (g : Given) → answer (meaning_of d k p) ≡ Ok g → IsKnown size g
   unfolding meaning_of head_of rest_of
-  meaning_in d nodes.Head p g e = put_in met here bytes (head_of d p) (λ x. givens.Head x) (IsKnown size) g (λ x e'. head_in d p (last p) x e') e
-  meaning_in d nodes.Value p g e = put_in met here bytes (value_of d p) (λ x. givens.Value x) (IsKnown size) g (λ x e'. value_in d p x e') e
-  meaning_in d nodes.End p g e = put_in met here bytes (end_of d p) (λ x. givens.End x.place x.last) (IsKnown size) g (λ x e'. end_of_in d p x e') e
-  meaning_in d nodes.Rest p g e = put_in met here bytes (rest_of d p) (λ x. givens.Rest x.count x.place) (IsKnown size) g (λ x e'. rest_at_in p (last p) x e') e
+  meaning_in d read nodes.Head p g e = put_in met here bytes (head_of d p) (λ x. givens.Head x) (IsKnown size) g (λ x e'. head_in d p (last p) x e') e
+  meaning_in d read nodes.Value p g e = put_in met here bytes (value_of d p) (λ x. givens.Value x) (IsKnown size) g (λ x e'. value_in d read p x e') e
+  meaning_in d read nodes.End p g e = put_in met here bytes (end_of d p) (λ x. givens.End x.place x.last) (IsKnown size) g (λ x e'. end_of_in d p x e') e
+  meaning_in d read nodes.Rest p g e = put_in met here bytes (rest_of d p) (λ x. givens.Rest x.count x.place) (IsKnown size) g (λ x e'. rest_at_in p (last p) x e') e
 
 lies_within : (d : Description) (bytes : List ℕ) (depth : ℕ) (opened : List Node) (n : Node) (g : Given) → answer_within d bytes depth opened n ≡ Ok g → IsKnown (length bytes) g
 lies_within d bytes zero opened n g h = absurd (no_depth d bytes opened n g h)
 lies_within d bytes (suc depth) opened n g h =
     let met = answer_within d bytes depth (n ∷ opened) in
-    meaning_in met n.path bytes (λ m g' e. lies_within d bytes depth (n ∷ opened) m g' e) d n.kind n.path g (meaning_is met n.path bytes d n g (ruled d bytes depth opened n g h).1)
+    meaning_in met n.path bytes (λ m g' e. lies_within d bytes depth (n ∷ opened) m g' e) d (λ p h' e. head_is_read d bytes depth (n ∷ opened) p h' e) n.kind n.path g (meaning_is met n.path bytes d n g (ruled d bytes depth opened n g h).1)
 
 known_is_in : (n : ℕ) (g : Given) → IsKnown n g → IsIn n g
 known_is_in n (givens.Value v) known = known.0

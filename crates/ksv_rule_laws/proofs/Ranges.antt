@@ -40,7 +40,7 @@ use Rattle.ksv_nodes.specs.Rule.{Here, in_value, ask_head, ask_value, ask_rest, 
 use Rattle.ksv_nodes.specs.Truth.{answer_of, with_given}
 use Rattle.ksv_rule_meaning.specs.Wanted.{whole, in_object, wanted, expression, in_stream, stream_for}
 use Rattle.ksv_rule_laws.specs.Laws.{IsNoStream, IsStreamIn, IsObjectIn, IsHeadIn, IsValueIn, IsIn}
-use Rattle.ksv_rule_laws.proofs.Forms.{ok_is, goes_on, asked_head}
+use Rattle.ksv_rule_laws.proofs.Answering.{ok_is, goes_on, asked_head}
 use Rattle.ksv_rule_laws.proofs.OwnFaults.{by_method}
 
 -- ---- plans

@@ -17,6 +17,7 @@ use Rattle.ksv_nodes.specs.declared.node.Node.{Node}
 use Rattle.ksv_nodes.specs.declared.given.Given.{Given}
 use Rattle.ksv_nodes.specs.declared.given.Given.TheVariants as givens
 use Rattle.ksv_nodes.specs.declared.given.MemberRef.{MemberRef}
+use Rattle.ksv_nodes.specs.declared.given.Leaf.{Leaf}
 use Rattle.ksv_nodes.specs.declared.given.Object.{Object}
 use Rattle.ksv_nodes.specs.declared.given.Origin.{Origin}
 use Rattle.ksv_nodes.specs.declared.given.List as lists
@@ -33,8 +34,8 @@ use Rattle.ksv_rule_meaning.specs.Fields.{members_of, behind, Sought, sought, in
 use Rattle.ksv_rule_meaning.specs.Heads.{leaf, bits_leaf, leaf_to_end, terminated_at, terminated, run_of, sized_leaf, bytes_at, sized_object, object_at, content_at, unchosen_at, chosen_at, shape_at, count_of, counted, until_eos, repeated, attribute_at, origin_of, attribute_start, attribute_head, positioned_in, positioned, instance_head, calc, value_head, member_at, member_head, setting, in_list, element_start, within, element_head, root_head, head_at, head_of}
 use Rattle.ksv_rule_meaning.specs.Meaning.{meaning_of}
 use Rattle.ksv_rule_meaning.specs.FromNothing.{answer_within, from_nothing}
-use Rattle.ksv_rule_laws.specs.Laws.{Reads, IsFieldOf, IsReadBy, IsContentOf, IsLeafOf, IsObjectOf, IsCountedBy, IsObjectRead, IsCalculated, IsCalculatedBy, IsRead, HeadsAreRead}
-use Rattle.ksv_rule_laws.proofs.Forms.{ok_is, goes_on, asked_head, refused, meaning_is, ruled, no_depth}
+use Rattle.ksv_rule_laws.specs.Laws.{Reads, IsFieldOf, IsReadBy, IsContentOf, IsAsWide, IsLeafOf, IsObjectOf, IsCountedBy, IsObjectRead, IsCalculated, IsCalculatedBy, IsRead, HeadsAreRead}
+use Rattle.ksv_rule_laws.proofs.Answering.{ok_is, goes_on, asked_head, refused, meaning_is, ruled, no_depth}
 
 -- ---- the member of a place
 
@@ -149,15 +150,27 @@ module _ (met : Node → Result Given Fault) (here : Trail) (bytes : List ℕ) w
     absent_read place e = so_read (heads.Absent place) (tt, tt) e
 
     module _ (origin : Origin) (w : Stream) (s : Place) where
+      -- what begins here, by its ends
+      abbrev leaf_to : Place → Place → Leaf
+      leaf_to to end = record { origin = origin; from = s; to = to; end = end }
+
+      -- bits, where its member reads so many by its case
+      bits_read : (n : ℕ) → IsReadBy d origin.member (IsLeafOf (leaf_to (further s n) (further s n))) → answer (bits_leaf origin w s n) ≡ Ok h → IsReadSo d h
+      unfolding bits_leaf
+      bits_read n own e =
+          let b = goes_on met here bytes (reach w (byte_of (further s n))) _ h e in
+          so_read (heads.Leaf (leaf_to (further s n) (further s n))) (own, tt) b.gave
+
       -- bytes, where its member reads bytes by its case
-      module _ (own : IsReadBy d origin.member (IsLeafOf origin.case)) where
+      module _ (own : (to end : Place) → IsReadBy d origin.member (IsLeafOf (leaf_to to end))) where
+        own_read : (to end : Place) → ◌≡◌ {A = Result Head Fault} (Ok (heads.Leaf (leaf_to to end))) (Ok h) → IsReadSo d h
+        own_read to end e = so_read (heads.Leaf (leaf_to to end)) (own to end, tt) e
+
         leaf_read : (n : ℕ) → answer (leaf origin w s n) ≡ Ok h → IsReadSo d h
         unfolding leaf
-        leaf_read n e = let b = goes_on met here bytes (reach w (byte_of s + n)) _ h e in so_read _ (own, tt) b.gave
-
-        bits_read : (n : ℕ) → answer (bits_leaf origin w s n) ≡ Ok h → IsReadSo d h
-        unfolding bits_leaf
-        bits_read n e = let b = goes_on met here bytes (reach w (byte_of (further s n))) _ h e in so_read _ (own, tt) b.gave
+        leaf_read n e =
+            let b = goes_on met here bytes (reach w (byte_of s + n)) _ h e in
+            own_read (at_byte (byte_of s + n)) (at_byte (byte_of s + n)) b.gave
 
         sized_read : (at : Setting) (e : Tree) → answer (sized_leaf at origin w s e) ≡ Ok h → IsReadSo d h
         unfolding sized_leaf
@@ -165,11 +178,11 @@ module _ (met : Node → Result Given Fault) (here : Trail) (bytes : List ℕ) w
 
         to_end_read : answer (leaf_to_end origin w s) ≡ Ok h → IsReadSo d h
         unfolding leaf_to_end
-        to_end_read z = let b = goes_on met here bytes (finish w) _ h z in so_read _ (own, tt) b.gave
+        to_end_read z = let b = goes_on met here bytes (finish w) _ h z in own_read (at_byte b.first) (at_byte b.first) b.gave
 
         found_read : (t : Terminator) (q : Found) → answer (terminated_at origin s t q) ≡ Ok h → IsReadSo d h
-        found_read t (founds.At q) e = so_read _ (own, tt) e
-        found_read t (founds.Missing z) e = so_read _ (own, tt) (refused met here bytes t.is_required (Answer _) kinds.NoTerminator h e)
+        found_read t (founds.At q) e = own_read (at_byte (if t.is_included then q + 1 else q)) (at_byte (if t.is_consumed then q + 1 else q)) e
+        found_read t (founds.Missing z) e = own_read (at_byte z) (at_byte z) (refused met here bytes t.is_required (Answer _) kinds.NoTerminator h e)
 
         bytes_read : (at : Setting) (x : Extent) (t : Option Terminator) → answer (bytes_at at origin w s x t) ≡ Ok h → IsReadSo d h
         unfolding bytes_at run_of terminated
@@ -195,11 +208,11 @@ module _ (met : Node → Result Given Fault) (here : Trail) (bytes : List ℕ) w
 
       content_read : (at : Setting) (f : Field) (c : Content) → IsFieldOf d origin.member f → IsContentOf f.choice origin.case c → answer (content_at at origin w s f c) ≡ Ok h → IsReadSo d h
       unfolding content_at
-      content_read at f contents.Bytes own is e = bytes_read (record { field = f; is = own; so = (contents.Bytes, is, tt) }) at f.extent f.terminator e
-      content_read at f (contents.Fixed bs) own is e = leaf_read (record { field = f; is = own; so = (contents.Fixed bs, is, tt) }) (length bs) e
-      content_read at f (contents.Number signed n order enum) own is e = leaf_read (record { field = f; is = own; so = (contents.Number signed n order enum, is, tt) }) n e
-      content_read at f (contents.Bits width enum) own is e = bits_read (record { field = f; is = own; so = (contents.Bits width enum, is, tt) }) width e
-      content_read at f (contents.Characters encoding) own is e = bytes_read (record { field = f; is = own; so = (contents.Characters encoding, is, tt) }) at f.extent f.terminator e
+      content_read at f contents.Bytes own is e = bytes_read (λ (to end : Place). record { field = f; is = own; so = (contents.Bytes, is, tt, tt) }) at f.extent f.terminator e
+      content_read at f (contents.Fixed bs) own is e = leaf_read (λ (to end : Place). record { field = f; is = own; so = (contents.Fixed bs, is, tt, tt) }) (length bs) e
+      content_read at f (contents.Number signed n order enum) own is e = leaf_read (λ (to end : Place). record { field = f; is = own; so = (contents.Number signed n order enum, is, tt, tt) }) n e
+      content_read at f (contents.Bits width enum) own is e = bits_read width (record { field = f; is = own; so = (contents.Bits width enum, is, tt, refl) }) e
+      content_read at f (contents.Characters encoding) own is e = bytes_read (λ (to end : Place). record { field = f; is = own; so = (contents.Characters encoding, is, tt, tt) }) at f.extent f.terminator e
       content_read at f (contents.Object t given) own is e = object_read at t f.extent (record { field = f; is = own; so = (given, is) }) e
 
     -- the case isn't chosen beforehand
@@ -212,7 +225,7 @@ module _ (met : Node → Result Given Fault) (here : Trail) (bytes : List ℕ) w
         by_chosen : (o : Option Chosen) → IsChosen f.choice o → answer_of met here bytes (chosen_at at origin w s f o) ≡ Ok h → IsReadSo d h
         by_chosen None is e' =
             let bytes_so : IsContentOf f.choice origin.case contents.Bytes = subst (λ k. IsContentOf f.choice k contents.Bytes) (sym none) is in
-            unchosen_read origin w s (record { field = f; is = own; so = (contents.Bytes, bytes_so, tt) }) at f.extent e'
+            unchosen_read origin w s (λ (to end : Place). record { field = f; is = own; so = (contents.Bytes, bytes_so, tt, tt) }) at f.extent e'
         by_chosen (Some c) is e' = content_read (record origin { case = c.case }) w s at f c.content own is e'
 
     -- ---- attributes and instances
@@ -284,7 +297,7 @@ module _ (met : Node → Result Given Fault) (here : Trail) (bytes : List ℕ) w
   -- ---- members
 
   -- how the member of a place reads
-  field_found : (d : Description) (r : MemberRef) (f : Field) → answer (field_of d r) ≡ Ok f → IsFieldOf d r f
+  pub field_found : (d : Description) (r : MemberRef) (f : Field) → answer (field_of d r) ≡ Ok f → IsFieldOf d r f
   unfolding field_of kind_of
   field_found d r f e =
       let b = goes_on met here bytes (kind_of d r) (λ k. read_by k) f e in
@@ -387,6 +400,9 @@ module _ (d : Description) (bytes : List ℕ) where
       let b = goes_on met p bytes (head_of d p) (λ k. Answer (givens.Head k)) (givens.Head h) (meaning_is met p bytes d (head_node p) (givens.Head h) r.1) in
       let same : b.first ≡ h = one_head b.first h (ok_is (givens.Head b.first) (givens.Head h) b.gave) in
       subst (IsReadSo d) same (head_read met p bytes d (λ q k e'. read_within depth (head_node p ∷ opened) q k e') p (last p) b.first b.was)
+
+pub head_is_read : (d : Description) (bytes : List ℕ) (depth : ℕ) (opened : List Node) (p : Trail) (h : Head) → answer_within d bytes depth opened (head_node p) ≡ Ok (givens.Head h) → IsRead d h
+head_is_read d bytes depth opened p h e = (read_within d bytes depth opened p h e).0
 
 pub heads_are_read : HeadsAreRead
 unfolding from_nothing

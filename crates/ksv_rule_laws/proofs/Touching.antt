@@ -31,7 +31,7 @@ use Rattle.ksv_rule_meaning.specs.Ends.{start_of}
 use Rattle.ksv_rule_meaning.specs.Meaning.{meaning_of}
 use Rattle.ksv_rule_meaning.specs.FromNothing.{answer_within, from_nothing}
 use Rattle.ksv_rule_laws.specs.Laws.{ElementsTouch}
-use Rattle.ksv_rule_laws.proofs.Forms.{ok_is, goes_on, refused, meaning_is, ruled, no_depth, stays_within, among_more}
+use Rattle.ksv_rule_laws.proofs.Answering.{ok_is, goes_on, refused, meaning_is, ruled, no_depth, stays_within, among_more}
 
 module _ (met : Node → Result Given Fault) (here : Trail) (bytes : List ℕ) where
   -- ---- where something begins that is read at a place

@@ -2,7 +2,7 @@
 -- them. These laws are this project's own.
 use Rattle.std.specs.Prelude.{◌≡◌, ◌↔◌, ℕ, ◌+◌, ◌%◌, ◌==◌, ◌<◌, ◌≤◌, ◌⊎◌, slice_get, Bool, true, false, List, [], ◌∷◌, ◌++◌, Contains, length, Option, Some, None, Result, Ok, Err}
 use Rattle.std.specs.List.{AllByRecursion}
-use Rattle.ksv_expr_value.specs.Places.{Place, byte_of}
+use Rattle.ksv_expr_value.specs.Places.{Place, byte_of, further}
 use Rattle.ksv_expr_value.specs.Setting.{Setting, Made}
 use Rattle.ksv_expr_value.specs.Trail.{Trail, child, parent, last}
 use Rattle.ksv_expr_value.specs.declared.step.Step.{Step}
@@ -74,10 +74,10 @@ AnswersStay = (d : Description) (bytes : List ℕ) (opened others : List Node) (
 
 -- ---- values
 
--- the value of a leaf: an integer, a truth value, a member of an enum, a text, or bytes from the leaf's first one on
+-- the value of a leaf: an integer, a member of an enum, a text, bytes from the leaf's first one on, or, of one bit, a truth value
 abbrev pub IsOfLeaf : Leaf → Value → Type 0
 IsOfLeaf l (values.Int n) = Unit {0}
-IsOfLeaf l (values.Bool b) = Unit {0}
+IsOfLeaf l (values.Bool b) = l.to.bits ≡ l.from.bits + 1
 IsOfLeaf l (values.Member e n) = Unit {0}
 IsOfLeaf l (values.Text t) = Unit {0}
 IsOfLeaf l (values.Bytes from to) = (from ≡ byte_of l.from) × (to ≤ byte_of l.to)
@@ -196,8 +196,13 @@ abbrev pub IsNoObject : Content → Type 0
 IsNoObject (contents.Object t given) = ⊥
 IsNoObject _ = Unit {0}
 
-abbrev pub IsLeafOf : Option ℕ → Field → Type 0
-IsLeafOf case f = (c : Content) × IsContentOf f.choice case c × IsNoObject c
+-- so many bits as the content says
+abbrev pub IsAsWide : Content → Leaf → Type 0
+IsAsWide (contents.Bits width enum) l = l.to ≡ further l.from width
+IsAsWide _ l = Unit {0}
+
+abbrev pub IsLeafOf : Leaf → Field → Type 0
+IsLeafOf l f = (c : Content) × IsContentOf f.choice l.origin.case c × IsNoObject c × IsAsWide c l
 
 abbrev pub IsObjectOf : ℕ → Option ℕ → Field → Type 0
 IsObjectOf t case f = (given : Arguments) × IsContentOf f.choice case (contents.Object t given)
@@ -227,7 +232,7 @@ IsCalculatedBy d t i = (m : MemberOfType) × (slice_get (members_of d t) i ≡ S
 abbrev pub IsRead : Description → Head → Type 0
 IsRead d (heads.Absent at) = Unit {0}
 IsRead d (heads.Calc c) = IsCalculatedBy d c.object.type_number c.member × IsObjectRead d c.object.origin c.object.type_number
-IsRead d (heads.Leaf l) = IsReadBy d l.origin.member (IsLeafOf l.origin.case)
+IsRead d (heads.Leaf l) = IsReadBy d l.origin.member (IsLeafOf l)
 IsRead d (heads.Object o) = IsObjectRead d o.origin o.type_number
 IsRead d (heads.List g) = IsReadBy d g.origin.member (λ f. IsCountedBy f.repeat g)
 

@@ -19,7 +19,8 @@ pub fn answers_stay()
     ensures { AnswersStay }
 {}
 
-/// A value is one of the head at its path: of a leaf an integer, a member, a text or bytes of it; of an object and a list its path.
+/// A value is one of the head at its path: of a leaf an integer, a member, a text or bytes of it, of one bit a truth value; of an object
+/// and a list its path.
 pub fn values_have_heads()
     ensures { ValuesHaveHeads }
 {}
@@ -40,7 +41,7 @@ pub fn circles_lead_back()
     ensures { CirclesLeadBack }
 {}
 
-/// Bytes and lists are read by an attribute of the description, and a list by one that repeats.
+/// Bytes and lists are read by an attribute of the description, bits by one of so many, and a list by one that repeats.
 pub fn heads_are_read()
     ensures { HeadsAreRead }
 {}

@@ -14,6 +14,7 @@
 //!
 //! Lemmas (`proofs/`):
 //!
+//! - `Answering`: what a rule that answers went through, and what it answers with fewer nodes open
 //! - `Checking`: a value that is answered meets what it must
 //! - `Circles`: a circle comes from nodes that ask for each other, and from no rule
 //! - `Counting`: the count of a list is that of the elements that end

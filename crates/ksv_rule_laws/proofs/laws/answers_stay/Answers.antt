@@ -1,4 +1,4 @@
-use Rattle.ksv_rule_laws.proofs.Forms.{answers_stay}
+use Rattle.ksv_rule_laws.proofs.Answering.{answers_stay}
 use Rattle.ksv_rule_laws.proofs.laws.answers_stay.Goals as goal
 
 pub returns : goal.returns

@@ -1,0 +1,185 @@
+-- What a rule that answers went through: each of its parts answered. With fewer nodes open, a node answers the same.
+use Rattle.std.proofs.Common.{not, ◌==◌, pos, ◌≡◌, ◌∙◌, ℕ, zero, suc, ◌+◌, ◌≤◌, Bool, true, false, cond, if◌then◌else◌, ◌||◌, ℤ, List, ◌∷◌, length, Option, Some, None, Result, Ok, Err, refl, sym, ap, subst, arith}
+use Rattle.std.specs.Prelude.{nat_le, nat_eq}
+use Rattle.std.specs.Str.{bytes_eq}
+use Rattle.std.proofs.lemmas.Bool.Decides.{nat_tests}
+use Rattle.std.proofs.lemmas.Grind.{common_steps}
+use Rattle.ksv_basics.specs.Plan.{Answer, Fail, Ask, bind}
+use Rattle.ksv_basics.specs.Asking.{and_then}
+use Rattle.ksv_expr_tree.specs.Tree.{Tree}
+use Rattle.ksv_expr_value.specs.Places.{byte_of, byte_in}
+use Rattle.ksv_expr_value.specs.Bits.{number_of, bits_from}
+use Rattle.ksv_expr_value.specs.Setting.{Setting}
+use Rattle.ksv_expr_value.specs.Trail.{Trail, parent}
+use Rattle.ksv_expr_value.specs.Range.{ranged}
+use Rattle.ksv_expr_value.specs.Encodings.{decoded}
+use Rattle.ksv_expr_value.specs.declared.encoding.Encoding.{Encoding}
+use Rattle.ksv_expr_value.specs.declared.fault.Fault.{Fault}
+use Rattle.ksv_expr_value.specs.declared.fault.FaultKind.{FaultKind}
+use Rattle.ksv_expr_value.specs.declared.fault.FaultKind.TheVariants as kinds
+use Rattle.ksv_expr_value.specs.declared.value.Value.{Value}
+use Rattle.ksv_expr_value.specs.declared.value.Value.TheVariants as values
+use Rattle.ksv_desc.specs.declared.order.ByteOrder.{ByteOrder}
+use Rattle.ksv_desc.specs.Description.{is_truth, Description, MemberKind, Parameter, ValueInstance, Field, Content, Terminator}
+use Rattle.ksv_desc.specs.Description as contents
+use Rattle.ksv_memo_rules.specs.Evaluation.{is_among}
+use Rattle.ksv_nodes.specs.declared.node.Node.{Node}
+use Rattle.ksv_nodes.specs.declared.node.NodeKind.{NodeKind}
+use Rattle.ksv_nodes.specs.declared.node.NodeKind.TheVariants as nodes
+use Rattle.ksv_nodes.specs.declared.given.Given.{Given}
+use Rattle.ksv_nodes.specs.declared.given.Given.TheVariants as givens
+use Rattle.ksv_nodes.specs.declared.given.Head.{Head}
+use Rattle.ksv_nodes.specs.declared.given.Head.TheVariants as heads
+use Rattle.ksv_nodes.specs.declared.given.Calc.{Calc}
+use Rattle.ksv_nodes.specs.declared.given.Leaf.{Leaf}
+use Rattle.ksv_nodes.specs.declared.given.Object.{Object}
+use Rattle.ksv_nodes.specs.declared.given.Origin.{Origin}
+use Rattle.ksv_nodes.specs.Numbers.{node_number, node_bound}
+use Rattle.ksv_nodes.specs.Reading.{Seen, look, peek_at, first_at}
+use Rattle.ksv_nodes.specs.Rule.{Rule, Of, See, raise, in_head, ask_head, head_node, value_node, peek}
+use Rattle.ksv_nodes.specs.Truth.{answer_of, with_given, with_seen}
+use Rattle.ksv_nodes.proofs.First.{first_at_below}
+use Rattle.ksv_rule_meaning.specs.Checks.{value_checked}
+use Rattle.ksv_rule_meaning.specs.Choosing.{content_of}
+use Rattle.ksv_rule_meaning.specs.Fields.{kind_of, field_of}
+use Rattle.ksv_rule_meaning.specs.Heads.{instance_setting, head_of}
+use Rattle.ksv_rule_meaning.specs.Integers.{integer_value}
+use Rattle.ksv_rule_meaning.specs.Values.{in_number, number_in, number_value, of_bits, bits_in, bits_value, fixed_value, cut_by, kept_of, kept, cut_bytes, bytes_value, in_text, cut_text, text_value, content_value, leaf_value, in_no_stream, in_enum, instance_value, arguments_for, argument_at, argument_setting, plain_value, argument_value, parameter_value, calc_value, calculated, value_at, value_of}
+use Rattle.ksv_rule_meaning.specs.Wanted.{expression}
+use Rattle.ksv_rule_meaning.specs.Ends.{end_of, rest_of}
+use Rattle.ksv_rule_meaning.specs.Meaning.{meaning_of, rule_of}
+use Rattle.ksv_rule_meaning.specs.FromNothing.{circle, answer_within, from_nothing}
+use Rattle.ksv_rule_laws.specs.Laws.{IsNoStream, HasForm, AnswersHaveForms, AreAmong, AnswersStay, IsOfLeaf, IsOfHead, ValuesHaveHeads}
+use Rattle.ksv_rule_laws.proofs.Meeting.{answer_bind}
+
+pub ok_is : {A : Type 0} (x y : A) → ◌≡◌ {A = Result A Fault} (Ok x) (Ok y) → x ≡ y
+ok_is x y h = cc
+
+-- ---- what came before an answer
+
+-- the first answer, and what was made of it
+pub record Before {A B : Type 0} (r : Result A Fault) (f : A → Result B Fault) (b : B) : Type 0 where
+  pub first : A
+  pub was : r ≡ Ok first
+  pub gave : f first ≡ Ok b
+
+before : {A B : Type 0} (r : Result A Fault) (f : A → Result B Fault) (b : B) → and_then r f ≡ Ok b → Before r f b
+before (Ok a) f b h = record { first = a; was = refl; gave = h }
+before (Err e) f b h = absurd (cc)
+
+-- where each asked node has the answer that `met` gives
+module _ (met : Node → Result Given Fault) (here : Trail) (bytes : List ℕ) where
+  -- what a rule answered before another went on from it
+  pub goes_on : {A B : Type 0} (p : Rule A) (f : A → Rule B) (b : B) → answer_of met here bytes (bind p f) ≡ Ok b → Before (answer_of met here bytes p) (λ a. answer_of met here bytes (f a)) b
+  goes_on p f b h = before (answer_of met here bytes p) (λ a. answer_of met here bytes (f a)) b (sym (answer_bind met here bytes p f) ∙ h)
+
+  -- the head that was asked for
+  pub asked_head : (p : Trail) (h : Head) → answer_of met here bytes (ask_head p) ≡ Ok h → met (head_node p) ≡ Ok (givens.Head h)
+  asked_head p h e = by_given (met (head_node p)) refl e
+    where
+      by_given : (r : Result Given Fault) → met (head_node p) ≡ r → with_given r (λ g. answer_of met here bytes (in_head g)) ≡ Ok h → met (head_node p) ≡ Ok (givens.Head h)
+      by_given (Ok (givens.Head h')) is e' = is ∙ ap (λ (x : Head). Ok (givens.Head x)) (ok_is h' h e')
+      by_given (Ok _) is e' = absurd (cc)
+      by_given (Err f) is e' = absurd (cc)
+
+  -- how many bytes were read of a range
+  pub peeked : (from to : ℕ) (bs : List ℕ) → answer_of met here bytes (peek from to) ≡ Ok bs → from + length bs ≡ to
+  unfolding peek_at
+  peeked from to bs h = grind (arith, nat_tests, common_steps)
+
+  -- where a test failed there is no answer
+  pub passed : {A : Type 0} (b : Bool) (p : Rule A) (k : FaultKind) (a : A) → answer_of met here bytes (if b then p else raise k) ≡ Ok a → answer_of met here bytes p ≡ Ok a
+  passed true p k a h = h
+  passed false p k a h = absurd (cc)
+
+  -- where a test that held refuses, it did not hold
+  pub refused : {A : Type 0} (b : Bool) (p : Rule A) (k : FaultKind) (a : A) → answer_of met here bytes (if b then raise k else p) ≡ Ok a → answer_of met here bytes p ≡ Ok a
+  refused true p k a h = absurd (cc)
+  refused false p k a h = h
+
+  -- what a rule answered, put in a form
+  pub put_in : {A : Type 0} (p : Rule A) (put : A → Given) (P : Given → Type 0) (g : Given) → ((a : A) → answer_of met here bytes p ≡ Ok a → P (put a)) → answer_of met here bytes (bind p (λ a. Answer (put a))) ≡ Ok g → P g
+  put_in p put P g each h =
+      let b = goes_on p (λ a. Answer (put a)) g h in
+      subst P (ok_is (put b.first) g b.gave) (each b.first b.was)
+
+  -- the rule of a node is the meaning of its kind
+  pub meaning_is : (d : Description) (n : Node) (g : Given) → answer_of met here bytes (rule_of d n) ≡ Ok g → answer_of met here bytes (meaning_of d n.kind n.path) ≡ Ok g
+  unfolding rule_of
+  meaning_is d n g h = h
+
+-- ---- evaluation from nothing
+
+module _ (d : Description) (bytes : List ℕ) where
+  -- the answers of the nodes that a node asks, one level deeper
+  abbrev below : ℕ → List Node → Node → Node → Result Given Fault
+  below depth opened n = answer_within d bytes depth (n ∷ opened)
+
+  -- an answer that is no fault is the rule's, and its node isn't open
+  pub ruled : (depth : ℕ) (opened : List Node) (n : Node) (g : Given) → answer_within d bytes (suc depth) opened n ≡ Ok g → (is_among node_number opened n ≡ false) × (answer_of (below depth opened n) n.path bytes (rule_of d n) ≡ Ok g)
+  unfolding answer_within
+  ruled depth opened n g h = by_open (is_among node_number opened n) refl h
+    where
+      by_open : (b : Bool) → is_among node_number opened n ≡ b → cond b (circle n) (answer_of (below depth opened n) n.path bytes (rule_of d n)) ≡ Ok g → (is_among node_number opened n ≡ false) × (answer_of (below depth opened n) n.path bytes (rule_of d n) ≡ Ok g)
+      by_open true e e' = absurd (cc)
+      by_open false e e' = (e, e')
+
+  pub no_depth : (opened : List Node) (n : Node) (g : Given) → answer_within d bytes zero opened n ≡ Ok g → ⊥
+  unfolding answer_within
+  no_depth opened n g h = cc
+
+-- ---- fewer open nodes
+
+-- a rule answers the same where each node that answered still does
+pub same_answer : (met met' : Node → Result Given Fault) (here : Trail) (bytes : List ℕ) → ((m : Node) (g : Given) → met m ≡ Ok g → met' m ≡ Ok g)
+    → {A : Type 0} (p : Rule A) (a : A) → answer_of met here bytes p ≡ Ok a → answer_of met' here bytes p ≡ Ok a
+same_answer met met' here bytes same (Answer x) a h = h
+same_answer met met' here bytes same (Fail e) a h = absurd (cc)
+same_answer met met' here bytes same {A = A} (Ask (Of n) k) a h = by_given (met n) refl h (λ g. same_answer met met' here bytes same (k g) a)
+  where
+    by_given : (r : Result Given Fault) → met n ≡ r → with_given r (λ g. answer_of met here bytes (k g)) ≡ Ok a → ((g : Given) → answer_of met here bytes (k g) ≡ Ok a → answer_of met' here bytes (k g) ≡ Ok a)
+        → with_given (met' n) (λ g. answer_of met' here bytes (k g)) ≡ Ok a
+    by_given (Ok g) is e later = ap (λ r. with_given r (λ x. answer_of met' here bytes (k x))) (same n g is) ∙ later g e
+    by_given (Err f) is e later = absurd (cc)
+same_answer met met' here bytes same {A = A} (Ask (See r) k) a h = by_seen (look r bytes).seen h (λ x. same_answer met met' here bytes same (k x) a)
+  where
+    by_seen : (o : Option (Seen r)) → with_seen here o (λ x. answer_of met here bytes (k x)) ≡ Ok a → ((x : Seen r) → answer_of met here bytes (k x) ≡ Ok a → answer_of met' here bytes (k x) ≡ Ok a)
+        → with_seen here o (λ x. answer_of met' here bytes (k x)) ≡ Ok a
+    by_seen (Some x) e later = later x e
+    by_seen None e later = absurd (cc)
+
+or_more : (b c e : Bool) → (c ≡ true → e ≡ true) → (b || c) ≡ true → (b || e) ≡ true
+or_more true c e f h = refl
+or_more false c e f h = f h
+
+or_right : (b c : Bool) → c ≡ true → (b || c) ≡ true
+or_right true c h = refl
+or_right false c h = h
+
+not_among : (b c : Bool) → (b ≡ true → c ≡ true) → c ≡ false → b ≡ false
+not_among true c f e = let t = f refl in absurd (cc)
+not_among false c f e = refl
+
+-- one node more on both sides, and one more among which others are
+among_both : (n : Node) (others opened : List Node) → AreAmong others opened → AreAmong (n ∷ others) (n ∷ opened)
+among_both n others opened among m h = or_more (nat_eq (node_number m) (node_number n)) (is_among node_number others m) (is_among node_number opened m) (among m) h
+
+pub among_more : (n : Node) (opened : List Node) → AreAmong opened (n ∷ opened)
+among_more n opened m h = or_right (nat_eq (node_number m) (node_number n)) (is_among node_number opened m) h
+
+module _ (d : Description) (bytes : List ℕ) where
+  pub stays_within : (depth depth' : ℕ) (opened others : List Node) (n : Node) (g : Given) → depth ≤ depth' → AreAmong others opened → answer_within d bytes depth opened n ≡ Ok g → answer_within d bytes depth' others n ≡ Ok g
+  unfolding answer_within
+  stays_within zero depth' opened others n g le among h = absurd (no_depth d bytes opened n g h)
+  stays_within (suc depth) zero opened others n g le among h = absurd (omega arith)
+  stays_within (suc depth) (suc depth') opened others n g le among h =
+      let r = ruled d bytes depth opened n g h in
+      let free : is_among node_number others n ≡ false = not_among (is_among node_number others n) (is_among node_number opened n) (among n) r.0 in
+      let rule = answer_of (answer_within d bytes depth' (n ∷ others)) n.path bytes (rule_of d n) in
+      let same : rule ≡ Ok g = same_answer (answer_within d bytes depth (n ∷ opened)) (answer_within d bytes depth' (n ∷ others)) n.path bytes
+      (λ m g' e. stays_within depth depth' (n ∷ opened) (n ∷ others) m g' (omega arith) (among_both n others opened among) e) (rule_of d n) g r.1 in
+      ap (λ b. cond b (circle n) rule) free ∙ same
+
+pub answers_stay : AnswersStay
+unfolding from_nothing
+answers_stay d bytes opened others n g among h = stays_within d bytes node_bound node_bound opened others n g (omega arith) among h
