@@ -1,10 +1,10 @@
 -- What links and frames are once one slot changed.
-use Rattle.std.proofs.Common.{◌≡◌, ◌≢◌, ℕ, zero, suc, ◌+◌, ◌-◌, ◌<◌, ◌≤◌, true, false, List, [], ◌∷◌, ◌++◌, length, map, take, drop, reverse, Option, Some, None, is_some, refl, sym, ◌∙◌, ap, subst, Result, slice_get, ◌⊎◌, inl, inr, arith, length-append}
+use Rattle.std.proofs.Common.{◌≡◌, ◌≢◌, ℕ, zero, suc, ◌+◌, ◌-◌, ◌<◌, ◌≤◌, true, false, List, [], ◌∷◌, ◌++◌, length, map, take, drop, reverse, Option, Some, None, is_some, refl, sym, ◌∙◌, ap, subst, Result, slice_get, slice_set, ◌⊎◌, inl, inr, arith, length-append}
 use Rattle.std.specs.Option.{option_map}
 use Rattle.std.specs.List.{AllByRecursion}
 use Rattle.std.proofs.lemmas.List.{length-set, get_or-set_same, get_or-set_other, take-append-le, drop-append-le, length-take-le, reverse-append}
 use Rattle.std.proofs.Math.Seq.{take-length, drop-length}
-use Rattle.std.proofs.lemmas.Option.{slice_get-map}
+use Rattle.std.proofs.lemmas.Option.{slice_get-map, slice_get_within}
 use Rattle.indexmap.specs.IndexMap.{set_value_at}
 use Rattle.ksv_bytes.specs.declared.uses.Use.{Use}
 use Rattle.ksv_memo_links.specs.Shelved.{row}
@@ -12,16 +12,16 @@ use Rattle.ksv_memo_links.specs.Touching.{numbers_from}
 use Rattle.ksv_memo_links.specs.Marking.{is_kept}
 use Rattle.ksv_memo_links.specs.Links.{Linked, Keeps as LinksKeep}
 use Rattle.ksv_memo_rules.specs.declared.replies.Slot.{Slot}
-use Rattle.ksv_memo_rules.specs.declared.replies.Slot.TheVariants.{Open as opened}
+use Rattle.ksv_memo_rules.specs.declared.replies.Slot.TheVariants.{Empty as emptied, Open as opened}
 use Rattle.ksv_memo.specs.declared.frames.Frame.{Frame}
 use Rattle.ksv_memo.specs.declared.frames.Frames.{Frames}
 use Rattle.ksv_memo_rules.specs.Slots.{answer_in, answer_of, answer_at, answers_at, with_first}
 use Rattle.ksv_memo.specs.Open.{Open, newly, heard}
 use Rattle.ksv_memo.specs.Layout.{IsOneOf, AllDiffer, slots_of, node_at, nodes_at, IsOpen, IsKept, entry_with, entry_at, entries_at, entries_of, open_before, opens_in, opens_of, AreNested, AreLinked, AreFrames}
-use Rattle.ksv_memo.specs.Moves.{Heard, Popped, Framed}
+use Rattle.ksv_memo.specs.Moves.{IsVacant, Heard, Popped, Framed}
 use Rattle.ksv_memo_rules.proofs.Lists.{All-map, All-both, All-++}
 use Rattle.ksv_memo.proofs.Finding.{slot_there, node_there, answer_there}
-use Rattle.ksv_memo.proofs.Laying.{++-nil, All-take, same_or, nodes_at-append, answers_at-append, Keeps, HasNode, slot_has_node, stays_kept, same_nodes, same_entry, same_opens, no_entry_at, entries_at-append, entries_at-same, All-numbers, numbers-split}
+use Rattle.ksv_memo.proofs.Laying.{++-nil, All-take, same_or, nodes_at-append, answers_at-append, Keeps, IsUsed, HasNode, slot_has_node, stays_kept, same_nodes, same_entry, same_opens, no_entry_at, entries_at-append, entries_at-same, All-numbers, numbers-split}
 
 -- an entry was put somewhere among others
 pub record IsPut {X : Type 0} (x : X) (before after : List X) : Type 0 where
@@ -43,11 +43,11 @@ grown [] a b u v h k n = tt
 grown (f ∷ fs) a b u v h k n = (let le : f.asked ≤ a = n.0 in omega arith, let le : f.uses ≤ u = n.1 in omega arith, n.2)
 
 module _ {N V F : Type 0} where
-  -- the slot of a number has changed, and no other; its node is the same
+  -- the slot of a number has changed, and no other; its node is the same, if something was in it
   pub record ChangesAt (ps qs : List (N × Slot V F)) (i : ℕ) (n : N) (s : Slot V F) : Type 0 where
     pub here : slice_get qs i ≡ Some (n, s)
     pub other : (j : ℕ) → j ≢ i → slice_get qs j ≡ slice_get ps j
-    pub before : (m : N) → node_at ps i ≡ Some m → m ≡ n
+    pub before : (m : N) → IsUsed ps i → node_at ps i ≡ Some m → m ≡ n
 
   get_past : (ps : List (N × Slot V F)) (p : N × Slot V F) → slice_get (ps ++ p ∷ []) (length ps) ≡ Some p
   get_past [] p = refl
@@ -67,7 +67,7 @@ module _ {N V F : Type 0} where
   appended ps qs n s is = record {
     here = ap (λ xs. slice_get xs (length ps)) is ∙ get_past ps (n, s);
     other = λ j h. ap (λ xs. slice_get xs j) is ∙ get_other ps (n, s) j h;
-    before = λ m e. let none : node_at ps (length ps) ≡ None = ap (option_map (λ p. p.0)) (none_past ps) in absurd (cc);
+    before = λ m used e. let none : node_at ps (length ps) ≡ None = ap (option_map (λ p. p.0)) (none_past ps) in absurd (cc);
   }
 
   set_here : (ps : List (N × Slot V F)) (i : ℕ) (n : N) (t s : Slot V F) → slice_get ps i ≡ Some (n, t) → slice_get (set_value_at ps i s) i ≡ Some (n, s)
@@ -86,8 +86,35 @@ module _ {N V F : Type 0} where
   set_at ps qs i n t s there is = record {
     here = ap (λ xs. slice_get xs i) is ∙ set_here ps i n t s there;
     other = λ j h. ap (λ xs. slice_get xs j) is ∙ set_other ps i j s h;
-    before = λ m e. let was : node_at ps i ≡ Some n = node_there ps i n t there in let same : m ≡ n = cc in same;
+    before = λ m used e. let was : node_at ps i ≡ Some n = node_there ps i n t there in let same : m ≡ n = cc in same;
   }
+
+  pair_here : (ps : List (N × Slot V F)) (i : ℕ) (p : N × Slot V F) → i < length ps → slice_get (slice_set ps i p) i ≡ Some p
+  pair_here [] i p lt = absurd (omega arith)
+  pair_here (q ∷ ps) zero p lt = refl
+  pair_here (q ∷ ps) (suc i) p lt = pair_here ps i p (omega arith)
+
+  pair_other : (ps : List (N × Slot V F)) (i j : ℕ) (p : N × Slot V F) → j ≢ i → slice_get (slice_set ps i p) j ≡ slice_get ps j
+  pair_other [] i j p h = refl
+  pair_other (q ∷ ps) zero zero p h = absurd (h refl)
+  pair_other (q ∷ ps) zero (suc j) p h = refl
+  pair_other (q ∷ ps) (suc i) zero p h = refl
+  pair_other (q ∷ ps) (suc i) (suc j) p h = pair_other ps i j p (λ e. h (ap suc e))
+
+  -- a slot with nothing in it is another node's
+  pub given : (ps qs : List (N × Slot V F)) (i : ℕ) (n : N) (s : Slot V F) → IsVacant ps i → qs ≡ slice_set ps i (n, s) → ChangesAt ps qs i n s
+  given ps qs i n s vacant is = record {
+    here = ap (λ xs. slice_get xs i) is ∙ pair_here ps i (n, s) (slice_get_within ps i (vacant.0, emptied) vacant.1);
+    other = λ j h. ap (λ xs. slice_get xs j) is ∙ pair_other ps i j (n, s) h;
+    before = λ m used e. absurd (unused used);
+  }
+    where
+      slot : slice_get (slots_of ps) i ≡ Some emptied
+      slot = slot_there ps i vacant.0 emptied vacant.1
+
+      unused : IsUsed ps i → ⊥
+      unused (inl kept) = let none : answer_at (slots_of ps) i ≡ None = answer_there ps i vacant.0 emptied vacant.1 in let no : is_some (answer_at (slots_of ps) i) ≡ false = ap is_some none in cc
+      unused (inr waits) = let now : Some emptied ≡ Some opened = sym slot ∙ waits in cc
 
   length_set : (ps : List (N × Slot V F)) (i : ℕ) (s : Slot V F) → length (set_value_at ps i s) ≡ length ps
   length_set [] i s = refl
@@ -107,13 +134,13 @@ module _ {N V F : Type 0} where
     -- where the slot kept nothing, all that is kept stays
     pub keeps : answer_at (slots_of ps) i ≡ None → Keeps ps qs
     keeps none = record {
-      nodes = λ j m e. by_node j m e (same_or j i);
+      nodes = λ j m used e. by_node j m used e (same_or j i);
       answers = λ j a e. by_answer j a e (same_or j i);
     }
       where
-        by_node : (j : ℕ) (m : N) → node_at ps j ≡ Some m → (j ≡ i) ⊎ (j ≢ i) → node_at qs j ≡ Some m
-        by_node j m e (inl same) = ap (node_at qs) same ∙ node_there qs i n s changes.here ∙ ap (λ x. Some x) (sym (changes.before m (ap (node_at ps) (sym same) ∙ e)))
-        by_node j m e (inr apart) = ap (option_map (λ p. p.0)) (changes.other j apart) ∙ e
+        by_node : (j : ℕ) (m : N) → IsUsed ps j → node_at ps j ≡ Some m → (j ≡ i) ⊎ (j ≢ i) → node_at qs j ≡ Some m
+        by_node j m used e (inl same) = ap (node_at qs) same ∙ node_there qs i n s changes.here ∙ ap (λ x. Some x) (sym (changes.before m (subst (IsUsed ps) same used) (ap (node_at ps) (sym same) ∙ e)))
+        by_node j m used e (inr apart) = ap (option_map (λ p. p.0)) (changes.other j apart) ∙ e
 
         by_answer : (j : ℕ) (a : Result V F) → answer_at (slots_of ps) j ≡ Some a → (j ≡ i) ⊎ (j ≢ i) → answer_at (slots_of qs) j ≡ Some a
         by_answer j a e (inl same) = let here : answer_at (slots_of ps) i ≡ Some a = ap (answer_at (slots_of ps)) (sym same) ∙ e in absurd (cc)
@@ -267,7 +294,7 @@ module _ {N V F : Type 0} where
         let each_use : take f.uses old.uses.items ≡ old.uses.items = ap (λ k. take k old.uses.items) framed.is_new.uses ∙ take-length old.uses.items in
         (λ j. opens_in qs (now j) (framed.asked j) (framed.uses j))
         ∙ (λ j. open_before (node j) (answers_at (slots_of qs) (no_asks j)) (nodes_at qs (no_asks j)) (no_uses j) (opens_in qs fs (all_asks j) (each_use j)))
-        ∙ ap (λ st. newly n ∷ st) (same_opens ps qs (keeps ps qs i n s changes none) fs old.asked.items old.uses.items (frames_nodes ps old h) h.asked)
+        ∙ ap (λ st. newly n ∷ st) (same_opens ps qs (keeps ps qs i n s changes none) fs old.asked.items old.uses.items h.waits h.asked)
 
     -- the last open node was taken out
     pub frames-pop : (s ≡ opened → ⊥) → (f : Frame) → f.slot ≡ i → (old new : Frames) → AreFrames ps old → Popped f old new → AreFrames qs new
@@ -305,7 +332,7 @@ module _ {N V F : Type 0} where
     opens-pop f old new h popped =
         let fs : List Frame = reverse new.frames.items in
         let was : reverse old.frames.items ≡ f ∷ fs = ap reverse popped.frames ∙ reverse-append new.frames.items (f ∷ []) in
-        let nodes : AllByRecursion (λ f. HasNode ps f.slot) (f ∷ fs) = subst (AllByRecursion (λ f. HasNode ps f.slot)) was (frames_nodes ps old h) in
+        let nodes : AllByRecursion (λ f. IsOpen ps f.slot) (f ∷ fs) = subst (AllByRecursion (λ f. IsOpen ps f.slot)) was h.waits in
         (λ j. opens_in qs fs (popped.asked j) (popped.uses j))
         ∙ same_opens ps qs (keeps ps qs i n s changes none) fs (take f.asked old.asked.items) (take f.uses old.uses.items) nodes.1 (All-take (IsKept ps) f.asked old.asked.items h.asked)
 

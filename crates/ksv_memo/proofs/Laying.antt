@@ -8,10 +8,11 @@ use Rattle.ksv_memo_links.specs.Shelved.{row}
 use Rattle.ksv_memo_links.specs.Touching.{numbers_from}
 use Rattle.ksv_memo_links.specs.Links.{Linked}
 use Rattle.ksv_memo_rules.specs.declared.replies.Slot.{Slot}
+use Rattle.ksv_memo_rules.specs.declared.replies.Slot.TheVariants.{Open as opened}
 use Rattle.ksv_memo.specs.declared.frames.Frame.{Frame}
 use Rattle.ksv_memo_rules.specs.Slots.{answer_of, answer_at, answers_at, with_first}
 use Rattle.ksv_memo_rules.specs.Entry.{Entry}
-use Rattle.ksv_memo.specs.Layout.{IsOneOf, AllDiffer, slots_of, node_at, nodes_at, IsKept, entry_with, entry_at, entries_at, open_before, opens_in}
+use Rattle.ksv_memo.specs.Layout.{IsOneOf, AllDiffer, slots_of, node_at, nodes_at, IsOpen, IsKept, entry_with, entry_at, entries_at, open_before, opens_in}
 use Rattle.ksv_memo_rules.proofs.Evals.{eqb_true}
 use Rattle.ksv_memo_rules.proofs.Lists.{All-++}
 
@@ -83,9 +84,13 @@ answers_at-append {V} {F} ss (i ∷ is) js = ap (with_first (answer_at ss i)) (a
     first-append (Some x) xs ys = refl
 
 module _ {N V F : Type 0} where
-  -- each node that a slot has, and each answer that is kept, stays in its place
+  -- something is in a slot
+  abbrev pub IsUsed : List (N × Slot V F) → ℕ → Type 0
+  IsUsed ps i = IsKept ps i ⊎ IsOpen ps i
+
+  -- each node in whose slot is something, and each answer that is kept, stays in its place
   pub record Keeps (ps qs : List (N × Slot V F)) : Type 0 where
-    pub nodes : (i : ℕ) (n : N) → node_at ps i ≡ Some n → node_at qs i ≡ Some n
+    pub nodes : (i : ℕ) (n : N) → IsUsed ps i → node_at ps i ≡ Some n → node_at qs i ≡ Some n
     pub answers : (i : ℕ) (a : Result V F) → answer_at (slots_of ps) i ≡ Some a → answer_at (slots_of qs) i ≡ Some a
 
   abbrev pub HasNode : List (N × Slot V F) → ℕ → Type 0
@@ -106,9 +111,13 @@ module _ {N V F : Type 0} where
   pub slot_has_node : (ps : List (N × Slot V F)) (i : ℕ) (s : Slot V F) → slice_get (slots_of ps) i ≡ Some s → HasNode ps i
   slot_has_node ps i s h = some_node (slice_get ps i) s (sym (slice_get-map (λ p. p.1) ps i) ∙ h)
 
+  used_node : (ps : List (N × Slot V F)) (i : ℕ) → IsUsed ps i → HasNode ps i
+  used_node ps i (inl kept) = kept_node ps i kept
+  used_node ps i (inr waits) = slot_has_node ps i opened waits
+
   module _ (ps qs : List (N × Slot V F)) (keeps : Keeps ps qs) where
-    pub same_node : (i : ℕ) → HasNode ps i → node_at qs i ≡ node_at ps i
-    same_node i h = let one = some-of (node_at ps i) h in keeps.nodes i one.0 one.1 ∙ sym one.1
+    pub same_node : (i : ℕ) → IsUsed ps i → node_at qs i ≡ node_at ps i
+    same_node i h = let one = some-of (node_at ps i) (used_node ps i h) in keeps.nodes i one.0 h one.1 ∙ sym one.1
 
     pub same_answer : (i : ℕ) → IsKept ps i → answer_at (slots_of qs) i ≡ answer_at (slots_of ps) i
     same_answer i h = let one = some-of (answer_at (slots_of ps) i) h in keeps.answers i one.0 one.1 ∙ sym one.1
@@ -118,7 +127,7 @@ module _ {N V F : Type 0} where
 
     pub same_nodes : (is : List ℕ) → AllByRecursion (IsKept ps) is → nodes_at qs is ≡ nodes_at ps is
     same_nodes [] h = refl
-    same_nodes (i ∷ is) h = ap (λ o. with_first o (nodes_at qs is)) (same_node i (kept_node ps i h.0)) ∙ ap (with_first (node_at ps i)) (same_nodes is h.1)
+    same_nodes (i ∷ is) h = ap (λ o. with_first o (nodes_at qs is)) (same_node i (inl h.0)) ∙ ap (with_first (node_at ps i)) (same_nodes is h.1)
 
     pub same_answers : (is : List ℕ) → AllByRecursion (IsKept ps) is → answers_at (slots_of qs) is ≡ answers_at (slots_of ps) is
     same_answers [] h = refl
@@ -127,14 +136,14 @@ module _ {N V F : Type 0} where
     -- so the entry of a kept node is the same
     pub same_entry : (l m : Linked) (i : ℕ) → IsKept ps i → AllByRecursion (IsKept ps) (row l.asked i) → row m.asked i ≡ row l.asked i → row m.uses i ≡ row l.uses i → entry_at qs m i ≡ entry_at ps l i
     same_entry l m i kept all asked uses =
-        (λ j. entry_with (same_node i (kept_node ps i kept) j) (same_answer i kept j) (nodes_at qs (asked j)) (uses j))
+        (λ j. entry_with (same_node i (inl kept) j) (same_answer i kept j) (nodes_at qs (asked j)) (uses j))
         ∙ ap (λ ns. entry_with (node_at ps i) (answer_at (slots_of ps) i) ns (row l.uses i)) (same_nodes (row l.asked i) all)
 
     -- and the open ones
-    pub same_opens : (fs : List Frame) (asked : List ℕ) (uses : List Use) → AllByRecursion (λ f. HasNode ps f.slot) fs → AllByRecursion (IsKept ps) asked → opens_in qs fs asked uses ≡ opens_in ps fs asked uses
+    pub same_opens : (fs : List Frame) (asked : List ℕ) (uses : List Use) → AllByRecursion (λ f. IsOpen ps f.slot) fs → AllByRecursion (IsKept ps) asked → opens_in qs fs asked uses ≡ opens_in ps fs asked uses
     same_opens [] asked uses h k = refl
     same_opens (f ∷ fs) asked uses h k =
-        ap (λ o. open_before o (answers_at (slots_of qs) (drop f.asked asked)) (nodes_at qs (drop f.asked asked)) (drop f.uses uses) (opens_in qs fs (take f.asked asked) (take f.uses uses))) (same_node f.slot h.0)
+        ap (λ o. open_before o (answers_at (slots_of qs) (drop f.asked asked)) (nodes_at qs (drop f.asked asked)) (drop f.uses uses) (opens_in qs fs (take f.asked asked) (take f.uses uses))) (same_node f.slot (inr h.0))
         ∙ ap (λ rs. open_before (node_at ps f.slot) rs (nodes_at qs (drop f.asked asked)) (drop f.uses uses) (opens_in qs fs (take f.asked asked) (take f.uses uses))) (same_answers (drop f.asked asked) (All-drop (IsKept ps) f.asked asked k))
         ∙ ap (λ ns. open_before (node_at ps f.slot) (answers_at (slots_of ps) (drop f.asked asked)) ns (drop f.uses uses) (opens_in qs fs (take f.asked asked) (take f.uses uses))) (same_nodes (drop f.asked asked) (All-drop (IsKept ps) f.asked asked k))
         ∙ ap (open_before (node_at ps f.slot) (answers_at (slots_of ps) (drop f.asked asked)) (nodes_at ps (drop f.asked asked)) (drop f.uses uses)) (same_opens fs (take f.asked asked) (take f.uses uses) h.1 (All-take (IsKept ps) f.asked asked k))

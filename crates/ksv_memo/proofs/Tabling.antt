@@ -14,7 +14,7 @@ use Rattle.ksv_memo.specs.declared.slots.Known.TheVariants.{New, Empty, Open, Ke
 use Rattle.ksv_memo_rules.specs.Slots.{answer_in, answer_of, answer_at}
 use Rattle.ksv_memo_rules.specs.Entry.{Entry}
 use Rattle.ksv_memo.specs.Layout.{slots_of, node_at, nodes_at, IsOpen, IsKept, entry_with, entry_at, entries_of, opens_of, AreLinked, AreFrames, IsLaidOut}
-use Rattle.ksv_memo.specs.Moves.{Knows, IsTheSlot, Heard, Framed}
+use Rattle.ksv_memo.specs.Moves.{IsVacant, Knows, IsTheSlot, Heard, Framed}
 use Rattle.ksv_memo.specs.Nodes.{Nodes, IsEntry, HasNoEntry, Replies, Opens}
 use Rattle.ksv_memo.proofs.Finding.{slot_there, node_there, answer_there}
 use Rattle.ksv_memo.proofs.Laying.{some-of, entries_at-same, All-numbers}
@@ -103,6 +103,13 @@ module _ {N V F : Type 0} (eq : N → N → Bool) (ps : List (N × Slot V F)) (l
       kept = entries-stay ps qs i m opened changes none refl l laid.kept more count new_ones;
       opened = opens-push ps qs i m opened changes none frames new laid.waits framed;
     }
+
+  -- a slot with nothing in it
+  pub vacant_none : (i : ℕ) → IsVacant ps i → answer_at (slots_of ps) i ≡ None
+  vacant_none i at = answer_there ps i at.0 emptied at.1
+
+  pub vacant_closed : (i : ℕ) → IsVacant ps i → IsOpen ps i → ⊥
+  vacant_closed i at o = let now : Some emptied ≡ Some opened = sym (slot_there ps i at.0 emptied at.1) ∙ o in cc
 
   -- an empty slot
   pub empty_none : (i : ℕ) (at : IsTheSlot eq ps n i emptied) → answer_at (slots_of ps) i ≡ None

@@ -24,6 +24,10 @@ pub record IsTheSlot {N V F : Type 0} (eq : N → N → Bool) (ps : List (N × S
   pub there : slice_get ps i ≡ Some (node, s)
   pub passes : eq n node ≡ true
 
+-- nothing is in the slot of a number
+abbrev pub IsVacant : {N V F : Type 0} → List (N × Slot V F) → ℕ → Type 0
+IsVacant {N} {V} {F} ps i = (n : N) × (slice_get ps i ≡ Some (n, emptied))
+
 -- what the slots have of a node
 abbrev pub Knows : {N V F : Type 0} → (N → N → Bool) → List (N × Slot V F) → N → Known → Type 0
 Knows {N} {V} {F} eq ps n New = list_any (λ (p : N × Slot V F). eq n p.0) ps ≡ false

@@ -1,11 +1,11 @@
 //! The slots of nodes, each reaching of one counted, and calls of rules, which alone are lent them.
-ghost use Rattle.std.specs.Prelude.{◌≡◌, ◌<◌, ◌≤◌, ◌^◌, ◌++◌, ◌∷◌, [], length, drop, true, false, is_some, option_map, Some, None, IfOk, OnOk, OnErr, IfSome, IfNone};
+ghost use Rattle.std.specs.Prelude.{◌≡◌, ◌<◌, ◌≤◌, ◌^◌, ◌++◌, ◌∷◌, [], length, drop, slice_set, true, false, is_some, option_map, Some, None, IfOk, OnOk, OnErr, IfSome, IfNone};
 ghost use Rattle.std.specs.List.{AllByRecursion, list_any, IsDistinct};
 ghost use Rattle.std.specs.Map.{keys_of};
 ghost use Rattle.indexmap.specs.IndexMap.{set_value_at};
 ghost use Rattle.ksv_memo_links.specs.Shelved.{ticked};
 ghost use Rattle.ksv_memo.specs.Layout.{node_at, slots_of};
-ghost use Rattle.ksv_memo.specs.Moves.{Knows};
+ghost use Rattle.ksv_memo.specs.Moves.{IsVacant, Knows};
 ghost use Rattle.ksv_memo.specs.Calls.{Runs, after_call};
 ghost use Rattle.ksv_memo_rules.specs.Meaning.{IsAddedTo, on};
 ghost use Rattle.ksv_memo_rules.specs.Right.{counted};
@@ -32,14 +32,17 @@ pub enum Known {
     Kept(usize),
 }
 
-/// The slots of nodes. A node's slot has the number of its place in a map, which never changes.
+/// The slots of nodes. A node's slot has the number of its place in a map, which doesn't change while something is in it.
 ///
-/// Each call that looks a node up, adds one or writes a slot is one look, and none does more. The slots are lent to rules
-/// alone, which isn't counted: by [`outcome_at`] and [`call`], which no code can call that has no rules, as forgetting.
+/// Each call that looks a node up, adds one or writes a slot is one look, and none does more; looking for a slot with nothing
+/// in it is one for each slot that is seen, and giving it to another node two. The slots are lent to rules alone, which isn't
+/// counted: by [`outcome_at`] and [`call`], which no code can call that has no rules, as forgetting.
 #[derive(Drop)]
 pub(crate) struct Slots<N: Eq + Hash + Drop, V: Drop, F: Drop> {
     map: IndexMap<N, Slot<V, F>>,
     looks: u64,
+    /// Where a slot with nothing in it is looked for.
+    cursor: usize,
 }
 
 impl<N: Eq + Hash + Drop, V: Drop, F: Drop> Model for Slots<N, V, F> {
@@ -58,6 +61,7 @@ impl<N: Eq + Hash + Drop, V: Drop, F: Drop> Slots<N, V, F> {
         Slots {
             map: IndexMap::new(alloc),
             looks: 0,
+            cursor: 0,
         }
     }
 
@@ -128,6 +132,51 @@ impl<N: Eq + Hash + Drop, V: Drop, F: Drop> Slots<N, V, F> {
         Ok(())
     }
 
+    /// The first slot with nothing in it, from one of a number on.
+    fn empty_from(&mut self, from: usize) -> Option<usize>
+        ensures some { IfSome result (IsVacant self.old.entries) }
+        ensures entries { self.new.entries ≡ self.old.entries }
+    {
+        for place in from..self.map.len() {
+            self.look();
+            if is_vacant(&self.map, place) {
+                return Some(place);
+            }
+        }
+        None
+    }
+
+    /// A slot with nothing in it, if there is one: the first after the one that was found before, or the first of all. So those
+    /// that are given to nodes one after the other lie beside each other.
+    #[cold]
+    #[inline(never)]
+    pub(crate) fn vacant(&mut self) -> Option<usize>
+        ensures some { IfSome result (IsVacant self.old.entries) }
+        ensures entries { self.new.entries ≡ self.old.entries }
+    {
+        let mut found = self.empty_from(self.cursor);
+        if found.is_none() {
+            found = self.empty_from(0);
+        }
+        let place = found?;
+        self.cursor = place;
+        Some(place)
+    }
+
+    /// Gives a slot to a node that has none, open. The node that had it has none then.
+    pub(crate) fn give(&mut self, place: usize, node: N) -> Result<(), AllocError>
+        requires none { list_any (λ p. N.eq node p.0) self.old.entries ≡ false }
+        requires place_in { place < length self.old.entries }
+        ensures ok { OnOk result (self.new.entries ≡ slice_set self.old.entries place (node, Slot.Open)) }
+        ensures err { OnErr result (self.new.entries ≡ self.old.entries) }
+    {
+        self.looks = self.looks.saturating_add(2);
+        self.map.insert(node, Slot::Open)?;
+        // The node that was added last takes the place of the one that had the slot.
+        let _ = self.map.swap_remove_index(place);
+        Ok(())
+    }
+
     /// The node of the slot of a number, lent to rules.
     #[inline(always)]
     fn node(&self, place: usize) -> Option<&N>
@@ -144,6 +193,19 @@ impl<N: Eq + Hash + Drop, V: Drop, F: Drop> Slots<N, V, F> {
         ensures { result.now ≡ slots_of self.now.entries }
     {
         self.map.values().as_slice()
+    }
+}
+
+/// Whether nothing is in the slot of a number.
+fn is_vacant<N: Eq + Hash + Drop, V: Drop, F: Drop>(
+    map: &IndexMap<N, Slot<V, F>>,
+    place: usize,
+) -> bool
+    ensures { result ≡ true → IsVacant map.now.entries place }
+{
+    match map.get_index(place) {
+        Some((_, slot)) => matches!(slot, Slot::Empty),
+        None => false,
     }
 }
 

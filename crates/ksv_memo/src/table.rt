@@ -4,13 +4,14 @@ ghost use Rattle.std.specs.Prelude.{◌≡◌, ◌≢◌, ◌<◌, ◌≤◌, �
 ghost use Rattle.ksv_memo_links.specs.Touching.{AreWithin};
 ghost use Rattle.ksv_memo_rules.specs.Meaning.{on};
 ghost use Rattle.ksv_memo.specs.Layout.{IsLaidOut};
-ghost use Rattle.ksv_memo.specs.Nodes.{Asks, Closes, MayKeep, Seeks, Starts, Steps, TakesFirst, is_there, nodes_with};
+ghost use Rattle.ksv_memo.specs.Nodes.{Asks, Closes, MayKeep, Opens, Seeks, Starts, Steps, TakesFirst, is_there, nodes_with};
+ghost use Rattle.ksv_memo.specs.Moves.{IsVacant, Knows};
 ghost use Rattle.ksv_memo_rules.specs.Slots.{answer_in};
 ghost use Rattle.ksv_memo.specs.Calls.{after_call};
 ghost use Rattle.ksv_memo.specs.Sweep.{Sweeps};
 ghost use Rattle.ksv_memo.specs.Emptying.{IsEmptied};
 
-use crate::frames::{Frames, number, open_new, reopen};
+use crate::frames::{Frames, number, open_in, open_new, reopen};
 use crate::slots::{Known, Slots, call, outcome_at};
 use crate::uses::keep_once;
 use ksv_bytes::{Buffer, Change};
@@ -29,6 +30,54 @@ enum Asked<N> {
     Opened,
     /// This node, which was looked for, is open.
     Circle(N),
+}
+
+/// How many slots more than twice those in use there may be before new nodes are given slots with nothing in them.
+const SPARE: usize = 16_384;
+
+/// A slot with nothing in it, where far more slots have nothing in them than are in use: so memory stays in proportion to the
+/// nodes that are kept and open at one time.
+#[inline(always)]
+fn vacant<N: Eq + Hash + Drop, V: Drop, F: Drop>(
+    slots: &mut Slots<N, V, F>,
+    links: &Links,
+    frames: &Frames,
+) -> Option<usize>
+    ensures some { IfSome result (IsVacant slots.old.entries) }
+    ensures entries { slots.new.entries ≡ slots.old.entries }
+{
+    let used = links.count().saturating_add(frames.frames.len());
+    if slots.len() < used.saturating_mul(2).saturating_add(SPARE) {
+        return None;
+    }
+    slots.vacant()
+}
+
+/// Opens a node that has no slot.
+#[inline(always)]
+fn open_node<N: Eq + Hash + Drop, V: Drop, F: Drop>(
+    slots: &mut Slots<N, V, F>,
+    links: &mut Links,
+    frames: &mut Frames,
+    node: N,
+) -> Result<(), AllocError>
+    requires laid { IsLaidOut slots.old.entries links.old frames.old }
+    requires none { Knows N.eq slots.old.entries node Known.New }
+    ensures laid { IsLaidOut slots.new.entries links.new frames.new }
+    ensures ok { OnOk result (Opens N.eq node (nodes_with slots.old.entries links.old frames.old) (nodes_with slots.new.entries links.new frames.new)) }
+    ensures err { OnErr result (nodes_with slots.new.entries links.new frames.new ≡ nodes_with slots.old.entries links.old frames.old) }
+{
+    match vacant(slots, links, frames) {
+        Some(place) => {
+            open_in(slots, frames, place, node)?;
+            Ok(())
+        }
+        None => {
+            links.reach(number(slots.len().saturating_add(1))?)?;
+            open_new(slots, frames, node)?;
+            Ok(())
+        }
+    }
 }
 
 /// Looks for a node, and opens it if it is neither kept nor open. It takes one hash, and another for a new node's slot.
@@ -52,8 +101,7 @@ fn seek<N: Eq + Hash + Drop, V: Drop, F: Drop>(
             Ok(Asked::Opened)
         }
         Known::New => {
-            links.reach(number(slots.len().saturating_add(1))?)?;
-            open_new(slots, frames, node)?;
+            open_node(slots, links, frames, node)?;
             Ok(Asked::Opened)
         }
     }
