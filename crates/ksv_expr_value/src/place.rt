@@ -10,8 +10,8 @@ use std::marker::Model;
 pub struct Place {
     /// The byte that the place is in.
     byte: u32,
-    /// How many bits of that byte are before it.
-    bit: u8,
+    /// How many bits of that byte are before it. It has 32 bits so that a place has no unused bytes, which would be copied by themselves.
+    bit: u32,
 }
 
 impl Model for Place {
@@ -59,7 +59,7 @@ impl Place {
     pub fn bit_in(self) -> u8
         ensures { result ≡ bit_in self }
     {
-        self.bit
+        self.bit as u8
     }
 
     /// How many bits of the file are before the place.
@@ -85,7 +85,7 @@ impl Place {
         let bits = self.bits() + u64::from(count);
         Place {
             byte: (bits / 8) as u32,
-            bit: (bits % 8) as u8,
+            bit: (bits % 8) as u32,
         }
     }
 
@@ -101,7 +101,7 @@ impl Place {
     pub fn bits_left(self) -> u8
         ensures { result ≡ bits_left self }
     {
-        let bit = self.bit;
+        let bit = self.bit as u8;
         if bit == 0 { 0 } else { 8 - bit }
     }
 

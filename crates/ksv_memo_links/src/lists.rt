@@ -25,12 +25,19 @@ fn write(pins: &mut Vec<Pin>, i: u32, pin: Pin)
     pins[i as usize] = pin;
 }
 
-/// Takes the last pin, if there is one.
-fn cut(pins: &mut Vec<Pin>) -> Option<Pin>
+/// How many pins an empty list may have room for. So what a node's list once held isn't held for ever.
+const ROOM: usize = 256;
+
+/// Takes the last pin, if there is one. A list that is empty then, and had more room than a few, gives it back.
+fn cut(alloc: Global, pins: &mut Vec<Pin>) -> Option<Pin>
     ensures last { result ≡ slice_get pins.old.items (length pins.old.items - 1) }
     ensures rest { pins.new.items ≡ take (length pins.old.items - 1) pins.old.items }
 {
-    pins.pop()
+    let last = pins.pop();
+    if pins.is_empty() && pins.capacity() > ROOM {
+        *pins = Vec::new(alloc);
+    }
+    last
 }
 
 /// Puts a pin at the end. Its place.
@@ -105,7 +112,8 @@ impl Lists {
         ensures last { result ≡ slice_get (row self.old list) (length (row self.old list) - 1) }
         ensures rest { self.new ≡ pop_row self.old list }
     {
-        cut(&mut self.lists[list as usize])
+        let alloc = self.alloc;
+        cut(alloc, &mut self.lists[list as usize])
     }
 
     /// Puts a pin at the end of a list. Its place there.
