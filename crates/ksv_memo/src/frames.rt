@@ -1,5 +1,5 @@
 //! What open nodes asked and used, by frames.
-ghost use Rattle.std.specs.Prelude.{◌≡◌, ◌<◌, ◌++◌, ◌∷◌, [], length, slice_set, false, IfOk, IfSome, IfNone, OnOk, OnErr};
+ghost use Rattle.std.specs.Prelude.{◌≡◌, ◌<◌, ◌++◌, ◌∷◌, [], length, false, IfOk, IfSome, IfNone, OnOk, OnErr};
 ghost use Rattle.std.specs.List.{list_any};
 ghost use Rattle.indexmap.specs.IndexMap.{set_value_at};
 ghost use Rattle.ksv_memo.specs.Moves.{Heard, SameFrames, IsNewFrame, Popped, Framed, EndsWith};
@@ -50,7 +50,7 @@ impl Frames {
 
     /// The frame of a node that is opened now.
     #[inline(always)]
-    fn frame(&self, place: usize) -> Result<Frame, AllocError>
+    pub(crate) fn frame(&self, place: usize) -> Result<Frame, AllocError>
         ensures { IfOk result (λ frame. IsNewFrame place self.now frame) }
     {
         Ok(Frame {
@@ -129,29 +129,6 @@ pub(crate) fn open_new<N: Eq + Hash + Drop, V: Drop, F: Drop>(
     let frame = frames.frame(slots.len())?;
     frames.frames.reserve(1)?;
     slots.add(node)?;
-    frames.frames.push_reserved(frame);
-    Ok(())
-}
-
-/// Opens a node that has no slot in one with nothing in it, which was another's.
-#[cold]
-#[inline(never)]
-pub(crate) fn open_in<N: Eq + Hash + Drop, V: Drop, F: Drop>(
-    slots: &mut Slots<N, V, F>,
-    frames: &mut Frames,
-    place: usize,
-    node: N,
-) -> Result<(), AllocError>
-    requires none { list_any (λ p. N.eq node p.0) slots.old.entries ≡ false }
-    requires place_in { place < length slots.old.entries }
-    ensures slots { OnOk result (slots.new.entries ≡ slice_set slots.old.entries place (node, Slot.Open)) }
-    ensures frames { OnOk result (Framed place frames.old frames.new) }
-    ensures kept { OnErr result (slots.new.entries ≡ slots.old.entries) }
-    ensures err { OnErr result (SameFrames frames.old frames.new) }
-{
-    let frame = frames.frame(place)?;
-    frames.frames.reserve(1)?;
-    slots.give(place, node)?;
     frames.frames.push_reserved(frame);
     Ok(())
 }

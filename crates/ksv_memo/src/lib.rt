@@ -15,6 +15,7 @@
 //! - `slots`: the map from node to slot, each look counted; `call`, the only caller of `next`
 //! - `table`: the table of kept and open nodes
 //! - `uses`: uses, each once
+//! - `vacancy`: slots with nothing in them, which are given to other nodes
 //!
 //! Definitions (`specs/`):
 //!
@@ -62,6 +63,7 @@ mod machine;
 mod slots;
 mod table;
 mod uses;
+mod vacancy;
 
 pub use engine::{Answer, Engine};
 pub use ksv_memo_rules::{Next, Replies, Rules, Slot};

@@ -66,10 +66,10 @@ impl<R: Rules> Machine<R> {
         ensures err { OnErr result (LeftFrom (on (R.meaning rules.now) bytes.now) self.old.table.kept self.old.table.opened self.new.table.kept) }
         ensures turns { OnOk result (self.new.turns ≡ counted 1 self.old.turns) }
     {
-        let step = self.turn(rules, bytes)?;
-        match step {
-            Next::Done(answer) => self.finish(rules, bytes, answer),
-            Next::Need(asked) => self.need(rules, bytes, asked),
+        match self.turn(rules, bytes) {
+            Ok(Next::Done(answer)) => self.finish(rules, bytes, answer),
+            Ok(Next::Need(asked)) => self.need(rules, bytes, asked),
+            Err(refused) => Err(refused),
         }
     }
 
@@ -108,10 +108,10 @@ impl<R: Rules> Machine<R> {
         ensures err { OnErr result (self.new.table.kept ≡ self.old.table.kept) }
         ensures turns { self.new.turns ≡ self.old.turns }
     {
-        let came = self.table.ask(asked)?;
-        match came {
-            None => Ok(None),
-            Some(node) => Ok(Some(Outcome::Circle(node))),
+        match self.table.ask(asked) {
+            Ok(None) => Ok(None),
+            Ok(Some(node)) => Ok(Some(Outcome::Circle(node))),
+            Err(refused) => Err(refused),
         }
     }
 

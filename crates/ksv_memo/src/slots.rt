@@ -283,7 +283,9 @@ pub(crate) fn call<R: Rules>(
     };
     let asked = &frames.asked[frame.asked..];
     let replies = Replies::new(slots.lend(), asked);
-    let step = rules.next(alloc, node, bytes, &replies, &mut frames.uses)?;
-    *turns = one_more(*turns);
-    Ok(step)
+    let step = rules.next(alloc, node, bytes, &replies, &mut frames.uses);
+    if step.is_ok() {
+        *turns = one_more(*turns);
+    }
+    step
 }

@@ -5,15 +5,16 @@ ghost use Rattle.ksv_memo_links.specs.Touching.{AreWithin};
 ghost use Rattle.ksv_memo_rules.specs.Meaning.{on};
 ghost use Rattle.ksv_memo.specs.Layout.{IsLaidOut};
 ghost use Rattle.ksv_memo.specs.Nodes.{Asks, Closes, MayKeep, Opens, Seeks, Starts, Steps, TakesFirst, is_there, nodes_with};
-ghost use Rattle.ksv_memo.specs.Moves.{IsVacant, Knows};
+ghost use Rattle.ksv_memo.specs.Moves.{Knows};
 ghost use Rattle.ksv_memo_rules.specs.Slots.{answer_in};
 ghost use Rattle.ksv_memo.specs.Calls.{after_call};
 ghost use Rattle.ksv_memo.specs.Sweep.{Sweeps};
 ghost use Rattle.ksv_memo.specs.Emptying.{IsEmptied};
 
-use crate::frames::{Frames, number, open_in, open_new, reopen};
+use crate::frames::{Frames, number, open_new, reopen};
 use crate::slots::{Known, Slots, call, outcome_at};
 use crate::uses::keep_once;
+use crate::vacancy::{open_in, vacant};
 use ksv_bytes::{Buffer, Change};
 use ksv_memo_links::Links;
 use ksv_memo_rules::{Next, Outcome, Reply, Rules, Slot};
@@ -30,27 +31,6 @@ enum Asked<N> {
     Opened,
     /// This node, which was looked for, is open.
     Circle(N),
-}
-
-/// How many slots more than twice those in use there may be before new nodes are given slots with nothing in them.
-const SPARE: usize = 16_384;
-
-/// A slot with nothing in it, where far more slots have nothing in them than are in use: so memory stays in proportion to the
-/// nodes that are kept and open at one time.
-#[inline(always)]
-fn vacant<N: Eq + Hash + Drop, V: Drop, F: Drop>(
-    slots: &mut Slots<N, V, F>,
-    links: &Links,
-    frames: &Frames,
-) -> Option<usize>
-    ensures some { IfSome result (IsVacant slots.old.entries) }
-    ensures entries { slots.new.entries ≡ slots.old.entries }
-{
-    let used = links.count().saturating_add(frames.frames.len());
-    if slots.len() < used.saturating_mul(2).saturating_add(SPARE) {
-        return None;
-    }
-    slots.vacant()
 }
 
 /// Opens a node that has no slot.
@@ -198,14 +178,14 @@ impl<R: Rules> Table<R> {
         ensures ok { IfOk result (Asks R.Node.eq node self.old self.new) }
         ensures err { OnErr result (self.new ≡ self.old) }
     {
-        let came = seek(&mut self.slots, &mut self.links, &mut self.frames, node)?;
-        match came {
-            Asked::Kept(place) => {
+        match seek(&mut self.slots, &mut self.links, &mut self.frames, node) {
+            Ok(Asked::Kept(place)) => {
                 self.frames.hear(place)?;
                 Ok(None)
             }
-            Asked::Opened => Ok(None),
-            Asked::Circle(node) => Ok(Some(node)),
+            Ok(Asked::Opened) => Ok(None),
+            Ok(Asked::Circle(node)) => Ok(Some(node)),
+            Err(refused) => Err(refused),
         }
     }
 

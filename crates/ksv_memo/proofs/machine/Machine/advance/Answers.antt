@@ -15,7 +15,7 @@ finish-requires g c =
     let laws = g.met.R.Node.Eq.laws in
     let exact = g.met.R.Rules.exact in
     let old = c.args.self.now.table in
-    subst (λ es. HasReached w es c.turn.new.self.table.opened (Done c.in-Done.answer)) (sym c.in_ok-step.ensures.kept) (subst (HasReached w old.kept c.turn.new.self.table.opened) c.in-Done.is (reached w law eq laws exact old.kept old.opened c.turn.new.self.table.opened c.in_ok-step.step c.requires c.in_ok-step.ensures.step))
+    subst (λ es. HasReached w es c.turn.new.self.table.opened (Done c.in-Ok-Done.answer)) (sym c.in-Ok-Done.ensures.kept) (subst (HasReached w old.kept c.turn.new.self.table.opened) c.in-Ok-Done.field-0-is (reached w law eq laws exact old.kept old.opened c.turn.new.self.table.opened c.in-Ok-Done.field-0 c.requires c.in-Ok-Done.ensures.step))
 
 pub need-requires : goal.need-requires
 need-requires g c =
@@ -25,10 +25,10 @@ need-requires g c =
     let laws = g.met.R.Node.Eq.laws in
     let exact = g.met.R.Rules.exact in
     let old = c.args.self.now.table in
-    subst (λ es. HasReached w es c.turn.new.self.table.opened (Need c.in-Need.asked)) (sym c.in_ok-step.ensures.kept) (subst (HasReached w old.kept c.turn.new.self.table.opened) c.in-Need.is (reached w law eq laws exact old.kept old.opened c.turn.new.self.table.opened c.in_ok-step.step c.requires c.in_ok-step.ensures.step))
+    subst (λ es. HasReached w es c.turn.new.self.table.opened (Need c.in-Ok-Need.asked)) (sym c.in-Ok-Need.ensures.kept) (subst (HasReached w old.kept c.turn.new.self.table.opened) c.in-Ok-Need.field-0-is (reached w law eq laws exact old.kept old.opened c.turn.new.self.table.opened c.in-Ok-Need.field-0 c.requires c.in-Ok-Need.ensures.step))
 
-pub returns-in-Done-clause-ok : goal.returns-in-Done-clause-ok
-returns-in-Done-clause-ok g c =
+pub returns-in-Ok-Done-clause-ok : goal.returns-in-Ok-Done-clause-ok
+returns-in-Ok-Done-clause-ok g c =
     let w = on (g.R.Rules.meaning c.args.rules.now) c.args.bytes.now in
     let law = law_on (g.R.Rules.meaning c.args.rules.now) (g.met.R.Rules.lawful c.args.rules.now) c.args.bytes.now in
     let eq = g.R.Node.PartialEq.eq in
@@ -37,10 +37,10 @@ returns-in-Done-clause-ok g c =
     let old = c.args.self.now.table in
     let now = c.turn.new.self.table.opened in
     let t = c.finish.new.self.table in
-    IfOk-weaker c.finish.result _ _ (λ out h. advances w law eq laws exact old.kept old.opened now (Done c.in-Done.answer) t out c.requires (rw c.in-Done.is at c.in_ok-step.ensures.step) (subst (λ es. AdvancesAt w es now (Done c.in-Done.answer) t out) c.in_ok-step.ensures.kept h)) c.finish.ensures.ok
+    IfOk-weaker c.finish.result _ _ (λ out h. advances w law eq laws exact old.kept old.opened now (Done c.in-Ok-Done.answer) t out c.requires (rw c.in-Ok-Done.field-0-is at c.in-Ok-Done.ensures.step) (subst (λ es. AdvancesAt w es now (Done c.in-Ok-Done.answer) t out) c.in-Ok-Done.ensures.kept h)) c.finish.ensures.ok
 
-pub returns-in-Done-clause-err : goal.returns-in-Done-clause-err
-returns-in-Done-clause-err g c =
+pub returns-in-Ok-Done-clause-err : goal.returns-in-Ok-Done-clause-err
+returns-in-Ok-Done-clause-err g c =
     let w = on (g.R.Rules.meaning c.args.rules.now) c.args.bytes.now in
     let law = law_on (g.R.Rules.meaning c.args.rules.now) (g.met.R.Rules.lawful c.args.rules.now) c.args.bytes.now in
     let eq = g.R.Node.PartialEq.eq in
@@ -49,10 +49,10 @@ returns-in-Done-clause-err g c =
     let old = c.args.self.now.table in
     let now = c.turn.new.self.table.opened in
     let t = c.finish.new.self.table.kept in
-    on_err_weaker c.finish.result (λ h. leaves w law eq laws exact old.kept old.opened now (Done c.in-Done.answer) t c.requires (rw c.in-Done.is at c.in_ok-step.ensures.step) (subst (λ es. LeftAt w es now (Done c.in-Done.answer) t) c.in_ok-step.ensures.kept h)) c.finish.ensures.err
+    on_err_weaker c.finish.result (λ h. leaves w law eq laws exact old.kept old.opened now (Done c.in-Ok-Done.answer) t c.requires (rw c.in-Ok-Done.field-0-is at c.in-Ok-Done.ensures.step) (subst (λ es. LeftAt w es now (Done c.in-Ok-Done.answer) t) c.in-Ok-Done.ensures.kept h)) c.finish.ensures.err
 
-pub returns-in-Need-clause-ok : goal.returns-in-Need-clause-ok
-returns-in-Need-clause-ok g c =
+pub returns-in-Ok-Need-clause-ok : goal.returns-in-Ok-Need-clause-ok
+returns-in-Ok-Need-clause-ok g c =
     let w = on (g.R.Rules.meaning c.args.rules.now) c.args.bytes.now in
     let law = law_on (g.R.Rules.meaning c.args.rules.now) (g.met.R.Rules.lawful c.args.rules.now) c.args.bytes.now in
     let eq = g.R.Node.PartialEq.eq in
@@ -61,4 +61,4 @@ returns-in-Need-clause-ok g c =
     let old = c.args.self.now.table in
     let now = c.turn.new.self.table.opened in
     let t = c.need.new.self.table in
-    IfOk-weaker c.need.result _ _ (λ out h. advances w law eq laws exact old.kept old.opened now (Need c.in-Need.asked) t out c.requires (rw c.in-Need.is at c.in_ok-step.ensures.step) (subst (λ es. AdvancesAt w es now (Need c.in-Need.asked) t out) c.in_ok-step.ensures.kept h)) c.need.ensures.ok
+    IfOk-weaker c.need.result _ _ (λ out h. advances w law eq laws exact old.kept old.opened now (Need c.in-Ok-Need.asked) t out c.requires (rw c.in-Ok-Need.field-0-is at c.in-Ok-Need.ensures.step) (subst (λ es. AdvancesAt w es now (Need c.in-Ok-Need.asked) t out) c.in-Ok-Need.ensures.kept h)) c.need.ensures.ok

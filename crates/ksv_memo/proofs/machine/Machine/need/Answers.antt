@@ -4,25 +4,25 @@ use Rattle.ksv_memo_rules.proofs.Standing.{law_on}
 use Rattle.ksv_memo.proofs.Taking.{hears, opens_node, circles}
 use Rattle.ksv_memo.proofs.machine.Machine.need.Goals as goal
 
-pub returns-in-None-clause-ok : goal.returns-in-None-clause-ok
-returns-in-None-clause-ok g c =
+pub returns-in-Ok-None-clause-ok : goal.returns-in-Ok-None-clause-ok
+returns-in-Ok-None-clause-ok g c =
     let w = on (g.R.Rules.meaning c.args.rules.now) c.args.bytes.now in
     let law = law_on (g.R.Rules.meaning c.args.rules.now) (g.met.R.Rules.lawful c.args.rules.now) c.args.bytes.now in
     let eq = g.R.Node.PartialEq.eq in
     let laws = g.met.R.Node.Eq.laws in
     let exact = g.met.R.Rules.exact in
     let old = c.args.self.now.table in
-    elim (rw c.in-None.is at c.in_ok-came.ensures.ok) [
+    elim (rw c.in-Ok-None.field-0-is at c.in-Ok-None.ensures.ok) [
       | inl replies ↦ hears w law eq laws exact old.kept old.opened c.args.asked c.ask.new.self c.requires replies
       | inr opens ↦ opens_node w law eq laws exact old.kept old.opened c.args.asked c.ask.new.self c.requires opens
     ]
 
-pub returns-in-Some-clause-ok : goal.returns-in-Some-clause-ok
-returns-in-Some-clause-ok g c =
+pub returns-in-Ok-Some-clause-ok : goal.returns-in-Ok-Some-clause-ok
+returns-in-Ok-Some-clause-ok g c =
     let w = on (g.R.Rules.meaning c.args.rules.now) c.args.bytes.now in
     let law = law_on (g.R.Rules.meaning c.args.rules.now) (g.met.R.Rules.lawful c.args.rules.now) c.args.bytes.now in
     let eq = g.R.Node.PartialEq.eq in
     let laws = g.met.R.Node.Eq.laws in
     let exact = g.met.R.Rules.exact in
     let old = c.args.self.now.table in
-    circles w law eq laws exact old.kept old.opened c.args.asked c.in-Some.node c.ask.new.self c.requires (rw c.in-Some.is at c.in_ok-came.ensures.ok)
+    circles w law eq laws exact old.kept old.opened c.args.asked c.in-Ok-Some.node c.ask.new.self c.requires (rw c.in-Ok-Some.field-0-is at c.in-Ok-Some.ensures.ok)
