@@ -184,25 +184,33 @@ def tree():
                 "      xs: {pos: _root.start, type: item, repeat: expr, repeat-expr: 16}", "  item:", "    seq: [{id: len, type: u1}, {id: body, size: len}]")
 
 
+# The file of the tree: byte 0, and elements from byte 1 and from byte 2 on.
+TREE_DATA = bytes([1]) + items(40)
+
+
 def fresh(number):
     """A path of the tree for each number below 10,000, with the digits of that number as its steps: to the last element of a list."""
     return "/d" + "".join(f"/d{digit}" for digit in f"{number:04}") + "/xs/15/len"
 
 
+def fresh_round(number):
+    """A round on the tree: the question at a path of its own, and the edit of byte 0, which is 1 and 2 in turn."""
+    start, data = 1 + number % 2, TREE_DATA
+    return (f"get {fresh(number)}", str(data[places(data, start)[15]])), (f"set 0 {3 - start:02x}", f"ok {len(data)}")
+
+
 def memory(program):
     """Memory where ever new paths are asked, and each edit takes all their answers: what is kept stays small, and memory should too. Round k asks a path of its own
     in a tree of ten objects each, four deep, to the last of a list's 16 elements (110 new nodes: seven for each of 15 elements, three for the last, the list's, the
-    object's; and those of the objects above, where they are new). Then it writes byte 0, on which all depend but what is at the root and at `/start`. Seconds are
-    those of the edits alone, and of the questions alone."""
-    counts, data = (2500, 5000, 10_000), bytes([1]) + items(40)
+    object's; and those of the objects above, where they are new). Then it writes byte 0, on which all depend but what is at the root and at `/start`: 115 nodes go.
+    Seconds are those of the edits alone, and of the questions alone; instructions those of one edit more, behind fewer rounds."""
+    counts, fewer = (2500, 5000, 10_000), (100, 200, 400)
     peaks, edits, asks = [], [], []
-    with program.talk(Session(tree(), data)) as talk:
+    with program.talk(Session(tree(), TREE_DATA)) as talk:
         spent, first = [0, 0], 0
         for number in range(counts[-1]):
-            start = 1 + number % 2
-            value = str(data[places(data, start)[15]])
-            spent[0] += talk.ask((f"get {fresh(number)}", value))
-            spent[1] += talk.ask((f"set 0 {2 - number % 2:02x}", f"ok {len(data)}"))
+            for at, step in enumerate(fresh_round(number)):
+                spent[at] += talk.ask(step)
             first = first or talk.peak()
             if number + 1 in counts:
                 peaks.append((talk.peak() - first) / MIB)
@@ -212,6 +220,9 @@ def memory(program):
     yield Figure("n rounds, each with a new path and an edit that takes all: peak", counts, peaks, "MiB more than after one round", Goal(10))
     yield Figure("the edits of these rounds", counts, edits, "ms of a processor an edit", Goal(0.05), True)
     yield Figure("the questions of these rounds", counts, asks, "ms of a processor a question", None, True)
+    steps = [step for number in range(fewer[-1]) for step in fresh_round(number)]
+    bases = [Session(tree(), TREE_DATA, tuple(steps[: 2 * count - 1])) for count in fewer]
+    yield Figure("the edit of round n", fewer, program.more([(it, it.then(steps[2 * count - 1])) for it, count in zip(bases, fewer)]), "instructions")
 
 
 def edited(count):
@@ -280,11 +291,22 @@ def entries(count):
     return session.ksy, session.data, ask
 
 
+def named_enums(count):
+    """So many enums of one entry, each named by a field, 250 of a type; and the last field."""
+    kinds = range(count // 250)
+    lists = [",".join(f"{{id: {letters(it, 2)},type: u1,enum: e{250 * kind + it}}}" for it in range(250)) for kind in kinds]
+    types = [f"  t{kind}: {{seq: [{row}]}}" for kind, row in enumerate(lists)]
+    parts = [f"  - {{id: {letters(kind, 2)}, type: t{kind}}}" for kind in kinds]
+    ksy = text("meta: {id: r}", "seq:", *parts, "enums:", *(f"  e{it}: {{7: a}}" for it in range(count)), "types:", *types)
+    return ksy, bytes(count - 1) + b"\x07", (f"get /{letters(kinds[-1], 2)}/{letters(249, 2)}", f"e{count - 1}::a (7)")
+
+
 def fields(count):
     """So many fields of one byte, 250 of a type, and the last one."""
     kinds = range(count // 250)
-    types = [f"  t{number}: {{seq: [{','.join(f'{{id: {letters(it, 2)},size: 1}}' for it in range(250))}]}}" for number in kinds]
-    parts = [f"  - {{id: {letters(number, 2)}, type: t{number}}}" for number in kinds]
+    row = ",".join(f"{{id: {letters(it, 2)},size: 1}}" for it in range(250))
+    types = [f"  t{kind}: {{seq: [{row}]}}" for kind in kinds]
+    parts = [f"  - {{id: {letters(kind, 2)}, type: t{kind}}}" for kind in kinds]
     data = bytes(count - 1) + b"\x07"
     return text("meta: {id: r}", "seq:", *parts, "types:", *types), data, (f"get /{letters(kinds[-1], 2)}/{letters(249, 2)}", "hex 07")
 
@@ -292,12 +314,13 @@ def fields(count):
 KINDS = (
     ("types that lead to each other", types_around, (256, 512, 1024)),
     ("entries of an enum", entries, (16_384, 32_768, 65_536)),
+    ("enums, each of one entry and named by one field", named_enums, (500, 1000, 2000)),
     ("fields", fields, (14_500, 29_000, 58_000)),
 )
 
 
 def loading(program):
-    """What it takes to load a description of n types that name each other, of an enum of n entries, of n fields. A session that asks for the size, less one of a
+    """What it takes to load a description of n types that name each other, of an enum of n entries, of n enums, of n fields. A session that asks for the size, less one of a
     description of one byte over the same file. A question shows that all of it was read."""
     for what, made, sizes in KINDS:
         pairs = []
