@@ -291,24 +291,29 @@ def entries(count):
     return session.ksy, session.data, ask
 
 
-def named_enums(count):
-    """So many enums of one entry, each named by a field, 250 of a type; and the last field."""
+def over_types(field, count):
+    """So many fields, 250 of a type, what each is by its number: the types, and the fields of the root that have them."""
     kinds = range(count // 250)
-    lists = [",".join(f"{{id: {letters(it, 2)},type: u1,enum: e{250 * kind + it}}}" for it in range(250)) for kind in kinds]
-    types = [f"  t{kind}: {{seq: [{row}]}}" for kind, row in enumerate(lists)]
-    parts = [f"  - {{id: {letters(kind, 2)}, type: t{kind}}}" for kind in kinds]
+    lists = [",".join(f"{{id: {letters(it, 2)},{field(250 * kind + it)}}}" for it in range(250)) for kind in kinds]
+    return [f"  t{kind}: {{seq: [{row}]}}" for kind, row in enumerate(lists)], [f"  - {{id: {letters(kind, 2)}, type: t{kind}}}" for kind in kinds]
+
+
+def last_field(count):
+    """The path of the last of so many fields."""
+    return f"/{letters(count // 250 - 1, 2)}/{letters(249, 2)}"
+
+
+def named_enums(count):
+    """So many enums of one entry, each named by a field; and the last field."""
+    types, parts = over_types(lambda number: f"type: u1,enum: e{number}", count)
     ksy = text("meta: {id: r}", "seq:", *parts, "enums:", *(f"  e{it}: {{7: a}}" for it in range(count)), "types:", *types)
-    return ksy, bytes(count - 1) + b"\x07", (f"get /{letters(kinds[-1], 2)}/{letters(249, 2)}", f"e{count - 1}::a (7)")
+    return ksy, bytes(count - 1) + b"\x07", (f"get {last_field(count)}", f"e{count - 1}::a (7)")
 
 
 def fields(count):
-    """So many fields of one byte, 250 of a type, and the last one."""
-    kinds = range(count // 250)
-    row = ",".join(f"{{id: {letters(it, 2)},size: 1}}" for it in range(250))
-    types = [f"  t{kind}: {{seq: [{row}]}}" for kind in kinds]
-    parts = [f"  - {{id: {letters(kind, 2)}, type: t{kind}}}" for kind in kinds]
-    data = bytes(count - 1) + b"\x07"
-    return text("meta: {id: r}", "seq:", *parts, "types:", *types), data, (f"get /{letters(kinds[-1], 2)}/{letters(249, 2)}", "hex 07")
+    """So many fields of one byte, and the last one."""
+    types, parts = over_types(lambda number: "size: 1", count)
+    return text("meta: {id: r}", "seq:", *parts, "types:", *types), bytes(count - 1) + b"\x07", (f"get {last_field(count)}", "hex 07")
 
 
 KINDS = (
@@ -320,8 +325,9 @@ KINDS = (
 
 
 def loading(program):
-    """What it takes to load a description of n types that name each other, of an enum of n entries, of n enums, of n fields. A session that asks for the size, less one of a
-    description of one byte over the same file. A question shows that all of it was read."""
+    """What it takes to load a description of n types that name each other, of an enum of n entries, of n enums, of n fields: a name that is looked for among all
+    others makes it grow as their square. A session that asks for the size, less one of a description of one byte over the same file. A question shows that all of it
+    was read."""
     for what, made, sizes in KINDS:
         pairs = []
         for ksy, data, ask in map(made, sizes):
