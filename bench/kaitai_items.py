@@ -1,0 +1,28 @@
+# The parser of the example of docs/PERFORMANCE.md for Kaitai Struct's runtime, written by hand in the form of what its compiler makes.
+from kaitaistruct import KaitaiStruct
+
+
+class A(KaitaiStruct):
+    def __init__(self, _io, _parent=None, _root=None):
+        self._io = _io
+        self._parent = _parent
+        self._root = _root if _root else self
+        self._read()
+
+    def _read(self):
+        self.items = []
+        i = 0
+        while not self._io.is_eof():
+            self.items.append(A.Item(self._io, self, self._root))
+            i += 1
+
+    class Item(KaitaiStruct):
+        def __init__(self, _io, _parent=None, _root=None):
+            self._io = _io
+            self._parent = _parent
+            self._root = _root if _root else self
+            self._read()
+
+        def _read(self):
+            self.len = self._io.read_u1()
+            self.body = self._io.read_bytes(self.len)
