@@ -10,7 +10,7 @@ use crate::number::{integer, number};
 use crate::refusal::LineRefusal;
 use ksv_desc::Desc;
 use ksv_expr_value::{Integer, Path};
-use ksv_lines::{EditBytes, edit_bytes, line_text, next_word};
+use ksv_lines::{EditDigits, edit_digits, line_text, next_word};
 use ksv_paths::path_of;
 use std::alloc::{AllocError, Global};
 
@@ -33,9 +33,9 @@ pub enum Question {
     Dump(Path),
 }
 
-/// What a line means.
+/// What a line means. The bytes of an edit are still digits on the line.
 #[derive(Drop)]
-pub enum Command {
+pub enum Command<'a> {
     /// Nothing: no word, or a first word that begins with `#`.
     Blank,
     /// A refused line.
@@ -45,15 +45,15 @@ pub enum Command {
     /// `put PATH INT`: an integer written over the one at a path.
     Put(Path, Integer),
     /// `set POS HEX`: bytes written over those from a place on.
-    Set(u64, EditBytes),
+    Set(u64, EditDigits<'a>),
     /// `ins POS HEX`: bytes put before the byte at a place, or after the last one.
-    Ins(u64, EditBytes),
+    Ins(u64, EditDigits<'a>),
     /// `del POS COUNT`: this many bytes removed, from a place on.
     Del(u64, u64),
     /// `bytes POS COUNT`: this many bytes shown, from a place on, at most 4,096.
     Bytes(u64, u64),
     /// `app HEX`: bytes added at the end.
-    App(EditBytes),
+    App(EditDigits<'a>),
     /// `size`: the number of bytes.
     Size,
     /// `stats`: how many nodes are kept, and the turns of the last question.
@@ -97,12 +97,12 @@ fn only_path(
 }
 
 /// Reads the argument of a question.
-fn about_path<F: FnOnce(Path) -> Question>(
+fn about_path<'a, F: FnOnce(Path) -> Question>(
     alloc: Global,
     desc: &Desc,
-    arguments: &[u8],
+    arguments: &'a [u8],
     question: F,
-) -> Result<Command, AllocError>
+) -> Result<Command<'a>, AllocError>
     requires { F.IsAlwaysCallable question }
     ensures command { IfOk result (λ command. MatchResult (pathed (plain_pieces desc.now) (only (words_of arguments.now))) (λ path. (asks : Question) × F.post question path asks × (command ≡ Ask asks)) (λ refusal. command ≡ Refused refusal)) }
     ensures refused { OnErr result (IsTrue (is_ok (pathed (plain_pieces desc.now) (only (words_of arguments.now))))) }
@@ -114,7 +114,7 @@ fn about_path<F: FnOnce(Path) -> Question>(
 }
 
 /// Reads the arguments of `put`. Only a valid path takes memory, so a bad integer is refused even if memory runs out.
-fn put(alloc: Global, desc: &Desc, arguments: &[u8]) -> Result<Command, AllocError>
+fn put<'a>(alloc: Global, desc: &Desc, arguments: &'a [u8]) -> Result<Command<'a>, AllocError>
     ensures command { IfOk result (λ command. command ≡ put_of (plain_pieces desc.now) (words_of arguments.now)) }
     ensures refused { OnErr result (IsTrue (is_question (put_of (plain_pieces desc.now) (words_of arguments.now)))) }
 {
@@ -150,12 +150,12 @@ fn place_and_word(arguments: &[u8]) -> Result<(u64, &[u8]), LineRefusal>
 }
 
 /// Reads the arguments `POS HEX`.
-fn place_and_bytes(arguments: &[u8]) -> Result<(u64, EditBytes), LineRefusal>
+fn place_and_bytes(arguments: &[u8]) -> Result<(u64, EditDigits<'_>), LineRefusal>
     requires { length arguments.now ≤ line_limit }
     ensures { result ≡ place_and_bytes (place_and_word (words_of arguments.now)) }
 {
     let (at, digits) = place_and_word(arguments)?;
-    match edit_bytes(digits) {
+    match edit_digits(digits) {
         Some(bytes) => Ok((at, bytes)),
         None => Err(LineRefusal::BadHex),
     }
@@ -173,10 +173,10 @@ fn place_and_count(arguments: &[u8]) -> Result<(u64, u64), LineRefusal>
 }
 
 /// The command for a place and what comes after it, or the refusal of these arguments.
-fn at_place<T: Drop, F: FnOnce(u64, T) -> Command>(
+fn at_place<'a, T: Drop, F: FnOnce(u64, T) -> Command<'a>>(
     arguments: Result<(u64, T), LineRefusal>,
     command: F,
-) -> Command
+) -> Command<'a>
     requires { F.IsAlwaysCallable command }
     ensures { MatchResult arguments (λ read. F.post command read.0 read.1 result) (λ refusal. result ≡ Refused refusal) }
 {
@@ -187,7 +187,7 @@ fn at_place<T: Drop, F: FnOnce(u64, T) -> Command>(
 }
 
 /// Shows bytes from a place on, if they aren't too many.
-fn shown(at: u64, count: u64) -> Command
+fn shown<'a>(at: u64, count: u64) -> Command<'a>
     ensures { result ≡ shown at count }
 {
     if count > SHOWN_LIMIT {
@@ -198,22 +198,22 @@ fn shown(at: u64, count: u64) -> Command
 }
 
 /// Reads the arguments of `app`.
-fn app(arguments: &[u8]) -> Command
+fn app(arguments: &[u8]) -> Command<'_>
     requires { length arguments.now ≤ line_limit }
     ensures { result ≡ app_of (only (words_of arguments.now)) }
 {
     let Some(digits) = only_word(arguments) else {
         return Command::Refused(LineRefusal::WrongArguments);
     };
-    match edit_bytes(digits) {
+    match edit_digits(digits) {
         Some(bytes) => Command::App(bytes),
         None => Command::Refused(LineRefusal::BadHex),
     }
 }
 
 /// A command that takes no arguments.
-fn without_arguments(command: Command, arguments: &[u8]) -> Command
-    ensures { result ≡ alone command (words_of arguments.now) }
+fn without_arguments<'a>(command: Command<'a>, arguments: &[u8]) -> Command<'a>
+    ensures { result ≡ alone command.entry (words_of arguments.now) }
 {
     if no_word(arguments) {
         command
@@ -223,12 +223,12 @@ fn without_arguments(command: Command, arguments: &[u8]) -> Command
 }
 
 /// Reads the arguments of the command of this name.
-fn command_with(
+fn command_with<'a>(
     alloc: Global,
     desc: &Desc,
     name: &[u8],
-    arguments: &[u8],
-) -> Result<Command, AllocError>
+    arguments: &'a [u8],
+) -> Result<Command<'a>, AllocError>
     requires { length arguments.now ≤ line_limit }
     ensures command { IfOk result (λ command. command ≡ command_named (plain_pieces desc.now) name.now (words_of arguments.now)) }
     ensures refused { OnErr result (IsTrue (is_question (command_named (plain_pieces desc.now) name.now (words_of arguments.now)))) }
@@ -265,7 +265,7 @@ fn command_with(
 }
 
 /// Reads a line, given without its LF. Only the path of a question or of a `put` takes memory.
-pub fn read_line(alloc: Global, desc: &Desc, line: &[u8]) -> Result<Command, AllocError>
+pub fn read_line<'a>(alloc: Global, desc: &Desc, line: &'a [u8]) -> Result<Command<'a>, AllocError>
     ensures command { IfOk result (λ command. command ≡ command_of (plain_pieces desc.now) line.now) }
     ensures refused { OnErr result (IsTrue (is_question (command_of (plain_pieces desc.now) line.now))) }
 {

@@ -7,7 +7,7 @@
 //!
 //! - `command_line`: the program's arguments, by `clap`
 //! - `device`: `Source` and `Sink`: what a session reads from and writes to
-//! - `digits`: the bytes of hexadecimal digits on a line
+//! - `digits`: hexadecimal digits on a line, and the bytes that they stand for
 //! - `line`: a line as it is gathered
 //! - `memory`: a device over memory
 //! - `standard`: devices over the readers and writers of std
@@ -25,6 +25,7 @@
 //!
 //! - `CommandLineLemmas`: the command with one option and two arguments, and its matches
 //! - `CutLemmas`: bytes that are cut into parts, piece by piece
+//! - `DigitLemmas`: digits that stand for bytes
 //! - `WordLemmas`: the words of a text, one after the other
 //! - `Written`: texts that are written one after the other
 #![tactic(auto)]
@@ -40,7 +41,7 @@ mod words;
 
 pub use command_line::{Args, arguments};
 pub use device::{Failed, Sink, Source, send};
-pub use digits::{EditBytes, edit_bytes};
+pub use digits::{EditBytes, EditDigits, edit_digits};
 pub use line::LineBuffer;
 pub use memory::Memory;
 pub use standard::Std;

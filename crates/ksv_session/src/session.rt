@@ -19,6 +19,7 @@ use ksv_bytes::{Buffer, Change, EditRefusal};
 use ksv_commands::{Command, Question, read_line};
 use ksv_desc::Desc;
 use ksv_expr_value::{Integer, Path};
+use ksv_lines::EditDigits;
 use ksv_memo::Engine;
 use ksv_questions::{Overwrite, answer, bytes_text, overwrite_for};
 use ksv_rule_meaning::{Described, NodeRules};
@@ -115,20 +116,20 @@ impl<N: NodeRules> Session<N> {
             Command::Refused(refusal) => Reply::Short(refused_line(refusal)),
             Command::Ask(question) => self.answered(&question),
             Command::Put(path, number) => self.put(&path, number),
-            Command::Set(at, bytes) => {
-                let outcome = self.overwrite(at as usize, bytes.as_slice());
+            Command::Set(at, digits) => {
+                let outcome = self.overwrite_digits(at as usize, &digits);
                 self.edited(outcome)
             }
-            Command::Ins(at, bytes) => {
-                let outcome = self.insert(at as usize, bytes.as_slice());
+            Command::Ins(at, digits) => {
+                let outcome = self.insert_digits(at as usize, &digits);
                 self.edited(outcome)
             }
             Command::Del(at, count) => {
                 let outcome = self.delete(at as usize, count as usize);
                 self.edited(outcome)
             }
-            Command::App(bytes) => {
-                let outcome = self.append(bytes.as_slice());
+            Command::App(digits) => {
+                let outcome = self.append_digits(&digits);
                 self.edited(outcome)
             }
             Command::Bytes(at, count) => self.shown(at, count),
@@ -239,6 +240,19 @@ impl<N: NodeRules> Session<N> {
         Ok(())
     }
 
+    /// Writes the bytes of these digits over those from a place on. It alone makes room for them.
+    #[tactic(auto, unfolding(crate::specs::Explored::description_of))]
+    fn overwrite_digits(&mut self, at: usize, digits: &EditDigits<'_>) -> Result<(), EditRefusal>
+        ensures edit { MatchResult result
+            (λ _. overwrite self.old.bytes at digits.now ≡ Ok self.new.bytes)
+            (λ refusal. (overwrite self.old.bytes at digits.now ≡ Err refusal) × (self.new ≡ self.old)) }
+        ensures kept { description_of self.new ≡ description_of self.old }
+        ensures memory { (m : Memory) → Holds self.old m → Holds self.new (after_edit (description_of self.old) self.old.bytes (changes.Overwrite at (length digits.now)) (overwrite self.old.bytes at digits.now) m) }
+    {
+        let bytes = digits.bytes();
+        self.overwrite(at, bytes.as_slice())
+    }
+
     /// Puts bytes before the byte at a place, or after the last one, and forgets what that touches.
     #[tactic(auto, unfolding(crate::specs::Explored::description_of))]
     fn insert(&mut self, at: usize, bytes: &[u8]) -> Result<(), EditRefusal>
@@ -251,6 +265,19 @@ impl<N: NodeRules> Session<N> {
         self.buffer.insert(at, bytes)?;
         self.engine.forget(Change::Insert { at, n: bytes.len() });
         Ok(())
+    }
+
+    /// Puts the bytes of these digits before the byte at a place, or after the last one.
+    #[tactic(auto, unfolding(crate::specs::Explored::description_of))]
+    fn insert_digits(&mut self, at: usize, digits: &EditDigits<'_>) -> Result<(), EditRefusal>
+        ensures done { OnOk result (insert self.old.bytes at digits.now ≡ Ok self.new.bytes) }
+        ensures unchanged { OnErr result (self.new ≡ self.old) }
+        ensures refused { IfErr result (λ refusal. IsRefusedAs refusal (insert self.old.bytes at digits.now)) }
+        ensures kept { description_of self.new ≡ description_of self.old }
+        ensures memory { (m : Memory) → Holds self.old m → OnOk result (Holds self.new (after_edit (description_of self.old) self.old.bytes (changes.Insert at (length digits.now)) (insert self.old.bytes at digits.now) m)) }
+    {
+        let bytes = digits.bytes();
+        self.insert(at, bytes.as_slice())
     }
 
     /// Removes this many bytes from a place on, and forgets what that touches.
@@ -279,6 +306,19 @@ impl<N: NodeRules> Session<N> {
         self.buffer.append(bytes)?;
         self.engine.forget(Change::Append);
         Ok(())
+    }
+
+    /// Adds the bytes of these digits at the end.
+    #[tactic(auto, unfolding(crate::specs::Explored::description_of))]
+    fn append_digits(&mut self, digits: &EditDigits<'_>) -> Result<(), EditRefusal>
+        ensures done { OnOk result (append self.old.bytes digits.now ≡ Ok self.new.bytes) }
+        ensures unchanged { OnErr result (self.new ≡ self.old) }
+        ensures refused { IfErr result (λ refusal. IsRefusedAs refusal (append self.old.bytes digits.now)) }
+        ensures kept { description_of self.new ≡ description_of self.old }
+        ensures memory { (m : Memory) → Holds self.old m → OnOk result (Holds self.new (after_edit (description_of self.old) self.old.bytes changes.Append (append self.old.bytes digits.now) m)) }
+    {
+        let bytes = digits.bytes();
+        self.append(bytes.as_slice())
     }
 
     /// The bytes from a place on, at most 4,096.
