@@ -1,4 +1,4 @@
-//! The value of an expression, by replies to its questions.
+//! The value of an expression, by who answers its wants.
 
 ghost use Rattle.std.specs.Prelude.{◌≡◌, ◌≤◌, pos, IfOk, map, length, if◌then◌else◌};
 ghost use Rattle.ksv_basics.specs.Plan.{Answer, bind};
@@ -9,11 +9,14 @@ ghost use Rattle.ksv_expr_meaning.specs.Asked.{given};
 ghost use Rattle.ksv_expr_meaning.specs.Operators.{unary_of};
 ghost use Rattle.ksv_expr_meaning.specs.Evaluation.{outcome_of, resumed, most_wants, IsDone};
 ghost use Rattle.ksv_expr_eval.specs.Runs.{Runs};
-ghost use Rattle.ksv_expr_meaning.specs.Meaning.{meaning, literal_value, is_own_stream, decides, in_truth_value, truth_value, binary_of, field_of, special_of, call_one, call_two, item_at, cast_to};
+ghost use Rattle.ksv_expr_meaning.specs.Meaning.{meaning, value_of, literal_value, is_own_stream, decides, in_truth_value, truth_value, binary_of, field_of, special_of, call_one, call_two, item_at, cast_to};
 ghost use Rattle.ksv_expr_meaning.specs.Methods.{method_named};
 
+use crate::answers::Answers;
+use crate::halt::Halt;
 use crate::method::method_of_name;
-use crate::replies::{Halt, Replies};
+use crate::replies::Replies;
+use crate::wants::{given, raise};
 use crate::{asking, forms, operators};
 use ksv_expr_meaning::{EvalStep, Got, Method};
 use ksv_expr_tree::{
@@ -31,17 +34,14 @@ fn is_own_stream(expr: &Expr) -> bool
     }
 }
 
-fn literal(replies: &Replies, literal: &Literal) -> Result<Value, Halt>
-    ensures { Runs (given (Ok (literal_value (literal_of literal.now)))) (λ v. v) replies.now replies.now result }
+fn literal(alloc: Global, literal: &Literal) -> Result<Value, AllocError>
+    ensures { IfOk result (λ v. v ≡ literal_value (literal_of literal.now)) }
 {
     Ok(match literal {
         Literal::Number(number) => Value::Int(Integer::from(*number)),
         Literal::Truth(truth) => Value::Bool(*truth),
         Literal::Text(text) => {
-            Value::Text(Text::new(
-                replies.alloc(),
-                String::from_str(replies.alloc(), text.as_str())?,
-            )?)
+            Value::Text(Text::new(alloc, String::from_str(alloc, text.as_str())?)?)
         }
     })
 }
@@ -58,217 +58,257 @@ fn decides(operator: LogicalOperator, left: bool) -> bool
 
 #[cycle(value)]
 #[tactic(auto, using(ksv_basics::proofs::Running::run_bind))]
-fn unary_expr(
-    replies: &mut Replies,
+fn unary_expr<By, A: Answers<By>>(
+    answers: &mut A,
     ctx: &Ctx,
     operator: UnaryOperator,
     operand: &Expr,
-) -> Result<Value, Halt>
-    ensures { Runs (bind (meaning ctx.now operand.now) (λ v. given (unary_of operator v))) (λ v. v) replies.old replies.new result }
+) -> Result<Value, Halt<A::Need>>
+    ensures { Runs (A.handler ctx.now) (bind (meaning ctx.now operand.now) (λ v. given (unary_of operator v))) (λ v. v) answers.old answers.new result }
 {
-    let operand = value(replies, ctx, operand)?;
-    replies.given(operators::unary(operator, &operand))
+    let operand = value(answers, ctx, operand)?;
+    given(answers, ctx, operators::unary(operator, &operand))
 }
 
 /// The left operand, the right operand, and then the operator.
 #[cycle(value)]
 #[tactic(auto, using(ksv_basics::proofs::Running::run_bind))]
-fn binary_expr(
-    replies: &mut Replies,
+fn binary_expr<By, A: Answers<By>>(
+    answers: &mut A,
     ctx: &Ctx,
     operator: BinaryOperator,
     left: &Expr,
     right: &Expr,
-) -> Result<Value, Halt>
-    ensures { Runs (bind (meaning ctx.now left.now) (λ v. bind (meaning ctx.now right.now) (λ w. binary_of operator v w))) (λ v. v) replies.old replies.new result }
+) -> Result<Value, Halt<A::Need>>
+    ensures { Runs (A.handler ctx.now) (bind (meaning ctx.now left.now) (λ v. bind (meaning ctx.now right.now) (λ w. binary_of operator v w))) (λ v. v) answers.old answers.new result }
 {
-    let left = value(replies, ctx, left)?;
-    let right = value(replies, ctx, right)?;
-    forms::binary(replies, operator, &left, &right)
+    let left = value(answers, ctx, left)?;
+    let right = value(answers, ctx, right)?;
+    forms::binary(answers, ctx, operator, &left, &right)
 }
 
 /// The truth value that an expression gives.
 #[cycle(value)]
 #[tactic(auto, using(ksv_basics::proofs::Running::run_bind))]
-fn truth_of(replies: &mut Replies, ctx: &Ctx, expr: &Expr) -> Result<bool, Halt>
-    ensures { Runs (bind (meaning ctx.now expr.now) in_truth_value) (λ b. b) replies.old replies.new result }
+fn truth_of<By, A: Answers<By>>(
+    answers: &mut A,
+    ctx: &Ctx,
+    expr: &Expr,
+) -> Result<bool, Halt<A::Need>>
+    ensures { Runs (A.handler ctx.now) (bind (meaning ctx.now expr.now) in_truth_value) (λ b. b) answers.old answers.new result }
 {
-    let value = value(replies, ctx, expr)?;
-    forms::in_truth_value(replies, &value)
+    let value = value(answers, ctx, expr)?;
+    forms::in_truth_value(answers, ctx, &value)
 }
 
 /// The result that the left operand decides, or the right operand's.
 #[cycle(value)]
 #[tactic(auto, using(ksv_basics::proofs::Running::run_bind))]
-fn logical_expr(
-    replies: &mut Replies,
+fn logical_expr<By, A: Answers<By>>(
+    answers: &mut A,
     ctx: &Ctx,
     operator: LogicalOperator,
     left: &Expr,
     right: &Expr,
-) -> Result<Value, Halt>
-    ensures { Runs (bind (bind (meaning ctx.now left.now) in_truth_value) (λ b. if decides operator b then Answer (values.Bool b) else bind (meaning ctx.now right.now) truth_value)) (λ v. v) replies.old replies.new result }
+) -> Result<Value, Halt<A::Need>>
+    ensures { Runs (A.handler ctx.now) (bind (bind (meaning ctx.now left.now) in_truth_value) (λ b. if decides operator b then Answer (values.Bool b) else bind (meaning ctx.now right.now) truth_value)) (λ v. v) answers.old answers.new result }
 {
-    let left = truth_of(replies, ctx, left)?;
+    let left = truth_of(answers, ctx, left)?;
     if decides(operator, left) {
         return Ok(Value::Bool(left));
     }
-    let right = value(replies, ctx, right)?;
-    forms::truth_value(replies, &right)
+    let right = value(answers, ctx, right)?;
+    forms::truth_value(answers, ctx, &right)
 }
 
 /// The result of one of two expressions, as a truth value says.
 #[cycle(value)]
 #[tactic(auto, using(ksv_basics::proofs::Running::run_bind))]
-fn choice_expr(
-    replies: &mut Replies,
+fn choice_expr<By, A: Answers<By>>(
+    answers: &mut A,
     ctx: &Ctx,
     condition: &Expr,
     yes: &Expr,
     no: &Expr,
-) -> Result<Value, Halt>
-    ensures { Runs (bind (bind (meaning ctx.now condition.now) in_truth_value) (λ b. if b then meaning ctx.now yes.now else meaning ctx.now no.now)) (λ v. v) replies.old replies.new result }
+) -> Result<Value, Halt<A::Need>>
+    ensures { Runs (A.handler ctx.now) (bind (bind (meaning ctx.now condition.now) in_truth_value) (λ b. if b then meaning ctx.now yes.now else meaning ctx.now no.now)) (λ v. v) answers.old answers.new result }
 {
-    if truth_of(replies, ctx, condition)? {
-        value(replies, ctx, yes)
+    if truth_of(answers, ctx, condition)? {
+        value(answers, ctx, yes)
     } else {
-        value(replies, ctx, no)
+        value(answers, ctx, no)
     }
 }
 
 #[cycle(value)]
 #[tactic(auto, using(ksv_basics::proofs::Running::run_bind))]
-fn field_expr(replies: &mut Replies, ctx: &Ctx, object: &Expr, name: &Name) -> Result<Value, Halt>
-    ensures { Runs (bind (meaning ctx.now object.now) (λ v. field_of ctx.now (is_own_stream (view object.now)) v (name_of name.now))) (λ v. v) replies.old replies.new result }
+fn field_expr<By, A: Answers<By>>(
+    answers: &mut A,
+    ctx: &Ctx,
+    object: &Expr,
+    name: &Name,
+) -> Result<Value, Halt<A::Need>>
+    ensures { Runs (A.handler ctx.now) (bind (meaning ctx.now object.now) (λ v. field_of ctx.now (is_own_stream (view object.now)) v (name_of name.now))) (λ v. v) answers.old answers.new result }
 {
     let own = is_own_stream(object);
-    let object = value(replies, ctx, object)?;
-    forms::field(replies, ctx, own, &object, name)
+    let object = value(answers, ctx, object)?;
+    forms::field(answers, ctx, own, &object, name)
 }
 
 #[cycle(value)]
 #[tactic(auto, using(ksv_basics::proofs::Running::run_bind))]
-fn special_field_expr(
-    replies: &mut Replies,
+fn special_field_expr<By, A: Answers<By>>(
+    answers: &mut A,
     ctx: &Ctx,
     object: &Expr,
     name: SpecialName,
-) -> Result<Value, Halt>
-    ensures { Runs (bind (meaning ctx.now object.now) (λ v. special_of v name)) (λ v. v) replies.old replies.new result }
+) -> Result<Value, Halt<A::Need>>
+    ensures { Runs (A.handler ctx.now) (bind (meaning ctx.now object.now) (λ v. special_of v name)) (λ v. v) answers.old answers.new result }
 {
-    let object = value(replies, ctx, object)?;
-    forms::special_field(replies, &object, name)
+    let object = value(answers, ctx, object)?;
+    forms::special_field(answers, ctx, &object, name)
 }
 
 /// The value before a method, its one argument, and then the method.
 #[cycle(value)]
 #[tactic(auto, using(ksv_basics::proofs::Running::run_bind))]
-fn call_with_one(
-    replies: &mut Replies,
+fn call_with_one<By, A: Answers<By>>(
+    answers: &mut A,
     ctx: &Ctx,
     object: &Expr,
     method: &str,
     argument: &Expr,
-) -> Result<Value, Halt>
-    ensures { Runs (bind (meaning ctx.now object.now) (λ v. bind (meaning ctx.now argument.now) (λ w. call_one v (method_named method.now) w))) (λ v. v) replies.old replies.new result }
+) -> Result<Value, Halt<A::Need>>
+    ensures { Runs (A.handler ctx.now) (bind (meaning ctx.now object.now) (λ v. bind (meaning ctx.now argument.now) (λ w. call_one v (method_named method.now) w))) (λ v. v) answers.old answers.new result }
 {
-    let object = value(replies, ctx, object)?;
-    let argument = value(replies, ctx, argument)?;
-    forms::call_one(replies, &object, method_of_name(method), &argument)
+    let object = value(answers, ctx, object)?;
+    let argument = value(answers, ctx, argument)?;
+    forms::call_one(answers, ctx, &object, method_of_name(method), &argument)
 }
 
 /// Two arguments, and then the method.
 #[cycle(value)]
 #[tactic(auto, using(ksv_basics::proofs::Running::run_bind))]
-fn call_behind(
-    replies: &mut Replies,
+fn call_behind<By, A: Answers<By>>(
+    answers: &mut A,
     ctx: &Ctx,
     object: &Value,
     method: &str,
     first: &Expr,
     second: &Expr,
-) -> Result<Value, Halt>
-    ensures { Runs (bind (meaning ctx.now first.now) (λ w. bind (meaning ctx.now second.now) (λ u. call_two object.now (method_named method.now) w u))) (λ v. v) replies.old replies.new result }
+) -> Result<Value, Halt<A::Need>>
+    ensures { Runs (A.handler ctx.now) (bind (meaning ctx.now first.now) (λ w. bind (meaning ctx.now second.now) (λ u. call_two object.now (method_named method.now) w u))) (λ v. v) answers.old answers.new result }
 {
-    let first = value(replies, ctx, first)?;
-    let second = value(replies, ctx, second)?;
-    forms::call_two(replies, object, method_of_name(method), &first, &second)
+    let first = value(answers, ctx, first)?;
+    let second = value(answers, ctx, second)?;
+    forms::call_two(
+        answers,
+        ctx,
+        object,
+        method_of_name(method),
+        &first,
+        &second,
+    )
 }
 
 /// The value before a method, its two arguments, and then the method.
 #[cycle(value)]
 #[tactic(auto, using(ksv_basics::proofs::Running::run_bind))]
-fn call_with_two(
-    replies: &mut Replies,
+fn call_with_two<By, A: Answers<By>>(
+    answers: &mut A,
     ctx: &Ctx,
     object: &Expr,
     method: &str,
     first: &Expr,
     second: &Expr,
-) -> Result<Value, Halt>
-    ensures { Runs (bind (meaning ctx.now object.now) (λ v. bind (meaning ctx.now first.now) (λ w. bind (meaning ctx.now second.now) (λ u. call_two v (method_named method.now) w u)))) (λ v. v) replies.old replies.new result }
+) -> Result<Value, Halt<A::Need>>
+    ensures { Runs (A.handler ctx.now) (bind (meaning ctx.now object.now) (λ v. bind (meaning ctx.now first.now) (λ w. bind (meaning ctx.now second.now) (λ u. call_two v (method_named method.now) w u)))) (λ v. v) answers.old answers.new result }
 {
-    let object = value(replies, ctx, object)?;
-    call_behind(replies, ctx, &object, method, first, second)
+    let object = value(answers, ctx, object)?;
+    call_behind(answers, ctx, &object, method, first, second)
 }
 
 /// The list, the index, and then the item there.
 #[cycle(value)]
 #[tactic(auto, using(ksv_basics::proofs::Running::run_bind))]
-fn index_expr(replies: &mut Replies, ctx: &Ctx, list: &Expr, place: &Expr) -> Result<Value, Halt>
-    ensures { Runs (bind (meaning ctx.now list.now) (λ v. bind (meaning ctx.now place.now) (λ w. item_at v w))) (λ v. v) replies.old replies.new result }
+fn index_expr<By, A: Answers<By>>(
+    answers: &mut A,
+    ctx: &Ctx,
+    list: &Expr,
+    place: &Expr,
+) -> Result<Value, Halt<A::Need>>
+    ensures { Runs (A.handler ctx.now) (bind (meaning ctx.now list.now) (λ v. bind (meaning ctx.now place.now) (λ w. item_at v w))) (λ v. v) answers.old answers.new result }
 {
-    let list = value(replies, ctx, list)?;
-    let place = value(replies, ctx, place)?;
-    forms::item_at(replies, &list, &place)
+    let list = value(answers, ctx, list)?;
+    let place = value(answers, ctx, place)?;
+    forms::item_at(answers, ctx, &list, &place)
 }
 
 #[cycle(value)]
 #[tactic(auto, using(ksv_basics::proofs::Running::run_bind))]
-fn cast_expr(
-    replies: &mut Replies,
+fn cast_expr<By, A: Answers<By>>(
+    answers: &mut A,
     ctx: &Ctx,
     object: &Expr,
     type_name: &TypeName,
-) -> Result<Value, Halt>
-    ensures { Runs (bind (meaning ctx.now object.now) (λ v. cast_to v type_name.now.number)) (λ v. v) replies.old replies.new result }
+) -> Result<Value, Halt<A::Need>>
+    ensures { Runs (A.handler ctx.now) (bind (meaning ctx.now object.now) (λ v. cast_to v type_name.now.number)) (λ v. v) answers.old answers.new result }
 {
-    let object = value(replies, ctx, object)?;
-    forms::cast_to(replies, &object, type_name.number)
+    let object = value(answers, ctx, object)?;
+    forms::cast_to(answers, ctx, &object, type_name.number)
 }
 
 #[cycle(value)]
-fn value(replies: &mut Replies, ctx: &Ctx, expr: &Expr) -> Result<Value, Halt>
-    ensures { Runs (meaning ctx.now expr.now) (λ v. v) replies.old replies.new result }
+fn value<By, A: Answers<By>>(
+    answers: &mut A,
+    ctx: &Ctx,
+    expr: &Expr,
+) -> Result<Value, Halt<A::Need>>
+    ensures { Runs (A.handler ctx.now) (meaning ctx.now expr.now) (λ v. v) answers.old answers.new result }
 {
     match expr {
-        Expr::Literal(constant) => literal(replies, constant),
-        Expr::Name(name) => asking::member_value(replies, ctx.home, name.number),
-        Expr::Special(name) => asking::special_value(replies, ctx, *name),
-        Expr::Member(member) => asking::enum_member(replies, member.given),
-        Expr::Unary(operator, operand) => unary_expr(replies, ctx, *operator, operand),
-        Expr::Binary(operator, left, right) => binary_expr(replies, ctx, *operator, left, right),
-        Expr::Logical(operator, left, right) => logical_expr(replies, ctx, *operator, left, right),
-        Expr::Choice(condition, yes, no) => choice_expr(replies, ctx, condition, yes, no),
-        Expr::Field(object, name) => field_expr(replies, ctx, object, name),
-        Expr::SpecialField(object, name) => special_field_expr(replies, ctx, object, *name),
+        Expr::Literal(constant) => Ok(literal(answers.alloc(), constant)?),
+        Expr::Name(name) => asking::member_value(answers, ctx, ctx.home, name.number),
+        Expr::Special(name) => asking::special_value(answers, ctx, *name),
+        Expr::Member(member) => asking::enum_member(answers, ctx, member.given),
+        Expr::Unary(operator, operand) => unary_expr(answers, ctx, *operator, operand),
+        Expr::Binary(operator, left, right) => binary_expr(answers, ctx, *operator, left, right),
+        Expr::Logical(operator, left, right) => logical_expr(answers, ctx, *operator, left, right),
+        Expr::Choice(condition, yes, no) => choice_expr(answers, ctx, condition, yes, no),
+        Expr::Field(object, name) => field_expr(answers, ctx, object, name),
+        Expr::SpecialField(object, name) => special_field_expr(answers, ctx, object, *name),
         Expr::Call(object, method, arguments) => match arguments.as_slice() {
-            [] => replies.raise(FaultKind::BadType),
-            [argument] => call_with_one(replies, ctx, object, method.as_str(), argument),
-            [first, second] => call_with_two(replies, ctx, object, method.as_str(), first, second),
-            _ => replies.raise(FaultKind::BadType),
+            [] => raise(answers, ctx, FaultKind::BadType),
+            [argument] => call_with_one(answers, ctx, object, method.as_str(), argument),
+            [first, second] => call_with_two(answers, ctx, object, method.as_str(), first, second),
+            _ => raise(answers, ctx, FaultKind::BadType),
         },
-        Expr::Index(list, place) => index_expr(replies, ctx, list, place),
-        Expr::Cast(object, type_name) => cast_expr(replies, ctx, object, type_name),
+        Expr::Index(list, place) => index_expr(answers, ctx, list, place),
+        Expr::Cast(object, type_name) => cast_expr(answers, ctx, object, type_name),
     }
 }
 
+/// The value of an expression in its context, by who answers: each of its parts is evaluated once, and each want is asked as it
+/// comes. An answer that is a fault ends the expression with that fault.
+///
+/// What it returned, asked and did to who answers is what running the expression's plan gives. [`Answers`] says how each
+/// want is answered.
 #[tactic(auto, unfolding(ksv_expr_meaning::specs::Meaning::meaning))]
+pub fn evaluate<By, A: Answers<By>>(
+    answers: &mut A,
+    ctx: &Ctx,
+    expr: &Expr,
+) -> Result<Value, Halt<A::Need>>
+    ensures { Runs (A.handler ctx.now) (value_of ctx.now (view expr.now)) (λ v. v) answers.old answers.new result }
+{
+    value(answers, ctx, expr)
+}
+
 fn outcome(alloc: Global, expr: &Expr, ctx: &Ctx, replies: &[Got]) -> Result<EvalStep, AllocError>
     ensures { IfOk result (λ outcome. outcome ≡ outcome_of (resumed ctx.now (view expr.now) (map heard replies.now))) }
 {
     let mut replies = Replies::new(alloc, ctx.here, replies);
-    match value(&mut replies, ctx, expr) {
+    match evaluate(&mut replies, ctx, expr) {
         Ok(value) => Ok(EvalStep::Done(Ok(value))),
         Err(Halt::Need(want)) => Ok(EvalStep::Need(want)),
         Err(Halt::Fault(fault)) => Ok(EvalStep::Done(Err(fault))),

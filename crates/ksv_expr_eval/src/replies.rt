@@ -1,47 +1,20 @@
-//! The replies to an expression's questions, in order.
-ghost use Rattle.std.specs.Prelude.{◌≡◌, map, IfErr, IsErr, ◌++◌};
+//! Replies that answer the wants of an expression, in order.
+
+ghost use Rattle.std.specs.Prelude.{◌≡◌, map};
 ghost use Rattle.ksv_expr_value.specs.Bytes.{content};
+ghost use Rattle.ksv_expr_meaning.specs.Asked.{want_for};
 ghost use Rattle.ksv_expr_meaning.specs.Heard.{heard};
-ghost use Rattle.ksv_expr_eval.specs.Runs.{RepliesWith, IsFault, Runs};
-ghost use Rattle.ksv_expr_meaning.specs.Asked.{raise, given, value_for, opened_for, number_for, truth_for, bytes_for};
+ghost use Rattle.ksv_expr_meaning.specs.Replying.{replying};
+ghost use Rattle.ksv_expr_eval.specs.Runs.{Runs};
+ghost use Rattle.ksv_expr_eval.specs.Said.{said, Tells};
 
+use crate::answer::Answer;
+use crate::answers::Answers;
+use crate::halt::Halt;
 use ksv_expr_meaning::{Got, Opened, Want};
-use ksv_expr_value::{Fault, FaultKind, Parts, Path, Stream, Value};
-use std::alloc::{AllocError, AllocFailed, Global};
+use ksv_expr_value::{Ctx, Fault, FaultKind, Parts, Path};
+use std::alloc::{AllocError, Global};
 use std::marker::Model;
-
-/// Why an evaluation stops before its end.
-#[derive(Drop)]
-pub(crate) enum Halt {
-    /// A question has no reply.
-    Need(Want),
-    /// A fault.
-    Fault(Fault),
-    /// Memory was refused.
-    Memory,
-}
-
-impl From<AllocError> for Halt {
-    ghost use Rattle.std.specs.Prelude.{◌≡◌};
-    ghost use Rattle.ksv_expr_eval.specs.declared.replies.Halt.TheVariants.{Memory};
-
-    ghost from_gives = { λ _ e. e ≡ Memory };
-
-    fn from(_e: AllocError) -> Halt {
-        Halt::Memory
-    }
-}
-
-impl<T: Drop> From<AllocFailed<T>> for Halt {
-    ghost use Rattle.std.specs.Prelude.{◌≡◌};
-    ghost use Rattle.ksv_expr_eval.specs.declared.replies.Halt.TheVariants.{Memory};
-
-    ghost from_gives = { λ _ e. e ≡ Memory };
-
-    fn from(_e: AllocFailed<T>) -> Halt {
-        Halt::Memory
-    }
-}
 
 /// The replies that are left.
 #[derive(Drop)]
@@ -77,111 +50,71 @@ impl<'a> Replies<'a> {
         }
     }
 
-    /// The allocator.
-    pub(crate) fn alloc(&self) -> Global {
-        self.alloc
-    }
-
-    fn reply(&mut self, want: Want) -> Result<&'a Got<'a>, Halt>
-        ensures { RepliesWith want self.old self.new result }
+    /// The next reply, to whatever is wanted. One that is a fault ends the expression.
+    fn next(&mut self, want: Want) -> Result<Answer<Parts<'a>>, Halt<Want>>
+        ensures { Runs replying (want_for want) (said content) self.old self.new result }
     {
         match self.replies.get(self.at) {
             None => Err(Halt::Need(want)),
             Some(reply) => {
                 self.at += 1;
-                Ok(reply)
+                answer_of(self.alloc, reply)
             }
         }
     }
+}
 
-    fn fault<X>(&self, fault: &Fault) -> Result<X, Halt>
-        ensures fault { IfErr result (λ e. IsFault fault.now e) }
-        ensures err { IsErr result }
-    {
-        Err(Halt::Fault(fault.copy(self.alloc)?))
+/// What a reply answers.
+fn answer_of<'a>(alloc: Global, reply: &Got<'a>) -> Result<Answer<Parts<'a>>, Halt<Want>>
+    ensures { Tells content (heard reply.now) result }
+{
+    match reply {
+        Got::Value(value) => Ok(Answer::Value(value.copy(alloc)?)),
+        Got::Object {
+            type_number,
+            stream,
+        } => Ok(Answer::Object(Opened {
+            type_number: *type_number,
+            stream: *stream,
+        })),
+        Got::Number(number) => Ok(Answer::Number(*number)),
+        Got::Truth(truth) => Ok(Answer::Truth(*truth)),
+        Got::Slices(front, back) => Ok(Answer::Bytes(Parts { front, back })),
+        Got::Fault(fault) => Err(Halt::Fault(fault.copy(alloc)?)),
+    }
+}
+
+/// Replies answer in their order.
+pub(crate) struct InOrder;
+
+impl<'a> Answers<InOrder> for Replies<'a> {
+    ghost use Rattle.ksv_expr_value.specs.Bytes.{content};
+    ghost use Rattle.ksv_expr_meaning.specs.Replying.{replying};
+
+    type Need = Want;
+
+    type Bytes = Parts<'a>;
+
+    ghost handler = { λ _. replying };
+
+    ghost bytes = { content };
+
+    fn alloc(&self) -> Global {
+        self.alloc
     }
 
-    /// A fault at the path of faults.
-    pub(crate) fn raise<X>(&self, kind: FaultKind) -> Result<X, Halt>
-        ensures { Runs (raise kind) (λ x. x) self.now self.now result }
-    {
-        Err(Halt::Fault(Fault {
+    fn parts<'s>(lent: &'s Parts<'a>) -> Parts<'s> {
+        *lent
+    }
+
+    fn own_fault(&self, _ctx: &Ctx, kind: FaultKind) -> Result<Fault, AllocError> {
+        Ok(Fault {
             kind,
             path: self.here.copy(self.alloc)?,
-        }))
+        })
     }
 
-    /// A result that took no question.
-    pub(crate) fn given(&self, answer: Result<Value, FaultKind>) -> Result<Value, Halt>
-        ensures { Runs (given answer) (λ v. v) self.now self.now result }
-    {
-        match answer {
-            Ok(value) => Ok(value),
-            Err(kind) => self.raise(kind),
-        }
-    }
-
-    /// The answer to a question, a value.
-    pub(crate) fn value(&mut self, want: Want) -> Result<&'a Value, Halt>
-        ensures { Runs (value_for want) (λ v. v.now) self.old self.new result }
-    {
-        match self.reply(want)? {
-            Got::Value(value) => Ok(value),
-            Got::Fault(fault) => self.fault(fault),
-            _ => self.raise(FaultKind::BadType),
-        }
-    }
-
-    /// The answer to a question, an object's type and stream.
-    pub(crate) fn opened(&mut self, want: Want) -> Result<Opened, Halt>
-        ensures { Runs (opened_for want) (λ o. o) self.old self.new result }
-    {
-        match self.reply(want)? {
-            Got::Object {
-                type_number,
-                stream,
-            } => Ok(Opened {
-                type_number: *type_number,
-                stream: *stream,
-            }),
-            Got::Fault(fault) => self.fault(fault),
-            _ => self.raise(FaultKind::BadType),
-        }
-    }
-
-    /// The answer to a question, a count.
-    pub(crate) fn number(&mut self, want: Want) -> Result<u64, Halt>
-        ensures { Runs (number_for want) (λ n. n) self.old self.new result }
-    {
-        match self.reply(want)? {
-            Got::Number(number) => Ok(*number),
-            Got::Fault(fault) => self.fault(fault),
-            _ => self.raise(FaultKind::BadType),
-        }
-    }
-
-    /// The answer to a question, a truth value.
-    pub(crate) fn truth(&mut self, want: Want) -> Result<bool, Halt>
-        ensures { Runs (truth_for want) (λ b. b) self.old self.new result }
-    {
-        match self.reply(want)? {
-            Got::Truth(truth) => Ok(*truth),
-            Got::Fault(fault) => self.fault(fault),
-            _ => self.raise(FaultKind::BadType),
-        }
-    }
-
-    /// The answer to a question, bytes cut in two.
-    pub(crate) fn bytes(&mut self, want: Want) -> Result<Parts<'a>, Halt>
-        ensures { Runs (bytes_for want) content self.old self.new result }
-    {
-        let reply = self.reply(want)?;
-        if let Got::Slices(front, back) = reply {
-            return Ok(Parts { front, back });
-        }
-        if let Got::Fault(fault) = reply {
-            return self.fault(fault);
-        }
-        self.raise(FaultKind::BadType)
+    fn answer(&mut self, _ctx: &Ctx, want: Want) -> Result<Answer<Parts<'a>>, Halt<Want>> {
+        self.next(want)
     }
 }

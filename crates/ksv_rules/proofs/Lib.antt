@@ -1,6 +1,6 @@
 -- The lemmas of this crate.
 -- The lemmas of this crate.
-pub mod Evaluating
+pub mod Meeting
 pub mod Parameters
 pub mod Naming
 pub mod Peeked

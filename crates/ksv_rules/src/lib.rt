@@ -6,11 +6,12 @@
 //!
 //! Modules:
 //!
+//! - `answers`: a turn answers the wants of expressions
 //! - `calculated`: the values of value instances and parameters
 //! - `checks`: what a value must meet
 //! - `choosing`: the case that a switch chooses
 //! - `ends`: where something ends, and how a list goes on to its last element
-//! - `evaluation`: the value of an expression in a rule: `eval` with one more answer each time
+//! - `evaluation`: the value of an expression in a rule, whose wants the turn answers
 //! - `fields`: the members of types
 //! - `heads`: what is at a path, and where
 //! - `integer`: integers of the file's bytes
@@ -25,18 +26,19 @@
 //!
 //! - `Code`: words of private contracts
 //! - `Members`: the plain data of a member and of a case that the code has found
-//! - `Told`: the plain data of an answer to a want
+//! - `Met`: how a turn meets the wants of an expression
 //!
 //! Lemmas (`proofs/`):
 //!
 //! - `Arguments`: an argument by its number
 //! - `Conditions`: conditions that are evaluated one after another
-//! - `Evaluating`: an expression whose wants are answered one after another
+//! - `Meeting`: an expression in a rule runs as its plan does where the turn answers
 //! - `Naming`: an expression that is one name asks for that member
 //! - `Parameters`: how many parameters are among the first members
 //! - `Peeked`: how many bytes a reading of a range gives
 #![tactic(auto)]
 
+mod answers;
 mod calculated;
 mod checks;
 mod choosing;
