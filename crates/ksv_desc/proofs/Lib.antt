@@ -4,3 +4,5 @@ pub mod Views
 pub mod Dots
 pub mod Table
 pub mod Tabled
+pub mod Firsts
+pub mod Numbered

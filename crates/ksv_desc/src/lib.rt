@@ -30,6 +30,8 @@
 //! Lemmas (`proofs/`):
 //!
 //! - `Dots`: the names after the dots of an expression, form by form
+//! - `Firsts`: tables of the places of first elements, made from the last element on
+//! - `Numbered`: the entries of an enum by their numbers
 //! - `Readers`: what the readers of a description return
 //! - `Table`: the table of names as the code holds it
 //! - `Tabled`: names that were added to a table are there, each once

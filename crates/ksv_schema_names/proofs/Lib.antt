@@ -1,6 +1,7 @@
 -- Lemmas.
 -- Lemmas by subject.
 pub mod Weight
+pub mod Placed
 pub mod Lookup
 pub mod Noted
 pub mod Forms

@@ -6,6 +6,7 @@ pub mod Members
 pub mod Enums
 pub mod Table
 pub mod View
+pub mod Placed
 pub mod BuiltIn
 pub mod Names
 pub mod Code

@@ -17,8 +17,8 @@ declared y = declared_in (view y)
 
 -- its rows are what the tree declares; a type's or an enum's number is below 2^32
 pub record IsTable (s : Inside) : Type 0 where
-  pub types : map row_of s.types.items ≡ (declared s.tree.now).types
+  pub types : map row_of s.types ≡ (declared s.tree.now).types
   pub members : map (λ v. map member_of v.items) s.members.items ≡ map members_of (declared s.tree.now).types
-  pub enums : map row_of s.enums.items ≡ (declared s.tree.now).enums
-  pub few_types : length s.types.items ≤ 2 ^ 32
-  pub few_enums : length s.enums.items ≤ 2 ^ 32
+  pub enums : map row_of s.enums ≡ (declared s.tree.now).enums
+  pub few_types : length s.types ≤ 2 ^ 32
+  pub few_enums : length s.enums ≤ 2 ^ 32

@@ -28,6 +28,7 @@
 //! - `Members`: the members of each type, in the order of the text
 //! - `Names`: what is wrong with the names of an expression at its place
 //! - `Numbered`: an expression with the numbers of its names
+//! - `Placed`: the places of rows, by the type that each is in and its name
 //! - `Resolved`: laws: the least fault, and expressions whose names are resolved
 //! - `Rows`: types and enums as rows, and the rows that a tree declares
 //! - `Table`: what the table of a tree holds
@@ -41,6 +42,7 @@
 //! - `Lookup`: lookup of names
 //! - `Noted`: the least fault, part after part
 //! - `Numbers`: the numbers of an expression are those of its parts
+//! - `Placed`: the table of the places of rows
 //! - `Resolving`: in an expression without faults each numbered name leads somewhere
 //! - `Weight`: the types in a type are smaller than it
 #![tactic(auto)]

@@ -12,7 +12,7 @@ use crate::entries::{id_in, number_in};
 use crate::members::{Member, count_parameters, first_named, members_at, members_of_each};
 use crate::outwards::{Sought, enum_named, keys_at, nearest, order_in, setting, type_named};
 use crate::row::Row;
-use crate::rows::{enums_of, types_of};
+use crate::rows::{Rows, enums_of, types_of};
 use ksv_desc::ByteOrder;
 use ksv_yaml_tree::{Entry, Yaml};
 use std::alloc::{AllocError, Global};
@@ -38,9 +38,9 @@ fn numbered(place: Option<usize>) -> Option<u32>
 #[derive(Drop)]
 pub struct Scopes<'a> {
     tree: &'a Yaml,
-    types: Vec<Row<'a>>,
+    types: Rows<'a>,
     members: Vec<Vec<Member<'a>>>,
-    enums: Vec<Row<'a>>,
+    enums: Rows<'a>,
 }
 
 impl<'a> Model for Scopes<'a> {
@@ -64,10 +64,10 @@ impl<'a> Scopes<'a> {
     pub fn new(alloc: Global, tree: &'a Yaml) -> Result<Self, AllocError>
         ensures { IfOk result (λ s. s ≡ tree.now) }
     {
-        let types = types_of(alloc, tree)?;
-        let members = members_of_each(alloc, &types)?;
-        let enums = enums_of(alloc, &types)?;
-        if types.len() > LIMIT || enums.len() > LIMIT {
+        let types = Rows::new(alloc, types_of(alloc, tree)?)?;
+        let members = members_of_each(alloc, types.as_slice())?;
+        let enums = Rows::new(alloc, enums_of(alloc, types.as_slice())?)?;
+        if types.as_slice().len() > LIMIT || enums.as_slice().len() > LIMIT {
             return Err(AllocError);
         }
         Ok(Scopes {

@@ -225,7 +225,7 @@ fn enumeration(reader: &mut Reader, row: &Row) -> Read<EnumDesc>
     let has_entries = row.value.entries().is_some();
     note_if(&mut reader.least, !has_entries, row.line, BadValue);
     match both(id, constants(reader, row.entries()))? {
-        Some((id, entries)) => Ok(Some(EnumDesc { id, entries })),
+        Some((id, entries)) => Ok(Some(EnumDesc::new(reader.alloc, id, entries)?)),
         None => Ok(None),
     }
 }
