@@ -90,14 +90,14 @@ impl<N: NodeRules> Rules for Described<N> {
         uses: &mut Vec<Use>,
     ) -> Result<Next<Node, Answer>, AllocError> {
         let mut turn = Turn::new(alloc, &node.path, bytes, replies);
-        let next = match N::rule(&mut turn, &self.desc, node) {
-            Ok(given) => Next::Done(Ok(given)),
-            Err(Halt::Need(needed)) => Next::Need(needed),
-            Err(Halt::Fault(fault)) => Next::Done(Err(fault)),
-            Err(Halt::Memory) => return Err(AllocError),
-        };
+        let ruled = N::rule(&mut turn, &self.desc, node);
         add_uses(uses, turn.uses())?;
-        Ok(next)
+        match ruled {
+            Ok(given) => Ok(Next::Done(Ok(given))),
+            Err(Halt::Need(needed)) => Ok(Next::Need(needed)),
+            Err(Halt::Fault(fault)) => Ok(Next::Done(Err(fault))),
+            Err(Halt::Memory) => Err(AllocError),
+        }
     }
 
     fn copy_answer(

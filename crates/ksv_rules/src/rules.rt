@@ -19,8 +19,14 @@ fn rule(turn: &mut Turn, desc: &Desc, node: &Node) -> Result<Given, Halt>
 {
     let path = &node.path;
     match node.kind {
-        NodeKind::Head => Ok(Given::Head(head_of(turn, desc, path)?)),
-        NodeKind::Value => Ok(Given::Value(value_of(turn, desc, path)?)),
+        NodeKind::Head => match head_of(turn, desc, path) {
+            Ok(head) => Ok(Given::Head(head)),
+            Err(halt) => Err(halt),
+        },
+        NodeKind::Value => match value_of(turn, desc, path) {
+            Ok(value) => Ok(Given::Value(value)),
+            Err(halt) => Err(halt),
+        },
         NodeKind::End => {
             let end = end_of(turn, desc, path)?;
             Ok(Given::End {
