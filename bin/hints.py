@@ -14,8 +14,8 @@ import threading
 import time
 from dataclasses import dataclass
 
-# How much of a line is shown.
-WIDTH = 160
+# How much of a line is shown, and how long a line may be in which a missing key is looked for.
+WIDTH, LONGEST = 160, 2000
 
 
 @dataclass(frozen=True)
@@ -149,7 +149,9 @@ def mappings(lines, number):
 
 
 def lacking(lines, number):
-    """Which key a mapping that begins at a line lacks; None where that can't be told."""
+    """Which key a mapping that begins at a line lacks; None where that can't be told, as of a very long line."""
+    if len(lines[number - 1]) > LONGEST:
+        return None
     for key, found in mappings(lines, number):
         what = lacked(key, found)
         if what:
