@@ -101,16 +101,37 @@ def add_document(data, at, path, told):
     values[f"{path}/len_document"], places[f"{path}/len_document"], places[path] = size, (at, at + 4), (at, at + size)
     place, number, stop = at + 4, 0, at + size - 1
     while place < stop:
-        element, end = f"{path}/elements/list/{number}", data.index(b"\0", place + 1)
-        values.update({f"{element}/kind": f"kind::{KINDS.get(data[place], '?')} ({data[place]})", f"{element}/name": '"' + data[place + 1 : end].decode() + '"'})
-        add_value(data, data[place], end + 1, element, told)
-        finish = end + 1 + width(data, data[place], end + 1)
+        element = f"{path}/elements/list/{number}"
+        try:
+            finish = add_element(data, place, stop, element, told)
+        except (Broken, ValueError, IndexError, struct.error) as why:
+            raise Broken(str(why) if str(why).startswith("/") else f"{element}: {reason(why)}") from None
         places[element], place, number = (place, finish), finish, number + 1
     values[f"{path}/elements/list"] = f"[{number}]"
     if data[stop]:
         values[f"{path}/end"] = f"fault contents at {path}/end"
-        raise Broken(f"no zero at {stop}")
+        raise Broken(f"{path}/end: no zero at {stop}")
     values[f"{path}/end"] = "hex 00"
+
+
+def add_element(data, place, stop, path, told):
+    """What is told of an element of a document whose end is known; where it ends."""
+    end = data.index(b"\0", place + 1)
+    finish = end + 1 + width(data, data[place], end + 1)
+    if not place < finish <= stop:
+        raise Broken(f"it ends at {finish}, and its document at {stop}")
+    told[0].update({f"{path}/kind": f"kind::{KINDS.get(data[place], '?')} ({data[place]})", f"{path}/name": '"' + data[place + 1 : end].decode() + '"'})
+    add_value(data, data[place], end + 1, path, told)
+    if data[place] == 2 and data[finish - 1]:
+        raise Broken(f"no zero behind its text, at {finish - 1}")
+    return finish
+
+
+def reason(why):
+    """Why an element can't be read, in words."""
+    if isinstance(why, UnicodeDecodeError):
+        return f"byte {why.start} of its text, {why.object[why.start]}, isn't UTF-8"
+    return str(why) if isinstance(why, Broken) else "its name has no end" if isinstance(why, ValueError) else "the file ends in it"
 
 
 def read(data):
@@ -124,13 +145,14 @@ def read(data):
 
 
 def check(data):
-    """What is wrong with the document."""
+    """What is wrong with the document: its length, and the first element that can't be read."""
+    size = int.from_bytes(data[:4], "little", signed=True)
+    wrong = [] if size == len(data) else [f"the document has {size} bytes, and the file {len(data)}"]
     try:
         add_document(data, 0, "/document", ({}, {}))
-    except (Broken, ValueError, IndexError, struct.error) as why:
-        return [str(why)]
-    size = struct.unpack_from("<i", data, 0)[0]
-    return [] if size == len(data) else [f"the document has {size} bytes, and the file {len(data)}"]
+    except (Broken, IndexError, struct.error) as why:
+        wrong.append(str(why) if isinstance(why, Broken) else f"/document: {reason(why)}")
+    return wrong
 
 
 def done(data):

@@ -5,6 +5,7 @@ get /fats
 get /root/entries/1/full_name
 get /root/entries/1/year
 get /root/entries/3/is_directory
+get /root/entries/3/has_end
 get /root/entries/3/directory/entries/2/full_name
 get /root/entries/3/directory/entries/2/chain/0/text
 ls /root/entries/1

@@ -144,6 +144,7 @@ types:
       has_end:
         doc: Whether the last cluster that the length asks for is the last of the chain.
         value: _root.fats[0].next[chain.last.cluster] >= 0xfff8
+        if: num_clusters > 0
       directory:
         io: _root._io
         pos: _root.ofs_clusters + (first_cluster - 2) * _root.len_cluster

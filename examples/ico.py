@@ -89,17 +89,30 @@ def png_wrong(image):
 
 def check(data):
     """What is wrong with the icon: an image that isn't behind the one before, or isn't as its entry says, or is no whole PNG."""
-    found, wrong, end, values = list(entries(data)), [], 0, read(data)[0]
+    if data[:4] not in (b"\0\0\1\0", b"\0\0\2\0"):
+        return ["it doesn't begin as an icon"]
+    if len(data) < 6 + 16 * int.from_bytes(data[4:6], "little"):
+        return ["the file ends in its entries"]
+    found, wrong, end = list(entries(data)), [], 0
     for number, (_, fields) in enumerate(found):
         start, size = fields["ofs_image"], fields["len_image"]
         if start != (end or 6 + 16 * len(found)):
             wrong.append(f"image {number} begins at {start}, and should at {end or 6 + 16 * len(found)}")
-        elif values.get(f"/entries/{number}/is_right") != "true":
-            wrong.append(f"image {number} isn't as its entry says")
-        elif values[f"/entries/{number}/mark"] != 40:
-            wrong += png_wrong(data[start : start + size])
+        else:
+            wrong += image_wrong(data, number, data[start : start + size])
         end = start + size
     return wrong if end == len(data) else [*wrong, f"the last image ends at {end}, and the file at {len(data)}"]
+
+
+def image_wrong(data, number, image):
+    """What is wrong with an image that is where it should be."""
+    try:
+        values = read(data)[0]
+        if values.get(f"/entries/{number}/is_right") != "true":
+            return [f"image {number} isn't as its entry says"]
+        return png_wrong(image) if values[f"/entries/{number}/mark"] != 40 else []
+    except (IndexError, struct.error, zlib.error):
+        return [f"image {number} can't be read: a size in it isn't right"]
 
 
 def done(data):

@@ -136,8 +136,12 @@ def main(read, order="little", **does):
     elif what == "make" and what in does:
         sys.stdout.buffer.write(does[what]())
     elif what in ("check", "done") and what in does and len(names) == 1:
-        with open(names[0], "rb") as file:
-            wrong = does[what](file.read())
+        try:
+            with open(names[0], "rb") as file:
+                data = file.read()
+        except OSError as why:
+            sys.exit(f"{names[0]}: cannot read: {why.strerror}")
+        wrong = does[what](data)
         print("\n".join(wrong or ["nothing is wrong"]))
         sys.exit(1 if wrong else 0)
     else:
