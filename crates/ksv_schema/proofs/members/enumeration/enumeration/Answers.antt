@@ -1,0 +1,16 @@
+use Rattle.std.proofs.Common.{◌≡◌, ◌++◌, [], ◌∷◌, subst, sym, Some, map, string_bytes, rules, arith}
+use Rattle.std.proofs.lemmas.Grind.{common_steps}
+use Rattle.ksv_desc.specs.Description.{Enum}
+use Rattle.ksv_desc.specs.Pieces.{plain_entry, plain_enum}
+use Rattle.ksv_schema_names.specs.View.{row_of}
+use Rattle.ksv_schema.specs.Code.{IsRead}
+use Rattle.ksv_schema.specs.Description.{enum}
+use Rattle.ksv_schema.proofs.Noted.{steps}
+use Rattle.ksv_schema.proofs.members.enumeration.enumeration.Goals as goal
+
+-- the enum that was made is of the id and the entries that were read
+pub returns-in_ok-new-in-Some : goal.returns-in_ok-new-in-Some
+returns-in_ok-new-in-Some c =
+    let plain : Enum = record { id = string_bytes c.in-Some.id; members = map plain_entry c.in-Some.entries.items } in
+    let same : plain_enum c.in_ok-new-in-Some.field-0 ≡ plain = (λ j. record { id = string_bytes (c.in_ok-new-in-Some.ensures.id j); members = map plain_entry (c.in_ok-new-in-Some.ensures.entries j).items }) in
+    subst (λ (p : Enum). IsRead (enum (row_of c.args.row.now)) (Some p) c.args.reader.now c.constants.new.reader) (sym same) (first_of (search rules, grind (arith, steps), grind (arith, common_steps, steps)))
