@@ -6,7 +6,7 @@ use Rattle.std.proofs.lemmas.List.Sums.{sum_by-append, sum_by-cons}
 use Rattle.ksv_memo_links.specs.declared.shelf.Pin.{Pin}
 use Rattle.ksv_memo_links.specs.declared.pins.Pins.{Pins}
 use Rattle.ksv_memo_links.specs.declared.pins.Pins.TheVariants.{Empty}
-use Rattle.ksv_memo_links.specs.Placed.{pins_of, HasOwn}
+use Rattle.ksv_memo_links.specs.Placed.{HasOwn}
 use Rattle.ksv_memo_links.specs.Shelved.{row, HasSameRows}
 use Rattle.ksv_memo_links.specs.Marking.{HasMore}
 
@@ -22,17 +22,18 @@ padded {X} xs n r d = by (cases_lt r (length xs))
     by (inl lt) = get_or_append_left xs (replicate n d) d r lt
     by (inr le) = get_or-append_right xs (replicate n d) (length xs) r d refl le ∙ none (r - length xs) (cases_lt (r - length xs) n) ∙ sym (get_or_past xs r d le)
 
-row_map : (long : List (List Pin)) (rows : List Pins) (r : ℕ) → row (map (pins_of long) rows) r ≡ pins_of long (get_or rows r Empty)
-row_map long rows r = by (cases_lt r (length rows))
+-- a row, where what is found where there is nothing has no items
+row_map : {V X : Type 0} (f : V → List X) (d : V) → f d ≡ [] → (rows : List V) (r : ℕ) → row (map f rows) r ≡ f (get_or rows r d)
+row_map {V} {X} f d none rows r = by (cases_lt r (length rows))
   where
-    by : (r < length rows) ⊎ (length rows ≤ r) → row (map (pins_of long) rows) r ≡ pins_of long (get_or rows r Empty)
-    by (inl lt) = get_or-map (pins_of long) rows r Empty [] lt
-    by (inr le) = get_or_past (map (pins_of long) rows) r [] (let n = length-map rows (pins_of long) in omega arith) ∙ ap (pins_of long) (sym (get_or_past rows r Empty le))
+    by : (r < length rows) ⊎ (length rows ≤ r) → row (map f rows) r ≡ f (get_or rows r d)
+    by (inl lt) = get_or-map f rows r d [] lt
+    by (inr le) = get_or_past (map f rows) r [] (let n = length-map rows f in omega arith) ∙ sym (ap f (get_or_past rows r d le) ∙ none)
 
-pub rows_more : (long seen : List (List Pin)) (rows : List Pins) (n : ℕ) → map (pins_of long) rows ≡ seen → HasSameRows seen (map (pins_of long) (rows ++ replicate n Empty))
-rows_more long seen rows n same = subst (λ (xs : List (List Pin)). HasSameRows xs (map (pins_of long) (rows ++ replicate n Empty))) same (record {
-  more = (let a = length-map rows (pins_of long) in let b = length-map (rows ++ replicate n Empty) (pins_of long) in let c = length-append rows (replicate n Empty) in omega arith);
-  each = λ r. row_map long (rows ++ replicate n Empty) r ∙ ap (pins_of long) (padded rows n r Empty) ∙ sym (row_map long rows r);
+pub rows_more : {V X : Type 0} (f : V → List X) (d : V) → f d ≡ [] → (seen : List (List X)) (rows : List V) (n : ℕ) → map f rows ≡ seen → HasSameRows seen (map f (rows ++ replicate n d))
+rows_more {V} {X} f d none seen rows n same = subst (λ (xs : List (List X)). HasSameRows xs (map f (rows ++ replicate n d))) same (record {
+  more = (let a = length-map rows f in let b = length-map (rows ++ replicate n d) f in let c = length-append rows (replicate n d) in omega arith);
+  each = λ r. row_map f d none (rows ++ replicate n d) r ∙ ap f (padded rows n r d) ∙ sym (row_map f d none rows r);
 })
 
 pub own_more : (long : List (List Pin)) (rows : List Pins) (n : ℕ) → HasOwn rows long → HasOwn (rows ++ replicate n Empty) long

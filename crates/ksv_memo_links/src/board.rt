@@ -121,6 +121,7 @@ impl Board {
     }
 
     /// A new note of an owner, with its item in a list.
+    #[inline(always)]
     fn link_next(&mut self, owner: u32, list: u32) -> Result<(), AllocError>
         requires owner_in { owner < length self.old.notes }
         requires list_in { list < length self.old.lists }
@@ -153,7 +154,24 @@ impl Board {
     }
 
     /// A note of an owner that has none, with its item in a list. Where memory is refused, it has none again.
+    #[inline(always)]
     pub(crate) fn link_only(&mut self, owner: u32, list: u32) -> Result<(), AllocError>
+        requires none { row (named self.old.notes) owner ≡ [] }
+        ensures ok { OnOk result (HasRow (named self.old.notes) (named self.new.notes) owner (list ∷ [])) }
+        ensures err { OnErr result (HasSameRows (named self.old.notes) (named self.new.notes)) }
+    {
+        if (owner as usize) < self.notes.rows() && (list as usize) < self.lists.rows() {
+            self.link(owner, 0, list)
+        } else {
+            self.link_first(owner, list)
+        }
+    }
+
+    /// A note of an owner that has none, with its item in a list, where one of the two may have to be made. Where memory
+    /// is refused, the owner has none again.
+    #[cold]
+    #[inline(never)]
+    fn link_first(&mut self, owner: u32, list: u32) -> Result<(), AllocError>
         requires none { row (named self.old.notes) owner ≡ [] }
         ensures ok { OnOk result (HasRow (named self.old.notes) (named self.new.notes) owner (list ∷ [])) }
         ensures err { OnErr result (HasSameRows (named self.old.notes) (named self.new.notes)) }
@@ -161,7 +179,7 @@ impl Board {
         let owners = number(owner as usize + 1)?;
         let lists = number(list as usize + 1)?;
         self.reach_owners(owners)?;
-        if let Err(error) = self.link_range(owner, list, lists) {
+        if let Err(error) = self.link_each(owner, list, lists) {
             self.clear(owner);
             return Err(error);
         }
@@ -202,7 +220,25 @@ impl Board {
     }
 
     /// New notes of an owner, with their items in the lists of a range. Where memory is refused, it has some of them.
+    #[inline(always)]
     pub(crate) fn link_range(&mut self, owner: u32, first: u32, end: u32) -> Result<(), AllocError>
+        requires owner_in { owner < length self.old.notes }
+        ensures ok { OnOk result (named self.new.notes ≡ slice_set (named self.old.notes) owner (row (named self.old.notes) owner ++ numbers_from first (end - first))) }
+        ensures err { OnErr result (IsRowChanged (named self.old.notes) (named self.new.notes) owner) }
+        ensures count { length self.old.lists ≤ length self.new.lists }
+    {
+        if end.saturating_sub(first) == 1 && (first as usize) < self.lists.rows() {
+            self.link_next(owner, first)
+        } else {
+            self.link_each(owner, first, end)
+        }
+    }
+
+    /// New notes of an owner, with their items in the lists of a range, which are made where they aren't there. Where
+    /// memory is refused, it has some of them.
+    #[cold]
+    #[inline(never)]
+    fn link_each(&mut self, owner: u32, first: u32, end: u32) -> Result<(), AllocError>
         requires owner_in { owner < length self.old.notes }
         ensures ok { OnOk result (named self.new.notes ≡ slice_set (named self.old.notes) owner (row (named self.old.notes) owner ++ numbers_from first (end - first))) }
         ensures err { OnErr result (IsRowChanged (named self.old.notes) (named self.new.notes) owner) }

@@ -11,8 +11,9 @@ use ksv_bytes::{Change, Use};
 use std::alloc::{AllocError, Global};
 use std::marker::Model;
 
-/// How many slots more than are needed are made, so that most new nodes find theirs made.
-const MORE: u32 = 255;
+/// How many slots more than are needed are made, so that most new nodes find theirs made. Of so few the rows take less
+/// than 2 KB, which are filled by vectors.
+const MORE: u32 = 63;
 
 /// Of each slot that is kept, the slots that it asked, its users and its uses; and of each page, the uses that meet it.
 /// Each reading or writing of one of these counts as a look.

@@ -11,12 +11,9 @@ ghost use Rattle.ksv_memo_links.specs.Forgetting.{AreAllWithin, IsShaped, HitsSl
 
 use crate::board::Board;
 use crate::marks::Marks;
-use crate::used::Uses;
+use crate::used::{PAGE, Uses};
 use ksv_bytes::{Change, Use};
 use std::alloc::{AllocError, Global};
-
-/// How many bytes a page has.
-const PAGE: u32 = 64;
 
 /// What each slot asked and its users, its uses and the pages that they meet, and whether it is kept.
 #[derive(Drop)]
@@ -337,7 +334,7 @@ impl Parts {
         self.users.reach_lists(count)?;
         self.users.reach_owners(count)?;
         self.pages.reach_owners(count)?;
-        self.uses.reach(count as usize)?;
+        self.uses.reach(count)?;
         self.marks.reach(count)
     }
 }

@@ -1,18 +1,21 @@
 //! The uses of each slot, each reading and writing counted.
-ghost use Rattle.std.specs.Prelude.{◌≡◌, ◌+◌, ◌^◌, ◌<◌, ◌≤◌, [], ◌∷◌, ◌++◌, length, slice_set, slice_index_or, IfOk, IfSome, IfNone, OnOk, OnErr};
+ghost use Rattle.std.specs.Prelude.{◌≡◌, ◌+◌, ◌^◌, ◌<◌, ◌≤◌, [], ◌∷◌, ◌++◌, length, map, slice_set, slice_index_or, IfOk, IfSome, IfNone, OnOk, OnErr};
 ghost use Rattle.std.specs.List.{list_any};
 ghost use Rattle.std.specs.Option.{option_to_list};
 ghost use Rattle.ksv_bytes.specs.Uses.{is_use_touched};
 ghost use Rattle.ksv_memo_links.specs.Placed.{uses_of};
 ghost use Rattle.ksv_memo_links.specs.Linked.{HasEnds, HasRow, IsBoard, named};
 ghost use Rattle.ksv_memo_links.specs.Shelved.{row, ticked, HasSameRows};
-ghost use Rattle.ksv_memo_links.specs.Touching.{is_size, reach_of, farthest, ends_in};
+ghost use Rattle.ksv_memo_links.specs.Touching.{is_size, reach_of, farthest, end_at, ends_in};
 
 use crate::board::Board;
 use crate::shelf::Pin;
 use ksv_bytes::{Change, Use, touches};
 use std::alloc::{AllocError, Global};
 use std::marker::Model;
+
+/// How many bytes a page has.
+pub(crate) const PAGE: u32 = 64;
 
 /// Whether a change touches one of these uses.
 fn has_touched(change: Change, uses: &[Use]) -> bool
@@ -105,16 +108,39 @@ fn farthest_of(uses: &[Use]) -> u32
     place
 }
 
+/// The list of the byte before a place: one more than its page. None of place 0.
+fn end_before(place: u32) -> Option<u32>
+    ensures { option_to_list result ≡ end_at place }
+{
+    match place {
+        0 => None,
+        place => Some((place - 1) / PAGE + 1),
+    }
+}
+
 /// The list of where these uses end: 0 for the size; else one more than the page of the last byte that they reach.
-fn end_of(uses: &[Use]) -> Option<u32>
+#[cold]
+#[inline(never)]
+fn end_of_many(uses: &[Use]) -> Option<u32>
     ensures { option_to_list result ≡ ends_in uses.now }
 {
     if has_size(uses) {
         return Some(0);
     }
-    match farthest_of(uses) {
-        0 => None,
-        place => Some((place - 1) / 64 + 1),
+    end_before(farthest_of(uses))
+}
+
+/// The list of where these uses end, of which there are none or one mostly.
+#[inline(always)]
+fn end_of(uses: &[Use]) -> Option<u32>
+    ensures { option_to_list result ≡ ends_in uses.now }
+{
+    match uses {
+        [] => None,
+        [Use::Bytes(_, _)] => None,
+        [Use::Reach(to)] => end_before(*to),
+        [Use::Size] => Some(0),
+        _ => end_of_many(uses),
     }
 }
 
@@ -132,6 +158,17 @@ fn note_end(ends: &mut Board, slot: u32, uses: &[Use]) -> Result<(), AllocError>
     };
     ends.linked();
     noted
+}
+
+/// At least so many rows. The new ones have no use.
+fn reach_rows(rows: &mut Vec<Noted>, count: usize) -> Result<(), AllocError>
+    ensures same { HasSameRows (map uses_of rows.old.items) (map uses_of rows.new.items) }
+    ensures ok { OnOk result (count ≤ length rows.new.items) }
+{
+    if rows.len() < count {
+        rows.resize_with(count, || Noted::Nothing)?;
+    }
+    Ok(())
 }
 
 /// The uses of each slot, and for each place in which uses of the size or of reaching end, the slots that have them. Each
@@ -257,32 +294,14 @@ impl Uses {
         self.rows[slot as usize] = Noted::Nothing;
     }
 
-    /// One more row, with no use.
-    fn add(&mut self) -> Result<(), AllocError>
-        ensures ok { OnOk result (self.new.rows ≡ self.old.rows ++ [] ∷ []) }
-        ensures err { OnErr result (self.new.rows ≡ self.old.rows) }
-    {
-        match self.rows.push(Noted::Nothing) {
-            Ok(()) => Ok(()),
-            Err(_) => Err(AllocError),
-        }
-    }
-
-    /// The number of rows, which isn't counted.
-    fn rows(&self) -> usize
-        ensures { result ≡ length self.now.rows }
-    {
-        self.rows.as_slice().len()
-    }
-
-    /// At least so many rows. The new ones have no use.
-    pub(crate) fn reach(&mut self, count: usize) -> Result<(), AllocError>
+    /// At least so many rows, and a place for the note of where each one's uses end. The new ones have no use.
+    pub(crate) fn reach(&mut self, count: u32) -> Result<(), AllocError>
         ensures same { HasSameRows self.old.rows self.new.rows }
         ensures ok { OnOk result (count ≤ length self.new.rows) }
     {
-        while self.rows() < count {
-            self.add()?;
-        }
-        Ok(())
+        let reached = self.ends.reach_owners(count);
+        self.ends.linked();
+        reached?;
+        reach_rows(&mut self.rows, count as usize)
     }
 }

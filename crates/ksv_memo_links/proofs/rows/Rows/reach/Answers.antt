@@ -1,4 +1,4 @@
-use Rattle.std.proofs.Common.{◌≡◌, ℕ, ◌≤◌, ◌++◌, List, length, map, replicate, take, sym, ◌∙◌, ap, subst, arith}
+use Rattle.std.proofs.Common.{◌≡◌, ℕ, ◌≤◌, ◌++◌, List, length, map, replicate, take, refl, sym, ◌∙◌, ap, subst, arith}
 use Rattle.std.proofs.lemmas.List.{take_all}
 use Rattle.ksv_memo_links.specs.declared.shelf.Pin.{Pin}
 use Rattle.ksv_memo_links.specs.declared.pins.Pins.{Pins}
@@ -12,7 +12,7 @@ own_padded : (long : List (List Pin)) (rows new : List Pins) (count n : ℕ) →
 own_padded long rows new count n h le e = subst (λ (xs : List Pins). HasOwn xs long) (sym (e ∙ ap (λ xs. xs ++ replicate n Empty) (take_all count rows le))) (own_more long rows n h)
 
 same_padded : (long seen : List (List Pin)) (rows new : List Pins) (count n : ℕ) → map (pins_of long) rows ≡ seen → length rows ≤ count → new ≡ take count rows ++ replicate n Empty → HasSameRows seen (map (pins_of long) new)
-same_padded long seen rows new count n same le e = subst (λ (xs : List Pins). HasSameRows seen (map (pins_of long) xs)) (sym (e ∙ ap (λ xs. xs ++ replicate n Empty) (take_all count rows le))) (rows_more long seen rows n same)
+same_padded long seen rows new count n same le e = subst (λ (xs : List Pins). HasSameRows seen (map (pins_of long) xs)) (sym (e ∙ ap (λ xs. xs ++ replicate n Empty) (take_all count rows le))) (rows_more (pins_of long) Empty refl seen rows n same)
 
 pub invariant_of-self : goal.invariant_of-self
 invariant_of-self c = own_padded c.self.inside.long c.self.inside.rows.items c.resize.new.self.items c.args.count _ c.self.invariant (let v = ap length c.as_slice.ensures.value in let t = c.if-as_slice-count.true in omega arith) c.in_ok-resize.ensures.items

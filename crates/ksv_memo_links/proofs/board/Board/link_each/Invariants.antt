@@ -2,7 +2,7 @@ use Rattle.std.proofs.Common.{◌≡◌, ◌-◌, ◌≤◌, max, ◌++◌, leng
 use Rattle.ksv_memo_links.specs.Shelved.{row}
 use Rattle.ksv_memo_links.specs.Touching.{numbers_from}
 use Rattle.ksv_memo_links.specs.Linked.{named}
-use Rattle.ksv_memo_links.proofs.board.Board.link_range.Given as goal
+use Rattle.ksv_memo_links.proofs.board.Board.link_each.Given as goal
 
 abbrev pub invariant-loop-list : goal.invariant-loop-list
 invariant-loop-list l = record {
