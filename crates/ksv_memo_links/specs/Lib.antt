@@ -1,4 +1,5 @@
 pub mod Placed
+pub mod Pinned
 pub mod Shelved
 pub mod Touching
 pub mod Linked

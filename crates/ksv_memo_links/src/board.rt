@@ -6,19 +6,21 @@ ghost use Rattle.ksv_memo_links.specs.Shelved.{row, pop_row, push_row, HasSameRo
 ghost use Rattle.ksv_memo_links.specs.Touching.{numbers_from};
 ghost use Rattle.ksv_memo_links.specs.Linked.{named, HasRow, IsBoard, IsRowChanged};
 
+use crate::held::Held;
 use crate::lists::number;
+use crate::pins::Pins;
 use crate::shelf::{Pin, Shelf};
 use std::alloc::{AllocError, Global};
 use std::marker::Model;
 
 /// Lists of items, and for each owner notes of where its items are. Each item has one note, and each note one item.
 #[derive(Drop)]
-pub(crate) struct Board {
-    lists: Shelf,
-    notes: Shelf,
+pub(crate) struct Board<N: Held> {
+    lists: Shelf<Pins>,
+    notes: Shelf<N>,
 }
 
-impl Model for Board {
+impl<N: Held> Model for Board<N> {
     ghost use Rattle.std.specs.Prelude.{◌+◌};
     ghost use Rattle.ksv_memo_links.specs.Linked.{Boarded, IsBoard};
 
@@ -29,7 +31,7 @@ impl Model for Board {
     ghost invariant = { λ board. IsBoard board.lists.rows board.notes.rows };
 }
 
-impl Board {
+impl<N: Held> Board<N> {
     /// No lists and no notes, which take no memory.
     pub(crate) fn new(alloc: Global) -> Self
         ensures { result ≡ record { lists = []; notes = []; looks = 0 } }

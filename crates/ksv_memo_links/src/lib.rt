@@ -10,13 +10,15 @@
 //!
 //! - `board`: lists, and notes of where an owner's items are in them: `link` and `unlink`
 //! - `cells`: a list, each look counted
+//! - `held`: what rows of pins have in common
 //! - `links`: `Links`, the public face
 //! - `lists`: lists of pins, each found by its number
 //! - `marks`: which slots are kept, and which are to be taken
 //! - `parts`: users, uses and pages of each slot; the steps of forgetting, taking and keeping
-//! - `pins`: one row of pins, the first three in the row itself
+//! - `pins`: a row of pins, the first three in the row itself
 //! - `rows`: the rows of a shelf, of which short ones take no memory of their own
 //! - `shelf`: rows of pins, each look counted
+//! - `short`: a row of pins, the first one in the row itself
 //! - `used`: the uses of each slot, and the slots by where these end, each look counted
 //!
 //! Definitions (`specs/`):
@@ -25,7 +27,8 @@
 //! - `Linked`: rows of pins that lead to each other, for private contracts
 //! - `Links`: the links as the engine sees them, and what a change reaches along them
 //! - `Marking`: which slots are kept, and which wait to be taken, for private contracts
-//! - `Placed`: the pins of a row and the uses of a slot as lists, for private contracts
+//! - `Pinned`: the pins of a row as a list, for private contracts
+//! - `Placed`: rows whose long ones have lists of their own, and the uses of a slot as a list, for private contracts
 //! - `Shelved`: rows of items, for private contracts
 //! - `Touching`: which pages of 64 bytes a use meets, and where uses end
 //!
@@ -57,6 +60,7 @@
 
 mod board;
 mod cells;
+mod held;
 mod links;
 mod lists;
 mod marks;
@@ -64,6 +68,7 @@ mod parts;
 mod pins;
 mod rows;
 mod shelf;
+mod short;
 mod used;
 
 pub use links::Links;

@@ -11,6 +11,8 @@ ghost use Rattle.ksv_memo_links.specs.Forgetting.{AreAllWithin, IsShaped, HitsSl
 
 use crate::board::Board;
 use crate::marks::Marks;
+use crate::pins::Pins;
+use crate::short::Short;
 use crate::used::{PAGE, Uses};
 use ksv_bytes::{Change, Use};
 use std::alloc::{AllocError, Global};
@@ -18,8 +20,8 @@ use std::alloc::{AllocError, Global};
 /// What each slot asked and its users, its uses and the pages that they meet, and whether it is kept.
 #[derive(Drop)]
 pub(crate) struct Parts {
-    users: Board,
-    pages: Board,
+    users: Board<Pins>,
+    pages: Board<Short>,
     uses: Uses,
     marks: Marks,
 }

@@ -1,7 +1,7 @@
-//! A row of pins.
-ghost use Rattle.std.specs.Prelude.{◌≡◌, ◌+◌, ◌-◌, ◌^◌, ◌<◌, [], ◌∷◌, ◌++◌, length, take, slice_get, slice_set, OnErr, IfOk, IfSome};
-ghost use Rattle.ksv_memo_links.specs.Placed.{pins_of, IsInside, Moves};
+//! A row of pins of which three lie in the row itself.
+ghost use Rattle.ksv_memo_links.specs.Pinned.{pins_of, list_of, own_of};
 
+use crate::held::Held;
 use crate::lists::Lists;
 use crate::shelf::Pin;
 use std::alloc::AllocError;
@@ -21,12 +21,19 @@ pub enum Pins {
     Long(u32),
 }
 
-impl Pins {
-    /// How many pins there are.
-    pub(crate) fn len(&self, long: &Lists) -> usize
-        requires { IsInside long.now self.now }
-        ensures { result ≡ length (pins_of long.now self.now) }
-    {
+impl Held for Pins {
+    ghost pins = { pins_of };
+
+    ghost list = { list_of };
+
+    ghost own = { own_of };
+
+    #[inline(always)]
+    fn empty() -> Self {
+        Pins::Empty
+    }
+
+    fn len(&self, long: &Lists) -> usize {
         match self {
             Pins::Empty => 0,
             Pins::One(_) => 1,
@@ -36,12 +43,7 @@ impl Pins {
         }
     }
 
-    /// The pin at a place, if there is one.
-    pub(crate) fn get(&self, long: &Lists, i: usize) -> Option<Pin>
-        requires { IsInside long.now self.now }
-        ensures result { result ≡ slice_get (pins_of long.now self.now) i }
-        ensures fits { IfSome result (λ x. i + 1 < 2 ^ 64) }
-    {
+    fn get(&self, long: &Lists, i: usize) -> Option<Pin> {
         match self {
             Pins::Empty => None,
             Pins::One(a) => match i {
@@ -63,13 +65,7 @@ impl Pins {
         }
     }
 
-    /// Writes the pin at a place.
-    pub(crate) fn set(&mut self, long: &mut Lists, i: u32, pin: Pin)
-        requires inside { IsInside long.old self.old }
-        requires item_in { i < length (pins_of long.old self.old) }
-        ensures pins { pins_of long.new self.new ≡ slice_set (pins_of long.old self.old) i pin }
-        ensures moves { Moves long.old long.new self.old self.new }
-    {
+    fn set(&mut self, long: &mut Lists, i: u32, pin: Pin) {
         match self {
             Pins::Empty => {}
             Pins::One(a) => *a = pin,
@@ -86,13 +82,7 @@ impl Pins {
         }
     }
 
-    /// Takes the last pin, if there is one.
-    pub(crate) fn pop(&mut self, long: &mut Lists) -> Option<Pin>
-        requires { IsInside long.old self.old }
-        ensures last { result ≡ slice_get (pins_of long.old self.old) (length (pins_of long.old self.old) - 1) }
-        ensures rest { pins_of long.new self.new ≡ take (length (pins_of long.old self.old) - 1) (pins_of long.old self.old) }
-        ensures moves { Moves long.old long.new self.old self.new }
-    {
+    fn pop(&mut self, long: &mut Lists) -> Option<Pin> {
         match self {
             Pins::Empty => None,
             Pins::One(a) => {
@@ -114,15 +104,8 @@ impl Pins {
         }
     }
 
-    /// Puts a pin at the end. Its place.
     #[inline(always)]
-    pub(crate) fn push(&mut self, long: &mut Lists, pin: Pin) -> Result<u32, AllocError>
-        requires { IsInside long.old self.old }
-        ensures place { IfOk result (λ place. place ≡ length (pins_of long.old self.old)) }
-        ensures ok { IfOk result (λ place. pins_of long.new self.new ≡ pins_of long.old self.old ++ pin ∷ []) }
-        ensures err { OnErr result (pins_of long.new self.new ≡ pins_of long.old self.old) }
-        ensures moves { Moves long.old long.new self.old self.new }
-    {
+    fn push(&mut self, long: &mut Lists, pin: Pin) -> Result<u32, AllocError> {
         match self {
             Pins::Empty => {
                 *self = Pins::One(pin);

@@ -2,32 +2,32 @@
 ghost use Rattle.std.specs.Prelude.{◌≡◌, ◌+◌, ◌-◌, ◌^◌, ◌<◌, ◌≤◌, max, [], length, slice_get, OnOk, OnErr, IfOk, IfSome};
 ghost use Rattle.ksv_memo_links.specs.Shelved.{row, cut_row, pop_row, put_row, push_row, HasSameRows};
 
+use crate::held::Held;
 use crate::lists::Lists;
-use crate::pins::Pins;
 use crate::shelf::Pin;
 use std::alloc::{AllocError, Global};
 use std::marker::Model;
 
 /// Rows of pins. Contracts see the list of the rows.
 #[derive(Drop)]
-pub(crate) struct Rows {
-    rows: Vec<Pins>,
+pub(crate) struct Rows<R: Held> {
+    rows: Vec<R>,
     long: Lists,
 }
 
-impl Model for Rows {
+impl<R: Held> Model for Rows<R> {
     ghost use Rattle.std.specs.Prelude.{List, map};
     ghost use Rattle.ksv_memo_links.specs.declared.shelf.Pin.{Pin};
-    ghost use Rattle.ksv_memo_links.specs.Placed.{pins_of, HasOwn};
+    ghost use Rattle.ksv_memo_links.specs.Placed.{HasOwn};
 
     ghost Value = { List (List Pin) };
 
-    ghost view = { λ rows. map (pins_of rows.long) rows.rows.items };
+    ghost view = { λ rows. map (R.pins rows.long) rows.rows.items };
 
-    ghost invariant = { λ rows. HasOwn rows.rows.items rows.long };
+    ghost invariant = { λ rows. HasOwn (map R.list rows.rows.items) rows.long };
 }
 
-impl Rows {
+impl<R: Held> Rows<R> {
     /// No rows, which take no memory.
     pub(crate) fn new(alloc: Global) -> Self
         ensures { result ≡ [] }
@@ -116,7 +116,7 @@ impl Rows {
         ensures ok { OnOk result (count ≤ length self.new) }
     {
         if self.rows.as_slice().len() < count {
-            self.rows.resize(count, Pins::Empty)?;
+            self.rows.resize(count, R::empty())?;
         }
         Ok(())
     }

@@ -2,6 +2,7 @@
 ghost use Rattle.std.specs.Prelude.{◌≡◌, ◌+◌, ◌-◌, ◌^◌, ◌<◌, ◌≤◌, max, [], length, slice_index_or, OnOk, OnErr, IfOk, IfSome, IfNone};
 ghost use Rattle.ksv_memo_links.specs.Shelved.{row, ticked, pop_row, cut_row, put_row, push_row, HasSameRows};
 
+use crate::held::Held;
 use crate::rows::Rows;
 use std::alloc::{AllocError, Global};
 use std::marker::Model;
@@ -16,12 +17,12 @@ pub struct Pin {
 
 /// Rows of pins. Each call that reads or writes is one look.
 #[derive(Drop)]
-pub(crate) struct Shelf {
-    rows: Rows,
+pub(crate) struct Shelf<R: Held> {
+    rows: Rows<R>,
     looks: u64,
 }
 
-impl Model for Shelf {
+impl<R: Held> Model for Shelf<R> {
     ghost use Rattle.ksv_memo_links.specs.declared.shelf.Pin.{Pin};
     ghost use Rattle.ksv_memo_links.specs.Shelved.{Shelved};
 
@@ -30,7 +31,7 @@ impl Model for Shelf {
     ghost view = { λ shelf. record { rows = shelf.rows; looks = shelf.looks } };
 }
 
-impl Shelf {
+impl<R: Held> Shelf<R> {
     /// No rows, which take no memory.
     pub(crate) fn new(alloc: Global) -> Self
         ensures { result ≡ record { rows = []; looks = 0 } }

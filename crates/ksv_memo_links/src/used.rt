@@ -10,6 +10,7 @@ ghost use Rattle.ksv_memo_links.specs.Touching.{is_size, reach_of, farthest, end
 
 use crate::board::Board;
 use crate::shelf::Pin;
+use crate::short::Short;
 use ksv_bytes::{Change, Use, touches};
 use std::alloc::{AllocError, Global};
 use std::marker::Model;
@@ -146,7 +147,7 @@ fn end_of(uses: &[Use]) -> Option<u32>
 
 /// Notes where the uses of a slot end. Where memory is refused, it is noted nowhere, again.
 #[inline(always)]
-fn note_end(ends: &mut Board, slot: u32, uses: &[Use]) -> Result<(), AllocError>
+fn note_end(ends: &mut Board<Short>, slot: u32, uses: &[Use]) -> Result<(), AllocError>
     requires none { row (named ends.old.notes) slot ≡ [] }
     ensures ok { OnOk result (HasRow (named ends.old.notes) (named ends.new.notes) slot (ends_in uses.now)) }
     ensures err { OnErr result (HasSameRows (named ends.old.notes) (named ends.new.notes)) }
@@ -177,7 +178,7 @@ fn reach_rows(rows: &mut Vec<Noted>, count: usize) -> Result<(), AllocError>
 pub(crate) struct Uses {
     alloc: Global,
     rows: Vec<Noted>,
-    ends: Board,
+    ends: Board<Short>,
     looks: u64,
 }
 

@@ -21,7 +21,7 @@ board-more lists notes o l h o_in l_in = record {
 }
 
 pub invariant_of-self-in-Err : goal.invariant_of-self-in-Err
-invariant_of-self-in-Err c =
+invariant_of-self-in-Err g c =
     let L = c.self.inside.lists.rows in let N = c.self.inside.notes.rows in
     let l_in = there L c.args.self.now.lists c.args.list (ap (λ b. b.lists) c.self.view_is) c.requires.list_in in
     both c.pop.new.self.rows c.push-2.new.self.rows L N
@@ -29,7 +29,7 @@ invariant_of-self-in-Err c =
     c.in-Err.ensures.err c.self.invariant
 
 pub invariant_of-self-in-Ok : goal.invariant_of-self-in-Ok
-invariant_of-self-in-Ok c =
+invariant_of-self-in-Ok g c =
     let L = c.self.inside.lists.rows in
     let N = c.self.inside.notes.rows in
     let l_in = there L c.args.self.now.lists c.args.list (ap (λ b. b.lists) c.self.view_is) c.requires.list_in in
@@ -40,7 +40,7 @@ invariant_of-self-in-Ok c =
     both c.push.new.self.rows c.push-2.new.self.rows _ _ e f (board-more L N c.args.owner c.args.list c.self.invariant o_in l_in)
 
 pub returns-in-Ok-clause-ok : goal.returns-in-Ok-clause-ok
-returns-in-Ok-clause-ok c =
+returns-in-Ok-clause-ok g c =
     let N = c.self.inside.notes.rows in
     let o_in = there N c.args.self.now.notes c.args.owner (ap (λ b. b.notes) c.self.view_is) c.requires.owner_in in
     ap (λ (rows : List (List Pin)). named rows) c.in-Ok.ensures.ok ∙ named-push N c.args.owner (at c.args.list c.in_ok-place.place) o_in ∙ ap (λ b. push_row (named b.notes) c.args.owner c.args.list) c.self.view_is

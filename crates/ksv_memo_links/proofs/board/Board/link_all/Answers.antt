@@ -27,7 +27,7 @@ so_many before now o i ns lt le e =
     sym (length-take-le i ns le) ∙ sym (ap (λ (xs : List ℕ). length xs) (ap (λ (rows : List (List ℕ)). row rows o) e ∙ row_set before o (take i ns) lt)) ∙ length-named now o
 
 pub link-requires-clause-index : goal.link-requires-clause-index
-link-requires-clause-index c =
+link-requires-clause-index g c =
     let w = wide c.args.self.now.notes in
     let k = c.requires.owner_in in
     let n = c.in_ok-count.ensures in
@@ -35,11 +35,11 @@ link-requires-clause-index c =
     so_many (named c.args.self.now.notes) c.loop-note.self.notes c.args.owner c.loop-note.note c.args.lists.now (omega arith) (omega arith) c.loop-note.invariant.rows
 
 pub returns-in-Err-clause-err : goal.returns-in-Err-clause-err
-returns-in-Err-clause-err c =
+returns-in-Err-clause-err g c =
     c.clear.ensures.named ∙ ap (λ (rows : List (List Pin)). set (named rows) c.args.owner []) c.in-Err.ensures.err ∙ undone (named c.args.self.now.notes) (named c.loop-note.self.notes) c.args.owner (take c.loop-note.note c.args.lists.now) c.requires.none c.loop-note.invariant.rows
 
 pub loop-note-preserved : goal.loop-note-preserved
-loop-note-preserved c =
+loop-note-preserved g c =
     let w = wide c.args.self.now.notes in
     let k = c.requires.owner_in in
     let n = c.in_ok-count.ensures in
@@ -51,7 +51,7 @@ loop-note-preserved c =
     }
 
 pub returns-clause-ok : goal.returns-clause-ok
-returns-clause-ok c =
+returns-clause-ok g c =
     let n = c.in_ok-count.ensures in
     let t = c.loop-note-test.false in
     let b = c.loop-note.invariant.bound in

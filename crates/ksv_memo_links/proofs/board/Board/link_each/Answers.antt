@@ -29,12 +29,12 @@ owner_in : (before : List (List Pin)) (o : ℕ) → o < length before → o < le
 owner_in before o lt = let n = length-map before (λ (pins : List Pin). map (λ (p : Pin). p.row) pins) in omega arith
 
 pub returns-in_err-reach_lists-clause-err : goal.returns-in_err-reach_lists-clause-err
-returns-in_err-reach_lists-clause-err c =
+returns-in_err-reach_lists-clause-err g c =
     let e = ap (λ (rows : List (List Pin)). named rows) c.reach_lists.ensures.notes in
     on_err_always c.from_residual.result (record { now = row (named c.args.self.now.notes) c.args.owner; is = e ∙ sym (set-get_or (named c.args.self.now.notes) c.args.owner []) })
 
 pub loop-list-preserved : goal.loop-list-preserved
-loop-list-preserved c = record {
+loop-list-preserved g c = record {
   rows = longer (named c.args.self.now.notes) (named c.loop-list.self.notes) (named c.link_next.new.self.notes) c.args.owner c.args.first c.loop-list.list (owner_in c.args.self.now.notes c.args.owner c.requires.owner_in) (omega arith) c.loop-list.invariant.rows c.in_ok-link_next.ensures.ok;
   bound = (let b = c.loop-list-test.true in omega arith);
   lists = (let a = c.link_next.ensures.count in let b = c.loop-list.invariant.lists in omega arith);
@@ -42,7 +42,7 @@ loop-list-preserved c = record {
 }
 
 pub loop-list-init : goal.loop-list-init
-loop-list-init c =
+loop-list-init g c =
     let e = ap (λ (rows : List (List Pin)). named rows) c.reach_lists.ensures.notes in
     record {
       rows = e ∙ none-yet (named c.args.self.now.notes) c.args.owner c.args.first;
@@ -52,7 +52,7 @@ loop-list-init c =
     }
 
 pub returns-clause-ok : goal.returns-clause-ok
-returns-clause-ok c =
+returns-clause-ok g c =
     let f = c.loop-list-test.false in
     let b = c.loop-list.invariant.bound in
     let e : c.loop-list.list - c.args.first ≡ c.args.end - c.args.first = omega arith in

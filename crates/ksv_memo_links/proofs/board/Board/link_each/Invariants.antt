@@ -5,7 +5,7 @@ use Rattle.ksv_memo_links.specs.Linked.{named}
 use Rattle.ksv_memo_links.proofs.board.Board.link_each.Given as goal
 
 abbrev pub invariant-loop-list : goal.invariant-loop-list
-invariant-loop-list l = record {
+invariant-loop-list g l = record {
   rows : named l.self.notes ≡ set (named l.fn.self.notes) l.owner (row (named l.fn.self.notes) l.owner ++ numbers_from l.first (l.list - l.first));
   lists : l.end ≤ length l.self.lists;
   bound : l.list ≤ max l.first l.end;

@@ -39,19 +39,19 @@ board-unmoved lists notes lists2 notes2 o note d board h le e f =
     }))
 
 pub swap_remove-requires-clause-row_in : goal.swap_remove-requires-clause-row_in
-swap_remove-requires-clause-row_in c =
+swap_remove-requires-clause-row_in g c =
     let L = c.self.inside.lists.rows in let N = c.self.inside.notes.rows in let note = c.in-Some.note in
     let h = before L N c.args.self.now.notes c.args.owner note (ap (λ b. b.notes) c.self.view_is) c.requires c.self.invariant c.in-Some.ensures.some in
     row_there L note.row note.at (item_in L N c.args.owner note h)
 
 pub swap_remove-requires-clause-item_in : goal.swap_remove-requires-clause-item_in
-swap_remove-requires-clause-item_in c =
+swap_remove-requires-clause-item_in g c =
     let L = c.self.inside.lists.rows in let N = c.self.inside.notes.rows in let note = c.in-Some.note in
     let h = before L N c.args.self.now.notes c.args.owner note (ap (λ b. b.notes) c.self.view_is) c.requires c.self.invariant c.in-Some.ensures.some in
     item_in L N c.args.owner note h
 
 pub at-requires : goal.at-requires
-at-requires c =
+at-requires g c =
     let L = c.self.inside.lists.rows in let N = c.self.inside.notes.rows in let note = c.in-Some.note in
     let h = before L N c.args.self.now.notes c.args.owner note (ap (λ b. b.notes) c.self.view_is) c.requires c.self.invariant c.in-Some.ensures.some in
     let there = row_there L note.row note.at (item_in L N c.args.owner note h) in
@@ -59,21 +59,21 @@ at-requires c =
     omega (arith, length-set {A = List Pin})
 
 pub set-requires-clause-item_in : goal.set-requires-clause-item_in
-set-requires-clause-item_in c =
+set-requires-clause-item_in g c =
     let L = c.self.inside.lists.rows in let N = c.self.inside.notes.rows in let note = c.in-Some.note in let m = c.in-Some-at.moved in
     let h = before L N c.args.self.now.notes c.args.owner note (ap (λ b. b.notes) c.self.view_is) c.requires c.self.invariant c.in-Some.ensures.some in
     let k = moved-of L N c.swap_remove.new.self.rows c.args.owner note c.swap_remove.result m c.swap_remove.ensures.rows c.in-Some-at.ensures.some in
     subst (λ rows. m.at < length (row rows m.row)) (sym c.pop.ensures.rows) (moved_in L N c.args.owner note c.swap_remove.result m h k)
 
 pub set-requires-clause-row_in : goal.set-requires-clause-row_in
-set-requires-clause-row_in c =
+set-requires-clause-row_in g c =
     let L = c.self.inside.lists.rows in let N = c.self.inside.notes.rows in let note = c.in-Some.note in let m = c.in-Some-at.moved in
     let h = before L N c.args.self.now.notes c.args.owner note (ap (λ b. b.notes) c.self.view_is) c.requires c.self.invariant c.in-Some.ensures.some in
     let k = moved-of L N c.swap_remove.new.self.rows c.args.owner note c.swap_remove.result m c.swap_remove.ensures.rows c.in-Some-at.ensures.some in
     subst (λ rows. m.row < length rows) (sym c.pop.ensures.rows) (row_there (pop_row N c.args.owner) m.row m.at (moved_in L N c.args.owner note c.swap_remove.result m h k))
 
 pub invariant_of-self-in-Some-at : goal.invariant_of-self-in-Some-at
-invariant_of-self-in-Some-at c =
+invariant_of-self-in-Some-at g c =
     let L = c.self.inside.lists.rows in let N = c.self.inside.notes.rows in let note = c.in-Some.note in let m = c.in-Some-at.moved in
     let h = before L N c.args.self.now.notes c.args.owner note (ap (λ b. b.notes) c.self.view_is) c.requires c.self.invariant c.in-Some.ensures.some in
     let k = moved-of L N c.swap_remove.new.self.rows c.args.owner note c.swap_remove.result m c.swap_remove.ensures.rows c.in-Some-at.ensures.some in
@@ -81,7 +81,7 @@ invariant_of-self-in-Some-at c =
     board-moved L N c.at.new.self.rows c.set.new.self.rows c.args.owner note c.swap_remove.result m c.self.invariant h k (c.at.ensures.rows ∙ c.swap_remove.ensures.rows) put
 
 pub returns-in-Some-at-clause-named : goal.returns-in-Some-at-clause-named
-returns-in-Some-at-clause-named c =
+returns-in-Some-at-clause-named g c =
     let L = c.self.inside.lists.rows in let N = c.self.inside.notes.rows in let note = c.in-Some.note in let m = c.in-Some-at.moved in
     let h = before L N c.args.self.now.notes c.args.owner note (ap (λ b. b.notes) c.self.view_is) c.requires c.self.invariant c.in-Some.ensures.some in
     let k = moved-of L N c.swap_remove.new.self.rows c.args.owner note c.swap_remove.result m c.swap_remove.ensures.rows c.in-Some-at.ensures.some in
@@ -89,14 +89,14 @@ returns-in-Some-at-clause-named c =
     ap (λ (rows : List (List Pin)). named rows) put ∙ named-moved L N c.args.owner note c.swap_remove.result m h k ∙ ap (λ b. pop_row (named b.notes) c.args.owner) c.self.view_is
 
 pub invariant_of-self-in_default : goal.invariant_of-self-in_default
-invariant_of-self-in_default c =
+invariant_of-self-in_default g c =
     let L = c.self.inside.lists.rows in let N = c.self.inside.notes.rows in let note = c.in-Some.note in
     let h = before L N c.args.self.now.notes c.args.owner note (ap (λ b. b.notes) c.self.view_is) c.requires c.self.invariant c.in-Some.ensures.some in
     let le = subst (λ rows. length (row rows note.row) ≤ note.at) (sym c.at.ensures.rows) c.in_default.ensures.none in
     board-unmoved L N c.at.new.self.rows c.pop.new.self.rows c.args.owner note c.swap_remove.result c.self.invariant h le (c.at.ensures.rows ∙ c.swap_remove.ensures.rows) c.pop.ensures.rows
 
 pub returns-in_default-clause-named : goal.returns-in_default-clause-named
-returns-in_default-clause-named c =
+returns-in_default-clause-named g c =
     let N = c.self.inside.notes.rows in
     let owner = subst (λ (rows : List (List Pin)). c.args.owner < length rows) (sym (ap (λ b. b.notes) c.self.view_is)) c.requires in
     ap (λ (rows : List (List Pin)). named rows) c.pop.ensures.rows ∙ named-pop N c.args.owner owner ∙ ap (λ b. pop_row (named b.notes) c.args.owner) c.self.view_is

@@ -32,14 +32,14 @@ popped_row : (rows then : List (List Pin)) (r : ℕ) → r < length rows → the
 popped_row rows then r lt e = ap (λ xs. row xs r) e ∙ row_set rows r (take (length (row rows r) - 1) (row rows r)) lt
 
 pub returns-in-None-get : goal.returns-in-None-get
-returns-in-None-get c =
+returns-in-None-get g c =
     let rows = c.args.self.now in
     let r = c.args.r in
     let p = popped_row rows c.pop.new.self r c.requires.row_in c.pop.ensures.rest in
     c.pop.ensures.rest ∙ ap (λ xs. set rows r xs) (sym p ∙ cut_last (row rows r) (row c.pop.new.self r) c.args.i c.in-Some.last p (sym c.get.ensures.result ∙ c.in-None-get.is) c.requires.item_in)
 
 pub returns-in-Some-get : goal.returns-in-Some-get
-returns-in-Some-get c =
+returns-in-Some-get g c =
     let rows = c.args.self.now in
     let r = c.args.r in
     let p = popped_row rows c.pop.new.self r c.requires.row_in c.pop.ensures.rest in
