@@ -20,27 +20,39 @@ board-more lists notes o l h o_in l_in = record {
   few = few-push lists notes o l (length (row notes o)) (length (row lists l)) h.few o_in l_in;
 }
 
+popped-again : (lists more cut : List (List Pin)) (l : ℕ) (x : Pin) → more ≡ push_row lists l x → cut ≡ pop_row more l → l < length lists → cut ≡ lists
+popped-again lists more cut l x e f lt = f ∙ ap (λ (rows : List (List Pin)). pop_row rows l) e ∙ pop-push lists l x lt
+
+pushed-item : (notes now lists more : List (List Pin)) (o l i : ℕ) → notes ≡ now → i ≡ length (row now o) → more ≡ push_row lists l (at o i) → more ≡ push_row lists l (at o (length (row notes o)))
+pushed-item notes now lists more o l i e f h = h ∙ ap (λ n. push_row lists l (at o n)) (f ∙ ap (λ (rows : List (List Pin)). length (row rows o)) (sym e))
+
+pushed-note : (lists notes more : List (List Pin)) (o l place : ℕ) → place ≡ length (row lists l) → more ≡ push_row notes o (at l place) → more ≡ push_row notes o (at l (length (row lists l)))
+pushed-note lists notes more o l place e h = h ∙ ap (λ n. push_row notes o (at l n)) e
+
+named-more : (notes now more : List (List Pin)) (o l place : ℕ) → notes ≡ now → more ≡ push_row notes o (at l place) → o < length notes → named more ≡ push_row (named now) o l
+named-more notes now more o l place e h lt = ap (λ (rows : List (List Pin)). named rows) h ∙ named-push notes o (at l place) lt ∙ ap (λ (rows : List (List Pin)). push_row (named rows) o l) e
+
 pub invariant_of-self-in-Err : goal.invariant_of-self-in-Err
 invariant_of-self-in-Err g c =
     let L = c.self.inside.lists.rows in let N = c.self.inside.notes.rows in
     let l_in = there L c.args.self.now.lists c.args.list (ap (λ b. b.lists) c.self.view_is) c.requires.list_in in
     both c.pop.new.self.rows c.push-2.new.self.rows L N
-    (c.pop.ensures.rows ∙ ap (λ (rows : List (List Pin)). pop_row rows c.args.list) c.in_ok-place.ensures.ok ∙ pop-push L c.args.list (at c.args.owner c.args.index) l_in)
+    (popped-again L c.push.new.self.rows c.pop.new.self.rows c.args.list (at c.args.owner c.args.index) c.in_ok-place.ensures.ok c.pop.ensures.rows l_in)
     c.in-Err.ensures.err c.self.invariant
 
 pub invariant_of-self-in-Ok : goal.invariant_of-self-in-Ok
 invariant_of-self-in-Ok g c =
     let L = c.self.inside.lists.rows in
     let N = c.self.inside.notes.rows in
+    let same = ap (λ b. b.notes) c.self.view_is in
     let l_in = there L c.args.self.now.lists c.args.list (ap (λ b. b.lists) c.self.view_is) c.requires.list_in in
-    let o_in = there N c.args.self.now.notes c.args.owner (ap (λ b. b.notes) c.self.view_is) c.requires.owner_in in
-    let index : c.args.index ≡ length (row N c.args.owner) = c.requires.index ∙ sym (ap (λ b. length (row b.notes c.args.owner)) c.self.view_is) in
-    let e : c.push.new.self.rows ≡ push_row L c.args.list (at c.args.owner (length (row N c.args.owner))) = c.in_ok-place.ensures.ok ∙ ap (λ n. push_row L c.args.list (at c.args.owner n)) index in
-    let f : c.push-2.new.self.rows ≡ push_row N c.args.owner (at c.args.list (length (row L c.args.list))) = c.in-Ok.ensures.ok ∙ ap (λ n. push_row N c.args.owner (at c.args.list n)) c.in_ok-place.ensures.place in
+    let o_in = there N c.args.self.now.notes c.args.owner same c.requires.owner_in in
+    let e = pushed-item N c.args.self.now.notes L c.push.new.self.rows c.args.owner c.args.list c.args.index same c.requires.index c.in_ok-place.ensures.ok in
+    let f = pushed-note L N c.push-2.new.self.rows c.args.owner c.args.list c.in_ok-place.place c.in_ok-place.ensures.place c.in-Ok.ensures.ok in
     both c.push.new.self.rows c.push-2.new.self.rows _ _ e f (board-more L N c.args.owner c.args.list c.self.invariant o_in l_in)
 
 pub returns-in-Ok-clause-ok : goal.returns-in-Ok-clause-ok
 returns-in-Ok-clause-ok g c =
     let N = c.self.inside.notes.rows in
-    let o_in = there N c.args.self.now.notes c.args.owner (ap (λ b. b.notes) c.self.view_is) c.requires.owner_in in
-    ap (λ (rows : List (List Pin)). named rows) c.in-Ok.ensures.ok ∙ named-push N c.args.owner (at c.args.list c.in_ok-place.place) o_in ∙ ap (λ b. push_row (named b.notes) c.args.owner c.args.list) c.self.view_is
+    let same = ap (λ b. b.notes) c.self.view_is in
+    named-more N c.args.self.now.notes c.push-2.new.self.rows c.args.owner c.args.list c.in_ok-place.place same c.in-Ok.ensures.ok (there N c.args.self.now.notes c.args.owner same c.requires.owner_in)

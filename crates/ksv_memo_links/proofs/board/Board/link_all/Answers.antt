@@ -18,6 +18,13 @@ filled before now o i n ns lt li is e =
     let next : row now o ++ n ∷ [] ≡ take (i + 1) ns = ap (λ (xs : List ℕ). xs ++ n ∷ []) here ∙ ap (λ m. take i ns ++ m ∷ []) is ∙ sym (take_more ns i 0 li) in
     ap (λ (xs : List ℕ). set now o xs) next ∙ ap (λ (rows : List (List ℕ)). set rows o (take (i + 1) ns)) e ∙ set-set before o (take i ns) (take (i + 1) ns)
 
+one-more : (before now then : List (List ℕ)) (o i n : ℕ) (ns : List ℕ) → o < length before → i < length ns → n ≡ get_or ns i 0 → now ≡ set before o (take i ns) → then ≡ push_row now o n → then ≡ set before o (take (i + 1) ns)
+one-more before now then o i n ns lt li is e f = f ∙ filled before now o i n ns lt li is e
+
+-- after a refused memory it is empty
+cleared : (before : List (List ℕ)) (now refused gone : List (List Pin)) (o : ℕ) (ns : List ℕ) → row before o ≡ [] → named now ≡ set before o ns → refused ≡ now → named gone ≡ set (named refused) o [] → named gone ≡ before
+cleared before now refused gone o ns none e f h = h ∙ ap (λ (rows : List (List Pin)). set (named rows) o []) f ∙ undone before (named now) o ns none e
+
 wide : (rows : List (List Pin)) → length (named rows) ≡ length rows
 wide rows = length-map rows (λ (pins : List Pin). map (λ (p : Pin). p.row) pins)
 
@@ -36,7 +43,7 @@ link-requires-clause-index g c =
 
 pub returns-in-Err-clause-err : goal.returns-in-Err-clause-err
 returns-in-Err-clause-err g c =
-    c.clear.ensures.named ∙ ap (λ (rows : List (List Pin)). set (named rows) c.args.owner []) c.in-Err.ensures.err ∙ undone (named c.args.self.now.notes) (named c.loop-note.self.notes) c.args.owner (take c.loop-note.note c.args.lists.now) c.requires.none c.loop-note.invariant.rows
+    cleared (named c.args.self.now.notes) c.loop-note.self.notes c.link.new.self.notes c.clear.new.self.notes c.args.owner (take c.loop-note.note c.args.lists.now) c.requires.none c.loop-note.invariant.rows c.in-Err.ensures.err c.clear.ensures.named
 
 pub loop-note-preserved : goal.loop-note-preserved
 loop-note-preserved g c =
@@ -45,7 +52,7 @@ loop-note-preserved g c =
     let n = c.in_ok-count.ensures in
     let t = c.loop-note-test.true in
     record {
-      rows = c.in_default.ensures.ok ∙ filled (named c.args.self.now.notes) (named c.loop-note.self.notes) c.args.owner c.loop-note.note _ c.args.lists.now (omega arith) (omega arith) refl c.loop-note.invariant.rows;
+      rows = one-more (named c.args.self.now.notes) (named c.loop-note.self.notes) (named c.link.new.self.notes) c.args.owner c.loop-note.note _ c.args.lists.now (omega arith) (omega arith) refl c.loop-note.invariant.rows c.in_default.ensures.ok;
       count = c.link.ensures.count ∙ c.loop-note.invariant.count;
       bound = omega arith;
     }

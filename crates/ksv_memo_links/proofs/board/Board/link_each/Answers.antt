@@ -51,9 +51,11 @@ loop-list-init g c =
       more = c.reach_lists.ensures.lists;
     }
 
+all-linked : (before now : List (List ℕ)) (o first k n : ℕ) → now ≡ set before o (row before o ++ numbers_from first k) → k ≡ n → now ≡ set before o (row before o ++ numbers_from first n)
+all-linked before now o first k n e f = e ∙ ap (λ m. set before o (row before o ++ numbers_from first m)) f
+
 pub returns-clause-ok : goal.returns-clause-ok
 returns-clause-ok g c =
     let f = c.loop-list-test.false in
     let b = c.loop-list.invariant.bound in
-    let e : c.loop-list.list - c.args.first ≡ c.args.end - c.args.first = omega arith in
-    c.loop-list.invariant.rows ∙ ap (λ k. set (named c.args.self.now.notes) c.args.owner (row (named c.args.self.now.notes) c.args.owner ++ numbers_from c.args.first k)) e
+    all-linked (named c.args.self.now.notes) (named c.loop-list.self.notes) c.args.owner c.args.first (c.loop-list.list - c.args.first) (c.args.end - c.args.first) c.loop-list.invariant.rows (omega arith)

@@ -38,6 +38,16 @@ board-unmoved lists notes lists2 notes2 o note d board h le e f =
       few = few-pop lists notes (pop_row notes o) o note d board.few h (named-pop notes o h.owner);
     }))
 
+-- steps one after another
+through : (a b c : List (List Pin)) → a ≡ b → b ≡ c → a ≡ c
+through a b c e f = e ∙ f
+
+put-back : (notes popped written : List (List Pin)) (o : ℕ) (note m : Pin) → popped ≡ pop_row notes o → written ≡ put_row popped m.row m.at note → written ≡ put_row (pop_row notes o) m.row m.at note
+put-back notes popped written o note m e f = f ∙ ap (λ (rows : List (List Pin)). put_row rows m.row m.at note) e
+
+named-through : (a b notes now : List (List Pin)) (o : ℕ) → a ≡ b → named b ≡ pop_row (named notes) o → notes ≡ now → named a ≡ pop_row (named now) o
+named-through a b notes now o e f g = ap (λ (rows : List (List Pin)). named rows) e ∙ f ∙ ap (λ (rows : List (List Pin)). pop_row (named rows) o) g
+
 pub swap_remove-requires-clause-row_in : goal.swap_remove-requires-clause-row_in
 swap_remove-requires-clause-row_in g c =
     let L = c.self.inside.lists.rows in let N = c.self.inside.notes.rows in let note = c.in-Some.note in
@@ -77,26 +87,26 @@ invariant_of-self-in-Some-at g c =
     let L = c.self.inside.lists.rows in let N = c.self.inside.notes.rows in let note = c.in-Some.note in let m = c.in-Some-at.moved in
     let h = before L N c.args.self.now.notes c.args.owner note (ap (λ b. b.notes) c.self.view_is) c.requires c.self.invariant c.in-Some.ensures.some in
     let k = moved-of L N c.swap_remove.new.self.rows c.args.owner note c.swap_remove.result m c.swap_remove.ensures.rows c.in-Some-at.ensures.some in
-    let put = c.set.ensures.rows ∙ ap (λ (rows : List (List Pin)). put_row rows m.row m.at note) c.pop.ensures.rows in
-    board-moved L N c.at.new.self.rows c.set.new.self.rows c.args.owner note c.swap_remove.result m c.self.invariant h k (c.at.ensures.rows ∙ c.swap_remove.ensures.rows) put
+    let put = put-back N c.pop.new.self.rows c.set.new.self.rows c.args.owner note m c.pop.ensures.rows c.set.ensures.rows in
+    board-moved L N c.at.new.self.rows c.set.new.self.rows c.args.owner note c.swap_remove.result m c.self.invariant h k (through c.at.new.self.rows c.swap_remove.new.self.rows (cut_row L note.row note.at c.swap_remove.result) c.at.ensures.rows c.swap_remove.ensures.rows) put
 
 pub returns-in-Some-at-clause-named : goal.returns-in-Some-at-clause-named
 returns-in-Some-at-clause-named g c =
     let L = c.self.inside.lists.rows in let N = c.self.inside.notes.rows in let note = c.in-Some.note in let m = c.in-Some-at.moved in
     let h = before L N c.args.self.now.notes c.args.owner note (ap (λ b. b.notes) c.self.view_is) c.requires c.self.invariant c.in-Some.ensures.some in
     let k = moved-of L N c.swap_remove.new.self.rows c.args.owner note c.swap_remove.result m c.swap_remove.ensures.rows c.in-Some-at.ensures.some in
-    let put = c.set.ensures.rows ∙ ap (λ (rows : List (List Pin)). put_row rows m.row m.at note) c.pop.ensures.rows in
-    ap (λ (rows : List (List Pin)). named rows) put ∙ named-moved L N c.args.owner note c.swap_remove.result m h k ∙ ap (λ b. pop_row (named b.notes) c.args.owner) c.self.view_is
+    let put = put-back N c.pop.new.self.rows c.set.new.self.rows c.args.owner note m c.pop.ensures.rows c.set.ensures.rows in
+    named-through c.set.new.self.rows (put_row (pop_row N c.args.owner) m.row m.at note) N c.args.self.now.notes c.args.owner put (named-moved L N c.args.owner note c.swap_remove.result m h k) (ap (λ b. b.notes) c.self.view_is)
 
 pub invariant_of-self-in_default : goal.invariant_of-self-in_default
 invariant_of-self-in_default g c =
     let L = c.self.inside.lists.rows in let N = c.self.inside.notes.rows in let note = c.in-Some.note in
     let h = before L N c.args.self.now.notes c.args.owner note (ap (λ b. b.notes) c.self.view_is) c.requires c.self.invariant c.in-Some.ensures.some in
     let le = subst (λ rows. length (row rows note.row) ≤ note.at) (sym c.at.ensures.rows) c.in_default.ensures.none in
-    board-unmoved L N c.at.new.self.rows c.pop.new.self.rows c.args.owner note c.swap_remove.result c.self.invariant h le (c.at.ensures.rows ∙ c.swap_remove.ensures.rows) c.pop.ensures.rows
+    board-unmoved L N c.at.new.self.rows c.pop.new.self.rows c.args.owner note c.swap_remove.result c.self.invariant h le (through c.at.new.self.rows c.swap_remove.new.self.rows (cut_row L note.row note.at c.swap_remove.result) c.at.ensures.rows c.swap_remove.ensures.rows) c.pop.ensures.rows
 
 pub returns-in_default-clause-named : goal.returns-in_default-clause-named
 returns-in_default-clause-named g c =
     let N = c.self.inside.notes.rows in
     let owner = subst (λ (rows : List (List Pin)). c.args.owner < length rows) (sym (ap (λ b. b.notes) c.self.view_is)) c.requires in
-    ap (λ (rows : List (List Pin)). named rows) c.pop.ensures.rows ∙ named-pop N c.args.owner owner ∙ ap (λ b. pop_row (named b.notes) c.args.owner) c.self.view_is
+    named-through c.pop.new.self.rows (pop_row N c.args.owner) N c.args.self.now.notes c.args.owner c.pop.ensures.rows (named-pop N c.args.owner owner) (ap (λ b. b.notes) c.self.view_is)
