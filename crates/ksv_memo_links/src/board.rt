@@ -272,6 +272,7 @@ impl<N: Held> Board<N> {
 
     /// New notes of an owner that has none, with their items in these lists. Where memory is refused, it has none
     /// again.
+    #[inline(always)]
     pub(crate) fn link_all(&mut self, owner: u32, lists: &[u32]) -> Result<(), AllocError>
         requires owner_in { owner < length self.old.notes }
         requires none { row (named self.old.notes) owner ≡ [] }
