@@ -264,6 +264,7 @@ fn object_at(
 
 /// What an attribute of this content reads at a place of a stream.
 #[tactic(auto, unfolding(ksv_rule_meaning::specs::Heads::content_at))]
+#[inline(always)]
 fn content_at(
     turn: &mut Turn,
     ctx: &Ctx,
