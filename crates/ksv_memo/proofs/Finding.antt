@@ -1,23 +1,13 @@
--- What a look-up in the map says of the slots.
-use Rattle.std.proofs.Common.{◌≡◌, ℕ, zero, suc, ◌+◌, ◌<◌, ◌≤◌, Bool, true, false, List, [], ◌∷◌, ◌++◌, ◌-◌, length, take, slice_set, slice_index_or, sym, arith, Option, Some, None, is_some, refl, ◌∙◌, ap, slice_get, ◌||◌, cond}
+-- What the slot at a place says, and what a list is after its last element took the place of another.
+use Rattle.std.proofs.Common.{◌≡◌, ℕ, zero, suc, ◌+◌, ◌<◌, ◌≤◌, true, List, [], ◌∷◌, ◌++◌, ◌-◌, length, take, slice_set, slice_index_or, sym, arith, Option, Some, None, is_some, ◌∙◌, ap, slice_get}
 use Rattle.std.specs.Option.{option_map, IfSome}
-use Rattle.std.specs.List.{list_any, swap_remove}
-use Rattle.std.specs.Map.{lookup, lookup_key}
+use Rattle.std.specs.List.{swap_remove}
 use Rattle.std.proofs.lemmas.List.{length_push, length-set, set-append_left}
 use Rattle.std.proofs.lemmas.Option.{slice_get-map}
 use Rattle.std.proofs.Math.Seq.{get_or-append_seam, take-append_seam}
 use Rattle.ksv_memo_rules.specs.declared.replies.Slot.{Slot}
 use Rattle.ksv_memo_rules.specs.Slots.{answer_in, answer_of, answer_at}
 use Rattle.ksv_memo.specs.Layout.{slots_of, node_at, IsKept}
-
--- no key passes
-pub none_passes : {N X : Type 0} (test : N → Bool) (ps : List (N × X)) → lookup_key test ps ≡ None → list_any (λ p. test p.0) ps ≡ false
-none_passes test [] e = refl
-none_passes {N} {X} test (p ∷ ps) e = by (test p.0) (none_passes test ps) e
-  where
-    by : (b : Bool) → (lookup_key test ps ≡ None → list_any (λ q. test q.0) ps ≡ false) → cond b (Some p.0) (lookup_key test ps) ≡ None → (b || list_any (λ q. test q.0) ps) ≡ false
-    by true ih e = absurd (cc)
-    by false ih e = ih e
 
 module _ {N V F : Type 0} (ps : List (N × Slot V F)) where
   -- the slot at a place
@@ -32,15 +22,6 @@ module _ {N V F : Type 0} (ps : List (N × Slot V F)) where
 
   pub kept_there : (i : ℕ) (n : N) (s : Slot V F) → slice_get ps i ≡ Some (n, s) → is_some (answer_in s) ≡ true → IsKept ps i
   kept_there i n s e h = ap is_some (answer_there i n s e) ∙ h
-
--- so a look-up finds nothing
-pub no_lookup : {N X : Type 0} (test : N → Bool) (ps : List (N × X)) → list_any (λ p. test p.0) ps ≡ false → lookup test ps ≡ None
-no_lookup test [] e = refl
-no_lookup {N} {X} test (p ∷ ps) e = by (test p.0) (no_lookup test ps) e
-  where
-    by : (b : Bool) → (list_any (λ q. test q.0) ps ≡ false → lookup test ps ≡ None) → (b || list_any (λ q. test q.0) ps) ≡ false → cond b (Some p.1) (lookup test ps) ≡ None
-    by true ih e = absurd (cc)
-    by false ih e = ih e
 
 -- the last element takes the place of another
 pub swapped : {X : Type 0} (xs : List X) (i : ℕ) (x d : X) → i < length xs → swap_remove (xs ++ x ∷ []) i d ≡ slice_set xs i x

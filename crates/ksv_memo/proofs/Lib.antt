@@ -1,5 +1,6 @@
 pub mod Once
 pub mod Finding
+pub mod Zipping
 pub mod Laying
 pub mod Changing
 pub mod Knowing

@@ -12,7 +12,7 @@
 //! - `frames`: a frame for each open node, with what it asked and used
 //! - `laws`: the laws of all rules
 //! - `machine`: one turn, what follows it, the loop, and the look-up before it
-//! - `slots`: the map from node to slot, each look counted; `call`, the only caller of `next`
+//! - `slots`: the nodes and their slots, each look counted; `call`, the only caller of `next`
 //! - `table`: the table of kept and open nodes
 //! - `uses`: uses, each once
 //! - `vacancy`: slots with nothing in them, which are given to other nodes
@@ -39,7 +39,7 @@
 //! - `Changing`: links and frames after one slot has changed
 //! - `Emptying`: slots are emptied one after another
 //! - `Ends`: what is kept ends by the engine's reach
-//! - `Finding`: what a look-up in the map says of the slots
+//! - `Finding`: what the slot at a place says
 //! - `Forgetting`: what forgetting takes is what an edit takes, and the rest is right
 //! - `Knowing`: which nodes are kept or open, read from the slots
 //! - `Laying`: the lists of kept and open nodes when one slot changes
@@ -54,6 +54,7 @@
 //! - `Taking`: what the table's moves mean for a question
 //! - `Topping`: the last open node: run, kept, taken out
 //! - `Turns`: tests and moves on kept and open nodes, and the measure
+//! - `Zipping`: nodes beside their slots
 #![tactic(auto)]
 
 mod engine;

@@ -1,5 +1,5 @@
 //! The machine that runs nodes on a stack of open nodes, and keeps what they answer.
-ghost use Rattle.std.specs.Prelude.{◌≡◌, [], IfOk, OnOk, OnErr};
+ghost use Rattle.std.specs.Prelude.{◌≡◌, [], None, length, nat_lt, false, IfOk, OnOk, OnErr};
 ghost use Rattle.ksv_memo_rules.specs.Meaning.{on};
 ghost use Rattle.ksv_memo_rules.specs.Evaluation.{tells, done, IsAnswered};
 ghost use Rattle.ksv_memo.specs.Nodes.{Steps};
@@ -54,21 +54,23 @@ impl<R: Rules> Machine<R> {
         self.table.turn(self.alloc, rules, bytes, &mut self.turns)
     }
 
-    /// Runs the last open node for one turn. The outcome, if that ends the question.
+    /// Runs the last open node for one turn. If that ends the question, the outcome is put into `ended`.
     #[inline(always)]
     fn advance(
         &mut self,
         rules: &R,
         bytes: &Buffer,
-    ) -> Result<Option<Outcome<R::Node, Reply<R>>>, AllocError>
-        requires { IsRunning (on (R.meaning rules.now) bytes.now) self.old.table.kept self.old.table.opened }
-        ensures ok { IfOk result (λ outcome. AdvancesFrom (on (R.meaning rules.now) bytes.now) self.old.table.kept self.old.table.opened self.new.table outcome) }
+        ended: &mut Option<Outcome<R::Node, Reply<R>>>,
+    ) -> Result<(), AllocError>
+        requires goes_on { ended.old ≡ None }
+        requires running { IsRunning (on (R.meaning rules.now) bytes.now) self.old.table.kept self.old.table.opened }
+        ensures ok { OnOk result (AdvancesFrom (on (R.meaning rules.now) bytes.now) self.old.table.kept self.old.table.opened self.new.table ended.new) }
         ensures err { OnErr result (LeftFrom (on (R.meaning rules.now) bytes.now) self.old.table.kept self.old.table.opened self.new.table.kept) }
         ensures turns { OnOk result (self.new.turns ≡ counted 1 self.old.turns) }
     {
         match self.turn(rules, bytes) {
-            Ok(Next::Done(answer)) => self.finish(rules, bytes, answer),
-            Ok(Next::Need(asked)) => self.need(rules, bytes, asked),
+            Ok(Next::Done(answer)) => self.finish(rules, bytes, answer, ended),
+            Ok(Next::Need(asked)) => self.need(rules, bytes, asked, ended),
             Err(refused) => Err(refused),
         }
     }
@@ -80,19 +82,41 @@ impl<R: Rules> Machine<R> {
         rules: &R,
         bytes: &Buffer,
         answer: Reply<R>,
-    ) -> Result<Option<Outcome<R::Node, Reply<R>>>, AllocError>
-        requires { HasReached (on (R.meaning rules.now) bytes.now) self.old.table.kept self.old.table.opened (Next.Done answer) }
-        ensures ok { IfOk result (λ outcome. AdvancesAt (on (R.meaning rules.now) bytes.now) self.old.table.kept self.old.table.opened (Next.Done answer) self.new.table outcome) }
+        ended: &mut Option<Outcome<R::Node, Reply<R>>>,
+    ) -> Result<(), AllocError>
+        requires goes_on { ended.old ≡ None }
+        requires reached { HasReached (on (R.meaning rules.now) bytes.now) self.old.table.kept self.old.table.opened (Next.Done answer) }
+        ensures ok { OnOk result (AdvancesAt (on (R.meaning rules.now) bytes.now) self.old.table.kept self.old.table.opened (Next.Done answer) self.new.table ended.new) }
         ensures err { OnErr result (LeftAt (on (R.meaning rules.now) bytes.now) self.old.table.kept self.old.table.opened (Next.Done answer) self.new.table.kept) }
         ensures turns { self.new.turns ≡ self.old.turns }
     {
         if self.table.waits() {
             self.table.close(self.alloc, answer)?;
-            return Ok(None);
+            return Ok(());
         }
+        self.end(rules, bytes, answer, ended)
+    }
+
+    /// Keeps the answer of the only open node, which ends the question.
+    #[cold]
+    #[inline(never)]
+    fn end(
+        &mut self,
+        rules: &R,
+        bytes: &Buffer,
+        answer: Reply<R>,
+        ended: &mut Option<Outcome<R::Node, Reply<R>>>,
+    ) -> Result<(), AllocError>
+        requires alone { nat_lt 1 (length self.old.table.opened) ≡ false }
+        requires reached { HasReached (on (R.meaning rules.now) bytes.now) self.old.table.kept self.old.table.opened (Next.Done answer) }
+        ensures ok { OnOk result (AdvancesAt (on (R.meaning rules.now) bytes.now) self.old.table.kept self.old.table.opened (Next.Done answer) self.new.table ended.new) }
+        ensures err { OnErr result (LeftAt (on (R.meaning rules.now) bytes.now) self.old.table.kept self.old.table.opened (Next.Done answer) self.new.table.kept) }
+        ensures turns { self.new.turns ≡ self.old.turns }
+    {
         let reply = rules.copy_answer(self.alloc, lend(&answer))?;
         self.table.close(self.alloc, answer)?;
-        Ok(Some(Outcome::Answered(reply)))
+        *ended = Some(Outcome::Answered(reply));
+        Ok(())
     }
 
     /// Asks for what the last open node needs. A node that is open ends the question.
@@ -102,15 +126,20 @@ impl<R: Rules> Machine<R> {
         rules: &R,
         bytes: &Buffer,
         asked: R::Node,
-    ) -> Result<Option<Outcome<R::Node, Reply<R>>>, AllocError>
-        requires { HasReached (on (R.meaning rules.now) bytes.now) self.old.table.kept self.old.table.opened (Next.Need asked) }
-        ensures ok { IfOk result (λ outcome. AdvancesAt (on (R.meaning rules.now) bytes.now) self.old.table.kept self.old.table.opened (Next.Need asked) self.new.table outcome) }
+        ended: &mut Option<Outcome<R::Node, Reply<R>>>,
+    ) -> Result<(), AllocError>
+        requires goes_on { ended.old ≡ None }
+        requires reached { HasReached (on (R.meaning rules.now) bytes.now) self.old.table.kept self.old.table.opened (Next.Need asked) }
+        ensures ok { OnOk result (AdvancesAt (on (R.meaning rules.now) bytes.now) self.old.table.kept self.old.table.opened (Next.Need asked) self.new.table ended.new) }
         ensures err { OnErr result (self.new.table.kept ≡ self.old.table.kept) }
         ensures turns { self.new.turns ≡ self.old.turns }
     {
         match self.table.ask(asked) {
-            Ok(None) => Ok(None),
-            Ok(Some(node)) => Ok(Some(Outcome::Circle(node))),
+            Ok(None) => Ok(()),
+            Ok(Some(node)) => {
+                *ended = Some(Outcome::Circle(node));
+                Ok(())
+            }
             Err(refused) => Err(refused),
         }
     }
@@ -143,8 +172,9 @@ impl<R: Rules> Machine<R> {
         if let Some(outcome) = known {
             return Ok(outcome);
         }
+        let mut ended = None;
         loop {
-            let ended = self.advance(rules, bytes)?;
+            self.advance(rules, bytes, &mut ended)?;
             if let Some(outcome) = ended {
                 return Ok(outcome);
             }

@@ -1,6 +1,6 @@
 //! The slots of nodes, each reaching of one counted, and calls of rules, which alone are lent them.
 ghost use Rattle.std.specs.Prelude.{◌≡◌, ◌<◌, ◌≤◌, ◌^◌, ◌++◌, ◌∷◌, [], length, drop, slice_set, true, false, is_some, option_map, Some, None, IfOk, OnOk, OnErr, IfSome, IfNone};
-ghost use Rattle.std.specs.List.{AllByRecursion, list_any, IsDistinct};
+ghost use Rattle.std.specs.List.{AllByRecursion, list_any, zip, IsDistinct};
 ghost use Rattle.std.specs.Map.{keys_of};
 ghost use Rattle.indexmap.specs.IndexMap.{set_value_at};
 ghost use Rattle.ksv_memo_links.specs.Shelved.{ticked};
@@ -12,7 +12,7 @@ ghost use Rattle.ksv_memo_rules.specs.Right.{counted};
 ghost use Rattle.ksv_memo_rules.specs.Slots.{HasAnswer, answer_at};
 
 use crate::frames::{Frame, Frames};
-use indexmap::IndexMap;
+use indexmap::IndexSet;
 use ksv_bytes::Buffer;
 use ksv_memo_rules::{Next, Outcome, Replies, Reply, Rules, Slot, answer_at};
 use std::alloc::{AllocError, Global};
@@ -32,25 +32,31 @@ pub enum Known {
     Kept(usize),
 }
 
-/// The slots of nodes. A node's slot has the number of its place in a map, which doesn't change while something is in it.
+/// The slots of nodes. A node's slot has the number of its place in a set, which doesn't change while something is in it.
 ///
 /// Each call that looks a node up, adds one or writes a slot is one look, and none does more; looking for a slot with nothing
 /// in it is one for each slot that is seen, and giving it to another node two. The slots are lent to rules alone, which isn't
 /// counted: by [`outcome_at`] and [`call`], which no code can call that has no rules, as forgetting.
 #[derive(Drop)]
 pub(crate) struct Slots<N: Eq + Hash + Drop, V: Drop, F: Drop> {
-    map: IndexMap<N, Slot<V, F>>,
+    nodes: IndexSet<N>,
+    /// What is in the slot of each node, in the order of the nodes.
+    slots: Vec<Slot<V, F>>,
     looks: u64,
     /// Where a slot with nothing in it is looked for.
     cursor: usize,
 }
 
 impl<N: Eq + Hash + Drop, V: Drop, F: Drop> Model for Slots<N, V, F> {
+    ghost use Rattle.std.specs.Prelude.{◌≡◌, length};
+    ghost use Rattle.std.specs.List.{zip};
     ghost use Rattle.ksv_memo.specs.Slotted.{Slotted};
 
     ghost Value = { Slotted N V F };
 
-    ghost view = { λ slots. record { entries = slots.map.entries; looks = slots.looks } };
+    ghost view = { λ slots. record { entries = zip slots.nodes.keys slots.slots.items; looks = slots.looks } };
+
+    ghost invariant = { λ slots. length slots.slots.items ≡ length slots.nodes.keys };
 }
 
 impl<N: Eq + Hash + Drop, V: Drop, F: Drop> Slots<N, V, F> {
@@ -59,7 +65,8 @@ impl<N: Eq + Hash + Drop, V: Drop, F: Drop> Slots<N, V, F> {
         ensures { result ≡ record { entries = []; looks = 0 } }
     {
         Slots {
-            map: IndexMap::new(alloc),
+            nodes: IndexSet::new(alloc),
+            slots: Vec::new(alloc),
             looks: 0,
             cursor: 0,
         }
@@ -93,7 +100,7 @@ impl<N: Eq + Hash + Drop, V: Drop, F: Drop> Slots<N, V, F> {
         ensures len { result ≡ length self.now.entries }
         ensures small { result < 2 ^ 63 }
     {
-        self.map.len()
+        self.nodes.len()
     }
 
     /// What the slots have of a node. It takes one hash.
@@ -105,7 +112,7 @@ impl<N: Eq + Hash + Drop, V: Drop, F: Drop> Slots<N, V, F> {
         ensures looks { self.new.looks ≡ ticked self.old.looks }
     {
         self.look();
-        look_up(&self.map, node)
+        look_up(&self.nodes, self.slots.as_slice(), node)
     }
 
     /// Writes the slot of a number.
@@ -116,8 +123,7 @@ impl<N: Eq + Hash + Drop, V: Drop, F: Drop> Slots<N, V, F> {
         ensures looks { self.new.looks ≡ ticked self.old.looks }
     {
         self.look();
-        let (_, slot) = self.map.pair_mut(place);
-        *slot = new;
+        write(&mut self.slots, place, new);
     }
 
     /// A slot for a node that has none, open.
@@ -128,8 +134,20 @@ impl<N: Eq + Hash + Drop, V: Drop, F: Drop> Slots<N, V, F> {
         ensures err { OnErr result (self.new.entries ≡ self.old.entries) }
     {
         self.looks = self.looks.saturating_add(1);
-        self.map.insert(node, Slot::Open)?;
+        self.slots.reserve(1)?;
+        self.nodes.insert(node)?;
+        self.slots.push_reserved(Slot::Open);
         Ok(())
+    }
+
+    /// Whether nothing is in the slot of a number.
+    fn is_vacant(&self, place: usize) -> bool
+        ensures { result ≡ true → IsVacant self.now.entries place }
+    {
+        match self.slots.as_slice().get(place) {
+            Some(slot) => matches!(slot, Slot::Empty),
+            None => false,
+        }
     }
 
     /// The first slot with nothing in it, from one of a number on.
@@ -137,9 +155,9 @@ impl<N: Eq + Hash + Drop, V: Drop, F: Drop> Slots<N, V, F> {
         ensures some { IfSome result (IsVacant self.old.entries) }
         ensures entries { self.new.entries ≡ self.old.entries }
     {
-        for place in from..self.map.len() {
+        for place in from..self.len() {
             self.look();
-            if is_vacant(&self.map, place) {
+            if self.is_vacant(place) {
                 return Some(place);
             }
         }
@@ -171,9 +189,10 @@ impl<N: Eq + Hash + Drop, V: Drop, F: Drop> Slots<N, V, F> {
         ensures err { OnErr result (self.new.entries ≡ self.old.entries) }
     {
         self.looks = self.looks.saturating_add(2);
-        self.map.insert(node, Slot::Open)?;
+        self.nodes.insert(node)?;
         // The node that was added last takes the place of the one that had the slot.
-        let _ = self.map.swap_remove_index(place);
+        let _ = self.nodes.swap_remove_index(place);
+        write(&mut self.slots, place, Slot::Open);
         Ok(())
     }
 
@@ -183,8 +202,7 @@ impl<N: Eq + Hash + Drop, V: Drop, F: Drop> Slots<N, V, F> {
         ensures some { IfSome result (λ n. node_at self.now.entries place ≡ Some n.now) }
         ensures none { IfNone result (node_at self.now.entries place ≡ None) }
     {
-        let (node, _) = self.map.get_index(place)?;
-        Some(node)
+        self.nodes.get_index(place)
     }
 
     /// The slots by their numbers, lent to rules.
@@ -192,35 +210,36 @@ impl<N: Eq + Hash + Drop, V: Drop, F: Drop> Slots<N, V, F> {
     fn lend(&self) -> &[Slot<V, F>]
         ensures { result.now ≡ slots_of self.now.entries }
     {
-        self.map.values().as_slice()
+        self.slots.as_slice()
     }
 }
 
-/// Whether nothing is in the slot of a number.
-fn is_vacant<N: Eq + Hash + Drop, V: Drop, F: Drop>(
-    map: &IndexMap<N, Slot<V, F>>,
-    place: usize,
-) -> bool
-    ensures { result ≡ true → IsVacant map.now.entries place }
-{
-    match map.get_index(place) {
-        Some((_, slot)) => matches!(slot, Slot::Empty),
-        None => false,
-    }
-}
-
-/// What a map of slots has of a node.
+/// Writes the slot at a place.
 #[inline(always)]
-fn look_up<N: Eq + Hash + Drop, V: Drop, F: Drop>(map: &IndexMap<N, Slot<V, F>>, node: &N) -> Known
-    ensures knows { Knows N.eq map.now.entries node.now result }
-    ensures unique { IsDistinct N.eq (keys_of map.now.entries) }
+fn write<V: Drop, F: Drop>(slots: &mut Vec<Slot<V, F>>, place: usize, new: Slot<V, F>)
+    requires { place < length slots.old.items }
+    ensures { slots.new.items ≡ slice_set slots.old.items place new }
 {
-    if map.len() == 0 {
+    slots[place] = new;
+}
+
+/// What nodes and their slots have of a node.
+#[inline(always)]
+fn look_up<N: Eq + Hash + Drop, V: Drop, F: Drop>(
+    nodes: &IndexSet<N>,
+    slots: &[Slot<V, F>],
+    node: &N,
+) -> Known
+    requires { length slots.now ≡ length nodes.now.keys }
+    ensures knows { Knows N.eq (zip nodes.now.keys slots.now) node.now result }
+    ensures unique { IsDistinct N.eq (keys_of (zip nodes.now.keys slots.now)) }
+{
+    if nodes.len() == 0 {
         return Known::New;
     }
-    match map.get_full(node) {
+    match nodes.get_index_of(node) {
         None => Known::New,
-        Some((place, _, slot)) => match slot {
+        Some(place) => match &slots[place] {
             Slot::Empty => Known::Empty(place),
             Slot::Open => Known::Open,
             Slot::Value(_) => Known::Kept(place),

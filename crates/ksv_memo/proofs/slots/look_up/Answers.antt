@@ -1,28 +1,47 @@
-use Rattle.std.proofs.Common.{◌∙◌, sym, ap, refl, Some}
-use Rattle.std.proofs.lemmas.Map.Made.{lookup_key_passes}
-use Rattle.ksv_memo_rules.specs.declared.replies.Slot.TheVariants.{Value, Fault}
-use Rattle.ksv_memo.proofs.Finding.{none_passes, kept_there}
+use Rattle.std.proofs.Common.{◌∙◌, sym, subst, refl}
+use Rattle.std.specs.List.{zip, IsDistinct}
+use Rattle.std.proofs.lemmas.Map.Made.{keys_of-zip}
+use Rattle.ksv_memo_rules.specs.declared.replies.Slot.TheVariants.{Empty, Open, Value, Fault}
+use Rattle.ksv_memo.proofs.Finding.{kept_there}
+use Rattle.ksv_memo.proofs.Zipping.{any-zip, found-zip}
 use Rattle.ksv_memo.proofs.slots.look_up.Goals as goal
 
 pub returns-in-None-clause-knows : goal.returns-in-None-clause-knows
-returns-in-None-clause-knows g c = none_passes (g.N.PartialEq.eq c.args.node.now) c.args.map.now.entries (sym c.in-None.ensures.key)
+returns-in-None-clause-knows g c = any-zip (g.N.PartialEq.eq c.args.node.now) c.args.nodes.now.keys c.args.slots.now c.requires ∙ sym c.in-None.ensures.found
 
 pub returns-in-Empty-clause-knows : goal.returns-in-Empty-clause-knows
-returns-in-Empty-clause-knows g c = record { node = c.in-Some.field-0-1.now; there = c.in-Some.ensures.entry ∙ ap (λ s. Some (c.in-Some.field-0-1.now, s)) c.in-Empty.is; passes = lookup_key_passes (g.N.PartialEq.eq c.args.node.now) c.args.map.now.entries c.in-Some.field-0-1.now (sym c.in-Some.ensures.key) }
+returns-in-Empty-clause-knows g c =
+    let found = found-zip (g.N.PartialEq.eq c.args.node.now) c.args.nodes.now.keys c.args.slots.now c.in-Some.place c.index-slots-place.result Empty c.requires (sym c.in-Some.ensures.index) c.index-slots-place.is c.in-Empty.is in
+    record { node = found.0; there = found.1; passes = found.2 }
 
 pub returns-in-Open-clause-knows : goal.returns-in-Open-clause-knows
-returns-in-Open-clause-knows g c = (c.in-Some.place, record { node = c.in-Some.field-0-1.now; there = c.in-Some.ensures.entry ∙ ap (λ s. Some (c.in-Some.field-0-1.now, s)) c.in-Open.is; passes = lookup_key_passes (g.N.PartialEq.eq c.args.node.now) c.args.map.now.entries c.in-Some.field-0-1.now (sym c.in-Some.ensures.key) })
+returns-in-Open-clause-knows g c =
+    let found = found-zip (g.N.PartialEq.eq c.args.node.now) c.args.nodes.now.keys c.args.slots.now c.in-Some.place c.index-slots-place.result Open c.requires (sym c.in-Some.ensures.index) c.index-slots-place.is c.in-Open.is in
+    (c.in-Some.place, record { node = found.0; there = found.1; passes = found.2 })
 
 pub returns-in-Value-clause-knows : goal.returns-in-Value-clause-knows
 returns-in-Value-clause-knows g c =
-    let there = c.in-Some.ensures.entry ∙ ap (λ s. Some (c.in-Some.field-0-1.now, s)) c.in-Value.is in (
-      (Value c.in-Value.field-0, record { node = c.in-Some.field-0-1.now; there = there; passes = lookup_key_passes (g.N.PartialEq.eq c.args.node.now) c.args.map.now.entries c.in-Some.field-0-1.now (sym c.in-Some.ensures.key) }),
-      kept_there c.args.map.now.entries c.in-Some.place c.in-Some.field-0-1.now (Value c.in-Value.field-0) there refl,
-    )
+    let slot = Value c.in-Value.field-0 in
+    let found = found-zip (g.N.PartialEq.eq c.args.node.now) c.args.nodes.now.keys c.args.slots.now c.in-Some.place c.index-slots-place.result slot c.requires (sym c.in-Some.ensures.index) c.index-slots-place.is c.in-Value.is in
+    ((slot, record { node = found.0; there = found.1; passes = found.2 }), kept_there (zip c.args.nodes.now.keys c.args.slots.now) c.in-Some.place found.0 slot found.1 refl)
 
 pub returns-in-Fault-clause-knows : goal.returns-in-Fault-clause-knows
 returns-in-Fault-clause-knows g c =
-    let there = c.in-Some.ensures.entry ∙ ap (λ s. Some (c.in-Some.field-0-1.now, s)) c.in-Fault.is in (
-      (Fault c.in-Fault.field-0, record { node = c.in-Some.field-0-1.now; there = there; passes = lookup_key_passes (g.N.PartialEq.eq c.args.node.now) c.args.map.now.entries c.in-Some.field-0-1.now (sym c.in-Some.ensures.key) }),
-      kept_there c.args.map.now.entries c.in-Some.place c.in-Some.field-0-1.now (Fault c.in-Fault.field-0) there refl,
-    )
+    let slot = Fault c.in-Fault.field-0 in
+    let found = found-zip (g.N.PartialEq.eq c.args.node.now) c.args.nodes.now.keys c.args.slots.now c.in-Some.place c.index-slots-place.result slot c.requires (sym c.in-Some.ensures.index) c.index-slots-place.is c.in-Fault.is in
+    ((slot, record { node = found.0; there = found.1; passes = found.2 }), kept_there (zip c.args.nodes.now.keys c.args.slots.now) c.in-Some.place found.0 slot found.1 refl)
+
+pub returns-in-None-clause-unique : goal.returns-in-None-clause-unique
+returns-in-None-clause-unique g c = subst (IsDistinct g.N.PartialEq.eq) (sym (keys_of-zip c.args.nodes.now.keys c.args.slots.now c.requires)) c.len.ensures.unique
+
+pub returns-in-Empty-clause-unique : goal.returns-in-Empty-clause-unique
+returns-in-Empty-clause-unique g c = subst (IsDistinct g.N.PartialEq.eq) (sym (keys_of-zip c.args.nodes.now.keys c.args.slots.now c.requires)) c.len.ensures.unique
+
+pub returns-in-Open-clause-unique : goal.returns-in-Open-clause-unique
+returns-in-Open-clause-unique g c = subst (IsDistinct g.N.PartialEq.eq) (sym (keys_of-zip c.args.nodes.now.keys c.args.slots.now c.requires)) c.len.ensures.unique
+
+pub returns-in-Value-clause-unique : goal.returns-in-Value-clause-unique
+returns-in-Value-clause-unique g c = subst (IsDistinct g.N.PartialEq.eq) (sym (keys_of-zip c.args.nodes.now.keys c.args.slots.now c.requires)) c.len.ensures.unique
+
+pub returns-in-Fault-clause-unique : goal.returns-in-Fault-clause-unique
+returns-in-Fault-clause-unique g c = subst (IsDistinct g.N.PartialEq.eq) (sym (keys_of-zip c.args.nodes.now.keys c.args.slots.now c.requires)) c.len.ensures.unique

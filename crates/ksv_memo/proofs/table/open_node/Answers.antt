@@ -1,6 +1,6 @@
 use Rattle.std.proofs.lemmas.List.{length_push, length-set}
 use Rattle.std.proofs.lemmas.Option.{slice_get_within}
-use Rattle.std.proofs.Common.{◌≡◌, ◌+◌, ◌∙◌, ap, subst, refl, sym, length, arith, slice_get, Some}
+use Rattle.std.proofs.Common.{◌≡◌, ◌+◌, ◌∙◌, ap, subst, refl, sym, length, arith}
 use Rattle.ksv_memo_rules.specs.declared.replies.Slot.TheVariants.{Empty, Open}
 use Rattle.ksv_memo.specs.Layout.{IsLaidOut, entries_of, opens_of}
 use Rattle.ksv_memo.specs.Moves.{IsVacant, Knows}

@@ -1,8 +1,10 @@
-use Rattle.std.proofs.Common.{refl, sym, ◌∙◌}
+use Rattle.std.proofs.Common.{◌∙◌, subst, sym}
 use Rattle.ksv_memo_rules.specs.Meaning.{on}
 use Rattle.ksv_memo_rules.proofs.Standing.{law_on}
+use Rattle.ksv_memo_rules.specs.declared.rules.Next.TheVariants.{Done}
+use Rattle.ksv_memo.specs.Running.{AdvancesAt}
 use Rattle.ksv_memo.proofs.Turns.{on_err_always}
-use Rattle.ksv_memo.proofs.Taking.{closes_on, closes_last, closes_left, done_left}
+use Rattle.ksv_memo.proofs.Taking.{closes_on, closes_left}
 use Rattle.ksv_memo.proofs.machine.Machine.finish.Goals as goal
 
 pub returns-in_err-close-clause-err : goal.returns-in_err-close-clause-err
@@ -13,7 +15,7 @@ returns-in_err-close-clause-err g c =
     let laws = g.met.R.Node.Eq.laws in
     let exact = g.met.R.Rules.exact in
     let old = c.args.self.now.table in
-    on_err_always c.from_residual.result (closes_left w law eq laws exact old.kept old.opened c.args.answer c.close.new.self.kept c.requires c.in_err-close.ensures.err)
+    on_err_always c.from_residual.result (closes_left w law eq laws exact old.kept old.opened c.args.answer c.close.new.self.kept c.requires.reached c.in_err-close.ensures.err)
 
 pub returns-then-waits-clause-ok : goal.returns-then-waits-clause-ok
 returns-then-waits-clause-ok g c =
@@ -23,34 +25,5 @@ returns-then-waits-clause-ok g c =
     let laws = g.met.R.Node.Eq.laws in
     let exact = g.met.R.Rules.exact in
     let old = c.args.self.now.table in
-    closes_on w law eq laws exact old.kept old.opened c.args.answer c.close.new.self c.requires c.in_ok-close.ensures.ok (sym c.waits.ensures ∙ c.if-waits.true)
-
-pub returns-in_err-reply-clause-err : goal.returns-in_err-reply-clause-err
-returns-in_err-reply-clause-err g c =
-    let w = on (g.R.Rules.meaning c.args.rules.now) c.args.bytes.now in
-    let law = law_on (g.R.Rules.meaning c.args.rules.now) (g.met.R.Rules.lawful c.args.rules.now) c.args.bytes.now in
-    let eq = g.R.Node.PartialEq.eq in
-    let laws = g.met.R.Node.Eq.laws in
-    let exact = g.met.R.Rules.exact in
-    let old = c.args.self.now.table in
-    on_err_always _ (done_left w law eq laws exact old.kept old.opened c.args.answer old.kept c.requires refl)
-
-pub returns-in_err-close-2-clause-err : goal.returns-in_err-close-2-clause-err
-returns-in_err-close-2-clause-err g c =
-    let w = on (g.R.Rules.meaning c.args.rules.now) c.args.bytes.now in
-    let law = law_on (g.R.Rules.meaning c.args.rules.now) (g.met.R.Rules.lawful c.args.rules.now) c.args.bytes.now in
-    let eq = g.R.Node.PartialEq.eq in
-    let laws = g.met.R.Node.Eq.laws in
-    let exact = g.met.R.Rules.exact in
-    let old = c.args.self.now.table in
-    on_err_always _ (closes_left w law eq laws exact old.kept old.opened c.args.answer c.close-2.new.self.kept c.requires c.in_err-close-2.ensures.err)
-
-pub returns-clause-ok : goal.returns-clause-ok
-returns-clause-ok g c =
-    let w = on (g.R.Rules.meaning c.args.rules.now) c.args.bytes.now in
-    let law = law_on (g.R.Rules.meaning c.args.rules.now) (g.met.R.Rules.lawful c.args.rules.now) c.args.bytes.now in
-    let eq = g.R.Node.PartialEq.eq in
-    let laws = g.met.R.Node.Eq.laws in
-    let exact = g.met.R.Rules.exact in
-    let old = c.args.self.now.table in
-    closes_last w law eq laws exact old.kept old.opened c.args.answer c.in_ok-reply.reply c.close-2.new.self c.requires c.in_ok-close-2.ensures.ok (sym c.waits.ensures ∙ c.if-waits.false) (c.in_ok-reply.ensures ∙ c.lend.ensures)
+    subst (AdvancesAt w old.kept old.opened (Done c.args.answer) c.close.new.self) (sym c.requires.goes_on)
+    (closes_on w law eq laws exact old.kept old.opened c.args.answer c.close.new.self c.requires.reached c.in_ok-close.ensures.ok (sym c.waits.ensures ∙ c.if-waits.true))

@@ -1,3 +1,4 @@
+use Rattle.std.proofs.Common.{refl}
 use Rattle.ksv_memo_rules.specs.Meaning.{on}
 use Rattle.ksv_memo_rules.proofs.Standing.{law_on}
 use Rattle.ksv_memo.proofs.Taking.{counts_first, counts_next, ends_known, has_ended, holds_first, holds_next, opens_first}
@@ -46,6 +47,7 @@ loop-ended-init g c =
     let opens = rw c.in_default.is at c.in_ok-known.ensures.ok in
     let first = opens_first w law eq laws exact c.args.node old now c.requires.opened opens in
     record {
+      goes_on = refl;
       holds = holds_first w law eq laws exact old.kept now.kept c.args.node now.opened c.requires.right opens.out opens.kept first;
       turns = counts_first w law eq laws exact old.kept now.kept c.args.node now.opened c.args.self.now.turns opens.kept first;
     }
@@ -60,7 +62,7 @@ returns-in-Some-ended-clause-turns g c =
     let exact = g.met.R.Rules.exact in
     let old = c.args.self.now.table in
     let before = c.loop-ended.self in
-    (has_ended w law eq laws exact old.kept before.table.kept c.args.node before.table.opened c.advance.new.self.table c.in-Some-ended.outcome c.args.self.now.turns before.turns c.advance.new.self.turns c.loop-ended.invariant.holds c.loop-ended.invariant.turns (rw c.in-Some-ended.is at c.in_ok-ended.ensures.ok) c.in_ok-ended.ensures.turns).turns
+    (has_ended w law eq laws exact old.kept before.table.kept c.args.node before.table.opened c.advance.new.self.table c.in-Some-ended.outcome c.args.self.now.turns before.turns c.advance.new.self.turns c.loop-ended.invariant.holds c.loop-ended.invariant.turns (rw c.in-Some-ended.is at c.in_ok-advance.ensures.ok) c.in_ok-advance.ensures.turns).turns
 
 pub loop-ended-preserved : goal.loop-ended-preserved
 loop-ended-preserved g c =
@@ -71,8 +73,9 @@ loop-ended-preserved g c =
     let exact = g.met.R.Rules.exact in
     let old = c.args.self.now.table in
     let before = c.loop-ended.self in
-    let goes = rw c.in_default-ended.is at c.in_ok-ended.ensures.ok in
+    let goes = rw c.in_default-ended.is at c.in_ok-advance.ensures.ok in
     record {
+      goes_on = c.in_default-ended.is;
       holds = holds_next w law eq laws exact old.kept before.table.kept c.args.node before.table.opened c.advance.new.self.table c.loop-ended.invariant.holds goes;
-      turns = counts_next w law eq laws exact old.kept before.table.kept c.args.node before.table.opened c.advance.new.self.table c.args.self.now.turns before.turns c.advance.new.self.turns c.loop-ended.invariant.turns goes c.in_ok-ended.ensures.turns;
+      turns = counts_next w law eq laws exact old.kept before.table.kept c.args.node before.table.opened c.advance.new.self.table c.args.self.now.turns before.turns c.advance.new.self.turns c.loop-ended.invariant.turns goes c.in_ok-advance.ensures.turns;
     }

@@ -1,0 +1,87 @@
+-- Nodes beside their slots.
+use Rattle.std.proofs.Common.{◌≡◌, ℕ, zero, suc, Bool, true, false, ◌||◌, List, [], ◌∷◌, ◌++◌, length, map, slice_set, get_or, Option, Some, None, refl, sym, ◌∙◌, ap, arith, slice_get, position, if◌then◌else◌, option_copied, IfSome, IfNone, Bor}
+use Rattle.std.specs.Option.{option_map}
+use Rattle.std.specs.List.{zip, list_any}
+use Rattle.std.proofs.lemmas.Option.{slice_get_read, slice_get-get_or}
+use Rattle.std.proofs.lemmas.List.Quantifiers.{position-Some}
+use Rattle.std.proofs.lemmas.Slice.Zip.{length-zip}
+use Rattle.indexmap.specs.IndexMap.{set_value_at}
+use Rattle.indexmap.specs.IndexSet.{insert_key}
+
+module _ {N X : Type 0} where
+  pub slots-zip : (ns : List N) (ss : List X) → length ss ≡ length ns → map (λ (p : N × X). p.1) (zip ns ss) ≡ ss
+  slots-zip [] [] e = refl
+  slots-zip [] (s ∷ ss) e = absurd (omega arith)
+  slots-zip (n ∷ ns) [] e = absurd (omega arith)
+  slots-zip (n ∷ ns) (s ∷ ss) e = ap (λ (xs : List X). s ∷ xs) (slots-zip ns ss (omega arith))
+
+  pub count-zip : (ns : List N) (ss : List X) → length ss ≡ length ns → length (zip ns ss) ≡ length ns
+  count-zip ns ss e = let n = length-zip ns ss in omega arith
+
+  pub node-zip : (ns : List N) (ss : List X) → length ss ≡ length ns → (i : ℕ) → option_map (λ (p : N × X). p.0) (slice_get (zip ns ss) i) ≡ slice_get ns i
+  node-zip [] ss e i = refl
+  node-zip (n ∷ ns) [] e i = absurd (omega arith)
+  node-zip (n ∷ ns) (s ∷ ss) e zero = refl
+  node-zip (n ∷ ns) (s ∷ ss) e (suc i) = node-zip ns ss (omega arith) i
+
+  there-zip : (ns : List N) (ss : List X) (i : ℕ) (n : N) (s : X) → slice_get ns i ≡ Some n → slice_get ss i ≡ Some s → slice_get (zip ns ss) i ≡ Some (n, s)
+  there-zip [] ss i n s e f = absurd (cc)
+  there-zip (m ∷ ns) [] i n s e f = absurd (cc)
+  there-zip (m ∷ ns) (t ∷ ss) zero n s e f = let a : m ≡ n = cc in let b : t ≡ s = cc in λ k. Some (a k, b k)
+  there-zip (m ∷ ns) (t ∷ ss) (suc i) n s e f = there-zip ns ss i n s e f
+
+  pub any-zip : (f : N → Bool) (ns : List N) (ss : List X) → length ss ≡ length ns → list_any (λ (p : N × X). f p.0) (zip ns ss) ≡ list_any f ns
+  any-zip f [] ss e = refl
+  any-zip f (n ∷ ns) [] e = absurd (omega arith)
+  any-zip f (n ∷ ns) (s ∷ ss) e = ap (λ b. f n || b) (any-zip f ns ss (omega arith))
+
+  pub push-zip : (ns : List N) (ss : List X) (n : N) (s : X) → length ss ≡ length ns → zip (ns ++ n ∷ []) (ss ++ s ∷ []) ≡ zip ns ss ++ (n, s) ∷ []
+  push-zip [] [] n s e = refl
+  push-zip [] (t ∷ ss) n s e = absurd (omega arith)
+  push-zip (m ∷ ns) [] n s e = absurd (omega arith)
+  push-zip (m ∷ ns) (t ∷ ss) n s e = ap (λ (ps : List (N × X)). (m, t) ∷ ps) (push-zip ns ss n s (omega arith))
+
+  -- a slot is written
+  pub write-zip : (ns : List N) (ss : List X) (i : ℕ) (s : X) → zip ns (slice_set ss i s) ≡ set_value_at (zip ns ss) i s
+  write-zip [] ss i s = refl
+  write-zip (n ∷ ns) [] i s = refl
+  write-zip (n ∷ ns) (t ∷ ss) zero s = refl
+  write-zip (n ∷ ns) (t ∷ ss) (suc i) s = ap (λ (ps : List (N × X)). (n, t) ∷ ps) (write-zip ns ss i s)
+
+  -- a node and its slot are written
+  pub set-zip : (ns : List N) (ss : List X) (i : ℕ) (n : N) (s : X) → length ss ≡ length ns → zip (slice_set ns i n) (slice_set ss i s) ≡ slice_set (zip ns ss) i (n, s)
+  set-zip [] [] i n s e = refl
+  set-zip [] (t ∷ ss) i n s e = absurd (omega arith)
+  set-zip (m ∷ ns) [] i n s e = absurd (omega arith)
+  set-zip (m ∷ ns) (t ∷ ss) zero n s e = refl
+  set-zip (m ∷ ns) (t ∷ ss) (suc i) n s e = ap (λ (ps : List (N × X)). (m, t) ∷ ps) (set-zip ns ss i n s (omega arith))
+
+  -- each slot has a node
+  pub slot-zip : (ns : List N) (ss : List X) (i : ℕ) (s : X) → length ss ≡ length ns → slice_get ss i ≡ Some s → (n : N) × (slice_get (zip ns ss) i ≡ Some (n, s))
+  slot-zip [] [] i s e f = absurd (cc)
+  slot-zip [] (t ∷ ss) i s e f = absurd (omega arith)
+  slot-zip (m ∷ ns) [] i s e f = absurd (omega arith)
+  slot-zip (m ∷ ns) (t ∷ ss) zero s e f = let b : t ≡ s = cc in (m, λ k. Some (m, b k))
+  slot-zip (m ∷ ns) (t ∷ ss) (suc i) s e f = slot-zip ns ss i s (omega arith) f
+
+  -- the slot that is read at the place of a node
+  pub found-zip : (test : N → Bool) (ns : List N) (ss : List X) (i : ℕ) (s t : X) → length ss ≡ length ns → position test ns ≡ Some i → s ≡ get_or ss i s → s ≡ t → (n : N) × (slice_get (zip ns ss) i ≡ Some (n, t)) × (test n ≡ true)
+  found-zip test [] ss i s t e at is same = absurd (cc)
+  found-zip test (n ∷ ns) ss i s t e at is same =
+      let p = position-Some test (n ∷ ns) i n at in
+      let m : N = get_or (n ∷ ns) i n in
+      (m, there-zip (n ∷ ns) ss i m t (slice_get-get_or (n ∷ ns) i n p.0) (slice_get_read ss (length ss) i s refl (let lt = p.0 in omega arith) is ∙ ap (λ (x : X). Some x) same), p.1)
+
+module _ {N : Type 0} where
+  -- a new key goes last
+  pub new-key : (eq : N → N → Bool) (ns : List N) (n : N) → list_any (eq n) ns ≡ false → insert_key eq ns n ≡ ns ++ n ∷ []
+  new-key eq ns n none = ap (λ b. if b then ns else ns ++ n ∷ []) none
+
+  -- what is lent at a place
+  pub some-at : (r : Option (Bor N)) (o : Option N) → option_copied r ≡ o → IfSome r (λ n. o ≡ Some n.now)
+  some-at None o e = tt
+  some-at (Some n) o e = sym e
+
+  pub none-at : (r : Option (Bor N)) (o : Option N) → option_copied r ≡ o → IfNone r (o ≡ None)
+  none-at None o e = sym e
+  none-at (Some n) o e = tt
