@@ -123,7 +123,6 @@ impl<N: Held> Board<N> {
     }
 
     /// A new note of an owner, with its item in a list.
-    #[inline(always)]
     fn link_next(&mut self, owner: u32, list: u32) -> Result<(), AllocError>
         requires owner_in { owner < length self.old.notes }
         requires list_in { list < length self.old.lists }
@@ -221,16 +220,34 @@ impl<N: Held> Board<N> {
         self.notes.reach(count as usize)
     }
 
-    /// New notes of an owner, with their items in the lists of a range. Where memory is refused, it has some of them.
+    /// How many notes an owner has.
+    pub(crate) fn noted(&mut self, owner: u32) -> Result<u32, AllocError>
+        requires { owner < length self.old.notes }
+        ensures count { IfOk result (λ count. count ≡ length (row self.old.notes owner)) }
+        ensures notes { self.new.notes ≡ self.old.notes }
+        ensures lists { self.new.lists ≡ self.old.lists }
+    {
+        number(self.notes.len(owner))
+    }
+
+    /// New notes of an owner, with their items in the lists of a range. The owner has so many notes. Where memory is
+    /// refused, it has some of the new ones.
     #[inline(always)]
-    pub(crate) fn link_range(&mut self, owner: u32, first: u32, end: u32) -> Result<(), AllocError>
+    pub(crate) fn link_range(
+        &mut self,
+        owner: u32,
+        index: u32,
+        first: u32,
+        end: u32,
+    ) -> Result<(), AllocError>
         requires owner_in { owner < length self.old.notes }
+        requires index { index ≡ length (row self.old.notes owner) }
         ensures ok { OnOk result (named self.new.notes ≡ slice_set (named self.old.notes) owner (row (named self.old.notes) owner ++ numbers_from first (end - first))) }
         ensures err { OnErr result (IsRowChanged (named self.old.notes) (named self.new.notes) owner) }
         ensures count { length self.old.lists ≤ length self.new.lists }
     {
         if end.saturating_sub(first) == 1 && (first as usize) < self.lists.rows() {
-            self.link_next(owner, first)
+            self.link(owner, index, first)
         } else {
             self.link_each(owner, first, end)
         }
@@ -255,6 +272,7 @@ impl<N: Held> Board<N> {
 
     /// New notes of an owner that has none, with their items in these lists. Where memory is refused, it has none
     /// again.
+    #[inline(always)]
     pub(crate) fn link_all(&mut self, owner: u32, lists: &[u32]) -> Result<(), AllocError>
         requires owner_in { owner < length self.old.notes }
         requires none { row (named self.old.notes) owner ≡ [] }

@@ -11,10 +11,10 @@ use std::alloc::AllocError;
 /// A row of pins. The first few lie in the row itself. A row that had more than these at some time has the number of a
 /// list instead, in which all of its pins are.
 pub(crate) trait Held: Copy + Drop {
-    // The pins of a row, beside the lists of the long ones.
+    /// The pins of a row, beside the lists of the long ones.
     ghost pins: { List (List Pin) → Self → List Pin };
 
-    // The list of a row that has one.
+    /// The list of a row that has one.
     ghost list: { Self → Option ℕ };
 
     /// A row without pins.
@@ -55,6 +55,6 @@ pub(crate) trait Held: Copy + Drop {
         ensures err { OnErr result (pins long.new self.new ≡ pins long.old self.old) }
         ensures moves { Moves long.old long.new (list self.old) (list self.new) };
 
-    // A row's pins depend on its own list alone.
+    /// A row's pins depend on its own list alone.
     ghost own: { (x : Self) (old new : List (List Pin)) → ((n : ℕ) → list x ≡ Some n → row new n ≡ row old n) → pins new x ≡ pins old x };
 }

@@ -250,10 +250,11 @@ impl Parts {
         Some(slot)
     }
 
-    /// Notes the pages that a use of a slot meets, after those that it has.
+    /// Notes the pages that a use of a slot meets, after those that it has, which are so many.
     #[inline(always)]
-    fn meet(&mut self, slot: u32, used: Use) -> Result<(), AllocError>
-        requires { slot < length self.old.pages.notes }
+    fn meet(&mut self, slot: u32, count: u32, used: Use) -> Result<(), AllocError>
+        requires slot_in { slot < length self.old.pages.notes }
+        requires count { count ≡ length (row self.old.pages.notes slot) }
         ensures same { IsMeeting self.old self.new }
         ensures ok { OnOk result (named self.new.pages.notes ≡ slice_set (named self.old.pages.notes) slot (row (named self.old.pages.notes) slot ++ pages_of used)) }
         ensures err { OnErr result (IsRowChanged (named self.old.pages.notes) (named self.new.pages.notes) slot) }
@@ -261,14 +262,43 @@ impl Parts {
         match used {
             Use::Bytes(from, to) => {
                 let end = from.max(to.saturating_sub(1)) / PAGE + 1;
-                self.pages.link_range(slot, from / PAGE, end)
+                self.pages.link_range(slot, count, from / PAGE, end)
             }
             Use::Reach(_) => Ok(()),
             Use::Size => Ok(()),
         }
     }
 
-    /// Notes the pages that the uses of a slot without notes meet. Where memory is refused, it has some of them.
+    /// Notes the pages that a use of a slot meets, after those that it has.
+    fn meet_next(&mut self, slot: u32, used: Use) -> Result<(), AllocError>
+        requires { slot < length self.old.pages.notes }
+        ensures same { IsMeeting self.old self.new }
+        ensures ok { OnOk result (named self.new.pages.notes ≡ slice_set (named self.old.pages.notes) slot (row (named self.old.pages.notes) slot ++ pages_of used)) }
+        ensures err { OnErr result (IsRowChanged (named self.old.pages.notes) (named self.new.pages.notes) slot) }
+    {
+        let count = self.pages.noted(slot)?;
+        self.meet(slot, count, used)
+    }
+
+    /// Notes the pages that the uses of a slot without notes meet, use by use. Where memory is refused, it has some of
+    /// them.
+    #[cold]
+    #[inline(never)]
+    fn meet_each(&mut self, slot: u32, uses: &[Use]) -> Result<(), AllocError>
+        requires slot_in { slot < length self.old.pages.notes }
+        requires none { row (named self.old.pages.notes) slot ≡ [] }
+        ensures same { IsMeeting self.old self.new }
+        ensures ok { OnOk result (named self.new.pages.notes ≡ slice_set (named self.old.pages.notes) slot (pages_in uses.now)) }
+        ensures err { OnErr result (IsRowChanged (named self.old.pages.notes) (named self.new.pages.notes) slot) }
+    {
+        for used in uses {
+            self.meet_next(slot, *used)?;
+        }
+        Ok(())
+    }
+
+    /// Notes the pages that the uses of a slot without notes meet; most slots have none or one. Where memory is refused,
+    /// it has some of them.
     #[inline(always)]
     fn meet_all(&mut self, slot: u32, uses: &[Use]) -> Result<(), AllocError>
         requires slot_in { slot < length self.old.pages.notes }
@@ -277,10 +307,10 @@ impl Parts {
         ensures ok { OnOk result (named self.new.pages.notes ≡ slice_set (named self.old.pages.notes) slot (pages_in uses.now)) }
         ensures err { OnErr result (IsRowChanged (named self.old.pages.notes) (named self.new.pages.notes) slot) }
     {
-        for used in uses {
-            self.meet(slot, *used)?;
+        match uses {
+            [used] => self.meet(slot, 0, *used),
+            _ => self.meet_each(slot, uses),
         }
-        Ok(())
     }
 
     /// Gives a slot without any what it asked and uses. Where memory is refused, it has nothing again.

@@ -2,7 +2,7 @@ use Rattle.std.proofs.Common.{◌≡◌, set, take}
 use Rattle.ksv_memo_links.specs.Touching.{pages_in}
 use Rattle.ksv_memo_links.specs.Linked.{named}
 use Rattle.ksv_memo_links.specs.Forgetting.{IsMeeting}
-use Rattle.ksv_memo_links.proofs.parts.Parts.meet_all.Given as goal
+use Rattle.ksv_memo_links.proofs.parts.Parts.meet_each.Given as goal
 
 abbrev pub invariant-loop-used : goal.invariant-loop-used
 invariant-loop-used l = record {

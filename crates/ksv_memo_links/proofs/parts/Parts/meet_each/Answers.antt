@@ -10,7 +10,7 @@ use Rattle.ksv_memo_links.specs.Forgetting.{IsMeeting}
 use Rattle.ksv_memo_links.proofs.Edits.{row_set}
 use Rattle.ksv_memo_links.proofs.Writing.{on_err_always}
 use Rattle.ksv_memo_links.proofs.Keeping.{wide}
-use Rattle.ksv_memo_links.proofs.parts.Parts.meet_all.Goals as goal
+use Rattle.ksv_memo_links.proofs.parts.Parts.meet_each.Goals as goal
 
 pages-more : (us : List Use) (i : ℕ) → i < length us → pages_in (take (i + 1) us) ≡ pages_in (take i us) ++ pages_of (get_or us i (Bytes 0 0))
 pages-more us i lt = ap pages_in (take_more us i (Bytes 0 0) lt) ∙ flat_map-append pages_of (take i us) (get_or us i (Bytes 0 0) ∷ []) ∙ ap (λ ps. pages_in (take i us) ++ ps) (append-nil (pages_of (get_or us i (Bytes 0 0))))
@@ -35,9 +35,9 @@ loop-used-init c =
       rows = sym (ap (λ xs. set B c.args.slot xs) (sym c.requires.none) ∙ set-get_or B c.args.slot []);
     }
 
-pub returns-in_err-meet-clause-err : goal.returns-in_err-meet-clause-err
-returns-in_err-meet-clause-err c =
-    on_err_always c.from_residual.result (changed (named c.args.self.now.pages.notes) (named c.loop-used.self.pages.notes) (named c.meet.new.self.pages.notes) c.args.slot _ c.loop-used.invariant.rows c.in_err-meet.ensures.err)
+pub returns-in_err-meet_next-clause-err : goal.returns-in_err-meet_next-clause-err
+returns-in_err-meet_next-clause-err c =
+    on_err_always c.from_residual.result (changed (named c.args.self.now.pages.notes) (named c.loop-used.self.pages.notes) (named c.meet_next.new.self.pages.notes) c.args.slot _ c.loop-used.invariant.rows c.in_err-meet_next.ensures.err)
 
 pub loop-used-preserved : goal.loop-used-preserved
 loop-used-preserved c =
@@ -48,6 +48,6 @@ loop-used-preserved c =
     let k = c.requires.slot_in in
     let lt : i < length us = c.loop-used-test.true in
     record {
-      same = met-more c.loop-used.invariant.same c.meet.ensures.same;
-      rows = again B (named c.loop-used.self.pages.notes) (named c.meet.new.self.pages.notes) c.args.slot (pages_in (take i us)) (pages_of (get_or us i (Bytes 0 0))) (omega arith) c.loop-used.invariant.rows c.in_ok-meet.ensures.ok ∙ ap (λ ps. set B c.args.slot ps) (sym (pages-more us i lt));
+      same = met-more c.loop-used.invariant.same c.meet_next.ensures.same;
+      rows = again B (named c.loop-used.self.pages.notes) (named c.meet_next.new.self.pages.notes) c.args.slot (pages_in (take i us)) (pages_of (get_or us i (Bytes 0 0))) (omega arith) c.loop-used.invariant.rows c.in_ok-meet_next.ensures.ok ∙ ap (λ ps. set B c.args.slot ps) (sym (pages-more us i lt));
     }
