@@ -1,5 +1,5 @@
 -- What the moves of the table come to for a question.
-use Rattle.std.proofs.Common.{true≢false, ◌≡◌, ℕ, ◌+◌, nat_lt, arith, Bool, true, false, List, [], ◌∷◌, length, Option, Some, None, refl, sym, ◌∙◌, ap, subst, inl, inr}
+use Rattle.std.proofs.Common.{true≢false, ◌≡◌, ℕ, ◌+◌, ◌<◌, nat_lt, arith, Bool, true, false, List, [], ◌∷◌, length, Option, Some, None, refl, sym, ◌∙◌, ap, subst, inl, inr}
 use Rattle.std.proofs.lemmas.Bool.Decides.{Decides-ltb}
 use Rattle.std.specs.Cmp.{IsEquivalence}
 use Rattle.std.specs.List.{list_any}
@@ -13,7 +13,7 @@ use Rattle.ksv_memo_rules.specs.Entry.{Entry}
 use Rattle.ksv_memo.specs.Open.{Open, newly, with_uses, with_answer}
 use Rattle.ksv_memo.specs.Nodes.{Nodes, IsEntry, HasNoEntry, Replies, Opens, Circles, Starts, Steps, Closes, MayKeep}
 use Rattle.ksv_memo_rules.specs.Right.{nodes_of, IsRight, counted, Agrees}
-use Rattle.ksv_memo.specs.Running.{account_of, account_at, GoesOn, GoesOnWith, HasFinished, Advances, IsLeft, IsRunning, HasReached, AdvancesFrom, AdvancesAt, LeftFrom, LeftAt, Holds, HoldsWith, Counts, CountsWith, rest_of, to_keep, debt, AreSame}
+use Rattle.ksv_memo.specs.Running.{account_of, account_at, GoesOn, GoesOnWith, HasFinished, Advances, IsLeft, IsRunning, HasReached, AdvancesFrom, AdvancesAt, LeftFrom, LeftAt, Holds, HoldsWith, Counts, CountsWith, rest_of, to_keep, debt, AreSame, calls_left, turns_left}
 use Rattle.ksv_memo_rules.proofs.Evals.{IsOut}
 use Rattle.ksv_memo_rules.proofs.Keeping.{IsIn, agrees, self_in}
 use Rattle.ksv_memo.proofs.Laying.{one_of-all}
@@ -70,10 +70,6 @@ module _ {N A : Type 0} (w : Standing N A) (law : IsSettled w) (eq : N → N →
   closes_left es (o ∷ st) a now reached (inl same) = left-same w law es now _ reached.0.right same
   closes_left es (o ∷ st) a now reached (inr keeps) = finish-left w law es now keeps.front keeps.back o st a keeps.once reached.0 reached.1 keeps.each keeps.was keeps.kept
 
-  pub done_left : (es : List (Entry N A)) (st : List (Open N A)) (a : A) (t : List (Entry N A)) → HasReached w es st (Done a) → t ≡ es → LeftAt w es st (Done a) t
-  done_left es [] a t reached same = absurd reached
-  done_left es (o ∷ st) a t reached same = left-same w law es t _ reached.0.right same
-
   -- ---- a call
   pub reached : (es : List (Entry N A)) (st now : List (Open N A)) (s : Next N A) → IsRunning w es st → Steps w st now s → HasReached w es now s
   reached es [] now s runs steps = absurd runs
@@ -92,6 +88,39 @@ module _ {N A : Type 0} (w : Standing N A) (law : IsSettled w) (eq : N → N →
   leaves es (o ∷ st) now s t runs steps h =
       let at : LeftAt w es (with_uses o (w.added o.node o.replies) ∷ st) s t = subst (λ xs. LeftAt w es xs s t) steps.1 h in
       subst (λ acc. IsLeft w acc.all es t) (turn-account w law es o st s steps.0 runs.1) at
+
+  -- ---- between two turns
+  running : (es ks : List (Entry N A)) (n : N) (st : List (Open N A)) → HoldsWith w n es ks st → IsRunning w ks st
+  running es ks n [] h = absurd h
+  running es ks n (o ∷ st) h = (h.stack, h.came)
+
+  -- a call leaves what is kept
+  pub reached_on : (es ks kept : List (Entry N A)) (n : N) (st now : List (Open N A)) (s : Next N A) → HoldsWith w n es ks st → Steps w st now s → kept ≡ ks → HasReached w kept now s
+  reached_on es ks kept n st now s h steps same = subst (λ xs. HasReached w xs now s) (sym same) (reached ks st now s (running es ks n st h) steps)
+
+  pub moves_on : (es ks kept : List (Entry N A)) (n : N) (st now : List (Open N A)) (s : Next N A) (t : Nodes N A) (out : Option (Outcome N A)) → HoldsWith w n es ks st → Steps w st now s → kept ≡ ks → AdvancesAt w kept now s t out → AdvancesFrom w ks st t out
+  moves_on es ks kept n st now s t out h steps same rest = advances ks st now s t out (running es ks n st h) steps (subst (λ xs. AdvancesAt w xs now s t out) same rest)
+
+  left_next : (es ks : List (Entry N A)) (n : N) (st : List (Open N A)) (t : List (Entry N A)) → HoldsWith w n es ks st → LeftFrom w ks st t → IsLeft w (to_keep w es (done w [] n)) es t
+  left_next es ks n [] t h left = absurd h
+  left_next es ks n (o ∷ st) t h left = record { right = left.right; grown = λ x k. left.grown x (h.grown x k); within = λ x k. sym (h.all x) ∙ left.within x k }
+
+  -- memory was refused: nothing more is kept, or what the rest of the turn keeps
+  pub left_same : (es ks : List (Entry N A)) (n : N) (st : List (Open N A)) (t : List (Entry N A)) → HoldsWith w n es ks st → t ≡ ks → IsLeft w (to_keep w es (done w [] n)) es t
+  left_same es ks n [] t h same = absurd h
+  left_same es ks n (o ∷ st) t h same = left_next es ks n (o ∷ st) t h (left-same w law ks t (rest_of w o st) h.stack.right same)
+
+  pub left_on : (es ks kept : List (Entry N A)) (n : N) (st now : List (Open N A)) (s : Next N A) (t : List (Entry N A)) → HoldsWith w n es ks st → Steps w st now s → kept ≡ ks → LeftAt w kept now s t → IsLeft w (to_keep w es (done w [] n)) es t
+  left_on es ks kept n st now s t h steps same left = left_next es ks n st t h (leaves ks st now s t (running es ks n st h) steps (subst (λ xs. LeftAt w xs now s t) same left))
+
+  -- fewer turns are left
+  pub fewer_next : (es ks : List (Entry N A)) (n : N) (st : List (Open N A)) (now : Nodes N A) → HoldsWith w n es ks st → AdvancesFrom w ks st now None → turns_left w now.kept now.opened < turns_left w ks st
+  fewer_next es ks n [] now h goes = absurd h
+  fewer_next es ks n (o ∷ st) now h goes = by now.kept now.opened goes
+    where
+      by : (qs : List (Entry N A)) (xs : List (Open N A)) → GoesOnWith w (account_of w ks o st) ks qs xs → turns_left w qs xs < calls_left w ks o st
+      by qs [] g = absurd g
+      by qs (p ∷ rest) g = g.fewer
 
   -- ---- a question
   -- what the end of a question leaves

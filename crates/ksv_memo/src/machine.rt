@@ -1,11 +1,11 @@
 //! The machine that runs nodes on a stack of open nodes, and keeps what they answer.
-ghost use Rattle.std.specs.Prelude.{◌≡◌, [], None, length, nat_lt, false, IfOk, OnOk, OnErr};
+ghost use Rattle.std.specs.Prelude.{◌≡◌, [], Some, length, nat_lt, false, IfOk, OnOk, OnErr};
 ghost use Rattle.ksv_memo_rules.specs.Meaning.{on};
 ghost use Rattle.ksv_memo_rules.specs.Evaluation.{tells, done, IsAnswered};
 ghost use Rattle.ksv_memo.specs.Nodes.{Steps};
 ghost use Rattle.ksv_memo_rules.specs.Slots.{lent};
 ghost use Rattle.ksv_memo_rules.specs.Right.{IsRight, nodes_of, counted};
-ghost use Rattle.ksv_memo.specs.Running.{AreSame, AdvancesAt, AdvancesFrom, HasReached, IsLeft, IsRunning, LeftAt, LeftFrom, debt, to_keep};
+ghost use Rattle.ksv_memo.specs.Running.{AreSame, AdvancesAt, HasReached, IsLeft, IsRunning, LeftAt, debt, to_keep};
 
 use crate::table::Table;
 use ksv_bytes::Buffer;
@@ -54,49 +54,6 @@ impl<R: Rules> Machine<R> {
         self.table.turn(self.alloc, rules, bytes, &mut self.turns)
     }
 
-    /// Runs the last open node for one turn. If that ends the question, the outcome is put into `ended`.
-    #[inline(always)]
-    fn advance(
-        &mut self,
-        rules: &R,
-        bytes: &Buffer,
-        ended: &mut Option<Outcome<R::Node, Reply<R>>>,
-    ) -> Result<(), AllocError>
-        requires goes_on { ended.old ≡ None }
-        requires running { IsRunning (on (R.meaning rules.now) bytes.now) self.old.table.kept self.old.table.opened }
-        ensures ok { OnOk result (AdvancesFrom (on (R.meaning rules.now) bytes.now) self.old.table.kept self.old.table.opened self.new.table ended.new) }
-        ensures err { OnErr result (LeftFrom (on (R.meaning rules.now) bytes.now) self.old.table.kept self.old.table.opened self.new.table.kept) }
-        ensures turns { OnOk result (self.new.turns ≡ counted 1 self.old.turns) }
-    {
-        match self.turn(rules, bytes) {
-            Ok(Next::Done(answer)) => self.finish(rules, bytes, answer, ended),
-            Ok(Next::Need(asked)) => self.need(rules, bytes, asked, ended),
-            Err(refused) => Err(refused),
-        }
-    }
-
-    /// Keeps the answer of the last open node, which the one below gets. Where there is none, it ends the question.
-    #[inline(always)]
-    fn finish(
-        &mut self,
-        rules: &R,
-        bytes: &Buffer,
-        answer: Reply<R>,
-        ended: &mut Option<Outcome<R::Node, Reply<R>>>,
-    ) -> Result<(), AllocError>
-        requires goes_on { ended.old ≡ None }
-        requires reached { HasReached (on (R.meaning rules.now) bytes.now) self.old.table.kept self.old.table.opened (Next.Done answer) }
-        ensures ok { OnOk result (AdvancesAt (on (R.meaning rules.now) bytes.now) self.old.table.kept self.old.table.opened (Next.Done answer) self.new.table ended.new) }
-        ensures err { OnErr result (LeftAt (on (R.meaning rules.now) bytes.now) self.old.table.kept self.old.table.opened (Next.Done answer) self.new.table.kept) }
-        ensures turns { self.new.turns ≡ self.old.turns }
-    {
-        if self.table.waits() {
-            self.table.close(self.alloc, answer)?;
-            return Ok(());
-        }
-        self.end(rules, bytes, answer, ended)
-    }
-
     /// Keeps the answer of the only open node, which ends the question.
     #[cold]
     #[inline(never)]
@@ -105,43 +62,16 @@ impl<R: Rules> Machine<R> {
         rules: &R,
         bytes: &Buffer,
         answer: Reply<R>,
-        ended: &mut Option<Outcome<R::Node, Reply<R>>>,
-    ) -> Result<(), AllocError>
+    ) -> Result<Outcome<R::Node, Reply<R>>, AllocError>
         requires alone { nat_lt 1 (length self.old.table.opened) ≡ false }
         requires reached { HasReached (on (R.meaning rules.now) bytes.now) self.old.table.kept self.old.table.opened (Next.Done answer) }
-        ensures ok { OnOk result (AdvancesAt (on (R.meaning rules.now) bytes.now) self.old.table.kept self.old.table.opened (Next.Done answer) self.new.table ended.new) }
+        ensures ok { IfOk result (λ outcome. AdvancesAt (on (R.meaning rules.now) bytes.now) self.old.table.kept self.old.table.opened (Next.Done answer) self.new.table (Some outcome)) }
         ensures err { OnErr result (LeftAt (on (R.meaning rules.now) bytes.now) self.old.table.kept self.old.table.opened (Next.Done answer) self.new.table.kept) }
         ensures turns { self.new.turns ≡ self.old.turns }
     {
         let reply = rules.copy_answer(self.alloc, lend(&answer))?;
         self.table.close(self.alloc, answer)?;
-        *ended = Some(Outcome::Answered(reply));
-        Ok(())
-    }
-
-    /// Asks for what the last open node needs. A node that is open ends the question.
-    #[inline(always)]
-    fn need(
-        &mut self,
-        rules: &R,
-        bytes: &Buffer,
-        asked: R::Node,
-        ended: &mut Option<Outcome<R::Node, Reply<R>>>,
-    ) -> Result<(), AllocError>
-        requires goes_on { ended.old ≡ None }
-        requires reached { HasReached (on (R.meaning rules.now) bytes.now) self.old.table.kept self.old.table.opened (Next.Need asked) }
-        ensures ok { OnOk result (AdvancesAt (on (R.meaning rules.now) bytes.now) self.old.table.kept self.old.table.opened (Next.Need asked) self.new.table ended.new) }
-        ensures err { OnErr result (self.new.table.kept ≡ self.old.table.kept) }
-        ensures turns { self.new.turns ≡ self.old.turns }
-    {
-        match self.table.ask(asked) {
-            Ok(None) => Ok(()),
-            Ok(Some(node)) => {
-                *ended = Some(Outcome::Circle(node));
-                Ok(())
-            }
-            Err(refused) => Err(refused),
-        }
+        Ok(Outcome::Answered(reply))
     }
 
     /// Takes out all open nodes.
@@ -172,11 +102,21 @@ impl<R: Rules> Machine<R> {
         if let Some(outcome) = known {
             return Ok(outcome);
         }
-        let mut ended = None;
+        // A turn stands here, and not in a function of its own, which would be too large to be inlined.
         loop {
-            self.advance(rules, bytes, &mut ended)?;
-            if let Some(outcome) = ended {
-                return Ok(outcome);
+            match self.turn(rules, bytes) {
+                Ok(Next::Done(answer)) => {
+                    if !self.table.waits() {
+                        return self.end(rules, bytes, answer);
+                    }
+                    self.table.close(self.alloc, answer)?;
+                }
+                Ok(Next::Need(asked)) => match self.table.ask(asked) {
+                    Ok(None) => continue,
+                    Ok(Some(node)) => return Ok(Outcome::Circle(node)),
+                    Err(refused) => return Err(refused),
+                },
+                Err(refused) => return Err(refused),
             }
         }
     }

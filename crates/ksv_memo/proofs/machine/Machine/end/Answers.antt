@@ -1,19 +1,9 @@
-use Rattle.std.proofs.Common.{◌∙◌, refl}
+use Rattle.std.proofs.Common.{◌∙◌}
 use Rattle.ksv_memo_rules.specs.Meaning.{on}
 use Rattle.ksv_memo_rules.proofs.Standing.{law_on}
 use Rattle.ksv_memo.proofs.Turns.{on_err_always}
-use Rattle.ksv_memo.proofs.Taking.{closes_last, closes_left, done_left}
+use Rattle.ksv_memo.proofs.Taking.{closes_last, closes_left}
 use Rattle.ksv_memo.proofs.machine.Machine.end.Goals as goal
-
-pub returns-in_err-reply-clause-err : goal.returns-in_err-reply-clause-err
-returns-in_err-reply-clause-err g c =
-    let w = on (g.R.Rules.meaning c.args.rules.now) c.args.bytes.now in
-    let law = law_on (g.R.Rules.meaning c.args.rules.now) (g.met.R.Rules.lawful c.args.rules.now) c.args.bytes.now in
-    let eq = g.R.Node.PartialEq.eq in
-    let laws = g.met.R.Node.Eq.laws in
-    let exact = g.met.R.Rules.exact in
-    let old = c.args.self.now.table in
-    on_err_always _ (done_left w law eq laws exact old.kept old.opened c.args.answer old.kept c.requires.reached refl)
 
 pub returns-in_err-close-clause-err : goal.returns-in_err-close-clause-err
 returns-in_err-close-clause-err g c =
