@@ -117,6 +117,7 @@ impl Lists {
     }
 
     /// Puts a pin at the end of a list. Its place there.
+    #[inline(always)]
     pub(crate) fn push(&mut self, list: u32, pin: Pin) -> Result<u32, AllocError>
         requires { list < length self.old }
         ensures place { IfOk result (λ place. place ≡ length (row self.old list)) }
