@@ -32,6 +32,27 @@ pub(crate) fn each_once(
     Ok(once)
 }
 
+/// Keeps a slot whose uses may be several, with the slots that it asked and each of its uses once.
+#[cold]
+#[inline(never)]
+fn keep_several(
+    alloc: Global,
+    links: &mut Links,
+    slot: u32,
+    asked: &[u32],
+    uses: &[Use],
+) -> Result<(), AllocError>
+    requires idle { links.old.waits ≡ [] }
+    requires slot_in { slot < length links.old.kept }
+    requires out { is_kept links.old.kept slot ≡ false }
+    requires asked_kept { All (λ s. is_kept links.old.kept s ≡ true) asked.now }
+    ensures ok { OnOk result (KeepsOnce links.old links.new slot asked.now uses.now) }
+    ensures err { OnErr result (IsUnchanged links.old links.new) }
+{
+    let once = each_once(alloc, uses)?;
+    links.keep(slot, asked, once.as_slice())
+}
+
 /// Keeps a slot, with the slots that it asked and each of its uses once. Most nodes have one use or none, which need no copy.
 #[inline(always)]
 pub(crate) fn keep_once(
@@ -51,6 +72,5 @@ pub(crate) fn keep_once(
     if uses.len() < 2 {
         return links.keep(slot, asked, uses);
     }
-    let once = each_once(alloc, uses)?;
-    links.keep(slot, asked, once.as_slice())
+    keep_several(alloc, links, slot, asked, uses)
 }
