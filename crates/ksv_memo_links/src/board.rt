@@ -58,6 +58,7 @@ impl<N: Held> Board<N> {
     }
 
     /// Takes the last note of an owner, if there is one, and its item.
+    #[inline(always)]
     pub(crate) fn unlink(&mut self, owner: u32) -> bool
         requires { owner < length self.old.notes }
         ensures result { IsTrue result ↔ (0 < length (row self.old.notes owner)) }

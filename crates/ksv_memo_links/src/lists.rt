@@ -29,6 +29,7 @@ fn write(pins: &mut Vec<Pin>, i: u32, pin: Pin)
 const ROOM: usize = 256;
 
 /// Takes the last pin, if there is one. A list that is empty then, and had more room than a few, gives it back.
+#[inline(always)]
 fn cut(alloc: Global, pins: &mut Vec<Pin>) -> Option<Pin>
     ensures last { result ≡ slice_get pins.old.items (length pins.old.items - 1) }
     ensures rest { pins.new.items ≡ take (length pins.old.items - 1) pins.old.items }

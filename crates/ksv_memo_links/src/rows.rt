@@ -81,6 +81,7 @@ impl<R: Held> Rows<R> {
     }
 
     /// Takes the pin at a place of a row; the row's last pin is there then.
+    #[inline(always)]
     pub(crate) fn swap_remove(&mut self, r: u32, i: u32) -> Pin
         requires row_in { r < length self.old }
         requires item_in { i < length (row self.old r) }
