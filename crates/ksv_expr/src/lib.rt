@@ -13,7 +13,7 @@ mod expressions;
 
 pub use ksv_expr_eval::{
     Ctx, Element, Encoding, EvalStep, Expr, Fault, FaultKind, Got, Integer, Parts, Path, Place,
-    Step, Stream, Text, Value, Want, bits_are_told, division_is_floored, equal_paths_are_same,
-    eval, is_bounded, meaning_is_direct, paths_are_numbered, truth_is_met,
+    Step, Stream, StreamEnd, Text, Value, Want, bits_are_told, division_is_floored,
+    equal_paths_are_same, eval, is_bounded, meaning_is_direct, paths_are_numbered, truth_is_met,
 };
 pub use ksv_expr_syntax::{ExprFault, ExprFaultKind, parse, parse_type};

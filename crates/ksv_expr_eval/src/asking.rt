@@ -254,7 +254,7 @@ pub(crate) fn stream_size<By, A: Answers<By>>(
 ) -> Result<Value, Halt<A::Need>>
     ensures { Runs (A.handler ctx.now) (stream_size stream) (λ v. v) answers.old answers.new result }
 {
-    match stream.to {
+    match stream.to.get() {
         None => {
             let size = number_for(answers, ctx, Want::Size)?;
             distance(answers, ctx, size, stream.from)

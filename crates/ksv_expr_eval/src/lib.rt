@@ -52,6 +52,6 @@ pub use ksv_expr_meaning::{
 };
 pub use ksv_expr_tree::Expr;
 pub use ksv_expr_value::{
-    Ctx, Element, Encoding, Fault, FaultKind, Integer, Parts, Path, Place, Step, Stream, Text,
-    Value, equal_paths_are_same, paths_are_numbered,
+    Ctx, Element, Encoding, Fault, FaultKind, Integer, Parts, Path, Place, Step, Stream, StreamEnd,
+    Text, Value, equal_paths_are_same, paths_are_numbered,
 };

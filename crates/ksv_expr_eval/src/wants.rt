@@ -57,8 +57,8 @@ pub(crate) fn opened_for<By, A: Answers<By>>(
 ) -> Result<Opened, Halt<A::Need>>
     ensures { Runs (A.handler ctx.now) (opened_for want) (λ o. o) answers.old answers.new result }
 {
-    match answers.answer(ctx, want)? {
-        Answer::Object(opened) => Ok(opened),
+    match &answers.answer(ctx, want)? {
+        Answer::Object(opened) => Ok(*opened),
         _ => raise(answers, ctx, FaultKind::BadType),
     }
 }

@@ -3,6 +3,7 @@ pub mod Trail
 pub mod Exact
 pub mod Numbers
 pub mod Places
+pub mod Optional
 pub mod Bits
 pub mod Range
 pub mod Faults

@@ -6,9 +6,13 @@ use Rattle.std.specs.Prelude.{ℕ, ◌+◌, ◌-◌, ◌*◌, ◌/◌, ◌%◌, 
 pub record Place : Type 0 where
   pub bits : ℕ
 
--- the last place that a file of less than 2^32 bytes can have
+-- the most bytes that a file may have, 16 MiB; so no byte of a file has a greater number, and nothing in it ends further on
+abbrev pub end_limit : ℕ
+end_limit = 16777216
+
+-- the last place of a file of that many bytes
 abbrev pub last_place : ℕ
-last_place = 34359738360
+last_place = 8 * end_limit
 
 -- the place where the byte of this number begins
 unfoldable pub at_byte : ℕ → Place

@@ -13,6 +13,7 @@
 //! - `place`: places in a described file
 //! - `step`: one step of a path
 //! - `steps`: the steps of a path
+//! - `stream_end`: ends of streams, in four bytes
 //! - `text`: texts of expressions
 //! - `value`: values of a described file
 //!
@@ -26,6 +27,7 @@
 //! - `Faults`: the names of faults, as replies write them
 //! - `Kept`: where the steps of a path are: in an array, or on the heap
 //! - `Numbers`: numbers of paths, with lemmas that a reader may skip
+//! - `Optional`: optional numbers in 32 bits
 //! - `Places`: places of a file, counted in bits, and the bytes beside them
 //! - `Range`: the range of expressions' integers
 //! - `Setting`: the context in which an expression is evaluated
@@ -52,6 +54,7 @@ mod path;
 mod place;
 mod step;
 mod steps;
+mod stream_end;
 mod text;
 mod value;
 
@@ -64,5 +67,6 @@ pub use parts::Parts;
 pub use path::Path;
 pub use place::Place;
 pub use step::Step;
+pub use stream_end::StreamEnd;
 pub use text::Text;
 pub use value::{Stream, Value};

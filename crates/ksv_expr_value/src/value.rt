@@ -3,16 +3,17 @@ ghost use Rattle.std.specs.Prelude.{◌≡◌, IfOk};
 
 use crate::integer::Integer;
 use crate::path::Path;
+use crate::stream_end::StreamEnd;
 use crate::text::Text;
 use std::alloc::{AllocError, Global};
 
 /// A stream: the range of the file in which an object's places are counted.
-#[derive(Clone, Copy, PartialEq, Eq, Debug)]
+#[derive(Clone, Copy)]
 pub struct Stream {
     /// Its first byte, as a place in the file.
     pub from: u32,
-    /// The place after its last byte; None if it goes on to the file's end, whatever that is.
-    pub to: Option<u32>,
+    /// The place after its last byte, or open if it goes on to the file's end, whatever that is.
+    pub to: StreamEnd,
 }
 
 /// A value.

@@ -7,4 +7,3 @@ pub mod Bounds
 pub mod Numbers
 pub mod Exact
 pub mod Laws
-pub mod Digest

@@ -1,6 +1,6 @@
 -- Turns: a rule runs on the replies so far, over the bytes. What it asks is answered by the replies in their order,
 -- and each reading adds what it depends on to the uses.
-use Rattle.std.specs.Prelude.{◌≡◌, ℕ, ◌<◌, List, [], ◌∷◌, ◌++◌, Option, Some, None, Result, Ok, Err}
+use Rattle.std.specs.Prelude.{◌≡◌, ℕ, ◌<◌, ◌≤◌, List, [], ◌∷◌, ◌++◌, Option, Some, None, Result, Ok, Err}
 use Rattle.std.specs.Borrow.{Bor}
 use Rattle.ksv_basics.specs.Plan.{Answer, Fail, Ask, Ran, Need, Failed, Done, Handler, run}
 use Rattle.ksv_bytes.specs.declared.uses.Use.{Use}
@@ -110,7 +110,7 @@ IsFault f halts.Memory = Unit {0}
 IsFault f (halts.Need n) = ⊥
 IsFault f (halts.Fault e) = e ≡ f
 
--- a byte that was found is at a place below n
+-- a byte that was found is at a place below n, and a stream that has none ends no further on than n
 abbrev pub StandsBelow : ℕ → Found → Type 0
 StandsBelow n (founds.At q) = q < n
-StandsBelow n (founds.Missing e) = Unit {0}
+StandsBelow n (founds.Missing e) = e ≤ n

@@ -2,8 +2,11 @@
 
 ghost use Rattle.std.specs.Prelude.{◌≡◌, IfOk};
 
-use ksv_expr_value::{Place, Stream, Value};
+use crate::case_number::CaseNumber;
+use ksv_expr_value::{Fault, Place, Stream, Value};
+use ksv_memo_rules::Slot;
 use std::alloc::{AllocError, Global};
+use std::mem::size_of;
 
 /// A member of a type of the description.
 #[derive(Clone, Copy)]
@@ -21,7 +24,7 @@ pub struct Origin {
     pub member: MemberRef,
     /// The case that its switch chose, by its place among the cases, from 0; none without a switch, where no case was
     /// chosen, and for a list, each element of which has its own.
-    pub case: Option<u32>,
+    pub case: CaseNumber,
     /// The stream of the object that holds it.
     pub home: Stream,
 }
@@ -124,6 +127,9 @@ pub enum Given {
         place: Place,
     },
 }
+
+// An engine keeps each answer in a slot, so its places, ends of streams and cases take four bytes each.
+const _: () = prove!(size_of::<Slot<Given, Fault>>() == 64);
 
 impl Given {
     /// A copy of the answer.

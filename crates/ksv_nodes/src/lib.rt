@@ -6,6 +6,7 @@
 //!
 //! Modules:
 //!
+//! - `case_number`: which case a switch chose, in four bytes
 //! - `given`: the answers of nodes: head, value, end, rest
 //! - `laws`: the laws of readings, turns and nodes
 //! - `node`: nodes: a kind of question and a path
@@ -17,7 +18,6 @@
 //! Definitions (`specs/`):
 //!
 //! - `Bounds`: how many nodes a rule asks
-//! - `Digest`: the number by which a table finds a node
 //! - `Exact`: a lemma that a reader may skip: nodes that `==` finds equal are the same
 //! - `Laws`: the laws of every rule: true replies, locality, uses within the bytes, an end
 //! - `Numbers`: each node has a number of its own, with lemmas that a reader may skip
@@ -42,12 +42,14 @@
 //! - `Turns`: what turns keep and add
 #![tactic(auto)]
 
+mod case_number;
 mod given;
 mod laws;
 mod node;
 mod search;
 mod turn;
 
+pub use case_number::CaseNumber;
 pub use given::{
     Calc, Ended, Given, Head, Leaf, List, MemberRef, Object, ObjectEnd, Origin, Rested,
 };

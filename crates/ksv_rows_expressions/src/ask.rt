@@ -38,7 +38,8 @@ fn add_end_at(
     let (place, words) = first_word(words);
     let (here, words) = first_word(words);
     let here = path(alloc, here)?;
-    let ctx = Ctx::new(home, stream, Place::at_byte(number(place)), &here);
+    let place = Place::at_byte(number(place).min(16_777_216));
+    let ctx = Ctx::new(home, stream, place, &here);
     let (index, element) = first_word(words);
     match index.parse::<u32>() {
         Ok(index) => add_end_behind(alloc, ctx.within(index), element, row, out),

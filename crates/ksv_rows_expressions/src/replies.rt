@@ -2,7 +2,7 @@
 
 use crate::paths::path;
 use crate::spelled::spelled;
-use ksv_expr::{Fault, FaultKind, Got, Integer, Stream, Text, Value};
+use ksv_expr::{Fault, FaultKind, Got, Integer, Stream, StreamEnd, Text, Value};
 use std::alloc::{AllocError, Global};
 
 /// Adds the reply of some words.
@@ -63,7 +63,15 @@ fn value(alloc: Global, word: &str, first: &str, second: &str) -> Result<Value, 
 pub(crate) fn stream(from: &str, to: &str) -> Stream {
     Stream {
         from: number(from),
-        to: to.parse().ok(),
+        to: stream_end(to),
+    }
+}
+
+/// The end of a stream; no file goes on past the limit.
+fn stream_end(word: &str) -> StreamEnd {
+    match word.parse::<u32>() {
+        Ok(byte) => StreamEnd::at(byte.min(16_777_216)),
+        Err(_) => StreamEnd::open(),
     }
 }
 

@@ -69,7 +69,7 @@ pub(crate) fn show_text(text: &str, out: &mut String) -> Result<(), AllocError> 
 
 /// Adds a stream, with `open` in the place of an end that it hasn't.
 fn show_stream(stream: Stream, out: &mut String) -> Result<(), AllocError> {
-    match stream.to {
+    match stream.to.get() {
         Some(to) => show_two("stream", &stream.from, &to, out),
         None => show_two("stream", &stream.from, &"open", out),
     }

@@ -8,7 +8,8 @@ ghost use Rattle.ksv_rule_meaning.specs.Wanted.{wanted};
 
 use crate::wanted::in_object;
 use ksv_expr_eval::{
-    Answer, Answers, Ctx, Fault, FaultKind, Halt as Stop, Opened, Parts, Path, Stream, Want,
+    Answer, Answers, Ctx, Fault, FaultKind, Halt as Stop, Opened, Parts, Path, Stream, StreamEnd,
+    Want,
 };
 use ksv_nodes::{Halt, Node, Turn};
 use std::alloc::{AllocError, Global};
@@ -48,7 +49,11 @@ fn answer<'a>(turn: &mut Turn<'a>, ctx: &Ctx, want: Want) -> Result<Answer<Parts
             Ok(Answer::Number(u64::from(rested.count)))
         }
         Want::Size => {
-            let size = turn.finish(Stream { from: 0, to: None })?;
+            let whole = Stream {
+                from: 0,
+                to: StreamEnd::open(),
+            };
+            let size = turn.finish(whole)?;
             Ok(Answer::Number(u64::from(size)))
         }
         Want::Done => {

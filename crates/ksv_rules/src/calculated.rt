@@ -75,7 +75,7 @@ fn arguments_for<'d>(turn: &mut Turn, desc: &'d Desc, origin: Origin) -> Result<
     ensures { Runs (arguments_for (plain_pieces desc.now) origin) (λ given. arguments_of (map view given.now)) turn.old turn.new result }
 {
     let field = field_of(turn, desc, origin.member)?;
-    let content = content_of(turn, &field.choice, origin.case)?;
+    let content = content_of(turn, &field.choice, origin.case.get())?;
     given_by(turn, content)
 }
 
@@ -130,15 +130,15 @@ fn argument_value(
     desc: &Desc,
     path: &Path,
     holder: &Path,
-    calc: Calc,
-    origin: Origin,
+    calc: &Calc,
+    origin: &Origin,
 ) -> Result<Value, Halt>
-    ensures { Runs (argument_value (plain_pieces desc.now) path.now holder.now calc.member calc.object origin) (λ value. value) turn.old turn.new result }
+    ensures { Runs (argument_value (plain_pieces desc.now) path.now holder.now calc.now.member calc.now.object origin.now) (λ value. value) turn.old turn.new result }
 {
-    let given = arguments_for(turn, desc, origin)?;
+    let given = arguments_for(turn, desc, *origin)?;
     let members = members_of(desc, calc.object.type_number);
     let argument = argument_at(turn, given, parameters_before(members, calc.member))?;
-    evaluated(turn, path, holder, origin, calc.object.start, argument)
+    evaluated(turn, path, holder, *origin, calc.object.start, argument)
 }
 
 /// The value of a parameter; nothing is given to the root.
@@ -152,9 +152,9 @@ fn parameter_value(
 ) -> Result<Value, Halt>
     ensures { Runs (parameter_value (plain_pieces desc.now) path.now holder.now calc.member calc.object calc.object.origin) (λ value. value) turn.old turn.new result }
 {
-    match calc.object.origin {
+    match &calc.object.origin {
         None => turn.raise(FaultKind::NoSuch),
-        Some(origin) => argument_value(turn, desc, path, holder, calc, origin),
+        Some(origin) => argument_value(turn, desc, path, holder, &calc, origin),
     }
 }
 

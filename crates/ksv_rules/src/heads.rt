@@ -15,8 +15,10 @@ use crate::parts::{end_beside, in_list_above};
 use crate::shapes::shape_at;
 use crate::wanted::{holds, in_object_above, size_of, stream_for};
 use ksv_desc::{Choice, Content, Desc, Field, MemberKind, Repeat};
-use ksv_expr_eval::{Ctx, Expr, FaultKind, Path, Place, Step, Stream};
-use ksv_nodes::{Calc, Ended, Halt, Head, List, MemberRef, Object, ObjectEnd, Origin, Turn};
+use ksv_expr_eval::{Ctx, Expr, FaultKind, Path, Place, Step, Stream, StreamEnd};
+use ksv_nodes::{
+    Calc, CaseNumber, Ended, Halt, Head, List, MemberRef, Object, ObjectEnd, Origin, Turn,
+};
 
 // ---- attributes
 
@@ -62,13 +64,13 @@ fn counted(
 
 /// The elements of an attribute that go on to the stream's end.
 #[tactic(auto, using(ksv_basics::proofs::Running::run_bind), unfolding(ksv_rule_meaning::specs::Heads::until_eos))]
-fn until_eos(turn: &mut Turn, ctx: &Ctx, origin: Origin, stream: Stream) -> Result<Head, Halt>
-    ensures { Runs (until_eos ctx.now origin stream ctx.now.place) (λ head. head) turn.old turn.new result }
+fn until_eos(turn: &mut Turn, ctx: &Ctx, origin: Origin, stream: &Stream) -> Result<Head, Halt>
+    ensures { Runs (until_eos ctx.now origin stream.now ctx.now.place) (λ head. head) turn.old turn.new result }
 {
-    let is_empty = turn.done(stream, ctx.place)?;
+    let is_empty = turn.done(*stream, ctx.place)?;
     Ok(Head::List(List {
         origin,
-        stream,
+        stream: *stream,
         start: ctx.place,
         count: None,
         is_empty,
@@ -90,7 +92,7 @@ fn repeated(
     match &field.repeat {
         Repeat::Once => shape_at(turn, ctx, origin, stream, field),
         Repeat::Expr(count) => counted(turn, ctx, origin, stream, count),
-        Repeat::Eos => until_eos(turn, ctx, origin, stream),
+        Repeat::Eos => until_eos(turn, ctx, origin, &stream),
         Repeat::Until(_) => Ok(Head::List(List {
             origin,
             stream,
@@ -171,7 +173,7 @@ fn origin_of(object: &Object, sought: Sought) -> Origin
             type_number: object.type_number,
             member: sought.member,
         },
-        case: None,
+        case: CaseNumber::none(),
         home: object.stream,
     }
 }
@@ -216,14 +218,14 @@ fn positioned_in(
     turn: &mut Turn,
     ctx: &Ctx,
     origin: Origin,
-    stream: Stream,
+    stream: &Stream,
     position: &Expr,
     field: &Field,
 ) -> Result<Head, Halt>
-    ensures { Runs (positioned_in ctx.now origin stream (view position.now) (plain_field field.now)) (λ head. head) turn.old turn.new result }
+    ensures { Runs (positioned_in ctx.now origin stream.now (view position.now) (plain_field field.now)) (λ head. head) turn.old turn.new result }
 {
     let position = size_of(turn, ctx, position)?;
-    let byte = turn.reach(stream, stream.from, position)?;
+    let byte = turn.reach(*stream, stream.from, position)?;
     let place = Place::at_byte(byte);
     let ctx = Ctx {
         home: ctx.home,
@@ -233,7 +235,7 @@ fn positioned_in(
         element: ctx.element,
         here: ctx.here,
     };
-    repeated(turn, &ctx, origin, stream, field)
+    repeated(turn, &ctx, origin, *stream, field)
 }
 
 /// A parse instance in the stream of its object, or in the one that its `io` names.
@@ -249,7 +251,7 @@ fn positioned(
     ensures { Runs (positioned ctx.now origin (view position.now) (option_map view io.now) (plain_field field.now)) (λ head. head) turn.old turn.new result }
 {
     let stream = stream_for(turn, ctx, io)?;
-    positioned_in(turn, ctx, origin, stream, position, field)
+    positioned_in(turn, ctx, origin, &stream, position, field)
 }
 
 /// A parse instance. One whose condition is false has no place.
@@ -455,7 +457,10 @@ fn root_head() -> Head
     Head::Object(Object {
         origin: None,
         type_number: 0,
-        stream: Stream { from: 0, to: None },
+        stream: Stream {
+            from: 0,
+            to: StreamEnd::open(),
+        },
         start: Place::at_byte(0),
         ending: ObjectEnd::ByFields,
     })

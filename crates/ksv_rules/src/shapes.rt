@@ -15,8 +15,8 @@ ghost use Rattle.ksv_rules.specs.Members.{plain_chosen};
 use crate::choosing::{Chosen, choose};
 use crate::wanted::size_of;
 use ksv_desc::{Content, Extent, Field, Terminator};
-use ksv_expr_eval::{Ctx, Expr, FaultKind, Place, Stream};
-use ksv_nodes::{Found, Halt, Head, Leaf, Object, ObjectEnd, Origin, Turn};
+use ksv_expr_eval::{Ctx, Expr, FaultKind, Place, Stream, StreamEnd};
+use ksv_nodes::{CaseNumber, Found, Halt, Head, Leaf, Object, ObjectEnd, Origin, Turn};
 
 /// As many bytes as a size says, from a place on.
 #[tactic(auto, using(ksv_basics::proofs::Running::run_bind), unfolding(ksv_rule_meaning::specs::Heads::leaf))]
@@ -93,6 +93,7 @@ fn unterminated(
     terminator: Terminator,
     end: u32,
 ) -> Result<Head, Halt>
+    requires { end ≤ file_limit }
     ensures { Runs (terminated_at origin start (plain_terminator terminator) (Missing end)) (λ head. head) turn.old turn.new result }
 {
     if terminator.is_required {
@@ -220,7 +221,7 @@ fn sized_object(
         type_number,
         stream: Stream {
             from: start.byte(),
-            to: Some(end),
+            to: StreamEnd::at(end),
         },
         start,
         ending: ObjectEnd::OfStream,
@@ -327,7 +328,7 @@ fn chosen_at(
         Some(chosen) => {
             let origin = Origin {
                 member: origin.member,
-                case: chosen.case,
+                case: CaseNumber::new(chosen.case)?,
                 home: origin.home,
             };
             content_at(turn, ctx, origin, stream, field, chosen.content)

@@ -317,7 +317,7 @@ fn leaf_value(turn: &mut Turn, desc: &Desc, leaf: &Leaf) -> Result<Value, Halt>
     ensures { Runs (leaf_value (plain_pieces desc.now) leaf.now) (λ value. value) turn.old turn.new result }
 {
     let field = field_of(turn, desc, leaf.origin.member)?;
-    let content = content_of(turn, &field.choice, leaf.origin.case)?;
+    let content = content_of(turn, &field.choice, leaf.origin.case.get())?;
     known_value(turn, *leaf, field, content)
 }
 

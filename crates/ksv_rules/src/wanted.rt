@@ -140,8 +140,8 @@ pub(crate) fn size_of(turn: &mut Turn, ctx: &Ctx, expr: &Expr) -> Result<u64, Ha
 fn in_stream(turn: &mut Turn, value: Value) -> Result<Stream, Halt>
     ensures { Runs (in_stream value) (λ stream. stream) turn.old turn.new result }
 {
-    match value {
-        Value::Stream(stream) => Ok(stream),
+    match &value {
+        Value::Stream(stream) => Ok(*stream),
         _ => turn.raise(FaultKind::BadType),
     }
 }

@@ -5,7 +5,7 @@
 //! size. What a turn is asked and what it needs next follows the replies that stand beside it.
 
 use ksv_bytes::Buffer;
-use ksv_expr_value::{Fault, FaultKind, Parts, Path, Place, Step, Stream, Value};
+use ksv_expr_value::{Fault, FaultKind, Parts, Path, Place, Step, Stream, StreamEnd, Value};
 use ksv_memo_rules::{Replies, Slot};
 use ksv_nodes::{Ended, Found, Given, Halt, Head, Node, NodeKind, Rested, Turn, first_in_parts};
 use std::alloc::{AllocError, Global};
@@ -42,13 +42,16 @@ fn stream_of(word: &str) -> Stream {
     match word {
         "short" => Stream {
             from: 1,
-            to: Some(4),
+            to: StreamEnd::at(4),
         },
         "long" => Stream {
             from: 0,
-            to: Some(9),
+            to: StreamEnd::at(9),
         },
-        _ => Stream { from: 0, to: None },
+        _ => Stream {
+            from: 0,
+            to: StreamEnd::open(),
+        },
     }
 }
 
@@ -56,10 +59,10 @@ fn number(word: Option<&str>) -> u32 {
     word.unwrap_or("").parse().unwrap_or(0u32)
 }
 
-/// A reading, its places or the like, and the stream that it is of.
+/// A reading, its places or the like, and the name of the stream that it is of.
 #[derive(Clone, Copy)]
 struct Reading<'a> {
-    stream: Stream,
+    stream: &'a str,
     word: &'a str,
     first: u32,
     second: u32,
@@ -68,7 +71,7 @@ struct Reading<'a> {
 fn reading_of<'a>(row: &'a str) -> Reading<'a> {
     let mut words = row.split(' ');
     Reading {
-        stream: stream_of(words.next().unwrap_or("")),
+        stream: words.next().unwrap_or(""),
         word: words.next().unwrap_or(""),
         first: number(words.next()),
         second: number(words.next()),
@@ -98,17 +101,18 @@ fn read(turn: &mut Turn, reading: Reading<'_>) -> Result<Seen, Halt> {
 
 fn reach(turn: &mut Turn, reading: Reading<'_>) -> Result<Seen, Halt> {
     let size = u64::from(reading.first);
-    turn.reach(reading.stream, 0, size)?;
+    turn.reach(stream_of(reading.stream), 0, size)?;
     Ok(Seen::Reached)
 }
 
 fn finish(turn: &mut Turn, reading: Reading<'_>) -> Result<Seen, Halt> {
-    let end = turn.finish(reading.stream)?;
+    let end = turn.finish(stream_of(reading.stream))?;
     Ok(Seen::Place(end))
 }
 
 fn is_done(turn: &mut Turn, reading: Reading<'_>) -> Result<Seen, Halt> {
-    let is_done = turn.done(reading.stream, Place::at_byte(reading.first))?;
+    let place = Place::at_byte(reading.first.min(9));
+    let is_done = turn.done(stream_of(reading.stream), place)?;
     Ok(Seen::Done(is_done))
 }
 
@@ -119,7 +123,7 @@ fn peek(turn: &mut Turn, reading: Reading<'_>) -> Result<Seen, Halt> {
 
 fn find(turn: &mut Turn, reading: Reading<'_>) -> Result<Seen, Halt> {
     let byte = u8::try_from(reading.second).unwrap_or(0);
-    let found = turn.find(reading.stream, reading.first, byte)?;
+    let found = turn.find(stream_of(reading.stream), reading.first, byte)?;
     Ok(seen_of(found))
 }
 

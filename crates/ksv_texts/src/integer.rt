@@ -105,7 +105,7 @@ pub fn number_type(desc: &Desc, leaf: Leaf) -> Option<NumberType>
     ensures small { IfSome result IsSmall }
 {
     let field = field_at(desc, leaf)?;
-    type_in(content_in(&field.choice, leaf.origin.case)?)
+    type_in(content_in(&field.choice, leaf.origin.case.get())?)
 }
 
 // ---- the bytes of an integer

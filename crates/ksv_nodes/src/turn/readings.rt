@@ -31,7 +31,7 @@ impl<'a> Turn<'a> {
         ensures fits { IfOk result (λ to. to ≤ file_limit) }
     {
         let to = u128::from(from) + u128::from(size);
-        if let Some(end) = stream.to {
+        if let Some(end) = stream.to.get() {
             if u128::from(end) < to {
                 return self.raise(FaultKind::EndOfBytes);
             }
@@ -48,9 +48,10 @@ impl<'a> Turn<'a> {
     /// The number of the byte after a stream's last one.
     #[tactic(auto, unfolding(crate::specs::Reading::finish_of))]
     pub fn finish(&mut self, stream: Stream) -> Result<u32, Halt>
-        ensures { Runs (finish stream) (λ end. end) self.old self.new result }
+        ensures runs { Runs (finish stream) (λ end. end) self.old self.new result }
+        ensures fits { IfOk result (λ end. end ≤ file_limit) }
     {
-        match stream.to {
+        match stream.to.get() {
             Some(end) => Ok(end),
             None => {
                 self.uses.push(Use::Size)?;
@@ -66,7 +67,7 @@ impl<'a> Turn<'a> {
         ensures { Runs (done stream place) (λ is_done. is_done) self.old self.new result }
     {
         let byte = place.byte_in();
-        if let Some(end) = stream.to {
+        if let Some(end) = stream.to.get() {
             return Ok(end <= byte);
         }
         if (byte as usize) < self.bytes.len() {
@@ -106,10 +107,11 @@ impl<'a> Turn<'a> {
     }
 
     /// Where a stream ends in the bytes. It notes no use.
-    fn end_in(&self, stream: Stream) -> u32
-        ensures { result ≡ end_in self.now.bytes stream.to }
+    fn end_in(&self, stream: &Stream) -> u32
+        ensures end { result ≡ end_in self.now.bytes stream.now.to }
+        ensures fits { result ≤ file_limit }
     {
-        match stream.to {
+        match stream.to.get() {
             Some(end) => end,
             None => self.bytes.len() as u32,
         }
@@ -138,7 +140,7 @@ impl<'a> Turn<'a> {
         ensures runs { Runs (find stream start byte) (λ found. found) self.old self.new result }
         ensures fits { IfOk result (StandsBelow file_limit) }
     {
-        let end = self.end_in(stream);
+        let end = self.end_in(&stream);
         match self.first_in(start, end, byte) {
             Some(place) => {
                 self.uses.push(Use::Bytes(start, start + place + 1))?;
