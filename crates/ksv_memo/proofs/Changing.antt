@@ -5,7 +5,6 @@ use Rattle.std.specs.List.{AllByRecursion}
 use Rattle.std.proofs.lemmas.List.{length-set, get_or-set_same, get_or-set_other, take-append-le, drop-append-le, length-take-le, reverse-append}
 use Rattle.std.proofs.Math.Seq.{take-length, drop-length}
 use Rattle.std.proofs.lemmas.Option.{slice_get-map, slice_get_within}
-use Rattle.indexmap.specs.IndexMap.{set_value_at}
 use Rattle.ksv_bytes.specs.declared.uses.Use.{Use}
 use Rattle.ksv_memo_links.specs.Shelved.{row}
 use Rattle.ksv_memo_links.specs.Touching.{numbers_from}
@@ -18,7 +17,7 @@ use Rattle.ksv_memo.specs.declared.frames.Frames.{Frames}
 use Rattle.ksv_memo_rules.specs.Slots.{answer_in, answer_of, answer_at, answers_at, with_first}
 use Rattle.ksv_memo.specs.Open.{Open, newly, heard}
 use Rattle.ksv_memo.specs.Layout.{IsOneOf, AllDiffer, slots_of, node_at, nodes_at, IsOpen, IsKept, entry_with, entry_at, entries_at, entries_of, open_before, opens_in, opens_of, AreNested, AreLinked, AreFrames}
-use Rattle.ksv_memo.specs.Moves.{IsVacant, Heard, Popped, Framed}
+use Rattle.ksv_memo.specs.Moves.{with_slot, IsVacant, Heard, Popped, Framed}
 use Rattle.ksv_memo_rules.proofs.Lists.{All-map, All-both, All-++}
 use Rattle.ksv_memo.proofs.Finding.{slot_there, node_there, answer_there}
 use Rattle.ksv_memo.proofs.Laying.{++-nil, All-take, same_or, nodes_at-append, answers_at-append, Keeps, IsUsed, HasNode, slot_has_node, stays_kept, same_nodes, same_entry, same_opens, no_entry_at, entries_at-append, entries_at-same, All-numbers, numbers-split}
@@ -38,7 +37,7 @@ pub all_map : {X Y : Type 0} (f : X → Y) (P : Y → Type 0) (xs : List X) → 
 all_map f P [] h = tt
 all_map f P (x ∷ xs) h = (h.0, all_map f P xs h.1)
 
-pub grown : (fs : List Frame) (a b u v : ℕ) → a ≤ b → u ≤ v → AreNested fs a u → AreNested fs b v
+pub grown : {N : Type 0} (fs : List (Frame N)) (a b u v : ℕ) → a ≤ b → u ≤ v → AreNested fs a u → AreNested fs b v
 grown [] a b u v h k n = tt
 grown (f ∷ fs) a b u v h k n = (let le : f.asked ≤ a = n.0 in omega arith, let le : f.uses ≤ u = n.1 in omega arith, n.2)
 
@@ -70,19 +69,19 @@ module _ {N V F : Type 0} where
     before = λ m used e. let none : node_at ps (length ps) ≡ None = ap (option_map (λ p. p.0)) (none_past ps) in absurd (cc);
   }
 
-  set_here : (ps : List (N × Slot V F)) (i : ℕ) (n : N) (t s : Slot V F) → slice_get ps i ≡ Some (n, t) → slice_get (set_value_at ps i s) i ≡ Some (n, s)
+  set_here : (ps : List (N × Slot V F)) (i : ℕ) (n : N) (t s : Slot V F) → slice_get ps i ≡ Some (n, t) → slice_get (with_slot ps i s) i ≡ Some (n, s)
   set_here [] i n t s e = absurd (cc)
   set_here (p ∷ ps) zero n t s e = let same : p ≡ (n, t) = cc in ap (λ (q : N × Slot V F). Some (q.0, s)) same
   set_here (p ∷ ps) (suc i) n t s e = set_here ps i n t s e
 
-  set_other : (ps : List (N × Slot V F)) (i j : ℕ) (s : Slot V F) → j ≢ i → slice_get (set_value_at ps i s) j ≡ slice_get ps j
+  set_other : (ps : List (N × Slot V F)) (i j : ℕ) (s : Slot V F) → j ≢ i → slice_get (with_slot ps i s) j ≡ slice_get ps j
   set_other [] i j s h = refl
   set_other (p ∷ ps) zero zero s h = absurd (h refl)
   set_other (p ∷ ps) zero (suc j) s h = refl
   set_other (p ∷ ps) (suc i) zero s h = refl
   set_other (p ∷ ps) (suc i) (suc j) s h = set_other ps i j s (λ e. h (ap suc e))
 
-  pub set_at : (ps qs : List (N × Slot V F)) (i : ℕ) (n : N) (t s : Slot V F) → slice_get ps i ≡ Some (n, t) → qs ≡ set_value_at ps i s → ChangesAt ps qs i n s
+  pub set_at : (ps qs : List (N × Slot V F)) (i : ℕ) (n : N) (t s : Slot V F) → slice_get ps i ≡ Some (n, t) → qs ≡ with_slot ps i s → ChangesAt ps qs i n s
   set_at ps qs i n t s there is = record {
     here = ap (λ xs. slice_get xs i) is ∙ set_here ps i n t s there;
     other = λ j h. ap (λ xs. slice_get xs j) is ∙ set_other ps i j s h;
@@ -116,12 +115,12 @@ module _ {N V F : Type 0} where
       unused (inl kept) = let none : answer_at (slots_of ps) i ≡ None = answer_there ps i vacant.0 emptied vacant.1 in let no : is_some (answer_at (slots_of ps) i) ≡ false = ap is_some none in cc
       unused (inr waits) = let now : Some emptied ≡ Some opened = sym slot ∙ waits in cc
 
-  length_set : (ps : List (N × Slot V F)) (i : ℕ) (s : Slot V F) → length (set_value_at ps i s) ≡ length ps
+  length_set : (ps : List (N × Slot V F)) (i : ℕ) (s : Slot V F) → length (with_slot ps i s) ≡ length ps
   length_set [] i s = refl
   length_set (p ∷ ps) zero s = refl
   length_set (p ∷ ps) (suc i) s = ap suc (length_set ps i s)
 
-  pub set_count : (ps : List (N × Slot V F)) (i : ℕ) (s : Slot V F) (qs : List (N × Slot V F)) → qs ≡ set_value_at ps i s → length qs ≡ length ps
+  pub set_count : (ps : List (N × Slot V F)) (i : ℕ) (s : Slot V F) (qs : List (N × Slot V F)) → qs ≡ with_slot ps i s → length qs ≡ length ps
   set_count ps i s qs is = ap length is ∙ length_set ps i s
 
   module _ (ps qs : List (N × Slot V F)) (i : ℕ) (n : N) (s : Slot V F) (changes : ChangesAt ps qs i n s) where
@@ -240,10 +239,10 @@ module _ {N V F : Type 0} where
         }
 
   -- ---- frames
-  HasNode-opened : (ps : List (N × Slot V F)) (fs : List Frame) → AllByRecursion (λ f. IsOpen ps f.slot) fs → AllByRecursion (λ f. HasNode ps f.slot) fs
+  HasNode-opened : (ps : List (N × Slot V F)) (fs : List (Frame N)) → AllByRecursion (λ f. IsOpen ps f.slot) fs → AllByRecursion (λ f. HasNode ps f.slot) fs
   HasNode-opened ps fs h = All-map (λ f o. slot_has_node ps f.slot opened o) fs h
 
-  pub frames_nodes : (ps : List (N × Slot V F)) (frames : Frames) → AreFrames ps frames → AllByRecursion (λ f. HasNode ps f.slot) (reverse frames.frames.items)
+  pub frames_nodes : (ps : List (N × Slot V F)) (frames : Frames N) → AreFrames ps frames → AllByRecursion (λ f. HasNode ps f.slot) (reverse frames.frames.items)
   frames_nodes ps frames h = HasNode-opened ps (reverse frames.frames.items) h.waits
 
   module _ (ps qs : List (N × Slot V F)) (i : ℕ) (n : N) (s : Slot V F) (changes : ChangesAt ps qs i n s) (none : answer_at (slots_of ps) i ≡ None) where
@@ -254,23 +253,28 @@ module _ {N V F : Type 0} where
         by (inl same) = inl same
         by (inr apart) = inr (sym (other_slot ps qs i n s changes j apart) ∙ h)
 
+    other_node : (j : ℕ) → j ≢ i → node_at qs j ≡ node_at ps j
+    other_node j apart = ap (option_map (λ p. p.0)) (changes.other j apart)
+
     stays_open : (j : ℕ) → j ≢ i → IsOpen ps j → IsOpen qs j
     stays_open j apart h = other_slot ps qs i n s changes j apart ∙ h
 
     -- a node was opened
-    pub frames-push : s ≡ opened → (IsOpen ps i → ⊥) → (old new : Frames) → AreFrames ps old → Framed i old new → AreFrames qs new
+    pub frames-push : s ≡ opened → (IsOpen ps i → ⊥) → (old new : Frames N) → AreFrames ps old → Framed i n old new → AreFrames qs new
     frames-push is free old new h framed =
-        let fs : List Frame = reverse old.frames.items in
-        let f : Frame = framed.frame in
+        let fs : List (Frame N) = reverse old.frames.items in
+        let f : Frame N = framed.frame in
         let now : reverse new.frames.items ≡ f ∷ fs = ap reverse framed.frames ∙ reverse-append old.frames.items (f ∷ []) in
         let slot : f.slot ≡ i = framed.is_new.slot in
         let here : IsOpen qs f.slot = ap (λ j. slice_get (slots_of qs) j) slot ∙ slot_there qs i n s changes.here ∙ ap (λ x. Some x) is in
+        let named : node_at qs f.slot ≡ Some f.node = ap (node_at qs) slot ∙ node_there qs i n s changes.here ∙ ap (λ x. Some x) (sym framed.is_new.node) in
         let apart : (j : ℕ) → IsOpen ps j → j ≢ i = λ j o same. free (subst (IsOpen ps) same o) in
         let member : (j : ℕ) → IsOpen qs j → IsOneOf (map (λ f. f.slot) (f ∷ fs)) j = λ j o. by_one fs f slot h.all j (open_or j o) in
         record {
           waits = subst (AllByRecursion (λ f. IsOpen qs f.slot)) (sym now) (here, All-map (λ f o. stays_open f.slot (apart f.slot o) o) fs h.waits);
-          all = λ j o. subst (λ xs. IsOneOf (map (λ (f : Frame). f.slot) xs) j) (sym now) (member j o);
-          once = subst (λ xs. AllDiffer (map (λ (f : Frame). f.slot) xs)) (sym now) (map_all (λ (f : Frame). f.slot) (λ j. f.slot ≢ j) fs (All-map (λ g o same. apart g.slot o (sym same ∙ slot)) fs h.waits), h.once);
+          nodes = subst (AllByRecursion (λ f. node_at qs f.slot ≡ Some f.node)) (sym now) (named, All-both (λ (g : Frame N). IsOpen ps g.slot) (λ (g : Frame N). node_at ps g.slot ≡ Some g.node) (λ (g : Frame N). node_at qs g.slot ≡ Some g.node) (λ g o e. other_node g.slot (apart g.slot o) ∙ e) fs h.waits h.nodes);
+          all = λ j o. subst (λ xs. IsOneOf (map (λ (f : Frame N). f.slot) xs) j) (sym now) (member j o);
+          once = subst (λ xs. AllDiffer (map (λ (f : Frame N). f.slot) xs)) (sym now) (map_all (λ (f : Frame N). f.slot) (λ j. f.slot ≢ j) fs (All-map (λ g o same. apart g.slot o (sym same ∙ slot)) fs h.waits), h.once);
           asked = subst (AllByRecursion (IsKept qs)) (sym framed.asked) (All-map (stays_kept ps qs (keeps ps qs i n s changes none)) old.asked.items h.asked);
           nested = subst (λ xs. AreNested xs (length new.asked.items) (length new.uses.items)) (sym now)
               (let a : f.asked ≤ length new.asked.items = (let e : f.asked ≡ length new.asked.items = framed.is_new.asked ∙ ap length (sym framed.asked) in omega arith) in
@@ -278,14 +282,14 @@ module _ {N V F : Type 0} where
               (a, u, subst (λ k. AreNested fs k f.uses) (sym framed.is_new.asked) (subst (AreNested fs (length old.asked.items)) (sym framed.is_new.uses) h.nested)));
         }
       where
-        by_one : (fs : List Frame) (f : Frame) → f.slot ≡ i → ((j : ℕ) → IsOpen ps j → IsOneOf (map (λ f. f.slot) fs) j) → (j : ℕ) → (j ≡ i) ⊎ IsOpen ps j → IsOneOf (map (λ f. f.slot) (f ∷ fs)) j
+        by_one : (fs : List (Frame N)) (f : Frame N) → f.slot ≡ i → ((j : ℕ) → IsOpen ps j → IsOneOf (map (λ f. f.slot) fs) j) → (j : ℕ) → (j ≡ i) ⊎ IsOpen ps j → IsOneOf (map (λ f. f.slot) (f ∷ fs)) j
         by_one fs f slot all j (inl same) = inl (slot ∙ sym same)
         by_one fs f slot all j (inr o) = inr (all j o)
 
-    pub opens-push : (old new : Frames) → AreFrames ps old → Framed i old new → opens_of qs new ≡ newly n ∷ opens_of ps old
+    pub opens-push : (old new : Frames N) → AreFrames ps old → Framed i n old new → opens_of qs new ≡ newly n ∷ opens_of ps old
     opens-push old new h framed =
-        let fs : List Frame = reverse old.frames.items in
-        let f : Frame = framed.frame in
+        let fs : List (Frame N) = reverse old.frames.items in
+        let f : Frame N = framed.frame in
         let now : reverse new.frames.items ≡ f ∷ fs = ap reverse framed.frames ∙ reverse-append old.frames.items (f ∷ []) in
         let node : node_at qs f.slot ≡ Some n = ap (node_at qs) framed.is_new.slot ∙ node_there qs i n s changes.here in
         let no_asks : drop f.asked old.asked.items ≡ [] = ap (λ k. drop k old.asked.items) framed.is_new.asked ∙ drop-length old.asked.items in
@@ -297,19 +301,21 @@ module _ {N V F : Type 0} where
         ∙ ap (λ st. newly n ∷ st) (same_opens ps qs (keeps ps qs i n s changes none) fs old.asked.items old.uses.items h.waits h.asked)
 
     -- the last open node was taken out
-    pub frames-pop : (s ≡ opened → ⊥) → (f : Frame) → f.slot ≡ i → (old new : Frames) → AreFrames ps old → Popped f old new → AreFrames qs new
+    pub frames-pop : (s ≡ opened → ⊥) → (f : Frame N) → f.slot ≡ i → (old new : Frames N) → AreFrames ps old → Popped f old new → AreFrames qs new
     frames-pop closed f slot old new h popped =
-        let fs : List Frame = reverse new.frames.items in
+        let fs : List (Frame N) = reverse new.frames.items in
         let was : reverse old.frames.items ≡ f ∷ fs = ap reverse popped.frames ∙ reverse-append new.frames.items (f ∷ []) in
         let waits : AllByRecursion (λ f. IsOpen ps f.slot) (f ∷ fs) = subst (AllByRecursion (λ f. IsOpen ps f.slot)) was h.waits in
-        let once : AllDiffer (map (λ f. f.slot) (f ∷ fs)) = subst (λ xs. AllDiffer (map (λ (f : Frame). f.slot) xs)) was h.once in
-        let all : (j : ℕ) → IsOpen ps j → IsOneOf (map (λ f. f.slot) (f ∷ fs)) j = λ j o. subst (λ xs. IsOneOf (map (λ (f : Frame). f.slot) xs) j) was (h.all j o) in
+        let nodes : AllByRecursion (λ f. node_at ps f.slot ≡ Some f.node) (f ∷ fs) = subst (AllByRecursion (λ f. node_at ps f.slot ≡ Some f.node)) was h.nodes in
+        let once : AllDiffer (map (λ f. f.slot) (f ∷ fs)) = subst (λ xs. AllDiffer (map (λ (f : Frame N). f.slot) xs)) was h.once in
+        let all : (j : ℕ) → IsOpen ps j → IsOneOf (map (λ f. f.slot) (f ∷ fs)) j = λ j o. subst (λ xs. IsOneOf (map (λ (f : Frame N). f.slot) xs) j) was (h.all j o) in
         let nested : AreNested (f ∷ fs) (length old.asked.items) (length old.uses.items) = subst (λ xs. AreNested xs (length old.asked.items) (length old.uses.items)) was h.nested in
         let asked : length new.asked.items ≡ f.asked = ap length popped.asked ∙ length-take-le f.asked old.asked.items nested.0 in
         let uses : length new.uses.items ≡ f.uses = ap length popped.uses ∙ length-take-le f.uses old.uses.items nested.1 in
         let not_here : (j : ℕ) → IsOpen qs j → j ≢ i = λ j o same. closed (some_same s opened (sym (slot_there qs i n s changes.here) ∙ ap (λ k. slice_get (slots_of qs) k) (sym same) ∙ o)) in
         record {
-          waits = All-both (λ (g : Frame). IsOpen ps g.slot) (λ (g : Frame). f.slot ≢ g.slot) (λ (g : Frame). IsOpen qs g.slot) (λ g o apart. stays_open g.slot (λ same. apart (slot ∙ sym same)) o) fs waits.1 (all_map (λ (g : Frame). g.slot) (λ j. f.slot ≢ j) fs once.0);
+          waits = All-both (λ (g : Frame N). IsOpen ps g.slot) (λ (g : Frame N). f.slot ≢ g.slot) (λ (g : Frame N). IsOpen qs g.slot) (λ g o apart. stays_open g.slot (λ same. apart (slot ∙ sym same)) o) fs waits.1 (all_map (λ (g : Frame N). g.slot) (λ j. f.slot ≢ j) fs once.0);
+          nodes = All-both (λ (g : Frame N). node_at ps g.slot ≡ Some g.node) (λ (g : Frame N). f.slot ≢ g.slot) (λ (g : Frame N). node_at qs g.slot ≡ Some g.node) (λ g e apart. other_node g.slot (λ same. apart (slot ∙ sym same)) ∙ e) fs nodes.1 (all_map (λ (g : Frame N). g.slot) (λ j. f.slot ≢ j) fs once.0);
           all = λ j o. by_one fs f slot j (not_here j o) (open_or j o) all;
           once = once.1;
           asked = subst (AllByRecursion (IsKept qs)) (sym popped.asked) (All-take (IsKept qs) f.asked old.asked.items (All-map (stays_kept ps qs (keeps ps qs i n s changes none)) old.asked.items h.asked));
@@ -319,18 +325,18 @@ module _ {N V F : Type 0} where
         some_same : (a b : Slot V F) → Some a ≡ Some b → a ≡ b
         some_same a b e = let same : a ≡ b = cc in same
 
-        tail_of : (fs : List Frame) (f : Frame) → f.slot ≡ i → (j : ℕ) → j ≢ i → IsOneOf (map (λ f. f.slot) (f ∷ fs)) j → IsOneOf (map (λ f. f.slot) fs) j
+        tail_of : (fs : List (Frame N)) (f : Frame N) → f.slot ≡ i → (j : ℕ) → j ≢ i → IsOneOf (map (λ f. f.slot) (f ∷ fs)) j → IsOneOf (map (λ f. f.slot) fs) j
         tail_of fs f slot j apart (inl e) = absurd (apart (sym e ∙ slot))
         tail_of fs f slot j apart (inr m) = m
 
-        by_one : (fs : List Frame) (f : Frame) → f.slot ≡ i → (j : ℕ) → j ≢ i → (j ≡ i) ⊎ IsOpen ps j → ((j : ℕ) → IsOpen ps j → IsOneOf (map (λ f. f.slot) (f ∷ fs)) j) → IsOneOf (map (λ f. f.slot) fs) j
+        by_one : (fs : List (Frame N)) (f : Frame N) → f.slot ≡ i → (j : ℕ) → j ≢ i → (j ≡ i) ⊎ IsOpen ps j → ((j : ℕ) → IsOpen ps j → IsOneOf (map (λ f. f.slot) (f ∷ fs)) j) → IsOneOf (map (λ f. f.slot) fs) j
         by_one fs f slot j apart (inl same) all = absurd (apart same)
         by_one fs f slot j apart (inr o) all = tail_of fs f slot j apart (all j o)
 
     -- the others are the same
-    pub opens-pop : (f : Frame) (old new : Frames) → AreFrames ps old → Popped f old new → opens_of qs new ≡ opens_in ps (reverse new.frames.items) (take f.asked old.asked.items) (take f.uses old.uses.items)
+    pub opens-pop : (f : Frame N) (old new : Frames N) → AreFrames ps old → Popped f old new → opens_of qs new ≡ opens_in ps (reverse new.frames.items) (take f.asked old.asked.items) (take f.uses old.uses.items)
     opens-pop f old new h popped =
-        let fs : List Frame = reverse new.frames.items in
+        let fs : List (Frame N) = reverse new.frames.items in
         let was : reverse old.frames.items ≡ f ∷ fs = ap reverse popped.frames ∙ reverse-append new.frames.items (f ∷ []) in
         let nodes : AllByRecursion (λ f. IsOpen ps f.slot) (f ∷ fs) = subst (AllByRecursion (λ f. IsOpen ps f.slot)) was h.waits in
         (λ j. opens_in qs fs (popped.asked j) (popped.uses j))
@@ -338,19 +344,20 @@ module _ {N V F : Type 0} where
 
   -- ---- the last open node
   -- it gets a reply more
-  pub frames-hear : (ps : List (N × Slot V F)) (j : ℕ) → IsKept ps j → (old new : Frames) → AreFrames ps old → Heard j old new → AreFrames ps new
+  pub frames-hear : (ps : List (N × Slot V F)) (j : ℕ) → IsKept ps j → (old new : Frames N) → AreFrames ps old → Heard j old new → AreFrames ps new
   frames-hear ps j kept old new h heard_it =
       let now : reverse new.frames.items ≡ reverse old.frames.items = ap reverse heard_it.frames in
       let more : length new.asked.items ≡ length old.asked.items + 1 = ap length heard_it.asked ∙ length-append old.asked.items (j ∷ []) in
       record {
         waits = subst (AllByRecursion (λ f. IsOpen ps f.slot)) (sym now) h.waits;
-        all = λ k o. subst (λ xs. IsOneOf (map (λ (f : Frame). f.slot) xs) k) (sym now) (h.all k o);
-        once = subst (λ xs. AllDiffer (map (λ (f : Frame). f.slot) xs)) (sym now) h.once;
+        nodes = subst (AllByRecursion (λ f. node_at ps f.slot ≡ Some f.node)) (sym now) h.nodes;
+        all = λ k o. subst (λ xs. IsOneOf (map (λ (f : Frame N). f.slot) xs) k) (sym now) (h.all k o);
+        once = subst (λ xs. AllDiffer (map (λ (f : Frame N). f.slot) xs)) (sym now) h.once;
         asked = subst (AllByRecursion (IsKept ps)) (sym heard_it.asked) (All-++ (IsKept ps) old.asked.items (j ∷ []) h.asked (kept, tt));
         nested = subst (λ xs. AreNested xs (length new.asked.items) (length new.uses.items)) (sym now) (grown (reverse old.frames.items) _ _ _ _ (omega arith) (let same : length new.uses.items ≡ length old.uses.items = ap length heard_it.uses in omega arith) h.nested);
       }
 
-  pub opens-hear : (ps : List (N × Slot V F)) (j : ℕ) (m : N) (a : Result V F) → node_at ps j ≡ Some m → answer_at (slots_of ps) j ≡ Some a → (old new : Frames) → AreFrames ps old → Heard j old new → opens_of ps new ≡ heard m a (opens_of ps old)
+  pub opens-hear : (ps : List (N × Slot V F)) (j : ℕ) (m : N) (a : Result V F) → node_at ps j ≡ Some m → answer_at (slots_of ps) j ≡ Some a → (old new : Frames N) → AreFrames ps old → Heard j old new → opens_of ps new ≡ heard m a (opens_of ps old)
   opens-hear ps j m a node answer old new h heard_it =
       (λ k. opens_in ps (reverse (heard_it.frames k)) (heard_it.asked k) (heard_it.uses k))
       ∙ by (reverse old.frames.items) old.asked.items old.uses.items (frames_nodes ps old h) h.nested
@@ -359,7 +366,7 @@ module _ {N V F : Type 0} where
       of_node None e replies asked uses rest = absurd (cc)
       of_node (Some n) e replies asked uses rest = refl
 
-      by : (fs : List Frame) (asked : List ℕ) (uses : List Use) → AllByRecursion (λ f. HasNode ps f.slot) fs → AreNested fs (length asked) (length uses) → opens_in ps fs (asked ++ j ∷ []) uses ≡ heard m a (opens_in ps fs asked uses)
+      by : (fs : List (Frame N)) (asked : List ℕ) (uses : List Use) → AllByRecursion (λ f. HasNode ps f.slot) fs → AreNested fs (length asked) (length uses) → opens_in ps fs (asked ++ j ∷ []) uses ≡ heard m a (opens_in ps fs asked uses)
       by [] asked uses nodes nested = refl
       by (f ∷ fs) asked uses nodes nested =
           let part : drop f.asked (asked ++ j ∷ []) ≡ drop f.asked asked ++ j ∷ [] = drop-append-le f.asked asked (j ∷ []) nested.0 in

@@ -4,7 +4,6 @@ use Rattle.std.specs.List.{AllPairs}
 use Rattle.std.proofs.lemmas.List.{append-nil, get_or-set_other}
 use Rattle.std.proofs.lemmas.List.Sums.{sum_by-cons}
 use Rattle.std.proofs.lemmas.List.Elements.{Contains-append_left, Contains-append_right, Contains-push}
-use Rattle.indexmap.specs.IndexMap.{set_value_at}
 use Rattle.ksv_memo_links.specs.Shelved.{row}
 use Rattle.ksv_memo_links.specs.Touching.{pages_in}
 use Rattle.ksv_memo_links.specs.Links.{Linked, Takes, IsDone}
@@ -14,30 +13,31 @@ use Rattle.ksv_memo_rules.specs.declared.replies.Slot.TheVariants.{Empty as empt
 use Rattle.ksv_memo_rules.specs.Slots.{answer_of, answer_at}
 use Rattle.ksv_memo.specs.Layout.{slots_of, node_at, IsOpen}
 use Rattle.ksv_memo.specs.Emptying.{IsTaken, IsEmptied}
+use Rattle.ksv_memo.specs.Moves.{with_slot}
 use Rattle.ksv_memo.proofs.Changing.{set_count}
 use Rattle.ksv_memo.proofs.Laying.{same_or}
 
 module _ {N V F : Type 0} where
-  set-node : (ps : List (N × Slot V F)) (i j : ℕ) (s : Slot V F) → node_at (set_value_at ps i s) j ≡ node_at ps j
+  set-node : (ps : List (N × Slot V F)) (i j : ℕ) (s : Slot V F) → node_at (with_slot ps i s) j ≡ node_at ps j
   set-node [] i j s = refl
   set-node (p ∷ ps) zero zero s = refl
   set-node (p ∷ ps) zero (suc j) s = refl
   set-node (p ∷ ps) (suc i) zero s = refl
   set-node (p ∷ ps) (suc i) (suc j) s = set-node ps i j s
 
-  set-slot : (ps : List (N × Slot V F)) (i j : ℕ) (s : Slot V F) → j ≢ i → slice_get (slots_of (set_value_at ps i s)) j ≡ slice_get (slots_of ps) j
+  set-slot : (ps : List (N × Slot V F)) (i j : ℕ) (s : Slot V F) → j ≢ i → slice_get (slots_of (with_slot ps i s)) j ≡ slice_get (slots_of ps) j
   set-slot [] i j s h = refl
   set-slot (p ∷ ps) zero zero s h = absurd (h refl)
   set-slot (p ∷ ps) zero (suc j) s h = refl
   set-slot (p ∷ ps) (suc i) zero s h = refl
   set-slot (p ∷ ps) (suc i) (suc j) s h = set-slot ps i j s (λ e. h (ap suc e))
 
-  set-empty : (ps : List (N × Slot V F)) (i : ℕ) → answer_at (slots_of (set_value_at ps i emptied)) i ≡ None
+  set-empty : (ps : List (N × Slot V F)) (i : ℕ) → answer_at (slots_of (with_slot ps i emptied)) i ≡ None
   set-empty [] i = refl
   set-empty (p ∷ ps) zero = refl
   set-empty (p ∷ ps) (suc i) = set-empty ps i
 
-  set-closed : (ps : List (N × Slot V F)) (i : ℕ) → IsOpen (set_value_at ps i emptied) i → ⊥
+  set-closed : (ps : List (N × Slot V F)) (i : ℕ) → IsOpen (with_slot ps i emptied) i → ⊥
   set-closed [] i o = cc
   set-closed (p ∷ ps) zero o = cc
   set-closed (p ∷ ps) (suc i) o = set-closed ps i o
@@ -57,7 +57,7 @@ module _ {N V F : Type 0} where
     least = omega arith;
   }
 
-  pub taken-more : (ps qs rs : List (N × Slot V F)) (l m n : Linked) (taken : List ℕ) (slot count more : ℕ) → AllPairs (λ (a b : ℕ). a ≢ b) l.waits → IsTaken ps qs l m taken count 0 → Takes m n slot → rs ≡ set_value_at qs slot emptied → more ≤ count + 1 → IsTaken ps rs l n (slot ∷ taken) more 0
+  pub taken-more : (ps qs rs : List (N × Slot V F)) (l m n : Linked) (taken : List ℕ) (slot count more : ℕ) → AllPairs (λ (a b : ℕ). a ≢ b) l.waits → IsTaken ps qs l m taken count 0 → Takes m n slot → rs ≡ with_slot qs slot emptied → more ≤ count + 1 → IsTaken ps rs l n (slot ∷ taken) more 0
   taken-more ps qs rs l m n taken slot count more apart h t is le = record {
     split = split;
     nodes = λ i. ap (λ xs. node_at xs i) is ∙ set-node qs slot i emptied ∙ h.nodes i;
@@ -87,14 +87,14 @@ module _ {N V F : Type 0} where
       other i ne = ap (λ xs. answer_at (slots_of xs) i) is ∙ ap answer_of (set-slot qs slot i emptied ne)
 
       open_at : (i : ℕ) → IsOpen rs i → (i ≡ slot) ⊎ (i ≢ slot) → IsOpen ps i
-      open_at i o (inl e) = absurd (set-closed qs slot (subst (λ k. IsOpen (set_value_at qs slot emptied) k) e (subst (λ xs. IsOpen xs i) is o)))
+      open_at i o (inl e) = absurd (set-closed qs slot (subst (λ k. IsOpen (with_slot qs slot emptied) k) e (subst (λ xs. IsOpen xs i) is o)))
       open_at i o (inr ne) = h.opens i (sym (ap (λ xs. slice_get (slots_of xs) i) is ∙ set-slot qs slot i emptied ne) ∙ o)
 
       apart_from : (i : ℕ) → (Contains (slot ∷ taken) i → ⊥) → i ≢ slot
       apart_from i c e = c (subst (Contains (slot ∷ taken)) (sym e) (Contains-append_left (slot ∷ []) taken slot (Contains-push [] slot)))
 
       out : (i : ℕ) → (i ≡ slot) ⊎ (i ≢ slot) → (slot ≡ i) ⊎ Contains taken i → answer_at (slots_of rs) i ≡ None
-      out i (inl e) c = ap (λ xs. answer_at (slots_of xs) i) is ∙ ap (λ k. answer_at (slots_of (set_value_at qs slot emptied)) k) e ∙ set-empty qs slot
+      out i (inl e) c = ap (λ xs. answer_at (slots_of xs) i) is ∙ ap (λ k. answer_at (slots_of (with_slot qs slot emptied)) k) e ∙ set-empty qs slot
       out i (inr ne) (inl e) = absurd (ne (sym e))
       out i (inr ne) (inr c) = other i ne ∙ h.out i c
 

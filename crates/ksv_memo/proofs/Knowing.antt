@@ -115,7 +115,7 @@ module _ {N V F : Type 0} where
     no_open_here t None replies asked uses rest each h = h
     no_open_here t (Some n) replies asked uses rest each h = ap (λ b. b || list_any (λ (p : Open N (Result V F)). t p.node) rest) (each n refl) ∙ h
 
-    pub no_open : (t : N → Bool) → ((j : ℕ) (m : N) → IsOpen ps j → node_at ps j ≡ Some m → t m ≡ false) → (fs : List Frame) (asked : List ℕ) (uses : List Use) → AllByRecursion (λ f. IsOpen ps f.slot) fs → list_any (λ p. t p.node) (opens_in ps fs asked uses) ≡ false
+    pub no_open : (t : N → Bool) → ((j : ℕ) (m : N) → IsOpen ps j → node_at ps j ≡ Some m → t m ≡ false) → (fs : List (Frame N)) (asked : List ℕ) (uses : List Use) → AllByRecursion (λ f. IsOpen ps f.slot) fs → list_any (λ p. t p.node) (opens_in ps fs asked uses) ≡ false
     no_open t each [] asked uses h = refl
     no_open t each (f ∷ fs) asked uses h = no_open_here t (node_at ps f.slot) (answers_at (slots_of ps) (drop f.asked asked)) (nodes_at ps (drop f.asked asked)) (drop f.uses uses) (opens_in ps fs (take f.asked asked) (take f.uses uses)) (λ m e. each f.slot m h.0 e) (no_open t each fs (take f.asked asked) (take f.uses uses) h.1)
 
@@ -128,12 +128,12 @@ module _ {N V F : Type 0} where
     some_open_later t None replies asked uses rest h = h
     some_open_later t (Some n) replies asked uses rest h = or_right (t n) (list_any (λ (p : Open N (Result V F)). t p.node) rest) h
 
-    pub some_open : (t : N → Bool) (fs : List Frame) (asked : List ℕ) (uses : List Use) (i : ℕ) (m : N) → IsOneOf (map (λ f. f.slot) fs) i → node_at ps i ≡ Some m → t m ≡ true → list_any (λ p. t p.node) (opens_in ps fs asked uses) ≡ true
+    pub some_open : (t : N → Bool) (fs : List (Frame N)) (asked : List ℕ) (uses : List Use) (i : ℕ) (m : N) → IsOneOf (map (λ f. f.slot) fs) i → node_at ps i ≡ Some m → t m ≡ true → list_any (λ p. t p.node) (opens_in ps fs asked uses) ≡ true
     some_open t [] asked uses i m h node pass = absurd h
     some_open t (f ∷ fs) asked uses i m (inl same) node pass = some_open_here t (node_at ps f.slot) (answers_at (slots_of ps) (drop f.asked asked)) (nodes_at ps (drop f.asked asked)) (drop f.uses uses) (opens_in ps fs (take f.asked asked) (take f.uses uses)) m (ap (node_at ps) same ∙ node) pass
     some_open t (f ∷ fs) asked uses i m (inr h) node pass = some_open_later t (node_at ps f.slot) (answers_at (slots_of ps) (drop f.asked asked)) (nodes_at ps (drop f.asked asked)) (drop f.uses uses) (opens_in ps fs (take f.asked asked) (take f.uses uses)) (some_open t fs (take f.asked asked) (take f.uses uses) i m h node pass)
 
-  pub opens_length : (ps : List (N × Slot V F)) (fs : List Frame) (asked : List ℕ) (uses : List Use) → AllByRecursion (λ f. HasNode ps f.slot) fs → length (opens_in ps fs asked uses) ≡ length fs
+  pub opens_length : (ps : List (N × Slot V F)) (fs : List (Frame N)) (asked : List ℕ) (uses : List Use) → AllByRecursion (λ f. HasNode ps f.slot) fs → length (opens_in ps fs asked uses) ≡ length fs
   opens_length ps [] asked uses h = refl
   opens_length ps (f ∷ fs) asked uses h = by (node_at ps f.slot) h.0 ∙ ap suc (opens_length ps fs (take f.asked asked) (take f.uses uses) h.1)
     where
@@ -142,7 +142,7 @@ module _ {N V F : Type 0} where
       by (Some m) e = refl
 
   -- frames of nodes stand for open nodes
-  pub some-frames : (ps : List (N × Slot V F)) (fs : List Frame) (asked : List ℕ) (uses : List Use) → AllByRecursion (λ f. HasNode ps f.slot) fs → opens_in ps fs asked uses ≡ [] → fs ≡ []
+  pub some-frames : (ps : List (N × Slot V F)) (fs : List (Frame N)) (asked : List ℕ) (uses : List Use) → AllByRecursion (λ f. HasNode ps f.slot) fs → opens_in ps fs asked uses ≡ [] → fs ≡ []
   some-frames ps [] asked uses h e = refl
   some-frames ps (f ∷ fs) asked uses h e = absurd (by (node_at ps f.slot) h.0 e)
     where

@@ -140,7 +140,7 @@ module _ {N V F : Type 0} where
         ∙ ap (λ ns. entry_with (node_at ps i) (answer_at (slots_of ps) i) ns (row l.uses i)) (same_nodes (row l.asked i) all)
 
     -- and the open ones
-    pub same_opens : (fs : List Frame) (asked : List ℕ) (uses : List Use) → AllByRecursion (λ f. IsOpen ps f.slot) fs → AllByRecursion (IsKept ps) asked → opens_in qs fs asked uses ≡ opens_in ps fs asked uses
+    pub same_opens : (fs : List (Frame N)) (asked : List ℕ) (uses : List Use) → AllByRecursion (λ f. IsOpen ps f.slot) fs → AllByRecursion (IsKept ps) asked → opens_in qs fs asked uses ≡ opens_in ps fs asked uses
     same_opens [] asked uses h k = refl
     same_opens (f ∷ fs) asked uses h k =
         ap (λ o. open_before o (answers_at (slots_of qs) (drop f.asked asked)) (nodes_at qs (drop f.asked asked)) (drop f.uses uses) (opens_in qs fs (take f.asked asked) (take f.uses uses))) (same_node f.slot (inr h.0))

@@ -22,13 +22,13 @@ use Rattle.ksv_memo.proofs.Changing.{ChangesAt, none_past, links-stay, entries-s
 use Rattle.ksv_memo.proofs.Knowing.{entry_of, no_entry, no_open, some_open, none_at, not_other}
 
 -- a look-up leaves the slots as they were
-pub looked-laid : {N V F : Type 0} (ps qs : List (N × Slot V F)) (l : Linked) (frames : Frames) → qs ≡ ps → IsLaidOut ps l frames → IsLaidOut qs l frames
+pub looked-laid : {N V F : Type 0} (ps qs : List (N × Slot V F)) (l : Linked) (frames : Frames N) → qs ≡ ps → IsLaidOut ps l frames → IsLaidOut qs l frames
 looked-laid ps qs l frames same laid = subst (λ es. IsLaidOut es l frames) (sym same) laid
 
-pub looked-view : {N V F : Type 0} (ps qs : List (N × Slot V F)) (l : Linked) (frames : Frames) (v : Nodes N (Result V F)) → qs ≡ ps → record { kept = entries_of ps l; opened = opens_of ps frames } ≡ v → record { kept = entries_of qs l; opened = opens_of qs frames } ≡ v
+pub looked-view : {N V F : Type 0} (ps qs : List (N × Slot V F)) (l : Linked) (frames : Frames N) (v : Nodes N (Result V F)) → qs ≡ ps → record { kept = entries_of ps l; opened = opens_of ps frames } ≡ v → record { kept = entries_of qs l; opened = opens_of qs frames } ≡ v
 looked-view ps qs l frames v same is = (λ i. record { kept = entries_of (same i) l; opened = opens_of (same i) frames }) ∙ is
 
-module _ {N V F : Type 0} (eq : N → N → Bool) (ps : List (N × Slot V F)) (l : Linked) (frames : Frames) (kept : AreLinked ps l) (waits : AreFrames ps frames) (n : N) where
+module _ {N V F : Type 0} (eq : N → N → Bool) (ps : List (N × Slot V F)) (l : Linked) (frames : Frames N) (kept : AreLinked ps l) (waits : AreFrames ps frames) (n : N) where
   -- what is known of a kept node
   pub record IsFound (i : ℕ) : Type 0 where
     pub entry : Entry N (Result V F)
@@ -36,15 +36,14 @@ module _ {N V F : Type 0} (eq : N → N → Bool) (ps : List (N × Slot V F)) (l
     pub node : node_at ps i ≡ Some entry.node
     pub answer : answer_at (slots_of ps) i ≡ Some entry.answer
 
-  pub found : (i : ℕ) → Knows eq ps n (Kept i) → IsFound i
-  found i h =
-      let at : IsTheSlot eq ps n i h.0.0 = h.0.1 in
-      let node : node_at ps i ≡ Some at.node = node_there ps i at.node h.0.0 at.there in
+  pub found : eq n n ≡ true → (i : ℕ) → Knows eq ps n (Kept i) → IsFound i
+  found itself i h =
+      let node : node_at ps i ≡ Some n = node_there ps i n h.0.0 h.0.1 in
       let one : (a : Result V F) × (answer_at (slots_of ps) i ≡ Some a) = some-of (answer_at (slots_of ps) i) h.1 in
-      let e = entry_of ps l i at.node one.0 (slice_get_within ps i (at.node, h.0.0) at.there) node one.1 in
+      let e = entry_of ps l i n one.0 (slice_get_within ps i (n, h.0.0) h.0.1) node one.1 in
       record {
         entry = e.0;
-        is = record { there = e.1; passes = ap (eq n) e.2 ∙ at.passes };
+        is = record { there = e.1; passes = ap (eq n) e.2 ∙ itself };
         node = node ∙ ap (λ x. Some x) (sym e.2);
         answer = one.1 ∙ ap (λ x. Some x) (sym e.3);
       }
@@ -64,33 +63,33 @@ module _ {N V F : Type 0} (eq : N → N → Bool) (ps : List (N × Slot V F)) (l
   new_free h = no_open ps (eq n) (λ j m o e. none_at (eq n) ps h j m e) (reverse frames.frames.items) frames.asked.items frames.uses.items waits.waits
 
   module _ (laws : IsEquivalence eq) (unique : IsDistinct eq (keys_of ps)) where
-    slot_out : (i : ℕ) (s : Slot V F) → IsTheSlot eq ps n i s → answer_in s ≡ None → HasNoEntry eq (entries_of ps l) n
-    slot_out i s at none = no_entry ps l (eq n) (λ j m k e. not_other eq laws ps unique n i at.node (node_there ps i at.node s at.there) at.passes j m (apart_kept i at.node s at.there none j k) e)
+    slot_out : (i : ℕ) (s : Slot V F) → IsTheSlot ps n i s → answer_in s ≡ None → HasNoEntry eq (entries_of ps l) n
+    slot_out i s at none = no_entry ps l (eq n) (λ j m k e. not_other eq laws ps unique n i n (node_there ps i n s at) (laws.refl n) j m (apart_kept i n s at none j k) e)
 
     -- nor is one with an empty slot
     pub empty_out : (i : ℕ) → Knows eq ps n (Empty i) → HasNoEntry eq (entries_of ps l) n
     empty_out i at = slot_out i emptied at refl
 
     pub empty_free : (i : ℕ) → Knows eq ps n (Empty i) → list_any (λ o. eq n o.node) (opens_of ps frames) ≡ false
-    empty_free i at = no_open ps (eq n) (λ j m o e. not_other eq laws ps unique n i at.node (node_there ps i at.node emptied at.there) at.passes j m (apart_open i at.node at.there j o) e) (reverse frames.frames.items) frames.asked.items frames.uses.items waits.waits
+    empty_free i at = no_open ps (eq n) (λ j m o e. not_other eq laws ps unique n i n (node_there ps i n emptied at) (laws.refl n) j m (apart_open i n at j o) e) (reverse frames.frames.items) frames.asked.items frames.uses.items waits.waits
 
   -- an open node waits
-  pub open_waits : Knows eq ps n Open → list_any (λ o. eq n o.node) (opens_of ps frames) ≡ true
-  open_waits (i, at) = some_open ps (eq n) (reverse frames.frames.items) frames.asked.items frames.uses.items i at.node (waits.all i (slot_there ps i at.node opened at.there)) (node_there ps i at.node opened at.there) at.passes
+  pub open_waits : eq n n ≡ true → Knows eq ps n Open → list_any (λ o. eq n o.node) (opens_of ps frames) ≡ true
+  open_waits itself (i, at) = some_open ps (eq n) (reverse frames.frames.items) frames.asked.items frames.uses.items i n (waits.all i (slot_there ps i n opened at)) (node_there ps i n opened at) itself
 
 -- ---- the moves of the table
-module _ {N V F : Type 0} (eq : N → N → Bool) (ps : List (N × Slot V F)) (l : Linked) (frames : Frames) (laid : IsLaidOut ps l frames) (n : N) where
+module _ {N V F : Type 0} (eq : N → N → Bool) (ps : List (N × Slot V F)) (l : Linked) (frames : Frames N) (laid : IsLaidOut ps l frames) (n : N) where
   -- a kept answer is heard
-  pub hears : (i : ℕ) → Knows eq ps n (Kept i) → (new : Frames) → Heard i frames new → IsLaidOut ps l new
+  pub hears : (i : ℕ) → Knows eq ps n (Kept i) → (new : Frames N) → Heard i frames new → IsLaidOut ps l new
   hears i knows new h = record { kept = laid.kept; waits = frames-hear ps i knows.1 frames new laid.waits h }
 
-  pub replies : (i : ℕ) → Knows eq ps n (Kept i) → (new : Frames) → Heard i frames new → Replies eq n (record { kept = entries_of ps l; opened = opens_of ps frames }) (record { kept = entries_of ps l; opened = opens_of ps new })
-  replies i knows new h =
-      let one = found eq ps l frames laid.kept laid.waits n i knows in
+  pub replies : eq n n ≡ true → (i : ℕ) → Knows eq ps n (Kept i) → (new : Frames N) → Heard i frames new → Replies eq n (record { kept = entries_of ps l; opened = opens_of ps frames }) (record { kept = entries_of ps l; opened = opens_of ps new })
+  replies itself i knows new h =
+      let one = found eq ps l frames laid.kept laid.waits n itself i knows in
       record { entry = one.entry; is = one.is; kept = refl; opened = opens-hear ps i one.entry.node one.entry.answer one.node one.answer frames new laid.waits h }
 
   -- a node is opened in a slot of its own
-  module _ (qs : List (N × Slot V F)) (i : ℕ) (m : N) (changes : ChangesAt ps qs i m opened) (none : answer_at (slots_of ps) i ≡ None) (free : IsOpen ps i → ⊥) (new : Frames) (framed : Framed i frames new) where
+  module _ (qs : List (N × Slot V F)) (i : ℕ) (m : N) (changes : ChangesAt ps qs i m opened) (none : answer_at (slots_of ps) i ≡ None) (free : IsOpen ps i → ⊥) (new : Frames N) (framed : Framed i m frames new) where
     pub opens-laid : length qs ≤ length l.kept → IsLaidOut qs l new
     opens-laid le = record { kept = links-stay ps qs i m opened changes none refl l laid.kept le; waits = frames-push ps qs i m opened changes none refl free frames new laid.waits framed }
 
@@ -112,11 +111,11 @@ module _ {N V F : Type 0} (eq : N → N → Bool) (ps : List (N × Slot V F)) (l
   vacant_closed i at o = let now : Some emptied ≡ Some opened = sym (slot_there ps i at.0 emptied at.1) ∙ o in cc
 
   -- an empty slot
-  pub empty_none : (i : ℕ) (at : IsTheSlot eq ps n i emptied) → answer_at (slots_of ps) i ≡ None
-  empty_none i at = answer_there ps i at.node emptied at.there
+  pub empty_none : (i : ℕ) (at : IsTheSlot ps n i emptied) → answer_at (slots_of ps) i ≡ None
+  empty_none i at = answer_there ps i n emptied at
 
-  pub empty_closed : (i : ℕ) (at : IsTheSlot eq ps n i emptied) → IsOpen ps i → ⊥
-  empty_closed i at o = let now : Some emptied ≡ Some opened = sym (slot_there ps i at.node emptied at.there) ∙ o in cc
+  pub empty_closed : (i : ℕ) (at : IsTheSlot ps n i emptied) → IsOpen ps i → ⊥
+  empty_closed i at o = let now : Some emptied ≡ Some opened = sym (slot_there ps i n emptied at) ∙ o in cc
 
   -- the slot after the last
   pub past_none : answer_at (slots_of ps) (length ps) ≡ None

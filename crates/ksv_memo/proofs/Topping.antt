@@ -1,11 +1,12 @@
 -- The last open node: how it is run, kept and taken out.
-use Rattle.std.proofs.Common.{◌≡◌, ℕ, suc, ◌+◌, ◌-◌, ◌≤◌, ◌<◌, true, false, All, List, [], ◌∷◌, length, map, take, drop, reverse, Option, Some, None, is_some, refl, sym, ◌∙◌, ap, subst, Result, slice_get, inr, arith, ◌==◌}
+use Rattle.std.proofs.Common.{◌≡◌, ℕ, suc, ◌+◌, ◌-◌, ◌≤◌, ◌<◌, true, false, All, List, [], ◌∷◌, ◌++◌, length, map, take, drop, reverse, Option, Some, None, IfOk, OnOk, OnErr, Ok, Err, length-append, is_some, refl, sym, ◌∙◌, ap, subst, Result, slice_get, inr, arith, ◌==◌}
 use Rattle.std.specs.Option.{option_map}
 use Rattle.std.specs.List.{AllByRecursion}
 use Rattle.std.proofs.lemmas.List.{reverse-append, take_rest}
 use Rattle.std.proofs.lemmas.Option.{slice_get-map, slice_get_within}
 use Rattle.ksv_bytes.specs.declared.uses.Use.{Use}
-use Rattle.ksv_memo_links.specs.Links.{Linked, Keeps as LinksKeep}
+use Rattle.ksv_memo_links.specs.Links.{Linked, Keeps as LinksKeep, IsUnchanged}
+use Rattle.ksv_memo_links.specs.Shelved.{row}
 use Rattle.ksv_memo_links.specs.Marking.{is_kept}
 use Rattle.ksv_memo_rules.specs.declared.replies.Slot.{Slot}
 use Rattle.ksv_memo_rules.specs.declared.replies.Slot.TheVariants.{Empty as emptied, Open as opened}
@@ -13,16 +14,23 @@ use Rattle.ksv_memo.specs.declared.frames.Frame.{Frame}
 use Rattle.ksv_memo.specs.declared.frames.Frames.{Frames}
 use Rattle.ksv_memo_rules.specs.Slots.{answer_in, answer_at, answers_at}
 use Rattle.ksv_memo.specs.Open.{Open, heard}
+use Rattle.ksv_memo.specs.Calls.{Runs, replies_of}
+use Rattle.ksv_memo_rules.specs.Meaning.{Standing, IsAddedTo}
+use Rattle.ksv_memo_rules.specs.declared.rules.Next.{Next}
 use Rattle.ksv_memo_rules.specs.Right.{HasEachOnce}
-use Rattle.ksv_memo.specs.Layout.{IsOneOf, AllDiffer, slots_of, nodes_at, IsOpen, IsKept, entries_of, open_before, opens_in, opens_of, AreNested, AreLinked, AreFrames, IsLaidOut}
-use Rattle.ksv_memo.specs.Moves.{EndsWith, SameFrames, Popped, Heard}
+use Rattle.ksv_memo.specs.Layout.{IsOneOf, AllDiffer, slots_of, node_at, nodes_at, IsOpen, IsKept, entries_of, open_before, opens_in, opens_of, AreNested, AreLinked, AreFrames, IsLaidOut}
+use Rattle.ksv_memo.specs.Moves.{EndsWith, SameFrames, IsNewFrame, Framed, Popped, Heard}
 use Rattle.ksv_memo.specs.Nodes.{Keeps, Closes, MayKeep, TakesFirst}
 use Rattle.std.proofs.lemmas.List.Elements.{All-from_recursion}
 use Rattle.ksv_memo_rules.proofs.Lists.{All-map}
 use Rattle.ksv_memo_rules.proofs.Evals.{eqb_true}
 use Rattle.ksv_memo.proofs.Finding.{node_there, answer_there}
 use Rattle.ksv_memo.proofs.Laying.{All-drop}
-use Rattle.ksv_memo.proofs.Changing.{ChangesAt, links-stay, links-keep, entries-stay, entries-keep, frames-pop, frames-hear, opens-pop, opens-hear}
+use Rattle.ksv_memo.proofs.Changing.{ChangesAt, grown, links-stay, links-keep, entries-stay, entries-keep, frames-pop, frames-hear, opens-pop, opens-hear}
+
+-- a node was opened, where its frame was pushed
+pub framed : {N : Type 0} (i j : ℕ) (n : N) (old new : Frames N) (f : Frame N) → IsNewFrame j n old f → j ≡ i → new.frames.items ≡ old.frames.items ++ f ∷ [] → new.asked.items ≡ old.asked.items → new.uses.items ≡ old.uses.items → Framed i n old new
+framed i j n old new f is same pushed asked uses = record { frame = f; is_new = record { node = is.node; slot = is.slot ∙ same; asked = is.asked; uses = is.uses }; frames = pushed; asked = asked; uses = uses }
 
 -- the last of a list that isn't empty
 pub last-front : {X : Type 0} (xs : List X) (x : X) → slice_get xs (length xs - 1) ≡ Some x → EndsWith x xs
@@ -34,7 +42,7 @@ last-front (y ∷ z ∷ ys) x e =
     let rest = last-front (z ∷ ys) x (ap (slice_get (z ∷ ys)) there ∙ ap (slice_get (y ∷ z ∷ ys)) (sym here) ∙ e) in
     (y ∷ rest.0, ap (λ zs. y ∷ zs) rest.1)
 
-pub no-items : (fs : List Frame) → (length fs == 0) ≡ true → fs ≡ []
+pub no-items : {N : Type 0} (fs : List (Frame N)) → (length fs == 0) ≡ true → fs ≡ []
 no-items [] e = refl
 no-items (f ∷ fs) e = let none : length (f ∷ fs) ≡ 0 = eqb_true (length (f ∷ fs)) 0 e in absurd (omega arith)
 
@@ -46,78 +54,120 @@ pub kept_part : (l m : Linked) (slot k : ℕ) (asked held : List ℕ) (given onc
 kept_part l m slot k asked held given once e f h = subst (λ us. LinksKeep l m slot (drop k asked) us) f (subst (λ xs. LinksKeep l m slot (drop k xs) given) e (subst (λ xs. LinksKeep l m slot xs given) (take_rest held k) h))
 
 module _ {N V F : Type 0} (ps : List (N × Slot V F)) where
-  open_pair : (i : ℕ) (o : Option (N × Slot V F)) → slice_get ps i ≡ o → option_map (λ p. p.1) o ≡ Some opened → (n : N) × (slice_get ps i ≡ Some (n, opened))
-  open_pair i None is e = absurd (cc)
-  open_pair i (Some p) is e = let same : p.1 ≡ opened = cc in (p.0, is ∙ ap (λ s. Some (p.0, s)) same)
+  open_pair : (n : N) (o : Option (N × Slot V F)) → option_map (λ p. p.0) o ≡ Some n → option_map (λ p. p.1) o ≡ Some opened → o ≡ Some (n, opened)
+  open_pair n None d e = absurd (cc)
+  open_pair n (Some p) d e = let node : p.0 ≡ n = cc in let slot : p.1 ≡ opened = cc in λ k. Some (node k, slot k)
 
   -- the last open node, and those below it
-  pub record IsTop (frames : Frames) (f : Frame) : Type 0 where
-    pub front : List Frame
+  pub record IsTop (frames : Frames N) (f : Frame N) : Type 0 where
+    pub front : List (Frame N)
     pub turned : reverse frames.frames.items ≡ f ∷ reverse front
-    pub node : N
-    pub there : slice_get ps f.slot ≡ Some (node, opened)
+    pub there : slice_get ps f.slot ≡ Some (f.node, opened)
     pub asks : f.asked ≤ length frames.asked.items
     pub count : f.uses ≤ length frames.uses.items
 
-  abbrev pub top_of : (frames : Frames) (f : Frame) → N → Open N (Result V F)
+  abbrev pub top_of : (frames : Frames N) (f : Frame N) → N → Open N (Result V F)
   top_of frames f n = record { node = n; replies = answers_at (slots_of ps) (drop f.asked frames.asked.items); asked = nodes_at ps (drop f.asked frames.asked.items); uses = drop f.uses frames.uses.items }
 
-  abbrev pub below : (frames : Frames) (f : Frame) → List Frame → List (Open N (Result V F))
+  abbrev pub below : (frames : Frames N) (f : Frame N) → List (Frame N) → List (Open N (Result V F))
   below frames f front = opens_in ps (reverse front) (take f.asked frames.asked.items) (take f.uses frames.uses.items)
 
-  pub top : (frames : Frames) (f : Frame) → AreFrames ps frames → EndsWith f frames.frames.items → IsTop frames f
+  pub top : (frames : Frames N) (f : Frame N) → AreFrames ps frames → EndsWith f frames.frames.items → IsTop frames f
   top frames f h ends =
       let turned : reverse frames.frames.items ≡ f ∷ reverse ends.0 = ap reverse ends.1 ∙ reverse-append ends.0 (f ∷ []) in
       let waits : AllByRecursion (λ f. IsOpen ps f.slot) (f ∷ reverse ends.0) = subst (AllByRecursion (λ f. IsOpen ps f.slot)) turned h.waits in
       let nested : AreNested (f ∷ reverse ends.0) (length frames.asked.items) (length frames.uses.items) = subst (λ fs. AreNested fs (length frames.asked.items) (length frames.uses.items)) turned h.nested in
-      let pair = open_pair f.slot (slice_get ps f.slot) refl (sym (slice_get-map (λ p. p.1) ps f.slot) ∙ waits.0) in
-      record { front = ends.0; turned = turned; node = pair.0; there = pair.1; asks = nested.0; count = nested.1 }
+      let nodes : AllByRecursion (λ f. node_at ps f.slot ≡ Some f.node) (f ∷ reverse ends.0) = subst (AllByRecursion (λ f. node_at ps f.slot ≡ Some f.node)) turned h.nodes in
+      let pair = open_pair f.node (slice_get ps f.slot) nodes.0 (sym (slice_get-map (λ p. p.1) ps f.slot) ∙ waits.0) in
+      record { front = ends.0; turned = turned; there = pair; asks = nested.0; count = nested.1 }
 
-  pub top-opens : (frames : Frames) (f : Frame) (t : IsTop frames f) → opens_of ps frames ≡ top_of frames f t.node ∷ below frames f t.front
+  pub top-opens : (frames : Frames N) (f : Frame N) (t : IsTop frames f) → opens_of ps frames ≡ top_of frames f f.node ∷ below frames f t.front
   top-opens frames f t =
       ap (λ fs. opens_in ps fs frames.asked.items frames.uses.items) t.turned
-      ∙ ap (λ o. open_before o (answers_at (slots_of ps) (drop f.asked frames.asked.items)) (nodes_at ps (drop f.asked frames.asked.items)) (drop f.uses frames.uses.items) (below frames f t.front)) (node_there ps f.slot t.node opened t.there)
+      ∙ ap (λ o. open_before o (answers_at (slots_of ps) (drop f.asked frames.asked.items)) (nodes_at ps (drop f.asked frames.asked.items)) (drop f.uses frames.uses.items) (below frames f t.front)) (node_there ps f.slot f.node opened t.there)
 
-  pub same-frames : (old new : Frames) → SameFrames old new → AreFrames ps old → AreFrames ps new
+  -- memory was refused before it was kept
+  pub unchanged-laid : (l m : Linked) (frames : Frames N) → IsUnchanged l m → IsLaidOut ps l frames → IsLaidOut ps m frames
+  unchanged-laid l m frames same h = record {
+    kept = record {
+      kept = λ i. ap (λ ks. is_kept ks i) same.kept ∙ h.kept.kept i;
+      asked = λ i k. subst (AllByRecursion (IsKept ps)) (sym (ap (λ rs. row rs i) same.asked)) (h.kept.asked i k);
+      idle = same.waits ∙ h.kept.idle;
+      slots = (let e = ap length same.kept in let le = h.kept.slots in omega arith);
+    };
+    waits = h.waits;
+  }
+
+  -- after a call the frames are the same, and there are more uses
+  more_uses : (w : Standing N (Result V F)) (old new : Frames N) {E : Type 0} (r : Result (Next N (Result V F)) E) → IfOk r (λ s. Runs w ps old new s) → OnErr r (IsAddedTo old.uses.items new.uses.items) → length old.uses.items ≤ length new.uses.items
+  more_uses w old new (Ok s) runs refused = let e : length new.uses.items ≡ length old.uses.items + _ = ap length runs.uses ∙ length-append old.uses.items _ in omega arith
+  more_uses w old new (Err e) runs refused = let e : length new.uses.items ≡ length old.uses.items + _ = ap length refused.1 ∙ length-append old.uses.items _ in omega arith
+
+  pub called-laid : (w : Standing N (Result V F)) (l : Linked) (old new : Frames N) {E : Type 0} (r : Result (Next N (Result V F)) E) → IfOk r (λ s. Runs w ps old new s) → OnErr r (IsAddedTo old.uses.items new.uses.items) → new.frames ≡ old.frames → new.asked ≡ old.asked → IsLaidOut ps l old → IsLaidOut ps l new
+  called-laid w l old new r runs refused same asked h =
+      let now : reverse new.frames.items ≡ reverse old.frames.items = ap (λ v. reverse v.items) same in
+      let held : new.asked.items ≡ old.asked.items = ap (λ v. v.items) asked in
+      let count : length old.asked.items ≤ length new.asked.items = (let e = ap length held in omega arith) in
+      record {
+        kept = h.kept;
+        waits = record {
+          waits = subst (AllByRecursion (λ f. IsOpen ps f.slot)) (sym now) h.waits.waits;
+          nodes = subst (AllByRecursion (λ f. node_at ps f.slot ≡ Some f.node)) (sym now) h.waits.nodes;
+          all = λ k o. subst (λ fs. IsOneOf (map (λ (f : Frame N). f.slot) fs) k) (sym now) (h.waits.all k o);
+          once = subst (λ fs. AllDiffer (map (λ (f : Frame N). f.slot) fs)) (sym now) h.waits.once;
+          asked = subst (AllByRecursion (IsKept ps)) (sym held) h.waits.asked;
+          nested = subst (λ fs. AreNested fs (length new.asked.items) (length new.uses.items)) (sym now) (grown (reverse old.frames.items) _ _ _ _ count (more_uses w old new r runs refused) h.waits.nested);
+        };
+      }
+
+  -- the last open node was run
+  pub runs : (w : Standing N (Result V F)) (old new : Frames N) (f : Frame N) → EndsWith f old.frames.items → (slots : List (Slot V F)) (held : List ℕ) (rs : List (Result V F)) → slots ≡ slots_of ps → held ≡ old.asked.items → rs ≡ answers_at slots (take (length held - f.asked) (drop f.asked held)) → {E : Type 0} (r : Result (Next N (Result V F)) E) → IfOk r (λ s. s ≡ w.follow f.node rs) → OnOk r (new.uses.items ≡ old.uses.items ++ w.added f.node rs) → IfOk r (λ s. Runs w ps old new s)
+  runs w old new f ends slots held rs same is lent (Err e) step uses = tt
+  runs w old new f ends slots held rs same is lent (Ok s) step uses =
+      let part : rs ≡ replies_of ps f old = lent ∙ ap (answers_at slots) (take_rest held f.asked) ∙ (λ i. answers_at (same i) (drop f.asked (is i))) in
+      record { frame = f; last = ends; step = step ∙ ap (w.follow f.node) part; uses = uses ∙ ap (λ xs. old.uses.items ++ w.added f.node xs) part }
+
+  pub same-frames : (old new : Frames N) → SameFrames old new → AreFrames ps old → AreFrames ps new
   same-frames old new same h =
       let now : reverse new.frames.items ≡ reverse old.frames.items = ap reverse same.frames in
       let P : List ℕ → List Use → Type 0 = λ xs us. AreNested (reverse old.frames.items) (length xs) (length us) in
       record {
         waits = subst (AllByRecursion (λ f. IsOpen ps f.slot)) (sym now) h.waits;
-        all = λ k o. subst (λ fs. IsOneOf (map (λ (f : Frame). f.slot) fs) k) (sym now) (h.all k o);
-        once = subst (λ fs. AllDiffer (map (λ (f : Frame). f.slot) fs)) (sym now) h.once;
+        nodes = subst (AllByRecursion (λ f. node_at ps f.slot ≡ Some f.node)) (sym now) h.nodes;
+        all = λ k o. subst (λ fs. IsOneOf (map (λ (f : Frame N). f.slot) fs) k) (sym now) (h.all k o);
+        once = subst (λ fs. AllDiffer (map (λ (f : Frame N). f.slot) fs)) (sym now) h.once;
         asked = subst (AllByRecursion (IsKept ps)) (sym same.asked) h.asked;
         nested = subst (λ fs. AreNested fs (length new.asked.items) (length new.uses.items)) (sym now) (subst (λ us. P new.asked.items us) (sym same.uses) (subst (λ xs. P xs old.uses.items) (sym same.asked) h.nested));
       }
 
   -- ---- the last open node is taken out
-  module _ (l : Linked) (frames new : Frames) (f : Frame) (laid : IsLaidOut ps l frames) (popped : Popped f frames new) (t : IsTop frames f) (qs : List (N × Slot V F)) where
+  module _ (l : Linked) (frames new : Frames N) (f : Frame N) (laid : IsLaidOut ps l frames) (popped : Popped f frames new) (t : IsTop frames f) (qs : List (N × Slot V F)) where
     top_none : answer_at (slots_of ps) f.slot ≡ None
-    top_none = answer_there ps f.slot t.node opened t.there
+    top_none = answer_there ps f.slot f.node opened t.there
 
     same_front : reverse new.frames.items ≡ reverse t.front
     same_front = tail-same (reverse new.frames.items) (reverse t.front) (sym (ap reverse popped.frames ∙ reverse-append new.frames.items (f ∷ [])) ∙ t.turned)
       where
-        tail-same : (xs ys : List Frame) → f ∷ xs ≡ f ∷ ys → xs ≡ ys
+        tail-same : (xs ys : List (Frame N)) → f ∷ xs ≡ f ∷ ys → xs ≡ ys
         tail-same xs ys e = let same : xs ≡ ys = cc in same
 
-    pub pops-opens : (s : Slot V F) → ChangesAt ps qs f.slot t.node s → opens_of qs new ≡ below frames f t.front
-    pops-opens s changes = opens-pop ps qs f.slot t.node s changes top_none f frames new laid.waits popped ∙ ap (λ fs. opens_in ps fs (take f.asked frames.asked.items) (take f.uses frames.uses.items)) same_front
+    pub pops-opens : (s : Slot V F) → ChangesAt ps qs f.slot f.node s → opens_of qs new ≡ below frames f t.front
+    pops-opens s changes = opens-pop ps qs f.slot f.node s changes top_none f frames new laid.waits popped ∙ ap (λ fs. opens_in ps fs (take f.asked frames.asked.items) (take f.uses frames.uses.items)) same_front
 
-    pub abandons-laid : ChangesAt ps qs f.slot t.node emptied → length qs ≡ length ps → IsLaidOut qs l new
+    pub abandons-laid : ChangesAt ps qs f.slot f.node emptied → length qs ≡ length ps → IsLaidOut qs l new
     abandons-laid changes count = record {
-      kept = links-stay ps qs f.slot t.node emptied changes top_none refl l laid.kept (let h = laid.kept.slots in omega arith);
-      waits = frames-pop ps qs f.slot t.node emptied changes top_none (λ e. cc) f refl frames new laid.waits popped;
+      kept = links-stay ps qs f.slot f.node emptied changes top_none refl l laid.kept (let h = laid.kept.slots in omega arith);
+      waits = frames-pop ps qs f.slot f.node emptied changes top_none (λ e. cc) f refl frames new laid.waits popped;
     }
 
-    pub abandons-kept : ChangesAt ps qs f.slot t.node emptied → length qs ≡ length ps → entries_of qs l ≡ entries_of ps l
-    abandons-kept changes count = entries-stay ps qs f.slot t.node emptied changes top_none refl l laid.kept 0 (let e : length ps ≡ length ps + 0 = omega arith in count ∙ e) tt
+    pub abandons-kept : ChangesAt ps qs f.slot f.node emptied → length qs ≡ length ps → entries_of qs l ≡ entries_of ps l
+    abandons-kept changes count = entries-stay ps qs f.slot f.node emptied changes top_none refl l laid.kept 0 (let e : length ps ≡ length ps + 0 = omega arith in count ∙ e) tt
 
-    pub abandons-rest : ChangesAt ps qs f.slot t.node emptied → TakesFirst true (opens_of ps frames) (opens_of qs new)
-    abandons-rest changes = (top_of frames f t.node, top-opens frames f t ∙ ap (λ st. top_of frames f t.node ∷ st) (sym (pops-opens emptied changes)))
+    pub abandons-rest : ChangesAt ps qs f.slot f.node emptied → TakesFirst true (opens_of ps frames) (opens_of qs new)
+    abandons-rest changes = (top_of frames f f.node, top-opens frames f t ∙ ap (λ st. top_of frames f f.node ∷ st) (sym (pops-opens emptied changes)))
 
     -- ---- it is kept
-    module _ (s : Slot V F) (a : Result V F) (is : answer_in s ≡ Some a) (changes : ChangesAt ps qs f.slot t.node s) (count : length qs ≡ length ps) (all : Linked) (once : List Use) (each : HasEachOnce once (drop f.uses frames.uses.items)) (in_asked : f.slot < length l.asked) (in_uses : f.slot < length l.uses) (kept : LinksKeep l all f.slot (drop f.asked frames.asked.items) once) where
+    module _ (s : Slot V F) (a : Result V F) (is : answer_in s ≡ Some a) (changes : ChangesAt ps qs f.slot f.node s) (count : length qs ≡ length ps) (all : Linked) (once : List Use) (each : HasEachOnce once (drop f.uses frames.uses.items)) (in_asked : f.slot < length l.asked) (in_uses : f.slot < length l.uses) (kept : LinksKeep l all f.slot (drop f.asked frames.asked.items) once) where
       not_open : s ≡ opened → ⊥
       not_open e = let none : answer_in s ≡ None = ap answer_in e in cc
 
@@ -125,17 +175,17 @@ module _ {N V F : Type 0} (ps : List (N × Slot V F)) where
       part_kept = All-drop (IsKept ps) f.asked frames.asked.items laid.waits.asked
 
       slot_in : f.slot < length ps
-      slot_in = slice_get_within ps f.slot (t.node, opened) t.there
+      slot_in = slice_get_within ps f.slot (f.node, opened) t.there
 
       pub closes-laid : IsLaidOut qs all new
       closes-laid = record {
-        kept = links-keep ps qs f.slot t.node s changes top_none a is l all (drop f.asked frames.asked.items) once laid.kept part_kept (let h = laid.kept.slots in let k = slot_in in omega arith) in_asked (let h = laid.kept.slots in omega arith) kept;
-        waits = frames-pop ps qs f.slot t.node s changes top_none not_open f refl frames new laid.waits popped;
+        kept = links-keep ps qs f.slot f.node s changes top_none a is l all (drop f.asked frames.asked.items) once laid.kept part_kept (let h = laid.kept.slots in let k = slot_in in omega arith) in_asked (let h = laid.kept.slots in omega arith) kept;
+        waits = frames-pop ps qs f.slot f.node s changes top_none not_open f refl frames new laid.waits popped;
       }
 
-      pub closes-kept : Keeps (top_of frames f t.node) a (entries_of ps l) (entries_of qs all)
+      pub closes-kept : Keeps (top_of frames f f.node) a (entries_of ps l) (entries_of qs all)
       closes-kept =
-          let p = entries-keep ps qs f.slot t.node s changes top_none a is l all (drop f.asked frames.asked.items) once laid.kept part_kept in_asked in_uses slot_in count kept in
+          let p = entries-keep ps qs f.slot f.node s changes top_none a is l all (drop f.asked frames.asked.items) once laid.kept part_kept in_asked in_uses slot_in count kept in
           record { once = once; each = each; front = p.front; back = p.back; was = p.was; kept = p.now }
 
       -- no node is below it
@@ -143,18 +193,18 @@ module _ {N V F : Type 0} (ps : List (N × Slot V F)) where
       closes-last none =
           let empty : below frames f t.front ≡ [] = sym (pops-opens s changes) ∙ ap (λ fs. opens_in qs (reverse fs) new.asked.items new.uses.items) none in
           let C : List (Open N (Result V F)) → Type 0 = λ st. Closes a st (record { kept = entries_of ps l; opened = opens_of ps frames }) (record { kept = entries_of qs all; opened = opens_of qs new }) in
-          subst C (sym (top-opens frames f t ∙ ap (λ st. top_of frames f t.node ∷ st) empty)) (closes-kept, pops-opens s changes ∙ empty)
+          subst C (sym (top-opens frames f t ∙ ap (λ st. top_of frames f f.node ∷ st) empty)) (closes-kept, pops-opens s changes ∙ empty)
 
       -- the one below gets its answer
       kept_now : IsKept qs f.slot
-      kept_now = ap is_some (answer_there qs f.slot t.node s changes.here ∙ is)
+      kept_now = ap is_some (answer_there qs f.slot f.node s changes.here ∙ is)
 
-      pub hears-laid : (last : Frames) → Heard f.slot new last → IsLaidOut qs all last
+      pub hears-laid : (last : Frames N) → Heard f.slot new last → IsLaidOut qs all last
       hears-laid last h = record { kept = closes-laid.kept; waits = frames-hear qs f.slot kept_now new last closes-laid.waits h }
 
-      pub closes-more : (last : Frames) → Heard f.slot new last → Closes a (opens_of ps frames) (record { kept = entries_of ps l; opened = opens_of ps frames }) (record { kept = entries_of qs all; opened = opens_of qs last })
+      pub closes-more : (last : Frames N) → Heard f.slot new last → Closes a (opens_of ps frames) (record { kept = entries_of ps l; opened = opens_of ps frames }) (record { kept = entries_of qs all; opened = opens_of qs last })
       closes-more last h =
-          let opens : opens_of qs last ≡ heard t.node a (below frames f t.front) = opens-hear qs f.slot t.node a (node_there qs f.slot t.node s changes.here) (answer_there qs f.slot t.node s changes.here ∙ is) new last closes-laid.waits h ∙ ap (heard t.node a) (pops-opens s changes) in
+          let opens : opens_of qs last ≡ heard f.node a (below frames f t.front) = opens-hear qs f.slot f.node a (node_there qs f.slot f.node s changes.here) (answer_there qs f.slot f.node s changes.here ∙ is) new last closes-laid.waits h ∙ ap (heard f.node a) (pops-opens s changes) in
           let C : List (Open N (Result V F)) → Type 0 = λ st. Closes a st (record { kept = entries_of ps l; opened = opens_of ps frames }) (record { kept = entries_of qs all; opened = opens_of qs last }) in
           subst C (sym (top-opens frames f t)) (closes-kept, opens)
 
@@ -162,13 +212,13 @@ module _ {N V F : Type 0} (ps : List (N × Slot V F)) where
       may-keep = subst (λ st. MayKeep a st (entries_of ps l) (entries_of qs all)) (sym (top-opens frames f t)) (inr closes-kept)
 
   -- ---- what keeping it requires
-  pub keep-in : (l : Linked) (frames : Frames) (f : Frame) → AreLinked ps l → IsTop frames f → f.slot < length l.kept
-  keep-in l frames f h t = let lt = slice_get_within ps f.slot (t.node, opened) t.there in let le = h.slots in omega arith
+  pub keep-in : (l : Linked) (frames : Frames N) (f : Frame N) → AreLinked ps l → IsTop frames f → f.slot < length l.kept
+  keep-in l frames f h t = let lt = slice_get_within ps f.slot (f.node, opened) t.there in let le = h.slots in omega arith
 
-  pub keep-out : (l : Linked) (frames : Frames) (f : Frame) → AreLinked ps l → IsTop frames f → is_kept l.kept f.slot ≡ false
-  keep-out l frames f h t = h.kept f.slot ∙ ap is_some (answer_there ps f.slot t.node opened t.there)
+  pub keep-out : (l : Linked) (frames : Frames N) (f : Frame N) → AreLinked ps l → IsTop frames f → is_kept l.kept f.slot ≡ false
+  keep-out l frames f h t = h.kept f.slot ∙ ap is_some (answer_there ps f.slot f.node opened t.there)
 
-  pub keep-asks : (l : Linked) (frames : Frames) (f : Frame) → IsLaidOut ps l frames → (held : List ℕ) → held ≡ frames.asked.items → All (λ s. is_kept l.kept s ≡ true) (take (length held - f.asked) (drop f.asked held))
+  pub keep-asks : (l : Linked) (frames : Frames N) (f : Frame N) → IsLaidOut ps l frames → (held : List ℕ) → held ≡ frames.asked.items → All (λ s. is_kept l.kept s ≡ true) (take (length held - f.asked) (drop f.asked held))
   keep-asks l frames f h held e =
       let K : ℕ → Type 0 = λ s. is_kept l.kept s ≡ true in
       let all : AllByRecursion K (drop f.asked frames.asked.items) = All-map (λ s k. h.kept.kept s ∙ k) (drop f.asked frames.asked.items) (All-drop (IsKept ps) f.asked frames.asked.items h.waits.asked) in

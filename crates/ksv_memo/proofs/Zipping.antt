@@ -1,12 +1,10 @@
 -- Nodes beside their slots.
-use Rattle.std.proofs.Common.{◌≡◌, ℕ, zero, suc, Bool, true, false, ◌||◌, List, [], ◌∷◌, ◌++◌, length, map, slice_set, get_or, Option, Some, None, refl, sym, ◌∙◌, ap, arith, slice_get, position, if◌then◌else◌, option_copied, IfSome, IfNone, Bor}
+use Rattle.std.proofs.Common.{◌≡◌, ℕ, zero, suc, Bool, ◌||◌, List, [], ◌∷◌, ◌++◌, length, map, slice_set, get_or, Some, refl, ◌∙◌, ap, arith, slice_get}
 use Rattle.std.specs.Option.{option_map}
 use Rattle.std.specs.List.{zip, list_any}
-use Rattle.std.proofs.lemmas.Option.{slice_get_read, slice_get-get_or}
-use Rattle.std.proofs.lemmas.List.Quantifiers.{position-Some}
+use Rattle.std.proofs.lemmas.Option.{slice_get_read, slice_get_within}
 use Rattle.std.proofs.lemmas.Slice.Zip.{length-zip}
-use Rattle.indexmap.specs.IndexMap.{set_value_at}
-use Rattle.indexmap.specs.IndexSet.{insert_key}
+use Rattle.ksv_memo.specs.Moves.{with_slot}
 
 module _ {N X : Type 0} where
   pub slots-zip : (ns : List N) (ss : List X) → length ss ≡ length ns → map (λ (p : N × X). p.1) (zip ns ss) ≡ ss
@@ -42,7 +40,7 @@ module _ {N X : Type 0} where
   push-zip (m ∷ ns) (t ∷ ss) n s e = ap (λ (ps : List (N × X)). (m, t) ∷ ps) (push-zip ns ss n s (omega arith))
 
   -- a slot is written
-  pub write-zip : (ns : List N) (ss : List X) (i : ℕ) (s : X) → zip ns (slice_set ss i s) ≡ set_value_at (zip ns ss) i s
+  pub write-zip : (ns : List N) (ss : List X) (i : ℕ) (s : X) → zip ns (slice_set ss i s) ≡ with_slot (zip ns ss) i s
   write-zip [] ss i s = refl
   write-zip (n ∷ ns) [] i s = refl
   write-zip (n ∷ ns) (t ∷ ss) zero s = refl
@@ -65,23 +63,5 @@ module _ {N X : Type 0} where
   slot-zip (m ∷ ns) (t ∷ ss) (suc i) s e f = slot-zip ns ss i s (omega arith) f
 
   -- the slot that is read at the place of a node
-  pub found-zip : (test : N → Bool) (ns : List N) (ss : List X) (i : ℕ) (s t : X) → length ss ≡ length ns → position test ns ≡ Some i → s ≡ get_or ss i s → s ≡ t → (n : N) × (slice_get (zip ns ss) i ≡ Some (n, t)) × (test n ≡ true)
-  found-zip test [] ss i s t e at is same = absurd (cc)
-  found-zip test (n ∷ ns) ss i s t e at is same =
-      let p = position-Some test (n ∷ ns) i n at in
-      let m : N = get_or (n ∷ ns) i n in
-      (m, there-zip (n ∷ ns) ss i m t (slice_get-get_or (n ∷ ns) i n p.0) (slice_get_read ss (length ss) i s refl (let lt = p.0 in omega arith) is ∙ ap (λ (x : X). Some x) same), p.1)
-
-module _ {N : Type 0} where
-  -- a new key goes last
-  pub new-key : (eq : N → N → Bool) (ns : List N) (n : N) → list_any (eq n) ns ≡ false → insert_key eq ns n ≡ ns ++ n ∷ []
-  new-key eq ns n none = ap (λ b. if b then ns else ns ++ n ∷ []) none
-
-  -- what is lent at a place
-  pub some-at : (r : Option (Bor N)) (o : Option N) → option_copied r ≡ o → IfSome r (λ n. o ≡ Some n.now)
-  some-at None o e = tt
-  some-at (Some n) o e = sym e
-
-  pub none-at : (r : Option (Bor N)) (o : Option N) → option_copied r ≡ o → IfNone r (o ≡ None)
-  none-at None o e = sym e
-  none-at (Some n) o e = tt
+  pub inside-zip : (ns : List N) (ss : List X) (i : ℕ) (n : N) (s t : X) → length ss ≡ length ns → slice_get ns i ≡ Some n → s ≡ get_or ss i s → s ≡ t → slice_get (zip ns ss) i ≡ Some (n, t)
+  inside-zip ns ss i n s t e at is same = there-zip ns ss i n t at (slice_get_read ss (length ss) i s refl (let lt = slice_get_within ns i n at in omega arith) is ∙ ap (λ (x : X). Some x) same)

@@ -27,7 +27,7 @@ AllDiffer [] = Unit {0}
 AllDiffer (i ∷ is) = AllByRecursion (λ j. i ≢ j) is × AllDiffer is
 
 -- the parts of frames, from the last opened to the first, begin within what comes before their ends
-abbrev pub AreNested : List Frame → ℕ → ℕ → Type 0
+abbrev pub AreNested : {N : Type 0} → List (Frame N) → ℕ → ℕ → Type 0
 AreNested [] asked uses = Unit {0}
 AreNested (f ∷ fs) asked uses = (f.asked ≤ asked) × (f.uses ≤ uses) × AreNested fs f.asked f.uses
 
@@ -79,11 +79,11 @@ module _ {N V F : Type 0} where
 
   -- the open nodes of frames, from the last opened to the first; the last frames' parts of what was asked and used come
   -- last
-  abbrev pub opens_in : List (N × Slot V F) → List Frame → List ℕ → List Use → List (Open N (Result V F))
+  abbrev pub opens_in : List (N × Slot V F) → List (Frame N) → List ℕ → List Use → List (Open N (Result V F))
   opens_in ps [] asked uses = []
   opens_in ps (f ∷ fs) asked uses = open_before (node_at ps f.slot) (answers_at (slots_of ps) (drop f.asked asked)) (nodes_at ps (drop f.asked asked)) (drop f.uses uses) (opens_in ps fs (take f.asked asked) (take f.uses uses))
 
-  abbrev pub opens_of : List (N × Slot V F) → Frames → List (Open N (Result V F))
+  abbrev pub opens_of : List (N × Slot V F) → Frames N → List (Open N (Result V F))
   opens_of ps frames = opens_in ps (reverse frames.frames.items) frames.asked.items frames.uses.items
 
   -- the links are those of the kept nodes, what each asked is kept, and nothing is to be taken
@@ -93,14 +93,15 @@ module _ {N V F : Type 0} where
     pub idle : l.waits ≡ []
     pub slots : length ps ≤ length l.kept
 
-  -- frames are those of the open nodes, each once, and what they asked is kept
-  pub record AreFrames (ps : List (N × Slot V F)) (frames : Frames) : Type 0 where
+  -- frames are those of the open nodes, each once, with the node that its slot has, and what they asked is kept
+  pub record AreFrames (ps : List (N × Slot V F)) (frames : Frames N) : Type 0 where
     pub waits : AllByRecursion (λ f. IsOpen ps f.slot) (reverse frames.frames.items)
+    pub nodes : AllByRecursion (λ f. node_at ps f.slot ≡ Some f.node) (reverse frames.frames.items)
     pub all : (i : ℕ) → IsOpen ps i → IsOneOf (map (λ f. f.slot) (reverse frames.frames.items)) i
     pub once : AllDiffer (map (λ f. f.slot) (reverse frames.frames.items))
     pub asked : AllByRecursion (IsKept ps) frames.asked.items
     pub nested : AreNested (reverse frames.frames.items) (length frames.asked.items) (length frames.uses.items)
 
-  pub record IsLaidOut (ps : List (N × Slot V F)) (l : Linked) (frames : Frames) : Type 0 where
+  pub record IsLaidOut (ps : List (N × Slot V F)) (l : Linked) (frames : Frames N) : Type 0 where
     pub kept : AreLinked ps l
     pub waits : AreFrames ps frames

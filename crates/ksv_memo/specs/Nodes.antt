@@ -24,7 +24,7 @@ pub record Nodes (N A : Type 0) : Type 0 where
   pub opened : List (Open N A)
 
 -- the nodes of slots, with these links and frames
-abbrev pub nodes_with : {N V F : Type 0} → List (N × Slot V F) → Linked → Frames → Nodes N (Result V F)
+abbrev pub nodes_with : {N V F : Type 0} → List (N × Slot V F) → Linked → Frames N → Nodes N (Result V F)
 nodes_with ps l frames = record { kept = entries_of ps l; opened = opens_of ps frames }
 
 -- a node is kept with this entry

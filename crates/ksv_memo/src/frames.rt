@@ -1,18 +1,17 @@
 //! What open nodes asked and used, by frames.
 ghost use Rattle.std.specs.Prelude.{◌≡◌, ◌<◌, ◌++◌, ◌∷◌, [], length, false, IfOk, IfSome, IfNone, OnOk, OnErr};
 ghost use Rattle.std.specs.List.{list_any};
-ghost use Rattle.indexmap.specs.IndexMap.{set_value_at};
-ghost use Rattle.ksv_memo.specs.Moves.{Heard, SameFrames, IsNewFrame, Popped, Framed, EndsWith};
+ghost use Rattle.ksv_memo.specs.Moves.{with_slot, Heard, SameFrames, IsNewFrame, Popped, Framed, EndsWith};
 
 use crate::slots::Slots;
 use ksv_bytes::Use;
-use ksv_memo_rules::Slot;
+use ksv_memo_rules::{Places, Slot};
 use std::alloc::AllocError;
-use std::hash::Hash;
 
-/// An open node: the number of its slot, and where its part of what open nodes asked and used begins.
-#[derive(Clone, Copy)]
-pub struct Frame {
+/// An open node, the number of its slot, and where its part of what open nodes asked and used begins.
+#[derive(Drop)]
+pub struct Frame<N> {
+    pub node: N,
     pub slot: u32,
     pub asked: usize,
     pub uses: usize,
@@ -20,8 +19,8 @@ pub struct Frame {
 
 /// The open nodes, the one that is run last; the slots that they asked, and the uses of their calls, with repeats.
 #[derive(Drop)]
-pub struct Frames {
-    pub frames: Vec<Frame>,
+pub struct Frames<N> {
+    pub frames: Vec<Frame<N>>,
     pub asked: Vec<u32>,
     pub uses: Vec<Use>,
 }
@@ -37,7 +36,16 @@ pub(crate) fn number(count: usize) -> Result<u32, AllocError>
     Ok(count as u32)
 }
 
-impl Frames {
+/// The frame of the last open node, of the frames of all.
+#[inline(always)]
+pub(crate) fn last_frame<N>(frames: &[Frame<N>]) -> Option<&Frame<N>>
+    ensures some { IfSome result (λ frame. EndsWith frame.now frames.now) }
+    ensures none { IfNone result (frames.now ≡ []) }
+{
+    frames.last()
+}
+
+impl<N: Drop> Frames<N> {
     /// Notes that the last open node got the reply in the slot of a number.
     #[inline(always)]
     pub(crate) fn hear(&mut self, place: usize) -> Result<(), AllocError>
@@ -48,87 +56,71 @@ impl Frames {
         Ok(())
     }
 
-    /// The frame of a node that is opened now.
+    /// The frame of a node that is opened now, in the slot of a number.
     #[inline(always)]
-    pub(crate) fn frame(&self, place: usize) -> Result<Frame, AllocError>
-        ensures { IfOk result (λ frame. IsNewFrame place self.now frame) }
+    pub(crate) fn frame(&self, slot: u32, node: N) -> Frame<N>
+        ensures { IsNewFrame slot node self.now result }
     {
-        Ok(Frame {
-            slot: number(place)?,
+        Frame {
+            node,
+            slot,
             asked: self.asked.len(),
             uses: self.uses.len(),
-        })
-    }
-
-    /// The frame of the last open node.
-    #[inline(always)]
-    pub(crate) fn last(&self) -> Option<Frame>
-        ensures some { IfSome result (λ frame. EndsWith frame self.now.frames.items) }
-        ensures none { IfNone result (self.now.frames.items ≡ []) }
-    {
-        self.frames.as_slice().last().copied()
-    }
-
-    /// Takes out the last open node, whose frame this is, with what it asked and used.
-    #[inline(always)]
-    pub(crate) fn take_last(&mut self, frame: Frame)
-        requires { EndsWith frame self.old.frames.items }
-        ensures { Popped frame self.old self.new }
-    {
-        self.frames.pop();
-        self.asked.truncate(frame.asked);
-        self.uses.truncate(frame.uses);
+        }
     }
 
     /// Takes out the last open node, if there is one, with what it asked and used.
-    pub(crate) fn pop(&mut self) -> Option<Frame>
-        ensures some { IfSome result (λ frame. Popped frame self.old self.new) }
-        ensures none { IfNone result (SameFrames self.old self.new) }
-        ensures empty { IfNone result (self.new.frames.items ≡ []) }
+    #[inline(always)]
+    pub(crate) fn take_last(&mut self)
+        ensures { (frame : Frame N) → EndsWith frame self.old.frames.items → Popped frame self.old self.new }
     {
-        let frame = self.frames.pop()?;
-        self.asked.truncate(frame.asked);
-        self.uses.truncate(frame.uses);
-        Some(frame)
+        if let Some(frame) = self.frames.pop() {
+            self.asked.truncate(frame.asked);
+            self.uses.truncate(frame.uses);
+        }
     }
 }
 
 /// Opens a node that has a slot with nothing in it.
 #[cold]
 #[inline(never)]
-pub(crate) fn reopen<N: Eq + Hash + Drop, V: Drop, F: Drop>(
-    slots: &mut Slots<N, V, F>,
-    frames: &mut Frames,
+pub(crate) fn reopen<N: Eq + Drop, P: Places<N> + Drop, V: Drop, F: Drop>(
+    slots: &mut Slots<N, P, V, F>,
+    frames: &mut Frames<N>,
     place: usize,
+    node: N,
 ) -> Result<(), AllocError>
     requires { place < length slots.old.entries }
-    ensures slots { OnOk result (slots.new.entries ≡ set_value_at slots.old.entries place Slot.Open) }
-    ensures frames { OnOk result (Framed place frames.old frames.new) }
+    ensures slots { OnOk result (slots.new.entries ≡ with_slot slots.old.entries place Slot.Open) }
+    ensures frames { OnOk result (Framed place node frames.old frames.new) }
     ensures kept { OnErr result (slots.new.entries ≡ slots.old.entries) }
     ensures err { OnErr result (SameFrames frames.old frames.new) }
 {
-    let frame = frames.frame(place)?;
-    frames.frames.push(frame)?;
+    let slot = number(place)?;
+    frames.frames.reserve(1)?;
     slots.set(place, Slot::Open);
+    let opened = frames.frame(slot, node);
+    frames.frames.push_reserved(opened);
     Ok(())
 }
 
 /// Opens a node that has no slot.
 #[inline(always)]
-pub(crate) fn open_new<N: Eq + Hash + Drop, V: Drop, F: Drop>(
-    slots: &mut Slots<N, V, F>,
-    frames: &mut Frames,
+pub(crate) fn open_new<N: Eq + Drop, P: Places<N> + Drop, V: Drop, F: Drop>(
+    slots: &mut Slots<N, P, V, F>,
+    frames: &mut Frames<N>,
     node: N,
 ) -> Result<(), AllocError>
     requires { list_any (λ p. N.eq node p.0) slots.old.entries ≡ false }
     ensures slots { OnOk result (slots.new.entries ≡ slots.old.entries ++ (node, Slot.Open) ∷ []) }
-    ensures frames { OnOk result (Framed (length slots.old.entries) frames.old frames.new) }
+    ensures frames { OnOk result (Framed (length slots.old.entries) node frames.old frames.new) }
     ensures kept { OnErr result (slots.new.entries ≡ slots.old.entries) }
     ensures err { OnErr result (SameFrames frames.old frames.new) }
 {
-    let frame = frames.frame(slots.len())?;
+    let slot = number(slots.len())?;
     frames.frames.reserve(1)?;
-    slots.add(node)?;
+    slots.add(&node)?;
+    let frame = frames.frame(slot, node);
     frames.frames.push_reserved(frame);
     Ok(())
 }

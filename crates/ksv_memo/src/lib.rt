@@ -4,15 +4,16 @@
 //! An [`Engine`] runs a node by them on an explicit stack and never runs a node twice while its answer is kept.
 //! Each of its answers is what evaluation from nothing gives (`specs/Evaluation` of ksv_memo_rules). After an edit it
 //! forgets the nodes with a touched use in their tree, and no others (`specs/Touched` of ksv_memo_rules). It doesn't
-//! depend on what nodes and answers mean.
+//! depend on what nodes and answers mean, nor on how the number of a node is found: the `Places` of the rules do that. They
+//! give no node back, so the frame of an open node holds it.
 //!
 //! Modules:
 //!
 //! - `engine`: `Engine`, the public face
-//! - `frames`: a frame for each open node, with what it asked and used
+//! - `frames`: a frame for each open node, which holds it, with what it asked and used
 //! - `laws`: the laws of all rules
 //! - `machine`: one turn, what follows it, the loop, and the look-up before it
-//! - `slots`: the nodes and their slots, each look counted; `call`, the only caller of `next`
+//! - `slots`: the numbers of nodes and their slots, each look counted; `call`, the only caller of `next`
 //! - `table`: the table of kept and open nodes
 //! - `uses`: uses, each once
 //! - `vacancy`: slots with nothing in them, which are given to other nodes
@@ -47,12 +48,12 @@
 //! - `Once`: the members of a list, each once
 //! - `Places`: an entry among others is as one after them
 //! - `Questions`: what a question keeps, as sets
-//! - `Resting`: frames when no node is open
+//! - `Resting`: frames when no node is open, and an empty table
 //! - `Sums`: sums over different slots
 //! - `Sweeping`: the emptied slots are those of the entries that an edit takes
 //! - `Tabling`: what a look-up says of kept and open nodes
 //! - `Taking`: what the table's moves mean for a question
-//! - `Topping`: the last open node: run, kept, taken out
+//! - `Topping`: the last open node: opened, run, kept, taken out
 //! - `Turns`: tests and moves on kept and open nodes, and the measure
 //! - `Zipping`: nodes beside their slots
 #![tactic(auto)]

@@ -137,6 +137,7 @@ impl<R: Rules> Machine<R> {
         ensures left { OnErr result (IsLeft (on (R.meaning rules.now) bytes.now) (to_keep (on (R.meaning rules.now) bytes.now) self.old.table.kept (done (on (R.meaning rules.now) bytes.now) [] node)) self.old.table.kept self.new.table.kept) }
         ensures turns { IfOk result (λ outcome. IsAnswered outcome → self.new.turns ≡ counted (debt (on (R.meaning rules.now) bytes.now) self.old.table.kept (done (on (R.meaning rules.now) bytes.now) [] node)) self.old.turns) }
     {
+        self.table.tidy();
         let outcome = self.run(rules, bytes, node);
         self.abandon();
         outcome

@@ -1,23 +1,21 @@
 //! The slots of nodes, each reaching of one counted, and calls of rules, which alone are lent them.
-ghost use Rattle.std.specs.Prelude.{◌≡◌, ◌<◌, ◌≤◌, ◌^◌, ◌++◌, ◌∷◌, [], length, drop, slice_set, true, false, is_some, option_map, Some, None, IfOk, OnOk, OnErr, IfSome, IfNone};
-ghost use Rattle.std.specs.List.{AllByRecursion, list_any, zip, IsDistinct};
+ghost use Rattle.std.specs.Prelude.{◌≡◌, ◌<◌, ◌≤◌, ◌^◌, ◌++◌, ◌∷◌, [], length, slice_set, true, false, option_map, Some, None, IfOk, OnOk, OnErr, IfSome, IfNone};
+ghost use Rattle.std.specs.List.{list_any, zip, IsDistinct};
 ghost use Rattle.std.specs.Map.{keys_of};
-ghost use Rattle.indexmap.specs.IndexMap.{set_value_at};
 ghost use Rattle.ksv_memo_links.specs.Shelved.{ticked};
-ghost use Rattle.ksv_memo.specs.Layout.{node_at, slots_of};
-ghost use Rattle.ksv_memo.specs.Moves.{IsVacant, Knows};
+ghost use Rattle.ksv_memo.specs.Layout.{AreFrames, slots_of};
+ghost use Rattle.ksv_memo.specs.Moves.{with_slot, IsVacant, Knows};
 ghost use Rattle.ksv_memo.specs.Calls.{Runs, after_call};
 ghost use Rattle.ksv_memo_rules.specs.Meaning.{IsAddedTo, on};
 ghost use Rattle.ksv_memo_rules.specs.Right.{counted};
-ghost use Rattle.ksv_memo_rules.specs.Slots.{HasAnswer, answer_at};
+ghost use Rattle.ksv_memo_rules.specs.Slots.{answer_at};
+ghost use Rattle.ksv_memo.specs.Nodes.{is_there};
 
-use crate::frames::{Frame, Frames};
-use indexmap::IndexSet;
+use crate::frames::{Frames, last_frame};
 use ksv_bytes::Buffer;
-use ksv_memo_rules::{Next, Outcome, Replies, Reply, Rules, Slot, answer_at};
+use ksv_memo_rules::{Next, Outcome, Places, Replies, Reply, Rules, Slot, answer_at};
 use std::alloc::{AllocError, Global};
-use std::hash::Hash;
-use std::marker::Model;
+use std::marker::{Model, PhantomData};
 
 /// What the slots have of a node.
 #[derive(Clone, Copy)]
@@ -32,43 +30,46 @@ pub enum Known {
     Kept(usize),
 }
 
-/// The slots of nodes. A node's slot has the number of its place in a set, which doesn't change while something is in it.
+/// The slots of nodes. A node's slot has the node's number, which doesn't change while something is in it.
 ///
 /// Each call that looks a node up, adds one or writes a slot is one look, and none does more; looking for a slot with nothing
 /// in it is one for each slot that is seen, and giving it to another node two. The slots are lent to rules alone, which isn't
 /// counted: by [`outcome_at`] and [`call`], which no code can call that has no rules, as forgetting.
 #[derive(Drop)]
-pub(crate) struct Slots<N: Eq + Hash + Drop, V: Drop, F: Drop> {
-    nodes: IndexSet<N>,
-    /// What is in the slot of each node, in the order of the nodes.
+pub(crate) struct Slots<N: Eq + Drop, P: Places<N> + Drop, V: Drop, F: Drop> {
+    /// The numbers of the nodes.
+    places: P,
+    /// What is in the slot of each node, in the order of their numbers.
     slots: Vec<Slot<V, F>>,
     looks: u64,
     /// Where a slot with nothing in it is looked for.
     cursor: usize,
+    node: PhantomData<N>,
 }
 
-impl<N: Eq + Hash + Drop, V: Drop, F: Drop> Model for Slots<N, V, F> {
+impl<N: Eq + Drop, P: Places<N> + Drop, V: Drop, F: Drop> Model for Slots<N, P, V, F> {
     ghost use Rattle.std.specs.Prelude.{◌≡◌, length};
     ghost use Rattle.std.specs.List.{zip};
     ghost use Rattle.ksv_memo.specs.Slotted.{Slotted};
 
     ghost Value = { Slotted N V F };
 
-    ghost view = { λ slots. record { entries = zip slots.nodes.keys slots.slots.items; looks = slots.looks } };
+    ghost view = { λ slots. record { entries = zip (P.nodes slots.places) slots.slots.items; looks = slots.looks } };
 
-    ghost invariant = { λ slots. length slots.slots.items ≡ length slots.nodes.keys };
+    ghost invariant = { λ slots. length slots.slots.items ≡ length (P.nodes slots.places) };
 }
 
-impl<N: Eq + Hash + Drop, V: Drop, F: Drop> Slots<N, V, F> {
+impl<N: Eq + Drop, P: Places<N> + Drop, V: Drop, F: Drop> Slots<N, P, V, F> {
     /// No slots, which take no memory.
     pub(crate) fn new(alloc: Global) -> Self
         ensures { result ≡ record { entries = []; looks = 0 } }
     {
         Slots {
-            nodes: IndexSet::new(alloc),
+            places: P::new(alloc),
             slots: Vec::new(alloc),
             looks: 0,
             cursor: 0,
+            node: PhantomData,
         }
     }
 
@@ -100,10 +101,10 @@ impl<N: Eq + Hash + Drop, V: Drop, F: Drop> Slots<N, V, F> {
         ensures len { result ≡ length self.now.entries }
         ensures small { result < 2 ^ 63 }
     {
-        self.nodes.len()
+        self.slots.as_slice().len()
     }
 
-    /// What the slots have of a node. It takes one hash.
+    /// What the slots have of a node.
     #[inline(always)]
     pub(crate) fn find(&mut self, node: &N) -> Known
         ensures knows { Knows N.eq self.new.entries node.now result }
@@ -112,14 +113,14 @@ impl<N: Eq + Hash + Drop, V: Drop, F: Drop> Slots<N, V, F> {
         ensures looks { self.new.looks ≡ ticked self.old.looks }
     {
         self.look();
-        look_up(&self.nodes, self.slots.as_slice(), node)
+        look_up(&self.places, self.slots.as_slice(), node)
     }
 
     /// Writes the slot of a number.
     #[inline(always)]
     pub(crate) fn set(&mut self, place: usize, new: Slot<V, F>)
         requires { place < length self.old.entries }
-        ensures slots { self.new.entries ≡ set_value_at self.old.entries place new }
+        ensures slots { self.new.entries ≡ with_slot self.old.entries place new }
         ensures looks { self.new.looks ≡ ticked self.old.looks }
     {
         self.look();
@@ -128,14 +129,14 @@ impl<N: Eq + Hash + Drop, V: Drop, F: Drop> Slots<N, V, F> {
 
     /// A slot for a node that has none, open.
     #[inline(always)]
-    pub(crate) fn add(&mut self, node: N) -> Result<(), AllocError>
-        requires { list_any (λ p. N.eq node p.0) self.old.entries ≡ false }
-        ensures ok { OnOk result (self.new.entries ≡ self.old.entries ++ (node, Slot.Open) ∷ []) }
+    pub(crate) fn add(&mut self, node: &N) -> Result<(), AllocError>
+        requires { list_any (λ p. N.eq node.now p.0) self.old.entries ≡ false }
+        ensures ok { OnOk result (self.new.entries ≡ self.old.entries ++ (node.now, Slot.Open) ∷ []) }
         ensures err { OnErr result (self.new.entries ≡ self.old.entries) }
     {
         self.looks = self.looks.saturating_add(1);
         self.slots.reserve(1)?;
-        self.nodes.insert(node)?;
+        self.places.add(node)?;
         self.slots.push_reserved(Slot::Open);
         Ok(())
     }
@@ -182,27 +183,24 @@ impl<N: Eq + Hash + Drop, V: Drop, F: Drop> Slots<N, V, F> {
     }
 
     /// Gives a slot to a node that has none, open. The node that had it has none then.
-    pub(crate) fn give(&mut self, place: usize, node: N) -> Result<(), AllocError>
-        requires none { list_any (λ p. N.eq node p.0) self.old.entries ≡ false }
+    pub(crate) fn give(&mut self, place: usize, node: &N) -> Result<(), AllocError>
+        requires none { list_any (λ p. N.eq node.now p.0) self.old.entries ≡ false }
         requires place_in { place < length self.old.entries }
-        ensures ok { OnOk result (self.new.entries ≡ slice_set self.old.entries place (node, Slot.Open)) }
+        ensures ok { OnOk result (self.new.entries ≡ slice_set self.old.entries place (node.now, Slot.Open)) }
         ensures err { OnErr result (self.new.entries ≡ self.old.entries) }
     {
         self.looks = self.looks.saturating_add(2);
-        self.nodes.insert(node)?;
-        // The node that was added last takes the place of the one that had the slot.
-        let _ = self.nodes.swap_remove_index(place);
+        self.places.give(place, node)?;
         write(&mut self.slots, place, Slot::Open);
         Ok(())
     }
 
-    /// The node of the slot of a number, lent to rules.
+    /// Gives memory of numbers back, if it is much. It isn't a look: it reads no slot, and no forgetting calls it.
     #[inline(always)]
-    fn node(&self, place: usize) -> Option<&N>
-        ensures some { IfSome result (λ n. node_at self.now.entries place ≡ Some n.now) }
-        ensures none { IfNone result (node_at self.now.entries place ≡ None) }
+    pub(crate) fn tidy(&mut self)
+        ensures { self.new ≡ self.old }
     {
-        self.nodes.get_index(place)
+        self.places.tidy();
     }
 
     /// The slots by their numbers, lent to rules.
@@ -223,21 +221,18 @@ fn write<V: Drop, F: Drop>(slots: &mut Vec<Slot<V, F>>, place: usize, new: Slot<
     slots[place] = new;
 }
 
-/// What nodes and their slots have of a node.
+/// What numbers and their slots have of a node.
 #[inline(always)]
-fn look_up<N: Eq + Hash + Drop, V: Drop, F: Drop>(
-    nodes: &IndexSet<N>,
+fn look_up<N: Eq + Drop, P: Places<N>, V: Drop, F: Drop>(
+    places: &P,
     slots: &[Slot<V, F>],
     node: &N,
 ) -> Known
-    requires { length slots.now ≡ length nodes.now.keys }
-    ensures knows { Knows N.eq (zip nodes.now.keys slots.now) node.now result }
-    ensures unique { IsDistinct N.eq (keys_of (zip nodes.now.keys slots.now)) }
+    requires { length slots.now ≡ length (P.nodes places.now) }
+    ensures knows { Knows N.eq (zip (P.nodes places.now) slots.now) node.now result }
+    ensures unique { IsDistinct N.eq (keys_of (zip (P.nodes places.now) slots.now)) }
 {
-    if nodes.len() == 0 {
-        return Known::New;
-    }
-    match nodes.get_index_of(node) {
+    match places.find(node) {
         None => Known::New,
         Some(place) => match &slots[place] {
             Slot::Empty => Known::Empty(place),
@@ -252,7 +247,7 @@ fn look_up<N: Eq + Hash + Drop, V: Drop, F: Drop>(
 pub(crate) fn outcome_at<R: Rules>(
     alloc: Global,
     rules: &R,
-    slots: &Slots<R::Node, R::Value, R::Fault>,
+    slots: &Slots<R::Node, R::Places, R::Value, R::Fault>,
     place: usize,
 ) -> Result<Option<Outcome<R::Node, Reply<R>>>, AllocError>
     ensures { IfOk result (λ outcome. outcome ≡ option_map (λ a. Outcome.Answered a) (answer_at (slots_of slots.now.entries) place)) }
@@ -274,22 +269,20 @@ fn one_more(turns: Option<u64>) -> Option<u64>
     }
 }
 
-/// One call of the rules for the node of a frame, with the replies that it got, which is counted unless memory is refused. No
+/// One call of the rules for the last open node, with the replies that it got, which is counted unless memory is refused. No
 /// other function calls `next`.
 #[inline(always)]
 pub(crate) fn call<R: Rules>(
-    slots: &Slots<R::Node, R::Value, R::Fault>,
-    frames: &mut Frames,
-    frame: Frame,
+    slots: &Slots<R::Node, R::Places, R::Value, R::Fault>,
+    frames: &mut Frames<R::Node>,
     alloc: Global,
     rules: &R,
     bytes: &Buffer,
     turns: &mut Option<u64>,
 ) -> Result<Next<R::Node, Reply<R>>, AllocError>
-    requires there { is_some (node_at slots.now.entries frame.slot) ≡ true }
-    requires begins { frame.asked ≤ length frames.old.asked.items }
-    requires kept { AllByRecursion (HasAnswer (slots_of slots.now.entries)) (drop frame.asked frames.old.asked.items) }
-    ensures step { IfOk result (λ step. Runs (on (R.meaning rules.now) bytes.now) slots.now.entries frame frames.old frames.new step) }
+    requires there { is_there frames.old.frames.items ≡ true }
+    requires waits { AreFrames slots.now.entries frames.old }
+    ensures step { IfOk result (λ step. Runs (on (R.meaning rules.now) bytes.now) slots.now.entries frames.old frames.new step) }
     ensures frames { frames.new.frames ≡ frames.old.frames }
     ensures asked { frames.new.asked ≡ frames.old.asked }
     ensures refused { OnErr result (IsAddedTo frames.old.uses.items frames.new.uses.items) }
@@ -297,12 +290,12 @@ pub(crate) fn call<R: Rules>(
     // One more, exactly where memory wasn't refused.
     ensures turns { turns.new ≡ after_call turns.old result }
 {
-    let Some(node) = slots.node(frame.slot as usize) else {
+    let Some(frame) = last_frame(frames.frames.as_slice()) else {
         unreachable!()
     };
     let asked = &frames.asked[frame.asked..];
     let replies = Replies::new(slots.lend(), asked);
-    let step = rules.next(alloc, node, bytes, &replies, &mut frames.uses);
+    let step = rules.next(alloc, &frame.node, bytes, &replies, &mut frames.uses);
     if step.is_ok() {
         *turns = one_more(*turns);
     }

@@ -11,15 +11,14 @@ ghost use Rattle.ksv_memo.specs.Calls.{after_call};
 ghost use Rattle.ksv_memo.specs.Sweep.{Sweeps};
 ghost use Rattle.ksv_memo.specs.Emptying.{IsEmptied};
 
-use crate::frames::{Frames, number, open_new, reopen};
+use crate::frames::{Frames, last_frame, number, open_new, reopen};
 use crate::slots::{Known, Slots, call, outcome_at};
 use crate::uses::keep_once;
 use crate::vacancy::{open_in, vacant};
 use ksv_bytes::{Buffer, Change};
 use ksv_memo_links::Links;
-use ksv_memo_rules::{Next, Outcome, Reply, Rules, Slot};
+use ksv_memo_rules::{Next, Outcome, Places, Reply, Rules, Slot};
 use std::alloc::{AllocError, Global};
-use std::hash::Hash;
 use std::marker::Model;
 
 /// What came of looking for a node.
@@ -35,10 +34,10 @@ enum Asked<N> {
 
 /// Opens a node that has no slot.
 #[inline(always)]
-fn open_node<N: Eq + Hash + Drop, V: Drop, F: Drop>(
-    slots: &mut Slots<N, V, F>,
+fn open_node<N: Eq + Drop, P: Places<N> + Drop, V: Drop, F: Drop>(
+    slots: &mut Slots<N, P, V, F>,
     links: &mut Links,
-    frames: &mut Frames,
+    frames: &mut Frames<N>,
     node: N,
 ) -> Result<(), AllocError>
     requires laid { IsLaidOut slots.old.entries links.old frames.old }
@@ -60,12 +59,12 @@ fn open_node<N: Eq + Hash + Drop, V: Drop, F: Drop>(
     }
 }
 
-/// Looks for a node, and opens it if it is neither kept nor open. It takes one hash, and another for a new node's slot.
+/// Looks for a node, and opens it if it is neither kept nor open. Its number is looked up once, and once more if it gets one.
 #[inline(always)]
-fn seek<N: Eq + Hash + Drop, V: Drop, F: Drop>(
-    slots: &mut Slots<N, V, F>,
+fn seek<N: Eq + Drop, P: Places<N> + Drop, V: Drop, F: Drop>(
+    slots: &mut Slots<N, P, V, F>,
     links: &mut Links,
-    frames: &mut Frames,
+    frames: &mut Frames<N>,
     node: N,
 ) -> Result<Asked<N>, AllocError>
     requires { IsLaidOut slots.old.entries links.old frames.old }
@@ -77,7 +76,7 @@ fn seek<N: Eq + Hash + Drop, V: Drop, F: Drop>(
         Known::Kept(place) => Ok(Asked::Kept(place)),
         Known::Open => Ok(Asked::Circle(node)),
         Known::Empty(place) => {
-            reopen(slots, frames, place)?;
+            reopen(slots, frames, place, node)?;
             Ok(Asked::Opened)
         }
         Known::New => {
@@ -99,7 +98,10 @@ fn slot_of<V, F>(answer: Result<V, F>) -> Slot<V, F>
 }
 
 /// Empties the slots that are to be taken; their looks are counted from here on.
-fn empty_taken<N: Eq + Hash + Drop, V: Drop, F: Drop>(slots: &mut Slots<N, V, F>, links: &mut Links)
+fn empty_taken<N: Eq + Drop, P: Places<N> + Drop, V: Drop, F: Drop>(
+    slots: &mut Slots<N, P, V, F>,
+    links: &mut Links,
+)
     requires inside { All (λ s. s < length slots.old.entries) links.old.waits }
     requires apart { AllPairs (λ (a b : ℕ). a ≢ b) links.old.waits }
     ensures { IsEmptied slots.old.entries slots.new.entries links.old links.new slots.new.looks }
@@ -110,12 +112,12 @@ fn empty_taken<N: Eq + Hash + Drop, V: Drop, F: Drop>(slots: &mut Slots<N, V, F>
     }
 }
 
-/// The nodes that are kept and those that are open. A look-up takes one hash, however many there are.
+/// The nodes that are kept and those that are open.
 #[derive(Drop)]
 pub struct Table<R: Rules> {
-    slots: Slots<R::Node, R::Value, R::Fault>,
+    slots: Slots<R::Node, R::Places, R::Value, R::Fault>,
     links: Links,
-    frames: Frames,
+    frames: Frames<R::Node>,
 }
 
 impl<R: Rules> Model for Table<R> {
@@ -151,6 +153,14 @@ impl<R: Rules> Table<R> {
         ensures { result ≡ length self.now.kept }
     {
         self.links.count()
+    }
+
+    /// Gives memory back that was taken for nodes whose numbers others have now, if it is much.
+    #[inline(always)]
+    pub(crate) fn tidy(&mut self)
+        ensures { self.new ≡ self.old }
+    {
+        self.slots.tidy();
     }
 
     /// Starts a question for a node: its outcome if the node is kept or open; else the node is opened.
@@ -203,18 +213,7 @@ impl<R: Rules> Table<R> {
         ensures kept { self.new.kept ≡ self.old.kept }
         ensures turns { turns.new ≡ after_call turns.old result }
     {
-        let Some(frame) = self.frames.last() else {
-            unreachable!()
-        };
-        call(
-            &self.slots,
-            &mut self.frames,
-            frame,
-            alloc,
-            rules,
-            bytes,
-            turns,
-        )
+        call(&self.slots, &mut self.frames, alloc, rules, bytes, turns)
     }
 
     /// Keeps the last open node with its answer, which the one below gets, if there is one.
@@ -224,15 +223,15 @@ impl<R: Rules> Table<R> {
         ensures ok { OnOk result (Closes answer self.old.opened self.old self.new) }
         ensures err { OnErr result (MayKeep answer self.old.opened self.old.kept self.new.kept) }
     {
-        let Some(frame) = self.frames.last() else {
+        let Some(frame) = last_frame(self.frames.frames.as_slice()) else {
             unreachable!()
         };
         let uses = &self.frames.uses[frame.uses..];
         let asked = &self.frames.asked[frame.asked..];
-        keep_once(alloc, &mut self.links, frame.slot, asked, uses)?;
         let slot = frame.slot as usize;
+        keep_once(alloc, &mut self.links, frame.slot, asked, uses)?;
         self.slots.set(slot, slot_of(answer));
-        self.frames.take_last(frame);
+        self.frames.take_last();
         if self.frames.frames.as_slice().is_empty() {
             return Ok(());
         }
@@ -245,13 +244,12 @@ impl<R: Rules> Table<R> {
         ensures kept { self.new.kept ≡ self.old.kept }
         ensures rest { TakesFirst result self.old.opened self.new.opened }
     {
-        match self.frames.pop() {
-            None => false,
-            Some(frame) => {
-                self.slots.set(frame.slot as usize, Slot::Empty);
-                true
-            }
-        }
+        let Some(frame) = last_frame(self.frames.frames.as_slice()) else {
+            return false;
+        };
+        self.slots.set(frame.slot as usize, Slot::Empty);
+        self.frames.take_last();
+        true
     }
 
     /// Whether an open node waits for the last one.

@@ -3,12 +3,11 @@ ghost use Rattle.std.specs.Prelude.{◌≡◌, ◌<◌, length, slice_set, false
 ghost use Rattle.std.specs.List.{list_any};
 ghost use Rattle.ksv_memo.specs.Moves.{IsVacant, SameFrames, Framed};
 
-use crate::frames::Frames;
+use crate::frames::{Frames, number};
 use crate::slots::Slots;
 use ksv_memo_links::Links;
-use ksv_memo_rules::Slot;
+use ksv_memo_rules::{Places, Slot};
 use std::alloc::AllocError;
-use std::hash::Hash;
 
 /// How many slots more than twice those in use there may be before new nodes are given slots with nothing in them.
 const SPARE: usize = 16_384;
@@ -16,10 +15,10 @@ const SPARE: usize = 16_384;
 /// A slot with nothing in it, where far more slots have nothing in them than are in use: so memory stays in proportion to the
 /// nodes that are kept and open at one time.
 #[inline(always)]
-pub(crate) fn vacant<N: Eq + Hash + Drop, V: Drop, F: Drop>(
-    slots: &mut Slots<N, V, F>,
+pub(crate) fn vacant<N: Eq + Drop, P: Places<N> + Drop, V: Drop, F: Drop>(
+    slots: &mut Slots<N, P, V, F>,
     links: &Links,
-    frames: &Frames,
+    frames: &Frames<N>,
 ) -> Option<usize>
     ensures some { IfSome result (IsVacant slots.old.entries) }
     ensures entries { slots.new.entries ≡ slots.old.entries }
@@ -34,22 +33,23 @@ pub(crate) fn vacant<N: Eq + Hash + Drop, V: Drop, F: Drop>(
 /// Opens a node that has no slot in one with nothing in it, which was another's.
 #[cold]
 #[inline(never)]
-pub(crate) fn open_in<N: Eq + Hash + Drop, V: Drop, F: Drop>(
-    slots: &mut Slots<N, V, F>,
-    frames: &mut Frames,
+pub(crate) fn open_in<N: Eq + Drop, P: Places<N> + Drop, V: Drop, F: Drop>(
+    slots: &mut Slots<N, P, V, F>,
+    frames: &mut Frames<N>,
     place: usize,
     node: N,
 ) -> Result<(), AllocError>
     requires none { list_any (λ p. N.eq node p.0) slots.old.entries ≡ false }
     requires place_in { place < length slots.old.entries }
     ensures slots { OnOk result (slots.new.entries ≡ slice_set slots.old.entries place (node, Slot.Open)) }
-    ensures frames { OnOk result (Framed place frames.old frames.new) }
+    ensures frames { OnOk result (Framed place node frames.old frames.new) }
     ensures kept { OnErr result (slots.new.entries ≡ slots.old.entries) }
     ensures err { OnErr result (SameFrames frames.old frames.new) }
 {
-    let frame = frames.frame(place)?;
+    let slot = number(place)?;
     frames.frames.reserve(1)?;
-    slots.give(place, node)?;
+    slots.give(place, &node)?;
+    let frame = frames.frame(slot, node);
     frames.frames.push_reserved(frame);
     Ok(())
 }

@@ -7,6 +7,7 @@
 //!
 //! Modules:
 //!
+//! - `places`: `trait Places`: the numbers of nodes
 //! - `replies`: `Replies`, the answers that an engine lends to rules
 //! - `rules`: `trait Rules`: what a node does next, with the laws of rules
 //!
@@ -28,8 +29,10 @@
 //! - `Standing`: the laws of rules over one list of bytes
 #![tactic(auto)]
 
+mod places;
 mod replies;
 mod rules;
 
+pub use places::Places;
 pub use replies::{Replies, Slot, answer_at};
 pub use rules::{Next, Outcome, Reply, Rules};

@@ -2,10 +2,10 @@
 ghost use Rattle.std.specs.Prelude.{◌≡◌, ℕ, ◌++◌, List, true, Result, IfOk, OnOk, OnErr};
 ghost use Rattle.ksv_memo_rules.specs.Slots.{lent};
 
+use crate::places::Places;
 use crate::replies::Replies;
 use ksv_bytes::{Buffer, Use};
 use std::alloc::{AllocError, Global};
-use std::hash::Hash;
 
 /// The reply to a question for a node: a value or a fault.
 pub type Reply<R> = Result<<R as Rules>::Value, <R as Rules>::Fault>;
@@ -37,7 +37,10 @@ pub trait Rules {
     ghost use Rattle.ksv_memo_rules.specs.Meaning.{Meaning, IsLawful, IsAddedTo};
 
     /// What can be asked.
-    type Node: Eq + Hash + Drop;
+    type Node: Eq + Drop;
+
+    /// The numbers of nodes.
+    type Places: Places<Self::Node> + Drop;
 
     /// What a node answers.
     type Value: Drop;

@@ -14,6 +14,7 @@ use ksv_desc::Desc;
 use ksv_expr_value::Fault;
 use ksv_memo_rules::{Next, Replies, Rules};
 use ksv_nodes::{Given, Halt, Node, Turn};
+use ksv_places::NodePlaces;
 use std::alloc::{AllocError, Global};
 use std::marker::PhantomData;
 
@@ -73,6 +74,8 @@ impl<N: NodeRules> Rules for Described<N> {
     ghost use Rattle.ksv_rule_meaning.specs.Lemmas.Lawful.{described_lawful};
 
     type Node = Node;
+
+    type Places = NodePlaces;
 
     type Value = Given;
 

@@ -1,2 +1,3 @@
+pub mod Hashing
 pub mod Reading
 pub mod Totals

@@ -19,6 +19,7 @@
 //! - `refusals`: rules that are refused memory at one of their calls
 //! - `samples`: the two sets of rules
 //! - `samples/chain`: a chain of nodes, each of which asks the one before it
+//! - `samples/hashed`: nodes with numbers, found by a hash
 //! - `samples/link`: a link of a chain
 //! - `samples/row`: a row and its number
 //! - `samples/rows`: rows that depend on rows and on bytes
@@ -32,6 +33,7 @@
 //!
 //! Lemmas (`proofs/`):
 //!
+//! - `Hashing`: what a list is after its last element took the place of another
 //! - `Reading`: a byte in the two slices of a window
 //! - `Totals`: the total of replies
 #![tactic(auto)]
@@ -59,6 +61,7 @@ mod samples;
 mod tower;
 
 pub use samples::chain::Chain;
+pub use samples::hashed::{Exact, Hashed};
 pub use samples::link::Link;
 pub use samples::row::{Missing, Row, RowNumber};
 pub use samples::rows::Rows;

@@ -10,6 +10,7 @@ ghost use Rattle.ksv_test_engine.specs.Rows.{rows_meaning};
 use crate::edits::new_engine;
 use crate::engine::{LINKED, rows};
 use crate::plain::row;
+use crate::samples::hashed::Hashed;
 use crate::samples::row::{Missing, Reply, RowNumber};
 use crate::samples::rows::Rows;
 use ksv_bytes::{Buffer, Use};
@@ -42,6 +43,8 @@ impl Rules for Refusing {
     ghost use Rattle.ksv_test_engine.specs.Rows.{rows_lawful, same_if_equal};
 
     type Node = RowNumber;
+
+    type Places = Hashed<RowNumber>;
 
     type Value = u32;
 

@@ -12,6 +12,7 @@ ghost use Rattle.ksv_test_engine.specs.Tower.{read_by, tower_lawful, tower_meani
 
 use crate::edits::{new_engine, overwrite};
 use crate::samples::chain::linked;
+use crate::samples::hashed::Hashed;
 use crate::samples::link::Link;
 use crate::samples::row::{Missing, Reply, copied};
 use ksv_bytes::{Buffer, Change, Use};
@@ -41,6 +42,8 @@ fn read(is_lowest: bool, size: usize, uses: &mut Vec<Use>) -> Result<(), AllocEr
 
 impl Rules for Tower {
     type Node = Link;
+
+    type Places = Hashed<Link>;
 
     type Value = u32;
 

@@ -2,6 +2,7 @@
 ghost use Rattle.std.specs.Prelude.{◌≡◌, ◌<◌, ◌+◌, ◌-◌, ◌^◌, ◌++◌, min, length, IfOk, OnOk, OnErr};
 ghost use Rattle.ksv_test_engine.specs.Chain as spec;
 
+use crate::samples::hashed::Hashed;
 use crate::samples::link::Link;
 use crate::samples::row::{Missing, Reply, copied};
 use ksv_bytes::{Buffer, Use};
@@ -37,6 +38,8 @@ pub(crate) fn linked(link: Link, size: u32, replies: &Replies<u32, Missing>) -> 
 
 impl Rules for Chain {
     type Node = Link;
+
+    type Places = Hashed<Link>;
 
     type Value = u32;
 

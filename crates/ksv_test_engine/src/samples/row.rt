@@ -2,12 +2,20 @@
 ghost use Rattle.std.specs.Prelude.{◌≡◌, ◌<◌};
 ghost use Rattle.ksv_memo_rules.specs.Slots.{lent};
 
+use crate::samples::hashed::Exact;
+
 /// The number of a row.
 #[derive(Clone, Copy, PartialEq, Eq, Hash)]
 pub struct RowNumber {
     /// The number.
     pub number: u8,
     ghost small: { number < 256 },
+}
+
+impl Exact for RowNumber {
+    ghost use Rattle.ksv_test_engine.specs.Rows.{same_if_equal};
+
+    ghost exact = { same_if_equal };
 }
 
 /// A row that isn't there, or a missing byte that should name one.

@@ -4,6 +4,7 @@ ghost use Rattle.std.specs.Option.{option_copied};
 ghost use Rattle.ksv_bytes.specs.Edits.{file_limit};
 ghost use Rattle.ksv_test_engine.specs.Rows as spec;
 
+use crate::samples::hashed::Hashed;
 use crate::samples::row::{Missing, Reply, Row, RowNumber, copied};
 use ksv_bytes::{Buffer, Use, Window};
 use ksv_memo_rules::{Next, Replies, Rules};
@@ -141,6 +142,8 @@ fn row_next(
 
 impl Rules for Rows {
     type Node = RowNumber;
+
+    type Places = Hashed<RowNumber>;
 
     type Value = u32;
 

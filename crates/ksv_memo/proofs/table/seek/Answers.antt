@@ -18,11 +18,11 @@ returns-in-Open-clause-ok g c =
     let view = looked-view slots.entries ps links frames _ c.find.ensures.entries refl in
     let eq = g.N.PartialEq.eq in
     subst (λ v. Circles eq c.args.node c.args.node v (record { kept = entries_of ps links; opened = opens_of ps frames })) view
-    (record { same = refl; waits = open_waits eq ps links frames laid0.kept laid0.waits c.args.node c.in-Open.ensures.knows; kept = refl; opened = refl })
+    (record { same = refl; waits = open_waits eq ps links frames laid0.kept laid0.waits c.args.node (g.met.N.Eq.laws.refl c.args.node) c.in-Open.ensures.knows; kept = refl; opened = refl })
 
 -- a slot is empty
 pub reopen-requires : goal.reopen-requires
-reopen-requires g c = slice_get_within c.find.new.self.entries c.in-Empty.place _ c.in-Empty.ensures.knows.there
+reopen-requires g c = slice_get_within c.find.new.self.entries c.in-Empty.place _ c.in-Empty.ensures.knows
 
 pub returns-in_ok-reopen-in-Empty-clause-laid : goal.returns-in_ok-reopen-in-Empty-clause-laid
 returns-in_ok-reopen-in-Empty-clause-laid g c =
@@ -34,8 +34,8 @@ returns-in_ok-reopen-in-Empty-clause-laid g c =
     let view = looked-view slots.entries ps links frames _ c.find.ensures.entries refl in
     let eq = g.N.PartialEq.eq in
     let at = c.in-Empty.ensures.knows in
-    let changes = set_at ps c.reopen.new.slots.entries c.in-Empty.place at.node Empty Open at.there c.in_ok-reopen-in-Empty.ensures.slots in
-    opens-laid eq ps links frames laid0 c.args.node c.reopen.new.slots.entries c.in-Empty.place at.node changes
+    let changes = set_at ps c.reopen.new.slots.entries c.in-Empty.place c.args.node Empty Open at c.in_ok-reopen-in-Empty.ensures.slots in
+    opens-laid eq ps links frames laid0 c.args.node c.reopen.new.slots.entries c.in-Empty.place c.args.node changes
     (empty_none eq ps links frames laid0 c.args.node c.in-Empty.place at) (empty_closed eq ps links frames laid0 c.args.node c.in-Empty.place at) c.reopen.new.frames c.in_ok-reopen-in-Empty.ensures.frames (let n = set_count ps c.in-Empty.place Open c.reopen.new.slots.entries c.in_ok-reopen-in-Empty.ensures.slots in let h = laid0.kept.slots in omega arith)
 
 pub returns-in_ok-reopen-in-Empty-clause-ok : goal.returns-in_ok-reopen-in-Empty-clause-ok
@@ -49,10 +49,10 @@ returns-in_ok-reopen-in-Empty-clause-ok g c =
     let eq = g.N.PartialEq.eq in
     let at = c.in-Empty.ensures.knows in
     let laws = g.met.N.Eq.laws in
-    let changes = set_at ps c.reopen.new.slots.entries c.in-Empty.place at.node Empty Open at.there c.in_ok-reopen-in-Empty.ensures.slots in
+    let changes = set_at ps c.reopen.new.slots.entries c.in-Empty.place c.args.node Empty Open at c.in_ok-reopen-in-Empty.ensures.slots in
     subst (λ v. Opens eq c.args.node v (record { kept = entries_of c.reopen.new.slots.entries links; opened = opens_of c.reopen.new.slots.entries c.reopen.new.frames })) view
-    (opens-more eq ps links frames laid0 c.args.node c.reopen.new.slots.entries c.in-Empty.place at.node changes
-    (empty_none eq ps links frames laid0 c.args.node c.in-Empty.place at) (empty_closed eq ps links frames laid0 c.args.node c.in-Empty.place at) c.reopen.new.frames c.in_ok-reopen-in-Empty.ensures.frames 0 (let n = set_count ps c.in-Empty.place Open c.reopen.new.slots.entries c.in_ok-reopen-in-Empty.ensures.slots in omega arith) tt at.passes
+    (opens-more eq ps links frames laid0 c.args.node c.reopen.new.slots.entries c.in-Empty.place c.args.node changes
+    (empty_none eq ps links frames laid0 c.args.node c.in-Empty.place at) (empty_closed eq ps links frames laid0 c.args.node c.in-Empty.place at) c.reopen.new.frames c.in_ok-reopen-in-Empty.ensures.frames 0 (let n = set_count ps c.in-Empty.place Open c.reopen.new.slots.entries c.in_ok-reopen-in-Empty.ensures.slots in omega arith) tt (laws.refl c.args.node)
     (empty_out eq ps links frames laid0.kept laid0.waits c.args.node laws c.in-Empty.ensures.unique c.in-Empty.place at)
     (empty_free eq ps links frames laid0.kept laid0.waits c.args.node laws c.in-Empty.ensures.unique c.in-Empty.place at))
 

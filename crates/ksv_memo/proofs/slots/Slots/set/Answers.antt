@@ -1,13 +1,13 @@
 use Rattle.std.proofs.Common.{◌∙◌, ap, length, arith}
 use Rattle.std.specs.List.{zip}
 use Rattle.std.proofs.lemmas.List.{length-set}
-use Rattle.indexmap.specs.IndexMap.{set_value_at}
+use Rattle.ksv_memo.specs.Moves.{with_slot}
 use Rattle.ksv_memo.proofs.Zipping.{count-zip, write-zip}
 use Rattle.ksv_memo.proofs.slots.Slots.set.Goals as goal
 
 pub write-requires : goal.write-requires
 write-requires g c =
-    let n = count-zip c.self.inside.nodes.keys c.self.inside.slots.items c.self.invariant in
+    let n = count-zip (g.P.Places.nodes c.self.inside.places) c.self.inside.slots.items c.self.invariant in
     let v = ap (λ v. length v.entries) c.self.view_is ∙ ap length c.look.ensures.entries in
     let r = c.requires in
     let i = c.self.invariant in
@@ -16,7 +16,7 @@ write-requires g c =
 pub returns-clause-slots : goal.returns-clause-slots
 returns-clause-slots g c =
     let t = c.self.inside in
-    ap (zip t.nodes.keys) c.write.ensures ∙ write-zip t.nodes.keys t.slots.items c.args.place c.args.new ∙ ap (λ v. set_value_at v.entries c.args.place c.args.new) c.self.view_is ∙ ap (λ es. set_value_at es c.args.place c.args.new) c.look.ensures.entries
+    ap (zip (g.P.Places.nodes t.places)) c.write.ensures ∙ write-zip (g.P.Places.nodes t.places) t.slots.items c.args.place c.args.new ∙ ap (λ v. with_slot v.entries c.args.place c.args.new) c.self.view_is ∙ ap (λ es. with_slot es c.args.place c.args.new) c.look.ensures.entries
 
 pub invariant_of-self : goal.invariant_of-self
 invariant_of-self g c = ap length c.write.ensures ∙ length-set c.self.inside.slots.items c.args.place c.args.new ∙ c.self.invariant

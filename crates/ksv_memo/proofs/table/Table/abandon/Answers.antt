@@ -1,6 +1,7 @@
 use Rattle.std.proofs.Common.{◌∙◌, ap, subst, true}
 use Rattle.std.proofs.lemmas.Option.{slice_get_within}
 use Rattle.ksv_memo_rules.specs.declared.replies.Slot.TheVariants.{Empty, Open}
+use Rattle.ksv_memo.specs.Moves.{EndsWith}
 use Rattle.ksv_memo.specs.Layout.{opens_of}
 use Rattle.ksv_memo.specs.Nodes.{TakesFirst}
 use Rattle.ksv_memo.proofs.Changing.{set_at, set_count}
@@ -9,28 +10,28 @@ use Rattle.ksv_memo.proofs.table.Table.abandon.Goals as goal
 
 pub set-requires : goal.set-requires
 set-requires g c =
-    let t = top c.self.inside.slots.entries c.self.inside.frames c.in-Some.frame c.self.invariant.waits (c.pop.new.self.frames.items, c.in-Some.ensures.some.frames) in
-    slice_get_within c.self.inside.slots.entries c.in-Some.frame.slot _ t.there
+    let t = top c.self.inside.slots.entries c.self.inside.frames c.in-Some.frame.now c.self.invariant.waits (subst (EndsWith c.in-Some.frame.now) c.as_slice.ensures.value c.in-Some.ensures.some) in
+    slice_get_within c.self.inside.slots.entries c.in-Some.frame.now.slot _ t.there
 
-pub invariant_of-self-in-Some : goal.invariant_of-self-in-Some
-invariant_of-self-in-Some g c =
+pub invariant_of-self : goal.invariant_of-self
+invariant_of-self g c =
     let ps = c.self.inside.slots.entries in
-    let t = top ps c.self.inside.frames c.in-Some.frame c.self.invariant.waits (c.pop.new.self.frames.items, c.in-Some.ensures.some.frames) in
-    abandons-laid ps c.self.inside.links c.self.inside.frames c.pop.new.self c.in-Some.frame c.self.invariant c.in-Some.ensures.some t c.set.new.self.entries
-    (set_at ps c.set.new.self.entries c.in-Some.frame.slot t.node Open Empty t.there c.set.ensures.slots) (set_count ps c.in-Some.frame.slot Empty c.set.new.self.entries c.set.ensures.slots)
+    let t = top ps c.self.inside.frames c.in-Some.frame.now c.self.invariant.waits (subst (EndsWith c.in-Some.frame.now) c.as_slice.ensures.value c.in-Some.ensures.some) in
+    abandons-laid ps c.self.inside.links c.self.inside.frames c.take_last.new.self c.in-Some.frame.now c.self.invariant (c.take_last.ensures c.in-Some.frame.now (subst (EndsWith c.in-Some.frame.now) c.as_slice.ensures.value c.in-Some.ensures.some)) t c.set.new.self.entries
+    (set_at ps c.set.new.self.entries c.in-Some.frame.now.slot c.in-Some.frame.now.node Open Empty t.there c.set.ensures.slots) (set_count ps c.in-Some.frame.now.slot Empty c.set.new.self.entries c.set.ensures.slots)
 
-pub returns-in-Some-clause-kept : goal.returns-in-Some-clause-kept
-returns-in-Some-clause-kept g c =
+pub returns-clause-kept : goal.returns-clause-kept
+returns-clause-kept g c =
     let ps = c.self.inside.slots.entries in
-    let t = top ps c.self.inside.frames c.in-Some.frame c.self.invariant.waits (c.pop.new.self.frames.items, c.in-Some.ensures.some.frames) in
-    abandons-kept ps c.self.inside.links c.self.inside.frames c.pop.new.self c.in-Some.frame c.self.invariant c.in-Some.ensures.some t c.set.new.self.entries
-    (set_at ps c.set.new.self.entries c.in-Some.frame.slot t.node Open Empty t.there c.set.ensures.slots) (set_count ps c.in-Some.frame.slot Empty c.set.new.self.entries c.set.ensures.slots)
+    let t = top ps c.self.inside.frames c.in-Some.frame.now c.self.invariant.waits (subst (EndsWith c.in-Some.frame.now) c.as_slice.ensures.value c.in-Some.ensures.some) in
+    abandons-kept ps c.self.inside.links c.self.inside.frames c.take_last.new.self c.in-Some.frame.now c.self.invariant (c.take_last.ensures c.in-Some.frame.now (subst (EndsWith c.in-Some.frame.now) c.as_slice.ensures.value c.in-Some.ensures.some)) t c.set.new.self.entries
+    (set_at ps c.set.new.self.entries c.in-Some.frame.now.slot c.in-Some.frame.now.node Open Empty t.there c.set.ensures.slots) (set_count ps c.in-Some.frame.now.slot Empty c.set.new.self.entries c.set.ensures.slots)
     ∙ ap (λ v. v.kept) c.self.view_is
 
-pub returns-in-Some-clause-rest : goal.returns-in-Some-clause-rest
-returns-in-Some-clause-rest g c =
+pub returns-clause-rest : goal.returns-clause-rest
+returns-clause-rest g c =
     let ps = c.self.inside.slots.entries in
-    let t = top ps c.self.inside.frames c.in-Some.frame c.self.invariant.waits (c.pop.new.self.frames.items, c.in-Some.ensures.some.frames) in
-    subst (λ v. TakesFirst true v.opened (opens_of c.set.new.self.entries c.pop.new.self)) c.self.view_is
-    (abandons-rest ps c.self.inside.links c.self.inside.frames c.pop.new.self c.in-Some.frame c.self.invariant c.in-Some.ensures.some t c.set.new.self.entries
-    (set_at ps c.set.new.self.entries c.in-Some.frame.slot t.node Open Empty t.there c.set.ensures.slots))
+    let t = top ps c.self.inside.frames c.in-Some.frame.now c.self.invariant.waits (subst (EndsWith c.in-Some.frame.now) c.as_slice.ensures.value c.in-Some.ensures.some) in
+    subst (λ v. TakesFirst true v.opened (opens_of c.set.new.self.entries c.take_last.new.self)) c.self.view_is
+    (abandons-rest ps c.self.inside.links c.self.inside.frames c.take_last.new.self c.in-Some.frame.now c.self.invariant (c.take_last.ensures c.in-Some.frame.now (subst (EndsWith c.in-Some.frame.now) c.as_slice.ensures.value c.in-Some.ensures.some)) t c.set.new.self.entries
+    (set_at ps c.set.new.self.entries c.in-Some.frame.now.slot c.in-Some.frame.now.node Open Empty t.there c.set.ensures.slots))

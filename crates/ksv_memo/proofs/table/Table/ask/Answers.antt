@@ -16,4 +16,4 @@ returns-in_ok-hear-in-Ok-Kept-clause-ok g c =
     let eq = g.R.Node.PartialEq.eq in
     let came = rw c.in-Ok-Kept.field-0-is at c.in-Ok-Kept.ensures.ok in
     inl (subst (λ v. Replies eq c.args.node v (nodes_with t.slots.entries t.links c.hear.new.self)) (came.1 ∙ c.self.view_is)
-    (replies eq t.slots.entries t.links t.frames c.in-Ok-Kept.ensures.laid c.args.node c.in-Ok-Kept.place came.0 c.hear.new.self c.in_ok-hear-in-Ok-Kept.ensures.ok))
+    (replies eq t.slots.entries t.links t.frames c.in-Ok-Kept.ensures.laid c.args.node (g.met.R.Node.Eq.laws.refl c.args.node) c.in-Ok-Kept.place came.0 c.hear.new.self c.in_ok-hear-in-Ok-Kept.ensures.ok))

@@ -19,7 +19,7 @@ returns-clause-ok g c =
       | in-Kept w ↦
           let came = rw w.in-Kept.is at c.in_ok-came.ensures.ok in
           let laid = c.in_ok-came.ensures.laid in
-          let one = found eq t.slots.entries t.links t.frames laid.kept laid.waits n w.in-Kept.place came.0 in
+          let one = found eq t.slots.entries t.links t.frames laid.kept laid.waits n (g.met.R.Node.Eq.laws.refl n) w.in-Kept.place came.0 in
           let view = came.1 ∙ c.self.view_is in
           subst (λ r. IfOk r (Starts eq n old new)) (sym w.result-is)
           (IfOk-weaker w.outcome_at.result _ _

@@ -1,0 +1,9 @@
+pub mod Chains
+pub mod Filing
+pub mod Growing
+pub mod Hooking
+pub mod Naming
+pub mod Planting
+pub mod Reaching
+pub mod Shelves
+pub mod Walking

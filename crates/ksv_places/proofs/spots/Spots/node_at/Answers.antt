@@ -1,0 +1,39 @@
+use Rattle.std.proofs.Common.{◌≡◌, ◌<◌, List, [], Some, length, get_or, reverse, sym, ◌∙◌, ap, subst, arith, slice_get}
+use Rattle.std.specs.Option.{option_map}
+use Rattle.std.proofs.lemmas.List.{length-map, get_or_default}
+use Rattle.std.proofs.lemmas.Option.{slice_get-map, slice_get-get_or}
+use Rattle.ksv_expr_value.specs.declared.step.Step.{Step}
+use Rattle.ksv_nodes.specs.declared.node.NodeKind.{NodeKind}
+use Rattle.ksv_places.specs.declared.links.Spot.{Spot}
+use Rattle.ksv_places.specs.Spots.{spot_at, node_of}
+use Rattle.ksv_places.proofs.Filing.{path_in}
+use Rattle.ksv_places.proofs.spots.Spots.node_at.Goals as goal
+
+pub steps_of-requires : goal.steps_of-requires
+steps_of-requires c =
+    let t = c.self.inside in
+    let spots = t.spots.items in
+    let n = length-map spots (node_of t.tree) in
+    let m = ap (λ (ns : List (NodeKind × List Step)). length ns) c.self.view_is in
+    let h = c.requires in
+    let there : c.args.place < length spots = omega arith in
+    let spot : c.index-spot.result.now ≡ spot_at spots c.args.place = c.index-spot.ensures ∙ get_or_default spots c.args.place _ _ there in
+    subst (λ (s : Spot). s.path < length t.tree) (sym spot) (let a = path_in t.tree t.rows.items spots c.self.invariant c.args.place there in let b = c.self.invariant.few in omega arith)
+
+pub returns : goal.returns
+returns c =
+    let t = c.self.inside in
+    let spots = t.spots.items in
+    let place = c.args.place in
+    let n = length-map spots (node_of t.tree) in
+    let m = ap (λ (ns : List (NodeKind × List Step)). length ns) c.self.view_is in
+    let h = c.requires in
+    let there : place < length spots = omega arith in
+    let s = c.index-spot.result.now in
+    let spot : s ≡ spot_at spots place = c.index-spot.ensures ∙ get_or_default spots place _ _ there in
+    let wrote : reverse c.steps_of.new.steps.items ≡ get_or t.tree s.path [] = c.in_ok-steps_of.ensures in
+    ap (λ (ns : List (NodeKind × List Step)). slice_get ns place) (sym c.self.view_is)
+    ∙ slice_get-map (node_of t.tree) spots place
+    ∙ ap (option_map (node_of t.tree)) (slice_get-get_or spots place _ there)
+    ∙ ap (λ (x : Spot). Some (x.kind, get_or t.tree x.path [])) (sym spot)
+    ∙ ap (λ (q : List Step). Some (s.kind, q)) (sym wrote)

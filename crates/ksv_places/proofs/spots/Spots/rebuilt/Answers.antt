@@ -1,0 +1,42 @@
+use Rattle.std.proofs.Common.{◌≡◌, ℕ, suc, ◌+◌, ◌<◌, ◌≤◌, ◌++◌, ◌∷◌, List, [], Some, length, take, reverse, sym, ◌∙◌, ap, arith, slice_get}
+use Rattle.std.proofs.Math.Seq.{take-suc}
+use Rattle.std.proofs.lemmas.List.{get_or-take, length-take}
+use Rattle.std.proofs.lemmas.Option.{slice_get-get_or, slice_get_within, get_or_from_slice_get}
+use Rattle.ksv_expr_value.specs.declared.step.Step.{Step}
+use Rattle.ksv_nodes.specs.declared.node.NodeKind.{NodeKind}
+use Rattle.ksv_nodes.specs.declared.node.NodeKind.TheVariants.{Head}
+use Rattle.ksv_places.proofs.spots.Spots.rebuilt.Goals as goal
+
+-- an element among the first ones is at the same place of the whole
+of_whole : {X : Type 0} (xs : List X) (n i : ℕ) (x d : X) → n ≤ length xs → slice_get (take n xs) i ≡ Some x → (i < n) × (slice_get xs i ≡ Some x)
+of_whole xs n i x d few e =
+    let w = slice_get_within (take n xs) i x e in
+    let c = length-take n xs in
+    let l : i < n = omega arith in
+    (l, slice_get-get_or xs i d (omega arith) ∙ ap Some (sym (get_or-take n xs i d l) ∙ get_or_from_slice_get (take n xs) i x d e))
+
+pub add-requires : goal.add-requires
+add-requires c = λ i e.
+    let ns : List (NodeKind × List Step) = c.args.self.now in
+    let n = c.loop-place.place in
+    let lt : n < length ns = (let t = c.loop-place-test.true in let h = c.requires in omega arith) in
+    let node : NodeKind × List Step = (c.in_ok-kind.kind, reverse c.node_at.new.steps.items) in
+    let at : slice_get ns n ≡ Some node = c.in_ok-kind.ensures in
+    let e1 : slice_get (take n ns) i ≡ Some node = ap (λ (xs : List (NodeKind × List Step)). slice_get xs i) (sym c.loop-place.invariant) ∙ e ∙ ap (λ (q : List Step). Some (c.in_ok-kind.kind, reverse q)) c.as_slice.ensures.value in
+    let w = of_whole ns n i node (Head, []) (omega arith) e1 in
+    let below : i < n = w.0 in
+    let same : i ≡ n = c.apart.ensures i n (omega arith) lt (w.1 ∙ sym at) in
+    absurd (omega arith)
+
+pub loop-place-preserved : goal.loop-place-preserved
+loop-place-preserved c =
+    let ns : List (NodeKind × List Step) = c.args.self.now in
+    let n = c.loop-place.place in
+    let lt : n < length ns = (let t = c.loop-place-test.true in let h = c.requires in omega arith) in
+    let node : NodeKind × List Step = (c.in_ok-kind.kind, reverse c.node_at.new.steps.items) in
+    let at : slice_get ns n ≡ Some node = c.in_ok-kind.ensures in
+    c.in_ok-add.ensures.ok
+    ∙ (λ i. c.loop-place.invariant i ++ (c.in_ok-kind.kind, reverse (c.as_slice.ensures.value i)) ∷ [])
+    ∙ ap (λ (x : NodeKind × List Step). take n ns ++ x ∷ []) (sym (get_or_from_slice_get ns n node (Head, []) at))
+    ∙ sym (take-suc ns n (Head, []) lt)
+    ∙ ap (λ k. take k ns) (let k : suc n ≡ n + 1 = omega arith in k)

@@ -1,0 +1,4 @@
+pub mod Nodes
+pub mod Spots
+pub mod Table
+pub mod Tree

@@ -1,0 +1,233 @@
+//! Nodes by their kinds and steps.
+ghost use Rattle.std.specs.Prelude.{◌≡◌, ℕ, ◌<◌, ◌≤◌, ◌+◌, ◌++◌, ◌∷◌, max, [], Some, length, slice_get, slice_index_or, slice_set, reverse, take, IfOk, IfSome, IfNone, OnOk, OnErr};
+ghost use Rattle.std.specs.Vec.{vec_len, vec_capacity};
+ghost use Rattle.ksv_places.specs.Spots.{mark_in, with_mark, row_at, IsRoomed};
+
+use crate::links::{Row, Spot};
+use crate::parts::count_of;
+use crate::tree::Tree;
+use ksv_expr_value::Step;
+use ksv_nodes::NodeKind;
+use std::alloc::{AllocError, Global};
+use std::marker::Model;
+
+/// The mark of a kind in a row: the place of the path's node of this kind, and one more; 0 for none.
+#[inline(always)]
+fn mark_in(row: Row, kind: NodeKind) -> u32
+    ensures { result ≡ mark_in row kind }
+{
+    match kind {
+        NodeKind::Head => row.head,
+        NodeKind::Value => row.value,
+        NodeKind::End => row.end,
+        NodeKind::Rest => row.rest,
+    }
+}
+
+/// The same of the row of a path; 0 where there is no row.
+#[inline(always)]
+fn mark_at(rows: &[Row], path: u32, kind: NodeKind) -> u32
+    ensures { result ≡ mark_in (row_at rows.now path) kind }
+{
+    if (path as usize) < rows.len() {
+        mark_in(rows[path as usize], kind)
+    } else {
+        0
+    }
+}
+
+/// The row with another mark of a kind.
+#[inline(always)]
+fn with_mark(row: Row, kind: NodeKind, mark: u32) -> Row
+    ensures { result ≡ with_mark row kind mark }
+{
+    match kind {
+        NodeKind::Head => Row { head: mark, ..row },
+        NodeKind::Value => Row { value: mark, ..row },
+        NodeKind::End => Row { end: mark, ..row },
+        NodeKind::Rest => Row { rest: mark, ..row },
+    }
+}
+
+/// There is a row for a path. New ones have no mark.
+#[inline(always)]
+fn widen(rows: &mut Vec<Row>, path: u32) -> Result<(), AllocError>
+    ensures same { (other : ℕ) → row_at rows.new.items other ≡ row_at rows.old.items other }
+    ensures ok { OnOk result (path < length rows.new.items) }
+    ensures few { length rows.new.items ≤ max (length rows.old.items) (path + 1) }
+{
+    let count = path as usize + 1;
+    if rows.as_slice().len() < count {
+        rows.resize(
+            count,
+            Row {
+                head: 0,
+                value: 0,
+                end: 0,
+                rest: 0,
+            },
+        )?;
+    }
+    Ok(())
+}
+
+/// The number of a path, for which there is a row then.
+#[inline(always)]
+fn make_row(tree: &mut Tree, rows: &mut Vec<Row>, steps: &[Step]) -> Result<u32, AllocError>
+    requires { length rows.old.items ≤ length tree.old }
+    ensures roomed { IsRoomed tree.old tree.new rows.old.items rows.new.items }
+    ensures ok { IfOk result (λ path. (slice_get tree.new path ≡ Some (reverse steps.now)) × (path < length rows.new.items)) }
+{
+    let path = tree.reach(steps)?;
+    widen(rows, path)?;
+    Ok(path)
+}
+
+/// Sets a mark in a path's row.
+#[inline(always)]
+fn write(rows: &mut Vec<Row>, path: u32, kind: NodeKind, mark: u32)
+    requires { path < length rows.old.items }
+    ensures { rows.new.items ≡ slice_set rows.old.items path (with_mark (row_at rows.old.items path) kind mark) }
+{
+    let row = rows[path as usize];
+    rows[path as usize] = with_mark(row, kind, mark);
+}
+
+/// Nodes by their kinds and steps. Contracts see the list of the nodes, each its kind and its steps from the last to the first.
+#[derive(Drop)]
+pub(crate) struct Spots {
+    alloc: Global,
+    tree: Tree,
+    rows: Vec<Row>,
+    spots: Vec<Spot>,
+}
+
+impl Model for Spots {
+    ghost use Rattle.std.specs.Prelude.{List};
+    ghost use Rattle.ksv_expr_value.specs.declared.step.Step.{Step};
+    ghost use Rattle.ksv_nodes.specs.declared.node.NodeKind.{NodeKind};
+    ghost use Rattle.ksv_places.specs.Spots.{IsFiled, nodes_of};
+
+    ghost Value = { List (NodeKind × List Step) };
+
+    ghost view = { λ all. nodes_of all.tree all.spots.items };
+
+    ghost invariant = { λ all. IsFiled all.tree all.rows.items all.spots.items };
+}
+
+impl Spots {
+    /// No nodes, which take no memory.
+    pub(crate) fn new(alloc: Global) -> Self
+        ensures { result ≡ [] }
+    {
+        Spots {
+            alloc,
+            tree: Tree::new(alloc),
+            rows: Vec::new(alloc),
+            spots: Vec::new(alloc),
+        }
+    }
+
+    /// How many nodes there are.
+    #[inline(always)]
+    pub(crate) fn len(&self) -> usize
+        ensures { result ≡ length self.now }
+    {
+        self.spots.as_slice().len()
+    }
+
+    /// How many paths there are, also such as lead to no node. Contracts do not see them.
+    #[inline(always)]
+    pub(crate) fn path_count(&self) -> usize {
+        self.tree.len()
+    }
+
+    /// No two places have one node.
+    #[inline(always)]
+    pub(crate) fn apart(&self)
+        ensures { (i j : ℕ) → i < length self.now → j < length self.now → slice_get self.now i ≡ slice_get self.now j → i ≡ j }
+    {
+        self.tree.apart();
+    }
+
+    /// The place of a node, if it has one.
+    #[inline(always)]
+    pub(crate) fn find(&self, kind: NodeKind, steps: &[Step]) -> Option<usize>
+        ensures some { IfSome result (λ i. slice_get self.now i ≡ Some (kind, reverse steps.now)) }
+        ensures none { IfNone result ((i : ℕ) → slice_get self.now i ≡ Some (kind, reverse steps.now) → ⊥) }
+    {
+        self.tree.apart();
+        match self.tree.find(steps) {
+            None => None,
+            Some(path) => {
+                let mark = mark_at(self.rows.as_slice(), path, kind);
+                if mark == 0 {
+                    return None;
+                }
+                Some((mark - 1) as usize)
+            }
+        }
+    }
+
+    /// Gives the next place to a node that has none.
+    pub(crate) fn add(&mut self, kind: NodeKind, steps: &[Step]) -> Result<(), AllocError>
+        requires { (i : ℕ) → slice_get self.old i ≡ Some (kind, reverse steps.now) → ⊥ }
+        ensures ok { OnOk result (self.new ≡ self.old ++ (kind, reverse steps.now) ∷ []) }
+        ensures err { OnErr result (self.new ≡ self.old) }
+    {
+        let count = count_of(self.spots.as_slice().len())?;
+        let mark = count_of(count as usize + 1)?;
+        self.spots.reserve(1)?;
+        let path = make_row(&mut self.tree, &mut self.rows, steps)?;
+        write(&mut self.rows, path, kind, mark);
+        self.spots.push_reserved(Spot { path, kind });
+        Ok(())
+    }
+
+    /// Gives the place of another node to a node that has none.
+    pub(crate) fn give(
+        &mut self,
+        place: usize,
+        kind: NodeKind,
+        steps: &[Step],
+    ) -> Result<(), AllocError>
+        requires none { (i : ℕ) → slice_get self.old i ≡ Some (kind, reverse steps.now) → ⊥ }
+        requires place_in { place < length self.old }
+        ensures ok { OnOk result (self.new ≡ slice_set self.old place (kind, reverse steps.now)) }
+        ensures err { OnErr result (self.new ≡ self.old) }
+    {
+        let count = count_of(place)?;
+        let mark = count_of(count as usize + 1)?;
+        let path = make_row(&mut self.tree, &mut self.rows, steps)?;
+        let spot = self.spots[place];
+        write(&mut self.rows, spot.path, spot.kind, 0);
+        write(&mut self.rows, path, kind, mark);
+        self.spots[place] = Spot { path, kind };
+        Ok(())
+    }
+
+    /// The kind of the node of a place, whose steps are written.
+    fn node_at(&self, place: usize, steps: &mut Vec<Step>) -> Result<NodeKind, AllocError>
+        requires { place < length self.now }
+        ensures { IfOk result (λ kind. slice_get self.now place ≡ Some (kind, reverse steps.new.items)) }
+    {
+        let spot = self.spots[place];
+        self.tree.steps_of(spot.path, steps)?;
+        Ok(spot.kind)
+    }
+
+    /// The first nodes again, with no path that isn't theirs or leads to one of theirs.
+    pub(crate) fn rebuilt(&self, count: usize) -> Result<Spots, AllocError>
+        requires { count ≤ length self.now }
+        ensures { IfOk result (λ fresh. fresh ≡ take count self.now) }
+    {
+        self.apart();
+        let mut fresh = Spots::new(self.alloc);
+        let mut steps = Vec::new(self.alloc);
+        for place in 0..count {
+            let kind = self.node_at(place, &mut steps)?;
+            fresh.add(kind, steps.as_slice())?;
+        }
+        Ok(fresh)
+    }
+}
