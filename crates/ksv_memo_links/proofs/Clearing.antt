@@ -1,12 +1,7 @@
 -- A row that is cut from its end.
-use Rattle.std.proofs.lemmas.Bool.{cases_lt}
-use Rattle.std.proofs.lemmas.List.{get_or_past}
-use Rattle.ksv_memo_links.proofs.Edits.{named-row}
-use Rattle.std.proofs.Common.{◌≡◌, ◌⊎◌, inl, inr, map, ℕ, ◌-◌, ◌<◌, ◌≤◌, List, [], length, take, set, sym, ◌∙◌, ap, arith}
-use Rattle.std.proofs.lemmas.List.{set-set, set-get_or, take-take, length-take-le, length-map, take_all}
-use Rattle.ksv_memo_links.specs.declared.shelf.Pin.{Pin}
+use Rattle.std.proofs.Common.{◌≡◌, ℕ, ◌-◌, ◌<◌, ◌≤◌, List, [], length, take, set, sym, ◌∙◌, ap, arith}
+use Rattle.std.proofs.lemmas.List.{set-set, set-get_or, take-take, length-take-le, take_all}
 use Rattle.ksv_memo_links.specs.Shelved.{row, pop_row}
-use Rattle.ksv_memo_links.specs.Linked.{named}
 use Rattle.ksv_memo_links.proofs.Edits.{row_set}
 
 -- of row o the first elements are left
@@ -49,10 +44,3 @@ cut-more {X} before now then o h e =
 
 pub cut-all : {X : Type 0} (before now then : List (List X)) (o : ℕ) → IsCutTo before now o → then ≡ pop_row now o → length (row now o) ≡ 0 → then ≡ set before o []
 cut-all {X} before now then o h e z = (cut-next before now then o h e).1 ∙ ap (λ n. set before o (take (n - 1) (row before o))) z
-
-pub length-named : (rows : List (List Pin)) (o : ℕ) → length (row (named rows) o) ≡ length (row rows o)
-length-named rows o = by (cases_lt o (length rows))
-  where
-    by : (o < length rows) ⊎ (length rows ≤ o) → length (row (named rows) o) ≡ length (row rows o)
-    by (inl lt) = ap (λ (ns : List ℕ). length ns) (named-row rows o lt) ∙ length-map (row rows o) (λ (p : Pin). p.row)
-    by (inr le) = ap (λ (ns : List ℕ). length ns) (get_or_past (named rows) o [] (let e = length-map rows (λ (pins : List Pin). map (λ (p : Pin). p.row) pins) in omega arith)) ∙ ap (λ (ps : List Pin). length ps) (sym (get_or_past rows o [] le))

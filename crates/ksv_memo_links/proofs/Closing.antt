@@ -1,23 +1,25 @@
 -- What was marked is what has to go.
-use Rattle.std.proofs.Common.{◌≡◌, ◌≢◌, ◌⊎◌, inl, inr, Bool, true, false, cond, eqb, ℕ, suc, ◌+◌, ◌-◌, ◌*◌, ◌<◌, ◌≤◌, max, min, List, [], ◌∷◌, length, take, get_or, Contains, refl, sym, ◌∙◌, ap, subst, arith, true≢false, sum_by, count_by, nat_eq, nat_lt, nat_le, ◌||◌}
+use Rattle.std.proofs.Common.{◌≡◌, ◌≢◌, ◌⊎◌, inl, inr, Bool, true, false, cond, eqb, ℕ, suc, ◌+◌, ◌-◌, ◌*◌, ◌<◌, ◌≤◌, max, min, List, [], ◌∷◌, length, map, take, get_or, Contains, refl, sym, ◌∙◌, ap, subst, arith, true≢false, sum_by, count_by, nat_eq, nat_lt, nat_le, ◌||◌}
 use Rattle.std.proofs.lemmas.List.Sums.{sum_by-cons}
 use Rattle.std.proofs.lemmas.Bool.{cases_lt, cases_Bool}
 use Rattle.std.proofs.lemmas.Bool.Decides.{eqb_tells}
-use Rattle.std.proofs.lemmas.List.{take_all, get_or-map, get_or_default}
+use Rattle.std.proofs.lemmas.List.{take_all, get_or_default}
 use Rattle.ksv_bytes.specs.declared.uses.Use.{Use}
 use Rattle.ksv_bytes.specs.declared.uses.Change.{Change}
 use Rattle.ksv_bytes.specs.declared.uses.Change.TheVariants.{Overwrite, Insert, Delete, Append}
-use Rattle.ksv_memo_links.specs.declared.shelf.Pin.{Pin}
+use Rattle.ksv_memo_links.specs.declared.blocks.Item.{Item}
 use Rattle.ksv_memo_links.specs.declared.parts.Parts.{Parts}
 use Rattle.ksv_memo_links.specs.Shelved.{row}
 use Rattle.ksv_memo_links.specs.Touching.{pages_in, ends_in}
-use Rattle.ksv_memo_links.specs.Linked.{named, one_if, at, IsLinked, IsBoard, HasEnds}
+use Rattle.ksv_memo_links.specs.Placed.{lists_of_uses, end_lists, page_lists}
+use Rattle.ksv_memo_links.specs.Linked.{one_if}
 use Rattle.ksv_memo_links.specs.Links.{is_hit, IsHit, here, through, Forgets, first_page, end_page, pages_met, met_by}
 use Rattle.ksv_memo_links.specs.Marking.{is_kept, IsMarking}
-use Rattle.ksv_memo_links.specs.Forgetting.{item_at, SameLinks, MarksMore, IsEdit, Why, AreAllWithin, HitsRows, HitsBehind, HitsTouched, Spreads, IsWhole, IsNear, IsBehind, linked_of, lengths, looks, sizes}
+use Rattle.ksv_memo_links.specs.Chained.{IsListed}
+use Rattle.ksv_memo_links.specs.Linked.{item_at}
+use Rattle.ksv_memo_links.specs.Forgetting.{SameLinks, MarksMore, IsEdit, Why, AreAllWithin, HitsRows, HitsBehind, HitsTouched, Spreads, IsWhole, IsNear, IsBehind, linked_of, lengths, looks, sizes}
 use Rattle.ksv_memo_links.proofs.Edits.{row_there}
-use Rattle.ksv_memo_links.proofs.Reaching.{named_row}
-use Rattle.ksv_memo_links.proofs.Clearing.{length-named}
+use Rattle.ksv_memo_links.proofs.Turns.{row_of, few-pages, few-ends, page-item, end-item}
 use Rattle.ksv_memo_links.proofs.Mark.{stays-out}
 use Rattle.ksv_memo_links.proofs.More.{same-trans, more-trans, shaped-more}
 use Rattle.ksv_memo_links.proofs.Touches.{uses-meet, EndsPast, insert-past, delete-past, append-ends}
@@ -35,132 +37,116 @@ marking-none first why work e =
       apart = λ i j d lt l. absurd (omega arith);
     }
 
--- an item of the list that a note names leads back to the note
-pub item_of : (lists notes : List (List Pin)) (s k m : ℕ) → IsLinked lists notes → k < length (row (named notes) s) → get_or (row (named notes) s) k 0 ≡ m → (a : ℕ) × (a < length (row lists m)) × (item_at lists m a ≡ at s k)
-item_of lists notes s k m h lt e =
-    let n = length-named notes s in
-    let l : k < length (row notes s) = omega arith in
-    let x = get_or (row notes s) k (at 0 0) in
-    let name : x.row ≡ m = sym (ap (λ (ns : List ℕ). get_or ns k 0) (named_row notes s) ∙ get_or-map (λ (p : Pin). p.row) (row notes s) k (at 0 0) 0 l) ∙ e in
-    let back = h.from_notes.each s k l in
-    let P : ℕ → Type 0 = λ r. (x.at < length (row lists r)) × (item_at lists r x.at ≡ at s k) in
-    let out = subst P name (back.inside, back.back) in
-    (x.at, out.0, out.1)
-
--- an item of the list of a number that a slot has
-item-at : (lists notes : List (List Pin)) (ns : List ℕ) (s m : ℕ) → IsLinked lists notes → row (named notes) s ≡ ns → Contains ns m → (a : ℕ) × (a < length (row lists m)) × ((k : ℕ) × (item_at lists m a ≡ at s k))
-item-at lists notes ns s m l e h =
-    let c = subst (λ xs. Contains xs m) (sym e) h in
-    let i = item_of lists notes s c.0 m l c.1 (get_or_default (row (named notes) s) c.0 0 m c.1 ∙ c.2) in
-    (i.0, i.1, (c.0, i.2))
-
 -- each slot that the overwrite touches is marked
-pub pages-hit : (p q : Parts) (at n s : ℕ) → IsWhole p → IsLinked p.pages.lists p.pages.notes → HitsRows p q (Overwrite at n) p.pages.lists (first_page at) (min (end_page at n) (length p.pages.lists)) → IsHit (Overwrite at n) p.marks.kept p.uses.rows s → is_kept q.marks.kept s ≡ false
-pages-hit p q at n s w l h hit =
-    let m = uses-meet at n (row p.uses.rows s) hit.touched in
-    let i = item-at p.pages.lists p.pages.notes (pages_in (row p.uses.rows s)) s m.page l (w.met s) m.there in
-    let there = row_there p.pages.lists m.page i.0 i.1 in
+pages-hit : (p q : Parts) (place n s : ℕ) → IsListed p.uses.lists (map lists_of_uses p.uses.rows) → HitsRows p q (Overwrite place n) (page_lists p.uses.lists) (first_page place) (min (end_page place n) (length (page_lists p.uses.lists))) → IsHit (Overwrite place n) p.marks.kept p.uses.rows s → is_kept q.marks.kept s ≡ false
+pages-hit p q place n s l h hit =
+    let m = uses-meet place n (row p.uses.rows s) hit.touched in
+    let i = page-item p.uses.rows p.uses.lists l s m.page m.there in
+    let there = row_there (page_lists p.uses.lists) m.page i.0 i.1 in
     let from = m.from in let before = m.before in
-    let P : Pin → Type 0 = λ x. is_hit (Overwrite at n) p.uses.rows x.row ≡ true → is_kept q.marks.kept x.row ≡ false in
-    subst P i.2.1 (h.out m.page i.0 (omega arith) (omega arith) i.1) hit.touched
+    let P : ℕ → Type 0 = λ t. is_hit (Overwrite place n) p.uses.rows t ≡ true → is_kept q.marks.kept t ≡ false in
+    subst P i.2 (h.out m.page i.0 (omega arith) (omega arith) i.1) hit.touched
 
-pages-near : (p q : Parts) (at n : ℕ) → IsWhole p → IsBoard p.pages.lists p.pages.notes → HitsRows p q (Overwrite at n) p.pages.lists (first_page at) (min (end_page at n) (length p.pages.lists)) → looks q + 2 * length p.marks.work ≤ looks p + pages_met (Overwrite at n) + 3 * sum_by (met_by (Overwrite at n)) p.uses.rows + 2 * length q.marks.work
-pages-near p q at n w b h =
-    let first = first_page at in
-    let end = end_page at n in
-    let L = p.pages.lists in
+pages-near : (p q : Parts) (place n : ℕ) → IsListed p.uses.lists (map lists_of_uses p.uses.rows) → HitsRows p q (Overwrite place n) (page_lists p.uses.lists) (first_page place) (min (end_page place n) (length (page_lists p.uses.lists))) → looks q + 2 * length p.marks.work ≤ looks p + pages_met (Overwrite place n) + 3 * sum_by (met_by (Overwrite place n)) p.uses.rows + 2 * length q.marks.work
+pages-near p q place n b h =
+    let first = first_page place in
+    let end = end_page place n in
+    let L = page_lists p.uses.lists in
+    let N = map pages_in p.uses.rows in
     let last = max first (min end (length L)) in
     let le : first ≤ end = omega arith in
-    let a = sizes-few L (named p.pages.notes) first (end - first) b.few in
+    let a = sizes-few L N first (end - first) (few-pages p.uses.rows p.uses.lists b) in
     let g = sizes-grow L last (end - last) in
     let e1 : end - first + first ≡ end = omega arith in
     let e2 : end - last + last ≡ end = omega arith in
     let f1 = ap (λ k. sizes L k) e1 in
     let f2 = ap (λ k. sizes L k) e2 in
-    let f3 = ap (λ k. tally first k (named p.pages.notes)) e1 in
-    let t : tally first end (named p.pages.notes) ≤ sum_by (met_by (Overwrite at n)) p.uses.rows = rows-le (λ ns. count_by (within first end) ns) (met_by (Overwrite at n)) (named p.pages.notes) p.uses.rows refl refl (λ r. ap (λ ns. count_by (within first end) ns) (w.met r)) in
+    let f3 = ap (λ k. tally first k N) e1 in
+    let t : tally first end N ≤ sum_by (met_by (Overwrite place n)) p.uses.rows = rows-le (λ ns. count_by (within first end) ns) (met_by (Overwrite place n)) N p.uses.rows refl refl (λ r. ap (λ ns. count_by (within first end) ns) (row_of pages_in p.uses.rows r refl)) in
     let k = h.looks in
     omega arith
 
-pub pages-touched : (p q : Parts) (at n pages : ℕ) → IsWhole p → IsBoard p.pages.lists p.pages.notes → HitsRows p q (Overwrite at n) p.pages.lists (first_page at) (min (end_page at n) (length p.pages.lists)) → HitsTouched p q (Overwrite at n) pages
-pages-touched p q at n pages w b h = record {
+pub pages-touched : (p q : Parts) (place n pages : ℕ) → IsListed p.uses.lists (map lists_of_uses p.uses.rows) → HitsRows p q (Overwrite place n) (page_lists p.uses.lists) (first_page place) (min (end_page place n) (length (page_lists p.uses.lists))) → HitsTouched p q (Overwrite place n) pages
+pages-touched p q place n pages b h = record {
   more = h.more;
-  hits = λ s hit. pages-hit p q at n s w b.linked h hit;
-  near = λ o. pages-near p q at n w b h;
+  hits = λ s hit. pages-hit p q place n s b h hit;
+  near = λ o. pages-near p q place n b h;
   behind = λ o. absurd o;
 }
 
 -- ---- an insert or a delete
-module _ (p q : Parts) (change : Change) (place pages : ℕ) (w : IsWhole p) (all : AreAllWithin pages p) (b : IsBoard p.pages.lists p.pages.notes) (e : HasEnds p.uses.rows p.uses.lists p.uses.notes) (h : HitsBehind p q change place pages) where
+module _ (p q : Parts) (change : Change) (place pages : ℕ) (all : AreAllWithin pages p) (b : IsListed p.uses.lists (map lists_of_uses p.uses.rows)) (h : HitsBehind p q change place pages) where
   -- each slot that it touches is marked
   past-hit : (s : ℕ) → is_kept p.marks.kept s ≡ true → is_hit change p.uses.rows s ≡ true → EndsPast place (row p.uses.rows s) → is_kept q.marks.kept s ≡ false
   past-hit s k t (inl (g, c, le)) =
-      let i = item-at p.pages.lists p.pages.notes (pages_in (row p.uses.rows s)) s g b.linked (w.met s) c in
-      let P : Pin → Type 0 = λ x. is_hit change p.uses.rows x.row ≡ true → is_kept q.marks.kept x.row ≡ false in
-      subst P i.2.1 (h.met g i.0 le ((all s k).met g c) i.1) t
+      let i = page-item p.uses.rows p.uses.lists b s g c in
+      let P : ℕ → Type 0 = λ x. is_hit change p.uses.rows x ≡ true → is_kept q.marks.kept x ≡ false in
+      subst P i.2 (h.met g i.0 le ((all s k).met g c) i.1) t
   past-hit s k t (inr (l, c, inl z)) =
-      let i = item-at p.uses.lists p.uses.notes (ends_in (row p.uses.rows s)) s 0 e.board.linked (e.ends s) (subst (Contains (ends_in (row p.uses.rows s))) z c) in
-      let P : Pin → Type 0 = λ x. is_hit change p.uses.rows x.row ≡ true → is_kept q.marks.kept x.row ≡ false in
-      subst P i.2.1 (h.sized i.0 i.1) t
+      let i = end-item p.uses.rows p.uses.lists b s 0 (subst (Contains (ends_in (row p.uses.rows s))) z c) in
+      let P : ℕ → Type 0 = λ x. is_hit change p.uses.rows x ≡ true → is_kept q.marks.kept x ≡ false in
+      subst P i.2 (h.sized i.0 i.1) t
   past-hit s k t (inr (l, c, inr lt)) =
-      let i = item-at p.uses.lists p.uses.notes (ends_in (row p.uses.rows s)) s l e.board.linked (e.ends s) c in
-      let P : Pin → Type 0 = λ x. is_hit change p.uses.rows x.row ≡ true → is_kept q.marks.kept x.row ≡ false in
-      subst P i.2.1 (h.ended l i.0 lt ((all s k).ends l c) i.1) t
+      let i = end-item p.uses.rows p.uses.lists b s l c in
+      let P : ℕ → Type 0 = λ x. is_hit change p.uses.rows x ≡ true → is_kept q.marks.kept x ≡ false in
+      subst P i.2 (h.ended l i.0 lt ((all s k).ends l c) i.1) t
 
   past-near : looks q + 2 * length p.marks.work ≤ looks p + 1 + 2 * (pages - first_page place) + 3 * sum_by (λ us. count_by (nat_le (first_page place)) (pages_in us)) p.uses.rows + 3 * sum_by (λ us. count_by (λ l. nat_eq l 0 || nat_lt (first_page place) l) (ends_in us)) p.uses.rows + 2 * length q.marks.work
   past-near =
       let f = first_page place in
-      let E = p.uses.lists in let L = p.pages.lists in
+      let E = end_lists p.uses.lists in let L = page_lists p.uses.lists in
+      let N = map pages_in p.uses.rows in let M = map ends_in p.uses.rows in
       let m = max f pages in
-      let a = sizes-few L (named p.pages.notes) f (m - f) b.few in
+      let a = sizes-few L N f (m - f) (few-pages p.uses.rows p.uses.lists b) in
       let a1 : m - f + f ≡ m = omega arith in
       let a2 = ap (λ k. sizes L k) a1 in
-      let a3 = ap (λ k. tally f k (named p.pages.notes)) a1 in
-      let a4 = tally-behind f m (named p.pages.notes) in
-      let a5 : sum_by (λ ns. count_by (nat_le f) ns) (named p.pages.notes) ≤ sum_by (λ us. count_by (nat_le f) (pages_in us)) p.uses.rows = rows-le (λ ns. count_by (nat_le f) ns) (λ us. count_by (nat_le f) (pages_in us)) (named p.pages.notes) p.uses.rows refl refl (λ r. ap (λ ns. count_by (nat_le f) ns) (w.met r)) in
+      let a3 = ap (λ k. tally f k N) a1 in
+      let a4 = tally-behind f m N in
+      let a5 : sum_by (λ ns. count_by (nat_le f) ns) N ≤ sum_by (λ us. count_by (nat_le f) (pages_in us)) p.uses.rows = rows-le (λ ns. count_by (nat_le f) ns) (λ us. count_by (nat_le f) (pages_in us)) N p.uses.rows refl refl (λ r. ap (λ ns. count_by (nat_le f) ns) (row_of pages_in p.uses.rows r refl)) in
       let n = max (f + 1) (pages + 1) in
-      let d = sizes-few E (named p.uses.notes) (f + 1) (n - (f + 1)) e.board.few in
+      let d = sizes-few E M (f + 1) (n - (f + 1)) (few-ends p.uses.rows p.uses.lists b) in
       let d1 : n - (f + 1) + (f + 1) ≡ n = omega arith in
       let d2 = ap (λ k. sizes E k) d1 in
-      let d3 = ap (λ k. tally (f + 1) k (named p.uses.notes)) d1 in
-      let z = sizes-few E (named p.uses.notes) 0 1 e.board.few in
-      let d4 = tally-ends f n (named p.uses.notes) in
-      let d5 : sum_by (λ ns. count_by (λ l. nat_eq l 0 || nat_lt f l) ns) (named p.uses.notes) ≤ sum_by (λ us. count_by (λ l. nat_eq l 0 || nat_lt f l) (ends_in us)) p.uses.rows = rows-le (λ ns. count_by (λ l. nat_eq l 0 || nat_lt f l) ns) (λ us. count_by (λ l. nat_eq l 0 || nat_lt f l) (ends_in us)) (named p.uses.notes) p.uses.rows refl refl (λ r. ap (λ ns. count_by (λ l. nat_eq l 0 || nat_lt f l) ns) (e.ends r)) in
+      let d3 = ap (λ k. tally (f + 1) k M) d1 in
+      let z = sizes-few E M 0 1 (few-ends p.uses.rows p.uses.lists b) in
+      let d4 = tally-ends f n M in
+      let d5 : sum_by (λ ns. count_by (λ l. nat_eq l 0 || nat_lt f l) ns) M ≤ sum_by (λ us. count_by (λ l. nat_eq l 0 || nat_lt f l) (ends_in us)) p.uses.rows = rows-le (λ ns. count_by (λ l. nat_eq l 0 || nat_lt f l) ns) (λ us. count_by (λ l. nat_eq l 0 || nat_lt f l) (ends_in us)) M p.uses.rows refl refl (λ r. ap (λ ns. count_by (λ l. nat_eq l 0 || nat_lt f l) ns) (row_of ends_in p.uses.rows r refl)) in
       let k = h.looks in
       omega arith
 
-pub insert-touched : (p q : Parts) (at n pages : ℕ) → IsWhole p → AreAllWithin pages p → IsBoard p.pages.lists p.pages.notes → HasEnds p.uses.rows p.uses.lists p.uses.notes → HitsBehind p q (Insert at n) at pages → HitsTouched p q (Insert at n) pages
-insert-touched p q at n pages w all b e h = record {
+pub insert-touched : (p q : Parts) (place n pages : ℕ) → AreAllWithin pages p → IsListed p.uses.lists (map lists_of_uses p.uses.rows) → HitsBehind p q (Insert place n) place pages → HitsTouched p q (Insert place n) pages
+insert-touched p q place n pages all b h = record {
   more = h.more;
-  hits = λ s hit. past-hit p q (Insert at n) at pages w all b e h s hit.was_kept hit.touched (insert-past at n (row p.uses.rows s) hit.touched);
+  hits = λ s hit. past-hit p q (Insert place n) place pages all b h s hit.was_kept hit.touched (insert-past place n (row p.uses.rows s) hit.touched);
   near = λ o. absurd o;
-  behind = λ o. past-near p q (Insert at n) at pages w all b e h;
+  behind = λ o. past-near p q (Insert place n) place pages all b h;
 }
 
-pub delete-touched : (p q : Parts) (at n pages : ℕ) → IsWhole p → AreAllWithin pages p → IsBoard p.pages.lists p.pages.notes → HasEnds p.uses.rows p.uses.lists p.uses.notes → HitsBehind p q (Delete at n) at pages → HitsTouched p q (Delete at n) pages
-delete-touched p q at n pages w all b e h = record {
+pub delete-touched : (p q : Parts) (place n pages : ℕ) → AreAllWithin pages p → IsListed p.uses.lists (map lists_of_uses p.uses.rows) → HitsBehind p q (Delete place n) place pages → HitsTouched p q (Delete place n) pages
+delete-touched p q place n pages all b h = record {
   more = h.more;
-  hits = λ s hit. past-hit p q (Delete at n) at pages w all b e h s hit.was_kept hit.touched (delete-past at n (row p.uses.rows s) hit.touched);
+  hits = λ s hit. past-hit p q (Delete place n) place pages all b h s hit.was_kept hit.touched (delete-past place n (row p.uses.rows s) hit.touched);
   near = λ o. absurd o;
-  behind = λ o. past-near p q (Delete at n) at pages w all b e h;
+  behind = λ o. past-near p q (Delete place n) place pages all b h;
 }
 
 -- ---- an append
-sized-hit : (p q : Parts) (s : ℕ) → HasEnds p.uses.rows p.uses.lists p.uses.notes → HitsRows p q Append p.uses.lists 0 (min 1 (length p.uses.lists)) → IsHit Append p.marks.kept p.uses.rows s → is_kept q.marks.kept s ≡ false
+sized-hit : (p q : Parts) (s : ℕ) → IsListed p.uses.lists (map lists_of_uses p.uses.rows) → HitsRows p q Append (end_lists p.uses.lists) 0 (min 1 (length (end_lists p.uses.lists))) → IsHit Append p.marks.kept p.uses.rows s → is_kept q.marks.kept s ≡ false
 sized-hit p q s e h hit =
     let c = append-ends (row p.uses.rows s) hit.touched in
-    let i = item-at p.uses.lists p.uses.notes (ends_in (row p.uses.rows s)) s 0 e.board.linked (e.ends s) c in
-    let there = row_there p.uses.lists 0 i.0 i.1 in
-    let P : Pin → Type 0 = λ x. is_hit Append p.uses.rows x.row ≡ true → is_kept q.marks.kept x.row ≡ false in
-    subst P i.2.1 (h.out 0 i.0 (omega arith) (omega arith) i.1) hit.touched
+    let i = end-item p.uses.rows p.uses.lists e s 0 c in
+    let there = row_there (end_lists p.uses.lists) 0 i.0 i.1 in
+    let P : ℕ → Type 0 = λ x. is_hit Append p.uses.rows x ≡ true → is_kept q.marks.kept x ≡ false in
+    subst P i.2 (h.out 0 i.0 (omega arith) (omega arith) i.1) hit.touched
 
-sized-near : (p q : Parts) → HasEnds p.uses.rows p.uses.lists p.uses.notes → HitsRows p q Append p.uses.lists 0 (min 1 (length p.uses.lists)) → looks q + 2 * length p.marks.work ≤ looks p + 1 + 3 * sum_by (λ us. count_by (λ l. nat_eq l 0) (ends_in us)) p.uses.rows + 2 * length q.marks.work
+sized-near : (p q : Parts) → IsListed p.uses.lists (map lists_of_uses p.uses.rows) → HitsRows p q Append (end_lists p.uses.lists) 0 (min 1 (length (end_lists p.uses.lists))) → looks q + 2 * length p.marks.work ≤ looks p + 1 + 3 * sum_by (λ us. count_by (λ l. nat_eq l 0) (ends_in us)) p.uses.rows + 2 * length q.marks.work
 sized-near p q e h =
-    let E = p.uses.lists in
-    let z = sizes-few E (named p.uses.notes) 0 1 e.board.few in
+    let E = end_lists p.uses.lists in
+    let M = map ends_in p.uses.rows in
+    let z = sizes-few E M 0 1 (few-ends p.uses.rows p.uses.lists e) in
     let s1 = sizes-up E (max 0 (min 1 (length E))) 1 (omega arith) in
-    let d4 = tally-size (named p.uses.notes) in
-    let d5 : sum_by (λ ns. count_by (λ l. nat_eq l 0) ns) (named p.uses.notes) ≤ sum_by (λ us. count_by (λ l. nat_eq l 0) (ends_in us)) p.uses.rows = rows-le (λ ns. count_by (λ l. nat_eq l 0) ns) (λ us. count_by (λ l. nat_eq l 0) (ends_in us)) (named p.uses.notes) p.uses.rows refl refl (λ r. ap (λ ns. count_by (λ l. nat_eq l 0) ns) (e.ends r)) in
+    let d4 = tally-size M in
+    let d5 : sum_by (λ ns. count_by (λ l. nat_eq l 0) ns) M ≤ sum_by (λ us. count_by (λ l. nat_eq l 0) (ends_in us)) p.uses.rows = rows-le (λ ns. count_by (λ l. nat_eq l 0) ns) (λ us. count_by (λ l. nat_eq l 0) (ends_in us)) M p.uses.rows refl refl (λ r. ap (λ ns. count_by (λ l. nat_eq l 0) ns) (row_of ends_in p.uses.rows r refl)) in
     let k = h.looks in
     omega arith
 
@@ -168,7 +154,7 @@ zeros : {X : Type 0} (xs : List X) → sum_by (λ x. 0) xs ≡ 0
 zeros [] = refl
 zeros {X} (x ∷ xs) = let c = sum_by-cons (λ (y : X). 0) x xs in let r = zeros xs in omega arith
 
-pub append-touched : (p q : Parts) (pages : ℕ) → HasEnds p.uses.rows p.uses.lists p.uses.notes → HitsRows p q Append p.uses.lists 0 (min 1 (length p.uses.lists)) → HitsTouched p q Append pages
+pub append-touched : (p q : Parts) (pages : ℕ) → IsListed p.uses.lists (map lists_of_uses p.uses.rows) → HitsRows p q Append (end_lists p.uses.lists) 0 (min 1 (length (end_lists p.uses.lists))) → HitsTouched p q Append pages
 append-touched p q pages e h = record {
   more = h.more;
   hits = λ s hit. sized-hit p q s e h hit;
@@ -176,20 +162,20 @@ append-touched p q pages e h = record {
   behind = λ o. (let a = sized-near p q e h in omega arith);
 }
 
-user-reached : (p q r : Parts) (s i asked : ℕ) → IsLinked p.users.lists p.users.notes → i < length (row (named p.users.notes) s) → get_or (row (named p.users.notes) s) i 0 ≡ asked → SameLinks p q → Spreads q r (length r.marks.work) 1 → Contains r.marks.work asked → is_kept r.marks.kept s ≡ false
+user-reached : (p q r : Parts) (s i asked : ℕ) → IsListed p.asks.lists p.asks.named → i < length (row p.asks.named s) → get_or (row p.asks.named s) i 0 ≡ asked → SameLinks p q → Spreads q r (length r.marks.work) 1 → Contains r.marks.work asked → is_kept r.marks.kept s ≡ false
 user-reached p q r s i asked l lt e same spread c =
-    let a = item_of p.users.lists p.users.notes s i asked l lt e in
+    let a = subst (λ m. (n : ℕ) × (n < length (row p.asks.lists m)) × ((item_at p.asks.lists m n).owner ≡ s)) e (l.found s i lt) in
     let j : get_or r.marks.work c.0 0 ≡ asked = get_or_default r.marks.work c.0 0 asked c.1 ∙ c.2 in
-    let P : ℕ → Type 0 = λ n. a.0 < length (row q.users.lists n) → is_kept r.marks.kept (item_at q.users.lists n a.0).row ≡ false in
-    let Q : List (List Pin) → Type 0 = λ lists. a.0 < length (row lists asked) → is_kept r.marks.kept (item_at lists asked a.0).row ≡ false in
-    let out = subst Q same.user_lists (subst P j (spread.out c.0 a.0 c.1)) a.1 in
-    ap (λ (x : Pin). is_kept r.marks.kept x.row) (sym a.2) ∙ out
+    let P : ℕ → Type 0 = λ n. a.0 < length (row q.asks.lists n) → is_kept r.marks.kept (item_at q.asks.lists n a.0).owner ≡ false in
+    let Q : List (List Item) → Type 0 = λ lists. a.0 < length (row lists asked) → is_kept r.marks.kept (item_at lists asked a.0).owner ≡ false in
+    let out = subst Q same.ask_lists (subst P j (spread.out c.0 a.0 c.1)) a.1 in
+    ap (λ n. is_kept r.marks.kept n) (sym a.2) ∙ out
 
 -- and each slot from which a marked one is reached
-all-reached : (p q r : Parts) (change : Change) (pages : ℕ) → IsWhole p → IsLinked p.users.lists p.users.notes → HitsTouched p q change pages → Spreads q r (length r.marks.work) 1 → IsMarking p.marks.kept (Why p p.marks.kept change) r.marks.kept r.marks.work → (s : ℕ) → is_kept p.marks.kept s ≡ true → Why p p.marks.kept change s → is_kept r.marks.kept s ≡ false
+all-reached : (p q r : Parts) (change : Change) (pages : ℕ) → IsWhole p → IsListed p.asks.lists p.asks.named → HitsTouched p q change pages → Spreads q r (length r.marks.work) 1 → IsMarking p.marks.kept (Why p p.marks.kept change) r.marks.kept r.marks.work → (s : ℕ) → is_kept p.marks.kept s ≡ true → Why p p.marks.kept change s → is_kept r.marks.kept s ≡ false
 all-reached p q r change pages w l h spread m _ k (here s hit) = stays-out q.marks.kept r.marks.kept s spread.more.fewer (h.hits s hit)
 all-reached p q r change pages w l h spread m _ k (through s i lt why) =
-    let asked = get_or (row (named p.users.notes) s) i 0 in
+    let asked = get_or (row p.asks.named s) i 0 in
     let was = w.asked_kept s i k lt in
     user-reached p q r s i asked l lt refl h.more.same spread (m.out asked was (all-reached p q r change pages w l h spread m asked was why))
 
@@ -219,7 +205,7 @@ positive f xs lt = by (cases_sum f xs lt)
     by : (k : ℕ) × (k < length xs) × (0 < f (get_or xs k 0)) → (x : ℕ) × Contains xs x × (0 < f x)
     by (k, l, h) = (get_or xs k 0, (k, l, get_or_default xs k (get_or xs k 0) 0 l), h)
 
-module _ (p q r : Parts) (change : Change) (pages : ℕ) (w : IsWhole p) (idle : p.marks.work ≡ []) (users : IsBoard p.users.lists p.users.notes) (h : HitsTouched p q change pages) (spread : Spreads q r (length r.marks.work) 1) where
+module _ (p q r : Parts) (change : Change) (pages : ℕ) (w : IsWhole p) (idle : p.marks.work ≡ []) (asks : IsListed p.asks.lists p.asks.named) (h : HitsTouched p q change pages) (spread : Spreads q r (length r.marks.work) 1) where
   same : SameLinks p r
   same = same-trans p q r h.more.same spread.more.same
 
@@ -230,7 +216,7 @@ module _ (p q r : Parts) (change : Change) (pages : ℕ) (w : IsWhole p) (idle :
   marking = to_r.marking p.marks.kept change refl (marking-none p.marks.kept (Why p p.marks.kept change) p.marks.work idle)
 
   reached : (s : ℕ) → is_kept p.marks.kept s ≡ true → Why p p.marks.kept change s → is_kept r.marks.kept s ≡ false
-  reached s k y = all-reached p q r change pages w users.linked h spread marking s k y
+  reached s k y = all-reached p q r change pages w asks h spread marking s k y
 
   out : (s : ℕ) → Contains r.marks.work s → (is_kept p.marks.kept s ≡ true) × (is_kept r.marks.kept s ≡ false) × Why p p.marks.kept change s
   out s c =
@@ -244,7 +230,7 @@ module _ (p q r : Parts) (change : Change) (pages : ℕ) (w : IsWhole p) (idle :
 
   pub forgets : Forgets (linked_of p) (linked_of r) change
   forgets = record {
-    asked = ap (λ (rows : List (List Pin)). named rows) same.users;
+    asked = same.asks;
     uses = same.uses;
     exact = λ s. (λ c. (let g = out s c in record { was_kept = g.0; reaches = g.2 }), λ g. marking.out s g.was_kept (reached s g.was_kept g.reaches));
     apart = marking.apart;
@@ -253,37 +239,36 @@ module _ (p q r : Parts) (change : Change) (pages : ℕ) (w : IsWhole p) (idle :
     kept = λ s. (λ k. (marking.less s k, λ c. true≢false (sym k ∙ (out s c).1)), λ k. left s k.0 k.1 (cases_Bool (is_kept r.marks.kept s)));
   }
 
-  asked_still : (s k : ℕ) → is_kept r.marks.kept s ≡ true → k < length (row (named p.users.notes) s) → is_kept r.marks.kept (get_or (row (named p.users.notes) s) k 0) ≡ true
+  asked_still : (s k : ℕ) → is_kept r.marks.kept s ≡ true → k < length (row p.asks.named s) → is_kept r.marks.kept (get_or (row p.asks.named s) k 0) ≡ true
   asked_still s k e lt =
-      let m = get_or (row (named p.users.notes) s) k 0 in
+      let m = get_or (row p.asks.named s) k 0 in
       let was = w.asked_kept s k (marking.less s e) lt in
       left m was (λ c. true≢false (sym e ∙ reached s (marking.less s e) (through s k lt (out m c).2))) (cases_Bool (is_kept r.marks.kept m))
 
-  vacant_still : (s : ℕ) → is_kept r.marks.kept s ≡ false → (Contains r.marks.work s → ⊥) → (is_kept p.marks.kept s ≡ true) ⊎ (is_kept p.marks.kept s ≡ false) → (row (named p.users.notes) s ≡ []) × (row p.uses.rows s ≡ [])
+  vacant_still : (s : ℕ) → is_kept r.marks.kept s ≡ false → (Contains r.marks.work s → ⊥) → (is_kept p.marks.kept s ≡ true) ⊎ (is_kept p.marks.kept s ≡ false) → (row p.asks.named s ≡ []) × (row p.uses.rows s ≡ [])
   vacant_still s e non (inl k) = absurd (non (marking.out s k e))
   vacant_still s e non (inr k) = w.vacant s k (λ c. (let lt = c.1 in let z = ap (λ (ws : List ℕ). length ws) idle in absurd (omega arith)))
 
   pub whole-after : IsWhole r
   whole-after = record {
     shaped = shaped-more p r w.shaped same to_r.same_length;
-    asked_kept = λ s k e. (let P : List (List Pin) → Type 0 = λ rows. k < length (row (named rows) s) → is_kept r.marks.kept (get_or (row (named rows) s) k 0) ≡ true in subst P (sym same.users) (asked_still s k e));
-    met = λ s. ap (λ (rows : List (List Pin)). row (named rows) s) same.pages ∙ w.met s ∙ ap (λ (rows : List (List Use)). pages_in (row rows s)) (sym same.uses);
-    vacant = λ s e non. (let v = vacant_still s e non (cases_Bool (is_kept p.marks.kept s)) in (ap (λ (rows : List (List Pin)). row (named rows) s) same.users ∙ v.0, ap (λ (rows : List (List Use)). row rows s) same.uses ∙ v.1));
+    asked_kept = λ s k e. (let P : List (List ℕ) → Type 0 = λ rows. k < length (row rows s) → is_kept r.marks.kept (get_or (row rows s) k 0) ≡ true in subst P (sym same.asks) (asked_still s k e));
+    vacant = λ s e non. (let v = vacant_still s e non (cases_Bool (is_kept p.marks.kept s)) in (ap (λ (rows : List (List ℕ)). row rows s) same.asks ∙ v.0, ap (λ (rows : List (List Use)). row rows s) same.uses ∙ v.1));
     waits = λ s c. (out s c).1;
     apart = marking.apart;
   }
 
   -- who asked a slot that goes, goes
-  closed : (o : ℕ) → 0 < tally_of r.marks.work (row (named p.users.notes) o) → Contains r.marks.work o
+  closed : (o : ℕ) → 0 < tally_of r.marks.work (row p.asks.named o) → Contains r.marks.work o
   closed o lt =
-      let a = positive (λ s. sum_by (one_if s) (row (named p.users.notes) o)) r.marks.work lt in
-      let b = positive (one_if a.0) (row (named p.users.notes) o) a.2 in
+      let a = positive (λ s. sum_by (one_if s) (row p.asks.named o)) r.marks.work lt in
+      let b = positive (one_if a.0) (row p.asks.named o) a.2 in
       let same_slot : b.0 ≡ a.0 = one-is a.0 b.0 b.2 in
       let k = b.1.0 in
-      let name : get_or (row (named p.users.notes) o) k 0 ≡ a.0 = get_or_default (row (named p.users.notes) o) k 0 b.0 b.1.1 ∙ b.1.2 ∙ same_slot in
-      marking.out o (was_kept (cases_Bool (is_kept p.marks.kept o)) b.1.1) (user-reached p q r o k a.0 users.linked b.1.1 name h.more.same spread a.1)
+      let name : get_or (row p.asks.named o) k 0 ≡ a.0 = get_or_default (row p.asks.named o) k 0 b.0 b.1.1 ∙ b.1.2 ∙ same_slot in
+      marking.out o (was_kept (cases_Bool (is_kept p.marks.kept o)) b.1.1) (user-reached p q r o k a.0 asks b.1.1 name h.more.same spread a.1)
     where
-      was_kept : {k : ℕ} → (is_kept p.marks.kept o ≡ true) ⊎ (is_kept p.marks.kept o ≡ false) → k < length (row (named p.users.notes) o) → is_kept p.marks.kept o ≡ true
+      was_kept : {k : ℕ} → (is_kept p.marks.kept o ≡ true) ⊎ (is_kept p.marks.kept o ≡ false) → k < length (row p.asks.named o) → is_kept p.marks.kept o ≡ true
       was_kept (inl e) l = e
       was_kept (inr e) l =
           let v = w.vacant o e (λ c. (let lt = c.1 in let z = ap (λ (ws : List ℕ). length ws) idle in absurd (omega arith))) in
@@ -293,9 +278,9 @@ module _ (p q r : Parts) (change : Change) (pages : ℕ) (w : IsWhole p) (idle :
   near o =
       let a = h.near o in
       let b = spread.looks in
-      let u = users_few p.users.lists (named p.users.notes) r.marks.work marking.apart users.few closed in
-      let e = ap (λ (rows : List (List Pin)). lengths rows (take (length r.marks.work) r.marks.work)) h.more.same.user_lists in
-      let f = ap (λ (ws : List ℕ). lengths p.users.lists ws) (take_all (length r.marks.work) r.marks.work (omega arith)) in
+      let u = users_few p.asks.lists p.asks.named r.marks.work marking.apart asks.few closed in
+      let e = ap (λ (rows : List (List Item)). lengths rows (take (length r.marks.work) r.marks.work)) h.more.same.ask_lists in
+      let f = ap (λ (ws : List ℕ). lengths p.asks.lists ws) (take_all (length r.marks.work) r.marks.work (omega arith)) in
       let z = ap (λ (ws : List ℕ). length ws) idle in
       omega arith
 
@@ -303,9 +288,9 @@ module _ (p q r : Parts) (change : Change) (pages : ℕ) (w : IsWhole p) (idle :
   behind o =
       let a = h.behind o in
       let b = spread.looks in
-      let u = users_few p.users.lists (named p.users.notes) r.marks.work marking.apart users.few closed in
-      let e = ap (λ (rows : List (List Pin)). lengths rows (take (length r.marks.work) r.marks.work)) h.more.same.user_lists in
-      let f = ap (λ (ws : List ℕ). lengths p.users.lists ws) (take_all (length r.marks.work) r.marks.work (omega arith)) in
+      let u = users_few p.asks.lists p.asks.named r.marks.work marking.apart asks.few closed in
+      let e = ap (λ (rows : List (List Item)). lengths rows (take (length r.marks.work) r.marks.work)) h.more.same.ask_lists in
+      let f = ap (λ (ws : List ℕ). lengths p.asks.lists ws) (take_all (length r.marks.work) r.marks.work (omega arith)) in
       let z = ap (λ (ws : List ℕ). length ws) idle in
       omega arith
 

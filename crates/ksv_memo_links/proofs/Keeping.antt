@@ -1,48 +1,37 @@
 -- A slot upon another is taken or kept, and the links stay whole.
-use Rattle.std.proofs.Common.{◌≡◌, ◌≢◌, ◌⊎◌, inl, inr, Bool, true, false, eqb, ℕ, ◌<◌, ◌≤◌, List, [], ◌∷◌, ◌++◌, length, map, set, get_or, Contains, All, refl, sym, ◌∙◌, ap, subst, arith, true≢false}
+use Rattle.std.proofs.Common.{◌≡◌, ◌≢◌, ◌⊎◌, inl, inr, Bool, true, false, eqb, ℕ, ◌<◌, ◌≤◌, List, [], ◌∷◌, ◌++◌, length, set, get_or, Contains, All, refl, sym, ◌∙◌, ap, subst, arith, true≢false}
 use Rattle.std.specs.List.{AllPairs}
-use Rattle.std.proofs.lemmas.List.{length-map, length-set, get_or-set_same, get_or-set_other, set-set, set-get_or, length_push, get_or_append_left}
+use Rattle.std.proofs.lemmas.List.{length-set, get_or-set_same, get_or-set_other, set-set, set-get_or, length_push, get_or_append_left}
 use Rattle.std.proofs.lemmas.List.Elements.{Contains-append_left, Contains-push, Contains-push_cases}
 use Rattle.std.proofs.lemmas.Bool.Decides.{eqb_tells}
 use Rattle.ksv_bytes.specs.declared.uses.Use.{Use}
-use Rattle.ksv_memo_links.specs.declared.shelf.Pin.{Pin}
 use Rattle.ksv_memo_links.specs.declared.parts.Parts.{Parts}
 use Rattle.ksv_memo_links.specs.Shelved.{row, HasSameRows}
-use Rattle.ksv_memo_links.specs.Touching.{pages_in}
-use Rattle.ksv_memo_links.specs.Linked.{named}
 use Rattle.ksv_memo_links.specs.Marking.{is_kept, HasMore}
 use Rattle.ksv_memo_links.specs.Forgetting.{IsShaped, IsWhole, Clears, IsAsBefore, Fills}
 use Rattle.ksv_memo_links.proofs.Edits.{row_set, row_other}
-use Rattle.ksv_memo_links.proofs.Clearing.{length-named}
-
-pub wide : (rows : List (List Pin)) → length (named rows) ≡ length rows
-wide rows = length-map rows (λ (pins : List Pin). map (λ (p : Pin). p.row) pins)
 
 -- what a whole thing needs, in the words of the views
-pub record IsSound (kept : List Bool) (work : List ℕ) (asked pages : List (List ℕ)) (uses : List (List Use)) : Type 0 where
+pub record IsSound (kept : List Bool) (work : List ℕ) (asked : List (List ℕ)) (uses : List (List Use)) : Type 0 where
   pub asked_kept : (s k : ℕ) → is_kept kept s ≡ true → k < length (row asked s) → is_kept kept (get_or (row asked s) k 0) ≡ true
-  pub met : (s : ℕ) → row pages s ≡ pages_in (row uses s)
   pub vacant : (s : ℕ) → is_kept kept s ≡ false → (Contains work s → ⊥) → (row asked s ≡ []) × (row uses s ≡ [])
   pub waits : (s : ℕ) → Contains work s → is_kept kept s ≡ false
   pub apart : AllPairs (λ (a b : ℕ). a ≢ b) work
 
-pub sound : (p : Parts) → IsWhole p → IsSound p.marks.kept p.marks.work (named p.users.notes) (named p.pages.notes) p.uses.rows
-sound p w = record { asked_kept = w.asked_kept; met = w.met; vacant = w.vacant; waits = w.waits; apart = w.apart }
+pub sound : (p : Parts) → IsWhole p → IsSound p.marks.kept p.marks.work p.asks.named p.uses.rows
+sound p w = record { asked_kept = w.asked_kept; vacant = w.vacant; waits = w.waits; apart = w.apart }
 
-pub whole : (p : Parts) → IsShaped p → IsSound p.marks.kept p.marks.work (named p.users.notes) (named p.pages.notes) p.uses.rows → IsWhole p
-whole p h w = record { shaped = h; asked_kept = w.asked_kept; met = w.met; vacant = w.vacant; waits = w.waits; apart = w.apart }
+pub whole : (p : Parts) → IsShaped p → IsSound p.marks.kept p.marks.work p.asks.named p.uses.rows → IsWhole p
+whole p h w = record { shaped = h; asked_kept = w.asked_kept; vacant = w.vacant; waits = w.waits; apart = w.apart }
 
--- rows of the notes are within the slots, by their named rows
-noted : (rows : List (List Pin)) (old : List (List Pin)) (s n : ℕ) → length (row (named rows) s) ≡ length (row (named old) s) → (0 < length (row old s) → s < n) → 0 < length (row rows s) → s < n
-noted rows old s n e h lt = let a = length-named rows s in let b = length-named old s in h (omega arith)
+-- rows within the slots
+noted_row : (rows : List (List ℕ)) (old : List (List ℕ)) (s n : ℕ) → length (row rows s) ≡ length (row old s) → (0 < length (row old s) → s < n) → 0 < length (row rows s) → s < n
+noted_row rows old s n e h lt = h (omega arith)
 
 -- ---- a slot is taken
-module _ (p q r : Parts) (slot : ℕ) (w : IsWhole p) (kept : q.marks.kept ≡ p.marks.kept) (work : p.marks.work ≡ q.marks.work ++ slot ∷ []) (inside : slot < length p.marks.kept) (users : q.users ≡ p.users) (pages : q.pages ≡ p.pages) (uses : q.uses ≡ p.uses) (c : Clears q r slot) where
-  asked_now : named r.users.notes ≡ set (named p.users.notes) slot []
-  asked_now = c.users ∙ ap (λ b. set (named b.notes) slot []) users
-
-  pages_now : named r.pages.notes ≡ set (named p.pages.notes) slot []
-  pages_now = c.pages ∙ ap (λ b. set (named b.notes) slot []) pages
+module _ (p q r : Parts) (slot : ℕ) (w : IsWhole p) (kept : q.marks.kept ≡ p.marks.kept) (work : p.marks.work ≡ q.marks.work ++ slot ∷ []) (inside : slot < length p.marks.kept) (asks : q.asks ≡ p.asks) (uses : q.uses ≡ p.uses) (c : Clears q r slot) where
+  asked_now : r.asks.named ≡ set p.asks.named slot []
+  asked_now = c.asks ∙ ap (λ b. set b.named slot []) asks
 
   uses_now : r.uses.rows ≡ set p.uses.rows slot []
   uses_now = c.uses ∙ ap (λ u. set u.rows slot []) uses
@@ -53,11 +42,8 @@ module _ (p q r : Parts) (slot : ℕ) (w : IsWhole p) (kept : q.marks.kept ≡ p
   work_now : p.marks.work ≡ r.marks.work ++ slot ∷ []
   work_now = work ∙ ap (λ m. m.work ++ slot ∷ []) (sym c.marks)
 
-  asked_in : slot < length (named p.users.notes)
-  asked_in = let n = wide p.users.notes in let h = w.shaped.users in omega arith
-
-  pages_in_it : slot < length (named p.pages.notes)
-  pages_in_it = let n = wide p.pages.notes in let h = w.shaped.pages in omega arith
+  asked_in : slot < length p.asks.named
+  asked_in = let h = w.shaped.asks in omega arith
 
   uses_in : slot < length p.uses.rows
   uses_in = let h = w.shaped.uses in omega arith
@@ -66,17 +52,11 @@ module _ (p q r : Parts) (slot : ℕ) (w : IsWhole p) (kept : q.marks.kept ≡ p
   out_now = w.waits slot (subst (λ ws. Contains ws slot) (sym work_now) (Contains-push r.marks.work slot))
 
   -- a row that is read after it
-  asked_other : (s : ℕ) → s ≢ slot → row (named r.users.notes) s ≡ row (named p.users.notes) s
-  asked_other s ne = ap (λ rows. row rows s) asked_now ∙ row_other (named p.users.notes) slot s [] ne
+  asked_other : (s : ℕ) → s ≢ slot → row r.asks.named s ≡ row p.asks.named s
+  asked_other s ne = ap (λ rows. row rows s) asked_now ∙ row_other p.asks.named slot s [] ne
 
-  asked_here : row (named r.users.notes) slot ≡ []
-  asked_here = ap (λ rows. row rows slot) asked_now ∙ row_set (named p.users.notes) slot [] asked_in
-
-  pages_other : (s : ℕ) → s ≢ slot → row (named r.pages.notes) s ≡ row (named p.pages.notes) s
-  pages_other s ne = ap (λ rows. row rows s) pages_now ∙ row_other (named p.pages.notes) slot s [] ne
-
-  pages_here : row (named r.pages.notes) slot ≡ []
-  pages_here = ap (λ rows. row rows slot) pages_now ∙ row_set (named p.pages.notes) slot [] pages_in_it
+  asked_here : row r.asks.named slot ≡ []
+  asked_here = ap (λ rows. row rows slot) asked_now ∙ row_set p.asks.named slot [] asked_in
 
   uses_other : (s : ℕ) → s ≢ slot → row r.uses.rows s ≡ row p.uses.rows s
   uses_other s ne = ap (λ rows. row rows s) uses_now ∙ row_other p.uses.rows slot s [] ne
@@ -84,7 +64,7 @@ module _ (p q r : Parts) (slot : ℕ) (w : IsWhole p) (kept : q.marks.kept ≡ p
   uses_here : row r.uses.rows slot ≡ []
   uses_here = ap (λ rows. row rows slot) uses_now ∙ row_set p.uses.rows slot [] uses_in
 
-  less_asked : (s : ℕ) → 0 < length (row r.users.notes s) → s < length r.marks.kept
+  less_asked : (s : ℕ) → 0 < length (row r.asks.named s) → s < length r.marks.kept
   less_asked s lt = by (eqb_tells s slot)
     where
       n : length r.marks.kept ≡ length p.marks.kept
@@ -92,17 +72,7 @@ module _ (p q r : Parts) (slot : ℕ) (w : IsWhole p) (kept : q.marks.kept ≡ p
 
       by : ((eqb s slot ≡ true) × (s ≡ slot)) ⊎ ((eqb s slot ≡ false) × (s ≢ slot)) → s < length r.marks.kept
       by (inl e) = let m = n in let f = e.1 in omega arith
-      by (inr e) = let m = n in let k = noted r.users.notes p.users.notes s (length p.marks.kept) (ap length (asked_other s e.1)) (w.shaped.asked_in s) lt in omega arith
-
-  less_met : (s : ℕ) → 0 < length (row r.pages.notes s) → s < length r.marks.kept
-  less_met s lt = by (eqb_tells s slot)
-    where
-      n : length r.marks.kept ≡ length p.marks.kept
-      n = ap length kept_now
-
-      by : ((eqb s slot ≡ true) × (s ≡ slot)) ⊎ ((eqb s slot ≡ false) × (s ≢ slot)) → s < length r.marks.kept
-      by (inl e) = let m = n in let f = e.1 in omega arith
-      by (inr e) = let m = n in let k = noted r.pages.notes p.pages.notes s (length p.marks.kept) (ap length (pages_other s e.1)) (w.shaped.met_in s) lt in omega arith
+      by (inr e) = let m = n in let k = noted_row r.asks.named p.asks.named s (length p.marks.kept) (ap length (asked_other s e.1)) (w.shaped.asked_in s) lt in omega arith
 
   less_used : (s : ℕ) → 0 < length (row r.uses.rows s) → s < length r.marks.kept
   less_used s lt = by (eqb_tells s slot)
@@ -117,20 +87,18 @@ module _ (p q r : Parts) (slot : ℕ) (w : IsWhole p) (kept : q.marks.kept ≡ p
   taken_shaped : IsShaped r
   taken_shaped =
       let n = ap length kept_now in
-      let u = ap length asked_now in let u1 = length-set (named p.users.notes) slot [] in let u2 = wide p.users.notes in let u3 = wide r.users.notes in
-      let g = ap length pages_now in let g1 = length-set (named p.pages.notes) slot [] in let g2 = wide p.pages.notes in let g3 = wide r.pages.notes in
+      let u = ap length asked_now in let u1 = length-set p.asks.named slot [] in
       let v = ap length uses_now in let v1 = length-set p.uses.rows slot [] in
-      let l = c.user_lists in let l1 = ap (λ b. length b.lists) users in
-      let h1 = w.shaped.users in let h2 = w.shaped.lists in let h3 = w.shaped.pages in let h4 = w.shaped.uses in
-      record { users = omega arith; lists = omega arith; pages = omega arith; uses = omega arith; asked_in = less_asked; met_in = less_met; used_in = less_used }
+      let l = c.ask_lists in let l1 = ap (λ b. length b.lists) asks in
+      let h1 = w.shaped.asks in let h2 = w.shaped.lists in let h4 = w.shaped.uses in
+      record { asks = omega arith; lists = omega arith; uses = omega arith; asked_in = less_asked; used_in = less_used }
 
-  taken_sound : IsSound r.marks.kept r.marks.work (named r.users.notes) (named r.pages.notes) r.uses.rows
+  taken_sound : IsSound r.marks.kept r.marks.work r.asks.named r.uses.rows
   taken_sound = record {
     asked_kept = λ s k e lt. (let e0 = ap (λ ks. is_kept ks s) (sym kept_now) ∙ e in
         let ne : s ≢ slot = λ same. true≢false (sym e0 ∙ ap (λ n. is_kept p.marks.kept n) same ∙ out_now) in
         let o = asked_other s ne in
-        ap (λ ks. is_kept ks (get_or (row (named r.users.notes) s) k 0)) kept_now ∙ ap (λ (ns : List ℕ). is_kept p.marks.kept (get_or ns k 0)) o ∙ w.asked_kept s k e0 (subst (λ (ns : List ℕ). k < length ns) o lt));
-    met = λ s. met s (eqb_tells s slot);
+        ap (λ ks. is_kept ks (get_or (row r.asks.named s) k 0)) kept_now ∙ ap (λ (ns : List ℕ). is_kept p.marks.kept (get_or ns k 0)) o ∙ w.asked_kept s k e0 (subst (λ (ns : List ℕ). k < length ns) o lt));
     vacant = λ s e non. vacant s e non (eqb_tells s slot);
     waits = λ s k. ap (λ ks. is_kept ks s) kept_now ∙ w.waits s (subst (λ ws. Contains ws s) (sym work_now) (Contains-append_left r.marks.work (slot ∷ []) s k));
     apart = λ i j d lt l. (let n = ap length work_now in let m = length_push r.marks.work slot in
@@ -140,12 +108,8 @@ module _ (p q r : Parts) (slot : ℕ) (w : IsWhole p) (kept : q.marks.kept ≡ p
         subst (λ a. Q a (get_or r.marks.work j d)) (get_or_append_left r.marks.work (slot ∷ []) d i (omega arith)) (subst (λ b. Q (get_or (r.marks.work ++ slot ∷ []) i d) b) (get_or_append_left r.marks.work (slot ∷ []) d j l) h));
   }
     where
-      met : (s : ℕ) → ((eqb s slot ≡ true) × (s ≡ slot)) ⊎ ((eqb s slot ≡ false) × (s ≢ slot)) → row (named r.pages.notes) s ≡ pages_in (row r.uses.rows s)
-      met s (inl e) = ap (λ n. row (named r.pages.notes) n) e.1 ∙ pages_here ∙ sym (ap (λ n. pages_in (row r.uses.rows n)) e.1 ∙ ap pages_in uses_here)
-      met s (inr e) = pages_other s e.1 ∙ w.met s ∙ ap pages_in (sym (uses_other s e.1))
-
-      vacant : (s : ℕ) → is_kept r.marks.kept s ≡ false → (Contains r.marks.work s → ⊥) → ((eqb s slot ≡ true) × (s ≡ slot)) ⊎ ((eqb s slot ≡ false) × (s ≢ slot)) → (row (named r.users.notes) s ≡ []) × (row r.uses.rows s ≡ [])
-      vacant s e non (inl q) = (ap (λ n. row (named r.users.notes) n) q.1 ∙ asked_here, ap (λ n. row r.uses.rows n) q.1 ∙ uses_here)
+      vacant : (s : ℕ) → is_kept r.marks.kept s ≡ false → (Contains r.marks.work s → ⊥) → ((eqb s slot ≡ true) × (s ≡ slot)) ⊎ ((eqb s slot ≡ false) × (s ≢ slot)) → (row r.asks.named s ≡ []) × (row r.uses.rows s ≡ [])
+      vacant s e non (inl q) = (ap (λ n. row r.asks.named n) q.1 ∙ asked_here, ap (λ n. row r.uses.rows n) q.1 ∙ uses_here)
       vacant s e non (inr q) =
           let v = w.vacant s (ap (λ ks. is_kept ks s) (sym kept_now) ∙ e) (λ k. cases s q.1 non (Contains-push_cases r.marks.work slot s (subst (λ ws. Contains ws s) work_now k))) in
           (asked_other s q.1 ∙ v.0, uses_other s q.1 ∙ v.1)
@@ -161,19 +125,16 @@ module _ (p q r : Parts) (slot : ℕ) (w : IsWhole p) (kept : q.marks.kept ≡ p
 pub same_rows : {T : Type 0} (rows : List (List T)) → HasSameRows rows rows
 same_rows rows = record { more = omega arith; each = λ r. refl }
 
-pub grown_whole : (p r : Parts) → IsWhole p → HasSameRows (named p.users.notes) (named r.users.notes) → HasSameRows (named p.pages.notes) (named r.pages.notes) → HasSameRows p.uses.rows r.uses.rows → HasMore p.marks.kept r.marks.kept → r.marks.work ≡ p.marks.work → length r.marks.kept ≤ length r.users.notes → length r.marks.kept ≤ length r.users.lists → length r.marks.kept ≤ length r.pages.notes → length r.marks.kept ≤ length r.uses.rows → IsWhole r
-grown_whole p r w users pages uses kept work l1 l2 l3 l4 = whole r (record {
-  users = l1;
+pub grown_whole : (p r : Parts) → IsWhole p → HasSameRows p.asks.named r.asks.named → HasSameRows p.uses.rows r.uses.rows → HasMore p.marks.kept r.marks.kept → r.marks.work ≡ p.marks.work → length r.marks.kept ≤ length r.asks.named → length r.marks.kept ≤ length r.asks.lists → length r.marks.kept ≤ length r.uses.rows → IsWhole r
+grown_whole p r w asks uses kept work l1 l2 l3 = whole r (record {
+  asks = l1;
   lists = l2;
-  pages = l3;
-  uses = l4;
-  asked_in = λ s lt. (let m = kept.more in let k = noted r.users.notes p.users.notes s (length p.marks.kept) (ap length (users.each s)) (w.shaped.asked_in s) lt in omega arith);
-  met_in = λ s lt. (let m = kept.more in let k = noted r.pages.notes p.pages.notes s (length p.marks.kept) (ap length (pages.each s)) (w.shaped.met_in s) lt in omega arith);
+  uses = l3;
+  asked_in = λ s lt. (let m = kept.more in let k = noted_row r.asks.named p.asks.named s (length p.marks.kept) (ap length (asks.each s)) (w.shaped.asked_in s) lt in omega arith);
   used_in = λ s lt. (let m = kept.more in let o = ap length (uses.each s) in let k = w.shaped.used_in s (omega arith) in omega arith);
 }) (record {
-  asked_kept = λ s k e lt. kept.each (get_or (row (named r.users.notes) s) k 0) ∙ ap (λ (ns : List ℕ). is_kept p.marks.kept (get_or ns k 0)) (users.each s) ∙ w.asked_kept s k (sym (kept.each s) ∙ e) (subst (λ (ns : List ℕ). k < length ns) (users.each s) lt);
-  met = λ s. pages.each s ∙ w.met s ∙ ap pages_in (sym (uses.each s));
-  vacant = λ s e non. (let v = w.vacant s (sym (kept.each s) ∙ e) (λ c. non (subst (λ ws. Contains ws s) (sym work) c)) in (users.each s ∙ v.0, uses.each s ∙ v.1));
+  asked_kept = λ s k e lt. kept.each (get_or (row r.asks.named s) k 0) ∙ ap (λ (ns : List ℕ). is_kept p.marks.kept (get_or ns k 0)) (asks.each s) ∙ w.asked_kept s k (sym (kept.each s) ∙ e) (subst (λ (ns : List ℕ). k < length ns) (asks.each s) lt);
+  vacant = λ s e non. (let v = w.vacant s (sym (kept.each s) ∙ e) (λ c. non (subst (λ ws. Contains ws s) (sym work) c)) in (asks.each s ∙ v.0, uses.each s ∙ v.1));
   waits = λ s c. kept.each s ∙ w.waits s (subst (λ ws. Contains ws s) work c);
   apart = subst (λ ws. AllPairs (λ (a b : ℕ). a ≢ b) ws) (sym work) w.apart;
 })
@@ -181,19 +142,16 @@ grown_whole p r w users pages uses kept work l1 l2 l3 l4 = whole r (record {
 -- ---- nothing has changed
 pub same_whole : (p r : Parts) → IsWhole p → IsAsBefore p r → IsWhole r
 same_whole p r w s = whole r (record {
-  users = (let a = ap length s.users in let b = wide p.users.notes in let c = wide r.users.notes in let d = w.shaped.users in let e = ap (λ m. length m.kept) s.marks in omega arith);
-  lists = (let a = s.user_lists in let d = w.shaped.lists in let e = ap (λ m. length m.kept) s.marks in omega arith);
-  pages = (let a = ap length s.pages in let b = wide p.pages.notes in let c = wide r.pages.notes in let d = w.shaped.pages in let e = ap (λ m. length m.kept) s.marks in omega arith);
+  asks = (let a = ap length s.asks in let d = w.shaped.asks in let e = ap (λ m. length m.kept) s.marks in omega arith);
+  lists = (let a = s.ask_lists in let d = w.shaped.lists in let e = ap (λ m. length m.kept) s.marks in omega arith);
   uses = (let a = ap length s.uses in let d = w.shaped.uses in let e = ap (λ m. length m.kept) s.marks in omega arith);
-  asked_in = λ t lt. (let e = ap (λ m. length m.kept) s.marks in let k = noted r.users.notes p.users.notes t (length p.marks.kept) (ap (λ rows. length (row rows t)) s.users) (w.shaped.asked_in t) lt in omega arith);
-  met_in = λ t lt. (let e = ap (λ m. length m.kept) s.marks in let k = noted r.pages.notes p.pages.notes t (length p.marks.kept) (ap (λ rows. length (row rows t)) s.pages) (w.shaped.met_in t) lt in omega arith);
+  asked_in = λ t lt. (let e = ap (λ m. length m.kept) s.marks in let k = noted_row r.asks.named p.asks.named t (length p.marks.kept) (ap (λ rows. length (row rows t)) s.asks) (w.shaped.asked_in t) lt in omega arith);
   used_in = λ t lt. (let e = ap (λ m. length m.kept) s.marks in let o = ap (λ rows. length (row rows t)) s.uses in let k = w.shaped.used_in t (omega arith) in omega arith);
 }) (
-    let P : List Bool → List ℕ → List (List ℕ) → List (List ℕ) → List (List Use) → Type 0 = λ k ws a g u. IsSound k ws a g u in
-    subst (λ m. P m.kept m.work (named r.users.notes) (named r.pages.notes) r.uses.rows) (sym s.marks)
-    (subst (λ a. P p.marks.kept p.marks.work a (named r.pages.notes) r.uses.rows) (sym s.users)
-    (subst (λ g. P p.marks.kept p.marks.work (named p.users.notes) g r.uses.rows) (sym s.pages)
-    (subst (P p.marks.kept p.marks.work (named p.users.notes) (named p.pages.notes)) (sym s.uses) (sound p w)))))
+    let P : List Bool → List ℕ → List (List ℕ) → List (List Use) → Type 0 = λ k ws a u. IsSound k ws a u in
+    subst (λ m. P m.kept m.work r.asks.named r.uses.rows) (sym s.marks)
+    (subst (λ a. P p.marks.kept p.marks.work a r.uses.rows) (sym s.asks)
+    (subst (P p.marks.kept p.marks.work p.asks.named) (sym s.uses) (sound p w))))
 
 -- ---- a slot is kept
 pub still_kept : (kept : List Bool) (slot s : ℕ) → slot < length kept → is_kept kept s ≡ true → is_kept (set kept slot true) s ≡ true
@@ -203,36 +161,24 @@ still_kept kept slot s lt e = by (eqb_tells s slot)
     by (inl q) = ap (λ n. is_kept (set kept slot true) n) q.1 ∙ get_or-set_same kept slot true false lt
     by (inr q) = get_or-set_other kept slot s true false q.1 ∙ e
 
-module _ (p q r : Parts) (slot : ℕ) (asks : List ℕ) (us : List Use) (w : IsWhole p) (idle : p.marks.work ≡ []) (inside : slot < length p.marks.kept) (asks_kept : All (λ s. is_kept p.marks.kept s ≡ true) asks) (f : Fills p q slot asks us) (users : r.users ≡ q.users) (pages : r.pages ≡ q.pages) (uses : r.uses ≡ q.uses) (kept : r.marks.kept ≡ set p.marks.kept slot true) (work : r.marks.work ≡ []) where
-  asked_fill : named r.users.notes ≡ set (named p.users.notes) slot asks
-  asked_fill = ap (λ b. named b.notes) users ∙ f.users
-
-  pages_fill : named r.pages.notes ≡ set (named p.pages.notes) slot (pages_in us)
-  pages_fill = ap (λ b. named b.notes) pages ∙ f.pages
+module _ (p q r : Parts) (slot : ℕ) (asks : List ℕ) (us : List Use) (w : IsWhole p) (idle : p.marks.work ≡ []) (inside : slot < length p.marks.kept) (asks_kept : All (λ s. is_kept p.marks.kept s ≡ true) asks) (f : Fills p q slot asks us) (linked : r.asks ≡ q.asks) (uses : r.uses ≡ q.uses) (kept : r.marks.kept ≡ set p.marks.kept slot true) (work : r.marks.work ≡ []) where
+  asked_fill : r.asks.named ≡ set p.asks.named slot asks
+  asked_fill = ap (λ b. b.named) linked ∙ f.asks
 
   uses_fill : r.uses.rows ≡ set p.uses.rows slot us
   uses_fill = ap (λ u. u.rows) uses ∙ f.uses
 
-  long_asked : slot < length (named p.users.notes)
-  long_asked = let n = wide p.users.notes in let h = w.shaped.users in omega arith
-
-  long_pages : slot < length (named p.pages.notes)
-  long_pages = let n = wide p.pages.notes in let h = w.shaped.pages in omega arith
+  long_asked : slot < length p.asks.named
+  long_asked = let h = w.shaped.asks in omega arith
 
   long_uses : slot < length p.uses.rows
   long_uses = let h = w.shaped.uses in omega arith
 
-  asked_still : (s : ℕ) → s ≢ slot → row (named r.users.notes) s ≡ row (named p.users.notes) s
-  asked_still s ne = ap (λ rows. row rows s) asked_fill ∙ row_other (named p.users.notes) slot s asks ne
+  asked_still : (s : ℕ) → s ≢ slot → row r.asks.named s ≡ row p.asks.named s
+  asked_still s ne = ap (λ rows. row rows s) asked_fill ∙ row_other p.asks.named slot s asks ne
 
-  asked_new : row (named r.users.notes) slot ≡ asks
-  asked_new = ap (λ rows. row rows slot) asked_fill ∙ row_set (named p.users.notes) slot asks long_asked
-
-  pages_still : (s : ℕ) → s ≢ slot → row (named r.pages.notes) s ≡ row (named p.pages.notes) s
-  pages_still s ne = ap (λ rows. row rows s) pages_fill ∙ row_other (named p.pages.notes) slot s (pages_in us) ne
-
-  pages_new : row (named r.pages.notes) slot ≡ pages_in us
-  pages_new = ap (λ rows. row rows slot) pages_fill ∙ row_set (named p.pages.notes) slot (pages_in us) long_pages
+  asked_new : row r.asks.named slot ≡ asks
+  asked_new = ap (λ rows. row rows slot) asked_fill ∙ row_set p.asks.named slot asks long_asked
 
   uses_still : (s : ℕ) → s ≢ slot → row r.uses.rows s ≡ row p.uses.rows s
   uses_still s ne = ap (λ rows. row rows s) uses_fill ∙ row_other p.uses.rows slot s us ne
@@ -246,19 +192,12 @@ module _ (p q r : Parts) (slot : ℕ) (asks : List ℕ) (us : List Use) (w : IsW
   kept_other : (s : ℕ) → s ≢ slot → is_kept r.marks.kept s ≡ is_kept p.marks.kept s
   kept_other s ne = ap (λ ks. is_kept ks s) kept ∙ get_or-set_other p.marks.kept slot s true false ne
 
-  fill_asked : (s : ℕ) → 0 < length (row r.users.notes s) → s < length r.marks.kept
+  fill_asked : (s : ℕ) → 0 < length (row r.asks.named s) → s < length r.marks.kept
   fill_asked s lt = by (eqb_tells s slot)
     where
       by : ((eqb s slot ≡ true) × (s ≡ slot)) ⊎ ((eqb s slot ≡ false) × (s ≢ slot)) → s < length r.marks.kept
       by (inl e) = let m = same_count in let g = e.1 in omega arith
-      by (inr e) = let m = same_count in let k = noted r.users.notes p.users.notes s (length p.marks.kept) (ap length (asked_still s e.1)) (w.shaped.asked_in s) lt in omega arith
-
-  fill_met : (s : ℕ) → 0 < length (row r.pages.notes s) → s < length r.marks.kept
-  fill_met s lt = by (eqb_tells s slot)
-    where
-      by : ((eqb s slot ≡ true) × (s ≡ slot)) ⊎ ((eqb s slot ≡ false) × (s ≢ slot)) → s < length r.marks.kept
-      by (inl e) = let m = same_count in let g = e.1 in omega arith
-      by (inr e) = let m = same_count in let k = noted r.pages.notes p.pages.notes s (length p.marks.kept) (ap length (pages_still s e.1)) (w.shaped.met_in s) lt in omega arith
+      by (inr e) = let m = same_count in let k = noted_row r.asks.named p.asks.named s (length p.marks.kept) (ap length (asked_still s e.1)) (w.shaped.asked_in s) lt in omega arith
 
   fill_used : (s : ℕ) → 0 < length (row r.uses.rows s) → s < length r.marks.kept
   fill_used s lt = by (eqb_tells s slot)
@@ -270,12 +209,11 @@ module _ (p q r : Parts) (slot : ℕ) (asks : List ℕ) (us : List Use) (w : IsW
   filled_shaped : IsShaped r
   filled_shaped =
       let n = same_count in
-      let u = ap length asked_fill in let u1 = length-set (named p.users.notes) slot asks in let u2 = wide p.users.notes in let u3 = wide r.users.notes in
-      let g = ap length pages_fill in let g1 = length-set (named p.pages.notes) slot (pages_in us) in let g2 = wide p.pages.notes in let g3 = wide r.pages.notes in
+      let u = ap length asked_fill in let u1 = length-set p.asks.named slot asks in
       let v = ap length uses_fill in let v1 = length-set p.uses.rows slot us in
-      let l = f.user_lists in let l1 = ap (λ b. length b.lists) users in
-      let h1 = w.shaped.users in let h2 = w.shaped.lists in let h3 = w.shaped.pages in let h4 = w.shaped.uses in
-      record { users = omega arith; lists = omega arith; pages = omega arith; uses = omega arith; asked_in = fill_asked; met_in = fill_met; used_in = fill_used }
+      let l = f.ask_lists in let l1 = ap (λ b. length b.lists) linked in
+      let h1 = w.shaped.asks in let h2 = w.shaped.lists in let h4 = w.shaped.uses in
+      record { asks = omega arith; lists = omega arith; uses = omega arith; asked_in = fill_asked; used_in = fill_used }
 
   none_waits : (s : ℕ) → Contains r.marks.work s → ⊥
   none_waits s c = let lt = c.1 in let z = ap (λ (ws : List ℕ). length ws) work in omega arith
@@ -283,10 +221,9 @@ module _ (p q r : Parts) (slot : ℕ) (asks : List ℕ) (us : List Use) (w : IsW
   none_waited : (s : ℕ) → Contains p.marks.work s → ⊥
   none_waited s c = let lt = c.1 in let z = ap (λ (ws : List ℕ). length ws) idle in omega arith
 
-  filled_sound : IsSound r.marks.kept r.marks.work (named r.users.notes) (named r.pages.notes) r.uses.rows
+  filled_sound : IsSound r.marks.kept r.marks.work r.asks.named r.uses.rows
   filled_sound = record {
     asked_kept = λ s k e lt. asked s k e lt (eqb_tells s slot);
-    met = λ s. met s (eqb_tells s slot);
     vacant = λ s e non. vacant s e (eqb_tells s slot);
     waits = λ s c. absurd (none_waits s c);
     apart = λ i j d lt l. (let z = ap (λ (ws : List ℕ). length ws) work in absurd (omega arith));
@@ -295,19 +232,15 @@ module _ (p q r : Parts) (slot : ℕ) (asks : List ℕ) (us : List Use) (w : IsW
       now : (s : ℕ) → is_kept p.marks.kept s ≡ true → is_kept r.marks.kept s ≡ true
       now s e = ap (λ ks. is_kept ks s) kept ∙ still_kept p.marks.kept slot s inside e
 
-      asked : (s k : ℕ) → is_kept r.marks.kept s ≡ true → k < length (row (named r.users.notes) s) → ((eqb s slot ≡ true) × (s ≡ slot)) ⊎ ((eqb s slot ≡ false) × (s ≢ slot)) → is_kept r.marks.kept (get_or (row (named r.users.notes) s) k 0) ≡ true
+      asked : (s k : ℕ) → is_kept r.marks.kept s ≡ true → k < length (row r.asks.named s) → ((eqb s slot ≡ true) × (s ≡ slot)) ⊎ ((eqb s slot ≡ false) × (s ≢ slot)) → is_kept r.marks.kept (get_or (row r.asks.named s) k 0) ≡ true
       asked s k e lt (inl q) =
-          let o : row (named r.users.notes) s ≡ asks = ap (λ n. row (named r.users.notes) n) q.1 ∙ asked_new in
+          let o : row r.asks.named s ≡ asks = ap (λ n. row r.asks.named n) q.1 ∙ asked_new in
           ap (λ (ns : List ℕ). is_kept r.marks.kept (get_or ns k 0)) o ∙ now (get_or asks k 0) (asks_kept k 0 (subst (λ (ns : List ℕ). k < length ns) o lt))
       asked s k e lt (inr q) =
           let o = asked_still s q.1 in
-          ap (λ (ns : List ℕ). is_kept r.marks.kept (get_or ns k 0)) o ∙ now (get_or (row (named p.users.notes) s) k 0) (w.asked_kept s k (sym (kept_other s q.1) ∙ e) (subst (λ (ns : List ℕ). k < length ns) o lt))
+          ap (λ (ns : List ℕ). is_kept r.marks.kept (get_or ns k 0)) o ∙ now (get_or (row p.asks.named s) k 0) (w.asked_kept s k (sym (kept_other s q.1) ∙ e) (subst (λ (ns : List ℕ). k < length ns) o lt))
 
-      met : (s : ℕ) → ((eqb s slot ≡ true) × (s ≡ slot)) ⊎ ((eqb s slot ≡ false) × (s ≢ slot)) → row (named r.pages.notes) s ≡ pages_in (row r.uses.rows s)
-      met s (inl e) = ap (λ n. row (named r.pages.notes) n) e.1 ∙ pages_new ∙ sym (ap (λ n. pages_in (row r.uses.rows n)) e.1 ∙ ap pages_in uses_new)
-      met s (inr e) = pages_still s e.1 ∙ w.met s ∙ ap pages_in (sym (uses_still s e.1))
-
-      vacant : (s : ℕ) → is_kept r.marks.kept s ≡ false → ((eqb s slot ≡ true) × (s ≡ slot)) ⊎ ((eqb s slot ≡ false) × (s ≢ slot)) → (row (named r.users.notes) s ≡ []) × (row r.uses.rows s ≡ [])
+      vacant : (s : ℕ) → is_kept r.marks.kept s ≡ false → ((eqb s slot ≡ true) × (s ≡ slot)) ⊎ ((eqb s slot ≡ false) × (s ≢ slot)) → (row r.asks.named s ≡ []) × (row r.uses.rows s ≡ [])
       vacant s e (inl q) = absurd (true≢false (sym (ap (λ n. is_kept r.marks.kept n) q.1 ∙ ap (λ ks. is_kept ks slot) kept ∙ get_or-set_same p.marks.kept slot true false inside) ∙ e))
       vacant s e (inr q) = let v = w.vacant s (sym (kept_other s q.1) ∙ e) (none_waited s) in (asked_still s q.1 ∙ v.0, uses_still s q.1 ∙ v.1)
 

@@ -4,10 +4,9 @@ use Rattle.std.proofs.lemmas.List.{length-set, append-nil}
 use Rattle.std.proofs.lemmas.Bool.Decides.{eqb_tells}
 use Rattle.ksv_bytes.specs.declared.uses.Use.{Use}
 use Rattle.ksv_bytes.specs.declared.uses.Change.{Change}
-use Rattle.ksv_memo_links.specs.declared.shelf.Pin.{Pin}
+use Rattle.ksv_memo_links.specs.declared.blocks.Item.{Item}
 use Rattle.ksv_memo_links.specs.declared.parts.Parts.{Parts}
 use Rattle.ksv_memo_links.specs.Shelved.{row}
-use Rattle.ksv_memo_links.specs.Linked.{named}
 use Rattle.ksv_memo_links.specs.Links.{IsHit, Reaches}
 use Rattle.ksv_memo_links.specs.Marking.{is_kept, marked_work, IsMarking, IsCounted}
 use Rattle.ksv_memo_links.specs.Forgetting.{IsShaped, SameLinks, looks, Why, MarksMore}
@@ -15,35 +14,31 @@ use Rattle.ksv_memo_links.proofs.Mark.{kept-fewer, kept-marked, marked-grows, ma
 
 pub same-trans : (p q r : Parts) → SameLinks p q → SameLinks q r → SameLinks p r
 same-trans p q r h k = record {
-  users = k.users ∙ h.users;
-  user_lists = k.user_lists ∙ h.user_lists;
-  pages = k.pages ∙ h.pages;
-  page_lists = k.page_lists ∙ h.page_lists;
+  asks = k.asks ∙ h.asks;
+  ask_lists = k.ask_lists ∙ h.ask_lists;
   uses = k.uses ∙ h.uses;
-  ends = k.ends ∙ h.ends;
+  use_lists = k.use_lists ∙ h.use_lists;
 }
 
 pub shaped-more : (p q : Parts) → IsShaped p → SameLinks p q → length q.marks.kept ≡ length p.marks.kept → IsShaped q
 shaped-more p q h s e = record {
-  users = (let a = ap (λ (rows : List (List Pin)). length rows) s.users in let b = h.users in omega arith);
-  lists = (let a = ap (λ (rows : List (List Pin)). length rows) s.user_lists in let b = h.lists in omega arith);
-  pages = (let a = ap (λ (rows : List (List Pin)). length rows) s.pages in let b = h.pages in omega arith);
+  asks = (let a = ap (λ (rows : List (List ℕ)). length rows) s.asks in let b = h.asks in omega arith);
+  lists = (let a = ap (λ (rows : List (List Item)). length rows) s.ask_lists in let b = h.lists in omega arith);
   uses = (let a = ap (λ (rows : List (List Use)). length rows) s.uses in let b = h.uses in omega arith);
-  asked_in = λ t lt. (let a = ap (λ (rows : List (List Pin)). length (row rows t)) s.users in let b = h.asked_in t (omega arith) in omega arith);
-  met_in = λ t lt. (let a = ap (λ (rows : List (List Pin)). length (row rows t)) s.pages in let b = h.met_in t (omega arith) in omega arith);
+  asked_in = λ t lt. (let a = ap (λ (rows : List (List ℕ)). length (row rows t)) s.asks in let b = h.asked_in t (omega arith) in omega arith);
   used_in = λ t lt. (let a = ap (λ (rows : List (List Use)). length (row rows t)) s.uses in let b = h.used_in t (omega arith) in omega arith);
 }
 
 -- the reasons are those of the parts as they were
 pub why-along : (p q : Parts) (first : List Bool) (x : Change) (P : (ℕ → Type 0) → Type 0) → SameLinks p q → P (Why p first x) → P (Why q first x)
 why-along p q first x P s h =
-    let F : List (List Pin) → List (List Use) → Type 0 = λ notes uses. P (Reaches (named notes) (IsHit x first uses)) in
-    subst (λ notes. F notes q.uses.rows) (sym s.users) (subst (F p.users.notes) (sym s.uses) h)
+    let F : List (List ℕ) → List (List Use) → Type 0 = λ asked uses. P (Reaches asked (IsHit x first uses)) in
+    subst (λ notes. F notes q.uses.rows) (sym s.asks) (subst (F p.asks.named) (sym s.uses) h)
 
 pub why-back : (p q : Parts) (first : List Bool) (x : Change) (P : (ℕ → Type 0) → Type 0) → SameLinks p q → P (Why q first x) → P (Why p first x)
 why-back p q first x P s h =
-    let F : List (List Pin) → List (List Use) → Type 0 = λ notes uses. P (Reaches (named notes) (IsHit x first uses)) in
-    subst (λ notes. F notes p.uses.rows) s.users (subst (F q.users.notes) s.uses h)
+    let F : List (List ℕ) → List (List Use) → Type 0 = λ asked uses. P (Reaches asked (IsHit x first uses)) in
+    subst (λ notes. F notes p.uses.rows) s.asks (subst (F q.asks.named) s.uses h)
 
 pub more-trans : (p q r : Parts) (P Q : List Bool → Change → Type 0) → MarksMore p q P → MarksMore q r Q → ((first : List Bool) (x : Change) → P first x → IsMarking first (Why p first x) q.marks.kept q.marks.work → Q first x) → MarksMore p r P
 more-trans p q r P Q h k f = record {

@@ -1,10 +1,8 @@
 -- More rows at the end, which are empty.
-use Rattle.std.proofs.Common.{◌≡◌, ◌⊎◌, inl, inr, Bool, false, cond, ℕ, zero, suc, ◌-◌, ◌<◌, ◌≤◌, List, [], ◌∷◌, ◌++◌, Option, None, length, map, get_or, replicate, count_by, refl, sym, ◌∙◌, ap, subst, arith}
+use Rattle.std.proofs.Common.{◌≡◌, ◌⊎◌, inl, inr, Bool, false, cond, ℕ, zero, suc, ◌-◌, ◌<◌, ◌≤◌, List, [], ◌++◌, length, map, get_or, replicate, count_by, refl, sym, ◌∙◌, ap, subst, arith}
 use Rattle.std.proofs.lemmas.Bool.{cases_lt}
-use Rattle.std.proofs.lemmas.List.{map-append, length-append, length-map, length-replicate, get_or_append_left, get_or-append_right, get_or-replicate, get_or_past, get_or-map}
+use Rattle.std.proofs.lemmas.List.{length-append, length-map, length-replicate, get_or_append_left, get_or-append_right, get_or-replicate, get_or_past, get_or-map}
 use Rattle.std.proofs.lemmas.List.Sums.{sum_by-append, sum_by-cons}
-use Rattle.ksv_memo_links.specs.declared.shelf.Pin.{Pin}
-use Rattle.ksv_memo_links.specs.Placed.{HasOwn}
 use Rattle.ksv_memo_links.specs.Shelved.{row, HasSameRows}
 use Rattle.ksv_memo_links.specs.Marking.{HasMore}
 
@@ -33,19 +31,6 @@ rows_more {V} {X} f d none seen rows n same = subst (λ (xs : List (List X)). Ha
   more = (let a = length-map rows f in let b = length-map (rows ++ replicate n d) f in let c = length-append rows (replicate n d) in omega arith);
   each = λ r. row_map f d none (rows ++ replicate n d) r ∙ ap f (padded rows n r d) ∙ sym (row_map f d none rows r);
 })
-
-own_padded : (long : List (List Pin)) (lists : List (Option ℕ)) (n : ℕ) → HasOwn lists long → HasOwn (lists ++ replicate n None) long
-own_padded long lists n h = record {
-  inside = λ r. record { each = λ k e. (h.inside r).each k (sym (padded lists n r None) ∙ e) };
-  apart = λ r q k e f. h.apart r q k (sym (padded lists n r None) ∙ e) (sym (padded lists n q None) ∙ f);
-}
-
-map-replicate : {V X : Type 0} (f : V → X) (n : ℕ) (d : V) (x : X) → f d ≡ x → map f (replicate n d) ≡ replicate n x
-map-replicate {V} {X} f zero d x e = refl
-map-replicate {V} {X} f (suc n) d x e = ap (λ y. y ∷ map f (replicate n d)) e ∙ ap (λ ys. x ∷ ys) (map-replicate f n d x e)
-
-pub own_more : {V : Type 0} (list : V → Option ℕ) (d : V) → list d ≡ None → (long : List (List Pin)) (rows : List V) (n : ℕ) → HasOwn (map list rows) long → HasOwn (map list (rows ++ replicate n d)) long
-own_more {V} list d none long rows n h = subst (λ (ls : List (Option ℕ)). HasOwn ls long) (sym (map-append list rows (replicate n d) ∙ ap (λ ls. map list rows ++ ls) (map-replicate list n d None none))) (own_padded long (map list rows) n h)
 
 none_counted : (n : ℕ) → count_by (λ (b : Bool). b) (replicate n false) ≡ 0
 none_counted zero = refl

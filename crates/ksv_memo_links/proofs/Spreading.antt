@@ -3,61 +3,86 @@ use Rattle.std.proofs.Common.{◌≡◌, ◌≢◌, ◌⊎◌, inl, inr, Bool, t
 use Rattle.std.proofs.lemmas.List.{length-append, get_or_append_left, take-append-le, get_or_read}
 use Rattle.std.proofs.lemmas.List.Sums.{sum_by_more}
 use Rattle.std.proofs.lemmas.Bool.Decides.{eqb_tells}
-use Rattle.ksv_memo_links.specs.declared.shelf.Pin.{Pin}
+use Rattle.ksv_memo_links.specs.declared.blocks.Item.{Item}
 use Rattle.ksv_memo_links.specs.declared.parts.Parts.{Parts}
 use Rattle.ksv_memo_links.specs.Shelved.{row}
-use Rattle.ksv_memo_links.specs.Linked.{IsLinked}
+use Rattle.ksv_memo_links.specs.Chained.{IsListed}
 use Rattle.ksv_memo_links.specs.Marking.{is_kept}
-use Rattle.ksv_memo_links.specs.Forgetting.{looks, Why, MarksMore, HitsUsers, Spreads, item_at, lengths}
+use Rattle.ksv_memo_links.specs.Linked.{item_at}
+use Rattle.ksv_memo_links.specs.Forgetting.{looks, IsShaped, SameLinks, Why, MarksMore, HitsUsers, Spreads, lengths}
 use Rattle.ksv_memo_links.proofs.Mark.{stays-out}
 use Rattle.ksv_memo_links.proofs.More.{more-trans, no-mark, why-along, MarksOne, one-mark, one-out, below-more}
-use Rattle.ksv_memo_links.proofs.Hits.{Peeks, peek-more, item-is, user-why}
+use Rattle.ksv_memo_links.proofs.Hits.{Peeks, peek-more, user-why}
 
 pub users-none : (p : Parts) (slot : ℕ) → HitsUsers p p slot 0 0
 users-none p slot = record {
-  more = no-mark p p (λ first x. Why p first x slot) (record { users = refl; user_lists = refl; pages = refl; page_lists = refl; uses = refl; ends = refl }) refl refl (λ c. c) (omega arith);
+  more = no-mark p p (λ first x. Why p first x slot) (record { asks = refl; ask_lists = refl; uses = refl; use_lists = refl }) refl refl (λ c. c) (omega arith);
   out = λ s lt. absurd (omega arith);
   within = omega arith;
   looks = omega arith;
 }
 
-pub users-more : (p q q1 r : Parts) (slot i : ℕ) (item : Pin) → HitsUsers p q slot i 0 → Peeks q q1 → IsLinked q.users.lists q.users.notes → i < length (row q.users.lists slot) → item ≡ get_or (row q.users.lists slot) i item → MarksOne q1 r item.row → looks r + 2 * length q1.marks.work ≤ looks q1 + 1 + 2 * length r.marks.work → HitsUsers p r slot (i + 1) 0
-users-more p q q1 r slot i item h k l lt e one few = record {
+-- the users of a slot are those that asked it still
+pub asked-along : (p q : Parts) → IsListed p.asks.lists p.asks.named → SameLinks p q → IsListed q.asks.lists q.asks.named
+asked-along p q h s = subst (λ (lists : List (List Item)). IsListed lists q.asks.named) (sym s.ask_lists) (subst (λ (asked : List (List ℕ)). IsListed p.asks.lists asked) (sym s.asks) h)
+
+-- a user is one of the slots
+pub user-there : (p q : Parts) (slot i : ℕ) → IsShaped p → IsListed p.asks.lists p.asks.named → SameLinks p q → i < length (row q.asks.lists slot) → (item_at q.asks.lists slot i).owner < length p.marks.kept
+user-there p q slot i w h s lt =
+    let k = (asked-along p q h s).owners slot i lt in
+    let some = k.1 in
+    let n = ap (λ (asked : List (List ℕ)). length (row asked (item_at q.asks.lists slot i).owner)) s.asks in
+    w.asked_in (item_at q.asks.lists slot i).owner (omega arith)
+
+-- the first user was looked for
+pub users-first : (p p1 : Parts) (slot : ℕ) → Peeks p p1 → HitsUsers p p1 slot 0 1
+users-first p p1 slot k =
+    let h = users-none p slot in
+    record {
+      more = peek-more p p p1 (λ first x. Why p first x slot) h.more k;
+      out = λ s lt. absurd (omega arith);
+      within = omega arith;
+      looks = let len = ap (λ (ws : List ℕ). length ws) k.work in let b = k.looks in omega arith;
+    }
+
+pub users-more : (p q q1 r : Parts) (slot i user : ℕ) → HitsUsers p q slot i 1 → Peeks q q1 → IsListed q.asks.lists q.asks.named → i < length (row q.asks.lists slot) → user ≡ (item_at q.asks.lists slot i).owner → MarksOne q1 r user → looks r + 2 * length q1.marks.work ≤ looks q1 + 1 + 2 * length r.marks.work → HitsUsers p r slot (i + 1) 1
+users-more p q q1 r slot i user h k l lt e one few = record {
   more = more-trans p q1 r (λ first x. Why p first x slot) (λ first x. Why q first x slot) to_q1
-      (one-mark q1 r (λ first x. Why q first x slot) item.row one (λ first x w f. why-along q q1 first x (λ why. why item.row) k.same (user-why q slot i item l lt (item-is q.users.lists slot i item lt e) first x w)))
+      (one-mark q1 r (λ first x. Why q first x slot) user one (λ first x w f. why-along q q1 first x (λ why. why user) k.same (let P : ℕ → Type 0 = λ s. Why q first x s in subst P (sym e) (user-why q slot i l lt first x w))))
       (λ first x w m. why-along p q first x (λ why. why slot) h.more.same w);
-  out = below-more (λ j. is_kept r.marks.kept (item_at p.users.lists slot j).row ≡ false) i (λ j lj. stays-out q.marks.kept r.marks.kept (item_at p.users.lists slot j).row fewer (h.out j lj)) (ap (λ (x : Pin). is_kept r.marks.kept x.row) is ∙ one-out q1 r item.row one);
-  within = let n = ap (λ (rows : List (List Pin)). length (row rows slot)) h.more.same.user_lists in omega arith;
+  out = below-more (λ j. is_kept r.marks.kept (item_at p.asks.lists slot j).owner ≡ false) i (λ j lj. stays-out q.marks.kept r.marks.kept (item_at p.asks.lists slot j).owner fewer (h.out j lj)) (ap (λ s. is_kept r.marks.kept s) is ∙ one-out q1 r user one);
+  within = let n = ap (λ (rows : List (List Item)). length (row rows slot)) h.more.same.ask_lists in omega arith;
   looks = let len = ap (λ (ws : List ℕ). length ws) k.work in let a = h.looks in let b = k.looks in omega arith;
 }
   where
     to_q1 : MarksMore p q1 (λ first x. Why p first x slot)
     to_q1 = peek-more p q q1 (λ first x. Why p first x slot) h.more k
 
-    is : item_at p.users.lists slot i ≡ item
-    is = ap (λ rows. item_at rows slot i) (sym h.more.same.user_lists) ∙ item-is q.users.lists slot i item lt e
+    is : (item_at p.asks.lists slot i).owner ≡ user
+    is = ap (λ rows. (item_at rows slot i).owner) (sym h.more.same.ask_lists) ∙ sym e
 
-    marks : MarksMore q1 r (λ first x. Unit {0} → Why q1 first x item.row)
-    marks = one-mark q1 r (λ first x. Unit {0} → Why q1 first x item.row) item.row one (λ first x w f. w tt)
+    marks : MarksMore q1 r (λ first x. Unit {0} → Why q1 first x user)
+    marks = one-mark q1 r (λ first x. Unit {0} → Why q1 first x user) user one (λ first x w f. w tt)
 
     fewer : (s : ℕ) → is_kept r.marks.kept s ≡ true → is_kept q.marks.kept s ≡ true
     fewer s f = ap (λ (ks : List Bool). is_kept ks s) (sym k.kept) ∙ marks.fewer s f
 
-pub users-end : (p q q1 : Parts) (slot i : ℕ) → HitsUsers p q slot i 0 → Peeks q q1 → length (row q.users.lists slot) ≤ i → HitsUsers p q1 slot (length (row p.users.lists slot)) 1
-users-end p q q1 slot i h k le =
-    let n = ap (λ (rows : List (List Pin)). length (row rows slot)) h.more.same.user_lists in
+-- there is no user more, which took no look
+pub users-end : (p q q1 : Parts) (slot i : ℕ) → HitsUsers p q slot i 1 → Peeks q q1 → looks q1 ≡ looks q → length (row q.asks.lists slot) ≤ i → HitsUsers p q1 slot (length (row p.asks.lists slot)) 1
+users-end p q q1 slot i h k idle le =
+    let n = ap (λ (rows : List (List Item)). length (row rows slot)) h.more.same.ask_lists in
     let w = h.within in
-    let same : i ≡ length (row p.users.lists slot) = omega arith in
+    let same : i ≡ length (row p.asks.lists slot) = omega arith in
     subst (λ m. HitsUsers p q1 slot m 1) same (record {
       more = peek-more p q q1 (λ first x. Why p first x slot) h.more k;
-      out = λ j lj. ap (λ (ks : List Bool). is_kept ks (item_at p.users.lists slot j).row) k.kept ∙ h.out j lj;
+      out = λ j lj. ap (λ (ks : List Bool). is_kept ks (item_at p.asks.lists slot j).owner) k.kept ∙ h.out j lj;
       within = w;
-      looks = let len = ap (λ (ws : List ℕ). length ws) k.work in let a = h.looks in let b = k.looks in omega arith;
+      looks = let len = ap (λ (ws : List ℕ). length ws) k.work in let a = h.looks in omega arith;
     })
 
 pub spread-none : (p : Parts) → Spreads p p 0 0
 spread-none p = record {
-  more = no-mark p p (λ first x. Unit {0}) (record { users = refl; user_lists = refl; pages = refl; page_lists = refl; uses = refl; ends = refl }) refl refl (λ c. c) (omega arith);
+  more = no-mark p p (λ first x. Unit {0}) (record { asks = refl; ask_lists = refl; uses = refl; use_lists = refl }) refl refl (λ c. c) (omega arith);
   within = omega arith;
   out = λ j i lt k. absurd (omega arith);
   looks = omega arith;
@@ -71,20 +96,20 @@ spread-end p q q1 i h k le =
     let c : Spreads p q1 i 1 = record {
       more = peek-more p q q1 (λ first x. Unit {0}) h.more k;
       within = omega arith;
-      out = λ j l lt. (let F : List Bool → List ℕ → Type 0 = λ ks ws. l < length (row p.users.lists (get_or ws j 0)) → is_kept ks (item_at p.users.lists (get_or ws j 0) l).row ≡ false in
+      out = λ j l lt. (let F : List Bool → List ℕ → Type 0 = λ ks ws. l < length (row p.asks.lists (get_or ws j 0)) → is_kept ks (item_at p.asks.lists (get_or ws j 0) l).owner ≡ false in
           subst (λ ks. F ks q1.marks.work) (sym k.kept) (subst (F q.marks.kept) (sym k.work) (h.out j l lt)));
-      looks = let x = h.looks in let y = k.looks in let z = ap (λ (ws : List ℕ). lengths p.users.lists (take i ws)) k.work in omega arith;
+      looks = let x = h.looks in let y = k.looks in let z = ap (λ (ws : List ℕ). lengths p.asks.lists (take i ws)) k.work in omega arith;
     } in
     let P : ℕ → Type 0 = λ n. Spreads p q1 n 1 in
     subst P same c
 
-pub spread-more : (p q q1 r : Parts) (i slot : ℕ) → Spreads p q i 0 → Peeks q q1 → i < length q.marks.work → slot ≡ get_or q.marks.work i slot → HitsUsers q1 r slot (length (row q1.users.lists slot)) 1 → Spreads p r (i + 1) 0
+pub spread-more : (p q q1 r : Parts) (i slot : ℕ) → Spreads p q i 0 → Peeks q q1 → i < length q.marks.work → slot ≡ get_or q.marks.work i slot → HitsUsers q1 r slot (length (row q1.asks.lists slot)) 1 → Spreads p r (i + 1) 0
 spread-more p q q1 r i slot h k lt is u = record {
   more = more-trans p q1 r (λ first x. Unit {0}) (λ first x. Why q1 first x slot) to_q1 u.more (λ first x w m. why-along p q1 first x (λ why. why slot) to_q1.same (let P : ℕ → Type 0 = λ s. Why p first x s in subst P there (m.gone i lt1).2));
   within = let n = ap (λ (ws : List ℕ). length ws) grown in let l = length-append q.marks.work u.more.grows.0 in omega arith;
   out = λ j l lt2. out j l lt2 (eqb_tells j i);
   looks =
-      let n = ap (λ (rows : List (List Pin)). length (row rows slot)) to_q1.same.user_lists in
+      let n = ap (λ (rows : List (List Item)). length (row rows slot)) to_q1.same.ask_lists in
       let len = ap (λ (ws : List ℕ). length ws) k.work in
       let x = h.looks in let y = k.looks in let z = u.looks in omega (arith, sums);
 }
@@ -107,14 +132,14 @@ spread-more p q q1 r i slot h k lt is u = record {
     early : (j : ℕ) → j < length q.marks.work → get_or r.marks.work j 0 ≡ get_or q.marks.work j 0
     early j l = ap (λ (ws : List ℕ). get_or ws j 0) grown ∙ get_or_append_left q.marks.work u.more.grows.0 0 j l
 
-    sums : lengths p.users.lists (take (i + 1) r.marks.work) ≡ lengths p.users.lists (take i q.marks.work) + length (row p.users.lists slot)
-    sums = ap (λ (ws : List ℕ). lengths p.users.lists (take (i + 1) ws)) grown ∙ ap (λ (ws : List ℕ). lengths p.users.lists ws) (take-append-le (i + 1) q.marks.work u.more.grows.0 (omega arith)) ∙ sum_by_more (λ s. length (row p.users.lists s)) q.marks.work i 0 lt ∙ ap (λ s. lengths p.users.lists (take i q.marks.work) + length (row p.users.lists s)) at_i
+    sums : lengths p.asks.lists (take (i + 1) r.marks.work) ≡ lengths p.asks.lists (take i q.marks.work) + length (row p.asks.lists slot)
+    sums = ap (λ (ws : List ℕ). lengths p.asks.lists (take (i + 1) ws)) grown ∙ ap (λ (ws : List ℕ). lengths p.asks.lists ws) (take-append-le (i + 1) q.marks.work u.more.grows.0 (omega arith)) ∙ sum_by_more (λ s. length (row p.asks.lists s)) q.marks.work i 0 lt ∙ ap (λ s. lengths p.asks.lists (take i q.marks.work) + length (row p.asks.lists s)) at_i
 
     P : ℕ → ℕ → Type 0
-    P s l = l < length (row p.users.lists s) → is_kept r.marks.kept (item_at p.users.lists s l).row ≡ false
+    P s l = l < length (row p.asks.lists s) → is_kept r.marks.kept (item_at p.asks.lists s l).owner ≡ false
 
     new : (l : ℕ) → P slot l
-    new l = let F : List (List Pin) → Type 0 = λ lists. l < length (row lists slot) → is_kept r.marks.kept (item_at lists slot l).row ≡ false in subst F to_q1.same.user_lists (u.out l)
+    new l = let F : List (List Item) → Type 0 = λ lists. l < length (row lists slot) → is_kept r.marks.kept (item_at lists slot l).owner ≡ false in subst F to_q1.same.ask_lists (u.out l)
 
     fewer : (s : ℕ) → is_kept r.marks.kept s ≡ true → is_kept q.marks.kept s ≡ true
     fewer s e = ap (λ (ks : List Bool). is_kept ks s) (sym k.kept) ∙ u.more.fewer s e
@@ -124,4 +149,4 @@ spread-more p q q1 r i slot h k lt is u = record {
     out j l l2 (inr e) =
         let ne = e.1 in
         let lj : j < i = omega arith in
-        subst (λ s. P s l) (sym (early j (omega arith))) (λ m. stays-out q.marks.kept r.marks.kept (item_at p.users.lists (get_or q.marks.work j 0) l).row fewer (h.out j l lj m))
+        subst (λ s. P s l) (sym (early j (omega arith))) (λ m. stays-out q.marks.kept r.marks.kept (item_at p.asks.lists (get_or q.marks.work j 0) l).owner fewer (h.out j l lj m))

@@ -1,8 +1,8 @@
-pub mod Placed
-pub mod Pinned
-pub mod Shelved
 pub mod Touching
+pub mod Shelved
+pub mod Placed
 pub mod Linked
+pub mod Chained
 pub mod Marking
 pub mod Links
 pub mod Forgetting

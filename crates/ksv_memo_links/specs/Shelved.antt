@@ -1,11 +1,5 @@
 -- Rows of items, as contracts see them.
 use Rattle.std.specs.Prelude.{◌≡◌, ◌≤◌, ℕ, ◌+◌, ◌-◌, ◌^◌, min, List, [], ◌∷◌, ◌++◌, length, take, slice_index_or, slice_set}
-use Rattle.std.specs.List.{swap_remove}
-
--- the rows, and how often a call looked at them, which stays at the largest number
-pub record Shelved (T : Type 0) : Type 0 where
-  pub rows : List (List T)
-  pub looks : ℕ
 
 abbrev pub ticked : ℕ → ℕ
 ticked n = min (n + 1) (2 ^ 64 - 1)
@@ -14,15 +8,9 @@ ticked n = min (n + 1) (2 ^ 64 - 1)
 abbrev pub row : {T : Type 0} → List (List T) → ℕ → List T
 row rows r = slice_index_or rows r []
 
--- after a write, a pop, a `swap_remove` and a push in a row
-abbrev pub put_row : {T : Type 0} → List (List T) → ℕ → ℕ → T → List (List T)
-put_row rows r i x = slice_set rows r (slice_set (row rows r) i x)
-
+-- after a pop and a push in a row
 abbrev pub pop_row : {T : Type 0} → List (List T) → ℕ → List (List T)
 pop_row rows r = slice_set rows r (take (length (row rows r) - 1) (row rows r))
-
-abbrev pub cut_row : {T : Type 0} → List (List T) → ℕ → ℕ → T → List (List T)
-cut_row rows r i d = slice_set rows r (swap_remove (row rows r) i d)
 
 abbrev pub push_row : {T : Type 0} → List (List T) → ℕ → T → List (List T)
 push_row rows r x = slice_set rows r (row rows r ++ x ∷ [])

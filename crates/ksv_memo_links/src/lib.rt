@@ -8,67 +8,59 @@
 //!
 //! Modules:
 //!
-//! - `board`: lists, and notes of where an owner's items are in them: `link` and `unlink`
+//! - `blocks`: entries in blocks, and the chains of those of the same list: `link` and `unlink`
 //! - `cells`: a list, each look counted
-//! - `held`: what rows of pins have in common
+//! - `chains`: what lists each owner is linked to, and each list's items, each look counted
 //! - `links`: `Links`, the public face
-//! - `lists`: lists of pins, each found by its number
 //! - `marks`: which slots are kept, and which are to be taken
-//! - `parts`: users, uses and pages of each slot; the steps of forgetting, taking and keeping
-//! - `pins`: a row of pins, the first three in the row itself
-//! - `rows`: the rows of a shelf, of which short ones take no memory of their own
-//! - `shelf`: rows of pins, each look counted
-//! - `short`: a row of pins, the first one in the row itself
-//! - `used`: the uses of each slot, and the slots by where these end, each look counted
+//! - `parts`: asks and uses of each slot; the steps of forgetting, taking and keeping
+//! - `used`: the uses of each slot, and the lists in which slots stand by them, each look counted
 //!
 //! Definitions (`specs/`):
 //!
+//! - `Chained`: entries in blocks, and the chain of the entries of a list, for private contracts
 //! - `Forgetting`: what forgetting does to the links, for private contracts
-//! - `Linked`: rows of pins that lead to each other, for private contracts
+//! - `Linked`: items of lists, and how often lists are named, for private contracts
 //! - `Links`: the links as the engine sees them, and what a change reaches along them
 //! - `Marking`: which slots are kept, and which wait to be taken, for private contracts
-//! - `Pinned`: the pins of a row as a list, for private contracts
-//! - `Placed`: rows whose long ones have lists of their own, and the uses of a slot as a list, for private contracts
+//! - `Placed`: the uses of a slot as a list, and the lists in which a slot with these uses stands, for private contracts
 //! - `Shelved`: rows of items, for private contracts
 //! - `Touching`: which pages of 64 bytes a use meets, and where uses end
 //!
 //! Lemmas (`proofs/`):
 //!
-//! - `Adding`: one more note, and its item
+//! - `Chaining`: what is left of a chain when an entry is taken out, and with one more before it
 //! - `Clearing`: a row that is shortened from its end
 //! - `Closing`: what is marked is what has to go
 //! - `Counting`: users of slots that go are no more than what these slots asked
-//! - `Counts`: how many notes name a list after `link` and `unlink`
-//! - `Edits`: what each call on rows of pins does
-//! - `Ending`: each slot stands in the list of where its uses end
-//! - `Few`: no list has more items than notes name it
-//! - `Grids`: rows of pins as functions; what a removal leaves
+//! - `Counts`: how many names a list has after one more and one less
+//! - `Cursors`: where a walk along the items of a list stands
+//! - `Edits`: what rows are after a write to one
+//! - `Filling`: a row that is filled number by number
+//! - `Growing`: the chains stay whole when owners and lists are added
 //! - `Hits`: why a mark is right
+//! - `Items`: the items of a list, as the chain of its entries has them
 //! - `Keeping`: the links stay whole when a slot is taken or kept
+//! - `Linking`: the chains stay whole when one entry is linked or unlinked
 //! - `Mark`: one more mark
+//! - `Meeting`: each slot is linked to the lists of its uses
 //! - `Members`: members of lists of slots
 //! - `More`: marks one after another
-//! - `Moving`: long rows have lists of their own
+//! - `Packing`: rows that are copied one upon another
 //! - `Padding`: more empty rows at the end
-//! - `Reaching`: the links stay whole when empty rows are added
-//! - `Removal`: a note and its item are taken out
 //! - `Spreading`: the users of marked slots, one slot after another
 //! - `Tallies`: the items of pages are no more than the pages that uses meet, and those of ends no more than the ends
 //! - `Touches`: a use that is touched meets a page that the overwrite meets, or one behind the edit, or ends there
+//! - `Turns`: lists that take turns: those of ends, and those of pages
 //! - `Writing`: a write to one row
 #![tactic(auto)]
 
-mod board;
+mod blocks;
 mod cells;
-mod held;
+mod chains;
 mod links;
-mod lists;
 mod marks;
 mod parts;
-mod pins;
-mod rows;
-mod shelf;
-mod short;
 mod used;
 
 pub use links::Links;

@@ -3,25 +3,21 @@ ghost use Rattle.std.specs.Prelude.{◌≡◌, ℕ, ◌+◌, ◌-◌, ◌^◌, �
 ghost use Rattle.std.specs.List.{All};
 ghost use Rattle.std.specs.Option.{option_to_list};
 ghost use Rattle.ksv_memo_links.specs.Shelved.{row};
-ghost use Rattle.ksv_memo_links.specs.Touching.{pages_in, pages_of};
-ghost use Rattle.ksv_memo_links.specs.Linked.{named, IsRowChanged};
+ghost use Rattle.ksv_memo_links.specs.Placed.{end_lists, page_lists};
 ghost use Rattle.ksv_memo_links.specs.Marking.{is_kept};
 ghost use Rattle.ksv_memo_links.specs.Links.{IsMove, first_page, end_page, Forgets, Keeps, IsUnchanged, Grows, Takes, IsDone};
-ghost use Rattle.ksv_memo_links.specs.Forgetting.{AreAllWithin, IsShaped, HitsSlot, HitsRow, HitsRows, HitsBehind, HitsUsers, HitsTouched, Spreads, Clears, IsWhole, IsNear, IsBehind, IsMeeting, IsVacant, IsAsBefore, Fills, linked_of, looks};
+ghost use Rattle.ksv_memo_links.specs.Forgetting.{AreAllWithin, IsShaped, HitsSlot, HitsRow, HitsRows, HitsBehind, HitsUsers, HitsTouched, Spreads, Clears, IsWhole, IsNear, IsBehind, IsVacant, IsAsBefore, Fills, linked_of, looks};
 
-use crate::board::Board;
+use crate::chains::Chains;
 use crate::marks::Marks;
-use crate::pins::Pins;
-use crate::short::Short;
-use crate::used::{PAGE, Uses};
+use crate::used::{PAGE, Uses, end_list, page_list};
 use ksv_bytes::{Change, Use};
 use std::alloc::{AllocError, Global};
 
-/// What each slot asked and its users, its uses and the pages that they meet, and whether it is kept.
+/// What each slot asked and its users, its uses and the lists in which it stands by them, and whether it is kept.
 #[derive(Drop)]
 pub(crate) struct Parts {
-    users: Board<Pins>,
-    pages: Board<Short>,
+    asks: Chains,
     uses: Uses,
     marks: Marks,
 }
@@ -33,8 +29,7 @@ impl Parts {
         ensures whole { IsWhole result }
     {
         Parts {
-            users: Board::new(alloc),
-            pages: Board::new(alloc),
+            asks: Chains::new(alloc),
             uses: Uses::new(alloc),
             marks: Marks::new(alloc),
         }
@@ -47,8 +42,7 @@ impl Parts {
         ensures looks { looks self.new ≡ 0 }
         ensures whole { IsWhole self.new }
     {
-        self.users.reset();
-        self.pages.reset();
+        self.asks.reset();
         self.uses.reset();
         self.marks.reset();
     }
@@ -57,9 +51,8 @@ impl Parts {
     pub(crate) fn looks(&self) -> u64
         ensures { result ≡ min (looks self.now) (2 ^ 64 - 1) }
     {
-        self.users
+        self.asks
             .looks()
-            .saturating_add(self.pages.looks())
             .saturating_add(self.uses.looks())
             .saturating_add(self.marks.looks())
     }
@@ -96,60 +89,48 @@ impl Parts {
         }
     }
 
-    /// Marks the slots that a change touches and one of whose uses meets this page.
-    fn hit_page(&mut self, page: u32, change: Change)
+    /// Marks the slots of a list that a change touches.
+    fn hit_list(&mut self, list: u32, change: Change)
         requires shaped { IsShaped self.old }
-        requires page_in { page < length self.old.pages.lists }
-        ensures { HitsRow self.old self.new change self.old.pages.lists page (length (row self.old.pages.lists page)) 1 }
+        requires list_in { list < length self.old.uses.lists }
+        ensures { HitsRow self.old self.new change (row self.old.uses.lists list) (length (row self.old.uses.lists list)) 1 }
     {
-        let mut i = 0;
-        while let Some(item) = self.pages.item(page, i) {
-            self.hit(item.row, change);
-            i += 1;
+        self.uses.linked();
+        let mut at = self.uses.first_item(list);
+        while let Some(item) = self.uses.item(at) {
+            self.hit(item.owner, change);
+            at = item.at;
         }
     }
 
     /// Marks the slots that a change touches and one of whose uses meets a page of a range.
     fn hit_pages(&mut self, change: Change, first: usize, end: usize)
         requires shaped { IsShaped self.old }
-        ensures { HitsRows self.old self.new change self.old.pages.lists first (min end (length self.old.pages.lists)) }
+        ensures { HitsRows self.old self.new change (page_lists self.old.uses.lists) first (min end (length (page_lists self.old.uses.lists))) }
     {
-        let last = end.min(self.pages.lists());
+        let last = end.min(self.uses.pages());
         for page in first..last {
-            self.hit_page(page as u32, change);
+            self.hit_list(page_list(page as u32), change);
         }
     }
 
-    /// Marks the slots that a change touches and whose uses end in this list of ends.
-    fn hit_end(&mut self, list: u32, change: Change)
-        requires shaped { IsShaped self.old }
-        requires list_in { list < length self.old.uses.lists }
-        ensures { HitsRow self.old self.new change self.old.uses.lists list (length (row self.old.uses.lists list)) 1 }
-    {
-        let mut i = 0;
-        while let Some(item) = self.uses.ended(list, i) {
-            self.hit(item.row, change);
-            i += 1;
-        }
-    }
-
-    /// Marks the slots that a change touches and whose uses end in a range of the lists of ends.
+    /// Marks the slots that a change touches and whose uses end in one of a range of ends.
     fn hit_ends(&mut self, change: Change, first: usize, end: usize)
         requires shaped { IsShaped self.old }
-        ensures { HitsRows self.old self.new change self.old.uses.lists first (min end (length self.old.uses.lists)) }
+        ensures { HitsRows self.old self.new change (end_lists self.old.uses.lists) first (min end (length (end_lists self.old.uses.lists))) }
     {
-        let last = end.min(self.uses.lists());
+        let last = end.min(self.uses.ends());
         for list in first..last {
-            self.hit_end(list as u32, change);
+            self.hit_list(end_list(list as u32), change);
         }
     }
 
     /// Marks the slots that an overwrite touches, by the pages that it meets.
     fn hit_met(&mut self, change: Change, at: usize, n: usize)
         requires shaped { IsShaped self.old }
-        ensures { HitsRows self.old self.new change self.old.pages.lists (first_page at) (min (end_page at n) (length self.old.pages.lists)) }
+        ensures { HitsRows self.old self.new change (page_lists self.old.uses.lists) (first_page at) (min (end_page at n) (length (page_lists self.old.uses.lists))) }
     {
-        self.pages.linked();
+        self.uses.linked();
         let first = at / PAGE as usize;
         let end = (at.saturating_add(n.max(1)) - 1) / PAGE as usize + 1;
         self.hit_pages(change, first, end);
@@ -171,12 +152,13 @@ impl Parts {
     fn mark_users(&mut self, slot: u32)
         requires shaped { IsShaped self.old }
         requires slot_in { slot < length self.old.marks.kept }
-        ensures { HitsUsers self.old self.new slot (length (row self.old.users.lists slot)) 1 }
+        ensures { HitsUsers self.old self.new slot (length (row self.old.asks.lists slot)) 1 }
     {
-        let mut i = 0;
-        while let Some(item) = self.users.item(slot, i) {
-            self.marks.mark(item.row);
-            i += 1;
+        self.asks.linked();
+        let mut at = self.asks.first_item(slot);
+        while let Some(user) = self.asks.item(at) {
+            self.marks.mark(user.owner);
+            at = user.at;
         }
     }
 
@@ -198,8 +180,7 @@ impl Parts {
         requires slot_in { slot < length self.old.marks.kept }
         ensures { Clears self.old self.new slot }
     {
-        self.users.clear(slot);
-        self.pages.clear(slot);
+        let _ = self.asks.clear(slot);
         self.uses.clear(slot);
     }
 
@@ -209,7 +190,6 @@ impl Parts {
         requires within { IsMove change → AreAllWithin pages self.old }
         ensures { HitsTouched self.old self.new change pages }
     {
-        self.pages.linked();
         self.uses.linked();
         match change {
             Change::Overwrite { at, n } => self.hit_met(change, at, n),
@@ -233,7 +213,7 @@ impl Parts {
         ensures least { length self.new.marks.work ≤ self.new.marks.looks }
         ensures vacant { (s : ℕ) → is_kept self.old.marks.kept s ≡ false → row self.old.uses.rows s ≡ [] }
     {
-        self.users.linked();
+        self.asks.linked();
         self.hit_touched(change, pages);
         self.spread();
     }
@@ -250,69 +230,6 @@ impl Parts {
         Some(slot)
     }
 
-    /// Notes the pages that a use of a slot meets, after those that it has, which are so many.
-    #[inline(always)]
-    fn meet(&mut self, slot: u32, count: u32, used: Use) -> Result<(), AllocError>
-        requires slot_in { slot < length self.old.pages.notes }
-        requires count { count ≡ length (row self.old.pages.notes slot) }
-        ensures same { IsMeeting self.old self.new }
-        ensures ok { OnOk result (named self.new.pages.notes ≡ slice_set (named self.old.pages.notes) slot (row (named self.old.pages.notes) slot ++ pages_of used)) }
-        ensures err { OnErr result (IsRowChanged (named self.old.pages.notes) (named self.new.pages.notes) slot) }
-    {
-        match used {
-            Use::Bytes(from, to) => {
-                let end = from.max(to.saturating_sub(1)) / PAGE + 1;
-                self.pages.link_range(slot, count, from / PAGE, end)
-            }
-            Use::Reach(_) => Ok(()),
-            Use::Size => Ok(()),
-        }
-    }
-
-    /// Notes the pages that a use of a slot meets, after those that it has.
-    fn meet_next(&mut self, slot: u32, used: Use) -> Result<(), AllocError>
-        requires { slot < length self.old.pages.notes }
-        ensures same { IsMeeting self.old self.new }
-        ensures ok { OnOk result (named self.new.pages.notes ≡ slice_set (named self.old.pages.notes) slot (row (named self.old.pages.notes) slot ++ pages_of used)) }
-        ensures err { OnErr result (IsRowChanged (named self.old.pages.notes) (named self.new.pages.notes) slot) }
-    {
-        let count = self.pages.noted(slot)?;
-        self.meet(slot, count, used)
-    }
-
-    /// Notes the pages that the uses of a slot without notes meet, use by use. Where memory is refused, it has some of
-    /// them.
-    #[cold]
-    #[inline(never)]
-    fn meet_each(&mut self, slot: u32, uses: &[Use]) -> Result<(), AllocError>
-        requires slot_in { slot < length self.old.pages.notes }
-        requires none { row (named self.old.pages.notes) slot ≡ [] }
-        ensures same { IsMeeting self.old self.new }
-        ensures ok { OnOk result (named self.new.pages.notes ≡ slice_set (named self.old.pages.notes) slot (pages_in uses.now)) }
-        ensures err { OnErr result (IsRowChanged (named self.old.pages.notes) (named self.new.pages.notes) slot) }
-    {
-        for used in uses {
-            self.meet_next(slot, *used)?;
-        }
-        Ok(())
-    }
-
-    /// Notes the pages that the uses of a slot without notes meet; most slots have none or one. Where memory is refused,
-    /// it has some of them.
-    #[inline(always)]
-    fn meet_all(&mut self, slot: u32, uses: &[Use]) -> Result<(), AllocError>
-        requires slot_in { slot < length self.old.pages.notes }
-        requires none { row (named self.old.pages.notes) slot ≡ [] }
-        ensures same { IsMeeting self.old self.new }
-        ensures ok { OnOk result (named self.new.pages.notes ≡ slice_set (named self.old.pages.notes) slot (pages_in uses.now)) }
-        ensures err { OnErr result (IsRowChanged (named self.old.pages.notes) (named self.new.pages.notes) slot) }
-    {
-        match uses {
-            [used] => self.meet(slot, 0, *used),
-            _ => self.meet_each(slot, uses),
-        }
-    }
-
     /// Gives a slot without any what it asked and uses. Where memory is refused, it has nothing again.
     #[inline(always)]
     fn fill(&mut self, slot: u32, asked: &[u32], uses: &[Use]) -> Result<(), AllocError>
@@ -323,15 +240,9 @@ impl Parts {
         ensures ok { OnOk result (Fills self.old self.new slot asked.now uses.now) }
         ensures err { OnErr result (IsAsBefore self.old self.new) }
     {
-        self.users.link_all(slot, asked)?;
-        if let Err(error) = self.meet_all(slot, uses) {
-            self.users.clear(slot);
-            self.pages.clear(slot);
-            return Err(error);
-        }
+        self.asks.link_all(slot, asked)?;
         if let Err(error) = self.uses.put(slot, uses) {
-            self.users.clear(slot);
-            self.pages.clear(slot);
+            let _ = self.asks.clear(slot);
             return Err(error);
         }
         Ok(())
@@ -363,9 +274,8 @@ impl Parts {
         ensures ok { OnOk result (count ≤ length self.new.marks.kept) }
         ensures whole { IsWhole self.new }
     {
-        self.users.reach_lists(count)?;
-        self.users.reach_owners(count)?;
-        self.pages.reach_owners(count)?;
+        self.asks.reach_lists(count)?;
+        self.asks.reach_owners(count)?;
         self.uses.reach(count)?;
         self.marks.reach(count)
     }

@@ -1,16 +1,16 @@
-//! The uses of each slot, each reading and writing counted.
-ghost use Rattle.std.specs.Prelude.{◌≡◌, ◌+◌, ◌^◌, ◌<◌, ◌≤◌, [], ◌∷◌, ◌++◌, length, map, slice_set, slice_index_or, IfOk, IfSome, IfNone, OnOk, OnErr};
-ghost use Rattle.std.specs.List.{list_any};
+//! The uses of each slot, and the lists in which slots stand by them, each look counted.
+ghost use Rattle.std.specs.Prelude.{◌≡◌, ◌≢◌, ℕ, ◌+◌, ◌-◌, ◌*◌, ◌^◌, ◌<◌, ◌≤◌, max, [], ◌∷◌, ◌++◌, length, map, slice_set, IfOk, IfSome, IfNone, OnOk, OnErr};
+ghost use Rattle.std.specs.List.{All, list_any};
 ghost use Rattle.std.specs.Option.{option_to_list};
 ghost use Rattle.ksv_bytes.specs.Uses.{is_use_touched};
-ghost use Rattle.ksv_memo_links.specs.Placed.{uses_of};
-ghost use Rattle.ksv_memo_links.specs.Linked.{HasEnds, HasRow, IsBoard, named};
+ghost use Rattle.ksv_memo_links.specs.Placed.{uses_of, list_of_end, list_of_page, lists_of_uses, end_lists, page_lists};
+ghost use Rattle.ksv_memo_links.specs.Linked.{item_at};
+ghost use Rattle.ksv_memo_links.specs.Chained.{IsListed};
 ghost use Rattle.ksv_memo_links.specs.Shelved.{row, ticked, HasSameRows};
-ghost use Rattle.ksv_memo_links.specs.Touching.{is_size, reach_of, farthest, end_at, ends_in};
+ghost use Rattle.ksv_memo_links.specs.Touching.{is_size, reach_of, farthest, end_at, ends_in, pages_of, pages_in};
 
-use crate::board::Board;
-use crate::shelf::Pin;
-use crate::short::Short;
+use crate::blocks::{Item, number};
+use crate::chains::Chains;
 use ksv_bytes::{Change, Use, touches};
 use std::alloc::{AllocError, Global};
 use std::marker::Model;
@@ -109,9 +109,10 @@ fn farthest_of(uses: &[Use]) -> u32
     place
 }
 
-/// The list of the byte before a place: one more than its page. None of place 0.
+/// The end of what reaches a place: one more than the page of the byte before it. None of place 0.
 fn end_before(place: u32) -> Option<u32>
-    ensures { option_to_list result ≡ end_at place }
+    ensures end { option_to_list result ≡ end_at place }
+    ensures fits { IfSome result (λ end. end ≤ 2 ^ 26) }
 {
     match place {
         0 => None,
@@ -119,11 +120,12 @@ fn end_before(place: u32) -> Option<u32>
     }
 }
 
-/// The list of where these uses end: 0 for the size; else one more than the page of the last byte that they reach.
+/// Where these uses end: 0 for the size; else one more than the page of the last byte that they reach.
 #[cold]
 #[inline(never)]
 fn end_of_many(uses: &[Use]) -> Option<u32>
-    ensures { option_to_list result ≡ ends_in uses.now }
+    ensures end { option_to_list result ≡ ends_in uses.now }
+    ensures fits { IfSome result (λ end. end ≤ 2 ^ 26) }
 {
     if has_size(uses) {
         return Some(0);
@@ -131,10 +133,11 @@ fn end_of_many(uses: &[Use]) -> Option<u32>
     end_before(farthest_of(uses))
 }
 
-/// The list of where these uses end, of which there are none or one mostly.
+/// Where these uses end, of which there are none or one mostly.
 #[inline(always)]
 fn end_of(uses: &[Use]) -> Option<u32>
-    ensures { option_to_list result ≡ ends_in uses.now }
+    ensures end { option_to_list result ≡ ends_in uses.now }
+    ensures fits { IfSome result (λ end. end ≤ 2 ^ 26) }
 {
     match uses {
         [] => None,
@@ -145,25 +148,192 @@ fn end_of(uses: &[Use]) -> Option<u32>
     }
 }
 
-/// Notes where the uses of a slot end. Where memory is refused, it is noted nowhere, again.
+/// Where the uses of a slot end, of which there are none or one mostly.
 #[inline(always)]
-fn note_end(ends: &mut Board<Short>, slot: u32, uses: &[Use]) -> Result<(), AllocError>
-    requires none { row (named ends.old.notes) slot ≡ [] }
-    ensures ok { OnOk result (HasRow (named ends.old.notes) (named ends.new.notes) slot (ends_in uses.now)) }
-    ensures err { OnErr result (HasSameRows (named ends.old.notes) (named ends.new.notes)) }
-    ensures board { IsBoard ends.new.lists ends.new.notes }
+fn noted_end(noted: &Noted) -> Option<u32>
+    ensures { option_to_list result ≡ ends_in (uses_of noted.now) }
 {
-    let noted = match end_of(uses) {
-        None => Ok(()),
-        Some(list) => ends.link_only(slot, list),
-    };
-    ends.linked();
-    noted
+    match noted {
+        Noted::Nothing => None,
+        Noted::One(used) => end_of(&[*used]),
+        Noted::Many(uses) => end_of_many(uses.as_slice()),
+    }
+}
+
+/// How many of the lists of uses are those of pages.
+#[inline(always)]
+fn pages_linked(linked: u32, end: Option<u32>) -> u32
+    ensures { result ≡ linked - length (option_to_list end) }
+{
+    match end {
+        None => linked,
+        Some(_) => linked.saturating_sub(1),
+    }
+}
+
+/// The number of the list of an end. No page has it.
+#[inline(always)]
+pub(crate) fn end_list(end: u32) -> u32
+    requires { end < 2 ^ 31 }
+    ensures number { result ≡ list_of_end end }
+    ensures apart { (page : ℕ) → result ≢ list_of_page page }
+{
+    2 * end
+}
+
+/// The number of the list of a page. No end has it.
+#[inline(always)]
+pub(crate) fn page_list(page: u32) -> u32
+    requires { page < 2 ^ 31 }
+    ensures number { result ≡ list_of_page page }
+    ensures apart { (end : ℕ) → result ≢ list_of_end end }
+{
+    2 * page + 1
+}
+
+/// The list of a use, if it stands in just one.
+#[inline(always)]
+fn only_list(used: Use) -> Option<u32>
+    ensures { IfSome result (λ list. lists_of_uses (used ∷ []) ≡ list ∷ []) }
+{
+    match used {
+        Use::Bytes(from, to) => {
+            if from.max(to.saturating_sub(1)) / PAGE > from / PAGE {
+                return None;
+            }
+            Some(page_list(from / PAGE))
+        }
+        Use::Reach(to) => {
+            if to == 0 {
+                return None;
+            }
+            Some(end_list((to - 1) / PAGE + 1))
+        }
+        Use::Size => Some(end_list(0)),
+    }
+}
+
+/// The lists of the pages that a use meets, after those that are there.
+fn add_pages(lists: &mut Vec<u32>, used: Use) -> Result<(), AllocError>
+    ensures { OnOk result (lists.new.items ≡ lists.old.items ++ map list_of_page (pages_of used)) }
+{
+    match used {
+        Use::Bytes(from, to) => {
+            let end = from.max(to.saturating_sub(1)) / PAGE + 1;
+            for page in from / PAGE..end {
+                lists.push(page_list(page))?;
+            }
+            Ok(())
+        }
+        Use::Reach(_) => Ok(()),
+        Use::Size => Ok(()),
+    }
+}
+
+/// The lists of the pages that these uses meet.
+fn all_pages(alloc: Global, uses: &[Use]) -> Result<Vec<u32>, AllocError>
+    ensures { IfOk result (λ lists. lists.items ≡ map list_of_page (pages_in uses.now)) }
+{
+    let mut lists = Vec::new(alloc);
+    for used in uses {
+        add_pages(&mut lists, *used)?;
+    }
+    Ok(lists)
+}
+
+/// The lists of these uses.
+fn all_lists(alloc: Global, uses: &[Use]) -> Result<Vec<u32>, AllocError>
+    ensures { IfOk result (λ lists. lists.items ≡ lists_of_uses uses.now) }
+{
+    let mut lists = all_pages(alloc, uses)?;
+    if let Some(end) = end_of(uses) {
+        lists.push(end_list(end))?;
+    }
+    Ok(lists)
+}
+
+/// One more than the largest of these numbers, or 0.
+fn above_all(lists: &[u32]) -> Result<u32, AllocError>
+    ensures { IfOk result (λ above. All (λ list. list < above) lists.now) }
+{
+    let mut above: u32 = 0;
+    for list in lists {
+        above = above.max(number(*list as usize + 1)?);
+    }
+    Ok(above)
+}
+
+/// Makes lists until there is this one.
+#[cold]
+#[inline(never)]
+fn reach_list(chains: &mut Chains, list: u32) -> Result<(), AllocError>
+    requires fits { length chains.old.lists < 2 ^ 32 }
+    ensures named { chains.new.named ≡ chains.old.named }
+    ensures few { length chains.new.lists < 2 ^ 32 }
+    ensures ok { OnOk result (list < length chains.new.lists) }
+{
+    chains.reach_lists(number(list as usize + 1)?)
+}
+
+/// Links a slot that is linked to nothing to one list, which is made where it isn't there. Where memory is refused, the slot
+/// is linked to nothing again.
+#[inline(always)]
+fn link_only(chains: &mut Chains, slot: u32, list: u32) -> Result<(), AllocError>
+    requires slot_in { slot < length chains.old.named }
+    requires none { row chains.old.named slot ≡ [] }
+    requires fits { length chains.old.lists < 2 ^ 32 }
+    ensures ok { OnOk result (chains.new.named ≡ slice_set chains.old.named slot (list ∷ [])) }
+    ensures err { OnErr result (chains.new.named ≡ chains.old.named) }
+    ensures few { length chains.new.lists < 2 ^ 32 }
+{
+    if list as usize >= chains.lists() {
+        reach_list(chains, list)?;
+    }
+    chains.link_all(slot, &[list])
+}
+
+/// Links a slot that is linked to nothing to the lists of its uses, which are made where they aren't there. Where memory is
+/// refused, the slot is linked to nothing again.
+#[cold]
+#[inline(never)]
+fn link_many(alloc: Global, chains: &mut Chains, slot: u32, uses: &[Use]) -> Result<(), AllocError>
+    requires slot_in { slot < length chains.old.named }
+    requires none { row chains.old.named slot ≡ [] }
+    requires fits { length chains.old.lists < 2 ^ 32 }
+    ensures ok { OnOk result (chains.new.named ≡ slice_set chains.old.named slot (lists_of_uses uses.now)) }
+    ensures err { OnErr result (chains.new.named ≡ chains.old.named) }
+    ensures few { length chains.new.lists < 2 ^ 32 }
+{
+    let lists = all_lists(alloc, uses)?;
+    chains.reach_lists(above_all(lists.as_slice())?)?;
+    chains.link_all(slot, lists.as_slice())
+}
+
+/// Links a slot that is linked to nothing to the lists of its uses, of which there are none or one mostly. Where memory is
+/// refused, the slot is linked to nothing again.
+#[inline(always)]
+fn link_uses(alloc: Global, chains: &mut Chains, slot: u32, uses: &[Use]) -> Result<(), AllocError>
+    requires slot_in { slot < length chains.old.named }
+    requires none { row chains.old.named slot ≡ [] }
+    requires fits { length chains.old.lists < 2 ^ 32 }
+    ensures ok { OnOk result (chains.new.named ≡ slice_set chains.old.named slot (lists_of_uses uses.now)) }
+    ensures err { OnErr result (chains.new.named ≡ chains.old.named) }
+    ensures few { length chains.new.lists < 2 ^ 32 }
+{
+    match uses {
+        [] => Ok(()),
+        [used] => match only_list(*used) {
+            Some(list) => link_only(chains, slot, list),
+            None => link_many(alloc, chains, slot, uses),
+        },
+        _ => link_many(alloc, chains, slot, uses),
+    }
 }
 
 /// At least so many rows. The new ones have no use.
 fn reach_rows(rows: &mut Vec<Noted>, count: usize) -> Result<(), AllocError>
     ensures same { HasSameRows (map uses_of rows.old.items) (map uses_of rows.new.items) }
+    ensures few { length rows.new.items ≤ max (length rows.old.items) count }
     ensures ok { OnOk result (count ≤ length rows.new.items) }
 {
     if rows.len() < count {
@@ -172,37 +342,36 @@ fn reach_rows(rows: &mut Vec<Noted>, count: usize) -> Result<(), AllocError>
     Ok(())
 }
 
-/// The uses of each slot, and for each place in which uses of the size or of reaching end, the slots that have them. Each
-/// call that reads or writes what a slot has, or an item of such a list, is one look.
+/// The uses of each slot, and the lists in which slots stand by them: one for each page, and one for each place in which uses
+/// of the size or of reaching end. Each call that reads or writes what a slot has, or an item of a list, is one look.
 #[derive(Drop)]
 pub(crate) struct Uses {
     alloc: Global,
     rows: Vec<Noted>,
-    ends: Board<Short>,
+    chains: Chains,
     looks: u64,
 }
 
 impl Model for Uses {
     ghost use Rattle.std.specs.Prelude.{map};
-    ghost use Rattle.ksv_memo_links.specs.Placed.{uses_of};
-    ghost use Rattle.ksv_memo_links.specs.Linked.{Used, HasEnds};
+    ghost use Rattle.ksv_memo_links.specs.Placed.{Used, IsMet, uses_of};
 
     ghost Value = { Used };
 
-    ghost view = { λ uses. record { rows = map uses_of uses.rows.items; lists = uses.ends.lists; notes = uses.ends.notes; looks = uses.looks } };
+    ghost view = { λ uses. record { rows = map uses_of uses.rows.items; lists = uses.chains.lists; looks = uses.looks } };
 
-    ghost invariant = { λ uses. HasEnds (map uses_of uses.rows.items) uses.ends.lists uses.ends.notes };
+    ghost invariant = { λ uses. IsMet (map uses_of uses.rows.items) uses.chains.named uses.chains.lists };
 }
 
 impl Uses {
     /// No rows, which take no memory.
     pub(crate) fn new(alloc: Global) -> Self
-        ensures { result ≡ record { rows = []; lists = []; notes = []; looks = 0 } }
+        ensures { result ≡ record { rows = []; lists = []; looks = 0 } }
     {
         Uses {
             alloc,
             rows: Vec::new(alloc),
-            ends: Board::new(alloc),
+            chains: Chains::new(alloc),
             looks: 0,
         }
     }
@@ -246,63 +415,85 @@ impl Uses {
     {
         self.looks = self.looks.saturating_add(1);
         let noted = note_uses(self.alloc, uses)?;
-        note_end(&mut self.ends, slot, uses)?;
+        link_uses(self.alloc, &mut self.chains, slot, uses)?;
         self.rows[slot as usize] = noted;
         Ok(())
     }
 
-    /// The item at a place of a list of ends, if there is one: a slot whose uses end there.
-    pub(crate) fn ended(&mut self, list: u32, i: usize) -> Option<Pin>
+    /// The place of the first entry of a list, 0 if it has none.
+    pub(crate) fn first_item(&mut self, list: u32) -> u32
         requires { list < length self.old.lists }
-        ensures some { IfSome result (λ x. (i < length (row self.old.lists list)) × (x ≡ slice_index_or (row self.old.lists list) i x)) }
-        ensures none { IfNone result (length (row self.old.lists list) ≤ i) }
+        ensures result { result ≡ (item_at self.old.lists list 0).at }
         ensures rows { self.new.rows ≡ self.old.rows }
         ensures lists { self.new.lists ≡ self.old.lists }
         ensures looks { self.new.looks ≡ ticked self.old.looks }
         ensures grows { self.old.looks ≤ self.new.looks }
-        ensures fits { IfSome result (λ x. i + 1 < 2 ^ 64) }
-        ensures ended { HasEnds self.old.rows self.old.lists self.old.notes }
     {
         self.looks = self.looks.saturating_add(1);
-        self.ends.item(list, i)
+        self.chains.first_item(list)
     }
 
-    /// The number of lists of ends, which isn't counted.
-    pub(crate) fn lists(&self) -> usize
-        ensures count { result ≡ length self.now.lists }
-        ensures fits { result < 2 ^ 32 }
+    /// The slot of the entry at a place, with the place of the next entry of its list, if there is one; none where the place
+    /// is 0, after the last entry, which is no look.
+    pub(crate) fn item(&mut self, at: u32) -> Option<Item>
+        ensures some { IfSome result (λ x. (list i : ℕ) → at ≡ (item_at self.old.lists list i).at → (i < length (row self.old.lists list)) × (x.owner ≡ (item_at self.old.lists list i).owner) × (x.at ≡ (item_at self.old.lists list (i + 1)).at)) }
+        ensures none { IfNone result ((list i : ℕ) → at ≡ (item_at self.old.lists list i).at → length (row self.old.lists list) ≤ i) }
+        ensures rows { self.new.rows ≡ self.old.rows }
+        ensures lists { self.new.lists ≡ self.old.lists }
+        ensures looks { IfSome result (λ x. self.new.looks ≡ ticked self.old.looks) }
+        ensures idle { IfNone result (self.new.looks ≡ self.old.looks) }
+        ensures grows { self.old.looks ≤ self.new.looks }
     {
-        self.ends.lists()
+        let item = self.chains.item(at)?;
+        self.looks = self.looks.saturating_add(1);
+        Some(item)
     }
 
-    /// Each slot stands in the list of where its uses end.
+    /// How many lists of ends there are, which isn't counted.
+    pub(crate) fn ends(&self) -> usize
+        ensures count { result ≡ length (end_lists self.now.lists) }
+        ensures fits { result ≤ 2 ^ 31 }
+    {
+        (self.chains.lists() + 1) / 2
+    }
+
+    /// How many lists of pages there are, which isn't counted.
+    pub(crate) fn pages(&self) -> usize
+        ensures count { result ≡ length (page_lists self.now.lists) }
+        ensures fits { result < 2 ^ 31 }
+    {
+        self.chains.lists() / 2
+    }
+
+    /// Each slot stands in the lists of its uses.
     pub(crate) fn linked(&self)
-        ensures { HasEnds self.now.rows self.now.lists self.now.notes }
+        ensures listed { IsListed self.now.lists (map lists_of_uses self.now.rows) }
+        ensures fits { length self.now.lists < 2 ^ 32 }
     {
-        let _ = &self.ends;
+        self.chains.linked();
     }
 
-    /// Takes the uses of a slot.
+    /// Takes the uses of a slot, and the slot from the lists of them. It is one look for the uses and where they end, one for
+    /// the block, and four for each page.
     pub(crate) fn clear(&mut self, slot: u32)
         requires { slot < length self.old.rows }
         ensures rows { self.new.rows ≡ slice_set self.old.rows slot [] }
-        ensures looks { self.new.looks ≡ ticked self.old.looks }
+        ensures looks { self.new.looks ≤ self.old.looks + 2 + 4 * length (pages_in (row self.old.rows slot)) }
         ensures grows { self.old.looks ≤ self.new.looks }
     {
-        self.looks = self.looks.saturating_add(1);
-        self.ends.clear_row(slot);
-        self.ends.linked();
+        let end = noted_end(&self.rows[slot as usize]);
+        let linked = self.chains.clear(slot);
+        let pages = pages_linked(linked, end);
+        self.looks = self.looks.saturating_add(2 + 4 * pages as u64);
         self.rows[slot as usize] = Noted::Nothing;
     }
 
-    /// At least so many rows, and a place for the note of where each one's uses end. The new ones have no use.
+    /// At least so many rows, and a block for each of them. The new ones have no use.
     pub(crate) fn reach(&mut self, count: u32) -> Result<(), AllocError>
         ensures same { HasSameRows self.old.rows self.new.rows }
         ensures ok { OnOk result (count ≤ length self.new.rows) }
     {
-        let reached = self.ends.reach_owners(count);
-        self.ends.linked();
-        reached?;
+        self.chains.reach_owners(count)?;
         reach_rows(&mut self.rows, count as usize)
     }
 }

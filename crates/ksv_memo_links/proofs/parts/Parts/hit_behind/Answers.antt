@@ -1,8 +1,10 @@
 use Rattle.std.proofs.Common.{◌≡◌, List, min, ◌+◌, length, ◌∙◌, subst, arith}
-use Rattle.ksv_memo_links.specs.declared.shelf.Pin.{Pin}
+use Rattle.ksv_memo_links.specs.declared.blocks.Item.{Item}
+use Rattle.ksv_memo_links.specs.Placed.{end_lists, page_lists}
 use Rattle.ksv_memo_links.specs.Links.{first_page}
 use Rattle.ksv_memo_links.specs.Forgetting.{HitsRows}
 use Rattle.ksv_memo_links.proofs.Hits.{hits-behind}
+use Rattle.ksv_memo_links.proofs.Turns.{count-ends}
 use Rattle.ksv_memo_links.proofs.parts.Parts.hit_behind.Goals as goal
 
 pub returns : goal.returns
@@ -13,13 +15,14 @@ returns c =
     let r = c.hit_pages.new.self in
     let x = c.args.change in
     let place = c.args.at in
-    let f = c.linked.ensures.board.fits in
+    let f = c.linked.ensures.fits in
     let s = c.saturating_add.ensures in
     let a = c.hit_ends.ensures in
     let b0 = c.hit_ends-2.ensures in
-    let e : min c.saturating_add.result (length p.uses.lists) ≡ min (c.args.pages + 1) (length p.uses.lists) = omega arith in
-    let P : List (List Pin) → Type 0 = λ lists. HitsRows q1 q2 x lists (first_page place + 1) (min c.saturating_add.result (length lists)) in
-    let b = subst (λ last. HitsRows q1 q2 x p.uses.lists (first_page place + 1) last) e (subst P a.more.same.ends b0) in
-    let Q : List (List Pin) → Type 0 = λ lists. HitsRows q2 r x lists (first_page place) (min c.args.pages (length lists)) in
-    let d = subst Q (b0.more.same.page_lists ∙ a.more.same.page_lists) c.hit_pages.ensures in
+    let n = count-ends p.uses.lists in
+    let e : min c.saturating_add.result (length (end_lists p.uses.lists)) ≡ min (c.args.pages + 1) (length (end_lists p.uses.lists)) = omega arith in
+    let P : List (List Item) → Type 0 = λ lists. HitsRows q1 q2 x (end_lists lists) (first_page place + 1) (min c.saturating_add.result (length (end_lists lists))) in
+    let b = subst (λ last. HitsRows q1 q2 x (end_lists p.uses.lists) (first_page place + 1) last) e (subst P a.more.same.use_lists b0) in
+    let Q : List (List Item) → Type 0 = λ lists. HitsRows q2 r x (page_lists lists) (first_page place) (min c.args.pages (length (page_lists lists))) in
+    let d = subst Q (b0.more.same.use_lists ∙ a.more.same.use_lists) c.hit_pages.ensures in
     hits-behind p q1 q2 r x place c.args.pages a b d

@@ -1,18 +1,30 @@
-use Rattle.std.proofs.Common.{List, length, subst, arith}
-use Rattle.ksv_memo_links.specs.declared.shelf.Pin.{Pin}
+use Rattle.std.proofs.Common.{List, length, ◌∙◌, ap, arith}
+use Rattle.ksv_memo_links.specs.declared.blocks.Item.{Item}
 use Rattle.ksv_memo_links.specs.Shelved.{row}
-use Rattle.ksv_memo_links.specs.Forgetting.{HitsRow}
-use Rattle.ksv_memo_links.proofs.Hits.{rows-none, rows-more}
+use Rattle.ksv_memo_links.specs.Placed.{end_lists}
+use Rattle.ksv_memo_links.proofs.Hits.{rows-none, rows-more, row-as}
+use Rattle.ksv_memo_links.proofs.Turns.{row-of-end, count-ends, count-pages}
 use Rattle.ksv_memo_links.proofs.parts.Parts.hit_ends.Goals as goal
 
 pub loop-list-init : goal.loop-list-init
-loop-list-init c = record { hits = rows-none c.args.self.now c.args.change c.args.self.now.uses.lists c.args.first; bound = omega arith }
+loop-list-init c = record { hits = rows-none c.args.self.now c.args.change (end_lists c.args.self.now.uses.lists) c.args.first; bound = omega arith }
+
+pub hit_list-requires-clause-list_in : goal.hit_list-requires-clause-list_in
+hit_list-requires-clause-list_in c =
+    let e = ap (λ (lists : List (List Item)). length lists) c.loop-list.invariant.hits.more.same.use_lists in
+    let a = count-ends c.args.self.now.uses.lists in
+    let b = count-pages c.args.self.now.uses.lists in
+    let n = c.end_list.ensures.number in
+    omega arith
 
 pub loop-list-preserved : goal.loop-list-preserved
 loop-list-preserved c =
+    let p = c.args.self.now in
     let q = c.loop-list.self in
-    let P : List (List Pin) → Type 0 = λ lists. HitsRow q c.hit_end.new.self c.args.change lists c.loop-list.list (length (row lists c.loop-list.list)) 1 in
+    let r = c.hit_list.new.self in
+    let same = ap (λ (lists : List (List Item)). row lists c.end_list.result) c.loop-list.invariant.hits.more.same.use_lists in
+    let there = ap (λ n. row p.uses.lists n) c.end_list.ensures.number ∙ row-of-end p.uses.lists c.loop-list.list in
     record {
-      hits = rows-more c.args.self.now q c.hit_end.new.self c.args.change c.args.self.now.uses.lists c.args.first c.loop-list.list (omega arith) c.loop-list.invariant.hits (subst P c.loop-list.invariant.hits.more.same.ends c.hit_end.ensures);
+      hits = rows-more p q r c.args.change (end_lists p.uses.lists) c.args.first c.loop-list.list (omega arith) c.loop-list.invariant.hits (row-as q r c.args.change (row q.uses.lists c.end_list.result) (row (end_lists p.uses.lists) c.loop-list.list) (same ∙ there) c.hit_list.ensures);
       bound = omega arith;
     }

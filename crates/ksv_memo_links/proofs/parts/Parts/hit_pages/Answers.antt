@@ -1,18 +1,30 @@
-use Rattle.std.proofs.Common.{List, length, subst, arith}
-use Rattle.ksv_memo_links.specs.declared.shelf.Pin.{Pin}
+use Rattle.std.proofs.Common.{List, length, ◌∙◌, ap, arith}
+use Rattle.ksv_memo_links.specs.declared.blocks.Item.{Item}
 use Rattle.ksv_memo_links.specs.Shelved.{row}
-use Rattle.ksv_memo_links.specs.Forgetting.{HitsRow}
-use Rattle.ksv_memo_links.proofs.Hits.{rows-none, rows-more}
+use Rattle.ksv_memo_links.specs.Placed.{page_lists}
+use Rattle.ksv_memo_links.proofs.Hits.{rows-none, rows-more, row-as}
+use Rattle.ksv_memo_links.proofs.Turns.{row-of-page, count-ends, count-pages}
 use Rattle.ksv_memo_links.proofs.parts.Parts.hit_pages.Goals as goal
 
 pub loop-page-init : goal.loop-page-init
-loop-page-init c = record { hits = rows-none c.args.self.now c.args.change c.args.self.now.pages.lists c.args.first; bound = omega arith }
+loop-page-init c = record { hits = rows-none c.args.self.now c.args.change (page_lists c.args.self.now.uses.lists) c.args.first; bound = omega arith }
+
+pub hit_list-requires-clause-list_in : goal.hit_list-requires-clause-list_in
+hit_list-requires-clause-list_in c =
+    let e = ap (λ (lists : List (List Item)). length lists) c.loop-page.invariant.hits.more.same.use_lists in
+    let a = count-ends c.args.self.now.uses.lists in
+    let b = count-pages c.args.self.now.uses.lists in
+    let n = c.page_list.ensures.number in
+    omega arith
 
 pub loop-page-preserved : goal.loop-page-preserved
 loop-page-preserved c =
+    let p = c.args.self.now in
     let q = c.loop-page.self in
-    let P : List (List Pin) → Type 0 = λ lists. HitsRow q c.hit_page.new.self c.args.change lists c.loop-page.page (length (row lists c.loop-page.page)) 1 in
+    let r = c.hit_list.new.self in
+    let same = ap (λ (lists : List (List Item)). row lists c.page_list.result) c.loop-page.invariant.hits.more.same.use_lists in
+    let there = ap (λ n. row p.uses.lists n) c.page_list.ensures.number ∙ row-of-page p.uses.lists c.loop-page.page in
     record {
-      hits = rows-more c.args.self.now q c.hit_page.new.self c.args.change c.args.self.now.pages.lists c.args.first c.loop-page.page (omega arith) c.loop-page.invariant.hits (subst P c.loop-page.invariant.hits.more.same.page_lists c.hit_page.ensures);
+      hits = rows-more p q r c.args.change (page_lists p.uses.lists) c.args.first c.loop-page.page (omega arith) c.loop-page.invariant.hits (row-as q r c.args.change (row q.uses.lists c.page_list.result) (row (page_lists p.uses.lists) c.loop-page.page) (same ∙ there) c.hit_list.ensures);
       bound = omega arith;
     }

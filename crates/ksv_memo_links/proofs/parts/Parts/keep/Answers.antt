@@ -1,6 +1,6 @@
 use Rattle.std.proofs.Common.{refl, sym, ◌∙◌, ap, set, true, arith}
 use Rattle.ksv_memo_links.specs.declared.parts.Parts.{Parts}
-use Rattle.ksv_memo_links.proofs.Keeping.{wide, same_whole, filled_whole}
+use Rattle.ksv_memo_links.proofs.Keeping.{same_whole, filled_whole}
 use Rattle.ksv_memo_links.proofs.parts.Parts.keep.Goals as goal
 
 pub returns-in_err-fill-clause-whole : goal.returns-in_err-fill-clause-whole
@@ -10,19 +10,19 @@ pub returns-clause-whole : goal.returns-clause-whole
 returns-clause-whole c =
     let p = c.args.self.now in
     let q = c.fill.new.self in
-    let r : Parts = record { users = q.users; pages = q.pages; uses = q.uses; marks = c.keep.new.self } in
+    let r : Parts = record { asks = q.asks; uses = q.uses; marks = c.keep.new.self } in
     let f = c.in_ok-fill.ensures.ok in
-    filled_whole p q r c.args.slot c.args.asked.now c.args.uses.now c.requires.whole c.requires.idle c.requires.slot_in c.requires.asked_kept f refl refl refl (c.keep.ensures.kept ∙ ap (λ m. set m.kept c.args.slot true) f.marks) c.keep.ensures.work
+    filled_whole p q r c.args.slot c.args.asked.now c.args.uses.now c.requires.whole c.requires.idle c.requires.slot_in c.requires.asked_kept f refl refl (c.keep.ensures.kept ∙ ap (λ m. set m.kept c.args.slot true) f.marks) c.keep.ensures.work
 
 pub returns-clause-ok : goal.returns-clause-ok
 returns-clause-ok c =
     let p = c.args.self.now in
     let f = c.in_ok-fill.ensures.ok in
     let h = c.requires.whole.shaped in
-    let h1 = h.users in let h2 = h.uses in let n = wide p.users.notes in let k = c.requires.slot_in in
+    let h1 = h.asks in let h2 = h.uses in let k = c.requires.slot_in in
     record {
       kept = c.keep.ensures.kept ∙ ap (λ m. set m.kept c.args.slot true) f.marks;
-      asked = f.users;
+      asked = f.asks;
       uses = f.uses;
       in_asked = omega arith;
       in_uses = omega arith;

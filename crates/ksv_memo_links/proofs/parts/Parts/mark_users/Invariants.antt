@@ -1,10 +1,15 @@
-use Rattle.std.proofs.Common.{◌-◌, length}
+use Rattle.std.proofs.Common.{◌≡◌}
 use Rattle.ksv_memo_links.specs.Shelved.{row}
+use Rattle.ksv_memo_links.specs.Linked.{item_at}
 use Rattle.ksv_memo_links.specs.Forgetting.{HitsUsers}
+use Rattle.ksv_memo_links.proofs.Cursors.{left_from, seen_to}
 use Rattle.ksv_memo_links.proofs.parts.Parts.mark_users.Given as goal
 
-abbrev pub invariant-loop-item : goal.invariant-loop-item
-invariant-loop-item l = HitsUsers l.fn.self l.self l.slot l.i 0
+abbrev pub invariant-loop-user : goal.invariant-loop-user
+invariant-loop-user l = record {
+  users : HitsUsers l.fn.self l.self l.slot (seen_to (row l.fn.self.asks.lists l.slot) l.at) 1;
+  at : l.at ≡ (item_at l.fn.self.asks.lists l.slot (seen_to (row l.fn.self.asks.lists l.slot) l.at)).at;
+}
 
-abbrev pub decreases-loop-item : goal.decreases-loop-item
-decreases-loop-item l = length (row l.fn.self.users.lists l.slot) - l.i
+abbrev pub decreases-loop-user : goal.decreases-loop-user
+decreases-loop-user l = left_from (row l.fn.self.asks.lists l.slot) l.at

@@ -10,9 +10,9 @@ loop-slot-init c = spread-none c.args.self.now
 pub loop-slot-preserved : goal.loop-slot-preserved
 loop-slot-preserved c =
     let q = c.loop-slot.self in
-    let q1 : Parts = record { users = q.users; pages = q.pages; uses = q.uses; marks = c.at.new.self } in
+    let q1 : Parts = record { asks = q.asks; uses = q.uses; marks = c.at.new.self } in
     let k : Peeks q q1 = record {
-      same = record { users = refl; user_lists = refl; pages = refl; page_lists = refl; uses = refl; ends = refl };
+      same = record { asks = refl; ask_lists = refl; uses = refl; use_lists = refl };
       kept = c.at.ensures.kept;
       work = c.at.ensures.work;
       looks = let l = c.at.ensures.looks in omega arith;
@@ -24,9 +24,9 @@ loop-slot-preserved c =
 pub returns : goal.returns
 returns c =
     let q = c.loop-slot.self in
-    let q1 : Parts = record { users = q.users; pages = q.pages; uses = q.uses; marks = c.at.new.self } in
+    let q1 : Parts = record { asks = q.asks; uses = q.uses; marks = c.at.new.self } in
     let k : Peeks q q1 = record {
-      same = record { users = refl; user_lists = refl; pages = refl; page_lists = refl; uses = refl; ends = refl };
+      same = record { asks = refl; ask_lists = refl; uses = refl; use_lists = refl };
       kept = c.at.ensures.kept;
       work = c.at.ensures.work;
       looks = let l = c.at.ensures.looks in omega arith;

@@ -1,0 +1,67 @@
+-- The chains stay whole when owners and lists are added.
+use Rattle.std.proofs.Common.{◌≡◌, ℕ, zero, suc, ◌≤◌, List, [], ◌++◌, length, replicate, refl, sym, ◌∙◌, ap, subst, arith, sum_by, Result, Ok, Err, OnOk, OnErr}
+use Rattle.std.proofs.lemmas.List.{append-nil, map-append, length-append}
+use Rattle.std.proofs.lemmas.List.Sums.{sum_by-append, sum_by-cons}
+use Rattle.ksv_memo_links.specs.declared.blocks.Entry.{Entry}
+use Rattle.ksv_memo_links.specs.declared.blocks.Block.{Block}
+use Rattle.ksv_memo_links.specs.Shelved.{HasSameRows}
+use Rattle.ksv_memo_links.specs.Linked.{naming, one_if}
+use Rattle.ksv_memo_links.specs.Chained.{entry_at, block_at, first_at, lists_in, named_of, hop, IsChain, IsLive, IsChained}
+use Rattle.ksv_memo_links.proofs.Padding.{padded}
+use Rattle.ksv_memo_links.proofs.Linking.{named-row, live-as}
+
+none-named : (a : List Entry) (n l : ℕ) → naming (named_of a (replicate n (record { begin = 0; count = 0 }))) l ≡ 0
+none-named a zero l = refl
+none-named a (suc n) l =
+    let c = sum_by-cons (λ (ns : List ℕ). sum_by (one_if l) ns) [] (named_of a (replicate n (record { begin = 0; count = 0 }))) in
+    let h = none-named a n l in
+    omega arith
+
+-- a list that was made longer, or was left as it was
+pub padded-by : {X T E : Type 0} (r : Result T E) (old new : List X) (n : ℕ) (d : X) → OnOk r (new ≡ old ++ replicate n d) → OnErr r (new ≡ old) → (m : ℕ) × (new ≡ old ++ replicate m d) × (m ≤ n)
+padded-by (Ok x) old new n d ok err = (n, ok, omega arith)
+padded-by (Err e) old new n d ok err = (0, err ∙ sym (append-nil old), omega arith)
+
+pub on-ok : {T E P Q : Type 0} (r : Result T E) → OnOk r P → (P → Q) → OnOk r Q
+on-ok (Ok x) p h = h p
+on-ok (Err e) p h = tt
+
+module _ (a : List Entry) (B : List Block) (f : List ℕ) (n : ℕ) (h : IsChained a B f) where
+  abbrev pub more : List Block
+  more = B ++ replicate n (record { begin = 0; count = 0 })
+
+  pub same-blocks : (s : ℕ) → block_at more s ≡ block_at B s
+  same-blocks s = padded B n s (record { begin = 0; count = 0 })
+
+  pub same-named : HasSameRows (named_of a B) (named_of a more)
+  same-named = record {
+    more = (let e = ap (λ (rows : List (List ℕ)). length rows) (map-append (λ (b : Block). lists_in a b.begin b.count) B (replicate n (record { begin = 0; count = 0 }))) in let m = length-append (named_of a B) (named_of a (replicate n (record { begin = 0; count = 0 }))) in omega arith);
+    each = λ s. named-row a more s ∙ ap (λ (b : Block). lists_in a b.begin b.count) (same-blocks s) ∙ sym (named-row a B s);
+  }
+
+  pub same-naming : (l : ℕ) → naming (named_of a more) l ≡ naming (named_of a B) l
+  same-naming l =
+      let e = ap (λ (rows : List (List ℕ)). naming rows l) (map-append (λ (b : Block). lists_in a b.begin b.count) B (replicate n (record { begin = 0; count = 0 }))) in
+      let m = sum_by-append (λ (ns : List ℕ). sum_by (one_if l) ns) (named_of a B) (named_of a (replicate n (record { begin = 0; count = 0 }))) in
+      let z = none-named a n l in
+      omega arith
+
+  pub chained-owners : IsChained a more f
+  chained-owners = record {
+    chains = λ l. subst (λ m. IsChain a l (first_at f l) m) (sym (same-naming l)) (h.chains l);
+    inside = λ s p v. h.inside s p (live-as more B s p (sym (same-blocks s)) v);
+    owner = λ s p v. h.owner s p (live-as more B s p (sym (same-blocks s)) v);
+    found = λ s p v. (let k = h.found s p (live-as more B s p (sym (same-blocks s)) v) in let lt = k.1 in (k.0, (let m = same-naming (entry_at a p).list in omega arith), k.2));
+    live = λ l i lt. (let m = same-naming l in live-as B more (entry_at a (hop a (first_at f l) i)).owner (hop a (first_at f l) i) (same-blocks (entry_at a (hop a (first_at f l) i)).owner) (h.live l i (omega arith)));
+    fits = h.fits;
+  }
+
+  pub chained-lists : IsChained a B (f ++ replicate n 0)
+  chained-lists = record {
+    chains = λ l. subst (λ p. IsChain a l p (naming (named_of a B) l)) (sym (padded f n l 0)) (h.chains l);
+    inside = h.inside;
+    owner = h.owner;
+    found = λ s p v. (let k = h.found s p v in (k.0, k.1, ap (λ q. hop a q k.0) (padded f n (entry_at a p).list 0) ∙ k.2));
+    live = λ l i lt. subst (λ p. IsLive B (entry_at a (hop a p i)).owner (hop a p i)) (sym (padded f n l 0)) (h.live l i lt);
+    fits = h.fits;
+  }

@@ -1,0 +1,68 @@
+use Rattle.std.proofs.Common.{◌≡◌, ℕ, suc, ◌+◌, ◌-◌, ◌<◌, List, length, set, refl, sym, ◌∙◌, ap, arith}
+use Rattle.std.proofs.lemmas.List.{length-set, get_or-set_same, get_or_read}
+use Rattle.ksv_memo_links.specs.declared.blocks.Block.{Block}
+use Rattle.ksv_memo_links.specs.Chained.{block_at, IsLive}
+use Rattle.ksv_memo_links.proofs.Clearing.{cut-more}
+use Rattle.ksv_memo_links.proofs.Linking.{named-less, chained-less, row-length, before-inside, next-inside, named-inside}
+use Rattle.ksv_memo_links.proofs.blocks.clear_block.Goals as goal
+
+last : (B : List Block) (s begin left : ℕ) → begin ≡ (block_at B s).begin → left ≡ (block_at B s).count → 0 < left → IsLive B s (begin + (left - 1))
+last B s begin left e n lt = record { from = omega arith; until = omega arith }
+
+pub overflow_add-begin : goal.overflow_add-begin
+overflow_add-begin c =
+    let i = c.loop-left.invariant in
+    let v = last c.loop-left.blocks.items c.args.owner c.index.result.now.begin c.loop-left.left i.begin i.count c.loop-left-test.true in
+    let k = i.chained.inside c.args.owner (c.index.result.now.begin + (c.loop-left.left - 1)) v in
+    let m = i.chained.fits in
+    omega arith
+
+pub unlink-requires-clause-inside : goal.unlink-requires-clause-inside
+unlink-requires-clause-inside c =
+    let i = c.loop-left.invariant in
+    let v = last c.loop-left.blocks.items c.args.owner c.index.result.now.begin c.loop-left.left i.begin i.count c.loop-left-test.true in
+    i.chained.inside c.args.owner (c.index.result.now.begin + (c.loop-left.left - 1)) v
+
+pub unlink-requires-clause-before : goal.unlink-requires-clause-before
+unlink-requires-clause-before c =
+    let i = c.loop-left.invariant in
+    let v = last c.loop-left.blocks.items c.args.owner c.index.result.now.begin c.loop-left.left i.begin i.count c.loop-left-test.true in
+    before-inside c.loop-left.entries.items c.loop-left.blocks.items c.loop-left.first.items c.args.owner (c.index.result.now.begin + (c.loop-left.left - 1)) i.chained v
+
+pub unlink-requires-clause-next : goal.unlink-requires-clause-next
+unlink-requires-clause-next c =
+    let i = c.loop-left.invariant in
+    let v = last c.loop-left.blocks.items c.args.owner c.index.result.now.begin c.loop-left.left i.begin i.count c.loop-left-test.true in
+    next-inside c.loop-left.entries.items c.loop-left.blocks.items c.loop-left.first.items c.args.owner (c.index.result.now.begin + (c.loop-left.left - 1)) i.chained v
+
+pub unlink-requires-clause-named : goal.unlink-requires-clause-named
+unlink-requires-clause-named c =
+    let i = c.loop-left.invariant in
+    let v = last c.loop-left.blocks.items c.args.owner c.index.result.now.begin c.loop-left.left i.begin i.count c.loop-left-test.true in
+    named-inside c.loop-left.entries.items c.loop-left.blocks.items c.loop-left.first.items c.args.owner (c.index.result.now.begin + (c.loop-left.left - 1)) i.chained v
+
+pub loop-left-preserved : goal.loop-left-preserved
+loop-left-preserved c =
+    let i = c.loop-left.invariant in
+    let B = c.loop-left.blocks.items in
+    let s = c.args.owner in
+    let begin = c.index.result.now.begin in
+    let k = c.loop-left.left - 1 in
+    let some = c.loop-left-test.true in
+    let count = i.count in
+    let one : suc k ≡ (block_at B s).count = omega arith in
+    let s_in : s < length B = (let w = i.wide in let r = c.requires.owner_in in omega arith) in
+    let now : block_at (set B s (record { begin = begin; count = k })) s ≡ record { begin = begin; count = k } = get_or-set_same B s (record { begin = begin; count = k }) (record { begin = 0; count = 0 }) s_in in
+    record {
+      chained = chained-less c.loop-left.entries.items c.unlink.new.entries.items B c.loop-left.first.items c.unlink.new.first.items s begin k (begin + k) i.chained i.begin one refl c.unlink.ensures;
+      cut = cut-more _ _ _ s i.cut (named-less c.loop-left.entries.items c.unlink.new.entries.items B c.loop-left.first.items c.unlink.new.first.items s begin k (begin + k) i.chained i.begin one refl c.unlink.ensures);
+      begin = sym (ap (λ (b : Block). b.begin) now);
+      count = sym (ap (λ (b : Block). b.count) now);
+      size = c.unlink.ensures.size ∙ i.size;
+      wide = length-set B s (record { begin = begin; count = k }) ∙ i.wide;
+    }
+
+pub returns-clause-count : goal.returns-clause-count
+returns-clause-count c =
+    ap (λ (b : Block). b.count) (get_or_read c.args.blocks.now.items c.args.owner c.index.result.now c.requires.owner_in c.index.ensures (record { begin = 0; count = 0 }))
+    ∙ sym (row-length c.args.entries.now.items c.args.blocks.now.items c.args.owner)

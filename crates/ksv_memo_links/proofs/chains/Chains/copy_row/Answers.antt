@@ -1,0 +1,19 @@
+use Rattle.std.proofs.Common.{◌≡◌, ◌+◌, List, length, ap, arith}
+use Rattle.std.proofs.lemmas.List.{get_or_read}
+use Rattle.ksv_memo_links.specs.declared.blocks.Block.{Block}
+use Rattle.ksv_memo_links.specs.Chained.{block_at}
+use Rattle.ksv_memo_links.proofs.Linking.{named-length}
+use Rattle.ksv_memo_links.proofs.chains.Chains.copy_row.Goals as goal
+
+pub copy_block-requires : goal.copy_block-requires
+copy_block-requires c k lt =
+    let i = c.self.inside in
+    let n = named-length i.entries.items i.blocks.items in
+    let e = ap (λ x. length x.named) c.self.view_is in
+    let o = c.requires in
+    let read : c.index.result.now ≡ block_at i.blocks.items c.args.owner = get_or_read i.blocks.items c.args.owner c.index.result.now (omega arith) c.index.ensures (record { begin = 0; count = 0 }) in
+    let b = ap (λ (x : Block). x.begin) read in
+    let m = ap (λ (x : Block). x.count) read in
+    let s = ap (λ (xs : List _). length xs) c.as_slice.ensures.value in
+    let there = c.self.invariant.inside c.args.owner (c.index.result.now.begin + k) (record { from = omega arith; until = omega arith }) in
+    omega arith

@@ -1,0 +1,24 @@
+use Rattle.std.proofs.Common.{length, sym, ◌∙◌, ap, arith}
+use Rattle.ksv_memo_links.proofs.Items.{lists-length}
+use Rattle.ksv_memo_links.proofs.chains.Chains.link_row.Goals as goal
+
+pub link_block-requires-clause-lists_in : goal.link_block-requires-clause-lists_in
+link_block-requires-clause-lists_in c k d lt =
+    let e = ap (λ x. length x.lists) c.self.view_is in
+    let n = lists-length c.self.inside.entries.items c.self.inside.blocks.items c.self.inside.first.items in
+    let m = c.requires.lists_in k d lt in
+    omega arith
+
+pub returns-in_err-link_block-clause-count : goal.returns-in_err-link_block-clause-count
+returns-in_err-link_block-clause-count c =
+    lists-length c.link_block.new.entries.items c.link_block.new.blocks.items c.link_block.new.first.items
+    ∙ c.link_block.ensures.size
+    ∙ sym (lists-length c.self.inside.entries.items c.self.inside.blocks.items c.self.inside.first.items)
+    ∙ ap (λ x. length x.lists) c.self.view_is
+
+pub returns-clause-count : goal.returns-clause-count
+returns-clause-count c =
+    lists-length c.link_block.new.entries.items c.link_block.new.blocks.items c.link_block.new.first.items
+    ∙ c.link_block.ensures.size
+    ∙ sym (lists-length c.self.inside.entries.items c.self.inside.blocks.items c.self.inside.first.items)
+    ∙ ap (λ x. length x.lists) c.self.view_is

@@ -1,0 +1,7 @@
+use Rattle.std.proofs.Common.{◌≡◌, map, take}
+use Rattle.ksv_memo_links.specs.Touching.{pages_in}
+use Rattle.ksv_memo_links.specs.Placed.{list_of_page}
+use Rattle.ksv_memo_links.proofs.used.all_pages.Given as goal
+
+abbrev pub invariant-loop-used : goal.invariant-loop-used
+invariant-loop-used l = l.lists.items ≡ map list_of_page (pages_in (take l.used-index l.uses))
