@@ -5,8 +5,8 @@ use Rattle.std.proofs.lemmas.Bool.Decides.{eqb_tells}
 use Rattle.ksv_expr_value.specs.declared.step.Step.{Step}
 use Rattle.ksv_expr_value.specs.declared.step.Step.TheVariants.{Name, Index}
 use Rattle.ksv_places.specs.declared.links.Link.{Link}
-use Rattle.ksv_places.specs.Table.{IsPut, IsPutAt}
-use Rattle.ksv_places.specs.Tree.{chain, look, first_of_both, is_name, IsTree, Hooks}
+use Rattle.ksv_places.specs.Table.{IsPut, IsPutAt, first_of_both}
+use Rattle.ksv_places.specs.Tree.{chain, look, is_name, IsTree, Hooks}
 use Rattle.ksv_places.proofs.Growing.{nat_other, nat_self, Leads, grown_tree, same_chain, new_chain, past_new}
 
 -- a sum of two numbers of which the first is some, or none

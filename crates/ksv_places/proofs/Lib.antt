@@ -3,7 +3,9 @@ pub mod Filing
 pub mod Growing
 pub mod Hooking
 pub mod Naming
+pub mod Paging
 pub mod Planting
 pub mod Reaching
+pub mod Replacing
 pub mod Shelves
 pub mod Walking

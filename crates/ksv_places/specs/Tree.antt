@@ -3,7 +3,7 @@ use Rattle.std.specs.Prelude.{◌≡◌, ℕ, zero, suc, ◌+◌, ◌<◌, ◌�
 use Rattle.ksv_expr_value.specs.declared.step.Step.{Step}
 use Rattle.ksv_expr_value.specs.declared.step.Step.TheVariants.{Name, Index}
 use Rattle.ksv_places.specs.declared.links.Link.{Link}
-use Rattle.ksv_places.specs.Table.{IsPut, IsPutAt}
+use Rattle.ksv_places.specs.Table.{IsPut, IsPutAt, first_of_both}
 
 -- the link of a number
 abbrev pub link_at : List Link → ℕ → Link
@@ -35,11 +35,6 @@ abbrev pub chain_length : List Link → ℕ → ℕ → ℕ
 chain_length links zero c = 0
 chain_length links (suc f) zero = 0
 chain_length links (suc f) (suc c) = 1 + chain_length links f (link_at links (suc c)).next
-
--- a number; where it is 0, another
-abbrev pub first_of_both : ℕ → ℕ → ℕ
-first_of_both zero b = b
-first_of_both (suc a) b = suc a
 
 -- what leads to the paths one step further: the first of the chain of members of each path, the tables of the members that are
 -- not in chains, and those of the elements

@@ -3,10 +3,12 @@
 //! A *path* has a number, from 0 on; 0 is the root's. A *place* is the number of a node, as an engine counts them. The *spot* of a place
 //! says of which path and kind its node is. A path's *row* has the *marks* of its four nodes: a mark is a node's place and one more, or 0
 //! for none. A *link* of a path leads to the path a step shorter. From there the path is found among the *members* of an object or
-//! the *elements* of a list: up to eight members are in a *chain*; further members and all elements are in *tables*, which have *pages*.
+//! the *elements* of a list: up to eight members are in a *chain*; further members and all elements are in *tables*, which have a *descent*
+//! and *pages*.
 //!
 //! Modules:
 //!
+//! - `descent`: numbers of indices one below the other
 //! - `links`: links of paths, rows of marks, and spots
 //! - `numbers`: numbers by small indices
 //! - `parts`: parts that are made only where one is needed: pages of a table, and tables of paths
@@ -21,7 +23,7 @@
 //!
 //! - `Nodes`: nodes, given their kinds and steps
 //! - `Spots`: nodes by their places: rows, marks and spots
-//! - `Table`: numbers by indices, pages and tables
+//! - `Table`: numbers by indices, descents, pages and tables
 //! - `Tree`: numbered paths, and what leads to a path one step further
 //!
 //! Lemmas (`proofs/`):
@@ -31,12 +33,15 @@
 //! - `Growing`: a tree with a further path
 //! - `Hooking`: what leads where once a path was hooked to the one a step shorter
 //! - `Naming`: nodes, and their kinds and steps
+//! - `Paging`: a number put into a page of a table
 //! - `Planting`: the first path, the root
 //! - `Reaching`: more paths, of which the old ones have their numbers
+//! - `Replacing`: one part put in another's place
 //! - `Shelves`: a number put into a path's table
 //! - `Walking`: the paths of links, and what a walk along them finds
 #![tactic(auto)]
 
+mod descent;
 mod links;
 mod numbers;
 mod parts;

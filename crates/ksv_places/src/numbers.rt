@@ -1,5 +1,5 @@
 //! Numbers by small indices.
-ghost use Rattle.std.specs.Prelude.{◌≡◌, [], OnOk, OnErr};
+ghost use Rattle.std.specs.Prelude.{◌≡◌, [], length, OnOk, OnErr};
 ghost use Rattle.ksv_places.specs.Table.{IsPut, number_at};
 
 use std::alloc::{AllocError, Global};
@@ -31,6 +31,14 @@ impl Numbers {
         }
     }
 
+    /// One more than the last index that was set; 0 where none was.
+    #[inline(always)]
+    pub(crate) fn len(&self) -> usize
+        ensures { result ≡ length self.now }
+    {
+        self.numbers.len()
+    }
+
     /// The number of an index; 0 for none.
     #[inline(always)]
     pub(crate) fn at(&self, index: u32) -> u32
@@ -48,7 +56,11 @@ impl Numbers {
         ensures err { OnErr result (self.new ≡ self.old) }
     {
         let index = index as usize;
-        if self.numbers.len() <= index {
+        if self.numbers.len() == index {
+            self.numbers.push(number)?;
+            return Ok(());
+        }
+        if self.numbers.len() < index {
             self.numbers.resize(index + 1, 0)?;
         }
         self.numbers[index] = number;

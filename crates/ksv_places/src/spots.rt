@@ -56,17 +56,13 @@ fn widen(rows: &mut Vec<Row>, path: u32) -> Result<(), AllocError>
     ensures ok { OnOk result (path < length rows.new.items) }
     ensures few { length rows.new.items ≤ max (length rows.old.items) (path + 1) }
 {
-    let count = path as usize + 1;
-    if rows.as_slice().len() < count {
-        rows.resize(
-            count,
-            Row {
-                head: 0,
-                value: 0,
-                end: 0,
-                rest: 0,
-            },
-        )?;
+    while rows.as_slice().len() <= path as usize {
+        rows.push(Row {
+            head: 0,
+            value: 0,
+            end: 0,
+            rest: 0,
+        })?;
     }
     Ok(())
 }

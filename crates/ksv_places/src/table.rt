@@ -1,7 +1,8 @@
 //! Numbers by indices that may lie far apart.
-ghost use Rattle.std.specs.Prelude.{◌≡◌, [], OnOk, OnErr};
+ghost use Rattle.std.specs.Prelude.{◌≡◌, ◌<◌, [], OnOk, OnErr};
 ghost use Rattle.ksv_places.specs.Table.{IsPut, number_at, no_pages, part_at, table_at};
 
+use crate::descent::Descent;
 use crate::numbers::Numbers;
 use crate::parts::reach_part;
 use std::alloc::{AllocError, Global};
@@ -10,13 +11,14 @@ use std::marker::Model;
 /// How many indices a page has.
 const PAGE: u32 = 1024;
 
-/// A number for each index. Those of the first 1,024 indices lie in one block of memory; further ones lie in pages of 1,024, which
-/// are made only where an index has a number. 0 stands for none. `starts` has the number of each page: its place among the pages, and
-/// one more.
+/// A number for each index. Those of the first 1,024 indices lie in one block of memory. Further ones are in the descent: the first of
+/// them, and those that come one after another below it. All others lie in pages of 1,024, which are made only where an index has a
+/// number. 0 stands for none. `starts` has the number of each page: its place among the pages, and one more.
 #[derive(Drop)]
 pub(crate) struct Table {
     alloc: Global,
     near: Numbers,
+    descent: Descent,
     starts: Numbers,
     pages: Vec<Numbers>,
 }
@@ -27,7 +29,7 @@ impl Model for Table {
 
     ghost Value = { Pages };
 
-    ghost view = { λ table. record { near = table.near; starts = table.starts; pages = table.pages.items } };
+    ghost view = { λ table. record { near = table.near; descent = table.descent; starts = table.starts; pages = table.pages.items } };
 
     ghost invariant = { λ table. IsApart (number_at table.starts) (length table.pages.items) };
 }
@@ -55,6 +57,7 @@ impl Table {
         Table {
             alloc,
             near: Numbers::new(alloc),
+            descent: Descent::new(alloc),
             starts: Numbers::new(alloc),
             pages: Vec::new(alloc),
         }
@@ -68,6 +71,10 @@ impl Table {
         if index < PAGE {
             return self.near.at(index);
         }
+        let number = self.descent.at(index);
+        if number != 0 {
+            return number;
+        }
         in_page(
             self.pages.as_slice(),
             self.starts.at(index / PAGE),
@@ -75,13 +82,17 @@ impl Table {
         )
     }
 
-    /// Sets the number of an index.
+    /// Sets the number of an index, which is not 0.
     pub(crate) fn put(&mut self, index: u32, number: u32) -> Result<(), AllocError>
+        requires some { 0 < number }
         ensures ok { OnOk result (IsPut (table_at self.old) (table_at self.new) index number) }
         ensures err { OnErr result (table_at self.new ≡ table_at self.old) }
     {
         if index < PAGE {
             return self.near.put(index, number);
+        }
+        if self.descent.takes(index) {
+            return self.descent.put(index, number);
         }
         let fresh = Numbers::new(self.alloc);
         let page = reach_part(&mut self.starts, &mut self.pages, index / PAGE, fresh)?;

@@ -1,5 +1,5 @@
 //! Tables of paths.
-ghost use Rattle.std.specs.Prelude.{◌≡◌, [], OnOk, OnErr};
+ghost use Rattle.std.specs.Prelude.{◌≡◌, ◌<◌, [], OnOk, OnErr};
 ghost use Rattle.ksv_places.specs.Table.{IsPutAt, no_pages, no_tables, part_at, shelf_at, table_at};
 
 use crate::numbers::Numbers;
@@ -63,8 +63,9 @@ impl Tables {
         in_table(self.tables.as_slice(), self.starts.at(path), index)
     }
 
-    /// Sets the number of an index of a path.
+    /// Sets the number of an index of a path, which is not 0.
     pub(crate) fn put(&mut self, path: u32, index: u32, number: u32) -> Result<(), AllocError>
+        requires some { 0 < number }
         ensures ok { OnOk result (IsPutAt (shelf_at self.old) (shelf_at self.new) path index number) }
         ensures err { OnErr result (shelf_at self.new ≡ shelf_at self.old) }
     {

@@ -113,6 +113,7 @@ fn hook_member(
 ) -> Result<u32, AllocError>
     requires tree { IsTree links.now (number_at firsts.old) (shelf_at members.old) (shelf_at elements.now) }
     requires there { path < length links.now }
+    requires some { 0 < number }
     ensures ok { IfOk result (λ next. Hooks (number_at firsts.old) (number_at firsts.new) (shelf_at members.old) (shelf_at members.new) (shelf_at elements.now) (shelf_at elements.now) path (Step.Name name) number next) }
     ensures err { OnErr result (IsUnhooked (number_at firsts.old) (number_at firsts.new) (shelf_at members.old) (shelf_at members.new) (shelf_at elements.now) (shelf_at elements.now)) }
 {
@@ -138,6 +139,7 @@ fn hook(
 ) -> Result<u32, AllocError>
     requires tree { IsTree links.now (number_at firsts.old) (shelf_at members.old) (shelf_at elements.old) }
     requires there { path < length links.now }
+    requires some { 0 < number }
     ensures ok { IfOk result (λ next. Hooks (number_at firsts.old) (number_at firsts.new) (shelf_at members.old) (shelf_at members.new) (shelf_at elements.old) (shelf_at elements.new) path step number next) }
     ensures err { OnErr result (IsUnhooked (number_at firsts.old) (number_at firsts.new) (shelf_at members.old) (shelf_at members.new) (shelf_at elements.old) (shelf_at elements.new)) }
 {

@@ -103,20 +103,36 @@ fn are_placed(alloc: Global, indices: &[u32]) -> Result<bool, AllocError> {
     Ok(first? && again?)
 }
 
-/// So many indices downwards from the largest.
-fn downwards(alloc: Global, count: u32) -> Result<Vec<u32>, AllocError> {
+/// So many indices downwards from this one.
+fn downwards(alloc: Global, top: u32, count: u32) -> Result<Vec<u32>, AllocError> {
     let mut indices = Vec::new(alloc);
     for back in 0..count {
-        indices.push(1_048_575u32.saturating_sub(back))?;
+        indices.push(top.saturating_sub(back))?;
     }
     Ok(indices)
 }
 
 #[test]
 fn far_elements_have_places(rt: HostRuntime) -> Result<(), Fail> {
-    let indices = downwards(rt.alloc(), 3000)?;
+    let indices = downwards(rt.alloc(), 1_048_575, 3000)?;
     assert!(rt; are_placed(rt.alloc(), indices.as_slice())?);
     assert!(rt; are_placed(rt.alloc(), &[5, 1029, 2053, 1023, 1024, 1_048_575, 0, 2047])?);
+    Ok(())
+}
+
+#[test]
+fn elements_one_below_the_other_have_places(rt: HostRuntime) -> Result<(), Fail> {
+    let indices = downwards(rt.alloc(), 1300, 1301)?;
+    assert!(rt; are_placed(rt.alloc(), indices.as_slice())?);
+    assert!(rt; are_placed(rt.alloc(), &[1_048_575])?);
+    assert!(rt;
+        are_placed(
+            rt.alloc(),
+            &[
+                5000, 4999, 4998, 9000, 8999, 2000, 1999, 4997, 4995, 4996, 4994, 5001
+            ]
+        )?
+    );
     Ok(())
 }
 
@@ -208,6 +224,43 @@ fn is_tidied(alloc: Global, places: &mut NodePlaces) -> Result<bool, AllocError>
 fn tidying_keeps_nodes_and_drops_paths(rt: HostRuntime) -> Result<(), Fail> {
     let mut places: NodePlaces = NodePlaces::new(rt.alloc());
     let tidied = is_tidied(rt.alloc(), &mut places);
+    drop(places);
+    assert!(rt; tidied?);
+    Ok(())
+}
+
+/// Gives the place of the only node to so many further elements in turn, each the next below.
+fn is_given_down(
+    alloc: Global,
+    places: &mut NodePlaces,
+    top: u32,
+    count: u32,
+) -> Result<bool, AllocError> {
+    let mut is_right = is_at(alloc, places, NodeKind::Value, &[Step::Index(top)], 0)?;
+    for back in 0..count {
+        let index = top.saturating_sub(back);
+        is_right = is_right && passes_to(alloc, places, index, index.saturating_sub(1))?;
+    }
+    Ok(is_right)
+}
+
+/// Whether tidying leaves the last of 40,001 elements, and those beside it get further places then.
+fn is_tidied_below(alloc: Global, places: &mut NodePlaces) -> Result<bool, AllocError> {
+    let given = is_given_down(alloc, places, 50_000, 40_000)?;
+    places.tidy();
+    let after = places.spots.path_count();
+    let last = is_at(alloc, places, NodeKind::Value, &[Step::Index(10_000)], 0)?;
+    let above = is_at(alloc, places, NodeKind::Value, &[Step::Index(10_001)], 1)?;
+    let below = is_at(alloc, places, NodeKind::Value, &[Step::Index(9999)], 2)?;
+    let again = is_at(alloc, places, NodeKind::Value, &[Step::Index(10_001)], 1)?;
+    let first = has_none(alloc, places, NodeKind::Value, &[Step::Index(50_000)])?;
+    Ok(given && after == 2 && last && above && below && again && first)
+}
+
+#[test]
+fn tidying_keeps_a_far_element(rt: HostRuntime) -> Result<(), Fail> {
+    let mut places: NodePlaces = NodePlaces::new(rt.alloc());
+    let tidied = is_tidied_below(rt.alloc(), &mut places);
     drop(places);
     assert!(rt; tidied?);
     Ok(())
