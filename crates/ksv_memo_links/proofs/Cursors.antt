@@ -1,5 +1,5 @@
--- Where a walk along the items of a list stands, told from the place that it has.
-use Rattle.std.proofs.Common.{◌≡◌, ◌≢◌, ◌⊎◌, inl, inr, true, false, eqb, cond, ℕ, zero, suc, ◌-◌, ◌<◌, ◌≤◌, List, [], ◌∷◌, length, get_or, refl, ◌∙◌, ap, arith}
+-- Where a walk along the items of a list stands, told from the place that it has, and how it goes on.
+use Rattle.std.proofs.Common.{◌≡◌, ◌≢◌, ◌⊎◌, inl, inr, true, false, eqb, cond, ℕ, zero, suc, ◌+◌, ◌-◌, ◌<◌, ◌≤◌, List, [], ◌∷◌, length, get_or, refl, sym, ◌∙◌, ap, subst, arith}
 use Rattle.std.proofs.lemmas.Bool.Decides.{eqb_tells}
 use Rattle.ksv_memo_links.specs.declared.blocks.Item.{Item}
 use Rattle.ksv_memo_links.specs.Shelved.{row}
@@ -28,8 +28,49 @@ left-at (x ∷ xs) h (suc i) le = by (left-at xs (λ j k lt l. h (suc j) (suc k)
     by r (inl e) = absurd (h zero (suc i) (omega arith) le e.1)
     by r (inr e) = let z = ap (λ b. cond b (suc (length xs)) (left_from xs (get_or xs i (at 0 0)).at)) e.0 in omega arith
 
-pub left-is : (lists : List (List Item)) (named : List (List ℕ)) (s i p : ℕ) → IsListed lists named → i ≤ length (row lists s) → p ≡ (item_at lists s i).at → left_from (row lists s) p ≡ length (row lists s) - i
-left-is lists named s i p h le e = ap (λ q. left_from (row lists s) q) e ∙ left-at (row lists s) (h.apart s) i le
+-- a walk stands at the place of an item of a list, or of none after the last
+abbrev pub StandsAt : List (List Item) → ℕ → ℕ → Type 0
+StandsAt lists s p = p ≡ (item_at lists s (seen_to (row lists s) p)).at
 
-pub seen-is : (lists : List (List Item)) (named : List (List ℕ)) (s i p : ℕ) → IsListed lists named → i ≤ length (row lists s) → p ≡ (item_at lists s i).at → seen_to (row lists s) p ≡ i
-seen-is lists named s i p h le e = let l = left-is lists named s i p h le e in omega arith
+-- a walk goes on from a place, where it found an item with the next place
+pub record Steps (lists : List (List Item)) (s p : ℕ) (x : Item) : Type 0 where
+  pub inside : seen_to (row lists s) p < length (row lists s)
+  pub owner : x.owner ≡ (item_at lists s (seen_to (row lists s) p)).owner
+  pub stands : StandsAt lists s x.at
+  pub seen : seen_to (row lists s) x.at ≡ seen_to (row lists s) p + 1
+  pub less : left_from (row lists s) x.at < left_from (row lists s) p
+
+module _ (lists : List (List Item)) (named : List (List ℕ)) (s : ℕ) (h : IsListed lists named) where
+  left-is : (i p : ℕ) → i ≤ length (row lists s) → p ≡ (item_at lists s i).at → left_from (row lists s) p ≡ length (row lists s) - i
+  left-is i p le e = ap (λ q. left_from (row lists s) q) e ∙ left-at (row lists s) (h.apart s) i le
+
+  seen-is : (i p : ℕ) → i ≤ length (row lists s) → p ≡ (item_at lists s i).at → seen_to (row lists s) p ≡ i
+  seen-is i p le e = let l = left-is i p le e in omega arith
+
+  stands-at : (i p : ℕ) → i ≤ length (row lists s) → p ≡ (item_at lists s i).at → StandsAt lists s p
+  stands-at i p le e = e ∙ sym (ap (λ n. (item_at lists s n).at) (seen-is i p le e))
+
+  -- at the first item
+  pub starts : (p : ℕ) → p ≡ (item_at lists s 0).at → StandsAt lists s p × (seen_to (row lists s) p ≡ 0)
+  starts p e = (stands-at 0 p (omega arith) e, seen-is 0 p (omega arith) e)
+
+  -- at the next one, told from the lists as they are now, which are the same
+  pub steps : (now : List (List Item)) (p : ℕ) (x : Item) → now ≡ lists → StandsAt lists s p → ((list i : ℕ) → p ≡ (item_at now list i).at → (i < length (row now list)) × (x.owner ≡ (item_at now list i).owner) × (x.at ≡ (item_at now list (i + 1)).at)) → Steps lists s p x
+  steps now p x same stands tells =
+      let P : List (List Item) → Type 0 = λ ls. (list i : ℕ) → p ≡ (item_at ls list i).at → (i < length (row ls list)) × (x.owner ≡ (item_at ls list i).owner) × (x.at ≡ (item_at ls list (i + 1)).at) in
+      let i = seen_to (row lists s) p in
+      let found = subst P same tells s i stands in
+      let lt = found.0 in
+      let before = left-is i p (omega arith) stands in
+      let after = left-is (i + 1) x.at (omega arith) found.2 in
+      record {
+        inside = found.0;
+        owner = found.1;
+        stands = stands-at (i + 1) x.at (omega arith) found.2;
+        seen = seen-is (i + 1) x.at (omega arith) found.2;
+        less = omega arith;
+      }
+
+  -- after the last
+  pub ended : (now : List (List Item)) (p : ℕ) → now ≡ lists → StandsAt lists s p → ((list i : ℕ) → p ≡ (item_at now list i).at → length (row now list) ≤ i) → length (row lists s) ≤ seen_to (row lists s) p
+  ended now p same stands none = let P : List (List Item) → Type 0 = λ ls. (list i : ℕ) → p ≡ (item_at ls list i).at → length (row ls list) ≤ i in subst P same none s (seen_to (row lists s) p) stands

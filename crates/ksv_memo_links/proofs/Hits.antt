@@ -6,11 +6,11 @@ use Rattle.ksv_bytes.specs.declared.uses.Change.{Change}
 use Rattle.ksv_memo_links.specs.declared.blocks.Item.{Item}
 use Rattle.ksv_memo_links.specs.declared.parts.Parts.{Parts}
 use Rattle.ksv_memo_links.specs.Shelved.{row}
-use Rattle.ksv_memo_links.specs.Placed.{lists_of_uses, end_lists, page_lists}
+use Rattle.ksv_memo_links.specs.Placed.{Used, lists_of_uses, end_lists, page_lists}
 use Rattle.ksv_memo_links.specs.Linked.{at}
 use Rattle.ksv_memo_links.specs.Links.{is_hit, here, through, first_page}
 use Rattle.ksv_memo_links.specs.Marking.{is_kept}
-use Rattle.ksv_memo_links.specs.Chained.{IsListed}
+use Rattle.ksv_memo_links.specs.Chained.{Chained, IsListed}
 use Rattle.ksv_memo_links.specs.Linked.{item_at}
 use Rattle.ksv_memo_links.specs.Forgetting.{SameLinks, looks, Why, MarksMore, IsEdit, HitsSlot, HitsRow, HitsRows, HitsBehind, sizes}
 use Rattle.ksv_memo_links.proofs.Mark.{stays-out}
@@ -53,6 +53,27 @@ pub record Peeks (q q1 : Parts) : Type 0 where
   pub rises : looks q ≤ looks q1
   pub looks : looks q1 ≤ looks q + 1
   pub least : length q.marks.work ≤ q.marks.looks → length q1.marks.work ≤ q1.marks.looks
+
+-- one look at the asks, or at the uses
+pub peek-asks : (q : Parts) (asks : Chained) → asks.named ≡ q.asks.named → asks.lists ≡ q.asks.lists → asks.looks ≤ q.asks.looks + 1 → q.asks.looks ≤ asks.looks → Peeks q (record { asks = asks; uses = q.uses; marks = q.marks })
+peek-asks q asks named lists most least = record {
+  same = record { asks = named; ask_lists = lists; uses = refl; use_lists = refl };
+  kept = refl;
+  work = refl;
+  rises = omega arith;
+  looks = omega arith;
+  least = λ h. h;
+}
+
+pub peek-uses : (q : Parts) (uses : Used) → uses.rows ≡ q.uses.rows → uses.lists ≡ q.uses.lists → uses.looks ≤ q.uses.looks + 1 → q.uses.looks ≤ uses.looks → Peeks q (record { asks = q.asks; uses = uses; marks = q.marks })
+peek-uses q uses rows lists most least = record {
+  same = record { asks = refl; ask_lists = refl; uses = rows; use_lists = lists };
+  kept = refl;
+  work = refl;
+  rises = omega arith;
+  looks = omega arith;
+  least = λ h. h;
+}
 
 row-none : (p : Parts) (change : Change) (items : List Item) → HitsRow p p change items 0 0
 row-none p change items = record {

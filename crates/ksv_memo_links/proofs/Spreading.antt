@@ -23,16 +23,15 @@ users-none p slot = record {
 }
 
 -- the users of a slot are those that asked it still
-pub asked-along : (p q : Parts) → IsListed p.asks.lists p.asks.named → SameLinks p q → IsListed q.asks.lists q.asks.named
+asked-along : (p q : Parts) → IsListed p.asks.lists p.asks.named → SameLinks p q → IsListed q.asks.lists q.asks.named
 asked-along p q h s = subst (λ (lists : List (List Item)). IsListed lists q.asks.named) (sym s.ask_lists) (subst (λ (asked : List (List ℕ)). IsListed p.asks.lists asked) (sym s.asks) h)
 
 -- a user is one of the slots
-pub user-there : (p q : Parts) (slot i : ℕ) → IsShaped p → IsListed p.asks.lists p.asks.named → SameLinks p q → i < length (row q.asks.lists slot) → (item_at q.asks.lists slot i).owner < length p.marks.kept
-user-there p q slot i w h s lt =
-    let k = (asked-along p q h s).owners slot i lt in
+pub user-there : (p : Parts) (slot i : ℕ) → IsShaped p → IsListed p.asks.lists p.asks.named → i < length (row p.asks.lists slot) → (item_at p.asks.lists slot i).owner < length p.marks.kept
+user-there p slot i w h lt =
+    let k = h.owners slot i lt in
     let some = k.1 in
-    let n = ap (λ (asked : List (List ℕ)). length (row asked (item_at q.asks.lists slot i).owner)) s.asks in
-    w.asked_in (item_at q.asks.lists slot i).owner (omega arith)
+    w.asked_in (item_at p.asks.lists slot i).owner (omega arith)
 
 -- the first user was looked for
 pub users-first : (p p1 : Parts) (slot : ℕ) → Peeks p p1 → HitsUsers p p1 slot 0 1
@@ -45,21 +44,24 @@ users-first p p1 slot k =
       looks = let len = ap (λ (ws : List ℕ). length ws) k.work in let b = k.looks in omega arith;
     }
 
-pub users-more : (p q q1 r : Parts) (slot i user : ℕ) → HitsUsers p q slot i 1 → Peeks q q1 → IsListed q.asks.lists q.asks.named → i < length (row q.asks.lists slot) → user ≡ (item_at q.asks.lists slot i).owner → MarksOne q1 r user → looks r + 2 * length q1.marks.work ≤ looks q1 + 1 + 2 * length r.marks.work → HitsUsers p r slot (i + 1) 1
+pub users-more : (p q q1 r : Parts) (slot i user : ℕ) → HitsUsers p q slot i 1 → Peeks q q1 → IsListed p.asks.lists p.asks.named → i < length (row p.asks.lists slot) → user ≡ (item_at p.asks.lists slot i).owner → MarksOne q1 r user → looks r + 2 * length q1.marks.work ≤ looks q1 + 1 + 2 * length r.marks.work → HitsUsers p r slot (i + 1) 1
 users-more p q q1 r slot i user h k l lt e one few = record {
   more = more-trans p q1 r (λ first x. Why p first x slot) (λ first x. Why q first x slot) to_q1
-      (one-mark q1 r (λ first x. Why q first x slot) user one (λ first x w f. why-along q q1 first x (λ why. why user) k.same (let P : ℕ → Type 0 = λ s. Why q first x s in subst P (sym e) (user-why q slot i l lt first x w))))
+      (one-mark q1 r (λ first x. Why q first x slot) user one (λ first x w f. why-along q q1 first x (λ why. why user) k.same (let P : ℕ → Type 0 = λ s. Why q first x s in subst P now (user-why q slot i (asked-along p q l h.more.same) there first x w))))
       (λ first x w m. why-along p q first x (λ why. why slot) h.more.same w);
-  out = below-more (λ j. is_kept r.marks.kept (item_at p.asks.lists slot j).owner ≡ false) i (λ j lj. stays-out q.marks.kept r.marks.kept (item_at p.asks.lists slot j).owner fewer (h.out j lj)) (ap (λ s. is_kept r.marks.kept s) is ∙ one-out q1 r user one);
-  within = let n = ap (λ (rows : List (List Item)). length (row rows slot)) h.more.same.ask_lists in omega arith;
+  out = below-more (λ j. is_kept r.marks.kept (item_at p.asks.lists slot j).owner ≡ false) i (λ j lj. stays-out q.marks.kept r.marks.kept (item_at p.asks.lists slot j).owner fewer (h.out j lj)) (ap (λ s. is_kept r.marks.kept s) (sym e) ∙ one-out q1 r user one);
+  within = omega arith;
   looks = let len = ap (λ (ws : List ℕ). length ws) k.work in let a = h.looks in let b = k.looks in omega arith;
 }
   where
     to_q1 : MarksMore p q1 (λ first x. Why p first x slot)
     to_q1 = peek-more p q q1 (λ first x. Why p first x slot) h.more k
 
-    is : (item_at p.asks.lists slot i).owner ≡ user
-    is = ap (λ rows. (item_at rows slot i).owner) (sym h.more.same.ask_lists) ∙ sym e
+    there : i < length (row q.asks.lists slot)
+    there = let n = ap (λ (rows : List (List Item)). length (row rows slot)) h.more.same.ask_lists in omega arith
+
+    now : (item_at q.asks.lists slot i).owner ≡ user
+    now = ap (λ rows. (item_at rows slot i).owner) h.more.same.ask_lists ∙ sym e
 
     marks : MarksMore q1 r (λ first x. Unit {0} → Why q1 first x user)
     marks = one-mark q1 r (λ first x. Unit {0} → Why q1 first x user) user one (λ first x w f. w tt)
@@ -68,9 +70,8 @@ users-more p q q1 r slot i user h k l lt e one few = record {
     fewer s f = ap (λ (ks : List Bool). is_kept ks s) (sym k.kept) ∙ marks.fewer s f
 
 -- there is no user more, which took no look
-pub users-end : (p q q1 : Parts) (slot i : ℕ) → HitsUsers p q slot i 1 → Peeks q q1 → looks q1 ≡ looks q → length (row q.asks.lists slot) ≤ i → HitsUsers p q1 slot (length (row p.asks.lists slot)) 1
+pub users-end : (p q q1 : Parts) (slot i : ℕ) → HitsUsers p q slot i 1 → Peeks q q1 → looks q1 ≡ looks q → length (row p.asks.lists slot) ≤ i → HitsUsers p q1 slot (length (row p.asks.lists slot)) 1
 users-end p q q1 slot i h k idle le =
-    let n = ap (λ (rows : List (List Item)). length (row rows slot)) h.more.same.ask_lists in
     let w = h.within in
     let same : i ≡ length (row p.asks.lists slot) = omega arith in
     subst (λ m. HitsUsers p q1 slot m 1) same (record {

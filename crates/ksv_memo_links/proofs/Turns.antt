@@ -1,8 +1,9 @@
 -- Lists that take turns: those of ends, and those of pages.
-use Rattle.std.proofs.Common.{◌≡◌, ◌≢◌, ◌⊎◌, inl, inr, true, false, cond, eqb, ℕ, zero, suc, ◌+◌, ◌-◌, ◌*◌, ◌/◌, ◌<◌, ◌≤◌, List, [], ◌∷◌, ◌++◌, length, map, get_or, Contains, refl, sym, ◌∙◌, ap, subst, arith, sum_by}
+use Rattle.std.proofs.Common.{◌≡◌, ◌≢◌, ◌⊎◌, inl, inr, true, false, cond, eqb, ℕ, zero, suc, ◌+◌, ◌*◌, ◌/◌, ◌<◌, ◌≤◌, List, [], ◌∷◌, length, map, get_or, Contains, refl, sym, ◌∙◌, ap, subst, arith, sum_by}
 use Rattle.std.proofs.lemmas.Bool.{cases_lt}
 use Rattle.std.proofs.lemmas.Bool.Decides.{eqb_tells}
-use Rattle.std.proofs.lemmas.List.{get_or-map, get_or_past, length-map, length-append, get_or_append_left, get_or-append_right}
+use Rattle.std.proofs.lemmas.List.{get_or-map, get_or_past, get_or_read, length-map}
+use Rattle.std.proofs.lemmas.List.Elements.{Contains-append_left, Contains-append_right}
 use Rattle.std.proofs.lemmas.List.Sums.{sum_by-cons, sum_by-append}
 use Rattle.ksv_bytes.specs.declared.uses.Use.{Use}
 use Rattle.ksv_memo_links.specs.declared.blocks.Item.{Item}
@@ -52,35 +53,20 @@ pub count-pages : {X : Type 0} (lists : List X) → length (page_lists lists) �
 count-pages lists = (counts lists).1
 
 -- ---- how often a list is named
-map-page : (l : ℕ) (ps : List ℕ) → sum_by (one_if (list_of_page l)) (map list_of_page ps) ≡ sum_by (one_if l) ps
-map-page l [] = refl
-map-page l (p ∷ ps) =
-    let a = sum_by-cons (one_if (list_of_page l)) (list_of_page p) (map list_of_page ps) in
+map-named : (f : ℕ → ℕ) → ((l p : ℕ) → f l ≡ f p → l ≡ p) → (l : ℕ) (ps : List ℕ) → sum_by (one_if (f l)) (map f ps) ≡ sum_by (one_if l) ps
+map-named f one l [] = refl
+map-named f one l (p ∷ ps) =
+    let a = sum_by-cons (one_if (f l)) (f p) (map f ps) in
     let b = sum_by-cons (one_if l) p ps in
-    let h = map-page l ps in
-    let e = same (eqb_tells l p) (eqb_tells (list_of_page l) (list_of_page p)) in
+    let h = map-named f one l ps in
+    let e = same (eqb_tells l p) (eqb_tells (f l) (f p)) in
     omega arith
   where
-    same : ((eqb l p ≡ true) × (l ≡ p)) ⊎ ((eqb l p ≡ false) × (l ≢ p)) → ((eqb (list_of_page l) (list_of_page p) ≡ true) × (list_of_page l ≡ list_of_page p)) ⊎ ((eqb (list_of_page l) (list_of_page p) ≡ false) × (list_of_page l ≢ list_of_page p)) → one_if (list_of_page l) (list_of_page p) ≡ one_if l p
-    same (inl e) (inl f) = ap (λ b. cond b 1 0) (f.0 ∙ sym e.0)
-    same (inr e) (inr f) = ap (λ b. cond b 1 0) (f.0 ∙ sym e.0)
-    same (inl e) (inr f) = absurd (f.1 (ap list_of_page e.1))
-    same (inr e) (inl f) = absurd (e.1 (let g = f.1 in omega arith))
-
-map-end : (l : ℕ) (ps : List ℕ) → sum_by (one_if (list_of_end l)) (map list_of_end ps) ≡ sum_by (one_if l) ps
-map-end l [] = refl
-map-end l (p ∷ ps) =
-    let a = sum_by-cons (one_if (list_of_end l)) (list_of_end p) (map list_of_end ps) in
-    let b = sum_by-cons (one_if l) p ps in
-    let h = map-end l ps in
-    let e = same (eqb_tells l p) (eqb_tells (list_of_end l) (list_of_end p)) in
-    omega arith
-  where
-    same : ((eqb l p ≡ true) × (l ≡ p)) ⊎ ((eqb l p ≡ false) × (l ≢ p)) → ((eqb (list_of_end l) (list_of_end p) ≡ true) × (list_of_end l ≡ list_of_end p)) ⊎ ((eqb (list_of_end l) (list_of_end p) ≡ false) × (list_of_end l ≢ list_of_end p)) → one_if (list_of_end l) (list_of_end p) ≡ one_if l p
-    same (inl e) (inl f) = ap (λ b. cond b 1 0) (f.0 ∙ sym e.0)
-    same (inr e) (inr f) = ap (λ b. cond b 1 0) (f.0 ∙ sym e.0)
-    same (inl e) (inr f) = absurd (f.1 (ap list_of_end e.1))
-    same (inr e) (inl f) = absurd (e.1 (let g = f.1 in omega arith))
+    same : ((eqb l p ≡ true) × (l ≡ p)) ⊎ ((eqb l p ≡ false) × (l ≢ p)) → ((eqb (f l) (f p) ≡ true) × (f l ≡ f p)) ⊎ ((eqb (f l) (f p) ≡ false) × (f l ≢ f p)) → one_if (f l) (f p) ≡ one_if l p
+    same (inl e) (inl g) = ap (λ b. cond b 1 0) (g.0 ∙ sym e.0)
+    same (inr e) (inr g) = ap (λ b. cond b 1 0) (g.0 ∙ sym e.0)
+    same (inl e) (inr g) = absurd (g.1 (ap f e.1))
+    same (inr e) (inl g) = absurd (e.1 (one l p g.1))
 
 none-of : (l : ℕ) (f : ℕ → ℕ) → ((p : ℕ) → l ≢ f p) → (ps : List ℕ) → sum_by (one_if l) (map f ps) ≡ 0
 none-of l f h [] = refl
@@ -93,62 +79,60 @@ none-of l f h (p ∷ ps) = let a = sum_by-cons (one_if l) (f p) (map f ps) in le
 named-page : (g : ℕ) (us : List Use) → sum_by (one_if (list_of_page g)) (lists_of_uses us) ≡ sum_by (one_if g) (pages_in us)
 named-page g us =
     let a = sum_by-append (one_if (list_of_page g)) (map list_of_page (pages_in us)) (map list_of_end (ends_in us)) in
-    let b = map-page g (pages_in us) in
+    let b = map-named list_of_page (λ l p e. omega arith) g (pages_in us) in
     let c = none-of (list_of_page g) list_of_end (λ p e. never-meet p g (sym e)) (ends_in us) in
     omega arith
 
 named-end : (l : ℕ) (us : List Use) → sum_by (one_if (list_of_end l)) (lists_of_uses us) ≡ sum_by (one_if l) (ends_in us)
 named-end l us =
     let a = sum_by-append (one_if (list_of_end l)) (map list_of_page (pages_in us)) (map list_of_end (ends_in us)) in
-    let b = map-end l (ends_in us) in
+    let b = map-named list_of_end (λ n p e. omega arith) l (ends_in us) in
     let c = none-of (list_of_end l) list_of_page (λ p e. never-meet l p e) (pages_in us) in
     omega arith
 
 -- ---- what is listed by uses
+-- a slot is the owner of one of these items
+abbrev pub IsOwner : List Item → ℕ → Type 0
+IsOwner xs s = (i : ℕ) × (i < length xs) × ((get_or xs i (at 0 0)).owner ≡ s)
+
+-- what a number of a list gives is among what all of them give
+gives : (f : ℕ → ℕ) (xs : List ℕ) (x : ℕ) → Contains xs x → Contains (map f xs) (f x)
+gives f xs x c = (c.0, (let n = length-map xs f in let lt = c.1 in omega arith), get_or-map f xs c.0 x (f x) c.1 ∙ ap f c.2)
+
 module _ (rows : List (List Use)) (lists : List (List Item)) (h : IsListed lists (map lists_of_uses rows)) where
-  pub few-pages : (g : ℕ) → length (row (page_lists lists) g) ≤ naming (map pages_in rows) g
-  few-pages g =
-      let a = h.few (list_of_page g) in
-      let e = ap (λ (xs : List Item). length xs) (row-of-page lists g) in
-      let b = rows-le (λ ns. sum_by (one_if (list_of_page g)) ns) (λ ns. sum_by (one_if g) ns) (map lists_of_uses rows) (map pages_in rows) refl refl (λ r. ap (λ ns. sum_by (one_if (list_of_page g)) ns) (row_of lists_of_uses rows r refl) ∙ named-page g (row rows r) ∙ ap (λ ns. sum_by (one_if g) ns) (sym (row_of pages_in rows r refl))) in
+  -- a list has no more items than what it stands for is named
+  few-of : (l n : ℕ) (of : List Use → List ℕ) → of [] ≡ [] → ((us : List Use) → sum_by (one_if l) (lists_of_uses us) ≡ sum_by (one_if n) (of us)) → length (row lists l) ≤ naming (map of rows) n
+  few-of l n of none each =
+      let a = h.few l in
+      let b = rows-le (λ ns. sum_by (one_if l) ns) (λ ns. sum_by (one_if n) ns) (map lists_of_uses rows) (map of rows) refl refl (λ r. ap (λ ns. sum_by (one_if l) ns) (row_of lists_of_uses rows r refl) ∙ each (row rows r) ∙ ap (λ ns. sum_by (one_if n) ns) (sym (row_of of rows r none))) in
       omega arith
+
+  pub few-pages : (g : ℕ) → length (row (page_lists lists) g) ≤ naming (map pages_in rows) g
+  few-pages g = let a = few-of (list_of_page g) g pages_in refl (named-page g) in let e = ap (λ (xs : List Item). length xs) (row-of-page lists g) in omega arith
 
   pub few-ends : (l : ℕ) → length (row (end_lists lists) l) ≤ naming (map ends_in rows) l
-  few-ends l =
-      let a = h.few (list_of_end l) in
-      let e = ap (λ (xs : List Item). length xs) (row-of-end lists l) in
-      let b = rows-le (λ ns. sum_by (one_if (list_of_end l)) ns) (λ ns. sum_by (one_if l) ns) (map lists_of_uses rows) (map ends_in rows) refl refl (λ r. ap (λ ns. sum_by (one_if (list_of_end l)) ns) (row_of lists_of_uses rows r refl) ∙ named-end l (row rows r) ∙ ap (λ ns. sum_by (one_if l) ns) (sym (row_of ends_in rows r refl))) in
-      omega arith
+  few-ends l = let a = few-of (list_of_end l) l ends_in refl (named-end l) in let e = ap (λ (xs : List Item). length xs) (row-of-end lists l) in omega arith
 
-  -- a slot stands in a list of its uses
-  in-list : (s k l : ℕ) → k < length (lists_of_uses (row rows s)) → get_or (lists_of_uses (row rows s)) k 0 ≡ l → (i : ℕ) × (i < length (row lists l)) × ((item_at lists l i).owner ≡ s)
-  in-list s k l lt e =
-      let o = row_of lists_of_uses rows s refl in
-      let f = h.found s k (subst (λ (ns : List ℕ). k < length ns) (sym o) lt) in
-      subst (λ m. (i : ℕ) × (i < length (row lists m)) × ((item_at lists m i).owner ≡ s)) (ap (λ (ns : List ℕ). get_or ns k 0) o ∙ e) f
+  -- a slot stands in each list of its uses
+  in-list : (s l : ℕ) → Contains (lists_of_uses (row rows s)) l → IsOwner (row lists l) s
+  in-list s l c =
+      let ns = row (map lists_of_uses rows) s in
+      let k : Contains ns l = subst (λ (ms : List ℕ). Contains ms l) (sym (row_of lists_of_uses rows s refl)) c in
+      subst (λ m. IsOwner (row lists m) s) (sym (get_or_read ns k.0 l k.1 (sym k.2) 0)) (h.found s k.0 k.1)
 
-  pub page-item : (s g : ℕ) → Contains (pages_in (row rows s)) g → (i : ℕ) × (i < length (row (page_lists lists) g)) × ((item_at (page_lists lists) g i).owner ≡ s)
+  pub page-item : (s g : ℕ) → Contains (pages_in (row rows s)) g → IsOwner (row (page_lists lists) g) s
   page-item s g c =
       let ps = map list_of_page (pages_in (row rows s)) in
       let es = map list_of_end (ends_in (row rows s)) in
-      let k = c.0 in let lt = c.1 in
-      let n = length-map (pages_in (row rows s)) list_of_page in
-      let m = length-append ps es in
-      let here : get_or (ps ++ es) k 0 ≡ list_of_page g = get_or_append_left ps es 0 k (omega arith) ∙ get_or-map list_of_page (pages_in (row rows s)) k g 0 lt ∙ ap list_of_page c.2 in
-      let f = in-list s k (list_of_page g) (omega arith) here in
-      subst (λ (xs : List Item). (i : ℕ) × (i < length xs) × ((get_or xs i (at 0 0)).owner ≡ s)) (row-of-page lists g) f
+      let there = Contains-append_left ps es (list_of_page g) (gives list_of_page (pages_in (row rows s)) g c) in
+      subst (λ (xs : List Item). IsOwner xs s) (row-of-page lists g) (in-list s (list_of_page g) there)
 
-  pub end-item : (s l : ℕ) → Contains (ends_in (row rows s)) l → (i : ℕ) × (i < length (row (end_lists lists) l)) × ((item_at (end_lists lists) l i).owner ≡ s)
+  pub end-item : (s l : ℕ) → Contains (ends_in (row rows s)) l → IsOwner (row (end_lists lists) l) s
   end-item s l c =
       let ps = map list_of_page (pages_in (row rows s)) in
       let es = map list_of_end (ends_in (row rows s)) in
-      let k = c.0 in let lt = c.1 in
-      let n = length-map (ends_in (row rows s)) list_of_end in
-      let m = length-append ps es in
-      let back : length ps + k - length ps ≡ k = omega arith in
-      let here : get_or (ps ++ es) (length ps + k) 0 ≡ list_of_end l = get_or-append_right ps es (length ps) (length ps + k) 0 refl (omega arith) ∙ ap (λ j. get_or es j 0) back ∙ get_or-map list_of_end (ends_in (row rows s)) k l 0 lt ∙ ap list_of_end c.2 in
-      let f = in-list s (length ps + k) (list_of_end l) (omega arith) here in
-      subst (λ (xs : List Item). (i : ℕ) × (i < length xs) × ((get_or xs i (at 0 0)).owner ≡ s)) (row-of-end lists l) f
+      let there = Contains-append_right ps es (list_of_end l) (gives list_of_end (ends_in (row rows s)) l c) in
+      subst (λ (xs : List Item). IsOwner xs s) (row-of-end lists l) (in-list s (list_of_end l) there)
 
 -- the same lists, as rows that are read alike name them
 pub listed-as : (lists : List (List Item)) (rows : List (List Use)) (named : List (List ℕ)) → ((s : ℕ) → row named s ≡ lists_of_uses (row rows s)) → IsListed lists named → IsListed lists (map lists_of_uses rows)

@@ -1,5 +1,5 @@
 //! Entries in blocks, and the chains of those of the same list.
-ghost use Rattle.std.specs.Prelude.{◌≡◌, ◌≢◌, ◌⊎◌, ℕ, ◌+◌, ◌-◌, ◌<◌, ◌≤◌, [], ◌++◌, length, replicate, slice_set, IfOk, OnOk, OnErr, IsTrue};
+ghost use Rattle.std.specs.Prelude.{◌≡◌, ◌≢◌, ◌⊎◌, ℕ, ◌+◌, ◌-◌, ◌*◌, ◌<◌, ◌≤◌, [], ◌++◌, length, replicate, slice_set, IfOk, OnOk, OnErr, IsTrue};
 ghost use Rattle.std.specs.List.{All};
 ghost use Rattle.ksv_memo_links.specs.declared.blocks.Entry.{Entry};
 ghost use Rattle.ksv_memo_links.specs.Shelved.{row};
@@ -98,29 +98,39 @@ fn link(entries: &mut Vec<Entry>, first: &mut Vec<u32>, at: u32, owner: u32, lis
     first[list as usize] = at;
 }
 
-/// Takes the entries of an owner, the last first. It counts one look for the block, and four for each entry: for the entry,
-/// for the one before it, for the one after it, and for the block.
+/// What was taken of an owner: how many entries, and by how many looks.
+#[derive(Clone, Copy, Drop)]
+pub(crate) struct Cleared {
+    pub count: u32,
+    pub looks: u64,
+}
+
+/// Takes the entries of an owner, the last first. It is one look for the block, and for each entry four: three for taking it
+/// out of its chain, and one for the block.
 pub(crate) fn clear_block(
     entries: &mut Vec<Entry>,
     blocks: &mut Vec<Block>,
     first: &mut Vec<u32>,
     owner: u32,
-) -> u32
+) -> Cleared
     requires chained { IsChained entries.old.items blocks.old.items first.old.items }
     requires owner_in { owner < length blocks.old.items }
     ensures chained { IsChained entries.new.items blocks.new.items first.new.items }
     ensures named { named_of entries.new.items blocks.new.items ≡ slice_set (named_of entries.old.items blocks.old.items) owner [] }
-    ensures count { result ≡ length (row (named_of entries.old.items blocks.old.items) owner) }
+    ensures count { result.count ≡ length (row (named_of entries.old.items blocks.old.items) owner) }
+    ensures looks { result.looks ≡ 1 + 4 * length (row (named_of entries.old.items blocks.old.items) owner) }
     ensures size { length first.new.items ≡ length first.old.items }
 {
     let Block { begin, count } = blocks[owner as usize];
     let mut left = count;
+    let mut looks = 1;
     while left > 0 {
         left -= 1;
         unlink(entries, first, begin + left);
         blocks[owner as usize] = Block { begin, count: left };
+        looks += 4;
     }
-    count
+    Cleared { count, looks }
 }
 
 /// Whether the places of so many entries from one on were an owner's: the entries there still name it.
@@ -147,7 +157,10 @@ fn extend(entries: &mut Vec<Entry>, count: u32) -> Result<u32, AllocError>
 {
     let begin = number(entries.len().max(1))?;
     let end = number(begin as usize + count as usize)?;
-    entries.resize(end as usize, Entry::default())?;
+    entries.reserve(end as usize - entries.len())?;
+    while entries.len() < end as usize {
+        entries.push_reserved(Entry::default());
+    }
     Ok(begin)
 }
 

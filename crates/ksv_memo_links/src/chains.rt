@@ -118,10 +118,10 @@ impl Chains {
         ensures looks { self.new.looks ≤ self.old.looks + 1 + 4 * length (row self.old.named owner) }
         ensures grows { self.old.looks ≤ self.new.looks }
     {
-        let count = clear_block(&mut self.entries, &mut self.blocks, &mut self.first, owner);
-        self.looks = self.looks.saturating_add(1 + 4 * count as u64);
-        self.live = self.live.saturating_sub(count as usize);
-        count
+        let cleared = clear_block(&mut self.entries, &mut self.blocks, &mut self.first, owner);
+        self.looks = self.looks.saturating_add(cleared.looks);
+        self.live = self.live.saturating_sub(cleared.count as usize);
+        cleared.count
     }
 
     /// How many lists there are, which isn't counted.

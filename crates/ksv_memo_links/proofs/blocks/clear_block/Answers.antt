@@ -1,7 +1,9 @@
-use Rattle.std.proofs.Common.{◌≡◌, ℕ, suc, ◌+◌, ◌-◌, ◌<◌, List, length, set, refl, sym, ◌∙◌, ap, arith}
+use Rattle.std.proofs.Common.{◌≡◌, ℕ, suc, ◌+◌, ◌-◌, ◌<◌, List, length, set, get_or, refl, sym, ◌∙◌, ap, arith}
 use Rattle.std.proofs.lemmas.List.{length-set, get_or-set_same, get_or_read}
+use Rattle.ksv_memo_links.specs.declared.blocks.Entry.{Entry}
 use Rattle.ksv_memo_links.specs.declared.blocks.Block.{Block}
-use Rattle.ksv_memo_links.specs.Chained.{block_at, IsLive}
+use Rattle.ksv_memo_links.specs.Shelved.{row}
+use Rattle.ksv_memo_links.specs.Chained.{block_at, named_of, IsLive}
 use Rattle.ksv_memo_links.proofs.Clearing.{cut-more}
 use Rattle.ksv_memo_links.proofs.Linking.{named-less, chained-less, row-length, before-inside, next-inside, named-inside}
 use Rattle.ksv_memo_links.proofs.blocks.clear_block.Goals as goal
@@ -58,11 +60,20 @@ loop-left-preserved c =
       cut = cut-more _ _ _ s i.cut (named-less c.loop-left.entries.items c.unlink.new.entries.items B c.loop-left.first.items c.unlink.new.first.items s begin k (begin + k) i.chained i.begin one refl c.unlink.ensures);
       begin = sym (ap (λ (b : Block). b.begin) now);
       count = sym (ap (λ (b : Block). b.count) now);
+      looks = let n = i.looks in omega arith;
       size = c.unlink.ensures.size ∙ i.size;
       wide = length-set B s (record { begin = begin; count = k }) ∙ i.wide;
     }
 
+-- a block has as many entries as its owner has lists
+count-of : (a : List Entry) (B : List Block) (s : ℕ) (b : Block) → s < length B → b ≡ get_or B s b → b.count ≡ length (row (named_of a B) s)
+count-of a B s b lt is = ap (λ (x : Block). x.count) (get_or_read B s b lt is (record { begin = 0; count = 0 })) ∙ sym (row-length a B s)
+
 pub returns-clause-count : goal.returns-clause-count
-returns-clause-count c =
-    ap (λ (b : Block). b.count) (get_or_read c.args.blocks.now.items c.args.owner c.index.result.now c.requires.owner_in c.index.ensures (record { begin = 0; count = 0 }))
-    ∙ sym (row-length c.args.entries.now.items c.args.blocks.now.items c.args.owner)
+returns-clause-count c = count-of c.args.entries.now.items c.args.blocks.now.items c.args.owner c.index.result.now c.requires.owner_in c.index.ensures
+
+pub returns-clause-looks : goal.returns-clause-looks
+returns-clause-looks c =
+    let n = count-of c.args.entries.now.items c.args.blocks.now.items c.args.owner c.index.result.now c.requires.owner_in c.index.ensures in
+    let all = c.loop-left.invariant.looks in
+    omega arith

@@ -1,4 +1,4 @@
-use Rattle.std.proofs.Common.{◌≡◌, length}
+use Rattle.std.proofs.Common.{◌≡◌, ◌+◌, ◌*◌, length}
 use Rattle.ksv_memo_links.specs.Chained.{block_at, named_of, IsChained}
 use Rattle.ksv_memo_links.proofs.Clearing.{IsCutTo}
 use Rattle.ksv_memo_links.proofs.blocks.clear_block.Given as goal
@@ -9,6 +9,7 @@ invariant-loop-left l = record {
   cut : IsCutTo (named_of l.fn.entries.items l.fn.blocks.items) (named_of l.entries.items l.blocks.items) l.owner;
   begin : l.begin ≡ (block_at l.blocks.items l.owner).begin;
   count : l.left ≡ (block_at l.blocks.items l.owner).count;
+  looks : l.looks + 4 * l.left ≡ 1 + 4 * l.count;
   size : length l.first.items ≡ length l.fn.first.items;
   wide : length l.blocks.items ≡ length l.fn.blocks.items;
 }

@@ -1,14 +1,12 @@
-use Rattle.std.proofs.Common.{◌≡◌}
 use Rattle.ksv_memo_links.specs.Shelved.{row}
-use Rattle.ksv_memo_links.specs.Linked.{item_at}
 use Rattle.ksv_memo_links.specs.Forgetting.{HitsRow}
-use Rattle.ksv_memo_links.proofs.Cursors.{left_from, seen_to}
+use Rattle.ksv_memo_links.proofs.Cursors.{left_from, seen_to, StandsAt}
 use Rattle.ksv_memo_links.proofs.parts.Parts.hit_list.Given as goal
 
 abbrev pub invariant-loop-item : goal.invariant-loop-item
 invariant-loop-item l = record {
   hits : HitsRow l.fn.self l.self l.change (row l.fn.self.uses.lists l.list) (seen_to (row l.fn.self.uses.lists l.list) l.at) 1;
-  at : l.at ≡ (item_at l.fn.self.uses.lists l.list (seen_to (row l.fn.self.uses.lists l.list) l.at)).at;
+  at : StandsAt l.fn.self.uses.lists l.list l.at;
 }
 
 abbrev pub decreases-loop-item : goal.decreases-loop-item

@@ -1,14 +1,12 @@
-use Rattle.std.proofs.Common.{◌≡◌}
 use Rattle.ksv_memo_links.specs.Shelved.{row}
-use Rattle.ksv_memo_links.specs.Linked.{item_at}
 use Rattle.ksv_memo_links.specs.Forgetting.{HitsUsers}
-use Rattle.ksv_memo_links.proofs.Cursors.{left_from, seen_to}
+use Rattle.ksv_memo_links.proofs.Cursors.{left_from, seen_to, StandsAt}
 use Rattle.ksv_memo_links.proofs.parts.Parts.mark_users.Given as goal
 
 abbrev pub invariant-loop-user : goal.invariant-loop-user
 invariant-loop-user l = record {
   users : HitsUsers l.fn.self l.self l.slot (seen_to (row l.fn.self.asks.lists l.slot) l.at) 1;
-  at : l.at ≡ (item_at l.fn.self.asks.lists l.slot (seen_to (row l.fn.self.asks.lists l.slot) l.at)).at;
+  at : StandsAt l.fn.self.asks.lists l.slot l.at;
 }
 
 abbrev pub decreases-loop-user : goal.decreases-loop-user
