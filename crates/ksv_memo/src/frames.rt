@@ -13,8 +13,8 @@ use std::alloc::AllocError;
 pub struct Frame<N> {
     pub node: N,
     pub slot: u32,
-    pub asked: usize,
-    pub uses: usize,
+    pub asked: u32,
+    pub uses: u32,
 }
 
 /// The open nodes, the one that is run last; the slots that they asked, and the uses of their calls, with repeats.
@@ -25,7 +25,7 @@ pub struct Frames<N> {
     pub uses: Vec<Use>,
 }
 
-/// The number of a slot in 32 bits. A larger one is refused, as memory for so many nodes would be.
+/// A number in 32 bits. A larger one is refused, as memory for so many would be.
 #[inline(always)]
 pub(crate) fn number(count: usize) -> Result<u32, AllocError>
     ensures { IfOk result (λ number. number ≡ count) }
@@ -58,15 +58,18 @@ impl<N: Drop> Frames<N> {
 
     /// The frame of a node that is opened now, in the slot of a number.
     #[inline(always)]
-    pub(crate) fn frame(&self, slot: u32, node: N) -> Frame<N>
-        ensures { IsNewFrame slot node self.now result }
+    pub(crate) fn frame(&self, place: usize, node: N) -> Result<Frame<N>, AllocError>
+        ensures { IfOk result (IsNewFrame place node self.now) }
     {
-        Frame {
+        let slot = number(place)?;
+        let asked = number(self.asked.len())?;
+        let uses = number(self.uses.len())?;
+        Ok(Frame {
             node,
             slot,
-            asked: self.asked.len(),
-            uses: self.uses.len(),
-        }
+            asked,
+            uses,
+        })
     }
 
     /// Takes out the last open node, if there is one, with what it asked and used.
@@ -75,8 +78,8 @@ impl<N: Drop> Frames<N> {
         ensures { (frame : Frame N) → EndsWith frame self.old.frames.items → Popped frame self.old self.new }
     {
         if let Some(frame) = self.frames.pop() {
-            self.asked.truncate(frame.asked);
-            self.uses.truncate(frame.uses);
+            self.asked.truncate(frame.asked as usize);
+            self.uses.truncate(frame.uses as usize);
         }
     }
 }
@@ -96,10 +99,9 @@ pub(crate) fn reopen<N: Eq + Drop, P: Places<N> + Drop, V: Drop, F: Drop>(
     ensures kept { OnErr result (slots.new.entries ≡ slots.old.entries) }
     ensures err { OnErr result (SameFrames frames.old frames.new) }
 {
-    let slot = number(place)?;
+    let opened = frames.frame(place, node)?;
     frames.frames.reserve(1)?;
     slots.set(place, Slot::Open);
-    let opened = frames.frame(slot, node);
     frames.frames.push_reserved(opened);
     Ok(())
 }
@@ -117,10 +119,9 @@ pub(crate) fn open_new<N: Eq + Drop, P: Places<N> + Drop, V: Drop, F: Drop>(
     ensures kept { OnErr result (slots.new.entries ≡ slots.old.entries) }
     ensures err { OnErr result (SameFrames frames.old frames.new) }
 {
-    let slot = number(slots.len())?;
+    let frame = frames.frame(slots.len(), node)?;
     frames.frames.reserve(1)?;
-    slots.add(&node)?;
-    let frame = frames.frame(slot, node);
+    slots.add(&frame.node)?;
     frames.frames.push_reserved(frame);
     Ok(())
 }

@@ -293,7 +293,7 @@ pub(crate) fn call<R: Rules>(
     let Some(frame) = last_frame(frames.frames.as_slice()) else {
         unreachable!()
     };
-    let asked = &frames.asked[frame.asked..];
+    let asked = &frames.asked[frame.asked as usize..];
     let replies = Replies::new(slots.lend(), asked);
     let step = rules.next(alloc, &frame.node, bytes, &replies, &mut frames.uses);
     if step.is_ok() {

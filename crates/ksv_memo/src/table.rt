@@ -226,8 +226,8 @@ impl<R: Rules> Table<R> {
         let Some(frame) = last_frame(self.frames.frames.as_slice()) else {
             unreachable!()
         };
-        let uses = &self.frames.uses[frame.uses..];
-        let asked = &self.frames.asked[frame.asked..];
+        let uses = &self.frames.uses[frame.uses as usize..];
+        let asked = &self.frames.asked[frame.asked as usize..];
         let slot = frame.slot as usize;
         keep_once(alloc, &mut self.links, frame.slot, asked, uses)?;
         self.slots.set(slot, slot_of(answer));

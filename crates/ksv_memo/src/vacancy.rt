@@ -3,7 +3,7 @@ ghost use Rattle.std.specs.Prelude.{◌≡◌, ◌<◌, length, slice_set, false
 ghost use Rattle.std.specs.List.{list_any};
 ghost use Rattle.ksv_memo.specs.Moves.{IsVacant, SameFrames, Framed};
 
-use crate::frames::{Frames, number};
+use crate::frames::Frames;
 use crate::slots::Slots;
 use ksv_memo_links::Links;
 use ksv_memo_rules::{Places, Slot};
@@ -46,10 +46,9 @@ pub(crate) fn open_in<N: Eq + Drop, P: Places<N> + Drop, V: Drop, F: Drop>(
     ensures kept { OnErr result (slots.new.entries ≡ slots.old.entries) }
     ensures err { OnErr result (SameFrames frames.old frames.new) }
 {
-    let slot = number(place)?;
+    let frame = frames.frame(place, node)?;
     frames.frames.reserve(1)?;
-    slots.give(place, &node)?;
-    let frame = frames.frame(slot, node);
+    slots.give(place, &frame.node)?;
     frames.frames.push_reserved(frame);
     Ok(())
 }
