@@ -85,8 +85,7 @@ impl<N: Drop> Frames<N> {
 }
 
 /// Opens a node that has a slot with nothing in it.
-#[cold]
-#[inline(never)]
+#[inline(always)]
 pub(crate) fn reopen<N: Eq + Drop, P: Places<N> + Drop, V: Drop, F: Drop>(
     slots: &mut Slots<N, P, V, F>,
     frames: &mut Frames<N>,
