@@ -135,7 +135,7 @@ pub(crate) fn clear_block(
 
 /// Whether the places of so many entries from one on were an owner's: the entries there still name it.
 #[inline(always)]
-fn has_room(entries: &[Entry], owner: u32, begin: u32, count: u32) -> bool
+pub(crate) fn has_room(entries: &[Entry], owner: u32, begin: u32, count: u32) -> bool
     ensures { IsTrue result → IsRoom entries.now owner begin count }
 {
     if begin == 0 || begin as usize + count as usize > entries.len() {

@@ -6,7 +6,8 @@ ghost use Rattle.ksv_memo_links.specs.Linked.{item_at};
 ghost use Rattle.ksv_memo_links.specs.Chained.{IsListed};
 
 use crate::blocks::{
-    Block, Entry, Item, clear_block, copy_block, link_block, number, reach_blocks, reach_first,
+    Block, Entry, Item, clear_block, copy_block, has_room, link_block, number, reach_blocks,
+    reach_first,
 };
 use std::alloc::{AllocError, Global};
 use std::marker::Model;
@@ -216,6 +217,28 @@ impl Chains {
         }
     }
 
+    /// Whether so many entries of an owner that has none need new places, and few of those that there are are entries'.
+    #[inline(always)]
+    fn is_worn(&self, owner: u32, count: usize) -> bool
+        requires { owner < length self.now.named }
+    {
+        let most = self
+            .live
+            .saturating_add(self.blocks.as_slice().len() / 4 + SPARE);
+        self.entries.as_slice().len() / 2 > most && !self.has_room(owner, count)
+    }
+
+    /// Whether so many entries of an owner have room where its entries were.
+    fn has_room(&self, owner: u32, count: usize) -> bool
+        requires { owner < length self.now.named }
+    {
+        let begin = self.blocks[owner as usize].begin;
+        match number(count) {
+            Ok(count) => has_room(self.entries.as_slice(), owner, begin, count),
+            Err(_) => false,
+        }
+    }
+
     /// Links an owner that is linked to nothing. Where memory is refused, it is linked to nothing again.
     #[inline(always)]
     pub(crate) fn link_all(&mut self, owner: u32, lists: &[u32]) -> Result<(), AllocError>
@@ -226,10 +249,7 @@ impl Chains {
         ensures err { OnErr result (self.new.named ≡ self.old.named) }
         ensures count { length self.new.lists ≡ length self.old.lists }
     {
-        let most = self
-            .live
-            .saturating_add(self.blocks.as_slice().len() / 4 + SPARE);
-        if self.entries.as_slice().len() / 2 > most {
+        if self.is_worn(owner, lists.len()) {
             self.pack();
         }
         self.link_row(owner, lists)
