@@ -34,7 +34,7 @@
 //! - `Closing`: what is marked is what has to go
 //! - `Counting`: users of slots that go are no more than what these slots asked
 //! - `Counts`: how many names a list has after one more and one less
-//! - `Cursors`: where a walk along the items of a list stands
+//! - `Cursors`: where a walk along the items of a list stands, and how it goes on
 //! - `Edits`: what rows are after a write to one
 //! - `Filling`: a row that is filled number by number
 //! - `Growing`: the chains stay whole when owners and lists are added
