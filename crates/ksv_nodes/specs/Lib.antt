@@ -5,5 +5,6 @@ pub mod Turning
 pub mod Truth
 pub mod Bounds
 pub mod Numbers
+pub mod Origins
 pub mod Exact
 pub mod Laws

@@ -3,6 +3,8 @@
 ghost use Rattle.std.specs.Prelude.{◌≡◌, IfOk};
 
 use crate::case_number::CaseNumber;
+use crate::element_count::ElementCount;
+use crate::object_origin::ObjectOrigin;
 use ksv_expr_value::{Fault, Place, Stream, Value};
 use ksv_memo_rules::Slot;
 use std::alloc::{AllocError, Global};
@@ -55,7 +57,7 @@ pub enum ObjectEnd {
 #[derive(Clone, Copy)]
 pub struct Object {
     /// How it is read; the root is read by nothing.
-    pub origin: Option<Origin>,
+    pub origin: ObjectOrigin,
     /// The type's number.
     pub type_number: u32,
     /// The stream in which its places are counted.
@@ -76,9 +78,22 @@ pub struct List {
     /// Where the first begins.
     pub start: Place,
     /// How many there are, if that is known beforehand.
-    pub count: Option<u32>,
+    pub count: ElementCount,
     /// Whether there are none.
     pub is_empty: bool,
+}
+
+/// The object that holds a calculated value. How its end is known is left out: no such value depends on it.
+#[derive(Clone, Copy)]
+pub struct Holder {
+    /// How it is read; the root is read by nothing.
+    pub origin: ObjectOrigin,
+    /// The type's number.
+    pub type_number: u32,
+    /// The stream in which its places are counted.
+    pub stream: Stream,
+    /// Where it begins.
+    pub start: Place,
 }
 
 /// A value that isn't read at a place of its own: a value instance or a parameter.
@@ -87,7 +102,7 @@ pub struct Calc {
     /// The place of the member among the members of the object's type, from 0.
     pub member: u32,
     /// The object that holds it.
-    pub object: Object,
+    pub object: Holder,
 }
 
 /// What is at a path, and where.
@@ -128,8 +143,9 @@ pub enum Given {
     },
 }
 
-// An engine keeps each answer in a slot, so its places, ends of streams and cases take four bytes each.
-const _: () = prove!(size_of::<Slot<Given, Fault>>() == 64);
+// An engine keeps each answer in a slot, so its places, ends of streams and cases take four bytes each, and a calculated value
+// keeps of its object only what it depends on.
+const _: () = prove!(size_of::<Slot<Given, Fault>>() == 56);
 
 impl Given {
     /// A copy of the answer.

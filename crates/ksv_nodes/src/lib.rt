@@ -7,9 +7,11 @@
 //! Modules:
 //!
 //! - `case_number`: which case a switch chose, in four bytes
+//! - `element_count`: how many elements a list has, in four bytes
 //! - `given`: the answers of nodes: head, value, end, rest
 //! - `laws`: the laws of readings, turns and nodes
 //! - `node`: nodes: a kind of question and a path
+//! - `object_origin`: how an object is read, in the room of an origin
 //! - `search`: where a byte is first in bytes that are lent
 //! - `turn`: `Turn`: a rule while it runs
 //! - `turn/readings`: how it reads the bytes, and what that rests on
@@ -21,6 +23,7 @@
 //! - `Exact`: a lemma that a reader may skip: nodes that `==` finds equal are the same
 //! - `Laws`: the laws of every rule: true replies, locality, uses within the bytes, an end
 //! - `Numbers`: each node has a number of its own, with lemmas that a reader may skip
+//! - `Origins`: optional origins in the room of one, with a lemma that a reader may skip
 //! - `Reading`: the five readings, and what each depends on
 //! - `Rule`: rules as plans over nodes and readings
 //! - `Truth`: what a rule answers, asks and uses where each node has an answer
@@ -43,21 +46,25 @@
 #![tactic(auto)]
 
 mod case_number;
+mod element_count;
 mod given;
 mod laws;
 mod node;
+mod object_origin;
 mod search;
 mod turn;
 
 pub use case_number::CaseNumber;
+pub use element_count::ElementCount;
 pub use given::{
-    Calc, Ended, Given, Head, Leaf, List, MemberRef, Object, ObjectEnd, Origin, Rested,
+    Calc, Ended, Given, Head, Holder, Leaf, List, MemberRef, Object, ObjectEnd, Origin, Rested,
 };
 pub use laws::{
     equal_nodes_are_same, nodes_are_numbered, readings_are_local, readings_fit, turns_are_bounded,
     turns_are_local, turns_fit, turns_meet_truth,
 };
 pub use node::{Node, NodeKind};
+pub use object_origin::ObjectOrigin;
 pub use search::first_in_parts;
 pub use turn::readings::Found;
 pub use turn::{Halt, Turn};

@@ -24,7 +24,7 @@ use Rattle.ksv_nodes.specs.Truth.{answer_of}
 use Rattle.ksv_rule_meaning.specs.Checks.{meets_one, meets_each, meets, with_value, checked, checked_if, member_checked, object_checked, value_checked}
 use Rattle.ksv_rule_meaning.specs.Fields.{members_of, in_kind, kind_of}
 use Rattle.ksv_rule_meaning.specs.FromNothing.{answer_within, from_nothing}
-use Rattle.ksv_rule_meaning.specs.Heads.{member_setting, instance_setting}
+use Rattle.ksv_rule_meaning.specs.Heads.{member_setting, holder_setting}
 use Rattle.ksv_rule_meaning.specs.Meaning.{meaning_of}
 use Rattle.ksv_rule_meaning.specs.Values.{value_of}
 use Rattle.ksv_rule_meaning.specs.Wanted.{expression, in_truth, truth_of}
@@ -117,7 +117,7 @@ module _ (met : Node → Result Given Fault) (p : Trail) (bytes : List ℕ) (d :
   head_is : (k : Head) (v : Value) → answer_of met p bytes (value_checked d p k v) ≡ Ok tt → ValueMeets met bytes d p k v
   unfolding value_checked
   head_is (heads.Absent at) v h = tt
-  head_is (heads.Calc c) v h = member_is met p bytes d (record { type_number = c.object.type_number; member = c.member }) (instance_setting p (parent p) c.object) v h
+  head_is (heads.Calc c) v h = member_is met p bytes d (record { type_number = c.object.type_number; member = c.member }) (holder_setting p (parent p) c.object) v h
   head_is (heads.Leaf l) v h = member_is met p bytes d l.origin.member (member_setting p p (last p) l.origin l.from) v h
   head_is (heads.Object o) v h = object_is o o.origin v h
   head_is (heads.List g) v h = tt
@@ -146,7 +146,7 @@ module _ (met met' : Node → Result Given Fault) (p : Trail) (bytes : List ℕ)
 
   value_still : (d : Description) (k : Head) (v : Value) → ValueMeets met bytes d p k v → ValueMeets met' bytes d p k v
   value_still d (heads.Absent at) v h = tt
-  value_still d (heads.Calc c) v h = member_still d (record { type_number = c.object.type_number; member = c.member }) (instance_setting p (parent p) c.object) v h
+  value_still d (heads.Calc c) v h = member_still d (record { type_number = c.object.type_number; member = c.member }) (holder_setting p (parent p) c.object) v h
   value_still d (heads.Leaf l) v h = member_still d l.origin.member (member_setting p p (last p) l.origin l.from) v h
   value_still d (heads.Object o) v h = object_still d o o.origin v h
   value_still d (heads.List g) v h = tt

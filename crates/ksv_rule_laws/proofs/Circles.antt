@@ -33,6 +33,7 @@ use Rattle.ksv_nodes.specs.declared.given.Given.TheVariants as givens
 use Rattle.ksv_nodes.specs.declared.given.MemberRef.{MemberRef}
 use Rattle.ksv_nodes.specs.declared.given.Origin.{Origin}
 use Rattle.ksv_nodes.specs.declared.given.Calc.{Calc}
+use Rattle.ksv_nodes.specs.declared.given.Holder.{Holder}
 use Rattle.ksv_nodes.specs.declared.given.Leaf.{Leaf}
 use Rattle.ksv_nodes.specs.declared.given.ObjectEnd.{ObjectEnd}
 use Rattle.ksv_nodes.specs.declared.given.ObjectEnd.TheVariants as endings
@@ -58,7 +59,7 @@ use Rattle.ksv_rule_meaning.specs.Choosing.{Chosen, switched, choose, in_case, c
 use Rattle.ksv_rule_meaning.specs.Integers.{integer_value}
 use Rattle.ksv_rule_meaning.specs.Values.{in_number, number_value, of_bits, bits_value, fixed_value, cut_by, cut_bytes, bytes_value, in_text, cut_text, text_value, content_value, leaf_value, in_no_stream, in_enum, instance_value, given_by, arguments_for, argument_at, plain_value, argument_value, parameter_value, calc_value, calculated, value_at, value_of}
 use Rattle.ksv_rule_meaning.specs.Ends.{stream_end, fields_end, object_end, part_rest, list_end, absent_end, place_of, start_of, behind_element, is_last, is_by_bytes, not_empty, element_end, end_at, end_of, next_rest, rest_from, in_whole_list, whole_rest, rest_at, rest_of}
-use Rattle.ksv_rule_meaning.specs.Heads.{leaf, bits_leaf, leaf_to_end, terminated_at, terminated, run_of, sized_leaf, bytes_at, sized_object, object_at, content_at, unchosen_at, chosen_at, shape_at, in_count, count_of, counted, until_eos, repeated, attribute_at, part_end, attribute_start, origin_of, attribute_head, instance_setting, positioned_in, positioned, instance_head, value_head, member_at, member_head, in_list, is_past, next_start, element_start, element_head, head_at, head_of}
+use Rattle.ksv_rule_meaning.specs.Heads.{leaf, bits_leaf, leaf_to_end, terminated_at, terminated, run_of, sized_leaf, bytes_at, sized_object, object_at, content_at, unchosen_at, chosen_at, shape_at, in_count, count_of, counted, until_eos, repeated, attribute_at, part_end, attribute_start, origin_of, attribute_head, instance_setting, positioned_in, positioned, instance_head, holder_setting, value_head, member_at, member_head, in_list, is_past, next_start, element_start, element_head, head_at, head_of}
 use Rattle.ksv_rule_meaning.specs.Meaning.{meaning_of, rule_of}
 use Rattle.ksv_rule_meaning.specs.FromNothing.{circle, answer_within, from_nothing}
 use Rattle.ksv_rule_meaning.specs.Described.{described}
@@ -429,11 +430,11 @@ plain_own : (at : Setting) (e : Tree) → Own (plain_value at e)
 unfolding plain_value
 plain_own at e = join _ _ (expression_own at e) (λ v. in_no_stream_own v)
 
-argument_own : (d : Description) (p q : Trail) (member : ℕ) (o : Object) (g : Origin) → Own (argument_value d p q member o g)
+argument_own : (d : Description) (p q : Trail) (member : ℕ) (o : Holder) (g : Origin) → Own (argument_value d p q member o g)
 unfolding argument_value
 argument_own d p q member o g = join _ _ (arguments_own d g) (λ given. join _ _ (argument_at_own given _) (λ e. plain_own _ e))
 
-parameter_own : (d : Description) (p q : Trail) (member : ℕ) (o : Object) (g : Option Origin) → Own (parameter_value d p q member o g)
+parameter_own : (d : Description) (p q : Trail) (member : ℕ) (o : Holder) (g : Option Origin) → Own (parameter_value d p q member o g)
 unfolding parameter_value
 parameter_own d p q member o None = tt
 parameter_own d p q member o (Some g) = argument_own d p q member o g
@@ -441,7 +442,7 @@ parameter_own d p q member o (Some g) = argument_own d p q member o g
 calc_own : (d : Description) (p q : Trail) (c : Calc) (k : MemberKind) → Own (calc_value d p q c k)
 unfolding calc_value
 calc_own d p q c Parameter = parameter_own d p q c.member c.object c.object.origin
-calc_own d p q c (ValueInstance v) = instance_value_own (instance_setting p q c.object) v.value v.enum
+calc_own d p q c (ValueInstance v) = instance_value_own (holder_setting p q c.object) v.value v.enum
 calc_own d p q c _ = tt
 
 calculated_own : (d : Description) (p q : Trail) (c : Calc) → Own (calculated d p q c)

@@ -31,6 +31,7 @@ use Rattle.ksv_nodes.specs.declared.given.Given.TheVariants as givens
 use Rattle.ksv_nodes.specs.declared.given.Head.{Head}
 use Rattle.ksv_nodes.specs.declared.given.Head.TheVariants as heads
 use Rattle.ksv_nodes.specs.declared.given.Calc.{Calc}
+use Rattle.ksv_nodes.specs.declared.given.Holder.{Holder}
 use Rattle.ksv_nodes.specs.declared.given.Leaf.{Leaf}
 use Rattle.ksv_nodes.specs.declared.given.Object.{Object}
 use Rattle.ksv_nodes.specs.declared.given.Origin.{Origin}
@@ -43,7 +44,7 @@ use Rattle.ksv_nodes.proofs.First.{first_at_below}
 use Rattle.ksv_rule_meaning.specs.Checks.{value_checked}
 use Rattle.ksv_rule_meaning.specs.Choosing.{in_case, content_of}
 use Rattle.ksv_rule_meaning.specs.Fields.{members_of, kind_of, field_of}
-use Rattle.ksv_rule_meaning.specs.Heads.{instance_setting, head_of}
+use Rattle.ksv_rule_meaning.specs.Heads.{holder_setting, head_of}
 use Rattle.ksv_rule_meaning.specs.Integers.{integer_value}
 use Rattle.ksv_rule_meaning.specs.Values.{in_number, number_in, number_value, of_bits, bits_in, bits_value, fixed_value, cut_by, kept_of, kept, cut_bytes, bytes_value, in_text, cut_text, text_value, content_value, leaf_value, in_no_stream, in_enum, instance_value, arguments_for, argument_at, argument_setting, plain_value, argument_value, parameter_value, calc_value, calculated, value_at, value_of}
 use Rattle.ksv_rule_meaning.specs.Wanted.{expression}
@@ -192,7 +193,7 @@ module _ (met : Node → Result Given Fault) (here : Trail) (bytes : List ℕ) w
     unfolding instance_value
     instance_is at e enum h = let b = goes_on met here bytes (expression at e) (λ w. in_enum enum w) v h in enum_is enum b.first b.gave
 
-    parameter_is : (d : Description) (p q : Trail) (member : ℕ) (o : Object) (g : Option Origin) → answer_of met here bytes (parameter_value d p q member o g) ≡ Ok v → IsNoStream v
+    parameter_is : (d : Description) (p q : Trail) (member : ℕ) (o : Holder) (g : Option Origin) → answer_of met here bytes (parameter_value d p q member o g) ≡ Ok v → IsNoStream v
     unfolding parameter_value argument_value plain_value
     parameter_is d p q member o None h = absurd (cc)
     parameter_is d p q member o (Some g) h =
@@ -204,7 +205,7 @@ module _ (met : Node → Result Given Fault) (here : Trail) (bytes : List ℕ) w
     calc_is : (d : Description) (p q : Trail) (c : Calc) (k : MemberKind) → answer_of met here bytes (calc_value d p q c k) ≡ Ok v → IsNoStream v
     unfolding calc_value
     calc_is d p q c Parameter h = parameter_is d p q c.member c.object c.object.origin h
-    calc_is d p q c (ValueInstance v) h = instance_is (instance_setting p q c.object) v.value v.enum h
+    calc_is d p q c (ValueInstance v) h = instance_is (holder_setting p q c.object) v.value v.enum h
     calc_is d p q c _ h = absurd (cc)
 
     calculated_is : (d : Description) (p q : Trail) (c : Calc) → answer_of met here bytes (calculated d p q c) ≡ Ok v → IsNoStream v

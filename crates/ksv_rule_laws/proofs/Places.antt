@@ -24,6 +24,7 @@ use Rattle.ksv_nodes.specs.declared.node.NodeKind.TheVariants as nodes
 use Rattle.ksv_nodes.specs.declared.given.Given.{Given}
 use Rattle.ksv_nodes.specs.declared.given.Given.TheVariants as givens
 use Rattle.ksv_nodes.specs.declared.given.Calc.{Calc}
+use Rattle.ksv_nodes.specs.declared.given.Holder.{Holder}
 use Rattle.ksv_nodes.specs.declared.given.Leaf.{Leaf}
 use Rattle.ksv_nodes.specs.declared.given.Origin.{Origin}
 use Rattle.ksv_nodes.specs.declared.given.ObjectEnd.{ObjectEnd}
@@ -45,13 +46,13 @@ use Rattle.ksv_nodes.proofs.Looks.{range_reaches}
 use Rattle.ksv_rule_meaning.specs.Choosing.{Chosen, choose}
 use Rattle.ksv_rule_meaning.specs.Wanted.{in_object, expression, holds, size_of, stream_for}
 use Rattle.ksv_rule_meaning.specs.Fields.{members_of, Sought, member_named, last_attribute, kind_of, field_of}
-use Rattle.ksv_rule_meaning.specs.Heads.{member_setting, leaf, bits_leaf, leaf_to_end, terminated_at, terminated, run_of, sized_leaf, bytes_at, sized_object, object_at, content_at, unchosen_at, chosen_at, shape_at, count_of, counted, until_eos, repeated, attribute_at, part_end, start_after, attribute_start, setting, origin_of, attribute_head, instance_setting, positioned_in, positioned, instance_head, calc, value_head, member_at, member_head, in_list, is_past, in_next, next_start, element_start, element_head, root_head, head_at, head_of}
+use Rattle.ksv_rule_meaning.specs.Heads.{member_setting, leaf, bits_leaf, leaf_to_end, terminated_at, terminated, run_of, sized_leaf, bytes_at, sized_object, object_at, content_at, unchosen_at, chosen_at, shape_at, count_of, counted, until_eos, repeated, attribute_at, part_end, start_after, attribute_start, setting, origin_of, attribute_head, instance_setting, holder_setting, positioned_in, positioned, instance_head, calc, value_head, member_at, member_head, in_list, is_past, in_next, next_start, element_start, element_head, root_head, head_at, head_of}
 use Rattle.ksv_rule_meaning.specs.Values.{in_no_stream, in_enum, instance_value, arguments_for, argument_at, argument_setting, plain_value, argument_value, parameter_value, calc_value, calculated, value_at, value_of}
 use Rattle.ksv_rule_meaning.specs.Ends.{stream_end, fields_end, object_end, part_rest, list_end, place_of, is_last, not_empty, element_end, end_at, end_of, next_rest, rest_behind, rest_from, in_whole_list, whole_rest, rest_at, rest_of}
 use Rattle.ksv_rule_meaning.specs.Meaning.{meaning_of}
 use Rattle.ksv_rule_meaning.specs.FromNothing.{answer_within, from_nothing}
 use Rattle.ksv_rule_laws.proofs.Starts.{of_start, at_most}
-use Rattle.ksv_rule_laws.specs.Laws.{IsOfLeaf, IsOfHead, IsEndIn, IsStreamIn, IsHomeIn, IsHeadIn, IsValueIn, IsIn, PlacesAreInFile}
+use Rattle.ksv_rule_laws.specs.Laws.{IsOfLeaf, IsOfHead, IsEndIn, IsStreamIn, IsHomeIn, IsHolderIn, IsHeadIn, IsValueIn, IsIn, PlacesAreInFile}
 use Rattle.ksv_rule_laws.proofs.Answering.{ok_is, goes_on, asked_head, refused, put_in, meaning_is, ruled, no_depth}
 use Rattle.ksv_rule_laws.proofs.Forms.{AreRead, made_of, value_is}
 use Rattle.ksv_rule_laws.proofs.Sources.{head_is_read}
@@ -445,7 +446,7 @@ module _ (met : Node → Result Given Fault) (here : Trail) (bytes : List ℕ) (
   argument_within p q (Some (steps.Index i)) g start home = (home, tt)
   argument_within p q _ g start home = (home, tt)
 
-  parameter_in : (d : Description) (p q : Trail) (member : ℕ) (o : Object) (g : Option Origin) (v : Value) → IsHomeIn size g → answer (parameter_value d p q member o g) ≡ Ok v → IsValueIn size v
+  parameter_in : (d : Description) (p q : Trail) (member : ℕ) (o : Holder) (g : Option Origin) (v : Value) → IsHomeIn size g → answer (parameter_value d p q member o g) ≡ Ok v → IsValueIn size v
   unfolding parameter_value argument_value plain_value
   parameter_in d p q member o None v home h = absurd (cc)
   parameter_in d p q member o (Some g) v home h =
@@ -461,13 +462,13 @@ module _ (met : Node → Result Given Fault) (here : Trail) (bytes : List ℕ) (
       let b = goes_on met here bytes (expression at e) (λ w. in_enum enum w) v h in
       enum_in enum b.first v (expression_in met here bytes lies at e b.first within b.was) b.gave
 
-  calc_value_in : (d : Description) (p q : Trail) (c : Calc) (k : MemberKind) (v : Value) → IsObjectIn c.object → answer (calc_value d p q c k) ≡ Ok v → IsValueIn size v
+  calc_value_in : (d : Description) (p q : Trail) (c : Calc) (k : MemberKind) (v : Value) → IsHolderIn size c.object → answer (calc_value d p q c k) ≡ Ok v → IsValueIn size v
   unfolding calc_value
   calc_value_in d p q c Parameter v within h = parameter_in d p q c.member c.object c.object.origin v within.2 h
-  calc_value_in d p q c (ValueInstance i) v within h = instance_value_in (instance_setting p q c.object) i.value i.enum v (within.1, tt) h
+  calc_value_in d p q c (ValueInstance i) v within h = instance_value_in (holder_setting p q c.object) i.value i.enum v (within.1, tt) h
   calc_value_in d p q c _ v within h = absurd (cc)
 
-  calculated_in : (d : Description) (p q : Trail) (c : Calc) (v : Value) → IsObjectIn c.object → answer (calculated d p q c) ≡ Ok v → IsValueIn size v
+  calculated_in : (d : Description) (p q : Trail) (c : Calc) (v : Value) → IsHolderIn size c.object → answer (calculated d p q c) ≡ Ok v → IsValueIn size v
   unfolding calculated
   calculated_in d p q c v within h =
       let b = goes_on met here bytes (kind_of d (record { type_number = c.object.type_number; member = c.member })) (λ k. calc_value d p q c k) v h in

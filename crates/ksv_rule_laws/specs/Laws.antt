@@ -25,6 +25,7 @@ use Rattle.ksv_nodes.specs.declared.given.Given.{Given}
 use Rattle.ksv_nodes.specs.declared.given.Given.TheVariants as givens
 use Rattle.ksv_nodes.specs.declared.given.Head.{Head}
 use Rattle.ksv_nodes.specs.declared.given.Head.TheVariants as heads
+use Rattle.ksv_nodes.specs.declared.given.Holder.{Holder}
 use Rattle.ksv_nodes.specs.declared.given.Leaf.{Leaf}
 use Rattle.ksv_nodes.specs.declared.given.List as lists
 use Rattle.ksv_nodes.specs.declared.given.MemberRef.{MemberRef}
@@ -37,7 +38,7 @@ use Rattle.ksv_nodes.specs.Truth.{answer_of, asks_of}
 use Rattle.ksv_nodes.specs.Turning.{fault_at}
 use Rattle.ksv_rule_meaning.specs.Ends.{start_of}
 use Rattle.ksv_rule_meaning.specs.Fields.{members_of, is_attribute, Sought, sought}
-use Rattle.ksv_rule_meaning.specs.Heads.{member_setting, instance_setting}
+use Rattle.ksv_rule_meaning.specs.Heads.{member_setting, instance_setting, holder_setting, holder_of}
 use Rattle.ksv_rule_meaning.specs.Wanted.{expression, holds}
 use Rattle.ksv_rule_meaning.specs.Meaning.{rule_of}
 use Rattle.ksv_rule_meaning.specs.FromNothing.{from_nothing, asks}
@@ -134,7 +135,7 @@ ObjectMeets met bytes d p o (Some g) v = MeetsMember met p bytes d g.member (mem
 
 abbrev pub ValueMeets : (Node → Result Given Fault) → List ℕ → Description → Trail → Head → Value → Type 0
 ValueMeets met bytes d p (heads.Absent at) v = Unit {0}
-ValueMeets met bytes d p (heads.Calc c) v = MeetsMember met p bytes d (record { type_number = c.object.type_number; member = c.member }) (instance_setting p (parent p) c.object) v
+ValueMeets met bytes d p (heads.Calc c) v = MeetsMember met p bytes d (record { type_number = c.object.type_number; member = c.member }) (holder_setting p (parent p) c.object) v
 ValueMeets met bytes d p (heads.Leaf l) v = MeetsMember met p bytes d l.origin.member (member_setting p p (last p) l.origin l.from) v
 ValueMeets met bytes d p (heads.Object o) v = ObjectMeets met bytes d p o o.origin v
 ValueMeets met bytes d p (heads.List g) v = Unit {0}
@@ -372,13 +373,17 @@ abbrev pub IsHomeIn : ℕ → Option Origin → Type 0
 IsHomeIn size None = Unit {0}
 IsHomeIn size (Some g) = IsStreamIn size g.home
 
--- each place in an object, in a head, in a value and in any answer: it is a place of a byte, or the end of the file
+-- each place in what is known of an object, in an object, in a head, in a value and in any answer: it is a place of a byte, or the
+-- end of the file
+abbrev pub IsHolderIn : ℕ → Holder → Type 0
+IsHolderIn size o = (byte_of o.start ≤ size) × IsStreamIn size o.stream × IsHomeIn size o.origin
+
 abbrev pub IsObjectIn : ℕ → Object → Type 0
-IsObjectIn size o = (byte_of o.start ≤ size) × IsStreamIn size o.stream × IsHomeIn size o.origin
+IsObjectIn size o = IsHolderIn size (holder_of o)
 
 abbrev pub IsHeadIn : ℕ → Head → Type 0
 IsHeadIn size (heads.Absent at) = IsPlaceIn size at
-IsHeadIn size (heads.Calc c) = IsObjectIn size c.object
+IsHeadIn size (heads.Calc c) = IsHolderIn size c.object
 IsHeadIn size (heads.Leaf l) = (byte_of l.from ≤ size) × (byte_of l.to ≤ size) × (byte_of l.end ≤ size) × IsStreamIn size l.origin.home
 IsHeadIn size (heads.Object o) = IsObjectIn size o
 IsHeadIn size (heads.List g) = (byte_of g.start ≤ size) × IsStreamIn size g.stream × IsStreamIn size g.origin.home

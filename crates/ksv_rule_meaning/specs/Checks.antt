@@ -16,7 +16,7 @@ use Rattle.ksv_nodes.specs.declared.given.Head.{Head}
 use Rattle.ksv_nodes.specs.declared.given.Head.TheVariants as heads
 use Rattle.ksv_nodes.specs.Rule.{Rule, raise}
 use Rattle.ksv_rule_meaning.specs.Fields.{kind_of}
-use Rattle.ksv_rule_meaning.specs.Heads.{member_setting, instance_setting}
+use Rattle.ksv_rule_meaning.specs.Heads.{member_setting, holder_setting}
 use Rattle.ksv_rule_meaning.specs.Wanted.{truth_of}
 
 -- ---- conditions
@@ -64,7 +64,7 @@ member_checked d r at v = do
 -- Conditions are evaluated where the member is, with the number of p where p is an element; what is calculated, in its object.
 -- Their faults are at p.
 abbrev pub calc_checked : Description → Trail → Calc → Value → Rule (Unit {0})
-calc_checked d p c v = member_checked d (record { type_number = c.object.type_number; member = c.member }) (instance_setting p (parent p) c.object) v
+calc_checked d p c v = member_checked d (record { type_number = c.object.type_number; member = c.member }) (holder_setting p (parent p) c.object) v
 
 -- the root is no member
 abbrev pub object_checked : Description → Trail → Object → Option Origin → Value → Rule (Unit {0})

@@ -16,6 +16,7 @@ use Rattle.ksv_desc.specs.Description as contents
 use Rattle.ksv_nodes.specs.declared.given.Origin.{Origin}
 use Rattle.ksv_nodes.specs.declared.given.ObjectEnd.TheVariants as endings
 use Rattle.ksv_nodes.specs.declared.given.Object.{Object}
+use Rattle.ksv_nodes.specs.declared.given.Holder.{Holder}
 use Rattle.ksv_nodes.specs.declared.given.List as lists
 use Rattle.ksv_nodes.specs.declared.given.Head.{Head}
 use Rattle.ksv_nodes.specs.declared.given.Head.TheVariants as heads
@@ -194,6 +195,10 @@ attribute_head p q o x f = do
 abbrev pub instance_setting : Trail → Trail → Object → Setting
 instance_setting p q o = setting q o.stream o.start p
 
+-- The same of a calculated value, whose object is known by its holder alone.
+abbrev pub holder_setting : Trail → Trail → Holder → Setting
+holder_setting p q o = setting q o.stream o.start p
+
 -- A parse instance is in the stream of its object, or in the one that `io` names, at a position that is counted from that
 -- stream's first byte.
 unfoldable pub positioned_in : Setting → Origin → Stream → Tree → Field → Rule Head
@@ -213,9 +218,13 @@ instance_head at origin e io f = do
   there ← holds at f.condition
   if there then positioned at origin e io f else Answer (heads.Absent None)
 
+-- what a calculated value depends on of the object that holds it: all but how its end is known
+abbrev pub holder_of : Object → Holder
+holder_of o = record { origin = o.origin; type_number = o.type_number; stream = o.stream; start = o.start }
+
 -- a value instance or a parameter
 abbrev pub calc : Object → Sought → Head
-calc o x = heads.Calc (record { member = x.member; object = o })
+calc o x = heads.Calc (record { member = x.member; object = holder_of o })
 
 unfoldable pub value_head : Setting → Object → Sought → Option Tree → Rule Head
 value_head at o x condition = do

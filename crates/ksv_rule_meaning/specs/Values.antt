@@ -19,7 +19,7 @@ use Rattle.ksv_desc.specs.Description.{Description, is_truth, MemberKind, Parame
 use Rattle.ksv_desc.specs.Description as contents
 use Rattle.ksv_nodes.specs.declared.given.Calc.{Calc}
 use Rattle.ksv_nodes.specs.declared.given.Leaf.{Leaf}
-use Rattle.ksv_nodes.specs.declared.given.Object.{Object}
+use Rattle.ksv_nodes.specs.declared.given.Holder.{Holder}
 use Rattle.ksv_nodes.specs.declared.given.Origin.{Origin}
 use Rattle.ksv_nodes.specs.declared.given.Head.{Head}
 use Rattle.ksv_nodes.specs.declared.given.Head.TheVariants as heads
@@ -28,7 +28,7 @@ use Rattle.ksv_nodes.specs.Rule.{Rule, raise, ask_head, peek}
 use Rattle.ksv_rule_meaning.specs.Checks.{value_checked}
 use Rattle.ksv_rule_meaning.specs.Choosing.{content_of}
 use Rattle.ksv_rule_meaning.specs.Fields.{members_of, kind_of, field_of, parameters_before}
-use Rattle.ksv_rule_meaning.specs.Heads.{member_setting, instance_setting}
+use Rattle.ksv_rule_meaning.specs.Heads.{member_setting, holder_setting}
 use Rattle.ksv_rule_meaning.specs.Integers.{integer_value}
 use Rattle.ksv_rule_meaning.specs.Wanted.{expression}
 
@@ -170,20 +170,20 @@ plain_value at e = do
   v ← expression at e
   in_no_stream v
 
-unfoldable pub argument_value : Description → Trail → Trail → ℕ → Object → Origin → Rule Value
+unfoldable pub argument_value : Description → Trail → Trail → ℕ → Holder → Origin → Rule Value
 argument_value d p q member o g = do
   given ← arguments_for d g
   e ← argument_at given (parameters_before member (members_of d o.type_number))
   plain_value (argument_setting p q g o.start) e
 
 -- nothing is given to the root, which has no parameters
-unfoldable pub parameter_value : Description → Trail → Trail → ℕ → Object → Option Origin → Rule Value
+unfoldable pub parameter_value : Description → Trail → Trail → ℕ → Holder → Option Origin → Rule Value
 parameter_value d p q member o None = raise kinds.NoSuch
 parameter_value d p q member o (Some g) = argument_value d p q member o g
 
 unfoldable pub calc_value : Description → Trail → Trail → Calc → MemberKind → Rule Value
 calc_value d p q c Parameter = parameter_value d p q c.member c.object c.object.origin
-calc_value d p q c (ValueInstance v) = instance_value (instance_setting p q c.object) v.value v.enum
+calc_value d p q c (ValueInstance v) = instance_value (holder_setting p q c.object) v.value v.enum
 calc_value d p q c _ = raise kinds.NoSuch
 
 -- the value of a member that is calculated, at the path p, of the object q

@@ -9,7 +9,7 @@ ghost use Rattle.ksv_desc.specs.Description.{Bytes};
 ghost use Rattle.ksv_desc.specs.Pieces.{plain_content, plain_kind};
 ghost use Rattle.ksv_desc.specs.Whole.{plain_pieces};
 ghost use Rattle.ksv_nodes.specs.Turning.{Runs};
-ghost use Rattle.ksv_rule_meaning.specs.Heads.{instance_setting};
+ghost use Rattle.ksv_rule_meaning.specs.Heads.{holder_setting};
 ghost use Rattle.ksv_rule_meaning.specs.Values.{in_no_stream, in_enum, instance_value, given_by, arguments_for, argument_at, argument_setting, plain_value, argument_value, parameter_value, calc_value, calculated};
 
 use crate::choosing::content_of;
@@ -148,13 +148,13 @@ fn parameter_value(
     desc: &Desc,
     path: &Path,
     holder: &Path,
-    calc: Calc,
+    calc: &Calc,
 ) -> Result<Value, Halt>
-    ensures { Runs (parameter_value (plain_pieces desc.now) path.now holder.now calc.member calc.object calc.object.origin) (λ value. value) turn.old turn.new result }
+    ensures { Runs (parameter_value (plain_pieces desc.now) path.now holder.now calc.now.member calc.now.object calc.now.object.origin) (λ value. value) turn.old turn.new result }
 {
-    match &calc.object.origin {
+    match calc.object.origin.get() {
         None => turn.raise(FaultKind::NoSuch),
-        Some(origin) => argument_value(turn, desc, path, holder, &calc, origin),
+        Some(origin) => argument_value(turn, desc, path, holder, calc, &origin),
     }
 }
 
@@ -170,7 +170,7 @@ fn calc_value(
     ensures { Runs (calc_value (plain_pieces desc.now) path.now holder.now calc (plain_kind kind.now)) (λ value. value) turn.old turn.new result }
 {
     match kind {
-        MemberKind::Parameter => parameter_value(turn, desc, path, holder, calc),
+        MemberKind::Parameter => parameter_value(turn, desc, path, holder, &calc),
         MemberKind::ValueInstance {
             value,
             enumeration,

@@ -142,7 +142,7 @@ fn object_checked(
 ) -> Result<(), Halt>
     ensures { Runs (object_checked (plain_pieces desc.now) path.now object.now object.now.origin value.now) (λ unit. unit) turn.old turn.new result }
 {
-    match object.origin {
+    match object.origin.get() {
         None => Ok(()),
         Some(origin) => member_checked(turn, desc, path, origin, object.start, value),
     }

@@ -158,7 +158,7 @@ fn is_last(
 {
     match repeat {
         Repeat::Once => turn.raise(FaultKind::NoSuch),
-        Repeat::Expr(_) => Ok(is_counted(list.count, index)),
+        Repeat::Expr(_) => Ok(is_counted(list.count.get(), index)),
         Repeat::Eos => turn.done(list.stream, end),
         Repeat::Until(condition) => holds_behind(turn, list, element, index, end, condition),
     }

@@ -1,14 +1,14 @@
 //! What is at a path, and where.
 #![tactic(auto)]
 
-ghost use Rattle.std.specs.Prelude.{◌≡◌, option_map};
+ghost use Rattle.std.specs.Prelude.{◌≡◌, ◌≤◌, IfOk, option_map};
 ghost use Rattle.ksv_expr_tree.specs.Tree.{view};
-ghost use Rattle.ksv_expr_value.specs.Trail.{parent};
+ghost use Rattle.ksv_expr_value.specs.Trail.{element_limit, parent};
 ghost use Rattle.ksv_desc.specs.Pieces.{plain_choice, plain_repeat, plain_field, plain_kind};
 ghost use Rattle.ksv_desc.specs.Whole.{plain_pieces};
 ghost use Rattle.ksv_nodes.specs.Turning.{Runs};
 ghost use Rattle.ksv_rules.specs.Members.{plain_sought};
-ghost use Rattle.ksv_rule_meaning.specs.Heads.{in_count, count_of, counted, until_eos, repeated, attribute_at, is_of_bits, start_after, attribute_start, attribute_setting, element_setting, origin_of, attribute_head, instance_setting, positioned_in, positioned, instance_head, calc, value_head, member_at, member_head, is_past, in_next, next_start, element_start, shape_at, element_head, root_head, head_of};
+ghost use Rattle.ksv_rule_meaning.specs.Heads.{in_count, count_of, counted, until_eos, repeated, attribute_at, is_of_bits, start_after, attribute_start, attribute_setting, element_setting, origin_of, attribute_head, instance_setting, positioned_in, positioned, instance_head, holder_of, calc, value_head, member_at, member_head, is_past, in_next, next_start, element_start, shape_at, element_head, root_head, head_of};
 
 use crate::fields::{Sought, field_of, member_named};
 use crate::parts::{end_beside, in_list_above};
@@ -17,14 +17,16 @@ use crate::wanted::{holds, in_object_above, size_of, stream_for};
 use ksv_desc::{Choice, Content, Desc, Field, MemberKind, Repeat};
 use ksv_expr_eval::{Ctx, Expr, FaultKind, Path, Place, Step, Stream, StreamEnd};
 use ksv_nodes::{
-    Calc, CaseNumber, Ended, Halt, Head, List, MemberRef, Object, ObjectEnd, Origin, Turn,
+    Calc, CaseNumber, ElementCount, Ended, Halt, Head, Holder, List, MemberRef, Object, ObjectEnd,
+    ObjectOrigin, Origin, Turn,
 };
 
 // ---- attributes
 
 /// How many elements there are: at most 1,048,576.
 fn in_count(turn: &mut Turn, count: u64) -> Result<u32, Halt>
-    ensures { Runs (in_count count) (λ count. count) turn.old turn.new result }
+    ensures runs { Runs (in_count count) (λ count. count) turn.old turn.new result }
+    ensures few { IfOk result (λ count. count ≤ element_limit) }
 {
     if count > 1_048_576 {
         return turn.raise(FaultKind::TooMany);
@@ -35,7 +37,8 @@ fn in_count(turn: &mut Turn, count: u64) -> Result<u32, Halt>
 /// How many elements an expression says that there are.
 #[tactic(auto, using(ksv_basics::proofs::Running::run_bind), unfolding(ksv_rule_meaning::specs::Heads::count_of))]
 fn count_of(turn: &mut Turn, ctx: &Ctx, count: &Expr) -> Result<u32, Halt>
-    ensures { Runs (count_of ctx.now (view count.now)) (λ count. count) turn.old turn.new result }
+    ensures runs { Runs (count_of ctx.now (view count.now)) (λ count. count) turn.old turn.new result }
+    ensures few { IfOk result (λ count. count ≤ element_limit) }
 {
     let count = size_of(turn, ctx, count)?;
     in_count(turn, count)
@@ -57,7 +60,7 @@ fn counted(
         origin,
         stream,
         start: ctx.place,
-        count: Some(count),
+        count: ElementCount::known(count),
         is_empty: count == 0,
     }))
 }
@@ -72,7 +75,7 @@ fn until_eos(turn: &mut Turn, ctx: &Ctx, origin: Origin, stream: &Stream) -> Res
         origin,
         stream: *stream,
         start: ctx.place,
-        count: None,
+        count: ElementCount::unknown(),
         is_empty,
     }))
 }
@@ -97,7 +100,7 @@ fn repeated(
             origin,
             stream,
             start: ctx.place,
-            count: None,
+            count: ElementCount::unknown(),
             is_empty: false,
         })),
     }
@@ -273,13 +276,25 @@ fn instance_head(
     }
 }
 
+/// What a calculated value depends on of the object that holds it: all but how its end is known.
+fn holder_of(object: Object) -> Holder
+    ensures { result ≡ holder_of object }
+{
+    Holder {
+        origin: object.origin,
+        type_number: object.type_number,
+        stream: object.stream,
+        start: object.start,
+    }
+}
+
 /// A value instance or a parameter.
 fn calc(object: Object, sought: Sought) -> Head
     ensures { result ≡ calc object (plain_sought sought.entry) }
 {
     Head::Calc(Calc {
         member: sought.member,
-        object,
+        object: holder_of(object),
     })
 }
 
@@ -409,7 +424,7 @@ fn next_start(turn: &mut Turn, path: &Path, index: u32) -> Result<Place, Halt>
 fn element_start(turn: &mut Turn, path: &Path, list: &List, index: u32) -> Result<Place, Halt>
     ensures { Runs (element_start (parent path.now) list.now index) (λ place. place) turn.old turn.new result }
 {
-    if list.is_empty || is_past(list.count, index) {
+    if list.is_empty || is_past(list.count.get(), index) {
         return turn.raise(FaultKind::BadIndex);
     }
     if index == 0 {
@@ -455,7 +470,7 @@ fn root_head() -> Head
     ensures { result ≡ root_head }
 {
     Head::Object(Object {
-        origin: None,
+        origin: ObjectOrigin::of_root(),
         type_number: 0,
         stream: Stream {
             from: 0,

@@ -55,7 +55,8 @@ mod values;
 mod wanted;
 
 pub use ksv_nodes::{
-    Calc, CaseNumber, Given, Head, Leaf, List, MemberRef, Node, NodeKind, Object, ObjectEnd, Origin,
+    Calc, CaseNumber, ElementCount, Given, Head, Holder, Leaf, List, MemberRef, Node, NodeKind,
+    Object, ObjectEnd, ObjectOrigin, Origin,
 };
 pub use ksv_paths::{decimal, path_of, paths_are_read, texts_are_written};
 pub use ksv_rule_meaning::{evaluation_is_direct, next_meets_truth, rules_are_bounded};

@@ -16,7 +16,9 @@ use crate::choosing::{Chosen, choose};
 use crate::wanted::size_of;
 use ksv_desc::{Content, Extent, Field, Terminator};
 use ksv_expr_eval::{Ctx, Expr, FaultKind, Place, Stream, StreamEnd};
-use ksv_nodes::{CaseNumber, Found, Halt, Head, Leaf, Object, ObjectEnd, Origin, Turn};
+use ksv_nodes::{
+    CaseNumber, Found, Halt, Head, Leaf, Object, ObjectEnd, ObjectOrigin, Origin, Turn,
+};
 
 /// As many bytes as a size says, from a place on.
 #[tactic(auto, using(ksv_basics::proofs::Running::run_bind), unfolding(ksv_rule_meaning::specs::Heads::leaf))]
@@ -217,7 +219,7 @@ fn sized_object(
     let start = ctx.place;
     let end = turn.reach(stream, start.byte(), size)?;
     Ok(Head::Object(Object {
-        origin: Some(origin),
+        origin: ObjectOrigin::new(origin)?,
         type_number,
         stream: Stream {
             from: start.byte(),
@@ -244,7 +246,7 @@ fn object_at(
     match extent {
         Extent::Sized(size) => { sized_object(turn, ctx, origin, type_number, stream, size) },
         Extent::SizeEos => Ok(Head::Object(Object {
-            origin: Some(origin),
+            origin: ObjectOrigin::new(origin)?,
             type_number,
             stream: Stream {
                 from: start.byte(),
@@ -254,7 +256,7 @@ fn object_at(
             ending: ObjectEnd::OfStream,
         })),
         Extent::ByItself => Ok(Head::Object(Object {
-            origin: Some(origin),
+            origin: ObjectOrigin::new(origin)?,
             type_number,
             stream,
             start,

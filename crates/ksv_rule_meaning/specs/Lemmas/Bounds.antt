@@ -40,6 +40,7 @@ use Rattle.ksv_nodes.specs.declared.given.Given.{Given as Answered}
 use Rattle.ksv_nodes.specs.declared.given.MemberRef.{MemberRef}
 use Rattle.ksv_nodes.specs.declared.given.Origin.{Origin}
 use Rattle.ksv_nodes.specs.declared.given.Calc.{Calc}
+use Rattle.ksv_nodes.specs.declared.given.Holder.{Holder}
 use Rattle.ksv_nodes.specs.declared.given.Leaf.{Leaf}
 use Rattle.ksv_nodes.specs.declared.given.ObjectEnd.{ObjectEnd}
 use Rattle.ksv_nodes.specs.declared.given.ObjectEnd.TheVariants as endings
@@ -518,14 +519,14 @@ plain_value_nodes : (at : Setting) (e : Tree) → NodesAtMost (most_wants e) (pl
 unfolding plain_value
 plain_value_nodes at e = nodes_join _ _ (most_wants e) (most_wants e) 0 (omega arith) (expression_nodes at e) (λ v. in_no_stream_nodes v)
 
-argument_value_nodes : (d : Description) (p q : Trail) (member : ℕ) (o : Object) (g : Origin) → NodesAtMost (all_wants d) (argument_value d p q member o g)
+argument_value_nodes : (d : Description) (p q : Trail) (member : ℕ) (o : Holder) (g : Origin) → NodesAtMost (all_wants d) (argument_value d p q member o g)
 unfolding argument_value
 argument_value_nodes d p q member o g =
     gives_nodes (all_wants d) (λ es. arguments_wants es ≤ all_wants d) (arguments_for d g) _ (arguments_gives d g) (λ es le.
     gives_nodes (all_wants d) (λ e. most_wants e ≤ arguments_wants es) (argument_at es (parameters_before member (members_of d o.type_number))) _ (argument_gives es _) (λ e le'.
     nodes_more (most_wants e) _ _ (omega arith) (plain_value_nodes (argument_setting p q g o.start) e)))
 
-parameter_value_nodes : (d : Description) (p q : Trail) (member : ℕ) (o : Object) (g : Option Origin) → NodesAtMost (all_wants d) (parameter_value d p q member o g)
+parameter_value_nodes : (d : Description) (p q : Trail) (member : ℕ) (o : Holder) (g : Option Origin) → NodesAtMost (all_wants d) (parameter_value d p q member o g)
 unfolding parameter_value
 parameter_value_nodes d p q member o None = tt
 parameter_value_nodes d p q member o (Some g) = argument_value_nodes d p q member o g
