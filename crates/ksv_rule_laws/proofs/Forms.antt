@@ -1,11 +1,10 @@
 -- An answer has its node's form, and a value is one of the head at its path.
-use Rattle.std.proofs.Common.{not, ◌==◌, pos, ◌≡◌, ◌∙◌, ℕ, zero, suc, ◌+◌, ◌≤◌, Bool, true, false, cond, if◌then◌else◌, ◌||◌, ℤ, List, ◌∷◌, length, slice_get, Option, Some, None, Result, Ok, Err, refl, sym, ap, subst, arith}
-use Rattle.std.specs.Prelude.{nat_le, nat_eq}
+use Rattle.std.proofs.Common.{not, ◌==◌, pos, ◌≡◌, ◌∙◌, ℕ, zero, suc, ◌+◌, ◌≤◌, Bool, true, false, if◌then◌else◌, ℤ, List, ◌∷◌, length, slice_get, Option, Some, None, Result, Ok, refl, sym, ap, subst, arith}
+use Rattle.std.specs.Prelude.{nat_le}
 use Rattle.std.specs.Str.{bytes_eq}
 use Rattle.std.proofs.lemmas.Bool.Decides.{nat_tests}
 use Rattle.std.proofs.lemmas.Grind.{common_steps}
-use Rattle.ksv_basics.specs.Plan.{Answer, Fail, Ask, bind}
-use Rattle.ksv_basics.specs.Asking.{and_then}
+use Rattle.ksv_basics.specs.Plan.{Answer}
 use Rattle.ksv_expr_tree.specs.Tree.{Tree}
 use Rattle.ksv_expr_value.specs.Places.{Place, byte_of, byte_in, further}
 use Rattle.ksv_expr_value.specs.Bits.{number_of, bits_from}
@@ -15,14 +14,12 @@ use Rattle.ksv_expr_value.specs.Range.{ranged}
 use Rattle.ksv_expr_value.specs.Encodings.{decoded}
 use Rattle.ksv_expr_value.specs.declared.encoding.Encoding.{Encoding}
 use Rattle.ksv_expr_value.specs.declared.fault.Fault.{Fault}
-use Rattle.ksv_expr_value.specs.declared.fault.FaultKind.{FaultKind}
 use Rattle.ksv_expr_value.specs.declared.fault.FaultKind.TheVariants as kinds
 use Rattle.ksv_expr_value.specs.declared.value.Value.{Value}
 use Rattle.ksv_expr_value.specs.declared.value.Value.TheVariants as values
 use Rattle.ksv_desc.specs.declared.order.ByteOrder.{ByteOrder}
 use Rattle.ksv_desc.specs.Description.{is_truth, Description, MemberOfType, MemberKind, Parameter, Attribute, ParseInstance, ValueInstance, Field, Choice, Always, Switch, Content, Terminator}
 use Rattle.ksv_desc.specs.Description as contents
-use Rattle.ksv_memo_rules.specs.Evaluation.{is_among}
 use Rattle.ksv_nodes.specs.declared.node.Node.{Node}
 use Rattle.ksv_nodes.specs.declared.node.NodeKind.{NodeKind}
 use Rattle.ksv_nodes.specs.declared.node.NodeKind.TheVariants as nodes
@@ -33,13 +30,12 @@ use Rattle.ksv_nodes.specs.declared.given.Head.TheVariants as heads
 use Rattle.ksv_nodes.specs.declared.given.Calc.{Calc}
 use Rattle.ksv_nodes.specs.declared.given.Holder.{Holder}
 use Rattle.ksv_nodes.specs.declared.given.Leaf.{Leaf}
-use Rattle.ksv_nodes.specs.declared.given.Object.{Object}
 use Rattle.ksv_nodes.specs.declared.given.Origin.{Origin}
 use Rattle.ksv_nodes.specs.declared.given.MemberRef.{MemberRef}
-use Rattle.ksv_nodes.specs.Numbers.{node_number, node_bound}
-use Rattle.ksv_nodes.specs.Reading.{Seen, look, peek_at, first_at}
-use Rattle.ksv_nodes.specs.Rule.{Rule, Of, See, raise, in_head, ask_head, head_node, value_node, peek}
-use Rattle.ksv_nodes.specs.Truth.{answer_of, with_given, with_seen}
+use Rattle.ksv_nodes.specs.Numbers.{node_bound}
+use Rattle.ksv_nodes.specs.Reading.{first_at}
+use Rattle.ksv_nodes.specs.Rule.{raise, ask_head, head_node, value_node, peek}
+use Rattle.ksv_nodes.specs.Truth.{answer_of}
 use Rattle.ksv_nodes.proofs.First.{first_at_below}
 use Rattle.ksv_rule_meaning.specs.Checks.{value_checked}
 use Rattle.ksv_rule_meaning.specs.Choosing.{in_case, content_of}
@@ -49,8 +45,8 @@ use Rattle.ksv_rule_meaning.specs.Integers.{integer_value}
 use Rattle.ksv_rule_meaning.specs.Values.{in_number, number_in, number_value, of_bits, bits_in, bits_value, fixed_value, cut_by, kept_of, kept, cut_bytes, bytes_value, in_text, cut_text, text_value, content_value, leaf_value, in_no_stream, in_enum, instance_value, arguments_for, argument_at, argument_setting, plain_value, argument_value, parameter_value, calc_value, calculated, value_at, value_of}
 use Rattle.ksv_rule_meaning.specs.Wanted.{expression}
 use Rattle.ksv_rule_meaning.specs.Ends.{end_of, rest_of}
-use Rattle.ksv_rule_meaning.specs.Meaning.{meaning_of, rule_of}
-use Rattle.ksv_rule_meaning.specs.FromNothing.{circle, answer_within, from_nothing}
+use Rattle.ksv_rule_meaning.specs.Meaning.{meaning_of}
+use Rattle.ksv_rule_meaning.specs.FromNothing.{answer_within, from_nothing}
 use Rattle.ksv_rule_laws.specs.Laws.{IsNoStream, HasForm, AnswersHaveForms, Reads, IsFieldOf, IsReadBy, IsContentOf, IsAsWide, IsLeafOf, IsRead, IsOfLeaf, IsOfHead, ValuesHaveHeads}
 use Rattle.ksv_rule_laws.proofs.Answering.{ok_is, goes_on, asked_head, peeked, passed, put_in, meaning_is, ruled, no_depth, stays_within, among_more}
 use Rattle.ksv_rule_laws.proofs.Sources.{field_found, head_is_read}

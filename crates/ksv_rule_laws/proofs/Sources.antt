@@ -34,7 +34,7 @@ use Rattle.ksv_rule_meaning.specs.Fields.{members_of, behind, Sought, sought, in
 use Rattle.ksv_rule_meaning.specs.Heads.{leaf, bits_leaf, leaf_to_end, terminated_at, terminated, run_of, sized_leaf, bytes_at, sized_object, object_at, content_at, unchosen_at, chosen_at, shape_at, count_of, counted, until_eos, repeated, attribute_at, origin_of, attribute_start, attribute_head, positioned_in, positioned, instance_head, calc, value_head, member_at, member_head, setting, in_list, element_start, within, element_head, root_head, head_at, head_of}
 use Rattle.ksv_rule_meaning.specs.Meaning.{meaning_of}
 use Rattle.ksv_rule_meaning.specs.FromNothing.{answer_within, from_nothing}
-use Rattle.ksv_rule_laws.specs.Laws.{Reads, IsFieldOf, IsReadBy, IsContentOf, IsAsWide, IsLeafOf, IsObjectOf, IsCountedBy, IsObjectRead, IsCalculated, IsCalculatedBy, IsRead, HeadsAreRead}
+use Rattle.ksv_rule_laws.specs.Laws.{Reads, IsFieldOf, IsReadBy, IsContentOf, IsLeafOf, IsObjectOf, IsCountedBy, IsObjectRead, IsCalculated, IsCalculatedBy, IsRead, HeadsAreRead}
 use Rattle.ksv_rule_laws.proofs.Answering.{ok_is, goes_on, asked_head, refused, meaning_is, ruled, no_depth}
 
 -- ---- the member of a place

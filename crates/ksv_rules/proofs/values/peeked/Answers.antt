@@ -1,4 +1,4 @@
-use Rattle.std.proofs.Common.{◌<◌, length, arith}
+use Rattle.std.proofs.Common.{arith}
 use Rattle.ksv_expr_value.specs.Bytes.{content}
 use Rattle.ksv_rules.proofs.Peeked.{peeked_length}
 use Rattle.ksv_rules.proofs.values.peeked.Goals as goal
