@@ -1,5 +1,6 @@
-"""The work of `bench/peers` by a parser of Python: run by the system's Python, as `parsers.py NAME`, on what standard input has: the file, and steps, each some
-edits of a byte and the number of an element that is asked behind them. All is parsed anew at each step.
+"""The work of `bench/peers` by a parser of Python: run by the system's Python, as `parsers.py FORM NAME`, on what standard input has: the file, and steps, each
+some edits of a byte and what is asked behind them. All is parsed anew at each step. The form is `items`, of which the number of an element is asked, or `table`, of
+which all values are, so that what is asked there is 0 and the answer is their sum.
 
 It prints the version and then, for each step, the seconds of a processor that it took and the answer, all as JSON."""
 import io
@@ -9,43 +10,52 @@ import sys
 import time
 
 
-def construct_parser(is_compiled):
+def construct_parser(form, is_compiled):
     """A parser of construct, and its version. Only the element can be compiled: of the list a compiled form calls the plain one, and takes longer."""
     import construct
 
-    item = construct.Struct("len" / construct.Int8ub, "body" / construct.Bytes(construct.this.len))
-    return construct.GreedyRange(item.compile() if is_compiled else item).parse, construct.__version__
+    element = {
+        "items": construct.Struct("len" / construct.Int8ub, "body" / construct.Bytes(construct.this.len)),
+        "table": construct.Struct("a" / construct.Int32ub, "b" / construct.Int16ub, "c" / construct.Int8ub),
+    }[form]
+    return construct.GreedyRange(element.compile() if is_compiled else element).parse, construct.__version__
 
 
-def kaitai_parser():
+def kaitai_parser(form):
     """A parser of Kaitai Struct's runtime, and its version."""
     import kaitaistruct
-    from kaitai_items import A
+    from kaitai_items import A, Table
 
-    return lambda data: A(kaitaistruct.KaitaiStream(io.BytesIO(data))).items, kaitaistruct.__version__
-
-
-PARSERS = {"construct": lambda: construct_parser(False), "construct, compiled": lambda: construct_parser(True), "Kaitai Struct": kaitai_parser}
+    whole = {"items": lambda io: A(io).items, "table": lambda io: Table(io).rows}[form]
+    return lambda data: whole(kaitaistruct.KaitaiStream(io.BytesIO(data))), kaitaistruct.__version__
 
 
-def main(name):
+PARSERS = {
+    "construct": lambda form: construct_parser(form, False),
+    "construct, compiled": lambda form: construct_parser(form, True),
+    "Kaitai Struct": kaitai_parser,
+}
+ANSWERS = {"items": lambda items, number: items[number].len, "table": lambda rows, _: sum(row.a + row.b + row.c for row in rows)}
+
+
+def main(form, name):
     """Does the work."""
     sys.dont_write_bytecode = True
     try:
-        parse, version = PARSERS[name]()
+        parse, version = PARSERS[name](form)
     except ImportError:
         print(json.dumps(None))
         return
     work = json.load(sys.stdin)
     data, told = bytearray.fromhex(work["data"]), []
-    for edits, number in work["steps"]:
+    for edits, asked in work["steps"]:
         begun = time.process_time()
         for place, byte in edits:
             data[place] = byte
-        answer = parse(bytes(data))[number].len
+        answer = ANSWERS[form](parse(bytes(data)), asked)
         told.append((time.process_time() - begun, answer))
     print(json.dumps({"version": f"{version}, Python {platform.python_version()}", "told": told}))
 
 
 if __name__ == "__main__":
-    main(sys.argv[1])
+    main(*sys.argv[1:])
