@@ -36,6 +36,22 @@ pub(crate) fn number(count: usize) -> Result<u32, AllocError>
     Ok(count as u32)
 }
 
+/// How many nodes are closed before the memory that open nodes took is looked at; and how many items have room at least.
+const FEW: usize = 256;
+
+/// Gives back memory of items that are no more, if it is much: all but that of an eighth of those that there are, and of a few.
+/// Where that is refused, it isn't given back this time.
+fn shrink<T: Drop>(items: &mut Vec<T>)
+    ensures { items.new.items ≡ items.old.items }
+{
+    let len = items.as_slice().len();
+    let spare = len / 8;
+    let room = len.saturating_add(spare).saturating_add(FEW);
+    if items.capacity() > room.saturating_add(spare) {
+        items.shrink_to(room);
+    }
+}
+
 /// The frame of the last open node, of the frames of all.
 #[inline(always)]
 pub(crate) fn last_frame<N>(frames: &[Frame<N>]) -> Option<&Frame<N>>
@@ -80,7 +96,21 @@ impl<N: Drop> Frames<N> {
         if let Some(frame) = self.frames.pop() {
             self.asked.truncate(frame.asked as usize);
             self.uses.truncate(frame.uses as usize);
+            if self.frames.as_slice().len() % FEW == 0 {
+                self.shrink();
+            }
         }
+    }
+
+    /// Gives back memory of nodes that are no longer open.
+    #[cold]
+    #[inline(never)]
+    fn shrink(&mut self)
+        ensures { SameFrames self.old self.new }
+    {
+        shrink(&mut self.frames);
+        shrink(&mut self.asked);
+        shrink(&mut self.uses);
     }
 }
 
