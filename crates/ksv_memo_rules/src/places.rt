@@ -15,7 +15,7 @@ pub trait Places<N: Eq + Drop> {
     ghost nodes: { Self → List N };
 
     /// The search for the number of a node ends here.
-    ghost ends: { Self → N → Trace → Type 0 };
+    ghost ends: { Self → N → Self.Trace → Type 0 };
 
     /// No nodes, which take no memory.
     fn new(alloc: Global) -> Self
