@@ -32,7 +32,7 @@ enum Asked<N> {
     Circle(N),
 }
 
-/// Opens a node that has no slot. The search for its number ended here.
+/// Opens a node that has no slot, given where the search for its number ended.
 #[inline(always)]
 fn open_node<N: Eq + Drop, P: Places<N> + Drop, V: Drop, F: Drop>(
     slots: &mut Slots<N, P, V, F>,
@@ -61,7 +61,8 @@ fn open_node<N: Eq + Drop, P: Places<N> + Drop, V: Drop, F: Drop>(
     }
 }
 
-/// Looks for a node, and opens it if it is neither kept nor open. Its number is looked up once, and once more if it gets one.
+/// Looks for a node, and opens it if it is neither kept nor open. Its number is searched for once, and once more
+/// if it gets that of another node.
 #[inline(always)]
 fn seek<N: Eq + Drop, P: Places<N> + Drop, V: Drop, F: Drop>(
     slots: &mut Slots<N, P, V, F>,
