@@ -4,7 +4,7 @@ ghost use Rattle.std.specs.List.{list_any, zip, IsDistinct};
 ghost use Rattle.std.specs.Map.{keys_of};
 ghost use Rattle.ksv_memo_links.specs.Shelved.{ticked};
 ghost use Rattle.ksv_memo.specs.Layout.{AreFrames, slots_of};
-ghost use Rattle.ksv_memo.specs.Moves.{with_slot, IsVacant, Knows};
+ghost use Rattle.ksv_memo.specs.Moves.{with_slot, IfNew, IsVacant, Knows};
 ghost use Rattle.ksv_memo.specs.Calls.{Runs, after_call};
 ghost use Rattle.ksv_memo_rules.specs.Meaning.{IsAddedTo, on};
 ghost use Rattle.ksv_memo_rules.specs.Right.{counted};
@@ -19,9 +19,9 @@ use std::marker::{Model, PhantomData};
 
 /// What the slots have of a node.
 #[derive(Clone, Copy)]
-pub enum Known {
-    /// No slot is its.
-    New,
+pub enum Known<T> {
+    /// No slot is its, and the search for its number ended here.
+    New(T),
     /// Its slot has this number, and nothing is in it.
     Empty(usize),
     /// It is open.
@@ -52,9 +52,9 @@ impl<N: Eq + Drop, P: Places<N> + Drop, V: Drop, F: Drop> Model for Slots<N, P, 
     ghost use Rattle.std.specs.List.{zip};
     ghost use Rattle.ksv_memo.specs.Slotted.{Slotted};
 
-    ghost Value = { Slotted N V F };
+    ghost Value = { Slotted N P V F };
 
-    ghost view = { λ slots. record { entries = zip (P.nodes slots.places) slots.slots.items; looks = slots.looks } };
+    ghost view = { λ slots. record { entries = zip (P.nodes slots.places) slots.slots.items; looks = slots.looks; places = slots.places } };
 
     ghost invariant = { λ slots. length slots.slots.items ≡ length (P.nodes slots.places) };
 }
@@ -62,7 +62,8 @@ impl<N: Eq + Drop, P: Places<N> + Drop, V: Drop, F: Drop> Model for Slots<N, P, 
 impl<N: Eq + Drop, P: Places<N> + Drop, V: Drop, F: Drop> Slots<N, P, V, F> {
     /// No slots, which take no memory.
     pub(crate) fn new(alloc: Global) -> Self
-        ensures { result ≡ record { entries = []; looks = 0 } }
+        ensures entries { result.entries ≡ [] }
+        ensures looks { result.looks ≡ 0 }
     {
         Slots {
             places: P::new(alloc),
@@ -92,6 +93,7 @@ impl<N: Eq + Drop, P: Places<N> + Drop, V: Drop, F: Drop> Slots<N, P, V, F> {
     fn look(&mut self)
         ensures entries { self.new.entries ≡ self.old.entries }
         ensures looks { self.new.looks ≡ ticked self.old.looks }
+        ensures places { self.new.places ≡ self.old.places }
     {
         self.looks = self.looks.saturating_add(1);
     }
@@ -106,11 +108,13 @@ impl<N: Eq + Drop, P: Places<N> + Drop, V: Drop, F: Drop> Slots<N, P, V, F> {
 
     /// What the slots have of a node.
     #[inline(always)]
-    pub(crate) fn find(&mut self, node: &N) -> Known
+    pub(crate) fn find(&mut self, node: &N) -> Known<P::Trace>
         ensures knows { Knows N.eq self.new.entries node.now result }
+        ensures ends { IfNew result (P.ends self.new.places node.now) }
         ensures unique { IsDistinct N.eq (keys_of self.new.entries) }
         ensures entries { self.new.entries ≡ self.old.entries }
         ensures looks { self.new.looks ≡ ticked self.old.looks }
+        ensures places { self.new.places ≡ self.old.places }
     {
         self.look();
         look_up(&self.places, self.slots.as_slice(), node)
@@ -127,16 +131,17 @@ impl<N: Eq + Drop, P: Places<N> + Drop, V: Drop, F: Drop> Slots<N, P, V, F> {
         write(&mut self.slots, place, new);
     }
 
-    /// A slot for a node that has none, open.
+    /// A slot for a node that has none, open, from where the search for its number ended.
     #[inline(always)]
-    pub(crate) fn add(&mut self, node: &N) -> Result<(), AllocError>
-        requires { list_any (λ p. N.eq node.now p.0) self.old.entries ≡ false }
+    pub(crate) fn add(&mut self, node: &N, trace: P::Trace) -> Result<(), AllocError>
+        requires none { list_any (λ p. N.eq node.now p.0) self.old.entries ≡ false }
+        requires ends { P.ends self.old.places node.now trace }
         ensures ok { OnOk result (self.new.entries ≡ self.old.entries ++ (node.now, Slot.Open) ∷ []) }
         ensures err { OnErr result (self.new.entries ≡ self.old.entries) }
     {
         self.looks = self.looks.saturating_add(1);
         self.slots.reserve(1)?;
-        self.places.add(node)?;
+        self.places.add(node, trace)?;
         self.slots.push_reserved(Slot::Open);
         Ok(())
     }
@@ -155,6 +160,7 @@ impl<N: Eq + Drop, P: Places<N> + Drop, V: Drop, F: Drop> Slots<N, P, V, F> {
     fn empty_from(&mut self, from: usize) -> Option<usize>
         ensures some { IfSome result (IsVacant self.old.entries) }
         ensures entries { self.new.entries ≡ self.old.entries }
+        ensures places { self.new.places ≡ self.old.places }
     {
         for place in from..self.len() {
             self.look();
@@ -172,6 +178,7 @@ impl<N: Eq + Drop, P: Places<N> + Drop, V: Drop, F: Drop> Slots<N, P, V, F> {
     pub(crate) fn vacant(&mut self) -> Option<usize>
         ensures some { IfSome result (IsVacant self.old.entries) }
         ensures entries { self.new.entries ≡ self.old.entries }
+        ensures places { self.new.places ≡ self.old.places }
     {
         let mut found = self.empty_from(self.cursor);
         if found.is_none() {
@@ -198,7 +205,8 @@ impl<N: Eq + Drop, P: Places<N> + Drop, V: Drop, F: Drop> Slots<N, P, V, F> {
     /// Gives memory of numbers back, if it is much. It isn't a look: it reads no slot, and no forgetting calls it.
     #[inline(always)]
     pub(crate) fn tidy(&mut self)
-        ensures { self.new ≡ self.old }
+        ensures entries { self.new.entries ≡ self.old.entries }
+        ensures looks { self.new.looks ≡ self.old.looks }
     {
         self.places.tidy();
     }
@@ -227,14 +235,15 @@ fn look_up<N: Eq + Drop, P: Places<N>, V: Drop, F: Drop>(
     places: &P,
     slots: &[Slot<V, F>],
     node: &N,
-) -> Known
+) -> Known<P::Trace>
     requires { length slots.now ≡ length (P.nodes places.now) }
     ensures knows { Knows N.eq (zip (P.nodes places.now) slots.now) node.now result }
+    ensures ends { IfNew result (P.ends places.now node.now) }
     ensures unique { IsDistinct N.eq (keys_of (zip (P.nodes places.now) slots.now)) }
 {
     match places.find(node) {
-        None => Known::New,
-        Some(place) => match &slots[place] {
+        Err(trace) => Known::New(trace),
+        Ok(place) => match &slots[place] {
             Slot::Empty => Known::Empty(place),
             Slot::Open => Known::Open,
             Slot::Value(_) => Known::Kept(place),

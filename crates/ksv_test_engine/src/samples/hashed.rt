@@ -1,5 +1,5 @@
 //! Nodes with numbers, found by a hash.
-ghost use Rattle.std.specs.Prelude.{◌≡◌, true};
+ghost use Rattle.std.specs.Prelude.{◌≡◌, true, ⊤};
 
 use indexmap::IndexSet;
 use ksv_memo_rules::Places;
@@ -19,7 +19,11 @@ pub struct Hashed<N: Exact> {
 }
 
 impl<N: Exact> Places<N> for Hashed<N> {
+    type Trace = ();
+
     ghost nodes = { λ places. places.nodes.keys };
+
+    ghost ends = { λ _ _ _. ⊤ };
 
     fn new(alloc: Global) -> Self {
         Hashed {
@@ -27,14 +31,17 @@ impl<N: Exact> Places<N> for Hashed<N> {
         }
     }
 
-    fn find(&self, node: &N) -> Option<usize> {
+    fn find(&self, node: &N) -> Result<usize, ()> {
         if self.nodes.len() == 0 {
-            return None;
+            return Err(());
         }
-        self.nodes.get_index_of(node)
+        match self.nodes.get_index_of(node) {
+            Some(place) => Ok(place),
+            None => Err(()),
+        }
     }
 
-    fn add(&mut self, node: &N) -> Result<(), AllocError> {
+    fn add(&mut self, node: &N, _trace: ()) -> Result<(), AllocError> {
         self.nodes.insert(*node)?;
         Ok(())
     }
