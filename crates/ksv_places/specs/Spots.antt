@@ -32,6 +32,11 @@ row_at rows r = slice_index_or rows r no_row
 abbrev pub spot_at : List Spot → ℕ → Spot
 spot_at spots i = slice_index_or spots i (record { path = 0; kind = Head })
 
+-- nodes, each its kind and its steps from the last to the first, and the paths by their numbers
+pub record Spotted : Type 0 where
+  pub nodes : List (NodeKind × List Step)
+  pub paths : List (List Step)
+
 -- the node of a spot
 abbrev pub node_of : List (List Step) → Spot → NodeKind × List Step
 node_of paths s = (s.kind, slice_index_or paths s.path [])

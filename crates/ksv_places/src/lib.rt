@@ -17,6 +17,7 @@
 //! - `spots`: nodes by their kinds and steps
 //! - `table`: numbers by indices that may lie far apart
 //! - `tables`: tables of paths
+//! - `trace`: where searches end
 //! - `tree`: paths by their numbers
 //!
 //! Definitions (`specs/`):
@@ -49,6 +50,8 @@ mod places;
 mod spots;
 mod table;
 mod tables;
+mod trace;
 mod tree;
 
 pub use places::NodePlaces;
+pub use trace::Trace;

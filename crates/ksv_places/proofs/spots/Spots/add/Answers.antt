@@ -2,7 +2,8 @@ use Rattle.std.proofs.Common.{◌≡◌, ℕ, ◌+◌, Result, Ok, Err, OnErr, �
 use Rattle.ksv_expr_value.specs.declared.step.Step.{Step}
 use Rattle.ksv_nodes.specs.declared.node.NodeKind.{NodeKind}
 use Rattle.ksv_places.specs.declared.links.Row.{Row}
-use Rattle.ksv_places.specs.Spots.{with_mark, row_at, nodes_of, IsFiled}
+use Rattle.ksv_places.specs.Spots.{with_mark, row_at, nodes_of, IsFiled, Spotted}
+use Rattle.ksv_places.specs.Tree.{EndsAt}
 use Rattle.ksv_places.proofs.Filing.{filed_more, nodes_same, open_behind, no_mark, filed_push, nodes_push}
 use Rattle.ksv_places.proofs.spots.Spots.add.Goals as goal
 
@@ -10,10 +11,13 @@ on_err : {A E : Type 0} (r : Result A E) (X : Type 0) → X → OnErr r X
 on_err (Ok a) X x = tt
 on_err (Err e) X x = x
 
+pub make_row-requires-clause-ends : goal.make_row-requires-clause-ends
+make_row-requires-clause-ends c = subst (λ (s : Spotted). EndsAt s.paths c.args.steps.now c.args.trace) (sym c.self.view_is) c.requires.ends
+
 pub returns-in_err-path-clause-err : goal.returns-in_err-path-clause-err
 returns-in_err-path-clause-err c =
     let t = c.self.inside in
-    on_err _ _ (ap (λ ss. nodes_of c.make_row.new.tree ss) c.reserve.ensures.items ∙ nodes_same t.tree c.make_row.new.tree t.rows.items c.make_row.new.rows.items t.spots.items c.self.invariant c.make_row.ensures.roomed ∙ c.self.view_is)
+    on_err _ _ (ap (λ ss. nodes_of c.make_row.new.tree ss) c.reserve.ensures.items ∙ nodes_same t.tree c.make_row.new.tree t.rows.items c.make_row.new.rows.items t.spots.items c.self.invariant c.make_row.ensures.roomed ∙ ap (λ (s : Spotted). s.nodes) c.self.view_is)
 
 pub invariant_of-self-2 : goal.invariant_of-self-2
 invariant_of-self-2 c =
@@ -27,7 +31,7 @@ invariant_of-self-2 c =
     let ok = c.in_ok-path.ensures.ok in
     let filed = filed_more t.tree paths t.rows.items rows spots c.self.invariant c.make_row.ensures.roomed in
     let same = nodes_same t.tree paths t.rows.items rows spots c.self.invariant c.make_row.ensures.roomed in
-    let free : (i : ℕ) → slice_get (nodes_of paths spots) i ≡ Some (kind, q) → ⊥ = subst (λ (ns : List (NodeKind × List Step)). (i : ℕ) → slice_get ns i ≡ Some (kind, q) → ⊥) (sym (same ∙ c.self.view_is)) c.requires in
+    let free : (i : ℕ) → slice_get (nodes_of paths spots) i ≡ Some (kind, q) → ⊥ = subst (λ (ns : List (NodeKind × List Step)). (i : ℕ) → slice_get ns i ≡ Some (kind, q) → ⊥) (sym (same ∙ ap (λ (s : Spotted). s.nodes) c.self.view_is)) c.requires.none in
     let mark : c.in_ok-mark.mark ≡ length spots + 1 = c.in_ok-mark.ensures ∙ ap (λ n. n + 1) (c.in_ok-count.ensures ∙ ap (λ ss. length ss) c.as_slice.ensures.value) in
     let wrote : c.write.new.rows.items ≡ set rows path (with_mark (row_at rows path) kind (length spots + 1)) = c.write.ensures ∙ ap (λ n. set rows path (with_mark (row_at rows path) kind n)) mark in
     let pushed = c.push_reserved.ensures.items ∙ ap (λ ss. ss ++ record { path = path; kind = kind } ∷ []) c.reserve.ensures.items in
@@ -48,4 +52,4 @@ returns-clause-ok c =
     let ok = c.in_ok-path.ensures.ok in
     let same = nodes_same t.tree paths t.rows.items rows spots c.self.invariant c.make_row.ensures.roomed in
     let pushed = c.push_reserved.ensures.items ∙ ap (λ ss. ss ++ record { path = path; kind = kind } ∷ []) c.reserve.ensures.items in
-    ap (λ ss. nodes_of paths ss) pushed ∙ nodes_push paths spots kind q path ok.0 ∙ ap (λ ns. ns ++ (kind, q) ∷ []) (same ∙ c.self.view_is)
+    ap (λ ss. nodes_of paths ss) pushed ∙ nodes_push paths spots kind q path ok.0 ∙ ap (λ ns. ns ++ (kind, q) ∷ []) (same ∙ ap (λ (s : Spotted). s.nodes) c.self.view_is)

@@ -4,7 +4,7 @@ use Rattle.ksv_expr_value.specs.declared.step.Step.{Step}
 use Rattle.ksv_nodes.specs.declared.node.NodeKind.{NodeKind}
 use Rattle.ksv_places.specs.declared.links.Row.{Row}
 use Rattle.ksv_places.specs.declared.links.Spot.{Spot}
-use Rattle.ksv_places.specs.Spots.{with_mark, row_at, spot_at, node_of, nodes_of, IsFiled}
+use Rattle.ksv_places.specs.Spots.{with_mark, row_at, spot_at, node_of, nodes_of, IsFiled, Spotted}
 use Rattle.ksv_places.proofs.Filing.{filed_more, nodes_same, path_in, open_at, still_none, no_mark, filed_set, nodes_set}
 use Rattle.ksv_places.proofs.spots.Spots.give.Goals as goal
 
@@ -18,7 +18,7 @@ place_there paths spots nodes place e l = let n = length-map spots (node_of path
 pub returns-in_err-path-clause-err : goal.returns-in_err-path-clause-err
 returns-in_err-path-clause-err c =
     let t = c.self.inside in
-    on_err _ _ (nodes_same t.tree c.make_row.new.tree t.rows.items c.make_row.new.rows.items t.spots.items c.self.invariant c.make_row.ensures.roomed ∙ c.self.view_is)
+    on_err _ _ (nodes_same t.tree c.make_row.new.tree t.rows.items c.make_row.new.rows.items t.spots.items c.self.invariant c.make_row.ensures.roomed ∙ ap (λ (s : Spotted). s.nodes) c.self.view_is)
 
 pub write-requires : goal.write-requires
 write-requires c =
@@ -27,7 +27,7 @@ write-requires c =
     let rows = c.make_row.new.rows.items in
     let spots = t.spots.items in
     let filed = filed_more t.tree paths t.rows.items rows spots c.self.invariant c.make_row.ensures.roomed in
-    let there = place_there t.tree spots _ c.args.place c.self.view_is c.requires.place_in in
+    let there = place_there t.tree spots _ c.args.place (ap (λ (s : Spotted). s.nodes) c.self.view_is) c.requires.place_in in
     let spot : c.index-spot.result.now ≡ spot_at spots c.args.place = c.index-spot.ensures ∙ get_or_default spots c.args.place _ _ there in
     subst (λ (s : Spot). s.path < length rows) (sym spot) (path_in paths rows spots filed c.args.place there)
 
@@ -44,8 +44,8 @@ invariant_of-self-2 c =
     let ok = c.in_ok-path.ensures.ok in
     let filed = filed_more t.tree paths t.rows.items rows spots c.self.invariant c.make_row.ensures.roomed in
     let same = nodes_same t.tree paths t.rows.items rows spots c.self.invariant c.make_row.ensures.roomed in
-    let there = place_there t.tree spots _ place c.self.view_is c.requires.place_in in
-    let free : (i : ℕ) → slice_get (nodes_of paths spots) i ≡ Some (kind, q) → ⊥ = subst (λ (ns : List (NodeKind × List Step)). (i : ℕ) → slice_get ns i ≡ Some (kind, q) → ⊥) (sym (same ∙ c.self.view_is)) c.requires.none in
+    let there = place_there t.tree spots _ place (ap (λ (s : Spotted). s.nodes) c.self.view_is) c.requires.place_in in
+    let free : (i : ℕ) → slice_get (nodes_of paths spots) i ≡ Some (kind, q) → ⊥ = subst (λ (ns : List (NodeKind × List Step)). (i : ℕ) → slice_get ns i ≡ Some (kind, q) → ⊥) (sym (same ∙ ap (λ (s : Spotted). s.nodes) c.self.view_is)) c.requires.none in
     let mark : c.in_ok-mark.mark ≡ place + 1 = c.in_ok-mark.ensures ∙ ap (λ n. n + 1) c.in_ok-count.ensures in
     let old : Spot = spot_at spots place in
     let spot : c.index-spot.result.now ≡ old = c.index-spot.ensures ∙ get_or_default spots place _ _ there in
@@ -69,4 +69,4 @@ returns-clause-ok c =
     let q = reverse c.args.steps.now in
     let ok = c.in_ok-path.ensures.ok in
     let same = nodes_same t.tree paths t.rows.items c.make_row.new.rows.items spots c.self.invariant c.make_row.ensures.roomed in
-    nodes_set paths spots place kind q c.in_ok-path.path ok.0 ∙ ap (λ (ns : List (NodeKind × List Step)). set ns place (kind, q)) (same ∙ c.self.view_is)
+    nodes_set paths spots place kind q c.in_ok-path.path ok.0 ∙ ap (λ (ns : List (NodeKind × List Step)). set ns place (kind, q)) (same ∙ ap (λ (s : Spotted). s.nodes) c.self.view_is)

@@ -3,9 +3,8 @@ use Rattle.std.specs.Option.{option_map}
 use Rattle.std.proofs.lemmas.List.{length-map, get_or_default}
 use Rattle.std.proofs.lemmas.Option.{slice_get-map, slice_get-get_or}
 use Rattle.ksv_expr_value.specs.declared.step.Step.{Step}
-use Rattle.ksv_nodes.specs.declared.node.NodeKind.{NodeKind}
 use Rattle.ksv_places.specs.declared.links.Spot.{Spot}
-use Rattle.ksv_places.specs.Spots.{spot_at, node_of}
+use Rattle.ksv_places.specs.Spots.{Spotted, spot_at, node_of}
 use Rattle.ksv_places.proofs.Filing.{path_in}
 use Rattle.ksv_places.proofs.spots.Spots.node_at.Goals as goal
 
@@ -14,7 +13,7 @@ steps_of-requires c =
     let t = c.self.inside in
     let spots = t.spots.items in
     let n = length-map spots (node_of t.tree) in
-    let m = ap (λ (ns : List (NodeKind × List Step)). length ns) c.self.view_is in
+    let m = ap (λ (s : Spotted). length s.nodes) c.self.view_is in
     let h = c.requires in
     let there : c.args.place < length spots = omega arith in
     let spot : c.index-spot.result.now ≡ spot_at spots c.args.place = c.index-spot.ensures ∙ get_or_default spots c.args.place _ _ there in
@@ -26,13 +25,13 @@ returns c =
     let spots = t.spots.items in
     let place = c.args.place in
     let n = length-map spots (node_of t.tree) in
-    let m = ap (λ (ns : List (NodeKind × List Step)). length ns) c.self.view_is in
+    let m = ap (λ (s : Spotted). length s.nodes) c.self.view_is in
     let h = c.requires in
     let there : place < length spots = omega arith in
     let s = c.index-spot.result.now in
     let spot : s ≡ spot_at spots place = c.index-spot.ensures ∙ get_or_default spots place _ _ there in
     let wrote : reverse c.steps_of.new.steps.items ≡ get_or t.tree s.path [] = c.in_ok-steps_of.ensures in
-    ap (λ (ns : List (NodeKind × List Step)). slice_get ns place) (sym c.self.view_is)
+    ap (λ (s : Spotted). slice_get s.nodes place) (sym c.self.view_is)
     ∙ slice_get-map (node_of t.tree) spots place
     ∙ ap (option_map (node_of t.tree)) (slice_get-get_or spots place _ there)
     ∙ ap (λ (x : Spot). Some (x.kind, get_or t.tree x.path [])) (sym spot)
