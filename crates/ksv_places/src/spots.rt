@@ -2,7 +2,7 @@
 ghost use Rattle.std.specs.Prelude.{◌≡◌, ℕ, ◌<◌, ◌≤◌, ◌+◌, ◌++◌, ◌∷◌, max, [], Some, length, slice_get, slice_index_or, slice_set, reverse, take, List, IfOk, IfErr, OnOk, OnErr};
 ghost use Rattle.std.specs.Vec.{vec_len, vec_capacity};
 ghost use Rattle.ksv_expr_value.specs.declared.step.Step.{Step};
-ghost use Rattle.ksv_places.specs.Spots.{mark_in, with_mark, row_at, IsRoomed};
+ghost use Rattle.ksv_places.specs.Spots.{mark_in, with_mark, row_at, spot_at, spots_of, IsRoomed};
 ghost use Rattle.ksv_places.specs.Tree.{EndsAt};
 
 use crate::links::{Row, Spot};
@@ -98,6 +98,19 @@ fn write(rows: &mut Vec<Row>, path: u32, kind: NodeKind, mark: u32)
     rows[path as usize] = with_mark(row, kind, mark);
 }
 
+/// The spot of a place.
+#[inline(always)]
+fn spot_at(paths: &[u32], kinds: &[NodeKind], place: usize) -> Spot
+    requires both { length kinds.now ≡ length paths.now }
+    requires there { place < length paths.now }
+    ensures { result ≡ spot_at (spots_of paths.now kinds.now) place }
+{
+    Spot {
+        path: paths[place],
+        kind: kinds[place],
+    }
+}
+
 /// Nodes by their kinds and steps. Contracts see the list of the nodes, each its kind and its steps from the last to the first, and the
 /// paths by their numbers.
 #[derive(Drop)]
@@ -105,17 +118,21 @@ pub(crate) struct Spots {
     alloc: Global,
     tree: Tree,
     rows: Vec<Row>,
-    spots: Vec<Spot>,
+    /// The path of each place's node.
+    paths: Vec<u32>,
+    /// Its kind.
+    kinds: Vec<NodeKind>,
 }
 
 impl Model for Spots {
-    ghost use Rattle.ksv_places.specs.Spots.{Spotted, IsFiled, nodes_of};
+    ghost use Rattle.std.specs.Prelude.{◌≡◌, length};
+    ghost use Rattle.ksv_places.specs.Spots.{Spotted, IsFiled, nodes_of, spots_of};
 
     ghost Value = { Spotted };
 
-    ghost view = { λ all. record { nodes = nodes_of all.tree all.spots.items; paths = all.tree } };
+    ghost view = { λ all. record { nodes = nodes_of all.tree (spots_of all.paths.items all.kinds.items); paths = all.tree } };
 
-    ghost invariant = { λ all. IsFiled all.tree all.rows.items all.spots.items };
+    ghost invariant = { λ all. record { both : length all.kinds.items ≡ length all.paths.items; filed : IsFiled all.tree all.rows.items (spots_of all.paths.items all.kinds.items) } };
 }
 
 impl Spots {
@@ -127,7 +144,8 @@ impl Spots {
             alloc,
             tree: Tree::new(alloc),
             rows: Vec::new(alloc),
-            spots: Vec::new(alloc),
+            paths: Vec::new(alloc),
+            kinds: Vec::new(alloc),
         }
     }
 
@@ -136,7 +154,7 @@ impl Spots {
     pub(crate) fn len(&self) -> usize
         ensures { result ≡ length self.now.nodes }
     {
-        self.spots.as_slice().len()
+        self.paths.as_slice().len()
     }
 
     /// How many paths there are, also such as lead to no node. Contracts do not see them.
@@ -196,12 +214,14 @@ impl Spots {
         ensures ok { OnOk result (self.new.nodes ≡ self.old.nodes ++ (kind, reverse steps.now) ∷ []) }
         ensures err { OnErr result (self.new.nodes ≡ self.old.nodes) }
     {
-        let count = count_of(self.spots.as_slice().len())?;
+        let count = count_of(self.paths.as_slice().len())?;
         let mark = count_of(count as usize + 1)?;
-        self.spots.reserve(1)?;
+        self.paths.reserve(1)?;
+        self.kinds.reserve(1)?;
         let path = make_row(&mut self.tree, &mut self.rows, steps, trace)?;
         write(&mut self.rows, path, kind, mark);
-        self.spots.push_reserved(Spot { path, kind });
+        self.paths.push_reserved(path);
+        self.kinds.push_reserved(kind);
         Ok(())
     }
 
@@ -221,10 +241,11 @@ impl Spots {
         let mark = count_of(count as usize + 1)?;
         let trace = self.tree.start();
         let path = make_row(&mut self.tree, &mut self.rows, steps, trace)?;
-        let spot = self.spots[place];
+        let spot = spot_at(self.paths.as_slice(), self.kinds.as_slice(), place);
         write(&mut self.rows, spot.path, spot.kind, 0);
         write(&mut self.rows, path, kind, mark);
-        self.spots[place] = Spot { path, kind };
+        self.paths[place] = path;
+        self.kinds[place] = kind;
         Ok(())
     }
 
@@ -233,7 +254,7 @@ impl Spots {
         requires { place < length self.now.nodes }
         ensures { IfOk result (λ kind. slice_get self.now.nodes place ≡ Some (kind, reverse steps.new.items)) }
     {
-        let spot = self.spots[place];
+        let spot = spot_at(self.paths.as_slice(), self.kinds.as_slice(), place);
         self.tree.steps_of(spot.path, steps)?;
         Ok(spot.kind)
     }
