@@ -297,16 +297,13 @@ impl Tree {
         Trace { path: 0, steps: 0 }
     }
 
-    /// The number of a path, or where the search for it ended if it has none. A path has no more steps than its number.
-    pub(crate) fn find(&self, steps: &[Step]) -> Result<u32, Trace>
-        ensures ok { IfOk result (λ path. slice_get self.now path ≡ Some (reverse steps.now)) }
-        ensures few { IfOk result (λ path. length steps.now ≤ path) }
-        ensures none { OnErr result ((i : ℕ) → i < length self.now → slice_index_or self.now i [] ≡ reverse steps.now → ⊥) }
-        ensures ends { IfErr result (EndsAt self.now steps.now) }
+    /// Goes along steps from the root as far as there are paths. A path has no more steps than its number.
+    fn walk(&self, steps: &[Step]) -> Trace
+        requires { 0 < length self.now }
+        ensures ends { EndsAt self.now steps.now result }
+        ensures stops { result.steps < length steps.now → (i : ℕ) → i < length self.now → slice_index_or self.now i [] ≡ reverse steps.now → ⊥ }
+        ensures few { result.steps ≤ result.path }
     {
-        if self.links.as_slice().is_empty() {
-            return Err(self.start());
-        }
         let mut path = 0;
         for count in 0..steps.len() {
             let next = look(
@@ -318,14 +315,35 @@ impl Tree {
                 steps[count],
             );
             if next == 0 {
-                return Err(Trace {
+                return Trace {
                     path,
                     steps: count as u32,
-                });
+                };
             }
             path = next;
         }
-        Ok(path)
+        Trace {
+            path,
+            steps: steps.len() as u32,
+        }
+    }
+
+    /// The number of a path, or where the search for it ended if it has none. A path has no more steps than its number.
+    #[inline(always)]
+    pub(crate) fn find(&self, steps: &[Step]) -> Result<u32, Trace>
+        ensures ok { IfOk result (λ path. slice_get self.now path ≡ Some (reverse steps.now)) }
+        ensures few { IfOk result (λ path. length steps.now ≤ path) }
+        ensures none { OnErr result ((i : ℕ) → i < length self.now → slice_index_or self.now i [] ≡ reverse steps.now → ⊥) }
+        ensures ends { IfErr result (EndsAt self.now steps.now) }
+    {
+        if self.links.as_slice().is_empty() {
+            return Err(self.start());
+        }
+        let trace = self.walk(steps);
+        if (trace.steps as usize) < steps.len() {
+            return Err(trace);
+        }
+        Ok(trace.path)
     }
 
     /// The number of a path, which gets one if it has none, as do those it leads through. It goes on from where a search for it ended.
