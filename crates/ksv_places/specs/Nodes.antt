@@ -18,6 +18,11 @@ trail_at steps = some_trail (trail_of steps)
 abbrev pub named : NodeKind × List Step → Node
 named p = record { kind = p.0; path = trail_at p.1 }
 
+-- nodes, and the paths by their numbers
+pub record Placed : Type 0 where
+  pub nodes : List Node
+  pub paths : List (List Step)
+
 abbrev pub all_named : List (NodeKind × List Step) → List Node
 all_named ps = map named ps
 

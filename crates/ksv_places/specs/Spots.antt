@@ -1,6 +1,6 @@
 -- Nodes by their places: each is a kind and a path. A path's row has the marks of its four nodes: a mark is a node's place and one
 -- more, or 0 for none. The spot of a place says of which path and kind its node is.
-use Rattle.std.specs.Prelude.{◌≡◌, ◌≢◌, ℕ, ◌+◌, ◌-◌, ◌<◌, ◌≤◌, List, [], length, map, slice_index_or}
+use Rattle.std.specs.Prelude.{◌≡◌, ◌≢◌, ℕ, ◌+◌, ◌-◌, ◌<◌, ◌≤◌, List, [], ◌∷◌, length, map, slice_index_or}
 use Rattle.ksv_places.specs.Tree.{IsMore}
 use Rattle.ksv_expr_value.specs.declared.step.Step.{Step}
 use Rattle.ksv_nodes.specs.declared.node.NodeKind.{NodeKind}
@@ -31,6 +31,17 @@ row_at rows r = slice_index_or rows r no_row
 
 abbrev pub spot_at : List Spot → ℕ → Spot
 spot_at spots i = slice_index_or spots i (record { path = 0; kind = Head })
+
+-- the spots of paths and kinds, each of which is a list of its own
+abbrev pub spots_of : List ℕ → List NodeKind → List Spot
+spots_of [] ks = []
+spots_of (r ∷ rs) [] = []
+spots_of (r ∷ rs) (k ∷ ks) = record { path = r; kind = k } ∷ spots_of rs ks
+
+-- nodes, each its kind and its steps from the last to the first, and the paths by their numbers
+pub record Spotted : Type 0 where
+  pub nodes : List (NodeKind × List Step)
+  pub paths : List (List Step)
 
 -- the node of a spot
 abbrev pub node_of : List (List Step) → Spot → NodeKind × List Step

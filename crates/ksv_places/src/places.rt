@@ -1,7 +1,9 @@
 //! The places of nodes.
-ghost use Rattle.std.specs.Prelude.{◌≡◌, ◌+◌, ◌&&◌, nat_le};
+ghost use Rattle.std.specs.Prelude.{◌≡◌, ◌+◌, ◌&&◌, nat_le, reverse};
+ghost use Rattle.ksv_places.specs.Tree.{EndsAt};
 
 use crate::spots::Spots;
+use crate::trace::Trace;
 use ksv_memo_rules::Places;
 use ksv_nodes::Node;
 use std::alloc::{AllocError, Global};
@@ -17,7 +19,8 @@ fn is_worn(paths: usize, made: usize) -> bool
     made >= FEW_MADE && paths.saturating_sub(made) <= made
 }
 
-/// The places of nodes, found along a tree of their paths. Contracts see the list of the nodes by their places.
+/// The places of nodes, found along a tree of their paths. Contracts see the list of the nodes by their places, and the paths by their
+/// numbers.
 #[derive(Drop)]
 pub struct NodePlaces {
     spots: Spots,
@@ -25,19 +28,21 @@ pub struct NodePlaces {
 }
 
 impl Model for NodePlaces {
-    ghost use Rattle.std.specs.Prelude.{List};
-    ghost use Rattle.ksv_nodes.specs.declared.node.Node.{Node};
-    ghost use Rattle.ksv_places.specs.Nodes.{all_named, AllFit};
+    ghost use Rattle.ksv_places.specs.Nodes.{Placed, all_named, AllFit};
 
-    ghost Value = { List Node };
+    ghost Value = { Placed };
 
-    ghost view = { λ places. all_named places.spots };
+    ghost view = { λ places. record { nodes = all_named places.spots.nodes; paths = places.spots.paths } };
 
-    ghost invariant = { λ places. AllFit places.spots };
+    ghost invariant = { λ places. AllFit places.spots.nodes };
 }
 
 impl Places<Node> for NodePlaces {
-    ghost nodes = { λ places. places };
+    type Trace = Trace;
+
+    ghost nodes = { λ places. places.nodes };
+
+    ghost ends = { λ places node trace. EndsAt places.paths (reverse node.path.upward) trace };
 
     fn new(alloc: Global) -> Self {
         NodePlaces {
@@ -47,13 +52,13 @@ impl Places<Node> for NodePlaces {
     }
 
     #[inline(always)]
-    fn find(&self, node: &Node) -> Option<usize> {
+    fn find(&self, node: &Node) -> Result<usize, Trace> {
         self.spots.apart();
         self.spots.find(node.kind, node.path.steps())
     }
 
-    fn add(&mut self, node: &Node) -> Result<(), AllocError> {
-        self.spots.add(node.kind, node.path.steps())
+    fn add(&mut self, node: &Node, trace: Trace) -> Result<(), AllocError> {
+        self.spots.add(node.kind, node.path.steps(), trace)
     }
 
     fn give(&mut self, place: usize, node: &Node) -> Result<(), AllocError> {

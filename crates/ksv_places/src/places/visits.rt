@@ -24,23 +24,23 @@ fn node(alloc: Global, kind: NodeKind, steps: &[Step]) -> Result<Node, AllocErro
 
 /// The place of a node, which gets one if it has none.
 fn visit(places: &mut NodePlaces, node: &Node) -> Result<Option<usize>, AllocError> {
-    if places.find(node).is_none() {
-        places.add(node)?;
+    if let Err(trace) = places.find(node) {
+        places.add(node, trace)?;
     }
-    Ok(places.find(node))
+    Ok(places.find(node).ok())
 }
 
 /// Gives a node's place to another node that has none. Whether it has the place then, and the first one has none.
 #[tactic(auto, using(std::proofs::lemmas::Option::slice_get_within))]
 fn pass(places: &mut NodePlaces, old: &Node, new: &Node) -> Result<bool, AllocError> {
     match places.find(old) {
-        None => Ok(false),
-        Some(place) => {
-            if places.find(new).is_some() {
+        Err(_) => Ok(false),
+        Ok(place) => {
+            if places.find(new).is_ok() {
                 return Ok(false);
             }
             places.give(place, new)?;
-            Ok(places.find(new) == Some(place) && places.find(old).is_none())
+            Ok(places.find(new).ok() == Some(place) && places.find(old).is_err())
         }
     }
 }
@@ -65,7 +65,7 @@ fn has_none(
     steps: &[Step],
 ) -> Result<bool, AllocError> {
     let node = node(alloc, kind, steps)?;
-    Ok(places.find(&node).is_none())
+    Ok(places.find(&node).is_err())
 }
 
 /// Gives the place of an element's value to another one's.

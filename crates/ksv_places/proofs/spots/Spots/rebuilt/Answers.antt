@@ -15,9 +15,9 @@ of_whole xs n i x d few e =
     let l : i < n = omega arith in
     (l, slice_get-get_or xs i d (omega arith) ∙ ap Some (sym (get_or-take n xs i d l) ∙ get_or_from_slice_get (take n xs) i x d e))
 
-pub add-requires : goal.add-requires
-add-requires c = λ i e.
-    let ns : List (NodeKind × List Step) = c.args.self.now in
+pub add-requires-clause-none : goal.add-requires-clause-none
+add-requires-clause-none c = λ i e.
+    let ns : List (NodeKind × List Step) = c.args.self.now.nodes in
     let n = c.loop-place.place in
     let lt : n < length ns = (let t = c.loop-place-test.true in let h = c.requires in omega arith) in
     let node : NodeKind × List Step = (c.in_ok-kind.kind, reverse c.node_at.new.steps.items) in
@@ -30,7 +30,7 @@ add-requires c = λ i e.
 
 pub loop-place-preserved : goal.loop-place-preserved
 loop-place-preserved c =
-    let ns : List (NodeKind × List Step) = c.args.self.now in
+    let ns : List (NodeKind × List Step) = c.args.self.now.nodes in
     let n = c.loop-place.place in
     let lt : n < length ns = (let t = c.loop-place-test.true in let h = c.requires in omega arith) in
     let node : NodeKind × List Step = (c.in_ok-kind.kind, reverse c.node_at.new.steps.items) in
