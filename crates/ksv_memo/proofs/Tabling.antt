@@ -10,10 +10,11 @@ use Rattle.ksv_memo_links.specs.Links.{Linked, Grows}
 use Rattle.ksv_memo_rules.specs.declared.replies.Slot.{Slot}
 use Rattle.ksv_memo_rules.specs.declared.replies.Slot.TheVariants.{Empty as emptied, Open as opened}
 use Rattle.ksv_memo.specs.declared.frames.Frames.{Frames}
+use Rattle.ksv_memo.specs.declared.slots.Known.TheVariants.{New, Empty, Open, Kept}
 use Rattle.ksv_memo_rules.specs.Slots.{answer_in, answer_of, answer_at}
 use Rattle.ksv_memo_rules.specs.Entry.{Entry}
 use Rattle.ksv_memo.specs.Layout.{slots_of, node_at, nodes_at, IsOpen, IsKept, entry_with, entry_at, entries_of, opens_of, AreLinked, AreFrames, IsLaidOut}
-use Rattle.ksv_memo.specs.Moves.{HasNoSlot, HasOpenSlot, IsKeptAt, IsVacant, IsTheSlot, Heard, Framed}
+use Rattle.ksv_memo.specs.Moves.{IsVacant, Knows, IsTheSlot, Heard, Framed}
 use Rattle.ksv_memo.specs.Nodes.{Nodes, IsEntry, HasNoEntry, Replies, Opens}
 use Rattle.ksv_memo.proofs.Finding.{slot_there, node_there, answer_there}
 use Rattle.ksv_memo.proofs.Laying.{some-of, entries_at-same, All-numbers}
@@ -35,7 +36,7 @@ module _ {N V F : Type 0} (eq : N → N → Bool) (ps : List (N × Slot V F)) (l
     pub node : node_at ps i ≡ Some entry.node
     pub answer : answer_at (slots_of ps) i ≡ Some entry.answer
 
-  pub found : eq n n ≡ true → (i : ℕ) → IsKeptAt ps n i → IsFound i
+  pub found : eq n n ≡ true → (i : ℕ) → Knows eq ps n (Kept i) → IsFound i
   found itself i h =
       let node : node_at ps i ≡ Some n = node_there ps i n h.0.0 h.0.1 in
       let one : (a : Result V F) × (answer_at (slots_of ps) i ≡ Some a) = some-of (answer_at (slots_of ps) i) h.1 in
@@ -55,10 +56,10 @@ module _ {N V F : Type 0} (eq : N → N → Bool) (ps : List (N × Slot V F)) (l
   apart_open i m there j o same = let now : Some emptied ≡ Some opened = sym (slot_there ps i m emptied there) ∙ ap (slice_get (slots_of ps)) (sym same) ∙ o in cc
 
   -- a node without a slot is neither kept nor open
-  pub new_out : HasNoSlot eq ps n → HasNoEntry eq (entries_of ps l) n
+  pub new_out : Knows eq ps n New → HasNoEntry eq (entries_of ps l) n
   new_out h = no_entry ps l (eq n) (λ j m k e. none_at (eq n) ps h j m e)
 
-  pub new_free : HasNoSlot eq ps n → list_any (λ o. eq n o.node) (opens_of ps frames) ≡ false
+  pub new_free : Knows eq ps n New → list_any (λ o. eq n o.node) (opens_of ps frames) ≡ false
   new_free h = no_open ps (eq n) (λ j m o e. none_at (eq n) ps h j m e) (reverse frames.frames.items) frames.asked.items frames.uses.items waits.waits
 
   module _ (laws : IsEquivalence eq) (unique : IsDistinct eq (keys_of ps)) where
@@ -66,23 +67,23 @@ module _ {N V F : Type 0} (eq : N → N → Bool) (ps : List (N × Slot V F)) (l
     slot_out i s at none = no_entry ps l (eq n) (λ j m k e. not_other eq laws ps unique n i n (node_there ps i n s at) (laws.refl n) j m (apart_kept i n s at none j k) e)
 
     -- nor is one with an empty slot
-    pub empty_out : (i : ℕ) → IsTheSlot ps n i emptied → HasNoEntry eq (entries_of ps l) n
+    pub empty_out : (i : ℕ) → Knows eq ps n (Empty i) → HasNoEntry eq (entries_of ps l) n
     empty_out i at = slot_out i emptied at refl
 
-    pub empty_free : (i : ℕ) → IsTheSlot ps n i emptied → list_any (λ o. eq n o.node) (opens_of ps frames) ≡ false
+    pub empty_free : (i : ℕ) → Knows eq ps n (Empty i) → list_any (λ o. eq n o.node) (opens_of ps frames) ≡ false
     empty_free i at = no_open ps (eq n) (λ j m o e. not_other eq laws ps unique n i n (node_there ps i n emptied at) (laws.refl n) j m (apart_open i n at j o) e) (reverse frames.frames.items) frames.asked.items frames.uses.items waits.waits
 
   -- an open node waits
-  pub open_waits : eq n n ≡ true → HasOpenSlot ps n → list_any (λ o. eq n o.node) (opens_of ps frames) ≡ true
+  pub open_waits : eq n n ≡ true → Knows eq ps n Open → list_any (λ o. eq n o.node) (opens_of ps frames) ≡ true
   open_waits itself (i, at) = some_open ps (eq n) (reverse frames.frames.items) frames.asked.items frames.uses.items i n (waits.all i (slot_there ps i n opened at)) (node_there ps i n opened at) itself
 
 -- ---- the moves of the table
 module _ {N V F : Type 0} (eq : N → N → Bool) (ps : List (N × Slot V F)) (l : Linked) (frames : Frames N) (laid : IsLaidOut ps l frames) (n : N) where
   -- a kept answer is heard
-  pub hears : (i : ℕ) → IsKeptAt ps n i → (new : Frames N) → Heard i frames new → IsLaidOut ps l new
+  pub hears : (i : ℕ) → Knows eq ps n (Kept i) → (new : Frames N) → Heard i frames new → IsLaidOut ps l new
   hears i knows new h = record { kept = laid.kept; waits = frames-hear ps i knows.1 frames new laid.waits h }
 
-  pub replies : eq n n ≡ true → (i : ℕ) → IsKeptAt ps n i → (new : Frames N) → Heard i frames new → Replies eq n (record { kept = entries_of ps l; opened = opens_of ps frames }) (record { kept = entries_of ps l; opened = opens_of ps new })
+  pub replies : eq n n ≡ true → (i : ℕ) → Knows eq ps n (Kept i) → (new : Frames N) → Heard i frames new → Replies eq n (record { kept = entries_of ps l; opened = opens_of ps frames }) (record { kept = entries_of ps l; opened = opens_of ps new })
   replies itself i knows new h =
       let one = found eq ps l frames laid.kept laid.waits n itself i knows in
       record { entry = one.entry; is = one.is; kept = refl; opened = opens-hear ps i one.entry.node one.entry.answer one.node one.answer frames new laid.waits h }

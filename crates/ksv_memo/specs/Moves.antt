@@ -32,31 +32,12 @@ IsTheSlot ps n i s = slice_get ps i ≡ Some (n, s)
 abbrev pub IsVacant : {N V F : Type 0} → List (N × Slot V F) → ℕ → Type 0
 IsVacant {N} {V} {F} ps i = (n : N) × IsTheSlot ps n i emptied
 
--- no slot is a node's
-abbrev pub HasNoSlot : {N V F : Type 0} → (N → N → Bool) → List (N × Slot V F) → N → Type 0
-HasNoSlot {N} {V} {F} eq ps n = list_any (λ (p : N × Slot V F). eq n p.0) ps ≡ false
-
--- a node has an open slot
-abbrev pub HasOpenSlot : {N V F : Type 0} → List (N × Slot V F) → N → Type 0
-HasOpenSlot ps n = (i : ℕ) × IsTheSlot ps n i opened
-
--- a node is kept in the slot of a number
-abbrev pub IsKeptAt : {N V F : Type 0} → List (N × Slot V F) → N → ℕ → Type 0
-IsKeptAt {N} {V} {F} ps n i = ((s : Slot V F) × IsTheSlot ps n i s) × IsKept ps i
-
 -- what the slots have of a node
-abbrev pub Knows : {N V F T : Type 0} → (N → N → Bool) → List (N × Slot V F) → N → Known T → Type 0
-Knows eq ps n (New t) = HasNoSlot eq ps n
-Knows eq ps n (Empty i) = IsTheSlot ps n i emptied
-Knows eq ps n Open = HasOpenSlot ps n
-Knows eq ps n (Kept i) = IsKeptAt ps n i
-
--- where the search for the number of a node ended, if the slots have none for it
-abbrev pub IfNew : {T : Type 0} → Known T → (T → Type 0) → Type 0
-IfNew (New t) Ends = Ends t
-IfNew (Empty i) Ends = Unit {0}
-IfNew Open Ends = Unit {0}
-IfNew (Kept i) Ends = Unit {0}
+abbrev pub Knows : {N V F : Type 0} → (N → N → Bool) → List (N × Slot V F) → N → Known → Type 0
+Knows {N} {V} {F} eq ps n New = list_any (λ (p : N × Slot V F). eq n p.0) ps ≡ false
+Knows {N} {V} {F} eq ps n (Empty i) = IsTheSlot ps n i emptied
+Knows {N} {V} {F} eq ps n Open = (i : ℕ) × IsTheSlot ps n i opened
+Knows {N} {V} {F} eq ps n (Kept i) = ((s : Slot V F) × IsTheSlot ps n i s) × IsKept ps i
 
 -- the frames, what open nodes asked, and their uses are the same
 pub record SameFrames {N : Type 0} (old new : Frames N) : Type 0 where

@@ -14,8 +14,9 @@ use Rattle.ksv_memo_rules.specs.declared.replies.Slot.{Slot}
 use Rattle.ksv_memo_rules.specs.declared.rules.Outcome.{Outcome}
 use Rattle.ksv_memo_rules.specs.declared.rules.Outcome.TheVariants.{Answered, Circle as CircleOf}
 use Rattle.ksv_memo.specs.declared.frames.Frames.{Frames}
+use Rattle.ksv_memo.specs.declared.slots.Known.TheVariants.{Kept as KeptAt}
 use Rattle.ksv_memo.specs.Layout.{IsOneOf, entries_of, opens_of}
-use Rattle.ksv_memo.specs.Moves.{IsKeptAt}
+use Rattle.ksv_memo.specs.Moves.{Knows}
 
 -- the kept nodes, in the order of their slots, and the open ones, from the last opened to the first
 pub record Nodes (N A : Type 0) : Type 0 where
@@ -64,7 +65,7 @@ pub record Circles {N A : Type 0} (eq : N → N → Bool) (n m : N) (old new : N
 
 -- what came of looking for a node
 abbrev pub Seeks : {N V F : Type 0} → (N → N → Bool) → N → List (N × Slot V F) → Nodes N (Result V F) → Nodes N (Result V F) → Asked N → Type 0
-Seeks eq n ps old new (Kept i) = IsKeptAt ps n i × (new ≡ old)
+Seeks eq n ps old new (Kept i) = Knows eq ps n (KeptAt i) × (new ≡ old)
 Seeks eq n ps old new Opened = Opens eq n old new
 Seeks eq n ps old new (Circle m) = Circles eq n m old new
 

@@ -4,7 +4,7 @@ ghost use Rattle.std.specs.List.{list_any, zip, IsDistinct};
 ghost use Rattle.std.specs.Map.{keys_of};
 ghost use Rattle.ksv_memo_links.specs.Shelved.{ticked};
 ghost use Rattle.ksv_memo.specs.Layout.{AreFrames, slots_of};
-ghost use Rattle.ksv_memo.specs.Moves.{with_slot, IfNew, IsVacant, Knows};
+ghost use Rattle.ksv_memo.specs.Moves.{with_slot, IsVacant, Knows};
 ghost use Rattle.ksv_memo.specs.Calls.{Runs, after_call};
 ghost use Rattle.ksv_memo_rules.specs.Meaning.{IsAddedTo, on};
 ghost use Rattle.ksv_memo_rules.specs.Right.{counted};
@@ -19,9 +19,9 @@ use std::marker::{Model, PhantomData};
 
 /// What the slots have of a node.
 #[derive(Clone, Copy)]
-pub enum Known<T> {
-    /// No slot is its, and the search for its number ended here.
-    New(T),
+pub enum Known {
+    /// No slot is its.
+    New,
     /// Its slot has this number, and nothing is in it.
     Empty(usize),
     /// It is open.
@@ -108,16 +108,15 @@ impl<N: Eq + Drop, P: Places<N> + Drop, V: Drop, F: Drop> Slots<N, P, V, F> {
 
     /// What the slots have of a node.
     #[inline(always)]
-    pub(crate) fn find(&mut self, node: &N) -> Known<P::Trace>
+    pub(crate) fn find(&mut self, node: &N) -> Known
         ensures knows { Knows N.eq self.new.entries node.now result }
-        ensures ends { IfNew result (P.ends self.new.places node.now) }
+        ensures ends { P.ends self.new.places node.now }
         ensures unique { IsDistinct N.eq (keys_of self.new.entries) }
         ensures entries { self.new.entries ≡ self.old.entries }
         ensures looks { self.new.looks ≡ ticked self.old.looks }
-        ensures places { self.new.places ≡ self.old.places }
     {
         self.look();
-        look_up(&self.places, self.slots.as_slice(), node)
+        look_up(&mut self.places, self.slots.as_slice(), node)
     }
 
     /// Writes the slot of a number.
@@ -131,17 +130,17 @@ impl<N: Eq + Drop, P: Places<N> + Drop, V: Drop, F: Drop> Slots<N, P, V, F> {
         write(&mut self.slots, place, new);
     }
 
-    /// A slot for a node that has none, open, from where the search for its number ended.
+    /// A slot for a node that has none, open, right after the search for it.
     #[inline(always)]
-    pub(crate) fn add(&mut self, node: &N, trace: P::Trace) -> Result<(), AllocError>
+    pub(crate) fn add(&mut self, node: &N) -> Result<(), AllocError>
         requires none { list_any (λ p. N.eq node.now p.0) self.old.entries ≡ false }
-        requires ends { P.ends self.old.places node.now trace }
+        requires ends { P.ends self.old.places node.now }
         ensures ok { OnOk result (self.new.entries ≡ self.old.entries ++ (node.now, Slot.Open) ∷ []) }
         ensures err { OnErr result (self.new.entries ≡ self.old.entries) }
     {
         self.looks = self.looks.saturating_add(1);
         self.slots.reserve(1)?;
-        self.places.add(node, trace)?;
+        self.places.add(node)?;
         self.slots.push_reserved(Slot::Open);
         Ok(())
     }
@@ -232,18 +231,19 @@ fn write<V: Drop, F: Drop>(slots: &mut Vec<Slot<V, F>>, place: usize, new: Slot<
 /// What numbers and their slots have of a node.
 #[inline(always)]
 fn look_up<N: Eq + Drop, P: Places<N>, V: Drop, F: Drop>(
-    places: &P,
+    places: &mut P,
     slots: &[Slot<V, F>],
     node: &N,
-) -> Known<P::Trace>
-    requires { length slots.now ≡ length (P.nodes places.now) }
-    ensures knows { Knows N.eq (zip (P.nodes places.now) slots.now) node.now result }
-    ensures ends { IfNew result (P.ends places.now node.now) }
-    ensures unique { IsDistinct N.eq (keys_of (zip (P.nodes places.now) slots.now)) }
+) -> Known
+    requires { length slots.now ≡ length (P.nodes places.old) }
+    ensures knows { Knows N.eq (zip (P.nodes places.new) slots.now) node.now result }
+    ensures ends { P.ends places.new node.now }
+    ensures nodes { P.nodes places.new ≡ P.nodes places.old }
+    ensures unique { IsDistinct N.eq (keys_of (zip (P.nodes places.new) slots.now)) }
 {
     match places.find(node) {
-        Err(trace) => Known::New(trace),
-        Ok(place) => match &slots[place] {
+        None => Known::New,
+        Some(place) => match &slots[place] {
             Slot::Empty => Known::Empty(place),
             Slot::Open => Known::Open,
             Slot::Value(_) => Known::Kept(place),

@@ -5,7 +5,7 @@ ghost use Rattle.ksv_memo_links.specs.Touching.{AreWithin};
 ghost use Rattle.ksv_memo_rules.specs.Meaning.{on};
 ghost use Rattle.ksv_memo.specs.Layout.{IsLaidOut};
 ghost use Rattle.ksv_memo.specs.Nodes.{Asks, Closes, MayKeep, Opens, Seeks, Starts, Steps, TakesFirst, is_there, nodes_with};
-ghost use Rattle.ksv_memo.specs.Moves.{HasNoSlot};
+ghost use Rattle.ksv_memo.specs.Moves.{Knows};
 ghost use Rattle.ksv_memo_rules.specs.Slots.{answer_in};
 ghost use Rattle.ksv_memo.specs.Calls.{after_call};
 ghost use Rattle.ksv_memo.specs.Sweep.{Sweeps};
@@ -32,18 +32,17 @@ enum Asked<N> {
     Circle(N),
 }
 
-/// Opens a node that has no slot, given where the search for its number ended.
+/// Opens a node that has no slot, right after the search for it.
 #[inline(always)]
 fn open_node<N: Eq + Drop, P: Places<N> + Drop, V: Drop, F: Drop>(
     slots: &mut Slots<N, P, V, F>,
     links: &mut Links,
     frames: &mut Frames<N>,
     node: N,
-    trace: P::Trace,
 ) -> Result<(), AllocError>
     requires laid { IsLaidOut slots.old.entries links.old frames.old }
-    requires none { HasNoSlot N.eq slots.old.entries node }
-    requires ends { P.ends slots.old.places node trace }
+    requires none { Knows N.eq slots.old.entries node Known.New }
+    requires ends { P.ends slots.old.places node }
     ensures laid { IsLaidOut slots.new.entries links.new frames.new }
     ensures ok { OnOk result (Opens N.eq node (nodes_with slots.old.entries links.old frames.old) (nodes_with slots.new.entries links.new frames.new)) }
     ensures err { OnErr result (nodes_with slots.new.entries links.new frames.new ≡ nodes_with slots.old.entries links.old frames.old) }
@@ -55,7 +54,7 @@ fn open_node<N: Eq + Drop, P: Places<N> + Drop, V: Drop, F: Drop>(
         }
         None => {
             links.reach(number(slots.len().saturating_add(1))?)?;
-            open_new(slots, frames, node, trace)?;
+            open_new(slots, frames, node)?;
             Ok(())
         }
     }
@@ -82,8 +81,8 @@ fn seek<N: Eq + Drop, P: Places<N> + Drop, V: Drop, F: Drop>(
             reopen(slots, frames, place, node)?;
             Ok(Asked::Opened)
         }
-        Known::New(trace) => {
-            open_node(slots, links, frames, node, trace)?;
+        Known::New => {
+            open_node(slots, links, frames, node)?;
             Ok(Asked::Opened)
         }
     }

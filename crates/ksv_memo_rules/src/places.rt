@@ -1,5 +1,5 @@
 //! The numbers of nodes.
-ghost use Rattle.std.specs.Prelude.{◌≡◌, ◌<◌, ◌++◌, ◌∷◌, [], List, length, false, Some, slice_get, slice_set, IfOk, IfErr, OnOk, OnErr};
+ghost use Rattle.std.specs.Prelude.{◌≡◌, ◌<◌, ◌++◌, ◌∷◌, [], List, length, false, Some, slice_get, slice_set, IfSome, IfNone, OnOk, OnErr};
 ghost use Rattle.std.specs.List.{list_any, IsDistinct};
 
 use std::alloc::{AllocError, Global};
@@ -8,30 +8,28 @@ use std::alloc::{AllocError, Global};
 ///
 /// Rules choose how a node's number is found, since they know what their nodes are.
 pub trait Places<N: Eq + Drop> {
-    /// Where the search for the number of a node ended that has none.
-    type Trace: Copy + Drop;
-
     /// The nodes in the order of their numbers.
     ghost nodes: { Self → List N };
 
-    /// The search for the number of a node ends here.
-    ghost ends: { Self → N → Self.Trace → Type 0 };
+    /// The last search ended on the way to a node. Where it ended is noted, so that the way there isn't gone again.
+    ghost ends: { Self → N → Type 0 };
 
     /// No nodes, which take no memory.
     fn new(alloc: Global) -> Self
         ensures { nodes result ≡ [] };
 
-    /// The number of a node, or where the search for it ended if it has none.
-    fn find(&self, node: &N) -> Result<usize, Self::Trace>
-        ensures ok { IfOk result (λ i. slice_get (nodes self.now) i ≡ Some node.now) }
-        ensures none { OnErr result (list_any (N.eq node.now) (nodes self.now) ≡ false) }
-        ensures ends { IfErr result (ends self.now node.now) }
-        ensures unique { IsDistinct N.eq (nodes self.now) };
+    /// The number of a node, if it has one.
+    fn find(&mut self, node: &N) -> Option<usize>
+        ensures some { IfSome result (λ i. slice_get (nodes self.new) i ≡ Some node.now) }
+        ensures none { IfNone result (list_any (N.eq node.now) (nodes self.new) ≡ false) }
+        ensures ends { ends self.new node.now }
+        ensures nodes { nodes self.new ≡ nodes self.old }
+        ensures unique { IsDistinct N.eq (nodes self.new) };
 
-    /// Gives the next number to a node that has none, from where the search for it ended.
-    fn add(&mut self, node: &N, trace: Self::Trace) -> Result<(), AllocError>
+    /// Gives the next number to a node that has none, right after the search for it.
+    fn add(&mut self, node: &N) -> Result<(), AllocError>
         requires none { list_any (N.eq node.now) (nodes self.old) ≡ false }
-        requires ends { ends self.old node.now trace }
+        requires ends { ends self.old node.now }
         ensures ok { OnOk result (nodes self.new ≡ nodes self.old ++ node.now ∷ []) }
         ensures err { OnErr result (nodes self.new ≡ nodes self.old) };
 

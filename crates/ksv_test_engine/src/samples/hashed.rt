@@ -19,11 +19,9 @@ pub struct Hashed<N: Exact> {
 }
 
 impl<N: Exact> Places<N> for Hashed<N> {
-    type Trace = ();
-
     ghost nodes = { λ places. places.nodes.keys };
 
-    ghost ends = { λ _ _ _. ⊤ };
+    ghost ends = { λ _ _. ⊤ };
 
     fn new(alloc: Global) -> Self {
         Hashed {
@@ -31,17 +29,14 @@ impl<N: Exact> Places<N> for Hashed<N> {
         }
     }
 
-    fn find(&self, node: &N) -> Result<usize, ()> {
+    fn find(&mut self, node: &N) -> Option<usize> {
         if self.nodes.len() == 0 {
-            return Err(());
+            return None;
         }
-        match self.nodes.get_index_of(node) {
-            Some(place) => Ok(place),
-            None => Err(()),
-        }
+        self.nodes.get_index_of(node)
     }
 
-    fn add(&mut self, node: &N, _trace: ()) -> Result<(), AllocError> {
+    fn add(&mut self, node: &N) -> Result<(), AllocError> {
         self.nodes.insert(*node)?;
         Ok(())
     }

@@ -3,8 +3,9 @@ use Rattle.std.proofs.lemmas.Option.{slice_get_within}
 use Rattle.std.proofs.Common.{◌≡◌, ◌+◌, ◌∙◌, ap, subst, refl, sym, length, arith}
 use Rattle.ksv_memo_rules.specs.declared.replies.Slot.TheVariants.{Empty, Open}
 use Rattle.ksv_memo.specs.Layout.{IsLaidOut, entries_of, opens_of}
-use Rattle.ksv_memo.specs.Moves.{HasNoSlot, IsVacant}
+use Rattle.ksv_memo.specs.Moves.{IsVacant, Knows}
 use Rattle.ksv_memo.specs.Nodes.{Opens}
+use Rattle.ksv_memo.specs.declared.slots.Known.TheVariants.{New}
 use Rattle.ksv_memo.proofs.Changing.{appended, given}
 use Rattle.ksv_memo.proofs.Finding.{answer_there}
 use Rattle.ksv_memo.proofs.Laying.{no_entry_at}
@@ -13,7 +14,7 @@ use Rattle.ksv_memo.proofs.table.open_node.Goals as goal
 
 -- a slot with nothing in it is given to the node
 pub open_in-requires-clause-none : goal.open_in-requires-clause-none
-open_in-requires-clause-none g c = subst (λ es. HasNoSlot g.N.PartialEq.eq es c.args.node) (sym c.vacant.ensures.entries) c.requires.none
+open_in-requires-clause-none g c = subst (λ es. Knows g.N.PartialEq.eq es c.args.node New) (sym c.vacant.ensures.entries) c.requires.none
 
 pub open_in-requires-clause-place_in : goal.open_in-requires-clause-place_in
 open_in-requires-clause-place_in g c =
@@ -51,7 +52,7 @@ returns-in_ok-open_in-in-Some-clause-ok g c =
     let eq = g.N.PartialEq.eq in
     let node = c.args.node in
     let view = looked-view slots.entries ps links frames _ same refl in
-    let knows : HasNoSlot eq ps node = subst (λ es. HasNoSlot eq es node) (sym same) c.requires.none in
+    let knows : Knows eq ps node New = subst (λ es. Knows eq es node New) (sym same) c.requires.none in
     let qs = c.open_in.new.slots.entries in
     let place = c.in-Some.place in
     let at : IsVacant ps place = subst (λ es. IsVacant es place) (sym same) c.in-Some.ensures.some in
@@ -69,7 +70,7 @@ returns-in_ok-open_in-in-Some-clause-ok g c =
 
 -- there is a new slot
 pub open_new-requires-clause-none : goal.open_new-requires-clause-none
-open_new-requires-clause-none g c = subst (λ es. HasNoSlot g.N.PartialEq.eq es c.args.node) (sym c.vacant.ensures.entries) c.requires.none
+open_new-requires-clause-none g c = subst (λ es. Knows g.N.PartialEq.eq es c.args.node New) (sym c.vacant.ensures.entries) c.requires.none
 
 pub returns-in_ok-open_new-in-None-clause-laid : goal.returns-in_ok-open_new-in-None-clause-laid
 returns-in_ok-open_new-in-None-clause-laid g c =
@@ -107,7 +108,7 @@ returns-in_ok-open_new-in-None-clause-ok g c =
     let eq = g.N.PartialEq.eq in
     let node = c.args.node in
     let view = looked-view slots.entries ps links frames _ same refl in
-    let knows : HasNoSlot eq ps node = subst (λ es. HasNoSlot eq es node) (sym same) c.requires.none in
+    let knows : Knows eq ps node New = subst (λ es. Knows eq es node New) (sym same) c.requires.none in
     let qs = c.open_new.new.slots.entries in
     let m = c.reach.new.self in
     let laid : IsLaidOut ps m frames = record { kept = grown-links ps links m laid0.kept c.reach.ensures.same; waits = laid0.waits } in
