@@ -56,13 +56,6 @@ stopped paths steps path count le lt e = record { inside = le; path = inl (slice
 pub whole : (paths : List (List Step)) (steps : List Step) (path count : ℕ) → count ≡ length steps → slice_get paths path ≡ Some (reverse steps) → EndsAt paths steps (record { path = path; steps = count })
 whole paths steps path count n e = record { inside = omega arith; path = inl (e ∙ ap (λ (xs : List Step). Some (reverse xs)) (sym (take_all count steps (omega arith)))) }
 
-pub at_end : (paths : List (List Step)) (steps : List Step) (t : Trace) → 0 < length paths → EndsAt paths steps t → length steps ≤ t.steps → slice_get paths t.path ≡ Some (reverse steps)
-at_end paths steps t some e le = by e.path
-  where
-    by : (slice_get paths t.path ≡ Some (reverse (take t.steps steps))) ⊎ ((paths ≡ []) × (t.path ≡ 0) × (t.steps ≡ 0)) → slice_get paths t.path ≡ Some (reverse steps)
-    by (inl at) = at ∙ ap (λ (xs : List Step). Some (reverse xs)) (take_all t.steps steps le)
-    by (inr z) = let n = ap (λ (ps : List (List Step)). length ps) z.0 in absurd (omega arith)
-
 -- it goes on from there, also among more paths
 pub goes_on : (old new : List (List Step)) (steps : List Step) (t : Trace) → IsMore old new → 0 < length new → get_or new 0 [] ≡ [] → EndsAt old steps t → (t.path < length new) × (get_or new t.path [] ≡ reverse (take t.steps steps))
 goes_on old new steps t m some root e = by e.path

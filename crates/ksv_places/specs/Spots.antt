@@ -7,6 +7,7 @@ use Rattle.ksv_nodes.specs.declared.node.NodeKind.{NodeKind}
 use Rattle.ksv_nodes.specs.declared.node.NodeKind.TheVariants.{Head, Value, End, Rest}
 use Rattle.ksv_places.specs.declared.links.Row.{Row}
 use Rattle.ksv_places.specs.declared.links.Spot.{Spot}
+use Rattle.ksv_places.specs.declared.trace.Trace.{Trace}
 
 -- the mark of a kind in a row
 abbrev pub mark_in : Row → NodeKind → ℕ
@@ -38,10 +39,11 @@ spots_of [] ks = []
 spots_of (r ∷ rs) [] = []
 spots_of (r ∷ rs) (k ∷ ks) = record { path = r; kind = k } ∷ spots_of rs ks
 
--- nodes, each its kind and its steps from the last to the first, and the paths by their numbers
+-- nodes, each its kind and its steps from the last to the first, the paths by their numbers, and where the last search ended
 pub record Spotted : Type 0 where
   pub nodes : List (NodeKind × List Step)
   pub paths : List (List Step)
+  pub end : Trace
 
 -- the node of a spot
 abbrev pub node_of : List (List Step) → Spot → NodeKind × List Step

@@ -4,7 +4,7 @@
 //! says of which path and kind its node is. A path's *row* has the *marks* of its four nodes: a mark is a node's place and one more, or 0
 //! for none. A *link* of a path leads to the path a step shorter. From there the path is found among the *members* of an object or
 //! the *elements* of a list: up to eight members are in a *chain*; further members and all elements are in *tables*, which have a *descent*
-//! and *pages*. A *trace* says at which path the search for a node ended.
+//! and *pages*. A *trace* says at which path the last search for a node ended.
 //!
 //! Modules:
 //!
@@ -55,4 +55,3 @@ mod trace;
 mod tree;
 
 pub use places::NodePlaces;
-pub use trace::Trace;

@@ -3,7 +3,6 @@ ghost use Rattle.std.specs.Prelude.{◌≡◌, ◌+◌, ◌&&◌, nat_le, revers
 ghost use Rattle.ksv_places.specs.Tree.{EndsAt};
 
 use crate::spots::Spots;
-use crate::trace::Trace;
 use ksv_memo_rules::Places;
 use ksv_nodes::Node;
 use std::alloc::{AllocError, Global};
@@ -19,8 +18,8 @@ fn is_worn(paths: usize, made: usize) -> bool
     made >= FEW_MADE && paths.saturating_sub(made) <= made
 }
 
-/// The places of nodes, found along a tree of their paths. Contracts see the list of the nodes by their places, and the paths by their
-/// numbers.
+/// The places of nodes, found along a tree of their paths. Contracts see the list of the nodes by their places, the paths by their
+/// numbers, and where the last search ended.
 #[derive(Drop)]
 pub struct NodePlaces {
     spots: Spots,
@@ -32,17 +31,15 @@ impl Model for NodePlaces {
 
     ghost Value = { Placed };
 
-    ghost view = { λ places. record { nodes = all_named places.spots.nodes; paths = places.spots.paths } };
+    ghost view = { λ places. record { nodes = all_named places.spots.nodes; paths = places.spots.paths; end = places.spots.end } };
 
     ghost invariant = { λ places. AllFit places.spots.nodes };
 }
 
 impl Places<Node> for NodePlaces {
-    type Trace = Trace;
-
     ghost nodes = { λ places. places.nodes };
 
-    ghost ends = { λ places node trace. EndsAt places.paths (reverse node.path.upward) trace };
+    ghost ends = { λ places node. EndsAt places.paths (reverse node.path.upward) places.end };
 
     fn new(alloc: Global) -> Self {
         NodePlaces {
@@ -52,13 +49,13 @@ impl Places<Node> for NodePlaces {
     }
 
     #[inline(always)]
-    fn find(&self, node: &Node) -> Result<usize, Trace> {
+    fn find(&mut self, node: &Node) -> Option<usize> {
         self.spots.apart();
         self.spots.find(node.kind, node.path.steps())
     }
 
-    fn add(&mut self, node: &Node, trace: Trace) -> Result<(), AllocError> {
-        self.spots.add(node.kind, node.path.steps(), trace)
+    fn add(&mut self, node: &Node) -> Result<(), AllocError> {
+        self.spots.add(node.kind, node.path.steps())
     }
 
     fn give(&mut self, place: usize, node: &Node) -> Result<(), AllocError> {

@@ -1,7 +1,6 @@
 //! Nodes by their kinds and steps.
-ghost use Rattle.std.specs.Prelude.{◌≡◌, ℕ, ◌<◌, ◌≤◌, ◌+◌, ◌++◌, ◌∷◌, max, [], Some, length, slice_get, slice_index_or, slice_set, reverse, take, List, IfOk, IfErr, OnOk, OnErr};
+ghost use Rattle.std.specs.Prelude.{◌≡◌, ℕ, ◌<◌, ◌≤◌, ◌+◌, ◌++◌, ◌∷◌, max, [], Some, length, slice_get, slice_index_or, slice_set, reverse, take, IfOk, IfSome, IfNone, OnOk, OnErr};
 ghost use Rattle.std.specs.Vec.{vec_len, vec_capacity};
-ghost use Rattle.ksv_expr_value.specs.declared.step.Step.{Step};
 ghost use Rattle.ksv_places.specs.Spots.{mark_in, with_mark, row_at, spot_at, spots_of, IsRoomed};
 ghost use Rattle.ksv_places.specs.Tree.{EndsAt};
 
@@ -111,8 +110,8 @@ fn spot_at(paths: &[u32], kinds: &[NodeKind], place: usize) -> Spot
     }
 }
 
-/// Nodes by their kinds and steps. Contracts see the list of the nodes, each its kind and its steps from the last to the first, and the
-/// paths by their numbers.
+/// Nodes by their kinds and steps. Contracts see the list of the nodes, each its kind and its steps from the last to the first, the
+/// paths by their numbers, and where the last search ended.
 #[derive(Drop)]
 pub(crate) struct Spots {
     alloc: Global,
@@ -122,6 +121,8 @@ pub(crate) struct Spots {
     paths: Vec<u32>,
     /// Its kind.
     kinds: Vec<NodeKind>,
+    /// Where the last search ended.
+    end: Trace,
 }
 
 impl Model for Spots {
@@ -130,7 +131,7 @@ impl Model for Spots {
 
     ghost Value = { Spotted };
 
-    ghost view = { λ all. record { nodes = nodes_of all.tree (spots_of all.paths.items all.kinds.items); paths = all.tree } };
+    ghost view = { λ all. record { nodes = nodes_of all.tree (spots_of all.paths.items all.kinds.items); paths = all.tree; end = all.end } };
 
     ghost invariant = { λ all. record { both : length all.kinds.items ≡ length all.paths.items; filed : IsFiled all.tree all.rows.items (spots_of all.paths.items all.kinds.items) } };
 }
@@ -146,6 +147,7 @@ impl Spots {
             rows: Vec::new(alloc),
             paths: Vec::new(alloc),
             kinds: Vec::new(alloc),
+            end: Trace { path: 0, steps: 0 },
         }
     }
 
@@ -171,46 +173,28 @@ impl Spots {
         self.tree.apart();
     }
 
-    /// Where each search begins.
+    /// The place of a node, if it has one. Notes where the search for it ended.
     #[inline(always)]
-    pub(crate) fn start(&self) -> Trace
-        ensures { (steps : List Step) → EndsAt self.now.paths steps result }
-    {
-        self.tree.start()
-    }
-
-    /// The place of a node, or where the search for it ended if it has none.
-    #[inline(always)]
-    pub(crate) fn find(&self, kind: NodeKind, steps: &[Step]) -> Result<usize, Trace>
-        ensures ok { IfOk result (λ i. slice_get self.now.nodes i ≡ Some (kind, reverse steps.now)) }
-        ensures none { OnErr result ((i : ℕ) → slice_get self.now.nodes i ≡ Some (kind, reverse steps.now) → ⊥) }
-        ensures ends { IfErr result (EndsAt self.now.paths steps.now) }
+    pub(crate) fn find(&mut self, kind: NodeKind, steps: &[Step]) -> Option<usize>
+        ensures some { IfSome result (λ i. slice_get self.new.nodes i ≡ Some (kind, reverse steps.now)) }
+        ensures none { IfNone result ((i : ℕ) → slice_get self.new.nodes i ≡ Some (kind, reverse steps.now) → ⊥) }
+        ensures ends { EndsAt self.new.paths steps.now self.new.end }
+        ensures nodes { self.new.nodes ≡ self.old.nodes }
+        ensures paths { self.new.paths ≡ self.old.paths }
     {
         self.tree.apart();
-        match self.tree.find(steps) {
-            Err(trace) => Err(trace),
-            Ok(path) => {
-                let mark = mark_at(self.rows.as_slice(), path, kind);
-                if mark == 0 {
-                    return Err(Trace {
-                        path,
-                        steps: steps.len() as u32,
-                    });
-                }
-                Ok((mark - 1) as usize)
-            }
+        let path = self.tree.find(steps, &mut self.end)?;
+        let mark = mark_at(self.rows.as_slice(), path, kind);
+        if mark == 0 {
+            return None;
         }
+        Some((mark - 1) as usize)
     }
 
     /// Gives the next place to a node that has none, from where the search for it ended.
-    pub(crate) fn add(
-        &mut self,
-        kind: NodeKind,
-        steps: &[Step],
-        trace: Trace,
-    ) -> Result<(), AllocError>
+    pub(crate) fn add(&mut self, kind: NodeKind, steps: &[Step]) -> Result<(), AllocError>
         requires none { (i : ℕ) → slice_get self.old.nodes i ≡ Some (kind, reverse steps.now) → ⊥ }
-        requires ends { EndsAt self.old.paths steps.now trace }
+        requires ends { EndsAt self.old.paths steps.now self.old.end }
         ensures ok { OnOk result (self.new.nodes ≡ self.old.nodes ++ (kind, reverse steps.now) ∷ []) }
         ensures err { OnErr result (self.new.nodes ≡ self.old.nodes) }
     {
@@ -218,7 +202,7 @@ impl Spots {
         let mark = count_of(count as usize + 1)?;
         self.paths.reserve(1)?;
         self.kinds.reserve(1)?;
-        let path = make_row(&mut self.tree, &mut self.rows, steps, trace)?;
+        let path = make_row(&mut self.tree, &mut self.rows, steps, self.end)?;
         write(&mut self.rows, path, kind, mark);
         self.paths.push_reserved(path);
         self.kinds.push_reserved(kind);
@@ -269,8 +253,9 @@ impl Spots {
         let mut steps = Vec::new(self.alloc);
         for place in 0..count {
             let kind = self.node_at(place, &mut steps)?;
-            let trace = fresh.start();
-            fresh.add(kind, steps.as_slice(), trace)?;
+            let slice = steps.as_slice();
+            let _none = fresh.find(kind, slice);
+            fresh.add(kind, slice)?;
         }
         Ok(fresh)
     }

@@ -1,5 +1,5 @@
 //! Paths by their numbers.
-ghost use Rattle.std.specs.Prelude.{◌≡◌, ℕ, ◌<◌, ◌≤◌, nat_lt, [], List, Some, length, slice_get, slice_index_or, IfOk, IfErr, OnOk, OnErr, reverse};
+ghost use Rattle.std.specs.Prelude.{◌≡◌, ℕ, ◌<◌, ◌≤◌, nat_lt, [], List, Some, length, slice_get, slice_index_or, IfOk, IfSome, IfNone, OnOk, OnErr, reverse};
 ghost use Rattle.ksv_places.specs.Table.{number_at, shelf_at};
 ghost use Rattle.ksv_places.specs.Tree.{IsTree, look, chain, chain_length, is_name, link_at, paths_of, Hooks, IsUnhooked, IsGrown, IsMore, IsFurther, EndsAt};
 ghost use Rattle.ksv_expr_value.specs.declared.step.Step.{Step};
@@ -297,13 +297,16 @@ impl Tree {
         Trace { path: 0, steps: 0 }
     }
 
-    /// Goes along steps from the root as far as there are paths. A path has no more steps than its number.
-    fn walk(&self, steps: &[Step]) -> Trace
-        requires { 0 < length self.now }
-        ensures ends { EndsAt self.now steps.now result }
-        ensures stops { result.steps < length steps.now → (i : ℕ) → i < length self.now → slice_index_or self.now i [] ≡ reverse steps.now → ⊥ }
-        ensures few { result.steps ≤ result.path }
+    /// The number of a path, if it has one. Notes where the search for it ended.
+    pub(crate) fn find(&self, steps: &[Step], end: &mut Trace) -> Option<u32>
+        ensures some { IfSome result (λ path. slice_get self.now path ≡ Some (reverse steps.now)) }
+        ensures none { IfNone result ((i : ℕ) → i < length self.now → slice_index_or self.now i [] ≡ reverse steps.now → ⊥) }
+        ensures ends { EndsAt self.now steps.now end.new }
     {
+        if self.links.as_slice().is_empty() {
+            *end = self.start();
+            return None;
+        }
         let mut path = 0;
         for count in 0..steps.len() {
             let next = look(
@@ -315,35 +318,19 @@ impl Tree {
                 steps[count],
             );
             if next == 0 {
-                return Trace {
+                *end = Trace {
                     path,
                     steps: count as u32,
                 };
+                return None;
             }
             path = next;
         }
-        Trace {
+        *end = Trace {
             path,
             steps: steps.len() as u32,
-        }
-    }
-
-    /// The number of a path, or where the search for it ended if it has none. A path has no more steps than its number.
-    #[inline(always)]
-    pub(crate) fn find(&self, steps: &[Step]) -> Result<u32, Trace>
-        ensures ok { IfOk result (λ path. slice_get self.now path ≡ Some (reverse steps.now)) }
-        ensures few { IfOk result (λ path. length steps.now ≤ path) }
-        ensures none { OnErr result ((i : ℕ) → i < length self.now → slice_index_or self.now i [] ≡ reverse steps.now → ⊥) }
-        ensures ends { IfErr result (EndsAt self.now steps.now) }
-    {
-        if self.links.as_slice().is_empty() {
-            return Err(self.start());
-        }
-        let trace = self.walk(steps);
-        if (trace.steps as usize) < steps.len() {
-            return Err(trace);
-        }
-        Ok(trace.path)
+        };
+        Some(path)
     }
 
     /// The number of a path, which gets one if it has none, as do those it leads through. It goes on from where a search for it ended.

@@ -24,23 +24,23 @@ fn node(alloc: Global, kind: NodeKind, steps: &[Step]) -> Result<Node, AllocErro
 
 /// The place of a node, which gets one if it has none.
 fn visit(places: &mut NodePlaces, node: &Node) -> Result<Option<usize>, AllocError> {
-    if let Err(trace) = places.find(node) {
-        places.add(node, trace)?;
+    if places.find(node).is_none() {
+        places.add(node)?;
     }
-    Ok(places.find(node).ok())
+    Ok(places.find(node))
 }
 
 /// Gives a node's place to another node that has none. Whether it has the place then, and the first one has none.
 #[tactic(auto, using(std::proofs::lemmas::Option::slice_get_within))]
 fn pass(places: &mut NodePlaces, old: &Node, new: &Node) -> Result<bool, AllocError> {
     match places.find(old) {
-        Err(_) => Ok(false),
-        Ok(place) => {
-            if places.find(new).is_ok() {
+        None => Ok(false),
+        Some(place) => {
+            if places.find(new).is_some() {
                 return Ok(false);
             }
             places.give(place, new)?;
-            Ok(places.find(new).ok() == Some(place) && places.find(old).is_err())
+            Ok(places.find(new) == Some(place) && places.find(old).is_none())
         }
     }
 }
@@ -60,12 +60,12 @@ fn is_at(
 /// Whether a node has no place.
 fn has_none(
     alloc: Global,
-    places: &NodePlaces,
+    places: &mut NodePlaces,
     kind: NodeKind,
     steps: &[Step],
 ) -> Result<bool, AllocError> {
     let node = node(alloc, kind, steps)?;
-    Ok(places.find(&node).is_err())
+    Ok(places.find(&node).is_none())
 }
 
 /// Gives the place of an element's value to another one's.
@@ -147,7 +147,7 @@ fn are_members(alloc: Global, places: &mut NodePlaces) -> Result<bool, AllocErro
 }
 
 /// Whether nodes beside theirs have none.
-fn are_none_beside(alloc: Global, places: &NodePlaces) -> Result<bool, AllocError> {
+fn are_none_beside(alloc: Global, places: &mut NodePlaces) -> Result<bool, AllocError> {
     let other_name = has_none(
         alloc,
         places,
@@ -174,7 +174,7 @@ fn twenty_members_have_places(rt: HostRuntime) -> Result<(), Fail> {
     let mut places: NodePlaces = NodePlaces::new(rt.alloc());
     let first = are_members(rt.alloc(), &mut places);
     let again = are_members(rt.alloc(), &mut places);
-    let beside = are_none_beside(rt.alloc(), &places);
+    let beside = are_none_beside(rt.alloc(), &mut places);
     drop(places);
     assert!(rt; first? && again? && beside?);
     Ok(())

@@ -24,8 +24,8 @@ add-requires-clause-none c =
 
 pub add-requires-clause-ends : goal.add-requires-clause-ends
 add-requires-clause-ends c =
-    subst (λ (q : List Step). EndsAt c.self.inside.spots.paths q c.args.trace) (sym c.steps.ensures)
-    (subst (λ (p : Placed). EndsAt p.paths (reverse c.args.node.now.path.upward) c.args.trace) (sym c.self.view_is) c.requires.ends)
+    subst (λ (q : List Step). EndsAt c.self.inside.spots.paths q c.self.inside.spots.end) (sym c.steps.ensures)
+    (subst (λ (p : Placed). EndsAt p.paths (reverse c.args.node.now.path.upward) p.end) (sym c.self.view_is) c.requires.ends)
 
 pub invariant_of-self : goal.invariant_of-self
 invariant_of-self c =

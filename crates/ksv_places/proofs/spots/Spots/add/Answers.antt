@@ -14,7 +14,7 @@ on_err (Ok a) X x = tt
 on_err (Err e) X x = x
 
 pub make_row-requires-clause-ends : goal.make_row-requires-clause-ends
-make_row-requires-clause-ends c = subst (λ (s : Spotted). EndsAt s.paths c.args.steps.now c.args.trace) (sym c.self.view_is) c.requires.ends
+make_row-requires-clause-ends c = subst (λ (s : Spotted). EndsAt s.paths c.args.steps.now s.end) (sym c.self.view_is) c.requires.ends
 
 pub returns-in_err-path-clause-err : goal.returns-in_err-path-clause-err
 returns-in_err-path-clause-err c =
