@@ -135,14 +135,15 @@ pub(crate) fn reopen<N: Eq + Drop, P: Places<N> + Drop, V: Drop, F: Drop>(
     Ok(())
 }
 
-/// Opens a node that has no slot.
+/// Opens a node that has no slot, right after the search for it.
 #[inline(always)]
 pub(crate) fn open_new<N: Eq + Drop, P: Places<N> + Drop, V: Drop, F: Drop>(
     slots: &mut Slots<N, P, V, F>,
     frames: &mut Frames<N>,
     node: N,
 ) -> Result<(), AllocError>
-    requires { list_any (λ p. N.eq node p.0) slots.old.entries ≡ false }
+    requires none { list_any (λ p. N.eq node p.0) slots.old.entries ≡ false }
+    requires ends { P.ends slots.old.places node }
     ensures slots { OnOk result (slots.new.entries ≡ slots.old.entries ++ (node, Slot.Open) ∷ []) }
     ensures frames { OnOk result (Framed (length slots.old.entries) node frames.old frames.new) }
     ensures kept { OnErr result (slots.new.entries ≡ slots.old.entries) }

@@ -52,9 +52,9 @@ impl<N: Eq + Drop, P: Places<N> + Drop, V: Drop, F: Drop> Model for Slots<N, P, 
     ghost use Rattle.std.specs.List.{zip};
     ghost use Rattle.ksv_memo.specs.Slotted.{Slotted};
 
-    ghost Value = { Slotted N V F };
+    ghost Value = { Slotted N P V F };
 
-    ghost view = { λ slots. record { entries = zip (P.nodes slots.places) slots.slots.items; looks = slots.looks } };
+    ghost view = { λ slots. record { entries = zip (P.nodes slots.places) slots.slots.items; looks = slots.looks; places = slots.places } };
 
     ghost invariant = { λ slots. length slots.slots.items ≡ length (P.nodes slots.places) };
 }
@@ -62,7 +62,8 @@ impl<N: Eq + Drop, P: Places<N> + Drop, V: Drop, F: Drop> Model for Slots<N, P, 
 impl<N: Eq + Drop, P: Places<N> + Drop, V: Drop, F: Drop> Slots<N, P, V, F> {
     /// No slots, which take no memory.
     pub(crate) fn new(alloc: Global) -> Self
-        ensures { result ≡ record { entries = []; looks = 0 } }
+        ensures entries { result.entries ≡ [] }
+        ensures looks { result.looks ≡ 0 }
     {
         Slots {
             places: P::new(alloc),
@@ -92,6 +93,7 @@ impl<N: Eq + Drop, P: Places<N> + Drop, V: Drop, F: Drop> Slots<N, P, V, F> {
     fn look(&mut self)
         ensures entries { self.new.entries ≡ self.old.entries }
         ensures looks { self.new.looks ≡ ticked self.old.looks }
+        ensures places { self.new.places ≡ self.old.places }
     {
         self.looks = self.looks.saturating_add(1);
     }
@@ -108,12 +110,13 @@ impl<N: Eq + Drop, P: Places<N> + Drop, V: Drop, F: Drop> Slots<N, P, V, F> {
     #[inline(always)]
     pub(crate) fn find(&mut self, node: &N) -> Known
         ensures knows { Knows N.eq self.new.entries node.now result }
+        ensures ends { P.ends self.new.places node.now }
         ensures unique { IsDistinct N.eq (keys_of self.new.entries) }
         ensures entries { self.new.entries ≡ self.old.entries }
         ensures looks { self.new.looks ≡ ticked self.old.looks }
     {
         self.look();
-        look_up(&self.places, self.slots.as_slice(), node)
+        look_up(&mut self.places, self.slots.as_slice(), node)
     }
 
     /// Writes the slot of a number.
@@ -127,10 +130,11 @@ impl<N: Eq + Drop, P: Places<N> + Drop, V: Drop, F: Drop> Slots<N, P, V, F> {
         write(&mut self.slots, place, new);
     }
 
-    /// A slot for a node that has none, open.
+    /// A slot for a node that has none, open, right after the search for it.
     #[inline(always)]
     pub(crate) fn add(&mut self, node: &N) -> Result<(), AllocError>
-        requires { list_any (λ p. N.eq node.now p.0) self.old.entries ≡ false }
+        requires none { list_any (λ p. N.eq node.now p.0) self.old.entries ≡ false }
+        requires ends { P.ends self.old.places node.now }
         ensures ok { OnOk result (self.new.entries ≡ self.old.entries ++ (node.now, Slot.Open) ∷ []) }
         ensures err { OnErr result (self.new.entries ≡ self.old.entries) }
     {
@@ -155,6 +159,7 @@ impl<N: Eq + Drop, P: Places<N> + Drop, V: Drop, F: Drop> Slots<N, P, V, F> {
     fn empty_from(&mut self, from: usize) -> Option<usize>
         ensures some { IfSome result (IsVacant self.old.entries) }
         ensures entries { self.new.entries ≡ self.old.entries }
+        ensures places { self.new.places ≡ self.old.places }
     {
         for place in from..self.len() {
             self.look();
@@ -172,6 +177,7 @@ impl<N: Eq + Drop, P: Places<N> + Drop, V: Drop, F: Drop> Slots<N, P, V, F> {
     pub(crate) fn vacant(&mut self) -> Option<usize>
         ensures some { IfSome result (IsVacant self.old.entries) }
         ensures entries { self.new.entries ≡ self.old.entries }
+        ensures places { self.new.places ≡ self.old.places }
     {
         let mut found = self.empty_from(self.cursor);
         if found.is_none() {
@@ -198,7 +204,8 @@ impl<N: Eq + Drop, P: Places<N> + Drop, V: Drop, F: Drop> Slots<N, P, V, F> {
     /// Gives memory of numbers back, if it is much. It isn't a look: it reads no slot, and no forgetting calls it.
     #[inline(always)]
     pub(crate) fn tidy(&mut self)
-        ensures { self.new ≡ self.old }
+        ensures entries { self.new.entries ≡ self.old.entries }
+        ensures looks { self.new.looks ≡ self.old.looks }
     {
         self.places.tidy();
     }
@@ -224,13 +231,15 @@ fn write<V: Drop, F: Drop>(slots: &mut Vec<Slot<V, F>>, place: usize, new: Slot<
 /// What numbers and their slots have of a node.
 #[inline(always)]
 fn look_up<N: Eq + Drop, P: Places<N>, V: Drop, F: Drop>(
-    places: &P,
+    places: &mut P,
     slots: &[Slot<V, F>],
     node: &N,
 ) -> Known
-    requires { length slots.now ≡ length (P.nodes places.now) }
-    ensures knows { Knows N.eq (zip (P.nodes places.now) slots.now) node.now result }
-    ensures unique { IsDistinct N.eq (keys_of (zip (P.nodes places.now) slots.now)) }
+    requires { length slots.now ≡ length (P.nodes places.old) }
+    ensures knows { Knows N.eq (zip (P.nodes places.new) slots.now) node.now result }
+    ensures ends { P.ends places.new node.now }
+    ensures nodes { P.nodes places.new ≡ P.nodes places.old }
+    ensures unique { IsDistinct N.eq (keys_of (zip (P.nodes places.new) slots.now)) }
 {
     match places.find(node) {
         None => Known::New,

@@ -32,7 +32,7 @@ enum Asked<N> {
     Circle(N),
 }
 
-/// Opens a node that has no slot.
+/// Opens a node that has no slot, right after the search for it.
 #[inline(always)]
 fn open_node<N: Eq + Drop, P: Places<N> + Drop, V: Drop, F: Drop>(
     slots: &mut Slots<N, P, V, F>,
@@ -42,6 +42,7 @@ fn open_node<N: Eq + Drop, P: Places<N> + Drop, V: Drop, F: Drop>(
 ) -> Result<(), AllocError>
     requires laid { IsLaidOut slots.old.entries links.old frames.old }
     requires none { Knows N.eq slots.old.entries node Known.New }
+    requires ends { P.ends slots.old.places node }
     ensures laid { IsLaidOut slots.new.entries links.new frames.new }
     ensures ok { OnOk result (Opens N.eq node (nodes_with slots.old.entries links.old frames.old) (nodes_with slots.new.entries links.new frames.new)) }
     ensures err { OnErr result (nodes_with slots.new.entries links.new frames.new ≡ nodes_with slots.old.entries links.old frames.old) }
@@ -59,7 +60,8 @@ fn open_node<N: Eq + Drop, P: Places<N> + Drop, V: Drop, F: Drop>(
     }
 }
 
-/// Looks for a node, and opens it if it is neither kept nor open. Its number is looked up once, and once more if it gets one.
+/// Looks for a node, and opens it if it is neither kept nor open. Its number is searched for once, and once more
+/// if it gets that of another node.
 #[inline(always)]
 fn seek<N: Eq + Drop, P: Places<N> + Drop, V: Drop, F: Drop>(
     slots: &mut Slots<N, P, V, F>,

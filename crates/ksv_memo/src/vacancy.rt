@@ -22,6 +22,7 @@ pub(crate) fn vacant<N: Eq + Drop, P: Places<N> + Drop, V: Drop, F: Drop>(
 ) -> Option<usize>
     ensures some { IfSome result (IsVacant slots.old.entries) }
     ensures entries { slots.new.entries ≡ slots.old.entries }
+    ensures places { slots.new.places ≡ slots.old.places }
 {
     let used = links.count().saturating_add(frames.frames.len());
     if slots.len() < used.saturating_mul(2).saturating_add(SPARE) {

@@ -11,19 +11,25 @@ pub trait Places<N: Eq + Drop> {
     /// The nodes in the order of their numbers.
     ghost nodes: { Self → List N };
 
+    /// The last search ended on the way to a node. Where it ended is noted, so that the way there isn't gone again.
+    ghost ends: { Self → N → Type 0 };
+
     /// No nodes, which take no memory.
     fn new(alloc: Global) -> Self
         ensures { nodes result ≡ [] };
 
     /// The number of a node, if it has one.
-    fn find(&self, node: &N) -> Option<usize>
-        ensures some { IfSome result (λ i. slice_get (nodes self.now) i ≡ Some node.now) }
-        ensures none { IfNone result (list_any (N.eq node.now) (nodes self.now) ≡ false) }
-        ensures unique { IsDistinct N.eq (nodes self.now) };
+    fn find(&mut self, node: &N) -> Option<usize>
+        ensures some { IfSome result (λ i. slice_get (nodes self.new) i ≡ Some node.now) }
+        ensures none { IfNone result (list_any (N.eq node.now) (nodes self.new) ≡ false) }
+        ensures ends { ends self.new node.now }
+        ensures nodes { nodes self.new ≡ nodes self.old }
+        ensures unique { IsDistinct N.eq (nodes self.new) };
 
-    /// Gives the next number to a node that has none.
+    /// Gives the next number to a node that has none, right after the search for it.
     fn add(&mut self, node: &N) -> Result<(), AllocError>
-        requires { list_any (N.eq node.now) (nodes self.old) ≡ false }
+        requires none { list_any (N.eq node.now) (nodes self.old) ≡ false }
+        requires ends { ends self.old node.now }
         ensures ok { OnOk result (nodes self.new ≡ nodes self.old ++ node.now ∷ []) }
         ensures err { OnErr result (nodes self.new ≡ nodes self.old) };
 

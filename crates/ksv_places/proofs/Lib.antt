@@ -4,6 +4,7 @@ pub mod Growing
 pub mod Hooking
 pub mod Naming
 pub mod Paging
+pub mod Pairing
 pub mod Planting
 pub mod Reaching
 pub mod Replacing

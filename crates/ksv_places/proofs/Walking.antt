@@ -66,6 +66,15 @@ module _ (links : List Link) (firsts : ℕ → ℕ) (members elements : ℕ → 
   pub inside : (r : ℕ) (s : Step) → r < length links → 0 < look links firsts members elements r s → look links firsts members elements r s < length links
   inside r s lt some = let k : IsChild links r s (look links firsts members elements r s) = t.sound r s some in k.inside
 
+  -- it has a larger number
+  pub beyond : (r : ℕ) (s : Step) → 0 < look links firsts members elements r s → r < look links firsts members elements r s
+  beyond r s some =
+      let c = look links firsts members elements r s in
+      let k : IsChild links r s c = t.sound r s some in
+      let up : (link_at links c).parent < c = t.up c some k.inside in
+      let p = k.parent in
+      omega arith
+
   record Parts (i : ℕ) (s : Step) (q : List Step) : Type 0 where
     pub step : (link_at links i).step ≡ s
     pub path : get_or (paths_of links) (link_at links i).parent [] ≡ q

@@ -5,6 +5,7 @@ use Rattle.ksv_expr_value.specs.declared.step.Step.{Step}
 use Rattle.ksv_expr_value.specs.Trail.{Trail, fits, root, trail_of}
 use Rattle.ksv_nodes.specs.declared.node.Node.{Node}
 use Rattle.ksv_nodes.specs.declared.node.NodeKind.{NodeKind}
+use Rattle.ksv_places.specs.declared.trace.Trace.{Trace}
 
 -- a path; where there is none, the root's
 abbrev pub some_trail : Option Trail → Trail
@@ -17,6 +18,12 @@ trail_at steps = some_trail (trail_of steps)
 
 abbrev pub named : NodeKind × List Step → Node
 named p = record { kind = p.0; path = trail_at p.1 }
+
+-- nodes, the paths by their numbers, and where the last search ended
+pub record Placed : Type 0 where
+  pub nodes : List Node
+  pub paths : List (List Step)
+  pub end : Trace
 
 abbrev pub all_named : List (NodeKind × List Step) → List Node
 all_named ps = map named ps

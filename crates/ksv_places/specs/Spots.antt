@@ -1,12 +1,13 @@
 -- Nodes by their places: each is a kind and a path. A path's row has the marks of its four nodes: a mark is a node's place and one
 -- more, or 0 for none. The spot of a place says of which path and kind its node is.
-use Rattle.std.specs.Prelude.{◌≡◌, ◌≢◌, ℕ, ◌+◌, ◌-◌, ◌<◌, ◌≤◌, List, [], length, map, slice_index_or}
+use Rattle.std.specs.Prelude.{◌≡◌, ◌≢◌, ℕ, ◌+◌, ◌-◌, ◌<◌, ◌≤◌, List, [], ◌∷◌, length, map, slice_index_or}
 use Rattle.ksv_places.specs.Tree.{IsMore}
 use Rattle.ksv_expr_value.specs.declared.step.Step.{Step}
 use Rattle.ksv_nodes.specs.declared.node.NodeKind.{NodeKind}
 use Rattle.ksv_nodes.specs.declared.node.NodeKind.TheVariants.{Head, Value, End, Rest}
 use Rattle.ksv_places.specs.declared.links.Row.{Row}
 use Rattle.ksv_places.specs.declared.links.Spot.{Spot}
+use Rattle.ksv_places.specs.declared.trace.Trace.{Trace}
 
 -- the mark of a kind in a row
 abbrev pub mark_in : Row → NodeKind → ℕ
@@ -31,6 +32,18 @@ row_at rows r = slice_index_or rows r no_row
 
 abbrev pub spot_at : List Spot → ℕ → Spot
 spot_at spots i = slice_index_or spots i (record { path = 0; kind = Head })
+
+-- the spots of paths and kinds, each of which is a list of its own
+abbrev pub spots_of : List ℕ → List NodeKind → List Spot
+spots_of [] ks = []
+spots_of (r ∷ rs) [] = []
+spots_of (r ∷ rs) (k ∷ ks) = record { path = r; kind = k } ∷ spots_of rs ks
+
+-- nodes, each its kind and its steps from the last to the first, the paths by their numbers, and where the last search ended
+pub record Spotted : Type 0 where
+  pub nodes : List (NodeKind × List Step)
+  pub paths : List (List Step)
+  pub end : Trace
 
 -- the node of a spot
 abbrev pub node_of : List (List Step) → Spot → NodeKind × List Step

@@ -1,8 +1,9 @@
 -- Numbered paths: each has the number of the path one step shorter and its last step, and is found from there.
-use Rattle.std.specs.Prelude.{◌≡◌, ℕ, zero, suc, ◌+◌, ◌<◌, ◌⊎◌, nat_eq, Bool, false, cond, List, [], ◌∷◌, ◌++◌, length, slice_index_or}
+use Rattle.std.specs.Prelude.{◌≡◌, ℕ, zero, suc, ◌+◌, ◌<◌, ◌≤◌, ◌⊎◌, nat_eq, Bool, false, cond, List, [], ◌∷◌, ◌++◌, length, slice_get, slice_index_or, reverse, take, Some}
 use Rattle.ksv_expr_value.specs.declared.step.Step.{Step}
 use Rattle.ksv_expr_value.specs.declared.step.Step.TheVariants.{Name, Index}
 use Rattle.ksv_places.specs.declared.links.Link.{Link}
+use Rattle.ksv_places.specs.declared.trace.Trace.{Trace}
 use Rattle.ksv_places.specs.Table.{IsPut, IsPutAt, first_of_both}
 
 -- the link of a number
@@ -97,3 +98,8 @@ pub record IsMore (old new : List (List Step)) : Type 0 where
 pub record IsFurther (old new : List Link) (r : ℕ) (s : Step) (c : ℕ) : Type 0 where
   pub inside : c < length new
   pub is : slice_index_or (paths_of new) c [] ≡ s ∷ slice_index_or (paths_of old) r []
+
+-- A walk along steps ended here: at the path of the first so many of them; or there are no paths yet, and both numbers are 0.
+pub record EndsAt (paths : List (List Step)) (steps : List Step) (t : Trace) : Type 0 where
+  pub inside : t.steps ≤ length steps
+  pub path : (slice_get paths t.path ≡ Some (reverse (take t.steps steps))) ⊎ ((paths ≡ []) × (t.path ≡ 0) × (t.steps ≡ 0))

@@ -1,5 +1,6 @@
 //! The places of nodes.
-ghost use Rattle.std.specs.Prelude.{◌≡◌, ◌+◌, ◌&&◌, nat_le};
+ghost use Rattle.std.specs.Prelude.{◌≡◌, ◌+◌, ◌&&◌, nat_le, reverse};
+ghost use Rattle.ksv_places.specs.Tree.{EndsAt};
 
 use crate::spots::Spots;
 use ksv_memo_rules::Places;
@@ -17,7 +18,8 @@ fn is_worn(paths: usize, made: usize) -> bool
     made >= FEW_MADE && paths.saturating_sub(made) <= made
 }
 
-/// The places of nodes, found along a tree of their paths. Contracts see the list of the nodes by their places.
+/// The places of nodes, found along a tree of their paths. Contracts see the list of the nodes by their places, the paths by their
+/// numbers, and where the last search ended.
 #[derive(Drop)]
 pub struct NodePlaces {
     spots: Spots,
@@ -25,19 +27,19 @@ pub struct NodePlaces {
 }
 
 impl Model for NodePlaces {
-    ghost use Rattle.std.specs.Prelude.{List};
-    ghost use Rattle.ksv_nodes.specs.declared.node.Node.{Node};
-    ghost use Rattle.ksv_places.specs.Nodes.{all_named, AllFit};
+    ghost use Rattle.ksv_places.specs.Nodes.{Placed, all_named, AllFit};
 
-    ghost Value = { List Node };
+    ghost Value = { Placed };
 
-    ghost view = { λ places. all_named places.spots };
+    ghost view = { λ places. record { nodes = all_named places.spots.nodes; paths = places.spots.paths; end = places.spots.end } };
 
-    ghost invariant = { λ places. AllFit places.spots };
+    ghost invariant = { λ places. AllFit places.spots.nodes };
 }
 
 impl Places<Node> for NodePlaces {
-    ghost nodes = { λ places. places };
+    ghost nodes = { λ places. places.nodes };
+
+    ghost ends = { λ places node. EndsAt places.paths (reverse node.path.upward) places.end };
 
     fn new(alloc: Global) -> Self {
         NodePlaces {
@@ -47,7 +49,7 @@ impl Places<Node> for NodePlaces {
     }
 
     #[inline(always)]
-    fn find(&self, node: &Node) -> Option<usize> {
+    fn find(&mut self, node: &Node) -> Option<usize> {
         self.spots.apart();
         self.spots.find(node.kind, node.path.steps())
     }

@@ -1,12 +1,14 @@
 //! Paths by their numbers.
-ghost use Rattle.std.specs.Prelude.{◌≡◌, ℕ, ◌<◌, ◌≤◌, nat_lt, [], Some, length, slice_get, slice_index_or, IfOk, IfSome, IfNone, OnOk, OnErr, reverse};
+ghost use Rattle.std.specs.Prelude.{◌≡◌, ℕ, ◌<◌, ◌≤◌, nat_lt, [], List, Some, length, slice_get, slice_index_or, IfOk, IfSome, IfNone, OnOk, OnErr, reverse};
 ghost use Rattle.ksv_places.specs.Table.{number_at, shelf_at};
-ghost use Rattle.ksv_places.specs.Tree.{IsTree, look, chain, chain_length, is_name, link_at, paths_of, Hooks, IsUnhooked, IsGrown, IsMore, IsFurther};
+ghost use Rattle.ksv_places.specs.Tree.{IsTree, look, chain, chain_length, is_name, link_at, paths_of, Hooks, IsUnhooked, IsGrown, IsMore, IsFurther, EndsAt};
+ghost use Rattle.ksv_expr_value.specs.declared.step.Step.{Step};
 
 use crate::links::Link;
 use crate::numbers::Numbers;
 use crate::parts::count_of;
 use crate::tables::Tables;
+use crate::trace::Trace;
 use ksv_expr_value::Step;
 use std::alloc::{AllocError, Global};
 use std::marker::Model;
@@ -286,47 +288,67 @@ impl Tree {
         self.links.as_slice().len()
     }
 
-    /// The number of a path, if it has one.
-    pub(crate) fn find(&self, steps: &[Step]) -> Option<u32>
+    /// Where each search begins.
+    #[inline(always)]
+    pub(crate) fn start(&self) -> Trace
+        ensures { (steps : List Step) → EndsAt self.now steps result }
+    {
+        let _links = &self.links;
+        Trace { path: 0, steps: 0 }
+    }
+
+    /// The number of a path, if it has one. Notes where the search for it ended.
+    pub(crate) fn find(&self, steps: &[Step], end: &mut Trace) -> Option<u32>
         ensures some { IfSome result (λ path. slice_get self.now path ≡ Some (reverse steps.now)) }
         ensures none { IfNone result ((i : ℕ) → i < length self.now → slice_index_or self.now i [] ≡ reverse steps.now → ⊥) }
+        ensures ends { EndsAt self.now steps.now end.new }
     {
         if self.links.as_slice().is_empty() {
+            *end = self.start();
             return None;
         }
         let mut path = 0;
-        for step in steps {
+        for count in 0..steps.len() {
             let next = look(
                 self.links.as_slice(),
                 &self.firsts,
                 &self.members,
                 &self.elements,
                 path,
-                *step,
+                steps[count],
             );
             if next == 0 {
+                *end = Trace {
+                    path,
+                    steps: count as u32,
+                };
                 return None;
             }
             path = next;
         }
+        *end = Trace {
+            path,
+            steps: steps.len() as u32,
+        };
         Some(path)
     }
 
-    /// The number of a path, which gets one if it has none, as do those it leads through.
-    pub(crate) fn reach(&mut self, steps: &[Step]) -> Result<u32, AllocError>
+    /// The number of a path, which gets one if it has none, as do those it leads through. It goes on from where a search for it ended.
+    pub(crate) fn reach(&mut self, steps: &[Step], trace: Trace) -> Result<u32, AllocError>
+        requires ends { EndsAt self.old steps.now trace }
         ensures more { IsMore self.old self.new }
         ensures ok { IfOk result (λ path. slice_get self.new path ≡ Some (reverse steps.now)) }
     {
         plant(&mut self.links, &self.firsts, &self.members, &self.elements)?;
-        let mut path = 0;
-        for step in steps {
+        let mut path = trace.path;
+        for count in trace.steps as usize..steps.len() {
             path = further(
                 &mut self.links,
                 &mut self.firsts,
                 &mut self.members,
                 &mut self.elements,
                 path,
-                *step,
+                steps[count],
             )?;
         }
         Ok(path)

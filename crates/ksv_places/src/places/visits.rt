@@ -60,7 +60,7 @@ fn is_at(
 /// Whether a node has no place.
 fn has_none(
     alloc: Global,
-    places: &NodePlaces,
+    places: &mut NodePlaces,
     kind: NodeKind,
     steps: &[Step],
 ) -> Result<bool, AllocError> {
@@ -147,7 +147,7 @@ fn are_members(alloc: Global, places: &mut NodePlaces) -> Result<bool, AllocErro
 }
 
 /// Whether nodes beside theirs have none.
-fn are_none_beside(alloc: Global, places: &NodePlaces) -> Result<bool, AllocError> {
+fn are_none_beside(alloc: Global, places: &mut NodePlaces) -> Result<bool, AllocError> {
     let other_name = has_none(
         alloc,
         places,
@@ -174,7 +174,7 @@ fn twenty_members_have_places(rt: HostRuntime) -> Result<(), Fail> {
     let mut places: NodePlaces = NodePlaces::new(rt.alloc());
     let first = are_members(rt.alloc(), &mut places);
     let again = are_members(rt.alloc(), &mut places);
-    let beside = are_none_beside(rt.alloc(), &places);
+    let beside = are_none_beside(rt.alloc(), &mut places);
     drop(places);
     assert!(rt; first? && again? && beside?);
     Ok(())

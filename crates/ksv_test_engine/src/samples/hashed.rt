@@ -1,5 +1,5 @@
 //! Nodes with numbers, found by a hash.
-ghost use Rattle.std.specs.Prelude.{◌≡◌, true};
+ghost use Rattle.std.specs.Prelude.{◌≡◌, true, ⊤};
 
 use indexmap::IndexSet;
 use ksv_memo_rules::Places;
@@ -21,13 +21,15 @@ pub struct Hashed<N: Exact> {
 impl<N: Exact> Places<N> for Hashed<N> {
     ghost nodes = { λ places. places.nodes.keys };
 
+    ghost ends = { λ _ _. ⊤ };
+
     fn new(alloc: Global) -> Self {
         Hashed {
             nodes: IndexSet::new(alloc),
         }
     }
 
-    fn find(&self, node: &N) -> Option<usize> {
+    fn find(&mut self, node: &N) -> Option<usize> {
         if self.nodes.len() == 0 {
             return None;
         }

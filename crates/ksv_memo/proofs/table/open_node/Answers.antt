@@ -69,8 +69,8 @@ returns-in_ok-open_in-in-Some-clause-ok g c =
     (new_free eq ps links frames laid0.kept laid0.waits node knows))
 
 -- there is a new slot
-pub open_new-requires : goal.open_new-requires
-open_new-requires g c = subst (λ es. Knows g.N.PartialEq.eq es c.args.node New) (sym c.vacant.ensures.entries) c.requires.none
+pub open_new-requires-clause-none : goal.open_new-requires-clause-none
+open_new-requires-clause-none g c = subst (λ es. Knows g.N.PartialEq.eq es c.args.node New) (sym c.vacant.ensures.entries) c.requires.none
 
 pub returns-in_ok-open_new-in-None-clause-laid : goal.returns-in_ok-open_new-in-None-clause-laid
 returns-in_ok-open_new-in-None-clause-laid g c =

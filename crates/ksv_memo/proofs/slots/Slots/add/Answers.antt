@@ -4,11 +4,11 @@ use Rattle.ksv_memo_rules.specs.declared.replies.Slot.TheVariants.{Open}
 use Rattle.ksv_memo.proofs.Zipping.{any-zip, push-zip}
 use Rattle.ksv_memo.proofs.slots.Slots.add.Goals as goal
 
-pub add-requires : goal.add-requires
-add-requires g c =
+pub add-requires-clause-none : goal.add-requires-clause-none
+add-requires-clause-none g c =
     let t = c.self.inside in
     let eq = g.N.PartialEq.eq in
-    sym (any-zip (eq c.args.node.now) (g.P.Places.nodes t.places) t.slots.items c.self.invariant) ∙ ap (λ v. list_any (λ p. eq c.args.node.now p.0) v.entries) c.self.view_is ∙ c.requires
+    sym (any-zip (eq c.args.node.now) (g.P.Places.nodes t.places) t.slots.items c.self.invariant) ∙ ap (λ v. list_any (λ p. eq c.args.node.now p.0) v.entries) c.self.view_is ∙ c.requires.none
 
 -- the node and its slot go last
 pub returns-clause-ok : goal.returns-clause-ok

@@ -1,8 +1,11 @@
 use Rattle.std.proofs.Common.{◌≡◌, false, List, Option, Some, None, sym, ◌∙◌, ap, subst, slice_get}
 use Rattle.std.specs.List.{IsDistinct, list_any}
 use Rattle.std.specs.Option.{IfSome, IfNone}
-use Rattle.ksv_nodes.specs.declared.node.Node.{Node}
+use Rattle.ksv_expr_value.specs.declared.step.Step.{Step}
+use Rattle.ksv_nodes.specs.declared.node.NodeKind.{NodeKind}
 use Rattle.ksv_nodes.specs.contracts.node.NodePartialEq.TheImpl.{ghosts as node_tests}
+use Rattle.ksv_places.specs.Nodes.{Placed, all_named, AllFit}
+use Rattle.ksv_places.specs.Tree.{EndsAt}
 use Rattle.ksv_places.proofs.Naming.{at_named, none_is, apart_named, distinct, steps_up}
 use Rattle.ksv_places.proofs.places.NodePlacesPlacesNode.find.Goals as goal
 
@@ -14,21 +17,31 @@ if_none : {A : Type 0} (r : Option A) (P Q : Type 0) → (P → Q) → IfNone r 
 if_none None P Q f h = f h
 if_none (Some x) P Q f h = tt
 
+pub invariant_of-self : goal.invariant_of-self
+invariant_of-self c = subst AllFit (sym c.find.ensures.nodes) c.self.invariant
+
 pub returns-clause-some : goal.returns-clause-some
 returns-clause-some c =
-    let ps = c.self.inside.spots in
+    let ps = c.find.new.self.nodes in
     let n = c.args.node.now in
-    if_some c.find.result _ (λ i. slice_get c.args.self.now i ≡ Some n) (λ i e.
-    ap (λ (ns : List Node). slice_get ns i) (sym c.self.view_is) ∙ at_named ps i n (e ∙ ap Some (steps_up n c.steps.result.now c.steps.ensures))) c.find.ensures.some
+    if_some c.find.result _ (λ i. slice_get (all_named ps) i ≡ Some n) (λ i e.
+    at_named ps i n (e ∙ ap Some (steps_up n c.steps.result.now c.steps.ensures))) c.find.ensures.some
 
 pub returns-clause-none : goal.returns-clause-none
 returns-clause-none c =
-    let ps = c.self.inside.spots in
+    let ps = c.find.new.self.nodes in
     let n = c.args.node.now in
-    if_none c.find.result _ (list_any (node_tests.eq n) c.args.self.now ≡ false) (λ none.
-    ap (list_any (node_tests.eq n)) (sym c.self.view_is) ∙ none_is ps c.self.invariant n (λ i e. none i (e ∙ ap Some (sym (steps_up n c.steps.result.now c.steps.ensures))))) c.find.ensures.none
+    let fit = subst AllFit (sym c.find.ensures.nodes) c.self.invariant in
+    if_none c.find.result _ (list_any (node_tests.eq n) (all_named ps) ≡ false) (λ none.
+    none_is ps fit n (λ i e. none i (e ∙ ap Some (sym (steps_up n c.steps.result.now c.steps.ensures))))) c.find.ensures.none
+
+pub returns-clause-ends : goal.returns-clause-ends
+returns-clause-ends c = subst (λ (s : List Step). EndsAt c.find.new.self.paths s c.find.new.self.end) c.steps.ensures c.find.ensures.ends
+
+pub returns-clause-nodes : goal.returns-clause-nodes
+returns-clause-nodes c = ap all_named c.find.ensures.nodes ∙ ap (λ (p : Placed). p.nodes) c.self.view_is
 
 pub returns-clause-unique : goal.returns-clause-unique
 returns-clause-unique c =
-    let ps = c.self.inside.spots in
-    subst (λ (ns : List Node). IsDistinct node_tests.eq ns) c.self.view_is (distinct _ (apart_named ps c.self.invariant c.apart.ensures))
+    let ps : List (NodeKind × List Step) = c.self.inside.spots.nodes in
+    subst (λ (ns : List (NodeKind × List Step)). IsDistinct node_tests.eq (all_named ns)) (sym c.find.ensures.nodes) (distinct _ (apart_named ps c.self.invariant c.apart.ensures))

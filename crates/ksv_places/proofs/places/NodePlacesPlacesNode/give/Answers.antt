@@ -1,10 +1,9 @@
 use Rattle.std.proofs.Common.{◌≡◌, List, Some, Result, Ok, Err, OnOk, OnErr, set, sym, ◌∙◌, ap, subst}
 use Rattle.std.specs.List.{list_any}
 use Rattle.ksv_expr_value.specs.declared.step.Step.{Step}
-use Rattle.ksv_nodes.specs.declared.node.Node.{Node}
 use Rattle.ksv_nodes.specs.declared.node.NodeKind.{NodeKind}
 use Rattle.ksv_nodes.specs.contracts.node.NodePartialEq.TheImpl.{ghosts as node_tests}
-use Rattle.ksv_places.specs.Nodes.{all_named, AllFit}
+use Rattle.ksv_places.specs.Nodes.{Placed, all_named, AllFit}
 use Rattle.ksv_places.proofs.Naming.{is_none, fit_set, named_set, steps_up}
 use Rattle.ksv_places.proofs.places.NodePlacesPlacesNode.give.Goals as goal
 
@@ -18,24 +17,24 @@ either_way (Err e) P Q R f g h k = g k
 
 pub give-given-requires-clause-none : goal.give-given-requires-clause-none
 give-given-requires-clause-none c =
-    let ps = c.self.inside.spots in
+    let ps = c.self.inside.spots.nodes in
     let n = c.args.node.now in
-    λ i e. is_none ps n (ap (list_any (node_tests.eq n)) c.self.view_is ∙ c.requires.none) i (e ∙ ap Some (steps_up n c.steps.result.now c.steps.ensures))
+    λ i e. is_none ps n (ap (λ (p : Placed). list_any (node_tests.eq n) p.nodes) c.self.view_is ∙ c.requires.none) i (e ∙ ap Some (steps_up n c.steps.result.now c.steps.ensures))
 
 pub invariant_of-self : goal.invariant_of-self
 invariant_of-self c =
-    let ps : List (NodeKind × List Step) = c.self.inside.spots in
+    let ps : List (NodeKind × List Step) = c.self.inside.spots.nodes in
     let n = c.args.node.now in
     let up = steps_up n c.steps.result.now c.steps.ensures in
-    either_way c.give-given.result _ _ (AllFit c.give-given.new.self)
+    either_way c.give-given.result _ _ (AllFit c.give-given.new.self.nodes)
     (λ e. subst AllFit (sym (e ∙ ap (λ (p : NodeKind × List Step). set ps c.args.place p) up)) (fit_set ps c.args.place n c.self.invariant))
     (λ e. subst AllFit (sym e) c.self.invariant) c.give-given.ensures.ok c.give-given.ensures.err
 
 pub returns-clause-ok : goal.returns-clause-ok
 returns-clause-ok c =
-    let ps : List (NodeKind × List Step) = c.self.inside.spots in
+    let ps : List (NodeKind × List Step) = c.self.inside.spots.nodes in
     let n = c.args.node.now in
     let place = c.args.place in
     let up = steps_up n c.steps.result.now c.steps.ensures in
-    on_ok c.give-given.result _ (all_named c.give-given.new.self ≡ set c.args.self.now place n)
-    (λ e. ap all_named (e ∙ ap (λ (p : NodeKind × List Step). set ps place p) up) ∙ named_set ps place n ∙ ap (λ (ns : List Node). set ns place n) c.self.view_is) c.give-given.ensures.ok
+    on_ok c.give-given.result _ (all_named c.give-given.new.self.nodes ≡ set c.args.self.now.nodes place n)
+    (λ e. ap all_named (e ∙ ap (λ (p : NodeKind × List Step). set ps place p) up) ∙ named_set ps place n ∙ ap (λ (p : Placed). set p.nodes place n) c.self.view_is) c.give-given.ensures.ok

@@ -1,51 +1,65 @@
-use Rattle.std.proofs.Common.{◌≡◌, ℕ, ◌+◌, Result, Ok, Err, OnErr, ◌++◌, ◌∷◌, List, [], Some, length, set, reverse, ◌∙◌, sym, ap, subst, slice_get}
+use Rattle.std.proofs.Common.{◌≡◌, ℕ, ◌+◌, Result, Ok, Err, OnErr, ◌++◌, ◌∷◌, List, [], Some, length, set, reverse, ◌∙◌, sym, ap, subst, arith, slice_get}
+use Rattle.std.proofs.lemmas.List.{length_push}
 use Rattle.ksv_expr_value.specs.declared.step.Step.{Step}
 use Rattle.ksv_nodes.specs.declared.node.NodeKind.{NodeKind}
 use Rattle.ksv_places.specs.declared.links.Row.{Row}
-use Rattle.ksv_places.specs.Spots.{with_mark, row_at, nodes_of, IsFiled}
+use Rattle.ksv_places.specs.Spots.{spots_of, with_mark, row_at, nodes_of, IsFiled, Spotted}
+use Rattle.ksv_places.specs.Tree.{EndsAt}
 use Rattle.ksv_places.proofs.Filing.{filed_more, nodes_same, open_behind, no_mark, filed_push, nodes_push}
+use Rattle.ksv_places.proofs.Pairing.{count, pushed}
 use Rattle.ksv_places.proofs.spots.Spots.add.Goals as goal
 
 on_err : {A E : Type 0} (r : Result A E) (X : Type 0) → X → OnErr r X
 on_err (Ok a) X x = tt
 on_err (Err e) X x = x
 
+pub make_row-requires-clause-ends : goal.make_row-requires-clause-ends
+make_row-requires-clause-ends c = subst (λ (s : Spotted). EndsAt s.paths c.args.steps.now s.end) (sym c.self.view_is) c.requires.ends
+
 pub returns-in_err-path-clause-err : goal.returns-in_err-path-clause-err
 returns-in_err-path-clause-err c =
     let t = c.self.inside in
-    on_err _ _ (ap (λ ss. nodes_of c.make_row.new.tree ss) c.reserve.ensures.items ∙ nodes_same t.tree c.make_row.new.tree t.rows.items c.make_row.new.rows.items t.spots.items c.self.invariant c.make_row.ensures.roomed ∙ c.self.view_is)
+    on_err _ _ ((λ i. nodes_of c.make_row.new.tree (spots_of (c.reserve.ensures.items i) (c.reserve-2.ensures.items i))) ∙ nodes_same t.tree c.make_row.new.tree t.rows.items c.make_row.new.rows.items (spots_of t.paths.items t.kinds.items) c.self.invariant.filed c.make_row.ensures.roomed ∙ ap (λ (s : Spotted). s.nodes) c.self.view_is)
 
 pub invariant_of-self-2 : goal.invariant_of-self-2
 invariant_of-self-2 c =
     let t = c.self.inside in
     let paths = c.make_row.new.tree in
     let rows = c.make_row.new.rows.items in
-    let spots = t.spots.items in
+    let spots = spots_of t.paths.items t.kinds.items in
     let path = c.in_ok-path.path in
     let kind = c.args.kind in
     let q = reverse c.args.steps.now in
     let ok = c.in_ok-path.ensures.ok in
-    let filed = filed_more t.tree paths t.rows.items rows spots c.self.invariant c.make_row.ensures.roomed in
-    let same = nodes_same t.tree paths t.rows.items rows spots c.self.invariant c.make_row.ensures.roomed in
-    let free : (i : ℕ) → slice_get (nodes_of paths spots) i ≡ Some (kind, q) → ⊥ = subst (λ (ns : List (NodeKind × List Step)). (i : ℕ) → slice_get ns i ≡ Some (kind, q) → ⊥) (sym (same ∙ c.self.view_is)) c.requires in
-    let mark : c.in_ok-mark.mark ≡ length spots + 1 = c.in_ok-mark.ensures ∙ ap (λ n. n + 1) (c.in_ok-count.ensures ∙ ap (λ ss. length ss) c.as_slice.ensures.value) in
+    let filed = filed_more t.tree paths t.rows.items rows spots c.self.invariant.filed c.make_row.ensures.roomed in
+    let same = nodes_same t.tree paths t.rows.items rows spots c.self.invariant.filed c.make_row.ensures.roomed in
+    let free : (i : ℕ) → slice_get (nodes_of paths spots) i ≡ Some (kind, q) → ⊥ = subst (λ (ns : List (NodeKind × List Step)). (i : ℕ) → slice_get ns i ≡ Some (kind, q) → ⊥) (sym (same ∙ ap (λ (s : Spotted). s.nodes) c.self.view_is)) c.requires.none in
+    let mark : c.in_ok-mark.mark ≡ length spots + 1 = c.in_ok-mark.ensures ∙ ap (λ n. n + 1) (c.in_ok-count.ensures ∙ ap (λ rs. length rs) c.as_slice.ensures.value ∙ sym (count t.paths.items t.kinds.items c.self.invariant.both)) in
     let wrote : c.write.new.rows.items ≡ set rows path (with_mark (row_at rows path) kind (length spots + 1)) = c.write.ensures ∙ ap (λ n. set rows path (with_mark (row_at rows path) kind n)) mark in
-    let pushed = c.push_reserved.ensures.items ∙ ap (λ ss. ss ++ record { path = path; kind = kind } ∷ []) c.reserve.ensures.items in
+    let rs = c.push_reserved.ensures.items ∙ ap (λ xs. xs ++ path ∷ []) c.reserve.ensures.items in
+    let ks = c.push_reserved-2.ensures.items ∙ ap (λ xs. xs ++ kind ∷ []) c.reserve-2.ensures.items in
+    let grown : spots_of c.push_reserved.new.self.items c.push_reserved-2.new.self.items ≡ spots ++ record { path = path; kind = kind } ∷ [] = (λ i. spots_of (rs i) (ks i)) ∙ pushed t.paths.items t.kinds.items c.self.invariant.both path kind in
     let none = no_mark paths rows spots filed kind q path ok.0 free in
     let done = filed_push paths rows spots (length spots) (open_behind paths rows spots filed) path kind ok.1 none filed.few (λ _. length spots) in
-    subst (λ (x : List Row). IsFiled paths x c.push_reserved.new.self.items) (sym wrote)
-    (subst (λ ss. IsFiled paths (set rows path (with_mark (row_at rows path) kind (length spots + 1))) ss) (sym pushed) done)
+    let both : length c.push_reserved-2.new.self.items ≡ length c.push_reserved.new.self.items = (let a = ap length rs in let b = ap length ks in let n = length_push t.paths.items path in let m = length_push t.kinds.items kind in let e = c.self.invariant.both in omega arith) in
+    record {
+      both = both;
+      filed = subst (λ (x : List Row). IsFiled paths x (spots_of c.push_reserved.new.self.items c.push_reserved-2.new.self.items)) (sym wrote)
+          (subst (λ ss. IsFiled paths (set rows path (with_mark (row_at rows path) kind (length spots + 1))) ss) (sym grown) done);
+    }
 
 pub returns-clause-ok : goal.returns-clause-ok
 returns-clause-ok c =
     let t = c.self.inside in
     let paths = c.make_row.new.tree in
     let rows = c.make_row.new.rows.items in
-    let spots = t.spots.items in
+    let spots = spots_of t.paths.items t.kinds.items in
     let path = c.in_ok-path.path in
     let kind = c.args.kind in
     let q = reverse c.args.steps.now in
     let ok = c.in_ok-path.ensures.ok in
-    let same = nodes_same t.tree paths t.rows.items rows spots c.self.invariant c.make_row.ensures.roomed in
-    let pushed = c.push_reserved.ensures.items ∙ ap (λ ss. ss ++ record { path = path; kind = kind } ∷ []) c.reserve.ensures.items in
-    ap (λ ss. nodes_of paths ss) pushed ∙ nodes_push paths spots kind q path ok.0 ∙ ap (λ ns. ns ++ (kind, q) ∷ []) (same ∙ c.self.view_is)
+    let same = nodes_same t.tree paths t.rows.items rows spots c.self.invariant.filed c.make_row.ensures.roomed in
+    let rs = c.push_reserved.ensures.items ∙ ap (λ xs. xs ++ path ∷ []) c.reserve.ensures.items in
+    let ks = c.push_reserved-2.ensures.items ∙ ap (λ xs. xs ++ kind ∷ []) c.reserve-2.ensures.items in
+    let grown : spots_of c.push_reserved.new.self.items c.push_reserved-2.new.self.items ≡ spots ++ record { path = path; kind = kind } ∷ [] = (λ i. spots_of (rs i) (ks i)) ∙ pushed t.paths.items t.kinds.items c.self.invariant.both path kind in
+    ap (λ ss. nodes_of paths ss) grown ∙ nodes_push paths spots kind q path ok.0 ∙ ap (λ ns. ns ++ (kind, q) ∷ []) (same ∙ ap (λ (s : Spotted). s.nodes) c.self.view_is)

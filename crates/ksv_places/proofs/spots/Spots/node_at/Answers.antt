@@ -1,38 +1,48 @@
 use Rattle.std.proofs.Common.{◌≡◌, ◌<◌, List, [], Some, length, get_or, reverse, sym, ◌∙◌, ap, subst, arith, slice_get}
 use Rattle.std.specs.Option.{option_map}
-use Rattle.std.proofs.lemmas.List.{length-map, get_or_default}
+use Rattle.std.proofs.lemmas.List.{length-map}
 use Rattle.std.proofs.lemmas.Option.{slice_get-map, slice_get-get_or}
 use Rattle.ksv_expr_value.specs.declared.step.Step.{Step}
-use Rattle.ksv_nodes.specs.declared.node.NodeKind.{NodeKind}
 use Rattle.ksv_places.specs.declared.links.Spot.{Spot}
-use Rattle.ksv_places.specs.Spots.{spot_at, node_of}
+use Rattle.ksv_places.specs.Spots.{spots_of, Spotted, spot_at, node_of}
 use Rattle.ksv_places.proofs.Filing.{path_in}
+use Rattle.ksv_places.proofs.Pairing.{count}
 use Rattle.ksv_places.proofs.spots.Spots.node_at.Goals as goal
+
+pub spot_at-spot-requires-clause-there : goal.spot_at-spot-requires-clause-there
+spot_at-spot-requires-clause-there c =
+    let t = c.self.inside in
+    let n = length-map (spots_of t.paths.items t.kinds.items) (node_of t.tree) in
+    let m = ap (λ (s : Spotted). length s.nodes) c.self.view_is in
+    let k = count t.paths.items t.kinds.items c.self.invariant.both in
+    let same = ap length c.as_slice.ensures.value in
+    let h = c.requires in
+    omega arith
 
 pub steps_of-requires : goal.steps_of-requires
 steps_of-requires c =
     let t = c.self.inside in
-    let spots = t.spots.items in
+    let spots = spots_of t.paths.items t.kinds.items in
     let n = length-map spots (node_of t.tree) in
-    let m = ap (λ (ns : List (NodeKind × List Step)). length ns) c.self.view_is in
+    let m = ap (λ (s : Spotted). length s.nodes) c.self.view_is in
     let h = c.requires in
     let there : c.args.place < length spots = omega arith in
-    let spot : c.index-spot.result.now ≡ spot_at spots c.args.place = c.index-spot.ensures ∙ get_or_default spots c.args.place _ _ there in
-    subst (λ (s : Spot). s.path < length t.tree) (sym spot) (let a = path_in t.tree t.rows.items spots c.self.invariant c.args.place there in let b = c.self.invariant.few in omega arith)
+    let spot : c.spot_at-spot.result ≡ spot_at spots c.args.place = c.spot_at-spot.ensures ∙ (λ i. spot_at (spots_of (c.as_slice.ensures.value i) (c.as_slice-2.ensures.value i)) c.args.place) in
+    subst (λ (s : Spot). s.path < length t.tree) (sym spot) (let a = path_in t.tree t.rows.items spots c.self.invariant.filed c.args.place there in let b = c.self.invariant.filed.few in omega arith)
 
 pub returns : goal.returns
 returns c =
     let t = c.self.inside in
-    let spots = t.spots.items in
+    let spots = spots_of t.paths.items t.kinds.items in
     let place = c.args.place in
     let n = length-map spots (node_of t.tree) in
-    let m = ap (λ (ns : List (NodeKind × List Step)). length ns) c.self.view_is in
+    let m = ap (λ (s : Spotted). length s.nodes) c.self.view_is in
     let h = c.requires in
     let there : place < length spots = omega arith in
-    let s = c.index-spot.result.now in
-    let spot : s ≡ spot_at spots place = c.index-spot.ensures ∙ get_or_default spots place _ _ there in
+    let s = c.spot_at-spot.result in
+    let spot : s ≡ spot_at spots place = c.spot_at-spot.ensures ∙ (λ i. spot_at (spots_of (c.as_slice.ensures.value i) (c.as_slice-2.ensures.value i)) place) in
     let wrote : reverse c.steps_of.new.steps.items ≡ get_or t.tree s.path [] = c.in_ok-steps_of.ensures in
-    ap (λ (ns : List (NodeKind × List Step)). slice_get ns place) (sym c.self.view_is)
+    ap (λ (s : Spotted). slice_get s.nodes place) (sym c.self.view_is)
     ∙ slice_get-map (node_of t.tree) spots place
     ∙ ap (option_map (node_of t.tree)) (slice_get-get_or spots place _ there)
     ∙ ap (λ (x : Spot). Some (x.kind, get_or t.tree x.path [])) (sym spot)
