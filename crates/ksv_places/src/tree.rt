@@ -334,7 +334,20 @@ impl Tree {
     }
 
     /// The number of a path, which gets one if it has none, as do those it leads through. It goes on from where a search for it ended.
+    #[inline(always)]
     pub(crate) fn reach(&mut self, steps: &[Step], trace: Trace) -> Result<u32, AllocError>
+        requires ends { EndsAt self.old steps.now trace }
+        ensures more { IsMore self.old self.new }
+        ensures ok { IfOk result (λ path. slice_get self.new path ≡ Some (reverse steps.now)) }
+    {
+        if trace.steps > 0 && trace.steps as usize == steps.len() {
+            return Ok(trace.path);
+        }
+        self.go_on(steps, trace)
+    }
+
+    /// The same, also where there are no paths yet.
+    fn go_on(&mut self, steps: &[Step], trace: Trace) -> Result<u32, AllocError>
         requires ends { EndsAt self.old steps.now trace }
         ensures more { IsMore self.old self.new }
         ensures ok { IfOk result (λ path. slice_get self.new path ≡ Some (reverse steps.now)) }

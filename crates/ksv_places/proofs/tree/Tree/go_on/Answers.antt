@@ -6,7 +6,7 @@ use Rattle.ksv_expr_value.specs.declared.step.Step.TheVariants.{Name}
 use Rattle.ksv_places.specs.Tree.{paths_of, IsMore}
 use Rattle.ksv_places.proofs.Walking.{length-paths, root_at, more}
 use Rattle.ksv_places.proofs.Reaching.{more_more, goes_on}
-use Rattle.ksv_places.proofs.tree.Tree.reach.Goals as goal
+use Rattle.ksv_places.proofs.tree.Tree.go_on.Goals as goal
 
 pub loop-count-init : goal.loop-count-init
 loop-count-init c =
