@@ -23,6 +23,8 @@ pub struct Frames<N> {
     pub frames: Vec<Frame<N>>,
     pub asked: Vec<u32>,
     pub uses: Vec<Use>,
+    /// Whether a node got a slot more since no node was open: so answers are kept in memory that wasn't taken yet.
+    pub has_grown: bool,
 }
 
 /// A number in 32 bits. A larger one is refused, as memory for so many would be.
@@ -96,7 +98,7 @@ impl<N: Drop> Frames<N> {
         if let Some(frame) = self.frames.pop() {
             self.asked.truncate(frame.asked as usize);
             self.uses.truncate(frame.uses as usize);
-            if self.frames.as_slice().len() % FEW == 0 {
+            if self.has_grown && self.frames.as_slice().len() % FEW == 0 {
                 self.shrink();
             }
         }
@@ -111,6 +113,7 @@ impl<N: Drop> Frames<N> {
         shrink(&mut self.frames);
         shrink(&mut self.asked);
         shrink(&mut self.uses);
+        self.has_grown = !self.frames.as_slice().is_empty();
     }
 }
 
@@ -153,5 +156,6 @@ pub(crate) fn open_new<N: Eq + Drop, P: Places<N> + Drop, V: Drop, F: Drop>(
     frames.frames.reserve(1)?;
     slots.add(&frame.node)?;
     frames.frames.push_reserved(frame);
+    frames.has_grown = true;
     Ok(())
 }

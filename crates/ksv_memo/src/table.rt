@@ -146,6 +146,7 @@ impl<R: Rules> Table<R> {
                 frames: Vec::new(alloc),
                 asked: Vec::new(alloc),
                 uses: Vec::new(alloc),
+                has_grown: false,
             },
         }
     }

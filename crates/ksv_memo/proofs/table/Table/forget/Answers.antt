@@ -27,7 +27,7 @@ invariant_of-self g c =
     let t = c.self.inside in
     let ps = t.slots.entries in
     let qs = c.empty_taken.new.slots.entries in
-    let none : Frames _ = record { frames = t.frames.frames; asked = c.clear.new.self; uses = t.frames.uses } in
+    let none : Frames _ = record { frames = t.frames.frames; asked = c.clear.new.self; uses = t.frames.uses; has_grown = t.frames.has_grown } in
     let e = c.empty_taken.ensures in
     record {
       kept = swept-links c.args.change ps qs t.links c.forget.new.self c.empty_taken.new.links c.empty_taken.new.slots.looks c.self.invariant.kept c.forget.ensures.forgets e;
@@ -39,7 +39,7 @@ returns-clause-opened g c =
     let t = c.self.inside in
     let ps = t.slots.entries in
     let qs = c.empty_taken.new.slots.entries in
-    let none : Frames _ = record { frames = t.frames.frames; asked = c.clear.new.self; uses = t.frames.uses } in
+    let none : Frames _ = record { frames = t.frames.frames; asked = c.clear.new.self; uses = t.frames.uses; has_grown = t.frames.has_grown } in
     no-opens ps qs c.empty_taken.ensures.taken.opens t.frames none c.self.invariant.waits (ap (λ v. v.opened) c.self.view_is ∙ c.requires.opened) refl
 
 pub returns-clause-kept : goal.returns-clause-kept
