@@ -1,6 +1,6 @@
 """The commands of the prompt: a line in, what it does and shows."""
 import re
-from typing import Iterator, List, Optional
+from typing import Callable, Iterator, List, Optional
 
 from front import words as reader
 from front.description import Description
@@ -31,7 +31,9 @@ class Leaving(Exception):
 class Shell:
     """The commands over a session, and what they need to know of each other: the place in the tree, and what was asked last."""
 
-    def __init__(self, file: str, out: Optional[str], keeper: Keeper, saver: Saver, description: Description, output: Output, signals: Signals) -> None:
+    def __init__(
+        self, file: str, out: Optional[str], keeper: Keeper, saver: Saver, description: Callable[[], Description], output: Output, signals: Signals
+    ) -> None:
         self.file, self.out, self.keeper, self.saver = file, out, keeper, saver
         self.description, self.output, self.signals = description, output, signals
         self.place, self.asked, self.is_warned, self.status = "/", "/", False, 0
@@ -84,19 +86,18 @@ class Shell:
         except Died as error:
             self.status = 3
             self.output.tell(f"{error}; the next line begins it anew with the edits so far")
-        except (Misread, Refused) as error:
+        except (Misread, NoJournal, OSError, Refused) as error:
             self.output.show([str(error)])
         except Spent:
             self.output.show([f"  (given up after {MOST_ASKED} questions)"])
 
     def do(self, text: str) -> None:
         """Does what a line says."""
-        text = text.rstrip("\r")
-        first = text.split(None, 1)[:1]
-        if not first or first[0].startswith("#"):
+        word, rest = reader.head_of(text)
+        if not word or word.startswith("#"):
             return
-        if first[0] == "raw":
-            self.raw(text.split(None, 1)[1] if len(text.split(None, 1)) > 1 else "")
+        if word == "raw":
+            self.raw(rest)
             return
         found = reader.words_of(text)
         word, rest = found[0].text, found[1:]
@@ -308,7 +309,7 @@ class Shell:
         try:
             content = session.content(0, session.size())
             self.saver.save(content, out)
-        except NotSaved as error:
+        except (Died, NotSaved, OSError, Refused) as error:
             self.status = 3
             self.output.show([str(error)])
             return False

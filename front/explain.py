@@ -1,10 +1,11 @@
 """What is said below a reply: of a fault where it arose; of a name that isn't there, which ones are."""
 import difflib
 import re
-from typing import List
+from typing import Callable, List
 
 from front.description import Description
 from front.look import Explorer
+from front.words import sent_words
 
 # The most names of members that are offered for one that isn't there.
 OFFERED = 12
@@ -13,13 +14,13 @@ OFFERED = 12
 class Explainer:
     """Explains replies, by questions and by the text of the description."""
 
-    def __init__(self, explorer: Explorer, description: Description, is_terminal: bool) -> None:
+    def __init__(self, explorer: Explorer, description: Callable[[], Description], is_terminal: bool) -> None:
         self.explorer, self.description, self.is_terminal = explorer, description, is_terminal
 
     def explained(self, told: str, line: str) -> List[str]:
         """What is said below the reply to a line."""
         found = re.fullmatch(r"fault (\S+) at (\S+)", told)
-        words = line.split()
+        words = sent_words(line)
         if (told == "error: bad path" or found and found[1] == "no-such") and len(words) > 1:
             return self.lost(words[1]) if self.is_terminal else []
         return self.fault(found[1], found[2]) if found else []
@@ -52,7 +53,7 @@ class Explainer:
         path = re.sub(r"(?:/\d+)+$", "", path)
         front, _, name = path.rpartition("/")
         kind = re.fullmatch(r"object (\S+)", self.explorer.ask(f"get {front or '/'}"))
-        member = self.description.member(kind[1] if front else None, name) if kind else None
+        member = self.description().member(kind[1] if front else None, name) if kind else None
         return member.text(key) if member else ""
 
     def lost(self, path: str) -> List[str]:

@@ -4,6 +4,7 @@ A journal is a file of the person's own (mode 0600) in `$XDG_STATE_HOME/ksv`, or
 the file's bytes as they were opened. After that comes a record for each edit, `undo`, `redo` and save. Each line begins with a sum of the rest, so that
 one that was broken off is known. The session that writes it holds a lock on it.
 """
+import errno
 import fcntl
 import glob
 import hashlib
@@ -30,6 +31,8 @@ def folder(environ: Optional[dict] = None) -> str:
     env = os.environ if environ is None else environ
     state = env.get("XDG_STATE_HOME", "")
     found = os.path.join(state if state.startswith("/") else os.path.join(os.path.expanduser("~"), ".local", "state"), "ksv")
+    if not found.startswith("/"):
+        raise OSError(errno.ENOENT, "there is no home folder")
     os.makedirs(found, mode=0o700, exist_ok=True)
     return found
 
@@ -225,7 +228,24 @@ def found(file: str) -> List[Left]:
     for it in lefts:
         if not it.is_open and it not in kept:
             removed(it.path)
+    swept(file)
     return [it for it in wanted if it.is_open or it in kept]
+
+
+def swept(file: str) -> None:
+    """Removes what is left of journals whose session ended while it began them: no edit of theirs was accepted."""
+    for path in glob.glob(os.path.join(glob.escape(folder()), f"{key_of(file)}-*.new")):
+        try:
+            number = os.open(path, os.O_RDONLY | os.O_CLOEXEC | os.O_NOFOLLOW)
+        except OSError:
+            continue
+        try:
+            fcntl.flock(number, fcntl.LOCK_EX | fcntl.LOCK_NB)
+            removed(path)
+        except BlockingIOError:
+            pass
+        finally:
+            os.close(number)
 
 
 def sum_of(content: bytes) -> str:

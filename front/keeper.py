@@ -16,10 +16,6 @@ INSERTED, MOST_LINES = 2000, 32
 WORDS = {"put": 3, "set": 3, "ins": 3, "del": 3, "app": 2}
 
 
-class Unmade(Exception):
-    """An edit that the program refused; its reply."""
-
-
 class Keeper:
     """A session with its edits, and their journal."""
 
@@ -131,25 +127,26 @@ class Keeper:
                 self.tell(f"that it is saved isn't in the journal: {error.strerror or error}")
 
     def recover(self, left: Left) -> str:
-        """Takes up what a session left that ended; what the program tells of it."""
+        """Takes up what a session left that ended; what the program tells of it. Where that fails, all is as it was."""
         found, held = Journal.taken_up(left)
-        before = (self.origin, self.edits, self.copy, self.session, self.journal)
-        self.origin, self.edits, self.copy = held.origin, held.edits, Copy(held.origin)
-        self.session = self.make_session(self, self.copy)
+        before = (self.origin, self.edits, self.copy, self.session)
         try:
-            size = self.session.size()
+            self.origin, self.edits, self.copy = held.origin, held.edits, Copy(held.origin)
+            self.session = self.make_session(self, self.copy)
+            told = f"ok {self.session.size()}"
         except BaseException:
-            self.session.end()
-            self.copy.close()
+            if self.copy is not before[2]:
+                self.session.end()
+                self.copy.close()
             found.close(is_kept=True)
-            self.origin, self.edits, self.copy, self.session, self.journal = before
+            self.origin, self.edits, self.copy, self.session = before
             raise
         before[3].end()
         before[2].close()
-        if before[4]:
-            before[4].close(is_kept=False)
+        if self.journal:
+            self.journal.close(is_kept=False)
         self.journal = found
-        return f"ok {size}"
+        return told
 
     def close(self, is_kept: bool) -> None:
         """Ends the session, and the journal, which stays if it is wanted and has what isn't saved."""

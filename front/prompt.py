@@ -8,18 +8,19 @@ import os
 import signal
 import subprocess
 import sys
+from functools import lru_cache
 from typing import List, Optional, Tuple
 
 from front import journal
 from front.commands import Leaving, Shell, edits_of
 from front.complete import Completer
-from front.copies import Copy
+from front.copies import Copy, read
 from front.description import Description
 from front.help import FORMS, NUMBERS, WITH_PATH
 from front.keeper import Keeper, lefts
 from front.output import Output, OutputFailed
-from front.save import Saver, look_of
-from front.session import Died, Session
+from front.save import Saver, barrier, is_plain, look_of
+from front.session import Died, Refused, Session
 from front.signals import Ending, Interrupted, Signals
 from front.texts import visible
 
@@ -54,7 +55,7 @@ class History:
     def __init__(self) -> None:
         import readline
 
-        self.readline, self.path = readline, None  # type: object, Optional[str]
+        self.readline, self.path, self.length = readline, None, 0  # type: object, Optional[str], int
         try:
             self.path = os.path.join(journal.folder(), "history")
             os.close(os.open(self.path, os.O_RDONLY | os.O_CREAT | os.O_NOFOLLOW | os.O_CLOEXEC, 0o600))
@@ -62,11 +63,13 @@ class History:
         except OSError:
             pass
         readline.set_history_length(REMEMBERED)
+        self.length = readline.get_current_history_length()
 
     def keep(self) -> None:
-        """Writes the last line that was typed."""
+        """Writes the last line that was typed, if it is a new one."""
+        before, self.length = self.length, self.readline.get_current_history_length()
         try:
-            if self.path:
+            if self.path and self.length != before:
                 self.readline.append_history_file(1, self.path)
         except OSError:
             pass
@@ -128,10 +131,7 @@ def explored(named: Tuple[str, str, Optional[str]], signals: Signals) -> int:
     file, ksy, out = named
     output = Output(sys.stdout, sys.stdin.isatty() and sys.stdout.isatty())
     look, look_out = look_of(file), look_of(out) if out else None
-    with open(file, "rb") as opened:
-        origin = opened.read()
-    with open(ksy, "rb") as opened:
-        text = opened.read()
+    origin, text = read(file), read(ksy)
     with Copy(text) as ksy_copy:
 
         def session_of(keeper: Keeper, copy: Copy) -> Session:
@@ -143,7 +143,8 @@ def explored(named: Tuple[str, str, Optional[str]], signals: Signals) -> int:
         if out:
             saver.know(out, look_out)
         saver.know(file, look)
-        shell = Shell(file, out, keeper, saver, Description(text.decode(errors="replace")), output, signals)
+        description = lru_cache(maxsize=None)(lambda: Description(text.decode(errors="replace")))
+        shell = Shell(file, out, keeper, saver, description, output, signals)
         return left_with(shell, signals)
 
 
@@ -160,7 +161,7 @@ def left_with(shell: Shell, signals: Signals) -> int:
         status, why = 128 + signal.SIGINT, "ended by SIGINT"
     except OutputFailed as error:
         status, why = 3, f"output failed: {error}"
-    except Died as error:
+    except (Died, OSError, Refused) as error:
         status, why = 3, str(error)
     finally:
         is_owed, count = not shell.keeper.edits.is_saved(), len(shell.keeper.edits.holding())
@@ -169,6 +170,18 @@ def left_with(shell: Shell, signals: Signals) -> int:
         also = f"; {edits_of(count)}, not saved: `recover` takes them up in the next session over this file" if is_owed else ""
         told(f"ksv-shell: {why}{also}")
     return status
+
+
+def unusable(file: str, ksy: str, out: Optional[str]) -> Optional[Tuple[int, str]]:
+    """The status and message of names that can't be used, as far as the program doesn't see it itself; None where there is nothing. What can be read only
+    once, as a pipe, would be empty when it is read again."""
+    for name in (file, ksy):
+        if "\0" in name or os.path.exists(name) and not os.path.isdir(name) and not is_plain(name):
+            return 1, f"ksv-shell: {name}: only a file can be edited, and described by one"
+    if out is not None:
+        what = "a file's name has no byte 0" if "\0" in out else barrier(out)
+        return (3, f"ksv-shell: {out}: cannot write: {what}") if what else None
+    return None
 
 
 def told(message: str) -> None:
@@ -188,6 +201,10 @@ def main(words: List[str]) -> int:
     if not named:
         print(USAGE, file=sys.stderr)
         return 2
+    why = unusable(*named)
+    if why:
+        told(why[1])
+        return why[0]
     # The launcher builds the program where it isn't, and tells what it can't use.
     try:
         looked = subprocess.run([f"{TOP}/bin/ksv", "--", *named[:2]], stdin=subprocess.DEVNULL, check=False).returncode

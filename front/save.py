@@ -2,7 +2,6 @@
 
 That process alone writes OUT, and it gives OUT the new bytes as a whole: at each moment OUT is old or new, also where it or the shell is killed.
 """
-import errno
 import os
 import select
 import stat
@@ -127,7 +126,8 @@ class Saver:
                     until = time.monotonic() + PATIENCE
         status = running.wait()
         message = told.decode(errors="replace").strip()
-        return status, f"{message}{why(out) if status == 3 else ''}"
+        reason = (barrier(out) or room_in(os.path.dirname(os.path.realpath(out)))) if status == 3 else ""
+        return status, f"{message}: {reason}" if reason else message
 
 
 def is_device(path: str) -> bool:
@@ -135,26 +135,26 @@ def is_device(path: str) -> bool:
     return os.path.exists(path) and not is_plain(path)
 
 
-def why(out: str) -> str:
-    """Why a file can't be written, as far as it can be seen from outside."""
-    place = os.path.dirname(os.path.realpath(out)) or "."
+def barrier(out: str) -> str:
+    """Why a file can't be written, as far as it can be seen before; the empty text where nothing is seen."""
+    place = os.path.dirname(os.path.realpath(out))
     if os.path.isdir(out) or out.endswith("/"):
-        return ": it is a folder"
+        return "it is a folder"
     if not os.path.isdir(place):
-        return f": there is no folder {os.path.dirname(out)}"
+        return f"there is no folder {os.path.dirname(out)}"
     if os.path.exists(out) and not os.access(out, os.W_OK):
-        return ": it may not be written"
+        return "it may not be written"
     if not is_device(out) and not os.access(place, os.W_OK | os.X_OK):
-        return ": no file may be made in its folder"
-    return room_in(place)
+        return "no file may be made in its folder"
+    return ""
 
 
 def room_in(place: str) -> str:
-    """What is wrong where a file could be made: no room, most likely."""
+    """What is wrong where a file could be made: no room, most likely; the empty text where nothing is seen."""
     try:
         found = os.statvfs(place)
     except OSError as error:
-        return f": {os.strerror(error.errno or errno.EIO)}"
+        return error.strerror or str(error)
     if found.f_flag & os.ST_RDONLY:
-        return ": its disk can only be read"
-    return ": its disk is full" if found.f_bavail == 0 else ""
+        return "its disk can only be read"
+    return "its disk is full" if found.f_bavail == 0 else ""

@@ -5,13 +5,12 @@ and the next question begins one anew and makes these edits again. A question th
 ever answered by another one's reply.
 """
 import os
-import re
-import resource
 import select
 import signal
 import subprocess
 from typing import Callable, Iterable, List, Optional, Sequence
 
+from front import memory
 from front.copies import Copy
 from front.signals import Signals
 from front.words import has_reply
@@ -19,8 +18,6 @@ from front.words import has_reply
 NO_MEMORY = "error: no memory"
 # How many lines are sent at once where many are, and how much of a reply is read at once.
 TOGETHER, PIECE = 256, 1 << 16
-# The least memory that a process gets, in bytes, where little is free: it begins with less.
-LEAST_MEMORY = 64 << 20
 
 
 class Died(Exception):
@@ -31,34 +28,17 @@ class Refused(Exception):
     """A reply that isn't what was asked for, as `error: no memory`."""
 
 
-def memory_limit(environ: Optional[dict] = None) -> Optional[int]:
-    """How many bytes of memory a process may have: what KSV_MEMORY says, as 500M or 2G, or else three quarters of what is free; None where neither can
-    be told."""
-    found = re.fullmatch(r"([0-9]{1,15})([kKmMgG]?)", (os.environ if environ is None else environ).get("KSV_MEMORY", ""))
-    if found:
-        return int(found[1]) << {"": 0, "k": 10, "m": 20, "g": 30}[found[2].lower()]
-    try:
-        with open("/proc/meminfo", encoding="utf-8") as file:
-            free = re.search(r"MemAvailable: *([0-9]+) kB", file.read())
-    except OSError:
-        return None
-    return max(LEAST_MEMORY, int(free[1]) * 1024 * 3 // 4) if free else None
-
-
-def limited(limit: Optional[int]) -> None:
-    """Gives the process that runs this no more memory than a limit, and ctrl-C its usual meaning."""
-    signal.signal(signal.SIGINT, signal.SIG_DFL)
-    if limit is not None:
-        hard = resource.getrlimit(resource.RLIMIT_AS)[1]
-        most = limit if hard == resource.RLIM_INFINITY else min(limit, hard)
-        resource.setrlimit(resource.RLIMIT_AS, (most, hard))
-
-
 def begun(program: str, words: Sequence[str], copies: Sequence[Copy], **how: object) -> "subprocess.Popen[bytes]":
     """The program as a new process, which may read these copies. It doesn't hear what is typed for the shell, as ctrl-C."""
-    limit = memory_limit()
+    limit = memory.limit(os.environ)
+
+    def prepared() -> None:
+        """What the new process does before it is the program."""
+        signal.signal(signal.SIGINT, signal.SIG_DFL)
+        memory.apply(limit)
+
     try:
-        return subprocess.Popen([program, *words], pass_fds=[it.number for it in copies], start_new_session=True, preexec_fn=lambda: limited(limit), **how)
+        return subprocess.Popen([program, *words], pass_fds=[it.number for it in copies], start_new_session=True, preexec_fn=prepared, **how)
     except (OSError, subprocess.SubprocessError) as error:
         raise Died(f"ksv can't be begun: {error}") from error
 

@@ -35,6 +35,12 @@ def words_of(line: str) -> List[Word]:
     return found
 
 
+def head_of(line: str) -> Tuple[str, str]:
+    """The first word of a line as it is, and the rest of the line; empty texts where there is none."""
+    found = re.match(r"[ \t\r]*([^ \t\r]*)[ \t\r]*", line)
+    return found[1], line[found.end() :]
+
+
 def skipped(line: str, at: int) -> int:
     """Where the next word begins."""
     while at < len(line) and line[at] in " \t\r":
