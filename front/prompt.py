@@ -12,15 +12,16 @@ from functools import lru_cache
 from typing import List, Optional, Tuple
 
 from front import journal
-from front.commands import Leaving, Shell, edits_of
+from front.commands import COMMANDS, NUMBERS, WITH_PATH, listed
+from front.commands.editing import edits_of
 from front.complete import Completer
 from front.copies import Copy, read
 from front.description import Description
-from front.help import FORMS, NUMBERS, WITH_PATH
 from front.keeper import Keeper, lefts
 from front.output import Output, OutputFailed
 from front.save import Saver, barrier, is_plain, look_of
 from front.session import Died, Refused, Session
+from front.shell import Leaving, Shell
 from front.signals import Ending, Interrupted, Signals
 from front.texts import visible
 
@@ -82,7 +83,7 @@ def prompted(shell: Shell, signals: Signals) -> None:
     shell.output.write(f"{visible(shell.file)}: {shell.keeper.session.size()} bytes; `help` lists the commands\n")
     greeted(shell)
     history = History()
-    readline.set_completer(Completer(shell.explorer, FORMS, WITH_PATH, shell.path, signals).complete)
+    readline.set_completer(Completer(shell.explorer, COMMANDS, WITH_PATH, shell.path, signals).complete)
     readline.set_completer_delims(" \t\n")
     readline.parse_and_bind("bind ^I rl_complete" if "libedit" in (readline.__doc__ or "") else "tab: complete")
     while True:
@@ -195,7 +196,7 @@ def told(message: str) -> None:
 def main(words: List[str]) -> int:
     """Opens a file by its description; the status."""
     if "--help" in words or "-h" in words:
-        print(USAGE + "\n\n" + "\n".join(f"  {form:<22} {what}" for form, what in FORMS.values()) + "\n\n" + NUMBERS)
+        print(USAGE + "\n\n" + "\n".join(f"  {it}" for it in listed()) + "\n\n" + NUMBERS)
         return 0
     named = words_of(words)
     if not named:
