@@ -42,6 +42,21 @@ class Keeper:
             raise
         return told
 
+    def make_all(self, title: str, lines: List[str]) -> str:
+        """Sends the lines of one edit, which is made as a whole: where one of them is refused, none holds. What the last one is told, or the one refused."""
+        try:
+            replies = self.session.ask_all(lines)
+            refused = next((it for it in replies if not it.startswith("ok ")), None)
+            if refused is None:
+                edit = Edit(title, tuple(lines))
+                self.keep(self.edits.made(edit), journal.made(edit, self.edits.greatest + 1))
+        except BaseException:
+            self.session.end()
+            raise
+        if refused is not None:
+            self.session.end()
+        return refused or replies[-1]
+
     def written(self, span: Tuple[int, int]) -> str:
         """The line that writes the bytes over a place that are there now."""
         return f"set {span[0]} {self.session.content(span[0], span[1] - span[0]).hex()}"

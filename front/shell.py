@@ -126,6 +126,12 @@ class Shell:
         self.is_warned = self.is_warned and not told.startswith("ok ")
         return told
 
+    def made_all(self, title: str, lines: List[str]) -> str:
+        """What an edit of many lines is told."""
+        told = self.keeper.make_all(title, lines)
+        self.is_warned = self.is_warned and not told.startswith("ok ")
+        return told
+
     def save(self, name: str) -> bool:
         """Saves to a file, or where `--save` said; whether that went well."""
         out = name or self.out

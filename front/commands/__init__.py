@@ -2,7 +2,7 @@
 from dataclasses import dataclass
 from typing import TYPE_CHECKING, Callable, Dict, List
 
-from front.commands import asking, editing, looking
+from front.commands import asking, editing, looking, surveying, writing
 from front.words import Word
 
 if TYPE_CHECKING:
@@ -42,11 +42,18 @@ COMMANDS: Dict[str, Command] = {
     "hex": Command("hex POS|PATH [N]", "N bytes from POS on (256), or those around PATH; what was asked last is marked", looking.show_bytes),
     "where": Command("where POS", "the innermost member that has this byte", looking.where),
     "find": Command('find HEX|"TEXT"', "each place where these bytes are", looking.find),
+    "faults": Command("faults [PATH]", "all faults below PATH, instances too, each once", surveying.show_faults),
+    "cover": Command("cover", "the bytes that no member has, and those that two have", surveying.show_cover),
+    "diff": Command("diff FILE2 [PATH]", "what differs in another file, by the same description", surveying.show_differences),
     "put": Command("put PATH INT", "writes a number over an integer", editing.edit),
+    "write": Command("write PATH VALUE", 'writes a value: a number, a "TEXT" or bytes that fit, true or false, the name of an enum\'s member', writing.write),
     "set": Command("set POS HEX", "writes bytes over those from POS on", editing.edit),
     "ins": Command("ins POS HEX", "puts bytes before POS", editing.edit),
     "del": Command("del POS COUNT", "takes bytes out", editing.edit),
     "app": Command("app HEX", "adds bytes at the end", editing.edit),
+    "insert": Command("insert POS IN", "puts the bytes of the file IN before POS", writing.insert),
+    "replace": Command("replace PATH IN", "puts the bytes of the file IN in the place of what is at PATH", writing.replace),
+    "extract": Command("extract PATH OUT", "writes the bytes of what is at PATH to a new file OUT", writing.extract),
     "undo": Command("undo", "takes the last edit back", editing.undo),
     "redo": Command("redo", "makes the edit again that `undo` took back", editing.redo),
     "edits": Command("edits", "the edits so far", editing.listed),
@@ -64,4 +71,4 @@ COMMANDS: Dict[str, Command] = {
 }
 NUMBERS = 'POS, COUNT, N and INT may be written as 0x1f. HEX may have spaces between bytes, and "TEXT" among them, with \\n, \\x1f or \\" in it. ' \
     "The commands are those of docs/REFERENCE.md and more."
-WITH_PATH = ("get", "at", "ls", "dump", "put", "cd", "tree", "hex")
+WITH_PATH = ("get", "at", "ls", "dump", "put", "cd", "tree", "hex", "faults", "write", "replace", "extract")

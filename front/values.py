@@ -1,0 +1,81 @@
+"""Values as a person writes them, as lines of edits: numbers, texts, truth values, bytes, members of enums."""
+import re
+from typing import List, Optional
+
+from front.description import Description
+from front.look import Explorer, span_of
+from front.words import Word, bytes_of, number
+
+
+class Unwritable(Exception):
+    """A value that can't be written at a path; why, and what could."""
+
+
+class Writer:
+    """Makes the line that writes a value over the one at a path."""
+
+    def __init__(self, explorer: Explorer, description: Description) -> None:
+        self.explorer, self.description = explorer, description
+
+    def line(self, path: str, words: List[Word]) -> str:
+        """The line that writes these words as the value at a path."""
+        told = self.explorer.ask(f"get {path}")
+        place = self.explorer.ask(f"at {path}")
+        span = span_of(place)
+        if not span:
+            raise Unwritable(f"{path} is {place}: only what has bytes can be written")
+        if re.fullmatch(r"-?[0-9]+", told) or re.fullmatch(r"\S+::\S+ \(-?[0-9]+\)", told):
+            return f"put {path} {self.integer(told, words)}"
+        if told in ("true", "false"):
+            return self.truth(place, words)
+        if told.startswith(("object ", "[")) or self.explorer.ask(f"ls {path}") != "no members":
+            raise Unwritable(f"{path} is {told}: write what is in it")
+        return self.plain(path, told, span, words)
+
+    def integer(self, told: str, words: List[Word]) -> str:
+        """A number, or that of an enum's member."""
+        name = words[0].text
+        if len(words) != 1 or words[0].quoted is not None:
+            raise Unwritable("a number is wanted here, as 7 or 0x1f")
+        if re.fullmatch(r"-?(?:0[xX][0-9a-fA-F]+|[0-9]+)", name):
+            return number(words[0])
+        enum = told.partition("::")[0] if "::" in told else None
+        found = self.description.number_of(enum, name.rpartition("::")[2]) if enum else None
+        if found is None:
+            raise Unwritable(f"{name} is no number" + (f", nor a member of {enum}" if enum else ""))
+        return str(found)
+
+    def truth(self, place: str, words: List[Word]) -> str:
+        """The line that writes one bit."""
+        if len(words) != 1 or words[0].text not in ("true", "false", "1", "0"):
+            raise Unwritable("true or false is wanted here")
+        found = re.fullmatch(r"at (\d+)(?:\.(\d))? .*", place)
+        byte, bit = int(found[1]), 0x80 >> int(found[2] or 0)
+        was = self.explorer.session.content(byte, 1)[0]
+        return f"set {byte} {was | bit if words[0].text in ('true', '1') else was & ~bit:02x}"
+
+    def plain(self, path: str, told: str, span: tuple, words: List[Word]) -> str:
+        """The line that writes a text or bytes over as many as are there."""
+        room, ending = span[1] - span[0], self.ending(path)
+        digits = bytes_of(words)
+        if not re.fullmatch(r"(?:[0-9a-fA-F]{2})*", digits):
+            raise Unwritable('bytes are wanted here, as 01 02ff, or a "TEXT"')
+        count = len(digits) // 2
+        is_text = any(it.quoted is not None for it in words)
+        if ending is not None and is_text and count < room:
+            digits, count = digits + f"{ending:02x}" * (room - count), room
+        if count != room:
+            kind = "a text" if told.startswith('"') else "bytes"
+            raise Unwritable(f"{path} is {kind} of {room} byte{'' if room == 1 else 's'}, and these are {count}: `ins` and `del` make room or take it")
+        return f"set {span[0]} {digits}"
+
+    def ending(self, path: str) -> Optional[int]:
+        """The byte that ends a text at a path, if its description has one."""
+        path = re.sub(r"(?:/\d+)+$", "", path)
+        front, _, name = path.rpartition("/")
+        kind = re.fullmatch(r"object (\S+)", self.explorer.ask(f"get {front or '/'}"))
+        member = self.description.member(kind[1] if front else None, name) if kind else None
+        text = member.value.said("terminator") if member else ""
+        if re.fullmatch(r"0x[0-9a-fA-F]+|[0-9]+", text):
+            return int(text, 0)
+        return 0 if member and member.value.said("type") == "strz" else None
