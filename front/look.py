@@ -194,33 +194,3 @@ class Search:
             if told != "absent":
                 return span_of(told)
         return None
-
-
-class Branches:
-    """The rows of a tree: each member with its place and value."""
-
-    def __init__(self, explorer: Explorer) -> None:
-        self.explorer, self.rows = explorer, []
-
-    def below(self, path: str, depth: int) -> List[str]:
-        """The rows of a path and of what is below it, as many steps down."""
-        try:
-            self.branch(path, depth, 0)
-        except Spent:
-            self.rows.append(f"  (the tree ends here, after {MOST_ASKED} questions)")
-        return self.rows
-
-    def branch(self, path: str, depth: int, level: int) -> None:
-        """The row of one path, and those below it."""
-        name = path.rsplit("/", 1)[1] or "/"
-        told, where = self.explorer.ask(f"get {path}"), self.explorer.ask(f"at {path}")
-        where = where[3:].replace(" ", "-") if where.startswith("at ") else "" if where.startswith("fault") else where
-        shown = "" if where == "absent" and told == f"fault absent at {path}" else told
-        self.rows.append(f"{'  ' * level + name:<28} {where:<14} {shown}".rstrip())
-        if depth and told.startswith(("object ", "[", "fault ")):
-            below = self.explorer.children(path)
-            for it in steps_of(path, below[:ELEMENTS] if isinstance(below, range) else below):
-                self.branch(it, depth - 1, level + 1)
-            more = len(below) - ELEMENTS if isinstance(below, range) else 0
-            if more > 0:
-                self.rows.append(f"{'  ' * (level + 1)}and {more} more{' before the fault' if told.startswith('fault') else ''}")

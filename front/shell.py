@@ -1,5 +1,5 @@
 """The prompt without a terminal: a line in, what it does and shows. The commands are in front/commands."""
-from typing import Callable, List, Optional
+from typing import Callable, List, Optional, Tuple
 
 from front import words as reader
 from front.commands import COMMANDS
@@ -12,6 +12,7 @@ from front.output import Output
 from front.save import NotSaved, Saver
 from front.session import Died, Refused
 from front.signals import Interrupted, Signals
+from front.texts import hexed
 from front.words import Misread
 
 
@@ -32,6 +33,9 @@ class Shell:
         self.file, self.out, self.keeper, self.saver = file, out, keeper, saver
         self.description, self.output, self.signals = description, output, signals
         self.place, self.asked, self.is_warned, self.status = "/", "/", False, 0
+        # whether integers are shown as hexadecimal digits; the list of which `more` shows more, by its path and the next index
+        self.is_hex = False
+        self.more: Optional[Tuple[str, int]] = None
         # the number of the state that is at OUT
         self.at_out: Optional[int] = 0 if out is not None and saver.is_same(out, file) else None
 
@@ -55,10 +59,14 @@ class Shell:
         except (Spent, Refused):
             return []
 
-    def reply(self, line: str) -> None:
+    def reply(self, line: str, is_hex: bool = False) -> None:
         """Sends a line and shows its reply, and of a fault where it arose."""
         told = self.ask(line)
-        self.output.show([told, *self.explained(told, line)])
+        self.output.show([self.shown(told, is_hex), *self.explained(told, line)])
+
+    def shown(self, told: str, is_hex: bool = False) -> str:
+        """A value as it is shown: an integer as hexadecimal digits where that is asked for."""
+        return hexed(told) if is_hex or self.is_hex else told
 
     def path(self, word: str) -> str:
         """A path as ksv reads it: from the root, or from the place in the prompt."""

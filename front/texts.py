@@ -35,6 +35,16 @@ def columns(text: str) -> int:
     return sum(0 if unicodedata.combining(it) else 2 if unicodedata.east_asian_width(it) in "WF" else 1 for it in text)
 
 
+def hexed(reply: str) -> str:
+    """A reply with its number as hexadecimal digits, if it is an integer or a member of an enum."""
+    found = re.fullmatch(r"(-?)([0-9]+)|(\S+::\S+ \()(-?)([0-9]+)\)", reply)
+    if not found:
+        return reply
+    if found[2]:
+        return f"{found[1]}0x{int(found[2]):x}"
+    return f"{found[3]}{found[4]}0x{int(found[5]):x})"
+
+
 def cut(text: str, width: int) -> str:
     """A text, or as much of it as n columns hold."""
     if len(text) <= width and columns(text) <= width:

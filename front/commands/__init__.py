@@ -33,12 +33,13 @@ def listed() -> List[str]:
 
 
 COMMANDS: Dict[str, Command] = {
-    "get": Command("get [PATH]", "the value; without PATH that of the place in the prompt", asking.question),
+    "get": Command("get [-x] [PATH]", "the value, with -x as 0x1f; without PATH that of the place in the prompt. `*` for a step asks for all", asking.question),
     "at": Command("at [PATH]", "where it begins and ends", asking.question),
     "ls": Command("ls [PATH]", "its members, or how many elements it has", asking.question),
     "dump": Command("dump [PATH]", "all that is in it, as JSON", asking.question),
     "cd": Command("cd [PATH]", "goes to a place in the tree; PATHs without `/` at their front begin there; `..` is one step up", looking.go),
     "tree": Command("tree [PATH] [DEPTH]", "each member with its place and value, DEPTH steps down (2)", looking.tree),
+    "more": Command("more", "the next elements of the list that the last `tree` cut", looking.more_of),
     "hex": Command("hex POS|PATH [N]", "N bytes from POS on (256), or those around PATH; what was asked last is marked", looking.show_bytes),
     "where": Command("where POS", "the innermost member that has this byte", looking.where),
     "find": Command('find HEX|"TEXT"', "each place where these bytes are", looking.find),
@@ -62,6 +63,7 @@ COMMANDS: Dict[str, Command] = {
     "bytes": Command("bytes POS COUNT", "these bytes, as hexadecimal digits", asking.plain),
     "size": Command("size", "the number of bytes", asking.plain),
     "stats": Command("stats", "how many answers ksv keeps, and the work of the last question", asking.plain),
+    "numbers": Command("numbers hex|decimal", "how integers are shown from now on", asking.numbers),
     "raw": Command("raw LINE", "sends a line to ksv as it is"),
     "all": Command("all", "the last reply whole, where it was cut", asking.show_all),
     "help": Command("help [WORD]", "this, or one command", told_help),

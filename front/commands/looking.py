@@ -3,8 +3,11 @@ import re
 from typing import TYPE_CHECKING, Iterator, List
 
 from front import words as reader
-from front.look import Branches, Search
+from front.follow import Follower
+from front.look import Search
+from front.survey import expanded
 from front.texts import ROW, Line, rows_of_bytes
+from front.tree import Tree
 from front.words import Word
 
 if TYPE_CHECKING:
@@ -25,11 +28,15 @@ def go(shell: "Shell", word: str, words: List[Word]) -> None:
     elif told.startswith(("fault", "error")):
         shell.output.show([told, *shell.explained(told, f"ls {to}")])
     else:
-        shell.output.show([f"{to} has {told}"])
+        target = Follower(shell.explorer(), shell.description()).target(to) if told == "no members" else None
+        if target:
+            shell.place = shell.asked = target
+        else:
+            shell.output.show([f"{to} has {told}"])
 
 
 def tree(shell: "Shell", word: str, words: List[Word]) -> None:
-    """Members, places and values below a path."""
+    """Members, places and values below a path, or below each that a path with `*` is."""
     depth = reader.place(words[-1]) if words else None
     if depth is not None and (len(words) > 1 or not is_index(shell, depth)):
         words = words[:-1]
@@ -37,9 +44,32 @@ def tree(shell: "Shell", word: str, words: List[Word]) -> None:
         depth = 2
     if len(words) > 1:
         shell.usage(word)
+        return
+    path, found = shell.path(words[0].text if words else "."), tree_of(shell)
+    for it in expanded(found.explorer, path) if "*" in path.split("/") else [path]:
+        found.below(it, min(depth, DEEPEST))
+    shell.more = found.more
+    shell.output.show(found.rows, is_narrow=True)
+
+
+def tree_of(shell: "Shell") -> Tree:
+    """An empty tree, with a budget of questions."""
+    explorer = shell.explorer()
+    return Tree(explorer, Follower(explorer, shell.description()), shell.shown)
+
+
+def more_of(shell: "Shell", word: str, words: List[Word]) -> None:
+    """The next elements of the list that the last tree cut."""
+    if words:
+        shell.usage(word)
+    elif not shell.more:
+        shell.output.show(["no list was cut: `tree` shows the first elements of one"])
     else:
-        path = shell.path(words[0].text if words else ".")
-        shell.output.show(Branches(shell.explorer()).below(path, min(depth, DEEPEST)), is_narrow=True)
+        found = tree_of(shell)
+        path, start = shell.more
+        found.elements(path, start, 1)
+        shell.more = found.more
+        shell.output.show([f"{path} from {start} on", *found.rows], is_narrow=True)
 
 
 def is_index(shell: "Shell", number: int) -> bool:
