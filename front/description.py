@@ -13,6 +13,7 @@ as where two types of this name have it, is None: the text can't tell which is m
 """
 from __future__ import annotations
 
+import re
 from dataclasses import dataclass
 from typing import Dict, List, Optional, Tuple
 
@@ -62,6 +63,16 @@ class Description:
             return None
         at, value = found[0]
         return Member(self._outline.line(at), value, self._outline.text)
+
+    def number_of(self, enum: str, name: str) -> Optional[int]:
+        """The number of a member of the enums of a name; None where there is none, or another one in another enum."""
+        found = set()
+        for one in [self._outline.root, *(it for named in self._types.values() for it in named)]:
+            for it in _entries(one, "enums"):
+                if it.key == enum:
+                    found |= {pair.key for pair in it.value.pairs if name in (pair.value.text, pair.value.said("id"))}
+        numbers = {int(it, 0) for it in found if re.fullmatch(r"-?(?:0x[0-9a-fA-F]{1,16}|0|[1-9][0-9]{0,19})", it)}
+        return numbers.pop() if len(numbers) == 1 else None
 
     def _named(self, type_name: Optional[str]) -> List[Node]:
         """The types of a name: those under `types`, or else the root, which has its own `id`."""

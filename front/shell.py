@@ -92,8 +92,10 @@ class Shell:
         except Died as error:
             self.status = 3
             self.output.tell(f"{error}; the next line begins it anew with the edits so far")
-        except (Misread, NoJournal, OSError, Refused) as error:
+        except (Misread, NoJournal, Refused) as error:
             self.output.show([str(error)])
+        except OSError as error:
+            self.output.show([reason_of(error)])
         except Spent:
             self.output.show([f"  (given up after {MOST_ASKED} questions)"])
 
@@ -152,7 +154,7 @@ class Shell:
             self.saver.save(content, out)
         except (Died, NotSaved, OSError, Refused) as error:
             self.status = 3
-            self.output.show([str(error)])
+            self.output.show([reason_of(error) if isinstance(error, OSError) else str(error)])
             return False
         self.status = 0
         self.keeper.saved()
@@ -176,3 +178,8 @@ class Shell:
         elif is_owed and not self.is_terminal:
             self.output.tell("edits weren't saved" + ("" if is_asked else ": `recover` takes them up in the next session over this file"))
         raise Leaving(self.status, is_kept=not self.is_terminal and (not is_asked or self.status != 0))
+
+
+def reason_of(error: OSError) -> str:
+    """Why something that was asked of the system failed."""
+    return ": ".join(str(it) for it in (error.filename, error.strerror) if it) or str(error)

@@ -6,7 +6,7 @@ import re
 from collections import deque
 from typing import Deque, Dict, Iterator, List, Optional, Tuple
 
-from front.look import Explorer, Spent, span_of, steps_of
+from front.look import Explorer, Spent, steps_of
 from front.texts import cut
 
 # How many steps down a walk goes, and how much of a value that differs is shown.
@@ -54,11 +54,11 @@ def faults(explorer: Explorer, path: str) -> List[str]:
 
 
 def cover(explorer: Explorer, size: int) -> List[str]:
-    """The bytes that no member has, and those that two have which aren't in one another. Members are those that have no others in them."""
+    """The bytes that no member has, and those that two have, of members that have no others in them. What shares a byte by bits of its own isn't counted."""
     walk, spans = Walk(explorer, "/"), []  # type: Walk, List[Tuple[Span, str]]
     try:
         for it in walk.paths():
-            span = span_of(explorer.ask(f"at {it}"))
+            span = bits_of(explorer.ask(f"at {it}"))
             if span and span[0] < span[1] and explorer.ask(f"ls {it}") == "no members":
                 spans.append((span, it))
     except Spent:
@@ -66,24 +66,30 @@ def cover(explorer: Explorer, size: int) -> List[str]:
     return gaps(sorted(spans), size) + walk.note()
 
 
+def bits_of(reply: str) -> Optional[Span]:
+    """The first bit of a place and the one after its last; None where the reply is no place."""
+    found = re.fullmatch(r"at (\d+)(?:\.(\d))? (\d+)(?:\.(\d))?", reply)
+    return (int(found[1]) * 8 + int(found[2] or 0), int(found[3]) * 8 + int(found[4] or 0)) if found else None
+
+
+def told_bits(begin: int, end: int) -> str:
+    """A place of bits, as the program tells it."""
+    return "at " + " ".join(f"{it // 8}.{it % 8}" if it % 8 else str(it // 8) for it in (begin, end))
+
+
 def gaps(spans: List[Tuple[Span, str]], size: int) -> List[str]:
     """The lines of what isn't covered, and of what is twice."""
     lines, at, last = [], 0, ""
     for (begin, end), path in spans:
         if begin > at:
-            lines.append(f"at {at} {begin}  no member has these {begin - at}")
-        elif begin < at and last and not is_shared(begin, at, spans, path, last):
-            lines.append(f"at {begin} {min(at, end)}  {last} and {path}")
+            lines.append(f"{told_bits(at, begin)}  in no member")
+        elif begin < at:
+            lines.append(f"{told_bits(begin, min(at, end))}  {last} and {path}")
         if end > at:
             at, last = end, path
-    if at < size:
-        lines.append(f"at {at} {size}  no member has these {size - at}")
+    if at < size * 8:
+        lines.append(f"{told_bits(at, size * 8)}  in no member")
     return lines or [f"each byte of {size} is in one member"]
-
-
-def is_shared(begin: int, at: int, spans: List[Tuple[Span, str]], path: str, last: str) -> bool:
-    """Whether two members share only a byte in which both have bits: then they are beside each other in one object."""
-    return at - begin == 1 and path.rpartition("/")[0].rstrip("/0123456789") == last.rpartition("/")[0].rstrip("/0123456789")
 
 
 def expanded(explorer: Explorer, path: str) -> List[str]:

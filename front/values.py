@@ -1,10 +1,20 @@
 """Values as a person writes them, as lines of edits: numbers, texts, truth values, bytes, members of enums."""
 import re
-from typing import List, Optional
+from dataclasses import dataclass
+from typing import List, Optional, Tuple
 
 from front.description import Description
 from front.look import Explorer, span_of
 from front.words import Word, bytes_of, number
+
+
+@dataclass(frozen=True)
+class Ending:
+    """The byte that ends a text; whether the rest of its room is filled with it, and else whether it comes after the text."""
+
+    byte: bytes
+    is_filled: bool
+    is_after: bool
 
 
 class Unwritable(Exception):
@@ -54,28 +64,32 @@ class Writer:
         was = self.explorer.session.content(byte, 1)[0]
         return f"set {byte} {was | bit if words[0].text in ('true', '1') else was & ~bit:02x}"
 
-    def plain(self, path: str, told: str, span: tuple, words: List[Word]) -> str:
-        """The line that writes a text or bytes over as many as are there."""
-        room, ending = span[1] - span[0], self.ending(path)
+    def plain(self, path: str, told: str, span: Tuple[int, int], words: List[Word]) -> str:
+        """The line that writes a text or bytes over as many as are there. What is left of a text's own room is filled with the byte that ends it."""
         digits = bytes_of(words)
         if not re.fullmatch(r"(?:[0-9a-fA-F]{2})*", digits):
             raise Unwritable('bytes are wanted here, as 01 02ff, or a "TEXT"')
-        count = len(digits) // 2
-        is_text = any(it.quoted is not None for it in words)
-        if ending is not None and is_text and count < room:
-            digits, count = digits + f"{ending:02x}" * (room - count), room
-        if count != room:
-            kind = "a text" if told.startswith('"') else "bytes"
-            raise Unwritable(f"{path} is {kind} of {room} byte{'' if room == 1 else 's'}, and these are {count}: `ins` and `del` make room or take it")
-        return f"set {span[0]} {digits}"
+        content, room, ending = bytes.fromhex(digits), span[1] - span[0], self.ending(path)
+        if ending and any(it.quoted is not None for it in words):
+            if content.find(ending.byte) >= 0:
+                raise Unwritable(f"{path} ends at its first byte {ending.byte[0]}: the text has one")
+            content = content.ljust(room, ending.byte) if ending.is_filled else content + ending.byte * ending.is_after
+        if len(content) != room:
+            after = 1 if ending and not ending.is_filled and ending.is_after and len(content) != len(digits) // 2 else 0
+            kind, wanted = "a text" if told.startswith('"') else "bytes", room - after
+            raise Unwritable(f"{path} is {kind} of {wanted} byte{'' if wanted == 1 else 's'}, and these are {len(content) - after}: `ins` and `del` make room or take it")
+        return f"set {span[0]} {content.hex()}"
 
-    def ending(self, path: str) -> Optional[int]:
-        """The byte that ends a text at a path, if its description has one."""
+    def ending(self, path: str) -> Optional[Ending]:
+        """How a text at a path ends, if its description has a byte for that."""
         path = re.sub(r"(?:/\d+)+$", "", path)
         front, _, name = path.rpartition("/")
         kind = re.fullmatch(r"object (\S+)", self.explorer.ask(f"get {front or '/'}"))
         member = self.description.member(kind[1] if front else None, name) if kind else None
-        text = member.value.said("terminator") if member else ""
-        if re.fullmatch(r"0x[0-9a-fA-F]+|[0-9]+", text):
-            return int(text, 0)
-        return 0 if member and member.value.said("type") == "strz" else None
+        if not member:
+            return None
+        text = member.value.said("terminator")
+        byte = int(text, 0) if re.fullmatch(r"0x[0-9a-fA-F]{1,2}|[1-9][0-9]{0,2}|0", text) else 0 if member.value.said("type") == "strz" else 256
+        is_filled = bool(member.value.said("size") or member.value.said("size-eos"))
+        is_after = member.value.said("include") != "true" and member.value.said("consume") != "false"
+        return Ending(bytes([byte]), is_filled, is_after) if byte < 256 else None
