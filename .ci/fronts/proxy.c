@@ -94,7 +94,7 @@ static void saving(char **words) {
 }
 
 static void passing(pid_t child) {
-    while (fgets(line, LONGEST, stdin)) {
+    while (fgets(line, LONGEST, stdin) && strchr(line, '\n')) {
         if (control && control->dump) dump();
         uint32_t kind = event();
         if (kind == NO_MEMORY) strcpy(reply, "error: no memory\n");

@@ -22,6 +22,8 @@ REAL = f"{TOP}/crates/ksv_cli/out/ksv_cli"
 DIED, HALF, NO_MEMORY, TWICE = 100, 101, 102, 103
 # How long a reply is waited for, in seconds.
 PATIENCE = 60.0
+# Where rooms are: in memory, if that can be.
+PLACE = "/dev/shm" if os.access("/dev/shm", os.W_OK) else None
 
 
 class Silent(Exception):
@@ -131,7 +133,7 @@ class Room:
 @contextlib.contextmanager
 def room_of(tree: Tree, files: Dict[str, bytes]) -> Iterator[Room]:
     """A room that goes at the end."""
-    with tempfile.TemporaryDirectory(prefix="ksv-front-room-") as folder:
+    with tempfile.TemporaryDirectory(prefix="ksv-front-room-", dir=PLACE) as folder:
         yield Room(tree, folder, files)
 
 
