@@ -13,14 +13,16 @@
 #include <sys/wait.h>
 #include <unistd.h>
 
-enum { SIGNALS = 64, DIED = 100, HALF, NO_MEMORY, TWICE, LONGEST = 1 << 22 };
+enum { SIGNALS = 64, DIED = 100, HALF, NO_MEMORY, TWICE };
 struct plan { uint32_t at, kind, delay; };
 struct control { uint32_t is_armed, count, fired, dump, begun, num; struct plan plans[8]; };
 
 static struct control *control;
 static pid_t shell;
 static FILE *to, *from;
-static char line[LONGEST], reply[LONGEST];
+static char *line, *reply;
+static size_t line_room, reply_room;
+static ssize_t line_length, reply_length;
 
 /* What is planned for the next event, apart from what is done at once: a signal to the shell, a second one a while later. */
 static uint32_t event(void) {
@@ -67,18 +69,19 @@ static void end_as(pid_t child) {
     _exit(WEXITSTATUS(status));
 }
 
-static int asked(const char *text) {
-    return fputs(text, to) >= 0 && !fflush(to) && fgets(reply, LONGEST, from);
+static int asked(const char *text, size_t length) {
+    if (fwrite(text, 1, length, to) != length || fflush(to)) return 0;
+    return (reply_length = getline(&reply, &reply_room, from)) > 0;
 }
 
 /* Writes the bytes that the program has to a file, as they are told. */
 static void dump(void) {
     char text[64];
     FILE *file = fopen(getenv("KSV_DUMP"), "w");
-    unsigned long size = asked("size\n") ? strtoul(reply + 5, 0, 10) : 0;
+    unsigned long size = asked("size\n", 5) ? strtoul(reply + 5, 0, 10) : 0;
     for (unsigned long at = 0; at < size; at += 4096) {
-        sprintf(text, "bytes %lu %lu\n", at, size - at < 4096 ? size - at : 4096);
-        if (asked(text)) fputs(reply + 4, file);
+        int length = sprintf(text, "bytes %lu %lu\n", at, size - at < 4096 ? size - at : 4096);
+        if (asked(text, (size_t)length)) fputs(reply + 4, file);
     }
     fclose(file);
     control->dump = 0;
@@ -94,15 +97,18 @@ static void saving(char **words) {
 }
 
 static void passing(pid_t child) {
-    while (fgets(line, LONGEST, stdin) && strchr(line, '\n')) {
+    while ((line_length = getline(&line, &line_room, stdin)) > 0 && line[line_length - 1] == '\n') {
         if (control && control->dump) dump();
         uint32_t kind = event();
-        if (kind == NO_MEMORY) strcpy(reply, "error: no memory\n");
-        else if (!asked(line)) break;
-        size_t length = strlen(reply);
+        const char *told = "error: no memory\n";
+        size_t length = strlen(told);
+        if (kind != NO_MEMORY) {
+            if (!asked(line, (size_t)line_length)) break;
+            told = reply, length = (size_t)reply_length;
+        }
         if (kind == HALF) length = length / 2;
         for (size_t at = 0; at < length;) {
-            ssize_t count = write(1, reply + at, length - at);
+            ssize_t count = write(1, told + at, length - at);
             if (count <= 0) break;
             at += (size_t)count;
         }
