@@ -12,6 +12,8 @@ from front.words import GREATEST, sent_words
 
 # The most bytes that one line inserts, and the most lines of an inverse: an edit with more of them is taken back by beginning anew.
 INSERTED, MOST_LINES = 2000, 32
+# The most bytes that an integer has bits of.
+WIDEST = 9
 # The edits of ksv, and how many words each has.
 WORDS = {"put": 3, "set": 3, "ins": 3, "del": 3, "app": 2}
 
@@ -33,9 +35,9 @@ class Keeper:
         span = span_of(self.session.ask(f"at {words[1]}")) if words[0] == "put" else None
         inverse = self.inverse(words, span)
         try:
-            told = self.session.ask(line)
+            told, effect = self.put(line, span) if span else (self.session.ask(line), line)
             if told.startswith("ok "):
-                edit = Edit(line, (self.written(span),) if span else (line,), inverse)
+                edit = Edit(line, (effect,), inverse)
                 self.keep(self.edits.made(edit), journal.made(edit, self.edits.greatest + 1))
         except BaseException:
             self.session.end()
@@ -56,6 +58,15 @@ class Keeper:
         if refused is not None:
             self.session.end()
         return refused or replies[-1]
+
+    def put(self, line: str, span: Tuple[int, int]) -> Tuple[str, str]:
+        """What the line of a `put` is told, and the line of bytes that it amounts to. Both are of one process: one that is begun anew has no `put` that isn't
+        kept yet. Where the bytes can't be told, the line is refused."""
+        told, now = self.session.ask_together([line, f"bytes {span[0]} {min(span[1] - span[0], WIDEST)}"])
+        if told.startswith("ok ") and not now.startswith("hex "):
+            self.session.end()
+            told = now
+        return told, f"set {span[0]} {now[4:]}"
 
     def written(self, span: Tuple[int, int]) -> str:
         """The line that writes the bytes over a place that are there now."""

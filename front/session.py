@@ -121,12 +121,16 @@ class Session:
 
     def ask(self, line: str) -> str:
         """The reply to a line. Where memory is refused, the same is asked of a process that is begun anew."""
-        [reply] = self.ask_all([line])
-        if reply == NO_MEMORY:
+        return self.ask_together([line])[0]
+
+    def ask_together(self, lines: Sequence[str]) -> List[str]:
+        """The replies of one process to lines. Where memory is refused, all of them are asked of a process that is begun anew."""
+        replies = self.ask_all(lines)
+        if NO_MEMORY in replies:
             self.end()
             self.tell("ksv had no memory left, and was begun anew")
-            [reply] = self.ask_all([line])
-        return reply
+            replies = self.ask_all(lines)
+        return replies
 
     def ask_all(self, lines: Sequence[str]) -> List[str]:
         """The replies to lines, each of which must have one. A process that ends meanwhile is begun anew, once, and asked all of them."""
