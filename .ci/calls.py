@@ -4,7 +4,7 @@ import os
 import subprocess
 from collections.abc import Callable
 from dataclasses import dataclass
-from typing import Optional
+from typing import Optional, TextIO
 
 TOP = os.path.dirname(os.path.dirname(os.path.realpath(__file__)))
 KIT = os.path.realpath(os.environ.get("RATTLE_KIT", "/opt/rattle"))
@@ -70,7 +70,16 @@ class Caller:
         for path in (self.library, self.program):
             os.chmod(path, 0o755)
 
-    def run(self, folder: str, words: list[str], lines: bytes, act: Act, meanwhile: Callable[[], None] = lambda: None, user: Optional[User] = None, before: tuple[str, ...] = ()) -> Ran:
+    def run(
+        self,
+        folder: str,
+        words: list[str],
+        lines: bytes,
+        act: Act,
+        meanwhile: Callable[[], None] = lambda: None,
+        user: Optional[User] = None,
+        before: tuple[str, ...] = (),
+    ) -> Ran:
         """Runs it in a folder. Where it waits, `meanwhile` is called before it goes on. `before`: the words of a program that starts it."""
         with contextlib.ExitStack() as stack:
             told, tells = os.pipe()
@@ -94,7 +103,7 @@ class Caller:
         return Ran(process.returncode, replies, message.decode(errors="replace"), calls, place)
 
     @staticmethod
-    def followed(pipe, act: Act, meanwhile: Callable[[], None], goes: int) -> tuple[list[str], Optional[int]]:
+    def followed(pipe: TextIO, act: Act, meanwhile: Callable[[], None], goes: int) -> tuple[list[str], Optional[int]]:
         """The calls that are told, and how many come before the one at which something is done."""
         calls, met, place = [], 0, None
         for line in pipe:

@@ -52,7 +52,12 @@ fn opened(rt: &HostRuntime, path: &str) -> io::Result<File> {
 }
 
 /// Whether a file's folder keeps its name from the one who made another file there.
-fn is_kept_from(rt: &HostRuntime, path: &str, file: &Metadata, mine: &Metadata) -> io::Result<bool> {
+fn is_kept_from(
+    rt: &HostRuntime,
+    path: &str,
+    file: &Metadata,
+    mine: &Metadata,
+) -> io::Result<bool> {
     let folder = fs::metadata(rt, open_name(path))?;
     let me = mine.uid();
     Ok(folder.mode() & STICKY != 0 && me != 0 && me != folder.uid() && me != file.uid())
@@ -223,7 +228,9 @@ fn replace(rt: &HostRuntime, path: &str, before: &Before, buffer: &Buffer) -> io
         Ok(made)
     });
     match renamed {
-        Ok(made) if is_at(rt, path, &made) && are_names_synced(folder.as_ref()) => Ok(Saved::Surely),
+        Ok(made) if is_at(rt, path, &made) && are_names_synced(folder.as_ref()) => Ok(
+            Saved::Surely,
+        ),
         Ok(_) => Ok(Saved::Perhaps),
         Err(error) => {
             let _ = fs::remove_file(rt, name.as_str());

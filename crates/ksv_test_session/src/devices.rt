@@ -17,6 +17,7 @@ const REPLIES: &[u8] = b"size 1\nerror: unknown command\n";
 
 /// How often whole devices are called: reads, and writes with flushes.
 const READS: usize = 8;
+
 const WRITES: usize = 33;
 
 /// What a call that fails is told of.
@@ -101,7 +102,7 @@ fn ended(alloc: Global, input: &mut Input, output: &mut Output) -> Result<End, F
 }
 
 /// A reader that fails at a call.
-fn input(failing: usize, kind: ErrorKind) -> Input {
+fn failing_input(failing: usize, kind: ErrorKind) -> Input {
     Input {
         calls: Calls {
             made: 0,
@@ -113,7 +114,7 @@ fn input(failing: usize, kind: ErrorKind) -> Input {
 }
 
 /// A writer that fails at a call.
-fn output(alloc: Global, failing: usize, kind: ErrorKind) -> Output {
+fn failing_output(alloc: Global, failing: usize, kind: ErrorKind) -> Output {
     Output {
         calls: Calls {
             made: 0,
@@ -127,8 +128,8 @@ fn output(alloc: Global, failing: usize, kind: ErrorKind) -> Output {
 
 /// Whether a session over a reader that fails at a call ends there, and its reader isn't called again.
 fn is_read_once(alloc: Global, failing: usize, kind: ErrorKind) -> Result<bool, Fail> {
-    let mut input = input(failing, kind);
-    let mut output = output(alloc, 0, kind);
+    let mut input = failing_input(failing, kind);
+    let mut output = failing_output(alloc, 0, kind);
     let end = ended(alloc, &mut input, &mut output)?;
     let mut is_right = end == End::ReadFailed && input.calls.made == failing;
     is_right &= output.passed == output.taken.len();
@@ -138,8 +139,8 @@ fn is_read_once(alloc: Global, failing: usize, kind: ErrorKind) -> Result<bool, 
 
 /// Whether a session over a writer that fails at a call ends there, and its writer isn't called again.
 fn is_written_once(alloc: Global, failing: usize, kind: ErrorKind) -> Result<bool, Fail> {
-    let mut input = input(0, kind);
-    let mut output = output(alloc, failing, kind);
+    let mut input = failing_input(0, kind);
+    let mut output = failing_output(alloc, failing, kind);
     let end = ended(alloc, &mut input, &mut output)?;
     let mut is_right = end == End::WriteFailed && output.calls.made == failing;
     is_right &= REPLIES.starts_with(output.taken.as_slice());
@@ -148,8 +149,8 @@ fn is_written_once(alloc: Global, failing: usize, kind: ErrorKind) -> Result<boo
 
 /// Whether whole devices are called as often as they must be, and no reply is held back.
 fn are_called(alloc: Global) -> Result<bool, Fail> {
-    let mut input = input(0, ErrorKind::Other);
-    let mut output = output(alloc, 0, ErrorKind::Other);
+    let mut input = failing_input(0, ErrorKind::Other);
+    let mut output = failing_output(alloc, 0, ErrorKind::Other);
     let end = ended(alloc, &mut input, &mut output)?;
     let mut is_right = end == End::Input && input.calls.made == READS;
     is_right &= output.calls.made == WRITES;
