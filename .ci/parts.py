@@ -117,15 +117,15 @@ def write(top: str, numbers: dict[str, int], names: list[str]) -> None:
 
 
 def misplaced(top: str) -> list[str]:
-    """What is wrong with the list of parts: one that is there and isn't listed, one that isn't there, and names that .ci/counts has of no part or lacks."""
+    """What is wrong with the list of parts: one that is there and isn't listed, one that isn't there, and names that .ci/counts has of no part. A part that
+    has no number there differs from it when it runs."""
     found = {f".ci/{name}" for name in os.listdir(f"{top}/.ci") if os.access(f"{top}/.ci/{name}", os.X_OK) and os.path.isfile(f"{top}/.ci/{name}")}
     found |= {os.path.relpath(f"{at}/run", top) for at in runs_at(top) if os.path.isfile(f"{at}/run")}
     listed = {re.sub(r"\{\w+\}/", "", it.words[0]) for it in PARTS if it is not PROOFS}
     wrong = [f"{it} is there, and no part of the gate" for it in sorted(found - listed - {*TOOLS})]
     wrong += [f"{it} is a part of the gate, and isn't there" for it in sorted(listed - found)]
     names, counted = {it.name for it in PARTS}, {key.split(":")[0] for key in stored(top)}
-    wrong += [f"{COUNTS} has {it}, which is no part" for it in sorted(counted - names)]
-    return wrong + [f"{COUNTS} has no {it}" for it in sorted(names - {*stored(top)})]
+    return wrong + [f"{COUNTS} has {it}, which is no part" for it in sorted(counted - names)]
 
 
 def runs_at(top: str) -> list[str]:
