@@ -41,6 +41,7 @@ class Outline:
         self._nodes: Dict[int, Node] = {}
         self._open: List[int] = []
         self._edges: Dict[int, Pattern[str]] = {}
+        self._alone = -1
         self._read(most)
         for row in self._open:
             self._stops[row] = len(self.starts)
@@ -95,12 +96,22 @@ class Outline:
         if key is None:
             if dash >= 0:
                 self._values[-1] = at
-            return self._next(at, dash, end)
+            return self._next(at, dash if dash >= 0 else self._below(at, column), end)
         self._add(at, 2 * column, key)
         if value >= end or text[value] in "#\r\n":
             return end + 1, ALL
         self._values[-1] = value
         return self._next(value, column, end)
+
+    def _below(self, at: int, column: int) -> int:
+        """Gives a value that begins on a line of its own to the row that it is below; the column of that, -1 for the whole text."""
+        last = len(self.starts) - 1
+        if last < 0:
+            self._alone = at if self._alone < 0 else self._alone
+        elif self._values[last] < 0 and self._depths[last] < 2 * column:
+            self._values[last] = at
+            return self._depths[last] // 2
+        return -1 if last < 0 else column
 
     def _add(self, at: int, depth: int, key: Optional[str], value: int = -1) -> None:
         """Adds a row, and closes those that it isn't in."""
@@ -157,7 +168,7 @@ class Outline:
     @property
     def root(self) -> Node:
         """All of the text."""
-        return self._node(-1)
+        return self.node(-1)
 
     def line(self, at: int) -> int:
         """The number of the line that has a place, from 1."""
@@ -175,7 +186,7 @@ class Outline:
         after = self._stops[row] if row >= 0 else len(self.starts)
         return self.starts[after] if after < len(self.starts) else len(self.text)
 
-    def _node(self, row: int) -> Node:
+    def node(self, row: int) -> Node:
         """The value of a row, which is made once."""
         if row not in self._nodes:
             self._nodes[row] = self._made(row)
@@ -183,7 +194,7 @@ class Outline:
 
     def _made(self, row: int) -> Node:
         """The value of a row: what is on its line, or the rows in it."""
-        value = self._values[row] if row >= 0 else -1
+        value = self._values[row] if row >= 0 else self._alone if not self.starts else -1
         if value < 0 and self._has_rows(row):
             return Node(self.starts[row + 1], self._end(row), "rows", owner=self, row=row)
         if value < 0:
@@ -197,12 +208,19 @@ class Outline:
         """Whether there is a row in one."""
         return row + 1 < (self._stops[row] if row >= 0 else len(self.starts))
 
+    def between(self, row: int, begin: int, end: int) -> Tuple[List[Pair], List[Node]]:
+        """The pairs or the items directly in a row that have something from a place to another."""
+        rows = [it for it in self.below(row) if self.starts[it] < end and self._end(it) >= begin]
+        if self.kind(row) == "map":
+            return [Pair(self._keys[it] or "", self.starts[it], self.node(it)) for it in rows], []
+        return [], [self.node(it) for it in rows]
+
     def contents(self, row: int) -> Tuple[List[Pair], List[Node]]:
         """The pairs or the items directly in a row."""
         rows, keys = list(self.below(row)), self._keys
         if self.kind(row) == "map":
-            return [Pair(keys[it], self.starts[it], self._node(it)) for it in rows if keys[it] is not None], []
-        return [], [self._node(it) for it in rows if keys[it] is None]
+            return [Pair(keys[it], self.starts[it], self.node(it)) for it in rows if keys[it] is not None], []
+        return [], [self.node(it) for it in rows if keys[it] is None]
 
     def kind(self, row: int) -> str:
         """What is directly in a row that has others in it: a `map` or a `list`."""
@@ -210,7 +228,7 @@ class Outline:
 
     def value(self, row: int, key: str) -> Optional[Node]:
         """The value of the first of the keys directly in a row that is this one."""
-        return next((self._node(it) for it in self.below(row) if self._keys[it] == key), None)
+        return next((self.node(it) for it in self.below(row) if self._keys[it] == key), None)
 
     def _scalar(self, value: int, end: int) -> Node:
         """A text: quoted, plain or as a block."""
@@ -227,3 +245,25 @@ class Outline:
     def row_at(self, at: int) -> int:
         """The last row that begins at a place or before it; -1 where there is none."""
         return bisect_right(self.starts, at) - 1
+
+    def column(self, row: int) -> int:
+        """How many characters of its line come before a row."""
+        return self._depths[row] // 2
+
+    def key(self, row: int) -> Optional[str]:
+        """The key that a row is; None of an item."""
+        return self._keys[row]
+
+    def inline(self, row: int) -> str:
+        """The first letter of the value on a row's own line; the empty text where there is none."""
+        return self.text[self._values[row]] if self._values[row] >= 0 else ""
+
+    def around(self, row: int) -> List[int]:
+        """The rows that a row is in, and those beside which a row after it may be, from the last one outwards, itself the first."""
+        found = [row] if row >= 0 else []
+        for it in range(row - 1, -1, -1):
+            if not self._depths[found[-1]]:
+                break
+            if self._depths[it] < self._depths[found[-1]]:
+                found.append(it)
+        return found
