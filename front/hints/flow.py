@@ -2,7 +2,7 @@
 from __future__ import annotations
 
 import re
-from typing import List, Optional
+from typing import List, Optional, Tuple
 
 from front.hints.node import Node, Pair
 
@@ -99,8 +99,8 @@ class _Open:
             self.node.pairs.append(Pair(found.text, found.at, Node(at, at, "text")))
 
 
-def read(text: str, at: int, most: int = MOST) -> Node:
-    """The flow that begins at a place; where it isn't closed, or has more than `most` marks, what there is of it."""
+def read(text: str, at: int, most: int = MOST) -> Tuple[Node, bool]:
+    """The flow that begins at a place, and whether that is all of it; where it isn't closed, or has more than `most` marks, what there is of it."""
     stack: List[_Open] = []
     for _ in range(most):
         at = SPACE.match(text, at).end()
@@ -116,11 +116,11 @@ def read(text: str, at: int, most: int = MOST) -> Node:
             top.comma(found.start())
             top.node.stop = at
             if not stack:
-                return top.node
+                return top.node, True
             stack[-1].take(top.node)
         elif kind != "comment":
             at = _part(stack[-1], text, found.start(), kind)
-    return _closed(stack, at)
+    return _closed(stack, at), False
 
 
 def _part(top: _Open, text: str, at: int, kind: str) -> int:

@@ -23,8 +23,8 @@ SIMPLE = re.compile(r"( *)((?:- +)?)([A-Za-z_][\w-]*):(?: +([^ \t\r\n#\"'|>{\[])
 STOP = re.compile(r":(?=[ \t\r\n]|\Z)|[ \t]#")
 COMMENT = re.compile(r"[ \t]#")
 MARKER = re.compile(r"---[ \t]*(?:#[^\n]*)?\r?(?:\n|\Z)")
-# How many rows are read where nothing else is asked, and a column that no line has.
-ALL = 1 << 30
+# How many lines are read where nothing else is asked, which is also a column that no line has; and how many marks of one flow are read for each line.
+ALL, MARKS = 1 << 30, 2
 
 
 class Outline:
@@ -32,7 +32,7 @@ class Outline:
 
     def __init__(self, text: str, most: int = ALL) -> None:
         """Reads the rows of a text, as far as there are no more of them and of its lines than `most`."""
-        self.text, self.is_whole = text, True
+        self.text, self.is_whole, self._most = text, True, most
         self.starts: List[int] = []
         self._keys: List[Optional[str]] = []
         self._depths: List[int] = []
@@ -201,7 +201,9 @@ class Outline:
             at = self.starts[row] if row >= 0 else 0
             return Node(at, at, "text")
         if self.text[value] in "{[":
-            return flow.read(self.text, value)
+            node, is_all = flow.read(self.text, value, MARKS * self._most)
+            self.is_whole = self.is_whole and is_all
+            return node
         return self._scalar(value, self._end(row))
 
     def _has_rows(self, row: int) -> bool:

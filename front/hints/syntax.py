@@ -116,11 +116,11 @@ def ended(formula: Formula, at: int) -> Hint:
     text, owner = formula.text, formula.place
     if not text.strip():
         return say("no expression", key=formula.written)
+    if is_cut(formula):
+        return say("comment")
     quote = unclosed(text)
     if quote:
         return say("open quote", sign=quote)
-    if is_cut(formula):
-        return say("comment")
     opened: List[str] = []
     for it in tokens.read(text):
         if it.text in ("(", "["):

@@ -211,6 +211,6 @@ def of_number(place: Place) -> Optional[Hint]:
 
 def limit(places: Places) -> Hint:
     """Which limit the line goes over (S9)."""
-    found = {"types": "types", "seq": "members", "params": "members", "instances": "members", "enum": "entries"}
-    kinds = {found[it.role] for it in places.keys if it.role in found}
+    found = {"types": "types", "seq": "members", "params": "members", "instances": "members"}
+    kinds = {found.get(it.role, "limit") for it in places.keys if it.key or it.role in found}
     return say(kinds.pop()) if len(kinds) == 1 else say("limit")
