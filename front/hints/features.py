@@ -84,7 +84,8 @@ def of_field(place: Place) -> Optional[Hint]:
     if key == "encoding":
         return of_encoding(value)
     if key == "contents" and value.kind == "text" and not value.mark and re.fullmatch(r"0x[0-9a-fA-F]+|[0-9]+", value.text):
-        return say("contents") if ZERO.match(value.text) else say("contents", number=value.text)
+        number = int(value.text, 16) if value.text.startswith("0x") and len(value.text) < 5 else int(value.text) if len(value.text) < 4 else 256
+        return say("contents") if ZERO.match(value.text) or number > 255 else say("contents", number=value.text)
     return of_terminator(place) if key == "terminator" else None
 
 

@@ -208,6 +208,8 @@ def left_out(text: str, line: Line) -> Optional[Hint]:
         return above.opened if len(line.text) - len(line.text.lstrip(" ")) <= above.before else say("flow parts")
     if not above and line.number > 1 and (Outline(text[: lines.start(text, line.number)], LINES).root.is_flow):
         return say("flow parts")
+    if line.content[:1] and line.content[:1] in ",]}@%`&*!|>":
+        return of_first(line, line.content)
     if value[:1] in ("[", "{"):
         return of_flow(value) or say("flow parts")
     if value[:1] in ("'", '"'):
