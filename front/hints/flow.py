@@ -27,13 +27,13 @@ def unquoted(word: str) -> str:
     return ESCAPE.sub(lambda it: chr(int(it[1] or it[2], 16)) if it[1] or it[2] else LETTERS.get(it[3], it[3]), word[1:-1])
 
 
-def end(text: str, at: int) -> int:
-    """Where the flow that begins at a place ends; the text's end where it isn't closed."""
+def end(text: str, at: int, most: int = MOST) -> int:
+    """Where the flow that begins at a place ends; the text's end where it isn't closed, or has more than `most` quotes, brackets and comments."""
     depth = 0
-    while True:
+    for _ in range(most):
         found = EDGE.search(text, at)
         if not found:
-            return len(text)
+            break
         at = found.end()
         if found[0] in "[{":
             depth += 1
@@ -44,6 +44,7 @@ def end(text: str, at: int) -> int:
         elif found[0] in "\"'" and text[found.start() - 1] in " \t\r\n[{,:":
             quoted = QUOTED.match(text, found.start())
             at = quoted.end() if quoted else at
+    return len(text)
 
 
 def ends_on_line(text: str, at: int, stop: int) -> bool:

@@ -71,10 +71,10 @@ UNSUPPORTED: Dict[str, Kind] = {
     "tab": Kind("Y3", "write spaces", "a tab before the text"),
 }
 KEYS: Dict[str, Kind] = {
-    "key as written": Kind("S1 S2", "{where}`{key}` is written `{near}`"),
-    "near key": Kind("S1 S2", "{where}`{key}` is no key of {role}; `{near}` is one"),
-    "other word": Kind("S1 S2", "{where}`{key}` is no key of {role}: {what} is `{near}`"),
-    "key elsewhere": Kind("S1 S2", "{where}`{key}` is no key of {role}: {place}"),
+    "key as written": Kind("S1 S2 S8", "{where}`{key}` is written `{near}`"),
+    "near key": Kind("S1 S2 S8", "{where}`{key}` is no key of {role}; `{near}` is one"),
+    "other word": Kind("S1 S2 S8", "{where}`{key}` is no key of {role}: {what} is `{near}`"),
+    "key elsewhere": Kind("S1 S2 S8", "{where}`{key}` is no key of {role}: {place}"),
     "unread key": Kind("S1", "ksv has no `{key}`: leave it out"),
     "unknown key": Kind("S1", "`{key}` is no key of {role}, which has {keys}"),
     "key": Kind("S1", "a key of this line isn't known here: see REFERENCE, \"Keys of a description\""),

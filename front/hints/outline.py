@@ -25,6 +25,8 @@ COMMENT = re.compile(r"[ \t]#")
 MARKER = re.compile(r"---[ \t]*(?:#[^\n]*)?\r?(?:\n|\Z)")
 # How many lines are read where nothing else is asked, which is also a column that no line has; and how many marks of one flow are read for each line.
 ALL, MARKS = 1 << 30, 2
+# How many dashes of one line are read, where ksv reads 64; and how long a key in quotes, or a value where not all is read.
+DEEPEST, LONGEST = 80, 65_536
 
 
 class Outline:
@@ -86,7 +88,9 @@ class Outline:
     def _line(self, at: int, column: int, end: int) -> Tuple[int, int]:
         """Adds the rows of a line; where the next line begins, and the column below which the next lines belong to this one's text."""
         text, dash = self.text, -1
-        while text.startswith("-", at) and (at + 1 >= end or text[at + 1] in " \t\r"):
+        for _ in range(DEEPEST):
+            if not text.startswith("-", at) or at + 1 < end and text[at + 1] not in " \t\r":
+                break
             self._add(at, 2 * column + 1, None)
             dash, after = column, GAP.match(text, at + 1).end()
             column, at = column + after - at, after
@@ -130,7 +134,7 @@ class Outline:
         text = self.text
         first = text[at]
         if first in "\"'":
-            quoted = QUOTED.match(text, at, end)
+            quoted = QUOTED.match(text, at, min(end, at + LONGEST))
             after = GAP.match(text, quoted.end()).end() if quoted else end
             if not quoted or not STOP.match(text, after):
                 return None, at
@@ -150,7 +154,7 @@ class Outline:
         if first in "{[":
             if flow.ends_on_line(self.text, value, end):
                 return end + 1, ALL
-            stop = self.text.find("\n", flow.end(self.text, value))
+            stop = self.text.find("\n", flow.end(self.text, value, MARKS * self._most))
             return len(self.text) if stop < 0 else stop + 1, ALL
         return end + 1, column
 
@@ -235,6 +239,7 @@ class Outline:
     def _scalar(self, value: int, end: int) -> Node:
         """A text: quoted, plain or as a block."""
         text = self.text
+        end = min(end, value + (ALL if self._most == ALL else LONGEST))
         quoted = QUOTED.match(text, value, end)
         if quoted:
             return Node(value, quoted.end(), "text", flow.unquoted(quoted[0]), text[value])
