@@ -1,1 +1,1 @@
-"""What a person touches of ksv: the prompt, what is said of refused descriptions, and what keeps their edits safe. None of it is proved."""
+"""What people touch of ksv and no proof covers: the prompt, the hints, and what both know of a description's text."""

@@ -54,6 +54,12 @@ class Node:
         """The items of a list."""
         return self._found()[1]
 
+    def between(self, begin: int, end: int) -> Tuple[List[Pair], List[Node]]:
+        """The pairs and items that have something from a place to another."""
+        if self._contents is None:
+            return self._owner.between(self._row, begin, end)
+        return self._contents
+
     def get(self, key: str) -> Optional[Node]:
         """The value of the first key of this name; None where there is none."""
         if self._contents is None:

@@ -23,8 +23,10 @@ SIMPLE = re.compile(r"( *)((?:- +)?)([A-Za-z_][\w-]*):(?: +([^ \t\r\n#\"'|>{\[])
 STOP = re.compile(r":(?=[ \t\r\n]|\Z)|[ \t]#")
 COMMENT = re.compile(r"[ \t]#")
 MARKER = re.compile(r"---[ \t]*(?:#[^\n]*)?\r?(?:\n|\Z)")
-# How many rows are read where nothing else is asked, and a column that no line has.
-ALL = 1 << 30
+# How many lines are read where nothing else is asked, which is also a column that no line has; and how many marks of one flow are read for each line.
+ALL, MARKS = 1 << 30, 2
+# How many dashes of one line are read, where ksv reads 64; and how long a key in quotes, or a value where not all is read.
+DEEPEST, LONGEST = 80, 65_536
 
 
 class Outline:
@@ -32,7 +34,7 @@ class Outline:
 
     def __init__(self, text: str, most: int = ALL) -> None:
         """Reads the rows of a text, as far as there are no more of them and of its lines than `most`."""
-        self.text, self.is_whole = text, True
+        self.text, self.is_whole, self._most = text, True, most
         self.starts: List[int] = []
         self._keys: List[Optional[str]] = []
         self._depths: List[int] = []
@@ -41,6 +43,7 @@ class Outline:
         self._nodes: Dict[int, Node] = {}
         self._open: List[int] = []
         self._edges: Dict[int, Pattern[str]] = {}
+        self._alone = -1
         self._read(most)
         for row in self._open:
             self._stops[row] = len(self.starts)
@@ -85,7 +88,9 @@ class Outline:
     def _line(self, at: int, column: int, end: int) -> Tuple[int, int]:
         """Adds the rows of a line; where the next line begins, and the column below which the next lines belong to this one's text."""
         text, dash = self.text, -1
-        while text.startswith("-", at) and (at + 1 >= end or text[at + 1] in " \t\r"):
+        for _ in range(DEEPEST):
+            if not text.startswith("-", at) or at + 1 < end and text[at + 1] not in " \t\r":
+                break
             self._add(at, 2 * column + 1, None)
             dash, after = column, GAP.match(text, at + 1).end()
             column, at = column + after - at, after
@@ -95,12 +100,22 @@ class Outline:
         if key is None:
             if dash >= 0:
                 self._values[-1] = at
-            return self._next(at, dash, end)
+            return self._next(at, dash if dash >= 0 else self._below(at, column), end)
         self._add(at, 2 * column, key)
         if value >= end or text[value] in "#\r\n":
             return end + 1, ALL
         self._values[-1] = value
         return self._next(value, column, end)
+
+    def _below(self, at: int, column: int) -> int:
+        """Gives a value that begins on a line of its own to the row that it is below; the column of that, -1 for the whole text."""
+        last = len(self.starts) - 1
+        if last < 0:
+            self._alone = at if self._alone < 0 else self._alone
+        elif self._values[last] < 0 and self._depths[last] < 2 * column:
+            self._values[last] = at
+            return self._depths[last] // 2
+        return -1 if last < 0 else column
 
     def _add(self, at: int, depth: int, key: Optional[str], value: int = -1) -> None:
         """Adds a row, and closes those that it isn't in."""
@@ -119,7 +134,7 @@ class Outline:
         text = self.text
         first = text[at]
         if first in "\"'":
-            quoted = QUOTED.match(text, at, end)
+            quoted = QUOTED.match(text, at, min(end, at + LONGEST))
             after = GAP.match(text, quoted.end()).end() if quoted else end
             if not quoted or not STOP.match(text, after):
                 return None, at
@@ -139,7 +154,7 @@ class Outline:
         if first in "{[":
             if flow.ends_on_line(self.text, value, end):
                 return end + 1, ALL
-            stop = self.text.find("\n", flow.end(self.text, value))
+            stop = self.text.find("\n", flow.end(self.text, value, MARKS * self._most))
             return len(self.text) if stop < 0 else stop + 1, ALL
         return end + 1, column
 
@@ -157,7 +172,7 @@ class Outline:
     @property
     def root(self) -> Node:
         """All of the text."""
-        return self._node(-1)
+        return self.node(-1)
 
     def line(self, at: int) -> int:
         """The number of the line that has a place, from 1."""
@@ -175,7 +190,7 @@ class Outline:
         after = self._stops[row] if row >= 0 else len(self.starts)
         return self.starts[after] if after < len(self.starts) else len(self.text)
 
-    def _node(self, row: int) -> Node:
+    def node(self, row: int) -> Node:
         """The value of a row, which is made once."""
         if row not in self._nodes:
             self._nodes[row] = self._made(row)
@@ -183,26 +198,35 @@ class Outline:
 
     def _made(self, row: int) -> Node:
         """The value of a row: what is on its line, or the rows in it."""
-        value = self._values[row] if row >= 0 else -1
+        value = self._values[row] if row >= 0 else self._alone if not self.starts else -1
         if value < 0 and self._has_rows(row):
             return Node(self.starts[row + 1], self._end(row), "rows", owner=self, row=row)
         if value < 0:
             at = self.starts[row] if row >= 0 else 0
             return Node(at, at, "text")
         if self.text[value] in "{[":
-            return flow.read(self.text, value)
+            node, is_all = flow.read(self.text, value, MARKS * self._most)
+            self.is_whole = self.is_whole and is_all
+            return node
         return self._scalar(value, self._end(row))
 
     def _has_rows(self, row: int) -> bool:
         """Whether there is a row in one."""
         return row + 1 < (self._stops[row] if row >= 0 else len(self.starts))
 
+    def between(self, row: int, begin: int, end: int) -> Tuple[List[Pair], List[Node]]:
+        """The pairs or the items directly in a row that have something from a place to another."""
+        rows = [it for it in self.below(row) if self.starts[it] < end and self._end(it) >= begin]
+        if self.kind(row) == "map":
+            return [Pair(self._keys[it] or "", self.starts[it], self.node(it)) for it in rows], []
+        return [], [self.node(it) for it in rows]
+
     def contents(self, row: int) -> Tuple[List[Pair], List[Node]]:
         """The pairs or the items directly in a row."""
         rows, keys = list(self.below(row)), self._keys
         if self.kind(row) == "map":
-            return [Pair(keys[it], self.starts[it], self._node(it)) for it in rows if keys[it] is not None], []
-        return [], [self._node(it) for it in rows if keys[it] is None]
+            return [Pair(keys[it], self.starts[it], self.node(it)) for it in rows if keys[it] is not None], []
+        return [], [self.node(it) for it in rows if keys[it] is None]
 
     def kind(self, row: int) -> str:
         """What is directly in a row that has others in it: a `map` or a `list`."""
@@ -210,11 +234,12 @@ class Outline:
 
     def value(self, row: int, key: str) -> Optional[Node]:
         """The value of the first of the keys directly in a row that is this one."""
-        return next((self._node(it) for it in self.below(row) if self._keys[it] == key), None)
+        return next((self.node(it) for it in self.below(row) if self._keys[it] == key), None)
 
     def _scalar(self, value: int, end: int) -> Node:
         """A text: quoted, plain or as a block."""
         text = self.text
+        end = min(end, value + (ALL if self._most == ALL else LONGEST))
         quoted = QUOTED.match(text, value, end)
         if quoted:
             return Node(value, quoted.end(), "text", flow.unquoted(quoted[0]), text[value])
@@ -227,3 +252,25 @@ class Outline:
     def row_at(self, at: int) -> int:
         """The last row that begins at a place or before it; -1 where there is none."""
         return bisect_right(self.starts, at) - 1
+
+    def column(self, row: int) -> int:
+        """How many characters of its line come before a row."""
+        return self._depths[row] // 2
+
+    def key(self, row: int) -> Optional[str]:
+        """The key that a row is; None of an item."""
+        return self._keys[row]
+
+    def inline(self, row: int) -> str:
+        """The first letter of the value on a row's own line; the empty text where there is none."""
+        return self.text[self._values[row]] if self._values[row] >= 0 else ""
+
+    def around(self, row: int) -> List[int]:
+        """The rows that a row is in, and those beside which a row after it may be, from the last one outwards, itself the first."""
+        found = [row] if row >= 0 else []
+        for it in range(row - 1, -1, -1):
+            if not self._depths[found[-1]]:
+                break
+            if self._depths[it] < self._depths[found[-1]]:
+                found.append(it)
+        return found

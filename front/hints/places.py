@@ -24,6 +24,7 @@ class Place(NamedTuple):
     type: Type
     attribute: Optional[Node]
     attribute_role: str
+    is_quoted: bool = False
 
 
 class Start(NamedTuple):
@@ -62,7 +63,7 @@ class Places:
             self._map(node, role, key, one, attribute, kind, depth)
         elif node.kind == "list":
             inner = schema.ITEMS.get(role, "item")
-            for it in node.items:
+            for it in node.between(self.begin, self.end)[1]:
                 if it.at >= self.end:
                     return
                 own = (it, inner) if inner == "attribute" else (attribute, kind)
@@ -76,13 +77,14 @@ class Places:
             attribute, kind = node, "value" if node.has("value") else "instance"
         if self.begin <= node.at < self.end:
             self.starts.append(Start(node, role, key, one, attribute))
-        for it in node.pairs:
+        for it in node.between(self.begin, self.end)[0]:
             if it.at >= self.end:
                 return
             inner = schema.BELOW.get((role, it.key)) or schema.BELOW.get((role, "*"), "none")
             if it.at >= self.begin:
                 shown = "value" if role == "instance" and node.has("value") else role
-                self.keys.append(Place(it.key, it.at, it.value, shown, node, one, attribute, kind))
+                is_quoted = self.outline.text[it.at : it.at + 1] in ("'", '"')
+                self.keys.append(Place(it.key, it.at, it.value, shown, node, one, attribute, kind, is_quoted))
             if it.value.stop >= self.begin:
                 below = one.types[it.key] if role == "types" and one.types.get(it.key) and one.types[it.key].node is it.value else one
                 self._value(it.value, inner, it.key, below, attribute, kind, depth + 1)

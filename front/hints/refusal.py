@@ -5,7 +5,7 @@ import os
 import re
 from typing import NamedTuple, Optional, Sequence
 
-from front.hints import advice, arguments
+from front.hints import advice, arguments, lines
 from front.hints.shown import visible
 
 # The most bytes of a description that the program reads; it refuses one with more.
@@ -49,19 +49,15 @@ def hint(message: str, words: Sequence[str]) -> str:
 
 def below(text: str, told: Refusal) -> str:
     """The refused line of a text with its number, and how to go on."""
-    line = line_of(text, told.line)
-    if line is None:
+    front = shown_line(text, told.line)
+    if not front:
         return ""
-    what = advice.of(text, told.line, told.code, told.text)
-    return f"{told.line:>5} | {visible(line)}\n" + (f"      = {visible(what, 2000)}\n" if what else "")
+    what = advice.of(text, told.line, told.code, told.text).text.replace("`", "")
+    return front + (f"      = {visible(what, 2000)}\n" if what else "")
 
 
-def line_of(text: str, number: int) -> Optional[str]:
-    """A line of a text, from 1; None where it has fewer."""
-    start = 0
-    for _ in range(number - 1):
-        start = text.find("\n", start) + 1
-        if not start:
-            return None
-    stop = text.find("\n", start)
-    return text[start : len(text) if stop < 0 else stop].rstrip("\r")
+def shown_line(text: str, number: int) -> str:
+    """A line of a text as it is shown, with its number; the empty text where there is none."""
+    line = lines.line(text, number)
+    return "" if line is None else f"{number:>5} | {visible(line)}\n"
+
