@@ -1,5 +1,6 @@
 """Single saves of which each has its own wanted end: modes and owners, what comes in a session, the disk, names that are taken, folders."""
 import os
+import shutil
 import subprocess
 from collections.abc import Callable
 from concurrent.futures import ThreadPoolExecutor
@@ -115,7 +116,8 @@ def of_names() -> list[Once]:
     file = lambda room: room.write(room.at(SAME), b"another's", 0o600)
     link = lambda room: os.symlink(room.secret, room.at(SAME))
     lost = lambda room: os.symlink("NOWHERE", room.at(SAME))
-    found = [Once(Save(f"a name that is {what}", act=Act(same=3), prepare=made), left=1) for what, made in (("a file's", file), ("a link's", link), ("a link's to no file", lost))]
+    taken = (("a file's", file), ("a link's", link), ("a link's to no file", lost))
+    found = [Once(Save(f"a name that is {what}", act=Act(same=3), prepare=made), left=1) for what, made in taken]
     return [*found, refused(Save("no name that isn't taken", act=Act(same=10_000), prepare=file), left=1)]
 
 
@@ -129,9 +131,11 @@ def mounts(above: str) -> list[Once]:
     """A file over which another is mounted, where that can be done."""
     room = Room(above)
     try:
-        can = not subprocess.run([*bound(room), "true"], stderr=subprocess.DEVNULL, check=False).returncode
+        can = shutil.which("unshare") and not subprocess.run([*bound(room), "true"], stderr=subprocess.DEVNULL, check=False).returncode
     finally:
         room.close()
+    if not can:
+        print("saves: nothing can be mounted here")
     return [refused(Save("a file over which another is mounted", before=bound))] if can else []
 
 
