@@ -47,15 +47,12 @@ def hexed(reply: str) -> str:
 
 def cut(text: str, width: int) -> str:
     """A text, or as much of it as n columns hold."""
-    if len(text) <= width and columns(text) <= width:
-        return text
-    taken, count = 0, 0
-    for it in text:
+    count = 0
+    for taken, it in enumerate(text):
         count += columns(it)
         if count > width:
-            break
-        taken += 1
-    return f"{text[:taken]} .."
+            return f"{text[:taken]} .."
+    return text
 
 
 def padded(text: str, width: int) -> str:
