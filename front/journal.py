@@ -108,7 +108,7 @@ class Journal:
 
     @classmethod
     def begun(cls, file: str, origin: bytes) -> "Journal":
-        """A new journal of a file."""
+        """A new journal of a file; where that fails, nothing is left of it."""
         where = folder()
         path = os.path.join(where, f"{key_of(file)}-{secrets.token_hex(8)}.journal")
         head = {"ksv-journal": 1, "file": os.path.realpath(file), "size": len(origin), "sum": sum_of(origin)}
@@ -121,7 +121,8 @@ class Journal:
             synced(where)
         except BaseException:
             os.close(number)
-            removed(f"{path}.new")
+            for it in (f"{path}.new", path):
+                removed(it)
             raise
         return journal
 
