@@ -4,9 +4,8 @@ import hashlib
 import os
 import random
 import signal
-from concurrent.futures import ThreadPoolExecutor
 from dataclasses import dataclass, field
-from typing import Dict, Iterator, List, Optional, Sequence, Tuple, Type
+from typing import Callable, Dict, Iterator, List, Optional, Sequence, Tuple, Type
 
 from fronts.model import KSY, State, noted
 from fronts.room import DIED, HALF, NO_MEMORY, TOP, TWICE, Piped, Room, Shell, Silent, Terminal, Tree, room_of
@@ -248,11 +247,12 @@ def one(tree: Tree, kind: Kind, first: int, numbers: Dict[int, Tuple[List[int], 
         return journey.num_trials, journey.wrong
 
 
-def run(tree: Tree, is_all: bool, lanes: int) -> Tuple[int, List[str]]:
-    """Makes all journeys: how many breaks were as they should be, and what is wrong."""
+def planned(tree: Tree, is_all: bool) -> List[Tuple[str, Callable[[], Tuple[int, List[str]]]]]:
+    """All journeys, by their names."""
     counts = counted(tree)
-    with ThreadPoolExecutor(lanes) as pool:
-        found = list(pool.map(lambda it: one(tree, *it), journeys(counts, is_all)))
-    num, wrong = sum(it[0] for it in found), [it for own in found for it in own[1]]
-    print(f"front: {num} breaks of {sum(counts) * len(KINDS)} ({sum(counts)} questions below {len(LINES)} lines, {len(KINDS)} kinds); --all makes all")
-    return num - len(wrong), wrong
+    return [(f"{kind.name}, from line {first + 1} on", lambda it=(kind, first, numbers): one(tree, *it)) for kind, first, numbers in journeys(counts, is_all)]
+
+
+def total(tree: Tree) -> int:
+    """How many breaks there are in all."""
+    return sum(counted(tree)) * len(KINDS)

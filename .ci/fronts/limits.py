@@ -164,13 +164,16 @@ def limited(program: str, setting: str, least: int, most: int) -> Case:
 
     def case(tree: Tree) -> str:
         with room_of(tree, {"FILE": b"abc", "KSY": KSY}) as room:
-            env = {**room.environ, "KSV_REAL": "/bin/cat", "KSV_MEMORY": setting}
+            room.write("real", b"#!/bin/sh\nwhile read -r line; do echo size 3; done\n")
+            os.chmod(room.path("real"), 0o755)
+            env = {**room.environ, "KSV_REAL": room.path("real"), "KSV_MEMORY": setting}
             with open(room.path("errors"), "wb") as errors:
                 running = subprocess.Popen([f"{tree.folder}/{program}", "FILE", "KSY"], cwd=room.folder, env=env, stdin=subprocess.PIPE, stdout=subprocess.PIPE, stderr=errors)
             try:
                 running.stdin.write(b"raw size\n")
                 running.stdin.flush()
-                running.stdout.readline()
+                if running.stdout.readline() != b"size 3\n":
+                    return "no reply"
                 own = limit_of(process_of(running.pid))
             finally:
                 running.kill()

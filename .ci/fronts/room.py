@@ -31,15 +31,17 @@ class Silent(Exception):
 
 
 class Tree:
-    """A copy of what the prompt needs, with the proxy for the program or without, and perhaps with another shell in bin/."""
+    """A copy of what the prompt needs, with the proxy for the program or without, and perhaps with bin/ of another commit."""
 
-    def __init__(self, folder: str, shell: Optional[str] = None, is_proxied: bool = True) -> None:
+    def __init__(self, folder: str, commit: Optional[str] = None, is_proxied: bool = True) -> None:
         self.folder = folder
         for name in ("bin", "front"):
             shutil.copytree(f"{TOP}/{name}", f"{folder}/{name}", ignore=shutil.ignore_patterns("__pycache__"))
-        if shell:
-            shutil.copy(shell, f"{folder}/bin/ksv-shell")
-            os.chmod(f"{folder}/bin/ksv-shell", 0o755)
+        for name in ("ksv", "ksv-shell", "hints.py") if commit else ():
+            found = subprocess.run(["git", "-C", TOP, "show", f"{commit}:bin/{name}"], stdout=subprocess.PIPE, check=True).stdout
+            with open(f"{folder}/bin/{name}", "wb") as file:
+                file.write(found)
+            os.chmod(f"{folder}/bin/{name}", 0o755)
         os.makedirs(f"{folder}/crates/ksv_cli/out")
         shutil.copy(f"{TOP}/crates.txt", folder)
         program = f"{folder}/crates/ksv_cli/out/ksv_cli"
