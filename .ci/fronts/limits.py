@@ -198,6 +198,33 @@ def available() -> int:
         return int(re.search(r"MemAvailable: *(\d+) kB", file.read())[1]) * 1024
 
 
+def hinted(size: int, line: bytes, seconds: float, memory: int) -> Case:
+    """The launcher tells at a terminal why a description is refused, and takes little for it."""
+
+    def case(tree: Tree) -> str:
+        with room_of(tree, {"FILE": b"abc", "KSY": line}) as room:
+            os.truncate(room.path("KSY"), size)
+            ours, theirs = os.openpty()
+            running = subprocess.Popen([f"{tree.folder}/bin/ksv", "FILE", "KSY"], cwd=room.folder, env=room.environ, stdin=subprocess.DEVNULL, stdout=subprocess.DEVNULL, stderr=theirs,
+                                       start_new_session=True)
+            os.close(theirs)
+            timer = threading.Timer(60, lambda: os.killpg(running.pid, signal.SIGKILL))
+            timer.start()
+            told = os.read(ours, 1000)
+            with contextlib.suppress(OSError):
+                while os.read(ours, 1 << 16):
+                    pass
+            _, status, used = os.wait4(running.pid, 0)
+            timer.cancel()
+            running.returncode = os.waitstatus_to_exitcode(status)
+            os.close(ours)
+        took, most = used.ru_utime + used.ru_stime, used.ru_maxrss * 1024
+        is_right = running.returncode == 1 and b"KSY: " in told and took <= seconds and most <= memory
+        return "" if is_right else f"{took:.1f} s, {most // MEBI} MiB, status {running.returncode}, {told[:100]!r}"
+
+    return case
+
+
 # Cases that need the program itself, and those over a proxy.
 DIRECT: Dict[str, Case] = {
     "6: where on a broken list": costs_little({"FILE": BROKEN, "KSY": BROKEN_KSY}, ["where 0xa0"], 0.5, 50 * MEBI),
@@ -207,6 +234,8 @@ DIRECT: Dict[str, Case] = {
     "6: find over 1 MiB of zeros": finds_many,
     "6: find over 16 MiB of zeros": finds_first,
     "6: an explanation at 1,000 types": explains,
+    "8: hints of a line of 1,000,000 question marks": hinted(1_000_000, b"?" * 1_000_000, 3, 250 * MEBI),
+    "8: hints of a description of 1 GiB": hinted(1 << 30, b"a: b\n", 3, 250 * MEBI),
     "more: a save of 16 MiB with 1,000 edits": saves_fast,
 }
 CASES: Dict[str, Case] = {
