@@ -153,6 +153,7 @@ VALUES: Dict[str, Kind] = {
     "list wanted": Kind("S6", "`{key}` is a list: write each {item} after `- `, or `[]` where there is none"),
     "mapping wanted": Kind("S6", "`{key}` is a mapping: {example}"),
     "item wanted": Kind("S6", "each {item} is a mapping, such as `- {{id: a{more}}}`"),
+    "type key as type": Kind("S6", "`{key}` is the name of a type here, beside the others; as a key of a type it has more spaces before it, or fewer"),
     "list in type": Kind("S6", "`{key}` is a type, and its attributes are under `seq`: write `seq:` below it, and its list below that"),
     "other case": Kind("S6", "the case of all other values is `_`"),
     "case member": Kind("S6", "an enum's member has the enum before it: `{enum}::{name}`"),
@@ -237,7 +238,8 @@ YAML: Dict[str, Kind] = {
     "no colon": Kind("Y8", "a key has a colon and a space behind it: `{key}: ..`"),
     "no space": Kind("Y8", "after the colon there is a space: `{near}`"),
     "no key": Kind("Y8", "here a key is wanted, with a colon behind it, as the lines above have"),
-    "no dash": Kind("Y8", "here an item is wanted, with `- ` before it, as those above have"),
+    "no dash": Kind("Y8", "here an item is wanted, with `- ` before it, as those above have; a key of the item above has {columns} before it"),
+    "item column": Kind("Y8", "here a key is wanted, as the lines above have; the items of the list above have {columns} before their `- `"),
     "below a value": Kind("Y8 Y4", "what is on line {line} has a value already, and nothing can be below it; a line beside it has {columns} before its text"),
     "pair in list": Kind("Y8", "in brackets a key and its value have braces around them: `[{{a: b}}]`"),
     "key place": Kind("Y8", "a text with `: ` in it needs quotes, and a key needs a line of its own"),
@@ -255,7 +257,7 @@ def say(kind: str, **values: object) -> Hint:
 
 def shown(values: Dict[str, object]) -> Dict[str, str]:
     """What is filled in, short enough and such that a terminal may show it."""
-    return {key: visible(str(it), 400 if key in ("keys", "members", "types", "enums", "where", "role", "place", "example") else LONGEST) for key, it in values.items()}
+    return {key: visible(str(it), 400 if key in ("keys", "members", "types", "enums", "where", "role", "place", "example", "wanted") else LONGEST) for key, it in values.items()}
 
 
 def table() -> str:

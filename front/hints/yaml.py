@@ -11,7 +11,7 @@ from front.hints.node import Node
 from front.hints.outline import COMMENT, STOP, Outline
 
 # How much of a line and how many lines are looked at.
-LONGEST, LINES = 4000, 8_000
+LONGEST, LINES = 4000, 6_000
 CONTROL = re.compile("[\x00-\x08\x0b-\x1f\x7f-\x9f]")
 FRONT = re.compile(r"[ \t]*(?:-[ \t]+)*")
 WORD = re.compile(r"[A-Za-z_][\w-]*")
@@ -153,11 +153,12 @@ def misplaced(line: Line, above: Optional[Above]) -> Optional[Hint]:
     dashed = line.text.lstrip(" ").startswith("- ")
     here = len(line.text) - len(line.text.lstrip(" "))
     if above and here in above.lists and not dashed:
-        return say("no dash")
+        return say("no dash", columns=spaces(min((it for it in above.keys if it > here), default=here + 2)))
+    if dashed:
+        lists = [it for it in above.items if it != here] if above else []
+        return say("item column", columns=spaces(lists[0])) if lists else say("no key")
     if line.key:
         return None
-    if dashed:
-        return say("no key")
     joined = re.match(r"([A-Za-z_][\w-]*):(\S.*)\Z", line.content)
     if joined:
         return say("no space", near=f"{joined[1]}: {joined[2]}")
@@ -165,11 +166,14 @@ def misplaced(line: Line, above: Optional[Above]) -> Optional[Hint]:
 
 
 class Above(NamedTuple):
-    """The last key or item above a line: its line and column, whether it has a value on its line, the columns of lists that it is in, and what is said where it is open."""
+    """The last key or item above a line: its line and column, and whether it has a value on its line; the columns of the lists and mappings that it is in, the
+    innermost first, and of lists where no key is; and what is said where it is open."""
 
     number: int
     before: int
     is_full: bool
+    items: List[int]
+    keys: List[int]
     lists: List[int]
     opened: Optional[Hint]
 
@@ -182,8 +186,9 @@ def previous(text: str, number: int) -> Optional[Above]:
     last = len(outline.starts) - 1
     chain = outline.around(last)
     keys = [outline.column(it) for it in chain if outline.key(it) is not None]
-    lists = [outline.column(it) for it in chain if outline.key(it) is None and outline.column(it) not in keys]
-    return Above(outline.line(outline.starts[last]), outline.column(last), outline.inline(last) != "", lists, unclosed(outline))
+    items = [outline.column(it) for it in chain if outline.key(it) is None]
+    lists = [it for it in items if it not in keys]
+    return Above(outline.line(outline.starts[last]), outline.column(last), outline.inline(last) != "", items, keys, lists, unclosed(outline))
 
 
 # Forms that aren't read
