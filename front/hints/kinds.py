@@ -153,6 +153,7 @@ VALUES: Dict[str, Kind] = {
     "list wanted": Kind("S6", "`{key}` is a list: write each {item} after `- `, or `[]` where there is none"),
     "mapping wanted": Kind("S6", "`{key}` is a mapping: {example}"),
     "item wanted": Kind("S6", "each {item} is a mapping, such as `- {{id: a{more}}}`"),
+    "type key as type": Kind("S6", "`{key}` is the name of a type here, beside the others; as a key of a type it has more spaces before it, or fewer"),
     "list in type": Kind("S6", "`{key}` is a type, and its attributes are under `seq`: write `seq:` below it, and its list below that"),
     "other case": Kind("S6", "the case of all other values is `_`"),
     "case member": Kind("S6", "an enum's member has the enum before it: `{enum}::{name}`"),
@@ -197,7 +198,7 @@ EXPRESSIONS: Dict[str, Kind] = {
     "no expression": Kind("X2", "an expression is missing: `{key}` needs one"),
     "open quote": Kind("X2", "the text isn't closed: its last `{sign}` is missing"),
     "open bracket": Kind("X2", "`{sign}` isn't closed"),
-    "comment": Kind("X2", "what comes after ` #` is a comment: write quotes around the expression"),
+    "comment": Kind("X2", "what comes after ` #` is a comment; where it belongs to the expression, write quotes around that"),
     "ended": Kind("X2", "after `{sign}` a value is missing"),
     "early end": Kind("X2", "the expression ends too early: a value or a closing sign is missing"),
     "left out form": Kind("X3", "this form isn't read: see REFERENCE, \"Expressions: syntax\""),
@@ -213,13 +214,15 @@ YAML: Dict[str, Kind] = {
     "key again": Kind("Y5", "`{key}` is in this mapping on line {line} too: a key is there once"),
     "key twice": Kind("Y5", "a key is in a mapping once: leave out one, or give it another name"),
     "control": Kind("Y6", "a character that can't be seen is in the line: U+{number}; take it out"),
+    "apostrophe": Kind("Y6", "in single quotes an apostrophe is written twice: `''`"),
+    "inner quote": Kind("Y6", "in double quotes a quote is written `\\\"`"),
     "after quote": Kind("Y6", "nothing comes after the closing quote: write quotes around all of it, or none"),
     "yaml escape": Kind("Y6", "`{escape}` is no escape here: write `\\\\` for a backslash, or single quotes around the text"),
     "flow entry": Kind("Y6", "in braces each key has a value: `{{{key}: ..}}`"),
     "flow space": Kind("Y6", "after the colon there is a space: `{near}`"),
     "open flow": Kind("Y8 Y6 Y4", "`{sign}` of line {line} isn't closed: the lines of it, its end too, have at least {columns} before them"),
     "flow parts": Kind("Y6", "in braces each part is `key: value`, in brackets a value, with commas between them"),
-    "two commas": Kind("Y6", "between two commas a value is missing"),
+    "two commas": Kind("Y6", "before a comma a value is missing"),
     "flow comma": Kind("Y6 Y8", "between two parts in brackets or braces a comma is missing"),
     "after bracket": Kind("Y6", "nothing comes after the closing bracket: write quotes around all of it"),
     "question": Kind("Y6 Y8", "a key is written `key: value`, without `? ` before it"),
@@ -237,8 +240,10 @@ YAML: Dict[str, Kind] = {
     "no colon": Kind("Y8", "a key has a colon and a space behind it: `{key}: ..`"),
     "no space": Kind("Y8", "after the colon there is a space: `{near}`"),
     "no key": Kind("Y8", "here a key is wanted, with a colon behind it, as the lines above have"),
-    "no dash": Kind("Y8", "here an item is wanted, with `- ` before it, as those above have"),
-    "below a value": Kind("Y8 Y4", "what is on line {line} has a value already, and nothing can be below it; a line beside it has {columns} before its text"),
+    "no dash": Kind("Y8", "here an item is wanted, with `- ` before it, as those above have; a key of the item above has {columns} before it"),
+    "item column": Kind("Y8", "here a key is wanted, as the lines above have; the items of the list above have {columns} before their `- `"),
+    "below a value": Kind("Y8 Y4", "what is on line {line} has a value already, and no key or item can be below it; a line beside it has {columns} before its text"),
+    "text lines": Kind("Y8", "a text over several lines can't have `: ` in it: write `{key}: |`, and the text on the lines below"),
     "pair in list": Kind("Y8", "in brackets a key and its value have braces around them: `[{{a: b}}]`"),
     "key place": Kind("Y8", "a text with `: ` in it needs quotes, and a key needs a line of its own"),
     "depth": Kind("Y9", "at most 64 mappings and lists are nested"),
@@ -255,7 +260,7 @@ def say(kind: str, **values: object) -> Hint:
 
 def shown(values: Dict[str, object]) -> Dict[str, str]:
     """What is filled in, short enough and such that a terminal may show it."""
-    return {key: visible(str(it), 400 if key in ("keys", "members", "types", "enums", "where", "role", "place", "example") else LONGEST) for key, it in values.items()}
+    return {key: visible(str(it), 400 if key in ("keys", "members", "types", "enums", "where", "role", "place", "example", "wanted") else LONGEST) for key, it in values.items()}
 
 
 def table() -> str:

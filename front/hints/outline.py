@@ -6,6 +6,7 @@ from __future__ import annotations
 
 import re
 from bisect import bisect_right
+from itertools import islice
 from typing import Dict, Iterator, List, Match, Optional, Pattern, Tuple
 
 from front.hints import flow
@@ -24,7 +25,7 @@ STOP = re.compile(r":(?=[ \t\r\n]|\Z)|[ \t]#")
 COMMENT = re.compile(r"[ \t]#")
 MARKER = re.compile(r"---[ \t]*(?:#[^\n]*)?\r?(?:\n|\Z)")
 # How many lines are read where nothing else is asked, which is also a column that no line has; and how many marks of one flow are read for each line.
-ALL, MARKS = 1 << 30, 2
+ALL, MARKS = 1 << 30, 1
 # How many dashes of one line are read, where ksv reads 64; and how long a key in quotes, or a value where not all is read.
 DEEPEST, LONGEST = 80, 65_536
 
@@ -221,9 +222,9 @@ class Outline:
             return [Pair(self._keys[it] or "", self.starts[it], self.node(it)) for it in rows], []
         return [], [self.node(it) for it in rows]
 
-    def contents(self, row: int) -> Tuple[List[Pair], List[Node]]:
-        """The pairs or the items directly in a row."""
-        rows, keys = list(self.below(row)), self._keys
+    def contents(self, row: int, most: int = ALL) -> Tuple[List[Pair], List[Node]]:
+        """The pairs or the items directly in a row, the first of them."""
+        rows, keys = list(islice(self.below(row), most)), self._keys
         if self.kind(row) == "map":
             return [Pair(keys[it], self.starts[it], self.node(it)) for it in rows if keys[it] is not None], []
         return [], [self.node(it) for it in rows if keys[it] is None]
