@@ -97,6 +97,8 @@ class Saver:
                 status, message = self.run(copy, out)
             except Died as error:
                 raise NotSaved(str(error)) from error
+        if status == 3 and has(out, content):
+            self._known[os.path.realpath(out)] = look_of(out)
         if status and not (status < 0 and has(out, content)):
             raise NotSaved(message or f"ksv ended by signal {-status} while it saved: {out} has its old bytes")
         if is_plain(out) and not has(out, content):
