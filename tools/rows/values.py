@@ -1,6 +1,6 @@
 """The table of expressions that a session is asked for: each row of ksv_rows_expressions' values, as a value instance.
 
-The replies are those of that table, which says where they are from, in the words of a session: a fault is at the instance, a text stands in double
+The replies are those of that table, which says where they are from, in the words of a session: a fault is at the instance, a text is in double
 quotes, and a member has its name. What the loader refuses isn't there."""
 
 import os
