@@ -11,7 +11,7 @@ from front.hints.node import Node
 from front.hints.outline import COMMENT, STOP, Outline
 
 # How much of a line and how many lines are looked at.
-LONGEST, LINES = 4000, 6_000
+LONGEST, LINES = 4000, 5_000
 CONTROL = re.compile("[\x00-\x08\x0b-\x1f\x7f-\x9f]")
 FRONT = re.compile(r"[ \t]*(?:-[ \t]+)*")
 WORD = re.compile(r"[A-Za-z_][\w-]*")
