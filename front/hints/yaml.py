@@ -11,7 +11,7 @@ from front.hints.node import Node
 from front.hints.outline import COMMENT, STOP, Outline
 
 # How much of a line and how many lines are looked at.
-LONGEST, LINES = 4000, 6_000
+LONGEST, LINES = 4000, 5_000
 CONTROL = re.compile("[\x00-\x08\x0b-\x1f\x7f-\x9f]")
 FRONT = re.compile(r"[ \t]*(?:-[ \t]+)*")
 WORD = re.compile(r"[A-Za-z_][\w-]*")
@@ -140,7 +140,7 @@ def no_key(text: str, line: Line) -> Optional[Hint]:
         return say("question")
     if line.value[:1] in ("[", "{") and COMMA.search(bare_of(line.value)[: flow.end(bare_of(line.value), 0)]):
         return say("flow comma")
-    if above and line.text.startswith(" " * (above.before + 1)) and above.is_full and not line.value.startswith(("[", "{")):
+    if above and line.text.startswith(" " * (above.before + 1)) and above.is_full and (line.key or not line.value.startswith(("[", "{"))):
         if above.key in TEXTS or above.key.startswith("-"):
             return say("text lines", key=above.key)
         return say("below a value", line=above.number, columns=spaces(above.before))
