@@ -9,6 +9,8 @@ from front.texts import Line, Painted, cut, narrow_of, visible
 
 # How much of a line is shown on a terminal, the least width of a tree's rows, and how many lines `all` shows at most.
 WIDTH, WIDEST_NAME, MOST_KEPT = 300, 44, 10_000
+# How many lines are written at once where there are many.
+TOGETHER = 500
 
 
 class OutputFailed(Exception):
@@ -45,8 +47,9 @@ class Output:
         """Shows lines; on a terminal long ones and many are cut, where that isn't excluded, and `all` shows them whole. Narrow ones have a row each, but for
         those that name a fault."""
         if not self.is_terminal or is_whole:
-            for it in lines:
-                self.write(f"{self.painted(it)}\n")
+            rest = iter(lines)
+            while some := list(itertools.islice(rest, TOGETHER)):
+                self.write("".join(f"{self.painted(it)}\n" for it in some))
             return
         lines = iter(lines)
         self.last = list(itertools.islice(lines, MOST_KEPT))

@@ -193,8 +193,18 @@ def told(message: str) -> None:
         pass
 
 
+def open_streams() -> None:
+    """Opens those standard streams that are closed, so that no other file has their numbers: nothing comes from them, and what is told there fails or goes."""
+    for name, path, mode in (("stdin", os.devnull, "r"), ("stdout", "/dev/full", "w"), ("stderr", os.devnull, "w")):
+        if getattr(sys, name) is None:
+            opened = open(path, mode, encoding="utf-8")  # pylint: disable=consider-using-with
+            os.set_inheritable(opened.fileno(), True)
+            setattr(sys, name, opened)
+
+
 def main(words: List[str]) -> int:
     """Opens a file by its description; the status."""
+    open_streams()
     if "--help" in words or "-h" in words:
         print(USAGE + "\n\n" + "\n".join(f"  {it}" for it in listed()) + "\n\n" + NUMBERS)
         return 0

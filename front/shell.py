@@ -165,7 +165,7 @@ class Shell:
 
     def leave(self, is_asked: bool = True) -> None:
         """Leaves, as it was asked to, or since the input ended; with `--save` the bytes are saved. Else, where edits aren't, a person is told so and stays at
-        the first time. An input that ends may have been broken off: then the journal keeps what isn't saved."""
+        the first time. An input that ends may have been broken off: then, and where the last save failed, the journal keeps what isn't saved."""
         is_owed = self.at_out != self.keeper.edits.version if self.out else not self.keeper.edits.is_saved()
         if is_owed and self.out:
             if not self.save("") and self.is_terminal and not self.is_warned:
@@ -177,7 +177,7 @@ class Shell:
             return
         elif is_owed and not self.is_terminal:
             self.output.tell("edits weren't saved" + ("" if is_asked else ": `recover` takes them up in the next session over this file"))
-        raise Leaving(self.status, is_kept=not self.is_terminal and (not is_asked or self.status != 0))
+        raise Leaving(self.status, is_kept=self.status != 0 or not (self.is_terminal or is_asked))
 
 
 def reason_of(error: OSError) -> str:

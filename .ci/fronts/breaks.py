@@ -122,6 +122,10 @@ class Journey:
             told, self.is_changed = self.shell.ask(line), False
             fired = self.room.control.fired()
         self.num_trials += 1 if fired else 0
+        if self.kind.action == TWICE and fired:
+            self.room.control.wait_for_second()
+        if isinstance(self.shell, Terminal) and fired and self.shell.status is None:
+            self.shell.synced()
         if not self.kind.again:
             self.room.control.disarm()
         if self.shell.status is not None:

@@ -1,5 +1,6 @@
 """Cases of what ended the shell with all its edits, and of lines that were read as others."""
 import contextlib
+import os
 import random
 import signal
 import subprocess
@@ -122,8 +123,6 @@ def signalled(signum: int, is_terminal: bool, *words: str) -> Case:
 
 def ended_by(shell: "Piped | Terminal", signum: int) -> int:
     """The status of a shell after a signal."""
-    import os
-
     time.sleep(0.05)
     os.kill(shell.pid, signum)
     if isinstance(shell, Piped):
@@ -131,6 +130,31 @@ def ended_by(shell: "Piped | Terminal", signum: int) -> int:
     else:
         shell.status = os.waitstatus_to_exitcode(os.waitpid(shell.pid, 0)[1])
     return shell.status
+
+
+def quit_twice(tree: Tree) -> str:
+    """A second `quit` at a terminal, whose save fails again, leaves the edits in the journal."""
+    with room_of(tree, {"FILE": SMALL, "KSY": KSY}) as room:
+        with contextlib.closing(Terminal(room, *SAVE)) as shell:
+            shell.ask("set 0 ff")
+            os.mkdir(room.path("OUT"))
+            shell.ask("quit")
+            if shell.status is not None:
+                return f"it ends with status {shell.status}"
+            shell.ask("quit")
+            if shell.status != 3:
+                return f"then status {shell.status}"
+        return left_alone(room, b"\xff" + SMALL[1:], "   1  set 0 ff\nsaved: no")
+
+
+def closed_streams(tree: Tree) -> str:
+    """Where standard input, output or error is closed, that is no error of the shell's own."""
+    for closed in ("<&-", ">&-", "2>&-", "<&- >&- 2>&-"):
+        with room_of(tree, {"FILE": SMALL, "KSY": KSY}) as room:
+            ran = subprocess.run(["sh", "-c", f"'{tree.shell}' FILE KSY {closed}"], cwd=room.folder, env=room.environ, input="set 0 ff\n", capture_output=True, text=True, check=False)
+            if "Traceback" in ran.stderr or ran.returncode not in (0, 3):
+                return f"{closed}: status {ran.returncode}, {ran.stderr[-300:]!r}"
+    return ""
 
 
 def bytes_written(line: str, wanted: str) -> Case:
@@ -165,6 +189,8 @@ CASES: Dict[str, Case] = {
     "4: full output": full_output,
     **{f"4: {signal.Signals(signum).name}{' at a terminal' if is_terminal else ''} {' '.join(words[:2])}": signalled(signum, is_terminal, *words)
        for signum in (signal.SIGHUP, signal.SIGTERM, signal.SIGKILL) for is_terminal in (False, True) for words in ((), SAVE)},
+    "more: a second quit": quit_twice,
+    "more: closed streams": closed_streams,
     "4: SIGINT in a pipe": signalled(signal.SIGINT, False),
     "5: two spaces in a text": bytes_written('set 43 "A  B"', "41202042"),
     "5: tabs in a text": bytes_written('set 43 "A\t\t B"', "4109092042"),

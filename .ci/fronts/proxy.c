@@ -15,7 +15,7 @@
 
 enum { SIGNALS = 64, DIED = 100, HALF, NO_MEMORY, TWICE };
 struct plan { uint32_t at, kind, delay; };
-struct control { uint32_t is_armed, count, fired, dump, begun, num; struct plan plans[8]; };
+struct control { uint32_t is_armed, count, fired, dump, begun, second, num; struct plan plans[8]; };
 
 static struct control *control;
 static pid_t shell;
@@ -41,6 +41,7 @@ static uint32_t event(void) {
                 for (int end = 0; end < 256; end++) close(end);
                 usleep(plan->delay);
                 kill(shell, SIGINT);
+                control->second = 1;
                 _exit(0);
             }
         }

@@ -70,7 +70,7 @@ class Control:
         """Counts events from now on; each plan has the number of its event, what is done, and how long after it."""
         self.map[:4] = bytes(4)
         fields = [it for plan in plans for it in plan]
-        self.map[4:] = struct.pack(f"=5I{len(fields)}I", 0, 0, 0, self.begun, len(plans), *fields).ljust(4092, b"\0")
+        self.map[4:] = struct.pack(f"=6I{len(fields)}I", 0, 0, 0, self.begun, 0, len(plans), *fields).ljust(4092, b"\0")
         self.map[:4] = struct.pack("=I", 1)
 
     def disarm(self) -> Tuple[int, int]:
@@ -82,6 +82,12 @@ class Control:
     def fired(self) -> int:
         """How many plans were met until now."""
         return struct.unpack("=I", self.map[8:12])[0]
+
+    def wait_for_second(self) -> None:
+        """Waits until the second signal of a plan was sent."""
+        until = time.monotonic() + PATIENCE
+        while not any(self.map[20:24]) and time.monotonic() < until:
+            time.sleep(0.001)
 
     def want_dump(self) -> None:
         """Lets the proxy write all bytes of the program before the next line."""
@@ -227,12 +233,12 @@ class Terminal(Shell):
         fcntl.ioctl(self.ours, termios.TIOCSWINSZ, struct.pack("HHHH", 5000, 2000, 0, 0))
         self.greeting = self.until(self.PROMPT)
 
-    def until(self, end: "re.Pattern[bytes]") -> str:
+    def until(self, end: "re.Pattern[bytes]", seconds: float = PATIENCE) -> str:
         """What is shown until it ends so, or the shell has ended."""
-        shown, stop = b"", time.monotonic() + PATIENCE
+        shown, stop = b"", time.monotonic() + seconds
         while not end.search(shown[-200:]):
             if not select.select([self.ours], [], [], max(0.0, stop - time.monotonic()))[0]:
-                raise Silent(f"nothing shown in {PATIENCE} s, but {shown[-200:]!r}")
+                raise Silent(f"nothing shown in {seconds} s, but {shown[-200:]!r}")
             try:
                 piece = os.read(self.ours, 1 << 16)
             except OSError:
@@ -245,13 +251,17 @@ class Terminal(Shell):
 
     def ask(self, line: str) -> str:
         """What is shown below a line, without the prompts."""
-        told = self.typed(line, self.PROMPT)
-        if self.status is None and "broken off" in told:
-            # A second signal may come a while later, and then breaks off what is typed.
-            time.sleep(0.03)
+        return self.typed(line, self.PROMPT).rstrip("\n")
+
+    def synced(self) -> None:
+        """Types lines until one has its own reply: after that a signal that was sent before has done what it does."""
+        for _ in range(60):
             mark = self.mark()
-            told += self.typed(mark, re.compile(rb"%b: no such command; `help` lists them\r\nksv /\S*> $" % mark.encode())).partition(f"{mark}: no such")[0].replace(mark, "")
-        return told.rstrip("\n")
+            with contextlib.suppress(Silent):
+                os.write(self.ours, f"{mark}\n".encode())
+                self.until(re.compile(rb"%b: no such command; `help` lists them\r\nksv /\S*> $" % mark.encode()), 1.0)
+                return
+        raise Silent("no line has its own reply")
 
     def typed(self, line: str, end: "re.Pattern[bytes]") -> str:
         """What is shown below a line, up to an end."""
