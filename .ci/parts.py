@@ -50,6 +50,7 @@ LATE = (
     Part("launcher", ("{copy}/.ci/launcher",)),
     Part("hints", ("{copy}/.ci/hints",)),
     Part("shell", ("{copy}/.ci/shell",)),
+    Part("front", ("{copy}/.ci/front",)),
     Part("saves", ("{copy}/.ci/saves",)),
     Part("refusals", ("{copy}/.ci/refusals",)),
     Part("hostile", ("{copy}/.ci/hostile",)),
