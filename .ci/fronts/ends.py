@@ -32,6 +32,7 @@ def line_that_ended(line: str, wanted: str) -> Case:
     """A line is refused, and the session goes on with its edits."""
 
     def case(tree: Tree) -> str:
+        """What is wrong with it."""
         with room_of(tree, {"FILE": SMALL, "KSY": KSY}) as room, contextlib.closing(Piped(room)) as shell:
             shell.ask("set 0 ff")
             told = shell.ask(line)
@@ -73,6 +74,7 @@ def encoded(**environ: str) -> Case:
     """Replies that the encoding of standard output can't write end nothing."""
 
     def case(tree: Tree) -> str:
+        """What is wrong with it."""
         with room_of(tree, {"FILE": TEXT, "KSY": TEXT_KSY}) as room, contextlib.closing(Piped(room, **environ)) as shell:
             for line in ("set 20 ff", "get /name", 'find "\u00e4"', "\u00e4", "tree", "get /\u00e4", "help", "\udcff"):
                 shell.ask(line)
@@ -109,6 +111,7 @@ def signalled(signum: int, is_terminal: bool, *words: str) -> Case:
     """A signal ends the shell while it waits for a line: OUT is as it was, and the edits are taken up by the next session."""
 
     def case(tree: Tree) -> str:
+        """What is wrong with it."""
         with room_of(tree, {"FILE": SMALL, "KSY": KSY, "OUT": b"old"}) as room:
             with contextlib.closing((Terminal if is_terminal else Piped)(room, *words)) as shell:
                 shell.ask("set 0 ff")
@@ -161,6 +164,7 @@ def bytes_written(line: str, wanted: str) -> Case:
     """The bytes that a line writes."""
 
     def case(tree: Tree) -> str:
+        """What is wrong with it."""
         with room_of(tree, {"FILE": SMALL, "KSY": KSY}) as room, contextlib.closing(Piped(room)) as shell:
             shell.ask(line)
             own = shell.ask(f"bytes 43 {len(wanted) // 2}")

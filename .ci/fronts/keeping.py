@@ -151,6 +151,7 @@ def failing_once(name: str, is_short: bool, also: str = "") -> Check:
     """A system call of a journal fails, each in turn: what was noted before is there, and all of it with the next record."""
 
     def check() -> str:
+        """What is wrong with it."""
         for number in range(1, 40):
             with home() as folder:
                 failing = Failing(name, number, is_short, also)
@@ -285,6 +286,7 @@ def outcome(script: str, wanted: str, left: bytes) -> Check:
     """What is told of a process that saves and does this."""
 
     def check() -> str:
+        """What is wrong with it."""
         with home() as folder, Copy(b"ksy") as ksy, Signals() as signals, mock.patch.object(save, "PATIENCE", 0.3):
             with open(f"{folder}/ksv", "w", encoding="utf-8") as file:
                 file.write(f'#!/bin/sh\nout=${{1#--save=}}; new=$3\n{script}\n')

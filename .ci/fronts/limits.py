@@ -56,6 +56,7 @@ def costs_little(files: Dict[str, bytes], lines: List[str], seconds: float, memo
     """Lines take no more processor time and memory than a session with none of them does, and this."""
 
     def case(tree: Tree) -> str:
+        """What is wrong with it."""
         before, own = cost(tree, files, ["size"], **environ), cost(tree, files, ["size", *lines], **environ)
         used, more = own.seconds - before.seconds, own.memory - before.memory
         return "" if used <= seconds and more <= memory and own.status == 0 else f"{used:.2f} s and {more // MEBI} MiB more than without, status {own.status}"
@@ -85,7 +86,7 @@ def memory_of(pid: int) -> int:
 
 
 def finds_many(tree: Tree) -> str:
-    """`find 00` over zeros, whose shell has little memory: all of 4 MiB, and the first place of 16 MiB."""
+    """`find 00` over 1 MiB of zeros takes little memory."""
     own = cost(tree, {"FILE": bytes(MEBI), "KSY": KSY}, ["find 00"])
     if own.memory > 150 * MEBI or own.status:
         return f"{own.memory // MEBI} MiB over 1 MiB, status {own.status}"
@@ -107,7 +108,7 @@ def finds_first(tree: Tree) -> str:
 
 
 def many_types(count: int) -> bytes:
-    """A description with many types, nested in one another by tens, and a fault in one of them."""
+    """A description with twice as many types, each with one of its own, and faults in them."""
     rows = ["meta: {id: t, endian: le}", "seq: [{id: a, type: t0}]", "types:"]
     for number in range(count):
         rows += [f"  t{number}:", "    seq:", "      - {id: b, type: u1}", "      - {id: c, type: u1, valid: {max: 0}}", "    instances:",
@@ -163,6 +164,7 @@ def limited(program: str, setting: str, least: int, most: int) -> Case:
     """The process of the program may have no more memory than a setting tells; without one, than three quarters of what is free."""
 
     def case(tree: Tree) -> str:
+        """What is wrong with it."""
         with room_of(tree, {"FILE": b"abc", "KSY": KSY}) as room:
             room.write("real", b"#!/bin/sh\nwhile read -r line; do echo size 3; done\n")
             os.chmod(room.path("real"), 0o755)
@@ -202,6 +204,7 @@ def hinted(size: int, line: bytes, seconds: float, memory: int) -> Case:
     """The launcher tells at a terminal why a description is refused, and takes little for it."""
 
     def case(tree: Tree) -> str:
+        """What is wrong with it."""
         with room_of(tree, {"FILE": b"abc", "KSY": line}) as room:
             os.truncate(room.path("KSY"), size)
             ours, theirs = os.openpty()
@@ -234,7 +237,7 @@ DIRECT: Dict[str, Case] = {
     "6: find over 1 MiB of zeros": finds_many,
     "6: find over 16 MiB of zeros": finds_first,
     "6: an explanation at 1,000 types": explains,
-    "8: hints of a line of 1,000,000 question marks": hinted(1_000_000, b"?" * 1_000_000, 3, 250 * MEBI),
+    "more: hints of a line of 1,000,000 question marks": hinted(1_000_000, b"?" * 1_000_000, 3, 250 * MEBI),
     "8: hints of a description of 1 GiB": hinted(1 << 30, b"a: b\n", 3, 250 * MEBI),
     "more: a save of 16 MiB with 1,000 edits": saves_fast,
 }

@@ -36,6 +36,7 @@ def interrupted_save(signum: int, number: int) -> Case:
     """A save of 16 MiB over the file itself, after a `del` that was taken back, is broken off at one of its questions."""
 
     def case(tree: Tree) -> str:
+        """What is wrong with it."""
         with room_of(tree, {"FILE": LARGE, "KSY": KSY}) as room:
             with contextlib.closing(Piped(room, "--save", "FILE", "FILE", "KSY")) as shell:
                 shell.ask("del 0 16000000")
@@ -54,6 +55,7 @@ def interrupted_undo(number: int) -> Case:
     """An `undo` of many lines is broken off at one of its questions: it is done, or isn't."""
 
     def case(tree: Tree) -> str:
+        """What is wrong with it."""
         content = LARGE[:200_000]
         with room_of(tree, {"FILE": content, "KSY": KSY}) as room, contextlib.closing(Terminal(room)) as shell:
             shell.ask("del 0 150000")
@@ -182,6 +184,7 @@ def died_under(kind: int, name: str) -> Case:
     """The program ends at each question below a line: the session goes on, with its edits."""
 
     def case(tree: Tree) -> str:
+        """What is wrong with it."""
         with room_of(tree, {"FILE": SMALL, "KSY": KSY}) as room, contextlib.closing(Piped(room)) as shell:
             shell.ask("set 0 ff")
             for line in ("get /a", "hex 0 64", "set 1 ff", "undo", "save OUT"):

@@ -57,6 +57,7 @@ def table(rows: List[tuple], function: Callable[[str], object]) -> Check:
     """Each row's text gives what is beside it, or is refused so."""
 
     def check() -> str:
+        """What is wrong with it."""
         for text, wanted in rows:
             own = told(lambda text=text: function(text))
             if str(wanted) not in str(own) if isinstance(own, Misread) else own != wanted:
