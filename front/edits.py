@@ -90,3 +90,8 @@ class Edits:
         while at:
             count, at = count + 1, at.before
         return count
+
+
+def edits_of(count: int) -> str:
+    """A number of edits, in words."""
+    return f"{count} edit{'' if count == 1 else 's'}"

@@ -6,48 +6,23 @@ stays as it is until `save`. Edits that were accepted are in a journal, from whi
 """
 import os
 import signal
-import subprocess
 import sys
-from functools import lru_cache
 from typing import List, Optional, Tuple
 
 from front import journal
 from front.commands import COMMANDS, NUMBERS, WITH_PATH, listed
-from front.commands.editing import edits_of
 from front.complete import Completer
-from front.copies import Copy, read
-from front.description import Description
-from front.keeper import Keeper, lefts
+from front.edits import edits_of
+from front.opening import Opened, greetings, looked_at, open_streams, told, words_of
 from front.output import Output, OutputFailed
-from front.save import Saver, barrier, is_plain, look_of
-from front.session import Died, Refused, Session
+from front.session import Died, Refused
 from front.shell import Leaving, Shell
 from front.signals import Ending, Interrupted, Signals
 from front.texts import visible
 
-TOP = os.path.dirname(os.path.dirname(os.path.realpath(__file__)))
-PROGRAM = f"{TOP}/crates/ksv_cli/out/ksv_cli"
 USAGE = "usage: ksv-shell FILE KSY [--save OUT]"
 # The longest line that is read, in bytes, and how many lines the history keeps.
 LONGEST, REMEMBERED = 1 << 20, 2000
-
-
-def words_of(words: List[str]) -> Optional[Tuple[str, str, Optional[str]]]:
-    """The file, the description and where to save; None where the words are others."""
-    plain, out, rest = [], None, list(words)
-    while rest:
-        word = rest.pop(0)
-        if word == "--":
-            plain, rest = plain + rest, []
-        elif word == "--save" and rest:
-            out = rest.pop(0)
-        elif word.startswith("--save="):
-            out = word[len("--save=") :]
-        elif word.startswith("--"):
-            return None
-        else:
-            plain.append(word)
-    return (plain[0], plain[1], out) if len(plain) == 2 and out != "" else None
 
 
 class History:
@@ -118,35 +93,15 @@ def served(shell: Shell, signals: Signals) -> None:
 
 def greeted(shell: Shell) -> None:
     """Tells what other sessions over the file left."""
-    for left in lefts(shell.file):
-        aside = "" if left.sum == journal.sum_of(shell.keeper.origin) else ", and the file was changed since"
-        if left.is_open:
-            shell.output.tell(f"another session over this file has {edits_of(left.count)}, not saved")
-        else:
-            shell.output.tell(f"a session that ended at {journal.when(left.time)} left {edits_of(left.count)}, not saved{aside}: "
-                              "`recover` takes them up, `recover drop` removes them")
+    for it in greetings(shell.keeper, "`recover` takes them up, `recover drop` removes them"):
+        shell.output.tell(it)
 
 
 def explored(named: Tuple[str, str, Optional[str]], signals: Signals) -> int:
     """Opens a file by its description, and does what is asked; the status."""
-    file, ksy, out = named
     output = Output(sys.stdout, sys.stdin.isatty() and sys.stdout.isatty())
-    look, look_out = look_of(file), look_of(out) if out else None
-    origin, text = read(file), read(ksy)
-    with Copy(text) as ksy_copy:
-
-        def session_of(keeper: Keeper, copy: Copy) -> Session:
-            """A session over a copy of the file, after the keeper's edits."""
-            return Session(PROGRAM, copy, ksy_copy, lambda: keeper.edits.lines(), signals, output.tell)
-
-        keeper = Keeper(file, origin, session_of, output.tell)
-        saver = Saver(PROGRAM, ksy_copy, signals)
-        if out:
-            saver.know(out, look_out)
-        saver.know(file, look)
-        description = lru_cache(maxsize=None)(lambda: Description(text.decode(errors="replace")))
-        shell = Shell(file, out, keeper, saver, description, output, signals)
-        return left_with(shell, signals)
+    with Opened(named, signals, output.tell) as opened:
+        return left_with(Shell(opened.file, opened.out, opened.keeper, opened.saver, opened.description, output, signals), signals)
 
 
 def left_with(shell: Shell, signals: Signals) -> int:
@@ -173,35 +128,6 @@ def left_with(shell: Shell, signals: Signals) -> int:
     return status
 
 
-def unusable(file: str, ksy: str, out: Optional[str]) -> Optional[Tuple[int, str]]:
-    """The status and message of names that can't be used, as far as the program doesn't see it itself; None where there is nothing. What can be read only
-    once, as a pipe, would be empty when it is read again."""
-    for name in (file, ksy):
-        if "\0" in name or os.path.exists(name) and not os.path.isdir(name) and not is_plain(name):
-            return 1, f"ksv-shell: {name}: only a file can be edited, and described by one"
-    if out is not None:
-        what = "a file's name has no byte 0" if "\0" in out else barrier(out)
-        return (3, f"ksv-shell: {out}: cannot write: {what}") if what else None
-    return None
-
-
-def told(message: str) -> None:
-    """Tells a message on standard error, if somebody hears it."""
-    try:
-        print(visible(message), file=sys.stderr, flush=True)
-    except OSError:
-        pass
-
-
-def open_streams() -> None:
-    """Opens those standard streams that are closed, so that no other file has their numbers: nothing comes from them, and what is told there fails or goes."""
-    for name, path, mode in (("stdin", os.devnull, "r"), ("stdout", "/dev/full", "w"), ("stderr", os.devnull, "w")):
-        if getattr(sys, name) is None:
-            opened = open(path, mode, encoding="utf-8")  # pylint: disable=consider-using-with
-            os.set_inheritable(opened.fileno(), True)
-            setattr(sys, name, opened)
-
-
 def main(words: List[str]) -> int:
     """Opens a file by its description; the status."""
     open_streams()
@@ -212,13 +138,8 @@ def main(words: List[str]) -> int:
     if not named:
         print(USAGE, file=sys.stderr)
         return 2
-    why = unusable(*named)
-    if why:
-        told(why[1])
-        return why[0]
-    # The launcher builds the program where it isn't, and tells what it can't use.
     try:
-        looked = subprocess.run([f"{TOP}/bin/ksv", "--", *named[:2]], stdin=subprocess.DEVNULL, check=False).returncode
+        looked = looked_at("ksv-shell", named)
     except KeyboardInterrupt:
         return 128 + signal.SIGINT
     if looked:

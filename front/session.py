@@ -78,7 +78,9 @@ class Process:
         """Whether the process has told something, and whether it takes something, once one of them holds. What a signal asked for is raised."""
         self.signals.look()
         taken = [self.running.stdin] if is_writing else []
-        readable, writable, _ = select.select([self.running.stdout, self.signals.wake], taken, [])
+        readable, writable, _ = select.select([self.running.stdout, self.signals.wake], taken, [], self.signals.patience)
+        if not readable and not writable:
+            self.signals.sign()
         self.signals.look()
         return self.running.stdout in readable, bool(writable)
 

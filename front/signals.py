@@ -6,7 +6,7 @@ import os
 import signal
 from contextlib import contextmanager
 from types import FrameType
-from typing import Iterator, List, Optional
+from typing import Callable, Iterator, List, Optional
 
 ENDING = (signal.SIGHUP, signal.SIGTERM)
 
@@ -28,6 +28,9 @@ class Signals:
 
     def __init__(self) -> None:
         self.is_interrupted, self.ending, self.is_listening = False, 0, False
+        # how long something is waited for, in seconds, until a sign is given that it goes on; and how it is given
+        self.patience: Optional[float] = None
+        self.sign: Callable[[], None] = lambda: None
         self.wake, self._told = os.pipe()
         self._before: List[tuple] = []
         for end in (self.wake, self._told):

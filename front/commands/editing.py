@@ -2,6 +2,7 @@
 from typing import TYPE_CHECKING, List, Optional
 
 from front import words as reader
+from front.edits import edits_of
 from front.journal import removed, sum_of, when
 from front.keeper import WORDS, lefts
 from front.save import CHANGED
@@ -89,8 +90,3 @@ def recover(shell: "Shell", word: str, words: List[Word]) -> None:
             shell.saver.know(shell.file, CHANGED)
         also = f"; {shell.file} was changed since, this is the session's own" if is_changed else ""
         shell.output.show([f"{told}  (took up {edits_of(len(shell.keeper.edits.holding()))}{also})"])
-
-
-def edits_of(count: int) -> str:
-    """A number of edits, in words."""
-    return f"{count} edit{'' if count == 1 else 's'}"
