@@ -1,0 +1,62 @@
+"""Rows of cells: texts with styles, and as wide as they must be. Nothing here knows a terminal."""
+from dataclasses import dataclass
+from typing import Iterable, List, Tuple
+
+from front.texts import columns, visible
+
+# What is cut off ends with this.
+CUT = "~"
+
+
+@dataclass(frozen=True)
+class Span:
+    """Some letters of a row, and the style that they have."""
+
+    text: str
+    style: str = "plain"
+
+
+Row = Tuple[Span, ...]
+
+
+def cut(text: str, width: int) -> str:
+    """A text as it may be shown, or as much of it as n columns hold, with a mark where it was cut."""
+    text = visible(text[: max(0, width) * 2 + 2])
+    if columns(text) <= width:
+        return text
+    taken, room = [], width - len(CUT)
+    for it in text:
+        room -= columns(it)
+        if room < 0:
+            break
+        taken.append(it)
+    return "".join(taken) + CUT if width > 0 else ""
+
+
+def fitted(spans: Iterable[Span], width: int, style: str = "plain") -> Row:
+    """Spans as a row that is n columns wide: cut, or with spaces behind them."""
+    found: List[Span] = []
+    for it in spans:
+        text = cut(it.text, width)
+        width -= columns(text)
+        if text:
+            found.append(Span(text, it.style))
+        if width <= 0 and text.endswith(CUT):
+            break
+    return tuple(found) + ((Span(" " * width, style),) if width > 0 else ())
+
+
+def plain(row: Row) -> str:
+    """The letters of a row."""
+    return "".join(it.text for it in row)
+
+
+def flowed(pieces: Iterable[str], width: int) -> List[str]:
+    """Lines that pieces fill one after the other, each piece on one line, with two spaces between them."""
+    lines: List[str] = []
+    for it in pieces:
+        if lines and columns(lines[-1]) + 2 + columns(it) <= width:
+            lines[-1] += f"  {it}"
+        else:
+            lines.append(it)
+    return lines

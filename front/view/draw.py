@@ -1,0 +1,207 @@
+"""A screen as rows of cells, made of its state and a function that answers questions."""
+import re
+from dataclasses import dataclass
+from typing import Callable, List, Optional, Tuple
+
+from front.description import Description
+from front.look import span_of
+from front.texts import columns
+from front.view import about, octets, readings
+from front.view.cells import Row, Span, cut, fitted
+from front.view.help import LINES, TITLE, keys_of
+from front.view.octets import Grid
+from front.view.replies import Replies
+from front.view.state import State
+from front.view.tree import Tree
+
+# The least columns that have room for both halves, and the least rows of them; the lines about the chosen node; the lines of readings in a wide and in a
+# narrow screen.
+BOTH, BODY, ABOUT, READINGS, NARROW_READINGS = 72, 6, 3, 5, 12
+
+
+@dataclass(frozen=True)
+class Told:
+    """What is known of the session besides the file's bytes: names, and how many edits hold and whether they are saved."""
+
+    file: str
+    ksy: str
+    edits: str
+    description: Callable[[], Description]
+
+
+@dataclass(frozen=True)
+class Screen:
+    """Rows of cells, and the row and column of the terminal's cursor, if it is shown."""
+
+    rows: List[Row]
+    cursor: Optional[Tuple[int, int]] = None
+
+
+@dataclass(frozen=True)
+class Layout:
+    """How many columns each half has (0 where it isn't shown), and how many rows they and what is below them have."""
+
+    tree: int
+    grid: Optional[Grid]
+    body: int
+    about: int
+    readings: int
+
+    @classmethod
+    def of(cls, state: State, size: int) -> "Layout":
+        """What there is room for."""
+        lines = ABOUT if state.rows >= 12 else 2 if state.rows >= 10 else 0
+        free = max(1, state.rows - 2 - lines)
+        below = min(READINGS if state.columns >= 80 else NARROW_READINGS, free // 2, max(0, free - BODY))
+        body = free - below
+        if state.columns < BOTH:
+            if state.half == "tree":
+                return cls(state.columns, None, body, lines, below)
+            return cls(0, Grid.of(size, state.columns, body), body, lines, below)
+        grid = Grid.of(size, max(40, state.columns * 58 // 100), body)
+        return cls(state.columns - grid.width - 1, grid, body, lines, below)
+
+
+def drawn(state: State, replies: Replies, told: Told) -> Screen:
+    """The whole screen."""
+    if state.help_from is not None:
+        return helped(state, state.help_from)
+    layout = Layout.of(state, replies.size())
+    below = below_of(state, replies, told, layout)
+    marked, halves, cursor = marked_of(state, replies), [], None
+    if layout.tree:
+        halves.append([title(state, replies, told, layout.tree), *tree_rows(state, replies, layout)])
+    if layout.grid:
+        rows, (line, column) = octets.rows_of(state, replies, layout.grid, marked)
+        halves.append([octets.heading(layout.grid), *rows])
+        cursor = (line + 1, column + (layout.tree + 1 if layout.tree else 0)) if state.half == "bytes" else None
+    rows = [fitted([it for half in both for it in (*half, Span(" "))][:-1], state.columns) for both in zip(*halves)]
+    last, typed_at = last_row(state)
+    return Screen([*rows, *below, last][: state.rows], (state.rows - 1, typed_at) if typed_at is not None else cursor)
+
+
+def marked_of(state: State, replies: Replies) -> Tuple[int, int]:
+    """The bytes of the chosen node."""
+    return (span_of(replies.ask(f"at {state.path}")) if state.is_node else None) or (0, 0)
+
+
+def title(state: State, replies: Replies, told: Told, width: int) -> Row:
+    """The first row of the tree's half: the file, its size and its edits."""
+    text = f"{told.file}  {replies.size()} bytes{'  ' if told.edits else ''}{told.edits}"
+    return fitted([Span(text, "dim")], width, "dim")
+
+
+# The tree
+
+
+def tree_rows(state: State, replies: Replies, layout: Layout) -> List[Row]:
+    """The rows of the tree's half."""
+    tree = Tree.of(state, replies)
+    paths, _ = tree.around(state.path, state.line, layout.body)
+    rows = [tree_row(state, replies, tree, it, layout.tree) for it in paths]
+    return rows + [fitted([], layout.tree)] * (layout.body - len(rows))
+
+
+def tree_row(state: State, replies: Replies, tree: Tree, path: str, width: int) -> Row:
+    """The row of one path: whether it is chosen, whether it changed, whether it is open, its name, its value and its place."""
+    value, where = replies.ask(f"get {path}"), replies.ask(f"at {path}")
+    is_changed = is_other(replies, f"get {path}", value)
+    is_moved = is_other(replies, f"at {path}", where)
+    depth = path.count("/") if path != "/" else 0
+    chosen = ("chosen" if state.half == "tree" else "mate") if path == state.path and state.is_node else ""
+    place = short_place(where)
+    front = f"{'>' if chosen else ' '}{'*' if is_changed else ' '}{' ' * min(2 * depth, width // 3)}{mark_of(tree, path, value, where)} "
+    name = path.rpartition("/")[2] or "/"
+    room = width - (columns(place) + 1 if place else 0)
+    kind = "fault" if value.startswith(("fault", "error")) and not is_absent(value, path) else "changed" if is_changed else "dim" if is_absent(value, path) else "plain"
+    spans = [Span(front, chosen), Span(name, f"name {chosen}"), Span("  ", chosen), Span(shown(value, path, state.is_hex), f"{kind} {chosen}")]
+    row = fitted(spans, max(1, room), chosen)
+    return fitted([*row, Span(f" {place}", f"{'changed' if is_moved else 'dim'} {chosen}")] if place else row, width, chosen)
+
+
+def is_other(replies: Replies, line: str, told: str) -> bool:
+    """Whether a reply was another one before the last edit."""
+    was = replies.was(line)
+    return was is not None and was != told
+
+
+def mark_of(tree: Tree, path: str, value: str, where: str) -> str:
+    """`+` before what can be opened, `-` before what is open, `=` before what is found elsewhere."""
+    if where == "calculated":
+        return "=" if value.startswith("object ") else " "
+    if not value.startswith(("object ", "[", "fault ")) or not tree.has_below(path):
+        return " "
+    return "-" if tree.opened is not None and path in tree.opened else "+"
+
+
+def is_absent(value: str, path: str) -> bool:
+    """Whether something isn't there by its own condition."""
+    return value == f"fault absent at {path}"
+
+
+def shown(value: str, path: str, is_hex: bool) -> str:
+    """A value as a row has it: the reply, with integers in hexadecimal digits where that is wanted."""
+    if is_absent(value, path):
+        return "absent"
+    if is_hex:
+        return re.sub(r"^-?\d+$|(?<=\()-?\d+(?=\)$)", lambda found: f"{int(found[0]):#x}", value)
+    return value
+
+
+def short_place(where: str) -> str:
+    """A place in hexadecimal digits, or that there is none."""
+    found = re.fullmatch(r"at (\d+)((?:\.\d)?) (\d+)((?:\.\d)?)", where)
+    if found:
+        return f"{int(found[1]):x}{found[2]}-{int(found[3]):x}{found[4]}"
+    return "calc" if where == "calculated" else ""
+
+
+# What is below both halves
+
+
+def below_of(state: State, replies: Replies, told: Told, layout: Layout) -> List[Row]:
+    """The rows about the chosen node, and those of what the bytes at the cursor are."""
+    rows: List[Row] = []
+    if layout.about:
+        path = state.path if state.is_node else "/"
+        lines = about.lines_of(replies, told.description, told.ksy, path)
+        if not state.is_node:
+            lines = [f"no member has the byte {state.place} (0x{state.place:x})", "", ""]
+        if layout.about < ABOUT and lines[2]:
+            lines[1] = lines[2]
+        rows = [fitted([Span(it, style)], state.columns, style) for it, style in zip(lines[: layout.about], ("bar", "plain", "note"))]
+    if layout.readings:
+        first, count = about.bits_at(replies.ask(f"at {state.path}")) if state.is_node and is_first_byte(state, replies) else (0, 8)
+        some = replies.content(state.place, readings.READ)
+        found = readings.lines_of(some, state.columns, first, count)[: layout.readings]
+        rows += [fitted([Span(it)], state.columns) for it in found]
+        rows += [fitted([], state.columns)] * (layout.readings - len(found))
+    return rows
+
+
+def is_first_byte(state: State, replies: Replies) -> bool:
+    """Whether the cursor is on the first byte of the chosen node."""
+    return marked_of(state, replies)[0] == state.place
+
+
+def last_row(state: State) -> Tuple[Row, Optional[int]]:
+    """The last row: the line that is typed, and the column of its cursor; else a message, or the keys that there are."""
+    if state.typed:
+        label = f"{cut(state.typed.purpose, state.columns // 2)}: "
+        room = max(1, state.columns - columns(label) - 1)
+        text = "".join(it if it.isprintable() else "?" for it in state.typed.text)
+        start = max(0, state.typed.at - room)
+        return fitted([Span(label, "key"), Span(text[start : start + room], "offered" if state.typed.is_offered else "plain")], state.columns), min(
+            state.columns - 1, columns(label) + columns(text[start : state.typed.at])
+        )
+    if state.message:
+        return fitted([Span(state.message, "message")], state.columns), None
+    return fitted([it for key, what in keys_of(state.half, state.columns) for it in (Span(key, "key"), Span(f" {what}  "))], state.columns), None
+
+
+def helped(state: State, first: int) -> Screen:
+    """The page of help."""
+    rows = [fitted([Span(TITLE, "bar")], state.columns, "bar")]
+    rows += [fitted([Span(f"{key:<12}", "key"), Span(f" {what}")], state.columns) for key, what in LINES[first : first + state.rows - 2]]
+    rows += [fitted([], state.columns)] * (state.rows - 1 - len(rows))
+    return Screen([*rows, fitted([Span("any other key goes back", "message")], state.columns)][: state.rows])
