@@ -21,7 +21,7 @@ Line = Union[str, Painted]
 
 def visible(text: str) -> str:
     """A text as a terminal may show it: nothing in it moves the cursor."""
-    return "".join(it if it.isprintable() else escape(it) for it in text)
+    return text if text.isprintable() else "".join(it if it.isprintable() else escape(it) for it in text)
 
 
 def escape(letter: str) -> str:
@@ -32,7 +32,7 @@ def escape(letter: str) -> str:
 
 def columns(text: str) -> int:
     """How many columns of a terminal a text takes."""
-    return sum(0 if unicodedata.combining(it) else 2 if unicodedata.east_asian_width(it) in "WF" else 1 for it in text)
+    return len(text) if text.isascii() else sum(0 if unicodedata.combining(it) else 2 if unicodedata.east_asian_width(it) in "WF" else 1 for it in text)
 
 
 def hexed(reply: str) -> str:

@@ -4,14 +4,20 @@ from typing import Callable, List, Optional, Tuple
 
 from front.description import Description, Member
 from front.explain import Explainer
+from front.follow import Follower
 from front.look import Explorer, Spent
 from front.session import Refused
+from front.texts import columns
+from front.view.cells import cut
 from front.view.replies import Replies
+from front.view.sources import Sources
 from front.view.state import parent
 
 # The keys of a member that are named, in this order; and the most questions for an explanation.
 KEYS = ("type", "enum", "contents", "value", "size", "size-eos", "terminator", "pos", "io", "repeat-expr", "repeat-until", "if", "valid")
-ASKED = 200
+ASKED = 300
+# How much of a value is shown that another one is made of.
+VALUE = 24
 
 
 def member_of(replies: Replies, description: Description, path: str) -> Optional[Member]:
@@ -69,15 +75,64 @@ def bits_at(told: str) -> Tuple[int, int]:
     return (first, last - first) if last > first else (0, 8)
 
 
-def lines_of(replies: Replies, description: Callable[[], Description], ksy: str, path: str) -> List[str]:
-    """What is said of a node, in three lines."""
+def sources_of(replies: Replies, description: Description, path: str) -> List[str]:
+    """The paths of what the value at a path, its place or its check is made of, as its description names them."""
+    member = member_of(replies, description, path) if path != "/" else None
+    if not member:
+        return []
+    keys = ("value", "if", "pos", "size", "repeat-expr", "valid")
+    text = member.text("value") if member.value.is_flow else " ; ".join(strip_keys(member.text(it)) for it in keys)
+    explorer = Explorer(replies, ASKED)
+    home = parent(re.sub(r"(?:/\d+)+$", "", path))
+    return [it for it in Sources(explorer, Follower(explorer, description), home).named(text) if it != path]
+
+
+def strip_keys(text: str) -> str:
+    """An expression, or those of `valid`, without the keys before them."""
+    return re.sub(r"(?:^|(?<=, ))(?:min|max|eq|any-of|expr): ", "", text)
+
+
+def wrapped(text: str, width: int, most: int) -> List[str]:
+    """A text in lines of a width, which are broken at spaces where there are some; at most n of them."""
+    lines: List[str] = []
+    while text and len(lines) < most:
+        if columns(text) <= width or len(lines) + 1 == most:
+            return [*lines, text]
+        end = text.rfind(" ", width // 2, width + 1)
+        end = end if end > 0 else width
+        lines.append(text[:end])
+        text = text[end:].lstrip()
+    return lines
+
+
+def lines_of(replies: Replies, description: Callable[[], Description], ksy: str, path: str, width: int, most: int) -> List[str]:
+    """What is said of a node: its path, place and value; its line in the description; what its value is made of, where that is a fault or calculated."""
     told, where = replies.ask(f"get {path}"), replies.ask(f"at {path}")
-    place = place_of(where)
-    first = f"{path}  {place}" + ("" if place == told else f"  {told}")
+    place, own = place_of(where), told.partition(f" at {path}")
+    value = own[0] if own[1] and not own[2] and told.startswith("fault") else told
+    lines = ["  ".join([path, place, *([value] if where != told else [])])]
     try:
-        explained = Explainer(Explorer(replies, ASKED), description, False).explained(told, f"get {path}")
-        second = described(replies, description(), ksy, path)
-        third = " ".join(it.strip() for it in explained) or doc_of(replies, description(), path)
+        lines += wrapped(described(replies, description(), ksy, path), width, 2)
+        lines += wrapped(noted(replies, description, path, told, where), width, max(1, most - len(lines)))
     except (Refused, Spent):
-        second, third = ksy, ""
-    return [first, second, third]
+        pass
+    return (lines + [""] * most)[:most]
+
+
+def noted(replies: Replies, description: Callable[[], Description], path: str, told: str, where: str) -> str:
+    """What a faulty or calculated value is made of; else what the description says in words."""
+    is_fault = told.startswith("fault") and told != f"fault absent at {path}"
+    origin = told.rpartition(" at ")[2] if is_fault else path
+    found = []
+    if is_fault or where == "calculated" or told.startswith("fault"):
+        found = [f"{it} {value_of(replies, it)}" for it in sources_of(replies, description(), origin)]
+    made = f"{'there: ' if origin != path else 'here: '}{', '.join(found)}" if found else ""
+    if is_fault and origin == path and where.startswith("fault end-of-bytes") or told.startswith("fault end-of-bytes"):
+        explained = Explainer(Explorer(replies, ASKED), description, False).explained(told, f"get {path}")
+        made = " ".join([*(it.strip() for it in explained), made])
+    return made or doc_of(replies, description(), path)
+
+
+def value_of(replies: Replies, path: str) -> str:
+    """A value in a few letters."""
+    return cut(replies.ask(f"get {path}"), VALUE)

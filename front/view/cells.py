@@ -34,16 +34,19 @@ def cut(text: str, width: int) -> str:
 
 
 def fitted(spans: Iterable[Span], width: int, style: str = "plain") -> Row:
-    """Spans as a row that is n columns wide: cut, or with spaces behind them."""
+    """Spans as a row that is n columns wide: cut, with a mark there, or with spaces behind them."""
+    shown = [(visible(it.text[: 2 * max(0, width) + 2]), it.style) for it in spans if it.text]
+    if sum(columns(text) for text, _ in shown) <= width:
+        shown.append((" " * (width - sum(columns(text) for text, _ in shown)), style))
+        return tuple(Span(*it) for it in shown if it[0])
     found: List[Span] = []
-    for it in spans:
-        text = cut(it.text, width)
-        width -= columns(text)
-        if text:
-            found.append(Span(text, it.style))
-        if width <= 0 and text.endswith(CUT):
+    for text, own in shown:
+        taken = cut(text + CUT, width) if columns(text) >= width else text
+        found.append(Span(taken, own))
+        width -= columns(taken)
+        if columns(text) > columns(taken) or taken.endswith(CUT) and width <= 0:
             break
-    return tuple(found) + ((Span(" " * width, style),) if width > 0 else ())
+    return tuple(it for it in found if it.text) + ((Span(" " * width, style),) if width > 0 else ())
 
 
 def plain(row: Row) -> str:

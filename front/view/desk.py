@@ -13,6 +13,7 @@ from front.session import Died, Refused
 from front.signals import Interrupted
 from front.values import Unwritable
 from front.view import editing, filing, moves, seeking, walk
+from front.view.about import sources_of
 from front.view.draw import Screen, Told, drawn
 from front.view.help import LINES
 from front.view.replies import Replies
@@ -22,6 +23,8 @@ from front.words import Misread
 
 # The most questions for one key that explains, follows or edits.
 ASKED = 1000
+# How many nodes are kept to come back to.
+MOST_BACK = 100
 HEX = "0123456789abcdef"
 FAILURES = (Died, Misread, NoJournal, NotSaved, OSError, Refused, Unwritable)
 
@@ -149,20 +152,40 @@ class Desk:
             changed = state.open - {state.path} if state.path in state.open else state.open | {state.path}
             self.state = replace(state, open=changed)
         else:
-            target = Follower(self.explorer(), self.opened.description()).target(state.path)
-            if target:
-                self.go(target)
-            else:
-                editing.ask_value(self)
+            self.follow()
+
+    def follow(self) -> None:
+        """Goes to the object that a calculated value is, or to the last of what it is made of; else edits the value."""
+        path = self.state.path
+        if self.replies.ask(f"at {path}") != "calculated":
+            editing.ask_value(self)
+            return
+        target = Follower(self.explorer(), self.opened.description()).target(path)
+        made = [target] if target else sources_of(self.replies, self.opened.description(), path)
+        if made:
+            self.go(made[-1])
+            self.state = self.state.told(f"{path} is {'this' if target else 'made of'} {', '.join(made)}; b goes back")
+        else:
+            self.state = self.state.told("calculated: it has no bytes")
 
     def explorer(self) -> Explorer:
         """Questions for one key."""
         return Explorer(self.replies, ASKED)
 
     def go(self, path: str) -> None:
-        """Chooses a node, and shows it in the tree."""
-        half = "tree" if self.state.half == "tree" else "bytes"
-        self.state = moves.chosen(replace(self.state, half=half, open=self.state.open | fronts(path)), self.replies, path)
+        """Chooses a node, and shows it in the tree. The one from which it goes is kept, to come back."""
+        state = self.state
+        back = (*state.back, state.path)[-MOST_BACK:] if path != state.path else state.back
+        self.state = moves.chosen(replace(state, open=state.open | fronts(path), back=back), self.replies, path)
+
+    def go_back(self) -> None:
+        """Goes where it was before it went elsewhere."""
+        state = self.state
+        if state.back:
+            path = Tree.of(state, self.replies).nearest(state.back[-1])
+            self.state = moves.chosen(replace(state, open=state.open | fronts(path), back=state.back[:-1]), self.replies, path)
+        else:
+            self.state = state.told("nowhere to go back to")
 
     def show_help(self) -> None:
         """The page of help."""
@@ -200,7 +223,7 @@ def base(name: str) -> str:
 
 
 COMMANDS: Dict[str, Callable[[Desk], None]] = {
-    "tab": Desk.tab, "enter": Desk.enter, "?": Desk.show_help, "x": Desk.toggle_hex, "ctrl-l": Desk.again,
+    "tab": Desk.tab, "enter": Desk.enter, "?": Desk.show_help, "b": Desk.go_back, "x": Desk.toggle_hex, "ctrl-l": Desk.again,
     "e": editing.ask_value, "E": editing.ask_value, "i": editing.ask_bytes, "insert": editing.ask_bytes, "delete": editing.delete, "u": editing.undo,
     "ctrl-r": editing.redo, "f": seeking.fault, "F": seeking.fault, "/": seeking.ask_text, "n": seeking.again, "g": seeking.ask_where,
     "s": filing.ask_name, "r": filing.reload, "R": filing.recover, "D": filing.drop, "q": filing.leave, "ctrl-d": filing.leave,

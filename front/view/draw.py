@@ -16,7 +16,9 @@ from front.view.tree import Tree
 
 # The least columns that have room for both halves, and the least rows of them; the lines about the chosen node; the lines of readings in a wide and in a
 # narrow screen.
-BOTH, BODY, ABOUT, READINGS, NARROW_READINGS = 72, 6, 3, 5, 12
+BOTH, BODY, ABOUT, READINGS, NARROW_READINGS = 72, 6, 4, 5, 12
+# The least columns of a row beside its place.
+LEAST_ROOM = 12
 
 
 @dataclass(frozen=True)
@@ -50,7 +52,7 @@ class Layout:
     @classmethod
     def of(cls, state: State, size: int) -> "Layout":
         """What there is room for."""
-        lines = ABOUT if state.rows >= 12 else 2 if state.rows >= 10 else 0
+        lines = ABOUT if state.rows >= 16 else 2 if state.rows >= 10 else 0
         free = max(1, state.rows - 2 - lines)
         below = min(READINGS if state.columns >= 80 else NARROW_READINGS, free // 2, max(0, free - BODY))
         body = free - below
@@ -112,6 +114,7 @@ def tree_row(state: State, replies: Replies, tree: Tree, path: str, width: int) 
     place = short_place(where)
     front = f"{'>' if chosen else ' '}{'*' if is_changed else ' '}{' ' * min(2 * depth, width // 3)}{mark_of(tree, path, value, where)} "
     name = path.rpartition("/")[2] or "/"
+    place = place if width - columns(place) > LEAST_ROOM else ""
     room = width - (columns(place) + 1 if place else 0)
     kind = "fault" if value.startswith(("fault", "error")) and not is_absent(value, path) else "changed" if is_changed else "dim" if is_absent(value, path) else "plain"
     spans = [Span(front, chosen), Span(name, f"name {chosen}"), Span("  ", chosen), Span(shown(value, path, state.is_hex), f"{kind} {chosen}")]
@@ -163,13 +166,11 @@ def below_of(state: State, replies: Replies, told: Told, layout: Layout) -> List
     """The rows about the chosen node, and those of what the bytes at the cursor are."""
     rows: List[Row] = []
     if layout.about:
-        path = state.path if state.is_node else "/"
-        lines = about.lines_of(replies, told.description, told.ksy, path)
-        if not state.is_node:
-            lines = [f"no member has the byte {state.place} (0x{state.place:x})", "", ""]
-        if layout.about < ABOUT and lines[2]:
-            lines[1] = lines[2]
-        rows = [fitted([Span(it, style)], state.columns, style) for it, style in zip(lines[: layout.about], ("bar", "plain", "note"))]
+        if state.is_node:
+            lines = about.lines_of(replies, told.description, told.ksy, state.path, state.columns, layout.about)
+        else:
+            lines = [f"no member has the byte {state.place} (0x{state.place:x})", *[""] * layout.about]
+        rows = [fitted([Span(it, style)], state.columns, style) for it, style in zip(lines[: layout.about], ("bar", "plain", "plain", "plain"))]
     if layout.readings:
         first, count = about.bits_at(replies.ask(f"at {state.path}")) if state.is_node and is_first_byte(state, replies) else (0, 8)
         some = replies.content(state.place, readings.READ)

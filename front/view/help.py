@@ -16,7 +16,8 @@ BYTES_KEYS = [
 LINES = [
     ("Up Down", "to the row above or below, or the byte; PgUp PgDn a screen, Home End the first and the last one"),
     ("Right Left", "in the tree: opens, or goes in; closes, or goes out. Over bytes: the next one, the one before"),
-    ("Enter", "in the tree: opens or closes (+ -), goes to the object that is meant (=), or edits a value. Over bytes: to the tree"),
+    ("Enter", "in the tree: opens or closes (+ -), edits a value, goes to what a calculated one is (=) or is made of. Over bytes: to the tree"),
+    ("b", "back to where it was before Enter, f, g or / went elsewhere"),
     ("Tab", "from the tree to the bytes, and back: there the node is the one that has the byte"),
     ("e  (E)", "edits the value: a number (31, 0x1f), a member of an enum, true or false, a \"text\", bytes (0a ff). E over bytes too"),
     ("0-9 a-f", "over bytes: two digits write a byte; at the end of the file they add one"),

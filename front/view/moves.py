@@ -10,11 +10,15 @@ from front.view.state import State, fronts, parent
 from front.view.tree import Tree
 
 
-def chosen(state: State, replies: Replies, path: str) -> State:
-    """With a node chosen; the cursor is on its first byte, if it has a place."""
+# A row that is still to be found.
+ANY = -1
+
+
+def chosen(state: State, replies: Replies, path: str, line: int = ANY) -> State:
+    """With a node chosen, in a row of the tree's half; the cursor is on its first byte, if it has a place."""
     span = span_of(replies.ask(f"at {path}"))
     place = min(span[0], replies.size()) if span else state.place
-    return replace(state, path=path, is_node=True, place=place, digit="")
+    return replace(state, path=path, line=line if path != state.path or line != ANY else state.line, is_node=True, place=place, digit="")
 
 
 def at_place(state: State, replies: Replies, place: int) -> State:
@@ -29,7 +33,8 @@ def at_place(state: State, replies: Replies, place: int) -> State:
     notes = " ".join(it.strip() for it in found.notes())
     if not found.best:
         return replace(state, is_node=False, message=notes)
-    return replace(state, path=found.best, is_node=True, message=notes or shared(replies, found.best, place))
+    line = state.line if found.best == state.path else ANY
+    return replace(state, path=found.best, line=line, is_node=True, message=notes or shared(replies, found.best, place))
 
 
 def shared(replies: Replies, path: str, place: int) -> str:
@@ -45,13 +50,11 @@ def settled(state: State, replies: Replies, was: Optional[State] = None) -> Stat
     tree = Tree.of(state, replies)
     path = tree.nearest(state.path)
     if path != state.path:
-        state = replace(state, path=path)
+        state = replace(state, path=path, line=ANY)
         tree = Tree.of(state, replies)
     state = replace(state, place=min(state.place, replies.size()))
     layout = Layout.of(state, replies.size())
-    line = state.line
-    if was is not None and was.path != path and abs(was.line - line) == 0:
-        line = line_of(state, replies, was, layout.body)
+    line = state.line if state.line != ANY else line_of(state, replies, was or state, layout.body)
     _, line = tree.around(path, max(0, min(line, layout.body - 1)), layout.body)
     top = layout.grid.top(state.top, state.place) if layout.grid else state.top
     return replace(state, line=line, top=top)
@@ -59,7 +62,8 @@ def settled(state: State, replies: Replies, was: Optional[State] = None) -> Stat
 
 def line_of(state: State, replies: Replies, was: State, height: int) -> int:
     """The row in which a node is, if the row above all stays; else a third down."""
-    before, _ = Tree.of(was, replies).around(was.path, was.line, height) if Tree.of(was, replies).has(was.path) else ([], 0)
+    old = Tree.of(was, replies)
+    before, _ = old.around(was.path, was.line, height) if was.line != ANY and old.has(was.path) else ([], 0)
     tree = Tree.of(state, replies)
     top = before[0] if before and tree.has(before[0]) else None
     at, count = top, 0
@@ -76,13 +80,13 @@ def line_of(state: State, replies: Replies, was: State, height: int) -> int:
 def up(state: State, replies: Replies, _height: int) -> State:
     """The row above."""
     found = Tree.of(state, replies).previous(state.path)
-    return replace(chosen(state, replies, found), line=max(0, state.line - 1)) if found else state
+    return chosen(state, replies, found, max(0, state.line - 1)) if found else state
 
 
 def down(state: State, replies: Replies, height: int) -> State:
     """The row below."""
     found = Tree.of(state, replies).next(state.path)
-    return replace(chosen(state, replies, found), line=min(height - 1, state.line + 1)) if found else state
+    return chosen(state, replies, found, min(height - 1, state.line + 1)) if found else state
 
 
 def page(state: State, replies: Replies, height: int, is_down: bool) -> State:
@@ -93,7 +97,7 @@ def page(state: State, replies: Replies, height: int, is_down: bool) -> State:
         if found is None:
             break
         path = found
-    return chosen(state, replies, path)
+    return chosen(state, replies, path, state.line)
 
 
 def right(state: State, replies: Replies, height: int) -> State:
@@ -115,7 +119,7 @@ def left(state: State, replies: Replies, _height: int) -> State:
 
 def last(state: State, replies: Replies, height: int) -> State:
     """The last row."""
-    return replace(chosen(state, replies, Tree.of(state, replies).last("/")), line=height - 1)
+    return chosen(state, replies, Tree.of(state, replies).last("/"), height - 1)
 
 
 TREE: Dict[str, Callable[[State, Replies, int], State]] = {
@@ -125,7 +129,7 @@ TREE: Dict[str, Callable[[State, Replies, int], State]] = {
     "pgdn": lambda state, replies, height: page(state, replies, height, True),
     "right": right,
     "left": left,
-    "home": lambda state, replies, height: chosen(state, replies, "/"),
+    "home": lambda state, replies, height: chosen(state, replies, "/", 0),
     "end": last,
 }
 

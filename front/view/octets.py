@@ -75,7 +75,7 @@ def row_of(state: State, some: bytes, start: int, grid: Grid, marked: Tuple[int,
             letters.append(Span(chr(some[at]) if 32 <= some[at] < 127 else ".", style))
         else:
             digits = f"{state.digit or ' '} " if place == state.place else "  "
-            style = style if style == "cursor" and at == len(some) else "plain"
+            style = "cursor" if "cursor" in style.split() else "plain"
             letters.append(Span(" "))
         spans.append(Span(digits, style))
     return fitted(spans + letters, grid.width)
@@ -92,10 +92,7 @@ def between(place: int, at: int, marked: Tuple[int, int]) -> Span:
 
 
 def style_of(state: State, place: int, marked: Tuple[int, int]) -> str:
-    """How a byte is shown."""
-    if place == state.place and state.half == "bytes":
-        return "cursor"
-    for name, span in (("found", state.found), ("written", state.written), ("marked", marked)):
-        if span[0] <= place < span[1]:
-            return name
-    return "plain"
+    """How a byte is shown: the words of all that it is."""
+    spans = (("marked", marked), ("written", state.written), ("found", state.found))
+    words = [name for name, span in spans if span[0] <= place < span[1]]
+    return " ".join([*words, *(["cursor"] if place == state.place and state.half == "bytes" else [])]) or "plain"

@@ -61,7 +61,7 @@ class Replies:
 
     def again(self) -> None:
         """Forgets what was broken off, so that it is asked again."""
-        self.known = {line: told for line, told in self.known.items() if told != BROKEN}
+        self.known = {line: told for line, told in self.known.items() if told not in (BROKEN, NO_MEMORY)}
 
     def size(self) -> int:
         """The number of bytes."""

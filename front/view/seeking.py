@@ -76,7 +76,10 @@ def search(desk: "Desk", text: str) -> None:
 def kinds_of(text: str) -> List[Sought]:
     """What a text may mean that is searched for, in the order in which it is tried."""
     if text.startswith('"') or re.match(r"0[xX]", text):
-        return [Sought(text, "bytes" if text.startswith("0") else "text", bytes.fromhex(digits))] if (digits := reader.bytes_of(reader.words_of(text))) else []
+        digits = reader.bytes_of(reader.words_of(text))
+        if not re.fullmatch(r"(?:[0-9a-fA-F]{2})+", digits):
+            raise Misread('bytes are wanted here, as 0x0aff, or a "TEXT"')
+        return [Sought(text, "bytes" if text.startswith("0") else "text", bytes.fromhex(digits))]
     found = [Sought(text, "name")] if re.fullmatch(r"[A-Za-z0-9_]+", text) else []
     found.append(Sought(text, "text", text.encode(errors="surrogateescape")))
     digits = re.sub(r"\s+", "", text)
@@ -92,8 +95,6 @@ def again(desk: "Desk") -> None:
     for it in [sought] if sought.kind else kinds_of(sought.text):
         if is_found(desk, it):
             return
-    if not re.search(r'^"', sought.text) and sought.text.startswith("0x") and len(sought.text) % 2:
-        raise Misread("a byte has two digits")
     desk.state = desk.state.told(f"not found: {sought.text}")
 
 

@@ -63,6 +63,7 @@ class State:
     found: Tuple[int, int] = (0, 0)
     written: Tuple[int, int] = (0, 0)
     is_hex: bool = False
+    back: Tuple[str, ...] = ()
     help_from: Optional[int] = None
 
     def told(self, message: str) -> "State":
