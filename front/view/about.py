@@ -112,8 +112,8 @@ def lines_of(replies: Replies, description: Callable[[], Description], ksy: str,
     value = own[0] if own[1] and not own[2] and told.startswith("fault") else told
     lines = ["  ".join([path, place, *([value] if where != told else [])])]
     try:
-        lines += wrapped(described(replies, description(), ksy, path), width, 2)
-        lines += wrapped(noted(replies, description, path, told, where), width, max(1, most - len(lines)))
+        lines += wrapped(described(replies, description(), ksy, path), width, 2 if most > 2 else 1)
+        lines += wrapped(noted(replies, description, path, told, where), width, most - len(lines)) if most > len(lines) else []
     except (Refused, Spent):
         pass
     return (lines + [""] * most)[:most]
