@@ -67,6 +67,9 @@ def value_of(told: str, path: str, is_hex: bool) -> str:
     """A value as a row has it."""
     if told == f"fault absent at {path}":
         return "absent"
+    fault = re.fullmatch(r"(fault \S+) at (\S+)", told)
+    if fault and fault[2] == path:
+        return fault[1]
     if is_hex and re.fullmatch(r"-?\d+", told):
         return hex(int(told))
     member = re.fullmatch(r"(\S+::\S+ \()(-?\d+)\)", told)

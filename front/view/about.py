@@ -1,6 +1,6 @@
 """What is said of the chosen node: its path, place and value, and what the description has of it."""
 import re
-from typing import Callable, List, Optional, Tuple
+from typing import Callable, Dict, List, Optional, Tuple
 
 from front.description import Description, Member
 from front.explain import Explainer
@@ -39,7 +39,7 @@ def kind_of(replies: Replies, description: Description, path: str) -> Optional[s
 
 
 def described(replies: Replies, description: Description, ksy: str, path: str) -> str:
-    """The line of a node in the description, and what is there."""
+    """The line of a node in the description, and what is there; the check comes first where it fails."""
     if path == "/":
         return f"{ksy}: the whole file"
     member = member_of(replies, description, path)
@@ -47,7 +47,8 @@ def described(replies: Replies, description: Description, ksy: str, path: str) -
         return f"{ksy}: no one line has it"
     if member.value.is_flow:
         return f"{ksy}:{member.line}  {member.text('type')}"
-    said = [f"{key}: {text}" for key in KEYS if (text := member.text(key))]
+    keys = ("valid", *KEYS[:-1]) if replies.ask(f"get {path}") == f"fault invalid at {path}" else KEYS
+    said = [f"{key}: {text}" for key in keys if (text := member.text(key))]
     return f"{ksy}:{member.line}  {'; '.join(said)}"
 
 
@@ -75,16 +76,17 @@ def bits_at(told: str) -> Tuple[int, int]:
     return (first, last - first) if last > first else (0, 8)
 
 
-def sources_of(replies: Replies, description: Description, path: str) -> List[str]:
-    """The paths of what the value at a path, its place or its check is made of, as its description names them."""
+def sources_of(replies: Replies, description: Description, path: str) -> Dict[str, str]:
+    """The paths of what the value at a path, its place or its check is made of, with how its description names them."""
     member = member_of(replies, description, path) if path != "/" else None
     if not member:
-        return []
+        return {}
     keys = ("value", "if", "pos", "size", "repeat-expr", "valid")
     text = member.text("value") if member.value.is_flow else " ; ".join(strip_keys(member.text(it)) for it in keys)
     explorer = Explorer(replies, ASKED)
     home = parent(re.sub(r"(?:/\d+)+$", "", path))
-    return [it for it in Sources(explorer, Follower(explorer, description), home).named(text) if it != path]
+    named = Sources(explorer, Follower(explorer, description), home).named(text)
+    return {it: name for it, name in named.items() if it != path}
 
 
 def strip_keys(text: str) -> str:
@@ -125,7 +127,7 @@ def noted(replies: Replies, description: Callable[[], Description], path: str, t
     origin = told.rpartition(" at ")[2] if is_fault else path
     found = []
     if is_fault or where == "calculated" or told.startswith("fault"):
-        found = [f"{it} {value_of(replies, it)}" for it in sources_of(replies, description(), origin)]
+        found = [f"{min(it, name, key=len)} {value_of(replies, it)}" for it, name in sources_of(replies, description(), origin).items()]
     made = f"{'there: ' if origin != path else 'here: '}{', '.join(found)}" if found else ""
     if is_fault and origin == path and where.startswith("fault end-of-bytes") or told.startswith("fault end-of-bytes"):
         explained = Explainer(Explorer(replies, ASKED), description, False).explained(told, f"get {path}")

@@ -161,7 +161,7 @@ class Desk:
             editing.ask_value(self)
             return
         target = Follower(self.explorer(), self.opened.description()).target(path)
-        made = [target] if target else sources_of(self.replies, self.opened.description(), path)
+        made = [target] if target else list(sources_of(self.replies, self.opened.description(), path))
         if made:
             self.go(made[-1])
             self.state = self.state.told(f"{path} is {'this' if target else 'made of'} {', '.join(made)}; b goes back")

@@ -78,7 +78,7 @@ def drawn(state: State, replies: Replies, told: Told) -> Screen:
         halves.append([octets.heading(layout.grid), *rows])
         cursor = (line + 1, column + (layout.tree + 1 if layout.tree else 0)) if state.half == "bytes" else None
     rows = [fitted([it for half in both for it in (*half, Span(" "))][:-1], state.columns) for both in zip(*halves)]
-    last, typed_at = last_row(state)
+    last, typed_at = last_row(state, state.is_node and replies.ask(f"at {state.path}") == "calculated")
     return Screen([*rows, *below, last][: state.rows], (state.rows - 1, typed_at) if typed_at is not None else cursor)
 
 
@@ -143,9 +143,11 @@ def is_absent(value: str, path: str) -> bool:
 
 
 def shown(value: str, path: str, is_hex: bool) -> str:
-    """A value as a row has it: the reply, with integers in hexadecimal digits where that is wanted."""
+    """A value as a row has it: the reply, with integers in hexadecimal digits where that is wanted. A fault that arose here hasn't its path once more."""
     if is_absent(value, path):
         return "absent"
+    if value.startswith("fault ") and value.endswith(f" at {path}"):
+        return value[: -len(f" at {path}")]
     if is_hex:
         return re.sub(r"^-?\d+$|(?<=\()-?\d+(?=\)$)", lambda found: f"{int(found[0]):#x}", value)
     return value
@@ -185,7 +187,7 @@ def is_first_byte(state: State, replies: Replies) -> bool:
     return marked_of(state, replies)[0] == state.place
 
 
-def last_row(state: State) -> Tuple[Row, Optional[int]]:
+def last_row(state: State, is_calculated: bool) -> Tuple[Row, Optional[int]]:
     """The last row: the line that is typed, and the column of its cursor; else a message, or the keys that there are."""
     if state.typed:
         label = f"{cut(state.typed.purpose, state.columns // 2)}: "
@@ -197,7 +199,7 @@ def last_row(state: State) -> Tuple[Row, Optional[int]]:
         )
     if state.message:
         return fitted([Span(state.message, "message")], state.columns), None
-    return fitted([it for key, what in keys_of(state.half, state.columns) for it in (Span(key, "key"), Span(f" {what}  "))], state.columns), None
+    return fitted([it for key, what in keys_of(state.half, state.columns, is_calculated) for it in (Span(key, "key"), Span(f" {what}  "))], state.columns), None
 
 
 def helped(state: State, first: int) -> Screen:

@@ -17,6 +17,8 @@ if TYPE_CHECKING:
 
 # The longest value that is put into the line where it is edited.
 OFFERED = 2000
+# The most bytes of a faulty value that are named there.
+SHORT = 8
 
 
 def ask_value(desk: "Desk") -> None:
@@ -27,7 +29,10 @@ def ask_value(desk: "Desk") -> None:
     if not desk.state.is_node or told.startswith(("object ", "[")):
         desk.state = desk.state.told("nothing to edit here: choose a value, or write over its bytes (Tab)")
         return
-    desk.ask_line(f"value of {desk.state.path}", "" if told.startswith(("fault", "error")) or len(text) > OFFERED else text)
+    is_fault = told.startswith(("fault", "error"))
+    span = span_of(desk.replies.ask(f"at {desk.state.path}")) if is_fault else None
+    now = f" (now {desk.replies.content(span[0], span[1] - span[0]).hex()})" if span and 0 < span[1] - span[0] <= SHORT else ""
+    desk.ask_line(f"value of {desk.state.path}{now}", "" if is_fault or len(text) > OFFERED else text)
 
 
 def write(desk: "Desk", text: str) -> None:

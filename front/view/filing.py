@@ -13,11 +13,11 @@ if TYPE_CHECKING:
 
 
 class Leave(Exception):
-    """The person leaves: the status, and whether edits that aren't saved stay in the journal."""
+    """The person leaves: the status, whether edits that aren't saved stay in the journal, and what is told once the screen is the terminal's again."""
 
-    def __init__(self, status: int, is_kept: bool) -> None:
+    def __init__(self, status: int, is_kept: bool, message: str = "") -> None:
         super().__init__(status)
-        self.status, self.is_kept = status, is_kept
+        self.status, self.is_kept, self.message = status, is_kept, message
 
 
 def ask_name(desk: "Desk") -> None:
@@ -66,6 +66,7 @@ def leave(desk: "Desk") -> None:
             desk.is_warned = True
             desk.state = desk.state.told(f"{desk.state.message}; q once more loses the edits")
             return
+        raise Leave(desk.status, is_kept=False, message=desk.state.message)
     raise Leave(desk.status, is_kept=False)
 
 

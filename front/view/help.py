@@ -13,6 +13,7 @@ BYTES_KEYS = [
     ("?", "help"), ("q", "quit"), ("arrows", "walk"), ("Tab", "tree"), ("0-9 a-f", "write"), ("i", "insert"), ("Del", "delete"), ("u", "undo"), ("s", "save"),
     ("/", "search"), ("g", "go to"),
 ]
+MADE_OF = ("Enter", "what it is made of")
 LINES = [
     ("Up Down", "to the row above or below, or the byte; PgUp PgDn a screen, Home End the first and the last one"),
     ("Right Left", "in the tree: opens, or goes in; closes, or goes out. Over bytes: the next one, the one before"),
@@ -41,10 +42,11 @@ LINES = [
 ]
 
 
-def keys_of(half: str, width: int) -> List[Tuple[str, str]]:
-    """The keys of the last row that there is room for."""
+def keys_of(half: str, width: int, is_calculated: bool) -> List[Tuple[str, str]]:
+    """The keys of the last row that there is room for; of a calculated value that which leads to what it is made of."""
     found, room = [], width
-    for key, what in TREE_KEYS if half == "tree" else BYTES_KEYS:
+    keys = BYTES_KEYS if half == "bytes" else TREE_KEYS
+    for key, what in [*keys[:2], MADE_OF, *keys[2:]] if is_calculated and half == "tree" else keys:
         room -= columns(f"{key} {what}  ")
         if room < -2:
             break

@@ -31,6 +31,7 @@ def viewed(named: Tuple[str, str, Optional[str]], signals: Signals) -> int:
                 terminal.run(Desk(opened, messages, *terminal.size(), looked=terminal.sign))
         except Leave as end:
             status, is_kept = end.status, end.is_kept
+            messages.append(end.message)
         except Ending as end:
             status, why = 128 + end.signum, str(end)
         except Interrupted:
@@ -40,6 +41,8 @@ def viewed(named: Tuple[str, str, Optional[str]], signals: Signals) -> int:
         finally:
             edits = opened.keeper.edits
             opened.keeper.close(is_kept)
+    for it in filter(None, messages):
+        told(f"ksv-view: {it}")
     if why:
         also = "" if edits.is_saved() else f"; {edits_of(len(edits.holding()))}, not saved: R takes them up in the next view of this file"
         told(f"ksv-view: {why}{also}")

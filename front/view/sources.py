@@ -1,6 +1,6 @@
 """Which values an expression of a description names: `_root.fats[0].next[number - 1]` is a path, found by questions."""
 import re
-from typing import List, Optional, Tuple
+from typing import Dict, Optional, Tuple
 
 from front.follow import Follower
 from front.look import Explorer, joined
@@ -18,15 +18,15 @@ class Sources:
     def __init__(self, explorer: Explorer, follower: Follower, home: str) -> None:
         self.explorer, self.follower, self.home = explorer, follower, home
 
-    def named(self, text: str) -> List[str]:
-        """The paths of what an expression names, each once, without those within brackets."""
-        found: List[str] = []
+    def named(self, text: str) -> Dict[str, str]:
+        """The paths of what an expression names, each once, with how it is named there; without those within brackets."""
+        found: Dict[str, str] = {}
         at = 0
         text = re.sub(r"\"[^\"]*\"|'[^']*'|[a-z_][a-z0-9_]*::[a-z_][a-z0-9_:]*", lambda it: " " * len(it[0]), text)
         while name := NAME.search(text, at):
             path, at = self.chain(text, name, 0)
-            if path and path not in found and path != "/":
-                found.append(path)
+            if path and path != "/":
+                found.setdefault(path, text[name.start() : at])
         return found
 
     def chain(self, text: str, name: "re.Match[str]", depth: int) -> Tuple[Optional[str], int]:
