@@ -8,7 +8,7 @@ import struct
 import sys
 import termios
 import time
-from typing import Callable, Dict, Iterator, List, Optional
+from typing import Callable, Iterator, List, Optional
 
 from front.opening import TOP
 from viewed.reader import Reader
@@ -84,7 +84,7 @@ def repaired(room: str) -> Iterator[str]:
     yield terminal.shown("", "? help  q quit")
     yield terminal.shown("f", "/entries/0/ofs_image  at 18 22 (0x12 0x16)  fault invalid")
     yield terminal.shown("e", "value of /entries/0/ofs_image:")
-    yield terminal.shown("22\r", "put /entries/0/ofs_image 22: ok 350")
+    yield terminal.shown("22\r", "ok 350; u takes it back: put /entries/0/ofs_image 22")
     yield terminal.shown(DOWN + DOWN, "/entries/0/image  at 22 350 (0x16 0x15e)  object bitmap")
     terminal.sized(10, 40)
     yield terminal.shown("", "? help  q quit")
@@ -93,10 +93,10 @@ def repaired(room: str) -> Iterator[str]:
     yield terminal.shown(TAB, "arrows walk  Tab tree")
     terminal.sized(30, 132)
     yield terminal.shown("", "16 00 00 00[28 00 00 00")
-    yield terminal.shown("ab", "set 22 ab: ok 350")
+    yield terminal.shown("ab", "ok 350; u takes it back: set 22 ab")
     yield terminal.shown("u", "took back: set 22 ab")
     yield terminal.shown(CONTROL_R, "again: set 22 ab")
-    yield terminal.shown("u" + DELETE, "del 23 1: ok 349")
+    yield terminal.shown("u" + DELETE, "ok 349; u takes it back: del 23 1")
     yield terminal.shown("u", "took back: del 23 1")
     terminal.type("q")
     status = terminal.end()
@@ -130,7 +130,7 @@ def broken_off(room: str) -> Iterator[str]:
     yield "" if time.monotonic() - begun < 10 else "the sign came late"
     yield terminal.shown("\x03", "(broken off")
     yield terminal.shown("g/n\r", "/n  at 0 1 (0x0 0x1)  0")
-    yield terminal.shown("e7\r", "put /n 7: ok 1000000")
+    yield terminal.shown("e7\r", "ok 1000000; u takes it back: put /n 7")
     os.kill(terminal.process, signal.SIGTERM)
     status = terminal.end()
     yield "" if status == 143 else f"SIGTERM: status {status}"
@@ -154,7 +154,7 @@ def refused(room: str) -> Iterator[str]:
     terminal = Terminal([f"{room}/none", f"{room}/again.ksy"])
     yield "" if terminal.end() == 1 else f"no file: status {terminal.status}"
     terminal = Terminal([f"{room}/again.bin", f"{room}/again.ksy"])
-    yield terminal.shown(DOWN + "e9\r", "put /n 9: ok 2")
+    yield terminal.shown(DOWN + "e9\r", "ok 2; u takes it back: put /n 9")
     with open(f"{room}/again.ksy", "w", encoding="utf-8") as file:
         file.write("meta: {id: t}\nseq: [{id: n, type: u3}]\n")
     yield terminal.shown("r", "line 2: S4 unknown name")

@@ -1,4 +1,4 @@
-"""A session of the view without a terminal: keys in, and rows of cells out. What keys do to bytes, files and the session is here; where they lead is in `moves`."""
+"""A session of the view without a terminal: keys in, rows of cells out. Where keys lead is in `moves`; what they change is in `editing` and `filing`."""
 import os
 from dataclasses import replace
 from typing import Callable, Dict, Iterable, List, Optional
@@ -26,6 +26,8 @@ ASKED = 1000
 # How many nodes are kept to come back to.
 MOST_BACK = 100
 HEX = "0123456789abcdef"
+# Keys that end what there is, and are no mistake where there is nothing.
+QUIET = ("escape", "interrupt", "backspace")
 FAILURES = (Died, Misread, NoJournal, NotSaved, OSError, Refused, Unwritable)
 
 
@@ -126,7 +128,7 @@ class Desk:
         else:
             move = moves.tree_move if state.half == "tree" else moves.bytes_move
             moved = move(state, self.replies, key)
-            self.state = state.told("" if key in ("escape", "interrupt", "backspace") else f"{key} does nothing here; ? lists the keys") if moved is None else moved
+            self.state = moved or state.told("" if key in QUIET else f"{key} does nothing here; ? lists the keys")
 
     def help_page(self, key: str, first: int) -> Optional[int]:
         """Which line of the help is the first after a key; None where it ends."""
@@ -164,7 +166,8 @@ class Desk:
         made = [target] if target else list(sources_of(self.replies, self.opened.description(), path))
         if made:
             self.go(made[-1])
-            self.state = self.state.told(f"{path} is {'this' if target else 'made of'} {', '.join(made)}; b goes back")
+            last = f"the last of {len(made)} that it is made of" if len(made) > 1 else "what it is made of"
+            self.state = self.state.told(f"{'the object that it is' if target else last}; b goes back")
         else:
             self.state = self.state.told("calculated: it has no bytes")
 

@@ -116,7 +116,7 @@ def tree_row(state: State, replies: Replies, tree: Tree, path: str, width: int) 
     name = path.rpartition("/")[2] or "/"
     place = place if width - columns(place) > LEAST_ROOM else ""
     room = width - (columns(place) + 1 if place else 0)
-    kind = "fault" if value.startswith(("fault", "error")) and not is_absent(value, path) else "changed" if is_changed else "dim" if is_absent(value, path) else "plain"
+    kind = "dim" if is_absent(value, path) else "fault" if value.startswith(("fault", "error")) else "changed" if is_changed else "plain"
     spans = [Span(front, chosen), Span(name, f"name {chosen}"), Span("  ", chosen), Span(shown(value, path, state.is_hex), f"{kind} {chosen}")]
     row = fitted(spans, max(1, room), chosen)
     return fitted([*row, Span(f" {place}", f"{'changed' if is_moved else 'dim'} {chosen}")] if place else row, width, chosen)

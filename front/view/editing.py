@@ -9,7 +9,6 @@ from front.look import Spent, span_of
 from front.session import Refused
 from front.values import Writer
 from front.view import moves
-from front.view.cells import CUT
 from front.view.tree import Tree
 
 if TYPE_CHECKING:
@@ -19,6 +18,8 @@ if TYPE_CHECKING:
 OFFERED = 2000
 # The most bytes of a faulty value that are named there.
 SHORT = 8
+# How much of a refused line is shown.
+SHOWN = 60
 
 
 def ask_value(desk: "Desk") -> None:
@@ -89,9 +90,9 @@ def made(desk: "Desk", line: str) -> str:
     """Makes an edit, and tells what it was told."""
     told = desk.opened.keeper.make(line)
     if told.startswith("ok "):
-        changed(desk, desk.opened.keeper.edits.last.edit.effect, f"{line if len(line) < 60 else line[:60] + CUT}: {told}; u takes it back")
+        changed(desk, desk.opened.keeper.edits.last.edit.effect, f"{told}; u takes it back: {line}")
     else:
-        desk.state = replace(desk.state, digit="").told(" ".join([f"{line[:60]}: {told}", *explained(desk, told, line)]))
+        desk.state = replace(desk.state, digit="").told(" ".join([f"{told}: {line[:SHOWN]}", *explained(desk, told, line)]))
     return told
 
 
@@ -120,7 +121,7 @@ def undo(desk: "Desk") -> None:
         desk.state = desk.state.told("no edit to undo")
         return
     edit, told = desk.opened.keeper.undo()
-    changed(desk, edit.inverse, f"{told}; took back: {edit.line[:60]}; ctrl-R makes it again")
+    changed(desk, edit.inverse, f"{told}; ctrl-R makes it again; took back: {edit.line}")
 
 
 def redo(desk: "Desk") -> None:
@@ -129,7 +130,7 @@ def redo(desk: "Desk") -> None:
         desk.state = desk.state.told("no edit to make again")
         return
     edit, told = desk.opened.keeper.redo()
-    changed(desk, edit.effect, f"{told}; again: {edit.line[:60]}")
+    changed(desk, edit.effect, f"{told}; again: {edit.line}")
 
 
 def written_by(lines: Tuple[str, ...], size: int) -> Tuple[int, int]:

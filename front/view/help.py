@@ -6,8 +6,8 @@ from front.texts import columns
 TITLE = " keys"
 # The keys that the last row names, the most wanted ones first; it has as many as there is room for.
 TREE_KEYS = [
-    ("?", "help"), ("q", "quit"), ("arrows", "walk"), ("Tab", "bytes"), ("e", "edit"), ("f", "fault"), ("u", "undo"), ("s", "save"), ("/", "search"), ("g", "go to"),
-    ("r", "read ksy again"),
+    ("?", "help"), ("q", "quit"), ("arrows", "walk"), ("Tab", "bytes"), ("e", "edit"), ("f", "fault"), ("u", "undo"), ("s", "save"), ("/", "search"),
+    ("g", "go to"), ("r", "read ksy again"),
 ]
 BYTES_KEYS = [
     ("?", "help"), ("q", "quit"), ("arrows", "walk"), ("Tab", "tree"), ("0-9 a-f", "write"), ("i", "insert"), ("Del", "delete"), ("u", "undo"), ("s", "save"),

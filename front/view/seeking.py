@@ -5,7 +5,6 @@ from typing import TYPE_CHECKING, List, Optional
 
 from front import words as reader
 from front.explain import Explainer
-from front.look import joined, span_of
 from front.view import moves, walk
 from front.view.state import Sought
 from front.view.tree import Tree
