@@ -117,6 +117,8 @@ def wrong_bytes(state, layout: Layout, rows: List[Row], content: bytes, at: str)
     found = PLACE.fullmatch(at) if state.is_node else None
     span = range(int(found[1]), int(found[3]) + bool(found[4])) if found else range(0)
     grid, is_seen = layout.grid, False
+    if state.half == "bytes" and len(span) and state.place not in span:
+        return f"the byte {state.place} isn't of {state.path}, {at}"
     if grid.width > state.columns:
         return ""
     for row in rows:

@@ -49,17 +49,18 @@ class Desk:
     # Screens
 
     def screen(self) -> Screen:
-        """The rows of the screen as it is. What is broken off meanwhile is shown so."""
-        while True:
-            try:
-                found = drawn(self.state, self.replies, self.told())
-                if not self.notes:
-                    return found
-                self.noted()
-            except Interrupted:
-                self.give_up()
-            except FAILURES as error:
-                self.give_up(str(error))
+        """The rows of the screen as it is. What is broken off meanwhile is shown so, and nothing more is asked for it."""
+        try:
+            found = drawn(self.state, self.replies, self.told())
+        except Interrupted:
+            self.give_up()
+        except FAILURES as error:
+            self.give_up(str(error))
+        else:
+            if not self.notes:
+                return found
+        self.noted()
+        return drawn(self.state, self.replies, self.told())
 
     def told(self) -> Told:
         """What the screen tells of the session."""
@@ -76,7 +77,8 @@ class Desk:
     def give_up(self, message: str = "broken off") -> None:
         """Asks nothing more until the next key."""
         self.replies.is_given_up = True
-        self.state = self.state.told(message)
+        self.notes.append(message)
+        self.noted()
 
     # Keys
 

@@ -19,6 +19,8 @@ from front.view.tree import Tree
 BOTH, BODY, ABOUT, READINGS, NARROW_READINGS = 72, 6, 4, 5, 12
 # The least columns of a row beside its place.
 LEAST_ROOM = 12
+# The length of values of which none is a number.
+LONGEST_NUMBER = 300
 
 
 @dataclass(frozen=True)
@@ -100,6 +102,7 @@ def tree_rows(state: State, replies: Replies, layout: Layout) -> List[Row]:
     """The rows of the tree's half."""
     tree = Tree.of(state, replies)
     paths, _ = tree.around(state.path, state.line, layout.body)
+    replies.ask_all([f"{word} {it}" for it in paths for word in ("get", "at")])
     rows = [tree_row(state, replies, tree, it, layout.tree) for it in paths]
     return rows + [fitted([], layout.tree)] * (layout.body - len(rows))
 
@@ -148,7 +151,7 @@ def shown(value: str, path: str, is_hex: bool) -> str:
         return "absent"
     if value.startswith("fault ") and value.endswith(f" at {path}"):
         return value[: -len(f" at {path}")]
-    if is_hex:
+    if is_hex and len(value) < LONGEST_NUMBER:
         return re.sub(r"^-?\d+$|(?<=\()-?\d+(?=\)$)", lambda found: f"{int(found[0]):#x}", value)
     return value
 

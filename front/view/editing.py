@@ -111,7 +111,7 @@ def changed(desk: "Desk", lines: Optional[Tuple[str, ...]], message: str) -> Non
     if desk.state.half == "tree" and desk.state.is_node:
         path = Tree.of(desk.state, desk.replies).nearest(desk.state.path)
         desk.state = moves.chosen(desk.state, desk.replies, path).told(message)
-    elif desk.state.place >= desk.replies.size() or not desk.state.is_node:
+    else:
         desk.state = moves.at_place(replace(desk.state, is_node=False), desk.replies, desk.state.place).told(message)
 
 

@@ -1,5 +1,4 @@
 """Keys about files: saving, leaving, reading the description again, and what an ended session left."""
-from dataclasses import replace
 from typing import TYPE_CHECKING
 
 from front.edits import edits_of
@@ -7,6 +6,7 @@ from front.journal import removed, sum_of, when
 from front.keeper import lefts
 from front.save import CHANGED, NotSaved
 from front.session import Died, Refused
+from front.view import editing
 
 if TYPE_CHECKING:
     from front.view.desk import Desk
@@ -73,8 +73,7 @@ def leave(desk: "Desk") -> None:
 def reload(desk: "Desk") -> None:
     """Reads the description again."""
     desk.opened.reload()
-    desk.replies.edited()
-    desk.state = desk.state.told(f"read again: {desk.opened.ksy}")
+    editing.changed(desk, (), f"read again: {desk.opened.ksy}")
 
 
 def recover(desk: "Desk") -> None:
@@ -91,9 +90,8 @@ def recover(desk: "Desk") -> None:
         desk.at_out = None
         if is_changed:
             desk.opened.saver.know(keeper.file, CHANGED)
-        desk.replies.edited()
         also = f"; {keeper.file} was changed since, this is the session's own" if is_changed else ""
-        desk.state = replace(state, written=(0, 0)).told(f"took up {edits_of(len(keeper.edits.holding()))}{also}")
+        editing.changed(desk, (), f"took up {edits_of(len(keeper.edits.holding()))}{also}")
 
 
 def drop(desk: "Desk") -> None:

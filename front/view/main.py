@@ -22,7 +22,7 @@ USAGE = "usage: ksv-view FILE KSY [--save OUT]"
 def viewed(named: Tuple[str, str, Optional[str]], signals: Signals) -> int:
     """Opens a file by its description, and shows it until the person leaves; the status. However it ends, what isn't saved is in the journal, but for edits
     that the person gives up."""
-    from front.view.terminal import Terminal
+    from front.view.terminal import NoTerminal, Terminal
 
     status, is_kept, why, messages = 0, True, "", []  # type: int, bool, str, List[str]
     with Opened(named, signals, messages.append) as opened:
@@ -36,6 +36,8 @@ def viewed(named: Tuple[str, str, Optional[str]], signals: Signals) -> int:
             status, why = 128 + end.signum, str(end)
         except Interrupted:
             status, why = 128 + signal.SIGINT, "ended by SIGINT"
+        except NoTerminal as error:
+            status, why = 1, f"the terminal {os.environ['TERM']} can't be used: {error}"
         except (Died, OSError, Refused) as error:
             status, why = 3, str(error)
         finally:

@@ -47,9 +47,12 @@ class Replies:
             return
         self._looked()
         self.asked += len(lines)
-        for line, told in zip(lines, self._session().ask_all(lines)):
-            if told != NO_MEMORY:
-                self.known[line] = told
+        try:
+            replies = self._session().ask_all(lines)
+        except Interrupted:
+            self.known.update(dict.fromkeys(lines, BROKEN))
+            raise
+        self.known.update({line: told for line, told in zip(lines, replies) if told != NO_MEMORY})
 
     def was(self, line: str) -> Optional[str]:
         """The reply to a line before the last edit; None where it wasn't asked."""

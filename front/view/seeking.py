@@ -72,14 +72,14 @@ def search(desk: "Desk", text: str) -> None:
         again(desk)
 
 
-def kinds_of(text: str) -> List[Sought]:
-    """What a text may mean that is searched for, in the order in which it is tried."""
+def kinds_of(text: str, description: str) -> List[Sought]:
+    """What a text may mean that is searched for, in the order in which it is tried: a name is one that the description has."""
     if text.startswith('"') or re.match(r"0[xX]", text):
         digits = reader.bytes_of(reader.words_of(text))
         if not re.fullmatch(r"(?:[0-9a-fA-F]{2})+", digits):
             raise Misread('bytes are wanted here, as 0x0aff, or a "TEXT"')
         return [Sought(text, "bytes" if text.startswith("0") else "text", bytes.fromhex(digits))]
-    found = [Sought(text, "name")] if re.fullmatch(r"[A-Za-z0-9_]+", text) else []
+    found = [Sought(text, "name")] if re.fullmatch(r"[a-z0-9_]*[a-z_][a-z0-9_]*", text) and text in description else []
     found.append(Sought(text, "text", text.encode(errors="surrogateescape")))
     digits = re.sub(r"\s+", "", text)
     return found + ([Sought(text, "bytes", bytes.fromhex(digits))] if re.fullmatch(r"(?:[0-9a-fA-F]{2})+", digits) else [])
@@ -91,7 +91,7 @@ def again(desk: "Desk") -> None:
     if not sought:
         desk.state = desk.state.told("nothing was searched for: / searches")
         return
-    for it in [sought] if sought.kind else kinds_of(sought.text):
+    for it in [sought] if sought.kind else kinds_of(sought.text, desk.opened.text.decode(errors="replace")):
         if is_found(desk, it):
             return
     desk.state = desk.state.told(f"not found: {sought.text}")

@@ -32,6 +32,10 @@ COLOURS = {"fault": curses.COLOR_RED, "changed": curses.COLOR_GREEN, "written": 
            "note": curses.COLOR_YELLOW, "name": -1}
 
 
+class NoTerminal(Exception):
+    """A terminal that can't be used, and why."""
+
+
 class Terminal:
     """The screen of a terminal, for as long as it is the view's."""
 
@@ -43,7 +47,13 @@ class Terminal:
     def __enter__(self) -> "Terminal":
         if hasattr(curses, "set_escdelay"):
             curses.set_escdelay(25)
-        self.window = curses.initscr()
+        try:
+            curses.setupterm()
+            if not curses.tigetstr("cup"):
+                raise NoTerminal("its cursor can't be moved")
+            self.window = curses.initscr()
+        except curses.error as error:
+            raise NoTerminal(str(error)) from error
         try:
             curses.noecho()
             curses.cbreak()

@@ -67,8 +67,7 @@ def is_own_fault(replies: Replies, path: str) -> bool:
 
 def next_named(replies: Replies, path: str, text: str, most: int = MOST_ASKED) -> Optional[str]:
     """The next path below a row, or else from the root on, whose last step has a text in it."""
-    wanted = text.lower()
-    return next((it for it in paths_after(replies, path, most) if wanted in it.rpartition("/")[2]), None)
+    return next((it for it in paths_after(replies, path, most) if text in it.rpartition("/")[2]), None)
 
 
 def next_bytes(replies: Replies, wanted: bytes, place: int) -> Optional[Tuple[int, int]]:
