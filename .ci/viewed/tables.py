@@ -4,7 +4,7 @@ from typing import Iterator, List
 
 from front.texts import columns
 from front.view import about, readings
-from front.view.cells import Span, cut, fitted, flowed, plain
+from front.view.cells import Span, cut, fitted, flowed, plain, wrapped
 from front.view.octets import Grid, between
 from front.view.sources import closing
 from front.view.state import Typed, fronts, parent
@@ -68,7 +68,7 @@ def trials() -> Iterator[str]:
     yield from different("grids", [(Grid.of(350, width, 6).row, wanted) for width, wanted in GRIDS])
     yield from different("tops", [(Grid(4, 8, 6).top(top, place), wanted) for top, place, wanted in TOPS])
     yield from different("brackets", [(between(place, at, marked).text, wanted) for place, at, marked, wanted in BRACKETS])
-    yield from different("wrapped", [(about.wrapped(text, width, most), wanted) for text, width, most, wanted in WRAPPED])
+    yield from different("wrapped", [(wrapped(text, width, most), wanted) for text, width, most, wanted in WRAPPED])
     yield from different("keys of valid", [(about.strip_keys(text), wanted) for text, wanted in KEYS])
     yield from different("closing", [(closing(text, at), wanted) for text, at, wanted in CLOSINGS])
     yield from different("paths", [(parent("/"), "/"), (parent("/a"), "/"), (parent("/a/0"), "/a"), (fronts("/a/0"), frozenset({"/", "/a"})), (fronts("/"), frozenset())])

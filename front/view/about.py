@@ -8,7 +8,7 @@ from front.follow import Follower
 from front.look import Explorer, Spent
 from front.session import Refused
 from front.texts import columns
-from front.view.cells import CUT, cut
+from front.view.cells import CUT, cut, wrapped
 from front.view.replies import Replies
 from front.view.sources import Sources
 from front.view.state import parent
@@ -94,19 +94,6 @@ def sources_of(replies: Replies, description: Description, path: str) -> Dict[st
 def strip_keys(text: str) -> str:
     """An expression, or those of `valid`, without the keys before them."""
     return re.sub(r"(?:^|(?<=, ))(?:min|max|eq|any-of|expr): ", "", text)
-
-
-def wrapped(text: str, width: int, most: int) -> List[str]:
-    """A text in lines of a width, which are broken at spaces where there are some; at most n of them."""
-    lines: List[str] = []
-    while text and len(lines) < most:
-        if columns(text) <= width or len(lines) + 1 == most:
-            return [*lines, text]
-        end = text.rfind(" ", width // 2, width + 1)
-        end = end if end > 0 else width
-        lines.append(text[:end])
-        text = text[end:].lstrip()
-    return lines
 
 
 def lines_of(replies: Replies, description: Callable[[], Description], ksy: str, path: str, width: int, most: int) -> List[str]:

@@ -63,3 +63,16 @@ def flowed(pieces: Iterable[str], width: int) -> List[str]:
         else:
             lines.append(it)
     return lines
+
+
+def wrapped(text: str, width: int, most: int) -> List[str]:
+    """A text in lines of a width, which are broken at spaces where there are some; at most n of them."""
+    lines: List[str] = []
+    while text and len(lines) < most:
+        if columns(text) <= width or len(lines) + 1 == most:
+            return [*lines, text]
+        end = text.rfind(" ", width // 2, width + 1)
+        end = end if end > 0 else width
+        lines.append(text[:end])
+        text = text[end:].lstrip()
+    return lines

@@ -15,7 +15,7 @@ from front.values import Unwritable
 from front.view import editing, filing, moves, seeking, walk
 from front.view.about import sources_of
 from front.view.draw import Screen, Told, drawn
-from front.view.help import LINES
+from front.view.help import lines_of
 from front.view.replies import Replies
 from front.view.state import State, Typed, fronts
 from front.view.tree import Tree
@@ -136,7 +136,7 @@ class Desk:
         """Which line of the help is the first after a key; None where it ends."""
         room = max(1, self.state.rows - 2)
         steps = {"down": 1, "up": -1, "pgdn": room, "pgup": -room}
-        return max(0, min(len(LINES) - 1, first + steps[key])) if key in steps else None
+        return max(0, min(len(lines_of(self.state.columns)) - room, first + steps[key])) if key in steps else None
 
     def tab(self) -> None:
         """Goes to the other half."""

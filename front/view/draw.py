@@ -8,7 +8,7 @@ from front.look import span_of
 from front.texts import columns
 from front.view import about, octets, readings
 from front.view.cells import Row, Span, cut, fitted
-from front.view.help import LINES, TITLE, keys_of
+from front.view.help import BACK, KEYS, TITLE, keys_of, lines_of
 from front.view.octets import Grid
 from front.view.replies import Replies
 from front.view.state import State
@@ -208,6 +208,7 @@ def last_row(state: State, is_calculated: bool) -> Tuple[Row, Optional[int]]:
 def helped(state: State, first: int) -> Screen:
     """The page of help."""
     rows = [fitted([Span(TITLE, "bar")], state.columns, "bar")]
-    rows += [fitted([Span(f"{key:<12}", "key"), Span(f" {what}")], state.columns) for key, what in LINES[first : first + state.rows - 2]]
+    lines = lines_of(state.columns)
+    rows += [fitted([Span(f"{key:<{KEYS}}", "key"), Span(f" {what}")], state.columns) for key, what in lines[first : first + max(0, state.rows - 2)]]
     rows += [fitted([], state.columns)] * (state.rows - 1 - len(rows))
-    return Screen([*rows, fitted([Span("any other key goes back", "message")], state.columns)][: state.rows])
+    return Screen([*rows, fitted([Span(BACK if first + state.rows - 2 >= len(lines) else f"Down PgDn: more; {BACK}", "message")], state.columns)][: state.rows])

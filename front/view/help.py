@@ -2,8 +2,11 @@
 from typing import List, Tuple
 
 from front.texts import columns
+from front.view.cells import wrapped
 
-TITLE = " keys"
+TITLE, BACK = " keys", "any other key goes back"
+# The columns of keys in the page of help, and the least ones beside them.
+KEYS, LEAST = 10, 20
 # The keys that the last row names, the most wanted ones first; it has as many as there is room for.
 TREE_KEYS = [
     ("?", "help"), ("q", "quit"), ("arrows", "walk"), ("Tab", "bytes"), ("e", "edit"), ("f", "fault"), ("u", "undo"), ("s", "save"), ("/", "search"),
@@ -40,6 +43,15 @@ LINES = [
     ("marks", "> the chosen row, * another value than before the last edit, [ ] the bytes of the node; + can be opened, = is elsewhere"),
     ("", "calc: calculated, not read. An absent value has no bytes. A fault tells what is wrong, and where that arose"),
 ]
+
+
+def lines_of(width: int) -> List[Tuple[str, str]]:
+    """The lines of the page of help in a width, with the keys beside the first one of each."""
+    found = []
+    for key, what in LINES:
+        rows = wrapped(what, max(LEAST, width - KEYS - 1), len(what) + 1) or [""]
+        found += [(it, row) for it, row in zip([key, *[""] * len(rows)], rows)]
+    return found
 
 
 def keys_of(half: str, width: int, is_calculated: bool) -> List[Tuple[str, str]]:

@@ -63,14 +63,22 @@ class Terminal:
             signal.signal(signal.SIGWINCH, lambda *_: None)
             self.signals.patience, self.signals.sign = PATIENCE, self.sign
         except BaseException:
-            curses.endwin()
+            self.give_back()
             raise
         return self
 
     def __exit__(self, *_: object) -> None:
         self.signals.patience, self.signals.sign = None, lambda: None
         signal.signal(signal.SIGWINCH, signal.SIG_DFL)
-        curses.endwin()
+        self.give_back()
+
+    @staticmethod
+    def give_back() -> None:
+        """Leaves the terminal as it was; one that is gone needs nothing."""
+        try:
+            curses.endwin()
+        except curses.error:
+            pass
 
     def begin_colours(self) -> None:
         """Makes the colours, where there are some and they are wanted."""
@@ -93,7 +101,10 @@ class Terminal:
 
     def size(self) -> Tuple[int, int]:
         """How many rows and columns the terminal has now."""
-        found = os.get_terminal_size(1)
+        try:
+            found = os.get_terminal_size(1)
+        except OSError as error:
+            raise Ending(signal.SIGHUP) from error
         rows, columns = max(1, found.lines), max(1, found.columns)
         if (rows, columns) != self.window.getmaxyx():
             curses.resizeterm(rows, columns)
