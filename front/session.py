@@ -62,10 +62,12 @@ class Process:
             os.set_blocking(end.fileno(), False)
         self.heard = b""
 
-    def exchange(self, lines: Sequence[str]) -> List[str]:
-        """The replies to lines, each of which has one. The process is of no more use if this is left by an exception."""
-        rest, replies = memoryview("".join(f"{it}\n" for it in lines).encode(errors="surrogateescape")), []
-        while len(replies) < len(lines):
+    def exchange(self, lines: Sequence[str], told: Optional[List[str]] = None) -> List[str]:
+        """The replies to lines, each of which has one, behind those that are there. The process is of no more use if this is left by an exception; what was
+        told until then is kept."""
+        rest, replies = memoryview("".join(f"{it}\n" for it in lines).encode(errors="surrogateescape")), [] if told is None else told
+        wanted = len(replies) + len(lines)
+        while len(replies) < wanted:
             readable, writable = self.waited(bool(rest))
             if writable:
                 rest = rest[self.written(rest) :]
@@ -120,6 +122,8 @@ class Session:
         self.signals, self.tell = signals, tell
         self._process: Optional[Process] = None
         self.asked = 0
+        # what was told of the lines that were asked last, also where that was broken off
+        self.told: List[str] = []
 
     def ask(self, line: str) -> str:
         """The reply to a line. Where memory is refused, the same is asked of a process that is begun anew."""
@@ -136,6 +140,7 @@ class Session:
 
     def ask_all(self, lines: Sequence[str]) -> List[str]:
         """The replies to lines, each of which must have one. A process that ends meanwhile is begun anew, once, and asked all of them."""
+        self.told = []
         for it in lines:
             if "\n" in it or not has_reply(it):
                 raise ValueError(f"{it!r} is no line with a reply")
@@ -148,9 +153,12 @@ class Session:
     def tried(self, lines: Sequence[str]) -> List[str]:
         """The replies to lines. Where it is left by an exception, the process is ended, and with it what it was asked."""
         self.asked += len(lines)
+        self.told = []
         try:
             process = self.process()
-            return [reply for at in range(0, len(lines), TOGETHER) for reply in process.exchange(lines[at : at + TOGETHER])]
+            for at in range(0, len(lines), TOGETHER):
+                process.exchange(lines[at : at + TOGETHER], self.told)
+            return self.told
         except BaseException:
             self.end()
             raise

@@ -16,6 +16,8 @@ from viewed.reader import Reader
 VIEW = f"{TOP}/bin/ksv-view"
 # How long a screen is awaited, in seconds, and how long nothing may come for it to be whole.
 PATIENCE, QUIET = 60, 0.15
+# What is told where something takes long.
+SIGN = "ctrl-C breaks it off"
 
 
 class Terminal:
@@ -63,6 +65,17 @@ class Terminal:
         self.type(keys)
         rows = self.until(lambda rows: any(text in it for it in rows))
         return "" if any(text in it for it in rows) else f"terminal: after {keys!r} there is no {text!r}: {rows}"
+
+    def patient(self, keys: str, text: str) -> str:
+        """The same, where each question that takes long is broken off."""
+        self.type(keys)
+        for _ in range(20):
+            rows = self.until(lambda rows: any(text in it for it in rows) or SIGN in rows[-1])
+            if SIGN in rows[-1]:
+                self.type("\x03")
+            elif any(text in it for it in rows):
+                return ""
+        return f"terminal: after {keys!r} there is no {text!r}: {rows}"
 
     def end(self) -> int:
         """The status, once the view has ended."""
@@ -126,21 +139,22 @@ def broken_off(room: str) -> Iterator[str]:
         file.write(bytes(1_000_000))
     terminal = Terminal([f"{room}/until.bin", f"{room}/until.ksy"])
     begun = time.monotonic()
-    yield terminal.shown("", "ctrl-C breaks it off")
+    yield terminal.shown("", SIGN)
     yield "" if time.monotonic() - begun < 10 else "the sign came late"
-    yield terminal.shown("\x03", "(broken off")
-    yield terminal.shown("g/n\r", "/n  at 0 1 (0x0 0x1)  0")
-    yield terminal.shown("e7\r", "ok 1000000; u takes it back: put /n 7")
+    yield terminal.patient("", "(broken off")
+    yield terminal.patient("g", "go to /path or 0x1f:")
+    yield terminal.patient("/n\r", "/n  at 0 1 (0x0 0x1)  0")
+    yield terminal.patient("e", "value of /n:")
+    yield terminal.patient("7\r", "1 edit, not saved")
     os.kill(terminal.process, signal.SIGTERM)
     status = terminal.end()
     yield "" if status == 143 else f"SIGTERM: status {status}"
     terminal = Terminal([f"{room}/until.bin", f"{room}/until.ksy"])
-    terminal.until(lambda rows: any("ctrl-C breaks it off" in it for it in rows))
-    yield terminal.shown("\x03", "left 1 edit, not saved")
-    terminal.type("R")
-    terminal.until(lambda rows: any("ctrl-C breaks it off" in it or "took up" in it for it in rows))
-    yield terminal.shown("\x03", "1 edit, not saved")
-    terminal.type("qq")
+    yield terminal.patient("", "left 1 edit, not saved")
+    yield terminal.patient("R", "1 edit, not saved")
+    yield terminal.patient("", "n  7")
+    terminal.patient("q", "q once more")
+    terminal.type("q")
     status = terminal.end()
     yield "" if status == 0 else f"qq: status {status}"
 

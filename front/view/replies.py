@@ -19,7 +19,7 @@ class Replies:
         self.is_given_up = False
 
     def ask(self, line: str) -> str:
-        """The reply to a line. While it is given up, what isn't known yet is broken off too."""
+        """The reply to a line. While it is given up, what isn't known yet isn't asked."""
         found = self.known.get(line)
         if found is not None:
             return found
@@ -27,7 +27,6 @@ class Replies:
             self._signals.look()
         self._looked()
         if self.is_given_up:
-            self.known[line] = BROKEN
             return BROKEN
         self.asked += 1
         try:
@@ -47,12 +46,14 @@ class Replies:
             return
         self._looked()
         self.asked += len(lines)
+        session = self._session()
         try:
-            replies = self._session().ask_all(lines)
+            session.ask_all(lines)
         except Interrupted:
-            self.known.update(dict.fromkeys(lines, BROKEN))
+            self.known[lines[len(session.told) % len(lines)]] = BROKEN
             raise
-        self.known.update({line: told for line, told in zip(lines, replies) if told != NO_MEMORY})
+        finally:
+            self.known.update({line: told for line, told in zip(lines, session.told) if told != NO_MEMORY})
 
     def was(self, line: str) -> Optional[str]:
         """The reply to a line before the last edit; None where it wasn't asked."""
