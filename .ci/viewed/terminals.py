@@ -43,7 +43,7 @@ class Terminal:
             ready, _, _ = select.select([self.ours], [], [], QUIET)
             if ready and not self.read():
                 break
-            if not ready and holds(self.reader.lines()):
+            if (not ready or SIGN in self.reader.lines()[-1]) and holds(self.reader.lines()):
                 break
         return self.reader.lines()
 

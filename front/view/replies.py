@@ -23,11 +23,11 @@ class Replies:
         found = self.known.get(line)
         if found is not None:
             return found
+        if self.is_given_up:
+            return BROKEN
         if self._signals.is_interrupted or self._signals.ending:
             self._signals.look()
         self._looked()
-        if self.is_given_up:
-            return BROKEN
         self.asked += 1
         try:
             found = self._session().ask(line)
