@@ -18,6 +18,8 @@ VIEW = f"{TOP}/bin/ksv-view"
 PATIENCE, QUIET = 60, 0.15
 # What is told where something takes long.
 SIGN = "ctrl-C breaks it off"
+# The most seconds until it is there on a busy machine.
+LATE = 5
 
 
 class Terminal:
@@ -73,6 +75,7 @@ class Terminal:
             rows = self.until(lambda rows: any(text in it for it in rows) or SIGN in rows[-1])
             if SIGN in rows[-1]:
                 self.type("\x03")
+                self.until(lambda rows: SIGN not in rows[-1])
             elif any(text in it for it in rows):
                 return ""
         return f"terminal: after {keys!r} there is no {text!r}: {rows}"
@@ -138,9 +141,11 @@ def broken_off(room: str) -> Iterator[str]:
     with open(f"{room}/until.bin", "wb") as file:
         file.write(bytes(1_000_000))
     terminal = Terminal([f"{room}/until.bin", f"{room}/until.ksy"])
+    while not terminal.reader.is_alternate and terminal.read():
+        pass
     begun = time.monotonic()
     yield terminal.shown("", SIGN)
-    yield "" if time.monotonic() - begun < 10 else "the sign came late"
+    yield "" if time.monotonic() - begun < LATE else "the sign came late"
     yield terminal.patient("", "(broken off")
     yield terminal.patient("g", "go to /path or 0x1f:")
     yield terminal.patient("/n\r", "/n  at 0 1 (0x0 0x1)  0")

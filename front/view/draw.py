@@ -179,7 +179,8 @@ def below_of(state: State, replies: Replies, told: Told, layout: Layout) -> List
     if layout.readings:
         first, count = about.bits_at(replies.ask(f"at {state.path}")) if state.is_node and is_first_byte(state, replies) else (0, 8)
         some = replies.content(state.place, readings.READ)
-        found = readings.lines_of(some, state.columns, first, count)[: layout.readings]
+        is_known = bool(some) or state.place >= replies.size()
+        found = readings.lines_of(some, state.columns, first, count)[: layout.readings] if is_known else []
         rows += [fitted([Span(it)], state.columns) for it in found]
         rows += [fitted([], state.columns)] * (layout.readings - len(found))
     return rows
