@@ -23,7 +23,9 @@ def picture(name: str) -> str:
     example, rows, columns, keys = PICTURES[name]
     with Signals() as signals, Opened((f"examples/{example}.bin", f"examples/{example}.ksy", None), signals, lambda _: None) as opened:
         desk = Desk(opened, [], rows, columns)
-        desk.keys(keys.split())
+        for it in keys.split():
+            desk.screen()
+            desk.key(it)
         found = [plain(it).rstrip() for it in desk.screen().rows]
         opened.keeper.close(False)
     return "".join(f"{it}\n" for it in found)

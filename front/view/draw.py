@@ -203,7 +203,8 @@ def last_row(state: State, is_calculated: bool) -> Tuple[Row, Optional[int]]:
         )
     if state.message:
         return fitted([Span(state.message, "message")], state.columns), None
-    return fitted([it for key, what in keys_of(state.half, state.columns, is_calculated) for it in (Span(key, "key"), Span(f" {what}  "))], state.columns), None
+    keys = keys_of(state.half, state.columns, is_calculated)
+    return fitted([it for key, what in keys for it in (Span("  " if key != keys[0][0] else ""), Span(key, "key"), Span(f" {what}"))], state.columns), None
 
 
 def helped(state: State, first: int) -> Screen:
