@@ -90,8 +90,8 @@ def marked_of(state: State, replies: Replies) -> Tuple[int, int]:
 
 
 def title(state: State, replies: Replies, told: Told, width: int) -> Row:
-    """The first row of the tree's half: the file, its size and its edits."""
-    text = f"{told.file}  {replies.size()} bytes{'  ' if told.edits else ''}{told.edits}"
+    """The first row of the tree's half: the file, its edits and its size."""
+    text = "  ".join(it for it in (told.file, told.edits, f"{replies.size()} bytes") if it)
     return fitted([Span(text, "dim")], width, "dim")
 
 

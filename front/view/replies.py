@@ -15,7 +15,7 @@ class Replies:
         self._session, self._signals, self._looked = session, signals, looked
         self.known: Dict[str, str] = {}
         self.before: Dict[str, str] = {}
-        self.asked = 0
+        self.asked, self._size = 0, 0
         self.is_given_up = False
 
     def ask(self, line: str) -> str:
@@ -68,9 +68,11 @@ class Replies:
         self.known = {line: told for line, told in self.known.items() if told not in (BROKEN, NO_MEMORY)}
 
     def size(self) -> int:
-        """The number of bytes."""
+        """The number of bytes; while it is given up what it was last."""
         told = self.ask("size")
-        return int(told.split()[1]) if told.startswith("size ") else 0
+        if told.startswith("size "):
+            self._size = int(told.split()[1])
+        return self._size
 
     def piece(self, start: int, count: int) -> bytes:
         """Some bytes of the file that aren't kept here."""
