@@ -72,7 +72,7 @@ class Terminal:
         """The same, where each question that takes long is broken off."""
         self.type(keys)
         for _ in range(20):
-            rows = self.until(lambda rows: any(text in it for it in rows) or SIGN in rows[-1])
+            rows = self.until(lambda rows: any(text in it for it in rows) or SIGN in rows[-1], LATE)
             if SIGN in rows[-1]:
                 self.type("\x03")
                 self.until(lambda rows: SIGN not in rows[-1])
@@ -157,7 +157,7 @@ def broken_off(room: str) -> Iterator[str]:
     terminal = Terminal([f"{room}/until.bin", f"{room}/until.ksy"])
     yield terminal.patient("", "left 1 edit, not saved")
     yield terminal.patient("R", "1 edit, not saved")
-    yield terminal.patient("", "n  7")
+    yield terminal.patient("\x0c", "n  7")
     terminal.patient("q", "q once more")
     terminal.type("q")
     status = terminal.end()

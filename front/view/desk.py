@@ -28,6 +28,8 @@ MOST_BACK = 100
 HEX = "0123456789abcdef"
 # Keys that end what there is, and are no mistake where there is nothing.
 QUIET = ("escape", "interrupt", "backspace")
+# Keys that begin a line that is typed. While one is typed, what was given up isn't asked again.
+TYPING = ("g", "/", "s", "i")
 FAILURES = (Died, Misread, NoJournal, NotSaved, OSError, Refused, Unwritable)
 
 
@@ -90,7 +92,7 @@ class Desk:
     def key(self, key: str) -> None:
         """Does what a key asks for. What goes wrong is told."""
         before = self.state
-        self.replies.is_given_up = False
+        self.replies.is_given_up = self.replies.is_given_up and (key != "enter" if before.typed else key in TYPING)
         self.state = replace(before, message="")
         try:
             self.done(key)
