@@ -18,8 +18,8 @@ VIEW = f"{TOP}/bin/ksv-view"
 PATIENCE, QUIET = 60, 0.15
 # What is told where something takes long.
 SIGN = "ctrl-C breaks it off"
-# The most seconds until it is there on a busy machine.
-LATE = 5
+# The most seconds until it is there on a busy machine, and after which ctrl-C is pressed once more.
+LATE, AGAIN = 5, 2
 
 
 class Terminal:
@@ -75,7 +75,7 @@ class Terminal:
             rows = self.until(lambda rows: any(text in it for it in rows) or SIGN in rows[-1], LATE)
             if SIGN in rows[-1]:
                 self.type("\x03")
-                self.until(lambda rows: SIGN not in rows[-1])
+                self.until(lambda rows: SIGN not in rows[-1], AGAIN)
             elif any(text in it for it in rows):
                 return ""
         return f"terminal: after {keys!r} there is no {text!r}: {rows}"
