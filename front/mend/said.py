@@ -1,0 +1,17 @@
+"""What a hint says, taken from its text by the text of its kind."""
+from __future__ import annotations
+
+import re
+from typing import Dict
+
+from front.hints.kinds import KINDS, Hint
+
+PLACE = re.compile(r"\\\{(\w+)\\\}")
+
+
+def values(hint: Hint) -> Dict[str, str]:
+    """What is filled into the places of a hint's text; nothing where it was cut."""
+    kind = KINDS[hint.kind]
+    pattern = PLACE.sub(lambda it: f"(?P<{it[1]}>.*?)", re.escape(kind.text.replace("{{", "\0").replace("}}", "\1")))
+    found = re.fullmatch(pattern.replace(re.escape("\0"), r"\{").replace(re.escape("\1"), r"\}"), hint.text)
+    return {key: it for key, it in found.groupdict().items() if not it.endswith(" ..")} if found and not kind.what else {}
