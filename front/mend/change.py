@@ -72,7 +72,8 @@ def joined(text: str, stop: int, marks: List[Mark]) -> Edit:
     """The comment of marks at a line's end."""
     begin = text.rfind("\n", 0, stop) + 1
     stop -= text.startswith("\r", stop - 1) and stop > begin
-    words = "; ".join(f"{it.name} {it.text}" if len(marks) > 1 and it.name else it.text for it in marks)
+    is_named = len(marks) > 1 or "{" in text[begin:stop]
+    words = "; ".join(f"{it.name} {it.text}" if is_named and it.name else it.text for it in marks)
     return Edit(stop, stop, f"; {words}" if MARK in text[begin:stop] else f" {MARK}{words}")
 
 

@@ -67,8 +67,9 @@ def as_bytes(whole: Whole, field: Field, encoding: str) -> Optional[Tuple[List[E
     is_ended = field.said("type") == "strz" or "terminator" in field.keys
     if is_wide and is_ended and not is_sized:
         return None
-    mark = Mark(field.at, field.name, f"was {field.said('type')} {encoding}")
     lost = ["type", "encoding"] + (["terminator", "consume", "include"] if is_wide and is_ended else [])
+    first = field.at if field.role == "instance" else next((it.at for it in field.node.pairs if it.key not in lost), field.at)
+    mark = Mark(first, field.name, f"was {field.said('type')} {encoding}")
     adds = "terminator: 0" if field.said("type") == "strz" and not is_wide and "terminator" not in field.keys else ""
     if field.node.is_flow:
         return [flow_without(whole.text, field.node, lost, [adds] if adds else [])], [mark]
