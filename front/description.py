@@ -17,7 +17,7 @@ from dataclasses import dataclass
 from typing import Dict, List, Optional, Tuple
 
 from front.hints.node import Node, Pair
-from front.hints.outline import Outline
+from front.hints.outline import COMMENT, Outline
 
 
 @dataclass(frozen=True)
@@ -37,8 +37,8 @@ class Member:
             return ""
         if found.kind == "text":
             return found.text if found.mark != '"' else self.source[found.at : found.stop]
-        lines = [it.strip() for it in self.source[found.at : found.stop].split("\n")]
-        return (", " if key == "valid" and not found.is_flow else " ").join(it for it in lines if it and not it.startswith("#"))
+        lines = [bare(it) for it in self.source[found.at : found.stop].split("\n")]
+        return (", " if key == "valid" and not found.is_flow else " ").join(it for it in lines if it)
 
 
 class Description:
@@ -82,6 +82,12 @@ class Description:
                 for count, it in enumerate(found.items if found else []):
                     known.setdefault(it.said("id") or f"_unnamed{count}", []).append((it.at, it))
         return self._members[one]
+
+
+def bare(line: str) -> str:
+    """A line without its comment, where no quote may hide one."""
+    is_plain = '"' not in line and "'" not in line
+    return ("" if line.lstrip().startswith("#") else COMMENT.split(line, 1)[0] if is_plain else line).strip()
 
 
 def _entries(one: Node, key: str) -> List[Pair]:

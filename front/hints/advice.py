@@ -7,7 +7,7 @@ from front.hints.outline import Outline
 from front.hints.places import Places
 
 # How many lines of a description are read for a hint.
-LINES = 12_000
+LINES = 6_000
 
 
 def of(text: str, line: int, code: str, told: str) -> Hint:
@@ -21,7 +21,6 @@ def of(text: str, line: int, code: str, told: str) -> Hint:
         "S1": keys.unknown, "S2": keys.missing, "S3": keys.against, "S4": names.unknown, "S5": names.no_order, "S6": values.bad, "S7": names.arguments,
         "S8": features.left_out, "S9": values.limit, "S10": lambda it: syntax.bad(it, told),
     }
-    general = {"S1": "key", "S2": "missing key", "S3": "against", "S4": "unknown name"}
-    if code not in found or not places.outline.is_whole and code in ("S2", "S4", "S7"):
-        return say({"S7": "count of arguments", **general}[code]) if code in found else Hint("", "")
-    return found[code](places) or say(general[code])
+    general = {"S1": "key", "S2": "missing key", "S3": "against", "S4": "unknown name", "S7": "count of arguments"}
+    hint = (found[code](places) or say(general[code])) if code in found else Hint("", "")
+    return hint if places.outline.is_whole or code not in ("S2", "S4", "S7") else say(general[code])

@@ -4,11 +4,11 @@ from __future__ import annotations
 import re
 from typing import Callable, Dict, List, Optional
 
-from front.hints import formulas, names, tokens
+from front.hints import formulas, keys, names, tokens
 from front.hints.formulas import Formula
 from front.hints.kinds import Hint, say
 from front.hints.node import Node
-from front.hints.places import Place, Places
+from front.hints.places import Place, Places, Start
 from front.hints.schema import PLACE_KEYS
 
 FLOAT = re.compile(r"f[48](?:le|be)?\Z")
@@ -22,7 +22,7 @@ def left_out(places: Places) -> Hint:
     for it in places.keys:
         hint = of_key(it)
         if hint:
-            return hint
+            return keys.misspelt(places, Start(it.value, "instance", it.key, it.type, it.value), ("pos", "value")) or hint if hint.kind == "no place" else hint
     for it in formulas.types(places):
         hint = of_type(it) or next(filter(None, map(of_expression, formulas.arguments(it))), None)
         if hint:
@@ -84,7 +84,8 @@ def of_field(place: Place) -> Optional[Hint]:
     if key == "encoding":
         return of_encoding(value)
     if key == "contents" and value.kind == "text" and not value.mark and re.fullmatch(r"0x[0-9a-fA-F]+|[0-9]+", value.text):
-        return say("contents", number=value.text)
+        number = int(value.text, 16) if value.text.startswith("0x") and len(value.text) < 5 else int(value.text) if len(value.text) < 4 else 256
+        return say("contents") if ZERO.match(value.text) or number > 255 else say("contents", number=value.text)
     return of_terminator(place) if key == "terminator" else None
 
 

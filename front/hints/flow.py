@@ -2,7 +2,7 @@
 from __future__ import annotations
 
 import re
-from typing import List, Optional
+from typing import List, Optional, Tuple
 
 from front.hints.node import Node, Pair
 
@@ -27,13 +27,13 @@ def unquoted(word: str) -> str:
     return ESCAPE.sub(lambda it: chr(int(it[1] or it[2], 16)) if it[1] or it[2] else LETTERS.get(it[3], it[3]), word[1:-1])
 
 
-def end(text: str, at: int) -> int:
-    """Where the flow that begins at a place ends; the text's end where it isn't closed."""
+def end(text: str, at: int, most: int = MOST) -> int:
+    """Where the flow that begins at a place ends; the text's end where it isn't closed, or has more than `most` quotes, brackets and comments."""
     depth = 0
-    while True:
+    for _ in range(most):
         found = EDGE.search(text, at)
         if not found:
-            return len(text)
+            break
         at = found.end()
         if found[0] in "[{":
             depth += 1
@@ -44,6 +44,7 @@ def end(text: str, at: int) -> int:
         elif found[0] in "\"'" and text[found.start() - 1] in " \t\r\n[{,:":
             quoted = QUOTED.match(text, found.start())
             at = quoted.end() if quoted else at
+    return len(text)
 
 
 def ends_on_line(text: str, at: int, stop: int) -> bool:
@@ -99,8 +100,8 @@ class _Open:
             self.node.pairs.append(Pair(found.text, found.at, Node(at, at, "text")))
 
 
-def read(text: str, at: int, most: int = MOST) -> Node:
-    """The flow that begins at a place; where it isn't closed, or has more than `most` marks, what there is of it."""
+def read(text: str, at: int, most: int = MOST) -> Tuple[Node, bool]:
+    """The flow that begins at a place, and whether that is all of it; where it isn't closed, or has more than `most` marks, what there is of it."""
     stack: List[_Open] = []
     for _ in range(most):
         at = SPACE.match(text, at).end()
@@ -116,11 +117,11 @@ def read(text: str, at: int, most: int = MOST) -> Node:
             top.comma(found.start())
             top.node.stop = at
             if not stack:
-                return top.node
+                return top.node, True
             stack[-1].take(top.node)
         elif kind != "comment":
             at = _part(stack[-1], text, found.start(), kind)
-    return _closed(stack, at)
+    return _closed(stack, at), False
 
 
 def _part(top: _Open, text: str, at: int, kind: str) -> int:

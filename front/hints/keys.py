@@ -95,6 +95,7 @@ def elsewhere(key: str, role: str, where: str, written: str = "") -> Hint:
     place = PLACES.get(key, "")
     if role in ("switch", "valid", "entry"):
         place = "the case of all other values is `_`, under `cases`" if key in ("default", "else", "otherwise") else schema_of(role)
+        place = "a type is written under `types`, and here its name; a switch has `switch-on` and `cases`" if role == "switch" and key in schema.KEYS["type"] else place
     elif key == "id":
         place = "the key that it is under is its name" if role != "type" else "the root's is in `meta`; of any other type the key that it is under is its name"
     elif role == "value":
@@ -119,6 +120,9 @@ def missing(places: Places) -> Optional[Hint]:
     """What to say of a mapping that lacks a key (S2): a key of it that is misspelt, or which one it is."""
     for start in places.starts:
         lacked = lacks(start)
+        at = next((it.at for it in start.node.pairs if it.key == "size-eos" and it.value.text not in ("true", "false")), -1)
+        if lacked and "size-eos" in lacked[0] and at >= 0:
+            return say("truth below", line=lines.number(places.outline.text, at))
         if lacked:
             return misspelt(places, start, lacked[0]) or lacked[1]
     return None

@@ -64,7 +64,7 @@ def of_expression(formula: Formula) -> Optional[Hint]:
         elif it.kind == "member" and name == "_":
             hint = None if key in ("repeat-until", "expr", "case") else say("element")
         elif it.kind == "member" and name not in tokens.SPECIAL and key != "case":
-            hint = None if name in place.type.members else of_member(name, formula)
+            hint = None if name in place.type.members else of_foreign_name(name, formula, is_repeated) or of_member(name, formula)
         elif it.kind == "path":
             hint = of_enum_member(it.names, place.type)
         elif it.kind == "point" and name in ("_", "_index"):
@@ -76,6 +76,17 @@ def of_expression(formula: Formula) -> Optional[Hint]:
         if hint:
             return hint
     return None
+
+
+def of_foreign_name(name: str, formula: Formula, is_repeated: bool) -> Optional[Hint]:
+    """What to say of a name that other languages have."""
+    title = titled(formula.place.type)
+    if name in ("i", "j", "k", "idx") and is_repeated and formula.key in INDEX_KEYS:
+        return say("index name", type=title, name=name)
+    after = re.search(r"\b%s\s*\.\s*([a-z][a-z0-9_]*)" % name, formula.text) if name in ("this", "self") else None
+    if after and after[1] in formula.place.type.members:
+        return say("own member", type=title, name=name, member=after[1])
+    return say("no null", name=name) if name in ("null", "nil", "none", "undefined") else None
 
 
 def titled(one: Type) -> str:
@@ -95,6 +106,8 @@ def of_member(name: str, formula: Formula) -> Hint:
     near_one = near(name, [it for it in one.members if not it.startswith("_")])
     if near_one:
         return say("near member", type=title, name=name, near=near_one)
+    if name == formula.text and not found_elsewhere(name, one, title, formula.place.attribute) and (formula.node.mark or formula.key == "valid"):
+        return say("text name", text=name)
     return found_elsewhere(name, one, title, formula.place.attribute) or say("no member", type=title, name=name, members=listed(one.members, "its members are", "it has no members"))
 
 

@@ -60,6 +60,12 @@ class Node:
             return self._owner.between(self._row, begin, end)
         return self._contents
 
+    def first(self, most: int) -> Tuple[List[Pair], List[Node]]:
+        """The first of the pairs or items."""
+        if self._contents is None:
+            return self._owner.contents(self._row, most)
+        return self._contents[0][:most], self._contents[1][:most]
+
     def get(self, key: str) -> Optional[Node]:
         """The value of the first key of this name; None where there is none."""
         if self._contents is None:

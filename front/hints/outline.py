@@ -6,6 +6,7 @@ from __future__ import annotations
 
 import re
 from bisect import bisect_right
+from itertools import islice
 from typing import Dict, Iterator, List, Match, Optional, Pattern, Tuple
 
 from front.hints import flow
@@ -23,8 +24,10 @@ SIMPLE = re.compile(r"( *)((?:- +)?)([A-Za-z_][\w-]*):(?: +([^ \t\r\n#\"'|>{\[])
 STOP = re.compile(r":(?=[ \t\r\n]|\Z)|[ \t]#")
 COMMENT = re.compile(r"[ \t]#")
 MARKER = re.compile(r"---[ \t]*(?:#[^\n]*)?\r?(?:\n|\Z)")
-# How many rows are read where nothing else is asked, and a column that no line has.
-ALL = 1 << 30
+# How many lines are read where nothing else is asked, which is also a column that no line has; and how many marks of one flow are read for each line.
+ALL, MARKS = 1 << 30, 1
+# How many dashes of one line are read, where ksv reads 64; and how long a key in quotes, or a value where not all is read.
+DEEPEST, LONGEST = 80, 65_536
 
 
 class Outline:
@@ -32,7 +35,7 @@ class Outline:
 
     def __init__(self, text: str, most: int = ALL) -> None:
         """Reads the rows of a text, as far as there are no more of them and of its lines than `most`."""
-        self.text, self.is_whole = text, True
+        self.text, self.is_whole, self._most = text, True, most
         self.starts: List[int] = []
         self._keys: List[Optional[str]] = []
         self._depths: List[int] = []
@@ -86,7 +89,9 @@ class Outline:
     def _line(self, at: int, column: int, end: int) -> Tuple[int, int]:
         """Adds the rows of a line; where the next line begins, and the column below which the next lines belong to this one's text."""
         text, dash = self.text, -1
-        while text.startswith("-", at) and (at + 1 >= end or text[at + 1] in " \t\r"):
+        for _ in range(DEEPEST):
+            if not text.startswith("-", at) or at + 1 < end and text[at + 1] not in " \t\r":
+                break
             self._add(at, 2 * column + 1, None)
             dash, after = column, GAP.match(text, at + 1).end()
             column, at = column + after - at, after
@@ -130,7 +135,7 @@ class Outline:
         text = self.text
         first = text[at]
         if first in "\"'":
-            quoted = QUOTED.match(text, at, end)
+            quoted = QUOTED.match(text, at, min(end, at + LONGEST))
             after = GAP.match(text, quoted.end()).end() if quoted else end
             if not quoted or not STOP.match(text, after):
                 return None, at
@@ -150,7 +155,7 @@ class Outline:
         if first in "{[":
             if flow.ends_on_line(self.text, value, end):
                 return end + 1, ALL
-            stop = self.text.find("\n", flow.end(self.text, value))
+            stop = self.text.find("\n", flow.end(self.text, value, MARKS * self._most))
             return len(self.text) if stop < 0 else stop + 1, ALL
         return end + 1, column
 
@@ -201,7 +206,9 @@ class Outline:
             at = self.starts[row] if row >= 0 else 0
             return Node(at, at, "text")
         if self.text[value] in "{[":
-            return flow.read(self.text, value)
+            node, is_all = flow.read(self.text, value, MARKS * self._most)
+            self.is_whole = self.is_whole and is_all
+            return node
         return self._scalar(value, self._end(row))
 
     def _has_rows(self, row: int) -> bool:
@@ -215,9 +222,9 @@ class Outline:
             return [Pair(self._keys[it] or "", self.starts[it], self.node(it)) for it in rows], []
         return [], [self.node(it) for it in rows]
 
-    def contents(self, row: int) -> Tuple[List[Pair], List[Node]]:
-        """The pairs or the items directly in a row."""
-        rows, keys = list(self.below(row)), self._keys
+    def contents(self, row: int, most: int = ALL) -> Tuple[List[Pair], List[Node]]:
+        """The pairs or the items directly in a row, the first of them."""
+        rows, keys = list(islice(self.below(row), most)), self._keys
         if self.kind(row) == "map":
             return [Pair(keys[it], self.starts[it], self.node(it)) for it in rows if keys[it] is not None], []
         return [], [self.node(it) for it in rows if keys[it] is None]
@@ -233,6 +240,7 @@ class Outline:
     def _scalar(self, value: int, end: int) -> Node:
         """A text: quoted, plain or as a block."""
         text = self.text
+        end = min(end, value + (ALL if self._most == ALL else LONGEST))
         quoted = QUOTED.match(text, value, end)
         if quoted:
             return Node(value, quoted.end(), "text", flow.unquoted(quoted[0]), text[value])

@@ -18,7 +18,7 @@ from front.hints.shown import visible
 
 # Seconds between two looks at the program before it is greeted; how much of its message is read; the seconds of work and the bytes of memory that a hint may
 # take, the seconds that it is waited for, and how long it may be.
-TURN, MESSAGE, SECONDS, MEMORY, PATIENCE, LONGEST = 0.03, 65_536, 1, 1 << 30, 5, 4096
+TURN, MESSAGE, SECONDS, MEMORY, PATIENCE, LONGEST = 0.03, 65_536, 1, 1 << 30, 5, 16_384
 
 
 class Program:

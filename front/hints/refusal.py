@@ -49,9 +49,15 @@ def hint(message: str, words: Sequence[str]) -> str:
 
 def below(text: str, told: Refusal) -> str:
     """The refused line of a text with its number, and how to go on."""
-    line = lines.line(text, told.line)
-    if line is None:
+    front = shown_line(text, told.line)
+    if not front:
         return ""
     what = advice.of(text, told.line, told.code, told.text).text.replace("`", "")
-    return f"{told.line:>5} | {visible(line)}\n" + (f"      = {visible(what, 2000)}\n" if what else "")
+    return front + (f"      = {visible(what, 2000)}\n" if what else "")
+
+
+def shown_line(text: str, number: int) -> str:
+    """A line of a text as it is shown, with its number; the empty text where there is none."""
+    line = lines.line(text, number)
+    return "" if line is None else f"{number:>5} | {visible(line)}\n"
 

@@ -6,6 +6,8 @@ from typing import Dict, Iterator, List, NamedTuple, Optional, Sequence
 
 from front.hints.node import Node
 
+# How many of the members and types of one are looked at; ksv reads 256 members and 1,024 types.
+MOST = 1100
 IDENTIFIER = re.compile(r"[a-z][a-z0-9_]*\Z")
 
 
@@ -31,7 +33,7 @@ class Type:
         """The types in it."""
         if self._types is None:
             found = self.node.get("types")
-            self._types = {it.key: Type(it.key, it.value, self) for it in (found.pairs if found else [])}
+            self._types = {it.key: Type(it.key, it.value, self) for it in (found.first(MOST)[0] if found else [])}
         return self._types
 
     @property
@@ -47,12 +49,12 @@ class Type:
             self._members = {}
             for kind in ("params", "seq"):
                 found = self.node.get(kind)
-                for count, it in enumerate(found.items if found else []):
+                for count, it in enumerate(found.first(MOST)[1] if found else []):
                     named = next((pair for pair in it.pairs if pair.key == "id"), None)
                     name = named.value.text if named else f"_unnamed{count}" if kind == "seq" else ""
                     self._members.setdefault(name, []).append(Member(kind, named.at if named else it.at, it))
             found = self.node.get("instances")
-            for pair in found.pairs if found else []:
+            for pair in found.first(MOST)[0] if found else []:
                 self._members.setdefault(pair.key, []).append(Member("instances", pair.at, pair.value))
         return self._members
 
@@ -60,7 +62,7 @@ class Type:
     def parameters(self) -> List[str]:
         """The names of the parameters, in their order."""
         found = self.node.get("params")
-        return [it.said("id") for it in (found.items if found else [])]
+        return [it.said("id") for it in (found.first(MOST)[1] if found else [])]
 
     @property
     def root(self) -> Type:

@@ -47,6 +47,8 @@ def refused_at(formula: Formula, code: str, place: int) -> int:
 def unexpected(formula: Formula, at: int) -> Hint:
     """What to say of a character that can't come where it is (X1)."""
     text = formula.text
+    if re.fullmatch(r"[A-Za-z][\w-]{0,60}", text) and (formula.node.mark or formula.key == "valid") and formula.key not in ("case", "type"):
+        return say("text name", text=text)
     rest, before = text[at:], text[:at].rstrip()
     pair = text[max(0, at - 1) : at + 1]
     if pair in ("&&", "||") or rest[:1] == "!" and rest[:2] != "!=":
@@ -116,11 +118,11 @@ def ended(formula: Formula, at: int) -> Hint:
     text, owner = formula.text, formula.place
     if not text.strip():
         return say("no expression", key=formula.written)
+    if is_cut(formula):
+        return say("comment")
     quote = unclosed(text)
     if quote:
         return say("open quote", sign=quote)
-    if is_cut(formula):
-        return say("comment")
     opened: List[str] = []
     for it in tokens.read(text):
         if it.text in ("(", "["):
@@ -155,7 +157,7 @@ def left_out(formula: Formula, at: int) -> Hint:
     if re.match(r"0[0-9_]*[0-9](?![0-9_]*(?:\.[0-9]|[eE]))", rest) and not re.match(r"0(?:\.|[eE])", rest):
         return say("zero")
     if re.match(r"[0-9][0-9_]*(?:\.[0-9]|[eE][+-]?[0-9])", rest):
-        return say("fraction")
+        return say("fraction", text=formula.text) if formula.node.mark and re.fullmatch(r"[0-9.]+", formula.text) else say("fraction")
     if rest.startswith("["):
         return say("array")
     if rest.startswith(("sizeof", "bitsizeof")):

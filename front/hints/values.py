@@ -2,15 +2,17 @@
 from __future__ import annotations
 
 import re
-from typing import Callable, Dict, Optional
+from typing import Callable, Dict, Optional, Sequence
 
 from front.hints import schema
 from front.hints.kinds import Hint, say
+from front.hints.near import near as near_name
 from front.hints.places import Place, Places
-from front.hints.scope import IDENTIFIER
+from front.hints.scope import IDENTIFIER, members_of
 
 TRUTHS = ("size-eos", "consume", "include", "eos-error")
 WORDS = {"repeat": ("eos", "expr", "until"), "endian": ("le", "be"), "bit-endian": ("be",)}
+MEANT = {**dict.fromkeys(("little", "little-endian", "little_endian"), "le"), **dict.fromkeys(("big", "big-endian", "big_endian"), "be"), "eof": "eos", "end": "eos"}
 NUMBER = re.compile(r"(?:0x[0-9a-fA-F]+|[0-9]+)\Z")
 SIGNED = re.compile(r"(?:0x[0-9a-fA-F]+|-?[0-9]+)\Z")
 # What is in the keys of a type, as an example.
@@ -18,6 +20,8 @@ EXAMPLES = {
     "meta": "`meta: {id: a}`", "types": "each type under its name, `name: {seq: []}`", "instances": "each instance under its name, `name: {value: 1}`",
     "enums": "each enum under its name, `name: {1: one}`", "type": "`{seq: []}`", "instance": "`{value: 1}`, or with `pos`", "enum": "`{1: one}`",
 }
+# How many members of an enum are looked at.
+MOST = 4000
 ITEMS = {"seq": "attribute", "params": "parameter"}
 
 
@@ -65,6 +69,10 @@ def of_entry(place: Place) -> Optional[Hint]:
     if not IDENTIFIER.match(place.key):
         return of_name(place.key)
     inner = place.role[:-1]
+    if inner == "type" and place.value.kind != "map" and place.key in schema.KEYS["type"]:
+        return say("type key as type", key=place.key)
+    if inner == "type" and place.value.kind == "list":
+        return say("list in type", key=place.key)
     return None if place.value.kind == "map" else say("entry wanted", key=place.key, example=EXAMPLES[inner])
 
 
@@ -100,12 +108,17 @@ def of_word(place: Place) -> Optional[Hint]:
     words, text = WORDS[place.key], place.value.text
     if place.value.kind == "text" and text in words or place.key == "bit-endian" and text == "le":
         return None
-    near = next((it for it in words if it == text.lower()), None) or {"little": "le", "big": "be", "eof": "eos", "end": "eos"}.get(text.lower())
+    near = MEANT.get(text.lower()) or nearest(text.lower(), words)
     if near in words:
         return say("letter case", key=place.key, near=near)
     if place.key == "repeat" and (NUMBER.match(text) or text in place.type.members):
         return say("repeat count", count=f"repeat-expr: {text}")
     return say("one of", key=place.key, words=" or ".join(f"`{it}`" for it in words) if len(words) < 3 else "`eos`, `expr` or `until`")
+
+
+def nearest(text: str, words: Sequence[str]) -> Optional[str]:
+    """The word that a text is, or the one that is near."""
+    return text if text in words else near_name(text, words)
 
 
 def of_parameter(place: Place) -> Optional[Hint]:
@@ -188,7 +201,14 @@ def of_case(place: Place) -> Optional[Hint]:
         return say("case wanted")
     if re.fullmatch(r"-?(?:0x[0-9a-fA-F]+|[0-9]+)|true|false|_|'.*'|\".*\"|[a-z_0-9]+(?:::[a-z_0-9]+)+", place.key):
         return None
-    return say("case text") if place.is_quoted else say("case key")
+    if place.is_quoted:
+        return say("case text")
+    if place.key in ("default", "else", "otherwise", "other"):
+        return say("other case")
+    enum, _, name = place.key.rpartition(".")
+    found = {it: members_of(of) for one in place.type.around() for it, of in one.enums.items() if len(of.pairs) < MOST}
+    having = [it for it, members in found.items() if name in members and enum in ("", it)]
+    return say("case member", enum=having[0], name=name) if len(having) == 1 else say("case key")
 
 
 def of_number(place: Place) -> Optional[Hint]:
@@ -211,6 +231,6 @@ def of_number(place: Place) -> Optional[Hint]:
 
 def limit(places: Places) -> Hint:
     """Which limit the line goes over (S9)."""
-    found = {"types": "types", "seq": "members", "params": "members", "instances": "members", "enum": "entries"}
+    found = {"types": "types", "seq": "members", "params": "members", "instances": "members", "enum": "limit"}
     kinds = {found[it.role] for it in places.keys if it.role in found}
     return say(kinds.pop()) if len(kinds) == 1 else say("limit")

@@ -11,11 +11,13 @@ from front.hints.node import Node
 from front.hints.outline import COMMENT, STOP, Outline
 
 # How much of a line and how many lines are looked at.
-LONGEST, LINES = 4000, 12_000
+LONGEST, LINES = 4000, 6_000
 CONTROL = re.compile("[\x00-\x08\x0b-\x1f\x7f-\x9f]")
 FRONT = re.compile(r"[ \t]*(?:-[ \t]+)*")
 WORD = re.compile(r"[A-Za-z_][\w-]*")
 EXPRESSIONS = ("if", "value", "valid", "expr", "repeat-until", "repeat-expr", "size", "pos", "eq", "min", "max", "switch-on")
+# What comes in a flow after a quoted text or a closed bracket, where a comma is missing.
+COMMA = re.compile(r"'\s+[^\s,:\]}#]|[\]}]\s*[^\s,\]}:#]")
 GOOD_ESCAPE = re.compile(r"\\(?:[\"\\/0abtnvfre]|x[\da-fA-F]{2}|u(?![dD][89a-fA-F])[\da-fA-F]{4})")
 
 
@@ -68,6 +70,8 @@ def indented(text: str, line: Line) -> Optional[Hint]:
     if not outline.is_whole or not outline.starts:
         return None
     here, last = len(line.text) - len(line.text.lstrip(" ")), len(outline.starts) - 1
+    if opened := unclosed(outline):
+        return opened
     if outline.inline(last) in ("|", ">") and here > outline.column(last):
         return say("block line")
     chain = outline.around(last)
@@ -110,28 +114,51 @@ def in_flow(outline: Outline, node: Node, begin: int) -> Optional[Hint]:
     return None
 
 
+def unclosed(outline: Outline) -> Optional[Hint]:
+    """What to say of the line after a text, where the last value of that is a bracket or a brace that isn't closed."""
+    last = len(outline.starts) - 1
+    if last < 0 or outline.inline(last) not in ("{", "["):
+        return None
+    node = outline.node(last)
+    if flow.end(outline.text, node.at) < len(outline.text):
+        return None
+    return say("open flow", sign=node.mark, line=outline.line(node.at), columns=spaces(outline.column(last) + 1))
+
+
 def no_key(text: str, line: Line) -> Optional[Hint]:
     """What to say where a value is in a key's place (Y8)."""
     if line.text.startswith(("---", "...")):
         return say("marker", sign=line.text[:3])
     above = previous(text, line.number)
+    if above and above.opened:
+        return above.opened
+    if line.content.startswith(("&", "*", "!")):
+        return say("anchor")
+    if line.content.startswith("? "):
+        return say("question")
+    if line.value[:1] in ("[", "{") and COMMA.search(bare_of(line.value)[: flow.end(bare_of(line.value), 0)]):
+        return say("flow comma")
     if above and line.text.startswith(" " * (above.before + 1)) and above.is_full and not line.value.startswith(("[", "{")):
         return say("below a value", line=above.number, columns=spaces(above.before))
-    if line.value[:1] == "[" and ": " in line.value:
+    if line.value[:1] == "[" and ": " in line.value[: flow.end(line.value, 0)]:
         return say("choice") if " ? " in line.value else say("pair in list")
     plain = not line.value.startswith(("'", '"', "[", "|", ">"))
     if plain and STOP.search(f"{COMMENT.split(line.value, 1)[0]} ") and (line.key or line.value[:1] == "{"):
         return say("choice") if " ? " in line.value else say("colon")
-    return misplaced(line, above) if not line.value.startswith(("[", "{")) else None
+    return misplaced(line, above) if not line.value.startswith("{") else None
 
 
 def misplaced(line: Line, above: Optional[Above]) -> Optional[Hint]:
     """What to say of a line that has no key or no dash where one is wanted."""
     dashed = line.text.lstrip(" ").startswith("- ")
-    if line.key:
-        return say("no dash") if above and above.is_item and not dashed else None
+    here = len(line.text) - len(line.text.lstrip(" "))
+    if above and here in above.lists and not dashed:
+        return say("no dash", columns=spaces(min((it for it in above.keys if it > here), default=here + 2)))
     if dashed:
-        return say("no key")
+        lists = [it for it in above.items if it != here] if above else []
+        return say("item column", columns=spaces(lists[0])) if lists else say("no key")
+    if line.key:
+        return None
     joined = re.match(r"([A-Za-z_][\w-]*):(\S.*)\Z", line.content)
     if joined:
         return say("no space", near=f"{joined[1]}: {joined[2]}")
@@ -139,12 +166,16 @@ def misplaced(line: Line, above: Optional[Above]) -> Optional[Hint]:
 
 
 class Above(NamedTuple):
-    """The last key or item above a line: its line and column, whether it has a value on its line, and whether it is an item."""
+    """The last key or item above a line: its line and column, and whether it has a value on its line; the columns of the lists and mappings that it is in, the
+    innermost first, and of lists where no key is; and what is said where it is open."""
 
     number: int
     before: int
     is_full: bool
-    is_item: bool
+    items: List[int]
+    keys: List[int]
+    lists: List[int]
+    opened: Optional[Hint]
 
 
 def previous(text: str, number: int) -> Optional[Above]:
@@ -153,7 +184,11 @@ def previous(text: str, number: int) -> Optional[Above]:
     if not outline.is_whole or not outline.starts:
         return None
     last = len(outline.starts) - 1
-    return Above(outline.line(outline.starts[last]), outline.column(last), outline.inline(last) != "", outline.key(last) is None)
+    chain = outline.around(last)
+    keys = [outline.column(it) for it in chain if outline.key(it) is not None]
+    items = [outline.column(it) for it in chain if outline.key(it) is None]
+    lists = [it for it in items if it not in keys]
+    return Above(outline.line(outline.starts[last]), outline.column(last), outline.inline(last) != "", items, keys, lists, unclosed(outline))
 
 
 # Forms that aren't read
@@ -164,15 +199,24 @@ def left_out(text: str, line: Line) -> Optional[Hint]:
     found = CONTROL.search(line.text)
     if found:
         return say("control", number=f"{ord(found[0]):04X}")
-    if not text.replace("\ufeff", "").strip() or not any(it.strip() and not it.lstrip().startswith("#") for it in text[:LONGEST].split("\n")):
-        return say("empty") if len(text) < LONGEST else None
+    if text.endswith("\r") and lines.stop(text, lines.start(text, line.number) or 0) == len(text):
+        return say("control", number="000D")
+    if len(text) < LONGEST and all(not it.strip("\ufeff \t\r") or it.lstrip().startswith("#") or it.rstrip() == "---" for it in text.split("\n")):
+        return say("empty")
     value = line.value
     if line.text.startswith("%"):
         return say("directive")
     if line.content.startswith("? ") or line.content.strip() == "?":
         return say("question")
+    above = previous(text, line.number)
+    if above and above.opened:
+        return above.opened if len(line.text) - len(line.text.lstrip(" ")) <= above.before else say("flow parts")
+    if not above and line.number > 1 and (Outline(text[: lines.start(text, line.number)], LINES).root.is_flow):
+        return say("flow parts")
+    if line.content[:1] and line.content[:1] in ",]}@%`&*!|>":
+        return of_first(line, line.content)
     if value[:1] in ("[", "{"):
-        return of_flow(value)
+        return of_flow(value) or say("flow parts")
     if value[:1] in ("'", '"'):
         return of_quoted(value)
     return of_first(line, value)
@@ -219,9 +263,14 @@ def bad_escape(quoted: str) -> str:
     return ""
 
 
+def bare_of(value: str) -> str:
+    """A text with the letters of its quoted parts made alike."""
+    return QUOTED.sub(lambda it: "'" + "x" * (len(it[0]) - 2) + "'", value)
+
+
 def of_flow(value: str) -> Optional[Hint]:
     """What to say of braces or brackets, where they are closed on their line."""
-    bare = QUOTED.sub(lambda it: "'" + "x" * (len(it[0]) - 2) + "'", value)
+    bare = bare_of(value)
     for it in QUOTED.finditer(value):
         if bad_escape(it[0]):
             return say("yaml escape", escape=bad_escape(it[0]))
@@ -231,15 +280,17 @@ def of_flow(value: str) -> Optional[Hint]:
     if marked:
         sign = marked[1] or marked[2]
         return say("anchor") if sign in "&*!" else say("first letter") if sign in "@%`" else say("sign first", sign=sign)
-    if re.search(r"'\s+[^\s,:\]}#]|[\]}]\s*[^\s,\]}:#]", bare[: flow.end(bare, 0)]):
+    if COMMA.search(bare[: flow.end(bare, 0)]):
         return say("flow comma")
     after = bare[flow.end(bare, 0) :]
+    if after.startswith("#"):
+        return say("comment sign")
     if after.strip() and not after.lstrip().startswith("#"):
         return say("after bracket")
-    return of_parts(flow.read(value, 0, LONGEST))
+    return of_parts(flow.read(value, 0, LONGEST)[0], bare)
 
 
-def of_parts(node: Node) -> Optional[Hint]:
+def of_parts(node: Node, bare: str) -> Optional[Hint]:
     """What to say of a part of braces that has no value."""
     rest: List[Node] = [node]
     while rest:
@@ -247,7 +298,10 @@ def of_parts(node: Node) -> Optional[Hint]:
         for it in here.pairs:
             if it.value.kind == "text" and not it.value.text and not it.value.mark:
                 joined = re.match(r"([A-Za-z_][\w-]*):(\S.*)\Z", it.key)
-                return say("flow space", near=f"{joined[1]}: {joined[2]}") if joined else say("flow entry", key=it.key)
+                if joined:
+                    return say("flow space", near=f"{joined[1]}: {joined[2]}")
+                if re.search(r"[{,]\s*%s\s*:?\s*(?:[,}]|\Z)" % re.escape(it.key), bare):
+                    return say("flow entry", key=it.key)
         rest += here.items + [it.value for it in here.pairs]
     return None
 
