@@ -4,10 +4,9 @@ from __future__ import annotations
 from typing import List, NamedTuple, Optional, Tuple
 
 from front.hints import tokens
-from front.hints.node import Node
 from front.hints.tokens import Token
 from front.mend.change import Change, Edit, Found, Mark, Need
-from front.mend.whole import Expression, Field, Whole, expressions, keyed, span
+from front.mend.whole import Expression, Field, Whole, expressions, extent, keyed
 from front.mend.written import scalar
 
 # What may be beside a comparison: another operand would be a part of it.
@@ -40,10 +39,10 @@ def one_by_one(whole: Whole) -> Found:
             if "[" not in it.text or it.key == "argument" or id(it.node) in done:
                 continue
             done.add(id(it.node))
-            words, place = compared(it), span(whole.text, it.node)
-            if words != it.text and place:
+            words, place = compared(it), extent(whole.text, it.node)
+            if words != it.text:
                 edits.append(Edit(*place, scalar(words, field.node.is_flow or is_inside(field, it))))
-                marks.append(Mark(place[0], field.name, f"was {' '.join(it.text.split())}"))
+                marks.append(Mark(place[1], field.name, f"was {' '.join(it.text.split())}"))
     return Change("bytes are compared with a list of numbers one by one", tuple(edits), tuple(marks)) if edits else Need()
 
 
@@ -66,17 +65,11 @@ def of_check(whole: Whole, field: Field) -> Optional[Tuple[Edit, Mark]]:
         return None
     words = " or ".join(joined("_", it or []) for it in lists)
     begin = equal.at if equal and not pair.value.is_flow else pair.value.at
-    stop = begin_stop(whole.text, pair.value if pair.value.is_flow or not equal else node)
+    stop = extent(whole.text, pair.value if pair.value.is_flow or not equal else node)[1]
     quoted = scalar(words, True)
     text = f"expr: {quoted}" if equal and not pair.value.is_flow else f"{{expr: {quoted}}}"
     old = " ".join(whole.text[begin:stop].split())
     return Edit(begin, stop, text), Mark(stop, field.name, f"was {old}")
-
-
-def begin_stop(text: str, node: Node) -> int:
-    """Where a value ends."""
-    place = span(text, node)
-    return place[1] if place else node.at + len(text[node.at : node.stop].rstrip())
 
 
 def numbers_of(text: str) -> Optional[List[str]]:
@@ -92,16 +85,17 @@ def numbers_of(text: str) -> Optional[List[str]]:
     return [it.text for it in numbers] if is_list else None
 
 
-def joined(operand: str, numbers: List[str]) -> str:
-    """Bytes compared with numbers one by one."""
-    return "(" + " and ".join([f"{operand}.length == {len(numbers)}", *(f"{operand}[{count}] == {it}" for count, it in enumerate(numbers))]) + ")"
+def joined(operand: str, numbers: List[str], count_of: str = "length") -> str:
+    """Bytes, or the elements of a list, compared with numbers one by one."""
+    return "(" + " and ".join([f"{operand}.{count_of} == {len(numbers)}", *(f"{operand}[{count}] == {it}" for count, it in enumerate(numbers))]) + ")"
 
 
 def compared(one: Expression) -> str:
     """An expression with its comparisons written out; as it was where it has none that can be."""
     text, found = one.text, comparisons(one.text)
     for it in reversed(found):
-        words = joined(it.operand, it.numbers)
+        is_list = any(member.name == it.operand and "repeat" in member.keys for member in one.field.body.fields)
+        words = joined(it.operand, it.numbers, "size" if is_list else "length")
         text = text[: it.begin] + (f"(not {words})" if it.differs else words) + text[it.stop :]
     return text
 

@@ -122,7 +122,7 @@ def rewritten(own: Whole, names: Dict[str, str], taken: Taken) -> Iterator[Tuple
             if node.at in done:
                 continue
             done.add(node.at)
-            words = renamed(node.text, names, is_type)
+            words = renamed(node.text, {key: it for key, it in names.items() if not field.body.find([key])}, is_type)
             if "_root" in words and any(it.text == "_root" for it in tokens.read(words)):
                 if field.body is not own.root or is_type:
                     raise Stop(f"{taken.file.name}: `_root` in it is its own root, which can't be named from inside another description")

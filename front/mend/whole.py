@@ -167,3 +167,16 @@ def span(text: str, node: Node) -> Optional[Tuple[int, int]]:
     if node.mark:
         return node.at, node.stop
     return (node.at, node.at + len(node.text)) if node.text and text.startswith(node.text, node.at) else None
+
+
+def extent(text: str, node: Node) -> Tuple[int, int]:
+    """Where a value is, over all its lines, without blank lines and comments after it."""
+    if node.is_flow or node.mark in ("'", '"'):
+        return node.at, node.stop
+    place = span(text, node)
+    if place:
+        return place
+    lines = text[node.at : node.stop].split("\n")
+    while len(lines) > 1 and (not lines[-1].strip() or node.mark not in ("|", ">") and lines[-1].lstrip().startswith("#")):
+        lines.pop()
+    return node.at, node.at + len("\n".join(lines).rstrip())
