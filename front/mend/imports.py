@@ -13,8 +13,8 @@ from front.mend.library import MOST, File, Library
 from front.mend.whole import Whole, expressions, kinds, span
 from front.mend.written import scalar, without
 
-# How many files are put in.
-MOST_FILES = 64
+# How many files are put in, how many names of files are looked at, and how long one is.
+MOST_FILES, MOST_NAMES, LONGEST = 64, 1000, 200
 
 
 class Stop(Exception):
@@ -71,11 +71,15 @@ def collected(whole: Whole, library: Library) -> List[Taken]:
     names: Set[str] = {*whole.root.types, whole.root.name}
     by_place: Dict[str, Taken] = {}
     rest: List[Tuple[str, str, Dict[str, str]]] = [(it, library.folders[0], {}) for it in names_of(whole.root.meta["imports"].value)]
-    while rest:
+    for count in range(MOST_NAMES + 1):
+        if not rest:
+            break
         name, folder, others = rest.pop(0)
-        file = library.find(name, folder)
+        file = library.find(name, folder) if len(name) <= LONGEST else None
+        if count == MOST_NAMES:
+            raise Stop("too many files are imported")
         if file is None:
-            raise Stop(f"`{name}.ksy` isn't below the folder of the description, nor below one that `-I` names")
+            raise Stop(f"`{name[:LONGEST]}.ksy` isn't below the folder of the description, nor below one that `-I` names")
         if file.place not in by_place:
             if len(by_place) >= MOST_FILES or sum(len(it.file.text) for it in by_place.values()) > MOST:
                 raise Stop("too many files are imported")
