@@ -11,7 +11,7 @@ from front.mend.whole import Body, Field, Whole, kinds, span
 from front.mend.written import last, line_stop
 
 BITS = re.compile(r"b([1-9]|[1-5]\d|6[0-4])(le|be)?\Z")
-# The integers of so many bits, and how others are put together.
+# The integers by their bits, and of which integers other widths are put together.
 INTEGERS = {8: "u1", 16: "u2le", 32: "u4le", 64: "u8le"}
 PARTS = {24: (16, 8), 40: (32, 8), 48: (32, 16), 56: (32, 16, 8)}
 KEPT = ("enum", "valid", "doc", "doc-ref")

@@ -27,7 +27,7 @@ def renamed(whole: Whole) -> Found:
     return Change("an encoding has one name", tuple(edits), tuple(marks)) if edits else Need()
 
 
-def is_left_out(encoding: str) -> bool:
+def is_unread(encoding: str) -> bool:
     """Whether an encoding isn't read, and is none that is written otherwise."""
     return bool(encoding) and encoding.lower() not in READ and encoding.lower() not in OTHER_NAMES
 
@@ -40,16 +40,16 @@ def raw(whole: Whole) -> Found:
     for field in whole.fields:
         own, kind = field.said("encoding"), field.said("type")
         encoding = own or field.body.stated("encoding")
-        if kind in ("str", "strz") and is_left_out(encoding):
+        if kind in ("str", "strz") and is_unread(encoding):
             found = as_bytes(whole, field, encoding)
             lost.append((field.body, field.name))
         else:
-            found = without(whole.text, field.node, ["encoding"]) if is_left_out(own) else ([], [])
+            found = without(whole.text, field.node, ["encoding"]) if is_unread(own) else ([], [])
         if not found:
             return Need(f"line {whole.line(field.at)}: where the bytes of this text end can't be told without its encoding")
         edits, marks = edits + found[0], marks + found[1]
     for body in whole.bodies:
-        if "encoding" in body.meta and is_left_out(body.meta["encoding"].value.text):
+        if "encoding" in body.meta and is_unread(body.meta["encoding"].value.text):
             found = without_meta(whole, body, "encoding")
             if not found:
                 return Need()

@@ -1,4 +1,4 @@
-"""Floats, which are read as integers of the same bytes, and what is calculated with fractions, which is left out."""
+"""Floats, which are read as integers of the same bytes, and what is calculated with fractions, which is taken out."""
 from __future__ import annotations
 
 import re
@@ -45,7 +45,7 @@ def bits(whole: Whole) -> Found:
 
 
 def fractions(whole: Whole) -> Found:
-    """What is calculated with a fraction is left out, where nothing else uses it."""
+    """What is calculated with a fraction is taken out, where nothing else uses it."""
     lost = [it for it in whole.fields if it.role == "value" and FRACTION.search(it.said("value")) and not quoted_only(it.said("value"))]
     used = uses(whole, [(it.body, it.name) for it in lost])
     gone = {id(it.node) for it in lost}
@@ -65,7 +65,7 @@ def fractions(whole: Whole) -> Found:
             return Need()
         edits, marks = edits + found[0], marks + found[1]
     losses = tuple(f"line {whole.line(it.at)}: `{it.name}` isn't calculated any more" for it in lost)
-    return Change("numbers are whole: what is calculated with a fraction is left out", tuple(edits), tuple(marks), losses)
+    return Change("numbers are whole: what is calculated with a fraction is taken out", tuple(edits), tuple(marks), losses)
 
 
 def quoted_only(text: str) -> bool:

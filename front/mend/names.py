@@ -54,7 +54,8 @@ def replaced(formula: Formula, kind: str, old: str, new: str) -> str:
     for count in range(len(read) - 1, -1, -1):
         before = read[count - 1].text if count else ""
         after = read[count + 1].text if count + 1 < len(read) else ""
-        is_it = {"near member": before not in (".", "::") and after != "::", "near enum member": before == "::", "near enum": after == "::", "near type": after in ("::", ">")}
+        is_member = before not in (".", "::") and after != "::"
+        is_it = {"near member": is_member, "near enum member": before == "::", "near enum": after == "::", "near type": after in ("::", ">")}
         if read[count].kind == "name" and read[count].text == old and is_it.get(kind):
             text = text[: read[count].at] + new + text[read[count].at + len(old) :]
     return text

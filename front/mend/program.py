@@ -70,7 +70,8 @@ class Program:
             with open(number, "wb", closefd=False) as file:
                 file.write(text.encode())
             words = [self._built if self._is_built else self._first, os.devnull, f"/proc/self/fd/{number}"]
-            ran = subprocess.run(words, stdin=subprocess.DEVNULL, stdout=subprocess.DEVNULL, stderr=subprocess.PIPE, pass_fds=[number], timeout=PATIENCE, check=False)
+            how = {"stdin": subprocess.DEVNULL, "stdout": subprocess.DEVNULL, "stderr": subprocess.PIPE}
+            ran = subprocess.run(words, **how, pass_fds=[number], timeout=PATIENCE, check=False)
         except (OSError, subprocess.TimeoutExpired) as error:
             raise Failed(f"the program can't be asked: {error}") from error
         finally:

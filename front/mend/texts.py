@@ -9,6 +9,8 @@ from front.mend.change import Change, Edit, Found, Mark, Need
 from front.mend.whole import Whole, keyed, span
 from front.mend.written import without
 
+# What chooses a case as it is: a number, a truth value, a text, a member of an enum, or `_`.
+CASE = re.compile(r"(?:-?\d+|0x[0-9a-fA-F]+|true|false|_|'.*'|\".*\"|[a-z_0-9]+(?:::[a-z_0-9]+)+)\Z")
 NUMBER = re.compile(r"(?:0x[0-9a-fA-F]{1,2}|[0-9]{1,3})\Z")
 
 
@@ -16,6 +18,7 @@ def quoted(whole: Whole) -> Found:
     """Quotes around each plain text that has a colon before a space, or begins with a letter that YAML keeps for itself."""
     text, outline = whole.text, whole.outline
     edits: List[Edit] = []
+    marks: List[Mark] = []
     for row in range(len(outline.starts)):
         first = outline.inline(row)
         if outline.key(row) is None or not first or first in "\"'{[|>#&*!":
@@ -28,29 +31,35 @@ def quoted(whole: Whole) -> Found:
         found = STOP.search(words + " ")
         if found and found[0] == ":" or first in "@%`":
             edits.append(Edit(begin, begin + len(words), "'" + words.replace("'", "''") + "'"))
-    return Change("a text with a colon, or such a first letter, needs quotes", tuple(edits)) if edits else Need()
+            marks.append(Mark(begin, "", "was without quotes"))
+    return Change("a text with a colon, or such a first letter, needs quotes", tuple(edits), tuple(marks)) if edits else Need()
 
 
 def cases(whole: Whole) -> Found:
     """Quotes of both kinds around the texts that choose a case."""
     edits: List[Edit] = []
+    marks: List[Mark] = []
     for field in whole.fields:
         switch = keyed(field.keys["type"].value) if "type" in field.keys else {}
         for it in switch["cases"].value.pairs if "cases" in switch else []:
             is_quoted = whole.text[it.at : it.at + 1] in ("'", '"')
-            if is_quoted and not re.fullmatch(r"-?\d+|0x[0-9a-fA-F]+|true|false|_|'.*'|\".*\"|[a-z_0-9]+(?:::[a-z_0-9]+)+", it.key) and not re.search(r"[\\\"']", it.key):
+            if is_quoted and not CASE.match(it.key) and not re.search(r"[\\\"']", it.key):
                 edits.append(Edit(it.at, it.at + len(it.key) + 2, f"'\"{it.key}\"'"))
-    return Change("a text that chooses a case has quotes of both kinds", tuple(edits)) if edits else Need()
+                marks.append(Mark(it.at, "", f"was \"{it.key}\""))
+    return Change("a text that chooses a case has quotes of both kinds", tuple(edits), tuple(marks)) if edits else Need()
 
 
 def contents(whole: Whole) -> Found:
     """Brackets around a number that `contents` has alone."""
     edits: List[Edit] = []
+    marks: List[Mark] = []
     for field in whole.fields:
         node = field.keys["contents"].value if "contents" in field.keys else None
-        if node is not None and node.kind == "text" and not node.mark and NUMBER.match(node.text) and int(node.text, 0 if "x" in node.text else 10) < 256:
+        text = node.text if node is not None and node.kind == "text" and not node.mark else ""
+        if NUMBER.match(text) and int(text, 16 if "x" in text else 10) < 256:
             edits.append(Edit(node.at, node.at + len(node.text), f"[{node.text}]"))
-    return Change("the bytes of `contents` are a list", tuple(edits)) if edits else Need()
+            marks.append(Mark(node.at, field.name, f"was {node.text}"))
+    return Change("the bytes of `contents` are a list", tuple(edits), tuple(marks)) if edits else Need()
 
 
 def padded(whole: Whole) -> Found:

@@ -92,7 +92,8 @@ class Whole:
         self.text = text
         self.outline = Outline(text, LINES)
         root = self.outline.root
-        self.root = Body(keyed(keyed(root)["meta"].value)["id"].value.text if "id" in keyed(keyed(root)["meta"].value if "meta" in keyed(root) else None) else "", 0, root, None, None)
+        meta = keyed(keyed(root)["meta"].value) if "meta" in keyed(root) else {}
+        self.root = Body(meta["id"].value.text if "id" in meta else "", 0, root, None, None)
         self.bodies: List[Body] = []
         rest: List[Tuple[Body, int]] = [(self.root, 0)]
         while rest:

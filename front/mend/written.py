@@ -21,7 +21,7 @@ def scalar(words: str, is_inside: bool = False) -> str:
 
 def flow_without(text: str, node: Node, lost: Sequence[str], more: Sequence[str] = ()) -> Edit:
     """A mapping in braces without some keys, and with further pairs."""
-    kept = [text[it.at : it.value.stop].strip().rstrip(":").strip() if it.value.stop <= it.at else text[it.at : it.value.stop].strip() for it in node.pairs if it.key not in lost]
+    kept = [text[it.at : max(it.value.stop, it.at)].strip() for it in node.pairs if it.key not in lost]
     return Edit(node.at, node.stop, "{" + ", ".join([*kept, *more]) + "}")
 
 
