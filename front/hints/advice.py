@@ -7,7 +7,7 @@ from front.hints.outline import Outline
 from front.hints.places import Places
 
 # How many lines of a description are read for a hint.
-LINES = 6_000
+LINES = 5_000
 
 
 def of(text: str, line: int, code: str, told: str) -> Hint:

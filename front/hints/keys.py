@@ -37,7 +37,7 @@ WORDS: Dict[str, Tuple[str, str]] = {
     **dict.fromkeys(("expression",), ("expr", "what must be true")),
 }
 # Keys that other readers of such descriptions have.
-UNREAD = ("to-string", "ks-debug", "parent", "generic", "zero-copy-substream", "doc-url", "sizeof")
+UNREAD = ("to-string", "ks-debug", "generic", "zero-copy-substream", "doc-url", "sizeof")
 # Where a key belongs that is none of the mapping that it is in.
 TYPE_KEYS = "a key of a type, as `meta` and `seq` are"
 PLACES: Dict[str, str] = {
@@ -52,6 +52,7 @@ PLACES: Dict[str, str] = {
     **dict.fromkeys(schema.IGNORED["meta"] + schema.LEFT_OUT["meta"], "it is a key of `meta`"),
     **dict.fromkeys(schema.FIELD.split()[:-1], "it is a key of an attribute or instance"),
     "valid": "only an attribute or instance has it",
+    "parent": "`_parent` is always the object that holds this one",
     **dict.fromkeys(("process", "pad-right"), "it is a key of an attribute, and isn't read: leave it out"),
 }
 

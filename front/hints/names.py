@@ -115,8 +115,8 @@ def found_elsewhere(name: str, one: Type, title: str, own: Optional[Node]) -> Op
     """Where a name that is no member of a type would be found."""
     if one.outer and name in one.root.members and len(one.root.members[name]) == 1:
         return say("member of root", type=title, name=name)
-    holders = [it for it in users(one) if name in it.members]
-    if holders and one.outer:
+    holders = users(one)
+    if holders and one.outer and all(name in it.members for it in holders):
         return say("member of parent", type=title, name=name, holder=titled(holders[0]))
     inside = [member for member, of in typed(one) if of and name in of.members and one.members[member][0].value is not own]
     if len(inside) == 1:

@@ -53,6 +53,8 @@ def unexpected(formula: Formula, at: int) -> Hint:
     pair = text[max(0, at - 1) : at + 1]
     if pair in ("&&", "||") or rest[:1] == "!" and rest[:2] != "!=":
         return say("operator")
+    if rest[:2] in ("=<", "=>"):
+        return say("word", word=rest[:2], near=rest[1] + "=")
     if rest[:1] == "=" and text[max(0, at - 1) : at] != "!":
         return say("equals")
     if pair in ("**", "//"):
@@ -95,7 +97,7 @@ def of_sign(formula: Formula, at: int, before: str) -> Hint:
     """What to say of a sign that can't come where it is."""
     text = formula.text
     sign = next((it.text for it in tokens.read(text) if it.at == at), text[at : at + 1])
-    if sign in COMPARISONS and any(it.text in COMPARISONS for it in tokens.read(before)):
+    if sign in COMPARISONS and before_is_value(before) and any(it.text in COMPARISONS for it in tokens.read(before)):
         return say("one comparison")
     if sign in (")", "]"):
         opening = {")": "(", "]": "["}[sign]

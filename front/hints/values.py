@@ -12,7 +12,7 @@ from front.hints.scope import IDENTIFIER, members_of
 
 TRUTHS = ("size-eos", "consume", "include", "eos-error")
 WORDS = {"repeat": ("eos", "expr", "until"), "endian": ("le", "be"), "bit-endian": ("be",)}
-MEANT = {**dict.fromkeys(("little", "little-endian", "little_endian"), "le"), **dict.fromkeys(("big", "big-endian", "big_endian"), "be"), "eof": "eos", "end": "eos"}
+MEANT = {**dict.fromkeys(("little", "little-endian", "little_endian"), "le"), **dict.fromkeys(("big", "big-endian", "big_endian"), "be"), "eof": "eos"}
 NUMBER = re.compile(r"(?:0x[0-9a-fA-F]+|[0-9]+)\Z")
 SIGNED = re.compile(r"(?:0x[0-9a-fA-F]+|-?[0-9]+)\Z")
 # What is in the keys of a type, as an example.

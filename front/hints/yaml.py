@@ -11,13 +11,15 @@ from front.hints.node import Node
 from front.hints.outline import COMMENT, STOP, Outline
 
 # How much of a line and how many lines are looked at.
-LONGEST, LINES = 4000, 6_000
+LONGEST, LINES = 4000, 5_000
 CONTROL = re.compile("[\x00-\x08\x0b-\x1f\x7f-\x9f]")
 FRONT = re.compile(r"[ \t]*(?:-[ \t]+)*")
 WORD = re.compile(r"[A-Za-z_][\w-]*")
 EXPRESSIONS = ("if", "value", "valid", "expr", "repeat-until", "repeat-expr", "size", "pos", "eq", "min", "max", "switch-on")
 # What comes in a flow after a quoted text or a closed bracket, where a comma is missing.
 COMMA = re.compile(r"'\s+[^\s,:\]}#]|[\]}]\s*[^\s,\]}:#]")
+# Keys of texts, and the lines that begin and end a description.
+TEXTS, MARKER = ("doc", "doc-ref", "title", "license"), re.compile(r"(?:---|\.\.\.)(?:[ \t]|\Z)")
 GOOD_ESCAPE = re.compile(r"\\(?:[\"\\/0abtnvfre]|x[\da-fA-F]{2}|u(?![dD][89a-fA-F])[\da-fA-F]{4})")
 
 
@@ -64,7 +66,7 @@ def spaces(count: int) -> str:
 
 def indented(text: str, line: Line) -> Optional[Hint]:
     """What to say of a line whose indentation fits no level (Y4)."""
-    if line.text.startswith(("---", "...")):
+    if MARKER.match(line.text):
         return say("marker", sign=line.text[:3])
     outline = Outline(text[: lines.start(text, line.number)], LINES)
     if not outline.is_whole or not outline.starts:
@@ -127,18 +129,20 @@ def unclosed(outline: Outline) -> Optional[Hint]:
 
 def no_key(text: str, line: Line) -> Optional[Hint]:
     """What to say where a value is in a key's place (Y8)."""
-    if line.text.startswith(("---", "...")):
+    if MARKER.match(line.text):
         return say("marker", sign=line.text[:3])
     above = previous(text, line.number)
     if above and above.opened:
         return above.opened
-    if line.content.startswith(("&", "*", "!")):
+    if re.match(r"[&*!]\S", line.content):
         return say("anchor")
     if line.content.startswith("? "):
         return say("question")
     if line.value[:1] in ("[", "{") and COMMA.search(bare_of(line.value)[: flow.end(bare_of(line.value), 0)]):
         return say("flow comma")
-    if above and line.text.startswith(" " * (above.before + 1)) and above.is_full and not line.value.startswith(("[", "{")):
+    if above and line.text.startswith(" " * (above.before + 1)) and above.is_full and (line.key or not line.value.startswith(("[", "{"))):
+        if above.key in TEXTS or above.key.startswith("-"):
+            return say("text lines", key=above.key)
         return say("below a value", line=above.number, columns=spaces(above.before))
     if line.value[:1] == "[" and ": " in line.value[: flow.end(line.value, 0)]:
         return say("choice") if " ? " in line.value else say("pair in list")
@@ -160,14 +164,14 @@ def misplaced(line: Line, above: Optional[Above]) -> Optional[Hint]:
     if line.key:
         return None
     joined = re.match(r"([A-Za-z_][\w-]*):(\S.*)\Z", line.content)
-    if joined:
+    if joined and not joined[2].startswith("/"):
         return say("no space", near=f"{joined[1]}: {joined[2]}")
     return say("no colon", key=line.content.strip()) if WORD.fullmatch(line.content.strip()) else say("no key")
 
 
 class Above(NamedTuple):
     """The last key or item above a line: its line and column, and whether it has a value on its line; the columns of the lists and mappings that it is in, the
-    innermost first, and of lists where no key is; and what is said where it is open."""
+    innermost first, and of lists where no key is; what is said where it is open; and the key, if it is one."""
 
     number: int
     before: int
@@ -176,6 +180,7 @@ class Above(NamedTuple):
     keys: List[int]
     lists: List[int]
     opened: Optional[Hint]
+    key: str
 
 
 def previous(text: str, number: int) -> Optional[Above]:
@@ -188,7 +193,7 @@ def previous(text: str, number: int) -> Optional[Above]:
     keys = [outline.column(it) for it in chain if outline.key(it) is not None]
     items = [outline.column(it) for it in chain if outline.key(it) is None]
     lists = [it for it in items if it not in keys]
-    return Above(outline.line(outline.starts[last]), outline.column(last), outline.inline(last) != "", items, keys, lists, unclosed(outline))
+    return Above(outline.line(outline.starts[last]), outline.column(last), outline.inline(last) != "", items, keys, lists, unclosed(outline), outline.key(last) or "")
 
 
 # Forms that aren't read
@@ -247,6 +252,8 @@ def of_quoted(value: str) -> Optional[Hint]:
     if escape:
         return say("yaml escape", escape=escape)
     after = value[quoted.end() :]
+    if after.strip() and value.rstrip()[-1] == value[0] and not after.startswith((" ", "#", value[0])):
+        return say("apostrophe" if value[0] == "'" else "inner quote")
     return say("comment sign") if after.startswith("#") else say("after quote") if after.strip() else None
 
 
