@@ -10,8 +10,8 @@ from front.mend.whole import Expression, Field, Whole, expressions, extent, keye
 from front.mend.written import scalar
 
 # What may be beside a comparison: another operand would be a part of it.
-# How many tokens an operand and an expression have at most.
-OPERAND, LONGEST = 32, 700
+# How many tokens an operand and an expression have at most, and how many comparisons are written out in one round.
+OPERAND, LONGEST, MOST = 32, 700, 2000
 EDGES = ("and", "or", "not", "(", ")", "?", ":", ",", "[", "]")
 
 
@@ -29,7 +29,7 @@ def one_by_one(whole: Whole) -> Found:
     """All such comparisons."""
     edits: List[Edit] = []
     marks: List[Mark] = []
-    done = set()
+    done, count = set(), 0
     for field in whole.fields:
         check = of_check(whole, field)
         if check:
@@ -39,6 +39,9 @@ def one_by_one(whole: Whole) -> Found:
             if "[" not in it.text or it.key == "argument" or id(it.node) in done:
                 continue
             done.add(id(it.node))
+            count += it.text.count("==") + it.text.count("!=")
+            if count > MOST:
+                return Need("too many comparisons")
             words, place = compared(it), extent(whole.text, it.node)
             if words != it.text:
                 edits.append(Edit(*place, scalar(words, field.node.is_flow or is_inside(field, it))))
