@@ -58,25 +58,25 @@ def words_of(words: Sequence[str]) -> Optional[Words]:
 class Program:
     """The proved program, which is asked whether it reads a description."""
 
-    def __init__(self, launcher: str, built: str) -> None:
-        """The launcher, which builds the program where it must and is asked first, and the program itself."""
-        self._first, self._built = launcher, built
-        self._is_built = False
+    def __init__(self, built: str) -> None:
+        """The program, which bin/ksv builds."""
+        self._built = built
 
     def ask(self, text: str) -> Optional[Refusal]:
         """The refusal of a description; None where it loads."""
+        if not os.access(self._built, os.X_OK):
+            raise Failed("the program isn't built: bin/ksv builds it")
         number = os.memfd_create("ksy")
         try:
             with open(number, "wb", closefd=False) as file:
                 file.write(text.encode())
-            words = [self._built if self._is_built else self._first, os.devnull, f"/proc/self/fd/{number}"]
+            words = [self._built, os.devnull, f"/proc/self/fd/{number}"]
             how = {"stdin": subprocess.DEVNULL, "stdout": subprocess.DEVNULL, "stderr": subprocess.PIPE}
             ran = subprocess.run(words, **how, pass_fds=[number], timeout=PATIENCE, check=False)
         except (OSError, subprocess.TimeoutExpired) as error:
             raise Failed(f"the program can't be asked: {error}") from error
         finally:
             os.close(number)
-        self._is_built = True
         message = ran.stderr.decode(errors="replace")
         found = refusal.read(message)
         if ran.returncode and found is None:
@@ -155,7 +155,7 @@ def run(words: Words, top: str) -> int:
     """Mends a description; the status."""
     text = read(words.ksy)
     folder = os.path.dirname(os.path.realpath(words.ksy))
-    program = Program(f"{top}/bin/ksv", f"{top}/crates/ksv_cli/out/ksv_cli")
+    program = Program(f"{top}/crates/ksv_cli/out/ksv_cli")
     mended = mend(text, program.ask, Library(folder, words.folders))
     if words.out is not None:
         write(words.out, mended.text)
