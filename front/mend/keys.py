@@ -12,7 +12,7 @@ from front.mend.whole import Field, Whole, keyed
 from front.mend.written import without
 
 # How many keys that aren't known are looked at in one round.
-MOST = 1000
+MOST = 300
 
 
 def mappings(whole: Whole) -> Iterator[Tuple[Node, str]]:

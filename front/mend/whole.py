@@ -8,7 +8,7 @@ from front.hints.node import Node, Pair
 from front.hints.outline import Outline
 
 # How many lines a text has at most, and how deep it is looked into; ksv reads 64 levels.
-LINES, DEEPEST = 8_000, 70
+LINES, DEEPEST = 5_000, 70
 EXPRESSIONS = ("if", "size", "repeat-expr", "repeat-until", "pos", "io", "value")
 
 
