@@ -17,7 +17,7 @@ from front.mend.library import MOST, Library
 from front.mend.whole import LINES, Whole
 
 # How many rounds there are, and how many lines are read in all of them.
-ROUNDS, WORK = 32, 40_000
+ROUNDS, WORK = 20, 40_000
 # What asks the program: it gives the refusal of a text, or None where it loads.
 Ask = Callable[[str], Optional[Refusal]]
 # The changes of the whole text, by the kinds of hints that they follow.
