@@ -86,8 +86,8 @@ class Saver:
         if path in self._asked and self._asked[path] == look:
             return
         self._asked[path] = look
-        what = "is gone" if look is None else "is there now" if self._known[path] is None else "was changed by another program"
-        raise NotSaved(f"{out} {what} since it was last looked at: the same `save` once more saves over it" if look else f"{out} {what}: the same `save` once more makes it anew")
+        what = "is gone" if look is None else "is there by now" if self._known[path] is None else "isn't as it was when it was opened or last saved"
+        raise NotSaved(f"{out} {what}: the same `save` once more {'saves over it' if look else 'makes it anew'}")
 
     def save(self, content: bytes, out: str) -> None:
         """Gives a file these bytes, or says why not."""

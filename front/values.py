@@ -27,6 +27,12 @@ class Writer:
     def __init__(self, explorer: Explorer, description: Description) -> None:
         self.explorer, self.description = explorer, description
 
+    def put(self, path: str, words: List[Word]) -> Optional[str]:
+        """The line that writes a number where the value at a path is a fault: an integer that isn't valid is one all the same, and only the program can tell.
+        None where no number is written, or the value isn't a fault."""
+        is_number = len(words) == 1 and words[0].quoted is None and re.fullmatch(r"-?(?:0[xX][0-9a-fA-F]+|[0-9]+)", words[0].text)
+        return f"put {path} {number(words[0])}" if is_number and self.explorer.ask(f"get {path}").startswith("fault ") else None
+
     def line(self, path: str, words: List[Word]) -> str:
         """The line that writes these words as the value at a path."""
         told = self.explorer.ask(f"get {path}")

@@ -9,6 +9,8 @@ from front.words import Word
 if TYPE_CHECKING:
     from front.shell import Shell
 
+# What a `put` is told where there is no integer.
+NO_INTEGER = "error: not an integer"
 # The largest file that ksv reads, and the most bytes that one line writes.
 LARGEST, WRITTEN = 16_777_216, 2000
 
@@ -19,12 +21,16 @@ def write(shell: "Shell", word: str, words: List[Word]) -> None:
         shell.usage(word)
         return
     shell.asked = shell.path(words[0].text)
+    writer = Writer(shell.explorer(), shell.description())
     try:
-        line = Writer(shell.explorer(), shell.description()).line(shell.asked, words[1:])
+        line = writer.put(shell.asked, words[1:])
+        told = shell.made(line) if line else NO_INTEGER
+        if told == NO_INTEGER:
+            line = writer.line(shell.asked, words[1:])
+            told = shell.made(line)
     except Unwritable as error:
         shell.output.show([str(error)])
         return
-    told = shell.made(line)
     shell.output.show([told, *shell.explained(told, line)])
 
 
