@@ -86,7 +86,7 @@ class Journey:
     def plainly(self, line: str) -> None:
         """Does a line with no break."""
         told, (after, wanted) = self.shell.ask(line), self.state.after(line)
-        if self.is_changed and told.startswith("FILE was changed") and line == "save FILE":
+        if self.is_changed and told.startswith("FILE isn't as it was") and line == "save FILE":
             told = self.shell.ask(line)
         if told != wanted:
             raise Wrong(f"{line[:40]}: told {told[:200]!r}, and not {wanted!r}")
@@ -118,7 +118,7 @@ class Journey:
         self.room.control.arm(plans)
         told = self.shell.ask(line)
         fired = self.room.control.fired()
-        if self.is_changed and name == "FILE" and told.startswith("FILE was changed"):
+        if self.is_changed and name == "FILE" and told.startswith("FILE isn't as it was"):
             told, self.is_changed = self.shell.ask(line), False
             fired = self.room.control.fired()
         self.num_trials += 1 if fired else 0

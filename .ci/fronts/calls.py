@@ -36,7 +36,7 @@ def trial(journey: Journey, line: str, number: int, way: int) -> bool:
     old = journey.room.read(name) if name else None
     arm(journey, number, way)
     told = journey.shell.ask(line)
-    if journey.is_changed and told.startswith("FILE was changed"):
+    if journey.is_changed and told.startswith("FILE isn't as it was"):
         told, journey.is_changed = journey.shell.ask(line), False
     is_there = is_met(journey)
     arm(journey, 0, 0)

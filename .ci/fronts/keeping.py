@@ -348,7 +348,7 @@ def looked() -> str:
         with open(path, "wb") as file:
             file.write(b"new")
         found += [asked(), asked()]
-        wanted = ["", "", "was changed", "", "was changed", "", "is gone", "", "", "is there now", ""]
+        wanted = ["", "", "isn't as it was", "", "isn't as it was", "", "is gone", "", "", "is there by now", ""]
         return "" if all(bool(own) == bool(it) and it in own for own, it in zip(found, wanted)) else f"{found}"
 
 

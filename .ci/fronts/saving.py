@@ -162,7 +162,7 @@ def two_shells(tree: Tree) -> str:
             one.ask(line)
             first = b"\x01" + SMALL[1:]
             told = two.ask(line)
-            if room.read("FILE") != first or "changed" not in told:
+            if room.read("FILE") != first or "isn't as it was" not in told:
                 return f"{line}: {told!r}, and the first one's byte is {room.read('FILE')[0]}"
             told = two.ask(line)
             if room.read("FILE") != SMALL[:1] + b"\x02" + SMALL[2:]:
