@@ -22,6 +22,8 @@ REAL = f"{TOP}/crates/ksv_cli/out/ksv_cli"
 DIED, HALF, NO_MEMORY, TWICE = 100, 101, 102, 103
 # How long a reply is waited for, in seconds.
 PATIENCE = 60.0
+# How long after the first signal of two the second one is waited for, in seconds.
+SECOND = 2.0
 # Where rooms are: in memory, if that can be.
 PLACE = "/dev/shm" if os.access("/dev/shm", os.W_OK) else None
 
@@ -84,8 +86,8 @@ class Control:
         return struct.unpack("=I", self.map[8:12])[0]
 
     def wait_for_second(self) -> None:
-        """Waits until the second signal of a plan was sent."""
-        until = time.monotonic() + PATIENCE
+        """Waits until the second signal of a plan was sent. A proxy that was ended by then sends none."""
+        until = time.monotonic() + SECOND
         while not any(self.map[20:24]) and time.monotonic() < until:
             time.sleep(0.001)
 
