@@ -118,7 +118,7 @@ def widths():
     yield "# Each width from b1 to b64 at each bit of a byte: read and written, and read with a byte more at a place in it, at which the"
     yield "# buffer's gap then is; b1 as a truth value and as a member of an enum."
     yield "# Values: computed by tools/rows/bits.py, which takes the file for one integer and divides it."
-    yield "# Values: answered alike by tools/second, an interpreter of its own that was written from the rules alone."
+    yield "# Values: answered alike by tools/second, an interpreter of its own to which types of bits were added later (its README)."
     for bit in range(8):
         yield from width_row(dice, bit)
 
@@ -447,7 +447,7 @@ def layouts():
     dice = Dice(SEED + 1)
     yield "# Random layouts of bits, bytes, lists, windows and objects, on random bytes: where each thing is and what it is, and again after edits."
     yield "# Values: computed by tools/rows/bits.py, which takes the file for a text of the digits 0 and 1 and reads it from the left."
-    yield "# Values: answered alike by tools/second, an interpreter of its own that was written from the rules alone."
+    yield "# Values: answered alike by tools/second, an interpreter of its own to which types of bits were added later (its README)."
     for number in range(1, LAYOUTS + 1):
         yield from layout_row(dice, number)
 

@@ -46,7 +46,7 @@ def table():
     """The table."""
     dice = bits.Dice(SEED)
     yield "# What is kept of random layouts of bits, bytes, lists, windows and objects, behind questions and edits."
-    yield "# Values: by tools/second, an interpreter of its own that was written from the rules alone, which keeps nothing; lines made by tools/rows/kept.py."
+    yield "# Values: by tools/second, an interpreter of its own, which keeps nothing and to which types of bits were added later (its README); lines made by tools/rows/kept.py."
     for number in range(1, ROWS + 1):
         yield from row(dice, number)
 

@@ -304,8 +304,8 @@ class Parser:
         return trees
 
     def plain_name(self):
-        """A name that is neither a word nor special."""
-        if self.kind != "name" or self.value in WORDS or self.value in SPECIAL:
+        """A name that is no word. In a path of names those of the language are names as others are."""
+        if self.kind != "name" or self.value in WORDS:
             raise self.unexpected()
         name = self.value
         self.step()
@@ -341,8 +341,7 @@ class Parser:
         if value in ("true", "false"):
             self.step()
             return ("bool", value == "true")
-        if value in SPECIAL:
-            self.step()
-            return ("special", value)
         names = self.type_names()
-        return ("name", names[0]) if len(names) == 1 else ("member", names)
+        if len(names) > 1:
+            return ("member", names)
+        return ("special" if value in SPECIAL else "name", value)

@@ -193,10 +193,11 @@ class Reader:
             return self.mapping(column)
         return self.value(content, outer)
 
-    def key(self, content, at):
-        """The key at the front of a content and what stands behind its colon; None where no key stands."""
+    def key(self, content, at, kind="Y6"):
+        """The key at the front of a content and what stands behind its colon; None where no key stands. The kind is the refusal of a quote with a bad escape:
+        Y8 in an open mapping, where such a line is no entry."""
         if content[0] in "'\"":
-            text, rest = self.quoted(content, at)
+            text, rest = self.quoted(content, at, kind)
             behind = rest.lstrip(" \t")
             if COLON.match(behind):
                 return text, behind[1:]
@@ -232,7 +233,7 @@ class Reader:
         while self.block_goes_on(column, lambda content: True):
             at = self.at
             content = self.lines[at][column:]
-            found = None if content[0] == "\t" or is_dash(content) else self.key(content, at)
+            found = None if content[0] == "\t" or is_dash(content) else self.key(content, at, "Y8")
             if found is None:
                 raise self.fault(at, "Y8")
             name, rest = found
@@ -317,14 +318,14 @@ class Reader:
         if rest.strip(" \t") != "" and not (rest[0] in " \t" and is_quiet(rest)):
             raise self.fault(self.at, "Y6")
 
-    def quoted(self, content, at):
-        """The text of a quoted scalar and what stands behind it. One that isn't closed on its line is refused."""
+    def quoted(self, content, at, kind="Y6"):
+        """The text of a quoted scalar and what stands behind it. One that isn't closed on its line is refused, and one with a bad escape by this kind."""
         end = quote_end(content)
         if end is None:
             raise self.fault(at, "Y7")
         text = content[1:end].replace("''", "'") if content[0] == "'" else unescape(content[1:end])
         if text is None:
-            raise self.fault(at, "Y6")
+            raise self.fault(at, kind)
         return text, content[end + 1:]
 
     def plain(self, content, outer):

@@ -27,6 +27,7 @@ pub fn run<R: Source, W: Sink>(
     bytes: Vec<u8>,
 ) -> Result<(Buffer, End), NewFault>
     requires reads { R.failed reader.old ≡ false }
+    requires goes_on { R.ended reader.old ≡ false }
     requires writes { W.failed writer.old ≡ false }
     ensures served { IsTrue R.tells → IfOk result (λ done.
         Ended done.1 (plain_pieces desc) bytes.items (R.bytes reader.old) (R.bytes reader.new) done.0 W.tells (took (W.bytes writer.old) (W.flushed writer.old)) (took (W.bytes writer.new) (W.flushed writer.new))) }

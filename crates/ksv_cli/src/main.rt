@@ -2,12 +2,18 @@
 //!
 //! Modules:
 //!
+//! - `beside`: new files in the folder of another
+//! - `mounts`: the files and folders over which something is mounted
+//! - `rights`: a file's owner, group and mode
 //! - `save`: saves the bytes at a session's end
 #![tactic(auto)]
 
+mod beside;
+mod mounts;
+mod rights;
 mod save;
 
-use crate::save::{Target, save, target_at};
+use crate::save::{Saved, Target, save, target_at};
 use clap::Error;
 use clap::error::ErrorKind as WordsKind;
 use ksv::{Args, End, NewFault, Std, Stop, arguments, describe, run, say};
@@ -50,9 +56,13 @@ fn target_of(rt: &HostRuntime, out: Option<&str>) -> Result<Option<Target>, Stop
 
 /// Keeps the bytes at the session's end, if the words name a file for them.
 fn keep(rt: &HostRuntime, target: Option<&Target>, buffer: &Buffer) -> Result<(), Stop> {
-    match target {
-        Some(target) if save(rt, target, buffer).is_err() => Err(Stop::SaveFailed),
-        _ => Ok(()),
+    let Some(target) = target else {
+        return Ok(());
+    };
+    match save(rt, target, buffer) {
+        Ok(Saved::Surely) => Ok(()),
+        Ok(Saved::Perhaps) => Err(Stop::SaveUnsure),
+        Err(_) => Err(Stop::SaveFailed),
     }
 }
 

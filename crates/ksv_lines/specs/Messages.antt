@@ -13,6 +13,7 @@ status_of stops.NoMemory = 1
 status_of stops.InputFailed = 3
 status_of stops.OutputFailed = 3
 status_of stops.SaveFailed = 3
+status_of stops.SaveUnsure = 3
 
 -- the names of the command line: the file's, its description's, and that of the file for the bytes
 abbrev pub file_name : List (List ℕ) → List ℕ
@@ -39,3 +40,4 @@ message names stops.NoMemory = codes "ksv: no memory\n"
 message names stops.InputFailed = codes "ksv: input failed\n"
 message names stops.OutputFailed = codes "ksv: output failed\n"
 message names stops.SaveFailed = codes "ksv: " ++ out_name names ++ codes ": cannot write\n"
+message names stops.SaveUnsure = codes "ksv: " ++ out_name names ++ codes ": perhaps not saved\n"

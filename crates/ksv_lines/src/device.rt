@@ -1,28 +1,32 @@
 //! What a session reads from and writes to.
-ghost use Rattle.std.specs.Prelude.{◌≡◌, ◌≤◌, ◌<◌, ◌++◌, List, ℕ, Bool, false, [], length, take, IfOk, OnErr, OnOk, IsTrue, is_err};
+ghost use Rattle.std.specs.Prelude.{◌≡◌, ◌≤◌, ◌<◌, ◌==◌, ◌++◌, List, ℕ, Bool, false, [], length, take, IfOk, OnErr, OnOk, IsTrue, is_err};
 
 /// A device failed to do what it was asked.
 #[derive(Clone, Copy)]
 pub struct Failed;
 
-/// Where bytes come from. Nobody reads from a source again once a read has failed.
+/// Where bytes come from. Nobody reads from a source again once a read has failed or given nothing.
 pub trait Source {
-    // Whether contracts know its bytes, those that it has left, and whether a call has failed.
+    // Whether contracts know its bytes, those that it has left, whether a call has failed, and whether one gave nothing.
     ghost tells: { Bool };
 
     ghost bytes: { Self → List ℕ };
 
     ghost failed: { Self → Bool };
 
+    ghost ended: { Self → Bool };
+
     /// Fills the front of the buffer and returns how many bytes it wrote there: 0 only at the end, or if the buffer
     /// has no room. A call that fails takes no bytes.
     fn read(&mut self, buf: &mut [u8]) -> Result<usize, Failed>
-        requires { failed self.old ≡ false }
+        requires works { failed self.old ≡ false }
+        requires goes_on { ended self.old ≡ false }
         ensures within { IfOk result (λ n. n ≤ length buf.new) }
         ensures given { IsTrue tells → IfOk result (λ n. bytes self.old ≡ take n buf.new ++ bytes self.new) }
         ensures end { IsTrue tells → result ≡ Ok 0 → 0 < length buf.old → bytes self.new ≡ [] }
         ensures kept { IsTrue tells → OnErr result (bytes self.new ≡ bytes self.old) }
-        ensures fault { failed self.new ≡ is_err result };
+        ensures fault { failed self.new ≡ is_err result }
+        ensures over { IfOk result (λ n. ended self.new ≡ (n == 0)) };
 }
 
 /// Where bytes go. Nobody writes to a sink or flushes it again once a call has failed.

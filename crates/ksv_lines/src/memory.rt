@@ -15,6 +15,8 @@ pub struct Memory {
     pub flushed: usize,
     /// Whether a call has failed.
     pub failed: bool,
+    /// Whether a read gave nothing.
+    pub ended: bool,
     ghost within: { read ≤ length bytes.items },
 }
 
@@ -24,12 +26,14 @@ impl Memory {
         ensures bytes { result.bytes ≡ bytes }
         ensures start { (result.read ≡ 0) × (result.flushed ≡ 0) }
         ensures works { result.failed ≡ false }
+        ensures goes_on { result.ended ≡ false }
     {
         Memory {
             bytes,
             read: 0,
             flushed: 0,
             failed: false,
+            ended: false,
         }
     }
 }
@@ -41,11 +45,14 @@ impl Source for Memory {
 
     ghost failed = { λ m. m.failed };
 
+    ghost ended = { λ m. m.ended };
+
     fn read(&mut self, buf: &mut [u8]) -> Result<usize, Failed> {
         let left = self.bytes.len() - self.read;
         let count = left.min(buf.len());
         buf[..count].copy_from_slice(&self.bytes[self.read..self.read + count]);
         self.read += count;
+        self.ended = count == 0;
         Ok(count)
     }
 }

@@ -1,15 +1,17 @@
 //! Devices over the readers and writers of std.
-ghost use Rattle.std.specs.Prelude.{◌≡◌, false, []};
+ghost use Rattle.std.specs.Prelude.{◌≡◌, ◌==◌, ◌≤◌, ◌<◌, false, [], length, IfOk, is_err};
+ghost use Rattle.std.specs.Io.KnownBytes.{Keeps, ReadConsumes, WriteAppends};
 
 use crate::device::{Failed, Sink, Source};
 use std::io::{Read, Write};
 
-/// A reader or a writer of std. Its bytes are unknown to contracts, since nobody knows what a file or a terminal
-/// gives. Each error counts as a failure and is not tried again; so does a write that takes nothing.
+/// A reader or a writer of std. Each error counts as a failure, and so does a write that takes nothing. Where contracts know the bytes of a
+/// reader or a writer, none is lost and none comes twice; of a file or a terminal they know none.
 #[derive(Drop)]
 pub struct Std<T> {
     inner: T,
     failed: bool,
+    ended: bool,
 }
 
 impl<T> Std<T> {
@@ -17,10 +19,12 @@ impl<T> Std<T> {
     pub fn new(inner: T) -> Std<T>
         ensures inner { result.inner ≡ inner }
         ensures works { result.failed ≡ false }
+        ensures goes_on { result.ended ≡ false }
     {
         Std {
             inner,
             failed: false,
+            ended: false,
         }
     }
 }
@@ -32,9 +36,21 @@ impl<T: Read> Source for Std<T> {
 
     ghost failed = { λ s. s.failed };
 
-    fn read(&mut self, buf: &mut [u8]) -> Result<usize, Failed> {
+    ghost ended = { λ s. s.ended };
+
+    fn read(&mut self, buf: &mut [u8]) -> Result<usize, Failed>
+        requires works { self.old.failed ≡ false }
+        requires goes_on { self.old.ended ≡ false }
+        ensures within { IfOk result (λ n. n ≤ length buf.new) }
+        ensures bytes { ReadConsumes (T.remaining self.old.inner) (T.remaining self.new.inner) result buf.new }
+        ensures fault { self.new.failed ≡ is_err result }
+        ensures over { IfOk result (λ n. self.new.ended ≡ (n == 0)) }
+    {
         match self.inner.read(buf) {
-            Ok(count) => Ok(count),
+            Ok(count) => {
+                self.ended = count == 0;
+                Ok(count)
+            }
             Err(_) => {
                 self.failed = true;
                 Err(Failed)
@@ -52,7 +68,13 @@ impl<T: Write> Sink for Std<T> {
 
     ghost failed = { λ s. s.failed };
 
-    fn write(&mut self, buf: &[u8]) -> Result<usize, Failed> {
+    fn write(&mut self, buf: &[u8]) -> Result<usize, Failed>
+        requires { self.old.failed ≡ false }
+        ensures within { IfOk result (λ n. n ≤ length buf.now) }
+        ensures some { IfOk result (λ n. 0 < length buf.now → 0 < n) }
+        ensures bytes { WriteAppends (T.contents self.old.inner) (T.contents self.new.inner) result buf.now }
+        ensures fault { self.new.failed ≡ is_err result }
+    {
         match self.inner.write(buf) {
             Ok(count) if count > 0 || buf.is_empty() => Ok(count),
             _ => {
@@ -62,7 +84,11 @@ impl<T: Write> Sink for Std<T> {
         }
     }
 
-    fn flush(&mut self) -> Result<(), Failed> {
+    fn flush(&mut self) -> Result<(), Failed>
+        requires { self.old.failed ≡ false }
+        ensures bytes { Keeps (T.contents self.old.inner) (T.contents self.new.inner) }
+        ensures fault { self.new.failed ≡ is_err result }
+    {
         match self.inner.flush() {
             Ok(()) => Ok(()),
             Err(_) => {

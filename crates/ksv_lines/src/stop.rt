@@ -33,6 +33,8 @@ pub enum Stop {
     OutputFailed,
     /// The bytes can't be saved.
     SaveFailed,
+    /// The bytes were given their name, but perhaps the disk loses it, or something else has it.
+    SaveUnsure,
 }
 
 impl Stop {
@@ -41,7 +43,7 @@ impl Stop {
         ensures { result ≡ status_of self.now }
     {
         match self {
-            Stop::InputFailed | Stop::OutputFailed | Stop::SaveFailed => 3,
+            Stop::InputFailed | Stop::OutputFailed | Stop::SaveFailed | Stop::SaveUnsure => 3,
             _ => 1,
         }
     }
@@ -113,5 +115,6 @@ pub fn say<W: Sink>(stop: &Stop, names: [&str; 3], sink: &mut W) -> Result<(), F
         Stop::InputFailed => write_all(sink, b"ksv: input failed\n"),
         Stop::OutputFailed => write_all(sink, b"ksv: output failed\n"),
         Stop::SaveFailed => write_three("ksv: ", out, ": cannot write\n", sink),
+        Stop::SaveUnsure => write_three("ksv: ", out, ": perhaps not saved\n", sink),
     }
 }

@@ -42,8 +42,8 @@ module _ {N V F : Type 0} where
   set-closed (p ∷ ps) zero o = cc
   set-closed (p ∷ ps) (suc i) o = set-closed ps i o
 
-  pub taken-none : (ps : List (N × Slot V F)) (l : Linked) → IsTaken ps ps l l [] 0 0
-  taken-none ps l = record {
+  pub taken-none : (ps : List (N × Slot V F)) (l : Linked) (from : ℕ) → IsTaken ps ps l l [] from from
+  taken-none ps l from = record {
     split = sym (append-nil l.waits);
     nodes = λ i. refl;
     out = λ i h. absurd (none_in i h);
@@ -57,8 +57,8 @@ module _ {N V F : Type 0} where
     least = omega arith;
   }
 
-  pub taken-more : (ps qs rs : List (N × Slot V F)) (l m n : Linked) (taken : List ℕ) (slot count more : ℕ) → AllPairs (λ (a b : ℕ). a ≢ b) l.waits → IsTaken ps qs l m taken count 0 → Takes m n slot → rs ≡ with_slot qs slot emptied → more ≤ count + 1 → IsTaken ps rs l n (slot ∷ taken) more 0
-  taken-more ps qs rs l m n taken slot count more apart h t is le = record {
+  pub taken-more : (ps qs rs : List (N × Slot V F)) (l m n : Linked) (taken : List ℕ) (slot from count more : ℕ) → AllPairs (λ (a b : ℕ). a ≢ b) l.waits → IsTaken ps qs l m taken count from → Takes m n slot → rs ≡ with_slot qs slot emptied → more ≤ count + 1 → IsTaken ps rs l n (slot ∷ taken) more from
+  taken-more ps qs rs l m n taken slot from count more apart h t is le = record {
     split = split;
     nodes = λ i. ap (λ xs. node_at xs i) is ∙ set-node qs slot i emptied ∙ h.nodes i;
     out = λ i c. out i (same_or i slot) (first_or_later slot taken i c);
@@ -98,9 +98,9 @@ module _ {N V F : Type 0} where
       out i (inr ne) (inl e) = absurd (ne (sym e))
       out i (inr ne) (inr c) = other i ne ∙ h.out i c
 
-  pub taken-all : (ps qs : List (N × Slot V F)) (l m n : Linked) (taken : List ℕ) (count : ℕ) → IsTaken ps qs l m taken count 0 → IsDone m n → IsEmptied ps qs l n count
-  taken-all ps qs l m n taken count h d = record {
-    taken = subst (λ ws. IsTaken ps qs l n ws count 1) whole (record {
+  pub taken-all : (ps qs : List (N × Slot V F)) (l m n : Linked) (taken : List ℕ) (from count : ℕ) → IsTaken ps qs l m taken count from → IsDone m n → IsEmptied ps qs l n from count
+  taken-all ps qs l m n taken from count h d = record {
+    taken = subst (λ ws. IsTaken ps qs l n ws count (from + 1)) whole (record {
       split = h.split ∙ ap (λ ws. ws ++ taken) (d.waits ∙ sym d.done);
       nodes = h.nodes;
       out = h.out;

@@ -1,5 +1,5 @@
 -- The slots that were emptied are those of the entries that a change takes.
-use Rattle.std.proofs.Common.{◌≡◌, ◌⊎◌, inl, inr, Bool, true, false, not, cond, ◌||◌, ◌&&◌, ℕ, zero, suc, ◌+◌, ◌*◌, ◌<◌, ◌≤◌, List, [], ◌∷◌, length, map, filter, get_or, Option, Some, None, is_some, All, Contains, refl, sym, ◌∙◌, ap, subst, arith, Result, sum_by, count_by}
+use Rattle.std.proofs.Common.{◌≡◌, ◌⊎◌, inl, inr, Bool, true, false, not, cond, ◌||◌, ◌&&◌, ℕ, zero, suc, ◌+◌, ◌-◌, ◌*◌, ◌<◌, ◌≤◌, max, List, [], ◌∷◌, length, map, filter, get_or, Option, Some, None, is_some, All, Contains, refl, sym, ◌∙◌, ap, subst, arith, Result, sum_by, count_by}
 use Rattle.std.specs.Option.{option_map}
 use Rattle.std.specs.List.{AllByRecursion, list_any}
 use Rattle.std.proofs.lemmas.Bool.{and_parts, cases_Bool, not-true}
@@ -110,7 +110,7 @@ module _ {N V F : Type 0} where
   pub waits-in : (change : Change) (ps : List (N × Slot V F)) (l m : Linked) → AreLinked ps l → Forgets l m change → All (λ s. s < length ps) m.waits
   waits-in change ps l m h f k d lt = past ps (get_or m.waits k d) (sym (h.kept (get_or m.waits k d)) ∙ ((f.exact (get_or m.waits k d)).0 (Contains-get_or m.waits k d lt)).was_kept)
 
-  module _ (change : Change) (ps qs : List (N × Slot V F)) (l m n : Linked) (count : ℕ) (h : AreLinked ps l) (f : Forgets l m change) (g : IsEmptied ps qs m n count) where
+  module _ (change : Change) (ps qs : List (N × Slot V F)) (l m n : Linked) (from count : ℕ) (h : AreLinked ps l) (f : Forgets l m change) (g : IsEmptied ps qs m n from count) where
     abbrev goes : ℕ → Bool
     goes i = not (is_kept m.kept i)
 
@@ -428,7 +428,7 @@ module _ {N V F : Type 0} where
         by i (inl e) = let k = ap (λ b. cond b (of (row l.uses i)) 0) e in omega arith
         by i (inr e) = let k = ap of (vacant i e) ∙ none in omega arith
 
-    pub looks-most : ((s : ℕ) → is_kept l.kept s ≡ false → row l.uses s ≡ []) → (IsOverwrite change → m.looks ≤ pages_met change + 3 * sum_by (met_by change) l.uses + 1 + 4 * length m.waits + 2 * asks_of l.asked m.waits) → (looked : ℕ) → looked ≤ n.looks + count → IsOverwrite change
+    pub looks-most : ((s : ℕ) → is_kept l.kept s ≡ false → row l.uses s ≡ []) → (IsOverwrite change → m.looks ≤ l.looks + pages_met change + 3 * sum_by (met_by change) l.uses + 1 + 4 * length m.waits + 2 * asks_of l.asked m.waits) → (looked : ℕ) → looked ≤ max (n.looks + count - (l.looks + from)) (length m.waits) → IsOverwrite change
         → looked ≤ pages_met change + 3 * sum_by (λ e. met_by change e.uses) (entries_of ps l) + 9 * length (entries_gone all_marks) + 6 * sum_by (λ e. length e.asked) (entries_gone all_marks) + 4 * sum_by (λ e. length (pages_in e.uses)) (entries_gone all_marks) + 2
     looks-most vacant most looked le over =
         let a = most over in
@@ -441,7 +441,7 @@ module _ {N V F : Type 0} where
         let r = gone-most in
         omega arith
 
-    pub looks-behind : (pages : ℕ) → ((s : ℕ) → is_kept l.kept s ≡ false → row l.uses s ≡ []) → (IsMove change → m.looks ≤ 2 * pages_behind change pages + 3 * sum_by (behind_by change) l.uses + 3 * sum_by (ended_by change) l.uses + 2 + 4 * length m.waits + 2 * asks_of l.asked m.waits) → (looked : ℕ) → looked ≤ n.looks + count → IsMove change
+    pub looks-behind : (pages : ℕ) → ((s : ℕ) → is_kept l.kept s ≡ false → row l.uses s ≡ []) → (IsMove change → m.looks ≤ l.looks + 2 * pages_behind change pages + 3 * sum_by (behind_by change) l.uses + 3 * sum_by (ended_by change) l.uses + 2 + 4 * length m.waits + 2 * asks_of l.asked m.waits) → (looked : ℕ) → looked ≤ max (n.looks + count - (l.looks + from)) (length m.waits) → IsMove change
         → looked ≤ 2 * pages_behind change pages + 3 * sum_by (λ e. behind_by change e.uses) (entries_of ps l) + 3 * sum_by (λ e. ended_by change e.uses) (entries_of ps l) + 9 * length (entries_gone all_marks) + 6 * sum_by (λ e. length e.asked) (entries_gone all_marks) + 4 * sum_by (λ e. length (pages_in e.uses)) (entries_gone all_marks) + 3
     looks-behind pages vacant most looked le moves =
         let a = most moves in

@@ -12,6 +12,7 @@ use Rattle.ksv_memo_rules.specs.declared.replies.Slot.{Slot}
 use Rattle.ksv_memo_rules.specs.declared.replies.Slot.TheVariants.{Empty as emptied, Open as opened}
 use Rattle.ksv_memo.specs.declared.frames.Frame.{Frame}
 use Rattle.ksv_memo.specs.declared.frames.Frames.{Frames}
+use Rattle.ksv_memo.specs.declared.frames.Part.{Part}
 use Rattle.ksv_memo_rules.specs.Slots.{answer_in, answer_at, answers_at}
 use Rattle.ksv_memo.specs.Open.{Open, heard}
 use Rattle.ksv_memo.specs.Calls.{Runs, replies_of}
@@ -19,7 +20,7 @@ use Rattle.ksv_memo_rules.specs.Meaning.{Standing, IsAddedTo}
 use Rattle.ksv_memo_rules.specs.declared.rules.Next.{Next}
 use Rattle.ksv_memo_rules.specs.Right.{HasEachOnce}
 use Rattle.ksv_memo.specs.Layout.{IsOneOf, AllDiffer, slots_of, node_at, nodes_at, IsOpen, IsKept, entries_of, open_before, opens_in, opens_of, AreNested, AreLinked, AreFrames, IsLaidOut}
-use Rattle.ksv_memo.specs.Moves.{EndsWith, SameFrames, IsNewFrame, Framed, Popped, Heard}
+use Rattle.ksv_memo.specs.Moves.{EndsWith, SameFrames, IsPart, IsNewFrame, Framed, Popped, Heard}
 use Rattle.ksv_memo.specs.Nodes.{Keeps, Closes, MayKeep, TakesFirst}
 use Rattle.std.proofs.lemmas.List.Elements.{All-from_recursion}
 use Rattle.ksv_memo_rules.proofs.Lists.{All-map}
@@ -28,9 +29,9 @@ use Rattle.ksv_memo.proofs.Finding.{node_there, answer_there}
 use Rattle.ksv_memo.proofs.Laying.{All-drop}
 use Rattle.ksv_memo.proofs.Changing.{ChangesAt, grown, links-stay, links-keep, entries-stay, entries-keep, frames-pop, frames-hear, opens-pop, opens-hear}
 
--- a node was opened, where its frame was pushed
-pub framed : {N : Type 0} (i j : ℕ) (n : N) (old new : Frames N) (f : Frame N) → IsNewFrame j n old f → j ≡ i → new.frames.items ≡ old.frames.items ++ f ∷ [] → new.asked.items ≡ old.asked.items → new.uses.items ≡ old.uses.items → Framed i n old new
-framed i j n old new f is same pushed asked uses = record { frame = f; is_new = record { node = is.node; slot = is.slot ∙ same; asked = is.asked; uses = is.uses }; frames = pushed; asked = asked; uses = uses }
+-- the frame of a part is that of a node that is opened now
+pub parted : {N : Type 0} (i j : ℕ) (n : N) (old new : Frames N) (p : Part) (f : Frame N) → IsPart j old p → f.node ≡ n → f.slot ≡ p.slot → f.asked ≡ p.asked → f.uses ≡ p.uses → j ≡ i → new.frames.items ≡ old.frames.items ++ f ∷ [] → new.asked.items ≡ old.asked.items → new.uses.items ≡ old.uses.items → Framed i n old new
+parted i j n old new p f is node slot asks used same pushed asked uses = record { frame = f; is_new = record { node = node; slot = slot ∙ is.slot ∙ same; asked = asks ∙ is.asked; uses = used ∙ is.uses }; frames = pushed; asked = asked; uses = uses }
 
 -- the last of a list that isn't empty
 pub last-front : {X : Type 0} (xs : List X) (x : X) → slice_get xs (length xs - 1) ≡ Some x → EndsWith x xs

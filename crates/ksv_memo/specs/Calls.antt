@@ -1,10 +1,9 @@
--- What one call of the rules does to the frames and to the count of turns. Only the table's own contracts use it.
-use Rattle.std.specs.Prelude.{◌≡◌, ℕ, List, ◌++◌, drop, Option, Result, Ok, Err}
+-- What one call of the rules does to the frames. Only the table's own contracts use it.
+use Rattle.std.specs.Prelude.{◌≡◌, List, ◌++◌, drop, Result}
 use Rattle.ksv_memo_rules.specs.declared.replies.Slot.{Slot}
 use Rattle.ksv_memo_rules.specs.declared.rules.Next.{Next}
 use Rattle.ksv_memo_rules.specs.Meaning.{Standing}
 use Rattle.ksv_memo_rules.specs.Slots.{answers_at}
-use Rattle.ksv_memo_rules.specs.Right.{counted}
 use Rattle.ksv_memo.specs.declared.frames.Frame.{Frame}
 use Rattle.ksv_memo.specs.declared.frames.Frames.{Frames}
 use Rattle.ksv_memo.specs.Layout.{slots_of}
@@ -20,8 +19,3 @@ pub record Runs {N V F : Type 0} (w : Standing N (Result V F)) (ps : List (N × 
   pub last : EndsWith frame old.frames.items
   pub step : s ≡ w.follow frame.node (replies_of ps frame old)
   pub uses : new.uses.items ≡ old.uses.items ++ w.added frame.node (replies_of ps frame old)
-
--- the count after a call: one more, unless memory was refused
-abbrev pub after_call : {X E : Type 0} → Option ℕ → Result X E → Option ℕ
-after_call turns (Ok x) = counted 1 turns
-after_call turns (Err e) = turns

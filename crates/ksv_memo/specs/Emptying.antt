@@ -25,7 +25,7 @@ pub record IsTaken {N V F : Type 0} (ps qs : List (N × Slot V F)) (l m : Linked
   pub most : m.looks + count ≤ l.looks + last + 5 * length taken + parts_of l taken
   pub least : l.marked ≤ m.marked
 
--- all were
-pub record IsEmptied {N V F : Type 0} (ps qs : List (N × Slot V F)) (l m : Linked) (count : ℕ) : Type 0 where
-  pub taken : IsTaken ps qs l m l.waits count 1
+-- all were; the looks at slots went from one count to another
+pub record IsEmptied {N V F : Type 0} (ps qs : List (N × Slot V F)) (l m : Linked) (from count : ℕ) : Type 0 where
+  pub taken : IsTaken ps qs l m l.waits count (from + 1)
   pub done : m.waits ≡ []

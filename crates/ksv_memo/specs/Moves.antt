@@ -5,6 +5,7 @@ use Rattle.ksv_memo_rules.specs.declared.replies.Slot.{Slot}
 use Rattle.ksv_memo_rules.specs.declared.replies.Slot.TheVariants.{Empty as emptied, Open as opened}
 use Rattle.ksv_memo.specs.declared.frames.Frame.{Frame}
 use Rattle.ksv_memo.specs.declared.frames.Frames.{Frames}
+use Rattle.ksv_memo.specs.declared.frames.Part.{Part}
 use Rattle.ksv_memo.specs.declared.slots.Known.{Known}
 use Rattle.ksv_memo.specs.declared.slots.Known.TheVariants.{New, Empty, Open, Kept}
 use Rattle.ksv_memo.specs.Layout.{IsKept}
@@ -50,6 +51,12 @@ pub record Heard {N : Type 0} (i : ℕ) (old new : Frames N) : Type 0 where
   pub frames : new.frames.items ≡ old.frames.items
   pub asked : new.asked.items ≡ old.asked.items ++ i ∷ []
   pub uses : new.uses.items ≡ old.uses.items
+
+-- the part of a node that is opened now, in the slot of this number
+pub record IsPart {N : Type 0} (i : ℕ) (frames : Frames N) (p : Part) : Type 0 where
+  pub slot : p.slot ≡ i
+  pub asked : p.asked ≡ length frames.asked.items
+  pub uses : p.uses ≡ length frames.uses.items
 
 -- the frame of a node that is opened now, in the slot of this number
 pub record IsNewFrame {N : Type 0} (i : ℕ) (n : N) (frames : Frames N) (f : Frame N) : Type 0 where

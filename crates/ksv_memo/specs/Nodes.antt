@@ -1,5 +1,5 @@
 -- The table of nodes, as the machine sees it.
-use Rattle.std.specs.Prelude.{◌≡◌, Bool, true, false, List, [], ◌∷◌, ◌++◌, ◌⊎◌, Option, Some, None, Result}
+use Rattle.std.specs.Prelude.{◌≡◌, ℕ, ◌+◌, ◌-◌, ◌^◌, min, Bool, true, false, List, [], ◌∷◌, ◌++◌, ◌⊎◌, Option, Some, None, Result}
 use Rattle.std.specs.List.{list_any}
 use Rattle.ksv_bytes.specs.declared.uses.Use.{Use}
 use Rattle.ksv_memo.specs.declared.table.Asked.{Asked}
@@ -22,6 +22,20 @@ use Rattle.ksv_memo.specs.Moves.{Knows}
 pub record Nodes (N A : Type 0) : Type 0 where
   pub kept : List (Entry N A)
   pub opened : List (Open N A)
+
+-- the table: its nodes, and the looks so far, which stop at 2^64 - 1
+pub record Tabled (N A : Type 0) : Type 0 where
+  pub kept : List (Entry N A)
+  pub opened : List (Open N A)
+  pub looks : ℕ
+
+-- the nodes of the table
+abbrev pub nodes : {N A : Type 0} → Tabled N A → Nodes N A
+nodes t = record { kept = t.kept; opened = t.opened }
+
+-- the looks at links and slots, as they are counted
+abbrev pub looks_of : ℕ → ℕ → ℕ
+looks_of links slots = min (links + slots) (2 ^ 64 - 1)
 
 -- the nodes of slots, with these links and frames
 abbrev pub nodes_with : {N V F : Type 0} → List (N × Slot V F) → Linked → Frames N → Nodes N (Result V F)

@@ -1,5 +1,5 @@
 //! The engine's public face.
-ghost use Rattle.std.specs.Prelude.{◌≡◌, ◌++◌, ◌≤◌, ℕ, List, [], Some, None, length, Contains, IfOk, OnOk, OnErr};
+ghost use Rattle.std.specs.Prelude.{◌≡◌, ◌+◌, ◌++◌, ◌≤◌, ℕ, List, [], Some, None, length, Contains, IfOk, OnOk, OnErr};
 ghost use Rattle.std.specs.List.{AllByRecursion};
 ghost use Rattle.ksv_bytes.specs.Uses.{Makes};
 ghost use Rattle.ksv_memo_rules.specs.Meaning.{on};
@@ -14,6 +14,7 @@ ghost use Rattle.ksv_memo.specs.Resting.{left_reach};
 
 use crate::machine::Machine;
 use ksv_bytes::{Buffer, Change};
+use ksv_memo_links::PAGE;
 use ksv_memo_rules::{Outcome, Rules};
 use std::alloc::{AllocError, Global};
 use std::marker::Model;
@@ -28,9 +29,6 @@ pub enum Answer<N, V, F> {
     /// This node was asked while it was open: its answer depends on itself.
     Circle(N),
 }
-
-/// How many bytes a page has.
-const PAGE: usize = 64;
 
 /// A place behind which no node that a change leaves uses a byte or a place, if it was one before the change.
 fn reach_after(change: Change, reach: usize) -> usize
@@ -58,13 +56,14 @@ pub struct Engine<R: Rules> {
 impl<R: Rules> Model for Engine<R> {
     ghost use Rattle.std.specs.Prelude.{◌≡◌, [], Result};
     ghost use Rattle.ksv_memo_rules.specs.Entry.{Memo};
+    ghost use Rattle.ksv_memo.specs.Nodes.{nodes};
     ghost use Rattle.ksv_memo.specs.Resting.{IsResting};
 
     ghost Value = { Memo R.Node (Result R.Value R.Fault) };
 
-    ghost view = { λ engine. record { kept = engine.machine.table.kept; turns = engine.machine.turns; looked = engine.looked; reach = engine.reach } };
+    ghost view = { λ engine. record { kept = engine.machine.table.kept; turns = engine.machine.turns; looked = engine.looked; reach = engine.reach; looks = engine.machine.table.looks } };
 
-    ghost invariant = { λ engine. IsResting engine.machine.table engine.reach };
+    ghost invariant = { λ engine. IsResting (nodes engine.machine.table) engine.reach };
 }
 
 impl<R: Rules> Engine<R> {
@@ -74,6 +73,7 @@ impl<R: Rules> Engine<R> {
         ensures turns { result.turns ≡ Some 0 }
         ensures looked { result.looked ≡ 0 }
         ensures reach { result.reach ≡ 0 }
+        ensures looks { result.looks ≡ 0 }
         ensures right { (rules : R) (bytes : List ℕ) → IsRight (on (R.meaning rules) bytes) result.kept }
     {
         Engine {
@@ -89,8 +89,9 @@ impl<R: Rules> Engine<R> {
         ensures turns { self.new.turns ≡ Some 0 }
         ensures looked { self.new.looked ≡ self.old.looked }
         ensures reach { self.new.reach ≡ self.old.reach }
+        ensures looks { self.new.looks ≡ self.old.looks }
     {
-        self.machine.turns = Some(0);
+        self.machine.begin();
     }
 
     /// The answer of a node, as evaluation from nothing gives it: the rules run first with no replies, and each
@@ -125,11 +126,11 @@ impl<R: Rules> Engine<R> {
             Ok(Outcome::Answered(Ok(value))) => Ok(Answer::Value(value)),
             Ok(Outcome::Answered(Err(fault))) => Ok(Answer::Fault(fault)),
             Ok(Outcome::Circle(node)) => {
-                self.machine.turns = None;
+                self.machine.stop();
                 Ok(Answer::Circle(node))
             }
             Err(refused) => {
-                self.machine.turns = None;
+                self.machine.stop();
                 Err(refused)
             }
         }
@@ -145,6 +146,9 @@ impl<R: Rules> Engine<R> {
         ensures kept { AllByRecursion (Contains self.old.kept) self.new.kept }
         ensures turns { self.new.turns ≡ self.old.turns }
 
+        // No look is left out: all looks since are among those that are told.
+        ensures told { self.new.looks ≤ self.old.looks + self.new.looked }
+
         // After an overwrite of at least one byte, the looks are no fewer than the nodes that went, and no more than near.
         ensures looked { (rules : R) (before after : List ℕ) → IsRight (on (R.meaning rules) before) self.old.kept → Makes change before after → IsWrite change → LooksNear (on (R.meaning rules) before) change self.old.kept self.new.looked }
 
@@ -154,12 +158,14 @@ impl<R: Rules> Engine<R> {
         // What is kept reaches no further than the file after the edit, if it did so before it.
         ensures reach { (before after : List ℕ) → Makes change before after → self.old.reach ≤ length before → self.new.reach ≤ length after }
     {
-        self.looked = self.machine.table.forget(change, self.reach / PAGE + 1);
+        let pages = self.reach / PAGE as usize + 1;
+        self.looked = self.machine.table.forget(change, pages);
         self.reach = reach_after(change, self.reach);
     }
 
     /// The looks of the last `forget`. A look reads or writes one entry; or one item, or the length, of one list: of an
-    /// entry's users or notes, of the uses of a page, or of the slots to be taken. The count stops at 2^64 - 1.
+    /// entry's users or notes, of the uses of a page, or of the slots to be taken. They are what the count of all looks is more than
+    /// before; that count stops at 2^64 - 1, and from then on they are the nodes that went.
     pub fn looked(&self) -> u64
         ensures { result ≡ self.now.looked }
     {
@@ -179,7 +185,6 @@ impl<R: Rules> Engine<R> {
     pub fn turns(&self) -> Option<u64>
         ensures { result ≡ self.now.turns }
     {
-        let Machine { turns, .. } = &self.machine;
-        *turns
+        self.machine.turns()
     }
 }

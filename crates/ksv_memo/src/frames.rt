@@ -1,20 +1,61 @@
 //! What open nodes asked and used, by frames.
-ghost use Rattle.std.specs.Prelude.{◌≡◌, ◌<◌, ◌++◌, ◌∷◌, [], length, false, IfOk, IfSome, IfNone, OnOk, OnErr};
+ghost use Rattle.std.specs.Prelude.{◌≡◌, ◌<◌, ◌≤◌, ◌++◌, ◌∷◌, [], length, false, IfOk, IfSome, IfNone, OnOk, OnErr};
 ghost use Rattle.std.specs.List.{list_any};
-ghost use Rattle.ksv_memo.specs.Moves.{with_slot, Heard, SameFrames, IsNewFrame, Popped, Framed, EndsWith};
+ghost use Rattle.ksv_memo_rules.specs.Right.{counted};
+ghost use Rattle.ksv_memo.specs.Moves.{with_slot, Heard, SameFrames, IsPart, IsNewFrame, Popped, Framed, EndsWith};
 
+use crate::machine::turns::Turns;
 use crate::slots::Slots;
 use ksv_bytes::Use;
-use ksv_memo_rules::{Places, Slot};
+use ksv_memo_rules::{Held, Lent, Places, Slot};
 use std::alloc::AllocError;
 
-/// An open node, the number of its slot, and where its part of what open nodes asked and used begins.
+/// An open node, the number of its slot, and where its part of what open nodes asked and used begins. The node is lent for one
+/// turn at a time, by a count.
 #[derive(Drop)]
 pub struct Frame<N> {
-    pub node: N,
+    node: Held<N>,
     pub slot: u32,
     pub asked: u32,
     pub uses: u32,
+}
+
+impl<N> Frame<N> {
+    /// The node, lent for one turn, which is counted.
+    #[inline(always)]
+    pub(crate) fn lend(&self, turns: &mut Turns) -> Lent<'_, N>
+        ensures node { result ≡ self.now.node }
+        ensures turns { turns.new ≡ counted 1 turns.old }
+    {
+        turns.add();
+        self.node.lend()
+    }
+}
+
+/// A frame without its node: the number of its slot, and where its part of what open nodes asked and used begins.
+#[derive(Clone, Copy)]
+pub struct Part {
+    pub slot: u32,
+    pub asked: u32,
+    pub uses: u32,
+}
+
+impl Part {
+    /// The frame of this part, with its node.
+    #[inline(always)]
+    pub(crate) fn frame<N>(self, node: N) -> Frame<N>
+        ensures node { result.node ≡ node }
+        ensures slot { result.slot ≡ self.slot }
+        ensures asked { result.asked ≡ self.asked }
+        ensures uses { result.uses ≡ self.uses }
+    {
+        Frame {
+            node: Held::new(node),
+            slot: self.slot,
+            asked: self.asked,
+            uses: self.uses,
+        }
+    }
 }
 
 /// The open nodes, the one that is run last; the slots that they asked, and the uses of their calls, with repeats.
@@ -74,20 +115,15 @@ impl<N: Drop> Frames<N> {
         Ok(())
     }
 
-    /// The frame of a node that is opened now, in the slot of a number.
+    /// The part of a node that is opened now, in the slot of a number.
     #[inline(always)]
-    pub(crate) fn frame(&self, place: usize, node: N) -> Result<Frame<N>, AllocError>
-        ensures { IfOk result (IsNewFrame place node self.now) }
+    pub(crate) fn part(&self, place: usize) -> Result<Part, AllocError>
+        ensures { IfOk result (IsPart place self.now) }
     {
         let slot = number(place)?;
         let asked = number(self.asked.len())?;
         let uses = number(self.uses.len())?;
-        Ok(Frame {
-            node,
-            slot,
-            asked,
-            uses,
-        })
+        Ok(Part { slot, asked, uses })
     }
 
     /// Takes out the last open node, if there is one, with what it asked and used.
@@ -130,11 +166,12 @@ pub(crate) fn reopen<N: Eq + Drop, P: Places<N> + Drop, V: Drop, F: Drop>(
     ensures frames { OnOk result (Framed place node frames.old frames.new) }
     ensures kept { OnErr result (slots.new.entries ≡ slots.old.entries) }
     ensures err { OnErr result (SameFrames frames.old frames.new) }
+    ensures grows { slots.old.looks ≤ slots.new.looks }
 {
-    let opened = frames.frame(place, node)?;
+    let part = frames.part(place)?;
     frames.frames.reserve(1)?;
     slots.set(place, Slot::Open);
-    frames.frames.push_reserved(opened);
+    frames.frames.push_reserved(part.frame(node));
     Ok(())
 }
 
@@ -151,11 +188,12 @@ pub(crate) fn open_new<N: Eq + Drop, P: Places<N> + Drop, V: Drop, F: Drop>(
     ensures frames { OnOk result (Framed (length slots.old.entries) node frames.old frames.new) }
     ensures kept { OnErr result (slots.new.entries ≡ slots.old.entries) }
     ensures err { OnErr result (SameFrames frames.old frames.new) }
+    ensures grows { slots.old.looks ≤ slots.new.looks }
 {
-    let frame = frames.frame(slots.len(), node)?;
+    let part = frames.part(slots.len())?;
     frames.frames.reserve(1)?;
-    slots.add(&frame.node)?;
-    frames.frames.push_reserved(frame);
+    slots.add(&node)?;
+    frames.frames.push_reserved(part.frame(node));
     frames.has_grown = true;
     Ok(())
 }

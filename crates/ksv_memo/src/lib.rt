@@ -13,6 +13,7 @@
 //! - `frames`: a frame for each open node, which holds it, with what it asked and used
 //! - `laws`: the laws of all rules
 //! - `machine`: one turn, what follows it, the loop, and the look-up before it
+//! - `machine/turns`: the count of turns
 //! - `slots`: the numbers of nodes and their slots, each look counted; `call`, the only caller of `next`
 //! - `table`: the table of kept and open nodes
 //! - `uses`: uses, each once
@@ -22,7 +23,7 @@
 //!
 //! - `Answers`: the answer to a question, and the turns that are counted for it
 //! - `Behind`: how few looks an insert, a delete or an append takes
-//! - `Calls`: what one call of the rules does to frames and the count of turns, for private contracts
+//! - `Calls`: what one call of the rules does to frames, for private contracts
 //! - `Emptying`: how slots that are taken are emptied, for private contracts
 //! - `Layout`: how the table keeps nodes, and the lists that this stands for, for private contracts
 //! - `Moves`: what each call of the table does to slots and frames, for private contracts
@@ -68,4 +69,4 @@ mod uses;
 mod vacancy;
 
 pub use engine::{Answer, Engine};
-pub use ksv_memo_rules::{Next, Replies, Rules, Slot};
+pub use ksv_memo_rules::{Held, Lent, Next, Replies, Rules, Slot};

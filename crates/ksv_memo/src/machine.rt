@@ -1,12 +1,15 @@
 //! The machine that runs nodes on a stack of open nodes, and keeps what they answer.
-ghost use Rattle.std.specs.Prelude.{◌≡◌, [], Some, length, nat_lt, false, IfOk, OnOk, OnErr};
+ghost use Rattle.std.specs.Prelude.{◌≡◌, ◌≤◌, [], Some, None, length, nat_lt, false, IfOk, OnOk, OnErr};
 ghost use Rattle.ksv_memo_rules.specs.Meaning.{on};
 ghost use Rattle.ksv_memo_rules.specs.Evaluation.{tells, done, IsAnswered};
-ghost use Rattle.ksv_memo.specs.Nodes.{Steps};
+ghost use Rattle.ksv_memo.specs.Nodes.{Steps, nodes};
 ghost use Rattle.ksv_memo_rules.specs.Slots.{lent};
 ghost use Rattle.ksv_memo_rules.specs.Right.{IsRight, nodes_of, counted};
 ghost use Rattle.ksv_memo.specs.Running.{AreSame, AdvancesAt, HasReached, IsLeft, IsRunning, LeftAt, debt, to_keep};
 
+pub(crate) mod turns;
+
+use self::turns::Turns;
 use crate::table::Table;
 use ksv_bytes::Buffer;
 use ksv_memo_rules::{Next, Outcome, Reply, Rules};
@@ -27,20 +30,43 @@ fn lend<V, F>(answer: &Result<V, F>) -> Result<&V, &F>
 pub struct Machine<R: Rules> {
     alloc: Global,
     pub table: Table<R>,
-    pub turns: Option<u64>,
+    turns: Turns,
 }
 
 impl<R: Rules> Machine<R> {
     /// A machine that keeps nothing.
     pub(crate) fn new(alloc: Global) -> Self
-        ensures table { result.table ≡ record { kept = []; opened = [] } }
+        ensures table { result.table ≡ record { kept = []; opened = []; looks = 0 } }
         ensures turns { result.turns ≡ Some 0 }
     {
         Machine {
             alloc,
             table: Table::new(alloc),
-            turns: Some(0),
+            turns: Turns::new(),
         }
+    }
+
+    /// The turns are counted from 0 again.
+    pub(crate) fn begin(&mut self)
+        ensures table { self.new.table ≡ self.old.table }
+        ensures turns { self.new.turns ≡ Some 0 }
+    {
+        self.turns.begin();
+    }
+
+    /// No turns are told, after a circle or a refused memory.
+    pub(crate) fn stop(&mut self)
+        ensures table { self.new.table ≡ self.old.table }
+        ensures turns { self.new.turns ≡ None }
+    {
+        self.turns.stop();
+    }
+
+    /// The turns so far.
+    pub(crate) fn turns(&self) -> Option<u64>
+        ensures { result ≡ self.now.turns }
+    {
+        self.turns.now()
     }
 
     /// One call of the rules, which is counted.
@@ -50,6 +76,7 @@ impl<R: Rules> Machine<R> {
         ensures step { IfOk result (λ step. Steps (on (R.meaning rules.now) bytes.now) self.old.table.opened self.new.table.opened step) }
         ensures kept { self.new.table.kept ≡ self.old.table.kept }
         ensures turns { OnOk result (self.new.turns ≡ counted 1 self.old.turns) }
+        ensures looks { self.new.table.looks ≡ self.old.table.looks }
     {
         self.table.turn(self.alloc, rules, bytes, &mut self.turns)
     }
@@ -65,7 +92,7 @@ impl<R: Rules> Machine<R> {
     ) -> Result<Outcome<R::Node, Reply<R>>, AllocError>
         requires alone { nat_lt 1 (length self.old.table.opened) ≡ false }
         requires reached { HasReached (on (R.meaning rules.now) bytes.now) self.old.table.kept self.old.table.opened (Next.Done answer) }
-        ensures ok { IfOk result (λ outcome. AdvancesAt (on (R.meaning rules.now) bytes.now) self.old.table.kept self.old.table.opened (Next.Done answer) self.new.table (Some outcome)) }
+        ensures ok { IfOk result (λ outcome. AdvancesAt (on (R.meaning rules.now) bytes.now) self.old.table.kept self.old.table.opened (Next.Done answer) (nodes self.new.table) (Some outcome)) }
         ensures err { OnErr result (LeftAt (on (R.meaning rules.now) bytes.now) self.old.table.kept self.old.table.opened (Next.Done answer) self.new.table.kept) }
         ensures turns { self.new.turns ≡ self.old.turns }
     {

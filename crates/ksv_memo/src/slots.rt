@@ -1,19 +1,15 @@
 //! The slots of nodes, each reaching of one counted, and calls of rules, which alone are lent them.
 ghost use Rattle.std.specs.Prelude.{◌≡◌, ◌<◌, ◌≤◌, ◌^◌, ◌++◌, ◌∷◌, [], length, slice_set, true, false, option_map, Some, None, IfOk, OnOk, OnErr, IfSome, IfNone};
-ghost use Rattle.std.specs.List.{list_any, zip, IsDistinct};
+ghost use Rattle.std.specs.List.{AllByRecursion, list_any, zip, IsDistinct};
 ghost use Rattle.std.specs.Map.{keys_of};
-ghost use Rattle.ksv_memo_links.specs.Shelved.{ticked};
-ghost use Rattle.ksv_memo.specs.Layout.{AreFrames, slots_of};
+ghost use Rattle.ksv_memo_links.specs.Shelved.{ticked, ticked_by};
+ghost use Rattle.ksv_memo.specs.Layout.{slots_of};
 ghost use Rattle.ksv_memo.specs.Moves.{with_slot, IsVacant, Knows};
-ghost use Rattle.ksv_memo.specs.Calls.{Runs, after_call};
-ghost use Rattle.ksv_memo_rules.specs.Meaning.{IsAddedTo, on};
-ghost use Rattle.ksv_memo_rules.specs.Right.{counted};
-ghost use Rattle.ksv_memo_rules.specs.Slots.{answer_at};
-ghost use Rattle.ksv_memo.specs.Nodes.{is_there};
+ghost use Rattle.ksv_memo_rules.specs.Meaning.{IsAddedTo};
+ghost use Rattle.ksv_memo_rules.specs.Slots.{HasAnswer, answer_at, answers_at};
 
-use crate::frames::{Frames, last_frame};
-use ksv_bytes::Buffer;
-use ksv_memo_rules::{Next, Outcome, Places, Replies, Reply, Rules, Slot, answer_at};
+use ksv_bytes::{Buffer, Use};
+use ksv_memo_rules::{Lent, Next, Outcome, Places, Replies, Reply, Rules, Slot, answer_at};
 use std::alloc::{AllocError, Global};
 use std::marker::{Model, PhantomData};
 
@@ -33,8 +29,9 @@ pub enum Known {
 /// The slots of nodes. A node's slot has the node's number, which doesn't change while something is in it.
 ///
 /// Each call that looks a node up, adds one or writes a slot is one look, and none does more; looking for a slot with nothing
-/// in it is one for each slot that is seen, and giving it to another node two. The slots are lent to rules alone, which isn't
-/// counted: by [`outcome_at`] and [`call`], which no code can call that has no rules, as forgetting.
+/// in it is one for each slot that is seen, and giving it to another node two. The count only grows, until it stops at 2^64 - 1: no
+/// call sets it back. The slots are lent to rules alone, which isn't counted: by [`outcome_at`] and [`call`], which no code can
+/// call that has no rules, as forgetting.
 #[derive(Drop)]
 pub(crate) struct Slots<N: Eq + Drop, P: Places<N> + Drop, V: Drop, F: Drop> {
     /// The numbers of the nodes.
@@ -74,14 +71,6 @@ impl<N: Eq + Drop, P: Places<N> + Drop, V: Drop, F: Drop> Slots<N, P, V, F> {
         }
     }
 
-    /// The looks are counted from 0 again.
-    pub(crate) fn reset(&mut self)
-        ensures entries { self.new.entries ≡ self.old.entries }
-        ensures looks { self.new.looks ≡ 0 }
-    {
-        self.looks = 0;
-    }
-
     /// The looks so far.
     pub(crate) fn looks(&self) -> u64
         ensures { result ≡ self.now.looks }
@@ -93,6 +82,7 @@ impl<N: Eq + Drop, P: Places<N> + Drop, V: Drop, F: Drop> Slots<N, P, V, F> {
     fn look(&mut self)
         ensures entries { self.new.entries ≡ self.old.entries }
         ensures looks { self.new.looks ≡ ticked self.old.looks }
+        ensures grows { self.old.looks ≤ self.new.looks }
         ensures places { self.new.places ≡ self.old.places }
     {
         self.looks = self.looks.saturating_add(1);
@@ -114,6 +104,7 @@ impl<N: Eq + Drop, P: Places<N> + Drop, V: Drop, F: Drop> Slots<N, P, V, F> {
         ensures unique { IsDistinct N.eq (keys_of self.new.entries) }
         ensures entries { self.new.entries ≡ self.old.entries }
         ensures looks { self.new.looks ≡ ticked self.old.looks }
+        ensures grows { self.old.looks ≤ self.new.looks }
     {
         self.look();
         look_up(&mut self.places, self.slots.as_slice(), node)
@@ -125,6 +116,7 @@ impl<N: Eq + Drop, P: Places<N> + Drop, V: Drop, F: Drop> Slots<N, P, V, F> {
         requires { place < length self.old.entries }
         ensures slots { self.new.entries ≡ with_slot self.old.entries place new }
         ensures looks { self.new.looks ≡ ticked self.old.looks }
+        ensures grows { self.old.looks ≤ self.new.looks }
     {
         self.look();
         write(&mut self.slots, place, new);
@@ -137,6 +129,8 @@ impl<N: Eq + Drop, P: Places<N> + Drop, V: Drop, F: Drop> Slots<N, P, V, F> {
         requires ends { P.ends self.old.places node.now }
         ensures ok { OnOk result (self.new.entries ≡ self.old.entries ++ (node.now, Slot.Open) ∷ []) }
         ensures err { OnErr result (self.new.entries ≡ self.old.entries) }
+        ensures looks { self.new.looks ≡ ticked self.old.looks }
+        ensures grows { self.old.looks ≤ self.new.looks }
     {
         self.looks = self.looks.saturating_add(1);
         self.slots.reserve(1)?;
@@ -160,6 +154,7 @@ impl<N: Eq + Drop, P: Places<N> + Drop, V: Drop, F: Drop> Slots<N, P, V, F> {
         ensures some { IfSome result (IsVacant self.old.entries) }
         ensures entries { self.new.entries ≡ self.old.entries }
         ensures places { self.new.places ≡ self.old.places }
+        ensures grows { self.old.looks ≤ self.new.looks }
     {
         for place in from..self.len() {
             self.look();
@@ -178,6 +173,7 @@ impl<N: Eq + Drop, P: Places<N> + Drop, V: Drop, F: Drop> Slots<N, P, V, F> {
         ensures some { IfSome result (IsVacant self.old.entries) }
         ensures entries { self.new.entries ≡ self.old.entries }
         ensures places { self.new.places ≡ self.old.places }
+        ensures grows { self.old.looks ≤ self.new.looks }
     {
         let mut found = self.empty_from(self.cursor);
         if found.is_none() {
@@ -194,6 +190,8 @@ impl<N: Eq + Drop, P: Places<N> + Drop, V: Drop, F: Drop> Slots<N, P, V, F> {
         requires place_in { place < length self.old.entries }
         ensures ok { OnOk result (self.new.entries ≡ slice_set self.old.entries place (node.now, Slot.Open)) }
         ensures err { OnErr result (self.new.entries ≡ self.old.entries) }
+        ensures looks { self.new.looks ≡ ticked_by self.old.looks 2 }
+        ensures grows { self.old.looks ≤ self.new.looks }
     {
         self.looks = self.looks.saturating_add(2);
         self.places.give(place, node)?;
@@ -201,11 +199,12 @@ impl<N: Eq + Drop, P: Places<N> + Drop, V: Drop, F: Drop> Slots<N, P, V, F> {
         Ok(())
     }
 
-    /// Gives memory of numbers back, if it is much. It isn't a look: it reads no slot, and no forgetting calls it.
+    /// Gives memory of numbers back, if it is much. It may go over all numbers, so how many looks it takes isn't promised, as of
+    /// [`Slots::vacant`]: what promises few looks can't call it.
     #[inline(always)]
     pub(crate) fn tidy(&mut self)
         ensures entries { self.new.entries ≡ self.old.entries }
-        ensures looks { self.new.looks ≡ self.old.looks }
+        ensures grows { self.old.looks ≤ self.new.looks }
     {
         self.places.tidy();
     }
@@ -267,46 +266,24 @@ pub(crate) fn outcome_at<R: Rules>(
     }
 }
 
-/// The count after one more call.
-#[inline(always)]
-fn one_more(turns: Option<u64>) -> Option<u64>
-    ensures { result ≡ counted 1 turns }
-{
-    match turns {
-        None => None,
-        Some(turns) => Some(turns.saturating_add(1)),
-    }
-}
-
-/// One call of the rules for the last open node, with the replies that it got, which is counted unless memory is refused. No
-/// other function calls `next`.
+/// One call of the rules for a node that is lent, with the replies in the slots of these numbers. Nobody else calls `next`, and it
+/// takes the node: so there is one call for each node that is lent, and a frame lends its node by a count of turns
+/// (`Frame::lend`).
 #[inline(always)]
 pub(crate) fn call<R: Rules>(
     slots: &Slots<R::Node, R::Places, R::Value, R::Fault>,
-    frames: &mut Frames<R::Node>,
+    asked: &[u32],
+    node: Lent<'_, R::Node>,
     alloc: Global,
     rules: &R,
     bytes: &Buffer,
-    turns: &mut Option<u64>,
+    uses: &mut Vec<Use>,
 ) -> Result<Next<R::Node, Reply<R>>, AllocError>
-    requires there { is_there frames.old.frames.items ≡ true }
-    requires waits { AreFrames slots.now.entries frames.old }
-    ensures step { IfOk result (λ step. Runs (on (R.meaning rules.now) bytes.now) slots.now.entries frames.old frames.new step) }
-    ensures frames { frames.new.frames ≡ frames.old.frames }
-    ensures asked { frames.new.asked ≡ frames.old.asked }
-    ensures refused { OnErr result (IsAddedTo frames.old.uses.items frames.new.uses.items) }
-
-    // One more, exactly where memory wasn't refused.
-    ensures turns { turns.new ≡ after_call turns.old result }
+    requires { AllByRecursion (HasAnswer (slots_of slots.now.entries)) asked.now }
+    ensures step { IfOk result (λ step. step ≡ (R.meaning rules.now).follow bytes.now node.entry (answers_at (slots_of slots.now.entries) asked.now)) }
+    ensures uses { OnOk result (uses.new.items ≡ uses.old.items ++ (R.meaning rules.now).added bytes.now node.entry (answers_at (slots_of slots.now.entries) asked.now)) }
+    ensures refused { OnErr result (IsAddedTo uses.old.items uses.new.items) }
 {
-    let Some(frame) = last_frame(frames.frames.as_slice()) else {
-        unreachable!()
-    };
-    let asked = &frames.asked[frame.asked as usize..];
     let replies = Replies::new(slots.lend(), asked);
-    let step = rules.next(alloc, &frame.node, bytes, &replies, &mut frames.uses);
-    if step.is_ok() {
-        *turns = one_more(*turns);
-    }
-    step
+    rules.next(alloc, node, bytes, &replies, uses)
 }

@@ -1,17 +1,20 @@
 //! The table of kept and open nodes.
 ghost use Rattle.std.specs.List.{All, AllByRecursion, AllPairs};
-ghost use Rattle.std.specs.Prelude.{◌≡◌, ◌≢◌, ◌<◌, ◌≤◌, ℕ, [], Some, length, true, option_map, nat_lt, IfOk, IfSome, IfNone, OnOk, OnErr};
+ghost use Rattle.std.specs.Prelude.{◌≡◌, ◌≢◌, ◌<◌, ◌≤◌, ◌+◌, ℕ, [], Some, length, true, option_map, nat_lt, IfOk, IfSome, IfNone, OnOk, OnErr};
 ghost use Rattle.ksv_memo_links.specs.Touching.{AreWithin};
-ghost use Rattle.ksv_memo_rules.specs.Meaning.{on};
-ghost use Rattle.ksv_memo.specs.Layout.{IsLaidOut};
-ghost use Rattle.ksv_memo.specs.Nodes.{Asks, Closes, MayKeep, Opens, Seeks, Starts, Steps, TakesFirst, is_there, nodes_with};
-ghost use Rattle.ksv_memo.specs.Moves.{Knows};
+ghost use Rattle.ksv_memo_rules.specs.Meaning.{IsAddedTo, on};
+ghost use Rattle.ksv_memo_rules.specs.Right.{counted};
+ghost use Rattle.ksv_memo.specs.Layout.{AreFrames, IsLaidOut};
+ghost use Rattle.ksv_memo.specs.Nodes.{Asks, Closes, MayKeep, Opens, Seeks, Starts, Steps, TakesFirst, is_there, looks_of, nodes, nodes_with};
+ghost use Rattle.ksv_memo.specs.Moves.{Knows, with_slot};
+ghost use Rattle.ksv_memo_links.specs.Shelved.{ticked};
 ghost use Rattle.ksv_memo_rules.specs.Slots.{answer_in};
-ghost use Rattle.ksv_memo.specs.Calls.{after_call};
+ghost use Rattle.ksv_memo.specs.Calls.{Runs};
 ghost use Rattle.ksv_memo.specs.Sweep.{Sweeps};
 ghost use Rattle.ksv_memo.specs.Emptying.{IsEmptied};
 
 use crate::frames::{Frames, last_frame, number, open_new, reopen};
+use crate::machine::turns::Turns;
 use crate::slots::{Known, Slots, call, outcome_at};
 use crate::uses::keep_once;
 use crate::vacancy::{open_in, vacant};
@@ -46,6 +49,7 @@ fn open_node<N: Eq + Drop, P: Places<N> + Drop, V: Drop, F: Drop>(
     ensures laid { IsLaidOut slots.new.entries links.new frames.new }
     ensures ok { OnOk result (Opens N.eq node (nodes_with slots.old.entries links.old frames.old) (nodes_with slots.new.entries links.new frames.new)) }
     ensures err { OnErr result (nodes_with slots.new.entries links.new frames.new ≡ nodes_with slots.old.entries links.old frames.old) }
+    ensures grows { links.old.looks + slots.old.looks ≤ links.new.looks + slots.new.looks }
 {
     match vacant(slots, links, frames) {
         Some(place) => {
@@ -73,6 +77,7 @@ fn seek<N: Eq + Drop, P: Places<N> + Drop, V: Drop, F: Drop>(
     ensures laid { IsLaidOut slots.new.entries links.new frames.new }
     ensures ok { IfOk result (Seeks N.eq node slots.new.entries (nodes_with slots.old.entries links.old frames.old) (nodes_with slots.new.entries links.new frames.new)) }
     ensures err { OnErr result (nodes_with slots.new.entries links.new frames.new ≡ nodes_with slots.old.entries links.old frames.old) }
+    ensures grows { links.old.looks + slots.old.looks ≤ links.new.looks + slots.new.looks }
 {
     match slots.find(&node) {
         Known::Kept(place) => Ok(Asked::Kept(place)),
@@ -99,18 +104,65 @@ fn slot_of<V, F>(answer: Result<V, F>) -> Slot<V, F>
     }
 }
 
-/// Empties the slots that are to be taken; their looks are counted from here on.
+/// One turn of the last open node, which is counted: a call of the rules with the replies that it got.
+#[inline(always)]
+fn run_last<R: Rules>(
+    slots: &Slots<R::Node, R::Places, R::Value, R::Fault>,
+    frames: &mut Frames<R::Node>,
+    alloc: Global,
+    rules: &R,
+    bytes: &Buffer,
+    turns: &mut Turns,
+) -> Result<Next<R::Node, Reply<R>>, AllocError>
+    requires there { is_there frames.old.frames.items ≡ true }
+    requires waits { AreFrames slots.now.entries frames.old }
+    ensures step { IfOk result (λ step. Runs (on (R.meaning rules.now) bytes.now) slots.now.entries frames.old frames.new step) }
+    ensures frames { frames.new.frames ≡ frames.old.frames }
+    ensures asked { frames.new.asked ≡ frames.old.asked }
+    ensures refused { OnErr result (IsAddedTo frames.old.uses.items frames.new.uses.items) }
+    ensures turns { turns.new ≡ counted 1 turns.old }
+{
+    let Some(frame) = last_frame(frames.frames.as_slice()) else {
+        unreachable!()
+    };
+    let asked = &frames.asked[frame.asked as usize..];
+    let node = frame.lend(turns);
+    call(slots, asked, node, alloc, rules, bytes, &mut frames.uses)
+}
+
+/// The looks at links and slots so far. The count stops at 2^64 - 1.
+fn looks_at<N: Eq + Drop, P: Places<N> + Drop, V: Drop, F: Drop>(
+    slots: &Slots<N, P, V, F>,
+    links: &Links,
+) -> u64
+    ensures { result ≡ looks_of links.now.looks slots.now.looks }
+{
+    links.looks().saturating_add(slots.looks())
+}
+
+/// Empties a slot. It is one look, and not more.
+fn empty<N: Eq + Drop, P: Places<N> + Drop, V: Drop, F: Drop>(
+    slots: &mut Slots<N, P, V, F>,
+    place: usize,
+)
+    requires { place < length slots.old.entries }
+    ensures slots { slots.new.entries ≡ with_slot slots.old.entries place Slot.Empty }
+    ensures looks { slots.new.looks ≡ ticked slots.old.looks }
+{
+    slots.set(place, Slot::Empty);
+}
+
+/// Empties the slots that are to be taken.
 fn empty_taken<N: Eq + Drop, P: Places<N> + Drop, V: Drop, F: Drop>(
     slots: &mut Slots<N, P, V, F>,
     links: &mut Links,
 )
     requires inside { All (λ s. s < length slots.old.entries) links.old.waits }
     requires apart { AllPairs (λ (a b : ℕ). a ≢ b) links.old.waits }
-    ensures { IsEmptied slots.old.entries slots.new.entries links.old links.new slots.new.looks }
+    ensures { IsEmptied slots.old.entries slots.new.entries links.old links.new slots.old.looks slots.new.looks }
 {
-    slots.reset();
     while let Some(slot) = links.take() {
-        slots.set(slot as usize, Slot::Empty);
+        empty(slots, slot as usize);
     }
 }
 
@@ -124,12 +176,12 @@ pub struct Table<R: Rules> {
 
 impl<R: Rules> Model for Table<R> {
     ghost use Rattle.std.specs.Prelude.{Result};
-    ghost use Rattle.ksv_memo.specs.Nodes.{Nodes, nodes_with};
-    ghost use Rattle.ksv_memo.specs.Layout.{IsLaidOut};
+    ghost use Rattle.ksv_memo.specs.Nodes.{Tabled, looks_of};
+    ghost use Rattle.ksv_memo.specs.Layout.{IsLaidOut, entries_of, opens_of};
 
-    ghost Value = { Nodes R.Node (Result R.Value R.Fault) };
+    ghost Value = { Tabled R.Node (Result R.Value R.Fault) };
 
-    ghost view = { λ table. nodes_with table.slots.entries table.links table.frames };
+    ghost view = { λ table. record { kept = entries_of table.slots.entries table.links; opened = opens_of table.slots.entries table.frames; looks = looks_of table.links.looks table.slots.looks } };
 
     ghost invariant = { λ table. IsLaidOut table.slots.entries table.links table.frames };
 }
@@ -137,7 +189,7 @@ impl<R: Rules> Model for Table<R> {
 impl<R: Rules> Table<R> {
     /// The empty table, which takes no memory.
     pub(crate) fn new(alloc: Global) -> Self
-        ensures { result ≡ record { kept = []; opened = [] } }
+        ensures { result ≡ record { kept = []; opened = []; looks = 0 } }
     {
         Table {
             slots: Slots::new(alloc),
@@ -161,7 +213,8 @@ impl<R: Rules> Table<R> {
     /// Gives memory back that was taken for nodes whose numbers others have now, if it is much.
     #[inline(always)]
     pub(crate) fn tidy(&mut self)
-        ensures { self.new ≡ self.old }
+        ensures nodes { nodes self.new ≡ nodes self.old }
+        ensures grows { self.old.looks ≤ self.new.looks }
     {
         self.slots.tidy();
     }
@@ -173,8 +226,9 @@ impl<R: Rules> Table<R> {
         rules: &R,
         node: R::Node,
     ) -> Result<Option<Outcome<R::Node, Reply<R>>>, AllocError>
-        ensures ok { IfOk result (Starts R.Node.eq node self.old self.new) }
-        ensures err { OnErr result (self.new ≡ self.old) }
+        ensures ok { IfOk result (Starts R.Node.eq node (nodes self.old) (nodes self.new)) }
+        ensures err { OnErr result (nodes self.new ≡ nodes self.old) }
+        ensures grows { self.old.looks ≤ self.new.looks }
     {
         let came = seek(&mut self.slots, &mut self.links, &mut self.frames, node)?;
         match came {
@@ -188,8 +242,9 @@ impl<R: Rules> Table<R> {
     /// opened.
     #[inline(always)]
     pub(crate) fn ask(&mut self, node: R::Node) -> Result<Option<R::Node>, AllocError>
-        ensures ok { IfOk result (Asks R.Node.eq node self.old self.new) }
-        ensures err { OnErr result (self.new ≡ self.old) }
+        ensures ok { IfOk result (Asks R.Node.eq node (nodes self.old) (nodes self.new)) }
+        ensures err { OnErr result (nodes self.new ≡ nodes self.old) }
+        ensures grows { self.old.looks ≤ self.new.looks }
     {
         match seek(&mut self.slots, &mut self.links, &mut self.frames, node) {
             Ok(Asked::Kept(place)) => {
@@ -202,29 +257,31 @@ impl<R: Rules> Table<R> {
         }
     }
 
-    /// One call of the rules for the last open node, which is counted unless memory is refused.
+    /// One call of the rules for the last open node, which is counted.
     #[inline(always)]
     pub(crate) fn turn(
         &mut self,
         alloc: Global,
         rules: &R,
         bytes: &Buffer,
-        turns: &mut Option<u64>,
+        turns: &mut Turns,
     ) -> Result<Next<R::Node, Reply<R>>, AllocError>
         requires { is_there self.old.opened ≡ true }
         ensures step { IfOk result (λ step. Steps (on (R.meaning rules.now) bytes.now) self.old.opened self.new.opened step) }
         ensures kept { self.new.kept ≡ self.old.kept }
-        ensures turns { turns.new ≡ after_call turns.old result }
+        ensures turns { turns.new ≡ counted 1 turns.old }
+        ensures looks { self.new.looks ≡ self.old.looks }
     {
-        call(&self.slots, &mut self.frames, alloc, rules, bytes, turns)
+        run_last(&self.slots, &mut self.frames, alloc, rules, bytes, turns)
     }
 
     /// Keeps the last open node with its answer, which the one below gets, if there is one.
     #[inline(always)]
     pub(crate) fn close(&mut self, alloc: Global, answer: Reply<R>) -> Result<(), AllocError>
         requires { is_there self.old.opened ≡ true }
-        ensures ok { OnOk result (Closes answer self.old.opened self.old self.new) }
+        ensures ok { OnOk result (Closes answer self.old.opened (nodes self.old) (nodes self.new)) }
         ensures err { OnErr result (MayKeep answer self.old.opened self.old.kept self.new.kept) }
+        ensures grows { self.old.looks ≤ self.new.looks }
     {
         let Some(frame) = last_frame(self.frames.frames.as_slice()) else {
             unreachable!()
@@ -246,6 +303,7 @@ impl<R: Rules> Table<R> {
     pub(crate) fn abandon(&mut self) -> bool
         ensures kept { self.new.kept ≡ self.old.kept }
         ensures rest { TakesFirst result self.old.opened self.new.opened }
+        ensures grows { self.old.looks ≤ self.new.looks }
     {
         let Some(frame) = last_frame(self.frames.frames.as_slice()) else {
             return false;
@@ -264,16 +322,21 @@ impl<R: Rules> Table<R> {
 
     /// Takes out each kept node that a change touches or that asked one that goes, in its tree. No node is open. It takes
     /// no memory. The uses of kept nodes are within so many pages. An overwrite looks only near, and any other edit at
-    /// what is behind it. How many looks it took, which stop at 2^64 - 1.
+    /// what is behind it. How many looks it took: what the count is now, less what it was; and no fewer than the nodes that went,
+    /// where the count has stopped at 2^64 - 1.
     pub(crate) fn forget(&mut self, change: Change, pages: usize) -> u64
         requires opened { self.old.opened ≡ [] }
         requires within { AllByRecursion (λ entry. AreWithin pages entry.uses) self.old.kept }
         ensures kept { Sweeps change pages self.old.kept self.new.kept result }
         ensures opened { self.new.opened ≡ [] }
+        ensures told { self.new.looks ≤ self.old.looks + result }
     {
+        let before = looks_at(&self.slots, &self.links);
         self.frames.asked.clear();
         self.links.forget(change, pages);
+        let went = self.links.waiting();
         empty_taken(&mut self.slots, &mut self.links);
-        self.links.looks().saturating_add(self.slots.looks())
+        let now = looks_at(&self.slots, &self.links);
+        now.saturating_sub(before).max(went as u64)
     }
 }

@@ -1,5 +1,5 @@
 //! Uses as a set.
-ghost use Rattle.std.specs.Prelude.{◌≡◌, ◌<◌, [], length, true, false, IfOk, OnOk, OnErr};
+ghost use Rattle.std.specs.Prelude.{◌≡◌, ◌<◌, ◌≤◌, [], length, true, false, IfOk, OnOk, OnErr};
 ghost use Rattle.std.specs.List.{All};
 ghost use Rattle.ksv_memo_links.specs.Links.{IsUnchanged};
 ghost use Rattle.ksv_memo_links.specs.Marking.{is_kept};
@@ -48,6 +48,7 @@ fn keep_several(
     requires asked_kept { All (λ s. is_kept links.old.kept s ≡ true) asked.now }
     ensures ok { OnOk result (KeepsOnce links.old links.new slot asked.now uses.now) }
     ensures err { OnErr result (IsUnchanged links.old links.new) }
+    ensures grows { links.old.looks ≤ links.new.looks }
 {
     let once = each_once(alloc, uses)?;
     links.keep(slot, asked, once.as_slice())
@@ -68,6 +69,7 @@ pub(crate) fn keep_once(
     requires asked_kept { All (λ s. is_kept links.old.kept s ≡ true) asked.now }
     ensures ok { OnOk result (KeepsOnce links.old links.new slot asked.now uses.now) }
     ensures err { OnErr result (IsUnchanged links.old links.new) }
+    ensures grows { links.old.looks ≤ links.new.looks }
 {
     if uses.len() < 2 {
         return links.keep(slot, asked, uses);

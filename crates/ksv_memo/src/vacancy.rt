@@ -1,5 +1,5 @@
 //! Slots with nothing in them, which are given to other nodes.
-ghost use Rattle.std.specs.Prelude.{◌≡◌, ◌<◌, length, slice_set, false, IfSome, OnOk, OnErr};
+ghost use Rattle.std.specs.Prelude.{◌≡◌, ◌<◌, ◌≤◌, length, slice_set, false, IfSome, OnOk, OnErr};
 ghost use Rattle.std.specs.List.{list_any};
 ghost use Rattle.ksv_memo.specs.Moves.{IsVacant, SameFrames, Framed};
 
@@ -23,6 +23,7 @@ pub(crate) fn vacant<N: Eq + Drop, P: Places<N> + Drop, V: Drop, F: Drop>(
     ensures some { IfSome result (IsVacant slots.old.entries) }
     ensures entries { slots.new.entries ≡ slots.old.entries }
     ensures places { slots.new.places ≡ slots.old.places }
+    ensures grows { slots.old.looks ≤ slots.new.looks }
 {
     let used = links.count().saturating_add(frames.frames.len());
     if slots.len() < used.saturating_mul(2).saturating_add(SPARE) {
@@ -46,10 +47,11 @@ pub(crate) fn open_in<N: Eq + Drop, P: Places<N> + Drop, V: Drop, F: Drop>(
     ensures frames { OnOk result (Framed place node frames.old frames.new) }
     ensures kept { OnErr result (slots.new.entries ≡ slots.old.entries) }
     ensures err { OnErr result (SameFrames frames.old frames.new) }
+    ensures grows { slots.old.looks ≤ slots.new.looks }
 {
-    let frame = frames.frame(place, node)?;
+    let part = frames.part(place)?;
     frames.frames.reserve(1)?;
-    slots.give(place, &frame.node)?;
-    frames.frames.push_reserved(frame);
+    slots.give(place, &node)?;
+    frames.frames.push_reserved(part.frame(node));
     Ok(())
 }

@@ -1,5 +1,5 @@
 -- What was marked is what has to go.
-use Rattle.std.proofs.Common.{◌≡◌, ◌≢◌, ◌⊎◌, inl, inr, Bool, true, false, cond, eqb, ℕ, suc, ◌+◌, ◌-◌, ◌*◌, ◌<◌, ◌≤◌, max, min, List, [], ◌∷◌, length, map, take, get_or, Contains, refl, sym, ◌∙◌, ap, subst, arith, true≢false, sum_by, count_by, nat_eq, nat_lt, nat_le, ◌||◌}
+use Rattle.std.proofs.Common.{◌≡◌, ◌≢◌, ◌⊎◌, inl, inr, Bool, true, false, cond, eqb, ℕ, suc, ◌+◌, ◌-◌, ◌*◌, ◌^◌, ◌<◌, ◌≤◌, max, min, List, [], ◌∷◌, length, map, take, get_or, Contains, refl, sym, ◌∙◌, ap, subst, arith, true≢false, sum_by, count_by, nat_eq, nat_lt, nat_le, ◌||◌}
 use Rattle.std.proofs.lemmas.List.Sums.{sum_by-cons}
 use Rattle.std.proofs.lemmas.Bool.{cases_lt, cases_Bool}
 use Rattle.std.proofs.lemmas.Bool.Decides.{eqb_tells}
@@ -297,5 +297,5 @@ module _ (p q r : Parts) (change : Change) (pages : ℕ) (w : IsWhole p) (idle :
   pub rises : looks p ≤ looks r
   rises = to_r.rises
 
-  pub least : length r.marks.work ≤ r.marks.looks
-  least = let z = ap (λ (ws : List ℕ). length ws) idle in to_r.least (omega arith)
+  pub least : min (p.marks.looks + length r.marks.work) (2 ^ 64 - 1) ≤ r.marks.looks
+  least = let z = ap (λ (ws : List ℕ). length ws) idle in to_r.least p.marks.looks (omega arith)

@@ -9,7 +9,7 @@ use Rattle.ksv_memo_links.specs.Shelved.{row}
 use Rattle.ksv_memo_links.specs.Placed.{Used, lists_of_uses, end_lists, page_lists}
 use Rattle.ksv_memo_links.specs.Linked.{at}
 use Rattle.ksv_memo_links.specs.Links.{is_hit, here, through, first_page}
-use Rattle.ksv_memo_links.specs.Marking.{is_kept}
+use Rattle.ksv_memo_links.specs.Marking.{is_kept, IsCounted}
 use Rattle.ksv_memo_links.specs.Chained.{Chained, IsListed}
 use Rattle.ksv_memo_links.specs.Linked.{item_at}
 use Rattle.ksv_memo_links.specs.Forgetting.{SameLinks, looks, Why, MarksMore, IsEdit, HitsSlot, HitsRow, HitsRows, HitsBehind, sizes}
@@ -52,7 +52,7 @@ pub record Peeks (q q1 : Parts) : Type 0 where
   pub work : q1.marks.work ≡ q.marks.work
   pub rises : looks q ≤ looks q1
   pub looks : looks q1 ≤ looks q + 1
-  pub least : length q.marks.work ≤ q.marks.looks → length q1.marks.work ≤ q1.marks.looks
+  pub least : (from : ℕ) → IsCounted from q.marks → IsCounted from q1.marks
 
 -- one look at the asks, or at the uses
 pub peek-asks : (q : Parts) (asks : Chained) → asks.named ≡ q.asks.named → asks.lists ≡ q.asks.lists → asks.looks ≤ q.asks.looks + 1 → q.asks.looks ≤ asks.looks → Peeks q (record { asks = asks; uses = q.uses; marks = q.marks })
@@ -62,7 +62,7 @@ peek-asks q asks named lists most least = record {
   work = refl;
   rises = omega arith;
   looks = omega arith;
-  least = λ h. h;
+  least = λ from h. h;
 }
 
 pub peek-uses : (q : Parts) (uses : Used) → uses.rows ≡ q.uses.rows → uses.lists ≡ q.uses.lists → uses.looks ≤ q.uses.looks + 1 → q.uses.looks ≤ uses.looks → Peeks q (record { asks = q.asks; uses = uses; marks = q.marks })
@@ -72,12 +72,12 @@ peek-uses q uses rows lists most least = record {
   work = refl;
   rises = omega arith;
   looks = omega arith;
-  least = λ h. h;
+  least = λ from h. h;
 }
 
 row-none : (p : Parts) (change : Change) (items : List Item) → HitsRow p p change items 0 0
 row-none p change items = record {
-  more = no-mark p p (IsEdit change) (record { asks = refl; ask_lists = refl; uses = refl; use_lists = refl }) refl refl (λ c. c) (omega arith);
+  more = no-mark p p (IsEdit change) (record { asks = refl; ask_lists = refl; uses = refl; use_lists = refl }) refl refl (λ from c. c) (omega arith);
   out = λ s lt. absurd (omega arith);
   within = omega arith;
   looks = omega arith;
@@ -132,7 +132,7 @@ row-as p q change xs ys e h = subst (λ zs. HitsRow p q change zs (length zs) 1)
 
 pub rows-none : (p : Parts) (change : Change) (lists : List (List Item)) (a : ℕ) → HitsRows p p change lists a a
 rows-none p change lists a = record {
-  more = no-mark p p (IsEdit change) (record { asks = refl; ask_lists = refl; uses = refl; use_lists = refl }) refl refl (λ c. c) (omega arith);
+  more = no-mark p p (IsEdit change) (record { asks = refl; ask_lists = refl; uses = refl; use_lists = refl }) refl refl (λ from c. c) (omega arith);
   out = λ g i le lt k t. absurd (omega arith);
   looks = let m : max a a ≡ a = omega arith in let e = ap (λ n. sizes lists n) m in omega arith;
 }

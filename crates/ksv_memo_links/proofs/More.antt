@@ -47,7 +47,7 @@ more-trans p q r P Q h k f = record {
   fewer = λ s e. h.fewer s (k.fewer s e);
   marking = λ first x w m. (let n = h.marking first x w m in why-back p q first x (λ why. IsMarking first why r.marks.kept r.marks.work) h.same (k.marking first x (f first x w n) (why-along p q first x (λ why. IsMarking first why q.marks.kept q.marks.work) h.same n)));
   grows = (h.grows.0 ++ k.grows.0, k.grows.1 ∙ ap (λ (ws : List ℕ). ws ++ k.grows.0) h.grows.1 ∙ append_assoc p.marks.work h.grows.0 k.grows.0);
-  least = λ c. k.least (h.least c);
+  least = λ from c. k.least from (h.least from c);
   rises = let a = h.rises in let b = k.rises in omega arith;
 }
 
@@ -56,7 +56,7 @@ pub record MarksOne (p q : Parts) (s : ℕ) : Type 0 where
   pub same : SameLinks p q
   pub kept : q.marks.kept ≡ set p.marks.kept s false
   pub work : q.marks.work ≡ marked_work p.marks.kept p.marks.work s
-  pub least : IsCounted p.marks → IsCounted q.marks
+  pub least : (from : ℕ) → IsCounted from p.marks → IsCounted from q.marks
   pub rises : looks p ≤ looks q
 
 pub one-mark : (p q : Parts) (P : List Bool → Change → Type 0) (s : ℕ) → MarksOne p q s → ((first : List Bool) (x : Change) → P first x → is_kept first s ≡ true → Why p first x s) → MarksMore p q P
@@ -71,7 +71,7 @@ one-mark p q P s h why = record {
   rises = h.rises;
 }
 
-pub no-mark : (p q : Parts) (P : List Bool → Change → Type 0) → SameLinks p q → q.marks.kept ≡ p.marks.kept → q.marks.work ≡ p.marks.work → (IsCounted p.marks → IsCounted q.marks) → looks p ≤ looks q → MarksMore p q P
+pub no-mark : (p q : Parts) (P : List Bool → Change → Type 0) → SameLinks p q → q.marks.kept ≡ p.marks.kept → q.marks.work ≡ p.marks.work → ((from : ℕ) → IsCounted from p.marks → IsCounted from q.marks) → looks p ≤ looks q → MarksMore p q P
 no-mark p q P s e f least rises = record {
   same = s;
   same_length = ap (λ (bs : List Bool). length bs) e;

@@ -16,7 +16,7 @@ use Rattle.ksv_memo_links.proofs.Hits.{Peeks, peek-more, user-why}
 
 pub users-none : (p : Parts) (slot : ℕ) → HitsUsers p p slot 0 0
 users-none p slot = record {
-  more = no-mark p p (λ first x. Why p first x slot) (record { asks = refl; ask_lists = refl; uses = refl; use_lists = refl }) refl refl (λ c. c) (omega arith);
+  more = no-mark p p (λ first x. Why p first x slot) (record { asks = refl; ask_lists = refl; uses = refl; use_lists = refl }) refl refl (λ from c. c) (omega arith);
   out = λ s lt. absurd (omega arith);
   within = omega arith;
   looks = omega arith;
@@ -83,7 +83,7 @@ users-end p q q1 slot i h k idle le =
 
 pub spread-none : (p : Parts) → Spreads p p 0 0
 spread-none p = record {
-  more = no-mark p p (λ first x. Unit {0}) (record { asks = refl; ask_lists = refl; uses = refl; use_lists = refl }) refl refl (λ c. c) (omega arith);
+  more = no-mark p p (λ first x. Unit {0}) (record { asks = refl; ask_lists = refl; uses = refl; use_lists = refl }) refl refl (λ from c. c) (omega arith);
   within = omega arith;
   out = λ j i lt k. absurd (omega arith);
   looks = omega arith;

@@ -41,7 +41,7 @@ pub record MarksMore (p q : Parts) (P : List Bool → Change → Type 0) : Type 
   pub fewer : (s : ℕ) → is_kept q.marks.kept s ≡ true → is_kept p.marks.kept s ≡ true
   pub marking : (first : List Bool) (x : Change) → P first x → IsMarking first (Why p first x) p.marks.kept p.marks.work → IsMarking first (Why p first x) q.marks.kept q.marks.work
   pub grows : (more : List ℕ) × (q.marks.work ≡ p.marks.work ++ more)
-  pub least : IsCounted p.marks → IsCounted q.marks
+  pub least : (from : ℕ) → IsCounted from p.marks → IsCounted from q.marks
   pub rises : looks p ≤ looks q
 
 abbrev pub IsEdit : Change → List Bool → Change → Type 0

@@ -1,5 +1,5 @@
 -- Which slots are kept, and which wait to be taken.
-use Rattle.std.specs.Prelude.{◌≡◌, ◌≢◌, ℕ, ◌+◌, ◌^◌, ◌<◌, ◌≤◌, Bool, true, false, List, [], ◌∷◌, ◌++◌, length, slice_index_or, count_by, Contains, if◌then◌else◌}
+use Rattle.std.specs.Prelude.{◌≡◌, ◌≢◌, ℕ, ◌+◌, ◌-◌, ◌^◌, ◌<◌, ◌≤◌, min, Bool, true, false, List, [], ◌∷◌, ◌++◌, length, slice_index_or, count_by, Contains, if◌then◌else◌}
 use Rattle.std.specs.List.{AllPairs}
 use Rattle.ksv_memo_links.specs.Shelved.{Celled}
 
@@ -16,9 +16,9 @@ pub record HasRoom (kept : Celled Bool) (work : Celled ℕ) (count : ℕ) : Type
   pub few : length work.items + count ≤ length kept.items
   pub fits : length kept.items < 2 ^ 32
 
--- each slot that waits was looked at
-abbrev pub IsCounted : Marked → Type 0
-IsCounted marks = length marks.work ≤ marks.looks
+-- each slot that waits was looked at since there were so many looks, as far as these are counted
+abbrev pub IsCounted : ℕ → Marked → Type 0
+IsCounted from marks = min (from + length marks.work) (2 ^ 64 - 1) ≤ marks.looks
 
 abbrev pub is_kept : List Bool → ℕ → Bool
 is_kept kept s = slice_index_or kept s false

@@ -6,7 +6,8 @@ ghost use Rattle.ksv_memo_links.specs.Shelved.{ticked};
 use std::alloc::{AllocError, Global};
 use std::marker::Model;
 
-/// A list. Each call that reads or writes it is one look.
+/// A list. Each call that reads or writes it is one look. The count of looks only grows, until it stops at 2^64 - 1: no call sets
+/// it back.
 #[derive(Drop)]
 pub(crate) struct Cells<T: Copy + Drop> {
     items: Vec<T>,
@@ -32,15 +33,6 @@ impl<T: Copy + Drop> Cells<T> {
             items: Vec::new(alloc),
             looks: 0,
         }
-    }
-
-    /// The looks are counted from 0 again.
-    pub(crate) fn reset(&mut self)
-        ensures items { self.new.items ≡ self.old.items }
-        ensures room { self.new.room ≡ self.old.room }
-        ensures looks { self.new.looks ≡ 0 }
-    {
-        self.looks = 0;
     }
 
     /// The looks so far.
@@ -125,6 +117,7 @@ impl<T: Copy + Drop> Cells<T> {
         ensures ok { OnOk result (self.new.items ≡ self.old.items ++ replicate (count - length self.old.items) item) }
         ensures err { OnErr result (self.new.items ≡ self.old.items) }
         ensures room { self.old.room ≤ self.new.room }
+        ensures grows { self.old.looks ≤ self.new.looks }
     {
         if self.items.as_slice().len() < count {
             self.items.resize(count, item)?;
@@ -137,6 +130,7 @@ impl<T: Copy + Drop> Cells<T> {
         ensures items { self.new.items ≡ self.old.items }
         ensures ok { OnOk result (count ≤ self.new.room) }
         ensures room { self.old.room ≤ self.new.room }
+        ensures grows { self.old.looks ≤ self.new.looks }
     {
         let held = self.items.as_slice().len();
         if held < count {

@@ -1,7 +1,7 @@
 //! What lists each owner is linked to, and each list's items, each look counted.
 ghost use Rattle.std.specs.Prelude.{◌≡◌, ◌+◌, ◌-◌, ◌*◌, ◌^◌, ◌<◌, ◌≤◌, ℕ, max, min, [], length, slice_set, IfOk, IfSome, IfNone, OnOk, OnErr};
 ghost use Rattle.std.specs.List.{All};
-ghost use Rattle.ksv_memo_links.specs.Shelved.{row, HasSameRows};
+ghost use Rattle.ksv_memo_links.specs.Shelved.{row, ticked, ticked_by, HasSameRows};
 ghost use Rattle.ksv_memo_links.specs.Linked.{item_at};
 ghost use Rattle.ksv_memo_links.specs.Chained.{IsListed};
 
@@ -17,7 +17,8 @@ use std::marker::Model;
 const SPARE: usize = 512;
 
 /// Lists of owners: what lists each owner is linked to, and each list's items. The entries of an owner stand beside each
-/// other, in its block; those of the same list lead to each other, from the newest on.
+/// other, in its block; those of the same list lead to each other, from the newest on. The count of looks only grows, until it
+/// stops at 2^64 - 1: no call sets it back.
 #[derive(Drop)]
 pub(crate) struct Chains {
     alloc: Global,
@@ -53,13 +54,6 @@ impl Chains {
         }
     }
 
-    /// The looks are counted from 0 again.
-    pub(crate) fn reset(&mut self)
-        ensures { self.new ≡ record { named = self.old.named; lists = self.old.lists; looks = 0 } }
-    {
-        self.looks = 0;
-    }
-
     /// The looks so far.
     pub(crate) fn looks(&self) -> u64
         ensures { result ≡ min self.now.looks (2 ^ 64 - 1) }
@@ -80,7 +74,7 @@ impl Chains {
         ensures result { result ≡ (item_at self.old.lists list 0).at }
         ensures named { self.new.named ≡ self.old.named }
         ensures lists { self.new.lists ≡ self.old.lists }
-        ensures looks { self.new.looks ≤ self.old.looks + 1 }
+        ensures looks { self.new.looks ≡ ticked self.old.looks }
         ensures grows { self.old.looks ≤ self.new.looks }
     {
         self.looks = self.looks.saturating_add(1);
@@ -94,7 +88,7 @@ impl Chains {
         ensures none { IfNone result ((list i : ℕ) → at ≡ (item_at self.old.lists list i).at → length (row self.old.lists list) ≤ i) }
         ensures named { self.new.named ≡ self.old.named }
         ensures lists { self.new.lists ≡ self.old.lists }
-        ensures looks { IfSome result (λ x. self.new.looks ≤ self.old.looks + 1) }
+        ensures looks { IfSome result (λ x. self.new.looks ≡ ticked self.old.looks) }
         ensures idle { IfNone result (self.new.looks ≡ self.old.looks) }
         ensures grows { self.old.looks ≤ self.new.looks }
     {
@@ -116,7 +110,7 @@ impl Chains {
         ensures count { result ≡ length (row self.old.named owner) }
         ensures named { self.new.named ≡ slice_set self.old.named owner [] }
         ensures lists { length self.new.lists ≡ length self.old.lists }
-        ensures looks { self.new.looks ≤ self.old.looks + 1 + 4 * length (row self.old.named owner) }
+        ensures looks { self.new.looks ≡ ticked_by self.old.looks (1 + 4 * length (row self.old.named owner)) }
         ensures grows { self.old.looks ≤ self.new.looks }
     {
         let cleared = clear_block(&mut self.entries, &mut self.blocks, &mut self.first, owner);
@@ -137,7 +131,7 @@ impl Chains {
         ensures named { self.new.named ≡ self.old.named }
         ensures lists { length self.old.lists ≤ length self.new.lists }
         ensures few { length self.new.lists ≤ max (length self.old.lists) count }
-        ensures looks { self.new.looks ≡ self.old.looks }
+        ensures grows { self.old.looks ≤ self.new.looks }
         ensures ok { OnOk result (count ≤ length self.new.lists) }
     {
         reach_first(&mut self.first, count as usize)
@@ -148,7 +142,7 @@ impl Chains {
         ensures named { HasSameRows self.old.named self.new.named }
         ensures few { length self.new.named ≤ max (length self.old.named) count }
         ensures lists { length self.new.lists ≡ length self.old.lists }
-        ensures looks { self.new.looks ≡ self.old.looks }
+        ensures grows { self.old.looks ≤ self.new.looks }
         ensures ok { OnOk result (count ≤ length self.new.named) }
     {
         reach_blocks(&mut self.blocks, count as usize)
@@ -163,7 +157,7 @@ impl Chains {
         ensures ok { OnOk result (self.new.named ≡ slice_set self.old.named owner lists.now) }
         ensures err { OnErr result (self.new.named ≡ self.old.named) }
         ensures count { length self.new.lists ≡ length self.old.lists }
-        ensures looks { self.new.looks ≡ self.old.looks }
+        ensures grows { self.old.looks ≤ self.new.looks }
     {
         link_block(
             &mut self.entries,
@@ -208,7 +202,7 @@ impl Chains {
     fn pack(&mut self)
         ensures named { self.new.named ≡ self.old.named }
         ensures lists { length self.new.lists ≡ length self.old.lists }
-        ensures looks { self.new.looks ≡ self.old.looks }
+        ensures grows { self.old.looks ≤ self.new.looks }
     {
         if let Ok(packed) = self.packed() {
             let looks = self.looks;
@@ -248,6 +242,7 @@ impl Chains {
         ensures ok { OnOk result (self.new.named ≡ slice_set self.old.named owner lists.now) }
         ensures err { OnErr result (self.new.named ≡ self.old.named) }
         ensures count { length self.new.lists ≡ length self.old.lists }
+        ensures grows { self.old.looks ≤ self.new.looks }
     {
         if self.is_worn(owner, lists.len()) {
             self.pack();

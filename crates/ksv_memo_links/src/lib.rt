@@ -64,3 +64,4 @@ mod parts;
 mod used;
 
 pub use links::Links;
+pub use used::PAGE;

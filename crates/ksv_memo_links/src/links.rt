@@ -16,7 +16,7 @@ use std::marker::Model;
 const MORE: u32 = 63;
 
 /// Of each slot that is kept, the slots that it asked, its users and its uses; and of each page, the uses that meet it.
-/// Each reading or writing of one of these counts as a look.
+/// Each reading or writing of one of these counts as a look. The count only grows.
 #[derive(Drop)]
 pub struct Links {
     parts: Parts,
@@ -55,6 +55,7 @@ impl Links {
     pub fn reach(&mut self, count: u32) -> Result<(), AllocError>
         ensures same { Grows self.old self.new }
         ensures ok { OnOk result (count ≤ length self.new.kept) }
+        ensures grows { self.old.looks ≤ self.new.looks }
     {
         if count as usize <= self.parts.slots() {
             return Ok(());
@@ -71,6 +72,7 @@ impl Links {
         requires asked_kept { All (λ s. is_kept self.old.kept s ≡ true) asked.now }
         ensures ok { OnOk result (Keeps self.old self.new slot asked.now uses.now) }
         ensures err { OnErr result (IsUnchanged self.old self.new) }
+        ensures grows { self.old.looks ≤ self.new.looks }
     {
         self.parts.keep(slot, asked, uses)
     }
@@ -83,27 +85,35 @@ impl Links {
         requires within { IsMove change → (s : ℕ) → is_kept self.old.kept s ≡ true → AreWithin pages (row self.old.uses s) }
         ensures forgets { Forgets self.old self.new change }
 
-        // The looks are counted from here on.
-        ensures most { IsOverwrite change → self.new.looks ≤ pages_met change + 3 * sum_by (met_by change) self.old.uses + 1 + 4 * length self.new.waits + 2 * asks_of self.old.asked self.new.waits }
-        ensures behind { IsMove change → self.new.looks ≤ 2 * pages_behind change pages + 3 * sum_by (behind_by change) self.old.uses + 3 * sum_by (ended_by change) self.old.uses + 2 + 4 * length self.new.waits + 2 * asks_of self.old.asked self.new.waits }
-        ensures least { length self.new.waits ≤ self.new.marked }
+        // So many looks more.
+        ensures most { IsOverwrite change → self.new.looks ≤ self.old.looks + pages_met change + 3 * sum_by (met_by change) self.old.uses + 1 + 4 * length self.new.waits + 2 * asks_of self.old.asked self.new.waits }
+        ensures behind { IsMove change → self.new.looks ≤ self.old.looks + 2 * pages_behind change pages + 3 * sum_by (behind_by change) self.old.uses + 3 * sum_by (ended_by change) self.old.uses + 2 + 4 * length self.new.waits + 2 * asks_of self.old.asked self.new.waits }
+        ensures least { min (self.old.marked + length self.new.waits) (2 ^ 64 - 1) ≤ self.new.marked }
+        ensures grows { self.old.looks ≤ self.new.looks }
         ensures fits { length self.new.waits < 2 ^ 32 }
         ensures vacant { (s : ℕ) → is_kept self.old.kept s ≡ false → row self.old.uses s ≡ [] }
     {
-        self.parts.reset();
         self.parts.forget(change, pages);
         self.parts.few();
+    }
+
+    /// How many slots are to be taken. It isn't a look.
+    pub fn waiting(&self) -> usize
+        ensures { result ≡ length self.now.waits }
+    {
+        self.parts.waiting()
     }
 
     /// Takes a slot that goes, with all that it asked and uses. It takes no memory.
     pub fn take(&mut self) -> Option<u32>
         ensures some { IfSome result (λ slot. Takes self.old self.new slot) }
         ensures none { IfNone result (IsDone self.old self.new) }
+        ensures grows { self.old.looks ≤ self.new.looks }
     {
         self.parts.take()
     }
 
-    /// The looks since the last `forget` began. The count stops at 2^64 - 1.
+    /// The looks so far, of all calls. The count stops at 2^64 - 1.
     pub fn looks(&self) -> u64
         ensures count { result ≡ min self.now.looks (2 ^ 64 - 1) }
         ensures least { self.now.marked ≤ self.now.looks }

@@ -1,5 +1,5 @@
 //! Which slots are kept, and which of them are to go.
-ghost use Rattle.std.specs.Prelude.{◌≡◌, ◌+◌, ◌-◌, min, ◌*◌, ◌^◌, ◌<◌, ◌≤◌, max, [], ◌∷◌, ◌++◌, length, slice_index_or, slice_set, count_by, IfSome, IfNone, OnOk, OnErr, true, false};
+ghost use Rattle.std.specs.Prelude.{◌≡◌, ℕ, ◌+◌, ◌-◌, min, ◌*◌, ◌^◌, ◌<◌, ◌≤◌, max, [], ◌∷◌, ◌++◌, length, slice_index_or, slice_set, count_by, IfSome, IfNone, OnOk, OnErr, true, false};
 ghost use Rattle.std.specs.Option.{option_to_list};
 ghost use Rattle.ksv_memo_links.specs.Marking.{marked_work, is_kept, IsCounted, HasMore};
 
@@ -7,7 +7,7 @@ use crate::cells::Cells;
 use std::alloc::{AllocError, Global};
 use std::marker::Model;
 
-/// Which slots are kept, how many they are, and the slots that wait to be taken.
+/// Which slots are kept, how many they are, and the slots that wait to be taken. Both lists count their looks.
 #[derive(Drop)]
 pub(crate) struct Marks {
     kept: Cells<bool>,
@@ -40,14 +40,6 @@ impl Marks {
         }
     }
 
-    /// The looks are counted from 0 again.
-    pub(crate) fn reset(&mut self)
-        ensures { self.new ≡ record { kept = self.old.kept; work = self.old.work; looks = 0 } }
-    {
-        self.kept.reset();
-        self.work.reset();
-    }
-
     /// The looks so far.
     pub(crate) fn looks(&self) -> u64
         ensures { result ≡ min self.now.looks (2 ^ 64 - 1) }
@@ -70,6 +62,13 @@ impl Marks {
         self.kept.count()
     }
 
+    /// How many slots wait, which isn't counted.
+    pub(crate) fn waiting(&self) -> usize
+        ensures { result ≡ length self.now.work }
+    {
+        self.work.count()
+    }
+
     /// There are fewer slots that wait than numbers of slots.
     pub(crate) fn few(&self)
         ensures { length self.now.work < 2 ^ 32 }
@@ -83,6 +82,7 @@ impl Marks {
         ensures few { length self.new.kept ≤ max (length self.old.kept) count }
         ensures work { self.new.work ≡ self.old.work }
         ensures ok { OnOk result (count ≤ length self.new.kept) }
+        ensures grows { self.old.looks ≤ self.new.looks }
     {
         self.work.reserve(count as usize)?;
         self.kept.reach(count as usize, false)
@@ -95,6 +95,7 @@ impl Marks {
         requires idle { self.old.work ≡ [] }
         ensures kept { self.new.kept ≡ slice_set self.old.kept slot true }
         ensures work { self.new.work ≡ [] }
+        ensures grows { self.old.looks ≤ self.new.looks }
     {
         self.kept.set(slot, true);
         self.count += 1;
@@ -107,7 +108,7 @@ impl Marks {
         ensures work { self.new.work ≡ marked_work self.old.kept self.old.work slot }
         ensures looks { self.new.looks + 2 * length self.old.work ≤ self.old.looks + 1 + 2 * length self.new.work }
         ensures grows { self.old.looks ≤ self.new.looks }
-        ensures least { IsCounted self.old → IsCounted self.new }
+        ensures least { (from : ℕ) → IsCounted from self.old → IsCounted from self.new }
     {
         if self.kept.get(slot) {
             self.kept.set(slot, false);
@@ -127,7 +128,7 @@ impl Marks {
         ensures work { self.new.work ≡ self.old.work }
         ensures looks { self.new.looks ≤ self.old.looks + 1 }
         ensures grows { self.old.looks ≤ self.new.looks }
-        ensures least { IsCounted self.old → IsCounted self.new }
+        ensures least { (from : ℕ) → IsCounted from self.old → IsCounted from self.new }
     {
         self.work.at(i)
     }
@@ -137,8 +138,8 @@ impl Marks {
         ensures work { self.old.work ≡ self.new.work ++ option_to_list result }
         ensures none { IfNone result (self.new.work ≡ []) }
         ensures kept { self.new.kept ≡ self.old.kept }
-        ensures most { self.new.looks ≤ self.old.looks + 1 }
-        ensures least { self.old.looks ≤ self.new.looks }
+        ensures looks { self.new.looks ≤ self.old.looks + 1 }
+        ensures grows { self.old.looks ≤ self.new.looks }
         ensures inside { IfSome result (λ x. x < length self.old.kept) }
     {
         self.work.pop()

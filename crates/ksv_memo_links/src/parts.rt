@@ -14,7 +14,8 @@ use crate::used::{PAGE, Uses, end_list, page_list};
 use ksv_bytes::{Change, Use};
 use std::alloc::{AllocError, Global};
 
-/// What each slot asked and its users, its uses and the lists in which it stands by them, and whether it is kept.
+/// What each slot asked and its users, its uses and the lists in which it stands by them, and whether it is kept. Each of the three
+/// counts its looks, and no call sets a count back.
 #[derive(Drop)]
 pub(crate) struct Parts {
     asks: Chains,
@@ -33,18 +34,6 @@ impl Parts {
             uses: Uses::new(alloc),
             marks: Marks::new(alloc),
         }
-    }
-
-    /// The looks are counted from 0 again.
-    pub(crate) fn reset(&mut self)
-        requires whole { IsWhole self.old }
-        ensures same { IsUnchanged (linked_of self.old) (linked_of self.new) }
-        ensures looks { looks self.new ≡ 0 }
-        ensures whole { IsWhole self.new }
-    {
-        self.asks.reset();
-        self.uses.reset();
-        self.marks.reset();
     }
 
     /// The looks so far, which stop at 2^64 - 1.
@@ -69,6 +58,13 @@ impl Parts {
         ensures { result ≡ length self.now.marks.kept }
     {
         self.marks.slots()
+    }
+
+    /// How many slots wait, which isn't counted.
+    pub(crate) fn waiting(&self) -> usize
+        ensures { result ≡ length self.now.marks.work }
+    {
+        self.marks.waiting()
     }
 
     /// There are fewer slots that wait than numbers of slots.
@@ -210,7 +206,7 @@ impl Parts {
         ensures near { IsNear change self.old self.new }
         ensures behind { IsBehind change pages self.old self.new }
         ensures grows { looks self.old ≤ looks self.new }
-        ensures least { length self.new.marks.work ≤ self.new.marks.looks }
+        ensures least { min (self.old.marks.looks + length self.new.marks.work) (2 ^ 64 - 1) ≤ self.new.marks.looks }
         ensures vacant { (s : ℕ) → is_kept self.old.marks.kept s ≡ false → row self.old.uses.rows s ≡ [] }
     {
         self.asks.linked();
@@ -224,6 +220,7 @@ impl Parts {
         ensures some { IfSome result (λ slot. Takes (linked_of self.old) (linked_of self.new) slot) }
         ensures none { IfNone result (IsDone (linked_of self.old) (linked_of self.new)) }
         ensures whole { IsWhole self.new }
+        ensures grows { looks self.old ≤ looks self.new }
     {
         let slot = self.marks.take()?;
         self.clear(slot);
@@ -239,6 +236,7 @@ impl Parts {
         requires asked_in { All (λ s. s < length self.old.marks.kept) asked.now }
         ensures ok { OnOk result (Fills self.old self.new slot asked.now uses.now) }
         ensures err { OnErr result (IsAsBefore self.old self.new) }
+        ensures grows { looks self.old ≤ looks self.new }
     {
         self.asks.link_all(slot, asked)?;
         if let Err(error) = self.uses.put(slot, uses) {
@@ -259,6 +257,7 @@ impl Parts {
         ensures ok { OnOk result (Keeps (linked_of self.old) (linked_of self.new) slot asked.now uses.now) }
         ensures err { OnErr result (IsUnchanged (linked_of self.old) (linked_of self.new)) }
         ensures whole { IsWhole self.new }
+        ensures grows { looks self.old ≤ looks self.new }
     {
         self.fill(slot, asked, uses)?;
         self.marks.keep(slot);
@@ -273,6 +272,7 @@ impl Parts {
         ensures same { Grows (linked_of self.old) (linked_of self.new) }
         ensures ok { OnOk result (count ≤ length self.new.marks.kept) }
         ensures whole { IsWhole self.new }
+        ensures grows { looks self.old ≤ looks self.new }
     {
         self.asks.reach_lists(count)?;
         self.asks.reach_owners(count)?;

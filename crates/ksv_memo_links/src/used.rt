@@ -6,7 +6,7 @@ ghost use Rattle.ksv_bytes.specs.Uses.{is_use_touched};
 ghost use Rattle.ksv_memo_links.specs.Placed.{uses_of, list_of_end, list_of_page, lists_of_uses, end_lists, page_lists};
 ghost use Rattle.ksv_memo_links.specs.Linked.{item_at};
 ghost use Rattle.ksv_memo_links.specs.Chained.{IsListed};
-ghost use Rattle.ksv_memo_links.specs.Shelved.{row, ticked, HasSameRows};
+ghost use Rattle.ksv_memo_links.specs.Shelved.{row, ticked, ticked_by, HasSameRows};
 ghost use Rattle.ksv_memo_links.specs.Touching.{is_size, reach_of, farthest, end_at, ends_in, pages_of, pages_in};
 
 use crate::blocks::{Item, number};
@@ -16,7 +16,7 @@ use std::alloc::{AllocError, Global};
 use std::marker::Model;
 
 /// How many bytes a page has.
-pub(crate) const PAGE: u32 = 64;
+pub const PAGE: u32 = 64;
 
 /// Whether a change touches one of these uses.
 fn has_touched(change: Change, uses: &[Use]) -> bool
@@ -271,6 +271,7 @@ fn reach_list(chains: &mut Chains, list: u32) -> Result<(), AllocError>
     ensures named { chains.new.named ≡ chains.old.named }
     ensures few { length chains.new.lists < 2 ^ 32 }
     ensures ok { OnOk result (list < length chains.new.lists) }
+    ensures grows { chains.old.looks ≤ chains.new.looks }
 {
     chains.reach_lists(number(list as usize + 1)?)
 }
@@ -285,6 +286,7 @@ fn link_only(chains: &mut Chains, slot: u32, list: u32) -> Result<(), AllocError
     ensures ok { OnOk result (chains.new.named ≡ slice_set chains.old.named slot (list ∷ [])) }
     ensures err { OnErr result (chains.new.named ≡ chains.old.named) }
     ensures few { length chains.new.lists < 2 ^ 32 }
+    ensures grows { chains.old.looks ≤ chains.new.looks }
 {
     if list as usize >= chains.lists() {
         reach_list(chains, list)?;
@@ -303,6 +305,7 @@ fn link_many(alloc: Global, chains: &mut Chains, slot: u32, uses: &[Use]) -> Res
     ensures ok { OnOk result (chains.new.named ≡ slice_set chains.old.named slot (lists_of_uses uses.now)) }
     ensures err { OnErr result (chains.new.named ≡ chains.old.named) }
     ensures few { length chains.new.lists < 2 ^ 32 }
+    ensures grows { chains.old.looks ≤ chains.new.looks }
 {
     let lists = all_lists(alloc, uses)?;
     chains.reach_lists(above_all(lists.as_slice())?)?;
@@ -319,6 +322,7 @@ fn link_uses(alloc: Global, chains: &mut Chains, slot: u32, uses: &[Use]) -> Res
     ensures ok { OnOk result (chains.new.named ≡ slice_set chains.old.named slot (lists_of_uses uses.now)) }
     ensures err { OnErr result (chains.new.named ≡ chains.old.named) }
     ensures few { length chains.new.lists < 2 ^ 32 }
+    ensures grows { chains.old.looks ≤ chains.new.looks }
 {
     match uses {
         [] => Ok(()),
@@ -343,7 +347,8 @@ fn reach_rows(rows: &mut Vec<Noted>, count: usize) -> Result<(), AllocError>
 }
 
 /// The uses of each slot, and the lists in which slots stand by them: one for each page, and one for each place in which uses
-/// of the size or of reaching end. Each call that reads or writes what a slot has, or an item of a list, is one look.
+/// of the size or of reaching end. Each call that reads or writes what a slot has, or an item of a list, is one look. The count of
+/// looks only grows, until it stops at 2^64 - 1: no call sets it back.
 #[derive(Drop)]
 pub(crate) struct Uses {
     alloc: Global,
@@ -376,15 +381,6 @@ impl Uses {
         }
     }
 
-    /// The looks are counted from 0 again.
-    pub(crate) fn reset(&mut self)
-        ensures rows { self.new.rows ≡ self.old.rows }
-        ensures lists { self.new.lists ≡ self.old.lists }
-        ensures looks { self.new.looks ≡ 0 }
-    {
-        self.looks = 0;
-    }
-
     /// The looks so far.
     pub(crate) fn looks(&self) -> u64
         ensures { result ≡ self.now.looks }
@@ -412,6 +408,7 @@ impl Uses {
         requires none { row self.old.rows slot ≡ [] }
         ensures ok { OnOk result (self.new.rows ≡ slice_set self.old.rows slot uses.now) }
         ensures err { OnErr result (self.new.rows ≡ self.old.rows) }
+        ensures grows { self.old.looks ≤ self.new.looks }
     {
         self.looks = self.looks.saturating_add(1);
         let noted = note_uses(self.alloc, uses)?;
@@ -478,7 +475,7 @@ impl Uses {
     pub(crate) fn clear(&mut self, slot: u32)
         requires { slot < length self.old.rows }
         ensures rows { self.new.rows ≡ slice_set self.old.rows slot [] }
-        ensures looks { self.new.looks ≤ self.old.looks + 2 + 4 * length (pages_in (row self.old.rows slot)) }
+        ensures looks { self.new.looks ≡ ticked_by self.old.looks (2 + 4 * length (pages_in (row self.old.rows slot))) }
         ensures grows { self.old.looks ≤ self.new.looks }
     {
         let end = noted_end(&self.rows[slot as usize]);
@@ -492,6 +489,7 @@ impl Uses {
     pub(crate) fn reach(&mut self, count: u32) -> Result<(), AllocError>
         ensures same { HasSameRows self.old.rows self.new.rows }
         ensures ok { OnOk result (count ≤ length self.new.rows) }
+        ensures grows { self.old.looks ≤ self.new.looks }
     {
         self.chains.reach_owners(count)?;
         reach_rows(&mut self.rows, count as usize)

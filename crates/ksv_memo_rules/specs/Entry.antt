@@ -10,9 +10,11 @@ pub record Entry (N A : Type 0) : Type 0 where
   pub uses : List Use
 
 -- an engine: what it keeps, in no stated order, and the calls of rules that were counted since the question began, the
--- looks of the last `forget`, and a place behind which no kept node uses a byte or a place
+-- looks of the last `forget`, a place behind which no kept node uses a byte or a place, and all looks so far, which stop at
+-- 2^64 - 1
 pub record Memo (N A : Type 0) : Type 0 where
   pub kept : List (Entry N A)
   pub turns : Option ℕ
   pub looked : ℕ
   pub reach : ℕ
+  pub looks : ℕ

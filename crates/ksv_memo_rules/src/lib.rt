@@ -7,6 +7,7 @@
 //!
 //! Modules:
 //!
+//! - `held`: `Held` and `Lent`, a node that is lent for one call of the rules at a time
 //! - `places`: `trait Places`: the numbers of nodes
 //! - `replies`: `Replies`, the answers that an engine lends to rules
 //! - `rules`: `trait Rules`: what a node does next, with the laws of rules
@@ -29,10 +30,12 @@
 //! - `Standing`: the laws of rules over one list of bytes
 #![tactic(auto)]
 
+mod held;
 mod places;
 mod replies;
 mod rules;
 
+pub use held::{Held, Lent};
 pub use places::Places;
 pub use replies::{Replies, Slot, answer_at};
 pub use rules::{Next, Outcome, Reply, Rules};

@@ -2,6 +2,7 @@
 ghost use Rattle.std.specs.Prelude.{◌≡◌, ℕ, ◌++◌, List, true, Result, IfOk, OnOk, OnErr};
 ghost use Rattle.ksv_memo_rules.specs.Slots.{lent};
 
+use crate::held::Lent;
 use crate::places::Places;
 use crate::replies::Replies;
 use ksv_bytes::{Buffer, Use};
@@ -51,18 +52,19 @@ pub trait Rules {
     /// What the rules mean, for all bytes.
     ghost meaning: { Self → Meaning Self.Node (Result Self.Value Self.Fault) };
 
-    /// What a node does next after these replies to what it needed. It adds to `uses` what its readings of the
-    /// bytes depend on. If memory is refused, `uses` still begins with what it held before.
+    /// What a node does next after these replies to what it needed. It takes the node that it is lent, so who has lent one can't
+    /// call it twice. It adds to `uses` what its readings of the bytes depend on. If memory is refused, `uses` still begins with
+    /// what it held before.
     fn next(
         &self,
         alloc: Global,
-        node: &Self::Node,
+        node: Lent<'_, Self::Node>,
         bytes: &Buffer,
         replies: &Replies<Self::Value, Self::Fault>,
         uses: &mut Vec<Use>,
     ) -> Result<Next<Self::Node, Result<Self::Value, Self::Fault>>, AllocError>
-        ensures step { IfOk result (λ step. step ≡ (meaning self.now).follow bytes.now node.now replies.now) }
-        ensures uses { OnOk result (uses.new.items ≡ uses.old.items ++ (meaning self.now).added bytes.now node.now replies.now) }
+        ensures step { IfOk result (λ step. step ≡ (meaning self.now).follow bytes.now node.entry replies.now) }
+        ensures uses { OnOk result (uses.new.items ≡ uses.old.items ++ (meaning self.now).added bytes.now node.entry replies.now) }
         ensures refused { OnErr result (IsAddedTo uses.old.items uses.new.items) };
 
     /// A copy of an answer that is lent.

@@ -4,6 +4,9 @@ ghost use Rattle.ksv_expr_value.specs.Trail.{element_limit};
 
 use std::marker::Model;
 
+/// How many elements a list has at most.
+pub const ELEMENT_LIMIT: u32 = 1_048_576;
+
 /// How many elements a list has, if that is known beforehand, in four bytes. Contracts see that optional number.
 #[derive(Clone, Copy)]
 pub struct ElementCount {

@@ -55,7 +55,7 @@ mod search;
 mod turn;
 
 pub use case_number::CaseNumber;
-pub use element_count::ElementCount;
+pub use element_count::{ELEMENT_LIMIT, ElementCount};
 pub use given::{
     Calc, Ended, Given, Head, Holder, Leaf, List, MemberRef, Object, ObjectEnd, Origin, Rested,
 };

@@ -39,6 +39,7 @@ fn end_over<R: Source, W: Sink>(
     writer: &mut W,
 ) -> Result<Ended, AllocError>
     requires reads { R.failed reader.old ≡ false }
+    requires goes_on { R.ended reader.old ≡ false }
     requires writes { W.failed writer.old ≡ false }
 {
     let Ok(desc) = describe(alloc, given.ksy) else {
@@ -69,6 +70,7 @@ fn broken(
         step: if is_reader { 1 } else { ROOM },
         reads_left: if is_reader { calls } else { NEVER },
         failed: false,
+        ended: false,
     };
     if is_reader {
         let mut writer = Memory::new(Vec::with_capacity(alloc, ROOM)?);

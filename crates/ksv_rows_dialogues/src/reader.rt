@@ -9,6 +9,7 @@ pub(crate) struct Pieces<'a> {
     pub(crate) step: usize,
     pub(crate) reads_left: usize,
     pub(crate) failed: bool,
+    pub(crate) ended: bool,
 }
 
 impl Source for Pieces<'_> {
@@ -20,6 +21,8 @@ impl Source for Pieces<'_> {
 
     ghost failed = { λ p. p.failed };
 
+    ghost ended = { λ p. p.ended };
+
     fn read(&mut self, buf: &mut [u8]) -> Result<usize, Failed> {
         if self.reads_left == 0 {
             self.failed = true;
@@ -29,6 +32,7 @@ impl Source for Pieces<'_> {
         let count = self.left.len().min(buf.len()).min(self.step.max(1));
         buf[..count].copy_from_slice(&self.left[..count]);
         self.left = &self.left[count..];
+        self.ended = count == 0;
         Ok(count)
     }
 }

@@ -33,6 +33,7 @@ fn add_output(
                 step,
                 reads_left: usize::MAX,
                 failed: false,
+                ended: false,
             };
             match run(alloc, &mut reader, &mut writer, desc, file) {
                 Ok((_, end)) => Some(end),

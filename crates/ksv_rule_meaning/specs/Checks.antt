@@ -21,14 +21,15 @@ use Rattle.ksv_rule_meaning.specs.Wanted.{truth_of}
 
 -- ---- conditions
 
--- One of some conditions is true: they are evaluated in written order, up to the first that is.
+-- One of some conditions is true: they are evaluated in their order, which is the written one, up to the first that is.
 unfoldable pub meets_one : Setting → List Tree → Rule Bool
 meets_one at [] = Answer false
 meets_one at (e ∷ es) = do
   b ← truth_of at e
   if b then Answer true else meets_one at es
 
--- Each of some conditions is true: they are evaluated in written order, up to the first that isn't.
+-- Each of some conditions is true: they are evaluated in their order, that of `min` before that of `max` whichever is written first, up to the first
+-- that isn't.
 unfoldable pub meets_each : Setting → List Tree → Rule Bool
 meets_each at [] = Answer true
 meets_each at (e ∷ es) = do

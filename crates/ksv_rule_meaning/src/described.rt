@@ -1,6 +1,6 @@
 //! The rules of a description, for an engine.
 
-ghost use Rattle.std.specs.Prelude.{◌≡◌, ◌++◌, OnOk, OnErr};
+ghost use Rattle.std.specs.Prelude.{◌≡◌, ◌++◌, IfOk, OnOk, OnErr};
 ghost use Rattle.ksv_desc.specs.Whole.{plain_pieces};
 ghost use Rattle.ksv_memo_rules.specs.Meaning.{IsAddedTo};
 ghost use Rattle.ksv_nodes.specs.Exact.{node_exact};
@@ -12,7 +12,7 @@ ghost use Rattle.ksv_rule_meaning.specs.Meaning.{rule_of};
 use ksv_bytes::{Buffer, Use};
 use ksv_desc::Desc;
 use ksv_expr_value::Fault;
-use ksv_memo_rules::{Next, Replies, Rules};
+use ksv_memo_rules::{Lent, Next, Replies, Rules};
 use ksv_nodes::{Given, Halt, Node, Turn};
 use ksv_places::NodePlaces;
 use std::alloc::{AllocError, Global};
@@ -87,11 +87,16 @@ impl<N: NodeRules> Rules for Described<N> {
     fn next(
         &self,
         alloc: Global,
-        node: &Node,
+        node: Lent<'_, Node>,
         bytes: &Buffer,
         replies: &Replies<Given, Fault>,
         uses: &mut Vec<Use>,
-    ) -> Result<Next<Node, Answer>, AllocError> {
+    ) -> Result<Next<Node, Answer>, AllocError>
+        ensures step { IfOk result (λ step. step ≡ (described (plain_pieces self.now.desc)).follow bytes.now node.entry replies.now) }
+        ensures uses { OnOk result (uses.new.items ≡ uses.old.items ++ (described (plain_pieces self.now.desc)).added bytes.now node.entry replies.now) }
+        ensures refused { OnErr result (IsAddedTo uses.old.items uses.new.items) }
+    {
+        let node = node.node();
         let mut turn = Turn::new(alloc, &node.path, bytes, replies);
         let ruled = N::rule(&mut turn, &self.desc, node);
         add_uses(uses, turn.uses())?;

@@ -15,7 +15,7 @@ use crate::parts::{in_list_above, part_end};
 use crate::wanted::{missing, truth_of};
 use ksv_desc::{Desc, Repeat};
 use ksv_expr_eval::{Ctx, Expr, FaultKind, Path, Place, Step, Stream};
-use ksv_nodes::{Ended, Halt, Head, List, Object, ObjectEnd, Rested, Turn};
+use ksv_nodes::{ELEMENT_LIMIT, Ended, Halt, Head, List, Object, ObjectEnd, Rested, Turn};
 
 /// The end of an object that ends with its last attribute: the next byte; without one it ends where it begins.
 #[tactic(auto, using(ksv_basics::proofs::Running::run_bind), unfolding(ksv_rule_meaning::specs::Ends::fields_end))]
@@ -240,7 +240,7 @@ fn next_rest(turn: &mut Turn, list: &Path, index: u32) -> Result<Rested, Halt>
     requires { index < element_limit }
     ensures { Runs (next_rest list.now index) (λ rested. rested) turn.old turn.new result }
 {
-    if index + 1 == 1_048_576 {
+    if index + 1 == ELEMENT_LIMIT {
         return turn.raise(FaultKind::TooMany);
     }
     part_rest(turn, list, Step::Index(index + 1))

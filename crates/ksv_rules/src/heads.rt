@@ -17,18 +17,18 @@ use crate::wanted::{holds, in_object_above, size_of, stream_for};
 use ksv_desc::{Choice, Content, Desc, Field, MemberKind, Repeat};
 use ksv_expr_eval::{Ctx, Expr, FaultKind, Path, Place, Step, Stream, StreamEnd};
 use ksv_nodes::{
-    Calc, CaseNumber, ElementCount, Ended, Halt, Head, Holder, List, MemberRef, Object, ObjectEnd,
-    ObjectOrigin, Origin, Turn,
+    Calc, CaseNumber, ELEMENT_LIMIT, ElementCount, Ended, Halt, Head, Holder, List, MemberRef,
+    Object, ObjectEnd, ObjectOrigin, Origin, Turn,
 };
 
 // ---- attributes
 
-/// How many elements there are: at most 1,048,576.
+/// How many elements there are: at most [`ELEMENT_LIMIT`].
 fn in_count(turn: &mut Turn, count: u64) -> Result<u32, Halt>
     ensures runs { Runs (in_count count) (λ count. count) turn.old turn.new result }
     ensures few { IfOk result (λ count. count ≤ element_limit) }
 {
-    if count > 1_048_576 {
+    if count > ELEMENT_LIMIT as u64 {
         return turn.raise(FaultKind::TooMany);
     }
     Ok(count as u32)

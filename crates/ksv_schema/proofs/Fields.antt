@@ -22,7 +22,7 @@ use Rattle.ksv_schema.specs.Keys.{is_in, kind_of, form_among, form_in, is_ignore
 use Rattle.ksv_schema.specs.KeyTexts.{encoding_named, is_str, is_strz, own_type, is_a, is_to_end}
 use Rattle.ksv_schema.specs.Faults.{missing_key, left_out}
 use Rattle.ksv_schema.specs.Rules.{form_faults, keys_faults}
-use Rattle.ksv_schema.specs.Values.{Home, expression, enumeration, own_enum, encoding_at}
+use Rattle.ksv_schema.specs.Values.{Home, once, expression, enumeration, own_enum, encoding_at}
 use Rattle.ksv_schema.specs.Members.{conditioned, parts, repeat_of, repeated, extent_of, extent, has_encoding, needs, field, own_field, attribute, parse_instance, value_instance, placeless, by_kind}
 use Rattle.ksv_schema.specs.Description.{Context, in_tree, in_valid, in_extent, in_repeat, in_field, in_kind}
 use Rattle.ksv_schema.proofs.Good.{front, back, implies, there_map, IsGood, gives_good, also_good, chosen_good, made_good, after_good, both_good, weaker, perhaps_good, must_good}
@@ -165,13 +165,14 @@ module _ (names : List (List ℕ)) (h : Home) where
   unfolding placeless
   placeless_good name_line es = record { is = λ k w. absurd cc }
 
-  pub kind_good : (role : Role) (name_line line : ℕ) (es : List Pair) → AreEncodings h.declared → keys_faults (kind_of role es) es ≡ [] → IsGood names (IsKind c (is_in_params role)) (by_kind h (kind_of role es) name_line line es)
+module _ (names : List (List ℕ)) (h : Home) where
+  pub kind_good : (role : Role) (name_line line : ℕ) (es : List Pair) → AreEncodings h.declared → keys_faults (kind_of role es) es ≡ [] → IsGood names (IsKind (in_home names h) (is_in_params role)) (by_kind h (kind_of role es) name_line line es)
   unfolding by_kind
   kind_good roles.Parameter name_line line es a k = also_good _ _ (λ n. gives_good Parameter (record { leads = λ y s fits. tt; given = λ name. refl }))
-  kind_good roles.Attribute name_line line es a k = attribute_good line es a k
+  kind_good roles.Attribute name_line line es a k = attribute_good names h line es a k
   kind_good roles.Instance name_line line es a k = go (has (codes "value") es) (has (codes "pos") es) k
     where
-      go : (v p : Bool) → keys_faults (cond v kinds.Value (cond p kinds.ParseInstance kinds.Placeless)) es ≡ [] → IsGood names (IsKind c false) (by_kind h (cond v kinds.Value (cond p kinds.ParseInstance kinds.Placeless)) name_line line es)
-      go true p k = value_instance_good line es
-      go false true k = parse_instance_good line es a k
-      go false false k = placeless_good name_line es
+      go : (v p : Bool) → keys_faults (cond v kinds.Value (cond p kinds.ParseInstance kinds.Placeless)) es ≡ [] → IsGood names (IsKind (in_home names h) false) (by_kind h (cond v kinds.Value (cond p kinds.ParseInstance kinds.Placeless)) name_line line es)
+      go true p k = value_instance_good names (once h) line es
+      go false true k = parse_instance_good names h line es a k
+      go false false k = placeless_good names h name_line es

@@ -19,7 +19,7 @@ use Rattle.ksv_schema.specs.KeyTexts.{TypeText, is_str, is_strz, own_type, is_a,
 use Rattle.ksv_schema.specs.Faults.{Fault, fault, fault_if, missing_key, keys_against, bad_value, left_out}
 use Rattle.ksv_schema.specs.Reading.{Reading, gives, wrong, also, valueless, chosen, made, both, after, perhaps, must}
 use Rattle.ksv_schema.specs.Rules.{keys_faults, missing, at_if, together}
-use Rattle.ksv_schema.specs.Values.{Home, home_of, FieldKeys, expression, own_enum, is_declared, choice}
+use Rattle.ksv_schema.specs.Values.{Home, home_of, once, FieldKeys, expression, own_enum, is_declared, choice}
 use Rattle.ksv_schema.specs.Valid.{own_valid}
 
 -- ---- conditions
@@ -142,7 +142,7 @@ unfoldable pub by_kind : Home → MappingKind → ℕ → ℕ → List Pair → 
 by_kind h kinds.Parameter name_line line es = also (missing (codes "id") line es) (gives desc.Parameter)
 by_kind h kinds.Attribute name_line line es = attribute h line es
 by_kind h kinds.ParseInstance name_line line es = parse_instance h line es
-by_kind h kinds.Value name_line line es = value_instance h line es
+by_kind h kinds.Value name_line line es = value_instance (once h) line es
 by_kind h kinds.Placeless name_line line es = placeless h name_line es
 by_kind h _ name_line line es = gives desc.Parameter
 

@@ -49,6 +49,10 @@ is_attribute Instance = false
 abbrev pub home_of : Declared → ℕ → Role → List Pair → Home
 home_of d n role es = record { declared = d; within = n; in_sequence = is_attribute role; is_repeated = is_repeated es }
 
+-- the same of what isn't repeated, whatever its keys are
+abbrev pub once : Home → Home
+once h = record { declared = h.declared; within = h.within; in_sequence = h.in_sequence; is_repeated = false }
+
 -- ---- expressions
 
 abbrev pub position_at : Home → Site → Position

@@ -100,6 +100,7 @@ fn serve<N: NodeRules, R: Source, W: Sink>(
 ) -> End
     requires begun { Holds session.old nothing_kept }
     requires reads { R.failed reader.old ≡ false }
+    requires goes_on { R.ended reader.old ≡ false }
     requires writes { W.failed writer.old ≡ false }
     ensures served { IsTrue R.tells →
         Ended result (description_of session.old) session.old.bytes (R.bytes reader.old) (R.bytes reader.new) session.new.bytes W.tells (took (W.bytes writer.old) (W.flushed writer.old)) (took (W.bytes writer.new) (W.flushed writer.new)) }
@@ -141,6 +142,7 @@ pub fn run<N: NodeRules, R: Source, W: Sink>(
     bytes: Vec<u8>,
 ) -> Result<(Buffer, End), NewFault>
     requires reads { R.failed reader.old ≡ false }
+    requires goes_on { R.ended reader.old ≡ false }
     requires writes { W.failed writer.old ≡ false }
     ensures served { IsTrue R.tells → IfOk result (λ done.
         Ended done.1 (plain_pieces desc) bytes.items (R.bytes reader.old) (R.bytes reader.new) done.0 W.tells (took (W.bytes writer.old) (W.flushed writer.old)) (took (W.bytes writer.new) (W.flushed writer.new))) }

@@ -1,3 +1,4 @@
 pub mod Rows
 pub mod Chain
 pub mod Tower
+pub mod Leaves

@@ -23,12 +23,14 @@
 //! - `samples/link`: a link of a chain
 //! - `samples/row`: a row and its number
 //! - `samples/rows`: rows that depend on rows and on bytes
+//! - `sparing`: slots that are given to other nodes, and numbers that are tidied
 //! - `tower`: a tower of links of which only the lowest reads the file
 //!
 //! Definitions (`specs/`):
 //!
 //! - `Chain`: a chain of nodes, and its laws
 //! - `Rows`: rows, and their laws
+//! - `Leaves`: links that ask none, and their laws
 //! - `Tower`: a tower of links, and its laws
 //!
 //! Lemmas (`proofs/`):
@@ -57,6 +59,8 @@ mod random;
 #[cfg(test)]
 mod refusals;
 mod samples;
+#[cfg(test)]
+mod sparing;
 #[cfg(test)]
 mod tower;
 

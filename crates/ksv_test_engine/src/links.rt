@@ -26,21 +26,26 @@ fn takes_both(links: &mut Links) -> bool
     requires { links.old.waits ≡ [] }
 {
     let are_kept = links.count() == 2;
+    let before = links.looks();
     links.forget(Change::Overwrite { at: 150, n: 1 }, 0);
+    let are_waiting = links.waiting() == 2;
     let is_second = links.take() == Some(1);
     let is_first = links.take() == Some(0);
     let is_all = links.take().is_none();
-    let are_near = links.looks() >= 2 && links.looks() <= 8 * (1 + 1 + 2 + 2 + 4);
-    are_kept && is_second && is_first && is_all && are_near && links.count() == 0
+    let looked = links.looks().saturating_sub(before);
+    let are_near = looked >= 2 && looked <= 8 * (1 + 1 + 2 + 2 + 4);
+    are_kept && are_waiting && is_second && is_first && is_all && are_near && links.count() == 0
 }
 
 /// Whether an overwrite next to the used bytes, in a page that they meet, takes nothing.
 fn takes_none(links: &mut Links) -> bool
     requires { links.old.waits ≡ [] }
 {
+    let before = links.looks();
     links.forget(Change::Overwrite { at: 200, n: 9 }, 0);
     let is_none = links.take().is_none();
-    is_none && links.looks() <= 8 * (1 + 1) && links.count() == 2
+    let looked = links.looks().saturating_sub(before);
+    is_none && looked <= 8 * (1 + 1) && links.count() == 2
 }
 
 /// Whether an overwrite of two slots takes both, or none.

@@ -3,7 +3,8 @@
 //! Where the values are from: by hand. Of [`LINKED`] row 5 asks row 3, that row 2, that row 1 and that row 0, and then row 4, which asks row 0. So
 //! its 12 calls are, by the number of the row that is called: 5 3 2 1 0 1 2 3 5 4 4 5. A row is completed by its last call, so the
 //! rows are completed in the order of their numbers. The answer of the row that was asked is copied before that row is kept.
-ghost use Rattle.ksv_memo_rules.specs.Meaning.{on};
+ghost use Rattle.std.specs.Prelude.{◌≡◌, ◌++◌, IfOk, OnOk, OnErr};
+ghost use Rattle.ksv_memo_rules.specs.Meaning.{IsAddedTo, on};
 ghost use Rattle.ksv_memo_rules.specs.Right.{IsRight};
 ghost use Rattle.ksv_test_engine.specs.Rows.{rows_meaning};
 
@@ -14,7 +15,7 @@ use crate::samples::hashed::Hashed;
 use crate::samples::row::{Missing, Reply, RowNumber};
 use crate::samples::rows::Rows;
 use ksv_bytes::{Buffer, Use};
-use ksv_memo::{Answer, Engine, Next, Replies, Rules};
+use ksv_memo::{Answer, Engine, Lent, Next, Replies, Rules};
 use std::alloc::{AllocError, Global};
 use std::cell::Cell;
 use std::test::Fail;
@@ -55,11 +56,15 @@ impl Rules for Refusing {
     fn next(
         &self,
         alloc: Global,
-        node: &RowNumber,
+        node: Lent<'_, RowNumber>,
         bytes: &Buffer,
         replies: &Replies<u32, Missing>,
         uses: &mut Vec<Use>,
-    ) -> Result<Next<RowNumber, Reply>, AllocError> {
+    ) -> Result<Next<RowNumber, Reply>, AllocError>
+        ensures step { IfOk result (λ step. step ≡ (rows_meaning self.now.rows.rows.items).follow bytes.now node.entry replies.now) }
+        ensures uses { OnOk result (uses.new.items ≡ uses.old.items ++ (rows_meaning self.now.rows.rows.items).added bytes.now node.entry replies.now) }
+        ensures refused { OnErr result (IsAddedTo uses.old.items uses.new.items) }
+    {
         if is_refused(&self.calls_left) {
             return Err(AllocError);
         }

@@ -4,8 +4,8 @@
 //! Where the values are from: by hand. Link n answers n more than the file's size and keeps n + 1 links. An overwrite of byte 0, which
 //! link 0 reads, takes all of them; one of byte 1, in the same page, takes none; an append changes the size, so it takes all. The
 //! most looks are 8 times what is near: a page, a use that meets it, and of the links that go themselves and their asks.
-ghost use Rattle.std.specs.Prelude.{◌≡◌, ◌<◌, ◌≤◌, ◌^◌, ◌==◌, ◌++◌, length, OnOk, OnErr};
-ghost use Rattle.ksv_memo_rules.specs.Meaning.{on};
+ghost use Rattle.std.specs.Prelude.{◌≡◌, ◌<◌, ◌≤◌, ◌^◌, ◌==◌, ◌++◌, length, IfOk, OnOk, OnErr};
+ghost use Rattle.ksv_memo_rules.specs.Meaning.{IsAddedTo, on};
 ghost use Rattle.ksv_memo_rules.specs.Right.{IsRight};
 ghost use Rattle.ksv_test_engine.specs.Chain.{same_if_equal};
 ghost use Rattle.ksv_test_engine.specs.Tower.{read_by, tower_lawful, tower_meaning};
@@ -16,7 +16,7 @@ use crate::samples::hashed::Hashed;
 use crate::samples::link::Link;
 use crate::samples::row::{Missing, Reply, copied};
 use ksv_bytes::{Buffer, Change, Use};
-use ksv_memo::{Answer, Engine, Next, Replies, Rules};
+use ksv_memo::{Answer, Engine, Lent, Next, Replies, Rules};
 use std::alloc::{AllocError, Global};
 use std::test::Fail;
 
@@ -54,11 +54,16 @@ impl Rules for Tower {
     fn next(
         &self,
         _alloc: Global,
-        node: &Link,
+        node: Lent<'_, Link>,
         bytes: &Buffer,
         replies: &Replies<u32, Missing>,
         uses: &mut Vec<Use>,
-    ) -> Result<Next<Link, Reply>, AllocError> {
+    ) -> Result<Next<Link, Reply>, AllocError>
+        ensures step { IfOk result (λ step. step ≡ (tower_meaning).follow bytes.now node.entry replies.now) }
+        ensures uses { OnOk result (uses.new.items ≡ uses.old.items ++ (tower_meaning).added bytes.now node.entry replies.now) }
+        ensures refused { OnErr result (IsAddedTo uses.old.items uses.new.items) }
+    {
+        let node = node.node();
         let size = bytes.len();
         read(node.number == 0, size, uses)?;
         Ok(linked(*node, size as u32, replies))

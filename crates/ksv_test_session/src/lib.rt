@@ -1,8 +1,9 @@
-//! Tests of what no row of a table reaches: a file of the greatest size, messages, and what sessions
+//! Tests of what no row of a table reaches: a file of the greatest size, messages, devices that fail, and what sessions
 //! keep across random lines, compared with a slow program that evaluates each node from nothing.
 //!
 //! Modules:
 //!
+//! - `devices`: sessions over readers and writers of std that fail once
 //! - `kept`: what a session keeps across random lines
 //! - `messages`: the program's messages, and the words that it takes
 //! - `plain`: a slow program that evaluates each node from nothing
@@ -10,6 +11,8 @@
 //! - `sessions`: a file of the greatest size; a session line by line
 #![tactic(auto)]
 
+#[cfg(test)]
+mod devices;
 #[cfg(test)]
 mod kept;
 #[cfg(test)]

@@ -8,7 +8,7 @@ use std::alloc::{AllocError, Global};
 use std::fmt::Write;
 use std::test::Fail;
 
-static STOPS: [Stop; 9] = [
+static STOPS: [Stop; 10] = [
     Stop::FileUnreadable,
     Stop::FileTooLarge,
     Stop::DescriptionUnreadable,
@@ -28,6 +28,7 @@ static STOPS: [Stop; 9] = [
     Stop::InputFailed,
     Stop::OutputFailed,
     Stop::SaveFailed,
+    Stop::SaveUnsure,
 ];
 
 const MESSAGES: &[u8] = b"ksv: f: cannot read
@@ -39,6 +40,7 @@ ksv: no memory
 ksv: input failed
 ksv: output failed
 ksv: o: cannot write
+ksv: o: perhaps not saved
 ";
 
 /// Adds the message of a stop.
@@ -61,7 +63,7 @@ fn each_stop_has_its_message_and_status(rt: HostRuntime) -> Result<(), Fail> {
         statuses.push_str(if stop.status() == 1 { "1" } else { "-" })?;
     }
     assert!(rt; messages.as_slice() == MESSAGES);
-    assert!(rt; statuses.as_str() == "-1-1-1-1-1-13-3-3-");
+    assert!(rt; statuses.as_str() == "-1-1-1-1-1-13-3-3-3-");
     let mut full = Memory::new(Vec::with_capacity(rt.alloc(), 3)?);
     assert!(rt; say(&Stop::NoMemory, ["f", "k", "o"], &mut full).is_err());
     Ok(())

@@ -2,7 +2,7 @@
 
 use ksv_bytes::{Buffer, Change, Use, touches};
 use ksv_expr_value::{Fault, Value};
-use ksv_memo::{Next, Replies, Rules, Slot};
+use ksv_memo::{Held, Next, Replies, Rules, Slot};
 use ksv_rules::{Described, Given, Node, NodeKind};
 use std::alloc::{AllocError, Global};
 
@@ -49,7 +49,7 @@ impl Evaluation {
     fn next(
         &mut self,
         file: File<'_>,
-        node: &Node,
+        node: &Held<Node>,
     ) -> Result<Option<Next<Node, Reply>>, AllocError> {
         let Some(replies) = Replies::checked(&self.slots, &self.asked) else {
             return Ok(None);
@@ -57,7 +57,7 @@ impl Evaluation {
         let uses = &mut self.uses;
         let next = file
             .rules
-            .next(file.alloc, node, file.bytes, &replies, uses)?;
+            .next(file.alloc, node.lend(), file.bytes, &replies, uses)?;
         Ok(Some(next))
     }
 
@@ -85,8 +85,9 @@ fn evaluate(
         return Ok(None);
     }
     let mut evaluation = Evaluation::new(file.alloc);
+    let held = Held::new(node.copy(file.alloc)?);
     for place in 0..DEPTH {
-        match evaluation.next(file, &node)? {
+        match evaluation.next(file, &held)? {
             None => return Ok(None),
             Some(Next::Done(reply)) => {
                 let asks = place as usize;

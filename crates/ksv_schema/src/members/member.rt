@@ -20,7 +20,7 @@ use crate::keys::texts::{TypeKind, TypeText, byte_at, is_a, own_type};
 use crate::members::enumeration::id_line;
 use crate::values::fault::{Least, note, note_if};
 use crate::values::key::{note_keys, note_missing};
-use crate::values::reader::{FieldKeys, Home, Read, Reader, after, alone, both, home_of};
+use crate::values::reader::{FieldKeys, Home, Read, Reader, after, alone, both, home_of, once};
 use crate::values::rule::{note_at_if, note_together};
 use crate::values::types::{choice, is_declared};
 use crate::values::valid::own_valid;
@@ -377,7 +377,7 @@ fn by_kind(
         }
         MappingKind::Attribute => attribute(reader, home, line, entries),
         MappingKind::ParseInstance => parse_instance(reader, home, line, entries),
-        MappingKind::Value => value_instance(reader, home, line, entries),
+        MappingKind::Value => value_instance(reader, once(home), line, entries),
         MappingKind::Placeless => placeless(reader, home, name_line, entries),
         _ => Ok(Some(MemberKind::Parameter)),
     }

@@ -3,7 +3,7 @@
 ghost use Rattle.std.specs.Prelude.{◌≡◌, map, IfOk};
 ghost use Rattle.ksv_yaml_tree.specs.View.{pair};
 ghost use Rattle.ksv_schema_names.specs.Table.{declared};
-ghost use Rattle.ksv_schema.specs.Values.{home_of, position_at};
+ghost use Rattle.ksv_schema.specs.Values.{home_of, once, position_at};
 ghost use Rattle.ksv_schema.specs.Code.{seen_home, present, paired, both_of, after, kept_if, items_of, Pushes};
 
 use crate::values::fault::Least;
@@ -65,6 +65,18 @@ pub(crate) fn home_of<'a>(
         is_repeated: is_eos
             | says(entries, b"repeat", b"expr")
             | says(entries, b"repeat", b"until"),
+    }
+}
+
+/// The same place, of what isn't repeated.
+pub(crate) fn once<'a>(home: Home<'a>) -> Home<'a>
+    ensures { seen_home result ≡ once (seen_home home.entry) }
+{
+    Home {
+        scopes: home.scopes,
+        within: home.within,
+        in_sequence: home.in_sequence,
+        is_repeated: false,
     }
 }
 

@@ -1,12 +1,13 @@
 //! A chain of nodes, each of which asks the one before it.
 ghost use Rattle.std.specs.Prelude.{◌≡◌, ◌<◌, ◌+◌, ◌-◌, ◌^◌, ◌++◌, min, length, IfOk, OnOk, OnErr};
+ghost use Rattle.ksv_memo_rules.specs.Meaning.{IsAddedTo};
 ghost use Rattle.ksv_test_engine.specs.Chain as spec;
 
 use crate::samples::hashed::Hashed;
 use crate::samples::link::Link;
 use crate::samples::row::{Missing, Reply, copied};
 use ksv_bytes::{Buffer, Use};
-use ksv_memo_rules::{Next, Replies, Rules};
+use ksv_memo_rules::{Lent, Next, Replies, Rules};
 use std::alloc::{AllocError, Global};
 
 /// A chain: link 0 answers the file's size, and each other link one more than the link before it. Each of them
@@ -50,14 +51,18 @@ impl Rules for Chain {
     fn next(
         &self,
         _alloc: Global,
-        node: &Link,
+        node: Lent<'_, Link>,
         bytes: &Buffer,
         replies: &Replies<u32, Missing>,
         uses: &mut Vec<Use>,
-    ) -> Result<Next<Link, Reply>, AllocError> {
+    ) -> Result<Next<Link, Reply>, AllocError>
+        ensures step { IfOk result (λ step. step ≡ (spec.chain_meaning).follow bytes.now node.entry replies.now) }
+        ensures uses { OnOk result (uses.new.items ≡ uses.old.items ++ (spec.chain_meaning).added bytes.now node.entry replies.now) }
+        ensures refused { OnErr result (IsAddedTo uses.old.items uses.new.items) }
+    {
         uses.push(Use::Size)?;
         let size = bytes.len();
-        Ok(linked(*node, size as u32, replies))
+        Ok(linked(*node.node(), size as u32, replies))
     }
 
     fn copy_answer(

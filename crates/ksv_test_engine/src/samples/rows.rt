@@ -2,12 +2,13 @@
 ghost use Rattle.std.specs.Prelude.{◌≡◌, ◌<◌, ◌≤◌, ◌+◌, ◌-◌, ◌^◌, ◌++◌, min, nat_le, length, slice_get, slice_range, IfOk, OnOk, OnErr, IsSome, Some};
 ghost use Rattle.std.specs.Option.{option_copied};
 ghost use Rattle.ksv_bytes.specs.Edits.{file_limit};
+ghost use Rattle.ksv_memo_rules.specs.Meaning.{IsAddedTo};
 ghost use Rattle.ksv_test_engine.specs.Rows as spec;
 
 use crate::samples::hashed::Hashed;
 use crate::samples::row::{Missing, Reply, Row, RowNumber, copied};
 use ksv_bytes::{Buffer, Use, Window};
-use ksv_memo_rules::{Next, Replies, Rules};
+use ksv_memo_rules::{Lent, Next, Replies, Rules};
 use std::alloc::{AllocError, Global};
 
 /// Rows, each asked by its number.
@@ -154,12 +155,16 @@ impl Rules for Rows {
     fn next(
         &self,
         _alloc: Global,
-        node: &RowNumber,
+        node: Lent<'_, RowNumber>,
         bytes: &Buffer,
         replies: &Replies<u32, Missing>,
         uses: &mut Vec<Use>,
-    ) -> Result<Next<RowNumber, Reply>, AllocError> {
-        match row_at(self.rows.as_slice(), node.number as usize) {
+    ) -> Result<Next<RowNumber, Reply>, AllocError>
+        ensures step { IfOk result (λ step. step ≡ (spec.rows_meaning self.now.rows.items).follow bytes.now node.entry replies.now) }
+        ensures uses { OnOk result (uses.new.items ≡ uses.old.items ++ (spec.rows_meaning self.now.rows.items).added bytes.now node.entry replies.now) }
+        ensures refused { OnErr result (IsAddedTo uses.old.items uses.new.items) }
+    {
+        match row_at(self.rows.as_slice(), node.node().number as usize) {
             None => Ok(Next::Done(Err(Missing))),
             Some(row) => row_next(row, bytes, replies, uses),
         }

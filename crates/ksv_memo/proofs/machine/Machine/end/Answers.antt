@@ -1,6 +1,7 @@
 use Rattle.std.proofs.Common.{◌∙◌}
 use Rattle.ksv_memo_rules.specs.Meaning.{on}
 use Rattle.ksv_memo_rules.proofs.Standing.{law_on}
+use Rattle.ksv_memo.specs.Nodes.{nodes}
 use Rattle.ksv_memo.proofs.Turns.{on_err_always}
 use Rattle.ksv_memo.proofs.Taking.{closes_last, closes_left}
 use Rattle.ksv_memo.proofs.machine.Machine.end.Goals as goal
@@ -23,4 +24,4 @@ returns-clause-ok g c =
     let laws = g.met.R.Node.Eq.laws in
     let exact = g.met.R.Rules.exact in
     let old = c.args.self.now.table in
-    closes_last w law eq laws exact old.kept old.opened c.args.answer c.in_ok-reply.reply c.close.new.self c.requires.reached c.in_ok-close.ensures.ok c.requires.alone (c.in_ok-reply.ensures ∙ c.lend.ensures)
+    closes_last w law eq laws exact old.kept old.opened c.args.answer c.in_ok-reply.reply (nodes c.close.new.self) c.requires.reached c.in_ok-close.ensures.ok c.requires.alone (c.in_ok-reply.ensures ∙ c.lend.ensures)

@@ -1,5 +1,5 @@
-use Rattle.std.proofs.Common.{◌∙◌, subst, inl}
-use Rattle.ksv_memo.specs.Nodes.{Replies, nodes_with}
+use Rattle.std.proofs.Common.{◌∙◌, ap, subst, inl}
+use Rattle.ksv_memo.specs.Nodes.{Replies, nodes, nodes_with}
 use Rattle.ksv_memo.proofs.Tabling.{hears, replies}
 use Rattle.ksv_memo.proofs.table.Table.ask.Goals as goal
 
@@ -15,5 +15,5 @@ returns-in_ok-hear-in-Ok-Kept-clause-ok g c =
     let t = c.seek.new in
     let eq = g.R.Node.PartialEq.eq in
     let came = rw c.in-Ok-Kept.field-0-is at c.in-Ok-Kept.ensures.ok in
-    inl (subst (λ v. Replies eq c.args.node v (nodes_with t.slots.entries t.links c.hear.new.self)) (came.1 ∙ c.self.view_is)
+    inl (subst (λ v. Replies eq c.args.node v (nodes_with t.slots.entries t.links c.hear.new.self)) (came.1 ∙ ap nodes c.self.view_is)
     (replies eq t.slots.entries t.links t.frames c.in-Ok-Kept.ensures.laid c.args.node (g.met.R.Node.Eq.laws.refl c.args.node) c.in-Ok-Kept.place came.0 c.hear.new.self c.in_ok-hear-in-Ok-Kept.ensures.ok))

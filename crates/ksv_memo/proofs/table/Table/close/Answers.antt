@@ -3,7 +3,7 @@ use Rattle.std.proofs.lemmas.Option.{slice_get_within}
 use Rattle.ksv_memo_rules.specs.declared.replies.Slot.TheVariants.{Open}
 use Rattle.ksv_memo.specs.Moves.{EndsWith}
 use Rattle.ksv_memo.specs.Layout.{entries_of, opens_of}
-use Rattle.ksv_memo.specs.Nodes.{Closes, MayKeep}
+use Rattle.ksv_memo.specs.Nodes.{Closes, MayKeep, nodes}
 use Rattle.ksv_memo.proofs.Changing.{set_at, set_count}
 use Rattle.ksv_memo.proofs.Topping.{top, closes-laid, closes-last, closes-more, hears-laid, may-keep, no-items, same-frames, unchanged-laid, keep_part, kept_part, keep-asks, keep-out, keep-in}
 use Rattle.ksv_memo.proofs.Turns.{on_err_always}
@@ -60,7 +60,7 @@ returns-then-is_empty-clause-ok g c =
     let set = set_at ps c.set.new.self.entries f.slot f.node Open c.slot_of.result t.there c.set.ensures.slots in
     let count = set_count ps f.slot c.slot_of.result c.set.new.self.entries c.set.ensures.slots in
     let none = no-items c.take_last.new.self.frames.items (ap (λ xs. length xs == 0) (sym c.as_slice-2.ensures.value) ∙ sym c.if-is_empty.ensures) in
-    subst (λ v. Closes c.args.answer v.opened v (record { kept = entries_of c.set.new.self.entries c.keep_once.new.links; opened = opens_of c.set.new.self.entries c.take_last.new.self })) c.self.view_is
+    subst (λ v. Closes c.args.answer v.opened (nodes v) (record { kept = entries_of c.set.new.self.entries c.keep_once.new.links; opened = opens_of c.set.new.self.entries c.take_last.new.self })) c.self.view_is
     (closes-last ps c.self.inside.links c.self.inside.frames c.take_last.new.self f c.self.invariant (c.take_last.ensures f (subst (EndsWith c.in-Some.frame.now) c.as_slice.ensures.value c.in-Some.ensures.some)) t c.set.new.self.entries c.slot_of.result c.args.answer c.slot_of.ensures set count c.keep_once.new.links k.once each k.keeps.in_asked k.keeps.in_uses kept none)
 
 -- the one below gets its answer
@@ -86,7 +86,7 @@ returns-clause-ok g c =
     let kept = kept_part c.self.inside.links c.keep_once.new.links f.slot f.asked c.self.inside.frames.asked.items c.deref-2.result.now k.once k.once c.deref-2.ensures.value refl k.keeps in
     let set = set_at ps c.set.new.self.entries f.slot f.node Open c.slot_of.result t.there c.set.ensures.slots in
     let count = set_count ps f.slot c.slot_of.result c.set.new.self.entries c.set.ensures.slots in
-    subst (λ v. Closes c.args.answer v.opened v (record { kept = entries_of c.set.new.self.entries c.keep_once.new.links; opened = opens_of c.set.new.self.entries c.hear.new.self })) c.self.view_is
+    subst (λ v. Closes c.args.answer v.opened (nodes v) (record { kept = entries_of c.set.new.self.entries c.keep_once.new.links; opened = opens_of c.set.new.self.entries c.hear.new.self })) c.self.view_is
     (closes-more ps c.self.inside.links c.self.inside.frames c.take_last.new.self f c.self.invariant (c.take_last.ensures f (subst (EndsWith c.in-Some.frame.now) c.as_slice.ensures.value c.in-Some.ensures.some)) t c.set.new.self.entries c.slot_of.result c.args.answer c.slot_of.ensures set count c.keep_once.new.links k.once each k.keeps.in_asked k.keeps.in_uses kept c.hear.new.self c.in_ok-hear.ensures.ok)
 
 -- memory is refused once it is kept

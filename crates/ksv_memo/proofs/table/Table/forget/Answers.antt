@@ -1,4 +1,4 @@
-use Rattle.std.proofs.Common.{◌∙◌, ap, sym, subst, refl, arith}
+use Rattle.std.proofs.Common.{◌≤◌, ◌+◌, ◌-◌, max, length, ◌∙◌, ap, sym, subst, refl, arith}
 use Rattle.ksv_memo.specs.declared.frames.Frames.{Frames}
 use Rattle.ksv_memo.specs.Layout.{entries_at, entries_of}
 use Rattle.std.specs.List.{AllByRecursion}
@@ -30,7 +30,7 @@ invariant_of-self g c =
     let none : Frames _ = record { frames = t.frames.frames; asked = c.clear.new.self; uses = t.frames.uses; has_grown = t.frames.has_grown } in
     let e = c.empty_taken.ensures in
     record {
-      kept = swept-links c.args.change ps qs t.links c.forget.new.self c.empty_taken.new.links c.empty_taken.new.slots.looks c.self.invariant.kept c.forget.ensures.forgets e;
+      kept = swept-links c.args.change ps qs t.links c.forget.new.self c.empty_taken.new.links t.slots.looks c.empty_taken.new.slots.looks c.self.invariant.kept c.forget.ensures.forgets e;
       waits = no-frames ps qs e.taken.opens t.frames none c.self.invariant.waits (ap (λ v. v.opened) c.self.view_is ∙ c.requires.opened) refl c.clear.ensures.items;
     }
 
@@ -54,16 +54,18 @@ returns-clause-kept g c =
     let h = c.self.invariant.kept in
     let f = c.forget.ensures.forgets in
     let e = c.empty_taken.ensures in
-    let looked = c.saturating_add.result in
-    let few = gone-least c.args.change ps qs l m n count h f e in
-    let a = c.forget.ensures.least in let fits = c.forget.ensures.fits in
-    let b = e.taken.least in let d = c.looks.ensures.least in let k = c.looks.ensures.count in let s = c.saturating_add.ensures in let u = c.looks-2.ensures in
+    let from = t.slots.looks in
+    let looked = c.max.result in
+    let few = gone-least c.args.change ps qs l m n from count h f e in
+    let w = c.waiting-went.ensures in let x = c.looks_at-before.ensures in let y = c.looks_at-now.ensures in
+    let s = c.saturating_sub.ensures in let u = c.max.ensures in
+    let most : looked ≤ max (n.looks + count - (l.looks + from)) (length m.waits) = omega arith in
     subst (λ v. Sweeps c.args.change c.args.pages v.kept (entries_of qs n) looked) c.self.view_is (record {
-      marks = all_marks c.args.change ps qs l m n count h f e;
-      entries = entries c.args.change ps qs l m n count h f e _;
-      marked = marked c.args.change ps qs l m n count h f e _;
-      stays = ap (λ k. entries_at qs n (numbers_from 0 k)) e.taken.slots ∙ stays c.args.change ps qs l m n count h f e _;
+      marks = all_marks c.args.change ps qs l m n from count h f e;
+      entries = entries c.args.change ps qs l m n from count h f e _;
+      marked = marked c.args.change ps qs l m n from count h f e _;
+      stays = ap (λ k. entries_at qs n (numbers_from 0 k)) e.taken.slots ∙ stays c.args.change ps qs l m n from count h f e _;
       least = omega arith;
-      most = looks-most c.args.change ps qs l m n count h f e c.forget.ensures.vacant c.forget.ensures.most looked (omega arith);
-      behind = looks-behind c.args.change ps qs l m n count h f e c.args.pages c.forget.ensures.vacant c.forget.ensures.behind looked (omega arith);
+      most = looks-most c.args.change ps qs l m n from count h f e c.forget.ensures.vacant c.forget.ensures.most looked most;
+      behind = looks-behind c.args.change ps qs l m n from count h f e c.args.pages c.forget.ensures.vacant c.forget.ensures.behind looked most;
     })

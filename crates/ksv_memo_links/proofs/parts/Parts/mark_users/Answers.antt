@@ -15,7 +15,7 @@ loop-user-init c =
     let h = c.first_item-at.ensures in
     let start = starts p.asks.lists p.asks.named c.args.slot c.linked.ensures c.first_item-at.result h.result in
     record {
-      users = subst (λ n. HitsUsers p p1 c.args.slot n 1) (sym start.1) (users-first p p1 c.args.slot (peek-asks p p1.asks h.named h.lists h.looks h.grows));
+      users = subst (λ n. HitsUsers p p1 c.args.slot n 1) (sym start.1) (users-first p p1 c.args.slot (peek-asks p p1.asks h.named h.lists (let l = h.looks in omega arith) h.grows));
       at = start.0;
     }
 
@@ -35,7 +35,7 @@ loop-user-preserved c =
       least = c.mark.ensures.least;
       rises = let l = c.mark.ensures.grows in omega arith;
     } in
-    let k = peek-asks q q1.asks h.named h.lists c.in-Some.ensures.looks h.grows in
+    let k = peek-asks q q1.asks h.named h.lists (let l = c.in-Some.ensures.looks in omega arith) h.grows in
     record {
       users = subst (λ n. HitsUsers p r c.args.slot n 1) (sym step.seen) (users-more p q q1 r c.args.slot (seen_to (row p.asks.lists c.args.slot) c.loop-user.at) c.in-Some.user.owner i.users k c.linked.ensures step.inside step.owner one (let l = c.mark.ensures.looks in omega arith));
       at = step.stands;

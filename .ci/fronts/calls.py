@@ -1,0 +1,91 @@
+"""The shell is killed at each of its system calls that change a file, below each of some lines."""
+import random
+import signal
+import struct
+import subprocess
+from dataclasses import dataclass
+from typing import List, Tuple
+
+from fronts.breaks import Journey, Kind, Wrong
+from fronts.model import KSY, State
+from fronts.room import HERE, Piped, Silent, Tree, room_of
+
+CONTENT = random.Random(65).randbytes(3000)
+LINES = ["set 5 0102", "ins 0 aabb", "undo", "redo", "put /a 7", "save OUT", "save FILE", "del 3 100"]
+# Where killed.c has its plan in the control file; the ways of a call; and how many calls are below a line at most.
+OFFSET, WAYS, MOST = 2048, (2049, 2050, 2051), 30
+KIND = Kind("killed at a system call", signal.SIGKILL, Piped, -signal.SIGKILL)
+
+
+def arm(journey: Journey, number: int, way: int) -> None:
+    """Lets the shell be killed at its n-th call from now on; at none for 0."""
+    journey.room.control.map[OFFSET : OFFSET + 16] = struct.pack("=4I", bool(number), 0, number, way)
+
+
+def is_met(journey: Journey) -> bool:
+    """Whether the call came."""
+    count, at = struct.unpack("=2I", journey.room.control.map[OFFSET + 4 : OFFSET + 12])
+    return count >= at
+
+
+def trial(journey: Journey, line: str, number: int, way: int) -> bool:
+    """A shell that is killed below a line, and the one after it; whether the call came."""
+    journey.plainly("size")
+    before, after, wanted = journey.state, *journey.state.after(line)
+    name = line.split(" ")[1] if line.startswith("save") else ""
+    old = journey.room.read(name) if name else None
+    arm(journey, number, way)
+    told = journey.shell.ask(line)
+    if journey.is_changed and told.startswith("FILE isn't as it was"):
+        told, journey.is_changed = journey.shell.ask(line), False
+    is_there = is_met(journey)
+    arm(journey, 0, 0)
+    if (journey.shell.status is not None) != is_there or journey.shell.status not in (None, -signal.SIGKILL):
+        raise Wrong(f"{line}, call {number}: the shell ended with status {journey.shell.status}")
+    if name and journey.room.read(name) not in (old, after.content):
+        raise Wrong(f"{line}, call {number}: {name} is neither old nor new")
+    journey.same([after] if told == wanted else [before, after], f"{line}, killed at call {number}, way {way - OFFSET}")
+    return is_there
+
+
+def through(journey: Journey, line: str, is_first: bool) -> int:
+    """Kills the shell at each call below a line, or below the first edit of a session; how many there were."""
+    for number in range(1, MOST):
+        if not is_first:
+            journey.plainly(f"set 7 {journey.source.randbytes(3).hex()}")
+        if line == "redo":
+            journey.plainly("undo")
+        if not trial(journey, line, number, journey.way):
+            return number - 1
+        if is_first and journey.state.greatest:
+            journey.plainly("save FILE")
+            journey.shell.close()
+            journey.state = State(journey.state.content)
+            journey.begin()
+    raise Wrong(f"{line}: there is no end of its calls")
+
+
+@dataclass
+class Killed(Journey):
+    """A journey whose shell is killed in one way."""
+
+    way: int = 0
+
+
+def run(tree: Tree, way: int) -> Tuple[int, List[str]]:
+    """Kills the shell in one way at each call of each line: how many there were, and what is wrong."""
+    made: List[int] = []
+    with room_of(tree, {"FILE": CONTENT, "KSY": KSY}) as room:
+        library = room.path("killed.so")
+        subprocess.run(["cc", "-O2", "-shared", "-fPIC", "-o", library, f"{HERE}/killed.c", "-ldl"], check=True)
+        room.environ["LD_PRELOAD"] = library
+        journey = Killed(room, KIND, random.Random(way), state=State(CONTENT), way=way)
+        try:
+            journey.begin()
+            made += [through(journey, line, count == 0) for count, line in enumerate(LINES)]
+        except (Wrong, Silent) as error:
+            return sum(made), [str(error)]
+        finally:
+            if journey.shell:
+                journey.shell.close()
+    return sum(made), [] if all(made) else [f"calls below the lines: {made}"]

@@ -1,0 +1,20 @@
+use Rattle.std.proofs.Common.{◌≡◌, ◌-◌, ◌++◌, length, take, drop, subst, refl, IfOk, OnOk}
+use Rattle.ksv_memo_rules.specs.Meaning.{on}
+use Rattle.ksv_memo_rules.specs.Slots.{answers_at}
+use Rattle.ksv_memo.specs.Layout.{slots_of}
+use Rattle.ksv_memo.specs.Moves.{EndsWith}
+use Rattle.ksv_memo.proofs.Topping.{runs}
+use Rattle.ksv_memo.proofs.table.run_last.Goals as goal
+
+-- the last open node was run
+pub returns-clause-step : goal.returns-clause-step
+returns-clause-step g c =
+    let ps = c.args.slots.now.entries in
+    let frames = c.args.frames.now in
+    let f = c.in-Some.frame.now in
+    let w = on (g.R.Rules.meaning c.args.rules.now) c.args.bytes.now in
+    let ends = subst (EndsWith f) c.as_slice.ensures.value c.in-Some.ensures.some in
+    let rs = answers_at (slots_of ps) (take (length c.deref.result.now - f.asked) (drop f.asked c.deref.result.now)) in
+    let step = subst (λ n. IfOk c.call.result (λ s. s ≡ w.follow n rs)) c.lend-node.ensures.node c.call.ensures.step in
+    let uses = subst (λ n. OnOk c.call.result (c.call.new.uses.items ≡ frames.uses.items ++ w.added n rs)) c.lend-node.ensures.node c.call.ensures.uses in
+    runs ps w frames _ f ends (slots_of ps) c.deref.result.now rs refl c.deref.ensures.value refl c.call.result step uses

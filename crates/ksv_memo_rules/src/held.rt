@@ -1,0 +1,56 @@
+//! Nodes that are run: one that is held is lent for one call of the rules at a time.
+ghost use Rattle.std.specs.Prelude.{◌≡◌};
+
+use std::marker::Model;
+
+/// A node that is held until it has been run. It is lent, and never given back: who holds it can do nothing else with it.
+#[derive(Drop)]
+pub struct Held<N> {
+    node: N,
+}
+
+impl<N> Model for Held<N> {
+    ghost Value = { N };
+
+    ghost view = { λ held. held.node };
+}
+
+impl<N> Held<N> {
+    /// Holds a node.
+    #[inline(always)]
+    pub fn new(node: N) -> Self
+        ensures { result ≡ node }
+    {
+        Held { node }
+    }
+
+    /// Lends the node for one call.
+    #[inline(always)]
+    pub fn lend(&self) -> Lent<'_, N>
+        ensures { result ≡ self.now }
+    {
+        Lent { node: &self.node }
+    }
+}
+
+/// A node that is lent for one call of the rules, which takes it. It can't be copied, and only who holds a node makes one.
+#[derive(Drop)]
+pub struct Lent<'a, N> {
+    node: &'a N,
+}
+
+impl<'a, N> Model for Lent<'a, N> {
+    ghost Value = { N };
+
+    ghost view = { λ lent. lent.node.now };
+}
+
+impl<'a, N> Lent<'a, N> {
+    /// The node, for the rules that are called.
+    #[inline(always)]
+    pub fn node(self) -> &'a N
+        ensures { result.now ≡ self.entry }
+    {
+        self.node
+    }
+}

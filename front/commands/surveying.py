@@ -1,0 +1,47 @@
+"""Commands that look over all that is below a path, and at another file beside this one."""
+from typing import TYPE_CHECKING, List
+
+from front.commands.writing import file_name, read_file
+from front.copies import Copy
+from front.look import MOST_ASKED, Explorer, Spent
+from front.session import Session
+from front.survey import cover, differences, faults
+from front.words import Word
+
+if TYPE_CHECKING:
+    from front.shell import Shell
+
+
+def show_faults(shell: "Shell", word: str, words: List[Word]) -> None:
+    """All faults below a path."""
+    if len(words) > 1:
+        shell.usage(word)
+    else:
+        shell.output.show(faults(shell.explorer(), shell.path(words[0].text if words else ".")))
+
+
+def show_cover(shell: "Shell", word: str, words: List[Word]) -> None:
+    """The bytes that no member has, and those that two have."""
+    if words:
+        shell.usage(word)
+    else:
+        shell.output.show(cover(shell.explorer(), shell.keeper.session.size()))
+
+
+def show_differences(shell: "Shell", word: str, words: List[Word]) -> None:
+    """What differs in another file, by the same description."""
+    if not 1 <= len(words) <= 2:
+        shell.usage(word)
+        return
+    session, found = shell.keeper.session, []
+    with Copy(read_file(file_name(words[0]))) as copy:
+        other = Session(session.program, copy, session.ksy, lambda: (), shell.signals, shell.output.tell)
+        try:
+            ours, theirs = shell.explorer(), Explorer(other, MOST_ASKED)
+            for it in differences(ours, theirs, shell.path(words[1].text if len(words) > 1 else ".")):
+                found.append(it)
+        except Spent:
+            found.append(f"  (there may be more: {MOST_ASKED} questions were asked)")
+        finally:
+            other.end()
+    shell.output.show(found or ["no differences"])

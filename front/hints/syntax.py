@@ -1,0 +1,169 @@
+"""Hints on expressions that can't be read (S10)."""
+from __future__ import annotations
+
+import re
+from typing import Iterator, List, Optional
+
+from front.hints import formulas, parser, tokens
+from front.hints.formulas import Formula
+from front.hints.kinds import Hint, say
+from front.hints.places import Places
+from front.hints.values import snake
+
+TOLD = re.compile(r"expression: (X\d+) .* at (\d{1,9})\Z")
+COMPARISONS = ("<", "<=", ">", ">=", "==", "!=")
+# Words that other languages have for operators.
+OPERATORS = {"is": "==", "eq": "==", "ne": "!=", "lt": "<", "gt": ">", "le": "<=", "ge": ">=", "div": "/", "mod": "%", "xor": "^", "shl": "<<", "shr": ">>",
+             "AND": "and", "OR": "or", "NOT": "not", "True": "true", "False": "false", "TRUE": "true", "FALSE": "false", "in": "a == 1 or a == 2"}
+WORD = re.compile(r"[A-Za-z0-9_]+")
+ESCAPED = re.compile(r"\\(?![\\\"'abtnvfre])")
+
+
+def bad(places: Places, told: str) -> Hint:
+    """What to say of an expression, by what the program tells of it: a code and a place."""
+    found = TOLD.match(told)
+    code, place = (found[1], int(found[2])) if found else ("", 0)
+    by_code = {"X1": unexpected, "X2": ended, "X3": left_out}
+    if code not in by_code:
+        return say({"X4": "number", "X5": "long", "X6": "memory"}.get(code, "left out form"))
+    hints = [by_code[code](it, at) for it in candidates(places) if (at := refused_at(it, code, place)) >= 0]
+    general = {"X1": say("unclear character", place=place), "X2": say("early end"), "X3": say("left out form")}
+    return hints[0] if hints else general[code]
+
+
+def candidates(places: Places) -> Iterator[Formula]:
+    """The expressions and types of the line."""
+    yield from formulas.of(places)
+    yield from formulas.types(places)
+
+
+def refused_at(formula: Formula, code: str, place: int) -> int:
+    """Where an expression is refused, in characters, if by this code and at this place, which is in bytes; -1 else."""
+    found = parser.refused(formula.text, formula.key == "type")
+    is_it = found is not None and found.code == code and len(formula.text[: found.at].encode(errors="replace")) == place
+    return found.at if found and is_it else -1
+
+
+def unexpected(formula: Formula, at: int) -> Hint:
+    """What to say of a character that can't come where it is (X1)."""
+    text = formula.text
+    if re.fullmatch(r"[A-Za-z][\w-]{0,60}", text) and (formula.node.mark or formula.key == "valid") and formula.key not in ("case", "type"):
+        return say("text name", text=text)
+    rest, before = text[at:], text[:at].rstrip()
+    pair = text[max(0, at - 1) : at + 1]
+    if pair in ("&&", "||") or rest[:1] == "!" and rest[:2] != "!=":
+        return say("operator")
+    if rest[:2] in ("=<", "=>"):
+        return say("word", word=rest[:2], near=rest[1] + "=")
+    if rest[:1] == "=" and text[max(0, at - 1) : at] != "!":
+        return say("equals")
+    if pair in ("**", "//"):
+        return say("power" if pair == "**" else "division")
+    found = WORD.match(text, at)
+    return of_word(formula, at, found[0]) if found else of_sign(formula, at, before)
+
+
+def of_word(formula: Formula, at: int, word: str) -> Hint:
+    """What to say of a word or number that can't come where it is."""
+    text = formula.text
+    begin = at
+    while begin and WORD.match(text[begin - 1]):
+        begin -= 1
+    whole = WORD.match(text, begin)[0]
+    number = re.fullmatch(r"0([XBOo])([0-9a-fA-F]+)", whole)
+    if number:
+        base = {"X": 16, "B": 2}.get(number[1], 8)
+        digits = number[2] if all(it in "0123456789abcdef"[:base] for it in number[2].lower()) else ""
+        return say("number prefix", near=f"0{number[1].lower()}{digits}" if base != 8 else str(int(digits, 8)) if digits else "0x..")
+    if whole in OPERATORS and (begin or whole[0].isupper()):
+        near = OPERATORS[whole]
+        return say("capital", name=near) if whole[0].isupper() else say("word", word=whole, near=near)
+    if word == "not" and begin:
+        return say("not inside")
+    if re.search(r"[A-Z]", word):
+        name = snake(whole)
+        return say("capital", name=name) if name else say("capital")
+    is_value = before_is_value(text[:at])
+    return say("two values", word=word) if begin == at and is_value and word not in ("and", "or") else say("character", sign=word, place=at)
+
+
+def before_is_value(front: str) -> bool:
+    """Whether an expression's front ends with a value."""
+    found = tokens.read(front)
+    return bool(found) and (found[-1].kind in ("number", "text") or found[-1].text in (")", "]") or found[-1].kind == "name" and found[-1].text not in ("and", "or", "not"))
+
+
+def of_sign(formula: Formula, at: int, before: str) -> Hint:
+    """What to say of a sign that can't come where it is."""
+    text = formula.text
+    sign = next((it.text for it in tokens.read(text) if it.at == at), text[at : at + 1])
+    if sign in COMPARISONS and before_is_value(before) and any(it.text in COMPARISONS for it in tokens.read(before)):
+        return say("one comparison")
+    if sign in (")", "]"):
+        opening = {")": "(", "]": "["}[sign]
+        if before.count(opening) <= before.count(sign):
+            return say("closing", sign=sign)
+    if sign == ":":
+        named = re.search(r"([a-z_][a-z0-9_]*)\Z", text[:at])
+        after = re.match(r":([a-z_][a-z0-9_]*)", text[at:])
+        return say("enum colon", near=f"{named[1]}::{after[1]}") if named and after and "?" not in before else say("lone colon")
+    if sign[:1] in ("'", '"') and before_is_value(before):
+        return say("two values", word=sign)
+    named = re.search(r"(?<![.\w])([a-z_][a-z0-9_]{0,60})\Z", before)
+    if sign == "(" and named and formula.key != "type":
+        return say("call", name=named[1])
+    return say("character", sign=sign, place=at)
+
+
+def ended(formula: Formula, at: int) -> Hint:
+    """What to say of an expression that ends too early (X2)."""
+    text, owner = formula.text, formula.place
+    if not text.strip():
+        return say("no expression", key=formula.written)
+    if is_cut(formula):
+        return say("comment")
+    quote = unclosed(text)
+    if quote:
+        return say("open quote", sign=quote)
+    opened: List[str] = []
+    for it in tokens.read(text):
+        if it.text in ("(", "["):
+            opened.append(it.text)
+        elif it.text in (")", "]") and opened:
+            opened.pop()
+    last = (tokens.read(text) or [tokens.Token("", "", 0)])[-1]
+    if last.kind == "sign" and last.text not in (")", "]") or last.text in ("and", "or", "not"):
+        return say("ended", sign=last.text)
+    return say("open bracket", sign=opened[-1]) if opened and owner else say("early end")
+
+
+def unclosed(text: str) -> str:
+    """The quote that opens a text which isn't closed; the empty text where there is none."""
+    found = next((it for it in tokens.read(text) if it.kind == "other" and it.text in "'\""), None)
+    return found.text if found else ""
+
+
+def is_cut(formula: Formula) -> bool:
+    """Whether a comment follows a plain expression on its line."""
+    node = formula.node
+    if node.mark or formula.key == "case":
+        return False
+    source = formula.source
+    stop = source.find("\n", node.at)
+    return re.search(r"[ \t]#", source[node.at : len(source) if stop < 0 else stop]) is not None
+
+
+def left_out(formula: Formula, at: int) -> Hint:
+    """What to say of a form that isn't read (X3)."""
+    rest = formula.text[at:]
+    if re.match(r"0[0-9_]*[0-9](?![0-9_]*(?:\.[0-9]|[eE]))", rest) and not re.match(r"0(?:\.|[eE])", rest):
+        return say("zero")
+    if re.match(r"[0-9][0-9_]*(?:\.[0-9]|[eE][+-]?[0-9])", rest):
+        return say("fraction", text=formula.text) if formula.node.mark and re.fullmatch(r"[0-9.]+", formula.text) else say("fraction")
+    if rest.startswith("["):
+        return say("array")
+    if rest.startswith(("sizeof", "bitsizeof")):
+        return say("size of type")
+    if rest.startswith('f"'):
+        return say("filled text")
+    return say("escape") if rest.startswith('"') and ESCAPED.search(rest) else say("left out form")

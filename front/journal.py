@@ -1,0 +1,259 @@
+"""Accepted edits on the disk, before the prompt comes back: what is left of a session that ended with edits that aren't saved.
+
+A journal is a file of the person's own (mode 0600) in `$XDG_STATE_HOME/ksv`, or `~/.local/state/ksv`. It begins with a line about the edited file and
+the file's bytes as they were opened. After that comes a record for each edit, `undo`, `redo` and save. Each line begins with a sum of the rest, so that
+one that was broken off is known. The session that writes it holds a lock on it.
+"""
+import errno
+import fcntl
+import glob
+import hashlib
+import json
+import os
+import secrets
+import time
+import zlib
+from dataclasses import dataclass
+from typing import Iterator, List, Optional, Tuple
+
+from front.edits import Edit, Edits
+
+# How many journals of one file are kept of sessions that ended.
+KEPT = 8
+
+
+class NoJournal(Exception):
+    """A journal that can't be read or taken up; why."""
+
+
+def folder(environ: Optional[dict] = None) -> str:
+    """The folder of journals and of the history, which is made where it isn't there."""
+    env = os.environ if environ is None else environ
+    state = env.get("XDG_STATE_HOME", "")
+    found = os.path.join(state if state.startswith("/") else os.path.join(os.path.expanduser("~"), ".local", "state"), "ksv")
+    if not found.startswith("/"):
+        raise OSError(errno.ENOENT, "there is no home folder")
+    os.makedirs(found, mode=0o700, exist_ok=True)
+    return found
+
+
+def key_of(file: str) -> str:
+    """What the names of a file's journals begin with."""
+    return hashlib.sha256(os.path.realpath(file).encode(errors="surrogateescape")).hexdigest()[:16]
+
+
+def line_of(event: dict) -> bytes:
+    """A record as a line."""
+    text = json.dumps(event).encode()
+    return b"%08x %s\n" % (zlib.crc32(text), text)
+
+
+def event_of(line: bytes) -> Optional[dict]:
+    """The record of a line; None where the line is broken."""
+    if not line.endswith(b"\n") or line[8:9] != b" " or line[:8] != b"%08x" % zlib.crc32(line[9:-1]):
+        return None
+    return json.loads(line[9:-1])
+
+
+def made(edit: Edit, version: int) -> dict:
+    """The record of an edit, and of the number of the state after it."""
+    return {"made": edit.line, "effect": edit.effect, "version": version}
+
+
+def after(edits: Edits, event: dict) -> Edits:
+    """The edits after one more record."""
+    if "made" in event:
+        return edits.made(Edit(event["made"], tuple(event["effect"])), event["version"])
+    if "saved" in event:
+        return edits.marked_saved(event["saved"])
+    return edits.taken_back() if event.get("step") == "undo" else edits.again()
+
+
+def events_of(edits: Edits) -> Iterator[dict]:
+    """Records that lead to the same edits that hold and the same state that is saved, with none taken back."""
+    for it in edits.holding():
+        yield made(it.edit, it.version)
+    yield {"saved": edits.saved}
+
+
+@dataclass(frozen=True)
+class Left:
+    """What is told of a journal: the sum of the file as it was opened, how many edits hold, whether they are saved, when the last one was made, and whether
+    its session goes on."""
+
+    path: str
+    sum: str
+    count: int
+    is_saved: bool
+    time: float
+    is_open: bool = False
+
+
+@dataclass(frozen=True)
+class Held:
+    """All that a journal holds: the bytes of the file as it was opened, the edits, and the length of what isn't broken."""
+
+    sum: str
+    origin: bytes
+    edits: Edits
+    length: int
+
+
+class Journal:
+    """The journal of a session. Records that can't be written now are written with the next one."""
+
+    def __init__(self, path: str, number: int, length: int) -> None:
+        self.path, self._number, self._length = path, number, length
+        self._waiting: List[bytes] = []
+
+    @classmethod
+    def begun(cls, file: str, origin: bytes) -> "Journal":
+        """A new journal of a file; where that fails, nothing is left of it."""
+        where = folder()
+        path = os.path.join(where, f"{key_of(file)}-{secrets.token_hex(8)}.journal")
+        head = {"ksv-journal": 1, "file": os.path.realpath(file), "size": len(origin), "sum": sum_of(origin)}
+        number = os.open(f"{path}.new", os.O_RDWR | os.O_CREAT | os.O_EXCL | os.O_CLOEXEC | os.O_NOFOLLOW, 0o600)
+        journal = cls(path, number, 0)
+        try:
+            fcntl.flock(number, fcntl.LOCK_EX | fcntl.LOCK_NB)
+            journal._write(line_of(head) + origin)
+            os.rename(f"{path}.new", path)
+            synced(where)
+        except BaseException:
+            os.close(number)
+            for it in (f"{path}.new", path):
+                removed(it)
+            raise
+        return journal
+
+    @classmethod
+    def taken_up(cls, left: Left) -> Tuple["Journal", Held]:
+        """The journal of a session that ended, which goes on as this one's, and what it holds."""
+        number = os.open(left.path, os.O_RDWR | os.O_CLOEXEC | os.O_NOFOLLOW)
+        try:
+            fcntl.flock(number, fcntl.LOCK_EX | fcntl.LOCK_NB)
+            held = parsed(number, left.path)
+            os.ftruncate(number, held.length)
+        except BaseException:
+            os.close(number)
+            raise
+        return cls(left.path, number, held.length), held
+
+    def note(self, event: dict) -> None:
+        """Writes a record, and all that wait."""
+        self._waiting.append(line_of(event))
+        self._write(b"".join(self._waiting))
+        self._waiting.clear()
+
+    def _write(self, content: bytes) -> None:
+        """Adds bytes at the end, down to the disk; where that fails, none of them."""
+        try:
+            rest, at = memoryview(content), self._length
+            while rest:
+                count = os.pwrite(self._number, rest, at)
+                rest, at = rest[count:], at + count
+            os.fsync(self._number)
+        except OSError:
+            os.ftruncate(self._number, self._length)
+            raise
+        self._length = at
+
+    def close(self, is_kept: bool) -> None:
+        """Ends the journal; where nothing of it is wanted any more, it is removed."""
+        if not is_kept:
+            removed(self.path)
+        os.close(self._number)
+
+
+def synced(where: str) -> None:
+    """Sees that the names in a folder are on the disk."""
+    number = os.open(where, os.O_RDONLY | os.O_DIRECTORY | os.O_CLOEXEC)
+    try:
+        os.fsync(number)
+    finally:
+        os.close(number)
+
+
+def removed(path: str) -> None:
+    """Removes a file, if it is there."""
+    try:
+        os.remove(path)
+    except FileNotFoundError:
+        pass
+
+
+def parsed(number: int, path: str) -> Held:
+    """What a journal holds."""
+    with os.fdopen(os.dup(number), "rb") as file:
+        file.seek(0)
+        first = file.readline()
+        head = event_of(first)
+        origin = file.read(head["size"]) if head else b""
+        if not head or sum_of(origin) != head["sum"]:
+            raise NoJournal(f"{path}: the journal is broken")
+        edits, length = Edits(), len(first) + len(origin)
+        for line in file:
+            event = event_of(line)
+            if event is None:
+                break
+            edits, length = after(edits, event), length + len(line)
+        return Held(head["sum"], origin, edits, length)
+
+
+def left_of(path: str) -> Left:
+    """What is told of a journal, which a session may still write."""
+    number = os.open(path, os.O_RDONLY | os.O_CLOEXEC | os.O_NOFOLLOW)
+    try:
+        held, is_open = parsed(number, path), False
+        try:
+            fcntl.flock(number, fcntl.LOCK_SH | fcntl.LOCK_NB)
+        except BlockingIOError:
+            is_open = True
+        return Left(path, held.sum, len(held.edits.holding()), held.edits.is_saved(), os.fstat(number).st_mtime, is_open)
+    finally:
+        os.close(number)
+
+
+def found(file: str) -> List[Left]:
+    """What other sessions over a file left, the newest first. A journal without an edit that isn't saved is removed where its session ended, and so are
+    the oldest ones over a number."""
+    lefts = []
+    for path in glob.glob(os.path.join(glob.escape(folder()), f"{key_of(file)}-*.journal")):
+        try:
+            lefts.append(left_of(path))
+        except (NoJournal, OSError):
+            continue
+    lefts.sort(key=lambda it: -it.time)
+    wanted = [it for it in lefts if not it.is_saved]
+    kept = [it for it in wanted if not it.is_open][:KEPT]
+    for it in lefts:
+        if not it.is_open and it not in kept:
+            removed(it.path)
+    swept(file)
+    return [it for it in wanted if it.is_open or it in kept]
+
+
+def swept(file: str) -> None:
+    """Removes what is left of journals whose session ended while it began them: no edit of theirs was accepted."""
+    for path in glob.glob(os.path.join(glob.escape(folder()), f"{key_of(file)}-*.new")):
+        try:
+            number = os.open(path, os.O_RDONLY | os.O_CLOEXEC | os.O_NOFOLLOW)
+        except OSError:
+            continue
+        try:
+            fcntl.flock(number, fcntl.LOCK_EX | fcntl.LOCK_NB)
+            removed(path)
+        except BlockingIOError:
+            pass
+        finally:
+            os.close(number)
+
+
+def sum_of(content: bytes) -> str:
+    """The sum by which the bytes of a file are known."""
+    return hashlib.sha256(content).hexdigest()
+
+
+def when(seconds: float) -> str:
+    """A time as a person reads it."""
+    return time.strftime("%Y-%m-%d %H:%M", time.localtime(seconds))

@@ -1,0 +1,49 @@
+"""Where the values of members that are lost are used: in what is read, and in what is calculated."""
+from __future__ import annotations
+
+from typing import Dict, Iterable, List, NamedTuple, Set, Tuple
+
+from front.hints import tokens
+from front.mend.whole import Body, Expression, Whole, expressions
+
+# A member: the type that has it, and its name.
+Key = Tuple[Body, str]
+
+
+class Uses(NamedTuple):
+    """The expressions that decide what is read, and those that are calculated."""
+
+    deciding: List[Expression]
+    calculated: List[Expression]
+
+
+def uses(whole: Whole, lost: Iterable[Key]) -> Uses:
+    """The expressions that may use members, by themselves or by what is calculated from them; a name after a point is taken for each member of that name."""
+    by_name: Dict[str, List[Tuple[Expression, bool]]] = {}
+    for field in whole.fields:
+        for one in expressions(field):
+            for it in tokens.names(one.text):
+                if it.kind in ("member", "point", "call") and it.names:
+                    by_name.setdefault(it.names[0], []).append((one, it.kind == "member"))
+    seen: Set[Key] = set(lost)
+    rest, found, deciding, calculated = list(seen), set(), [], []
+    while rest:
+        body, name = rest.pop()
+        for one, is_bare in by_name.get(name, []):
+            if is_bare and one.field.body is not body or id(one.node) in found and one.key != "argument":
+                continue
+            found.add(id(one.node))
+            if one.key != "value":
+                deciding.append(one)
+                continue
+            calculated.append(one)
+            key = (one.field.body, one.field.name)
+            if key not in seen:
+                seen.add(key)
+                rest.append(key)
+    return Uses(deciding, sorted(calculated, key=lambda it: it.node.at))
+
+
+def told(whole: Whole, used: Uses, how: str) -> Tuple[str, ...]:
+    """What is lost of what is calculated."""
+    return tuple(f"line {whole.line(it.node.at)}: `{it.field.name}` {how}" for it in used.calculated)

@@ -1,0 +1,207 @@
+"""The view on a terminal, by curses: keys from it, rows of cells to it. Nothing is decided here."""
+import curses
+import os
+import select
+import signal
+import time
+from typing import Dict, List, Optional, Tuple
+
+from front.signals import Ending, Interrupted, Signals
+from front.view.cells import Row, Span, fitted, plain
+from front.view.desk import Desk
+from front.view.draw import Screen
+
+# How long a question may take until a sign is given, and after how many empty readings the terminal is taken to be gone.
+PATIENCE, EMPTY = 0.05, 5
+NAMES: Dict[int, str] = {
+    curses.KEY_UP: "up", curses.KEY_DOWN: "down", curses.KEY_LEFT: "left", curses.KEY_RIGHT: "right", curses.KEY_PPAGE: "pgup", curses.KEY_NPAGE: "pgdn",
+    curses.KEY_HOME: "home", curses.KEY_END: "end", curses.KEY_DC: "delete", curses.KEY_IC: "insert", curses.KEY_BACKSPACE: "backspace",
+    curses.KEY_ENTER: "enter", curses.KEY_BTAB: "tab", curses.KEY_RESIZE: "resize",
+}
+LETTERS: Dict[str, str] = {
+    "\t": "tab", "\n": "enter", "\r": "enter", "\x1b": "escape", "\x7f": "backspace", "\b": "backspace", "\x12": "ctrl-r", "\x0c": "ctrl-l", "\x15": "ctrl-u",
+    "\x04": "ctrl-d", "\x03": "interrupt",
+}
+# What each word of a style is, without colours and with them.
+ATTRIBUTES = {
+    "chosen": curses.A_REVERSE, "mate": curses.A_BOLD, "cursor": curses.A_REVERSE | curses.A_BOLD, "marked": curses.A_BOLD, "found": curses.A_REVERSE,
+    "bar": curses.A_REVERSE, "key": curses.A_BOLD, "fault": curses.A_BOLD, "changed": curses.A_UNDERLINE, "written": curses.A_UNDERLINE,
+    "message": curses.A_BOLD, "offered": curses.A_REVERSE, "dim": curses.A_DIM,
+}
+COLOURS = {"fault": curses.COLOR_RED, "changed": curses.COLOR_GREEN, "written": curses.COLOR_GREEN, "marked": curses.COLOR_CYAN, "found": curses.COLOR_YELLOW,
+           "note": curses.COLOR_YELLOW, "name": -1}
+
+
+class NoTerminal(Exception):
+    """A terminal that can't be used, and why."""
+
+
+class Terminal:
+    """The screen of a terminal, for as long as it is the view's."""
+
+    def __init__(self, signals: Signals) -> None:
+        self.signals, self.desk = signals, None  # type: Signals, Optional[Desk]
+        self.began, self.last, self.empty = time.monotonic(), 0.0, 0
+        self.colours: Dict[str, int] = {}
+
+    def __enter__(self) -> "Terminal":
+        if hasattr(curses, "set_escdelay"):
+            curses.set_escdelay(25)
+        try:
+            curses.setupterm()
+            if not curses.tigetstr("cup"):
+                raise NoTerminal("its cursor can't be moved")
+            self.window = curses.initscr()
+        except curses.error as error:
+            raise NoTerminal(str(error)) from error
+        try:
+            curses.noecho()
+            curses.cbreak()
+            self.window.keypad(True)
+            self.window.nodelay(True)
+            self.begin_colours()
+            signal.signal(signal.SIGWINCH, lambda *_: None)
+            self.signals.patience, self.signals.sign = PATIENCE, self.sign
+        except BaseException:
+            self.give_back()
+            raise
+        return self
+
+    def __exit__(self, *_: object) -> None:
+        self.signals.patience, self.signals.sign = None, lambda: None
+        signal.signal(signal.SIGWINCH, signal.SIG_DFL)
+        self.give_back()
+
+    @staticmethod
+    def give_back() -> None:
+        """Leaves the terminal as it was; one that is gone needs nothing."""
+        try:
+            curses.endwin()
+        except curses.error:
+            pass
+
+    def begin_colours(self) -> None:
+        """Makes the colours, where there are some and they are wanted."""
+        if os.environ.get("NO_COLOR") or not self.has_colours():
+            return
+        curses.use_default_colors()
+        for number, (name, colour) in enumerate(COLOURS.items(), 1):
+            if colour >= 0:
+                curses.init_pair(number, colour, -1)
+                self.colours[name] = curses.color_pair(number)
+
+    @staticmethod
+    def has_colours() -> bool:
+        """Whether the terminal has colours."""
+        try:
+            curses.start_color()
+        except curses.error:
+            return False
+        return curses.has_colors()
+
+    def size(self) -> Tuple[int, int]:
+        """How many rows and columns the terminal has now."""
+        try:
+            found = os.get_terminal_size(1)
+        except OSError as error:
+            raise Ending(signal.SIGHUP) from error
+        rows, columns = max(1, found.lines), max(1, found.columns)
+        if (rows, columns) != self.window.getmaxyx():
+            curses.resizeterm(rows, columns)
+        return rows, columns
+
+    def run(self, desk: Desk) -> None:
+        """Draws, and does what keys ask for, until the person leaves."""
+        self.desk = desk
+        self.show(desk.screen())
+        while True:
+            for key in self.keys():
+                self.began = time.monotonic()
+                if key == "resize":
+                    desk.resize(*self.size())
+                else:
+                    desk.key(key)
+            self.began = time.monotonic()
+            self.show(desk.screen())
+
+    # Keys
+
+    def keys(self) -> List[str]:
+        """The keys that were pressed, once there is one."""
+        found: List[str] = []
+        while not found:
+            try:
+                with self.signals.listening():
+                    ready, _, _ = select.select([0, self.signals.wake], [], [])
+            except Interrupted:
+                return ["interrupt"]
+            self.signals.drain()
+            rows, columns = self.size()
+            if (rows, columns) != (self.desk.state.rows, self.desk.state.columns):
+                found.append("resize")
+            if 0 in ready:
+                found += self.pressed()
+                self.empty = 0 if found else self.empty + 1
+                if self.empty >= EMPTY:
+                    raise Ending(signal.SIGHUP)
+        return found
+
+    def pressed(self) -> List[str]:
+        """All keys that wait."""
+        found: List[str] = []
+        while True:
+            try:
+                key = self.window.get_wch()
+            except curses.error:
+                return found
+            name = NAMES.get(key, "") if isinstance(key, int) else LETTERS.get(key, key if key.isprintable() else "")
+            if name:
+                found.append(name)
+
+    # Rows
+
+    def style(self, words: str) -> int:
+        """What a style is on this terminal."""
+        found = 0
+        for it in words.split():
+            found |= self.colours.get(it, 0) | (0 if it == "dim" and not self.colours else ATTRIBUTES.get(it, 0))
+        return found
+
+    def show(self, screen: Screen) -> None:
+        """Puts a screen on the terminal."""
+        self.window.erase()
+        for line, row in enumerate(screen.rows):
+            self.put(line, row)
+        self.point(screen.cursor)
+        self.window.refresh()
+        self.last = time.monotonic()
+
+    def put(self, line: int, row: Row) -> None:
+        """Puts a row on the terminal. The last cell of all can't be written without scrolling: that it fails there is no matter."""
+        try:
+            self.window.move(line, 0)
+            for it in row:
+                self.window.addstr(it.text, self.style(it.style))
+        except curses.error:
+            pass
+        except UnicodeEncodeError:
+            self.put(line, (Span(plain(row).encode("ascii", "replace").decode()),))
+
+    def point(self, cursor: Optional[Tuple[int, int]]) -> None:
+        """Shows the terminal's cursor, or hides it."""
+        try:
+            curses.curs_set(1 if cursor else 0)
+            if cursor:
+                self.window.move(*cursor)
+        except curses.error:
+            pass
+
+    def sign(self) -> None:
+        """Tells that something takes long, and how it is broken off; at most ten times a second."""
+        now = time.monotonic()
+        if now - self.began < 2 * PATIENCE or now - self.last < 2 * PATIENCE or self.desk is None:
+            return
+        self.last = now
+        state = self.desk.state
+        self.put(state.rows - 1, fitted([Span(f"ksv works, {now - self.began:.1f} s; ctrl-C breaks it off", "key")], state.columns - 1))
+        self.window.refresh()

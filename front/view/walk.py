@@ -1,0 +1,84 @@
+"""Walks over the whole tree, also where it is closed, and over all bytes: the next fault, the next member of a name, the next place of some bytes."""
+import re
+from typing import Iterator, Optional, Tuple
+
+from front.view.replies import Replies
+from front.view.state import parent
+from front.view.tree import Tree
+
+# How many questions a walk asks before it is given up, how many elements of a list are asked at once, and how many bytes.
+MOST_ASKED, TOGETHER, PIECE = 400_000, 256, 1 << 18
+
+
+class GivenUp(Exception):
+    """A walk that asked as many questions as it may; the path that it got to."""
+
+    def __init__(self, path: str) -> None:
+        super().__init__(path)
+        self.path = path
+
+
+def paths_after(replies: Replies, path: str, most: int = MOST_ASKED) -> Iterator[str]:
+    """All paths below a row of a tree in which all is open, and then those from the root on down to it."""
+    tree, until = Tree(replies, None), replies.asked + most
+    for begin, end in ((path, None), ("", path)):
+        at: Optional[str] = begin or "/"
+        if not begin:
+            yield "/"
+        while at is not None and (begin or at != end):
+            if replies.asked > until:
+                raise GivenUp(at)
+            ahead(replies, at)
+            at = tree.next(at, is_open_value(replies, at))
+            if at is not None:
+                yield at
+
+
+def is_open_value(replies: Replies, path: str) -> bool:
+    """Whether there can be something below a path, by its value."""
+    return replies.ask(f"get {path}").startswith(("object ", "[", "fault "))
+
+
+def ahead(replies: Replies, path: str) -> None:
+    """Asks for the values of the next elements of a list, all at once."""
+    step = path.rpartition("/")[2]
+    if step.isdigit() and int(step) % TOGETHER == 0:
+        found = re.fullmatch(r"\[(\d+)\]", replies.ask(f"ls {parent(path)}"))
+        if found:
+            front = parent(path)
+            replies.ask_all([f"get {front if front != '/' else ''}/{it}" for it in range(int(step), min(int(found[1]), int(step) + TOGETHER))])
+
+
+def next_fault(replies: Replies, path: str, most: int = MOST_ASKED) -> Optional[str]:
+    """The next path below a row, or else from the root on, whose fault arose there, or at a path that the tree hasn't."""
+    for it in paths_after(replies, path, most):
+        if is_own_fault(replies, it):
+            return it
+    return None
+
+
+def is_own_fault(replies: Replies, path: str) -> bool:
+    """Whether the value at a path is a fault that is to be looked at there. What is absent is none."""
+    found = re.fullmatch(r"fault (\S+) at (\S+)", replies.ask(f"get {path}"))
+    if not found or found[2] == path:
+        return bool(found) and found[1] != "absent"
+    return not Tree(replies, None).has(found[2])
+
+
+def next_named(replies: Replies, path: str, text: str, most: int = MOST_ASKED) -> Optional[str]:
+    """The next path below a row, or else from the root on, whose last step has a text in it."""
+    return next((it for it in paths_after(replies, path, most) if text in it.rpartition("/")[2]), None)
+
+
+def next_bytes(replies: Replies, wanted: bytes, place: int) -> Optional[Tuple[int, int]]:
+    """The next place of some bytes from a place on, or else from the first byte on."""
+    size = replies.size()
+    for begin, end in ((place, size), (0, min(size, place + len(wanted) - 1))):
+        at = begin
+        while at < end:
+            some = replies.piece(at, min(PIECE, end - at) + len(wanted) - 1)
+            found = some.find(wanted)
+            if found >= 0:
+                return at + found, at + found + len(wanted)
+            at += PIECE
+    return None
