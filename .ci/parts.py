@@ -60,7 +60,7 @@ LATE = (
 )
 PARTS = (*EARLY, PROOFS, EDITS, *LATE)
 # What can be started and is no part: the gate itself, and what is run by hand.
-TOOLS = (".ci/gate", ".ci/run", ".ci/times", ".ci/mend", ".ci/view", "bench/run")
+TOOLS = (".ci/gate", ".ci/run", ".ci/times", ".ci/mend", ".ci/view", "bench/run", "tools/build/run")
 
 
 @dataclass
