@@ -6,7 +6,7 @@ import re
 import struct
 import time
 from dataclasses import dataclass
-from typing import Callable, Dict, List, Tuple
+from typing import Callable, Dict, List, Sequence, Tuple
 
 from fronts.room import Piped, Room, Shell, Terminal, Tree, children_of, memory_of, room_of, times_of
 
@@ -19,13 +19,15 @@ SECONDS, MEMORY, BY_CLOCK, TRIES = 0.5, 50 * MEBI, 5.0, 3
 
 @dataclass(frozen=True)
 class Shape:
-    """A file and its description, the question that is asked first, the place that Tab and `cd` look at, and the byte that `where` looks for."""
+    """A file and its description, the question that is asked first, the place that Tab and `cd` look at, the bytes that `where` looks for, and whether the first
+    question takes long: then all is tried in one session."""
 
     file: bytes
     ksy: str
     first: str
     path: str
     places: Tuple[int, ...] = (0xA0,)
+    is_slow: bool = False
 
 
 def described(seq: str, instances: str = "", **types: str) -> str:
@@ -62,10 +64,10 @@ SHAPES: Dict[str, Shape] = {
     "elements up to a value, of which the first breaks": Shape(FIRST, described("{id: xs, type: x, repeat: until, repeat-until: _.last == 7}", x=WHOLE), "ls /xs", "xs"),
     "an end that can't be computed": Shape(ZEROS, described("{id: xs, type: u1, repeat: until, repeat-until: 1 / _ == 7}"), "ls /xs", "xs"),
     "a number that can't be computed": Shape(ZEROS, described(f"{{id: num, type: u1}}, {{id: xs, type: u1, {COUNT}: 1 / num}}"), "ls /xs", "xs"),
-    "elements up to the end, which break in the midst": Shape(MIDST, described("{id: xs, type: x, repeat: eos}", x=PART), "ls /xs", "xs", (160, 300_001, 600_000)),
-    "1,048,576 elements, which break in the midst": Shape(MIDST, described(f"{{id: xs, type: x, {COUNT}: 1048576}}", x=PART), "ls /xs", "xs", (160, 600_000)),
-    "1,048,576 bytes in a list": Shape(ZEROS, described("{id: xs, type: u1, repeat: eos}"), "ls /xs", "xs", (160, 1_000_000)),
-    "1,048,576 objects of a byte": Shape(ZEROS, described("{id: xs, type: x, repeat: eos}", x="{id: a, type: u1}"), "ls /xs", "xs", (160, 1_000_000)),
+    "elements up to the end, which break in the midst": Shape(MIDST, described("{id: xs, type: x, repeat: eos}", x=PART), "ls /xs", "xs", (160, 300_001, 600_000), is_slow=True),
+    "1,048,576 elements, which break in the midst": Shape(MIDST, described(f"{{id: xs, type: x, {COUNT}: 1048576}}", x=PART), "ls /xs", "xs", (160, 600_000), is_slow=True),
+    "1,048,576 bytes in a list": Shape(ZEROS, described("{id: xs, type: u1, repeat: eos}"), "ls /xs", "xs", (160, 1_000_000), is_slow=True),
+    "1,048,576 objects of a byte": Shape(ZEROS, described("{id: xs, type: x, repeat: eos}", x="{id: a, type: u1}"), "ls /xs", "xs", (160, 1_000_000), is_slow=True),
     "broken lists in the elements of a list": Shape(
         NESTED, described("{id: xs, size: 1024, type: y, repeat: eos}", y=f"{{id: num, type: u4}}, {{id: ys, type: x, {COUNT}: num}}", x=PART), "ls /xs", "xs", (160, 500_100)),
     "broken lists in broken lists": Shape(
@@ -73,12 +75,12 @@ SHAPES: Dict[str, Shape] = {
     "broken lists elsewhere": Shape(
         FIRST, described(SOME, f"xs: {{pos: 0, type: y(_index), {COUNT}: 1000}}", y=f"{{params: [{{id: n}}], instances: {{ys: {{pos: 0, type: x, {COUNT}: 1000000}}}}}}", x=PART),
         "ls /xs", "xs", (160, 10)),
-    "elements that aren't there": Shape(ZEROS, described(f"{{id: ys, type: y, {COUNT}: 100000}}", y="{id: a, type: u1, if: false}"), "ls /ys", "ys"),
+    "elements that aren't there": Shape(ZEROS, described(f"{{id: ys, type: y, {COUNT}: 100000}}", y="{id: a, type: u1, if: false}"), "ls /ys", "ys", is_slow=True),
     "256 members": Shape(ZEROS, described(many(MANY, "{{id: m{number}, type: u1}}")), "at /m255", "", (160, 256)),
     "256 objects of 256 members": Shape(
         ZEROS, described(many(MANY, "{{id: m{number}, type: x}}"), x=many(MANY, "{{id: n{number}, type: u1}}")), "at /m255/n255", "m7", (160, 60_000, 70_000)),
-    "lists of 256 objects of 256 members": Shape(
-        ZEROS, described("{id: xs, type: y, repeat: eos}", y=many(16, "{{id: m{number}, type: x}}"), x=many(MANY, "{{id: n{number}, type: u1}}")), "ls /xs", "xs", (160, 900_000)),
+    "a list of 64 objects of 4 objects of 256 members": Shape(
+        bytes(1 << 16), described("{id: xs, type: y, repeat: eos}", y=many(4, "{{id: m{number}, type: x}}"), x=many(MANY, "{{id: n{number}, type: u1}}")), "ls /xs", "xs", (160, 60_000)),
     "256 bits": Shape(ZEROS, described(many(MANY, "{{id: m{number}, type: b1}}")), "at /m255", "", (16, 1000)),
     "10,000 objects in each other": Shape(ZEROS, described("{id: x, type: x}", x="{id: a, type: u1}, {id: x, type: x, if: a == 0}"), "at /x/x/x", "x", (160, 10)),
     "256 long values": Shape(ZEROS, described(SOME, many(255, "m{number}: {{pos: 0, size-eos: true}}")), "at /m0", "", (160, 7)),
@@ -127,28 +129,29 @@ def tab(shell: Terminal, path: str) -> str:
     return shown
 
 
-def taken(tree: Tree, shape: Shape, line: str) -> str:
-    """What is wrong with what a line takes, or Tab for none."""
-    with room_of(tree, {"FILE": shape.file, "KSY": shape.ksy.encode()}) as room, contextlib.closing(begun(room, not line)) as shell:
+def taken(tree: Tree, shape: Shape, lines: Sequence[str]) -> str:
+    """What is wrong with what each of some lines takes in one session, of which the empty one is Tab."""
+    found = []
+    with room_of(tree, {"FILE": shape.file, "KSY": shape.ksy.encode()}) as room, contextlib.closing(begun(room, "" in lines)) as shell:
         first = shell.ask(f"raw {shape.first}")
-        before, clock = used(shell.pid), time.monotonic()
-        told = shell.ask(line) if line else tab(shell, shape.path)
-        took, found = time.monotonic() - clock, used(shell.pid).over(before)
-        if took > BY_CLOCK:
-            found.append(f"{took:.2f} s by the clock")
-        if "no memory" in first or shell.status is not None or not told:
-            found.append(f"{first[:60]!r}, then {told[-120:]!r}, status {shell.status}")
-        return ", ".join(found)
+        for line in lines:
+            before, clock = used(shell.pid), time.monotonic()
+            told = shell.ask(line) if line else tab(shell, shape.path)
+            took, over = time.monotonic() - clock, used(shell.pid).over(before)
+            found += [f"{line or 'Tab'}: {it}" for it in (over if took < BY_CLOCK else [*over, f"{took:.2f} s by the clock"])]
+            if "no memory" in first or shell.status is not None or not (told or line.startswith("cd ")):
+                return f"{line or 'Tab'}: {first[:60]!r}, then {told[-120:]!r}, status {shell.status}"
+    return ", ".join(found)
 
 
-def costs(shape: Shape, line: str) -> Case:
-    """A line takes little, in one of some tries."""
+def costs(shape: Shape, lines: Sequence[str]) -> Case:
+    """Lines take little, in one of some tries."""
 
     def case(tree: Tree) -> str:
         """What is wrong with it."""
         found = ""
         for _ in range(TRIES):
-            found = taken(tree, shape, line)
+            found = taken(tree, shape, lines)
             if not found:
                 break
         return found
@@ -156,11 +159,11 @@ def costs(shape: Shape, line: str) -> Case:
     return case
 
 
-def lines(shape: Shape) -> Dict[str, str]:
-    """What is tried over a shape: its name and the line, which is empty for Tab."""
-    found = {f"where {place}": f"where {place}" for place in shape.places}
-    own = {"tree": "tree", "tree of it": f"tree /{shape.path} 3", "cd": f"cd /{shape.path}\nwhere 1", "faults": "faults", "cover": "cover", "each": f"get /{shape.path}/*"}
-    return {**found, **own, "Tab": ""}
+def trials(shape: Shape) -> Dict[str, List[str]]:
+    """What is tried over a shape: sessions by their names, with their lines, of which the empty one is Tab."""
+    found = {**{f"where {place}": [f"where {place}"] for place in shape.places}, "tree": ["tree"], "Tab": [""]}
+    others = [f"tree /{shape.path} 3", f"cd /{shape.path}", "where 1", "cd /", "faults", "cover", f"get /{shape.path}/*"]
+    return {"all": [it for lines in found.values() for it in lines] + others} if shape.is_slow else {**found, "others": others}
 
 
-DIRECT: Dict[str, Case] = {f"budget: {name}: {what}": costs(shape, line) for name, shape in SHAPES.items() for what, line in lines(shape).items()}
+DIRECT: Dict[str, Case] = {f"more: {name}: {what}": costs(shape, lines) for name, shape in SHAPES.items() for what, lines in trials(shape).items()}
