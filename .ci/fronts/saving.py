@@ -72,14 +72,15 @@ def interrupted_twice(tree: Tree) -> str:
 def versions(tree: Tree) -> str:
     """No other state is called saved than the one that was."""
     with room_of(tree, {"FILE": SMALL, "KSY": KSY}) as room, contextlib.closing(Piped(room)) as shell:
-        shell.ask("set 0 ff")
-        shell.ask("save OUT")
-        wrong = 0
+        wrong, states = 0, 0
         for count in range(60):
-            shell.ask("undo")
             shell.ask(f"set 0 {count:02x}")
-            wrong += "saved: yes" in shell.ask("edits")
-        return f"{wrong} of 60 states are called saved" if wrong else ""
+            shell.ask("save OUT")
+            for more in range(6):
+                shell.ask("undo")
+                shell.ask(f"set 1 {more:02x}")
+                wrong, states = wrong + ("saved: yes" in shell.ask("edits")), states + 1
+        return f"{wrong} of {states} states are called saved" if wrong else ""
 
 
 def refused_line(tree: Tree) -> str:
