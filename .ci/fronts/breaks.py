@@ -31,18 +31,18 @@ class Kind:
     shell: Type[Shell]
     status: Optional[int] = None
     again: int = 0
-    most: int = 6
+    most: int = 4
 
 
 KINDS = [
     Kind("ctrl-C", signal.SIGINT, Terminal),
-    Kind("ctrl-C twice", TWICE, Terminal, most=4),
-    Kind("ctrl-C, and while it is begun anew", signal.SIGINT, Terminal, again=signal.SIGINT, most=4),
+    Kind("ctrl-C twice", TWICE, Terminal),
+    Kind("ctrl-C, and while it is begun anew", signal.SIGINT, Terminal, again=signal.SIGINT),
     Kind("killed", DIED, Piped),
     Kind("killed in a reply", HALF, Piped, most=3),
-    Kind("killed, and again", DIED, Piped, again=DIED, most=4),
+    Kind("killed, and again", DIED, Piped, again=DIED),
     Kind("no memory", NO_MEMORY, Piped),
-    Kind("no memory, and again", NO_MEMORY, Piped, again=NO_MEMORY, most=4),
+    Kind("no memory, and again", NO_MEMORY, Piped, again=NO_MEMORY),
     Kind("SIGINT", signal.SIGINT, Piped, 128 + signal.SIGINT, most=1),
     Kind("SIGHUP", signal.SIGHUP, Piped, 128 + signal.SIGHUP, most=1),
     Kind("SIGTERM", signal.SIGTERM, Piped, 128 + signal.SIGTERM, most=1),

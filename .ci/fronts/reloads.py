@@ -140,6 +140,8 @@ def taken_up(room: Room, kind: Kind, status: int) -> str:
         return f"{told!r}, {wrong}" if wrong else ""
 
 
+# In which ways it is broken off.
+WAYS = ("ctrl-C", "ctrl-C twice", "killed", "killed in a reply", "no memory", "SIGTERM", "SIGKILL")
 # How many events are below `reload` after these edits: a process begins, makes three edits again, and tells the size.
 EVENTS = 5
 CASES: Dict[str, Case] = {
@@ -147,5 +149,5 @@ CASES: Dict[str, Case] = {
     **{f"more: reload of {name}": refused(content, wanted) for name, content, wanted in REFUSED},
     "more: reload of what can't be read": unread,
     "more: reload without the place": place_gone,
-    **{f"more: reload, {kind.name} at question {number}": broken_off(kind, number) for kind in KINDS for number in range(1, EVENTS + 1)},
+    **{f"more: reload, {kind.name} at question {number}": broken_off(kind, number) for kind in KINDS if kind.name in WAYS for number in range(1, EVENTS + 1)},
 }
