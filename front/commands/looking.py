@@ -4,7 +4,7 @@ from typing import TYPE_CHECKING, Iterator, List
 
 from front import words as reader
 from front.follow import Follower
-from front.look import Search
+from front.look import Explorer, Search
 from front.lost import Lost
 from front.survey import expanded
 from front.texts import ROW, Line, rows_of_bytes
