@@ -59,7 +59,9 @@ def unexpected(formula: Formula, at: int) -> Hint:
         return say("word", word="??", near="a ? b : c")
     if rest[:1] == "," and re.search(r"\d\Z", before) and re.match(r", *\d{3}(?!\d)", rest):
         return say("thousands", near=re.sub(r"(?<=\d), *(?=\d{3})", "", text))
-    if re.match(r"if\s", text) or re.search(r"\sthen\s", text):
+    if pair_at(text, at) == "<>":
+        return say("word", word="<>", near="!=")
+    if re.search(r"(?:^|\s)(?:if|then)\s", text):
         return say("if word")
     if formula.key == "type" and rest[:1] == "." and re.fullmatch(r"\w+(?:\.\w+)+", text):
         return say("type point", near=text.replace("types.", "").replace(".", "::"))
