@@ -2,6 +2,7 @@
 from typing import TYPE_CHECKING, List
 
 from front import words as reader
+from front.lost import Lost
 from front.survey import expanded
 from front.words import Word
 
@@ -29,10 +30,16 @@ def question(shell: "Shell", word: str, words: List[Word]) -> None:
 
 def each(shell: "Shell", word: str, path: str, is_hex: bool) -> None:
     """The same question about each path that a path with `*` for steps is, a line each."""
-    explorer = shell.explorer()
+    explorer, lost = shell.explorer(), Lost(shell.description())
     paths = expanded(explorer, path)
     more = [f"  (and {len(paths) - MOST_PATHS} more paths)"] if len(paths) > MOST_PATHS else []
-    shell.output.show([*(f"{it}  {shell.shown(explorer.ask(f'{word} {it}'), is_hex)}" for it in paths[:MOST_PATHS]), *more] or [f"nothing is at {path}"])
+
+    def row(one: str) -> str:
+        """The reply about one path."""
+        told = explorer.ask(f"{word} {one}")
+        return "  ".join(it for it in (one, shell.shown(told, is_hex), lost.said(explorer, one, told) if word == "get" else "") if it)
+
+    shell.output.show([*map(row, paths[:MOST_PATHS]), *more] or [f"nothing is at {path}"])
 
 
 def plain(shell: "Shell", word: str, words: List[Word]) -> None:

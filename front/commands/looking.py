@@ -4,7 +4,8 @@ from typing import TYPE_CHECKING, Iterator, List
 
 from front import words as reader
 from front.follow import Follower
-from front.look import Search
+from front.look import Explorer, Search
+from front.lost import Lost
 from front.survey import expanded
 from front.texts import ROW, Line, rows_of_bytes
 from front.tree import Tree
@@ -55,7 +56,7 @@ def tree(shell: "Shell", word: str, words: List[Word]) -> None:
 def tree_of(shell: "Shell") -> Tree:
     """An empty tree, with a budget of questions."""
     explorer = shell.explorer()
-    return Tree(explorer, Follower(explorer, shell.description()), shell.shown)
+    return Tree(explorer, Follower(explorer, shell.description()), Lost(shell.description()), shell.shown)
 
 
 def more_of(shell: "Shell", word: str, words: List[Word]) -> None:
@@ -118,8 +119,14 @@ def where(shell: "Shell", word: str, words: List[Word]) -> None:
             shell.output.show([f"no member has the byte {place}" + (", as far as was searched" if found.cuts else ""), *found.notes()])
             return
         shell.asked = found.best
-        paths = shell.explorer().sharing(found.best, place)
-        shell.output.show([f"{it}  {shell.ask('at ' + it)}  {shell.ask('get ' + it)}" for it in paths] + found.notes())
+        explorer, lost = shell.explorer(), Lost(shell.description())
+        shell.output.show([f"{it}  {shell.ask('at ' + it)}  {with_lost(lost, explorer, it)}" for it in explorer.sharing(found.best, place)] + found.notes())
+
+
+def with_lost(lost: Lost, explorer: Explorer, path: str) -> str:
+    """The value at a path, and how it read before its description was mended."""
+    told = explorer.ask(f"get {path}")
+    return "  ".join(it for it in (told, lost.said(explorer, path, told)) if it)
 
 
 def find(shell: "Shell", word: str, words: List[Word]) -> None:

@@ -8,7 +8,7 @@ from front.hints import formulas, parser, tokens
 from front.hints.formulas import Formula
 from front.hints.kinds import Hint, say
 from front.hints.places import Places
-from front.hints.values import snake
+from front.hints.values import OTHERS, SEVERAL, snake
 
 TOLD = re.compile(r"expression: (X\d+) .* at (\d{1,9})\Z")
 COMPARISONS = ("<", "<=", ">", ">=", "==", "!=")
@@ -47,12 +47,29 @@ def refused_at(formula: Formula, code: str, place: int) -> int:
 def unexpected(formula: Formula, at: int) -> Hint:
     """What to say of a character that can't come where it is (X1)."""
     text = formula.text
+    if formula.key == "case" and (hint := of_case(formula)):
+        return hint
     if re.fullmatch(r"[A-Za-z][\w-]{0,60}", text) and (formula.node.mark or formula.key == "valid") and formula.key not in ("case", "type"):
         return say("text name", text=text)
     rest, before = text[at:], text[:at].rstrip()
-    pair = text[max(0, at - 1) : at + 1]
+    key = re.match(r"(min|max|eq|expr|any-of)\s*=(?!=)", text) if formula.key == "valid" else None
+    if key:
+        return say("equals key", key=key[1])
+    if pair_at(text, at) == "??":
+        return say("word", word="??", near="a ? b : c")
+    if rest[:1] == "," and re.search(r"\d\Z", before) and re.match(r", *\d{3}(?!\d)", rest):
+        return say("thousands", near=re.sub(r"(?<=\d), *(?=\d{3})", "", text))
+    if pair_at(text, at) == "<>":
+        return say("word", word="<>", near="!=")
+    if re.search(r"(?:^|\s)(?:if|then)\s", text):
+        return say("if word")
+    if formula.key == "type" and rest[:1] == "." and re.fullmatch(r"\w+(?:\.\w+)+", text):
+        return say("type point", near=text.replace("types.", "").replace(".", "::"))
+    pair = pair_at(text, at)
     if pair in ("&&", "||") or rest[:1] == "!" and rest[:2] != "!=":
         return say("operator")
+    if text[max(0, at - 2) : at + 1] in (">>>", "<<<"):
+        return say("word", word=text[at - 2 : at + 1], near=text[at - 2 : at])
     if rest[:2] in ("=<", "=>"):
         return say("word", word=rest[:2], near=rest[1] + "=")
     if rest[:1] == "=" and text[max(0, at - 1) : at] != "!":
@@ -61,6 +78,23 @@ def unexpected(formula: Formula, at: int) -> Hint:
         return say("power" if pair == "**" else "division")
     found = WORD.match(text, at)
     return of_word(formula, at, found[0]) if found else of_sign(formula, at, before)
+
+
+def pair_at(text: str, at: int) -> str:
+    """A sign and the one before it."""
+    return text[max(0, at - 1) : at + 1]
+
+
+def of_case(formula: Formula) -> Optional[Hint]:
+    """What to say of the key of a case that is a word or a text by what it looks like; None where it is something else."""
+    text = formula.text
+    if text.lower() in OTHERS:
+        return say("other case")
+    if SEVERAL.search(text):
+        return say("case each")
+    if formula.place.is_quoted and "::" not in text:
+        return say("case text")
+    return say("text name", text=text) if re.fullmatch(r"[A-Za-z][\w-]{0,60}", text) and text not in OPERATORS else None
 
 
 def of_word(formula: Formula, at: int, word: str) -> Hint:
@@ -75,6 +109,10 @@ def of_word(formula: Formula, at: int, word: str) -> Hint:
         base = {"X": 16, "B": 2}.get(number[1], 8)
         digits = number[2] if all(it in "0123456789abcdef"[:base] for it in number[2].lower()) else ""
         return say("number prefix", near=f"0{number[1].lower()}{digits}" if base != 8 else str(int(digits, 8)) if digits else "0x..")
+    if whole.startswith(("0x", "0b")) and begin != at:
+        return say("digits", word=whole) if whole[1] == "x" else say("character", sign=word, place=at)
+    if re.fullmatch(r"[0-9]+[A-Za-z]+", whole) and not number and begin != at:
+        return say("unit")
     if whole in OPERATORS and (begin or whole[0].isupper()):
         near = OPERATORS[whole]
         return say("capital", name=near) if whole[0].isupper() else say("word", word=whole, near=near)
