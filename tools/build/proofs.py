@@ -6,6 +6,7 @@ import re
 import shutil
 import signal
 import subprocess
+import sys
 import time
 from dataclasses import dataclass
 
@@ -114,7 +115,10 @@ class Prover:
         made, program = self.made(crate), f"{self.room}/crates/{crate.name}/out/{crate.name}"
         words = [f"{self.kit}/bin/rattle-link", "--target", TARGET, "--toolchain", f"{self.kit}/toolchain", "-o", program, made]
         words += [f"{self.kit}/c/libos_c.a", f"{self.kit}/c/liblibc_c.a"]
-        return program if subprocess.run(words, stdin=subprocess.DEVNULL, stdout=subprocess.DEVNULL, check=False).returncode == 0 else ""
+        ran = subprocess.run(words, stdin=subprocess.DEVNULL, stdout=subprocess.PIPE, stderr=subprocess.STDOUT, errors="replace", check=False)
+        if ran.returncode:
+            print(ran.stdout, file=sys.stderr, end="")
+        return "" if ran.returncode else program
 
 
 def end(running: list[Proof]) -> None:
