@@ -239,6 +239,7 @@ YAML: Dict[str, Kind] = {
     "open flow": Kind("Y8 Y6 Y4", "`{sign}` of line {line} isn't closed: the lines of it, its end too, have at least {columns} before them"),
     "flow parts": Kind("Y6", "in braces each part is `key: value`, in brackets a value, with commas between them"),
     "two commas": Kind("Y6", "before a comma a value is missing"),
+    "argument name": Kind("Y8", "arguments have no names, and the order of the parameters: `t(1, 2)`"),
     "parentheses": Kind("Y8", "a mapping is in braces: `{{id: a}}`"),
     "other dash": Kind("Y6 Y8", "an item of a list begins with `- `, and not with `{sign}`"),
     "flow comma": Kind("Y6 Y8", "between two parts in brackets or braces a comma is missing"),

@@ -144,6 +144,8 @@ def of_word(formula: Formula, at: int, word: str) -> Hint:
     if whole in OPERATORS and (begin or whole[0].isupper()):
         near = OPERATORS[whole]
         return say("capital", name=near) if whole[0].isupper() else say("word", word=whole, near=near)
+    if word == "as" and begin == at:
+        return say("word", word="as", near="x.as<t>")
     if word == "not" and begin:
         return say("not inside")
     if re.search(r"[A-Z]", word):

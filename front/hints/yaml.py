@@ -155,8 +155,10 @@ def no_key(text: str, line: Line) -> Optional[Hint]:
         return say("flow comma")
     if above and above.key[:1] == "-" and above.key[1:] in ITEM_KEYS:
         return say("dash space", line=above.number, key=above.key[1:])
-    if above and above.is_full and (lines.line(text, above.number) or "").strip() == "-":
-        return say("no colon", where=f"line {above.number + 1}: ", key=((lines.line(text, above.number + 1) or "").split() or ["id"])[0])
+    if above and above.is_full and (lone := lone_word(text, above.number)):
+        return say("no colon", where=f"line {above.number + 1}: ", key=lone)
+    if line.key == "type" and re.match(r"[a-z]\w*\([a-z]\w*: ", line.value):
+        return say("argument name")
     if above and line.text.startswith(" " * (above.before + 1)) and above.is_full and (line.key or not line.value.startswith(("[", "{"))):
         if above.key in TEXTS or above.key.startswith("-"):
             return say("text lines", key=above.key)
@@ -175,6 +177,13 @@ def no_key(text: str, line: Line) -> Optional[Hint]:
     if plain and STOP.search(f"{COMMENT.split(line.value, 1)[0]} ") and (line.key or line.value[:1] == "{"):
         return say("choice") if " ? " in line.value else say("colon")
     return misplaced(line, above) if not line.value.startswith("{") else None
+
+
+def lone_word(text: str, number: int) -> str:
+    """The word that the line after a key or a dash begins with, where that has nothing behind it; the empty text where the line has more."""
+    front, below = (lines.line(text, number) or "").strip(), (lines.line(text, number + 1) or "").strip()
+    is_open = front == "-" or front.endswith(":")
+    return below.split()[0] if is_open and re.fullmatch(r"[A-Za-z_][\w-]*(?: [\w-]+)?", below) else ""
 
 
 def misplaced(line: Line, above: Optional[Above]) -> Optional[Hint]:
