@@ -23,7 +23,8 @@ class Explainer:
         """What is said below the reply to a line."""
         found = re.fullmatch(r"fault (\S+) at (\S+)", told)
         words = sent_words(line)
-        if words[:1] == ["get"] and len(words) == 2 and not found:
+        is_value = not found and not told.startswith("error: ")
+        if words[:1] == ["get"] and len(words) == 2 and is_value:
             was = Lost(self.description()).said(self.explorer, words[1], told)
             return [f"  {was}"] if was else []
         if told.startswith("error: ") and told != "error: bad path":

@@ -39,7 +39,7 @@ WORDS: Dict[str, Tuple[str, str]] = {
     **dict.fromkeys(("expression",), ("expr", "what must be true")),
 }
 # Keys that other readers of such descriptions have.
-UNREAD = ("to-string", "ks-debug", "generic", "zero-copy-substream", "doc-url", "sizeof")
+UNREAD = ("to-string", "ks-debug", "generic", "zero-copy-substream", "doc-url", "sizeof", "<<")
 # Where a key belongs that is none of the mapping that it is in.
 TYPE_KEYS = "a key of a type, as `meta` and `seq` are"
 PLACES: Dict[str, str] = {

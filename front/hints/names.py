@@ -249,7 +249,7 @@ def of_foreign(name: str) -> Optional[Hint]:
         return say("one byte", name=name, near=name[:2])
     if re.match(r"[us]\d+(?:le|be)?\Z|b\d+(?:le|be)?\Z", name):
         return say("odd integer", name=name)
-    return say("other type", name=name, near=OTHER_TYPES[name]) if name in OTHER_TYPES else None
+    return say("other type", name=name, example=OTHER_TYPES[name]) if name in OTHER_TYPES else None
 
 
 # The order of bytes, and arguments

@@ -24,10 +24,12 @@ COMMA = re.compile(r"'\s+[^\s,:\]}#]|[\]}]\s*[^\s,\]}:#]")
 JOINED = re.compile(r"[\w'][;.]? {1,9}(?:" + "|".join(KEYS_IN_FLOW) + r"): ")
 # A bracket, brace or comma in a plain text of a flow.
 OPEN_TEXT = re.compile(r"[^\s\[\]{},:'] {0,9}[\[{]|\([^()\[\]{}:']*,")
+# A quote in a flow behind which there is none.
+LONE = re.compile(r"[:,\[{]\s{0,9}([\"'])(?!x*')[^\"']*\Z")
 # The same as a word and a key, in a block.
 SECOND = re.compile(r"[\w'\])] {1,9}(?:" + "|".join(KEYS_IN_FLOW) + r"):(?: |\Z)")
-# Keys that an item begins with, keys of texts, and the lines that begin and end a description.
-ITEM_KEYS = ("id", "type", "size", "contents", "doc")
+# Keys of checks, keys that an item begins with, keys of texts, and the lines that begin and end a description.
+BOUNDS, ITEM_KEYS = ("valid", "min", "max", "eq", "expr"), ("id", "type", "size", "contents", "doc")
 TEXTS, MARKER = ("doc", "doc-ref", "title", "license"), re.compile(r"(?:---|\.\.\.)(?:[ \t]|\Z)")
 GOOD_ESCAPE = re.compile(r"\\(?:[\"\\/0abtnvfre]|x[\da-fA-F]{2}|u(?![dD][89a-fA-F])[\da-fA-F]{4})")
 
@@ -153,8 +155,10 @@ def no_key(text: str, line: Line) -> Optional[Hint]:
         return say("flow comma")
     if above and above.key[:1] == "-" and above.key[1:] in ITEM_KEYS:
         return say("dash space", line=above.number, key=above.key[1:])
-    if above and above.is_full and (lines.line(text, above.number) or "").strip() == "-":
-        return say("no colon", where=f"line {above.number + 1}: ", key=((lines.line(text, above.number + 1) or "").split() or ["id"])[0])
+    if above and above.is_full and (lone := lone_word(text, above.number)):
+        return say("no colon", where=f"line {above.number + 1}: ", key=lone)
+    if line.key == "type" and re.match(r"[a-z]\w*\([a-z]\w*: ", line.value):
+        return say("argument name")
     if above and line.text.startswith(" " * (above.before + 1)) and above.is_full and (line.key or not line.value.startswith(("[", "{"))):
         if above.key in TEXTS or above.key.startswith("-"):
             return say("text lines", key=above.key)
@@ -173,6 +177,13 @@ def no_key(text: str, line: Line) -> Optional[Hint]:
     if plain and STOP.search(f"{COMMENT.split(line.value, 1)[0]} ") and (line.key or line.value[:1] == "{"):
         return say("choice") if " ? " in line.value else say("colon")
     return misplaced(line, above) if not line.value.startswith("{") else None
+
+
+def lone_word(text: str, number: int) -> str:
+    """The word that the line after a key or a dash begins with, where that has nothing behind it; the empty text where the line has more."""
+    front, below = (lines.line(text, number) or "").strip(), (lines.line(text, number + 1) or "").strip()
+    is_open = front == "-" or front.endswith(":")
+    return below.split()[0] if is_open and re.fullmatch(r"[A-Za-z_][\w-]*(?: [\w-]+)?", below) else ""
 
 
 def misplaced(line: Line, above: Optional[Above]) -> Optional[Hint]:
@@ -263,6 +274,8 @@ def of_first(line: Line, value: str) -> Optional[Hint]:
         return say("operator")
     if first in ("&", "*", "!") and first:
         return say("sign first", sign=first) if line.key in TEXTS else say("anchor")
+    if first == ">" and line.key in BOUNDS:
+        return say("bound")
     if first in ("|", ">") and first:
         return say("block sign") if re.match(r"[|>][-+\d]+(?:[ \t]+#.*|[ \t]*)\Z", value) else say("sign first", sign=first)
     if first in ("@", "%", "`") and first:
@@ -314,6 +327,8 @@ def of_flow(value: str) -> Optional[Hint]:
             return say("yaml escape", escape=bad_escape(it[0]))
     if re.search(r"[\[{,]\s*,", bare):
         return say("two commas")
+    if re.search(r"\b(?:valid|min|max): >", bare):
+        return say("bound")
     marked = re.search(r"[\[{,:]\s+([&*!@%`|>])|[\[{,]([&*!@%`|>])", bare)
     if marked:
         sign = marked[1] or marked[2]
@@ -364,4 +379,5 @@ def not_closed(text: str, line: Line) -> Optional[Hint]:
     if not outline.is_whole or last < 0 or outline.inline(last) not in ("{", "["):
         return None
     node = outline.node(last)
-    return say("bracket", sign=node.mark, line=outline.line(node.at)) if flow.end(text, node.at) >= len(text.rstrip()) and line.number > 0 else None
+    lone = LONE.search(bare_of(text[node.at :])) if len(text) - node.at < LONGEST else None
+    return say("quote", sign=lone[1]) if lone else say("bracket", sign=node.mark, line=outline.line(node.at)) if flow.end(text, node.at) >= len(text.rstrip()) and line.number > 0 else None
