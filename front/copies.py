@@ -1,5 +1,7 @@
 """Private copies of files, in memory alone: nothing of them is left wherever the shell ends."""
+import errno
 import os
+import stat
 from typing import Optional
 
 
@@ -28,7 +30,20 @@ class Copy:
         self.close()
 
 
+def kind_of(path: str) -> str:
+    """What is there that isn't a file; the empty text where a file is, or nothing."""
+    try:
+        mode = os.stat(path).st_mode
+    except (OSError, ValueError):
+        return ""
+    return "" if stat.S_ISREG(mode) else "a folder" if stat.S_ISDIR(mode) else "a pipe" if stat.S_ISFIFO(mode) else "a device"
+
+
 def read(path: str, most: Optional[int] = None) -> bytes:
-    """The bytes of a file, at most n of them."""
-    with open(path, "rb") as file:
+    """The bytes of a file, at most n of them. A pipe or a device is none: it isn't waited for."""
+    number = os.open(path, os.O_RDONLY | os.O_NONBLOCK | os.O_NOCTTY | os.O_CLOEXEC)
+    if not stat.S_ISREG(os.fstat(number).st_mode):
+        os.close(number)
+        raise OSError(errno.EINVAL, "this is no file", path)
+    with open(number, "rb") as file:
         return file.read() if most is None else file.read(most)

@@ -1,8 +1,9 @@
 """Accepted edits on the disk, before the prompt comes back: what is left of a session that ended with edits that aren't saved.
 
 A journal is a file of the person's own (mode 0600) in `$XDG_STATE_HOME/ksv`, or `~/.local/state/ksv`. It begins with a line about the edited file and
-the file's bytes as they were opened. After that comes a record for each edit, `undo`, `redo` and save. Each line begins with a sum of the rest, so that
-one that was broken off is known. The session that writes it holds a lock on it.
+the file's bytes as they were opened. After that comes a record for each edit, `undo` and `redo`, and one before and after each save, with size and sum of
+the bytes: so a save is known for the session's own, also where it ended between the two. Each line begins with a sum of the rest, so that one that was
+broken off is known. The session that writes it holds a lock on it.
 """
 import errno
 import fcntl
@@ -13,9 +14,10 @@ import os
 import secrets
 import time
 import zlib
-from dataclasses import dataclass
-from typing import Iterator, List, Optional, Tuple
+from dataclasses import dataclass, replace
+from typing import Iterable, Iterator, List, Optional, Tuple
 
+from front.copies import read
 from front.edits import Edit, Edits
 
 # How many journals of one file are kept of sessions that ended.
@@ -60,26 +62,37 @@ def made(edit: Edit, version: int) -> dict:
     return {"made": edit.line, "effect": edit.effect, "version": version}
 
 
+def saving(content: bytes, out: str, version: int) -> dict:
+    """The record of a save that begins: of a state with these bytes, to a file."""
+    return {"saving": version, "to": os.path.realpath(out), "size": len(content), "sum": sum_of(content)}
+
+
+def saved(begun: dict) -> dict:
+    """The record of a save that went well, by that of its begin."""
+    return {"saved": begun["saving"], "to": begun["to"], "size": begun["size"], "sum": begun["sum"]}
+
+
 def after(edits: Edits, event: dict) -> Edits:
     """The edits after one more record."""
     if "made" in event:
         return edits.made(Edit(event["made"], tuple(event["effect"])), event["version"])
     if "saved" in event:
         return edits.marked_saved(event["saved"])
-    return edits.taken_back() if event.get("step") == "undo" else edits.again()
+    return edits if "saving" in event else edits.taken_back() if event.get("step") == "undo" else edits.again()
 
 
-def events_of(edits: Edits) -> Iterator[dict]:
-    """Records that lead to the same edits that hold and the same state that is saved, with none taken back."""
+def events_of(edits: Edits, saves: Iterable[dict] = ()) -> Iterator[dict]:
+    """Records that lead to the same edits that hold and the same state that is saved, with none taken back, and the records of saves."""
     for it in edits.holding():
         yield made(it.edit, it.version)
+    yield from saves
     yield {"saved": edits.saved}
 
 
 @dataclass(frozen=True)
 class Left:
-    """What is told of a journal: the sum of the file as it was opened, how many edits hold, whether they are saved, when the last one was made, and whether
-    its session goes on."""
+    """What is told of a journal: the sum of the file as its session opened or saved it last, how many edits hold, whether they are saved, when the last one
+    was made, and whether its session goes on."""
 
     path: str
     sum: str
@@ -91,12 +104,29 @@ class Left:
 
 @dataclass(frozen=True)
 class Held:
-    """All that a journal holds: the bytes of the file as it was opened, the edits, and the length of what isn't broken."""
+    """All that a journal holds: the edited file, its sum as it was opened or saved last, its bytes as they were opened, the edits, the length of what isn't
+    broken, the record of a save to the file that wasn't told to have gone well, and the one that tells it."""
 
+    file: str
     sum: str
     origin: bytes
     edits: Edits
     length: int
+    begun: Optional[dict] = None
+    told: Optional[dict] = None
+
+    def after(self, event: dict, length: int) -> "Held":
+        """What it holds with one more record, of a length."""
+        found = replace(self, edits=after(self.edits, event), length=self.length + length)
+        if event.get("to") != self.file:
+            return found
+        return replace(found, begun=event) if "saving" in event else replace(found, begun=None, sum=event["sum"])
+
+    def settled(self) -> "Held":
+        """The same, where a save went well of which that wasn't told: the file has its bytes."""
+        if not self.begun or size_at(self.file) != self.begun["size"] or sum_at(self.file) != self.begun["sum"]:
+            return self
+        return replace(self, begun=None, told=saved(self.begun), sum=self.begun["sum"], edits=self.edits.marked_saved(self.begun["saving"]))
 
 
 class Journal:
@@ -137,7 +167,7 @@ class Journal:
         except BaseException:
             os.close(number)
             raise
-        return cls(left.path, number, held.length), held
+        return cls(left.path, number, held.length), held.settled()
 
     def note(self, event: dict) -> None:
         """Writes a record, and all that wait."""
@@ -159,9 +189,12 @@ class Journal:
         self._length = at
 
     def close(self, is_kept: bool) -> None:
-        """Ends the journal; where nothing of it is wanted any more, it is removed."""
-        if not is_kept:
-            removed(self.path)
+        """Ends the journal; where nothing of it is wanted any more, it is removed, if it can be."""
+        try:
+            if not is_kept:
+                removed(self.path)
+        except OSError:
+            pass
         os.close(self._number)
 
 
@@ -191,20 +224,20 @@ def parsed(number: int, path: str) -> Held:
         origin = file.read(head["size"]) if head else b""
         if not head or sum_of(origin) != head["sum"]:
             raise NoJournal(f"{path}: the journal is broken")
-        edits, length = Edits(), len(first) + len(origin)
+        held = Held(head["file"], head["sum"], origin, Edits(), len(first) + len(origin))
         for line in file:
             event = event_of(line)
             if event is None:
                 break
-            edits, length = after(edits, event), length + len(line)
-        return Held(head["sum"], origin, edits, length)
+            held = held.after(event, len(line))
+        return held
 
 
 def left_of(path: str) -> Left:
     """What is told of a journal, which a session may still write."""
-    number = os.open(path, os.O_RDONLY | os.O_CLOEXEC | os.O_NOFOLLOW)
+    number = os.open(path, os.O_RDONLY | os.O_NONBLOCK | os.O_CLOEXEC | os.O_NOFOLLOW)
     try:
-        held, is_open = parsed(number, path), False
+        held, is_open = parsed(number, path).settled(), False
         try:
             fcntl.flock(number, fcntl.LOCK_SH | fcntl.LOCK_NB)
         except BlockingIOError:
@@ -237,7 +270,7 @@ def swept(file: str) -> None:
     """Removes what is left of journals whose session ended while it began them: no edit of theirs was accepted."""
     for path in glob.glob(os.path.join(glob.escape(folder()), f"{key_of(file)}-*.new")):
         try:
-            number = os.open(path, os.O_RDONLY | os.O_CLOEXEC | os.O_NOFOLLOW)
+            number = os.open(path, os.O_RDONLY | os.O_NONBLOCK | os.O_CLOEXEC | os.O_NOFOLLOW)
         except OSError:
             continue
         try:
@@ -247,6 +280,22 @@ def swept(file: str) -> None:
             pass
         finally:
             os.close(number)
+
+
+def size_at(path: str) -> int:
+    """How many bytes a file has; -1 where there is none."""
+    try:
+        return os.path.getsize(path)
+    except OSError:
+        return -1
+
+
+def sum_at(path: str) -> str:
+    """The sum of a file's bytes; the empty text where it can't be read."""
+    try:
+        return sum_of(read(path))
+    except OSError:
+        return ""
 
 
 def sum_of(content: bytes) -> str:

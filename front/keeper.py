@@ -1,6 +1,6 @@
 """The edits of a session: made by the program, kept as a value, and noted in the journal before anything else happens."""
 import re
-from typing import Callable, List, Optional, Tuple
+from typing import Callable, Dict, List, Optional, Tuple
 
 from front import journal
 from front.copies import Copy
@@ -12,6 +12,8 @@ from front.words import GREATEST, sent_words
 
 # The most bytes that one line inserts, and the most lines of an inverse: an edit with more of them is taken back by beginning anew.
 INSERTED, MOST_LINES = 2000, 32
+# The number of no state: where the file was changed since, none is known to be saved.
+NOWHERE = -1
 # The most bytes that an integer has bits of.
 WIDEST = 9
 # The edits of ksv, and how many words each has.
@@ -24,6 +26,9 @@ class Keeper:
     def __init__(self, file: str, origin: bytes, make_session: Callable[["Keeper", Copy], Session], tell: Callable[[str], None]) -> None:
         self.file, self.origin, self.make_session, self.tell = file, origin, make_session, tell
         self.edits, self.journal = Edits(), None  # type: Edits, Optional[Journal]
+        # the record of the save that was begun last, and those of saves that went well, the last one to each file
+        self.saving: Optional[dict] = None
+        self.saves: Dict[str, dict] = {}
         self.copy = Copy(origin)
         self.session = make_session(self, self.copy)
 
@@ -136,24 +141,37 @@ class Keeper:
         """Begins the journal, with all edits so far."""
         found = Journal.begun(self.file, self.origin)
         try:
-            for event in journal.events_of(self.edits):
+            for event in journal.events_of(self.edits, self.saves.values()):
                 found.note(event)
         except OSError:
             found.close(is_kept=False)
             raise
         self.journal = found
 
+    def begins_save(self, content: bytes, out: str) -> None:
+        """Notes that the bytes as they are will be saved."""
+        self.saving = journal.saving(content, out, self.edits.version)
+        self.note_save(self.saving)
+
     def saved(self) -> None:
         """Notes that the bytes as they are were saved."""
         self.edits = self.edits.marked_saved(self.edits.version)
+        event = journal.saved(self.saving)
+        self.saves.pop(event["to"], None)
+        self.saves[event["to"]] = event
+        self.note_save(event)
+
+    def note_save(self, event: dict) -> None:
+        """Writes a record of a save."""
         if self.journal:
             try:
-                self.journal.note({"saved": self.edits.saved})
+                self.journal.note(event)
             except OSError as error:
-                self.tell(f"that it is saved isn't in the journal: {error.strerror or error}")
+                self.tell(f"the save isn't in the journal: {error.strerror or error}")
 
     def recover(self, left: Left) -> str:
-        """Takes up what a session left that ended; what the program tells of it. Where that fails, all is as it was."""
+        """Takes up what a session left that ended; what the program tells of it. Where the file was changed since, no state is saved. Where that fails, all is
+        as it was."""
         found, held = Journal.taken_up(left)
         before = (self.origin, self.edits, self.copy, self.session)
         try:
@@ -171,7 +189,12 @@ class Keeper:
         before[2].close()
         if self.journal:
             self.journal.close(is_kept=False)
-        self.journal = found
+        self.journal, self.saves = found, {}
+        if held.sum != journal.sum_at(held.file):
+            self.edits = self.edits.marked_saved(NOWHERE)
+            self.note_save({"saved": NOWHERE})
+        elif held.told:
+            self.note_save(held.told)
         return told
 
     def close(self, is_kept: bool) -> None:

@@ -5,12 +5,14 @@ for which the program would open each one before it.
 """
 import re
 from dataclasses import dataclass
-from typing import List, Optional, Sequence, Tuple, Union
+from typing import Iterable, List, Optional, Sequence, Tuple, Union
 
 from front.session import Session
 
-# The most questions of one command, and the elements of a list that a tree shows.
-MOST_ASKED, ELEMENTS = 5000, 20
+# The most questions of one command and letters of their replies, and the elements of a list that a tree shows.
+MOST_ASKED, MOST_LETTERS, ELEMENTS = 5000, 1 << 26, 20
+# Of how many letters a value is long, and how many of a long one are shown where it is one of many.
+LONG, SHOWN = 8192, 68
 # The most elements that a list of ksv has; the most faults that a search names, how many steps down it goes, and the most elements that it goes into where
 # none has the byte.
 MOST_ELEMENTS, FAULTS, DEEPEST, MOST_LOOKED = 1 << 20, 3, 60, 100
@@ -19,7 +21,7 @@ Below = Union[range, List[str]]
 
 
 class Spent(Exception):
-    """The budget of questions is used up."""
+    """The budget of questions, or that of letters, is used up."""
 
 
 def span_of(reply: str) -> Optional[Tuple[int, int]]:
@@ -33,22 +35,37 @@ def joined(front: str, step: object) -> str:
     return f"{'' if front == '/' else front}/{step}"
 
 
-def steps_of(path: str, below: Below) -> List[str]:
-    """The paths of what is below a path; of a list its elements."""
-    return [joined(path, it) for it in below] if isinstance(below, range) else below
+def steps_of(path: str, below: Below) -> Iterable[str]:
+    """The paths of what is below a path; of a list its elements, one after another, as there may be a million."""
+    return (joined(path, it) for it in below) if isinstance(below, range) else below
 
 
 class Explorer:
     """Questions about paths, as many as a budget allows."""
 
     def __init__(self, session: Session, most: int = MOST_ASKED) -> None:
-        self.session, self.until = session, session.asked + most
+        self.session, self.begin, self.until, self.letters = session, session.asked, session.asked + most, MOST_LETTERS
 
     def ask(self, line: str) -> str:
         """The reply to a question, while the budget lasts."""
-        if self.session.asked >= self.until:
+        if self.session.asked >= self.until or self.letters < 0:
             raise Spent
-        return self.session.ask(line)
+        told = self.session.ask(line)
+        self.letters -= len(told)
+        return told
+
+    def num_asked(self) -> int:
+        """How many questions were asked."""
+        return self.session.asked - self.begin
+
+    def num_left(self) -> int:
+        """How many questions are left."""
+        return max(0, self.until - self.session.asked)
+
+    def value(self, path: str) -> str:
+        """The value at a path, as `get` tells it; of a long one how it begins."""
+        told = self.ask(f"get {path}")
+        return told if len(told) <= LONG else f"{told[:SHOWN]} .. ({len(told)} characters)"
 
     def span(self, path: str) -> Optional[Tuple[int, int]]:
         """The first byte of something and the one after its last, also where it begins or ends within a byte; None where it has no place."""

@@ -6,12 +6,12 @@ import sys
 from typing import Callable, List, Optional, Tuple
 
 from front import journal
-from front.copies import Copy, read
+from front.copies import Copy, kind_of, read
 from front.description import Description
 from front.edits import edits_of
 from front.keeper import Keeper, lefts
-from front.save import Saver, barrier, is_plain, look_of
-from front.session import Died, Session
+from front.save import Saver, barrier, look_of
+from front.session import Died, Refused, Session
 from front.signals import Signals
 from front.texts import visible
 
@@ -43,7 +43,7 @@ def unusable(file: str, ksy: str, out: Optional[str]) -> Optional[Tuple[int, str
     """The status and message of names that can't be used, as far as the program doesn't see it itself; None where there is nothing. What can be read only
     once, as a pipe, would be empty when it is read again."""
     for name in (file, ksy):
-        if "\0" in name or os.path.exists(name) and not os.path.isdir(name) and not is_plain(name):
+        if "\0" in name or kind_of(name) not in ("", "a folder"):
             return 1, f"{name}: only a file can be edited, and described by one"
     if out is not None:
         what = "a file's name has no byte 0" if "\0" in out else barrier(out)
@@ -102,6 +102,7 @@ class Opened:
         self.copy = Copy(self.text)
         self.keeper = Keeper(self.file, origin, self.session, tell)
         self.saver = Saver(PROGRAM, self.copy, signals)
+        self.saver.begins = self.keeper.begins_save
         if self.out:
             self.saver.know(self.out, look_out)
         self.saver.know(self.file, look)
@@ -116,15 +117,19 @@ class Opened:
             self._description = Description(self.text.decode(errors="replace"))
         return self._description
 
-    def reload(self) -> None:
-        """Reads the description again; the file's bytes and the edits stay. Where it is refused, `Died` tells why, and all is as it was."""
+    def reload(self) -> str:
+        """Reads the description again; the file's bytes and the edits stay. What the program tells of its size. Where it is refused, `Died` tells why, `Refused`
+        where memory is, and all is as it was."""
         text = read(self.ksy, LONGEST_TEXT)
         before = (self.copy, self.keeper.session)
         self.copy = Copy(text)
         try:
             found = self.session(self.keeper, self.keeper.copy)
             try:
-                found.tried(["size"])
+                size = found.tried(["size"])[0]
+                if not size.startswith("size "):
+                    found.end()
+                    raise Refused(size)
             except Died as error:
                 raise Died(re.sub(r"^.*?ksv: /proc/self/fd/[0-9]+: ", f"{self.ksy}: ", str(error))) from error
         except BaseException:
@@ -134,6 +139,7 @@ class Opened:
         before[1].end()
         before[0].close()
         self.keeper.session, self.saver.ksy, self.text, self._description = found, self.copy, text, None
+        return size
 
     def close(self) -> None:
         """Gives the description's copy back."""

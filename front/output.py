@@ -3,18 +3,37 @@ import itertools
 import os
 import shutil
 import sys
-from typing import Iterable, List, TextIO
+from typing import Iterable, Iterator, List, TextIO
 
 from front.texts import Line, Painted, cut, narrow_of, visible
 
-# How much of a line is shown on a terminal, the least width of a tree's rows, and how many lines `all` shows at most.
-WIDTH, WIDEST_NAME, MOST_KEPT = 300, 44, 10_000
+# How much of a line is shown on a terminal, and the least width of a tree's rows.
+WIDTH, WIDEST_NAME = 300, 44
+# How many lines `all` shows at most, after how many letters no more are kept for it, and how many of the others are counted.
+MOST_KEPT, MOST_LETTERS, MOST_COUNTED = 10_000, 1 << 23, 100_000
 # How many lines are written at once where there are many.
 TOGETHER = 500
 
 
 class OutputFailed(Exception):
     """What is printed can't be written any more: nobody reads it, or the disk is full."""
+
+
+def length(line: Line) -> int:
+    """How many letters a line has."""
+    return len(line if isinstance(line, str) else line.plain)
+
+
+def kept(lines: Iterator[Line]) -> List[Line]:
+    """The first of some lines, as many as are kept of a reply."""
+    found, letters = [], 0
+    while len(found) < MOST_KEPT and letters < MOST_LETTERS:
+        it = next(lines, None)
+        if it is None:
+            break
+        found.append(it)
+        letters += length(it)
+    return found
 
 
 class Output:
@@ -52,22 +71,23 @@ class Output:
                 self.write("".join(f"{self.painted(it)}\n" for it in some))
             return
         lines = iter(lines)
-        self.last = list(itertools.islice(lines, MOST_KEPT))
-        more = sum(1 for _ in lines)
+        self.last = kept(lines)
+        others = sum(1 for _ in itertools.islice(lines, MOST_COUNTED + 1))
+        more = f"{others}" if others <= MOST_COUNTED else f"more than {MOST_COUNTED}"
         size = shutil.get_terminal_size()
         rows, narrow = max(5, size.lines - 3), min(WIDTH, max(WIDEST_NAME, size.columns - 4))
         shown = narrow_of(self.last[:rows], narrow if is_narrow else WIDTH, WIDTH)
         self.write("".join(f"{self.painted(it)}\n" for it in shown))
-        if shown != self.last or more:
-            self.cut(more)
-        if more:
+        if others:
+            self.write(f"  (cut: {len(self.last)} lines, which `all` shows, and {more} more)\n")
             self.last.append(f"  (and {more} more)")
+        elif shown != self.last:
+            self.cut()
 
-    def cut(self, more: int) -> None:
+    def cut(self) -> None:
         """Tells that the last reply was cut, and how long it is."""
-        letters = sum(len(it if isinstance(it, str) else it.plain) for it in self.last)
-        count = len(self.last) + more
-        self.write(f"  (cut: {count} line{'s' if count > 1 else ''}, {letters}{' and more' if more else ''} characters; `all` shows them)\n")
+        letters, count = sum(map(length, self.last)), len(self.last)
+        self.write(f"  (cut: {count} line{'s' if count > 1 else ''}, {letters} characters; `all` shows them)\n")
 
     def all(self) -> None:
         """Shows the last reply whole."""

@@ -12,6 +12,7 @@ from typing import List, Optional, Tuple
 from front import journal
 from front.commands import COMMANDS, NUMBERS, WITH_PATH, listed
 from front.complete import Completer
+from front.copies import kind_of
 from front.edits import edits_of
 from front.opening import Opened, greetings, looked_at, open_streams, told, words_of
 from front.output import Output, OutputFailed
@@ -33,9 +34,11 @@ class History:
 
         self.readline, self.path, self.length = readline, None, 0  # type: object, Optional[str], int
         try:
-            self.path = os.path.join(journal.folder(), "history")
-            os.close(os.open(self.path, os.O_RDONLY | os.O_CREAT | os.O_NOFOLLOW | os.O_CLOEXEC, 0o600))
-            readline.read_history_file(self.path)
+            path = os.path.join(journal.folder(), "history")
+            os.close(os.open(path, os.O_RDONLY | os.O_NONBLOCK | os.O_CREAT | os.O_NOFOLLOW | os.O_CLOEXEC, 0o600))
+            if not kind_of(path):
+                readline.read_history_file(path)
+                self.path = path
         except OSError:
             pass
         readline.set_history_length(REMEMBERED)
@@ -101,7 +104,7 @@ def explored(named: Tuple[str, str, Optional[str]], signals: Signals) -> int:
     """Opens a file by its description, and does what is asked; the status."""
     output = Output(sys.stdout, sys.stdin.isatty() and sys.stdout.isatty())
     with Opened(named, signals, output.tell) as opened:
-        return left_with(Shell(opened.file, opened.out, opened.keeper, opened.saver, opened.description, output, signals), signals)
+        return left_with(Shell(opened, output, signals), signals)
 
 
 def left_with(shell: Shell, signals: Signals) -> int:

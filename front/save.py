@@ -4,13 +4,12 @@ That process alone writes OUT, and it gives OUT the new bytes as a whole: at eac
 """
 import os
 import select
-import stat
 import subprocess
 import time
 from dataclasses import dataclass
-from typing import Dict, Optional
+from typing import Callable, Dict, Optional
 
-from front.copies import Copy, read
+from front.copies import Copy, kind_of, read
 from front.session import Died, begun
 from front.signals import Signals
 
@@ -41,18 +40,10 @@ def look_of(path: str) -> Optional[Look]:
     return Look(found.st_dev, found.st_ino, found.st_size, found.st_mtime_ns)
 
 
-def is_plain(path: str) -> bool:
-    """Whether a file is there that isn't a device, a pipe or a folder."""
-    try:
-        return stat.S_ISREG(os.stat(path).st_mode)
-    except (OSError, ValueError):
-        return False
-
-
 def has(path: str, content: bytes) -> bool:
     """Whether a file has these bytes."""
     try:
-        return is_plain(path) and os.path.getsize(path) == len(content) and read(path) == content
+        return os.path.getsize(path) == len(content) and read(path, len(content) + 1) == content
     except OSError:
         return False
 
@@ -62,50 +53,67 @@ class NotSaved(Exception):
 
 
 class Saver:
-    """Saves to files, and knows how those looked that it opened or saved to."""
+    """Saves to files, and knows how those looked that it opened or saved to, by all of their names. Before a save, `begins` gets the bytes and the file."""
 
     def __init__(self, program: str, ksy: Copy, signals: Signals) -> None:
         self.program, self.ksy, self.signals = program, ksy, signals
+        self.begins: Callable[[bytes, str], None] = lambda content, out: None
         self._known: Dict[str, Optional[Look]] = {}
         self._asked: Dict[str, Optional[Look]] = {}
+        # where names led when they were used, by the names as they were given
+        self._led: Dict[str, str] = {}
 
     @staticmethod
     def is_same(one: str, other: str) -> bool:
-        """Whether two names are of one file."""
-        return os.path.realpath(one) == os.path.realpath(other)
+        """Whether two names are of one file, by links or otherwise."""
+        try:
+            return os.path.realpath(one) == os.path.realpath(other) or os.path.samefile(one, other)
+        except OSError:
+            return False
 
     def know(self, path: str, look: Optional[Look]) -> None:
-        """Notes how a file looked when it was opened."""
-        self._known[os.path.realpath(path)] = look
+        """Notes how a file looked when it was opened or saved."""
+        real = self._led[os.path.abspath(path)] = os.path.realpath(path)
+        self._known[real] = look
+
+    def is_as_known(self, out: str, look: Optional[Look]) -> bool:
+        """Whether a file looks as it was known to, if it was; also where it was known by another name, or the name led to another one."""
+        path = os.path.realpath(out)
+        if self._led.get(os.path.abspath(out), path) != path:
+            return False
+        if path in self._known:
+            return self._known[path] == look
+        near = [it for it in self._known.values() if it and look and (it.device, it.number) == (look.device, look.number)]
+        return not near or look in near
 
     def check(self, out: str) -> None:
         """Whether a file is as it was known; where it isn't, that is said once, and a second save goes through."""
         path, look = os.path.realpath(out), look_of(out)
-        if path not in self._known or self._known[path] == look or is_device(out):
-            return
-        if path in self._asked and self._asked[path] == look:
+        if self.is_as_known(out, look) or path in self._asked and self._asked[path] == look:
             return
         self._asked[path] = look
-        what = "is gone" if look is None else "is there by now" if self._known[path] is None else "isn't as it was when it was opened or last saved"
+        what = "is gone" if look is None else "is there by now" if self._known.get(path, look) is None else "isn't as it was when it was opened or last saved"
         raise NotSaved(f"{out} {what}: the same `save` once more {'saves over it' if look else 'makes it anew'}")
 
     def save(self, content: bytes, out: str) -> None:
-        """Gives a file these bytes, or says why not."""
+        """Gives a file these bytes, or says why not. What isn't a file isn't written: it might wait for a reader, or be a disk."""
+        if kind_of(out):
+            raise NotSaved(f"{out}: cannot write: {barrier(out)}")
         self.check(out)
+        self.begins(content, out)
         with Copy(content) as copy:
             try:
                 status, message = self.run(copy, out)
             except Died as error:
                 raise NotSaved(str(error)) from error
         if status == 3 and has(out, content):
-            self._known[os.path.realpath(out)] = look_of(out)
+            self.know(out, look_of(out))
         if status and not (status < 0 and has(out, content)):
             raise NotSaved(message or f"ksv ended by signal {-status} while it saved: {out} has its old bytes")
-        if is_plain(out) and not has(out, content):
+        if not has(out, content):
             raise NotSaved(f"{out} was written by another program at the same time")
-        path = os.path.realpath(out)
-        self._known[path] = look_of(out)
-        self._asked.pop(path, None)
+        self.know(out, look_of(out))
+        self._asked.pop(os.path.realpath(out), None)
 
     def run(self, copy: Copy, out: str) -> tuple:
         """The status and message of the process that saves. Where it is broken off, it may go on for a while, and is then ended."""
@@ -120,9 +128,10 @@ class Saver:
                     told += piece
                     if not piece:
                         break
-                elif until is None:
-                    self.signals.drain()
-                    until = time.monotonic() + PATIENCE
+                    continue
+                self.signals.drain()
+                if until is None:
+                    until = time.monotonic() + PATIENCE if self.signals.is_asked() else None
                 elif time.monotonic() >= until:
                     running.kill()
                     until = time.monotonic() + PATIENCE
@@ -132,21 +141,16 @@ class Saver:
         return status, f"{message}: {reason}" if reason else message
 
 
-def is_device(path: str) -> bool:
-    """Whether something is there that isn't a file."""
-    return os.path.exists(path) and not is_plain(path)
-
-
 def barrier(out: str) -> str:
     """Why a file can't be written, as far as it can be seen before; the empty text where nothing is seen."""
     place = os.path.dirname(os.path.realpath(out))
-    if os.path.isdir(out) or out.endswith("/"):
-        return "it is a folder"
+    if kind_of(out) or out.endswith("/"):
+        return f"it is {kind_of(out) or 'a folder'}"
     if not os.path.isdir(place):
         return f"there is no folder {os.path.dirname(out)}"
     if os.path.exists(out) and not os.access(out, os.W_OK):
         return "it may not be written"
-    if not is_device(out) and not os.access(place, os.W_OK | os.X_OK):
+    if not os.access(place, os.W_OK | os.X_OK):
         return "no file may be made in its folder"
     return ""
 

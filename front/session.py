@@ -60,29 +60,34 @@ class Process:
         self.running = begun(program, ["--", *(it.path for it in copies)], copies, stdin=pipe, stdout=pipe, stderr=pipe, bufsize=0)
         for end in (self.running.stdin, self.running.stdout):
             os.set_blocking(end.fileno(), False)
-        self.heard = b""
+        # what was told since the last line's end
+        self.heard: List[bytes] = []
 
     def exchange(self, lines: Sequence[str], told: Optional[List[str]] = None) -> List[str]:
         """The replies to lines, each of which has one, behind those that are there. The process is of no more use if this is left by an exception; what was
         told until then is kept."""
         rest, replies = memoryview("".join(f"{it}\n" for it in lines).encode(errors="surrogateescape")), [] if told is None else told
         wanted = len(replies) + len(lines)
+        self.signals.look()
+        rest = rest[self.written(rest) :]
         while len(replies) < wanted:
             readable, writable = self.waited(bool(rest))
             if writable:
                 rest = rest[self.written(rest) :]
             if readable and self.read_piece():
-                *whole, self.heard = self.heard.split(b"\n")
+                whole = b"".join(self.heard).split(b"\n")
+                self.heard = [whole.pop()]
                 replies += [it.decode(errors="replace") for it in whole]
         return replies
 
     def waited(self, is_writing: bool) -> tuple:
         """Whether the process has told something, and whether it takes something, once one of them holds. What a signal asked for is raised."""
-        self.signals.look()
         taken = [self.running.stdin] if is_writing else []
         readable, writable, _ = select.select([self.running.stdout, self.signals.wake], taken, [], self.signals.patience)
         if not readable and not writable:
             self.signals.sign()
+        if self.signals.wake in readable:
+            self.signals.drain()
         self.signals.look()
         return self.running.stdout in readable, bool(writable)
 
@@ -103,7 +108,7 @@ class Process:
             return False
         if not piece:
             raise Died(ended(self.running, self.running.stderr.read()))
-        self.heard += piece
+        self.heard.append(piece)
         return b"\n" in piece
 
     def end(self) -> None:

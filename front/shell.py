@@ -1,15 +1,16 @@
 """The prompt without a terminal: a line in, what it does and shows. The commands are in front/commands."""
-from typing import Callable, List, Optional, Tuple
+from typing import List, Optional, Tuple
 
 from front import words as reader
 from front.commands import COMMANDS
 from front.description import Description
 from front.explain import Explainer
 from front.journal import NoJournal
-from front.keeper import WORDS, Keeper
+from front.keeper import WORDS
 from front.look import MOST_ASKED, Explorer, Spent
+from front.opening import Opened
 from front.output import Output
-from front.save import NotSaved, Saver
+from front.save import NotSaved
 from front.session import Died, Refused
 from front.signals import Interrupted, Signals
 from front.texts import hexed
@@ -27,22 +28,24 @@ class Leaving(Exception):
 class Shell:
     """A session with its commands, and what they need to know of each other: the place in the tree, and what was asked last."""
 
-    def __init__(
-        self, file: str, out: Optional[str], keeper: Keeper, saver: Saver, description: Callable[[], Description], output: Output, signals: Signals
-    ) -> None:
-        self.file, self.out, self.keeper, self.saver = file, out, keeper, saver
-        self.description, self.output, self.signals = description, output, signals
+    def __init__(self, opened: Opened, output: Output, signals: Signals) -> None:
+        self.file, self.out, self.keeper, self.saver = opened.file, opened.out, opened.keeper, opened.saver
+        self.opened, self.output, self.signals = opened, output, signals
         self.place, self.asked, self.is_warned, self.status = "/", "/", False, 0
         # whether integers are shown as hexadecimal digits; the list of which `more` shows more, by its path and the next index
         self.is_hex = False
         self.more: Optional[Tuple[str, int]] = None
         # the number of the state that is at OUT
-        self.at_out: Optional[int] = 0 if out is not None and saver.is_same(out, file) else None
+        self.at_out: Optional[int] = 0 if self.out is not None and self.saver.is_same(self.out, self.file) else None
 
     @property
     def is_terminal(self) -> bool:
         """Whether a person reads what is shown."""
         return self.output.is_terminal
+
+    def description(self) -> Description:
+        """What the description's text has."""
+        return self.opened.description()
 
     def ask(self, line: str) -> str:
         """The reply to a line."""

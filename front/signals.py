@@ -66,9 +66,14 @@ class Signals:
         except BlockingIOError:
             pass
 
+    def is_asked(self) -> bool:
+        """Whether something was asked for and isn't raised yet."""
+        return self.is_interrupted or bool(self.ending)
+
     def look(self) -> None:
         """Raises what was asked for, if something was: once an interruption, each time the end."""
-        self.drain()
+        if self.is_asked():
+            self.drain()
         if self.ending:
             raise Ending(self.ending)
         if self.is_interrupted:

@@ -4,6 +4,7 @@ Each walk goes level by level and has a budget of questions; where it gives up, 
 """
 import re
 from collections import deque
+from itertools import islice
 from typing import Deque, Dict, Iterator, List, Optional, Tuple
 
 from front.look import Explorer, Spent, steps_of
@@ -29,7 +30,9 @@ class Walk:
                 path, depth = rest.popleft()
                 yield path
                 below = self.explorer.children(path) if depth < DEEPEST else []
-                rest.extend((it, depth + 1) for it in steps_of(path, below))
+                # no more than questions are left for, of which each path takes one
+                most = max(0, self.explorer.num_left() + 1 - len(rest))
+                rest.extend((it, depth + 1) for it in islice(steps_of(path, below), most))
         except Spent:
             self.cut = path
 
@@ -92,15 +95,16 @@ def gaps(spans: List[Tuple[Span, str]], size: int) -> List[str]:
     return lines or [f"each byte of {size} is in one member"]
 
 
-def expanded(explorer: Explorer, path: str) -> List[str]:
-    """The paths that a path with `*` for steps is of."""
-    found = [""]
-    for step in path.split("/")[1:]:
-        if step == "*":
-            found = [it for front in found for it in steps_of(front or "/", explorer.children(front or "/"))]
-        elif step:
-            found = [f"{front}/{step}" for front in found]
-    return [it or "/" for it in found]
+def expanded(explorer: Explorer, path: str) -> Iterator[str]:
+    """The paths that a path with `*` for steps is of, one after another."""
+    steps = [it for it in path.split("/") if it]
+    if "*" not in steps:
+        yield path
+        return
+    at = steps.index("*")
+    front = "/" + "/".join(steps[:at])
+    for it in steps_of(front, explorer.children(front)):
+        yield from expanded(explorer, "/".join([it, *steps[at + 1 :]]))
 
 
 def differences(ours: Explorer, theirs: Explorer, path: str) -> Iterator[str]:
@@ -112,6 +116,7 @@ def differences(ours: Explorer, theirs: Explorer, path: str) -> Iterator[str]:
         if told != other:
             yield f"{it}  {cut(told, SHOWN)} | {cut(other, SHOWN)}"
         if told.startswith(("object ", "[")) and re.match(r"object |\[", other):
-            below, beside = (list(steps_of(it, one.children(it))) for one in (ours, theirs))
+            most = max(0, ours.num_left() + 1 - len(rest))
+            below, beside = (list(islice(steps_of(it, one.children(it)), most)) for one in (ours, theirs))
             known = set(beside)
             rest.extend(path for path in below if path in known)

@@ -1,8 +1,9 @@
 """The rows of a tree: each member with its place and value."""
-from typing import Callable, List, Optional, Tuple
+from contextlib import contextmanager
+from typing import Callable, Iterable, Iterator, List, Optional, Tuple
 
 from front.follow import Follower
-from front.look import ELEMENTS, MOST_ASKED, Explorer, Spent, steps_of
+from front.look import ELEMENTS, Explorer, Spent, steps_of
 from front.lost import Lost
 
 
@@ -14,26 +15,29 @@ class Tree:
         self.rows: List[str] = []
         self.more: Optional[Tuple[str, int]] = None
 
-    def below(self, path: str, depth: int) -> List[str]:
-        """The rows of a path and of what is below it, as many steps down."""
-        return self.ended(lambda: self.branch(path, depth, 0))
+    def below_all(self, paths: Iterable[str], depth: int) -> None:
+        """Adds the rows of paths and of what is below them, as many steps down."""
+        with self.ended():
+            for it in paths:
+                self.branch(it, depth, 0)
 
-    def elements(self, path: str, start: int, depth: int) -> List[str]:
-        """The rows of a list's elements from an index on."""
-        return self.ended(lambda: self.inner(path, depth, 0, start))
+    def elements(self, path: str, start: int, depth: int) -> None:
+        """Adds the rows of a list's elements from an index on."""
+        with self.ended():
+            self.inner(path, depth, 0, start)
 
-    def ended(self, fill: Callable[[], None]) -> List[str]:
-        """The rows that something makes, with a note where the budget ended them."""
+    @contextmanager
+    def ended(self) -> Iterator[None]:
+        """Adds a note where the budget ends the rows."""
         try:
-            fill()
+            yield
         except Spent:
-            self.rows.append(f"  (the tree ends here, after {MOST_ASKED} questions)")
-        return self.rows
+            self.rows.append(f"  (the tree ends here, after {self.explorer.num_asked()} questions)")
 
     def branch(self, path: str, depth: int, level: int) -> None:
         """The row of one path, and those below it. A value instance that is an object is followed to where that is."""
         name = path.rsplit("/", 1)[1] or "/"
-        told, where = self.explorer.ask(f"get {path}"), self.explorer.ask(f"at {path}")
+        told, where = self.explorer.value(path), self.explorer.ask(f"at {path}")
         place = where[3:].replace(" ", "-") if where.startswith("at ") else "" if where.startswith("fault") else where
         shown = "" if where == "absent" and told == f"fault absent at {path}" else self.shown(told)
         target = self.follower.target(path) if where == "calculated" and told.startswith("object ") else None

@@ -8,7 +8,7 @@ from dataclasses import dataclass, field
 from typing import Callable, Dict, Iterator, List, Optional, Sequence, Tuple, Type
 
 from fronts.model import KSY, State, noted
-from fronts.room import DIED, HALF, NO_MEMORY, TOP, TWICE, Piped, Room, Shell, Silent, Terminal, Tree, room_of
+from fronts.room import DIED, HALF, NO_MEMORY, TOP, TWICE, Piped, Room, Shell, Silent, Terminal, Tree, room_of, settled
 
 FILE = random.Random(62).randbytes(110_000)
 SOME = random.Random(63).randbytes(130).hex()
@@ -75,7 +75,6 @@ class Journey:
     source: random.Random
     shell: Optional[Shell] = None
     state: State = State(FILE)
-    is_changed: bool = False
     num_trials: int = 0
     wrong: List[str] = field(default_factory=list)
 
@@ -86,11 +85,8 @@ class Journey:
     def plainly(self, line: str) -> None:
         """Does a line with no break."""
         told, (after, wanted) = self.shell.ask(line), self.state.after(line)
-        if self.is_changed and told.startswith("FILE isn't as it was") and line == "save FILE":
-            told = self.shell.ask(line)
         if told != wanted:
             raise Wrong(f"{line[:40]}: told {told[:200]!r}, and not {wanted!r}")
-        self.is_changed = self.is_changed and line != "save FILE"
         self.state = after
 
     def line(self, line: str, numbers: Sequence[int], most: int) -> None:
@@ -118,9 +114,6 @@ class Journey:
         self.room.control.arm(plans)
         told = self.shell.ask(line)
         fired = self.room.control.fired()
-        if self.is_changed and name == "FILE" and told.startswith("FILE isn't as it was"):
-            told, self.is_changed = self.shell.ask(line), False
-            fired = self.room.control.fired()
         self.num_trials += 1 if fired else 0
         if self.kind.action == TWICE and fired:
             self.room.control.wait_for_second()
@@ -180,18 +173,20 @@ class Journey:
         self.on_disk()
 
     def recovered(self, candidates: Sequence[State]) -> Sequence[State]:
-        """Begins a new shell, which takes up what is left; the states that it may have."""
+        """Begins a new shell, once no save goes on, which takes up what is left; the states that it may have. All saves are the sessions' own: so the next one
+        must not be asked about."""
         self.shell.close()
         self.room.control.disarm()
+        settled(self.room)
         self.begin()
         told = self.shell.ask("recover")
         file = self.room.read("FILE")
         if told.startswith("nothing to recover"):
             if not any(it.is_saved() for it in candidates):
                 raise Wrong(f"{told!r}: {candidates[0].listed()!r} is lost")
-            self.is_changed = False
             return [State(file)]
-        self.is_changed = file != self.state.origin
+        if "was changed since" in told:
+            raise Wrong(f"{told!r}, by nobody else")
         return [it for it in candidates if not it.is_saved()]
 
     def on_disk(self) -> None:

@@ -1,4 +1,4 @@
-"""The shell is killed at each of its system calls that change a file, below each of some lines."""
+"""The shell is killed at each of its system calls that change a file, below each of some lines; or the call fails, or the disk is full from then on."""
 import random
 import signal
 import struct
@@ -12,8 +12,9 @@ from fronts.room import HERE, Piped, Silent, Tree, room_of
 
 CONTENT = random.Random(65).randbytes(3000)
 LINES = ["set 5 0102", "ins 0 aabb", "undo", "redo", "put /a 7", "save OUT", "save FILE", "del 3 100"]
-# Where killed.c has its plan in the control file; the ways of a call; and how many calls are below a line at most.
-OFFSET, WAYS, MOST = 2048, (2049, 2050, 2051), 30
+# Where killed.c has its plan in the control file; the ways of a call, of which the last two let it fail; and how many calls are below a line at most.
+OFFSET, WAYS, MOST = 2048, (2049, 2050, 2051, 2052, 2053), 30
+FAILING, NO_ROOM = WAYS[3:], "No space left on device"
 KIND = Kind("killed at a system call", signal.SIGKILL, Piped, -signal.SIGKILL)
 
 
@@ -36,8 +37,6 @@ def trial(journey: Journey, line: str, number: int, way: int) -> bool:
     old = journey.room.read(name) if name else None
     arm(journey, number, way)
     told = journey.shell.ask(line)
-    if journey.is_changed and told.startswith("FILE isn't as it was"):
-        told, journey.is_changed = journey.shell.ask(line), False
     is_there = is_met(journey)
     arm(journey, 0, 0)
     if (journey.shell.status is not None) != is_there or journey.shell.status not in (None, -signal.SIGKILL):
@@ -48,6 +47,31 @@ def trial(journey: Journey, line: str, number: int, way: int) -> bool:
     return is_there
 
 
+def failing(journey: Journey, line: str, number: int, way: int) -> bool:
+    """A line below which a call fails, or finds the disk full; whether the call came. What isn't done, or isn't in the journal, is told; the session goes on,
+    and the next edit is in the journal with all before it."""
+    journey.plainly("size")
+    before, (after, wanted) = journey.state, journey.state.after(line)
+    name = line.split(" ")[1] if line.startswith("save") else ""
+    old, heard = journey.room.read(name) if name else None, len(journey.shell.told_aside())
+    arm(journey, number, way)
+    told, more = journey.shell.ask(line), journey.shell.ask("size")
+    is_there, aside = is_met(journey), journey.shell.told_aside()[heard:]
+    arm(journey, 0, 0)
+    if journey.shell.status is not None or "Traceback" in aside:
+        raise Wrong(f"{line}, call {number} fails: status {journey.shell.status}, {aside[-300:]!r}")
+    if told != wanted and not (is_there and NO_ROOM in told):
+        raise Wrong(f"{line}, call {number} fails: told {told!r}, and not {wanted!r}")
+    journey.state = after if told == wanted else before
+    if more != journey.state.after("size")[1] or name and journey.room.read(name) != (after.content if told == wanted else old):
+        raise Wrong(f"{line}, call {number} fails: {name} isn't as it was told, {told!r}, {more!r}")
+    if f"isn't in the journal: {NO_ROOM}" not in aside:
+        journey.same([journey.state], f"{line}, call {number} fails")
+    journey.plainly(f"set 11 {journey.source.randbytes(2).hex()}")
+    journey.same([journey.state], f"{line}, after call {number} failed")
+    return is_there
+
+
 def through(journey: Journey, line: str, is_first: bool) -> int:
     """Kills the shell at each call below a line, or below the first edit of a session; how many there were."""
     for number in range(1, MOST):
@@ -55,7 +79,7 @@ def through(journey: Journey, line: str, is_first: bool) -> int:
             journey.plainly(f"set 7 {journey.source.randbytes(3).hex()}")
         if line == "redo":
             journey.plainly("undo")
-        if not trial(journey, line, number, journey.way):
+        if not (failing if journey.way in FAILING else trial)(journey, line, number, journey.way):
             return number - 1
         if is_first and journey.state.greatest:
             journey.plainly("save FILE")

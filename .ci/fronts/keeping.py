@@ -46,8 +46,10 @@ def steps() -> List[Tuple[dict, Edits]]:
                 edits = edits.again()
                 found.append(({"step": "redo"}, edits))
         if number == 5:
+            begun = journal.saving(ORIGIN, "/nowhere", edits.version)
+            found.append((begun, edits))
             edits = edits.marked_saved(edits.version)
-            found.append(({"saved": edits.saved}, edits))
+            found.append((journal.saved(begun), edits))
     return found
 
 
@@ -237,6 +239,71 @@ def kept() -> str:
         return "" if is_right else f"{len(left)} are left, {len(found)} found"
 
 
+# Records of saves, what the file has, and whether its edits are saved and it is as the session left it: `b` begins a save of the bytes NEW to the file and
+# `s` tells that it went well, `B` and `S` of the bytes OTHER, `o` and `p` are the two of a save of NEW to another file, and `e` is one more edit.
+NEW, OTHER = b"new bytes", b"other bytes"
+SAVES: List[Tuple[str, bytes, bool, bool]] = [
+    ("", ORIGIN, False, True), ("", NEW, False, False), ("b", ORIGIN, False, True), ("b", NEW, True, True), ("b", OTHER, False, False), ("bs", NEW, True, True),
+    ("bs", ORIGIN, True, False), ("bse", NEW, False, True), ("be", NEW, False, True), ("be", ORIGIN, False, True), ("bseB", NEW, False, True),
+    ("bseB", OTHER, True, True), ("bseBS", OTHER, True, True), ("bseBS", NEW, True, False), ("bseBe", OTHER, False, True), ("o", ORIGIN, False, True), ("o", NEW, False, False),
+    ("op", ORIGIN, True, True), ("op", NEW, True, False), ("bsop", NEW, True, True), ("bseo", NEW, False, True), ("bo", NEW, True, True), ("ob", NEW, True, True),
+]
+
+
+def own_saves() -> str:
+    """A save is known for the session's own, also where it isn't told to have gone well, and no other change of the file is."""
+    for records, content, is_saved, is_own in SAVES:
+        with home() as folder:
+            file, version = f"{folder}/FILE", 1
+            own = Journal.begun(file, ORIGIN)
+            own.note(journal.made(Edit("set 0 00", ("set 0 00",)), version))
+            begun = {"b": journal.saving(NEW, file, 0), "B": journal.saving(OTHER, file, 0), "o": journal.saving(NEW, f"{folder}/OTHER", 0)}
+            for it in records:
+                version += it == "e"
+                event = {**begun[{"s": "b", "S": "B", "p": "o"}.get(it, it)], "saving": version} if it != "e" else journal.made(Edit("app 00", ("app 00",)), version)
+                own.note(journal.saved(event) if it in "sSp" else event)
+            own.close(is_kept=True)
+            with open(file, "wb") as there:
+                there.write(content)
+            left = journal.left_of(own.path)
+            again, held = Journal.taken_up(left)
+            again.close(is_kept=True)
+            found = left.is_saved, left.sum == journal.sum_at(file), held.edits.is_saved(), held.sum == left.sum
+            if found != (is_saved, is_own, is_saved, True):
+                return f"{records}, and the file has {content[:20]!r}: {found}"
+    return ""
+
+
+def on_disk() -> str:
+    """Each record is on the disk once it is noted, and so is the journal's name."""
+    calls: List[str] = []
+
+    def counted(number: int) -> None:
+        """A call that is noted."""
+        calls.append(os.readlink(f"/proc/self/fd/{number}"))
+        os.fsync(number)
+
+    with home() as folder, mock.patch.object(journal, "os", Watched(counted)):
+        own = Journal.begun(f"{folder}/FILE", ORIGIN)
+        begun, calls[:] = list(calls), []
+        for number, (event, _) in enumerate(steps(), 1):
+            own.note(event)
+            if calls != [own.path] * number:
+                return f"record {number}: {calls}"
+        own.close(is_kept=True)
+        return "" if begun == [f"{own.path}.new", os.path.dirname(own.path)] else f"{begun}"
+
+
+class Watched:
+    """The module os, whose `fsync` is another one."""
+
+    def __init__(self, fsync: Callable[[int], None]) -> None:
+        self.fsync = fsync
+
+    def __getattr__(self, name: str) -> object:
+        return getattr(os, name)
+
+
 def modes() -> str:
     """A journal and its folder are the person's own, whatever the mask."""
     before = os.umask(0)
@@ -361,6 +428,8 @@ CHECKS: Dict[str, Check] = {
     "locks of journals": locks,
     "how many journals are kept": kept,
     "modes of journals": modes,
+    "own saves": own_saves,
+    "a journal on the disk": on_disk,
     "no folder for journals": no_folder,
     **{f"a process that saves: {name}": outcome(script, wanted, left) for name, script, wanted, left in OUTCOMES},
     "a process that can't be begun": no_program,

@@ -4,7 +4,6 @@ import os
 import random
 import re
 import signal
-import struct
 import subprocess
 import threading
 import time
@@ -12,20 +11,10 @@ from dataclasses import dataclass
 from typing import Callable, Dict, List, Optional
 
 from fronts.model import KSY
-from fronts.room import Piped, Room, Terminal, Tree, room_of
+from fronts.room import Piped, Terminal, Tree, memory_of, room_of, times_of
 
 Case = Callable[[Tree], str]
 MEBI = 1 << 20
-# A list of 1,000,000 elements in a file of 1 MiB, of which the first one has a fault.
-BROKEN = bytes(16) + struct.pack("<I", 1_000_000) + b"\xff" * 4 + bytes(MEBI - 24)
-BROKEN_KSY = b"""meta: {id: t, endian: le}
-seq:
-  - {id: head, size: 16}
-  - {id: num, type: u4}
-  - {id: xs, type: x, repeat: expr, repeat-expr: num}
-types:
-  x: {seq: [{id: len, type: u4}, {id: body, size: len}, {id: last, type: u4}]}
-"""
 
 
 @dataclass(frozen=True)
@@ -52,39 +41,6 @@ def cost(tree: Tree, files: Dict[str, bytes], lines: List[str], program: str = "
         return Cost(used.ru_utime + used.ru_stime, used.ru_maxrss * 1024, running.returncode)
 
 
-def costs_little(files: Dict[str, bytes], lines: List[str], seconds: float, memory: int, **environ: str) -> Case:
-    """Lines take no more processor time and memory than a session with none of them does, and this."""
-
-    def case(tree: Tree) -> str:
-        """What is wrong with it."""
-        before, own = cost(tree, files, ["size"], **environ), cost(tree, files, ["size", *lines], **environ)
-        used, more = own.seconds - before.seconds, own.memory - before.memory
-        return "" if used <= seconds and more <= memory and own.status == 0 else f"{used:.2f} s and {more // MEBI} MiB more than without, status {own.status}"
-
-    return case
-
-
-def tabs(tree: Tree) -> str:
-    """Tab on a broken list offers at once what is there."""
-    with room_of(tree, {"FILE": BROKEN, "KSY": BROKEN_KSY}) as room, contextlib.closing(Terminal(room, KSV_MEMORY=os.environ.get("KSV_MEMORY", "2G"))) as shell:
-        shell.ask("size")
-        begun = time.monotonic()
-        os.write(shell.ours, b"get xs/\t\t")
-        shown = shell.until(re.compile(rb"xs/0"))
-        used, took = memory_of(shell.pid), time.monotonic() - begun
-        return "" if took < 5 and "xs/0" in shown else f"{took:.1f} s, {used // MEBI} MiB, {shown[-80:]!r}"
-
-
-def memory_of(pid: int) -> int:
-    """The most memory that the children of a process had, in bytes."""
-    found = 0
-    with open(f"/proc/{pid}/task/{pid}/children", encoding="utf-8") as file:
-        for child in file.read().split():
-            with open(f"/proc/{child}/status", encoding="utf-8") as status:
-                found = max(found, int(re.search(r"VmHWM:\s*(\d+)", status.read())[1]) * 1024)
-    return found
-
-
 def finds_many(tree: Tree) -> str:
     """`find 00` over 1 MiB of zeros takes little memory."""
     own = cost(tree, {"FILE": bytes(MEBI), "KSY": KSY}, ["find 00"])
@@ -100,11 +56,21 @@ def finds_first(tree: Tree) -> str:
         running.stdin.write(b"find 00\n")
         running.stdin.flush()
         told = running.stdout.readline()
-        with open(f"/proc/{running.pid}/status", encoding="utf-8") as status:
-            used = int(re.search(r"VmHWM:\s*(\d+)", status.read())[1]) * 1024
+        used = memory_of(running.pid)
         running.kill()
         running.communicate()
         return "" if told == b"at 0 1  (0x0)\n" and used < 150 * MEBI else f"{used // MEBI} MiB, {told!r}"
+
+
+def finds_at_terminal(tree: Tree) -> str:
+    """`find 00` over 16 MiB of zeros at a terminal takes little memory, and ends soon."""
+    with room_of(tree, {"FILE": bytes(16 * MEBI), "KSY": KSY}) as room, contextlib.closing(Terminal(room)) as shell:
+        shell.ask("size")
+        begun, before = times_of(shell.pid), memory_of(shell.pid)
+        told = shell.ask("find 00")
+        took, used = times_of(shell.pid) - begun, memory_of(shell.pid) - before
+        is_right = told.startswith("at 0 1  (0x0)\n") and "more than 100000 more" in told and took < 3 and used < 100 * MEBI
+        return "" if is_right else f"{took:.1f} s, {used // MEBI} MiB, {told[-100:]!r}"
 
 
 def many_types(count: int) -> bytes:
@@ -127,30 +93,20 @@ def explains(tree: Tree) -> str:
 
 
 def saves_fast(tree: Tree) -> str:
-    """A save of 16 MiB with 1,000 edits takes no more than two seconds."""
+    """A save of 16 MiB with 1,000 edits takes no more than two seconds, the fastest of three, by the clock or, where other work runs, of processors."""
     source = random.Random(5)
-    edits = [f"set {source.randrange(1 << 24)} 00" if count % 3 else f"ins {source.randrange(1 << 24)} 0102" for count in range(999)]
+    edits = [f"set {source.randrange(1 << 24)} 00" if count % 3 else f"ins {source.randrange(1 << 24)} 0102" for count in range(1000)]
     with room_of(tree, {"FILE": source.randbytes((1 << 24) - 5000), "KSY": KSY}) as room, contextlib.closing(Piped(room)) as shell:
         shell.running.stdin.write("".join(f"{it}\n" for it in edits).encode())
         shell.running.stdin.flush()
         for _ in edits:
             shell.running.stdout.readline()
-        begun, used = time.monotonic(), times_of(shell.pid)
-        told = shell.ask("save OUT")
-        took, used = time.monotonic() - begun, times_of(shell.pid) - used
-    return "" if min(took, used) <= 2 and told.startswith("saved ") else f"{took:.2f} s, of them {used:.2f} s of processors: {told[:80]!r}"
-
-
-def times_of(pid: int) -> float:
-    """The processor time of a process and its children, in seconds."""
-    pids, found = [str(pid)], 0.0
-    with open(f"/proc/{pid}/task/{pid}/children", encoding="utf-8") as file:
-        pids += file.read().split()
-    for count, it in enumerate(pids):
-        with open(f"/proc/{it}/stat", encoding="utf-8") as file:
-            fields = file.read().rpartition(")")[2].split()
-        found += sum(map(int, fields[11 : 15 if not count else 13])) / os.sysconf("SC_CLK_TCK")
-    return found
+        found = []
+        for count in range(3):
+            begun, used = time.monotonic(), times_of(shell.pid)
+            told = shell.ask(f"save OUT{count}")
+            found.append((min(time.monotonic() - begun, times_of(shell.pid) - used), told[:6]))
+    return "" if min(found)[0] <= 2 and all(it == "saved " for _, it in found) else f"{found}, {told[:80]!r}"
 
 
 def limit_of(pid: int) -> Optional[int]:
@@ -230,12 +186,9 @@ def hinted(size: int, line: bytes, seconds: float, memory: int) -> Case:
 
 # Cases that need the program itself, and those over a proxy.
 DIRECT: Dict[str, Case] = {
-    "6: where on a broken list": costs_little({"FILE": BROKEN, "KSY": BROKEN_KSY}, ["where 0xa0"], 0.5, 50 * MEBI),
-    "6: tree on a broken list": costs_little({"FILE": BROKEN, "KSY": BROKEN_KSY}, ["tree"], 0.5, 50 * MEBI),
-    "6: cd on a broken list": costs_little({"FILE": BROKEN, "KSY": BROKEN_KSY}, ["cd xs"], 0.5, 50 * MEBI),
-    "6: Tab on a broken list": tabs,
     "6: find over 1 MiB of zeros": finds_many,
     "6: find over 16 MiB of zeros": finds_first,
+    "6: find over 16 MiB of zeros at a terminal": finds_at_terminal,
     "6: an explanation at 1,000 types": explains,
     "more: hints of a line of 1,000,000 question marks": hinted(1_000_000, b"?" * 1_000_000, 3, 250 * MEBI),
     "8: hints of a description of 1 GiB": hinted(1 << 30, b"a: b\n", 3, 250 * MEBI),

@@ -126,6 +126,8 @@ def noted(path: str) -> Optional[Noted]:
             done, undone = [*done, event], []
         elif "saved" in event:
             saved = event["saved"]
+        elif "saving" in event:
+            continue
         elif event["step"] == "undo":
             done, undone = done[:-1], [*undone, done[-1]]
         else:

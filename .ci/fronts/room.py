@@ -147,6 +147,45 @@ def room_of(tree: Tree, files: Dict[str, bytes]) -> Iterator[Room]:
         yield Room(tree, folder, files)
 
 
+def settled(room: Room) -> None:
+    """Waits until no process of the program has the room's control file any more."""
+    until = time.monotonic() + PATIENCE
+    while time.monotonic() < until and any(room.folder in it for it in maps()):
+        time.sleep(0.02)
+
+
+def maps() -> List[str]:
+    """The control files that processes other than this one have."""
+    found = []
+    for number in filter(str.isdigit, os.listdir("/proc")):
+        if int(number) != os.getpid():
+            with contextlib.suppress(OSError), open(f"/proc/{number}/maps", encoding="utf-8", errors="replace") as file:
+                found += re.findall(r"/\S*/control\b", file.read())
+    return found
+
+
+def children_of(pid: int) -> List[int]:
+    """The children of a process that run."""
+    with open(f"/proc/{pid}/task/{pid}/children", encoding="utf-8") as file:
+        return [int(it) for it in file.read().split()]
+
+
+def memory_of(pid: int) -> int:
+    """The most memory that a process had, in bytes."""
+    with open(f"/proc/{pid}/status", encoding="utf-8") as status:
+        return int(re.search(r"VmHWM:\s*(\d+)", status.read())[1]) * 1024
+
+
+def times_of(pid: int) -> float:
+    """The processor time of a process, and of its children, those too that have ended, in seconds."""
+    found = 0.0
+    for it in (pid, *children_of(pid)):
+        with open(f"/proc/{it}/stat", encoding="utf-8") as file:
+            fields = file.read().rpartition(")")[2].split()
+        found += sum(map(int, fields[11 : 15 if it == pid else 13])) / os.sysconf("SC_CLK_TCK")
+    return found
+
+
 class Shell:
     """A shell that runs: lines are typed, and what is told below each is read."""
 

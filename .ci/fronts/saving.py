@@ -4,32 +4,14 @@ import os
 import random
 import re
 import signal
-import time
-from typing import Callable, Dict, List
+from typing import Callable, Dict
 
 from fronts.model import KSY
-from fronts.room import DIED, NO_MEMORY, PATIENCE, Piped, Room, Terminal, Tree, room_of
+from fronts.room import DIED, NO_MEMORY, Piped, Terminal, Tree, room_of, settled
 
 Case = Callable[[Tree], str]
 LARGE = random.Random(1).randbytes(1 << 24)
 SMALL = random.Random(2).randbytes(100)
-
-
-def settled(room: Room) -> None:
-    """Waits until no process of the program has the room's control file any more."""
-    until = time.monotonic() + PATIENCE
-    while time.monotonic() < until and any(room.folder in it for it in maps()):
-        time.sleep(0.02)
-
-
-def maps() -> List[str]:
-    """The control files that processes other than this one have."""
-    found = []
-    for number in filter(str.isdigit, os.listdir("/proc")):
-        if int(number) != os.getpid():
-            with contextlib.suppress(OSError), open(f"/proc/{number}/maps", encoding="utf-8", errors="replace") as file:
-                found += re.findall(r"/\S*/control\b", file.read())
-    return found
 
 
 def interrupted_save(signum: int, number: int) -> Case:
@@ -170,6 +152,45 @@ def two_shells(tree: Tree) -> str:
     return ""
 
 
+def changed_since(tree: Tree) -> str:
+    """A session is taken up over a file that another program changed since: no state is called saved, and a save over the file is asked about."""
+    with room_of(tree, {"FILE": SMALL, "KSY": KSY}) as room:
+        with contextlib.closing(Piped(room)) as shell:
+            shell.ask("set 0 ff")
+            shell.ask("save FILE")
+            shell.ask("set 1 ee")
+        room.write("FILE", b"another")
+        with contextlib.closing(Piped(room)) as shell:
+            greeting = shell.told_aside()
+            found = [shell.ask(it) for it in ("recover", "edits", "undo", "edits", "save FILE", "save FILE", "edits")]
+        wanted = ["was changed since", "saved: no", "took back: set 1 ee", "saved: no", "isn't as it was", "saved 100 bytes", "saved: yes"]
+        is_right = "was changed since" in greeting and all(it in own for own, it in zip(found, wanted)) and room.read("FILE") == b"\xff" + SMALL[1:]
+        return "" if is_right else f"{greeting!r}, {found}"
+
+
+def own_save(tree: Tree) -> str:
+    """A session that saved over the file, and one that ended before it was told that it had, are taken up without a word of a change, and saved so."""
+    for number in (0, 4, 5):
+        with room_of(tree, {"FILE": SMALL, "KSY": KSY}) as room:
+            with contextlib.closing(Piped(room)) as shell:
+                shell.ask("set 0 ff")
+                shell.ask("save FILE")
+                shell.ask("set 1 ee")
+                if number:
+                    room.control.arm([(number, signal.SIGKILL, 0)])
+                    shell.ask("save FILE")
+                    room.control.disarm()
+            settled(room)
+            is_there = room.read("FILE") == b"\xff\xee" + SMALL[2:]
+            with contextlib.closing(Piped(room)) as shell:
+                greeting = shell.told_aside()
+                found = [shell.ask(it) for it in ("recover", "set 2 dd", "save FILE")]
+            is_right = "changed" not in greeting and "changed" not in found[0] and found[2] == "saved 100 bytes to FILE"
+            if not is_right or is_there != bool(number) or is_there != (found[0] == "nothing to recover"):
+                return f"{number}: {greeting!r}, {found}, saved: {is_there}"
+    return ""
+
+
 def two_spaces(tree: Tree) -> str:
     """The spaces of a name are its own."""
     with room_of(tree, {"FILE": SMALL, "KSY": KSY}) as room, contextlib.closing(Piped(room)) as shell:
@@ -216,4 +237,6 @@ CASES: Dict[str, Case] = {
     "7: --save and no edits": no_edits,
     "7: why a save fails": reasons,
     "7: two shells": two_shells,
+    "more: a file that was changed since": changed_since,
+    "more: saves that are a session's own": own_save,
 }

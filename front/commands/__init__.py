@@ -64,6 +64,7 @@ COMMANDS: Dict[str, Command] = {
     "size": Command("size", "the number of bytes", asking.plain),
     "stats": Command("stats", "how many answers ksv keeps, and the work of the last question", asking.plain),
     "numbers": Command("numbers hex|decimal", "how integers are shown from now on", asking.numbers),
+    "reload": Command("reload", "reads the description again; the bytes and the edits stay. Where it is refused, the old one stays", looking.reload),
     "raw": Command("raw LINE", "sends a line to ksv as it is"),
     "all": Command("all", "the last reply whole, where it was cut", asking.show_all),
     "help": Command("help [WORD]", "this, or one command", told_help),

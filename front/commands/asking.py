@@ -1,7 +1,9 @@
 """Commands that hand a question to the program."""
+from itertools import islice
 from typing import TYPE_CHECKING, List
 
 from front import words as reader
+from front.look import Spent
 from front.lost import Lost
 from front.survey import expanded
 from front.words import Word
@@ -9,8 +11,8 @@ from front.words import Word
 if TYPE_CHECKING:
     from front.shell import Shell
 
-# The most paths that a path with `*` is asked for.
-MOST_PATHS = 2000
+# The most paths that a path with `*` is asked for, and how many others are counted.
+MOST_PATHS, MOST_COUNTED = 2000, 100_000
 
 
 def question(shell: "Shell", word: str, words: List[Word]) -> None:
@@ -30,16 +32,22 @@ def question(shell: "Shell", word: str, words: List[Word]) -> None:
 
 def each(shell: "Shell", word: str, path: str, is_hex: bool) -> None:
     """The same question about each path that a path with `*` for steps is, a line each."""
-    explorer, lost = shell.explorer(), Lost(shell.description())
+    explorer, lost, rows = shell.explorer(), Lost(shell.description()), []
     paths = expanded(explorer, path)
-    more = [f"  (and {len(paths) - MOST_PATHS} more paths)"] if len(paths) > MOST_PATHS else []
 
     def row(one: str) -> str:
         """The reply about one path."""
         told = explorer.ask(f"{word} {one}")
         return "  ".join(it for it in (one, shell.shown(told, is_hex), lost.said(explorer, one, told) if word == "get" else "") if it)
 
-    shell.output.show([*map(row, paths[:MOST_PATHS]), *more] or [f"nothing is at {path}"])
+    try:
+        for it in islice(paths, MOST_PATHS):
+            rows.append(row(it))
+        more = sum(1 for _ in islice(paths, MOST_COUNTED + 1))
+        rows += [f"  (and {more if more <= MOST_COUNTED else f'more than {MOST_COUNTED}'} more paths)"] if more else []
+    except Spent:
+        rows.append(f"  (given up after {explorer.num_asked()} questions)")
+    shell.output.show(rows or [f"nothing is at {path}"])
 
 
 def plain(shell: "Shell", word: str, words: List[Word]) -> None:

@@ -3,9 +3,9 @@ from typing import TYPE_CHECKING, List, Optional
 
 from front import words as reader
 from front.edits import edits_of
-from front.journal import removed, sum_of, when
+from front.journal import removed, sum_at, when
 from front.keeper import WORDS, lefts
-from front.save import CHANGED
+from front.save import CHANGED, look_of
 from front.words import Word
 
 if TYPE_CHECKING:
@@ -83,10 +83,10 @@ def recover(shell: "Shell", word: str, words: List[Word]) -> None:
     elif not shell.keeper.edits.is_saved():
         shell.output.show(["this session has edits of its own: save them, or take them back, and then `recover`"])
     else:
-        is_changed = left.sum != sum_of(shell.keeper.origin)
+        look = look_of(shell.file)
+        is_changed = left.sum != sum_at(shell.file)
         told = shell.keeper.recover(left)
         shell.at_out, shell.is_warned = None, False
-        if is_changed:
-            shell.saver.know(shell.file, CHANGED)
+        shell.saver.know(shell.file, CHANGED if is_changed else look)
         also = f"; {shell.file} was changed since, this is the session's own" if is_changed else ""
         shell.output.show([f"{told}  (took up {edits_of(len(shell.keeper.edits.holding()))}{also})"])

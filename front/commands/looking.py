@@ -1,11 +1,12 @@
 """Commands that look around: places, trees, bytes."""
 import re
-from typing import TYPE_CHECKING, Iterator, List
+from typing import TYPE_CHECKING, Callable, Iterator, List, Tuple
 
 from front import words as reader
 from front.follow import Follower
-from front.look import Explorer, Search
+from front.look import Explorer, Search, Spent
 from front.lost import Lost
+from front.session import Died, Refused
 from front.survey import expanded
 from front.texts import ROW, Line, rows_of_bytes
 from front.tree import Tree
@@ -14,8 +15,8 @@ from front.words import Word
 if TYPE_CHECKING:
     from front.shell import Shell
 
-# The most bytes that `hex` shows, and the most steps down of a tree.
-MOST_SHOWN, DEEPEST = 1 << 16, 64
+# The most bytes that `hex` shows, the most steps down of a tree, and after how many lines signals are looked at.
+MOST_SHOWN, DEEPEST, LOOKED = 1 << 16, 64, 1000
 
 
 def go(shell: "Shell", word: str, words: List[Word]) -> None:
@@ -46,9 +47,8 @@ def tree(shell: "Shell", word: str, words: List[Word]) -> None:
     if len(words) > 1:
         shell.usage(word)
         return
-    path, found = shell.path(words[0].text if words else "."), tree_of(shell)
-    for it in expanded(found.explorer, path) if "*" in path.split("/") else [path]:
-        found.below(it, min(depth, DEEPEST))
+    found = tree_of(shell)
+    found.below_all(expanded(found.explorer, shell.path(words[0].text if words else ".")), min(depth, DEEPEST))
     shell.more = found.more
     shell.output.show(found.rows, is_narrow=True)
 
@@ -77,6 +77,28 @@ def is_index(shell: "Shell", number: int) -> bool:
     """Whether a number names an element of the place in the prompt."""
     below = shell.explorer().children(shell.place)
     return isinstance(below, range) and number < len(below)
+
+
+def reload(shell: "Shell", word: str, words: List[Word]) -> None:
+    """Reads the description again. Where it is refused, that is told, and all is as it was."""
+    if words:
+        shell.usage(word)
+        return
+    try:
+        size = shell.opened.reload()
+    except (Died, OSError, Refused) as error:
+        shell.output.show([why_not(error, shell.opened.ksy), "  (the description is as it was)"])
+        return
+    shell.more = None
+    shell.output.show([f"ok {size.split()[1]}  (read again: {shell.opened.ksy})"])
+    if shell.place != "/" and not shell.explorer().children(shell.place):
+        shell.output.show([f"  (nothing is in {shell.place} any more: the place is / now)"])
+        shell.place = shell.asked = "/"
+
+
+def why_not(error: Exception, ksy: str) -> str:
+    """Why a description wasn't read again."""
+    return f"{ksy}: {error.strerror or 'cannot read'}" if isinstance(error, OSError) else str(error)
 
 
 def show_bytes(shell: "Shell", word: str, words: List[Word]) -> None:
@@ -119,14 +141,23 @@ def where(shell: "Shell", word: str, words: List[Word]) -> None:
             shell.output.show([f"no member has the byte {place}" + (", as far as was searched" if found.cuts else ""), *found.notes()])
             return
         shell.asked = found.best
+        paths, notes = sharing(shell, found.best, place)
         explorer, lost = shell.explorer(), Lost(shell.description())
-        shell.output.show([f"{it}  {shell.ask('at ' + it)}  {with_lost(lost, explorer, it)}" for it in explorer.sharing(found.best, place)] + found.notes())
+        shell.output.show([f"{it}  {explorer.ask(f'at {it}')}  {with_lost(lost, explorer, it)}" for it in paths] + notes + found.notes())
 
 
 def with_lost(lost: Lost, explorer: Explorer, path: str) -> str:
     """The value at a path, and how it read before its description was mended."""
-    told = explorer.ask(f"get {path}")
+    told = explorer.value(path)
     return "  ".join(it for it in (told, lost.said(explorer, path, told)) if it)
+
+
+def sharing(shell: "Shell", path: str, place: int) -> Tuple[List[str], List[str]]:
+    """What has bits of a byte, and what is told where it wasn't all found."""
+    try:
+        return shell.explorer().sharing(path, place), []
+    except Spent:
+        return [path], ["  (others may have bits of this byte: that many questions are asked at most)"]
 
 
 def find(shell: "Shell", word: str, words: List[Word]) -> None:
@@ -136,12 +167,14 @@ def find(shell: "Shell", word: str, words: List[Word]) -> None:
         shell.usage(word)
         return
     wanted, content = bytes.fromhex(digits), shell.keeper.session.content(0, shell.keeper.session.size())
-    shell.output.show(places_of(wanted, content) if wanted in content else ["not found"])
+    shell.output.show(places_of(wanted, content, shell.signals.look) if wanted in content else ["not found"])
 
 
-def places_of(wanted: bytes, content: bytes) -> Iterator[str]:
-    """A line for each place of some bytes."""
-    at = content.find(wanted)
+def places_of(wanted: bytes, content: bytes, look: Callable[[], None]) -> Iterator[str]:
+    """A line for each place of some bytes. There may be millions, so signals are looked at meanwhile."""
+    at, count = content.find(wanted), 0
     while at >= 0:
         yield f"at {at} {at + len(wanted)}  (0x{at:x})"
-        at = content.find(wanted, at + 1)
+        at, count = content.find(wanted, at + 1), count + 1
+        if count % LOOKED == 0:
+            look()

@@ -2,6 +2,7 @@
 from typing import TYPE_CHECKING, List
 
 from front import words as reader
+from front.copies import read
 from front.session import pieces
 from front.values import Unwritable, Writer
 from front.words import Word
@@ -91,8 +92,7 @@ def file_name(word: Word) -> str:
 
 def read_file(name: str) -> bytes:
     """The bytes of a file that isn't too large."""
-    with open(name, "rb") as file:
-        content = file.read(LARGEST + 1)
+    content = read(name, LARGEST + 1)
     if len(content) > LARGEST:
         raise OSError(None, f"{name}: file too large")
     return content
