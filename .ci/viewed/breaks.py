@@ -13,8 +13,8 @@ KEYS: List[Tuple[str, str, str]] = [
     ("ico", "", "f"), ("ico", "tab right*5 1", "6"), ("ico", "tab", "delete"), ("ico", "tab i 0 a", "enter"), ("ico", "", "r"), ("ico", "f e 2 2 enter s", "enter"),
     ("fat16", "tab", "pgdn"), ("fat16", "/ :Undelete", "enter"), ("fat16", "f", "enter"),
 ]
-# The places of a key that are tried: the first ones, and then each so many further.
-FIRST, STEP = 4, 5
+# The places of a key that are tried: the first ones, and then each further by a part of what is before it.
+PART = 3
 SIZES = [(10, 40), (24, 80), (1, 1), (50, 200), (11, 41), (30, 132), (4, 20), (24, 80)]
 STEPS = [("ico", "f e 2 2 enter down down right tab right 0 a u"), ("fat16", "f enter g :0x4240 enter tab down end ?"), ("bson", "/ :len_ enter n e :156 enter x b")]
 
@@ -40,7 +40,7 @@ def places() -> Iterator[int]:
     at = 1
     while True:
         yield at
-        at += 1 if at < FIRST else STEP
+        at += 1 + at // PART
 
 
 def broken(name: str, before: str, key: str) -> str:

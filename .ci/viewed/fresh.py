@@ -262,10 +262,10 @@ class Look:
         return f"the byte {place} is of {inner}, and not only of {path}" if inner else ""
 
     def wrong_about(self, rows: List[str]) -> Iterator[str]:
-        """What is wrong with what is said of the chosen node, and of the bytes at the cursor."""
-        state, first = self.state, rows[0].rstrip()
-        if state.is_node:
-            get, at = self.fresh.ask(f"get {state.path}"), self.fresh.ask(f"at {state.path}")
+        """What is wrong with what is said of the chosen node, and of the bytes at the cursor, as far as no message is over it."""
+        state, first = self.state, rows[0].rstrip() if rows else ""
+        if state.is_node and rows:
+            get, at = self.fresh.ask(f"get {state.path}").rstrip(), self.fresh.ask(f"at {state.path}")
             if not first.endswith("~") and (at not in first or not first.endswith((f"  {value_of(get, state.path, False)}", f"  {get}", at)) and get != at):
                 yield f"{state.path}: {first!r} hasn't {at!r} and {get!r}"
         some, order = self.content[state.place : state.place + 24], "<"

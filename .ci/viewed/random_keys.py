@@ -116,4 +116,4 @@ class Walk:
         count = len(keeper.edits.holding())
         desk.keys(["u"] * count)
         own = keeper.session.content(0, keeper.session.size())
-        return "" if own == keeper.origin and count else f"after {count} times u the bytes aren't those of the beginning"
+        return "" if own == keeper.origin and keeper.edits.greatest else f"after {count} times u the bytes aren't those of the beginning"
