@@ -10,7 +10,7 @@ from typing import Iterable, List, Optional, Sequence, Tuple, Union
 from front.session import Session
 
 # The most questions of one command and letters of their replies, and the elements of a list that a tree shows.
-MOST_ASKED, MOST_LETTERS, ELEMENTS = 5000, 1 << 26, 20
+MOST_ASKED, MOST_LETTERS, ELEMENTS = 5000, 34_000_000, 20
 # Of how many letters a value is long, and how many of a long one are shown where it is one of many.
 LONG, SHOWN = 8192, 68
 # The most elements that a list of ksv has; the most faults that a search names, how many steps down it goes, and the most elements that it goes into where

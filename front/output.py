@@ -11,8 +11,8 @@ from front.texts import Line, Painted, cut, narrow_of, visible
 WIDTH, WIDEST_NAME = 300, 44
 # How many lines `all` shows at most, after how many letters no more are kept for it, and how many of the others are counted.
 MOST_KEPT, MOST_LETTERS, MOST_COUNTED = 10_000, 1 << 23, 100_000
-# How many lines are written at once where there are many.
-TOGETHER = 500
+# How many letters are written at once where there are many.
+TOGETHER = 1 << 15
 
 
 class OutputFailed(Exception):
@@ -66,9 +66,14 @@ class Output:
         """Shows lines; on a terminal long ones and many are cut, where that isn't excluded, and `all` shows them whole. Narrow ones have a row each, but for
         those that name a fault."""
         if not self.is_terminal or is_whole:
-            rest = iter(lines)
-            while some := list(itertools.islice(rest, TOGETHER)):
-                self.write("".join(f"{self.painted(it)}\n" for it in some))
+            some, letters = [], 0  # type: List[str], int
+            for it in lines:
+                some.append(f"{self.painted(it)}\n")
+                letters += len(some[-1])
+                if letters > TOGETHER:
+                    self.write("".join(some))
+                    some, letters = [], 0
+            self.write("".join(some))
             return
         lines = iter(lines)
         self.last = kept(lines)

@@ -32,7 +32,7 @@ def described(seq: str, instances: str = "", **types: str) -> str:
     """A description with these members and instances, and types with these members."""
     rows = ["meta: {id: t, endian: le}", f"seq: [{seq}]"]
     rows += [f"instances: {{{instances}}}"] if instances else []
-    rows += ["types:", *(f"  {name}: {members if members.startswith('{params') else f'{{seq: [{members}]}}'}" for name, members in types.items())] if types else []
+    rows += ["types:", *(f"  {name}: {members if members.startswith(('{params', '{seq')) else f'{{seq: [{members}]}}'}" for name, members in types.items())] if types else []
     return "\n".join(rows) + "\n"
 
 
@@ -45,6 +45,8 @@ FIRST, MIDST, ZEROS = BROKEN + bytes(MEBI - 4), bytes(MEBI // 2) + BROKEN + byte
 NESTED = b"".join(struct.pack("<I", 1000) + BROKEN + bytes(1016) for _ in range(1024))
 COUNT = "repeat: expr, repeat-expr"
 SOME = "{id: some, size: 16}"
+# The most members that an object may have.
+MANY = 256
 
 
 def many(count: int, member: str) -> str:
@@ -72,13 +74,19 @@ SHAPES: Dict[str, Shape] = {
         FIRST, described(SOME, f"xs: {{pos: 0, type: y(_index), {COUNT}: 1000}}", y=f"{{params: [{{id: n}}], instances: {{ys: {{pos: 0, type: x, {COUNT}: 1000000}}}}}}", x=PART),
         "ls /xs", "xs", (160, 10)),
     "elements that aren't there": Shape(ZEROS, described(f"{{id: ys, type: y, {COUNT}: 100000}}", y="{id: a, type: u1, if: false}"), "ls /ys", "ys"),
-    "10,000 members": Shape(ZEROS, described(many(10_000, "{{id: m{number}, type: u1}}")), "at /m9999", "", (160, 9_000, 500_000)),
-    "10,000 bits": Shape(ZEROS, described(many(10_000, "{{id: m{number}, type: b1}}")), "at /m9999", "", (160, 1000)),
+    "256 members": Shape(ZEROS, described(many(MANY, "{{id: m{number}, type: u1}}")), "at /m255", "", (160, 256)),
+    "256 objects of 256 members": Shape(
+        ZEROS, described(many(MANY, "{{id: m{number}, type: x}}"), x=many(MANY, "{{id: n{number}, type: u1}}")), "at /m255/n255", "m7", (160, 60_000, 70_000)),
+    "lists of 256 objects of 256 members": Shape(
+        ZEROS, described("{id: xs, type: y, repeat: eos}", y=many(16, "{{id: m{number}, type: x}}"), x=many(MANY, "{{id: n{number}, type: u1}}")), "ls /xs", "xs", (160, 900_000)),
+    "256 bits": Shape(ZEROS, described(many(MANY, "{{id: m{number}, type: b1}}")), "at /m255", "", (16, 1000)),
     "10,000 objects in each other": Shape(ZEROS, described("{id: x, type: x}", x="{id: a, type: u1}, {id: x, type: x, if: a == 0}"), "at /x/x/x", "x", (160, 10)),
-    "3,000 long values": Shape(ZEROS, described(SOME, many(3000, "m{number}: {{pos: 0, size-eos: true}}")), "at /m0", "", (160, 7)),
-    "3,000 long texts": Shape(b"a" * MEBI, described(SOME, many(3000, "m{number}: {{pos: 0, type: str, encoding: ASCII, size-eos: true}}")), "at /m0", ""),
-    "3,000 values that lead to each other": Shape(
-        ZEROS, described("{id: some, type: y}", many(2999, "m{number}: {{value: m{next}}}") + ", m2999: {value: some}", y="{id: a, size: 200}"), "get /m0", ""),
+    "256 long values": Shape(ZEROS, described(SOME, many(255, "m{number}: {{pos: 0, size-eos: true}}")), "at /m0", "", (160, 7)),
+    "256 long texts": Shape(b"a" * MEBI, described(SOME, many(255, "m{number}: {{pos: 0, type: str, encoding: ASCII, size-eos: true}}")), "at /m0", ""),
+    "long values in 256 objects": Shape(
+        ZEROS, described(many(MANY, "{{id: m{number}, type: x}}"), x=f"{{seq: [{{id: some, type: u1}}], instances: {{{many(255, 'n{number}: {{pos: 0, size-eos: true}}')}}}}}"), "at /m0/n0", "m7"),
+    "256 values that lead to each other": Shape(
+        ZEROS, described("{id: some, type: y}", many(254, "m{number}: {{value: m{next}}}") + ", m254: {value: some}", y="{id: a, size: 200}"), "get /m0", ""),
     "names in a circle": Shape(ZEROS, described(SOME, "a: {value: b}, b: {value: a}"), "get /a", ""),
 }
 

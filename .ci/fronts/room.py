@@ -210,7 +210,7 @@ class Piped(Shell):
         self.begin_errors = self.errors.tell()
         self.running = subprocess.Popen([room.tree.shell, *(words or ("FILE", "KSY"))], cwd=room.folder, env={**room.environ, **environ}, stdin=pipe, stdout=pipe,
                                         stderr=self.errors, start_new_session=True)
-        self.pid, self.heard = self.running.pid, b""
+        self.pid, self.heard = self.running.pid, bytearray()
         self.greeting = self.ask("")
 
     def ask(self, line: str) -> str:
@@ -226,12 +226,12 @@ class Piped(Shell):
         while not self.heard.endswith(end):
             if not select.select([self.running.stdout], [], [], max(0.0, until - time.monotonic()))[0]:
                 raise Silent(f"{line[:60]}: nothing told in {PATIENCE} s, but {self.heard[-100:]!r}")
-            piece = os.read(self.running.stdout.fileno(), 1 << 20)
+            piece = os.read(self.running.stdout.fileno(), 1 << 18)
             if not piece:
                 self.status = self.running.wait()
                 break
             self.heard += piece
-        told, self.heard = self.heard.removesuffix(end), b""
+        told, self.heard = bytes(self.heard.removesuffix(end)), bytearray()
         return told.decode(errors="replace").removesuffix("\n")
 
     def told_aside(self) -> str:

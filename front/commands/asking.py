@@ -1,6 +1,6 @@
 """Commands that hand a question to the program."""
 from itertools import islice
-from typing import TYPE_CHECKING, List
+from typing import TYPE_CHECKING, Iterator, List
 
 from front import words as reader
 from front.look import Spent
@@ -32,22 +32,25 @@ def question(shell: "Shell", word: str, words: List[Word]) -> None:
 
 def each(shell: "Shell", word: str, path: str, is_hex: bool) -> None:
     """The same question about each path that a path with `*` for steps is, a line each."""
-    explorer, lost, rows = shell.explorer(), Lost(shell.description()), []
+    shell.output.show(rows_of(shell, word, path, is_hex))
+
+
+def rows_of(shell: "Shell", word: str, path: str, is_hex: bool) -> Iterator[str]:
+    """A line for each path, one after another, as there may be many long ones."""
+    explorer, lost, count = shell.explorer(), Lost(shell.description()), 0
     paths = expanded(explorer, path)
-
-    def row(one: str) -> str:
-        """The reply about one path."""
-        told = explorer.ask(f"{word} {one}")
-        return "  ".join(it for it in (one, shell.shown(told, is_hex), lost.said(explorer, one, told) if word == "get" else "") if it)
-
     try:
-        for it in islice(paths, MOST_PATHS):
-            rows.append(row(it))
+        for count, it in enumerate(islice(paths, MOST_PATHS), 1):
+            told = explorer.ask(f"{word} {it}")
+            was = lost.said(explorer, it, told) if word == "get" else ""
+            yield "  ".join(part for part in (it, shell.shown(told, is_hex), was) if part)
         more = sum(1 for _ in islice(paths, MOST_COUNTED + 1))
-        rows += [f"  (and {more if more <= MOST_COUNTED else f'more than {MOST_COUNTED}'} more paths)"] if more else []
+        if more:
+            yield f"  (and {more if more <= MOST_COUNTED else f'more than {MOST_COUNTED}'} more paths)"
+        if not count:
+            yield f"nothing is at {path}"
     except Spent:
-        rows.append(f"  (given up after {explorer.num_asked()} questions)")
-    shell.output.show(rows or [f"nothing is at {path}"])
+        yield f"  (given up after {explorer.num_asked()} questions)"
 
 
 def plain(shell: "Shell", word: str, words: List[Word]) -> None:
