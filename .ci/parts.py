@@ -51,6 +51,7 @@ LATE = (
     Part("hints", ("{copy}/.ci/hints",)),
     Part("shell", ("{copy}/.ci/shell",)),
     Part("front", ("{copy}/.ci/front",)),
+    Part("view", ("{copy}/.ci/view", "--some", "{commit}")),
     Part("saves", ("{copy}/.ci/saves",)),
     Part("refusals", ("{copy}/.ci/refusals",)),
     Part("hostile", ("{copy}/.ci/hostile",)),
@@ -60,7 +61,7 @@ LATE = (
 )
 PARTS = (*EARLY, PROOFS, EDITS, *LATE)
 # What can be started and is no part: the gate itself, and what is run by hand.
-TOOLS = (".ci/gate", ".ci/run", ".ci/times", ".ci/mend", ".ci/view", "bench/run", "tools/build/run")
+TOOLS = (".ci/gate", ".ci/run", ".ci/times", ".ci/mend", "bench/run", "tools/build/run")
 
 
 @dataclass
