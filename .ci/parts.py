@@ -49,8 +49,10 @@ LATE = (
     Part("program", ("{copy}/.ci/program",)),
     Part("launcher", ("{copy}/.ci/launcher",)),
     Part("hints", ("{copy}/.ci/hints",)),
+    Part("mend", ("{copy}/.ci/mend",)),
     Part("shell", ("{copy}/.ci/shell",)),
     Part("front", ("{copy}/.ci/front",)),
+    Part("view", ("{copy}/.ci/view", "--some", "{commit}")),
     Part("saves", ("{copy}/.ci/saves",)),
     Part("refusals", ("{copy}/.ci/refusals",)),
     Part("hostile", ("{copy}/.ci/hostile",)),
@@ -60,7 +62,7 @@ LATE = (
 )
 PARTS = (*EARLY, PROOFS, EDITS, *LATE)
 # What can be started and is no part: the gate itself, and what is run by hand.
-TOOLS = (".ci/gate", ".ci/run", ".ci/times", ".ci/mend", ".ci/view", "bench/run", "tools/build/run")
+TOOLS = (".ci/gate", ".ci/run", ".ci/times", "bench/run", "tools/build/run")
 
 
 @dataclass

@@ -1,6 +1,6 @@
 """What the text of a description has of a member: `Description(text).member("entry", "len")`, or None for the root's type.
 
-A description is read once, in time linear in its length; each member that is asked for costs what is in it:
+A description is read once, when a member is asked for first, in time linear in its length; each member that is asked for costs what is in it:
 
     from front.description import Description
     description = Description(text)
@@ -46,15 +46,30 @@ class Description:
     """The members of a description's types, found in its text."""
 
     def __init__(self, text: str) -> None:
-        """Reads the text's outline and the names of its types."""
-        self._outline = Outline(text)
-        self._types: Dict[str, List[Node]] = {}
+        self.text = text
+        self._read: Optional[Tuple[Outline, Dict[str, List[Node]]]] = None
         self._members: Dict[Node, Dict[str, List[Tuple[int, Node]]]] = {}
-        rest = [self._outline.root]
-        while rest:
-            for it in _entries(rest.pop(), "types"):
-                self._types.setdefault(it.key, []).append(it.value)
-                rest.append(it.value)
+
+    @property
+    def _outline(self) -> Outline:
+        """The text's outline."""
+        return self._found()[0]
+
+    @property
+    def _types(self) -> Dict[str, List[Node]]:
+        """The types by their names."""
+        return self._found()[1]
+
+    def _found(self) -> Tuple[Outline, Dict[str, List[Node]]]:
+        """The text's outline and the names of its types, which are read once."""
+        if self._read is None:
+            self._read = Outline(self.text), {}
+            rest = [self._read[0].root]
+            while rest:
+                for it in _entries(rest.pop(), "types"):
+                    self._read[1].setdefault(it.key, []).append(it.value)
+                    rest.append(it.value)
+        return self._read
 
     def member(self, type_name: Optional[str], name: str) -> Optional[Member]:
         """A member of the types of a name, of the root for None; None where there is none, or it is in more than one place."""

@@ -1,10 +1,12 @@
-"""What is said below a reply: of a fault where it arose; of a name that isn't there, which ones are."""
+"""What is said below a reply: of a fault where it arose; of a name that isn't there, which ones are; of a mended value what it was before."""
 import difflib
 import re
-from typing import Callable, List
+from typing import Callable, List, Optional
 
-from front.description import Description
+from front.description import Description, Member
 from front.look import Explorer
+from front.lost import Lost
+from front.mistaken import Mistaken, Room, room_at, room_of
 from front.words import sent_words
 
 # The most names of members that are offered for one that isn't there.
@@ -21,9 +23,26 @@ class Explainer:
         """What is said below the reply to a line."""
         found = re.fullmatch(r"fault (\S+) at (\S+)", told)
         words = sent_words(line)
+        is_value = not found and not told.startswith("error: ")
+        if words[:1] == ["get"] and len(words) == 2 and is_value:
+            was = Lost(self.description()).said(self.explorer, words[1], told)
+            return [f"  {was}"] if was else []
+        if told.startswith("error: ") and told != "error: bad path":
+            said = Mistaken(self.explorer.session.size, self.room, self.value).said(told, line) if self.is_terminal else ""
+            return [f"  ({said})"] if said else []
         if (told == "error: bad path" or found and found[1] == "no-such") and len(words) > 1:
             return self.lost(words[1]) if self.is_terminal else []
         return self.fault(found[1], found[2]) if found else []
+
+    def value(self, path: str) -> str:
+        """The value at a path, or that it is calculated."""
+        where = self.explorer.ask(f"at {path}")
+        return where if where == "calculated" else self.explorer.ask(f"get {path}")
+
+    def room(self, path: str) -> Optional[Room]:
+        """The room of the integer at a path: by its type, where the description has one type for it, or else by its bits alone."""
+        member = self.member(path)
+        return (room_of(member.value.said("type")) if member else None) or room_at(self.explorer.ask(f"at {path}"))
 
     def fault(self, kind: str, path: str) -> List[str]:
         """Where a fault arose: a place, or an expression and what is `valid` there."""
@@ -50,11 +69,15 @@ class Explainer:
 
     def said(self, path: str, key: str) -> str:
         """What the description's text has for a key of what is at a path; nothing where that can't be told."""
+        member = self.member(path)
+        return member.text(key) if member else ""
+
+    def member(self, path: str) -> Optional[Member]:
+        """What the description's text has of what is at a path; None where that can't be told."""
         path = re.sub(r"(?:/\d+)+$", "", path)
         front, _, name = path.rpartition("/")
         kind = re.fullmatch(r"object (\S+)", self.explorer.ask(f"get {front or '/'}"))
-        member = self.description().member(kind[1] if front else None, name) if kind else None
-        return member.text(key) if member else ""
+        return self.description().member(kind[1] if front else None, name) if kind else None
 
     def lost(self, path: str) -> List[str]:
         """Of a path with a name that isn't there, which names are."""

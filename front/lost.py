@@ -1,4 +1,4 @@
-"""What a member read as before its description was mended: `Lost(text).shown("vec3d", "x", "1067030938")` is `1.2`.
+"""What a member read as before its description was mended: `Lost(Description(text)).shown("vec3d", "x", "1067030938")` is `1.2`.
 
 The marks of bin/ksv-mend tell it: `# ksv-mend: was f8`, and where a line has several, `# ksv-mend: x was f4; y was f4`. The name of a type is that of the reply
 `object NAME`, None for the root; the name of a member is the last step of its path that is no index; the reply is that of `get`. The empty text means that
@@ -10,14 +10,17 @@ import codecs
 import json
 import re
 import struct
-from typing import Dict, NamedTuple, Optional, Tuple
+from typing import Dict, Iterator, NamedTuple, Optional, Tuple
 
-from front.description import Description
+from front.cases import Switch, cases_of
+from front.description import Description, Member
 from front.hints import lines
+from front.look import Explorer
 
 MARK = re.compile(r"# ksv-mend: ([^\n]*)")
 WAS = re.compile(r"(?:([a-z][a-z0-9_]*) )?was (?:(f[48])(?:le|be)?|(strz?) ([\w.:-]{1,40}))\Z")
 REPLY = re.compile(r"hex ([0-9a-f]*)\Z")
+LOSING = re.compile(r"[0-9]|hex ")
 # How many bytes of a text are shown.
 MOST = 4096
 
@@ -32,42 +35,67 @@ class Was(NamedTuple):
 class Lost:
     """The members of a description that were read otherwise before it was mended."""
 
-    def __init__(self, text: str) -> None:
-        """Takes the description's text; what it has of a member is looked for once."""
-        self._text = text
-        self._description = Description(text) if MARK.search(text) else None
-        self._known: Dict[Tuple[Optional[str], str], Optional[Was]] = {}
+    def __init__(self, description: Description) -> None:
+        """Takes a description; what it has of a member is looked for once."""
+        self._description, self._text = description, description.text
+        self._is_mended = bool(MARK.search(self._text))
+        self._known: Dict[Tuple[Optional[str], str], Optional[Member]] = {}
 
-    def was(self, type_name: Optional[str], name: str) -> Optional[Was]:
-        """What a member was; None where nothing tells it."""
-        if self._description is None:
-            return None
+    def _member(self, type_name: Optional[str], name: str) -> Optional[Member]:
+        """A member that has a mark; None where it has none."""
         key = type_name, name
         if key not in self._known:
-            self._known[key] = self._found(type_name, name)
+            found = self._description.member(type_name, name)
+            self._known[key] = found if found and any(self._marks(found, name)) else None
         return self._known[key]
 
-    def _found(self, type_name: Optional[str], name: str) -> Optional[Was]:
+    def _marks(self, found: Member, name: str) -> Iterator[Was]:
         """What the marks on the lines of a member tell."""
-        found = self._description.member(type_name, name)
-        if found is None:
-            return None
-        begin, stop = lines.start(self._text, found.line) or 0, found.value.stop
-        if found.value.is_flow:
-            stop = lines.stop(self._text, stop)
+        begin = lines.start(self._text, found.line) or 0
+        return self._between(begin, lines.stop(self._text, found.value.stop) if found.value.is_flow else found.value.stop, name)
+
+    def _between(self, begin: int, stop: int, name: str) -> Iterator[Was]:
+        """What the marks of a part of the text tell of a member."""
         for it in MARK.finditer(self._text, begin, stop):
             for words in it[1].split("# ksv-mend: ")[-1].split("; "):
                 was = WAS.match(words.strip())
                 if was and was[1] in (None, name):
-                    return Was(was[2] or was[3], was[4] or "")
-        return None
+                    yield Was(was[2] or was[3], was[4] or "")
 
-    def shown(self, type_name: Optional[str], name: str, reply: str) -> str:
-        """How the reply of `get` would read as what was lost: a number, or a text in quotes."""
-        was = self.was(type_name, name)
+    def shown(self, type_name: Optional[str], name: str, reply: str, chosen: Optional[str] = None) -> str:
+        """How the reply of `get` would read as what was lost: a number, or a text in quotes. Of a member that is read by the case of a switch the key of that
+        case must be given; where it isn't known, nothing is shown."""
+        found = self._member(type_name, name) if self._is_mended else None
+        was = self._was(found, name, chosen) if found else None
         if was is None:
             return ""
         return number(was.kind, reply) if not was.encoding else words(was, reply)
+
+    def _was(self, found: Member, name: str, chosen: Optional[str]) -> Optional[Was]:
+        """What a member with a mark was."""
+        cases = cases_of(found)
+        if cases is None:
+            return next(self._marks(found, name), None)
+        pair = next((it for it in cases.pairs if it.key == chosen), None)
+        begin = pair.at if pair and not cases.is_flow else len(self._text)
+        return next(self._between(begin, lines.stop(self._text, begin), name), None)
+
+    def said(self, explorer: Explorer, path: str, reply: str) -> str:
+        """What is said of the value at a path beside the reply of `get`: `= 3.5 (not proved)`, since only Python found it; the empty text where nothing was lost."""
+        was = self.at(explorer, path, reply)
+        return f"= {was} (not proved)" if was else ""
+
+    def at(self, explorer: Explorer, path: str, reply: str) -> str:
+        """How the value at a path reads as what was lost, by the reply of `get`; the empty text where nothing was lost there."""
+        if not self._is_mended or not LOSING.match(reply):
+            return ""
+        front, _, name = re.sub(r"(?:/\d+)+$", "", path).rpartition("/")
+        kind = re.fullmatch(r"object (\S+)", explorer.ask(f"get {front or '/'}"))
+        if not kind or not name:
+            return ""
+        found = self._member(kind[1] if front else None, name)
+        chosen = Switch(explorer, self._description).chosen(found, front or "/") if found else None
+        return self.shown(kind[1] if front else None, name, reply, chosen)
 
 
 def number(kind: str, reply: str) -> str:

@@ -4,13 +4,14 @@ from typing import Callable, Iterable, Iterator, List, Optional, Tuple
 
 from front.follow import Follower
 from front.look import ELEMENTS, Explorer, Spent, steps_of
+from front.lost import Lost
 
 
 class Tree:
     """A tree below a path, as far as a budget of questions lasts. Of a list it has some elements; the first list that was cut so is noted, with the next index."""
 
-    def __init__(self, explorer: Explorer, follower: Follower, shown: Callable[[str], str]) -> None:
-        self.explorer, self.follower, self.shown = explorer, follower, shown
+    def __init__(self, explorer: Explorer, follower: Follower, lost: Lost, shown: Callable[[str], str]) -> None:
+        self.explorer, self.follower, self.lost, self.shown = explorer, follower, lost, shown
         self.rows: List[str] = []
         self.more: Optional[Tuple[str, int]] = None
 
@@ -40,7 +41,8 @@ class Tree:
         place = where[3:].replace(" ", "-") if where.startswith("at ") else "" if where.startswith("fault") else where
         shown = "" if where == "absent" and told == f"fault absent at {path}" else self.shown(told)
         target = self.follower.target(path) if where == "calculated" and told.startswith("object ") else None
-        self.rows.append(f"{'  ' * level + name:<28} {place:<14} {shown}{f' at {target}' if target else ''}".rstrip())
+        was = self.lost.said(self.explorer, path, told)
+        self.rows.append(f"{'  ' * level + name:<28} {place:<14} {shown}{f' at {target}' if target else ''}{f'  {was}' if was else ''}".rstrip())
         if depth and told.startswith(("object ", "[", "fault ")):
             self.inner(target or path, depth, level + 1, 0, told.startswith("fault"))
 

@@ -1,4 +1,4 @@
-"""The pictures of the view in pages: each is a block of text that begins with the line of three backquotes and `view NAME`."""
+"""The pictures of the view in pages: each is a block of text that begins with the line of three backquotes and `view NAME`. The first one of README.md is one."""
 import os
 import re
 from typing import Dict, Iterator, Tuple
@@ -11,6 +11,7 @@ from front.view.desk import Desk
 PAGES = ("docs/SHELL.md", "README.md")
 # Names, and for each the example, rows and columns, and keys.
 PICTURES: Dict[str, Tuple[str, int, int, str]] = {
+    "icon": ("ico", 16, 80, "f"),
     "fault": ("ico", 24, 80, "f"),
     "edited": ("ico", 24, 80, "f e 2 2 enter down down right"),
     "bytes": ("fat16", 20, 100, "g / f a t s / 0 / n e x t / 2 enter tab"),
@@ -46,7 +47,14 @@ def compared() -> Iterator[str]:
         for name, rows in BLOCK.findall(text):
             seen.add(name)
             yield "" if name in PICTURES and picture(name) == rows else f"{page}: the picture `{name}` is another one; `.ci/view --write` makes it"
+    yield "" if first_of("README.md").startswith("view ") else "README.md: its first picture isn't one of the view"
     yield "" if seen == set(PICTURES) else f"pictures in no page: {set(PICTURES) - seen}"
+
+
+def first_of(page: str) -> str:
+    """What the first block of a page begins with."""
+    found = re.search(r"(?m)^```(.+)$", dict(texts())[page])
+    return found[1] if found else ""
 
 
 def write() -> None:

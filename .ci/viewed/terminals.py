@@ -1,4 +1,7 @@
-"""The view on a terminal: keys are sent to it, and its escapes are read."""
+"""The view on a terminal: keys are sent to it, and its escapes are read.
+
+A question that takes long is one of a program that is stopped: so it is as long on each machine.
+"""
 import fcntl
 import os
 import pty
@@ -8,25 +11,33 @@ import struct
 import sys
 import termios
 import time
-from typing import Callable, Iterator, List, Optional
+from typing import Callable, Iterator, List, Optional, Tuple
 
 from front.opening import TOP
+from viewed import desks
 from viewed.reader import Reader
 
 VIEW = f"{TOP}/bin/ksv-view"
-# How long a screen is awaited, in seconds, and how long nothing may come for it to be whole.
-PATIENCE, QUIET = 60, 0.15
-# What is told where something takes long.
-SIGN = "ctrl-C breaks it off"
-# The most seconds until it is there on a busy machine, and after which ctrl-C is pressed once more.
-LATE, AGAIN = 5, 2
+ICON = [f"{TOP}/examples/ico.bin", f"{TOP}/examples/ico.ksy"]
+# How long a screen is awaited, in seconds, how long nothing may come for it to be whole, and how long the end is awaited.
+PATIENCE, QUIET, END = 20, 0.15, 30
+# What is told where something takes long, after how many seconds at the most (the best of some), and how often that is looked at.
+SIGN, SOON, TIMES = "ctrl-C breaks it off", 0.15, 4
+# What a terminal sends for keys.
+SENT = {
+    "up": "\x1bOA", "down": "\x1bOB", "right": "\x1bOC", "left": "\x1bOD", "pgup": "\x1b[5~", "pgdn": "\x1b[6~", "home": "\x1bOH", "end": "\x1bOF", "delete": "\x1b[3~",
+    "insert": "\x1b[2~", "tab": "\t", "enter": "\r", "backspace": "\x7f", "ctrl-r": "\x12", "ctrl-l": "\x0c", "ctrl-u": "\x15",
+}
+# Keys, after each of which the terminal has another size; each screen is the one that is drawn without a terminal.
+STEPS = "f e 2 2 enter down down right down right pgdn tab right down 0 a u ctrl-r u tab x / m a r k enter ? pgdn x end home g 0 x 2 0 enter e 1 backspace ctrl-u 7 enter"
+SIZES = [(24, 80), (10, 40), (30, 132), (12, 60), (24, 80), (50, 100)]
 
 
 class Terminal:
     """A view on a terminal of its own."""
 
     def __init__(self, words: List[str], rows: int = 24, columns: int = 80, **environ: str) -> None:
-        self.reader, self.status = Reader(rows, columns), None  # type: Reader, Optional[int]
+        self.reader, self.size, self.status = Reader(rows, columns), (0, 0), None  # type: Reader, Tuple[int, int], Optional[int]
         self.process, self.ours = pty.fork()
         if self.process == 0:
             os.environ.update({"TERM": "xterm", "LC_ALL": "C.UTF-8", **environ})
@@ -34,7 +45,10 @@ class Terminal:
         self.sized(rows, columns)
 
     def sized(self, rows: int, columns: int) -> None:
-        """Gives the terminal a size."""
+        """Gives the terminal a size. Where that is another one, all is drawn anew."""
+        if (rows, columns) == self.size:
+            return
+        self.size = rows, columns
         self.reader.resize(rows, columns)
         fcntl.ioctl(self.ours, termios.TIOCSWINSZ, struct.pack("HHHH", rows, columns, 0, 0))
 
@@ -68,57 +82,80 @@ class Terminal:
         rows = self.until(lambda rows: any(text in it for it in rows))
         return "" if any(text in it for it in rows) else f"terminal: after {keys!r} there is no {text!r}: {rows}"
 
-    def patient(self, keys: str, text: str) -> str:
-        """The same, where each question that takes long is broken off."""
-        self.type(keys)
-        for _ in range(20):
-            rows = self.until(lambda rows: any(text in it for it in rows) or SIGN in rows[-1], LATE)
-            if SIGN in rows[-1]:
-                self.type("\x03")
-                self.until(lambda rows: SIGN not in rows[-1], AGAIN)
-            elif any(text in it for it in rows):
-                return ""
-        return f"terminal: after {keys!r} there is no {text!r}: {rows}"
+    def is_as(self, wanted: List[str]) -> str:
+        """Nothing if the rows are these, or come to be; else what they are."""
+        rows = self.until(lambda rows: rows == wanted)
+        at = next((it for it in range(min(len(rows), len(wanted))) if rows[it] != wanted[it]), 0)
+        return "" if rows == wanted else f"row {at} is {rows[at : at + 1]}, and not {wanted[at : at + 1]}"
+
+    def program(self) -> int:
+        """The program that the view asks."""
+        for name in filter(str.isdigit, os.listdir("/proc")):
+            try:
+                with open(f"/proc/{name}/stat", encoding="utf-8", errors="replace") as file:
+                    words = file.read().rpartition(")")[2].split()
+            except OSError:
+                continue
+            if int(words[1]) == self.process and words[0] != "Z":
+                return int(name)
+        return 0
+
+    def stop(self) -> int:
+        """Stops the program that the view asks, so that its next answer doesn't come; its number."""
+        found = self.program()
+        if not found:
+            raise AssertionError("the view asks no program")
+        os.kill(found, signal.SIGSTOP)
+        return found
 
     def end(self) -> int:
-        """The status, once the view has ended."""
-        while self.read():
+        """The status, once the view has ended; one that doesn't end is killed."""
+        until = time.monotonic() + END
+        while select.select([self.ours], [], [], max(0.0, until - time.monotonic()))[0] and self.read():
             pass
-        _, status = os.waitpid(self.process, 0)
+        if time.monotonic() >= until:
+            os.kill(self.process, signal.SIGKILL)
         os.close(self.ours)
-        self.status = os.waitstatus_to_exitcode(status) if hasattr(os, "waitstatus_to_exitcode") else status >> 8
+        return self.ended()
+
+    def gone(self) -> int:
+        """The status after the terminal is gone."""
+        os.close(self.ours)
+        return self.ended()
+
+    def ended(self) -> int:
+        """The status of the view as a process."""
+        _, status = os.waitpid(self.process, 0)
+        self.status = -os.WTERMSIG(status) if os.WIFSIGNALED(status) else os.WEXITSTATUS(status)
         return self.status
-
-
-UP, DOWN, RIGHT, DELETE, CONTROL_R, TAB = "\x1b[A", "\x1bOB", "\x1bOC", "\x1b[3~", "\x12", "\t"
 
 
 def repaired(room: str) -> Iterator[str]:
     """The icon is repaired, at several sizes, and saved to where `--save` said."""
     out = f"{room}/icon.ico"
-    terminal = Terminal([f"{TOP}/examples/ico.bin", f"{TOP}/examples/ico.ksy", "--save", out])
+    terminal = Terminal([*ICON, "--save", out])
     yield terminal.shown("", "? help  q quit")
     yield terminal.shown("f", "/entries/0/ofs_image  at 18 22 (0x12 0x16)  fault invalid")
-    yield terminal.shown("e", "value of /entries/0/ofs_image:")
+    yield terminal.shown("e", "value of /entries/0/ofs_image (now 1a000000):")
     yield terminal.shown("22\r", "ok 350; u takes it back: put /entries/0/ofs_image 22")
-    yield terminal.shown(DOWN + DOWN, "/entries/0/image  at 22 350 (0x16 0x15e)  object bitmap")
+    yield terminal.shown(SENT["down"] * 2, "/entries/0/image  at 22 350 (0x16 0x15e)  object bitmap")
     terminal.sized(10, 40)
     yield terminal.shown("", "? help  q quit")
     rows = terminal.reader.lines()
     yield "" if len(rows) == 10 and any("image  object bitmap" in it for it in rows) else f"40x10: {rows}"
-    yield terminal.shown(TAB, "arrows walk  Tab tree")
+    yield terminal.shown(SENT["tab"], "arrows walk  Tab tree")
     terminal.sized(30, 132)
     yield terminal.shown("", "16 00 00 00[28 00 00 00")
     yield terminal.shown("ab", "ok 350; u takes it back: set 22 ab")
     yield terminal.shown("u", "took back: set 22 ab")
-    yield terminal.shown(CONTROL_R, "again: set 22 ab")
-    yield terminal.shown("u" + DELETE, "ok 349; u takes it back: del 23 1")
+    yield terminal.shown(SENT["ctrl-r"], "again: set 22 ab")
+    yield terminal.shown("u" + SENT["delete"], "ok 349; u takes it back: del 23 1")
     yield terminal.shown("u", "took back: del 23 1")
     terminal.type("q")
     status = terminal.end()
     yield "" if status == 0 and not terminal.reader.unknown else f"q: status {status}, {terminal.reader.unknown}"
     yield "" if not terminal.reader.is_alternate else "the terminal isn't given back"
-    with open(out, "rb") as file, open(f"{TOP}/examples/ico.bin", "rb") as origin:
+    with open(out, "rb") as file, open(ICON[0], "rb") as origin:
         wanted = bytearray(origin.read())
         wanted[18] = 22
         yield "" if file.read() == bytes(wanted) else "what is saved isn't the repaired icon"
@@ -127,73 +164,125 @@ def repaired(room: str) -> Iterator[str]:
 
 def without_colour(_room: str) -> Iterator[str]:
     """With NO_COLOR there is no colour, and a fault is to be seen nonetheless."""
-    terminal = Terminal([f"{TOP}/examples/ico.bin", f"{TOP}/examples/ico.ksy"], NO_COLOR="1")
+    terminal = Terminal(ICON, NO_COLOR="1")
     yield terminal.shown("f", "fault invalid")
     terminal.type("q")
     status = terminal.end()
     yield "" if status == 0 and not terminal.reader.colours else f"NO_COLOR: status {status}, colours {terminal.reader.colours}"
 
 
-def broken_off(room: str) -> Iterator[str]:
-    """A question that takes long has a sign, and ctrl-C breaks it off; the session and its edits go on."""
-    with open(f"{room}/until.ksy", "w", encoding="utf-8") as file:
-        file.write("meta: {id: t}\nseq: [{id: n, type: u1}, {id: xs, type: u1, repeat: until, repeat-until: _ == 1}]\n")
-    with open(f"{room}/until.bin", "wb") as file:
-        file.write(bytes(1_000_000))
-    terminal = Terminal([f"{room}/until.bin", f"{room}/until.ksy"])
-    while not terminal.reader.is_alternate and terminal.read():
-        pass
-    begun = time.monotonic()
-    yield terminal.shown("", SIGN)
-    yield "" if time.monotonic() - begun < LATE else "the sign came late"
-    yield terminal.patient("", "(broken off")
-    yield terminal.patient("g", "go to /path or 0x1f:")
-    yield terminal.patient("/n\r", "/n  at 0 1 (0x0 0x1)  0")
-    yield terminal.patient("e", "value of /n:")
-    yield terminal.patient("7\r", "1 edit, not saved")
+def as_drawn(_room: str) -> Iterator[str]:
+    """Keys, and after each another size: the terminal has the rows that are drawn without one."""
+    terminal, wrong = Terminal(ICON), ""
+    terminal.until(lambda rows: rows[-1].startswith("? help"))
+    with desks.opened(*ICON) as desk:
+        for count, word in enumerate(STEPS.split()):
+            desks.press(desk, word)
+            terminal.type(SENT.get(word, word))
+            why = terminal.is_as([it.rstrip() for it in desks.play(desk, "")])
+            rows, columns = SIZES[count % len(SIZES)]
+            desk.resize(rows, columns)
+            terminal.sized(rows, columns)
+            why = why or terminal.is_as([it.rstrip() for it in desks.play(desk, "")])
+            if why:
+                wrong = f"terminal: after {' '.join(STEPS.split()[: count + 1])}, {columns}x{rows}: {why}"
+                break
+    yield wrong
     os.kill(terminal.process, signal.SIGTERM)
     status = terminal.end()
     yield "" if status == 143 else f"SIGTERM: status {status}"
-    terminal = Terminal([f"{room}/until.bin", f"{room}/until.ksy"])
-    yield terminal.patient("", "left 1 edit, not saved")
-    yield terminal.patient("R", "1 edit, not saved")
-    yield terminal.patient("\x0c", "n  7")
-    terminal.patient("q", "q once more")
+
+
+def broken_off(_room: str) -> Iterator[str]:
+    """A question that takes long has a sign, and ctrl-C breaks it off; the session and its edits go on."""
+    terminal, waited = Terminal(ICON), []
+    yield terminal.shown("", "? help  q quit")
+    for _ in range(TIMES):
+        terminal.stop()
+        begun = time.monotonic()
+        yield terminal.shown("f", SIGN)
+        waited.append(time.monotonic() - begun)
+        yield terminal.shown("\x03", "broken off")
+        yield terminal.shown(SENT["ctrl-l"], "? help  q quit")
+        yield terminal.shown("r", "read again:")
+    yield "" if min(waited) < SOON else f"the sign came after {' '.join(f'{it:.2f}' for it in waited)} s"
+    yield terminal.shown("f", "fault invalid")
+    yield terminal.shown("e22", "(now 1a000000): 22")
+    terminal.stop()
+    yield terminal.shown("\r", SIGN)
+    yield terminal.shown("\x03", "broken off")
+    yield terminal.shown(SENT["ctrl-l"], "ico.bin  350 bytes")
+    yield terminal.shown("e22\r", "ico.bin  1 edit, not saved  350 bytes")
+    asked = terminal.stop()
+    yield terminal.shown("r", SIGN)
+    os.kill(terminal.process, signal.SIGTERM)
+    status = terminal.end()
+    yield "" if status == 143 and not is_there(asked) else f"SIGTERM: status {status}"
+
+
+def is_there(process: int) -> bool:
+    """Whether a process is still there, after a while."""
+    until = time.monotonic() + END
+    while os.path.exists(f"/proc/{process}") and time.monotonic() < until:
+        time.sleep(0.05)
+    return os.path.exists(f"/proc/{process}")
+
+
+def recovered(_room: str) -> Iterator[str]:
+    """What was left by a session that ended so is offered, and taken up; the same where the terminal goes in the midst of a question."""
+    terminal = Terminal(ICON)
+    yield terminal.shown("", "left 1 edit, not saved")
+    yield terminal.shown("R", "ico.bin  1 edit, not saved  350 bytes")
+    yield terminal.shown("f", "no faults")
+    asked = terminal.stop()
+    yield terminal.shown("u", SIGN)
+    status = terminal.gone()
+    yield "" if status == 129 and not is_there(asked) else f"the terminal goes in a question: status {status}"
+    terminal = Terminal(ICON)
+    yield terminal.shown("", "left 1 edit, not saved")
+    yield terminal.shown("R", "ico.bin  1 edit, not saved  350 bytes")
+    yield terminal.shown("q", "q once more")
     terminal.type("q")
     status = terminal.end()
     yield "" if status == 0 else f"qq: status {status}"
+    terminal = Terminal(ICON)
+    yield terminal.shown("", "? help  q quit")
+    terminal.type("q")
+    yield "" if terminal.end() == 0 else f"q: status {terminal.status}"
 
 
 def refused(room: str) -> Iterator[str]:
     """Names that can't be used, a description that is refused when it is read again, and a terminal that is closed."""
-    with open(f"{room}/again.ksy", "w", encoding="utf-8") as file:
-        file.write("meta: {id: t}\nseq: [{id: n, type: u1}]\n")
-    with open(f"{room}/again.bin", "wb") as file:
-        file.write(b"\x05\x06")
-    terminal = Terminal([f"{room}/none", f"{room}/again.ksy"])
+    file, ksy = f"{room}/again.bin", f"{room}/again.ksy"
+    write(ksy, b"meta: {id: t}\nseq: [{id: n, type: u1}]\n")
+    write(file, b"\x05\x06")
+    terminal = Terminal([f"{room}/none", ksy])
     yield "" if terminal.end() == 1 else f"no file: status {terminal.status}"
-    terminal = Terminal([f"{room}/again.bin", f"{room}/again.ksy"])
-    yield terminal.shown(DOWN + "e9\r", "ok 2; u takes it back: put /n 9")
-    with open(f"{room}/again.ksy", "w", encoding="utf-8") as file:
-        file.write("meta: {id: t}\nseq: [{id: n, type: u3}]\n")
+    terminal = Terminal([file, ksy])
+    yield terminal.shown(SENT["down"] + "e9\r", "ok 2; u takes it back: put /n 9")
+    write(ksy, b"meta: {id: t}\nseq: [{id: n, type: u3}]\n")
     yield terminal.shown("r", "line 2: S4 unknown name")
-    yield terminal.shown(UP + DOWN, "n  9")
-    with open(f"{room}/again.ksy", "w", encoding="utf-8") as file:
-        file.write("meta: {id: t}\nseq: [{id: number, type: u2be}]\n")
+    yield terminal.shown(SENT["up"] + SENT["down"], "n  9")
+    write(ksy, b"meta: {id: t}\nseq: [{id: number, type: u2be}]\n")
     yield terminal.shown("r", "number  2310")
-    os.close(terminal.ours)
-    _, status = os.waitpid(terminal.process, 0)
-    yield "" if status in (129 << 8, signal.SIGHUP) else f"a closed terminal: status {status}"
-    terminal = Terminal([f"{room}/again.bin", f"{room}/again.ksy"])
+    status = terminal.gone()
+    yield "" if status == 129 else f"a closed terminal: status {status}"
+    terminal = Terminal([file, ksy])
     yield terminal.shown("", "left 1 edit, not saved")
     yield terminal.shown("R", "number  2310")
-    yield terminal.shown("s\x15" + f"{room}/none/x\r", "there is no folder")
-    yield terminal.shown(f"s\x15{room}/saved\r", "saved 2 bytes to")
+    yield terminal.shown(f"s{SENT['ctrl-u']}{room}/none/x\r", "there is no folder")
+    yield terminal.shown(f"s{SENT['ctrl-u']}{room}/saved\r", "saved 2 bytes to")
     terminal.type("q")
     yield "" if terminal.end() == 0 else f"q after a save: status {terminal.status}"
 
 
+def write(path: str, content: bytes) -> None:
+    """Writes a file."""
+    with open(path, "wb") as file:
+        file.write(content)
+
+
 def trials(room: str) -> Iterator[str]:
     """All trials on terminals."""
-    for it in (repaired, without_colour, broken_off, refused):
+    for it in (repaired, without_colour, as_drawn, broken_off, recovered, refused):
         yield from it(room)

@@ -4,6 +4,7 @@ from typing import TYPE_CHECKING, Iterator, List
 
 from front import words as reader
 from front.look import Spent
+from front.lost import Lost
 from front.survey import expanded
 from front.words import Word
 
@@ -36,11 +37,13 @@ def each(shell: "Shell", word: str, path: str, is_hex: bool) -> None:
 
 def rows_of(shell: "Shell", word: str, path: str, is_hex: bool) -> Iterator[str]:
     """A line for each path, one after another, as there may be many long ones."""
-    explorer, count = shell.explorer(), 0
+    explorer, lost, count = shell.explorer(), Lost(shell.description()), 0
     paths = expanded(explorer, path)
     try:
         for count, it in enumerate(islice(paths, MOST_PATHS), 1):
-            yield f"{it}  {shell.shown(explorer.ask(f'{word} {it}'), is_hex)}"
+            told = explorer.ask(f"{word} {it}")
+            was = lost.said(explorer, it, told) if word == "get" else ""
+            yield "  ".join(part for part in (it, shell.shown(told, is_hex), was) if part)
         more = sum(1 for _ in islice(paths, MOST_COUNTED + 1))
         if more:
             yield f"  (and {more if more <= MOST_COUNTED else f'more than {MOST_COUNTED}'} more paths)"

@@ -4,7 +4,8 @@ from typing import TYPE_CHECKING, Callable, Iterator, List, Tuple
 
 from front import words as reader
 from front.follow import Follower
-from front.look import Search, Spent
+from front.look import Explorer, Search, Spent
+from front.lost import Lost
 from front.session import Died, Refused
 from front.survey import expanded
 from front.texts import ROW, Line, rows_of_bytes
@@ -55,7 +56,7 @@ def tree(shell: "Shell", word: str, words: List[Word]) -> None:
 def tree_of(shell: "Shell") -> Tree:
     """An empty tree, with a budget of questions."""
     explorer = shell.explorer()
-    return Tree(explorer, Follower(explorer, shell.description()), shell.shown)
+    return Tree(explorer, Follower(explorer, shell.description()), Lost(shell.description()), shell.shown)
 
 
 def more_of(shell: "Shell", word: str, words: List[Word]) -> None:
@@ -141,8 +142,14 @@ def where(shell: "Shell", word: str, words: List[Word]) -> None:
             return
         shell.asked = found.best
         paths, notes = sharing(shell, found.best, place)
-        explorer = shell.explorer()
-        shell.output.show([f"{it}  {explorer.ask(f'at {it}')}  {explorer.value(it)}" for it in paths] + notes + found.notes())
+        explorer, lost = shell.explorer(), Lost(shell.description())
+        shell.output.show([f"{it}  {explorer.ask(f'at {it}')}  {with_lost(lost, explorer, it)}" for it in paths] + notes + found.notes())
+
+
+def with_lost(lost: Lost, explorer: Explorer, path: str) -> str:
+    """The value at a path, and how it read before its description was mended."""
+    told = explorer.value(path)
+    return "  ".join(it for it in (told, lost.said(explorer, path, told)) if it)
 
 
 def sharing(shell: "Shell", path: str, place: int) -> Tuple[List[str], List[str]]:

@@ -9,8 +9,9 @@ from front.hints.kinds import Hint, say
 from front.hints.near import near, plain
 from front.hints.node import Node, Pair
 from front.hints.places import Place, Places, Start
-from front.hints.scope import Type
+from front.hints.scope import IDENTIFIER, Type
 
+NAME = re.compile(r"[a-z][a-z0-9_:]*\Z")
 INTEGER = re.compile(r"[us](?:1|[248](?:le|be)?)\Z|b(?:[1-9]|[1-5]\d|6[0-4])(?:le|be)?\Z")
 # Words that people write for keys, the key, and what it is.
 WORDS: Dict[str, Tuple[str, str]] = {
@@ -18,6 +19,7 @@ WORDS: Dict[str, Tuple[str, str]] = {
     **dict.fromkeys(("offset", "ofs", "position", "at", "start"), ("pos", "where an instance begins")),
     **dict.fromkeys(("count", "repeat-count", "num", "times"), ("repeat-expr", "how many elements there are")),
     **dict.fromkeys(("until", "while"), ("repeat-until", "which element is the last")),
+    **dict.fromkeys(("repeat-eos", "repeat-all"), ("repeat: eos", "to the end of the stream")),
     **dict.fromkeys(("condition", "when", "cond"), ("if", "whether it is there")),
     **dict.fromkeys(("magic", "signature", "const", "bytes-value"), ("contents", "bytes that must be there")),
     **dict.fromkeys(("fields", "attributes", "sequence", "members"), ("seq", "the list of attributes")),
@@ -37,7 +39,7 @@ WORDS: Dict[str, Tuple[str, str]] = {
     **dict.fromkeys(("expression",), ("expr", "what must be true")),
 }
 # Keys that other readers of such descriptions have.
-UNREAD = ("to-string", "ks-debug", "generic", "zero-copy-substream", "doc-url", "sizeof")
+UNREAD = ("to-string", "ks-debug", "generic", "zero-copy-substream", "doc-url", "sizeof", "<<")
 # Where a key belongs that is none of the mapping that it is in.
 TYPE_KEYS = "a key of a type, as `meta` and `seq` are"
 PLACES: Dict[str, str] = {
@@ -52,7 +54,7 @@ PLACES: Dict[str, str] = {
     **dict.fromkeys(schema.IGNORED["meta"] + schema.LEFT_OUT["meta"], "it is a key of `meta`"),
     **dict.fromkeys(schema.FIELD.split()[:-1], "it is a key of an attribute or instance"),
     "valid": "only an attribute or instance has it",
-    "parent": "`_parent` is always the object that holds this one",
+    "parent": "leave it out, `_parent` is always the object that holds this one",
     **dict.fromkeys(("process", "pad-right"), "it is a key of an attribute, and isn't read: leave it out"),
 }
 
@@ -60,20 +62,27 @@ PLACES: Dict[str, str] = {
 def unknown(places: Places) -> Optional[Hint]:
     """What to say of a key that isn't known (S1)."""
     found = [it for it in places.keys if it.key and not schema.is_known(it.role, it.key) and it.role in schema.KEYS]
-    hints = [of_key(it.key, it.role, it.attribute, "") for it in found]
+    hints = [of_key(it.key, it.role, it.attribute, "", it.value) for it in found]
     return next((it for it in hints if it), None) or (general(found[0]) if found else None)
 
 
 def general(place: Place) -> Hint:
-    """What is always true of an unknown key: the keys that there are."""
+    """What is always true of an unknown key: the keys that there are; or how an attribute is written, where it looks like one."""
+    text = place.value.text
+    is_alone = place.role == "type" or place.role == "attribute" and not place.around.has("id")
+    if is_alone and place.value.kind == "text" and IDENTIFIER.match(place.key) and NAME.match(text):
+        return say("attribute form", key=place.key, role=schema.NAMES[place.role], type=text)
     keys = ", ".join(f"`{it}`" for it in schema.KEYS[place.role])
     return say("unknown key", key=place.key, role=schema.NAMES[place.role], keys=keys)
 
 
-def of_key(key: str, role: str, around: Optional[Node], where: str) -> Optional[Hint]:
+def of_key(key: str, role: str, around: Optional[Node], where: str, value: Optional[Node] = None) -> Optional[Hint]:
     """What an unknown key is: one that is written otherwise, one that is near, another word for one, or one of another mapping; None where it is none."""
     known = [*schema.KEYS[role], *schema.LEFT_OUT.get(role, ()), *schema.IGNORED.get(role, ()), "doc", "doc-ref"]
     name = schema.NAMES[role]
+    one = key[:-1] if key.endswith("s") and value is not None and value.kind == "text" and value.text else ""
+    if one in schema.KEYS[role] and key in schema.KEYS["type"]:
+        return say("near key", where=where, key=key, role=name, near=one)
     if key in PLACES or key == "id" or role == "switch" and key in ("default", "else", "otherwise"):
         return elsewhere(key, role, where)
     same = next((it for it in known if plain(it) == plain(key)), None)
@@ -85,7 +94,7 @@ def of_key(key: str, role: str, around: Optional[Node], where: str) -> Optional[
     if near_one:
         return say("near key", where=where, key=key, role=name, near=near_one)
     word, what = WORDS.get(key.lower().replace("_", "-"), ("", ""))
-    if word in known:
+    if word.split(":")[0] in known:
         return say("other word", where=where, key=key, role=name, what=what, near=word)
     moved = next((it for it in PLACES if plain(it) == plain(key)), None) or near(key, PLACES)
     return elsewhere(moved, role, where, key) if moved and len(key) > 3 else None
@@ -151,10 +160,12 @@ def lacks(start: Start) -> Optional[Tuple[Tuple[str, ...], Hint]]:
 
 def attribute_lacks(node: Node, one: Type) -> Optional[Tuple[Tuple[str, ...], Hint]]:
     """The keys of which an attribute lacks one."""
-    kind = node.said("type") if node.has("type") else None
+    kind = node.said("type").partition("(")[0].strip() if node.has("type") else None
     is_sized = node.has("size") or node.has("terminator") or node.said("size-eos") == "true"
     if kind is None and not is_sized and not node.has("contents"):
         return ("type", "size", "size-eos", "terminator", "contents"), say("no content")
+    if kind in ("str", "strz") and not is_sized and node.has("contents"):
+        return ("size", "size-eos", "terminator"), say("beside contents", key="type")
     if kind == "str" and not is_sized:
         return ("size", "size-eos", "terminator"), say("no text size")
     if kind in ("str", "strz") and not has_text(node, "encoding") and not one.stated("encoding"):

@@ -83,6 +83,8 @@ def of_foreign_name(name: str, formula: Formula, is_repeated: bool) -> Optional[
     title = titled(formula.place.type)
     if name in ("i", "j", "k", "idx") and is_repeated and formula.key in INDEX_KEYS:
         return say("index name", type=title, name=name)
+    if name in ("it", "elem", "element", "item", "current") and formula.key in ("repeat-until", "expr"):
+        return say("element name", type=title, name=name)
     after = re.search(r"\b%s\s*\.\s*([a-z][a-z0-9_]*)" % name, formula.text) if name in ("this", "self") else None
     if after and after[1] in formula.place.type.members:
         return say("own member", type=title, name=name, member=after[1])
@@ -97,7 +99,8 @@ def titled(one: Type) -> str:
 def of_member(name: str, formula: Formula) -> Hint:
     """What to say of a name that is no member: one that is near, or where it would be found."""
     one, title = formula.place.type, titled(formula.place.type)
-    special = next((it for it in (*tokens.SPECIAL, "true", "false") if plain(it) == plain(name) and len(name) > 1), None)
+    words = (*tokens.SPECIAL, "true", "false")
+    special = next((it for it in words if plain(it) == plain(name) and len(name) > 1), None) or (near(name, tokens.SPECIAL) if name.startswith("_") else None)
     if special:
         return say("special name", type=title, name=name, near=special)
     enum = next((it.enums[name] for it in one.around() if name in it.enums), None)
@@ -162,7 +165,9 @@ def listed(names: Sequence[str], front: str, none: str) -> str:
 
 def of_call(name: str, count: int) -> Hint:
     """What to say of a method with so many arguments."""
-    if not count and name not in ("substring", "to_s"):
+    if not count and name == "to_s":
+        return say("text of")
+    if not count and name != "substring":
         return say("method without arguments", name=name)
     return say("method", name=name, count=count, s="" if count == 1 else "s")
 
@@ -223,6 +228,9 @@ def of_type_names(names: Sequence[str], one: Type) -> Hint:
     near_one = near(name, [*seen, *([one.root.name] if one.root.name else []), "str", "strz"]) if len(names) == 1 else None
     if near_one:
         return say("near type", name=path, near=near_one)
+    listed_types = any(it.node.has("types") and it.node.get("types").kind == "list" for it in one.around())
+    if listed_types:
+        return say("mapping wanted", key="types", example="each type under its name, `name: {seq: []}`")
     paths = [it.path for it in one.root.all(TYPES) if it.outer and it.name == name and one.find(it.path.split("::")) is it]
     if len(paths) == 1 and paths[0] != path:
         return say("type elsewhere", name=path, path=paths[0])
@@ -241,7 +249,7 @@ def of_foreign(name: str) -> Optional[Hint]:
         return say("one byte", name=name, near=name[:2])
     if re.match(r"[us]\d+(?:le|be)?\Z|b\d+(?:le|be)?\Z", name):
         return say("odd integer", name=name)
-    return say("other type", name=name, near=OTHER_TYPES[name]) if name in OTHER_TYPES else None
+    return say("other type", name=name, example=OTHER_TYPES[name]) if name in OTHER_TYPES else None
 
 
 # The order of bytes, and arguments

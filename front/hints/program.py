@@ -1,7 +1,8 @@
 """The program, run for a person at a terminal: a greeting once it reads command lines, a hint below a refusal, and at the end what was saved.
 
-What the program prints and its status stay as they are, whatever fails here. The hint is made in a process of its own, which has a limit of time and memory;
-where that ends otherwise than well, there is none.
+What the program prints and its status stay as they are, whatever fails here. The hint of a description is made in a process of its own, which has a limit of time
+and memory; where that ends otherwise than well, there is none. Where command lines are typed and replies are shown on a terminal, the replies pass through here, and
+below one that refuses a line is what would be right. The command lines don't: what ends the input ends it for the program.
 """
 from __future__ import annotations
 
@@ -14,6 +15,7 @@ import sys
 from typing import List, NoReturn, Optional, Sequence
 
 from front.hints import arguments, refusal
+from front.hints.replies import Replies
 from front.hints.shown import visible
 
 # Seconds between two looks at the program before it is greeted; how much of its message is read; the seconds of work and the bytes of memory that a hint may
@@ -30,7 +32,8 @@ class Program:
         for name in (signal.SIGINT, signal.SIGQUIT):
             if signal.getsignal(name) != signal.SIG_IGN:
                 signal.signal(name, self._stop_hint)
-        self.running = subprocess.Popen(self.words, stderr=subprocess.PIPE)
+        self.replies = Replies(size_of((arguments.read(words[1:]).plain or [None])[0])) if os.isatty(0) and os.isatty(1) else None
+        self.running = subprocess.Popen(self.words, stdout=subprocess.PIPE if self.replies else None, stderr=subprocess.PIPE)
         signal.signal(signal.SIGTERM, self._stop)
 
     def _stop(self, *_: object) -> None:
@@ -44,26 +47,37 @@ class Program:
             os.kill(self.hinting, signal.SIGTERM)
 
     def run(self) -> int:
-        """Waits for the program, whose messages go on at once; its status."""
+        """Waits for the program, whose messages and replies go on at once; its status."""
         is_greeted, waited, message = not os.isatty(0), 0, b""
-        while True:
-            if not select.select([self.running.stderr], [], [], None if is_greeted else TURN)[0]:
+        streams = [it for it in (self.running.stdout, self.running.stderr) if it]
+        while streams:
+            ready = select.select(streams, [], [], None if is_greeted else TURN)[0]
+            if not ready:
                 waited = waited + 1 if is_waiting(self.running.pid) else 0
                 is_greeted = waited == 2
                 told(greeting(self.words[1:]) if is_greeted else "")
-                continue
-            piece = os.read(self.running.stderr.fileno(), MESSAGE)
-            if not piece:
-                break
-            written(piece)
-            message = (message + piece)[:MESSAGE]
-        self.running.stderr.close()
+            for stream in ready:
+                piece = os.read(stream.fileno(), MESSAGE)
+                if not piece or stream is self.running.stdout and not self.passed(piece):
+                    streams.remove(stream)
+                    stream.close()
+                elif stream is self.running.stderr:
+                    written(piece)
+                    message = (message + piece)[:MESSAGE]
         status = self.running.wait()
         if status == 1:
             written(self.hint(message.decode(errors="surrogateescape")))
         elif status == 0:
             told(saved(self.words[1:]))
         return status
+
+    def passed(self, piece: bytes) -> bool:
+        """Whether replies were taken by the terminal; what is said below them is told after each."""
+        for part, said in self.replies.take(piece):
+            if not written(part, 1):
+                return False
+            told(f"  ({said})\n" if said else "")
+        return True
 
     def hint(self, message: str) -> bytes:
         """What a process of its own says of a message; nothing where it doesn't end well."""
@@ -136,13 +150,14 @@ def told(text: str) -> None:
     written(text.encode(errors="replace"))
 
 
-def written(text: bytes) -> None:
-    """Writes to standard error, as far as it takes it."""
+def written(text: bytes, to: int = 2) -> bool:
+    """Writes to standard error, or where else is said; whether all was taken."""
     try:
         while text:
-            text = text[os.write(2, text) :]
+            text = text[os.write(to, text) :]
     except OSError:
-        pass
+        return False
+    return True
 
 
 def main(words: List[str]) -> int:

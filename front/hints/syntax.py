@@ -7,8 +7,9 @@ from typing import Iterator, List, Optional
 from front.hints import formulas, parser, tokens
 from front.hints.formulas import Formula
 from front.hints.kinds import Hint, say
+from front.hints.names import OTHER_TYPES
 from front.hints.places import Places
-from front.hints.values import snake
+from front.hints.values import OTHERS, SEVERAL, snake
 
 TOLD = re.compile(r"expression: (X\d+) .* at (\d{1,9})\Z")
 COMPARISONS = ("<", "<=", ">", ">=", "==", "!=")
@@ -47,12 +48,35 @@ def refused_at(formula: Formula, code: str, place: int) -> int:
 def unexpected(formula: Formula, at: int) -> Hint:
     """What to say of a character that can't come where it is (X1)."""
     text = formula.text
+    if formula.key == "case" and (hint := of_case(formula)):
+        return hint
     if re.fullmatch(r"[A-Za-z][\w-]{0,60}", text) and (formula.node.mark or formula.key == "valid") and formula.key not in ("case", "type"):
         return say("text name", text=text)
     rest, before = text[at:], text[:at].rstrip()
-    pair = text[max(0, at - 1) : at + 1]
+    key = re.match(r"(min|max|eq|expr|any-of)\s*=(?!=)", text) if formula.key == "valid" else None
+    if key:
+        return say("equals key", key=key[1])
+    if formula.key == "valid" and re.match(r"[<>]|[=!]=", text):
+        return say("bound")
+    if formula.key == "type" and (hint := of_type(formula, rest)):
+        return hint
+    if rest[:1] in ("$", "@"):
+        return say("name sign", sign=rest[0])
+    if pair_at(text, at) == "->":
+        return say("word", word="->", near=".")
+    if pair_at(text, at) == "??":
+        return say("word", word="??", near="a ? b : c")
+    if rest[:1] == "," and re.search(r"\d\Z", before) and re.match(r", *\d{3}(?!\d)", rest):
+        return say("thousands", near=re.sub(r"(?<=\d), *(?=\d{3})", "", text))
+    if pair_at(text, at) == "<>":
+        return say("word", word="<>", near="!=")
+    if re.search(r"(?:^|\s)(?:if|then)\s", text):
+        return say("if word")
+    pair = pair_at(text, at)
     if pair in ("&&", "||") or rest[:1] == "!" and rest[:2] != "!=":
         return say("operator")
+    if text[max(0, at - 2) : at + 1] in (">>>", "<<<"):
+        return say("word", word=text[at - 2 : at + 1], near=text[at - 2 : at])
     if rest[:2] in ("=<", "=>"):
         return say("word", word=rest[:2], near=rest[1] + "=")
     if rest[:1] == "=" and text[max(0, at - 1) : at] != "!":
@@ -61,6 +85,44 @@ def unexpected(formula: Formula, at: int) -> Hint:
         return say("power" if pair == "**" else "division")
     found = WORD.match(text, at)
     return of_word(formula, at, found[0]) if found else of_sign(formula, at, before)
+
+
+def pair_at(text: str, at: int) -> str:
+    """A sign and the one before it."""
+    return text[max(0, at - 1) : at + 1]
+
+
+def is_measured(formula: Formula) -> bool:
+    """Whether an expression is a number and a word that no member has."""
+    found = re.fullmatch(r"[0-9]+ +([A-Za-z]+)", formula.text)
+    return bool(found) and found[1] not in formula.place.type.members
+
+
+def of_type(formula: Formula, rest: str) -> Optional[Hint]:
+    """What to say of the text of a type that is written as in other languages; None where it is something else."""
+    text = formula.text
+    listed = re.fullmatch(r"([a-z]\w*)\[\s*(\w*)\s*\]", text)
+    ordered = re.fullmatch(r"([us][248])[\s,_.-]+(le|be)", text)
+    if listed:
+        return say("type list", type=listed[1], count=listed[2] or "n")
+    if ordered:
+        return say("type order", near=ordered[1] + ordered[2])
+    if re.fullmatch(r"(?:(?:un)?signed|long|short|int|char)(?: +(?:long|short|int|char))+", text):
+        return say("other type", name=text, example=OTHER_TYPES["int"])
+    is_path = rest[:1] == "." and re.fullmatch(r"\w+(?:\.\w+)+", text)
+    return say("type point", near=text.replace("types.", "").replace(".", "::")) if is_path else None
+
+
+def of_case(formula: Formula) -> Optional[Hint]:
+    """What to say of the key of a case that is a word or a text by what it looks like; None where it is something else."""
+    text = formula.text
+    if text.lower() in OTHERS:
+        return say("other case")
+    if SEVERAL.search(text):
+        return say("case each")
+    if formula.place.is_quoted and "::" not in text:
+        return say("case text")
+    return say("text name", text=text) if re.fullmatch(r"[A-Za-z][\w-]{0,60}", text) and text not in OPERATORS else None
 
 
 def of_word(formula: Formula, at: int, word: str) -> Hint:
@@ -75,9 +137,15 @@ def of_word(formula: Formula, at: int, word: str) -> Hint:
         base = {"X": 16, "B": 2}.get(number[1], 8)
         digits = number[2] if all(it in "0123456789abcdef"[:base] for it in number[2].lower()) else ""
         return say("number prefix", near=f"0{number[1].lower()}{digits}" if base != 8 else str(int(digits, 8)) if digits else "0x..")
+    if whole.startswith(("0x", "0b")) and begin != at:
+        return say("digits", word=whole, front=whole[:2], digits="`0` to `9` and `a` to `f`" if whole[1] == "x" else "`0` and `1`")
+    if re.fullmatch(r"[0-9]+[A-Za-z]+", whole) and not number and begin != at or is_measured(formula):
+        return say("unit")
     if whole in OPERATORS and (begin or whole[0].isupper()):
         near = OPERATORS[whole]
         return say("capital", name=near) if whole[0].isupper() else say("word", word=whole, near=near)
+    if word == "as" and begin == at:
+        return say("word", word="as", near="x.as<t>")
     if word == "not" and begin:
         return say("not inside")
     if re.search(r"[A-Z]", word):

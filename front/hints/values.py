@@ -20,6 +20,10 @@ EXAMPLES = {
     "meta": "`meta: {id: a}`", "types": "each type under its name, `name: {seq: []}`", "instances": "each instance under its name, `name: {value: 1}`",
     "enums": "each enum under its name, `name: {1: one}`", "type": "`{seq: []}`", "instance": "`{value: 1}`, or with `pos`", "enum": "`{1: one}`",
 }
+# What people write for several values.
+SEVERAL = re.compile(r"\d *(?:\.\.|,|-|\|) *\d")
+# Words that people write for the case of all other values.
+OTHERS = ("default", "else", "otherwise", "other")
 # How many members of an enum are looked at.
 MOST = 4000
 ITEMS = {"seq": "attribute", "params": "parameter"}
@@ -147,9 +151,13 @@ def of_field(place: Place) -> Optional[Hint]:
         return of_terminator(place)
     if key == "encoding" and value.kind != "text":
         return say("text wanted", key=key)
+    if key == "enum" and value.kind == "map":
+        return say("enum inside")
     if key == "enum":
         names = value.text.split("::") if value.kind == "text" else []
-        return None if names and all(IDENTIFIER.match(it) for it in names) else say("enum path")
+        if names and all(IDENTIFIER.match(it) for it in names):
+            return None
+        return of_name(value.text) if re.fullmatch(r"[A-Za-z][\w-]*", value.text) else say("enum path")
     return of_id(place) if place.role == "attribute" else None
 
 
@@ -203,7 +211,9 @@ def of_case(place: Place) -> Optional[Hint]:
         return None
     if place.is_quoted:
         return say("case text")
-    if place.key in ("default", "else", "otherwise", "other"):
+    if SEVERAL.search(place.key):
+        return say("case each")
+    if place.key in OTHERS:
         return say("other case")
     enum, _, name = place.key.rpartition(".")
     found = {it: members_of(of) for one in place.type.around() for it, of in one.enums.items() if len(of.pairs) < MOST}

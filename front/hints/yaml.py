@@ -4,12 +4,14 @@ from __future__ import annotations
 import re
 from typing import Callable, Dict, List, NamedTuple, Optional
 
-from front.hints import flow, lines
+from front.hints import flow, lines, schema
 from front.hints.flow import QUOTED
 from front.hints.kinds import Hint, say
 from front.hints.node import Node
 from front.hints.outline import COMMENT, STOP, Outline
 
+# Keys that people write in braces.
+KEYS_IN_FLOW = ("id", "endian", "encoding", "value", "pos", "io", "min", "max", "eq", "any-of", "expr", "switch-on", "cases", *schema.FIELD.split())
 # How much of a line and how many lines are looked at.
 LONGEST, LINES = 4000, 5_000
 CONTROL = re.compile("[\x00-\x08\x0b-\x1f\x7f-\x9f]")
@@ -18,7 +20,16 @@ WORD = re.compile(r"[A-Za-z_][\w-]*")
 EXPRESSIONS = ("if", "value", "valid", "expr", "repeat-until", "repeat-expr", "size", "pos", "eq", "min", "max", "switch-on")
 # What comes in a flow after a quoted text or a closed bracket, where a comma is missing.
 COMMA = re.compile(r"'\s+[^\s,:\]}#]|[\]}]\s*[^\s,\]}:#]")
-# Keys of texts, and the lines that begin and end a description.
+# A word in a flow, and a key behind it without a comma.
+JOINED = re.compile(r"[\w'][;.]? {1,9}(?:" + "|".join(KEYS_IN_FLOW) + r"): ")
+# A bracket, brace or comma in a plain text of a flow.
+OPEN_TEXT = re.compile(r"[^\s\[\]{},:'] {0,9}[\[{]|\([^()\[\]{}:']*,")
+# A quote in a flow behind which there is none.
+LONE = re.compile(r"[:,\[{]\s{0,9}([\"'])(?!x*')[^\"']*\Z")
+# The same as a word and a key, in a block.
+SECOND = re.compile(r"[\w'\])] {1,9}(?:" + "|".join(KEYS_IN_FLOW) + r"):(?: |\Z)")
+# Keys of checks, keys that an item begins with, keys of texts, and the lines that begin and end a description.
+BOUNDS, ITEM_KEYS = ("valid", "min", "max", "eq", "expr"), ("id", "type", "size", "contents", "doc")
 TEXTS, MARKER = ("doc", "doc-ref", "title", "license"), re.compile(r"(?:---|\.\.\.)(?:[ \t]|\Z)")
 GOOD_ESCAPE = re.compile(r"\\(?:[\"\\/0abtnvfre]|x[\da-fA-F]{2}|u(?![dD][89a-fA-F])[\da-fA-F]{4})")
 
@@ -140,16 +151,39 @@ def no_key(text: str, line: Line) -> Optional[Hint]:
         return say("question")
     if line.value[:1] in ("[", "{") and COMMA.search(bare_of(line.value)[: flow.end(bare_of(line.value), 0)]):
         return say("flow comma")
+    if line.value[:1] == "{" and JOINED.search(bare_of(line.value)):
+        return say("flow comma")
+    if above and above.key[:1] == "-" and above.key[1:] in ITEM_KEYS:
+        return say("dash space", line=above.number, key=above.key[1:])
+    if above and above.is_full and (lone := lone_word(text, above.number)):
+        return say("no colon", where=f"line {above.number + 1}: ", key=lone)
+    if line.key == "type" and re.match(r"[a-z]\w*\([a-z]\w*: ", line.value):
+        return say("argument name")
     if above and line.text.startswith(" " * (above.before + 1)) and above.is_full and (line.key or not line.value.startswith(("[", "{"))):
         if above.key in TEXTS or above.key.startswith("-"):
             return say("text lines", key=above.key)
         return say("below a value", line=above.number, columns=spaces(above.before))
     if line.value[:1] == "[" and ": " in line.value[: flow.end(line.value, 0)]:
         return say("choice") if " ? " in line.value else say("pair in list")
+    if line.key not in TEXTS and SECOND.search(line.value) and not line.value.startswith(("'", '"', "[", "{", "|", ">")):
+        return say("key place")
+    if line.content.startswith("(") and ": " in line.content:
+        return say("parentheses")
+    if re.match(r"[+*•] +[\w-]+:(?: |\Z)", line.content):
+        return say("other dash", sign=line.content[0])
+    if above and above.is_block and not line.key and not line.text.startswith(" " * (above.before + 1)):
+        return say("block empty", line=above.number)
     plain = not line.value.startswith(("'", '"', "[", "|", ">"))
     if plain and STOP.search(f"{COMMENT.split(line.value, 1)[0]} ") and (line.key or line.value[:1] == "{"):
         return say("choice") if " ? " in line.value else say("colon")
     return misplaced(line, above) if not line.value.startswith("{") else None
+
+
+def lone_word(text: str, number: int) -> str:
+    """The word that the line after a key or a dash begins with, where that has nothing behind it; the empty text where the line has more."""
+    front, below = (lines.line(text, number) or "").strip(), (lines.line(text, number + 1) or "").strip()
+    is_open = front == "-" or front.endswith(":")
+    return below.split()[0] if is_open and re.fullmatch(r"[A-Za-z_][\w-]*(?: [\w-]+)?", below) else ""
 
 
 def misplaced(line: Line, above: Optional[Above]) -> Optional[Hint]:
@@ -166,12 +200,12 @@ def misplaced(line: Line, above: Optional[Above]) -> Optional[Hint]:
     joined = re.match(r"([A-Za-z_][\w-]*):(\S.*)\Z", line.content)
     if joined and not joined[2].startswith("/"):
         return say("no space", near=f"{joined[1]}: {joined[2]}")
-    return say("no colon", key=line.content.strip()) if WORD.fullmatch(line.content.strip()) else say("no key")
+    return say("no colon", where="", key=line.content.strip()) if WORD.fullmatch(line.content.strip()) else say("no key")
 
 
 class Above(NamedTuple):
     """The last key or item above a line: its line and column, and whether it has a value on its line; the columns of the lists and mappings that it is in, the
-    innermost first, and of lists where no key is; what is said where it is open; and the key, if it is one."""
+    innermost first, and of lists where no key is; what is said where it is open; the key, if it is one; and whether its value is a block text."""
 
     number: int
     before: int
@@ -181,6 +215,7 @@ class Above(NamedTuple):
     lists: List[int]
     opened: Optional[Hint]
     key: str
+    is_block: bool
 
 
 def previous(text: str, number: int) -> Optional[Above]:
@@ -193,7 +228,8 @@ def previous(text: str, number: int) -> Optional[Above]:
     keys = [outline.column(it) for it in chain if outline.key(it) is not None]
     items = [outline.column(it) for it in chain if outline.key(it) is None]
     lists = [it for it in items if it not in keys]
-    return Above(outline.line(outline.starts[last]), outline.column(last), outline.inline(last) != "", items, keys, lists, unclosed(outline), outline.key(last) or "")
+    return Above(outline.line(outline.starts[last]), outline.column(last), outline.inline(last) != "", items, keys, lists, unclosed(outline), outline.key(last) or "",
+                 outline.inline(last) in ("|", ">"))
 
 
 # Forms that aren't read
@@ -218,12 +254,16 @@ def left_out(text: str, line: Line) -> Optional[Hint]:
         return above.opened if len(line.text) - len(line.text.lstrip(" ")) <= above.before else say("flow parts")
     if not above and line.number > 1 and (Outline(text[: lines.start(text, line.number)], LINES).root.is_flow):
         return say("flow parts")
+    if re.match(r"[+*] +[\w-]+:(?: |\Z)", line.content):
+        return say("other dash", sign=line.content[0])
     if line.content[:1] and line.content[:1] in ",]}@%`&*!|>":
         return of_first(line, line.content)
+    if value[:1] in ("[", "{") and line.key in TEXTS:
+        return say("sign first", sign=value[0])
     if value[:1] in ("[", "{"):
         return of_flow(value) or say("flow parts")
     if value[:1] in ("'", '"'):
-        return of_quoted(value)
+        return of_quoted(value, line.key)
     return of_first(line, value)
 
 
@@ -233,7 +273,9 @@ def of_first(line: Line, value: str) -> Optional[Hint]:
     if first == "!" and line.key in EXPRESSIONS:
         return say("operator")
     if first in ("&", "*", "!") and first:
-        return say("anchor")
+        return say("sign first", sign=first) if line.key in TEXTS else say("anchor")
+    if first == ">" and line.key in BOUNDS:
+        return say("bound")
     if first in ("|", ">") and first:
         return say("block sign") if re.match(r"[|>][-+\d]+(?:[ \t]+#.*|[ \t]*)\Z", value) else say("sign first", sign=first)
     if first in ("@", "%", "`") and first:
@@ -243,7 +285,7 @@ def of_first(line: Line, value: str) -> Optional[Hint]:
     return say("sign first", sign=first) if first in (",", "]", "}", "?", ":", "-") and first else None
 
 
-def of_quoted(value: str) -> Optional[Hint]:
+def of_quoted(value: str, key: str) -> Optional[Hint]:
     """What to say of a quoted text: an escape in it, or what comes after it."""
     quoted = QUOTED.match(value)
     if not quoted:
@@ -254,6 +296,8 @@ def of_quoted(value: str) -> Optional[Hint]:
     after = value[quoted.end() :]
     if after.strip() and value.rstrip()[-1] == value[0] and not after.startswith((" ", "#", value[0])):
         return say("apostrophe" if value[0] == "'" else "inner quote")
+    if key == "contents" and after.strip():
+        return say("contents wanted")
     return say("comment sign") if after.startswith("#") else say("after quote") if after.strip() else None
 
 
@@ -283,15 +327,21 @@ def of_flow(value: str) -> Optional[Hint]:
             return say("yaml escape", escape=bad_escape(it[0]))
     if re.search(r"[\[{,]\s*,", bare):
         return say("two commas")
+    if re.search(r"\b(?:valid|min|max): >", bare):
+        return say("bound")
     marked = re.search(r"[\[{,:]\s+([&*!@%`|>])|[\[{,]([&*!@%`|>])", bare)
     if marked:
         sign = marked[1] or marked[2]
         return say("anchor") if sign in "&*!" else say("first letter") if sign in "@%`" else say("sign first", sign=sign)
     if COMMA.search(bare[: flow.end(bare, 0)]):
         return say("flow comma")
+    if OPEN_TEXT.search(bare):
+        return say("flow text")
     after = bare[flow.end(bare, 0) :]
     if after.startswith("#"):
         return say("comment sign")
+    if re.fullmatch(r"[\s,\]}]+", after) and after.strip():
+        return say("extra sign", sign=after.strip())
     if after.strip() and not after.lstrip().startswith("#"):
         return say("after bracket")
     return of_parts(flow.read(value, 0, LONGEST)[0], bare)
@@ -329,4 +379,5 @@ def not_closed(text: str, line: Line) -> Optional[Hint]:
     if not outline.is_whole or last < 0 or outline.inline(last) not in ("{", "["):
         return None
     node = outline.node(last)
-    return say("bracket", sign=node.mark, line=outline.line(node.at)) if flow.end(text, node.at) >= len(text.rstrip()) and line.number > 0 else None
+    lone = LONE.search(bare_of(text[node.at :])) if len(text) - node.at < LONGEST else None
+    return say("quote", sign=lone[1]) if lone else say("bracket", sign=node.mark, line=outline.line(node.at)) if flow.end(text, node.at) >= len(text.rstrip()) and line.number > 0 else None

@@ -8,7 +8,7 @@ from front.follow import Follower
 from front.look import Explorer, Spent
 from front.session import Refused
 from front.texts import columns
-from front.view.cells import CUT, cut, wrapped
+from front.view.cells import cut, ending, wrapped
 from front.view.replies import Replies
 from front.view.sources import Sources
 from front.view.state import parent
@@ -102,19 +102,13 @@ def lines_of(replies: Replies, description: Callable[[], Description], ksy: str,
     place, own = place_of(where), told.partition(f" at {path}")
     value = own[0] if own[1] and not own[2] and told.startswith("fault") else told
     rest = "  ".join([place, *([value] if where != told else [])])
-    lines = [f"{ending(path, width - columns(rest) - 2)}  {rest}"]
+    lines = [f"{ending(path, max(LEAST_PATH, width - columns(rest) - 2))}  {rest}"]
     try:
         lines += wrapped(described(replies, description(), ksy, path), width, 2 if most > 2 else 1)
         lines += wrapped(noted(replies, description, path, told, where), width, most - len(lines)) if most > len(lines) else []
     except (Refused, Spent):
         pass
     return (lines + [""] * most)[:most]
-
-
-def ending(path: str, width: int) -> str:
-    """A path, or as much of its end as there is room for; always some of it."""
-    room = max(width, LEAST_PATH)
-    return path if columns(path) <= room else CUT + path[len(path) - room + 1 :]
 
 
 def noted(replies: Replies, description: Callable[[], Description], path: str, told: str, where: str) -> str:

@@ -33,6 +33,11 @@ def cut(text: str, width: int) -> str:
     return "".join(taken) + CUT if width > 0 else ""
 
 
+def ending(text: str, width: int) -> str:
+    """A text, or as much of its end as n columns hold, with a mark where it was cut; always some of it."""
+    return text if columns(text) <= width else CUT + text[len(text) - max(width, 1) + 1 :]
+
+
 def fitted(spans: Iterable[Span], width: int, style: str = "plain") -> Row:
     """Spans as a row that is n columns wide: cut, with a mark there, or with spaces behind them."""
     shown = [(visible(it.text[: 2 * max(0, width) + 2]), it.style) for it in spans if it.text]

@@ -15,7 +15,7 @@ from front.values import Unwritable
 from front.view import editing, filing, moves, seeking, walk
 from front.view.about import sources_of
 from front.view.draw import Screen, Told, drawn
-from front.view.help import lines_of
+from front.view.help import by_keys, lines_of
 from front.view.replies import Replies
 from front.view.state import State, Typed, fronts
 from front.view.tree import Tree
@@ -105,7 +105,7 @@ class Desk:
         except Spent:
             self.state = self.state.told("given up: too many questions")
         except FAILURES as error:
-            self.state = self.state.told(str(error))
+            self.state = self.state.told(by_keys(str(error)))
         if key not in ("f", "F", "n"):
             self.resumed = ""
         self.is_warned = self.is_warned and key in ("q", "ctrl-d", "enter", "resize")

@@ -5,9 +5,9 @@ from typing import Callable, List, Optional, Tuple
 
 from front.description import Description
 from front.look import span_of
-from front.texts import columns
+from front.texts import columns, visible
 from front.view import about, octets, readings
-from front.view.cells import Row, Span, cut, fitted
+from front.view.cells import Row, Span, cut, fitted, wrapped
 from front.view.help import BACK, KEYS, TITLE, keys_of, lines_of
 from front.view.octets import Grid
 from front.view.replies import Replies
@@ -19,6 +19,8 @@ from front.view.tree import Tree
 BOTH, BODY, ABOUT, READINGS, NARROW_READINGS = 72, 6, 4, 5, 12
 # The least columns of a row beside its place.
 LEAST_ROOM = 12
+# How much of the last row says what is typed there, and the most rows of a message.
+LABEL, MESSAGE = 2 / 3, 3
 # The length of values of which none is a number.
 LONGEST_NUMBER = 300
 
@@ -80,8 +82,10 @@ def drawn(state: State, replies: Replies, told: Told) -> Screen:
         halves.append([octets.heading(layout.grid), *rows])
         cursor = (line + 1, column + (layout.tree + 1 if layout.tree else 0)) if state.half == "bytes" else None
     rows = [fitted([it for half in both for it in (*half, Span(" "))][:-1], state.columns) for both in zip(*halves)]
-    last, typed_at = last_row(state, state.is_node and replies.ask(f"at {state.path}") == "calculated")
-    return Screen([*rows, *below, last][: state.rows], (state.rows - 1, typed_at) if typed_at is not None else cursor)
+    most = max(1, min(MESSAGE, 1 + layout.about + layout.readings))
+    last, typed_at = last_rows(state, state.is_node and replies.ask(f"at {state.path}") == "calculated", most)
+    above = [*rows, *below][: max(1, state.rows - len(last))]
+    return Screen([*above, *last][: state.rows], (state.rows - 1, typed_at) if typed_at is not None else cursor)
 
 
 def marked_of(state: State, replies: Replies) -> Tuple[int, int]:
@@ -191,20 +195,19 @@ def is_first_byte(state: State, replies: Replies) -> bool:
     return marked_of(state, replies)[0] == state.place
 
 
-def last_row(state: State, is_calculated: bool) -> Tuple[Row, Optional[int]]:
-    """The last row: the line that is typed, and the column of its cursor; else a message, or the keys that there are."""
+def last_rows(state: State, is_calculated: bool, most: int) -> Tuple[List[Row], Optional[int]]:
+    """The last rows: the line that is typed, and the column of its cursor; else a message, in as many rows as it takes, or the keys that there are."""
     if state.typed:
-        label = f"{cut(state.typed.purpose, state.columns // 2)}: "
+        label = f"{cut(state.typed.purpose, int(state.columns * LABEL))}: "
         room = max(1, state.columns - columns(label) - 1)
         text = "".join(it if it.isprintable() else "?" for it in state.typed.text)
         start = max(0, state.typed.at - room)
-        return fitted([Span(label, "key"), Span(text[start : start + room], "offered" if state.typed.is_offered else "plain")], state.columns), min(
-            state.columns - 1, columns(label) + columns(text[start : state.typed.at])
-        )
+        row = fitted([Span(label, "key"), Span(text[start : start + room], "offered" if state.typed.is_offered else "plain")], state.columns)
+        return [row], min(state.columns - 1, columns(label) + columns(text[start : state.typed.at]))
     if state.message:
-        return fitted([Span(state.message, "message")], state.columns), None
+        return [fitted([Span(it, "message")], state.columns, "message") for it in wrapped(visible(state.message), state.columns, most)], None
     keys = keys_of(state.half, state.columns, is_calculated)
-    return fitted([it for key, what in keys for it in (Span("  " if key != keys[0][0] else ""), Span(key, "key"), Span(f" {what}"))], state.columns), None
+    return [fitted([it for key, what in keys for it in (Span("  " if key != keys[0][0] else ""), Span(key, "key"), Span(f" {what}"))], state.columns)], None
 
 
 def helped(state: State, first: int) -> Screen:

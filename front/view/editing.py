@@ -9,6 +9,8 @@ from front.look import Spent, span_of
 from front.session import Refused
 from front.values import Writer
 from front.view import moves
+from front.view.cells import ending
+from front.view.draw import LABEL
 from front.view.tree import Tree
 
 if TYPE_CHECKING:
@@ -33,7 +35,8 @@ def ask_value(desk: "Desk") -> None:
     is_fault = told.startswith(("fault", "error"))
     span = span_of(desk.replies.ask(f"at {desk.state.path}")) if is_fault else None
     now = f" (now {desk.replies.content(span[0], span[1] - span[0]).hex()})" if span and 0 < span[1] - span[0] <= SHORT else ""
-    desk.ask_line(f"value of {desk.state.path}{now}", "" if is_fault or len(text) > OFFERED else text)
+    path = ending(desk.state.path, int(desk.state.columns * LABEL) - len("value of ") - len(now))
+    desk.ask_line(f"value of {path}{now}", "" if is_fault or len(text) > OFFERED else text)
 
 
 def write(desk: "Desk", text: str) -> None:

@@ -7,6 +7,7 @@ from front.keeper import lefts
 from front.save import CHANGED, NotSaved
 from front.session import Died, Refused
 from front.view import editing
+from front.view.help import by_keys
 
 if TYPE_CHECKING:
     from front.view.desk import Desk
@@ -42,7 +43,7 @@ def is_saved(desk: "Desk", out: str) -> bool:
         opened.saver.save(content, out)
     except (Died, NotSaved, OSError, Refused) as error:
         desk.status = 3
-        desk.state = desk.state.told(str(error).replace("the same `save` once more", "s and the same name once more"))
+        desk.state = desk.state.told(by_keys(str(error)))
         return False
     desk.status = 0
     opened.keeper.saved()

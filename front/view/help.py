@@ -4,6 +4,10 @@ from typing import List, Tuple
 from front.texts import columns
 from front.view.cells import wrapped
 
+# What the prompt's messages say of its commands, and what is pressed here.
+COMMANDS = {
+    "`ins` and `del` make room or take it": "i and Del make room or take it", "the same `save` once more": "s and the same name once more",
+}
 TITLE, BACK = " keys", "any other key goes back"
 # The columns of keys in the page of help, and the least ones beside them.
 KEYS, LEAST = 10, 20
@@ -52,6 +56,13 @@ def lines_of(width: int) -> List[Tuple[str, str]]:
         rows = wrapped(what, max(LEAST, width - KEYS - 1), len(what) + 1) or [""]
         found += [(it, row) for it, row in zip([key, *[""] * len(rows)], rows)]
     return found
+
+
+def by_keys(text: str) -> str:
+    """A message of the prompt's, with keys in place of its commands."""
+    for command, key in COMMANDS.items():
+        text = text.replace(command, key)
+    return text
 
 
 def keys_of(half: str, width: int, is_calculated: bool) -> List[Tuple[str, str]]:

@@ -105,7 +105,7 @@ def is_found(desk: "Desk", sought: Sought) -> bool:
         if path is None:
             return False
         desk.go(path)
-        desk.state = replace(desk.state, sought=sought).told(f"a name; n goes to the next one; \"{sought.text}\" in quotes is sought in the bytes")
+        desk.state = replace(desk.state, sought=sought).told(f"a name; n goes on; \"{sought.text}\" in quotes is sought in the bytes")
         return True
     place = state.place + 1 if state.found[0] == state.place and state.found[0] < state.found[1] else state.place
     span = walk.next_bytes(desk.replies, sought.wanted, place) if sought.wanted else None
@@ -113,5 +113,5 @@ def is_found(desk: "Desk", sought: Sought) -> bool:
         return False
     moved = moves.at_place(replace(state, is_node=False, sought=sought), desk.replies, span[0])
     also = f"; {moved.message}" if moved.message else ""
-    desk.state = replace(moved, found=span).told(f"{sought.kind} at {span[0]} (0x{span[0]:x}); n goes to the next one{also}")
+    desk.state = replace(moved, found=span).told(f"{sought.kind} at {span[0]} (0x{span[0]:x}); n goes on{also}")
     return True

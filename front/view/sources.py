@@ -6,7 +6,7 @@ from front.follow import Follower
 from front.look import Explorer, joined
 
 NAME = re.compile(r"(?<![\w.\"'])[a-z_][a-z0-9_]*")
-STEP = re.compile(r"\s*\.\s*([a-z_][a-z0-9_]*)(?!\s*\()")
+STEP = re.compile(r"\s*\.\s*([a-z_][a-z0-9_]*)(?![a-z0-9_]|\s*\()")
 PLAIN = re.compile(r"\s*(-?(?:0x[0-9a-f]+|[0-9]+))\s*")
 # Words of expressions that are no names, and how many brackets lie in one another.
 WORDS, DEEPEST = {"and", "or", "not", "true", "false", "_", "_io", "_index", "_sizeof"}, 6

@@ -11,8 +11,9 @@ from front.view.cells import Row, Span, fitted, plain
 from front.view.desk import Desk
 from front.view.draw import Screen
 
-# How long a question may take until a sign is given, and after how many empty readings the terminal is taken to be gone.
-PATIENCE, EMPTY = 0.05, 5
+# How often somebody looks whether a question takes long, after how many seconds a sign of it is given, and after how many it is given anew; after how many empty
+# readings the terminal is taken to be gone.
+PATIENCE, LONG, OFTEN, EMPTY = 0.02, 0.07, 0.1, 5
 NAMES: Dict[int, str] = {
     curses.KEY_UP: "up", curses.KEY_DOWN: "down", curses.KEY_LEFT: "left", curses.KEY_RIGHT: "right", curses.KEY_PPAGE: "pgup", curses.KEY_NPAGE: "pgdn",
     curses.KEY_HOME: "home", curses.KEY_END: "end", curses.KEY_DC: "delete", curses.KEY_IC: "insert", curses.KEY_BACKSPACE: "backspace",
@@ -116,13 +117,17 @@ class Terminal:
         self.show(desk.screen())
         while True:
             for key in self.keys():
-                self.began = time.monotonic()
+                self.begin()
                 if key == "resize":
                     desk.resize(*self.size())
                 else:
                     desk.key(key)
-            self.began = time.monotonic()
+            self.begin()
             self.show(desk.screen())
+
+    def begin(self) -> None:
+        """Notes that something begins, of which a sign is given where it takes long."""
+        self.began, self.last = time.monotonic(), 0.0
 
     # Keys
 
@@ -174,7 +179,6 @@ class Terminal:
             self.put(line, row)
         self.point(screen.cursor)
         self.window.refresh()
-        self.last = time.monotonic()
 
     def put(self, line: int, row: Row) -> None:
         """Puts a row on the terminal. The last cell of all can't be written without scrolling: that it fails there is no matter."""
@@ -199,7 +203,7 @@ class Terminal:
     def sign(self) -> None:
         """Tells that something takes long, and how it is broken off; at most ten times a second."""
         now = time.monotonic()
-        if now - self.began < 2 * PATIENCE or now - self.last < 2 * PATIENCE or self.desk is None:
+        if now - self.began < LONG or now - self.last < OFTEN or self.desk is None:
             return
         self.last = now
         state = self.desk.state

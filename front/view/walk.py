@@ -29,7 +29,7 @@ def paths_after(replies: Replies, path: str, most: int = MOST_ASKED) -> Iterator
             if replies.asked > until:
                 raise GivenUp(at)
             ahead(replies, at)
-            at = tree.next(at, is_open_value(replies, at))
+            at = tree.next(at, is_open_value(replies, at) and not is_inside_itself(replies, at))
             if at is not None:
                 yield at
 
@@ -37,6 +37,16 @@ def paths_after(replies: Replies, path: str, most: int = MOST_ASKED) -> Iterator
 def is_open_value(replies: Replies, path: str) -> bool:
     """Whether there can be something below a path, by its value."""
     return replies.ask(f"get {path}").startswith(("object ", "[", "fault "))
+
+
+def is_inside_itself(replies: Replies, path: str) -> bool:
+    """Whether an object is what it is in once more, by its type and its place: as a folder's entry for the folder itself. A walk would have no end there."""
+    told, place, at = replies.ask(f"get {path}"), replies.ask(f"at {path}"), path
+    while at != "/" and told.startswith("object ") and place.startswith("at "):
+        at = parent(at)
+        if replies.ask(f"get {at}") == told and replies.ask(f"at {at}") == place:
+            return True
+    return False
 
 
 def ahead(replies: Replies, path: str) -> None:

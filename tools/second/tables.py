@@ -401,7 +401,7 @@ def judge_example(path):
 
 
 def judge_reference(path):
-    """The blocks of a reference: each is a dialogue."""
+    """The blocks of a page: each is a dialogue."""
     lines, rows, inside = lines_of(path), [], False
     for number, line in enumerate(lines, 1):
         if line == "```ksv":
@@ -418,9 +418,10 @@ def judge_reference(path):
 
 
 def all_tables(root):
-    """The tables, examples and the reference of a repository, each with who judges it."""
+    """The tables, examples and pages of a repository, each with who judges it."""
     for path in sorted(glob.glob(f"{root}/crates/*/data/*.txt")):
         yield judge_table, path
     for path in sorted(glob.glob(f"{root}/examples/*.ksy")):
         yield judge_example, path
-    yield judge_reference, f"{root}/docs/REFERENCE.md"
+    for name in ("REFERENCE", "EXAMPLES", "MENDING"):
+        yield judge_reference, f"{root}/docs/{name}.md"

@@ -7,6 +7,15 @@
 //! [`Session`] and [`run`] are those of ksv_session, run by the code of the rules (ksv_rules). The rest is re-exported from
 //! below: lines and devices (ksv_lines), descriptions (ksv_desc), and replies (ksv_session).
 //!
+//! Calls, in `crates/ksv_cli/src/main.rt`:
+//!
+//! ```
+//! let mut reader = Std::new(rt.stdin());
+//! let mut writer = Std::new(rt.stdout());
+//! match run(rt.alloc(), &mut reader, &mut writer, desc, bytes) {
+//!     Ok((buffer, End::Quit | End::Input)) => keep(rt, target.as_ref(), &buffer),
+//! ```
+//!
 //! Modules:
 //!
 //! - `description`: reads a description

@@ -8,6 +8,14 @@
 //!
 //! A numeral is digits in a row ([`is_numeral`]); [`numeral`] is its number.
 //!
+//! A call, in `crates/ksv_yaml_tree/src/numeral.rt`:
+//!
+//! ```
+//! match numeral(digits, 10) {
+//!     None => Numeral::NoNumeral,
+//!     Some(number) => {
+//! ```
+//!
 //! Modules:
 //!
 //! - `digits`: digits in a row, and their number

@@ -121,7 +121,7 @@ impl Buffer {
         Ok(())
     }
 
-    /// Takes out so many bytes from a place on. It takes no memory. The gap is then at this place.
+    /// Takes out `count` bytes from a place on. It takes no memory. The gap is then at this place.
     pub fn delete(&mut self, at: usize, count: usize) -> Result<(), EditRefusal>
         ensures { MatchResult result
             (λ _. delete self.old at count ≡ Ok self.new)

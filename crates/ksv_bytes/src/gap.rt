@@ -84,7 +84,7 @@ pub(crate) fn room_for(
     }
 }
 
-/// The length of the gap, once it has at least so many bytes. It grows by half of all bytes, so that many small edits
+/// The length of the gap, once it has at least `count` bytes. It grows by half of all bytes, so that many small edits
 /// cost no more than a few large ones, and never past the limit of a file. It takes memory only if it grows, before any
 /// byte is moved.
 fn widen_gap(

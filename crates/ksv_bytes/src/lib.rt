@@ -4,6 +4,14 @@
 //! equation of lists, or a named refusal that changes nothing (`specs/Edits.antt`). A [`Use`] is what a reading of
 //! the bytes depends on, and [`touches`] decides whether an edit may have changed it (`specs/Uses.antt`).
 //!
+//! Calls, in `crates/ksv_test_engine/src/buffer.rt`:
+//!
+//! ```
+//! let mut is_put = buffer.insert(0, b"a").is_ok();
+//! is_put &= buffer.insert(2, b"cC").is_ok();
+//! is_put &= buffer.insert(5, b"e").is_ok();
+//! ```
+//!
 //! Modules:
 //!
 //! - `buffer`: the bytes of a file

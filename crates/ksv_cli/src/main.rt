@@ -27,7 +27,7 @@ use std::process::ExitCode;
 /// What a message says of a word that names no file, as no name of a file that ksv reads can be so.
 const NO_TEXT: &str = "a word that isn't UTF-8";
 
-/// The bytes of a file, at most so many of them.
+/// The bytes of a file, at most `limit` of them.
 fn read_file(rt: &HostRuntime, path: &str, limit: u64) -> io::Result<Vec<u8>> {
     let mut bytes = Vec::new(rt.alloc());
     File::open(rt, path)?.take(limit).read_to_end(&mut bytes)?;

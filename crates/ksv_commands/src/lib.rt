@@ -2,6 +2,15 @@
 //!
 //! A line is nothing, a command with its values, or refused. What a command does to a session, and each reply, is in ksv_session.
 //!
+//! A call, in `crates/ksv_session/src/session.rt`:
+//!
+//! ```
+//! let Ok(command) = read_line(self.alloc, self.described.desc(), line) else {
+//!     self.turns = None;
+//!     return Reply::NoMemory;
+//! };
+//! ```
+//!
 //! Modules:
 //!
 //! - `command`: reads a line: nothing, a command with its values, or a refusal

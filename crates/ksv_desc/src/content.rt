@@ -43,7 +43,7 @@ pub enum Content {
     },
 }
 
-/// Whether so many bits are a truth value and no integer: one bit that is no member of an enum.
+/// Whether `width` bits are a truth value and no integer: one bit that is no member of an enum.
 pub fn is_truth(width: u8, enumeration: Option<u32>) -> bool
     ensures { result ≡ is_truth width enumeration }
 {

@@ -2,6 +2,13 @@
 //!
 //! A [`Desc`] has all its references resolved. Which description a tree states is defined by the loader (ksv_schema).
 //!
+//! A call, in `crates/ksv_paths/src/path_text.rt`:
+//!
+//! ```
+//! Some(text) => desc.number_of(text),
+//! None => None,
+//! ```
+//!
 //! Modules:
 //!
 //! - `content`: what is read at a member

@@ -142,7 +142,7 @@ fn add_in(names: &mut Names, expr: &Expr) -> Result<(), AllocError>
     }
 }
 
-/// The same for arguments.
+/// Adds the names in each of some arguments.
 #[cycle(dots)]
 fn add_in_each(names: &mut Names, arguments: &[Expr]) -> Result<(), AllocError>
     ensures { OnOk result (names.new ≡ distinct_behind names.old (all_dotted (arguments_of (map view arguments.now)))) }

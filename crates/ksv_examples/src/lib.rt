@@ -7,6 +7,13 @@
 //!
 //! The crate has definitions and lemmas alone, and no other crate uses it.
 //!
+//! A text, and the tree that it spells, in `crates/ksv_examples/specs/Trees.antt`:
+//!
+//! ```
+//! -- a character of three bytes
+//! lines (codes "\"\\u20ac\"" ∷ []) (Some (quoted 1 (226 ∷ 130 ∷ 172 ∷ []))) ∷
+//! ```
+//!
 //! Definitions (`specs/`):
 //!
 //! - `Depth`: evaluation from nothing to a given depth, so that it can be computed

@@ -3,6 +3,15 @@
 //! This crate only re-exports. The parser (ksv_expr_syntax) and the evaluation (ksv_expr_eval) don't depend on each other,
 //! so a crate that only evaluates doesn't wait for the parser's proof. The tests here call what expressions depend on.
 //!
+//! A call, in `crates/ksv_expr/src/expressions.rt`:
+//!
+//! ```
+//! match parse(alloc, text.as_bytes()) {
+//!     Ok(_) => false,
+//!     Err(fault) => fault == ExprFault { kind, at },
+//! }
+//! ```
+//!
 //! Modules:
 //!
 //! - `expressions`: tests of paths, integers, bytes in parts, encodings, faults and refused texts

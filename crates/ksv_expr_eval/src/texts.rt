@@ -143,7 +143,7 @@ fn positive(digits: &[u8], radix: u32) -> Option<i128>
     }
 }
 
-/// The same for the negative number.
+/// The opposite of a numeral's number, or one outside the integers' range if that number is outside it.
 #[tactic(auto, using(crate::proofs::Numerals::seen_opposite))]
 fn negative(digits: &[u8], radix: u32) -> Option<i128>
     requires lower { 2 ≤ radix }

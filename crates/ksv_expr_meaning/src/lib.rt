@@ -1,5 +1,11 @@
 //! The meaning of expressions: what they ask for, what they get, and their values over any answers.
 //!
+//! What an expression wants, in `crates/ksv_expr_eval/src/asking.rt`:
+//!
+//! ```
+//! value_for(answers, ctx, Want::Value(path))
+//! ```
+//!
 //! Modules:
 //!
 //! - `laws`: the laws of evaluation

@@ -4,6 +4,12 @@
 //! 32 nested levels. What a text spells is defined apart from the code: `specs/Tokens` defines what a token is
 //! and which one is the longest at a place, `specs/Grammar` which tokens are which tree.
 //!
+//! A call, in `crates/ksv_schema/src/keys/expressions.rt`:
+//!
+//! ```
+//! match parse(alloc, text) {
+//! ```
+//!
 //! Modules:
 //!
 //! - `cursor`: a place among tokens, and the steps forward from it

@@ -60,7 +60,7 @@ impl<'a> Ctx<'a> {
         }
     }
 
-    /// The same within the element of this number.
+    /// The context within the element of this number.
     pub fn within(self, index: u32) -> Ctx<'a>
         ensures { result ≡ record self.entry { index = Some index } }
     {
@@ -74,7 +74,7 @@ impl<'a> Ctx<'a> {
         }
     }
 
-    /// The same after the element of this path, which was just read.
+    /// The context after the element of this path, which was just read.
     pub fn behind(self, element: &'a Path) -> Ctx<'a>
         ensures { result ≡ record self.entry { element = ElementAt element.now } }
     {
@@ -88,7 +88,7 @@ impl<'a> Ctx<'a> {
         }
     }
 
-    /// The same with a value that was just made.
+    /// The context with a value that was just made.
     pub fn with_value(self, value: &'a Value) -> Ctx<'a>
         ensures { result ≡ record self.entry { element = Made value.now } }
     {

@@ -1,5 +1,12 @@
 //! Values of a described file: paths, integers, texts, encodings, values and faults.
 //!
+//! Calls, in `crates/ksv_expr/src/expressions.rt`:
+//!
+//! ```
+//! let has_last = root.child_index(alloc, 1_048_575)?.is_some();
+//! let has_next = root.child_index(alloc, Path::MAX_INDEX)?.is_some();
+//! ```
+//!
 //! Modules:
 //!
 //! - `bits`: the number that some bits of bytes write

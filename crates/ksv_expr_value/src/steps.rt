@@ -59,7 +59,7 @@ impl Few {
         }
     }
 
-    /// The same with one step more.
+    /// These steps and one more.
     #[inline(always)]
     fn with(&self, step: Step) -> Few
         requires { length (steps_of self.now) < 3 }
@@ -200,7 +200,7 @@ impl Steps {
         self.with_many(alloc, step)
     }
 
-    /// The same on the heap.
+    /// These steps and one more, on the heap.
     #[inline(never)]
     fn with_many(&self, alloc: Global, step: Step) -> Result<Steps, AllocError>
         requires { length self.now < 64 }

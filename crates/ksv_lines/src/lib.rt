@@ -3,6 +3,13 @@
 //!
 //! How bytes are cut into lines and words is defined in `specs/Lines`. A device is a [`Source`] or a [`Sink`].
 //!
+//! A call, in `crates/ksv_commands/src/command.rt`:
+//!
+//! ```
+//! let (word, rest) = next_word(text)?;
+//! if no_word(rest) { Some(word) } else { None }
+//! ```
+//!
 //! Modules:
 //!
 //! - `command_line`: the program's arguments, by `clap`

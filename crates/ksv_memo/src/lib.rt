@@ -7,6 +7,13 @@
 //! depend on what nodes and answers mean, nor on how the number of a node is found: the `Places` of the rules do that. They
 //! give no node back, so the frame of an open node holds it.
 //!
+//! A call, in `crates/ksv_questions/src/asking.rt`:
+//!
+//! ```
+//! let answer = engine.ask(file.described, file.buffer, Node { kind, path })?;
+//! heard(answer)
+//! ```
+//!
 //! Modules:
 //!
 //! - `engine`: `Engine`, the public face

@@ -6,6 +6,14 @@
 //! the uses of the size, and an insert or a delete also at the pages from its place on. Links know nothing of nodes and
 //! answers.
 //!
+//! Calls, after those that mark what an edit touches, in `crates/ksv_memo/src/table.rt`:
+//!
+//! ```
+//! while let Some(slot) = links.take() {
+//!     empty(slots, slot as usize);
+//! }
+//! ```
+//!
 //! Modules:
 //!
 //! - `blocks`: entries in blocks, and the chains of those of the same list: `link` and `unlink`

@@ -5,6 +5,13 @@
 //! uses; `specs/Right` what is right to keep, `specs/Touched` what an edit takes. There is no engine here, so what depends
 //! on rules alone doesn't wait for the proof of one.
 //!
+//! A call, in `crates/ksv_memo/src/slots.rt`:
+//!
+//! ```
+//! let replies = Replies::new(slots.lend(), asked);
+//! rules.next(alloc, node, bytes, &replies, uses)
+//! ```
+//!
 //! Modules:
 //!
 //! - `held`: `Held` and `Lent`, a node that is lent for one call of the rules at a time

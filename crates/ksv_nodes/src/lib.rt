@@ -4,6 +4,14 @@
 //! A rule is a plan (`specs/Plan` of ksv_basics) of two kinds of question: other nodes, and readings of the bytes.
 //! Nothing here depends on descriptions.
 //!
+//! A turn, in `crates/ksv_rule_meaning/src/described.rt`:
+//!
+//! ```
+//! let mut turn = Turn::new(alloc, &node.path, bytes, replies);
+//! let ruled = N::rule(&mut turn, &self.desc, node);
+//! add_uses(uses, turn.uses())?;
+//! ```
+//!
 //! Modules:
 //!
 //! - `case_number`: which case a switch chose, in four bytes

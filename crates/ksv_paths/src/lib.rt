@@ -2,6 +2,14 @@
 //!
 //! Both are defined in `specs/PathTexts`. A text names at most one path.
 //!
+//! A call, in `crates/ksv_refusals/src/question.rt`:
+//!
+//! ```
+//! match path_of(alloc, rules.desc(), text.as_bytes())? {
+//!     Some(path) => Ok(Node { kind, path }),
+//!     None => Err(io::Error::from(ErrorKind::InvalidData)),
+//! ```
+//!
 //! Modules:
 //!
 //! - `laws`: the laws of the texts of paths

@@ -6,6 +6,13 @@
 //! the *elements* of a list: up to eight members are in a *chain*; further members and all elements are in *tables*, which have a *descent*
 //! and *pages*. A *trace* says at which path the last search for a node ended.
 //!
+//! A call, in `crates/ksv_memo/src/slots.rt`:
+//!
+//! ```
+//! match places.find(node) {
+//!     None => Known::New,
+//! ```
+//!
 //! Modules:
 //!
 //! - `descent`: numbers of indices one below the other

@@ -5,7 +5,7 @@ ghost use Rattle.ksv_places.specs.Table.{number_at, part_at, IsApart, IsPartOf};
 use crate::numbers::Numbers;
 use std::alloc::AllocError;
 
-/// A count in 32 bits. A larger one is refused, as memory for so many would be.
+/// A count in 32 bits. A larger one is refused, as memory for it would be.
 #[inline(always)]
 pub(crate) fn count_of(count: usize) -> Result<u32, AllocError>
     ensures { IfOk result (λ number. number ≡ count) }

@@ -11,7 +11,7 @@ use std::marker::Model;
 /// How many paths have to be made for nodes that take others' places before the tree of paths is built anew.
 const FEW_MADE: usize = 16384;
 
-/// Whether most of so many paths were made for nodes that took others' places, and these are not few.
+/// Whether most of `paths` paths were made for nodes that took others' places (`made`), if these are enough to matter.
 fn is_worn(paths: usize, made: usize) -> bool
     ensures { result ≡ (nat_le 16384 made && nat_le paths (made + made)) }
 {

@@ -26,7 +26,7 @@ fn mark_in(row: Row, kind: NodeKind) -> u32
     }
 }
 
-/// The same of the row of a path; 0 where there is no row.
+/// The mark of a kind in a path's row; 0 where there is no row.
 #[inline(always)]
 fn mark_at(rows: &[Row], path: u32, kind: NodeKind) -> u32
     ensures { result ≡ mark_in (row_at rows.now path) kind }

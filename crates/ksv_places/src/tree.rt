@@ -346,7 +346,7 @@ impl Tree {
         self.go_on(steps, trace)
     }
 
-    /// The same, also where there are no paths yet.
+    /// As `reach`, also where there are no paths yet.
     fn go_on(&mut self, steps: &[Step], trace: Trace) -> Result<u32, AllocError>
         requires ends { EndsAt self.old steps.now trace }
         ensures more { IsMore self.old self.new }

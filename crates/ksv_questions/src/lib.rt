@@ -6,6 +6,19 @@
 //!
 //! [`answer`] gives the reply to any question, a text or a refusal; [`overwrite_for`] gives the bytes that `put` writes.
 //!
+//! A call, in `crates/ksv_session/src/session.rt`:
+//!
+//! ```
+//! let told = answer(
+//!     self.alloc,
+//!     &mut self.engine,
+//!     &self.described,
+//!     &self.buffer,
+//!     question,
+//! )?;
+//! let reply = told_reply(told)?;
+//! ```
+//!
 //! Modules:
 //!
 //! - `asking`: asks an engine

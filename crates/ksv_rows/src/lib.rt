@@ -6,6 +6,12 @@
 //! Which kinds there are, and how they are answered, is defined by each program, by its [`Answers`]. The module
 //! `described` explains how a description may be shortened.
 //!
+//! A call, in `crates/ksv_rows_descriptions/src/main.rt`:
+//!
+//! ```
+//! run_tables(&rt, &Kinds)
+//! ```
+//!
 //! Modules:
 //!
 //! - `bytes`: the bytes of a file, as tables write them

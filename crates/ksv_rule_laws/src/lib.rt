@@ -3,6 +3,12 @@
 //! They are about the definitions of ksv_rule_meaning alone. An error that is made twice, in a rule and in the function of
 //! its name, would break them. No program uses this crate.
 //!
+//! To prove them:
+//!
+//! ```sh
+//! cd crates/ksv_rule_laws && rt check
+//! ```
+//!
 //! Modules:
 //!
 //! - `laws`: the laws, as contracts

@@ -8,6 +8,12 @@
 //! (`specs/Completed`, `specs/Kept`) are direct recursions on the rules too, and know no engine. The laws state that an
 //! engine's contracts, in their own words, say the same.
 //!
+//! A call, in `crates/ksv_rule_meaning/src/described.rt`:
+//!
+//! ```
+//! let ruled = N::rule(&mut turn, &self.desc, node);
+//! ```
+//!
 //! Modules:
 //!
 //! - `described`: `NodeRules` and `Described`: the rules as an engine sees them

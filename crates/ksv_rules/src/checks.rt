@@ -62,7 +62,7 @@ fn checked<'a>(turn: &mut Turn, ctx: Ctx<'a>, valid: &Valid, value: &'a Value) -
     Ok(())
 }
 
-/// The same of what is read at a path, where the member by which it is read is; with its number, if it is an element.
+/// Checks the value that is read at a path, by the member that reads it; with its number, if it is an element.
 fn checked_in(
     turn: &mut Turn,
     path: &Path,

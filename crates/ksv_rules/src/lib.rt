@@ -4,6 +4,12 @@
 //! and a function of the same name here that runs it on the replies so far. [`DescriptionRules`] runs the rule of any node. An engine
 //! (ksv_memo) calls it and keeps what it answers.
 //!
+//! These rules, in a session, in `crates/ksv/src/session.rt`:
+//!
+//! ```
+//! ksv_session::run::<DescriptionRules, R, W>(alloc, reader, writer, desc, bytes)
+//! ```
+//!
 //! Modules:
 //!
 //! - `answers`: a turn answers the wants of expressions

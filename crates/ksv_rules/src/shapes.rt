@@ -42,7 +42,7 @@ fn leaf(
     }))
 }
 
-/// The number of the byte after those that so many bits from a place on meet. The stream and the file must go on to it.
+/// The number of the byte after the last one that `width` bits from a place on touch. The stream and the file must go on to it.
 fn reach_bits(turn: &mut Turn, stream: Stream, start: Place, width: u8) -> Result<u32, Halt>
     ensures runs { Runs (reach stream (byte_of (further start width))) (λ _. tt) turn.old turn.new result }
     ensures fits { IfOk result (λ _. start.bits + width ≤ last_place) }

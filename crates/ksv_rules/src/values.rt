@@ -63,7 +63,7 @@ fn as_member(enumeration: Option<u32>, number: Integer) -> Value
     }
 }
 
-/// The same, where it is in the range of integers.
+/// As `as_member`, where the number is in the range of integers.
 fn in_number(
     turn: &mut Turn,
     enumeration: Option<u32>,

@@ -34,7 +34,7 @@ pub(crate) fn missing<X>(turn: &Turn, path: &Path, head: &Head, asker: &Path) ->
     }
 }
 
-/// The same for the head at the path above a path; the asker is the node of the turn.
+/// As `missing`, for the head at the path above a path; the asker is the node of the turn.
 #[cold]
 #[inline(never)]
 pub(crate) fn missing_above<X>(turn: &Turn, path: &Path, head: &Head) -> Result<X, Halt>

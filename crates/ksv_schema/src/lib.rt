@@ -6,6 +6,15 @@
 //! read of members, types and enums). `specs/Outcome` puts them together: [`load`] answers the description, or the least
 //! fault.
 //!
+//! A call, in `crates/ksv/src/description.rt`:
+//!
+//! ```
+//! match load(alloc, &tree) {
+//!     Ok(desc) => Ok(desc),
+//!     Err(fault) => Err(of_description(fault)),
+//! }
+//! ```
+//!
 //! Modules:
 //!
 //! - `description`: `load`: the table of names, the least fault, and else the description

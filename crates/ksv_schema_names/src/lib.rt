@@ -6,6 +6,12 @@
 //! expression is in. Some names of the language are allowed only at certain keys, so a [`Position`] has the key of
 //! its expression.
 //!
+//! A call, in `crates/ksv_schema/src/description.rt`:
+//!
+//! ```
+//! let scopes = Scopes::new(alloc, tree)?;
+//! ```
+//!
 //! Modules:
 //!
 //! - `built_ins`: the types of the language

@@ -4,6 +4,12 @@
 //! reply to each line is defined in `specs/`: `Session` is a fold over the lines, with the
 //! file's bytes as its only state, and `Runs` has the headline, which `run` is proved to meet.
 //!
+//! A call, in `crates/ksv/src/session.rt`:
+//!
+//! ```
+//! ksv_session::run::<DescriptionRules, R, W>(alloc, reader, writer, desc, bytes)
+//! ```
+//!
 //! Modules:
 //!
 //! - `reply`: replies

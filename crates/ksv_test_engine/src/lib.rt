@@ -6,6 +6,12 @@
 //! A function that owns an engine lends it to another function and then drops it by name. So the drop is proved once, and
 //! not in each function and for each way out of it.
 //!
+//! To run them:
+//!
+//! ```sh
+//! cd crates/ksv_test_engine && rt test
+//! ```
+//!
 //! Modules:
 //!
 //! - `behind`: how few looks an append, an insert or a delete takes

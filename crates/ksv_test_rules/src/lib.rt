@@ -4,6 +4,12 @@
 //! A function that owns a turn, or what a turn reads, lends it to another function and then drops it by name. So the drop
 //! is proved once, and not in each function and for each way out of it.
 //!
+//! To run them:
+//!
+//! ```sh
+//! cd crates/ksv_test_rules && rt test
+//! ```
+//!
 //! Modules:
 //!
 //! - `descriptions`: trees of YAML, and what a description holds

@@ -1,6 +1,12 @@
 //! Tests of what no row of a table reaches: a file of the greatest size, messages, devices that fail, and what sessions
 //! keep across random lines, compared with a slow program that evaluates each node from nothing.
 //!
+//! To run them:
+//!
+//! ```sh
+//! cd crates/ksv_test_session && rt test
+//! ```
+//!
 //! Modules:
 //!
 //! - `devices`: sessions over readers and writers of std that fail once

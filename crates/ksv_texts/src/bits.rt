@@ -9,7 +9,7 @@ use crate::integer::little_endian;
 use arrayvec::ArrayVec;
 use ksv_expr_value::{Integer, Parts, Place};
 
-/// How many numbers so many bits write.
+/// How many numbers can be written with `count` bits.
 #[tactic(auto, using(ksv_expr_value::proofs::Binary::count_unit))]
 fn power(count: u64) -> u128
     requires { count ≤ 72 }

@@ -4,6 +4,12 @@
 //! Each function is the definition of the same name in `specs/` (`Texts`, `Parts`, `Integers`, `Bits`). What a question asks is in
 //! ksv_questions.
 //!
+//! A call, in `crates/ksv_questions/src/get.rt`:
+//!
+//! ```
+//! Value::Int(number) => Ok(integer_text(alloc, *number)?),
+//! ```
+//!
 //! Modules:
 //!
 //! - `bits`: bits that are written among those of bytes

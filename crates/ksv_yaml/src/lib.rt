@@ -8,6 +8,15 @@
 //! comments and one mark `---`. Anchors, aliases, tags, complex keys, directives and several documents are
 //! unsupported.
 //!
+//! A call, in `crates/ksv/src/description.rt`:
+//!
+//! ```
+//! let tree = match read(alloc, ksy) {
+//!     Ok(tree) => tree,
+//!     Err(fault) => return Err(of_yaml(fault)),
+//! };
+//! ```
+//!
 //! Modules:
 //!
 //! - `block`: blocks that are open, and the fault of a line that fits none of them

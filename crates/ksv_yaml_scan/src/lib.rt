@@ -8,6 +8,15 @@
 //! A function that returns `Ok` has found exactly what the definitions in `specs/` give. One that returns a fault
 //! has shown that they give nothing.
 //!
+//! A call, in `crates/ksv_yaml/src/document.rt`:
+//!
+//! ```
+//! let Text { lines, stray } = match cut(alloc, text) {
+//!     Ok(text) => text,
+//!     Err(error) => return Err(of_text(error)),
+//! };
+//! ```
+//!
 //! Modules:
 //!
 //! - `block`: block scalars

@@ -3,6 +3,15 @@
 //! A node is a text, a sequence or a mapping, each with the line on which it begins. Contracts see it as a plain
 //! tree (`specs/Tree`), by `view` of `specs/View`.
 //!
+//! A tree, read, in `crates/ksv_rows_descriptions/src/trees.rt`:
+//!
+//! ```
+//! Yaml::Text { quoted, text, .. } => {
+//!     found.push_str(if *quoted { " quoted" } else { "" })?;
+//!     add_text(found, text.as_slice())
+//! }
+//! ```
+//!
 //! Modules:
 //!
 //! - `keys`: what a mapping has at its keys

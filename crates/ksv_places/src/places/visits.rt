@@ -94,7 +94,7 @@ fn are_elements(
     Ok(is_right)
 }
 
-/// The same of new places, and again when they are asked again.
+/// Whether new places give each of these elements a place, and the same again when they are asked again.
 fn are_placed(alloc: Global, indices: &[u32]) -> Result<bool, AllocError> {
     let mut places: NodePlaces = NodePlaces::new(alloc);
     let first = are_elements(alloc, &mut places, indices);
@@ -200,7 +200,7 @@ fn places_are_given_away(rt: HostRuntime) -> Result<(), Fail> {
     Ok(())
 }
 
-/// Gives the place of the only node to so many further nodes in turn.
+/// Gives the place of the only node to `count` further nodes in turn.
 fn is_given_on(alloc: Global, places: &mut NodePlaces, count: u32) -> Result<bool, AllocError> {
     let mut is_right = is_at(alloc, places, NodeKind::Value, &[Step::Index(0)], 0)?;
     for index in 0..count {
@@ -229,7 +229,7 @@ fn tidying_keeps_nodes_and_drops_paths(rt: HostRuntime) -> Result<(), Fail> {
     Ok(())
 }
 
-/// Gives the place of the only node to so many further elements in turn, each the next below.
+/// Gives the place of the only node to `count` further elements in turn, each the next below.
 fn is_given_down(
     alloc: Global,
     places: &mut NodePlaces,

@@ -55,7 +55,7 @@ fn lines_of(alloc: Global, enums: &[Row]) -> Result<Vec<usize>, AllocError>
     Ok(lines)
 }
 
-/// The same lines in ascending order.
+/// The lines of the entries of all enums, in ascending order.
 fn rising_lines(alloc: Global, enums: &[Row]) -> Result<Vec<usize>, AllocError>
     ensures { IfOk result (λ v. AreRising (map (λ p. p.line) (flat_map keys_of (map row_of enums.now))) v.items) }
 {

@@ -68,7 +68,7 @@ pub(crate) fn home_of<'a>(
     }
 }
 
-/// The same place, of what isn't repeated.
+/// A home, of what isn't repeated.
 pub(crate) fn once<'a>(home: Home<'a>) -> Home<'a>
     ensures { seen_home result ≡ once (seen_home home.entry) }
 {

@@ -77,7 +77,7 @@ fn encoding_at(home: Home, entries: &[Entry]) -> Option<Encoding>
     }
 }
 
-/// An integer of so many bits; those of a byte are read from its highest one on.
+/// An integer of `width` bits; those of a byte are read from its highest one on.
 #[tactic(auto, using(crate::proofs::Noted::steps, ksv_desc::proofs::Dots::steps))]
 fn bits(
     reader: &mut Reader,

@@ -1,0 +1,50 @@
+"""A list of as many elements as there may be: how long its first screen, a page, and its end take."""
+import time
+from typing import Iterator, List
+
+from viewed import desks, fresh
+
+COUNT = 1 << 20
+# The most seconds of a first screen over the program's own questions, of a page, and of the last row; where the machine is busy it is tried again.
+FIRST, PAGE, LAST, TRIED = 1.0, 0.1, 0.1, 3
+PAGES = 6
+
+
+def trials(room: str) -> Iterator[str]:
+    """What takes too long, or is wrong, in a view of a long list; and what it took."""
+    with open(f"{room}/long.ksy", "w", encoding="utf-8") as file:
+        file.write(f"meta: {{id: t}}\nseq:\n  - {{id: xs, type: u1, repeat: expr, repeat-expr: {COUNT}}}\n")
+    with open(f"{room}/long.bin", "wb") as file:
+        file.write(bytes(range(256)) * (COUNT // 256))
+    for _ in range(TRIED):
+        found = timed(f"{room}/long.bin", f"{room}/long.ksy")
+        if not any(found):
+            break
+    yield from found
+
+
+def timed(name: str, ksy: str) -> List[str]:
+    """One trial: a session of the view, beside one of the program alone."""
+    with open(name, "rb") as file:
+        content = file.read()
+    begun = time.monotonic()
+    fresh.replies(content, ksy, ["get /", "at /", "ls /xs", "get /xs", "at /xs", "get /xs/0"])
+    own, begun = time.monotonic() - begun, time.monotonic()
+    with desks.opened(name, ksy) as desk:
+        for key in ("down", "right"):
+            desk.screen()
+            desk.key(key)
+        desk.screen()
+        first, pages, last = time.monotonic() - begun, [], 0.0
+        for key in ["pgdn"] * PAGES + ["end"] + ["pgup"] * PAGES:
+            at = time.monotonic()
+            desk.key(key)
+            desk.screen()
+            took = time.monotonic() - at
+            last = took if key == "end" else last
+            pages += [took] if key != "end" else []
+        why = fresh.wrong(desk, desk.screen(), ksy) or ("" if f"/xs/{COUNT - 1 - PAGES * 13}" == desk.state.path else f"pages led to {desk.state.path}")
+    page = sorted(pages)[len(pages) // 2]
+    print(f"view: a list of {COUNT} elements: the program's own questions {own:.2f} s, first screen {first:.2f}, a page {page:.3f}, End {last:.3f}", flush=True)
+    return [why, f"the first screen took {first:.2f} s, and the program {own:.2f}" if first > own + FIRST else "",
+            f"pages took {' '.join(f'{it:.3f}' for it in pages)} s" if page > PAGE else "", f"End took {last:.3f} s" if last > LAST else ""]
