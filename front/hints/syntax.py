@@ -56,8 +56,16 @@ def unexpected(formula: Formula, at: int) -> Hint:
     key = re.match(r"(min|max|eq|expr|any-of)\s*=(?!=)", text) if formula.key == "valid" else None
     if key:
         return say("equals key", key=key[1])
-    if formula.key == "valid" and re.match(r"[<>]|[=!]=", text):
+    if formula.key == "valid" and (re.match(r"[<>]|[=!]=", text) or ".." in text):
         return say("bound")
+    if formula.key == "valid" and rest[:1] == "," and re.match(r"[\d\w\"']", text):
+        return say("checked list")
+    if rest[:1] == "," and "?" in before and ":" not in before:
+        return say("if word")
+    if pair_at(text, at) == "[]":
+        return say("empty index")
+    if rest[:1] == ":" and before.count("[") > before.count("]"):
+        return say("part of list")
     if formula.key == "type" and (hint := of_type(formula, rest)):
         return hint
     if rest[:1] in ("$", "@"):
@@ -73,7 +81,7 @@ def unexpected(formula: Formula, at: int) -> Hint:
     if re.search(r"(?:^|\s)(?:if|then)\s", text):
         return say("if word")
     pair = pair_at(text, at)
-    if pair in ("&&", "||") or rest[:1] == "!" and rest[:2] != "!=":
+    if pair in ("&&", "||") or rest[:1] in ("&", "|") and before[-1:] == rest[:1] or rest[:1] == "!" and rest[:2] != "!=":
         return say("operator")
     if text[max(0, at - 2) : at + 1] in (">>>", "<<<"):
         return say("word", word=text[at - 2 : at + 1], near=text[at - 2 : at])
@@ -199,6 +207,8 @@ def ended(formula: Formula, at: int) -> Hint:
             opened.append(it.text)
         elif it.text in (")", "]") and opened:
             opened.pop()
+    if "?" in text and ":" not in text:
+        return say("half choice")
     last = (tokens.read(text) or [tokens.Token("", "", 0)])[-1]
     if last.kind == "sign" and last.text not in (")", "]") or last.text in ("and", "or", "not"):
         return say("ended", sign=last.text)
