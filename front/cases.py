@@ -1,4 +1,4 @@
-"""Which case of a switch a member is read by: the expression that chooses is followed as far as it is a chain of names, and its value compared with the cases."""
+"""Which case of a switch a member is read by: the expression that chooses is followed where it is a chain of names, and its value compared with the cases."""
 from __future__ import annotations
 
 import re

@@ -81,7 +81,7 @@ class Lost:
         return next(self._between(begin, lines.stop(self._text, begin), name), None)
 
     def said(self, explorer: Explorer, path: str, reply: str) -> str:
-        """What is said of the value at a path beside the reply of `get`: `= 3.5 (not proved)`, since only Python found it; the empty text where nothing was lost."""
+        """What is said of a value beside the reply of `get`: `= 3.5 (not proved)`, since only Python found it; the empty text where nothing was lost."""
         was = self.at(explorer, path, reply)
         return f"= {was} (not proved)" if was else ""
 

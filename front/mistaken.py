@@ -2,8 +2,8 @@
 
     Mistaken(size, room, value).said("error: outside", "set 20 ff")
 
-What it needs to know is asked for by functions: the size of the file; of a path its `Room`, None where that can't be told, and what is there, which is the reply of
-`get`, or `calculated`.
+What it needs to know is asked for by functions: the size of the file; of a path its `Room`, None where that can't be told, and what is there, which is the
+reply of `get`, or `calculated`.
 """
 from __future__ import annotations
 
@@ -88,4 +88,5 @@ def general(told: str, size: Optional[int]) -> str:
         return "" if size is None else f"{has(size)}; app HEX adds some at its end"
     if told == RANGE:
         return "; ".join(f"{it} takes {room_of(it).numbers()}" for it in ("u1", "s1", "u2", "s2", "u4", "s4")) + "; a field of N bits 0 to 2^N - 1"
-    return "put writes an integer of the file: set POS HEX writes other bytes, where at PATH tells POS; write of bin/ksv-shell takes texts" if told == INTEGER else ""
+    others = "set POS HEX writes other bytes, where at PATH tells POS; write of bin/ksv-shell takes texts"
+    return f"put writes an integer of the file: {others}" if told == INTEGER else ""

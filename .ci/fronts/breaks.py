@@ -3,6 +3,7 @@ import contextlib
 import hashlib
 import os
 import random
+import re
 import signal
 from dataclasses import dataclass, field
 from typing import Callable, Dict, Iterator, List, Optional, Sequence, Tuple, Type
@@ -66,6 +67,11 @@ class Wrong(Exception):
     """What isn't as it should be."""
 
 
+def without_help(told: str) -> str:
+    """A reply without what a terminal shows below one that refuses a line."""
+    return re.sub(r"(?m)^(error: [^\n]*)\n  \([^\n]*\)$", r"\1", told)
+
+
 @dataclass
 class Journey:
     """One session, and those after it where it ends, through some lines: each is broken off at each of some questions, and then done."""
@@ -84,7 +90,7 @@ class Journey:
 
     def plainly(self, line: str) -> None:
         """Does a line with no break."""
-        told, (after, wanted) = self.shell.ask(line), self.state.after(line)
+        told, (after, wanted) = without_help(self.shell.ask(line)), self.state.after(line)
         if told != wanted:
             raise Wrong(f"{line[:40]}: told {told[:200]!r}, and not {wanted!r}")
         self.state = after
@@ -112,7 +118,7 @@ class Journey:
         self.plainly("size")
         before, (after, wanted) = self.state, self.state.after(line)
         self.room.control.arm(plans)
-        told = self.shell.ask(line)
+        told = without_help(self.shell.ask(line))
         fired = self.room.control.fired()
         self.num_trials += 1 if fired else 0
         if self.kind.action == TWICE and fired:

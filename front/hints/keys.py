@@ -80,8 +80,8 @@ def of_key(key: str, role: str, around: Optional[Node], where: str, value: Optio
     """What an unknown key is: one that is written otherwise, one that is near, another word for one, or one of another mapping; None where it is none."""
     known = [*schema.KEYS[role], *schema.LEFT_OUT.get(role, ()), *schema.IGNORED.get(role, ()), "doc", "doc-ref"]
     name = schema.NAMES[role]
-    one = key[:-1] if key.endswith("s") and value is not None and value.kind == "text" and value.text else ""
-    if one in schema.KEYS[role] and key in schema.KEYS["type"]:
+    one = other_number(key, role, value)
+    if one:
         return say("near key", where=where, key=key, role=name, near=one)
     if key in PLACES or key == "id" or role == "switch" and key in ("default", "else", "otherwise"):
         return elsewhere(key, role, where)
@@ -98,6 +98,14 @@ def of_key(key: str, role: str, around: Optional[Node], where: str, value: Optio
         return say("other word", where=where, key=key, role=name, what=what, near=word)
     moved = next((it for it in PLACES if plain(it) == plain(key)), None) or near(key, PLACES)
     return elsewhere(moved, role, where, key) if moved and len(key) > 3 else None
+
+
+def other_number(key: str, role: str, value: Optional[Node]) -> str:
+    """The key that a word is in its other number: `enums` with a name is `enum`, and `enum` of a type is `enums`; the empty text where it is none."""
+    one, many = key[:-1] if key.endswith("s") else "", f"{key}s"
+    if value is not None and value.kind == "text" and value.text and one in schema.KEYS[role] and key in schema.KEYS["type"]:
+        return one
+    return many if role == "type" and value is not None and value.kind != "text" and many in schema.KEYS["type"] else ""
 
 
 def elsewhere(key: str, role: str, where: str, written: str = "") -> Hint:
@@ -271,7 +279,8 @@ def exclusions(node: Node, role: str) -> Iterator[Tuple[int, Hint]]:
     elif role == "valid":
         keys = [it for it in schema.KEYS["valid"] if it in at]
         if len(keys) > 1 and set(keys) != {"min", "max"}:
-            yield min(at[it] for it in keys), say("two checks", one=keys[0], other=keys[1])
+            other = keys[1] if keys[0] != "min" else next(it for it in keys if it not in ("min", "max"))
+            yield min(at[it] for it in keys), say("two checks", one=keys[0], other=other)
     elif role in ("attribute", "instance"):
         yield from attribute_exclusions(node, at)
 

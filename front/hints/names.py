@@ -15,6 +15,7 @@ from front.hints.schema import INDEX_KEYS
 
 BUILT_IN = re.compile(r"(?:[us](?:1|[248](?:le|be)?)|b(?:[1-9]|[1-5]\d|6[0-4])(?:le|be)?|f[48](?:le|be)?|strz?)\Z")
 BARE = re.compile(r"[us][248]\Z")
+METHODS = ("length", "size", "first", "last", "reverse", "to_i")
 ARGUMENTS = {"substring": 2, "to_i": 1, "to_s": 1}
 # How many types, members and names a hint looks at, and how many names it lists.
 TYPES, MEMBERS, LISTED = 1100, 4000, 8
@@ -70,7 +71,7 @@ def of_expression(formula: Formula) -> Optional[Hint]:
         elif it.kind == "point" and name in ("_", "_index"):
             hint = say("name after point", name=name)
         elif it.kind == "call" and ARGUMENTS.get(name) != it.count:
-            hint = of_call(name, it.count)
+            hint = of_call(name, it.count, place.type)
         elif it.kind == "cast" and it.names and not (len(it.names) == 1 and BUILT_IN.match(name)) and not place.type.find(it.names):
             hint = of_type_names(it.names, place.type)
         if hint:
@@ -163,11 +164,11 @@ def listed(names: Sequence[str], front: str, none: str) -> str:
     return f"{front} {', '.join(some)}{', ..' if len(names) > LISTED else ''}" if some else none
 
 
-def of_call(name: str, count: int) -> Hint:
+def of_call(name: str, count: int, one: Type) -> Hint:
     """What to say of a method with so many arguments."""
     if not count and name == "to_s":
         return say("text of")
-    if not count and name != "substring":
+    if not count and (name in METHODS or any(name in it.members for it in one.root.all(TYPES))):
         return say("method without arguments", name=name)
     return say("method", name=name, count=count, s="" if count == 1 else "s")
 

@@ -1,8 +1,8 @@
 """The program, run for a person at a terminal: a greeting once it reads command lines, a hint below a refusal, and at the end what was saved.
 
-What the program prints and its status stay as they are, whatever fails here. The hint of a description is made in a process of its own, which has a limit of time
-and memory; where that ends otherwise than well, there is none. Where command lines are typed and replies are shown on a terminal, the replies pass through here, and
-below one that refuses a line is what would be right. The command lines don't: what ends the input ends it for the program.
+What the program prints and its status stay as they are, whatever fails here. The hint of a description is made in a process of its own, which has a limit of
+time and memory; where that ends otherwise than well, there is none. Where command lines are typed and replies are shown on a terminal, the replies pass
+through here, and below one that refuses a line is what would be right. The command lines don't: what ends the input ends it for the program.
 """
 from __future__ import annotations
 

@@ -45,35 +45,54 @@ def refused_at(formula: Formula, code: str, place: int) -> int:
     return found.at if found and is_it else -1
 
 
+# Pairs of signs that people write for operators.
+PAIRS = {"->": ".", "??": "a ? b : c", "<>": "!="}
+
+
 def unexpected(formula: Formula, at: int) -> Hint:
     """What to say of a character that can't come where it is (X1)."""
-    text = formula.text
-    if formula.key == "case" and (hint := of_case(formula)):
+    text, key = formula.text, formula.key
+    by_key = {"case": of_case, "valid": of_check, "type": of_type}
+    if key in by_key and (hint := by_key[key](formula, text[at:])):
         return hint
-    if re.fullmatch(r"[A-Za-z][\w-]{0,60}", text) and (formula.node.mark or formula.key == "valid") and formula.key not in ("case", "type"):
+    if re.fullmatch(r"[A-Za-z][\w-]{0,60}", text) and (formula.node.mark or key == "valid") and key not in ("case", "type"):
         return say("text name", text=text)
-    rest, before = text[at:], text[:at].rstrip()
-    key = re.match(r"(min|max|eq|expr|any-of)\s*=(?!=)", text) if formula.key == "valid" else None
+    before = text[:at].rstrip()
+    hint = of_list(text, at, before) or (say("if word") if re.search(r"(?:^|\s)(?:if|then)\s", text) else None) or of_operator(text, at, before)
+    found = WORD.match(text, at)
+    return hint or (of_word(formula, at, found[0]) if found else of_sign(formula, at, before))
+
+
+def of_check(formula: Formula, rest: str) -> Optional[Hint]:
+    """What to say of a check that is written otherwise than as an expression; None where it is something else."""
+    key = re.match(r"(min|max|eq|expr|any-of)\s*=(?!=)", formula.text)
     if key:
         return say("equals key", key=key[1])
-    if formula.key == "valid" and re.match(r"[<>]|[=!]=", text):
+    if re.match(r"[<>]|[=!]=", formula.text) or ".." in formula.text:
         return say("bound")
-    if formula.key == "type" and (hint := of_type(formula, rest)):
-        return hint
+    return say("checked list") if rest[:1] == "," and re.match(r"[\d\w\"']", formula.text) else None
+
+
+def of_list(text: str, at: int, before: str) -> Optional[Hint]:
+    """What to say of a comma, a bracket or a colon where no list is; None where it is something else."""
+    sign = text[at : at + 1]
+    if sign == "," and re.search(r"\d\Z", before) and re.match(r", *\d{3}(?!\d)", text[at:]):
+        return say("thousands", near=re.sub(r"(?<=\d), *(?=\d{3})", "", text))
+    if sign == "," and "?" in before and ":" not in before:
+        return say("if word")
+    if pair_at(text, at) == "[]":
+        return say("empty index")
+    return say("part of list") if sign == ":" and before.count("[") > before.count("]") else None
+
+
+def of_operator(text: str, at: int, before: str) -> Optional[Hint]:
+    """What to say of a sign that other languages have for an operator; None where it is something else."""
+    rest, pair = text[at:], pair_at(text, at)
     if rest[:1] in ("$", "@"):
         return say("name sign", sign=rest[0])
-    if pair_at(text, at) == "->":
-        return say("word", word="->", near=".")
-    if pair_at(text, at) == "??":
-        return say("word", word="??", near="a ? b : c")
-    if rest[:1] == "," and re.search(r"\d\Z", before) and re.match(r", *\d{3}(?!\d)", rest):
-        return say("thousands", near=re.sub(r"(?<=\d), *(?=\d{3})", "", text))
-    if pair_at(text, at) == "<>":
-        return say("word", word="<>", near="!=")
-    if re.search(r"(?:^|\s)(?:if|then)\s", text):
-        return say("if word")
-    pair = pair_at(text, at)
-    if pair in ("&&", "||") or rest[:1] == "!" and rest[:2] != "!=":
+    if pair in PAIRS:
+        return say("word", word=pair, near=PAIRS[pair])
+    if pair in ("&&", "||") or rest[:1] in ("&", "|") and before[-1:] == rest[:1] or rest[:1] == "!" and rest[:2] != "!=":
         return say("operator")
     if text[max(0, at - 2) : at + 1] in (">>>", "<<<"):
         return say("word", word=text[at - 2 : at + 1], near=text[at - 2 : at])
@@ -81,10 +100,7 @@ def unexpected(formula: Formula, at: int) -> Hint:
         return say("word", word=rest[:2], near=rest[1] + "=")
     if rest[:1] == "=" and text[max(0, at - 1) : at] != "!":
         return say("equals")
-    if pair in ("**", "//"):
-        return say("power" if pair == "**" else "division")
-    found = WORD.match(text, at)
-    return of_word(formula, at, found[0]) if found else of_sign(formula, at, before)
+    return say("power" if pair == "**" else "division") if pair in ("**", "//") else None
 
 
 def pair_at(text: str, at: int) -> str:
@@ -113,7 +129,7 @@ def of_type(formula: Formula, rest: str) -> Optional[Hint]:
     return say("type point", near=text.replace("types.", "").replace(".", "::")) if is_path else None
 
 
-def of_case(formula: Formula) -> Optional[Hint]:
+def of_case(formula: Formula, _rest: str) -> Optional[Hint]:
     """What to say of the key of a case that is a word or a text by what it looks like; None where it is something else."""
     text = formula.text
     if text.lower() in OTHERS:
@@ -199,6 +215,8 @@ def ended(formula: Formula, at: int) -> Hint:
             opened.append(it.text)
         elif it.text in (")", "]") and opened:
             opened.pop()
+    if "?" in text and ":" not in text:
+        return say("half choice")
     last = (tokens.read(text) or [tokens.Token("", "", 0)])[-1]
     if last.kind == "sign" and last.text not in (")", "]") or last.text in ("and", "or", "not"):
         return say("ended", sign=last.text)

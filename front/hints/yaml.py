@@ -228,8 +228,8 @@ def previous(text: str, number: int) -> Optional[Above]:
     keys = [outline.column(it) for it in chain if outline.key(it) is not None]
     items = [outline.column(it) for it in chain if outline.key(it) is None]
     lists = [it for it in items if it not in keys]
-    return Above(outline.line(outline.starts[last]), outline.column(last), outline.inline(last) != "", items, keys, lists, unclosed(outline), outline.key(last) or "",
-                 outline.inline(last) in ("|", ">"))
+    front = outline.line(outline.starts[last]), outline.column(last), outline.inline(last) != ""
+    return Above(*front, items, keys, lists, unclosed(outline), outline.key(last) or "", outline.inline(last) in ("|", ">"))
 
 
 # Forms that aren't read
@@ -380,4 +380,7 @@ def not_closed(text: str, line: Line) -> Optional[Hint]:
         return None
     node = outline.node(last)
     lone = LONE.search(bare_of(text[node.at :])) if len(text) - node.at < LONGEST else None
-    return say("quote", sign=lone[1]) if lone else say("bracket", sign=node.mark, line=outline.line(node.at)) if flow.end(text, node.at) >= len(text.rstrip()) and line.number > 0 else None
+    if lone:
+        return say("quote", sign=lone[1])
+    is_open = flow.end(text, node.at) >= len(text.rstrip()) and line.number > 0
+    return say("bracket", sign=node.mark, line=outline.line(node.at)) if is_open else None
