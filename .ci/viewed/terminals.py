@@ -14,13 +14,13 @@ import time
 from typing import Callable, Iterator, List, Optional, Tuple
 
 from front.opening import TOP
-from viewed import desks
+from viewed import desks, fresh
 from viewed.reader import Reader
 
 VIEW = f"{TOP}/bin/ksv-view"
 ICON = [f"{TOP}/examples/ico.bin", f"{TOP}/examples/ico.ksy"]
 # How long a screen is awaited, in seconds, how long nothing may come for it to be whole, and how long the end is awaited.
-PATIENCE, QUIET, END = 20, 0.15, 30
+PATIENCE, QUIET, END = 60, 0.15, 30
 # What is told where something takes long, after how many seconds at the most (the best of some), and how often that is looked at.
 SIGN, SOON, TIMES = "ctrl-C breaks it off", 0.15, 4
 # What a terminal sends for keys.
@@ -80,11 +80,13 @@ class Terminal:
         """Sends keys; nothing if the text is then on the screen, or else what is."""
         self.type(keys)
         rows = self.until(lambda rows: any(text in it for it in rows))
-        return "" if any(text in it for it in rows) else f"terminal: after {keys!r} there is no {text!r}: {rows}"
+        return "" if any(text in it for it in rows) else f"terminal: after {keys!r} there is no {text!r}: {rows[-2:]} {rows}"
 
     def is_as(self, wanted: List[str]) -> str:
         """Nothing if the rows are these, or come to be; else what they are."""
-        rows = self.until(lambda rows: rows == wanted)
+        end, rows = time.monotonic() + PATIENCE, self.reader.lines()
+        while rows != wanted and select.select([self.ours], [], [], max(0.0, end - time.monotonic()))[0] and self.read():
+            rows = self.reader.lines()
         at = next((it for it in range(min(len(rows), len(wanted))) if rows[it] != wanted[it]), 0)
         return "" if rows == wanted else f"row {at} is {rows[at : at + 1]}, and not {wanted[at : at + 1]}"
 
@@ -214,7 +216,7 @@ def broken_off(_room: str) -> Iterator[str]:
     yield terminal.shown(SENT["ctrl-l"], "ico.bin  350 bytes")
     yield terminal.shown("e22\r", "ico.bin  1 edit, not saved  350 bytes")
     asked = terminal.stop()
-    yield terminal.shown("r", SIGN)
+    yield terminal.shown("u", SIGN)
     os.kill(terminal.process, signal.SIGTERM)
     status = terminal.end()
     yield "" if status == 143 and not is_there(asked) else f"SIGTERM: status {status}"
@@ -235,7 +237,7 @@ def recovered(_room: str) -> Iterator[str]:
     yield terminal.shown("R", "ico.bin  1 edit, not saved  350 bytes")
     yield terminal.shown("f", "no faults")
     asked = terminal.stop()
-    yield terminal.shown("u", SIGN)
+    yield terminal.shown(SENT["tab"] + "12", SIGN)
     status = terminal.gone()
     yield "" if status == 129 and not is_there(asked) else f"the terminal goes in a question: status {status}"
     terminal = Terminal(ICON)
@@ -283,6 +285,8 @@ def write(path: str, content: bytes) -> None:
 
 
 def trials(room: str) -> Iterator[str]:
-    """All trials on terminals."""
+    """All trials on terminals. No session is left to the next one, but those that end in `broken_off` to `recovered`."""
     for it in (repaired, without_colour, as_drawn, broken_off, recovered, refused):
+        if it is not recovered:
+            fresh.apart(room)
         yield from it(room)

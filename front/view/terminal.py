@@ -131,18 +131,21 @@ class Terminal:
 
     # Keys
 
+    def is_resized(self) -> bool:
+        """Whether the terminal has another size than the screen that is drawn."""
+        return self.size() != (self.desk.state.rows, self.desk.state.columns)
+
     def keys(self) -> List[str]:
-        """The keys that were pressed, once there is one."""
+        """The keys that were pressed, once there is one. What told of another size may have been heard before this waits, so the size is looked at first."""
         found: List[str] = []
         while not found:
             try:
                 with self.signals.listening():
-                    ready, _, _ = select.select([0, self.signals.wake], [], [])
+                    ready = [] if self.is_resized() else select.select([0, self.signals.wake], [], [])[0]
             except Interrupted:
                 return ["interrupt"]
             self.signals.drain()
-            rows, columns = self.size()
-            if (rows, columns) != (self.desk.state.rows, self.desk.state.columns):
+            if self.is_resized():
                 found.append("resize")
             if 0 in ready:
                 found += self.pressed()
