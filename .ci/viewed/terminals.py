@@ -145,7 +145,7 @@ def repaired(room: str) -> Iterator[str]:
     yield terminal.shown("", "? help  q quit")
     rows = terminal.reader.lines()
     yield "" if len(rows) == 10 and any("image  object bitmap" in it for it in rows) else f"40x10: {rows}"
-    yield terminal.shown(SENT["tab"], "arrows walk  Tab tree")
+    yield terminal.shown(SENT["tab"], "0-9 a-f write  Tab tree")
     terminal.sized(30, 132)
     yield terminal.shown("", "16 00 00 00[28 00 00 00")
     yield terminal.shown("ab", "ok 350; u takes it back: set 22 ab")
