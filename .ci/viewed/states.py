@@ -1,4 +1,5 @@
-"""Stored states: each of states.txt is a file, a size and keys, and the rows that are then drawn; below a row how its cells are shown, where they aren't plain."""
+"""Stored states: each of states.txt is a file, a size and keys, and the rows that are then drawn; below a row how its cells are shown, where they aren't
+plain."""
 import os
 from typing import Callable, Iterable, List, Tuple
 

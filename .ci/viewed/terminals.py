@@ -25,11 +25,15 @@ PATIENCE, QUIET, END = 60, 0.15, 30
 SIGN, SOON, TIMES = "ctrl-C breaks it off", 0.15, 4
 # What a terminal sends for keys.
 SENT = {
-    "up": "\x1bOA", "down": "\x1bOB", "right": "\x1bOC", "left": "\x1bOD", "pgup": "\x1b[5~", "pgdn": "\x1b[6~", "home": "\x1bOH", "end": "\x1bOF", "delete": "\x1b[3~",
+    "up": "\x1bOA", "down": "\x1bOB", "right": "\x1bOC", "left": "\x1bOD", "pgup": "\x1b[5~", "pgdn": "\x1b[6~", "home": "\x1bOH", "end": "\x1bOF",
+    "delete": "\x1b[3~",
     "insert": "\x1b[2~", "tab": "\t", "enter": "\r", "backspace": "\x7f", "ctrl-r": "\x12", "ctrl-l": "\x0c", "ctrl-u": "\x15",
 }
 # Keys, after each of which the terminal has another size; each screen is the one that is drawn without a terminal.
-STEPS = "f e 2 2 enter down down right down right pgdn tab right down 0 a u ctrl-r u tab x / m a r k enter ? pgdn x end home g 0 x 2 0 enter e 1 backspace ctrl-u 7 enter"
+STEPS = (
+    "f e 2 2 enter down down right down right pgdn tab right down 0 a u ctrl-r u tab x / m a r k enter ? pgdn x end home g 0 x 2 0 enter e 1 "
+    "backspace ctrl-u 7 enter"
+)
 SIZES = [(24, 80), (10, 40), (30, 132), (12, 60), (24, 80), (50, 100)]
 
 

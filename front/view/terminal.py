@@ -11,8 +11,8 @@ from front.view.cells import Row, Span, fitted, plain
 from front.view.desk import Desk
 from front.view.draw import Screen
 
-# How often somebody looks whether a question takes long, after how many seconds a sign of it is given, and after how many it is given anew; after how many empty
-# readings the terminal is taken to be gone.
+# How often somebody looks whether a question takes long, after how many seconds a sign of it is given, and after how many it is given anew; after how many
+# empty readings the terminal is taken to be gone.
 PATIENCE, LONG, OFTEN, EMPTY = 0.02, 0.07, 0.1, 5
 NAMES: Dict[int, str] = {
     curses.KEY_UP: "up", curses.KEY_DOWN: "down", curses.KEY_LEFT: "left", curses.KEY_RIGHT: "right", curses.KEY_PPAGE: "pgup", curses.KEY_NPAGE: "pgdn",
