@@ -1,5 +1,5 @@
-"""Keys that are broken off: ctrl-C at each place where an answer is awaited, and another size after each key. An edit is then made as a whole or not at all, the
-screen is drawn, and ctrl-L asks for what is missing."""
+"""Keys that are broken off: ctrl-C at each place where an answer is awaited, and another size after each key. An edit is then made as a whole or not at all,
+the screen is drawn, and ctrl-L asks for what is missing."""
 import tempfile
 from typing import Iterator, List, Tuple
 
@@ -9,14 +9,17 @@ from viewed import desks, fresh
 
 # Examples, keys that go before, and the key that is broken off.
 KEYS: List[Tuple[str, str, str]] = [
-    ("ico", "", "ctrl-l"), ("ico", "down*4", "right"), ("ico", "f", "enter"), ("ico", "f e 2 2", "enter"), ("ico", "f e 2 2 enter", "u"), ("ico", "f e 2 2 enter u", "ctrl-r"),
-    ("ico", "", "f"), ("ico", "tab right*5 1", "6"), ("ico", "tab", "delete"), ("ico", "tab i 0 a", "enter"), ("ico", "", "r"), ("ico", "f e 2 2 enter s", "enter"),
+    ("ico", "", "ctrl-l"), ("ico", "down*4", "right"), ("ico", "f", "enter"), ("ico", "f e 2 2", "enter"), ("ico", "f e 2 2 enter", "u"),
+    ("ico", "f e 2 2 enter u", "ctrl-r"),
+    ("ico", "", "f"), ("ico", "tab right*5 1", "6"), ("ico", "tab", "delete"), ("ico", "tab i 0 a", "enter"), ("ico", "", "r"),
+    ("ico", "f e 2 2 enter s", "enter"),
     ("fat16", "tab", "pgdn"), ("fat16", "/ :Undelete", "enter"), ("fat16", "f", "enter"),
 ]
 # The places of a key that are tried: the first ones, and then each further by a part of what is before it.
 PART = 3
 SIZES = [(10, 40), (24, 80), (1, 1), (50, 200), (11, 41), (30, 132), (4, 20), (24, 80)]
-STEPS = [("ico", "f e 2 2 enter down down right tab right 0 a u"), ("fat16", "f enter g :0x4240 enter tab down end ?"), ("bson", "/ :len_ enter n e :156 enter x b")]
+STEPS = [("ico", "f e 2 2 enter down down right tab right 0 a u"), ("fat16", "f enter g :0x4240 enter tab down end ?"), 
+         ("bson", "/ :len_ enter n e :156 enter x b")]
 
 
 class Breaking(Signals):

@@ -246,8 +246,8 @@ class Look:
         yield "" if is_seen else f"the byte under the cursor, {state.place}, isn't there"
 
     def wrong_node(self, span: range) -> str:
-        """What is wrong with the node of the byte under the cursor: it hasn't the byte, or something in it that is no larger has it. On the first byte of a node
-        that node may have been chosen in the tree."""
+        """What is wrong with the node of the byte under the cursor: it hasn't the byte, or something in it that is no larger has it. On the first byte of a
+        node that node may have been chosen in the tree."""
         path, place = self.state.path, self.state.place
         if not self.state.is_node:
             root = self.fresh.span("/")

@@ -1,4 +1,5 @@
-"""The pictures of the view in pages: each is a block of text that begins with the line of three backquotes and `view NAME`. The first one of README.md is one."""
+"""The pictures of the view in pages: each is a block of text that begins with the line of three backquotes and `view NAME`. The first one of README.md is
+one."""
 import os
 import re
 from typing import Dict, Iterator, Tuple

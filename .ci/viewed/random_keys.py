@@ -11,7 +11,8 @@ EXAMPLES = ["ico", "fat16", "bson", "tcp", "png", "zip", "gif", "sqlite", "class
 # How many keys a session has, of how many examples those are that the gate tries, the most questions of a walk, and how often other keys are looked over.
 KEYS, SOME, WALKED, OFTEN = 2000, 3, 300, 0.02
 SIZES = [(24, 80), (24, 80), (10, 40), (14, 60), (16, 72), (30, 132), (50, 200), (11, 41), (12, 100), (4, 20), (1, 1)]
-MOVES = ["up", "down", "down", "left", "right", "right", "pgup", "pgdn", "home", "end", "tab", "tab", "enter", "n", "f", "F", "b", "x", "?", "escape", "backspace", "r",
+MOVES = ["up", "down", "down", "left", "right", "right", "pgup", "pgdn", "home", "end", "tab", "tab", "enter", "n", "f", "F", "b", "x", "?", "escape",
+         "backspace", "r",
          "ctrl-l", "interrupt", "R", "D", "insert", "y", "0", "9", "ctrl-u"]
 VALUES = ["0", "1", "7", "255", "65536", "-1", "0x1f", '"ab"', "0aff", "true", "icon", "12 34", "zz", '"', "99999999999999999999999"]
 SOUGHT = ["le", "name", "0x00", '"A"', "ff", "README", "?", "x y", '"']

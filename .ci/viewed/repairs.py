@@ -8,8 +8,8 @@ from typing import Dict, Tuple
 from front.opening import TOP
 from viewed import desks, fresh
 
-# The keys that mend each file, as a person would press them: to the fault, to what it is made of, the value written over, and to the next fault; and what a row then
-# says. In the disk that is the name of a file that was deleted.
+# The keys that mend each file, as a person would press them: to the fault, to what it is made of, the value written over, and to the next fault; and what a
+# row then says. In the disk that is the name of a file that was deleted.
 REPAIRS: Dict[str, Tuple[str, str]] = {
     "ico": ("f e 2 2 enter f", "no faults"),
     "fat16": ("f enter g :/fats/1/next/2 enter b e 5 enter f", "/root/entries/2/full_name  calculated  fault bad-text"),

@@ -1,12 +1,16 @@
-"""Stored states: each of states.txt is a file, a size and keys, and the rows that are then drawn."""
+"""Stored states: each of states.txt is a file, a size and keys, and the rows that are then drawn; below a row how its cells are shown, where they aren't
+plain."""
 import os
 from typing import Callable, Iterable, List, Tuple
 
+from front.view.cells import Row, plain
 from viewed import desks, fresh
 
 STATES = os.path.join(os.path.dirname(os.path.realpath(__file__)), "states.txt")
 # How many there are at least.
 LEAST = 60
+# Words of a style that change nothing on a terminal.
+QUIET = {"plain", "name"}
 State = Tuple[str, List[str]]
 
 
@@ -17,9 +21,29 @@ def stored() -> List[State]:
         for line in file.read().split("\n"):
             if line.startswith("== "):
                 found.append((line, []))
-            elif line.startswith("|"):
+            elif line.startswith(("|", "!")):
                 found[-1][1].append(line)
     return found
+
+
+def styles_of(row: Row) -> str:
+    """How the cells of a row are shown: from which column to which one, and the words of the style."""
+    found: List[Tuple[int, int, str]] = []
+    at = 0
+    for it in row:
+        style, end = " ".join(sorted({*it.style.split()} - QUIET)), at + len(it.text)
+        if style and found and found[-1][1:] == (at, style):
+            found[-1] = (found[-1][0], end, style)
+        elif style:
+            found.append((at, end, style))
+        at = end
+    return ", ".join(f"{begin}-{end} {style}" for begin, end, style in found)
+
+
+def cells_of(row: Row) -> List[str]:
+    """The lines of a row: its letters, and how they are shown."""
+    styles = styles_of(row)
+    return [f"|{plain(row)}|", *([f"! {styles}"] if styles else [])]
 
 
 def drawn(head: str) -> Tuple[List[str], str]:
@@ -29,8 +53,9 @@ def drawn(head: str) -> Tuple[List[str], str]:
     columns, rows = map(int, size.split("x"))
     file, ksy = desks.example(name)
     with desks.opened(file, ksy, (rows, columns)) as desk:
-        found = [f"|{it}|" for it in desks.play(desk, script)]
-        return found, fresh.wrong(desk, desk.screen(), ksy)
+        desks.play(desk, script)
+        screen = desk.screen()
+        return [line for it in screen.rows for line in cells_of(it)], fresh.wrong(desk, screen, ksy)
 
 
 def compared(state: State) -> str:

@@ -11,16 +11,20 @@ from front.view.state import Typed, fronts, parent
 
 CUTS = [("abc", 3, "abc"), ("abcd", 3, "ab~"), ("abcd", 1, "~"), ("abcd", 0, ""), ("", 0, ""), ("a\nb", 20, "a\\u000ab"), ("ab\x1b", 4, "ab\\~"),
         ("中文字", 6, "中文字"), ("中文字", 5, "中文~"), ("中文字", 4, "中~"), ("e\u0301e\u0301x", 2, "e\u0301~"), ("\udcff", 4, "\\xff")]
-ROWS = [(["ab", "cd"], 6, "abcd  "), (["ab", "cd"], 4, "abcd"), (["ab", "cd"], 3, "ab~"), (["abc"], 2, "a~"), (["", "x"], 1, "x"), ([], 3, "   "), (["ab", "cd", "e"], 4, "abc~")]
+ROWS = [(["ab", "cd"], 6, "abcd  "), (["ab", "cd"], 4, "abcd"), (["ab", "cd"], 3, "ab~"), (["abc"], 2, "a~"), (["", "x"], 1, "x"), ([], 3, "   "),
+        (["ab", "cd", "e"], 4, "abc~")]
 FLOWS = [(["aa", "bb", "cc"], 6, ["aa  bb", "cc"]), (["aa", "bb"], 5, ["aa", "bb"]), ([], 5, []), (["long one"], 3, ["long one"])]
 # Lines of keys, and the text and the cursor after them.
 TYPED = [("a b", "ab", 2), ("a b left c", "acb", 2), ("a b home c", "cab", 1), ("a b home delete", "b", 0), ("a b backspace", "a", 1), ("backspace", "", 0),
-         ("a left left right right right b", "ab", 2), ("a b left ctrl-u", "b", 0), ("a up tab b", "ab", 2), ("a home end b", "ab", 2), ("ä", "ä", 1), ("delete", "", 0)]
+         ("a left left right right right b", "ab", 2), ("a b left ctrl-u", "b", 0), ("a up tab b", "ab", 2), ("a home end b", "ab", 2), ("ä", "ä", 1),
+         ("delete", "", 0)]
 # The first bytes of a file, a form and an order, and the number: by hand, and by IEEE 754.
 NUMBERS = [("ff", "u1", "le", "255"), ("ff", "s1", "be", "-1"), ("8000", "u2", "be", "32768"), ("8000", "u2", "le", "128"), ("0080", "s2", "le", "-32768"),
            ("01020304", "u4", "be", "16909060"), ("01020304", "u4", "le", "67305985"), ("ffffffff", "s4", "le", "-1"), ("3f800000", "f4", "be", "1"),
-           ("0000c03f", "f4", "le", "1.5"), ("4029000000000000", "f8", "be", "12.5"), ("000000000000f0bf", "f8", "le", "-1.0"), ("7ff0000000000000", "f8", "be", "inf"),
-           ("ffffffffffffffff", "u8", "le", "18446744073709551615"), ("8000000000000000", "s8", "be", "-9223372036854775808"), ("ff", "u2", "le", None), ("", "u1", "be", None)]
+           ("0000c03f", "f4", "le", "1.5"), ("4029000000000000", "f8", "be", "12.5"), ("000000000000f0bf", "f8", "le", "-1.0"),
+           ("7ff0000000000000", "f8", "be", "inf"),
+           ("ffffffffffffffff", "u8", "le", "18446744073709551615"), ("8000000000000000", "s8", "be", "-9223372036854775808"), ("ff", "u2", "le", None),
+           ("", "u1", "be", None)]
 BITS = [(0b10100101, 0, 8, "10100101"), (0b10100101, 0, 1, "[1]0100101"), (0b10100101, 3, 2, "101[00]101"), (0b10100101, 4, 4, "1010[0101]")]
 TEXTS = [(b"ab\n\x00", "ab.."), ("ä中".encode(), "ä中"), (b"\xff\xfe", ".."), (b"\xe4\xb8", ".")]
 PLACES = [("at 18 22", "at 18 22 (0x12 0x16)", (0, 8)), ("at 46.1 46.2", "at 46.1 46.2 (0x2e.1 0x2e.2)", (1, 1)), ("at 0.4 2", "at 0.4 2 (0x0.4 0x2)", (4, 4)),
@@ -29,8 +33,10 @@ PLACES = [("at 18 22", "at 18 22 (0x12 0x16)", (0, 8)), ("at 46.1 46.2", "at 46.
 GRIDS = [(200, 16), (69, 16), (68, 8), (37, 8), (36, 4), (1, 4)]
 # The first byte that is shown, the cursor, and the first byte then: rows of 8 bytes, 6 of them.
 TOPS = [(0, 0, 0), (0, 47, 0), (0, 48, 8), (8, 7, 0), (0, 480, 464), (480, 0, 0), (480, 400, 384), (3, 3, 0), (16, 15, 8)]
-BRACKETS = [(4, 1, (4, 6), "["), (6, 3, (4, 6), "]"), (5, 2, (4, 6), " "), (4, 0, (4, 6), "["), (6, 0, (4, 6), " "), (7, 3, (4, 6), " "), (4, 1, (4, 4), " "), (8, 8, (0, 8), "]")]
-WRAPPED = [("aa bb cc", 5, 2, ["aa bb", "cc"]), ("aaaaaaaa", 3, 2, ["aaa", "aaaaa"]), ("aa bb", 9, 2, ["aa bb"]), ("", 5, 2, []), ("aa bb cc dd", 5, 1, ["aa bb cc dd"])]
+BRACKETS = [(4, 1, (4, 6), "["), (6, 3, (4, 6), "]"), (5, 2, (4, 6), " "), (4, 0, (4, 6), "["), (6, 0, (4, 6), " "), (7, 3, (4, 6), " "), (4, 1, (4, 4), " "),
+            (8, 8, (0, 8), "]")]
+WRAPPED = [("aa bb cc", 5, 2, ["aa bb", "cc"]), ("aaaaaaaa", 3, 2, ["aaa", "aaaaa"]), ("aa bb", 9, 2, ["aa bb"]), ("", 5, 2, []),
+           ("aa bb cc dd", 5, 1, ["aa bb cc dd"])]
 KEYS = [("min: 5, max: _io.size", "5, _io.size"), ("expr: _ > min", "_ > min"), ("a ? b : c", "a ? b : c"), ("kind::max", "kind::max")]
 CLOSINGS = [("[a]", 0, 2), ("[a[b]c]d", 0, 6), ("[a", 0, -1), ("x[a]", 1, 3)]
 
@@ -61,7 +67,8 @@ def trials() -> Iterator[str]:
     yield from different("numbers", [(readings.value_of(bytes.fromhex(some), form, order), wanted) for some, form, order, wanted in NUMBERS])
     yield from different("bits", [(readings.bits_of(byte, first, count), wanted) for byte, first, count, wanted in BITS])
     yield from different("texts", [(readings.text_of(some), wanted) for some, wanted in TEXTS])
-    yield from different("all readings", [(readings.lines_of(struct.pack("<d", 1.5) + bytes(8), 80)[3], "le u8 4609434218613702656  s8 4609434218613702656  f8 1.5"),
+    yield from different("all readings", [(readings.lines_of(struct.pack("<d", 1.5) + bytes(8), 80)[3],
+                                           "le u8 4609434218613702656  s8 4609434218613702656  f8 1.5"),
                                           (len(readings.lines_of(b"\xff" * 8, 80)), 5), (max(map(len, readings.lines_of(b"\x80" * 8, 80))) <= 80, True)])
     yield from different("places", [(about.place_of(told), wanted) for told, wanted, _ in PLACES])
     yield from different("bits of places", [(about.bits_at(told), wanted) for told, _, wanted in PLACES])
@@ -71,4 +78,5 @@ def trials() -> Iterator[str]:
     yield from different("wrapped", [(wrapped(text, width, most), wanted) for text, width, most, wanted in WRAPPED])
     yield from different("keys of valid", [(about.strip_keys(text), wanted) for text, wanted in KEYS])
     yield from different("closing", [(closing(text, at), wanted) for text, at, wanted in CLOSINGS])
-    yield from different("paths", [(parent("/"), "/"), (parent("/a"), "/"), (parent("/a/0"), "/a"), (fronts("/a/0"), frozenset({"/", "/a"})), (fronts("/"), frozenset())])
+    yield from different("paths", [(parent("/"), "/"), (parent("/a"), "/"), (parent("/a/0"), "/a"), (fronts("/a/0"), frozenset({"/", "/a"})),
+                                   (fronts("/"), frozenset())])

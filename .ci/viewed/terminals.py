@@ -14,22 +14,26 @@ import time
 from typing import Callable, Iterator, List, Optional, Tuple
 
 from front.opening import TOP
-from viewed import desks
+from viewed import desks, fresh
 from viewed.reader import Reader
 
 VIEW = f"{TOP}/bin/ksv-view"
 ICON = [f"{TOP}/examples/ico.bin", f"{TOP}/examples/ico.ksy"]
 # How long a screen is awaited, in seconds, how long nothing may come for it to be whole, and how long the end is awaited.
-PATIENCE, QUIET, END = 20, 0.15, 30
+PATIENCE, QUIET, END = 60, 0.15, 30
 # What is told where something takes long, after how many seconds at the most (the best of some), and how often that is looked at.
 SIGN, SOON, TIMES = "ctrl-C breaks it off", 0.15, 4
 # What a terminal sends for keys.
 SENT = {
-    "up": "\x1bOA", "down": "\x1bOB", "right": "\x1bOC", "left": "\x1bOD", "pgup": "\x1b[5~", "pgdn": "\x1b[6~", "home": "\x1bOH", "end": "\x1bOF", "delete": "\x1b[3~",
+    "up": "\x1bOA", "down": "\x1bOB", "right": "\x1bOC", "left": "\x1bOD", "pgup": "\x1b[5~", "pgdn": "\x1b[6~", "home": "\x1bOH", "end": "\x1bOF",
+    "delete": "\x1b[3~",
     "insert": "\x1b[2~", "tab": "\t", "enter": "\r", "backspace": "\x7f", "ctrl-r": "\x12", "ctrl-l": "\x0c", "ctrl-u": "\x15",
 }
 # Keys, after each of which the terminal has another size; each screen is the one that is drawn without a terminal.
-STEPS = "f e 2 2 enter down down right down right pgdn tab right down 0 a u ctrl-r u tab x / m a r k enter ? pgdn x end home g 0 x 2 0 enter e 1 backspace ctrl-u 7 enter"
+STEPS = (
+    "f e 2 2 enter down down right down right pgdn tab right down 0 a u ctrl-r u tab x / m a r k enter ? pgdn x end home g 0 x 2 0 enter e 1 "
+    "backspace ctrl-u 7 enter"
+)
 SIZES = [(24, 80), (10, 40), (30, 132), (12, 60), (24, 80), (50, 100)]
 
 
@@ -80,11 +84,13 @@ class Terminal:
         """Sends keys; nothing if the text is then on the screen, or else what is."""
         self.type(keys)
         rows = self.until(lambda rows: any(text in it for it in rows))
-        return "" if any(text in it for it in rows) else f"terminal: after {keys!r} there is no {text!r}: {rows}"
+        return "" if any(text in it for it in rows) else f"terminal: after {keys!r} there is no {text!r}: {rows[-2:]} {rows}"
 
     def is_as(self, wanted: List[str]) -> str:
         """Nothing if the rows are these, or come to be; else what they are."""
-        rows = self.until(lambda rows: rows == wanted)
+        end, rows = time.monotonic() + PATIENCE, self.reader.lines()
+        while rows != wanted and select.select([self.ours], [], [], max(0.0, end - time.monotonic()))[0] and self.read():
+            rows = self.reader.lines()
         at = next((it for it in range(min(len(rows), len(wanted))) if rows[it] != wanted[it]), 0)
         return "" if rows == wanted else f"row {at} is {rows[at : at + 1]}, and not {wanted[at : at + 1]}"
 
@@ -143,7 +149,7 @@ def repaired(room: str) -> Iterator[str]:
     yield terminal.shown("", "? help  q quit")
     rows = terminal.reader.lines()
     yield "" if len(rows) == 10 and any("image  object bitmap" in it for it in rows) else f"40x10: {rows}"
-    yield terminal.shown(SENT["tab"], "arrows walk  Tab tree")
+    yield terminal.shown(SENT["tab"], "0-9 a-f write  Tab tree")
     terminal.sized(30, 132)
     yield terminal.shown("", "16 00 00 00[28 00 00 00")
     yield terminal.shown("ab", "ok 350; u takes it back: set 22 ab")
@@ -214,7 +220,7 @@ def broken_off(_room: str) -> Iterator[str]:
     yield terminal.shown(SENT["ctrl-l"], "ico.bin  350 bytes")
     yield terminal.shown("e22\r", "ico.bin  1 edit, not saved  350 bytes")
     asked = terminal.stop()
-    yield terminal.shown("r", SIGN)
+    yield terminal.shown("u", SIGN)
     os.kill(terminal.process, signal.SIGTERM)
     status = terminal.end()
     yield "" if status == 143 and not is_there(asked) else f"SIGTERM: status {status}"
@@ -235,7 +241,7 @@ def recovered(_room: str) -> Iterator[str]:
     yield terminal.shown("R", "ico.bin  1 edit, not saved  350 bytes")
     yield terminal.shown("f", "no faults")
     asked = terminal.stop()
-    yield terminal.shown("u", SIGN)
+    yield terminal.shown(SENT["tab"] + "12", SIGN)
     status = terminal.gone()
     yield "" if status == 129 and not is_there(asked) else f"the terminal goes in a question: status {status}"
     terminal = Terminal(ICON)
@@ -283,6 +289,8 @@ def write(path: str, content: bytes) -> None:
 
 
 def trials(room: str) -> Iterator[str]:
-    """All trials on terminals."""
+    """All trials on terminals. No session is left to the next one, but those that end in `broken_off` to `recovered`."""
     for it in (repaired, without_colour, as_drawn, broken_off, recovered, refused):
+        if it is not recovered:
+            fresh.apart(room)
         yield from it(room)

@@ -18,8 +18,8 @@ KEYS = ("type", "enum", "contents", "value", "size", "size-eos", "terminator", "
 ASKED = 300
 # How much of a value is shown that another one is made of.
 VALUE = 24
-# The least columns of a path.
-LEAST_PATH = 20
+# How many columns of a path and of its value there are before its place is told in hexadecimal digits too; and the least ones of a path.
+ENOUGH, LEAST = 20, 12
 
 
 def member_of(replies: Replies, description: Description, path: str) -> Optional[Member]:
@@ -99,16 +99,23 @@ def strip_keys(text: str) -> str:
 def lines_of(replies: Replies, description: Callable[[], Description], ksy: str, path: str, width: int, most: int) -> List[str]:
     """What is said of a node: its path, place and value; its line in the description; what its value is made of, where that is a fault or calculated."""
     told, where = replies.ask(f"get {path}"), replies.ask(f"at {path}")
-    place, own = place_of(where), told.partition(f" at {path}")
-    value = own[0] if own[1] and not own[2] and told.startswith("fault") else told
-    rest = "  ".join([place, *([value] if where != told else [])])
-    lines = [f"{ending(path, max(LEAST_PATH, width - columns(rest) - 2))}  {rest}"]
+    lines = [first_line(path, told, where, width)]
     try:
         lines += wrapped(described(replies, description(), ksy, path), width, 2 if most > 2 else 1)
         lines += wrapped(noted(replies, description, path, told, where), width, most - len(lines)) if most > len(lines) else []
     except (Refused, Spent):
         pass
     return (lines + [""] * most)[:most]
+
+
+def first_line(path: str, told: str, where: str, width: int) -> str:
+    """A path, or its end, with its place and its value."""
+    own = told.partition(f" at {path}")
+    values = [own[0] if own[1] and not own[2] and told.startswith("fault") else told] if where != told else []
+    room = width - 2 - sum(2 + min(ENOUGH, columns(it)) for it in values)
+    place = place_of(where) if min(ENOUGH, columns(path)) + columns(place_of(where)) <= room else where
+    rest = "  ".join([place, *values])
+    return f"{ending(path, max(LEAST, min(ENOUGH, room - columns(place)), width - 2 - columns(rest)))}  {rest}"
 
 
 def noted(replies: Replies, description: Callable[[], Description], path: str, told: str, where: str) -> str:

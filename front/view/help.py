@@ -13,12 +13,12 @@ TITLE, BACK = " keys", "any other key goes back"
 KEYS, LEAST = 10, 20
 # The keys that the last row names, the most wanted ones first; it has as many as there is room for.
 TREE_KEYS = [
-    ("?", "help"), ("q", "quit"), ("arrows", "walk"), ("Tab", "bytes"), ("e", "edit"), ("f", "fault"), ("u", "undo"), ("s", "save"), ("/", "search"),
-    ("g", "go to"), ("r", "read ksy again"),
+    ("?", "help"), ("q", "quit"), ("f", "fault"), ("e", "edit"), ("s", "save"), ("u", "undo"), ("Tab", "bytes"), ("/", "search"), ("g", "go to"),
+    ("arrows", "walk"), ("r", "read ksy again"),
 ]
 BYTES_KEYS = [
-    ("?", "help"), ("q", "quit"), ("arrows", "walk"), ("Tab", "tree"), ("0-9 a-f", "write"), ("i", "insert"), ("Del", "delete"), ("u", "undo"), ("s", "save"),
-    ("/", "search"), ("g", "go to"),
+    ("?", "help"), ("q", "quit"), ("0-9 a-f", "write"), ("Tab", "tree"), ("i", "insert"), ("Del", "delete"), ("u", "undo"), ("s", "save"), ("/", "search"),
+    ("g", "go to"), ("arrows", "walk"),
 ]
 MADE_OF = ("Enter", "what it is made of")
 LINES = [

@@ -11,8 +11,8 @@ from front.view.cells import Row, Span, fitted, plain
 from front.view.desk import Desk
 from front.view.draw import Screen
 
-# How often somebody looks whether a question takes long, after how many seconds a sign of it is given, and after how many it is given anew; after how many empty
-# readings the terminal is taken to be gone.
+# How often somebody looks whether a question takes long, after how many seconds a sign of it is given, and after how many it is given anew; after how many
+# empty readings the terminal is taken to be gone.
 PATIENCE, LONG, OFTEN, EMPTY = 0.02, 0.07, 0.1, 5
 NAMES: Dict[int, str] = {
     curses.KEY_UP: "up", curses.KEY_DOWN: "down", curses.KEY_LEFT: "left", curses.KEY_RIGHT: "right", curses.KEY_PPAGE: "pgup", curses.KEY_NPAGE: "pgdn",
@@ -131,18 +131,21 @@ class Terminal:
 
     # Keys
 
+    def is_resized(self) -> bool:
+        """Whether the terminal has another size than the screen that is drawn."""
+        return self.size() != (self.desk.state.rows, self.desk.state.columns)
+
     def keys(self) -> List[str]:
-        """The keys that were pressed, once there is one."""
+        """The keys that were pressed, once there is one. What told of another size may have been heard before this waits, so the size is looked at first."""
         found: List[str] = []
         while not found:
             try:
                 with self.signals.listening():
-                    ready, _, _ = select.select([0, self.signals.wake], [], [])
+                    ready = [] if self.is_resized() else select.select([0, self.signals.wake], [], [])[0]
             except Interrupted:
                 return ["interrupt"]
             self.signals.drain()
-            rows, columns = self.size()
-            if (rows, columns) != (self.desk.state.rows, self.desk.state.columns):
+            if self.is_resized():
                 found.append("resize")
             if 0 in ready:
                 found += self.pressed()
