@@ -14,9 +14,11 @@ use Rattle.ksv_nodes.specs.declared.node.Node.{Node}
 use Rattle.ksv_nodes.specs.declared.given.Given.{Given}
 use Rattle.ksv_nodes.specs.declared.given.Given.TheVariants as givens
 use Rattle.ksv_nodes.specs.declared.given.Head.{Head}
+use Rattle.ksv_nodes.specs.declared.given.Ended.{Ended}
+use Rattle.ksv_nodes.specs.declared.given.Rested.{Rested}
 use Rattle.ksv_nodes.specs.Numbers.{node_number, node_bound}
 use Rattle.ksv_nodes.specs.Reading.{Seen, look, peek_at}
-use Rattle.ksv_nodes.specs.Rule.{Rule, Of, See, raise, in_head, ask_head, head_node, peek}
+use Rattle.ksv_nodes.specs.Rule.{Rule, Of, See, raise, in_path, in_head, in_end, in_rest, ask_head, ask_end, ask_rest, head_node, end_node, rest_node, peek}
 use Rattle.ksv_nodes.specs.Truth.{answer_of, with_given, with_seen}
 use Rattle.ksv_rule_meaning.specs.Meaning.{meaning_of, rule_of}
 use Rattle.ksv_rule_meaning.specs.FromNothing.{circle, answer_within, from_nothing}
@@ -52,6 +54,27 @@ module _ (met : Node → Result Given Fault) (here : Trail) (bytes : List ℕ) w
       by_given (Ok (givens.Head h')) is e' = is ∙ ap (λ (x : Head). Ok (givens.Head x)) (ok_is h' h e')
       by_given (Ok _) is e' = absurd (cc)
       by_given (Err f) is e' = absurd (cc)
+
+  -- the end and the rest that were asked for, and the path of a part
+  pub asked_end : (p : Trail) (x : Ended) → answer_of met here bytes (ask_end p) ≡ Ok x → met (end_node p) ≡ Ok (givens.End x.place x.last)
+  asked_end p x e = by_given (met (end_node p)) refl e
+    where
+      by_given : (r : Result Given Fault) → met (end_node p) ≡ r → with_given r (λ g. answer_of met here bytes (in_end g)) ≡ Ok x → met (end_node p) ≡ Ok (givens.End x.place x.last)
+      by_given (Ok (givens.End place last)) is e' = is ∙ ap (λ (y : Ended). Ok (givens.End y.place y.last)) (ok_is (record { place = place; last = last }) x e')
+      by_given (Ok _) is e' = absurd (cc)
+      by_given (Err f) is e' = absurd (cc)
+
+  pub asked_rest : (p : Trail) (x : Rested) → answer_of met here bytes (ask_rest p) ≡ Ok x → met (rest_node p) ≡ Ok (givens.Rest x.count x.place)
+  asked_rest p x e = by_given (met (rest_node p)) refl e
+    where
+      by_given : (r : Result Given Fault) → met (rest_node p) ≡ r → with_given r (λ g. answer_of met here bytes (in_rest g)) ≡ Ok x → met (rest_node p) ≡ Ok (givens.Rest x.count x.place)
+      by_given (Ok (givens.Rest count place)) is e' = is ∙ ap (λ (y : Rested). Ok (givens.Rest y.count y.place)) (ok_is (record { count = count; place = place }) x e')
+      by_given (Ok _) is e' = absurd (cc)
+      by_given (Err f) is e' = absurd (cc)
+
+  pub part_is : (o : Option Trail) (q : Trail) → answer_of met here bytes (in_path o) ≡ Ok q → o ≡ Some q
+  part_is None q e = absurd (cc)
+  part_is (Some p) q e = ap Some (ok_is p q e)
 
   -- how many bytes were read of a range
   pub peeked : (from to : ℕ) (bs : List ℕ) → answer_of met here bytes (peek from to) ≡ Ok bs → from + length bs ≡ to
@@ -154,3 +177,37 @@ module _ (d : Description) (bytes : List ℕ) where
 pub answers_stay : AnswersStay
 unfolding from_nothing
 answers_stay d bytes opened others n g among h = stays_within d bytes node_bound node_bound opened others n g (omega arith) among h
+
+-- ---- by rules
+
+module _ (d : Description) (bytes : List ℕ) where
+  ruled_again : (depth : ℕ) (opened : List Node) (n : Node) (g : Given) → answer_within d bytes depth opened n ≡ Ok g → answer_of (answer_within d bytes depth opened) n.path bytes (meaning_of d n.kind n.path) ≡ Ok g
+  ruled_again zero opened n g h = absurd (no_depth d bytes opened n g h)
+  ruled_again (suc depth) opened n g h =
+      let met = answer_within d bytes depth (n ∷ opened) in
+      same_answer met (answer_within d bytes (suc depth) opened) n.path bytes
+      (λ m g' e. stays_within d bytes depth (suc depth) (n ∷ opened) opened m g' (omega arith) (among_more n opened) e) (meaning_of d n.kind n.path) g
+      (meaning_is met n.path bytes d n g (ruled d bytes depth opened n g h).1)
+
+  -- an answer is the rule's where each node that it asks has its own
+  pub by_rule : (opened : List Node) (n : Node) (g : Given) → from_nothing d bytes opened n ≡ Ok g → answer_of (from_nothing d bytes opened) n.path bytes (meaning_of d n.kind n.path) ≡ Ok g
+  unfolding from_nothing
+  by_rule opened n g h = ruled_again node_bound opened n g h
+
+  -- what is so of each answer of a rule, where it is so of all that the rule asks: these answers are the nodes' own
+  module _ (opened : List Node) (P : Node → Given → Type 0)
+      (each : (met : Node → Result Given Fault) → ((m : Node) (g : Given) → met m ≡ Ok g → from_nothing d bytes opened m ≡ Ok g) → ((m : Node) (g : Given) → met m ≡ Ok g → P m g)
+      → (n : Node) (g : Given) → answer_of met n.path bytes (meaning_of d n.kind n.path) ≡ Ok g → P n g) where
+    rules_within : (depth : ℕ) (others : List Node) (n : Node) (g : Given) → depth ≤ node_bound → AreAmong opened others → answer_within d bytes depth others n ≡ Ok g → P n g
+    unfolding from_nothing
+    rules_within zero others n g le among h = absurd (no_depth d bytes others n g h)
+    rules_within (suc depth) others n g le among h =
+        let met = answer_within d bytes depth (n ∷ others) in
+        let more : AreAmong opened (n ∷ others) = λ m e. among_more n others m (among m e) in
+        each met (λ m g' e. stays_within d bytes depth node_bound (n ∷ others) opened m g' (omega arith) more e)
+        (λ m g' e. rules_within depth (n ∷ others) m g' (omega arith) more e) n g (meaning_is met n.path bytes d n g (ruled d bytes depth others n g h).1)
+
+    -- so of each answer
+    pub by_rules : (n : Node) (g : Given) → from_nothing d bytes opened n ≡ Ok g → P n g
+    unfolding from_nothing
+    by_rules n g h = rules_within node_bound opened n g (omega arith) (λ m e. e) h

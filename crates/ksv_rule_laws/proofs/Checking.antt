@@ -1,5 +1,5 @@
 -- A value that is answered meets what it must.
-use Rattle.std.proofs.Common.{◌≡◌, ◌∙◌, ℕ, zero, suc, Bool, true, false, if◌then◌else◌, List, [], ◌∷◌, slice_get, Option, Some, None, Result, Ok, refl, sym, ap, subst, arith}
+use Rattle.std.proofs.Common.{◌≡◌, ◌∙◌, ℕ, Bool, true, false, if◌then◌else◌, List, [], ◌∷◌, slice_get, Option, Some, None, Result, Ok, refl, sym, ap, subst}
 use Rattle.std.specs.List.{AllByRecursion}
 use Rattle.ksv_basics.specs.Plan.{Answer}
 use Rattle.ksv_expr_tree.specs.Tree.{Tree}
@@ -18,19 +18,17 @@ use Rattle.ksv_nodes.specs.declared.given.Head.TheVariants as heads
 use Rattle.ksv_nodes.specs.declared.given.MemberRef.{MemberRef}
 use Rattle.ksv_nodes.specs.declared.given.Object.{Object}
 use Rattle.ksv_nodes.specs.declared.given.Origin.{Origin}
-use Rattle.ksv_nodes.specs.Numbers.{node_bound}
 use Rattle.ksv_nodes.specs.Rule.{Rule, raise, head_node, value_node}
 use Rattle.ksv_nodes.specs.Truth.{answer_of}
 use Rattle.ksv_rule_meaning.specs.Checks.{meets_one, meets_each, meets, with_value, checked, checked_if, member_checked, object_checked, value_checked}
 use Rattle.ksv_rule_meaning.specs.Fields.{members_of, in_kind, kind_of}
-use Rattle.ksv_rule_meaning.specs.FromNothing.{answer_within, from_nothing}
+use Rattle.ksv_rule_meaning.specs.FromNothing.{from_nothing}
 use Rattle.ksv_rule_meaning.specs.Heads.{member_setting, holder_setting}
-use Rattle.ksv_rule_meaning.specs.Meaning.{meaning_of}
-use Rattle.ksv_rule_meaning.specs.Values.{value_of}
 use Rattle.ksv_rule_meaning.specs.Wanted.{expression, in_truth, truth_of}
 use Rattle.ksv_rule_laws.specs.Laws.{Gives, HasTrue, IsMet, MeetsMember, ObjectMeets, ValueMeets, ValuesMeetChecks}
-use Rattle.ksv_rule_laws.proofs.Answering.{ok_is, goes_on, asked_head, meaning_is, ruled, no_depth, same_answer, stays_within, among_more}
-use Rattle.ksv_rule_laws.proofs.Forms.{made_of}
+use Rattle.ksv_rule_laws.proofs.Answering.{ok_is, goes_on}
+use Rattle.ksv_rule_laws.proofs.Shapes.{IsMadeOf}
+use Rattle.ksv_rule_laws.proofs.Shaping.{by_shape}
 
 -- a value that doesn't meet what it must is a fault
 abbrev verdict : Bool → Rule (Unit {0})
@@ -122,60 +120,11 @@ module _ (met : Node → Result Given Fault) (p : Trail) (bytes : List ℕ) (d :
   head_is (heads.Object o) v h = object_is o o.origin v h
   head_is (heads.List g) v h = tt
 
--- ---- fewer open nodes
-
--- what is met stays met where each node that answered still does
-module _ (met met' : Node → Result Given Fault) (p : Trail) (bytes : List ℕ) (same : (m : Node) (g : Given) → met m ≡ Ok g → met' m ≡ Ok g) where
-  gives_still : (s : Setting) (b : Bool) (e : Tree) → Gives met p bytes s b e → Gives met' p bytes s b e
-  gives_still s b e h = same_answer met met' p bytes same (expression s e) (values.Bool b) h
-
-  all_still : (s : Setting) (b : Bool) (es : List Tree) → AllByRecursion (Gives met p bytes s b) es → AllByRecursion (Gives met' p bytes s b) es
-  all_still s b [] h = tt
-  all_still s b (e ∷ es) h = (gives_still s b e h.0, all_still s b es h.1)
-
-  met_still : (s : Setting) (x : Valid) → IsMet met p bytes s x → IsMet met' p bytes s x
-  met_still s (AnyOf es) h = record { front = h.front; condition = h.condition; rest = h.rest; is = h.is; before = all_still s false h.front h.before; holds = gives_still s true h.condition h.holds }
-  met_still s (AllOf es) h = all_still s true es h
-
-  member_still : (d : Description) (r : MemberRef) (s : Setting) (v : Value) → MeetsMember met p bytes d r s v → MeetsMember met' p bytes d r s v
-  member_still d r s v h m x is must = met_still (with_value s v) x (h m x is must)
-
-  object_still : (d : Description) (o : Object) (g : Option Origin) (v : Value) → ObjectMeets met bytes d p o g v → ObjectMeets met' bytes d p o g v
-  object_still d o None v h = tt
-  object_still d o (Some g) v h = member_still d g.member (member_setting p p (last p) g o.start) v h
-
-  value_still : (d : Description) (k : Head) (v : Value) → ValueMeets met bytes d p k v → ValueMeets met' bytes d p k v
-  value_still d (heads.Absent at) v h = tt
-  value_still d (heads.Calc c) v h = member_still d (record { type_number = c.object.type_number; member = c.member }) (holder_setting p (parent p) c.object) v h
-  value_still d (heads.Leaf l) v h = member_still d l.origin.member (member_setting p p (last p) l.origin l.from) v h
-  value_still d (heads.Object o) v h = object_still d o o.origin v h
-  value_still d (heads.List g) v h = tt
-
--- ---- evaluation from nothing
-
 one_head : (r : Result Given Fault) (x y : Head) → r ≡ Ok (givens.Head x) → r ≡ Ok (givens.Head y) → x ≡ y
 one_head r x y h h' = cc
 
-one_value : (x y : Value) → givens.Value x ≡ givens.Value y → x ≡ y
-one_value x y e = cc
-
-module _ (d : Description) (bytes : List ℕ) where
-  checks_within : (depth : ℕ) (opened : List Node) (p : Trail) (h : Head) (v : Value) → answer_within d bytes depth opened (head_node p) ≡ Ok (givens.Head h)
-      → answer_within d bytes depth opened (value_node p) ≡ Ok (givens.Value v) → ValueMeets (answer_within d bytes depth opened) bytes d p h v
-  unfolding meaning_of
-  checks_within zero opened p h v head value = absurd (no_depth d bytes opened (value_node p) (givens.Value v) value)
-  checks_within (suc depth) opened p h v head value =
-      let met = answer_within d bytes depth (value_node p ∷ opened) in
-      let met' = answer_within d bytes (suc depth) opened in
-      let stays = λ (m : Node) (g : Given) (e : met m ≡ Ok g). stays_within d bytes depth (suc depth) (value_node p ∷ opened) opened m g (omega arith) (among_more (value_node p) opened) e in
-      let r = ruled d bytes depth opened (value_node p) (givens.Value v) value in
-      let b = goes_on met p bytes (value_of d p) (λ x. Answer (givens.Value x)) (givens.Value v) (meaning_is met p bytes d (value_node p) (givens.Value v) r.1) in
-      let m = made_of met p bytes d p b.first b.was in
-      let same : b.first ≡ v = one_value b.first v (ok_is _ _ b.gave) in
-      let found : m.head ≡ h = one_head (met' (head_node p)) m.head h (stays (head_node p) (givens.Head m.head) (asked_head met p bytes p m.head m.was)) head in
-      let meets : ValueMeets met' bytes d p m.head b.first = value_still met met' p bytes stays d m.head b.first (head_is met p bytes d m.head b.first m.checked) in
-      subst (λ (k : Head). ValueMeets met' bytes d p k v) found (subst (λ (w : Value). ValueMeets met' bytes d p m.head w) same meets)
-
 pub values_meet_checks : ValuesMeetChecks
-unfolding from_nothing
-values_meet_checks d bytes opened p h v head value = checks_within d bytes node_bound opened p h v head value
+values_meet_checks d bytes opened p h v head value =
+    let met = from_nothing d bytes opened in
+    let m : IsMadeOf d met p bytes v = by_shape d bytes opened (value_node p) (givens.Value v) value in
+    subst (λ (k : Head). ValueMeets met bytes d p k v) (one_head (met (head_node p)) m.head h m.asked head) (head_is met p bytes d m.head v m.checked)

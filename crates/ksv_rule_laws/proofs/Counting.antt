@@ -29,7 +29,7 @@ use Rattle.ksv_rule_meaning.specs.Meaning.{meaning_of}
 use Rattle.ksv_rule_meaning.specs.FromNothing.{answer_within, from_nothing}
 use Rattle.ksv_rule_laws.specs.Laws.{EndsAsOf, AreElements, IsEmptyList, RestsCount, Reads, IsFieldOf, IsCountedBy, ToldCounts}
 use Rattle.ksv_rule_laws.proofs.Answering.{ok_is, goes_on, asked_head, refused, meaning_is, ruled, no_depth, stays_within, among_more}
-use Rattle.ksv_rule_laws.proofs.Touching.{asked_end, part_is}
+use Rattle.ksv_rule_laws.proofs.Answering.{asked_end, part_is}
 use Rattle.ksv_rule_laws.proofs.Sources.{heads_are_read}
 
 -- a path is the part of the path above it to which its last step leads

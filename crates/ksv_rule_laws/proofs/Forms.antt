@@ -1,15 +1,13 @@
 -- An answer has its node's form, and a value is one of the head at its path.
-use Rattle.std.proofs.Common.{not, ◌==◌, pos, ◌≡◌, ◌∙◌, ℕ, zero, suc, ◌+◌, ◌≤◌, Bool, true, false, if◌then◌else◌, ℤ, List, ◌∷◌, length, slice_get, Option, Some, None, Result, Ok, refl, sym, ap, subst, arith}
+use Rattle.std.proofs.Common.{not, ◌==◌, pos, ◌≡◌, ◌∙◌, ℕ, ◌+◌, ◌≤◌, Bool, true, false, if◌then◌else◌, ℤ, List, length, slice_get, Option, Some, None, Result, Ok, refl, sym, ap, subst, arith, inl, inr}
 use Rattle.std.specs.Prelude.{nat_le}
 use Rattle.std.specs.Str.{bytes_eq}
 use Rattle.std.proofs.lemmas.Bool.Decides.{nat_tests}
 use Rattle.std.proofs.lemmas.Grind.{common_steps}
 use Rattle.ksv_basics.specs.Plan.{Answer}
-use Rattle.ksv_expr_tree.specs.Tree.{Tree}
 use Rattle.ksv_expr_value.specs.Places.{Place, byte_of, byte_in, further}
 use Rattle.ksv_expr_value.specs.Bits.{number_of, bits_from}
-use Rattle.ksv_expr_value.specs.Setting.{Setting}
-use Rattle.ksv_expr_value.specs.Trail.{Trail, parent}
+use Rattle.ksv_expr_value.specs.Trail.{Trail}
 use Rattle.ksv_expr_value.specs.Range.{ranged}
 use Rattle.ksv_expr_value.specs.Encodings.{decoded}
 use Rattle.ksv_expr_value.specs.declared.encoding.Encoding.{Encoding}
@@ -27,29 +25,22 @@ use Rattle.ksv_nodes.specs.declared.given.Given.{Given}
 use Rattle.ksv_nodes.specs.declared.given.Given.TheVariants as givens
 use Rattle.ksv_nodes.specs.declared.given.Head.{Head}
 use Rattle.ksv_nodes.specs.declared.given.Head.TheVariants as heads
-use Rattle.ksv_nodes.specs.declared.given.Calc.{Calc}
-use Rattle.ksv_nodes.specs.declared.given.Holder.{Holder}
 use Rattle.ksv_nodes.specs.declared.given.Leaf.{Leaf}
-use Rattle.ksv_nodes.specs.declared.given.Origin.{Origin}
 use Rattle.ksv_nodes.specs.declared.given.MemberRef.{MemberRef}
-use Rattle.ksv_nodes.specs.Numbers.{node_bound}
 use Rattle.ksv_nodes.specs.Reading.{first_at}
-use Rattle.ksv_nodes.specs.Rule.{raise, ask_head, head_node, value_node, peek}
+use Rattle.ksv_nodes.specs.Rule.{raise, value_node, peek}
 use Rattle.ksv_nodes.specs.Truth.{answer_of}
 use Rattle.ksv_nodes.proofs.First.{first_at_below}
-use Rattle.ksv_rule_meaning.specs.Checks.{value_checked}
 use Rattle.ksv_rule_meaning.specs.Choosing.{in_case, content_of}
-use Rattle.ksv_rule_meaning.specs.Fields.{members_of, kind_of, field_of}
-use Rattle.ksv_rule_meaning.specs.Heads.{holder_setting, head_of}
+use Rattle.ksv_rule_meaning.specs.Fields.{members_of, field_of}
 use Rattle.ksv_rule_meaning.specs.Integers.{integer_value}
-use Rattle.ksv_rule_meaning.specs.Values.{in_number, number_in, number_value, of_bits, bits_in, bits_value, fixed_value, cut_by, kept_of, kept, cut_bytes, bytes_value, in_text, cut_text, text_value, content_value, leaf_value, in_no_stream, in_enum, instance_value, arguments_for, argument_at, argument_setting, plain_value, argument_value, parameter_value, calc_value, calculated, value_at, value_of}
-use Rattle.ksv_rule_meaning.specs.Wanted.{expression}
-use Rattle.ksv_rule_meaning.specs.Ends.{end_of, rest_of}
-use Rattle.ksv_rule_meaning.specs.Meaning.{meaning_of}
-use Rattle.ksv_rule_meaning.specs.FromNothing.{answer_within, from_nothing}
-use Rattle.ksv_rule_laws.specs.Laws.{IsNoStream, HasForm, AnswersHaveForms, Reads, IsFieldOf, IsReadBy, IsContentOf, IsAsWide, IsLeafOf, IsRead, IsOfLeaf, IsOfHead, ValuesHaveHeads}
-use Rattle.ksv_rule_laws.proofs.Answering.{ok_is, goes_on, asked_head, peeked, passed, put_in, meaning_is, ruled, no_depth, stays_within, among_more}
-use Rattle.ksv_rule_laws.proofs.Sources.{field_found, head_is_read}
+use Rattle.ksv_rule_meaning.specs.Values.{in_number, number_in, number_value, of_bits, bits_in, bits_value, fixed_value, cut_by, kept_of, kept, cut_bytes, bytes_value, in_text, cut_text, text_value, content_value, leaf_value, value_at}
+use Rattle.ksv_rule_meaning.specs.FromNothing.{from_nothing}
+use Rattle.ksv_rule_laws.specs.Laws.{IsNoStream, HasForm, AnswersHaveForms, Reads, IsFieldOf, IsReadBy, IsContentOf, IsAsWide, IsLeafOf, IsRead, IsOfLeaf, IsOfHead, HasHead, ValuesHaveHeads}
+use Rattle.ksv_rule_laws.proofs.Answering.{ok_is, goes_on, peeked, passed}
+use Rattle.ksv_rule_laws.proofs.Shapes.{IsPlain, IsMadeOf, IsAnswer}
+use Rattle.ksv_rule_laws.proofs.Shaping.{field_found, calc_made, by_shape}
+use Rattle.ksv_rule_laws.proofs.Sources.{heads_are_read}
 
 -- where each asked node has the answer that `met` gives
 module _ (met : Node → Result Given Fault) (here : Trail) (bytes : List ℕ) where
@@ -172,90 +163,23 @@ module _ (met : Node → Result Given Fault) (here : Trail) (bytes : List ℕ) w
 
   -- ---- a calculated value
 
-  module _ (v : Value) where
-    is_no_stream : (w : Value) → IsNoStream w → ◌≡◌ {A = Result Value Fault} (Ok w) (Ok v) → IsNoStream v
-    is_no_stream w so h = subst (λ u. IsNoStream u) (ok_is w v h) so
-
-    plain_is : (w : Value) → answer_of met here bytes (in_no_stream w) ≡ Ok v → IsNoStream v
-    plain_is (values.Stream w) h = absurd (cc)
-    plain_is w h = is_no_stream w tt h
-
-    enum_is : (enum : Option ℕ) (w : Value) → answer_of met here bytes (in_enum enum w) ≡ Ok v → IsNoStream v
-    enum_is None w h = plain_is w h
-    enum_is (Some e) (values.Int n) h = is_no_stream (values.Member e n) tt h
-    enum_is (Some e) w h = absurd (cc)
-
-    instance_is : (at : Setting) (e : Tree) (enum : Option ℕ) → answer_of met here bytes (instance_value at e enum) ≡ Ok v → IsNoStream v
-    unfolding instance_value
-    instance_is at e enum h = let b = goes_on met here bytes (expression at e) (λ w. in_enum enum w) v h in enum_is enum b.first b.gave
-
-    parameter_is : (d : Description) (p q : Trail) (member : ℕ) (o : Holder) (g : Option Origin) → answer_of met here bytes (parameter_value d p q member o g) ≡ Ok v → IsNoStream v
-    unfolding parameter_value argument_value plain_value
-    parameter_is d p q member o None h = absurd (cc)
-    parameter_is d p q member o (Some g) h =
-        let a = goes_on met here bytes (arguments_for d g) _ v h in
-        let e = goes_on met here bytes (argument_at a.first _) _ v a.gave in
-        let b = goes_on met here bytes (expression (argument_setting p q g o.start) e.first) (λ w. in_no_stream w) v e.gave in
-        plain_is b.first b.gave
-
-    calc_is : (d : Description) (p q : Trail) (c : Calc) (k : MemberKind) → answer_of met here bytes (calc_value d p q c k) ≡ Ok v → IsNoStream v
-    unfolding calc_value
-    calc_is d p q c Parameter h = parameter_is d p q c.member c.object c.object.origin h
-    calc_is d p q c (ValueInstance v) h = instance_is (holder_setting p q c.object) v.value v.enum h
-    calc_is d p q c _ h = absurd (cc)
-
-    calculated_is : (d : Description) (p q : Trail) (c : Calc) → answer_of met here bytes (calculated d p q c) ≡ Ok v → IsNoStream v
-    unfolding calculated
-    calculated_is d p q c h = let b = goes_on met here bytes (kind_of d (record { type_number = c.object.type_number; member = c.member })) (λ k. calc_value d p q c k) v h in calc_is d p q c b.first b.gave
+  plain_is : (d : Description) (w v : Value) → IsPlain d met here bytes w v → IsNoStream v
+  plain_is d w v is = elim is [
+    | inl own ↦ subst (λ u. IsNoStream u) own.1 own.0
+    | inr member ↦ subst (λ u. IsNoStream u) member.2 tt
+  ]
 
   -- ---- a value and its head
 
-  -- the value of a path, where its rule answers one
-  pub record IsValue (p : Trail) (v : Value) : Type 0 where
-    pub head : Head
-    pub asked : met (head_node p) ≡ Ok (givens.Head head)
-    pub fits : IsOfHead p head v
-
-  value_fits : (d : Description) (p : Trail) (h : Head) (v : Value) → IsRead d h → answer_of met here bytes (value_at d p h) ≡ Ok v → IsOfHead p h v
+  pub value_fits : (d : Description) (p : Trail) (h : Head) (v : Value) → IsRead d h → answer_of met here bytes (value_at d p h) ≡ Ok v → IsOfHead p h v
   unfolding value_at
   value_fits d p (heads.Absent at) v read e = absurd (cc)
-  value_fits d p (heads.Calc c) v read e = calculated_is v d p (parent p) c e
+  value_fits d p (heads.Calc c) v read e = let is = calc_made met here bytes d p c v e in plain_is d is.first v is.plain
   value_fits d p (heads.Leaf l) v read e = leaf_fits l v d read e
   value_fits d p (heads.Object o) v read e = sym (ok_is (values.Object p) v e)
   value_fits d p (heads.List g) v read e = sym (ok_is (values.List p) v e)
 
-  -- a value is made of the head at its path, and then checked
-  pub record IsMadeOf (d : Description) (p : Trail) (v : Value) : Type 0 where
-    pub head : Head
-    pub was : answer_of met here bytes (ask_head p) ≡ Ok head
-    pub made : answer_of met here bytes (value_at d p head) ≡ Ok v
-    pub checked : answer_of met here bytes (value_checked d p head v) ≡ Ok tt
-
-  pub made_of : (d : Description) (p : Trail) (v : Value) → answer_of met here bytes (value_of d p) ≡ Ok v → IsMadeOf d p v
-  unfolding value_of
-  made_of d p v h =
-      let a = goes_on met here bytes (ask_head p) _ v h in
-      let b = goes_on met here bytes (value_at d p a.first) _ v a.gave in
-      let c = goes_on met here bytes (value_checked d p a.first b.first) (λ u. Answer b.first) v b.gave in
-      let same : b.first ≡ v = ok_is b.first v c.gave in
-      record {
-        head = a.first;
-        was = a.was;
-        made = subst (λ (w : Value). answer_of met here bytes (value_at d p a.first) ≡ Ok w) same b.was;
-        checked = subst (λ (w : Value). answer_of met here bytes (value_checked d p a.first w) ≡ Ok tt) same c.was;
-      }
-
-  -- each head that was asked for is read by a member of the description
-  abbrev pub AreRead : Description → Type 0
-  AreRead d = (p : Trail) (h : Head) → met (head_node p) ≡ Ok (givens.Head h) → IsRead d h
-
-  pub value_is : (d : Description) → AreRead d → (p : Trail) (v : Value) → answer_of met here bytes (value_of d p) ≡ Ok v → IsValue p v
-  value_is d read p v h =
-      let m = made_of d p v h in
-      let asked = asked_head met here bytes p m.head m.was in
-      record { head = m.head; asked = asked; fits = value_fits d p m.head v (read p m.head asked) m.made }
-
-  no_stream : (p : Trail) (h : Head) (v : Value) → IsOfHead p h v → IsNoStream v
+  pub no_stream : (p : Trail) (h : Head) (v : Value) → IsOfHead p h v → IsNoStream v
   no_stream p h (values.Stream w) fits = by_head h fits
     where
       by_head : (h' : Head) → IsOfHead p h' (values.Stream w) → ⊥
@@ -266,48 +190,22 @@ module _ (met : Node → Result Given Fault) (here : Trail) (bytes : List ℕ) w
       by_head (heads.List g) f = cc
   no_stream p h _ fits = tt
 
-  -- ---- forms
-
-  meaning_form : (d : Description) → AreRead d → (k : NodeKind) (p : Trail) (g : Given) → answer_of met here bytes (meaning_of d k p) ≡ Ok g → HasForm k g
-  unfolding meaning_of
-  meaning_form d read nodes.Head p g h = put_in met here bytes (head_of d p) (λ x. givens.Head x) (HasForm nodes.Head) g (λ x e. tt) h
-  meaning_form d read nodes.Value p g h = put_in met here bytes (value_of d p) (λ x. givens.Value x) (HasForm nodes.Value) g (λ x e. let i = value_is d read p x e in no_stream p i.head x i.fits) h
-  meaning_form d read nodes.End p g h = put_in met here bytes (end_of d p) (λ x. givens.End x.place x.last) (HasForm nodes.End) g (λ x e. tt) h
-  meaning_form d read nodes.Rest p g h = put_in met here bytes (rest_of d p) (λ x. givens.Rest x.count x.place) (HasForm nodes.Rest) g (λ x e. tt) h
-
 -- ---- evaluation from nothing
 
-module _ (d : Description) (bytes : List ℕ) where
-  forms_within : (depth : ℕ) (opened : List Node) (n : Node) (g : Given) → answer_within d bytes depth opened n ≡ Ok g → HasForm n.kind g
-  forms_within zero opened n g h = absurd (no_depth d bytes opened n g h)
-  forms_within (suc depth) opened n g h =
-      let met = answer_within d bytes depth (n ∷ opened) in
-      meaning_form met n.path bytes d (λ p h' e. head_is_read d bytes depth (n ∷ opened) p h' e) n.kind n.path g (meaning_is met n.path bytes d n g (ruled d bytes depth opened n g h).1)
+module _ (d : Description) (bytes : List ℕ) (opened : List Node) where
+  -- the head of a value
+  value_is : (p : Trail) (v : Value) → IsMadeOf d (from_nothing d bytes opened) p bytes v → HasHead d bytes opened p v
+  value_is p v m = record { head = m.head; answered = m.asked; fits = value_fits (from_nothing d bytes opened) p bytes d p m.head v (heads_are_read d bytes opened p m.head m.asked) m.made }
+
+  form_is : (k : NodeKind) (p : Trail) (g : Given) → IsAnswer d (from_nothing d bytes opened) p bytes k g → HasForm k g
+  form_is nodes.Head p (givens.Head h) is = tt
+  form_is nodes.Value p (givens.Value v) is = let i = value_is p v is in no_stream (from_nothing d bytes opened) p bytes p i.head v i.fits
+  form_is nodes.End p (givens.End place is_last) is = tt
+  form_is nodes.Rest p (givens.Rest count place) is = tt
+  form_is _ p _ is = absurd is
 
 pub answers_have_forms : AnswersHaveForms
-unfolding from_nothing
-answers_have_forms d bytes opened n g h = forms_within d bytes node_bound opened n g h
-
--- ---- the head of a value
-
-module _ (d : Description) (bytes : List ℕ) where
-  heads_within : (depth : ℕ) (opened : List Node) (p : Trail) (v : Value) → answer_within d bytes depth opened (value_node p) ≡ Ok (givens.Value v)
-      → (h : Head) × (answer_within d bytes depth opened (head_node p) ≡ Ok (givens.Head h)) × IsOfHead p h v
-  unfolding meaning_of
-  heads_within zero opened p v h = absurd (no_depth d bytes opened (value_node p) (givens.Value v) h)
-  heads_within (suc depth) opened p v h =
-      let met = answer_within d bytes depth (value_node p ∷ opened) in
-      let r = ruled d bytes depth opened (value_node p) (givens.Value v) h in
-      let b = goes_on met p bytes (value_of d p) (λ x. Answer (givens.Value x)) (givens.Value v) (meaning_is met p bytes d (value_node p) (givens.Value v) r.1) in
-      let i = value_is met p bytes d (λ q h' e. head_is_read d bytes depth (value_node p ∷ opened) q h' e) p b.first b.was in
-      let same : b.first ≡ v = value_of_given b.first v (ok_is _ _ b.gave) in
-      (i.head, stays_within d bytes depth (suc depth) (value_node p ∷ opened) opened (head_node p) (givens.Head i.head) (omega arith) (among_more (value_node p) opened) i.asked, subst (IsOfHead p i.head) same i.fits)
-    where
-      value_of_given : (x y : Value) → givens.Value x ≡ givens.Value y → x ≡ y
-      value_of_given x y e = cc
+answers_have_forms d bytes opened n g h = form_is d bytes opened n.kind n.path g (by_shape d bytes opened n g h)
 
 pub values_have_heads : ValuesHaveHeads
-unfolding from_nothing
-values_have_heads d bytes opened p v h =
-    let i = heads_within d bytes node_bound opened p v h in
-    record { head = i.0; answered = i.1; fits = i.2 }
+values_have_heads d bytes opened p v h = value_is d bytes opened p v (by_shape d bytes opened (value_node p) (givens.Value v) h)

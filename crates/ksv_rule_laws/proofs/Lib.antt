@@ -2,6 +2,9 @@
 pub mod Meeting
 pub mod Starts
 pub mod Answering
+pub mod Cases
+pub mod Shapes
+pub mod Shaping
 pub mod Sources
 pub mod Forms
 pub mod Checking

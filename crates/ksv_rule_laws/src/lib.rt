@@ -14,7 +14,8 @@
 //!
 //! Lemmas (`proofs/`):
 //!
-//! - `Answering`: what a rule that answers went through, and what it answers with fewer nodes open
+//! - `Answering`: what a rule that answers went through, what it answers with fewer nodes open, and what is so of all answers
+//! - `Cases`: the case that a switch chose is one of its cases
 //! - `Checking`: a value that is answered meets what it must
 //! - `Circles`: a circle comes from nodes that ask for each other, and from no rule
 //! - `Counting`: the count of a list is that of the elements that end
@@ -25,6 +26,8 @@
 //! - `OwnFaults`: no expression fails as a circle
 //! - `Places`: each place in an answer is in the file
 //! - `Ranges`: places in the value of an expression are in the file
+//! - `Shapes`: what an answered head, value, end and rest is
+//! - `Shaping`: what rules answer has a shape, a lemma a rule
 //! - `Sources`: what is at a path is read by a member of the description
 //! - `Starts`: places, and the bytes beside them
 //! - `Touching`: an element begins where the one before it ends
