@@ -7,7 +7,7 @@ use Rattle.ksv_expr_tree.specs.Tree.{Tree}
 use Rattle.ksv_expr_value.specs.Places.{Place, at_byte, byte_of, further}
 use Rattle.ksv_expr_value.proofs.Places.{of_aligned}
 use Rattle.ksv_rule_laws.proofs.Starts.{of_start, at_most, at_least}
-use Rattle.ksv_expr_value.specs.Trail.{Trail, child, parent, last, first_step, all_but_last, same_trail, trail_of-steps}
+use Rattle.ksv_expr_value.specs.Trail.{Trail, parent, last}
 use Rattle.ksv_expr_value.specs.declared.fault.Fault.{Fault}
 use Rattle.ksv_expr_value.specs.declared.step.Step.{Step}
 use Rattle.ksv_expr_value.specs.declared.step.Step.TheVariants as steps
@@ -37,7 +37,7 @@ use Rattle.ksv_rule_meaning.specs.FromNothing.{from_nothing}
 use Rattle.ksv_rule_laws.specs.Laws.{IsBetween, LiesIn, IsStreamFor, IsReadIn, IsHeld, AreNamesDistinct, HasDistinctNames, HeadsLieInStreams, EndsLieInStreams, IsUnmet, IsUnmetAt, IsLeftOut, EndsAt}
 use Rattle.ksv_rule_laws.proofs.Answering.{ok_is, goes_on, same_answer}
 use Rattle.ksv_rule_laws.proofs.Shapes.{IsHeadAt, IsStart, IsOut, IsMember, IsMemberOf, IsElementOf, IsHead, IsFieldsEnd, IsObjectEnd, RestsAt, IsEnd, IsEndOf, IsRest, IsAnswer}
-use Rattle.ksv_rule_laws.proofs.Shaping.{by_shapes}
+use Rattle.ksv_rule_laws.proofs.Shaping.{part_of, by_shapes}
 
 -- ---- streams
 
@@ -224,12 +224,6 @@ module _ (d : Description) (distinct : HasDistinctNames d) (bytes : List ℕ) (m
 
   -- ---- what is asked
 
-  -- a path that is a part of another
-  part_of : (q r : Trail) (step : Step) → child q step ≡ Some r → (parent r ≡ q) × (last r ≡ Some step)
-  part_of q r step e =
-      let up : step ∷ q.upward ≡ r.upward = trail_of-steps (step ∷ q.upward) r e in
-      (same_trail (parent r) q (ap all_but_last (sym up)), ap first_step (sym up))
-
   -- what holds a part that isn't read in another stream is known where its head was asked
   held_at : (P : Stream → Type 0) (r q : Trail) (step : Step) (k : Head) (w : Stream) → (parent r ≡ q) × (last r ≡ Some step) → (IsElsewhere d k (Some step) → ⊥) → all (head_node q) ≡ Ok (givens.Head k) → IsStreamOf k w → IsHeld d bytes all r P → P w
   held_at P r q step k w up apart asked own held =
@@ -368,8 +362,8 @@ module _ (d : Description) (distinct : HasDistinctNames d) (bytes : List ℕ) (m
       let r = is.1 in
       held_at (λ v. Between v (byte_of e)) r.path here (steps.Index 0) (heads.List g) w (part_of here r.path (steps.Index 0) r.is) (λ x. x) asked within.1 (lies (rest_node r.path) (givens.Rest is.0 e) r.rested)
 
-  end_of_in : (e : Place) → IsEndOf d met here bytes e → EndLies d bytes all here (last here) e
-  end_of_in e is = by_step (last here) (lies (head_node here) (givens.Head is.head) is.asked)
+  end_of_in : (e : Place) (so : Bool) → IsEndOf d met here bytes e so → EndLies d bytes all here (last here) e
+  end_of_in e so is = by_step (last here) (lies (head_node here) (givens.Head is.head) is.asked)
     where
       by_step : (o : Option Step) → HeadLies d bytes all here o is.head → EndLies d bytes all here o e
       by_step None held = tt
@@ -409,7 +403,7 @@ module _ (d : Description) (distinct : HasDistinctNames d) (bytes : List ℕ) (m
 
   answer_in : (k : NodeKind) (g : Given) → IsAnswer d met here bytes k g → Lies d bytes all k here g
   answer_in nodes.Head (givens.Head h) is = head_in (last here) h refl is
-  answer_in nodes.End (givens.End place is_last) is = end_of_in place is
+  answer_in nodes.End (givens.End place is_last) is = end_of_in place is_last is
   answer_in nodes.Rest (givens.Rest count place) is = rest_in (last here) count place refl is
   answer_in nodes.Value (givens.Value v) is = tt
   answer_in _ _ is = absurd is

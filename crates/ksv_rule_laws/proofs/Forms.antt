@@ -54,7 +54,7 @@ module _ (met : Node → Result Given Fault) (here : Trail) (bytes : List ℕ) w
     same_reads Parameter f g a b = absurd a
     same_reads (ValueInstance x) f g a b = absurd a
 
-    same_field : (r : MemberRef) (f g : Field) → IsFieldOf d r f → IsFieldOf d r g → f ≡ g
+    pub same_field : (r : MemberRef) (f g : Field) → IsFieldOf d r f → IsFieldOf d r g → f ≡ g
     same_field r f g a b =
         let same : a.0 ≡ b.0 = member_same (slice_get (members_of d r.type_number) r.member) a.0 b.0 a.1 b.1 in
         same_reads b.0.kind f g (subst (λ (m : MemberOfType). Reads m.kind f) same a.2) b.2

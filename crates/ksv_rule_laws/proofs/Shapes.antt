@@ -1,6 +1,6 @@
 -- What an answered head, value, end and rest is: where it comes from, where it begins and ends, and what was asked for it. These are the
 -- shapes of answers. Shaping has the lemmas that rules answer so, one a rule; laws are cases over shapes.
-use Rattle.std.specs.Prelude.{◌≡◌, ℕ, ◌+◌, ◌≤◌, ◌⊎◌, ℤ, true, false, List, Option, Some, None, Result, Ok}
+use Rattle.std.specs.Prelude.{◌≡◌, ℕ, ◌+◌, ◌≤◌, ◌⊎◌, ℤ, true, false, Bool, true, false, List, Option, Some, None, Result, Ok}
 use Rattle.ksv_expr_tree.specs.Tree.{Tree}
 use Rattle.ksv_expr_value.specs.Places.{Place, at_byte, byte_of, aligned}
 use Rattle.ksv_expr_value.specs.Setting.{Setting, NoElement}
@@ -32,6 +32,7 @@ use Rattle.ksv_nodes.specs.Truth.{answer_of}
 use Rattle.ksv_rule_meaning.specs.Checks.{value_checked}
 use Rattle.ksv_rule_meaning.specs.Wanted.{expression, holds, stream_for}
 use Rattle.ksv_rule_meaning.specs.Fields.{members_of, Sought, sought, last_attribute}
+use Rattle.ksv_rule_meaning.specs.Ends.{is_last}
 use Rattle.ksv_rule_meaning.specs.Heads.{start_after, origin_of, instance_setting, calc, root_head}
 use Rattle.ksv_rule_meaning.specs.Values.{value_at}
 use Rattle.ksv_rule_laws.specs.Laws.{IsNoStream, IsFieldOf, IsLeafOf, IsObjectOf, IsCountedBy, EndsAt, IsEmptyList}
@@ -188,10 +189,23 @@ module _ (d : Description) (met : Node → Result Given Fault) (here : Trail) (b
   IsEnd (heads.Object o) e = IsObjectEnd o o.ending e
   IsEnd (heads.List g) e = (count : ℕ) × RestsAt met here (steps.Index 0) count e
 
-  pub record IsEndOf (e : Place) : Type 0 where
+  -- an element is the last one where the `repeat` of its list says so
+  pub record IsLastOf (i : ℕ) (e : Place) (so : Bool) : Type 0 where
+    pub list : lists.List
+    pub asked : met (head_node (parent here)) ≡ Ok (givens.Head (heads.List list))
+    pub field : Field
+    pub read : IsFieldOf d list.origin.member field
+    pub says : answer_of met here bytes (is_last (parent (parent here)) list here i e field.repeat) ≡ Ok so
+
+  abbrev pub IsLast : Option Step → Place → Bool → Type 0
+  IsLast (Some (steps.Index i)) e so = IsLastOf i e so
+  IsLast _ e so = false ≡ so
+
+  pub record IsEndOf (e : Place) (so : Bool) : Type 0 where
     pub head : Head
     pub asked : met (head_node here) ≡ Ok (givens.Head head)
     pub is : IsEnd head e
+    pub last : IsLast (last here) e so
 
   -- ---- rests
 
@@ -210,6 +224,6 @@ module _ (d : Description) (met : Node → Result Given Fault) (here : Trail) (b
   abbrev pub IsAnswer : NodeKind → Given → Type 0
   IsAnswer nodes.Head (givens.Head h) = IsHead (last here) h
   IsAnswer nodes.Value (givens.Value v) = IsMadeOf v
-  IsAnswer nodes.End (givens.End place is_last) = IsEndOf place
+  IsAnswer nodes.End (givens.End place so) = IsEndOf place so
   IsAnswer nodes.Rest (givens.Rest count place) = IsRest (last here) count place
   IsAnswer _ _ = ⊥

@@ -1,5 +1,5 @@
 -- What rules answer has a shape: one lemma a rule.
-use Rattle.std.proofs.Common.{◌≡◌, ◌∙◌, ℕ, ◌+◌, ◌-◌, ◌==◌, ◌≤◌, ◌<◌, Bool, true, false, if◌then◌else◌, ◌||◌, List, length, drop, slice_get, Option, Some, None, Result, Ok, refl, sym, ap, subst, arith, inl, inr}
+use Rattle.std.proofs.Common.{◌≡◌, ◌∙◌, ℕ, ◌+◌, ◌-◌, ◌==◌, ◌≤◌, ◌<◌, Bool, true, false, if◌then◌else◌, ◌||◌, List, ◌∷◌, length, drop, slice_get, Option, Some, None, Result, Ok, refl, sym, ap, subst, arith, inl, inr}
 use Rattle.std.specs.Prelude.{slice_range, ◌⊎◌}
 use Rattle.std.proofs.lemmas.List.{length-take}
 use Rattle.std.proofs.lemmas.Bool.Decides.{nat_tests}
@@ -9,7 +9,7 @@ use Rattle.ksv_expr_tree.specs.Tree.{Tree}
 use Rattle.ksv_expr_value.specs.Places.{Place, at_byte, byte_of, aligned, further}
 use Rattle.ksv_expr_value.proofs.Places.{of_further}
 use Rattle.ksv_expr_value.specs.Setting.{Setting}
-use Rattle.ksv_expr_value.specs.Trail.{Trail, child, parent, last}
+use Rattle.ksv_expr_value.specs.Trail.{Trail, child, parent, last, first_step, all_but_last, same_trail, trail_of-steps}
 use Rattle.ksv_expr_value.specs.declared.fault.Fault.{Fault}
 use Rattle.ksv_expr_value.specs.declared.fault.FaultKind.TheVariants as kinds
 use Rattle.ksv_expr_value.specs.declared.step.Step.{Step}
@@ -56,7 +56,7 @@ use Rattle.ksv_rule_laws.specs.Laws.{Reads, IsFieldOf, IsContentOf, IsLeafOf, Is
 use Rattle.ksv_rule_laws.proofs.Answering.{ok_is, goes_on, asked_head, asked_end, asked_rest, part_is, refused, put_in, by_rule, by_rules}
 use Rattle.ksv_rule_laws.proofs.Cases.{IsChosen, choice_is}
 use Rattle.ksv_rule_laws.proofs.Starts.{at_most, at_least}
-use Rattle.ksv_rule_laws.proofs.Shapes.{IsBehind, IsHeadAt, IsStart, IsOut, IsPlaced, IsMember, IsMemberOf, EndsBefore, IsElementOf, IsHead, IsPlain, IsCalculatedIn, IsMadeOf, IsFieldsEnd, IsObjectEnd, RestsAt, IsEnd, IsEndOf, IsRestFrom, IsRest, IsAnswer}
+use Rattle.ksv_rule_laws.proofs.Shapes.{IsBehind, IsHeadAt, IsStart, IsOut, IsPlaced, IsMember, IsMemberOf, EndsBefore, IsElementOf, IsHead, IsPlain, IsCalculatedIn, IsMadeOf, IsFieldsEnd, IsObjectEnd, RestsAt, IsEnd, IsLast, IsEndOf, IsRestFrom, IsRest, IsAnswer}
 
 module _ (met : Node → Result Given Fault) (here : Trail) (bytes : List ℕ) where
   abbrev answer : {A : Type 0} → Rule A → Result A Fault
@@ -497,30 +497,46 @@ module _ (met : Node → Result Given Fault) (here : Trail) (bytes : List ℕ) w
         let r = part_rests here (steps.Index 0) b.first b.was in
         (b.first.count, record { path = r.path; is = r.is; rested = r.rested ∙ ap (λ n. Ok (givens.Rest b.first.count n)) (ok_is b.first.place e b.gave) })
 
-    -- an element's end is its place, the last or not
-    place_was : (e : Place) (b : Bool) (x : Ended) → ◌≡◌ {A = Result Ended Fault} (Ok (record { place = e; last = b })) (Ok x) → e ≡ x.place
-    place_was e b x z = ap (λ (y : Ended). y.place) (ok_is (record { place = e; last = b }) x z)
+    -- the end of an element is its place, and it is the last or not
+    place_was : (e : Place) (b : Bool) (x : Ended) → ◌≡◌ {A = Result Ended Fault} (Ok (record { place = e; last = b })) (Ok x) → (e ≡ x.place) × (b ≡ x.last)
+    place_was e b x z =
+        let one = ok_is (record { place = e; last = b }) x z in
+        (ap (λ (y : Ended). y.place) one, ap (λ (y : Ended). y.last) one)
 
-    end_at_is : (step : Option Step) (h : Head) (e : Place) (x : Ended) → answer (end_at d here step h e) ≡ Ok x → e ≡ x.place
+    last_was : (r : Result Bool Fault) (b c : Bool) → r ≡ Ok b → b ≡ c → r ≡ Ok c
+    last_was r b c was one = was ∙ ap (λ y. Ok y) one
+
+    end_at_is : (step : Option Step) (h : Head) (e : Place) (x : Ended) → answer (end_at d here step h e) ≡ Ok x → (e ≡ x.place) × IsLast d met here bytes step e x.last
     unfolding element_end
     end_at_is (Some (steps.Index i)) h e x z =
         let k = goes_on met here bytes (ask_head (parent here)) _ x z in
         let g = goes_on met here bytes (in_list (parent here) k.first) _ x k.gave in
         let f = goes_on met here bytes (field_of d g.first.origin.member) _ x g.gave in
         let u = goes_on met here bytes (not_empty f.first.repeat _ e) _ x f.gave in
-        let b = goes_on met here bytes (is_last _ g.first here i e f.first.repeat) _ x u.gave in
-        place_was e b.first x b.gave
+        let b = goes_on met here bytes (is_last (parent (parent here)) g.first here i e f.first.repeat) _ x u.gave in
+        let was = place_was e b.first x b.gave in (
+          was.0,
+          record {
+            list = g.first;
+            asked = list_asked (parent here) k.first g.first (asked_head met here bytes (parent here) k.first k.was) g.was;
+            field = f.first;
+            read = field_found d g.first.origin.member f.first f.was;
+            says = last_was _ b.first x.last b.was was.1;
+          },
+        )
     end_at_is _ h e x z = place_was e false x z
 
-    end_is : (x : Ended) → answer (end_of d here) ≡ Ok x → IsEndOf d met here bytes x.place
+    end_is : (x : Ended) → answer (end_of d here) ≡ Ok x → IsEndOf d met here bytes x.place x.last
     unfolding end_of
     end_is x z =
         let h = goes_on met here bytes (ask_head here) _ x z in
         let e = goes_on met here bytes (place_of d here h.first) _ x h.gave in
+        let was = end_at_is (last here) h.first e.first x e.gave in
         record {
           head = h.first;
           asked = asked_head met here bytes here h.first h.was;
-          is = subst (IsEnd d met here bytes h.first) (end_at_is (last here) h.first e.first x e.gave) (place_is h.first e.first e.was);
+          is = subst (IsEnd d met here bytes h.first) was.0 (place_is h.first e.first e.was);
+          last = subst (λ n. IsLast d met here bytes (last here) n x.last) was.0 was.1;
         }
 
     -- ---- rests
@@ -567,6 +583,12 @@ module _ (met : Node → Result Given Fault) (here : Trail) (bytes : List ℕ) w
     answer_is nodes.Value g e = put_in met here bytes (value_of d here) (λ x. givens.Value x) (IsAnswer d met here bytes nodes.Value) g (λ x e'. made_is x e') e
     answer_is nodes.End g e = put_in met here bytes (end_of d here) (λ x. givens.End x.place x.last) (IsAnswer d met here bytes nodes.End) g (λ x e'. end_is x e') e
     answer_is nodes.Rest g e = put_in met here bytes (rest_of d here) (λ x. givens.Rest x.count x.place) (IsAnswer d met here bytes nodes.Rest) g (λ x e'. rest_is (last here) x e') e
+
+-- a part's last step, and what it is a part of
+pub part_of : (q r : Trail) (step : Step) → child q step ≡ Some r → (parent r ≡ q) × (last r ≡ Some step)
+part_of q r step e =
+    let up : step ∷ q.upward ≡ r.upward = trail_of-steps (step ∷ q.upward) r e in
+    (same_trail (parent r) q (ap all_but_last (sym up)), ap first_step (sym up))
 
 -- ---- evaluation from nothing
 
