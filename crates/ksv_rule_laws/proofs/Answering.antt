@@ -1,24 +1,19 @@
 -- What a rule that answers went through: each of its parts answered. With fewer nodes open, a node answers the same.
-use Rattle.std.proofs.Common.{◌≡◌, ◌∙◌, ℕ, zero, suc, ◌+◌, ◌≤◌, Bool, true, false, cond, if◌then◌else◌, ◌||◌, List, ◌∷◌, length, Option, Some, None, Result, Ok, Err, refl, sym, ap, subst, arith}
+use Rattle.std.proofs.Common.{◌≡◌, ◌∙◌, ℕ, zero, suc, ◌≤◌, Bool, true, false, cond, ◌||◌, List, ◌∷◌, Option, Some, None, Result, Ok, Err, refl, sym, ap, arith}
 use Rattle.std.specs.Prelude.{nat_eq}
-use Rattle.std.proofs.lemmas.Bool.Decides.{nat_tests}
-use Rattle.std.proofs.lemmas.Grind.{common_steps}
 use Rattle.ksv_basics.specs.Plan.{Answer, Fail, Ask, bind}
 use Rattle.ksv_basics.specs.Asking.{and_then}
 use Rattle.ksv_expr_value.specs.Trail.{Trail}
 use Rattle.ksv_expr_value.specs.declared.fault.Fault.{Fault}
-use Rattle.ksv_expr_value.specs.declared.fault.FaultKind.{FaultKind}
 use Rattle.ksv_desc.specs.Description.{Description}
 use Rattle.ksv_memo_rules.specs.Evaluation.{is_among}
 use Rattle.ksv_nodes.specs.declared.node.Node.{Node}
 use Rattle.ksv_nodes.specs.declared.given.Given.{Given}
 use Rattle.ksv_nodes.specs.declared.given.Given.TheVariants as givens
 use Rattle.ksv_nodes.specs.declared.given.Head.{Head}
-use Rattle.ksv_nodes.specs.declared.given.Ended.{Ended}
-use Rattle.ksv_nodes.specs.declared.given.Rested.{Rested}
 use Rattle.ksv_nodes.specs.Numbers.{node_number, node_bound}
-use Rattle.ksv_nodes.specs.Reading.{Seen, look, peek_at}
-use Rattle.ksv_nodes.specs.Rule.{Rule, Of, See, raise, in_path, in_head, in_end, in_rest, ask_head, ask_end, ask_rest, head_node, end_node, rest_node, peek}
+use Rattle.ksv_nodes.specs.Reading.{Seen, look}
+use Rattle.ksv_nodes.specs.Rule.{Rule, Of, See, in_head, ask_head, head_node}
 use Rattle.ksv_nodes.specs.Truth.{answer_of, with_given, with_seen}
 use Rattle.ksv_rule_meaning.specs.Meaning.{meaning_of, rule_of}
 use Rattle.ksv_rule_meaning.specs.FromNothing.{circle, answer_within, from_nothing}
@@ -54,48 +49,6 @@ module _ (met : Node → Result Given Fault) (here : Trail) (bytes : List ℕ) w
       by_given (Ok (givens.Head h')) is e' = is ∙ ap (λ (x : Head). Ok (givens.Head x)) (ok_is h' h e')
       by_given (Ok _) is e' = absurd (cc)
       by_given (Err f) is e' = absurd (cc)
-
-  -- the end and the rest that were asked for, and the path of a part
-  pub asked_end : (p : Trail) (x : Ended) → answer_of met here bytes (ask_end p) ≡ Ok x → met (end_node p) ≡ Ok (givens.End x.place x.last)
-  asked_end p x e = by_given (met (end_node p)) refl e
-    where
-      by_given : (r : Result Given Fault) → met (end_node p) ≡ r → with_given r (λ g. answer_of met here bytes (in_end g)) ≡ Ok x → met (end_node p) ≡ Ok (givens.End x.place x.last)
-      by_given (Ok (givens.End place last)) is e' = is ∙ ap (λ (y : Ended). Ok (givens.End y.place y.last)) (ok_is (record { place = place; last = last }) x e')
-      by_given (Ok _) is e' = absurd (cc)
-      by_given (Err f) is e' = absurd (cc)
-
-  pub asked_rest : (p : Trail) (x : Rested) → answer_of met here bytes (ask_rest p) ≡ Ok x → met (rest_node p) ≡ Ok (givens.Rest x.count x.place)
-  asked_rest p x e = by_given (met (rest_node p)) refl e
-    where
-      by_given : (r : Result Given Fault) → met (rest_node p) ≡ r → with_given r (λ g. answer_of met here bytes (in_rest g)) ≡ Ok x → met (rest_node p) ≡ Ok (givens.Rest x.count x.place)
-      by_given (Ok (givens.Rest count place)) is e' = is ∙ ap (λ (y : Rested). Ok (givens.Rest y.count y.place)) (ok_is (record { count = count; place = place }) x e')
-      by_given (Ok _) is e' = absurd (cc)
-      by_given (Err f) is e' = absurd (cc)
-
-  pub part_is : (o : Option Trail) (q : Trail) → answer_of met here bytes (in_path o) ≡ Ok q → o ≡ Some q
-  part_is None q e = absurd (cc)
-  part_is (Some p) q e = ap Some (ok_is p q e)
-
-  -- how many bytes were read of a range
-  pub peeked : (from to : ℕ) (bs : List ℕ) → answer_of met here bytes (peek from to) ≡ Ok bs → from + length bs ≡ to
-  unfolding peek_at
-  peeked from to bs h = grind (arith, nat_tests, common_steps)
-
-  -- where a test failed there is no answer
-  pub passed : {A : Type 0} (b : Bool) (p : Rule A) (k : FaultKind) (a : A) → answer_of met here bytes (if b then p else raise k) ≡ Ok a → answer_of met here bytes p ≡ Ok a
-  passed true p k a h = h
-  passed false p k a h = absurd (cc)
-
-  -- where a test that held refuses, it did not hold
-  pub refused : {A : Type 0} (b : Bool) (p : Rule A) (k : FaultKind) (a : A) → answer_of met here bytes (if b then raise k else p) ≡ Ok a → answer_of met here bytes p ≡ Ok a
-  refused true p k a h = absurd (cc)
-  refused false p k a h = h
-
-  -- what a rule answered, put in a form
-  pub put_in : {A : Type 0} (p : Rule A) (put : A → Given) (P : Given → Type 0) (g : Given) → ((a : A) → answer_of met here bytes p ≡ Ok a → P (put a)) → answer_of met here bytes (bind p (λ a. Answer (put a))) ≡ Ok g → P g
-  put_in p put P g each h =
-      let b = goes_on p (λ a. Answer (put a)) g h in
-      subst P (ok_is (put b.first) g b.gave) (each b.first b.was)
 
   -- the rule of a node is the meaning of its kind
   pub meaning_is : (d : Description) (n : Node) (g : Given) → answer_of met here bytes (rule_of d n) ≡ Ok g → answer_of met here bytes (meaning_of d n.kind n.path) ≡ Ok g

@@ -22,7 +22,7 @@ use Rattle.ksv_rule_meaning.specs.Ends.{is_counted, is_last}
 use Rattle.ksv_rule_meaning.specs.FromNothing.{from_nothing}
 use Rattle.ksv_rule_laws.specs.Laws.{EndsAsOf, AreElements, IsEmptyList, RestsCount, IsFieldOf, IsCountedBy, ToldCounts}
 use Rattle.ksv_rule_laws.proofs.Answering.{ok_is}
-use Rattle.ksv_rule_laws.proofs.Forms.{same_field}
+use Rattle.ksv_rule_laws.proofs.Values.{same_field}
 use Rattle.ksv_rule_laws.proofs.Shapes.{IsLastOf, IsLast, IsRest, IsAnswer}
 use Rattle.ksv_rule_laws.proofs.Shaping.{part_of, by_shape, by_shapes}
 use Rattle.ksv_rule_laws.proofs.Sources.{heads_are_read}
@@ -126,7 +126,7 @@ told : (d : Description) (bytes : List ℕ) (met : Node → Result Given Fault) 
 unfolding is_last
 told d bytes met p i n place so g f c l holder own repeat count =
     let list : l.list ≡ g = list_of_given l.list g (sym l.asked ∙ holder) in
-    let field : l.field ≡ f = same_field met p bytes d g.origin.member l.field f (subst (λ (y : lists.List). IsFieldOf d y.origin.member l.field) list l.read) own in
+    let field : l.field ≡ f = same_field d g.origin.member l.field f (subst (λ (y : lists.List). IsFieldOf d y.origin.member l.field) list l.read) own in
     let says : is_counted l.list.count i ≡ so = ok_is (is_counted l.list.count i) so (sym (ap (λ r. answer_of met p bytes (is_last (parent (parent p)) l.list p i place r)) (ap (λ (y : Field). y.repeat) field ∙ repeat)) ∙ l.says) in
     sym says ∙ ap (λ o. is_counted o i) (ap (λ (y : lists.List). y.count) list ∙ count)
 

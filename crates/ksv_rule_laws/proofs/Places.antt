@@ -25,18 +25,16 @@ use Rattle.ksv_nodes.specs.declared.given.Head.{Head}
 use Rattle.ksv_nodes.specs.declared.given.Head.TheVariants as heads
 use Rattle.ksv_nodes.specs.Reading.{end_in}
 use Rattle.ksv_nodes.specs.Rule.{head_node, end_node, rest_node}
-use Rattle.ksv_nodes.specs.Truth.{answer_of}
 use Rattle.ksv_rule_meaning.specs.Fields.{members_of, Sought, last_attribute}
 use Rattle.ksv_rule_meaning.specs.Heads.{origin_of, instance_setting}
-use Rattle.ksv_rule_meaning.specs.Values.{value_at}
 use Rattle.ksv_rule_meaning.specs.FromNothing.{from_nothing}
 use Rattle.ksv_rule_laws.specs.Laws.{IsOfLeaf, IsOfHead, IsEndIn, IsPlaceIn, IsStreamIn, IsHomeIn, IsHolderIn, IsHeadIn, IsValueIn, IsIn, PlacesAreInFile, EndsAt}
 use Rattle.ksv_rule_laws.proofs.Starts.{of_start, at_most}
 use Rattle.ksv_rule_laws.proofs.Forms.{value_fits, no_stream}
 use Rattle.ksv_rule_laws.proofs.Sources.{heads_are_read}
 use Rattle.ksv_rule_laws.proofs.Ranges.{IsRanged, IsElementIn, IsKnown, expression_in, stream_in}
-use Rattle.ksv_rule_laws.proofs.Shapes.{IsHeadAt, IsStart, IsMember, IsElementOf, IsHead, IsPlain, IsCalculatedIn, IsMadeOf, IsFieldsEnd, IsObjectEnd, IsEnd, IsRest, IsAnswer}
-use Rattle.ksv_rule_laws.proofs.Shaping.{calc_made, by_shapes}
+use Rattle.ksv_rule_laws.proofs.Shapes.{IsHeadAt, IsStart, IsMember, IsElementOf, IsHead, IsPlain, IsCalculatedIn, IsValueAt, IsMadeOf, IsFieldsEnd, IsObjectEnd, IsEnd, IsRest, IsAnswer}
+use Rattle.ksv_rule_laws.proofs.Shaping.{by_shapes}
 
 -- what the nodes that are asked answer lies in the file
 module _ (d : Description) (bytes : List ℕ) (opened : List Node) (met : Node → Result Given Fault) (same : (m : Node) (g : Given) → met m ≡ Ok g → from_nothing d bytes opened m ≡ Ok g) (lies : (m : Node) (g : Given) → met m ≡ Ok g → IsKnown (length bytes) g) (here : Trail) where
@@ -165,15 +163,15 @@ module _ (d : Description) (bytes : List ℕ) (opened : List Node) (met : Node �
 
   value_in : (v : Value) → IsMadeOf d met here bytes v → IsKnown size (givens.Value v)
   value_in v is =
-      let fits = value_fits met here bytes d here is.head v (heads_are_read d bytes opened here is.head (same _ _ is.asked)) is.made in
-      (by_head is.head (lies _ (givens.Head is.head) is.asked) fits is.made, no_stream met here bytes here is.head v fits)
+      let fits = value_fits d met here bytes is.head v (heads_are_read d bytes opened here is.head (same _ _ is.asked)) is.is in
+      (by_head is.head (lies _ (givens.Head is.head) is.asked) fits is.is, no_stream here is.head v fits)
     where
-      by_head : (h : Head) → IsHeadIn (length bytes) h → IsOfHead here h v → answer_of met here bytes (value_at d here h) ≡ Ok v → IsValueIn (length bytes) v
-      by_head (heads.Absent at) within fits made = absurd fits
-      by_head (heads.Calc c) within fits made = calculated_in c.object v within (calc_made met here bytes d here c v made)
-      by_head (heads.Leaf l) within fits made = leaf_value_in l v within fits
-      by_head (heads.Object o) within fits made = subst (IsValueIn (length bytes)) (sym fits) tt
-      by_head (heads.List g) within fits made = subst (IsValueIn (length bytes)) (sym fits) tt
+      by_head : (h : Head) → IsHeadIn (length bytes) h → IsOfHead here h v → IsValueAt d met here bytes h v → IsValueIn (length bytes) v
+      by_head (heads.Absent at) within fits is' = absurd fits
+      by_head (heads.Calc c) within fits is' = calculated_in c.object v within is'
+      by_head (heads.Leaf l) within fits is' = leaf_value_in l v within fits
+      by_head (heads.Object o) within fits is' = subst (IsValueIn (length bytes)) (sym fits) tt
+      by_head (heads.List g) within fits is' = subst (IsValueIn (length bytes)) (sym fits) tt
 
   -- ---- answers
 

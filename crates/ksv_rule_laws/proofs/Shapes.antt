@@ -29,13 +29,11 @@ use Rattle.ksv_nodes.specs.declared.given.Head.TheVariants as heads
 use Rattle.ksv_nodes.specs.Reading.{end_in}
 use Rattle.ksv_nodes.specs.Rule.{head_node, end_node, rest_node}
 use Rattle.ksv_nodes.specs.Truth.{answer_of}
-use Rattle.ksv_rule_meaning.specs.Checks.{value_checked}
 use Rattle.ksv_rule_meaning.specs.Wanted.{expression, holds, stream_for}
 use Rattle.ksv_rule_meaning.specs.Fields.{members_of, Sought, sought, last_attribute}
 use Rattle.ksv_rule_meaning.specs.Ends.{is_last}
 use Rattle.ksv_rule_meaning.specs.Heads.{start_after, origin_of, instance_setting, calc, root_head}
-use Rattle.ksv_rule_meaning.specs.Values.{value_at}
-use Rattle.ksv_rule_laws.specs.Laws.{IsNoStream, IsFieldOf, IsLeafOf, IsObjectOf, IsCountedBy, EndsAt, IsEmptyList}
+use Rattle.ksv_rule_laws.specs.Laws.{IsReadBy, IsOfLeaf, ValueMeets, IsNoStream, IsFieldOf, IsLeafOf, IsObjectOf, IsCountedBy, EndsAt, IsEmptyList}
 
 -- ---- what is read at a place
 
@@ -163,12 +161,20 @@ module _ (d : Description) (met : Node → Result Given Fault) (here : Trail) (b
     pub element : setting.element ≡ NoElement
     pub plain : IsPlain first v
 
+  -- the value of a head: of a leaf that is read by a member of the description it fits the leaf
+  abbrev pub IsValueAt : Head → Value → Type 0
+  IsValueAt (heads.Absent at) v = ⊥
+  IsValueAt (heads.Calc c) v = IsCalculatedIn c.object v
+  IsValueAt (heads.Leaf l) v = IsReadBy d l.origin.member (IsLeafOf l) → IsOfLeaf l v
+  IsValueAt (heads.Object o) v = v ≡ values.Object here
+  IsValueAt (heads.List g) v = v ≡ values.List here
+
   -- a value is made of the head at its path, and then checked
   pub record IsMadeOf (v : Value) : Type 0 where
     pub head : Head
     pub asked : met (head_node here) ≡ Ok (givens.Head head)
-    pub made : answer_of met here bytes (value_at d here head) ≡ Ok v
-    pub checked : answer_of met here bytes (value_checked d here head v) ≡ Ok tt
+    pub is : IsValueAt head v
+    pub meets : ValueMeets met bytes d here head v
 
   -- ---- ends
 

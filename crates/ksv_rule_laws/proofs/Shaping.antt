@@ -1,22 +1,19 @@
 -- What rules answer has a shape: one lemma a rule.
-use Rattle.std.proofs.Common.{◌≡◌, ◌∙◌, ℕ, ◌+◌, ◌-◌, ◌==◌, ◌≤◌, ◌<◌, Bool, true, false, if◌then◌else◌, ◌||◌, List, ◌∷◌, length, drop, slice_get, Option, Some, None, Result, Ok, refl, sym, ap, subst, arith, inl, inr}
+use Rattle.std.proofs.Common.{◌≡◌, ◌∙◌, ℕ, ◌+◌, ◌-◌, ◌==◌, ◌≤◌, ◌<◌, Bool, true, false, if◌then◌else◌, ◌||◌, List, ◌∷◌, length, drop, Option, Some, None, Result, Ok, refl, sym, ap, subst, arith, inl, inr, nat_lt}
 use Rattle.std.specs.Prelude.{slice_range, ◌⊎◌}
 use Rattle.std.proofs.lemmas.List.{length-take}
 use Rattle.std.proofs.lemmas.Bool.Decides.{nat_tests}
 use Rattle.std.proofs.lemmas.Grind.{common_steps}
-use Rattle.ksv_basics.specs.Plan.{Answer}
-use Rattle.ksv_expr_tree.specs.Tree.{Tree}
-use Rattle.ksv_expr_value.specs.Places.{Place, at_byte, byte_of, aligned, further}
+use Rattle.ksv_basics.specs.Plan.{bind}
+use Rattle.ksv_expr_tree.specs.Tree.{Tree, Arguments}
+use Rattle.ksv_expr_value.specs.Places.{Place, at_byte, byte_of, further, is_same}
 use Rattle.ksv_expr_value.proofs.Places.{of_further}
 use Rattle.ksv_expr_value.specs.Setting.{Setting}
-use Rattle.ksv_expr_value.specs.Trail.{Trail, child, parent, last, first_step, all_but_last, same_trail, trail_of-steps}
+use Rattle.ksv_expr_value.specs.Trail.{element_limit, Trail, child, parent, last, first_step, all_but_last, same_trail, trail_of-steps}
 use Rattle.ksv_expr_value.specs.declared.fault.Fault.{Fault}
-use Rattle.ksv_expr_value.specs.declared.fault.FaultKind.TheVariants as kinds
 use Rattle.ksv_expr_value.specs.declared.step.Step.{Step}
 use Rattle.ksv_expr_value.specs.declared.step.Step.TheVariants as steps
 use Rattle.ksv_expr_value.specs.declared.value.Stream.{Stream}
-use Rattle.ksv_expr_value.specs.declared.value.Value.{Value}
-use Rattle.ksv_expr_value.specs.declared.value.Value.TheVariants as values
 use Rattle.ksv_desc.specs.Description.{Choice, Description, MemberOfType, MemberKind, Parameter, Attribute, ParseInstance, ValueInstance, Field, Content, Extent, Sized, SizeEos, ByItself, Repeat, Once, Eos, Expr, Until, Terminator}
 use Rattle.ksv_desc.specs.Description as contents
 use Rattle.ksv_nodes.specs.declared.node.Node.{Node}
@@ -24,10 +21,7 @@ use Rattle.ksv_nodes.specs.declared.node.NodeKind.{NodeKind}
 use Rattle.ksv_nodes.specs.declared.node.NodeKind.TheVariants as nodes
 use Rattle.ksv_nodes.specs.declared.given.Given.{Given}
 use Rattle.ksv_nodes.specs.declared.given.Given.TheVariants as givens
-use Rattle.ksv_nodes.specs.declared.given.Calc.{Calc}
-use Rattle.ksv_nodes.specs.declared.given.Holder.{Holder}
 use Rattle.ksv_nodes.specs.declared.given.Leaf.{Leaf}
-use Rattle.ksv_nodes.specs.declared.given.MemberRef.{MemberRef}
 use Rattle.ksv_nodes.specs.declared.given.Origin.{Origin}
 use Rattle.ksv_nodes.specs.declared.given.ObjectEnd.{ObjectEnd}
 use Rattle.ksv_nodes.specs.declared.given.ObjectEnd.TheVariants as endings
@@ -41,44 +35,57 @@ use Rattle.ksv_nodes.specs.declared.turn.readings.Found.{Found}
 use Rattle.ksv_nodes.specs.declared.turn.readings.Found.TheVariants as founds
 use Rattle.ksv_nodes.specs.Reading.{reach_file, reach_within, finish_of, peek_at, first_at, end_in, found_none, found_from, find_at}
 use Rattle.ksv_nodes.specs.Rule.{Rule, part, ask_head, ask_end, ask_rest, head_node, end_node, reach, finish, done, find}
-use Rattle.ksv_nodes.specs.Truth.{answer_of, with_seen}
+use Rattle.ksv_nodes.specs.Truth.{answer_of}
 use Rattle.ksv_nodes.proofs.First.{first_at_below}
-use Rattle.ksv_rule_meaning.specs.Checks.{value_checked}
 use Rattle.ksv_rule_meaning.specs.Choosing.{Chosen, choose}
-use Rattle.ksv_rule_meaning.specs.Wanted.{in_object, expression, holds, size_of, stream_for}
-use Rattle.ksv_rule_meaning.specs.Fields.{members_of, Sought, sought, in_sought, member_named, last_attribute, read_by, in_kind, kind_of, field_of}
-use Rattle.ksv_rule_meaning.specs.Heads.{leaf, bits_leaf, leaf_to_end, terminated_at, terminated, run_of, sized_leaf, bytes_at, sized_object, object_at, content_at, unchosen_at, chosen_at, shape_at, count_of, counted, until_eos, repeated, attribute_at, part_end, start_after, attribute_start, attribute_setting, element_setting, member_setting, origin_of, attribute_head, instance_setting, holder_setting, positioned_in, positioned, instance_head, calc, value_head, member_at, member_head, in_list, is_past, in_next, next_start, element_start, element_head, head_at, head_of}
-use Rattle.ksv_rule_meaning.specs.Values.{in_no_stream, in_enum, instance_value, arguments_for, argument_at, plain_value, argument_value, parameter_value, calc_value, calculated, value_at, value_of}
-use Rattle.ksv_rule_meaning.specs.Ends.{stream_end, fields_end, object_end, part_rest, list_end, place_of, is_last, not_empty, element_end, end_at, end_of, next_rest, rest_behind, rest_from, in_whole_list, whole_rest, rest_at, rest_of}
+use Rattle.ksv_rule_meaning.specs.Wanted.{in_object, holds, size_of, stream_for}
+use Rattle.ksv_rule_meaning.specs.Fields.{members_of, Sought, sought, in_sought, member_named, last_attribute, field_of}
+use Rattle.ksv_rule_meaning.specs.Heads.{leaf, bits_leaf, leaf_to_end, terminated_at, terminated, run_of, sized_leaf, bytes_at, sized_object, object_at, content_at, unchosen_at, chosen_at, shape_at, count_of, counted, until_eos, repeated, attribute_at, part_end, attribute_start, attribute_setting, element_setting, origin_of, attribute_head, instance_setting, positioned_in, positioned, instance_head, value_head, member_at, member_head, in_list, is_past, in_next, next_start, element_start, element_head, head_at, head_of}
+use Rattle.ksv_rule_meaning.specs.Values.{value_of}
+use Rattle.ksv_rule_meaning.specs.Ends.{stream_end, fields_end, object_end, part_rest, list_end, place_of, is_last, not_empty, element_end, end_at, end_of, next_rest, rest_behind, rest_from, in_whole_list, whole_rest, rest_at, rest_of, behind_element, is_by_bytes, start_of}
 use Rattle.ksv_rule_meaning.specs.Meaning.{meaning_of}
 use Rattle.ksv_rule_meaning.specs.FromNothing.{from_nothing}
-use Rattle.ksv_rule_laws.specs.Laws.{Reads, IsFieldOf, IsContentOf, IsLeafOf, IsCountedBy, EndsAt}
-use Rattle.ksv_rule_laws.proofs.Answering.{ok_is, goes_on, asked_head, asked_end, asked_rest, part_is, refused, put_in, by_rule, by_rules}
-use Rattle.ksv_rule_laws.proofs.Cases.{IsChosen, choice_is}
+use Rattle.ksv_rule_laws.specs.Laws.{IsContentOf, IsLeafOf, IsCountedBy, EndsAt}
+use Rattle.ksv_rule_laws.proofs.Answering.{by_rule, by_rules}
+use Rattle.ksv_rule_laws.proofs.Rules.{Answers, join, either, so, answered, asked_head, asked_end, asked_rest, path_is, size_is, holds_is, stream_is, done_is, truth_said}
+use Rattle.ksv_rule_laws.proofs.Members.{IsChosen, choice_is, field_found, sought_is}
+use Rattle.ksv_rule_laws.proofs.Values.{made_is}
 use Rattle.ksv_rule_laws.proofs.Starts.{at_most, at_least}
-use Rattle.ksv_rule_laws.proofs.Shapes.{IsBehind, IsHeadAt, IsStart, IsOut, IsPlaced, IsMember, IsMemberOf, EndsBefore, IsElementOf, IsHead, IsPlain, IsCalculatedIn, IsMadeOf, IsFieldsEnd, IsObjectEnd, RestsAt, IsEnd, IsLast, IsEndOf, IsRestFrom, IsRest, IsAnswer}
+use Rattle.ksv_rule_laws.proofs.Shapes.{IsBehind, IsHeadAt, IsStart, IsPlaced, IsMember, IsMemberOf, EndsBefore, IsElementOf, IsHead, IsFieldsEnd, IsObjectEnd, RestsAt, IsEnd, IsLast, IsEndOf, IsRestFrom, IsRest, IsAnswer}
 
 module _ (met : Node → Result Given Fault) (here : Trail) (bytes : List ℕ) where
-  abbrev answer : {A : Type 0} → Rule A → Result A Fault
-  answer p = answer_of met here bytes p
+  abbrev Says : {A : Type 0} → (A → Type 0) → Rule A → Type 0
+  Says P p = Answers met here bytes P p
+
+  after : {A B : Type 0} (P : A → Type 0) (S : B → Type 0) (p : Rule A) (f : A → Rule B) → Says P p → ((a : A) → P a → Says S (f a)) → Says S (bind p f)
+  after P S p f h g = join met here bytes P S p f h g
+
+  test : {A : Type 0} (S : A → Type 0) (b : Bool) (p q : Rule A) → (b ≡ true → Says S p) → (b ≡ false → Says S q) → Says S (if b then p else q)
+  test S b p q g h = either met here bytes S b p q g h
+
+  hence : {A : Type 0} (P S : A → Type 0) (p : Rule A) → Says P p → ((a : A) → P a → S a) → Says S p
+  hence P S p h f = so met here bytes P S p h f
 
   -- ---- readings
 
-  reached : (w : Stream) (t : ℕ) (x : Unit {0}) → answer (reach w t) ≡ Ok x → t ≤ end_in bytes w.to
+  some_is : {A : Type 0} (x y : A) → ◌≡◌ {A = Option A} (Some x) (Some y) → x ≡ y
+  some_is x y e = cc
+
+  reached : (w : Stream) (t : ℕ) → Says (λ x. t ≤ end_in bytes w.to) (reach w t)
   unfolding reach_within reach_file
   reached w t x e = by_end w.to e
     where
-      by_end : (to : Option ℕ) → with_seen here (reach_within bytes to t).seen (λ y. Ok y) ≡ Ok x → t ≤ end_in bytes to
+      by_end : (to : Option ℕ) → (reach_within bytes to t).seen ≡ Some x → t ≤ end_in bytes to
       by_end None h = grind (arith, nat_tests, common_steps)
       by_end (Some end) h = grind (arith, nat_tests, common_steps)
 
-  finished : (w : Stream) (e : ℕ) → answer (finish w) ≡ Ok e → e ≡ end_in bytes w.to
+  finished : (w : Stream) → Says (λ e. e ≡ end_in bytes w.to) (finish w)
   unfolding finish_of
   finished w e h = by_end w.to h
     where
-      by_end : (to : Option ℕ) → with_seen here (finish_of bytes to).seen (λ y. Ok y) ≡ Ok e → e ≡ end_in bytes to
-      by_end None h' = sym (ok_is (length bytes) e h')
-      by_end (Some end) h' = sym (ok_is end e h')
+      by_end : (to : Option ℕ) → (finish_of bytes to).seen ≡ Some e → e ≡ end_in bytes to
+      by_end None h' = sym (some_is (length bytes) e h')
+      by_end (Some end) h' = sym (some_is end e h')
 
   range_short : (s e i : ℕ) → i < length (slice_range bytes s e) → s + i + 1 ≤ e
   range_short s e i lt = omega (arith, length-take (e - s) (drop s bytes))
@@ -88,39 +95,33 @@ module _ (met : Node → Result Given Fault) (here : Trail) (bytes : List ℕ) w
   IsFoundIn w s (founds.At q) = (s ≤ q) × (q + 1 ≤ end_in bytes w.to)
   IsFoundIn w s (founds.Missing e) = e ≡ end_in bytes w.to
 
-  found : (w : Stream) (s b : ℕ) (q : Found) → answer (find w s b) ≡ Ok q → IsFoundIn w s q
+  found : (w : Stream) (s b : ℕ) → Says (IsFoundIn w s) (find w s b)
   unfolding find_at found_from found_none
   found w s b q h = by_place (first_at b (slice_range bytes s (end_in bytes w.to))) refl h
     where
-      missing : (o : Option (List ℕ)) → with_seen here (elim o [ None ↦ None | Some bs ↦ Some (founds.Missing (end_in bytes w.to)) ]) (λ y. Ok y) ≡ Ok q → IsFoundIn w s q
+      missing : (o : Option (List ℕ)) → (elim o [ None ↦ None | Some bs ↦ Some (founds.Missing (end_in bytes w.to)) ]) ≡ Some q → IsFoundIn w s q
       missing None h' = absurd (cc)
-      missing (Some bs) h' = subst (IsFoundIn w s) (ok_is (founds.Missing (end_in bytes w.to)) q h') refl
+      missing (Some bs) h' = subst (IsFoundIn w s) (some_is (founds.Missing (end_in bytes w.to)) q h') refl
 
-      by_place : (o : Option ℕ) → first_at b (slice_range bytes s (end_in bytes w.to)) ≡ o → with_seen here (found_from bytes w.to s (end_in bytes w.to) o).seen (λ y. Ok y) ≡ Ok q → IsFoundIn w s q
+      by_place : (o : Option ℕ) → first_at b (slice_range bytes s (end_in bytes w.to)) ≡ o → (found_from bytes w.to s (end_in bytes w.to) o).seen ≡ Some q → IsFoundIn w s q
       by_place (Some i) is h' =
           let inside = range_short s (end_in bytes w.to) i (first_at_below b (slice_range bytes s (end_in bytes w.to)) i is) in
-          subst (IsFoundIn w s) (ok_is (founds.At (s + i)) q h') (omega arith, inside)
+          subst (IsFoundIn w s) (some_is (founds.At (s + i)) q h') (omega arith, inside)
       by_place None is h' = missing (peek_at bytes s (end_in bytes w.to)).seen h'
 
   -- ---- what is read at a place of a stream
 
-  module _ (origin : Origin) (w : Stream) (s : Place) (f : Field) (h : Head) where
-    abbrev Shaped : Type 0
-    Shaped = IsHeadAt bytes origin w s f h
-
-    shaped : (k : Head) → IsHeadAt bytes origin w s f k → ◌≡◌ {A = Result Head Fault} (Ok k) (Ok h) → Shaped
-    shaped k is e = subst (IsHeadAt bytes origin w s f) (ok_is k h e) is
-
-    absent_is : ◌≡◌ {A = Result Head Fault} (Ok (heads.Absent (Some s))) (Ok h) → Shaped
-    absent_is e = shaped (heads.Absent (Some s)) refl e
+  module _ (origin : Origin) (w : Stream) (s : Place) (f : Field) where
+    abbrev Shaped : Head → Type 0
+    Shaped h = IsHeadAt bytes origin w s f h
 
     -- a byte that isn't before the place
     behind : (n : ℕ) → byte_of s ≤ n → n ≤ end_in bytes w.to → IsBehind bytes w s (byte_of (at_byte n))
-    behind n after inside = record { after = λ e. at_least n (byte_of s) after; inside = at_most n (end_in bytes w.to) inside }
+    behind n later inside = record { after = λ e. at_least n (byte_of s) later; inside = at_most n (end_in bytes w.to) inside }
 
-    either : (b : Bool) (q : ℕ) → byte_of s ≤ q → q + 1 ≤ end_in bytes w.to → IsBehind bytes w s (byte_of (at_byte (if b then q + 1 else q)))
-    either true q le low = behind (q + 1) (omega arith) low
-    either false q le low = behind q le (omega arith)
+    one_of : (b : Bool) (q : ℕ) → byte_of s ≤ q → q + 1 ≤ end_in bytes w.to → IsBehind bytes w s (byte_of (at_byte (if b then q + 1 else q)))
+    one_of true q le low = behind (q + 1) (omega arith) low
+    one_of false q le low = behind q le (omega arith)
 
     -- by a chosen case
     module _ (case : Option ℕ) where
@@ -130,459 +131,287 @@ module _ (met : Node → Result Given Fault) (here : Trail) (bytes : List ℕ) w
       abbrev leaf_to : Place → Place → Leaf
       leaf_to to end = record { origin = by; from = s; to = to; end = end }
 
-      leaf_is : (to end : Place) → IsBehind bytes w s (byte_of to) → IsBehind bytes w s (byte_of end) → (origin.case ≡ None → IsLeafOf (leaf_to to end) f) → ◌≡◌ {A = Result Head Fault} (Ok (heads.Leaf (leaf_to to end))) (Ok h) → Shaped
-      leaf_is to end a b own e = shaped (heads.Leaf (leaf_to to end)) (record { from = refl; to = a; end = b; member = refl; home = refl; read = own }) e
+      leaf_is : (to end : Place) → IsBehind bytes w s (byte_of to) → IsBehind bytes w s (byte_of end) → (origin.case ≡ None → IsLeafOf (leaf_to to end) f) → Shaped (heads.Leaf (leaf_to to end))
+      leaf_is to end a b own = record { from = refl; to = a; end = b; member = refl; home = refl; read = own }
 
-      bits_are : (n : ℕ) → (origin.case ≡ None → IsLeafOf (leaf_to (further s n) (further s n)) f) → answer (bits_leaf by w s n) ≡ Ok h → Shaped
+      bits_are : (n : ℕ) → (origin.case ≡ None → IsLeafOf (leaf_to (further s n) (further s n)) f) → Says Shaped (bits_leaf by w s n)
       unfolding bits_leaf
-      bits_are n own e =
-          let b = goes_on met here bytes (reach w (byte_of (further s n))) _ h e in
-          let end : IsBehind bytes w s (byte_of (further s n)) = record { after = λ e'. of_further s n; inside = reached w (byte_of (further s n)) b.first b.was } in
-          leaf_is (further s n) (further s n) end end own b.gave
+      bits_are n own = after _ _ (reach w (byte_of (further s n))) _ (reached w (byte_of (further s n))) (λ x low.
+          let end : IsBehind bytes w s (byte_of (further s n)) = record { after = λ e'. of_further s n; inside = low } in
+          leaf_is (further s n) (further s n) end end own)
 
       module _ (own : (to end : Place) → origin.case ≡ None → IsLeafOf (leaf_to to end) f) where
-        some_are : (n : ℕ) → answer (leaf by w s n) ≡ Ok h → Shaped
+        some_are : (n : ℕ) → Says Shaped (leaf by w s n)
         unfolding leaf
-        some_are n e =
-            let b = goes_on met here bytes (reach w (byte_of s + n)) _ h e in
-            let end = behind (byte_of s + n) (omega arith) (reached w (byte_of s + n) b.first b.was) in
-            leaf_is _ _ end end (own _ _) b.gave
+        some_are n = after _ _ (reach w (byte_of s + n)) _ (reached w (byte_of s + n)) (λ x low. let end = behind (byte_of s + n) (omega arith) low in leaf_is _ _ end end (own _ _))
 
-        sized_are : (at : Setting) (e : Tree) → answer (sized_leaf at by w s e) ≡ Ok h → Shaped
+        sized_are : (at : Setting) (e : Tree) → Says Shaped (sized_leaf at by w s e)
         unfolding sized_leaf
-        sized_are at e z = let b = goes_on met here bytes (size_of at e) _ h z in some_are b.first b.gave
+        sized_are at e = after _ _ (size_of at e) _ (size_is met here bytes at e) (λ n was. some_are n)
 
-        up_to : (e : ℕ) → e ≡ end_in bytes w.to → ◌≡◌ {A = Result Head Fault} (Ok (heads.Leaf (leaf_to (at_byte e) (at_byte e)))) (Ok h) → Shaped
-        up_to e is z =
+        up_to : (e : ℕ) → e ≡ end_in bytes w.to → Shaped (heads.Leaf (leaf_to (at_byte e) (at_byte e)))
+        up_to e is =
             let end : IsBehind bytes w s (byte_of (at_byte e)) = record { after = λ le. at_least e (byte_of s) (omega arith); inside = at_most e _ (omega arith) } in
-            leaf_is (at_byte e) (at_byte e) end end (own _ _) z
+            leaf_is (at_byte e) (at_byte e) end end (own _ _)
 
-        to_end_are : answer (leaf_to_end by w s) ≡ Ok h → Shaped
+        to_end_are : Says Shaped (leaf_to_end by w s)
         unfolding leaf_to_end
-        to_end_are z = let b = goes_on met here bytes (finish w) _ h z in up_to b.first (finished w b.first b.was) b.gave
+        to_end_are = after _ _ (finish w) _ (finished w) (λ e is. up_to e is)
 
-        found_are : (t : Terminator) (q : Found) → IsFoundIn w (byte_of s) q → answer (terminated_at by s t q) ≡ Ok h → Shaped
-        found_are t (founds.At q) is e = leaf_is _ _ (either t.is_included q is.0 is.1) (either t.is_consumed q is.0 is.1) (own _ _) e
-        found_are t (founds.Missing z) is e = up_to z is (refused met here bytes t.is_required (Answer _) kinds.NoTerminator h e)
+        found_are : (t : Terminator) (q : Found) → IsFoundIn w (byte_of s) q → Says Shaped (terminated_at by s t q)
+        found_are t (founds.At q) is = leaf_is _ _ (one_of t.is_included q is.0 is.1) (one_of t.is_consumed q is.0 is.1) (own _ _)
+        found_are t (founds.Missing z) is = test _ t.is_required _ _ (λ e. tt) (λ e. up_to z is)
 
-        run_is : (t : Option Terminator) → answer (run_of by w s t) ≡ Ok h → Shaped
+        run_is : (t : Option Terminator) → Says Shaped (run_of by w s t)
         unfolding run_of terminated
-        run_is None z = absent_is z
-        run_is (Some t) z = let b = goes_on met here bytes (find w (byte_of s) t.byte) _ h z in found_are t b.first (found w (byte_of s) t.byte b.first b.was) b.gave
+        run_is None = refl
+        run_is (Some t) = after _ _ (find w (byte_of s) t.byte) _ (found w (byte_of s) t.byte) (λ q is. found_are t q is)
 
-        bytes_are : (at : Setting) (x : Extent) (t : Option Terminator) → answer (bytes_at at by w s x t) ≡ Ok h → Shaped
+        bytes_are : (at : Setting) (x : Extent) (t : Option Terminator) → Says Shaped (bytes_at at by w s x t)
         unfolding bytes_at
-        bytes_are at (Sized e) t z = sized_are at e z
-        bytes_are at SizeEos t z = to_end_are z
-        bytes_are at ByItself t z = run_is t z
+        bytes_are at (Sized e) t = sized_are at e
+        bytes_are at SizeEos t = to_end_are
+        bytes_are at ByItself t = run_is t
 
-        unchosen_is : (at : Setting) (x : Extent) → answer (unchosen_at at by w s x) ≡ Ok h → Shaped
+        unchosen_is : (at : Setting) (x : Extent) → Says Shaped (unchosen_at at by w s x)
         unfolding unchosen_at
-        unchosen_is at (Sized e) z = sized_are at e z
-        unchosen_is at SizeEos z = to_end_are z
-        unchosen_is at ByItself z = absent_is z
+        unchosen_is at (Sized e) = sized_are at e
+        unchosen_is at SizeEos = to_end_are
+        unchosen_is at ByItself = refl
 
-      object_is : (at : Setting) (t : ℕ) (given : _) (x : Extent) → IsContentOf f.choice case (contents.Object t given) → answer (object_at at by t w s x) ≡ Ok h → Shaped
+      object_is : (at : Setting) (t : ℕ) (given : Arguments) (x : Extent) → IsContentOf f.choice case (contents.Object t given) → Says Shaped (object_at at by t w s x)
       unfolding object_at sized_object
-      object_is at t given (Sized e) own z =
-          let b = goes_on met here bytes (size_of at e) _ h z in
-          let c = goes_on met here bytes (reach w (byte_of s + b.first)) _ h b.gave in
-          let low = reached w (byte_of s + b.first) c.first c.was in
-          shaped (heads.Object _) (record { start = refl; from = inr refl; to = record { after = λ e'. omega arith; inside = low }; by = by; read_by = refl; member = refl; home = refl; read = (given, own) }) c.gave
-      object_is at t given SizeEos own z = shaped (heads.Object _) (record { start = refl; from = inr refl; to = record { after = λ e'. e'; inside = omega arith }; by = by; read_by = refl; member = refl; home = refl; read = (given, own) }) z
-      object_is at t given ByItself own z = shaped (heads.Object _) (record { start = refl; from = inl refl; to = record { after = λ e'. e'; inside = omega arith }; by = by; read_by = refl; member = refl; home = refl; read = (given, own) }) z
+      object_is at t given (Sized e) own = after _ _ (size_of at e) _ (size_is met here bytes at e) (λ n was. after _ _ (reach w (byte_of s + n)) _ (reached w (byte_of s + n)) (λ x low.
+          record { start = refl; from = inr refl; to = record { after = λ e'. omega arith; inside = low }; by = by; read_by = refl; member = refl; home = refl; read = (given, own) }))
+      object_is at t given SizeEos own = record { start = refl; from = inr refl; to = record { after = λ e'. e'; inside = omega arith }; by = by; read_by = refl; member = refl; home = refl; read = (given, own) }
+      object_is at t given ByItself own = record { start = refl; from = inl refl; to = record { after = λ e'. e'; inside = omega arith }; by = by; read_by = refl; member = refl; home = refl; read = (given, own) }
 
-      content_is : (at : Setting) (c : Content) → IsContentOf f.choice case c → answer (content_at at by w s f c) ≡ Ok h → Shaped
+      content_is : (at : Setting) (c : Content) → IsContentOf f.choice case c → Says Shaped (content_at at by w s f c)
       unfolding content_at
-      content_is at contents.Bytes is e = bytes_are (λ to end none. (contents.Bytes, is, tt, tt)) at f.extent f.terminator e
-      content_is at (contents.Fixed bs) is e = some_are (λ to end none. (contents.Fixed bs, is, tt, tt)) (length bs) e
-      content_is at (contents.Number signed n order enum) is e = some_are (λ to end none. (contents.Number signed n order enum, is, tt, tt)) n e
-      content_is at (contents.Bits width enum) is e = bits_are width (λ none. (contents.Bits width enum, is, tt, refl)) e
-      content_is at (contents.Characters encoding) is e = bytes_are (λ to end none. (contents.Characters encoding, is, tt, tt)) at f.extent f.terminator e
-      content_is at (contents.Object t given) is e = object_is at t given f.extent is e
+      content_is at contents.Bytes is = bytes_are (λ to end none. (contents.Bytes, is, tt, tt)) at f.extent f.terminator
+      content_is at (contents.Fixed bs) is = some_are (λ to end none. (contents.Fixed bs, is, tt, tt)) (length bs)
+      content_is at (contents.Number signed n order enum) is = some_are (λ to end none. (contents.Number signed n order enum, is, tt, tt)) n
+      content_is at (contents.Bits width enum) is = bits_are width (λ none. (contents.Bits width enum, is, tt, refl))
+      content_is at (contents.Characters encoding) is = bytes_are (λ to end none. (contents.Characters encoding, is, tt, tt)) at f.extent f.terminator
+      content_is at (contents.Object t given) is = object_is at t given f.extent is
 
-    shape_is : (at : Setting) → answer (shape_at at origin w s f) ≡ Ok h → Shaped
+    shape_is : (at : Setting) → Says Shaped (shape_at at origin w s f)
     unfolding shape_at
-    shape_is at e =
-        let b = goes_on met here bytes (choose at f.choice) (λ c. chosen_at at origin w s f c) h e in
-        by_chosen b.first (choice_is met here bytes at f.choice b.first b.was) b.gave
+    shape_is at = after _ _ (choose at f.choice) (λ c. chosen_at at origin w s f c) (choice_is met here bytes at f.choice) (λ c is. by_chosen c is)
       where
-        by_chosen : (o : Option Chosen) → IsChosen f.choice o → answer_of met here bytes (chosen_at at origin w s f o) ≡ Ok h → IsHeadAt bytes origin w s f h
-        by_chosen None is e' = unchosen_is origin.case (λ to end none. (contents.Bytes, subst (λ k. IsContentOf f.choice k contents.Bytes) (sym none) is, tt, tt)) at f.extent e'
-        by_chosen (Some c) is e' = content_is c.case at c.content is e'
+        by_chosen : (o : Option Chosen) → IsChosen f.choice o → Answers met here bytes (IsHeadAt bytes origin w s f) (chosen_at at origin w s f o)
+        by_chosen None is = unchosen_is origin.case (λ to end none. (contents.Bytes, subst (λ k. IsContentOf f.choice k contents.Bytes) (sym none) is, tt, tt)) at f.extent
+        by_chosen (Some c) is = content_is c.case at c.content is
 
     -- ---- lists
 
-    abbrev listed : Option ℕ → Bool → lists.List
-    listed count is_empty = record { origin = origin; stream = w; start = s; count = count; is_empty = is_empty }
+    count_is : (at : Setting) (e : Tree) → Says (λ n. Unit {0}) (count_of at e)
+    unfolding count_of
+    count_is at e = after _ _ (size_of at e) _ (size_is met here bytes at e) (λ n was. test _ (nat_lt element_limit n) _ _ (λ many. tt) (λ few. tt))
 
-    list_is : (r : Repeat) (count : Option ℕ) (is_empty : Bool) → f.repeat ≡ r → IsCountedBy r (listed count is_empty) → ◌≡◌ {A = Result Head Fault} (Ok (heads.List (listed count is_empty))) (Ok h) → Shaped
-    list_is r count is_empty is so e = shaped (heads.List (listed count is_empty)) (record { start = refl; stream = refl; is = refl; read = subst (λ q. IsCountedBy q (listed count is_empty)) (sym is) so }) e
+    list_is : (r : Repeat) (g : lists.List) → f.repeat ≡ r → g.start ≡ s → g.stream ≡ w → g.origin ≡ origin → IsCountedBy r g → Shaped (heads.List g)
+    list_is r g is start stream by so' = record { start = start; stream = stream; is = by; read = subst (λ q. IsCountedBy q g) (sym is) so' }
 
-    repeated_is : (at : Setting) (r : Repeat) → f.repeat ≡ r → answer (repeated at origin w s f r) ≡ Ok h → Shaped
+    repeated_is : (at : Setting) (r : Repeat) → f.repeat ≡ r → Says Shaped (repeated at origin w s f r)
     unfolding repeated counted until_eos
-    repeated_is at Once is e = shape_is at e
-    repeated_is at (Expr n) is e = let b = goes_on met here bytes (count_of at n) _ h e in list_is (Expr n) (Some b.first) (b.first == 0) is (b.first, refl, refl) b.gave
-    repeated_is at Eos is e = let b = goes_on met here bytes (done w s) _ h e in list_is Eos None b.first is refl b.gave
-    repeated_is at (Until c) is e = list_is (Until c) None false is refl e
+    repeated_is at Once is = shape_is at
+    repeated_is at (Expr e) is = after _ _ (count_of at e) _ (count_is at e) (λ n any. list_is (Expr e) _ is refl refl refl (n, refl, refl))
+    repeated_is at Eos is = after _ _ (done w s) _ (done_is met here bytes w s) (λ b was. list_is Eos _ is refl refl refl refl)
+    repeated_is at (Until c) is = list_is (Until c) _ is refl refl refl refl
 
-    attribute_is : (at : Setting) → answer (attribute_at at origin w s f) ≡ Ok h → Shaped
+    attribute_is : (at : Setting) → Says Shaped (attribute_at at origin w s f)
     unfolding attribute_at
-    attribute_is at e =
-        let b = goes_on met here bytes (holds at f.condition) _ h e in
-        by_condition b.first b.gave
-      where
-        by_condition : (there : Bool) → answer_of met here bytes (if there then repeated at origin w s f f.repeat else Answer (heads.Absent (Some s))) ≡ Ok h → IsHeadAt bytes origin w s f h
-        by_condition true e' = repeated_is at f.repeat refl e'
-        by_condition false e' = absent_is e'
-
-  -- ---- the members of a type
-
-  -- how the member of a place reads
-  pub field_found : (d : Description) (r : MemberRef) (f : Field) → answer (field_of d r) ≡ Ok f → IsFieldOf d r f
-  unfolding field_of kind_of
-  field_found d r f e =
-      let b = goes_on met here bytes (kind_of d r) (λ k. read_by k) f e in
-      by_member (slice_get (members_of d r.type_number) r.member) b.first refl b.was b.gave
-    where
-      by_kind : (k : MemberKind) → answer_of met here bytes (read_by k) ≡ Ok f → Reads k f
-      by_kind (Attribute g) e' = ok_is g f e'
-      by_kind (ParseInstance at io g) e' = ok_is g f e'
-      by_kind _ e' = absurd (cc)
-
-      by_member : (o : Option MemberOfType) (k : MemberKind) → slice_get (members_of d r.type_number) r.member ≡ o → answer_of met here bytes (in_kind o) ≡ Ok k → answer_of met here bytes (read_by k) ≡ Ok f → IsFieldOf d r f
-      by_member None k is was e' = absurd (cc)
-      by_member (Some m) k is was e' = (m, is, by_kind m.kind (ap (λ j. answer_of met here bytes (read_by j)) (ok_is m.kind k was) ∙ e'))
-
-  sought_is : (o : Option Sought) (m : Sought) → answer (in_sought o) ≡ Ok m → o ≡ Some m
-  sought_is None m h = absurd (cc)
-  sought_is (Some s) m h = ap Some (ok_is s m h)
+    attribute_is at = after _ _ (holds at f.condition) _ (holds_is met here bytes at f.condition) (λ there was. test _ there _ _ (λ e. repeated_is at f.repeat refl) (λ e. refl))
 
   -- ---- what was asked for
 
-  -- the object, the list and the end of a part
-  object_asked : (q : Trail) (k : Head) (o : Object) → met (head_node q) ≡ Ok (givens.Head k) → answer (in_object q k) ≡ Ok o → met (head_node q) ≡ Ok (givens.Head (heads.Object o))
-  object_asked q (heads.Object o') o asked is = asked ∙ ap (λ y. Ok (givens.Head (heads.Object y))) (ok_is o' o is)
-  object_asked q _ o asked is = absurd (cc)
+  object_asked : (q : Trail) (k : Head) → met (head_node q) ≡ Ok (givens.Head k) → Says (λ o. met (head_node q) ≡ Ok (givens.Head (heads.Object o))) (in_object q k)
+  object_asked q (heads.Object o) asked = asked
+  object_asked q (heads.Absent at) asked = tt
+  object_asked q _ asked = tt
 
-  list_asked : (l : Trail) (k : Head) (g : lists.List) → met (head_node l) ≡ Ok (givens.Head k) → answer (in_list l k) ≡ Ok g → met (head_node l) ≡ Ok (givens.Head (heads.List g))
-  list_asked l (heads.List g') g asked is = asked ∙ ap (λ y. Ok (givens.Head (heads.List y))) (ok_is g' g is)
-  list_asked l _ g asked is = absurd (cc)
+  list_asked : (l : Trail) (k : Head) → met (head_node l) ≡ Ok (givens.Head k) → Says (λ g. met (head_node l) ≡ Ok (givens.Head (heads.List g))) (in_list l k)
+  list_asked l (heads.List g) asked = asked
+  list_asked l (heads.Absent at) asked = tt
+  list_asked l _ asked = tt
 
-  whole_list_asked : (l : Trail) (k : Head) (g : lists.List) → met (head_node l) ≡ Ok (givens.Head k) → answer (in_whole_list l k) ≡ Ok g → met (head_node l) ≡ Ok (givens.Head (heads.List g))
-  whole_list_asked l (heads.List g') g asked is = asked ∙ ap (λ y. Ok (givens.Head (heads.List y))) (ok_is g' g is)
-  whole_list_asked l _ g asked is = absurd (cc)
+  whole_list_asked : (l : Trail) (k : Head) → met (head_node l) ≡ Ok (givens.Head k) → Says (λ g. met (head_node l) ≡ Ok (givens.Head (heads.List g))) (in_whole_list l k)
+  whole_list_asked l (heads.List g) asked = asked
+  whole_list_asked l (heads.Absent at) asked = tt
+  whole_list_asked l _ asked = tt
 
-  part_end_is : (q : Trail) (step : Step) (x : Ended) → answer (part_end q step) ≡ Ok x → (r : Trail) × (child q step ≡ Some r) × (met (end_node r) ≡ Ok (givens.End x.place x.last))
+  -- a part ends, the last or not
+  part_ends : (q : Trail) (step : Step) → Says (λ (x : Ended). (r : Trail) × (child q step ≡ Some r) × (met (end_node r) ≡ Ok (givens.End x.place x.last))) (part_end q step)
   unfolding part_end
-  part_end_is q step x e =
-      let b = goes_on met here bytes (part q step) (λ p. ask_end p) x e in
-      (b.first, part_is met here bytes (child q step) b.first b.was, asked_end met here bytes b.first x b.gave)
+  part_ends q step = after _ _ (part q step) _ (path_is met here bytes (child q step)) (λ r is. hence _ _ (ask_end r) (asked_end met here bytes r) (λ x ended. (r, is, ended)))
 
-  part_ends : (q : Trail) (step : Step) (x : Ended) → answer (part_end q step) ≡ Ok x → EndsAt met q step x.place
-  part_ends q step x e = let r = part_end_is q step x e in record { path = r.0; is = r.1; is_last = x.last; ended = r.2 }
+  ends_at : (q : Trail) (step : Step) (x : Ended) → (r : Trail) × (child q step ≡ Some r) × (met (end_node r) ≡ Ok (givens.End x.place x.last)) → EndsAt met q step x.place
+  ends_at q step x is = record { path = is.0; is = is.1; is_last = x.last; ended = is.2 }
 
-  part_rests : (q : Trail) (step : Step) (x : Rested) → answer (part_rest q step) ≡ Ok x → RestsAt met q step x.count x.place
+  part_rests : (q : Trail) (step : Step) → Says (λ (x : Rested). RestsAt met q step x.count x.place) (part_rest q step)
   unfolding part_rest
-  part_rests q step x e =
-      let b = goes_on met here bytes (part q step) (λ p. ask_rest p) x e in
-      record { path = b.first; is = part_is met here bytes (child q step) b.first b.was; rested = asked_rest met here bytes b.first x b.gave }
+  part_rests q step = after _ _ (part q step) _ (path_is met here bytes (child q step)) (λ r is. hence _ _ (ask_rest r) (asked_rest met here bytes r) (λ x rested. record { path = r; is = is; rested = rested }))
 
   -- ---- heads
 
   module _ (d : Description) where
-    abbrev Starts : Object → Option ℕ → Choice → Place → Type 0
-    Starts o before c s = IsStart d met here bytes o before c s
-
-    start_is : (o : Object) (before : Option ℕ) (c : Choice) (s : Place) → answer (attribute_start (parent here) o before c) ≡ Ok s → Starts o before c s
+    start_is : (o : Object) (before : Option ℕ) (c : Choice) → Says (IsStart d met here bytes o before c) (attribute_start (parent here) o before c)
     unfolding attribute_start
-    start_is o None c s e = ok_is o.start s e
-    start_is o (Some y) c s e =
-        let b = goes_on met here bytes (part_end (parent here) (steps.Name y)) (λ x. Answer (start_after x.place c)) s e in
-        (b.first.place, part_ends (parent here) (steps.Name y) b.first b.was, ok_is (start_after b.first.place c) s b.gave)
+    start_is o None c = refl
+    start_is o (Some y) c = after _ _ (part_end (parent here) (steps.Name y)) _ (part_ends (parent here) (steps.Name y)) (λ x is. (x.place, ends_at (parent here) (steps.Name y) x is, refl))
 
-    placed_is : (o : Object) (m : Sought) (e : Tree) (io : Option Tree) (f : Field) (h : Head) → answer (positioned (instance_setting here (parent here) o) (origin_of o m) e io f) ≡ Ok h → IsPlaced d met here bytes o m io f h
+    -- a condition that is false
+    unmet : (at : Setting) (condition : Option Tree) (there : Bool) → answer_of met here bytes (holds at condition) ≡ Ok there → there ≡ false → answer_of met here bytes (holds at condition) ≡ Ok false
+    unmet at condition there was false_is = was ∙ ap (λ b. Ok b) false_is
+
+    placed_is : (o : Object) (m : Sought) (e : Tree) (io : Option Tree) (f : Field) → Says (IsPlaced d met here bytes o m io f) (positioned (instance_setting here (parent here) o) (origin_of o m) e io f)
     unfolding positioned positioned_in
-    placed_is o m e io f h z =
+    placed_is o m e io f =
         let at = instance_setting here (parent here) o in
-        let w = goes_on met here bytes (stream_for at io) (λ x. positioned_in at (origin_of o m) x e f) h z in
-        let n = goes_on met here bytes (size_of at e) _ h w.gave in
-        let byte = w.first.from + n.first in
-        let b = goes_on met here bytes (reach w.first byte) _ h n.gave in
-        record {
-          stream = w.first;
-          named = w.was;
-          byte = byte;
-          behind = omega arith;
-          inside = reached w.first byte b.first b.was;
-          is = repeated_is (origin_of o m) w.first (at_byte byte) f h (record at { place = at_byte byte }) f.repeat refl b.gave;
-        }
+        after _ _ (stream_for at io) (λ x. positioned_in at (origin_of o m) x e f) (stream_is met here bytes at io) (λ w named.
+        after _ _ (size_of at e) _ (size_is met here bytes at e) (λ n was.
+        after _ _ (reach w (w.from + n)) _ (reached w (w.from + n)) (λ x low.
+        hence _ _ (repeated (record at { place = at_byte (w.from + n) }) (origin_of o m) w (at_byte (w.from + n)) f f.repeat) (repeated_is (origin_of o m) w (at_byte (w.from + n)) f (record at { place = at_byte (w.from + n) }) f.repeat refl)
+        (λ h is. record { stream = w; named = named; byte = w.from + n; behind = omega arith; inside = low; is = is }))))
 
-    instance_is : (o : Object) (m : Sought) (e : Tree) (io : Option Tree) (f : Field) (h : Head) → answer (instance_head (instance_setting here (parent here) o) (origin_of o m) e io f) ≡ Ok h → IsMember d met here bytes o m (ParseInstance e io f) h
-    unfolding instance_head
-    instance_is o m e io f h z =
-        let b = goes_on met here bytes (holds (instance_setting here (parent here) o) f.condition) _ h z in
-        by_condition b.first b.was b.gave
-      where
-        by_condition : (there : Bool) → answer_of met here bytes (holds (instance_setting here (parent here) o) f.condition) ≡ Ok there
-            → answer_of met here bytes (if there then positioned (instance_setting here (parent here) o) (origin_of o m) e io f else Answer (heads.Absent None)) ≡ Ok h → IsMember d met here bytes o m (ParseInstance e io f) h
-        by_condition true was g = inr (placed_is o m e io f h g)
-        by_condition false was g = inl (was, ok_is (heads.Absent None) h g)
+    member_is : (o : Object) (m : Sought) (k : MemberKind) → Says (IsMember d met here bytes o m k) (member_at here (parent here) o m k)
+    unfolding member_at attribute_head instance_head value_head
+    member_is o m Parameter = refl
+    member_is o m (Attribute f) =
+        after _ _ (attribute_start (parent here) o m.before f.choice) _ (start_is o m.before f.choice) (λ s starts.
+        hence _ _ (attribute_at (attribute_setting here (parent here) (origin_of o m) s) (origin_of o m) o.stream s f) (attribute_is (origin_of o m) o.stream s f (attribute_setting here (parent here) (origin_of o m) s)) (λ h is. (s, starts, is)))
+    member_is o m (ParseInstance e io f) =
+        let at = instance_setting here (parent here) o in
+        after _ _ (holds at f.condition) _ (holds_is met here bytes at f.condition) (λ there was.
+        test _ there _ _ (λ yes. hence _ _ (positioned at (origin_of o m) e io f) (placed_is o m e io f) (λ h is. inr is)) (λ no. inl (unmet at f.condition there was no, refl)))
+    member_is o m (ValueInstance v) =
+        let at = instance_setting here (parent here) o in
+        after _ _ (holds at v.condition) _ (holds_is met here bytes at v.condition) (λ there was. test _ there _ _ (λ yes. inr refl) (λ no. inl (unmet at v.condition there was no, refl)))
 
-    value_is : (o : Object) (m : Sought) (condition : Option Tree) (h : Head) → answer (value_head (instance_setting here (parent here) o) o m condition) ≡ Ok h → IsOut d met here bytes o condition h ⊎ (calc o m ≡ h)
-    unfolding value_head
-    value_is o m condition h z =
-        let b = goes_on met here bytes (holds (instance_setting here (parent here) o) condition) _ h z in
-        by_condition b.first b.was b.gave
-      where
-        by_condition : (there : Bool) → answer_of met here bytes (holds (instance_setting here (parent here) o) condition) ≡ Ok there
-            → answer_of met here bytes (if there then Answer (calc o m) else Answer (heads.Absent None)) ≡ Ok h → IsOut d met here bytes o condition h ⊎ (calc o m ≡ h)
-        by_condition true was g = inr (ok_is (calc o m) h g)
-        by_condition false was g = inl (was, ok_is (heads.Absent None) h g)
-
-    member_is : (o : Object) (m : Sought) (k : MemberKind) (h : Head) → answer (member_at here (parent here) o m k) ≡ Ok h → IsMember d met here bytes o m k h
-    unfolding member_at attribute_head
-    member_is o m Parameter h e = ok_is (calc o m) h e
-    member_is o m (Attribute f) h e =
-        let b = goes_on met here bytes (attribute_start (parent here) o m.before f.choice) _ h e in
-        (b.first, start_is o m.before f.choice b.first b.was, attribute_is (origin_of o m) o.stream b.first f h (attribute_setting here (parent here) (origin_of o m) b.first) b.gave)
-    member_is o m (ParseInstance e io f) h z = instance_is o m e io f h z
-    member_is o m (ValueInstance v) h z = value_is o m v.condition h z
-
-    member_head_is : (x : ℕ) (h : Head) → answer (member_head d here (parent here) x) ≡ Ok h → IsMemberOf d met here bytes x h
+    member_head_is : (x : ℕ) → Says (IsMemberOf d met here bytes x) (member_head d here (parent here) x)
     unfolding member_head member_named
-    member_head_is x h e =
-        let k = goes_on met here bytes (ask_head (parent here)) _ h e in
-        let o = goes_on met here bytes (in_object (parent here) k.first) _ h k.gave in
-        let m = goes_on met here bytes (in_sought (sought x 0 None (members_of d o.first.type_number))) _ h o.gave in
-        record {
-          object = o.first;
-          asked = object_asked (parent here) k.first o.first (asked_head met here bytes (parent here) k.first k.was) o.was;
-          member = m.first;
-          found = sought_is (sought x 0 None (members_of d o.first.type_number)) m.first m.was;
-          is = member_is o.first m.first m.first.kind h m.gave;
-        }
+    member_head_is x =
+        after _ _ (ask_head (parent here)) _ (asked_head met here bytes (parent here)) (λ k asked.
+        after _ _ (in_object (parent here) k) _ (object_asked (parent here) k asked) (λ o now.
+        after _ _ (in_sought (sought x 0 None (members_of d o.type_number))) _ (sought_is met here bytes (sought x 0 None (members_of d o.type_number))) (λ m found.
+        hence _ _ (member_at here (parent here) o m m.kind) (member_is o m m.kind) (λ h is. record { object = o; asked = now; member = m; found = found; is = is }))))
 
-    next_is : (i j : ℕ) (s : Place) → i ≡ j + 1 → answer (next_start (parent here) j) ≡ Ok s → EndsBefore d met here bytes i s
-    unfolding next_start
-    next_is i j s next e =
-        let b = goes_on met here bytes (part_end (parent here) (steps.Index j)) (λ x. in_next x) s e in
-        let r = part_end_is (parent here) (steps.Index j) b.first b.was in
-        by_last b.first.place b.first.last r.0 r.1 r.2 b.gave
+    element_start_is : (g : lists.List) (i : ℕ) → Says (λ s. ((i ≡ 0) × (g.start ≡ s)) ⊎ EndsBefore d met here bytes i s) (element_start (parent here) g i)
+    unfolding element_start next_start
+    element_start_is g i =
+        test _ (g.is_empty || is_past g.count i) _ _ (λ e. tt) (λ e. test _ (i == 0) _ _ (λ is. inl (first is, refl)) (λ is.
+        after _ _ (part_end (parent here) (steps.Index (i - 1))) _ (part_ends (parent here) (steps.Index (i - 1))) (λ x r. by_last x.place x.last is r)))
       where
-        by_last : (place : Place) (last : Bool) (p : Trail) → child (parent here) (steps.Index j) ≡ Some p → met (end_node p) ≡ Ok (givens.End place last) → answer_of met here bytes (in_next (record { place = place; last = last })) ≡ Ok s → EndsBefore d met here bytes i s
-        by_last place true p is x g = absurd (cc)
-        by_last place false p is x g = record { before = j; next = next; path = p; is = is; ended = x ∙ ap (λ z. Ok (givens.End z false)) (ok_is place s g) }
+        first : (i == 0) ≡ true → i ≡ 0
+        first is = grind (arith, nat_tests)
 
-    element_start_is : (g : lists.List) (i : ℕ) (s : Place) → answer (element_start (parent here) g i) ≡ Ok s → ((i ≡ 0) × (g.start ≡ s)) ⊎ EndsBefore d met here bytes i s
-    unfolding element_start
-    element_start_is g i s e = by_first (i == 0) refl (refused met here bytes (g.is_empty || is_past g.count i) (if i == 0 then Answer g.start else next_start (parent here) (i - 1)) kinds.BadIndex s e)
-      where
-        by_first : (b : Bool) → (i == 0) ≡ b → answer_of met here bytes (if b then Answer g.start else next_start (parent here) (i - 1)) ≡ Ok s → ((i ≡ 0) × (g.start ≡ s)) ⊎ EndsBefore d met here bytes i s
-        by_first true is e' = let zero_is : i ≡ 0 = grind (arith, nat_tests) in inl (zero_is, ok_is g.start s e')
-        by_first false is e' = let next : i ≡ i - 1 + 1 = grind (arith, nat_tests) in inr (next_is i (i - 1) s next e')
+        by_last : (place : Place) (last : Bool) → (i == 0) ≡ false → (r : Trail) × (child (parent here) (steps.Index (i - 1)) ≡ Some r) × (met (end_node r) ≡ Ok (givens.End place last))
+            → Answers met here bytes (λ s. ((i ≡ 0) × (g.start ≡ s)) ⊎ EndsBefore d met here bytes i s) (in_next (record { place = place; last = last }))
+        by_last place true is r = tt
+        by_last place false is r = inr (record { before = i - 1; next = grind (arith, nat_tests); path = r.0; is = r.1; ended = r.2 })
 
-    element_is : (i : ℕ) (h : Head) → answer (element_head d here (parent here) (parent (parent here)) i) ≡ Ok h → IsElementOf d met here bytes i h
+    element_is : (i : ℕ) → Says (IsElementOf d met here bytes i) (element_head d here (parent here) (parent (parent here)) i)
     unfolding element_head
-    element_is i h e =
-        let k = goes_on met here bytes (ask_head (parent here)) _ h e in
-        let g = goes_on met here bytes (in_list (parent here) k.first) _ h k.gave in
-        let s = goes_on met here bytes (element_start (parent here) g.first i) _ h g.gave in
-        let at = element_setting here (parent (parent here)) g.first.origin s.first i in
-        let f = goes_on met here bytes (field_of d g.first.origin.member) (λ x. shape_at at g.first.origin g.first.stream s.first x) h s.gave in
-        record {
-          list = g.first;
-          asked = list_asked (parent here) k.first g.first (asked_head met here bytes (parent here) k.first k.was) g.was;
-          start = s.first;
-          begins = element_start_is g.first i s.first s.was;
-          field = f.first;
-          read = field_found d g.first.origin.member f.first f.was;
-          is = shape_is g.first.origin g.first.stream s.first f.first h at f.gave;
-        }
+    element_is i =
+        after _ _ (ask_head (parent here)) _ (asked_head met here bytes (parent here)) (λ k asked.
+        after _ _ (in_list (parent here) k) _ (list_asked (parent here) k asked) (λ g now.
+        after _ _ (element_start (parent here) g i) _ (element_start_is g i) (λ s begins.
+        after _ _ (field_of d g.origin.member) _ (field_found met here bytes d g.origin.member) (λ f read.
+        hence _ _ (shape_at (element_setting here (parent (parent here)) g.origin s i) g.origin g.stream s f) (shape_is g.origin g.stream s f (element_setting here (parent (parent here)) g.origin s i))
+        (λ h is. record { list = g; asked = now; start = s; begins = begins; field = f; read = read; is = is })))))
 
-    head_is : (o : Option Step) (h : Head) → answer (head_at d here o) ≡ Ok h → IsHead d met here bytes o h
-    head_is None h e = ok_is _ h e
-    head_is (Some (steps.Name x)) h e = member_head_is x h e
-    head_is (Some (steps.Index i)) h e = element_is i h e
-
-    -- ---- values
-
-    plain_is : (w v : Value) → answer (in_no_stream w) ≡ Ok v → IsPlain d met here bytes w v
-    plain_is (values.Stream w) v h = absurd (cc)
-    plain_is w v h = inl (tt, ok_is w v h)
-
-    enum_is : (enum : Option ℕ) (w v : Value) → answer (in_enum enum w) ≡ Ok v → IsPlain d met here bytes w v
-    enum_is None w v h = plain_is w v h
-    enum_is (Some e) (values.Int n) v h = inr (e, n, ok_is (values.Member e n) v h)
-    enum_is (Some e) _ v h = absurd (cc)
-
-    instance_value_is : (p q : Trail) (o : Holder) (e : Tree) (enum : Option ℕ) (v : Value) → answer (instance_value (holder_setting p q o) e enum) ≡ Ok v → IsCalculatedIn d met here bytes o v
-    unfolding instance_value
-    instance_value_is p q o e enum v h =
-        let b = goes_on met here bytes (expression (holder_setting p q o) e) (λ w. in_enum enum w) v h in
-        record { setting = holder_setting p q o; tree = e; first = b.first; was = b.was; stream = inl refl; element = refl; plain = enum_is enum b.first v b.gave }
-
-    argument_value_is : (p q : Trail) (step : Option Step) (o : Holder) (g : Origin) (e : Tree) (v : Value) → o.origin ≡ Some g → answer (plain_value (member_setting p q step g o.start) e) ≡ Ok v → IsCalculatedIn d met here bytes o v
-    unfolding plain_value
-    argument_value_is p q (Some (steps.Index i)) o g e v is h =
-        let b = goes_on met here bytes (expression (element_setting p (parent (parent q)) g o.start i) e) (λ w. in_no_stream w) v h in
-        record { setting = element_setting p (parent (parent q)) g o.start i; tree = e; first = b.first; was = b.was; stream = inr (g, is, refl); element = refl; plain = plain_is b.first v b.gave }
-    argument_value_is p q _ o g e v is h =
-        let b = goes_on met here bytes (expression (attribute_setting p (parent q) g o.start) e) (λ w. in_no_stream w) v h in
-        record { setting = attribute_setting p (parent q) g o.start; tree = e; first = b.first; was = b.was; stream = inr (g, is, refl); element = refl; plain = plain_is b.first v b.gave }
-
-    parameter_is : (p q : Trail) (member : ℕ) (o : Holder) (g : Option Origin) (v : Value) → o.origin ≡ g → answer (parameter_value d p q member o g) ≡ Ok v → IsCalculatedIn d met here bytes o v
-    unfolding parameter_value argument_value
-    parameter_is p q member o None v is h = absurd (cc)
-    parameter_is p q member o (Some g) v is h =
-        let a = goes_on met here bytes (arguments_for d g) _ v h in
-        let e = goes_on met here bytes (argument_at a.first _) _ v a.gave in
-        argument_value_is p q (last q) o g e.first v is e.gave
-
-    calc_value_is : (p q : Trail) (c : Calc) (k : MemberKind) (v : Value) → answer (calc_value d p q c k) ≡ Ok v → IsCalculatedIn d met here bytes c.object v
-    unfolding calc_value
-    calc_value_is p q c Parameter v h = parameter_is p q c.member c.object c.object.origin v refl h
-    calc_value_is p q c (ValueInstance i) v h = instance_value_is p q c.object i.value i.enum v h
-    calc_value_is p q c _ v h = absurd (cc)
-
-    calculated_is : (p q : Trail) (c : Calc) (v : Value) → answer (calculated d p q c) ≡ Ok v → IsCalculatedIn d met here bytes c.object v
-    unfolding calculated
-    calculated_is p q c v h =
-        let b = goes_on met here bytes (kind_of d (record { type_number = c.object.type_number; member = c.member })) (λ k. calc_value d p q c k) v h in
-        calc_value_is p q c b.first v b.gave
-
-    pub calc_made : (p : Trail) (c : Calc) (v : Value) → answer (value_at d p (heads.Calc c)) ≡ Ok v → IsCalculatedIn d met here bytes c.object v
-    unfolding value_at
-    calc_made p c v h = calculated_is p (parent p) c v h
-
-    made_is : (v : Value) → answer (value_of d here) ≡ Ok v → IsMadeOf d met here bytes v
-    unfolding value_of
-    made_is v h =
-        let a = goes_on met here bytes (ask_head here) _ v h in
-        let b = goes_on met here bytes (value_at d here a.first) _ v a.gave in
-        let c = goes_on met here bytes (value_checked d here a.first b.first) (λ u. Answer b.first) v b.gave in
-        let same : b.first ≡ v = ok_is b.first v c.gave in
-        record {
-          head = a.first;
-          asked = asked_head met here bytes here a.first a.was;
-          made = subst (λ (w : Value). answer_of met here bytes (value_at d here a.first) ≡ Ok w) same b.was;
-          checked = subst (λ (w : Value). answer_of met here bytes (value_checked d here a.first w) ≡ Ok tt) same c.was;
-        }
+    head_is : (o : Option Step) → Says (IsHead d met here bytes o) (head_at d here o)
+    head_is None = refl
+    head_is (Some (steps.Name x)) = member_head_is x
+    head_is (Some (steps.Index i)) = element_is i
 
     -- ---- ends
 
-    fields_end_is : (start : Place) (z : Option ℕ) (e : Place) → answer (fields_end here start z) ≡ Ok e → IsFieldsEnd d met here bytes start z e
+    fields_end_is : (start : Place) (z : Option ℕ) → Says (IsFieldsEnd d met here bytes start z) (fields_end here start z)
     unfolding fields_end
-    fields_end_is start None e h = ok_is start e h
-    fields_end_is start (Some z) e h =
-        let b = goes_on met here bytes (part_end here (steps.Name z)) (λ x. Answer (aligned x.place)) e h in
-        (b.first.place, part_ends here (steps.Name z) b.first b.was, ok_is (aligned b.first.place) e b.gave)
+    fields_end_is start None = refl
+    fields_end_is start (Some z) = after _ _ (part_end here (steps.Name z)) _ (part_ends here (steps.Name z)) (λ x is. (x.place, ends_at here (steps.Name z) x is, refl))
 
-    object_end_is : (o : Object) (x : ObjectEnd) (e : Place) → answer (object_end d here o x) ≡ Ok e → IsObjectEnd d met here bytes o x e
+    object_end_is : (o : Object) (x : ObjectEnd) → Says (IsObjectEnd d met here bytes o x) (object_end d here o x)
     unfolding object_end stream_end
-    object_end_is o endings.OfStream e h =
-        let n = goes_on met here bytes (finish o.stream) (λ k. Answer (at_byte k)) e h in
-        ap at_byte (sym (finished o.stream n.first n.was)) ∙ ok_is (at_byte n.first) e n.gave
-    object_end_is o endings.ByFields e h = fields_end_is o.start (last_attribute None (members_of d o.type_number)) e h
+    object_end_is o endings.OfStream = after _ _ (finish o.stream) _ (finished o.stream) (λ e is. ap at_byte (sym is))
+    object_end_is o endings.ByFields = fields_end_is o.start (last_attribute None (members_of d o.type_number))
 
-    place_is : (h : Head) (e : Place) → answer (place_of d here h) ≡ Ok e → IsEnd d met here bytes h e
+    place_is : (h : Head) → Says (IsEnd d met here bytes h) (place_of d here h)
     unfolding place_of list_end
-    place_is (heads.Absent None) e z = absurd (cc)
-    place_is (heads.Absent (Some s)) e z = ok_is s e z
-    place_is (heads.Calc c) e z = absurd (cc)
-    place_is (heads.Leaf l) e z = ok_is l.end e z
-    place_is (heads.Object o) e z = object_end_is o o.ending e z
-    place_is (heads.List g) e z =
-        let b = goes_on met here bytes (part_rest here (steps.Index 0)) (λ r. Answer r.place) e z in
-        let r = part_rests here (steps.Index 0) b.first b.was in
-        (b.first.count, record { path = r.path; is = r.is; rested = r.rested ∙ ap (λ n. Ok (givens.Rest b.first.count n)) (ok_is b.first.place e b.gave) })
+    place_is (heads.Absent None) = tt
+    place_is (heads.Absent (Some s)) = refl
+    place_is (heads.Calc c) = tt
+    place_is (heads.Leaf l) = refl
+    place_is (heads.Object o) = object_end_is o o.ending
+    place_is (heads.List g) = after _ _ (part_rest here (steps.Index 0)) _ (part_rests here (steps.Index 0)) (λ x r. (x.count, r))
 
-    -- the end of an element is its place, and it is the last or not
-    place_was : (e : Place) (b : Bool) (x : Ended) → ◌≡◌ {A = Result Ended Fault} (Ok (record { place = e; last = b })) (Ok x) → (e ≡ x.place) × (b ≡ x.last)
-    place_was e b x z =
-        let one = ok_is (record { place = e; last = b }) x z in
-        (ap (λ (y : Ended). y.place) one, ap (λ (y : Ended). y.last) one)
+    last_is : (g : lists.List) (i : ℕ) (e : Place) (r : Repeat) → Says (λ b. answer_of met here bytes (is_last (parent (parent here)) g here i e r) ≡ Ok b) (is_last (parent (parent here)) g here i e r)
+    unfolding is_last
+    last_is g i e Once = tt
+    last_is g i e (Expr n) = refl
+    last_is g i e Eos = done_is met here bytes g.stream e
+    last_is g i e (Until c) = truth_said met here bytes (behind_element (parent (parent here)) g here i e) c
 
-    last_was : (r : Result Bool Fault) (b c : Bool) → r ≡ Ok b → b ≡ c → r ≡ Ok c
-    last_was r b c was one = was ∙ ap (λ y. Ok y) one
+    not_empty_is : (r : Repeat) (start e : Place) → Says (λ u. Unit {0}) (not_empty r start e)
+    unfolding not_empty
+    not_empty_is r start e = test _ (is_by_bytes r) _ _ (λ yes. test _ (is_same e start) _ _ (λ none. tt) (λ some. tt)) (λ no. tt)
 
-    end_at_is : (step : Option Step) (h : Head) (e : Place) (x : Ended) → answer (end_at d here step h e) ≡ Ok x → (e ≡ x.place) × IsLast d met here bytes step e x.last
+    end_at_is : (step : Option Step) (h : Head) (e : Place) → Says (λ (x : Ended). (e ≡ x.place) × IsLast d met here bytes step e x.last) (end_at d here step h e)
     unfolding element_end
-    end_at_is (Some (steps.Index i)) h e x z =
-        let k = goes_on met here bytes (ask_head (parent here)) _ x z in
-        let g = goes_on met here bytes (in_list (parent here) k.first) _ x k.gave in
-        let f = goes_on met here bytes (field_of d g.first.origin.member) _ x g.gave in
-        let u = goes_on met here bytes (not_empty f.first.repeat _ e) _ x f.gave in
-        let b = goes_on met here bytes (is_last (parent (parent here)) g.first here i e f.first.repeat) _ x u.gave in
-        let was = place_was e b.first x b.gave in (
-          was.0,
-          record {
-            list = g.first;
-            asked = list_asked (parent here) k.first g.first (asked_head met here bytes (parent here) k.first k.was) g.was;
-            field = f.first;
-            read = field_found d g.first.origin.member f.first f.was;
-            says = last_was _ b.first x.last b.was was.1;
-          },
-        )
-    end_at_is _ h e x z = place_was e false x z
+    end_at_is (Some (steps.Index i)) h e =
+        after _ _ (ask_head (parent here)) _ (asked_head met here bytes (parent here)) (λ k asked.
+        after _ _ (in_list (parent here) k) _ (list_asked (parent here) k asked) (λ g now.
+        after _ _ (field_of d g.origin.member) _ (field_found met here bytes d g.origin.member) (λ f read.
+        after _ _ (not_empty f.repeat (start_of h) e) _ (not_empty_is f.repeat (start_of h) e) (λ u any.
+        after _ _ (is_last (parent (parent here)) g here i e f.repeat) _ (last_is g i e f.repeat) (λ b says. (refl, record { list = g; asked = now; field = f; read = read; says = says }))))))
+    end_at_is _ h e = (refl, refl)
 
-    end_is : (x : Ended) → answer (end_of d here) ≡ Ok x → IsEndOf d met here bytes x.place x.last
+    end_is : Says (λ (x : Ended). IsEndOf d met here bytes x.place x.last) (end_of d here)
     unfolding end_of
-    end_is x z =
-        let h = goes_on met here bytes (ask_head here) _ x z in
-        let e = goes_on met here bytes (place_of d here h.first) _ x h.gave in
-        let was = end_at_is (last here) h.first e.first x e.gave in
-        record {
-          head = h.first;
-          asked = asked_head met here bytes here h.first h.was;
-          is = subst (IsEnd d met here bytes h.first) was.0 (place_is h.first e.first e.was);
-          last = subst (λ n. IsLast d met here bytes (last here) n x.last) was.0 was.1;
-        }
+    end_is =
+        after _ _ (ask_head here) _ (asked_head met here bytes here) (λ h asked.
+        after _ _ (place_of d here h) _ (place_is h) (λ e is.
+        hence _ _ (end_at d here (last here) h e) (end_at_is (last here) h e) (λ x was.
+        record { head = h; asked = asked; is = subst (IsEnd d met here bytes h) was.0 is; last = subst (λ n. IsLast d met here bytes (last here) n x.last) was.0 was.1 })))
 
     -- ---- rests
 
-    rest_from_is : (i : ℕ) (x : Rested) → answer (rest_from here (parent here) i) ≡ Ok x → IsRestFrom d met here bytes i x.count x.place
+    rest_from_is : (i : ℕ) → Says (λ (x : Rested). IsRestFrom d met here bytes i x.count x.place) (rest_from here (parent here) i)
     unfolding rest_from next_rest
-    rest_from_is i x z =
-        let e = goes_on met here bytes (ask_end here) (λ y. rest_behind (parent here) i y) x z in
-        by_last e.first.last e.first.place (asked_end met here bytes here e.first e.was) e.gave
+    rest_from_is i = after _ _ (ask_end here) _ (asked_end met here bytes here) (λ e ended. by_last e.last e.place ended)
       where
-        by_last : (b : Bool) (place : Place) → met (end_node here) ≡ Ok (givens.End place b) → answer_of met here bytes (if b then Answer (record { count = i + 1; place = place }) else next_rest (parent here) i) ≡ Ok x → IsRestFrom d met here bytes i x.count x.place
-        by_last true place ended z' =
-            let same = ok_is (record { count = i + 1; place = place }) x z' in
-            inl (ap (λ (y : Rested). y.count) same, ended ∙ ap (λ (y : Rested). Ok (givens.End y.place true)) same)
-        by_last false place ended z' = inr (place, ended, part_rests (parent here) (steps.Index (i + 1)) x (refused met here bytes _ (part_rest (parent here) (steps.Index (i + 1))) kinds.TooMany x z'))
+        by_last : (b : Bool) (place : Place) → met (end_node here) ≡ Ok (givens.End place b) → Answers met here bytes (λ (x : Rested). IsRestFrom d met here bytes i x.count x.place) (rest_behind (parent here) i (record { place = place; last = b }))
+        by_last true place ended = inl (refl, ended)
+        by_last false place ended = either met here bytes _ (i + 1 == element_limit) _ _ (λ many. tt) (λ few.
+            so met here bytes _ _ (part_rest (parent here) (steps.Index (i + 1))) (part_rests (parent here) (steps.Index (i + 1))) (λ x r. inr (place, ended, r)))
 
-    whole_rest_is : (x : Rested) → answer (whole_rest here (parent here)) ≡ Ok x → IsRest d met here bytes (Some (steps.Index 0)) x.count x.place
+    whole_rest_is : Says (λ (x : Rested). IsRest d met here bytes (Some (steps.Index 0)) x.count x.place) (whole_rest here (parent here))
     unfolding whole_rest
-    whole_rest_is x z =
-        let h = goes_on met here bytes (ask_head (parent here)) _ x z in
-        let g = goes_on met here bytes (in_whole_list (parent here) h.first) _ x h.gave in
-        by_empty g.first.is_empty g.first refl (whole_list_asked (parent here) h.first g.first (asked_head met here bytes (parent here) h.first h.was) g.was) g.gave
-      where
-        by_empty : (b : Bool) (g : lists.List) → g.is_empty ≡ b → met (head_node (parent here)) ≡ Ok (givens.Head (heads.List g)) → answer_of met here bytes (if b then Answer (record { count = 0; place = g.start }) else rest_from here (parent here) 0) ≡ Ok x
-            → IsRest d met here bytes (Some (steps.Index 0)) x.count x.place
-        by_empty true g e asked z' =
-            let same = ok_is (record { count = 0; place = g.start }) x z' in
-            inl (refl, record { list = g; answered = asked; empty = e; none = ap (λ (y : Rested). y.count) (sym same); start = ap (λ (y : Rested). y.place) same })
-        by_empty false g e asked z' = inr (rest_from_is 0 x z')
+    whole_rest_is =
+        after _ _ (ask_head (parent here)) _ (asked_head met here bytes (parent here)) (λ h asked.
+        after _ _ (in_whole_list (parent here) h) _ (whole_list_asked (parent here) h asked) (λ g now.
+        test _ g.is_empty _ _ (λ empty. inl (refl, record { list = g; answered = now; empty = empty; none = refl; start = refl })) (λ some. hence _ _ (rest_from here (parent here) 0) (rest_from_is 0) (λ x from. inr from))))
 
-    rest_is : (o : Option Step) (x : Rested) → answer (rest_at here o) ≡ Ok x → IsRest d met here bytes o x.count x.place
-    rest_is (Some (steps.Index i)) x z = by_first (i == 0) refl z
+    rest_is : (o : Option Step) → Says (λ (x : Rested). IsRest d met here bytes o x.count x.place) (rest_at here o)
+    rest_is (Some (steps.Index i)) =
+        test _ (i == 0) _ _ (λ is. hence _ _ (whole_rest here (parent here)) whole_rest_is (λ x from. by_zero i x (first is) from)) (λ is. hence _ _ (rest_from here (parent here) i) (rest_from_is i) (λ x from. inr from))
       where
-        by_first : (b : Bool) → (i == 0) ≡ b → answer_of met here bytes (if b then whole_rest here (parent here) else rest_from here (parent here) i) ≡ Ok x → IsRest d met here bytes (Some (steps.Index i)) x.count x.place
-        by_first true is z' = let none : i ≡ 0 = grind (arith, nat_tests) in subst (λ j. IsRest d met here bytes (Some (steps.Index j)) x.count x.place) (sym none) (whole_rest_is x z')
-        by_first false is z' = inr (rest_from_is i x z')
-    rest_is _ x z = absurd (cc)
+        first : (i == 0) ≡ true → i ≡ 0
+        first is = grind (arith, nat_tests)
+
+        by_zero : (j : ℕ) (x : Rested) → j ≡ 0 → IsRest d met here bytes (Some (steps.Index 0)) x.count x.place → IsRest d met here bytes (Some (steps.Index j)) x.count x.place
+        by_zero j x none is = subst (λ n. IsRest d met here bytes (Some (steps.Index n)) x.count x.place) (sym none) is
+    rest_is _ = tt
 
     -- ---- answers
 
-    pub answer_is : (k : NodeKind) (g : Given) → answer (meaning_of d k here) ≡ Ok g → IsAnswer d met here bytes k g
+    pub answer_is : (k : NodeKind) → Says (IsAnswer d met here bytes k) (meaning_of d k here)
     unfolding meaning_of head_of rest_of
-    answer_is nodes.Head g e = put_in met here bytes (head_of d here) (λ x. givens.Head x) (IsAnswer d met here bytes nodes.Head) g (λ x e'. head_is (last here) x e') e
-    answer_is nodes.Value g e = put_in met here bytes (value_of d here) (λ x. givens.Value x) (IsAnswer d met here bytes nodes.Value) g (λ x e'. made_is x e') e
-    answer_is nodes.End g e = put_in met here bytes (end_of d here) (λ x. givens.End x.place x.last) (IsAnswer d met here bytes nodes.End) g (λ x e'. end_is x e') e
-    answer_is nodes.Rest g e = put_in met here bytes (rest_of d here) (λ x. givens.Rest x.count x.place) (IsAnswer d met here bytes nodes.Rest) g (λ x e'. rest_is (last here) x e') e
+    answer_is nodes.Head = after _ _ (head_at d here (last here)) _ (head_is (last here)) (λ h is. is)
+    answer_is nodes.Value = after _ _ (value_of d here) _ (made_is met here bytes d) (λ v is. is)
+    answer_is nodes.End = after _ _ (end_of d here) _ end_is (λ x is. is)
+    answer_is nodes.Rest = after _ _ (rest_at here (last here)) _ (rest_is (last here)) (λ x is. is)
 
 -- a part's last step, and what it is a part of
 pub part_of : (q r : Trail) (step : Step) → child q step ≡ Some r → (parent r ≡ q) × (last r ≡ Some step)
@@ -595,11 +424,11 @@ part_of q r step e =
 module _ (d : Description) (bytes : List ℕ) (opened : List Node) where
   -- an answer has its shape where each node has its own
   pub by_shape : (n : Node) (g : Given) → from_nothing d bytes opened n ≡ Ok g → IsAnswer d (from_nothing d bytes opened) n.path bytes n.kind g
-  by_shape n g h = answer_is (from_nothing d bytes opened) n.path bytes d n.kind g (by_rule d bytes opened n g h)
+  by_shape n g h = answered (from_nothing d bytes opened) n.path bytes _ (meaning_of d n.kind n.path) g (answer_is (from_nothing d bytes opened) n.path bytes d n.kind) (by_rule d bytes opened n g h)
 
   -- what is so of each shape where it is so of what was asked for, is so of each answer
   pub by_shapes : (P : Node → Given → Type 0)
       → ((met : Node → Result Given Fault) → ((m : Node) (g : Given) → met m ≡ Ok g → from_nothing d bytes opened m ≡ Ok g) → ((m : Node) (g : Given) → met m ≡ Ok g → P m g)
       → (n : Node) (g : Given) → IsAnswer d met n.path bytes n.kind g → P n g)
       → (n : Node) (g : Given) → from_nothing d bytes opened n ≡ Ok g → P n g
-  by_shapes P each n g h = by_rules d bytes opened P (λ met same lies n' g' e. each met same lies n' g' (answer_is met n'.path bytes d n'.kind g' e)) n g h
+  by_shapes P each n g h = by_rules d bytes opened P (λ met same lies n' g' e. each met same lies n' g' (answered met n'.path bytes _ (meaning_of d n'.kind n'.path) g' (answer_is met n'.path bytes d n'.kind) e)) n g h
